@@ -1,0 +1,10 @@
+pub mod Rights
+pub mod Ranges
+pub mod Counting
+pub mod Newest
+pub mod Runs
+pub mod Need
+pub mod Reach
+pub mod Caches
+pub mod FirstFit
+pub mod Announced
