@@ -5,10 +5,9 @@ use Rattle.std.specs.Option.{option_map_or}
 use Rattle.mx_words.specs.declared.perm.Span.{Span}
 use Rattle.mx_words.specs.Ranges.{covers, overlaps}
 
--- a span that the lookaside buffer keeps for a domain
-pub record Entry : Type 0 where
-  pub domain : ℕ
-  pub span : Span
+-- a kept span, behind the domain for which the lookaside buffer keeps it
+abbrev pub Entry : Type 0
+Entry = ℕ × Span
 
 -- a hart's caches: 32 places, each a span or nothing; a list of kept spans, newest first; how many checks a place answered, how
 -- many the list, and how many the tables
@@ -49,11 +48,11 @@ found_in_place places p word =
 
 -- whether a kept entry is of the domain and covers the word
 abbrev pub answers : ℕ → ℕ → Entry → Bool
-answers domain word e = (e.domain == domain) && has e.span word
+answers domain word e = (e.0 == domain) && has e.1 word
 
 -- the newest kept span of the domain that covers the word
 abbrev pub found_kept : List Entry → ℕ → ℕ → Option Span
-found_kept kept domain word = option_map_or (λ (e : Entry). Some e.span) (find (answers domain word) kept) None
+found_kept kept domain word = option_map_or (λ (e : Entry). Some e.1) (find (answers domain word) kept) None
 
 -- the list with a new entry in front, of which at most `most` stay
 abbrev pub kept_with : ℕ → Entry → List Entry → List Entry
@@ -65,7 +64,7 @@ places_without first count places =
     list_map (λ o. option_map_or (λ s. if meets s first count then None else Some s) o None) places
 
 abbrev pub kept_without : ℕ → ℕ → List Entry → List Entry
-kept_without first count kept = filter (λ (e : Entry). not (meets e.span first count)) kept
+kept_without first count kept = filter (λ (e : Entry). not (meets e.1 first count)) kept
 
 -- a place answers
 abbrev pub with_place_hit : Cache → Cache
@@ -80,7 +79,7 @@ abbrev pub with_walk : ℕ → ℕ → ℕ → Span → Bool → Cache → Cache
 with_walk most p domain s true c = record c { walks = raised c.walks }
 with_walk most p domain s false c = record c {
   places = slice_set c.places p (Some s);
-  kept = kept_with most (record { domain = domain; span = s }) c.kept;
+  kept = kept_with most ((domain, s)) c.kept;
   walks = raised c.walks;
 }
 
