@@ -2,6 +2,7 @@ pub mod Rights
 pub mod Ranges
 pub mod Counting
 pub mod Newest
+pub mod Changes
 pub mod Runs
 pub mod Need
 pub mod Reach
