@@ -1,5 +1,6 @@
 pub mod Rights
 pub mod Ranges
+pub mod Bytes
 pub mod Counting
 pub mod Newest
 pub mod Changes
