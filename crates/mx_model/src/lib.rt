@@ -1,0 +1,6 @@
+//! The abstract machine.
+#![tactic(auto)]
+
+mod fault;
+
+pub use fault::Fault;
