@@ -30,11 +30,11 @@ module _ {X : Type 0} (k n : ℕ) (xs : List X) (start : k < 64) (fits : n ≤ 6
       let long_new : length ys ≡ 64 = length-set xs _ x ∙ long in
       let same = length-window k n xs start fits long in
       same_lists _ _ (length-window k n ys start fits long_new ∙ sym (length-set (window k n xs) i x ∙ same)) (λ j d within.
-        let low : j < n = omega (arith, length-window k n ys start fits long_new) in
-        get_or-window k n ys start fits long_new j d low ∙ elim (cases_eq j i) [
-          | inl here ↦ ap (λ z. get_or ys ((k + z) % 64) d) here ∙ get_or-set_same xs _ x d (omega arith) ∙ sym (ap (λ z. get_or (set (window k n xs) i x) z d) here ∙ get_or-set_same (window k n xs) i x d (omega arith))
-          | inr elsewhere ↦ get_or-set_other xs _ _ x d (λ e. elsewhere (omega arith)) ∙ sym (get_or-window k n xs start fits long j d low) ∙ sym (get_or-set_other (window k n xs) i j x d elsewhere)
-        ])
+      let low : j < n = omega (arith, length-window k n ys start fits long_new) in
+      get_or-window k n ys start fits long_new j d low ∙ elim (cases_eq j i) [
+        | inl here ↦ ap (λ z. get_or ys ((k + z) % 64) d) here ∙ get_or-set_same xs _ x d (omega arith) ∙ sym (ap (λ z. get_or (set (window k n xs) i x) z d) here ∙ get_or-set_same (window k n xs) i x d (omega arith))
+        | inr elsewhere ↦ get_or-set_other xs _ _ x d (λ e. elsewhere (omega arith)) ∙ sym (get_or-window k n xs start fits long j d low) ∙ sym (get_or-set_other (window k n xs) i j x d elsewhere)
+      ])
 
   -- a write to the slot before the first, which then is the first
   module _ (b : ℕ) (x : X) (before : b ≡ (k + 64 - 1) % 64) where
@@ -53,6 +53,6 @@ module _ {X : Type 0} (k n : ℕ) (xs : List X) (start : k < 64) (fits : n ≤ 6
         let w = x ∷ window k n xs in
         let long_w : length w ≡ n + 1 = omega arith in
         same_lists (window b m ys) (take m w) (length-window b m ys b_in m_in long_new ∙ sym (length-take-le m w (omega arith))) (λ i d within.
-          let low : i < m = omega (arith, length-window b m ys b_in m_in long_new) in
-          get_or-window b m ys b_in m_in long_new i d low ∙ first_or_later i d (omega arith) (omega arith) ∙ sym (get_or-take m w i d low))
+        let low : i < m = omega (arith, length-window b m ys b_in m_in long_new) in
+        get_or-window b m ys b_in m_in long_new i d low ∙ first_or_later i d (omega arith) (omega arith) ∙ sym (get_or-take m w i d low))
         ∙ ap (λ z. take z w) (omega arith) ∙ take_min N w

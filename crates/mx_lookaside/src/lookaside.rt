@@ -1,8 +1,7 @@
 //! The entries of one hart, in a ring of slots.
 
-ghost use Rattle.std.specs.Prelude.{◌≡◌, ◌≤◌, [], ◌∷◌, length, take, filter};
-ghost use Rattle.mx_lookaside.specs.Ranges.{overlaps};
-ghost use Rattle.mx_lookaside.specs.Entries.{answers, newest_covering, is_apart};
+ghost use Rattle.std.specs.Prelude.{◌≡◌, ◌≤◌, [], length};
+ghost use Rattle.mx_words.specs.Caches.{answers, meets, found_kept, kept_with, kept_without};
 
 use mx_words::{Perm, Span};
 use std::marker::Model;
@@ -20,11 +19,11 @@ pub struct Lookaside<const N: usize> {
 }
 
 impl<const N: usize> Model for Lookaside<N> {
-    ghost use Rattle.std.specs.Prelude.{◌≡◌, ◌<◌, ◌≤◌, ℕ, List, length};
-    ghost use Rattle.mx_words.specs.declared.perm.Span.{Span};
+    ghost use Rattle.std.specs.Prelude.{◌≡◌, ◌<◌, ◌≤◌, List, length};
+    ghost use Rattle.mx_words.specs.Caches.{Entry};
     ghost use Rattle.mx_lookaside.specs.Window.{window};
 
-    ghost Value = { List (ℕ × Span) };
+    ghost Value = { List Entry };
 
     ghost view = { λ l. window l.newest l.len l.slots };
 
@@ -52,11 +51,11 @@ impl<const N: usize> Lookaside<N> {
     /// The span of the newest entry of `domain` that covers the RAM word `word`. `None` exactly where no entry of the domain
     /// does.
     pub fn find(&self, domain: u32, word: u32) -> Option<Span>
-        ensures found { result ≡ newest_covering domain word self.now }
+        ensures found { result ≡ found_kept self.now domain word }
         ensures bounded { length self.now ≤ N }
     {
-        for i in 0..self.len {
-            let entry = self.slots[(self.newest + i) % SLOTS];
+        for age in 0..self.len {
+            let entry = self.slots[(self.newest + age) % SLOTS];
             if answers(&entry, domain, word) {
                 return Some(entry.1);
             }
@@ -66,7 +65,7 @@ impl<const N: usize> Lookaside<N> {
 
     /// Makes (domain, span) the newest entry. A buffer with `N` entries loses its oldest.
     pub fn keep(&mut self, domain: u32, span: Span)
-        ensures { self.new ≡ take N ((domain, span) ∷ self.old) }
+        ensures { self.new ≡ kept_with N (domain, span) self.old }
     {
         self.newest = (self.newest + SLOTS - 1) % SLOTS;
         self.slots[self.newest] = (domain, span);
@@ -76,12 +75,12 @@ impl<const N: usize> Lookaside<N> {
     /// Removes the entries of all domains whose span shares a word with the range of `count` words from `first`. The others
     /// stay in their order, and an empty range removes none.
     pub fn drop_overlap(&mut self, first: u32, count: u32)
-        ensures { self.new ≡ filter (is_apart first count) self.old }
+        ensures { self.new ≡ kept_without first count self.old }
     {
         let mut kept = 0;
         for i in 0..self.len {
             let entry = self.slots[(self.newest + i) % SLOTS];
-            if is_apart(&entry, first, count) {
+            if !meets(&entry.1, first, count) {
                 self.slots[(self.newest + kept) % SLOTS] = entry;
                 kept += 1;
             }
@@ -105,20 +104,19 @@ fn answers(entry: &(u32, Span), domain: u32, word: u32) -> bool
     entry.0 == domain && span.first <= word && word - span.first < span.count
 }
 
-/// Whether the entry's span shares no word with the range of `count` words from `first`.
-fn is_apart(entry: &(u32, Span), first: u32, count: u32) -> bool
-    ensures { result ≡ is_apart first count entry.now }
+/// Whether the span shares a word with the range of `count` words from `first`. An empty one shares none.
+fn meets(span: &Span, first: u32, count: u32) -> bool
+    ensures { result ≡ meets span.now first count }
 {
-    !overlaps(entry.1.first, entry.1.count, first, count)
-}
-
-/// Whether the ranges of `count` words from `first` and of `others` words from `other` share a word.
-fn overlaps(first: u32, count: u32, other: u32, others: u32) -> bool
-    ensures { result ≡ overlaps first count other others }
-{
-    if first < other {
-        other - first < count && others > 0
+    if span.count == 0 || count == 0 {
+        return false;
+    }
+    if span.first < first {
+        first - span.first < span.count
     } else {
-        first - other < others && count > 0
+        span.first - first < count
     }
 }
+
+#[cfg(test)]
+mod tests;

@@ -1,9 +1,7 @@
 //! The places of one hart.
 
-ghost use Rattle.std.specs.Prelude.{◌≡◌, ◌<◌, ◌≤◌, map, replicate, None, Some, slice_index_or, slice_set};
-ghost use Rattle.mx_words.specs.declared.perm.Span.{Span as Words};
-ghost use Rattle.mx_sidecar.specs.Ranges.{covers, overlaps};
-ghost use Rattle.mx_sidecar.specs.Places.{covering, outside};
+ghost use Rattle.std.specs.Prelude.{◌≡◌, ◌<◌, None, Some, replicate, slice_set};
+ghost use Rattle.mx_words.specs.Caches.{place_count, has, meets, found_in_place, places_without};
 
 use mx_words::Span;
 use std::marker::Model;
@@ -32,7 +30,7 @@ impl Model for Sidecars {
 impl Sidecars {
     /// Places that all hold nothing.
     pub fn new() -> Sidecars
-        ensures { result ≡ replicate 32 None }
+        ensures { result ≡ replicate place_count None }
     {
         Sidecars {
             spans: [None; PLACES],
@@ -43,11 +41,11 @@ impl Sidecars {
     /// without that word.
     pub fn find(&self, place: u32, word: u32) -> Option<Span>
         requires { place < 32 }
-        ensures { result ≡ covering word (slice_index_or self.now place None) }
+        ensures { result ≡ found_in_place self.now place word }
     {
         let held = self.spans[place as usize];
         match held {
-            Some(span) if covers(&span, word) => Some(span),
+            Some(span) if has(&span, word) => Some(span),
             _ => None,
         }
     }
@@ -63,11 +61,11 @@ impl Sidecars {
     /// Empties each place whose span shares a word with the range of `count` words from `first`. The others stay, and an
     /// empty range empties none.
     pub fn drop_overlap(&mut self, first: u32, count: u32)
-        ensures { self.new ≡ map (outside first count) self.old }
+        ensures { self.new ≡ places_without first count self.old }
     {
         for at in 0..PLACES {
             if let Some(span) = self.spans[at] {
-                if overlaps(span.first, span.count, first, count) {
+                if meets(&span, first, count) {
                     self.spans[at] = None;
                 }
             }
@@ -76,7 +74,7 @@ impl Sidecars {
 
     /// Empties all places.
     pub fn clear(&mut self)
-        ensures { self.new ≡ replicate 32 None }
+        ensures { self.new ≡ replicate place_count None }
     {
         for place in 0..PLACES {
             self.spans[place] = None;
@@ -85,20 +83,23 @@ impl Sidecars {
 }
 
 /// Whether `word` is one of the span's words.
-fn covers(span: &Span, word: u32) -> bool
-    ensures { result ≡ covers span.now word }
+fn has(span: &Span, word: u32) -> bool
+    ensures { result ≡ has span.now word }
 {
     span.first <= word && word - span.first < span.count
 }
 
-/// Whether the ranges of `count` words from `first` and of `others` words from `other` share a word.
-fn overlaps(first: u32, count: u32, other: u32, others: u32) -> bool
-    ensures { result ≡ overlaps first count other others }
+/// Whether the span shares a word with the range of `count` words from `first`. An empty one shares none.
+fn meets(span: &Span, first: u32, count: u32) -> bool
+    ensures { result ≡ meets span.now first count }
 {
-    if first < other {
-        other - first < count && others > 0
+    if span.count == 0 || count == 0 {
+        return false;
+    }
+    if span.first < first {
+        first - span.first < span.count
     } else {
-        first - other < others && count > 0
+        span.first - first < count
     }
 }
 

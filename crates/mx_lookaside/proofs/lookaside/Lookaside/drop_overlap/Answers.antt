@@ -1,8 +1,8 @@
-use Rattle.std.proofs.Common.{◌≡◌, ◌<◌, ◌≤◌, true, false, sym, ◌∙◌, refl, arith, length-set}
-use Rattle.mx_lookaside.specs.Entries.{is_apart}
+use Rattle.std.proofs.Common.{◌≡◌, ◌<◌, ◌≤◌, true, false, not, sym, ap, ◌∙◌, refl, arith, length-set}
+use Rattle.mx_words.specs.Caches.{Entry, meets}
 use Rattle.mx_lookaside.proofs.Entries.{moves, left_out}
 use Rattle.mx_lookaside.proofs.lookaside.Lookaside.drop_overlap.Goals as goal
-use Rattle.mx_lookaside.proofs.lookaside.Lookaside.drop_overlap.Goals.{then-is_apart, else-is_apart}
+use Rattle.mx_lookaside.proofs.lookaside.Lookaside.drop_overlap.Goals.{then-not-meets, else-not-meets}
 
 pub loop-i-preserved : goal.loop-i-preserved
 loop-i-preserved g c =
@@ -13,17 +13,17 @@ loop-i-preserved g c =
     let start : now.newest < 64 = omega (arith, l.newest, i.1) in
     let fits : now.len ≤ 64 = omega (arith, l.len, i.2, i.3) in
     let in_use : c.loop-i.i < now.len = omega (arith, l.len, c.loop-i-test.true) in
-    elim c.if-is_apart.branch [
-      | then-is_apart w ↦ rw (w.self-inside-is, w.kept-is) (record {
+    elim c.if-not-meets.branch [
+      | then-not-meets w ↦ rw (w.self-inside-is, w.kept-is) (record {
         newest = l.newest;
         len = l.len;
         long = length-set now.slots _ _ ∙ l.long;
-        filtered = moves (is_apart c.args.first c.args.count) _ now.newest now.len now.slots start fits l.long c.loop-i.kept c.loop-i.i _ _ l.filtered in_use refl (sym c.is_apart.ensures ∙ w.if-is_apart.true);
+        filtered = moves (λ (e : Entry). not (meets e.1 c.args.first c.args.count)) _ now.newest now.len now.slots start fits l.long c.loop-i.kept c.loop-i.i _ _ l.filtered in_use refl (ap not (sym c.meets.ensures ∙ w.if-not-meets.true));
       })
-      | else-is_apart w ↦ rw (w.self-inside-is, w.kept-is) (record {
+      | else-not-meets w ↦ rw (w.self-inside-is, w.kept-is) (record {
         newest = l.newest;
         len = l.len;
         long = l.long;
-        filtered = left_out (is_apart c.args.first c.args.count) _ now.newest now.len now.slots start fits l.long c.loop-i.kept c.loop-i.i _ _ l.filtered in_use refl (sym c.is_apart.ensures ∙ w.if-is_apart.false);
+        filtered = left_out (λ (e : Entry). not (meets e.1 c.args.first c.args.count)) _ now.newest now.len now.slots start fits l.long c.loop-i.kept c.loop-i.i _ _ l.filtered in_use refl (ap not (sym c.meets.ensures ∙ w.if-not-meets.false));
       })
     ]
