@@ -1,2 +1,4 @@
 pub mod Examples
 pub mod CacheExamples
+pub mod CountingLaws
+pub mod OverlayLaws

@@ -8,3 +8,4 @@ pub mod Reach
 pub mod Caches
 pub mod FirstFit
 pub mod Announced
+pub mod Starts
