@@ -2,3 +2,4 @@ pub mod Examples
 pub mod CacheExamples
 pub mod CountingLaws
 pub mod OverlayLaws
+pub mod RunLaws
