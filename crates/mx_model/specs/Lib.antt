@@ -1,1 +1,4 @@
+pub mod Effect
 pub mod Events
+pub mod Gates
+pub mod State

@@ -1,5 +1,5 @@
 -- What tables of permissions mean: one map per domain, a limit, and a count of lookups.
-use Rattle.std.specs.Prelude.{◌≡◌, ℕ, ◌+◌, ◌-◌, ◌^◌, ◌<◌, ◌≤◌, List, [], slice_index_or, length, All, IsTrue, IsFalse}
+use Rattle.std.specs.Prelude.{◌≡◌, ℕ, ◌+◌, ◌-◌, ◌^◌, ◌<◌, ◌≤◌, List, [], slice_index_or, length, IsTrue, IsFalse}
 use Rattle.std.specs.Prelude.{map as list_map}
 use Rattle.mx_words.specs.declared.perm.Perm.{Perm}
 use Rattle.mx_words.specs.declared.perm.Perm.TheVariants as P

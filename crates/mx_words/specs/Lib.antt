@@ -1,7 +1,9 @@
 pub mod Rights
 pub mod Ranges
+pub mod Bytes
 pub mod Counting
 pub mod Newest
+pub mod Changes
 pub mod Runs
 pub mod Need
 pub mod Reach
