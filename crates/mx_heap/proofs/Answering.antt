@@ -1,6 +1,6 @@
 -- What a search for a hole answers, in terms of the lowest place.
-use Rattle.std.proofs.Common.{ℕ, ◌≡◌, ◌+◌, ◌<◌, ◌≤◌, ◌↔◌, ⊎_elim, Bool, true, false, not, List, length, Option, Some, None, Result, Ok, Err, IfOk, IsErrOf, IsSome, IsNone, refl, sym, ◌∙◌, ap, arith}
-use Rattle.std.specs.Prelude.{◌==◌, nat_le, if◌then◌else◌}
+use Rattle.std.proofs.Common.{ℕ, ◌≡◌, ◌+◌, ◌<◌, ◌≤◌, ◌↔◌, ⊎_elim, true, false, not, List, length, Option, Some, None, Result, Ok, Err, IfOk, IsErrOf, IsSome, IsNone, refl, sym, ◌∙◌}
+use Rattle.std.specs.Prelude.{◌==◌, nat_le}
 use Rattle.std.specs.List.{position}
 use Rattle.std.proofs.lemmas.Bool.{cases_Bool, eqb-true, eqb-false, ne_eqb, and_parts, not-true, leb-true}
 use Rattle.std.proofs.lemmas.List.Quantifiers.{position-Some}
@@ -19,25 +19,25 @@ pub record Answers (o : Option ℕ) (n : ℕ) (r : Result ℕ HeapError) : Type 
 
 pub answers_fitting : (o : Option ℕ) (n : ℕ) (r : Result ℕ HeapError) → r ≡ fitting o n → Answers o n r
 answers_fitting None n r e = record {
-    ok = rw e tt;
-    no_room = (λ _. refl, λ _. e);
-    full = (λ q. let clash : ◌≡◌ {A = Result ℕ HeapError} (Err NoRoom) (Err BlocksFull) = sym e ∙ q in cc, λ h. let f : false ≡ true = h.0 in cc)
-  }
+  ok = rw e tt;
+  no_room = (λ _. refl, λ _. e);
+  full = (λ q. let clash : ◌≡◌ {A = Result ℕ HeapError} (Err NoRoom) (Err BlocksFull) = sym e ∙ q in cc, λ h. let f : false ≡ true = h.0 in cc);
+}
 answers_fitting (Some a) n r e = ⊎_elim
     (λ (t : (n == most_blocks) ≡ true).
-      let is : r ≡ Err BlocksFull = e ∙ (rw t refl) in
-      record {
-        ok = rw is tt;
-        no_room = (λ q. let clash : ◌≡◌ {A = Result ℕ HeapError} (Err BlocksFull) (Err NoRoom) = sym is ∙ q in cc, λ h. let f : true ≡ false = h in cc);
-        full = (λ _. (refl, eqb-true n most_blocks t), λ _. is)
-      })
+    let is : r ≡ Err BlocksFull = e ∙ (rw t refl) in
+    record {
+      ok = rw is tt;
+      no_room = (λ q. let clash : ◌≡◌ {A = Result ℕ HeapError} (Err BlocksFull) (Err NoRoom) = sym is ∙ q in cc, λ h. let f : true ≡ false = h in cc);
+      full = (λ _. (refl, eqb-true n most_blocks t), λ _. is);
+    })
     (λ (f : (n == most_blocks) ≡ false).
-      let is : r ≡ Ok a = e ∙ (rw f refl) in
-      record {
-        ok = rw is refl;
-        no_room = (λ q. let clash : ◌≡◌ {A = Result ℕ HeapError} (Ok a) (Err NoRoom) = sym is ∙ q in cc, λ h. let g : true ≡ false = h in cc);
-        full = (λ q. let clash : ◌≡◌ {A = Result ℕ HeapError} (Ok a) (Err BlocksFull) = sym is ∙ q in cc, λ h. absurd (eqb-false n most_blocks f h.1))
-      })
+    let is : r ≡ Ok a = e ∙ (rw f refl) in
+    record {
+      ok = rw is refl;
+      no_room = (λ q. let clash : ◌≡◌ {A = Result ℕ HeapError} (Ok a) (Err NoRoom) = sym is ∙ q in cc, λ h. let g : true ≡ false = h in cc);
+      full = (λ q. let clash : ◌≡◌ {A = Result ℕ HeapError} (Ok a) (Err BlocksFull) = sym is ∙ q in cc, λ h. absurd (eqb-false n most_blocks f h.1));
+    })
     (cases_Bool (n == most_blocks))
 
 -- the place found, and that fewer blocks live than may
@@ -91,12 +91,12 @@ module _ (area : Area) (ps : List Part) (fill : Fill area.first (area.first + ar
       let at : (i < length ps) × (is_hole_for n (part_at ps i) ≡ true) × ((k : ℕ) → k < i → is_hole_for n (part_at ps k) ≡ false) = position-Some (is_hole_for n) ps i wall is.0 in
       let free : (not (part_at ps i).live ≡ true) × (nat_le n (part_at ps i).count ≡ true) = and_parts (not (part_at ps i).live) (nat_le n (part_at ps i).count) at.1 in
       let bounds : (area.first ≤ (part_at ps i).first) × (0 < (part_at ps i).count) × ((part_at ps i).first + (part_at ps i).count ≤ area.first + area.count) =
-        part_bounds area.first (area.first + area.count) true ps i fill at.0 in
+      part_bounds area.first (area.first + area.count) true ps i fill at.0 in
       record {
         within = at.0;
         free = not-true (part_at ps i).live free.0;
         long = leb-true n (part_at ps i).count free.1;
         low = bounds.0;
         high = bounds.2;
-        less = is.1
+        less = is.1;
       }

@@ -1,8 +1,6 @@
 -- A live block among others that lie apart: put in, found, and taken out.
-use Rattle.std.proofs.Common.{ℕ, zero, suc, ◌≡◌, ◌+◌, ◌-◌, ◌<◌, ◌≤◌, ◌⊎◌, ⊎_elim, Bool, true, false, not, cond, List, [], ◌∷◌, ◌++◌, length, Option, Some, None, refl, sym, ◌∙◌, ap, arith}
-use Rattle.std.specs.Prelude.{◌==◌, nat_lt, if◌then◌else◌, filter, find}
-use Rattle.std.specs.Option.{option_map}
-use Rattle.std.proofs.lemmas.Bool.{cases_Bool, ne_eqb, eq-eqb, lt-ltb, le-ltb}
+use Rattle.std.proofs.Common.{ℕ, ◌≡◌, ◌+◌, ◌<◌, ◌≤◌, List, [], ◌∷◌, ◌++◌, Some, refl, ap, arith}
+use Rattle.std.proofs.lemmas.Bool.{ne_eqb, eq-eqb, lt-ltb, le-ltb}
 use Rattle.mx_words.specs.FirstFit.{Area, with_block, without_block, block_at}
 use Rattle.mx_heap.specs.HeapState.{AreApart}
 use Rattle.mx_heap.proofs.RoomLaws.{apart-le}
@@ -28,7 +26,7 @@ without_block_behind : (low high first : ℕ) (ys : List Area) → AreApart low 
 without_block_behind low high first [] h lt = refl
 without_block_behind low high first (y ∷ ys) h lt =
     rw (ne_eqb y.first first (λ e. omega (arith, h.0, e)))
-      (ap (λ (bs : List Area). y ∷ bs) (without_block_behind (y.first + y.count) high first ys h.2 (omega (arith, h.0))))
+    (ap (λ (bs : List Area). y ∷ bs) (without_block_behind (y.first + y.count) high first ys h.2 (omega (arith, h.0))))
 
 -- a block is taken out from between the others
 pub without_block_between : (low mid high : ℕ) (b : Area) (xs ys : List Area) → AreApart low mid xs → mid ≤ b.first → 0 < b.count →
@@ -38,4 +36,4 @@ without_block_between low mid high b [] ys h le some k =
 without_block_between low mid high b (x ∷ xs) ys h le some k =
     let end : x.first + x.count ≤ mid = apart-le (x.first + x.count) mid xs h.2 in
     rw (ne_eqb x.first b.first (λ e. omega (arith, h.1, e)))
-      (ap (λ (bs : List Area). x ∷ bs) (without_block_between (x.first + x.count) mid high b xs ys h.2 le some k))
+    (ap (λ (bs : List Area). x ∷ bs) (without_block_between (x.first + x.count) mid high b xs ys h.2 le some k))

@@ -1,18 +1,16 @@
 -- A hole split by a block, and a block's end that joins the holes around it.
-use Rattle.std.proofs.Common.{ℕ, zero, suc, ◌≡◌, ◌+◌, ◌*◌, ◌-◌, ◌<◌, ◌≤◌, ◌⊎◌, inl, inr, ⊎_elim, Bool, true, false, not, cond, ◌&&◌, List, [], ◌∷◌, ◌++◌, length, get_or, set, take, drop, Option, Some, None, refl, sym, ◌∙◌, ap, subst, arith, length-append}
-use Rattle.std.specs.Prelude.{◌==◌, nat_lt, nat_le, if◌then◌else◌}
-use Rattle.std.specs.List.{insert, remove, position}
-use Rattle.std.proofs.lemmas.Bool.{cases_Bool, lt-ltb, le-ltb, eqb-true, ne_eqb, and_parts, and_cases, eqb-false, cases_eq, true_from_ne_false}
-use Rattle.std.proofs.lemmas.List.{append_assoc, get_or_at, set_at, take_at, drop_at, length_push, get_or-append_right, length-take-le}
-use Rattle.std.proofs.lemmas.List.Edits.{remove-append_right}
-use Rattle.std.proofs.lemmas.List.Quantifiers.{position-Some}
-use Rattle.mx_words.specs.FirstFit.{Area, with_block, without_block, block_at}
+use Rattle.std.proofs.Common.{ℕ, zero, suc, ◌≡◌, ◌+◌, ◌-◌, ◌<◌, ◌≤◌, ◌⊎◌, inl, inr, ⊎_elim, Bool, true, false, List, [], ◌∷◌, ◌++◌, length, take, drop, refl, sym, ◌∙◌, ap, subst, arith, length-append}
+use Rattle.std.specs.Prelude.{nat_lt, if◌then◌else◌}
+use Rattle.std.specs.List.{insert}
+use Rattle.std.proofs.lemmas.Bool.{lt-ltb, le-ltb, true_from_ne_false}
+use Rattle.std.proofs.lemmas.List.{append_assoc, get_or_at, set_at, take_at, drop_at, length_push, length-take-le}
+use Rattle.mx_words.specs.FirstFit.{Area, with_block}
 use Rattle.mx_heap.specs.declared.parts.Part.{Part}
 use Rattle.mx_heap.specs.HeapState.{AreApart}
-use Rattle.mx_heap.specs.Places.{Fill, blocks_of, part_at, wall, hole, live_part, hole_words, with_hole, without_hole, split, joined, is_block_at}
-use Rattle.mx_heap.proofs.FillLaws.{end_of, last_live, block_of, Fill-append, Fill-left, Fill-right, Fill-le, Fill-apart, apart_lower, blocks-live, blocks-hole, blocks-append}
-use Rattle.mx_heap.proofs.RoomLaws.{cut_at, part_bounds, position_none}
-use Rattle.mx_heap.proofs.BlockLaws.{with_block_between, block_at_between, without_block_between}
+use Rattle.mx_heap.specs.Places.{Fill, blocks_of, part_at, wall, hole, live_part, with_hole, split}
+use Rattle.mx_heap.proofs.FillLaws.{end_of, last_live, Fill-append, Fill-left, Fill-right, Fill-apart, apart_lower, blocks-hole, blocks-append}
+use Rattle.mx_heap.proofs.RoomLaws.{cut_at}
+use Rattle.mx_heap.proofs.BlockLaws.{with_block_between}
 
 -- a hole in front of parts, where it has a word
 abbrev pub hole_before : ℕ → ℕ → List Part → List Part
@@ -26,8 +24,8 @@ Fill-hole_before : (from n high : ℕ) (ps : List Part) → Fill (from + n) high
 Fill-hole_before from n high ps h = ⊎_elim
     (λ (some : 0 < n). rw (lt-ltb 0 n some) (refl, some, λ e. let no : true ≡ false = e in cc, h))
     (λ (none : n ≤ 0). let same : from + n ≡ from = omega arith in
-      let here : Fill from high true ps = subst (λ z. Fill z high true ps) same (Fill-any (from + n) high false ps h) in
-      rw (le-ltb 0 n none) here)
+    let here : Fill from high true ps = subst (λ z. Fill z high true ps) same (Fill-any (from + n) high false ps h) in
+    rw (le-ltb 0 n none) here)
     (cases_none n)
   where
     cases_none : (n : ℕ) → (0 < n) ⊎ (n ≤ 0)
@@ -54,9 +52,12 @@ with_hole-next xs p ys i from n e =
 pub split-at : (xs : List Part) (h : Part) (ys : List Part) (i first count : ℕ) → length xs ≡ i →
     split (xs ++ h ∷ ys) i first count ≡ xs ++ hole_before h.first (first - h.first) (live_part first count ∷ hole_before (first + count) (h.first + h.count - (first + count)) ys)
 split-at xs h ys i first count e =
-    rw (get_or_at xs h ys wall i e, set_at xs h ys (live_part first count) i e,
-        with_hole-next xs (live_part first count) ys i (first + count) (h.first + h.count - (first + count)) e)
-      (with_hole-at xs (live_part first count ∷ hole_before (first + count) (h.first + h.count - (first + count)) ys) i h.first (first - h.first) e)
+    rw (
+      get_or_at xs h ys wall i e,
+      set_at xs h ys (live_part first count) i e,
+      with_hole-next xs (live_part first count) ys i (first + count) (h.first + h.count - (first + count)) e,
+    )
+    (with_hole-at xs (live_part first count ∷ hole_before (first + count) (h.first + h.count - (first + count)) ys) i h.first (first - h.first) e)
 
 -- what a list of parts that fill an area is around one of them
 pub record Around (low high : ℕ) (l : Bool) (ps : List Part) (i : ℕ) : Type 0 where
@@ -80,7 +81,7 @@ around low high l ps i fill lt =
       first = right.0;
       some = right.1;
       merged = right.2;
-      right = right.3
+      right = right.3;
     }
 
 -- the parts after a block was put into a hole
@@ -98,32 +99,32 @@ after_split low high l ps i first count fill lt free some begins ends =
     let ys : List Part = drop (i + 1) ps in
     let tail : List Part = hole_before (first + count) (h.first + h.count - (first + count)) ys in
     let is : split ps i first count ≡ xs ++ hole_before h.first (first - h.first) (live_part first count ∷ tail) =
-      ap (λ (qs : List Part). split qs i first count) a.cut ∙ split-at xs h ys i first count a.len in
+    ap (λ (qs : List Part). split qs i first count) a.cut ∙ split-at xs h ys i first count a.len in
     let right : Fill (end_of low xs + h.count) high false ys = rw free at a.right in
     let to_end : end_of low xs + h.count ≡ first + count + (h.first + h.count - (first + count)) = omega (arith, a.first) in
     let behind : Fill (first + count) high true tail =
-      Fill-hole_before (first + count) (h.first + h.count - (first + count)) high ys (subst (λ z. Fill z high false ys) to_end right) in
+    Fill-hole_before (first + count) (h.first + h.count - (first + count)) high ys (subst (λ z. Fill z high false ys) to_end right) in
     let begin : first ≡ h.first + (first - h.first) = omega arith in
     let block : Fill (h.first + (first - h.first)) high false (live_part first count ∷ tail) =
-      (begin, some, (λ _. refl), subst (λ z. Fill (z + count) high true tail) begin behind) in
+    (begin, some, (λ _. refl), subst (λ z. Fill (z + count) high true tail) begin behind) in
     let whole : Fill h.first high true (hole_before h.first (first - h.first) (live_part first count ∷ tail)) =
-      Fill-hole_before h.first (first - h.first) high (live_part first count ∷ tail) block in
+    Fill-hole_before h.first (first - h.first) high (live_part first count ∷ tail) block in
     let live : last_live l xs ≡ true = true_from_ne_false (last_live l xs) (λ e. let t : h.live ≡ true = a.merged e in let f : h.live ≡ false = free in cc) in
     let from : Fill (end_of low xs) high (last_live l xs) (hole_before h.first (first - h.first) (live_part first count ∷ tail)) =
-      rw live (subst (λ z. Fill z high true (hole_before h.first (first - h.first) (live_part first count ∷ tail))) a.first whole) in
+    rw live (subst (λ z. Fill z high true (hole_before h.first (first - h.first) (live_part first count ∷ tail))) a.first whole) in
     let new : blocks_of (split ps i first count) ≡ blocks_of xs ++ (record { first = first; count = count }) ∷ blocks_of ys =
-      ap (λ (qs : List Part). blocks_of qs) is
-        ∙ blocks-append xs (hole_before h.first (first - h.first) (live_part first count ∷ tail))
-        ∙ ap (λ (bs : List Area). blocks_of xs ++ bs) (blocks-hole_before h.first (first - h.first) (live_part first count ∷ tail)
-          ∙ ap (λ (bs : List Area). record { first = first; count = count } ∷ bs) (blocks-hole_before (first + count) (h.first + h.count - (first + count)) ys)) in
+    ap (λ (qs : List Part). blocks_of qs) is
+    ∙ blocks-append xs (hole_before h.first (first - h.first) (live_part first count ∷ tail))
+    ∙ ap (λ (bs : List Area). blocks_of xs ++ bs) (blocks-hole_before h.first (first - h.first) (live_part first count ∷ tail)
+    ∙ ap (λ (bs : List Area). record { first = first; count = count } ∷ bs) (blocks-hole_before (first + count) (h.first + h.count - (first + count)) ys)) in
     let old : blocks_of ps ≡ blocks_of xs ++ blocks_of ys =
-      ap (λ (qs : List Part). blocks_of qs) a.cut ∙ blocks-append xs (h ∷ ys) ∙ ap (λ (bs : List Area). blocks_of xs ++ bs) (blocks-hole h ys free) in
+    ap (λ (qs : List Part). blocks_of qs) a.cut ∙ blocks-append xs (h ∷ ys) ∙ ap (λ (bs : List Area). blocks_of xs ++ bs) (blocks-hole h ys free) in
     let low_le : end_of low xs ≤ first = omega (arith, a.first) in
     let apart : AreApart (first + count) high (blocks_of ys) =
-      apart_lower (end_of low xs + h.count) (first + count) high (blocks_of ys) (omega (arith, a.first)) (Fill-apart (end_of low xs + h.count) high false ys right) in
+    apart_lower (end_of low xs + h.count) (first + count) high (blocks_of ys) (omega (arith, a.first)) (Fill-apart (end_of low xs + h.count) high false ys right) in
     record {
       fill = rw is (Fill-append low high l xs (hole_before h.first (first - h.first) (live_part first count ∷ tail)) a.left from);
       blocks = new ∙ sym (rw old (with_block_between low (end_of low xs) high (record { first = first; count = count }) (blocks_of xs) (blocks_of ys)
-        (Fill-apart low (end_of low xs) l xs a.left) low_le some apart));
-      more = rw (new, old) (omega (arith, length-append (blocks_of xs) (blocks_of ys), length-append (blocks_of xs) (record { first = first; count = count } ∷ blocks_of ys)))
+          (Fill-apart low (end_of low xs) l xs a.left) low_le some apart));
+      more = rw (new, old) (omega (arith, length-append (blocks_of xs) (blocks_of ys), length-append (blocks_of xs) (record { first = first; count = count } ∷ blocks_of ys)));
     }

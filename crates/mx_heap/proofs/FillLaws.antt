@@ -1,11 +1,10 @@
 -- Laws of parts that fill a range of words: cut in two, joined, and the blocks among them.
-use Rattle.std.proofs.Common.{ℕ, zero, suc, ◌≡◌, ◌+◌, ◌*◌, ◌-◌, ◌<◌, ◌≤◌, ◌⊎◌, ⊎_elim, Bool, true, false, cond, List, [], ◌∷◌, ◌++◌, length, get_or, take, drop, refl, sym, ◌∙◌, ap, subst, arith}
-use Rattle.std.specs.Prelude.{if◌then◌else◌}
+use Rattle.std.proofs.Common.{ℕ, ◌≡◌, ◌+◌, ◌*◌, ◌≤◌, ⊎_elim, Bool, true, false, List, [], ◌∷◌, ◌++◌, length, refl, ◌∙◌, arith}
 use Rattle.std.proofs.lemmas.Bool.{cases_Bool}
 use Rattle.mx_words.specs.FirstFit.{Area}
 use Rattle.mx_heap.specs.declared.parts.Part.{Part}
 use Rattle.mx_heap.specs.HeapState.{AreApart}
-use Rattle.mx_heap.specs.Places.{Fill, blocks_of, part_at, wall}
+use Rattle.mx_heap.specs.Places.{Fill, blocks_of}
 
 -- the word behind the last part
 abbrev pub end_of : ℕ → List Part → ℕ
@@ -61,9 +60,9 @@ Fill-apart low high l [] h = omega (arith, h)
 Fill-apart low high l (p ∷ ps) h =
     let rest : AreApart (low + p.count) high (blocks_of ps) = Fill-apart (low + p.count) high p.live ps h.3 in
     ⊎_elim
-      (λ e. rw (blocks-live p ps e) (omega (arith, h.0), h.1, rw h.0 rest))
-      (λ e. rw (blocks-hole p ps e) (apart_lower (low + p.count) low high (blocks_of ps) (omega arith) rest))
-      (cases_Bool p.live)
+    (λ e. rw (blocks-live p ps e) (omega (arith, h.0), h.1, rw h.0 rest))
+    (λ e. rw (blocks-hole p ps e) (apart_lower (low + p.count) low high (blocks_of ps) (omega arith) rest))
+    (cases_Bool p.live)
 
 abbrev pub one_if : Bool → ℕ
 one_if true = 1
@@ -75,11 +74,11 @@ length-parts low high l [] h = omega arith
 length-parts low high l (p ∷ ps) h =
     let rest : length ps ≤ 2 * length (blocks_of ps) + one_if p.live = length-parts (low + p.count) high p.live ps h.3 in
     ⊎_elim
-      (λ (e : p.live ≡ true). let one : one_if p.live ≡ 1 = rw e refl in rw (blocks-live p ps e) (omega (arith, one, rest)))
-      (λ (e : p.live ≡ false). let none : one_if p.live ≡ 0 = rw e refl in
-        let before : one_if l ≡ 1 = after_hole l p.live e h.2 in
-        rw (blocks-hole p ps e) (omega (arith, none, before, rest)))
-      (cases_Bool p.live)
+    (λ (e : p.live ≡ true). let one : one_if p.live ≡ 1 = rw e refl in rw (blocks-live p ps e) (omega (arith, one, rest)))
+    (λ (e : p.live ≡ false). let none : one_if p.live ≡ 0 = rw e refl in
+    let before : one_if l ≡ 1 = after_hole l p.live e h.2 in
+    rw (blocks-hole p ps e) (omega (arith, none, before, rest)))
+    (cases_Bool p.live)
   where
     after_hole : (l live : Bool) → live ≡ false → (l ≡ false → live ≡ true) → one_if l ≡ 1
     after_hole true live e f = refl

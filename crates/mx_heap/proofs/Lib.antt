@@ -4,3 +4,4 @@ pub mod Answering
 pub mod BlockLaws
 pub mod EditLaws
 pub mod JoinLaws
+pub mod KeptParts

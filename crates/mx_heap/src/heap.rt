@@ -5,7 +5,9 @@ ghost use Rattle.std.specs.Option.{option_map};
 ghost use Rattle.std.specs.Bool.{OnTrue, OnFalse};
 
 use crate::block::{Block, HeapError};
-use crate::parts::{Part, MOST_BLOCKS, block_place, fitting_hole, hole_around, join_holes, nth_block, split_hole};
+use crate::parts::{
+    MOST_BLOCKS, Part, block_place, fitting_hole, hole_around, join_holes, nth_block, split_hole,
+};
 use mx_words::NoMemory;
 use std::alloc::Global;
 use std::marker::Model;

@@ -7,3 +7,6 @@ mod parts;
 
 pub use block::{Block, HeapError};
 pub use heap::Heap;
+
+#[cfg(test)]
+mod tests;

@@ -31,9 +31,8 @@ pub fn hole_around(parts: &[Part], first: u32, count: u32) -> Option<usize>
     ensures { result ≡ position (is_hole_around first count) parts.now }
 {
     let end = first as u64 + count as u64;
-    parts
-        .iter()
-        .position(|p| !p.live && (p.first <= first && end <= p.first as u64 + p.count as u64))
+    parts.iter().position(|p| !p.live
+        && (p.first <= first && end <= p.first as u64 + p.count as u64))
 }
 
 // The place of the live block that begins at a word.
@@ -134,7 +133,12 @@ pub fn split_hole(parts: &mut Vec<Part>, i: usize, first: u32, count: u32)
         count,
         live: true,
     };
-    put_hole(parts, i + 1, first + count, hole.first + hole.count - (first + count));
+    put_hole(
+        parts,
+        i + 1,
+        first + count,
+        hole.first + hole.count - (first + count),
+    );
     put_hole(parts, i, hole.first, first - hole.first);
 }
 

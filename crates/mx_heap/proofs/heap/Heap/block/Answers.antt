@@ -1,8 +1,7 @@
-use Rattle.std.proofs.Common.{◌≡◌, sym, arith, ap, Some, None, Option, ℕ, ◌∙◌}
+use Rattle.std.proofs.Common.{◌≡◌, sym, Some, None, Option, ℕ}
 use Rattle.std.specs.List.{position}
 use Rattle.std.proofs.lemmas.List.{get_or_read}
-use Rattle.mx_heap.specs.declared.parts.Part.{Part}
-use Rattle.mx_heap.specs.Places.{is_block_at, part_at, wall, blocks_of}
+use Rattle.mx_heap.specs.Places.{is_block_at, part_at, wall}
 use Rattle.mx_heap.proofs.JoinLaws.{Standing, AfterJoin, after_join, standing, no_block}
 use Rattle.mx_heap.proofs.heap.Heap.block.Goals as goal
 
