@@ -41,10 +41,10 @@ count_fill low high before (r ∷ rs) f h told edge =
     let first : starts f low ≡ true = starts_here f low (λ some e. h.1 some (sym (here low (omega arith) h.0) ∙ e ∙ edge some)) in
     let one : count_below (low + 1) (starts f) ≡ count_below low (starts f) + 1 = count_below_yes low (starts f) first in
     let still : count_below r.end (starts f) ≡ count_below (low + 1) (starts f) =
-      count_below_still (low + 1) r.end (starts f) (omega (arith, h.0))
-        (λ w le lt. no_start f w (omega arith) (here (w - 1) (omega arith) (omega arith) ∙ sym (here w (omega arith) lt))) in
+    count_below_still (low + 1) r.end (starts f) (omega (arith, h.0))
+    (λ w le lt. no_start f w (omega arith) (here (w - 1) (omega arith) (omega arith) ∙ sym (here w (omega arith) lt))) in
     let more : count_below high (starts f) ≡ count_below r.end (starts f) + length rs =
-      count_fill r.end high r.owner rs f h.2 rest (λ _. here (r.end - 1) (omega (arith, h.0)) last) in
+    count_fill r.end high r.owner rs f h.2 rest (λ _. here (r.end - 1) (omega (arith, h.0)) last) in
     omega (arith, one, still, more)
 
 pub runs_counted : (words : ℕ) (rs : List Run) → Fill 0 words 0 rs → owner_runs (owners_in words rs) ≡ length rs
@@ -53,7 +53,7 @@ runs_counted words rs fill =
     let len : length os ≡ words = length-list_below words (owner_in rs) in
     let f : ℕ → ℕ = λ i. get_or os i 0 in
     let count : count_below words (starts f) ≡ count_below 0 (starts f) + length rs =
-      count_fill 0 words 0 rs f fill (λ w le lt. list_below-at words w (owner_in rs) 0 lt) (λ some. absurd (omega arith)) in
+    count_fill 0 words 0 rs f fill (λ w le lt. list_below-at words w (owner_in rs) 0 lt) (λ some. absurd (omega arith)) in
     let none : count_below 0 (starts f) ≡ 0 = count_below-zero (starts f) in
     let all : owner_runs os ≡ count_below (length os) (starts f) = owner_runs-count os in
     let known : count_below (length os) (starts f) ≡ count_below words (starts f) = ap (λ n. count_below n (starts f)) len in

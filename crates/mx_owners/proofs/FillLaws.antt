@@ -86,7 +86,7 @@ around low high before rs i fill lt =
       left = Fill-left low high before (take i rs) (run_at rs i ∷ drop (i + 1) rs) here;
       rises = right.0;
       differs = right.1;
-      right = right.2
+      right = right.2;
     }
 
 module _ (low high before : ℕ) (rs : List Run) (i : ℕ) (a : Around low high before rs i) where

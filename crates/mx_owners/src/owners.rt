@@ -73,6 +73,7 @@ impl Owners {
         ensures ok { OnOk result (self.new ≡ laid (record { first = first; count = count; value = domain }) self.old) }
         ensures full { IsErr result ↔ (most_runs < owner_runs (laid (record { first = first; count = count; value = domain }) self.old)) }
         ensures unchanged { OnErr result (self.new ≡ self.old) }
+        ensures total { length self.new ≡ length self.old }
     {
         put_given(&mut self.next, &self.runs, domain, first, first + count);
         if self.next.len() > MOST_RUNS {

@@ -32,7 +32,8 @@ pub fn room(alloc: Global) -> Result<Vec<Run>, NoMemory>
 pub fn run_place(runs: &[Run], word: u32) -> usize
     requires few { length runs.now ≤ most_runs }
     requires rising { (i j : ℕ) → i ≤ j → j < length runs.now → (run_at runs.now i).end ≤ (run_at runs.now j).end }
-    ensures { result ≡ place_of runs.now word }
+    ensures place { result ≡ place_of runs.now word }
+    ensures within { result ≤ length runs.now }
 {
     let mut low = 0;
     let mut width = MOST_RUNS;
