@@ -6,3 +6,5 @@ pub mod Reads
 pub mod Serve
 pub mod State
 pub mod Turn
+pub mod Agreement
+pub mod Run

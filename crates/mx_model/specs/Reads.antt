@@ -1,5 +1,5 @@
 -- What a turn reads of rights and owners. The two kinds of state answer it alike, so a turn is one function of these answers.
-use Rattle.std.specs.Prelude.{ℕ, ◌+◌, ◌-◌, Bool, nat_lt, nat_le, List, [], ◌∷◌, ◌++◌, slice_index, slice_index_or, if◌then◌else◌, Option}
+use Rattle.std.specs.Prelude.{ℕ, ◌-◌, Bool, nat_lt, nat_le, List, [], ◌∷◌, ◌++◌, slice_index, slice_index_or, if◌then◌else◌, Option}
 use Rattle.std.specs.Prelude.{map as list_map}
 use Rattle.mx_words.specs.declared.perm.Perm.{Perm}
 use Rattle.mx_words.specs.declared.perm.Perm.TheVariants as P
@@ -10,7 +10,7 @@ use Rattle.mx_words.specs.Changes.{changed_maps, granted_all}
 use Rattle.mx_words.specs.Runs.{owner_runs}
 use Rattle.mx_words.specs.Need.{fits}
 use Rattle.mx_words.specs.Reach.{span}
-use Rattle.mx_model.specs.State.{Core, State, Flat, words}
+use Rattle.mx_model.specs.State.{State, Flat, words}
 
 -- a change of rights: a range, and the permission that each domain named gets on it
 pub record Change : Type 0 where

@@ -1,5 +1,5 @@
 -- One turn of one hart. First it is decided what happens, from a few readings of the state; then it is done.
-use Rattle.std.specs.Prelude.{◌≡◌, ℕ, ◌+◌, ◌-◌, ◌*◌, ◌/◌, ◌%◌, ◌^◌, Bool, true, false, not, ◌==◌, ◌&&◌, nat_lt, nat_le, List, [], ◌∷◌, ◌++◌, length, zip, fold, slice_set, if◌then◌else◌, Option, Some, None, unwrap_or, is_none}
+use Rattle.std.specs.Prelude.{ℕ, ◌+◌, ◌-◌, ◌*◌, ◌%◌, Bool, true, false, not, ◌==◌, ◌&&◌, ◌||◌, nat_lt, nat_le, List, [], ◌∷◌, ◌++◌, length, zip, fold, slice_set, if◌then◌else◌, Option, Some, None, unwrap_or}
 use Rattle.std.specs.Prelude.{map as list_map}
 use Rattle.std.specs.Option.{option_map_or}
 use Rattle.mx_words.specs.declared.perm.Perm.{Perm}
@@ -15,7 +15,6 @@ use Rattle.mx_isa.specs.declared.inst.Inst.{Inst}
 use Rattle.mx_isa.specs.declared.inst.LoadWidth.{LoadWidth}
 use Rattle.mx_isa.specs.Table.{decoded}
 use Rattle.mx_model.specs.declared.values.Call.{Call}
-use Rattle.mx_model.specs.declared.values.Fault.{Fault}
 use Rattle.mx_model.specs.declared.values.Frame.{Frame}
 use Rattle.mx_model.specs.declared.values.Note.{Note}
 use Rattle.mx_model.specs.declared.values.Note.TheVariants as N
@@ -26,7 +25,7 @@ use Rattle.mx_model.specs.Effect.{Effect, Goes, Faults, Loads, Stores, Calls, Le
 use Rattle.mx_model.specs.Gates.{call_gate, is_return, most_frames, top, below_top, nearest}
 use Rattle.mx_model.specs.Reads.{Reads, Change}
 use Rattle.mx_model.specs.Serve.{Served, serve}
-use Rattle.mx_model.specs.State.{Core, Hart, Module, Status, Running, Waiting, Halted, words, module_at, with_module, hart_at, with_hart}
+use Rattle.mx_model.specs.State.{Core, Hart, Status, Running, Waiting, Halted, words, module_at, with_module, hart_at, with_hart}
 
 -- what a hart does in its turn
 pub data Deed : Type 0 where
