@@ -10,3 +10,4 @@ pub mod Reach
 pub mod Caches
 pub mod FirstFit
 pub mod Announced
+pub mod Starts
