@@ -2,3 +2,6 @@ pub mod Boots
 pub mod ShortExamples
 pub mod GateExamples
 pub mod CallExamples
+pub mod KeepLaws
+pub mod FlatLaws
+pub mod RunLaws

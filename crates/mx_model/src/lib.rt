@@ -2,7 +2,9 @@
 #![tactic(auto)]
 
 mod events;
+mod laws;
 mod values;
 
 pub use events::Events;
+pub use laws::{flat_of_a_turn, run_after_a_run};
 pub use values::{Call, Fault, Frame, Gate, Note, TurnKind};
