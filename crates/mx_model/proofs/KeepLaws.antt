@@ -121,7 +121,7 @@ keeps-exchanged r c call =
     let ram = put_at c.ram (4 * arg_word call) 4 (arg call 1) in
     let q = keeps-trans c seen (record seen { ram = ram }) p (keeps-ram ram seen) in
     keeps-judged c seen (first_failed ((not (allows (r.perm call.domain (arg_word call)) A.Write), 12) ∷ []))
-      (record (answers (record seen { ram = ram }) 0) { a1 = Some (number_at c.ram (4 * arg_word call) 4) }) p q
+    (record (answers (record seen { ram = ram }) 0) { a1 = Some (number_at c.ram (4 * arg_word call) 4) }) p q
 
 keeps-exchange_from : (r : Reads) (c : Core) (call : Call) (o : Option ℕ) → Keeps c (exchange_from r c call o).core
 keeps-exchange_from r c call (Some n) = keeps-refl c
