@@ -6,3 +6,8 @@ pub mod RefusalExamples
 pub mod KeepLaws
 pub mod FlatLaws
 pub mod RunLaws
+pub mod RegisterLaws
+pub mod ListLaws
+pub mod ValidParts
+pub mod DecideLaws
+pub mod ServeLaws
