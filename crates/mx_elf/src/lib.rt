@@ -13,3 +13,6 @@ pub use image::{Image, ImageFault, Segs};
 pub use reading::read_image;
 pub use segment::Seg;
 pub use symbols::symbol;
+
+#[cfg(test)]
+mod tests;
