@@ -42,7 +42,7 @@ here : (bytes : List ℕ) (first count k : ℕ) → k < count → is_loaded byte
 here bytes first count k lt holds = rw (places-next first 32 count k lt, holds) refl
 
 -- and its faults come first
-faults-here : (size n : ℕ) (s : Seg) (rest : List Seg)
+pub faults-here : (size n : ℕ) (s : Seg) (rest : List Seg)
     → first_fault (rows_from size n (s ∷ rest)) ≡ option_or (first_fault (segment_rows size (n, s))) (first_fault (rows_from size (n + 1) rest))
 faults-here size n s rest = first_fault-append (segment_rows size (n, s)) (rows_from size (n + 1) rest)
 

@@ -1,5 +1,5 @@
 -- What a file is read as: an image, or its first fault.
-use Rattle.std.specs.Prelude.{ℕ, ◌+◌, ◌*◌, ◌%◌, ◌==◌, nat_eq, nat_lt, Bool, not, ◌&&◌, ◌||◌, if◌then◌else◌, List, [], ◌∷◌, ◌++◌, length, map, filter, Option, Some, None, Result, Ok, Err}
+use Rattle.std.specs.Prelude.{◌≡◌, ◌<◌, ◌≤◌, ℕ, ◌+◌, ◌*◌, ◌%◌, ◌==◌, nat_eq, nat_lt, Bool, not, ◌&&◌, ◌||◌, if◌then◌else◌, List, [], ◌∷◌, ◌++◌, length, map, filter, Option, Some, None, Result, Ok, Err}
 use Rattle.std.specs.List.{starts_with, flat_map, enumerate_from}
 use Rattle.mx_elf.specs.declared.image.Image.{Image}
 use Rattle.mx_elf.specs.declared.image.ImageFault.{ImageFault}
@@ -75,6 +75,13 @@ rows_of bytes = header_rows bytes ++ rows_from (length bytes) 0 (segments_of byt
 abbrev pub unless : {T : Type 0} → Option ℕ → T → Result T ImageFault
 unless None value = Ok value
 unless (Some number) value = Err (record { number = number })
+
+-- what is known of a loaded segment in a file of size bytes
+pub record IsSound (size : ℕ) (s : Seg) : Type 0 where
+  pub inside : 0 < s.file → s.offset + s.file ≤ size
+  pub held : s.file ≤ s.memory
+  pub covers : 0 < s.memory
+  pub aligned : s.address % 4 ≡ 0
 
 -- the image of a file, or its first fault
 abbrev pub image_of : List ℕ → Result Image ImageFault

@@ -1,9 +1,9 @@
 //! Images, and the faults of files that are none.
 
-ghost use Rattle.std.specs.Prelude.{◌≡◌, ◌≢◌, ◌+◌, ◌*◌, ◌<◌, ◌≤◌, length, ℕ, IfNone};
+ghost use Rattle.std.specs.Prelude.{◌≡◌, ◌≢◌, ◌+◌, ◌*◌, ◌<◌, ◌≤◌, length, ℕ, All, IfOk, IfNone};
 ghost use Rattle.mx_elf.specs.Field.{places};
 ghost use Rattle.mx_elf.specs.Header.{e_phoff, e_phnum};
-ghost use Rattle.mx_elf.specs.Image.{first_fault, header_rows, segment_rows, is_loaded, segment_at, segments_at, rows_from, unless, image_of};
+ghost use Rattle.mx_elf.specs.Image.{first_fault, header_rows, segment_rows, is_loaded, segment_at, segments_at, rows_from, unless, image_of, IsSound};
 
 use crate::field::{half_at, word_at};
 use crate::image::{Image, ImageFault, MOST_SEGMENTS, Segs};
@@ -20,6 +20,8 @@ use arrayvec::ArrayVec;
 /// memory, are passed over (System V gABI, "ELF Header" and "Program Header").
 pub fn read_image(bytes: &[u8]) -> Result<Image, ImageFault>
     ensures exact { result ≡ image_of bytes.now }
+    ensures sound { IfOk result (λ image. All (IsSound (length bytes.now)) image.segments) }
+    ensures most { IfOk result (λ image. length image.segments ≤ 16) }
 {
     if let Some(number) = header_fault(bytes) {
         return Err(ImageFault { number });
