@@ -3,6 +3,7 @@ use Rattle.std.proofs.Common.{◌≡◌, true, false, [], ◌∷◌, ◌++◌, r
 use Rattle.std.specs.Prelude.{Some, None, Err, codes}
 use Rattle.mx_words.specs.declared.perm.Perm.TheVariants as perms
 use Rattle.mx_elf.specs.declared.segment.Seg.{Seg}
+use Rattle.mx_words.specs.Bytes.{number_at}
 use Rattle.mx_elf.specs.Field.{word_at, places}
 use Rattle.mx_elf.specs.Segment.{permission_of, word_count, memory_bytes}
 use Rattle.mx_elf.specs.Image.{first_fault, segment_rows, image_of}
@@ -10,7 +11,7 @@ use Rattle.mx_elf.specs.Symbol.{name_of, begins_with_name}
 
 -- numbers are little-endian
 number : word_at (9 ∷ 0x78 ∷ 0x56 ∷ 0x34 ∷ 0x12 ∷ []) 1 ≡ 0x12345678
-unfolding word_at
+unfolding word_at number_at
 number = refl
 
 -- permissions: of nothing, X, W, W and X, R, R and X, R and W, all three, and a bit above

@@ -1,6 +1,6 @@
 -- Numbers in a list of bytes, each little-endian. A byte past the end counts as 0.
-use Rattle.std.specs.Prelude.{ℕ, zero, suc, ◌+◌, List, [], ◌∷◌, slice_index, drop}
-use Rattle.std.specs.Int.{w16, w32, from_le_bytes}
+use Rattle.std.specs.Prelude.{ℕ, zero, suc, ◌+◌, List, [], ◌∷◌, slice_index}
+use Rattle.mx_words.specs.Bytes.{number_at}
 
 -- the byte at a place
 abbrev pub byte_at : List ℕ → ℕ → ℕ
@@ -8,11 +8,11 @@ byte_at bytes at = slice_index bytes at
 
 -- the number of the 2 bytes from a place on
 unfoldable pub half_at : List ℕ → ℕ → ℕ
-half_at bytes at = from_le_bytes w16 (drop at bytes)
+half_at bytes at = number_at bytes at 2
 
 -- the number of the 4 bytes from a place on
 unfoldable pub word_at : List ℕ → ℕ → ℕ
-word_at bytes at = from_le_bytes w32 (drop at bytes)
+word_at bytes at = number_at bytes at 4
 
 -- the places of count records of size bytes, one right after the other, the first at start
 abbrev pub places : ℕ → ℕ → ℕ → List ℕ
