@@ -16,30 +16,39 @@ number = refl
 
 -- permissions: of nothing, X, W, W and X, R, R and X, R and W, all three, and a bit above
 of-0 : permission_of 0 None ≡ Some perms.None
+unfolding permission_of
 of-0 = refl
 
 of-1 : permission_of 1 None ≡ Some perms.ExecuteRead
+unfolding permission_of
 of-1 = refl
 
 of-2 : permission_of 2 None ≡ Some perms.ReadWrite
+unfolding permission_of
 of-2 = refl
 
 of-3 : permission_of 3 None ≡ None
+unfolding permission_of
 of-3 = refl
 
 of-4 : permission_of 4 None ≡ Some perms.Read
+unfolding permission_of
 of-4 = refl
 
 of-5 : permission_of 5 None ≡ Some perms.ExecuteRead
+unfolding permission_of
 of-5 = refl
 
 of-6 : permission_of 6 None ≡ Some perms.ReadWrite
+unfolding permission_of
 of-6 = refl
 
 of-7 : permission_of 7 (Some perms.ReadWrite) ≡ Some perms.ReadWrite
+unfolding permission_of
 of-7 = refl
 
 of-12 : permission_of 12 None ≡ Some perms.Read
+unfolding permission_of
 of-12 = refl
 
 -- five bytes from a multiple of 4 on are two words, of which the file has three bytes
@@ -51,7 +60,7 @@ unfolding five
 five-words = refl
 
 five-bytes : memory_bytes (1 ∷ 2 ∷ 3 ∷ 4 ∷ 5 ∷ []) five ≡ 2 ∷ 3 ∷ 4 ∷ 0 ∷ 0 ∷ []
-unfolding five
+unfolding five memory_bytes
 five-bytes = refl
 
 -- the faults of that segment in files of 4 and of 3 bytes, at the places 0 and 16
@@ -83,4 +92,5 @@ name-without-end = refl
 
 -- a file that is too short
 short : image_of (0x7F ∷ 0x45 ∷ 0x4C ∷ 0x46 ∷ []) ≡ Err (record { number = 1 })
+unfolding image_of
 short = refl

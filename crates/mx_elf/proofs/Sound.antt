@@ -70,6 +70,7 @@ given (Some n) x y e = absurd cc
 
 -- an image has sound segments, at most 16
 pub sound-image : (bytes : List ℕ) (image : Image) → Ok image ≡ image_of bytes → AllByRecursion (IsSound (length bytes)) image.segments × (length image.segments ≤ 16)
+unfolding image_of
 sound-image bytes image e =
     let parts = given (first_fault (rows_of bytes)) image (record { entry = e_entry bytes; segments = segments_of bytes }) e in
     let none = neither (first_fault (header_rows bytes)) (first_fault (rows_from (length bytes) 0 (segments_of bytes)))

@@ -84,5 +84,5 @@ pub record IsSound (size : ℕ) (s : Seg) : Type 0 where
   pub aligned : s.address % 4 ≡ 0
 
 -- the image of a file, or its first fault
-abbrev pub image_of : List ℕ → Result Image ImageFault
+unfoldable pub image_of : List ℕ → Result Image ImageFault
 image_of bytes = unless (first_fault (rows_of bytes)) (record { entry = e_entry bytes; segments = segments_of bytes })

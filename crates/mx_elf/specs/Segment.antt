@@ -17,7 +17,7 @@ abbrev pub word_count : Seg → ℕ
 word_count s = end_word s - first_word s
 
 -- its bytes in memory: those of the file, and zeros
-abbrev pub memory_bytes : List ℕ → Seg → List ℕ
+unfoldable pub memory_bytes : List ℕ → Seg → List ℕ
 memory_bytes bytes s = take s.file (drop s.offset bytes) ++ replicate (s.memory - s.file) 0
 
 -- whether flags say executable, writable, readable
@@ -31,7 +31,7 @@ abbrev pub is_readable : ℕ → Bool
 is_readable flags = flags / 4 % 2 == 1
 
 -- the permission that flags give; where they say writable and executable it is what the manifest says, if it does
-abbrev pub permission_of : ℕ → Option Perm → Option Perm
+unfoldable pub permission_of : ℕ → Option Perm → Option Perm
 permission_of flags said =
     if is_writable flags && is_executable flags then said
     else (if is_writable flags then Some perms.ReadWrite
