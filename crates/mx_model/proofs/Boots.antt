@@ -1,5 +1,5 @@
 -- States at boot for the worked examples: inline modules in a RAM of 64 KiB, packed tables, a lookaside buffer of 32.
-use Rattle.std.specs.Prelude.{ℕ, zero, suc, ◌+◌, ◌-◌, ◌*◌, ◌/◌, ◌%◌, Bool, false, List, [], ◌∷◌, ◌++◌, length, flat_map, replicate, slice_set, fold}
+use Rattle.std.specs.Prelude.{ℕ, ◌+◌, ◌-◌, ◌*◌, ◌/◌, ◌%◌, Bool, false, List, [], ◌∷◌, ◌++◌, length, flat_map, replicate, slice_set, fold}
 use Rattle.std.specs.Prelude.{map as list_map}
 use Rattle.std.specs.List.{enumerate_from}
 use Rattle.mx_words.specs.declared.perm.Perm.{Perm}
@@ -10,10 +10,9 @@ use Rattle.mx_words.specs.FirstFit.{Area}
 use Rattle.mx_words.specs.Newest.{Grant, Give}
 use Rattle.mx_words.specs.Ranges.{ram_base}
 use Rattle.mx_model.specs.declared.values.Gate.{Gate}
-use Rattle.mx_model.specs.declared.values.Fault.{Fault}
 use Rattle.mx_model.specs.declared.values.Note.{Note}
 use Rattle.mx_model.specs.declared.values.Note.TheVariants as N
-use Rattle.mx_model.specs.State.{Core, Hart, Module, Stack, State, Running, module_at}
+use Rattle.mx_model.specs.State.{Core, Hart, Module, Stack, State, Running}
 use Rattle.mx_model.specs.Turn.{stack_address}
 
 -- an inline module: its first word, its permission, its words, its heap and stack areas, and whether it is killing
@@ -68,6 +67,7 @@ core_of modules gates harts = record {
     harts = harts;
     caches = list_map (λ (hart : Hart). no_cache) harts;
     turns = 0;
+    size = 16384;
     kind = K.Packed;
     limit = record { upper = 128; leaf = 4096; spill = 4096 };
     buffer = 32 }

@@ -1,24 +1,14 @@
 -- Worked examples of gates, returns and faults inside a call, computed.
-use Rattle.std.specs.Prelude.{◌≡◌, ℕ, Bool, true, false, List, [], ◌∷◌, refl, Option, Some, None, slice_index, slice_index_or, length}
-use Rattle.std.specs.Prelude.{map as list_map}
-use Rattle.mx_words.specs.declared.perm.Perm.{Perm}
+use Rattle.std.specs.Prelude.{◌≡◌, ℕ, true, List, [], ◌∷◌, refl}
 use Rattle.mx_words.specs.declared.perm.Perm.TheVariants as P
 use Rattle.mx_words.specs.Bytes.{number_at, put_at, cleared_at}
-use Rattle.mx_words.specs.Newest.{map, owners}
-use Rattle.mx_words.specs.Rights.{same}
-use Rattle.mx_words.specs.Runs.{Run, runs_of}
 use Rattle.mx_isa.specs.Fields.{imm_i, imm_s, imm_b, imm_u, imm_j, extended}
 use Rattle.mx_isa.specs.Table.{decoded}
-use Rattle.mx_model.specs.declared.values.Call.{Call}
-use Rattle.mx_model.specs.declared.values.Note.{Note}
-use Rattle.mx_model.specs.declared.values.Note.TheVariants as N
 use Rattle.mx_model.specs.declared.values.Gate.{Gate}
 use Rattle.mx_model.specs.Effect.{holds, imm_result, reg_result, loaded, effect}
-use Rattle.mx_model.specs.Run.{Schedule, ByQuantum, ByBytes, run}
-use Rattle.mx_model.specs.State.{State, Core, Module, cache_at, module_at, hart_at}
-use Rattle.mx_model.specs.Reads.{reads, grants_of}
-use Rattle.mx_model.specs.Serve.{Served, serve, code}
-use Rattle.mx_model.proofs.Boots.{Inline, End, HartEnd, end, one_end, fault, one_module, inline, boot, regs_with}
+use Rattle.mx_model.specs.Run.{ByQuantum, run}
+use Rattle.mx_model.specs.State.{State, module_at}
+use Rattle.mx_model.proofs.Boots.{end, fault, inline, boot, regs_with}
 
 -- two modules, execute-read at words 0 and 1024, with gates
 abbrev two : List ℕ → List ℕ → List Gate → ℕ → ℕ → State

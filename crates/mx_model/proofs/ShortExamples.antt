@@ -1,16 +1,12 @@
 -- Worked examples of runs of one module, computed.
-use Rattle.std.specs.Prelude.{◌≡◌, ℕ, Bool, true, false, List, [], ◌∷◌, refl, Option, Some, None}
-use Rattle.mx_words.specs.declared.perm.Perm.{Perm}
-use Rattle.mx_words.specs.declared.perm.Perm.TheVariants as P
+use Rattle.std.specs.Prelude.{◌≡◌, [], ◌∷◌, refl}
 use Rattle.mx_words.specs.Bytes.{number_at, put_at, cleared_at}
 use Rattle.mx_isa.specs.Fields.{imm_i, imm_s, imm_b, imm_u, imm_j, extended}
 use Rattle.mx_isa.specs.Table.{decoded}
-use Rattle.mx_model.specs.declared.values.Note.{Note}
 use Rattle.mx_model.specs.declared.values.Note.TheVariants as N
 use Rattle.mx_model.specs.Effect.{holds, imm_result, reg_result, loaded, effect}
-use Rattle.mx_model.specs.Run.{Schedule, ByQuantum, ByBytes, run}
-use Rattle.mx_model.specs.State.{State}
-use Rattle.mx_model.proofs.Boots.{End, end, one_end, fault, one_module, inline, boot}
+use Rattle.mx_model.specs.Run.{ByQuantum, ByBytes, run}
+use Rattle.mx_model.proofs.Boots.{end, one_end, fault, one_module}
 
 -- three words: a7 = 1, a0 = 5, exit
 three-words : end (run (ByQuantum 1) 10 (one_module (0x00100893 ∷ 0x00500513 ∷ 0x00000073 ∷ [])))
