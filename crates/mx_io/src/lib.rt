@@ -1,10 +1,15 @@
 //! The outside: stores that files are read from and sinks that bytes are written to, in memory and real.
 #![tactic(auto)]
 
+mod calls;
+mod files;
+mod named;
+mod part;
 mod piece;
 mod sink;
 mod store;
 
+pub use files::Files;
 pub use piece::{Piece, put_pieces};
 pub use sink::{Sink, put_all};
 pub use store::Store;
