@@ -8,6 +8,8 @@ use Rattle.std.proofs.lemmas.Map.Text.{is_eq-slice_cmp}
 use Rattle.mx_io.specs.declared.named.Named.{Named}
 use Rattle.mx_io.specs.Named.{named}
 use Rattle.mx_io.specs.Files.{files_of}
+use Rattle.mx_io.specs.declared.loose.LooseFile.{LooseFile}
+use Rattle.mx_io.specs.Loose.{loose_of}
 
 -- what a look-up finds from an entry on: that entry's value where the names agree, else what it finds after it
 pub find-named : {V : Type 0} (name : List ℕ) (rest after : List (Named V)) (e : Named V) (same : Bool) → rest ≡ e ∷ after → same ≡ bytes_eq (string_bytes e.name) name
@@ -24,3 +26,7 @@ find-map R g q (e ∷ es) = elim (eq_by_cmp R q e.0) as (λ b. cond b (Some (g e
 -- the file under a name is what a look-up among the entries finds
 pub get-files_of : {Z : Type 0} (entries : List (Named (Vec ℕ Z))) (name : List ℕ) → get (files_of entries) name ≡ option_map (λ v. v.items) (find (slice_cmp nat_cmp) name (named entries))
 get-files_of entries name = get-from_entries nat_list_cmp_total (map (λ e. (e.0, e.1.items)) (named entries)) name ∙ find-map (slice_cmp nat_cmp) (λ v. v.items) name (named entries)
+
+-- the file with a size under a name is what a look-up among the entries finds
+pub get-loose_of : (entries : List (Named LooseFile)) (name : List ℕ) → get (loose_of entries) name ≡ option_map (λ f. (f.size, f.bytes.items)) (find (slice_cmp nat_cmp) name (named entries))
+get-loose_of entries name = get-from_entries nat_list_cmp_total (map (λ e. (e.0, (e.1.size, e.1.bytes.items))) (named entries)) name ∙ find-map (slice_cmp nat_cmp) (λ f. (f.size, f.bytes.items)) name (named entries)

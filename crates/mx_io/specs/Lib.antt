@@ -6,3 +6,5 @@ pub mod Piece
 pub mod Calls
 pub mod Named
 pub mod Files
+pub mod Bytes
+pub mod Loose

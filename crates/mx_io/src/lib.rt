@@ -1,15 +1,19 @@
 //! The outside: stores that files are read from and sinks that bytes are written to, in memory and real.
 #![tactic(auto)]
 
+mod bytes;
 mod calls;
 mod files;
+mod loose;
 mod named;
 mod part;
 mod piece;
 mod sink;
 mod store;
 
+pub use bytes::Bytes;
 pub use files::Files;
+pub use loose::Loose;
 pub use piece::{Piece, put_pieces};
 pub use sink::{Sink, put_all};
 pub use store::Store;
