@@ -41,7 +41,7 @@ module _ {A E : Type 0} (told : Option FileMap) (faults : ℕ) (log : CallLog) (
         later = omega arith;
         counted = omega arith;
         failed = Rose-raised faults;
-        sure = λ quiet. absurd (both_ways (fails_next log) (fails_next-quiet log quiet) fails)
+        sure = λ quiet. absurd (both_ways (fails_next log) (fails_next-quiet log quiet) fails);
       }
 
   -- another call succeeds, and its count stays

@@ -1,4 +1,4 @@
-pub mod BytesLaws
 pub mod CallLaws
 pub mod Lookup
+pub mod SinkLaws
 pub mod Text

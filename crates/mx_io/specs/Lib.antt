@@ -8,3 +8,4 @@ pub mod Named
 pub mod Files
 pub mod Bytes
 pub mod Loose
+pub mod Real

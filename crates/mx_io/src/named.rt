@@ -29,7 +29,12 @@ pub(crate) fn find<'a, V>(entries: &'a VecDeque<Named<V>>, name: &str) -> Option
 }
 
 /// Puts a value under the name, in place of an older one.
-pub(crate) fn add<V: Drop>(alloc: Global, entries: &mut VecDeque<Named<V>>, name: &str, value: V) -> Result<(), NoMemory>
+pub(crate) fn add<V: Drop>(
+    alloc: Global,
+    entries: &mut VecDeque<Named<V>>,
+    name: &str,
+    value: V,
+) -> Result<(), NoMemory>
     ensures ok { OnOk result (named entries.new.items ≡ (name.now, value) ∷ named entries.old.items) }
     ensures err { OnErr result (named entries.new.items ≡ named entries.old.items) }
 {

@@ -1,4 +1,4 @@
--- Writes to bytes in memory meet the trait of the sinks.
+-- Writes to bytes in memory and to the system meet the trait of the sinks.
 use Rattle.std.proofs.Common.{◌≡◌, ℕ, zero, suc, ◌+◌, ◌-◌, ◌^◌, ◌<◌, ◌≤◌, Bool, true, false, ◌&&◌, ◌||◌, cond, min, List, length, take, refl, sym, ◌∙◌, ap, arith, IsTrue, Some, Result, Ok, Err, IsOk, nat_eq, nat_lt}
 use Rattle.std.proofs.lemmas.Bool.{ltb-true, lt-ltb, le-ltb, eqb-true, eqb-false, and_parts, or_parts, both_ways}
 use Rattle.mx_io.specs.Count.{Rose, raised}
@@ -6,6 +6,7 @@ use Rattle.mx_io.specs.Calls.{fails_next, after_call, is_quiet}
 use Rattle.mx_io.specs.Texts.{appended}
 use Rattle.mx_io.specs.Sink.{SinkState, Writes}
 use Rattle.mx_io.specs.Bytes.{BytesState, refuses, takes, after_refusal, after_taking, bytes_sink}
+use Rattle.mx_io.specs.Real.{untold_sink}
 use Rattle.mx_io.proofs.CallLaws.{Rose-raised, fails_next-quiet, is_quiet-after_call}
 
 -- a write that is refused is not one that the sink was sure of
@@ -36,7 +37,7 @@ module _ {E : Type 0} (s : BytesState) (piece : List ℕ) (fits : s.faults < 2 ^
         taken = tt;
         nothing = refl;
         failed = Rose-raised s.faults;
-        sure = λ more room. absurd (not_sure (fails_next s.calls) (is_quiet s.calls) s.room (length piece) (fails_next-quiet s.calls) refused more room)
+        sure = λ more room. absurd (not_sure (fails_next s.calls) (is_quiet s.calls) s.room (length piece) (fails_next-quiet s.calls) refused more room);
       }
 
   pub writes_taken : s.calls.made < 2 ^ 64 → refuses s piece ≡ false → Writes {E = E} (bytes_sink s) (bytes_sink (after_taking s piece)) piece (Ok (takes s piece))
@@ -50,5 +51,17 @@ module _ {E : Type 0} (s : BytesState) (piece : List ℕ) (fits : s.faults < 2 ^
         taken = refl;
         nothing = tt;
         failed = tt;
-        sure = λ more room. (refl, refl, room_left (is_quiet s.calls) (is_quiet (after_call s.calls)) s.room (length piece) (is_quiet-after_call s.calls made) more room)
+        sure = λ more room. (refl, refl, room_left (is_quiet s.calls) (is_quiet (after_call s.calls)) s.room (length piece) (is_quiet-after_call s.calls made) more room);
       }
+
+module _ {E : Type 0} (faults : ℕ) (bytes : List ℕ) (fits : faults < 2 ^ 64) where
+  -- a write to the system that fails, with its fault counted
+  pub untold_refused : {e : E} → Writes (untold_sink faults) (untold_sink (raised faults)) bytes (Err e)
+  untold_refused =
+      record { later = omega arith; counted = omega arith; bound = tt; moves = tt; taken = tt; nothing = refl; failed = Rose-raised faults; sure = λ more room. absurd (omega arith) }
+
+  -- a write to the system that takes some bytes, or nothing of no bytes
+  pub untold_taken : (k : ℕ) → k ≤ length bytes → (0 < length bytes → 0 < k) → Writes {E = E} (untold_sink faults) (untold_sink faults) bytes (Ok k)
+  unfolding appended
+  untold_taken k bound moves =
+      record { later = omega arith; counted = fits; bound = bound; moves = moves; taken = refl; nothing = tt; failed = tt; sure = λ more room. absurd (omega arith) }
