@@ -1,10 +1,10 @@
 -- Laws of counts of faults and of calls that are to fail.
-use Rattle.std.proofs.Common.{◌≡◌, ℕ, ◌+◌, ◌-◌, ◌^◌, ◌<◌, ◌≤◌, Bool, true, false, List, [], ◌∷◌, refl, sym, ◌∙◌, arith, IsTrue, Option, Result, Ok, Err, nat_eq, nat_le, nat_lt}
+use Rattle.std.proofs.Common.{◌≡◌, ℕ, ◌+◌, ◌^◌, ◌<◌, ◌≤◌, true, false, List, [], ◌∷◌, refl, arith, IsTrue, Option, Ok, Err, nat_eq, nat_le, nat_lt}
 use Rattle.std.proofs.lemmas.Bool.{leb-true, le-leb, ne_eqb, and_parts, and_from, and_right, or_from, both_ways}
 use Rattle.std.specs.List.{list_any, list_all}
 use Rattle.mx_io.specs.Count.{Rose, raised, count_end}
 use Rattle.mx_io.specs.Calls.{CallLog, fails_next, after_call, is_quiet}
-use Rattle.mx_io.specs.Store.{FileMap, StoreState, Asks}
+use Rattle.mx_io.specs.Store.{FileMap, Asks}
 
 -- one more fault raises a count
 pub Rose-raised : (n : ℕ) → Rose n (raised n)

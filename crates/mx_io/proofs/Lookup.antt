@@ -1,5 +1,5 @@
 -- Look-ups among values under names.
-use Rattle.std.proofs.Common.{◌≡◌, ℕ, Bool, true, false, cond, List, [], ◌∷◌, refl, ap, sym, ◌∙◌, Option, Some, option_map, bytes_eq, map, string_bytes, Vec, Ordering}
+use Rattle.std.proofs.Common.{◌≡◌, ℕ, Bool, true, false, cond, List, [], ◌∷◌, refl, ap, sym, ◌∙◌, Some, option_map, bytes_eq, map, string_bytes, Vec, Ordering}
 use Rattle.std.specs.Ordering.{nat_cmp, eq_by_cmp}
 use Rattle.std.specs.Cmp.Lexicographic.{slice_cmp, nat_list_eq_equiv, nat_list_cmp_total}
 use Rattle.std.specs.FinMap.{get, get-from_entries}

@@ -1,10 +1,10 @@
 -- Writes to bytes in memory and to the system meet the trait of the sinks.
-use Rattle.std.proofs.Common.{◌≡◌, ℕ, zero, suc, ◌+◌, ◌-◌, ◌^◌, ◌<◌, ◌≤◌, Bool, true, false, ◌&&◌, ◌||◌, cond, min, List, length, take, refl, sym, ◌∙◌, ap, arith, IsTrue, Some, Result, Ok, Err, IsOk, nat_eq, nat_lt}
-use Rattle.std.proofs.lemmas.Bool.{ltb-true, lt-ltb, le-ltb, eqb-true, eqb-false, and_parts, or_parts, both_ways}
-use Rattle.mx_io.specs.Count.{Rose, raised}
+use Rattle.std.proofs.Common.{◌≡◌, ℕ, zero, suc, ◌+◌, ◌-◌, ◌^◌, ◌<◌, ◌≤◌, Bool, true, false, ◌&&◌, ◌||◌, cond, min, List, length, refl, sym, ◌∙◌, ap, arith, Ok, Err, nat_eq, nat_lt}
+use Rattle.std.proofs.lemmas.Bool.{lt-ltb, eqb-true, and_parts, or_parts, both_ways}
+use Rattle.mx_io.specs.Count.{raised}
 use Rattle.mx_io.specs.Calls.{fails_next, after_call, is_quiet}
 use Rattle.mx_io.specs.Texts.{appended}
-use Rattle.mx_io.specs.Sink.{SinkState, Writes}
+use Rattle.mx_io.specs.Sink.{Writes}
 use Rattle.mx_io.specs.Bytes.{BytesState, refuses, takes, after_refusal, after_taking, bytes_sink}
 use Rattle.mx_io.specs.Real.{untold_sink}
 use Rattle.mx_io.proofs.CallLaws.{Rose-raised, fails_next-quiet, is_quiet-after_call}

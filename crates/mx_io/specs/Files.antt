@@ -1,8 +1,6 @@
 -- Files in memory, as values.
-use Rattle.std.specs.Prelude.{ℕ, List, Option, Some, map, Vec, if◌then◌else◌}
+use Rattle.std.specs.Prelude.{ℕ, List, Some, map, Vec, if◌then◌else◌}
 use Rattle.std.specs.Coded.{Coded, code_by, coded×, coded_ℕ, coded_list}
-use Rattle.std.specs.Ordering.{nat_cmp}
-use Rattle.std.specs.Cmp.Lexicographic.{slice_cmp}
 use Rattle.std.specs.FinMap.{empty, insert, from_entries, code}
 use Rattle.std.specs.Prelude.{refl}
 use Rattle.mx_io.specs.Count.{raised}

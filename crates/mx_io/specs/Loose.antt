@@ -1,5 +1,5 @@
 -- Files in memory that tell nothing, each with a size of its own, as values.
-use Rattle.std.specs.Prelude.{ℕ, List, [], Bool, true, Vec, Option, Some, None, map, option_map, unwrap_or}
+use Rattle.std.specs.Prelude.{ℕ, List, [], true, Option, None, map, option_map, unwrap_or}
 use Rattle.std.specs.Coded.{Coded, coded×, coded_ℕ, coded_list}
 use Rattle.std.specs.Ordering.{nat_cmp}
 use Rattle.std.specs.Cmp.Lexicographic.{slice_cmp}

@@ -1,5 +1,5 @@
 -- The stores and sinks of the system, which tell nothing of content: each is its count of faults.
-use Rattle.std.specs.Prelude.{ℕ, Bool, false, None}
+use Rattle.std.specs.Prelude.{ℕ, false, None}
 use Rattle.mx_io.specs.Store.{StoreState}
 use Rattle.mx_io.specs.Sink.{SinkState}
 

@@ -1,4 +1,4 @@
-use Rattle.std.proofs.Common.{◌≡◌, ◌∙◌, sym, ap, bytes_eq, string_bytes, Option, option_copied, true, false}
+use Rattle.std.proofs.Common.{◌∙◌, sym, ap, bytes_eq, true, false}
 use Rattle.mx_io.proofs.Lookup.{find-named}
 use Rattle.mx_io.proofs.named.find.Goals as goal
 

@@ -1,4 +1,4 @@
-use Rattle.std.proofs.Common.{◌≡◌, sym, ap, ◌∙◌, true, false, ◌||◌, ◌++◌, take, rules, arith}
+use Rattle.std.proofs.Common.{◌≡◌, sym, ◌∙◌, ◌++◌, take, arith}
 use Rattle.std.proofs.lemmas.Grind.{common_steps}
 use Rattle.mx_io.specs.Bytes.{BytesState}
 use Rattle.mx_io.proofs.SinkLaws.{writes_refused, writes_taken}

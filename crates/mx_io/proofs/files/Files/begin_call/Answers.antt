@@ -1,4 +1,4 @@
-use Rattle.std.proofs.Common.{◌≡◌, sym, ◌∙◌, true, rules}
+use Rattle.std.proofs.Common.{sym, ◌∙◌}
 use Rattle.mx_io.proofs.CallLaws.{asks_listed, asks_other}
 use Rattle.mx_io.proofs.files.Files.begin_call.Goals as goal
 

@@ -1,4 +1,4 @@
-use Rattle.std.proofs.Common.{◌≡◌, ap, sym, ◌∙◌, option_map, option_copied, Some, None}
+use Rattle.std.proofs.Common.{ap, sym, ◌∙◌, option_map, option_copied, Some}
 use Rattle.std.specs.FinMap.{get}
 use Rattle.mx_io.proofs.Lookup.{get-files_of}
 use Rattle.mx_io.proofs.files.Files.bytes_of.Goals as goal
