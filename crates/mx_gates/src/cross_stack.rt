@@ -1,7 +1,7 @@
 //! The frames of one hart.
 
-ghost use Rattle.std.specs.Prelude.{◌≡◌, ◌+◌, ◌-◌, ◌≤◌, ◌↔◌, [], ◌∷◌, ◌++◌, IsErr, OnOk, OnErr, length, slice_get, take};
-ghost use Rattle.mx_gates.specs.Frames.{nearest};
+ghost use Rattle.std.specs.Prelude.{◌≡◌, ◌≤◌, ◌==◌, [], ◌∷◌, ◌++◌, OnOk, OnErr, is_err, length, slice_get};
+ghost use Rattle.mx_model.specs.Gates.{top, below_top, nearest};
 
 use mx_model::Frame;
 use std::marker::Model;
@@ -50,7 +50,7 @@ impl CrossStack {
     /// Makes the frame the top one. `Full` exactly where 64 frames are held; then nothing has changed.
     pub fn push(&mut self, frame: Frame) -> Result<(), Full>
         ensures ok { OnOk result (self.new ≡ self.old ++ frame ∷ []) }
-        ensures full { IsErr result ↔ (length self.old ≡ 64) }
+        ensures full { is_err result ≡ (length self.old == 64) }
         ensures err { OnErr result (self.new ≡ self.old) }
     {
         if self.depth == FRAMES {
@@ -63,7 +63,7 @@ impl CrossStack {
 
     /// The top frame. `None` exactly where there is no frame.
     pub fn top(&self) -> Option<Frame>
-        ensures { result ≡ slice_get self.now (length self.now - 1) }
+        ensures { result ≡ top self.now }
     {
         if self.depth == 0 {
             return None;
@@ -73,8 +73,8 @@ impl CrossStack {
 
     /// The top frame, which is taken off. `None` exactly where there is no frame.
     pub fn pop(&mut self) -> Option<Frame>
-        ensures top { result ≡ slice_get self.old (length self.old - 1) }
-        ensures rest { self.new ≡ take (length self.old - 1) self.old }
+        ensures top { result ≡ top self.old }
+        ensures rest { self.new ≡ below_top self.old }
     {
         if self.depth == 0 {
             return None;
@@ -85,7 +85,7 @@ impl CrossStack {
 
     /// The saved x2 of the frame nearest the top whose caller is `domain`. `None` exactly where there is no such frame.
     pub fn nearest(&self, domain: u32) -> Option<u32>
-        ensures { result ≡ nearest domain self.now }
+        ensures { result ≡ nearest self.now domain }
     {
         for i in (0..self.depth).rev() {
             if self.frames[i].caller == domain {

@@ -1,7 +1,8 @@
 //! The gates of the machine.
 
-ghost use Rattle.std.specs.Prelude.{◌≡◌, ◌<◌, ◌≤◌, ◌↔◌, [], ◌∷◌, ◌++◌, None, IsErr, IsSome, IsTrue, OnOk, OnErr, length, slice_get};
-ghost use Rattle.mx_gates.specs.Gates.{stands, target_at, call_target, has_return, without_gate, with_gate, AreApart};
+ghost use Rattle.std.specs.Prelude.{◌≡◌, ◌<◌, ◌≤◌, [], ◌∷◌, ◌++◌, None, OnOk, OnErr, is_err, length, slice_get};
+ghost use Rattle.mx_model.specs.Gates.{is_at, gate_at, call_gate, is_return, with_gate, without_gate, has_gate, no_gate_fits};
+ghost use Rattle.mx_gates.specs.Gates.{AreApart};
 ghost use Rattle.mx_gates.specs.Index.{Indexes};
 
 use crate::index::{BUCKETS, bucket, index};
@@ -59,21 +60,20 @@ impl Gates {
     /// The target of the call gate that stands for `domain` at the RAM word `word`. `None` exactly where no call gate stands
     /// there.
     pub fn call_gate(&self, domain: u32, word: u32) -> Option<u32>
-        ensures { result ≡ call_target self.now domain word }
+        ensures { result ≡ call_gate self.now domain word }
     {
-        let target = self.target(domain, word)?;
-        if target == domain {
-            return None;
+        match self.gate(domain, word) {
+            Some(gate) if gate.target != gate.domain => Some(gate.target),
+            _ => None,
         }
-        Some(target)
     }
 
     /// Whether a return gate stands for `domain` at the RAM word `word`.
     pub fn is_return(&self, domain: u32, word: u32) -> bool
-        ensures { result ≡ has_return self.now domain word }
+        ensures { result ≡ is_return self.now domain word }
     {
-        match self.target(domain, word) {
-            Some(target) => target == domain,
+        match self.gate(domain, word) {
+            Some(gate) => gate.target == gate.domain,
             None => false,
         }
     }
@@ -82,11 +82,10 @@ impl Gates {
     /// and none of them there; then nothing has changed.
     pub fn add(&mut self, gate: Gate) -> Result<(), GatesFull>
         ensures ok { OnOk result (self.new ≡ with_gate gate self.old) }
-        ensures full { IsErr result
-            ↔ ((length self.old ≡ 256) × (target_at self.old gate.domain gate.word ≡ None)) }
+        ensures full { is_err result ≡ no_gate_fits self.old gate.domain gate.word }
         ensures err { OnErr result (self.new ≡ self.old) }
     {
-        if self.len == GATES && self.target(gate.domain, gate.word).is_none() {
+        if self.is_full_for(gate.domain, gate.word) {
             return Err(GatesFull);
         }
         self.take_out(gate.domain, gate.word);
@@ -97,10 +96,10 @@ impl Gates {
     /// Removes the gate that stands for `domain` at the RAM word `word`. False exactly where none stands there; then nothing
     /// has changed.
     pub fn remove(&mut self, domain: u32, word: u32) -> bool
-        ensures stood { IsTrue result ↔ IsSome (target_at self.old domain word) }
+        ensures stood { result ≡ has_gate self.old domain word }
         ensures rest { self.new ≡ without_gate domain word self.old }
     {
-        if self.target(domain, word).is_none() {
+        if !self.has_gate(domain, word) {
             return false;
         }
         self.take_out(domain, word);
@@ -119,19 +118,34 @@ impl Gates {
         Some(self.gates[i as usize])
     }
 
-    /// The target of the gate that stands for `domain` at `word`.
-    fn target(&self, domain: u32, word: u32) -> Option<u32>
-        ensures { result ≡ target_at self.now domain word }
+    /// The gate that stands for `domain` at `word`.
+    fn gate(&self, domain: u32, word: u32) -> Option<Gate>
+        ensures { result ≡ gate_at self.now domain word }
     {
         let mut at = self.first[bucket(domain, word)] as usize;
         while at < self.len {
             let gate = self.gates[at];
-            if stands(&gate, domain, word) {
-                return Some(gate.target);
+            if is_at(&gate, domain, word) {
+                return Some(gate);
             }
             at = self.next[at] as usize;
         }
         None
+    }
+
+    /// Whether a gate stands for `domain` at `word`.
+    fn has_gate(&self, domain: u32, word: u32) -> bool
+        ensures { result ≡ has_gate self.now domain word }
+    {
+        self.gate(domain, word).is_some()
+    }
+
+    /// Whether no gate for `domain` at `word` can be added.
+    fn is_full_for(&self, domain: u32, word: u32) -> bool
+        ensures full { result ≡ no_gate_fits self.now domain word }
+        ensures bounded { length self.now ≤ 256 }
+    {
+        self.len == GATES && !self.has_gate(domain, word)
     }
 
     /// Removes the gate that stands for `domain` at `word`, if one does.
@@ -141,7 +155,7 @@ impl Gates {
         let mut kept = 0;
         for i in 0..self.len {
             let gate = self.gates[i];
-            if !stands(&gate, domain, word) {
+            if !is_at(&gate, domain, word) {
                 self.gates[kept] = gate;
                 kept += 1;
             }
@@ -153,7 +167,7 @@ impl Gates {
     /// Appends a gate where none stands.
     fn append(&mut self, gate: Gate)
         requires room { length self.old < 256 }
-        requires none { target_at self.old gate.domain gate.word ≡ None }
+        requires none { gate_at self.old gate.domain gate.word ≡ None }
         ensures { self.new ≡ self.old ++ gate ∷ [] }
     {
         self.gates[self.len] = gate;
@@ -163,8 +177,8 @@ impl Gates {
 }
 
 /// Whether the gate stands for `domain` at `word`.
-fn stands(gate: &Gate, domain: u32, word: u32) -> bool
-    ensures { result ≡ stands domain word gate.now }
+fn is_at(gate: &Gate, domain: u32, word: u32) -> bool
+    ensures { result ≡ is_at domain word gate.now }
 {
     gate.domain == domain && gate.word == word
 }

@@ -1,7 +1,8 @@
 use Rattle.std.proofs.Common.{◌<◌, List, length, take, sym, ap, subst, ◌∙◌, arith, length-set, length-take-le}
 use Rattle.std.proofs.lemmas.List.{take_more_set}
 use Rattle.mx_model.specs.declared.values.Gate.{Gate}
-use Rattle.mx_gates.specs.Gates.{target_at, AreApart}
+use Rattle.mx_model.specs.Gates.{gate_at}
+use Rattle.mx_gates.specs.Gates.{AreApart}
 use Rattle.mx_gates.proofs.Apart.{AreApart-push}
 use Rattle.mx_gates.proofs.gates.Gates.append.Goals as goal
 
@@ -12,4 +13,4 @@ invariant_of-self c =
     let g = c.args.gate in
     let room : s.len < 256 =
     omega (arith, c.requires.room, ap length c.self.view_is, length-take-le s.len s.gates (omega (arith, i.0, i.1))) in
-    (length-set s.gates s.len g ∙ i.0, omega arith, subst AreApart (sym (take_more_set s.gates s.len g (omega (arith, i.0)))) (AreApart-push (take s.len s.gates) g (ap (λ (xs : List Gate). target_at xs g.domain g.word) c.self.view_is ∙ c.requires.none) i.2), c.index.ensures)
+    (length-set s.gates s.len g ∙ i.0, omega arith, subst AreApart (sym (take_more_set s.gates s.len g (omega (arith, i.0)))) (AreApart-push (take s.len s.gates) g (ap (λ (xs : List Gate). gate_at xs g.domain g.word) c.self.view_is ∙ c.requires.none) i.2), c.index.ensures)
