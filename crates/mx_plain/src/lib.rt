@@ -1,0 +1,6 @@
+//! Plain bodies for tests and benchmarks alone.
+#![tactic(auto)]
+
+mod bus;
+
+pub use bus::PlainBus;
