@@ -47,6 +47,7 @@ impl PlainBus {
         requires { first + count ≤ length self.old.1 }
         ensures bytes { self.new.0 ≡ self.old.0 }
         ensures map { self.new.1 ≡ take first self.old.1 ++ replicate count perm ++ drop (first + count) self.old.1 }
+        ensures size { length self.new.1 ≡ length self.old.1 }
     {
         let at = first as usize;
         let part = &mut self.perms[at..at + count as usize];
