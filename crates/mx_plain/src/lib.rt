@@ -4,3 +4,6 @@
 mod bus;
 
 pub use bus::PlainBus;
+
+#[cfg(test)]
+mod tests;
