@@ -1,6 +1,7 @@
 -- Facts of all elements of a list, under the edits that a turn makes; bytes and numbers in them.
 use Rattle.std.proofs.Common.{◌≡◌, ℕ, zero, suc, ◌+◌, ◌-◌, ◌*◌, ◌/◌, ◌%◌, ◌^◌, ◌<◌, ◌≤◌, Bool, true, false, not, cond, nat_lt, ◌||◌, List, [], ◌∷◌, ◌++◌, length, get_or, set, take, drop, replicate, refl, sym, ◌∙◌, ap, arith, rules, lit<, Option, Some, None}
-use Rattle.std.specs.Prelude.{filter, find, IfSome, slice_index}
+use mathlib.Core.List.{reverse_aux}
+use Rattle.std.specs.Prelude.{reverse, filter, find, IfSome, slice_index}
 use Rattle.std.specs.List.{AllByRecursion, list_any, last_or}
 use Rattle.std.proofs.lemmas.List.{length-set}
 use Rattle.std.proofs.lemmas.Grind.{common_steps}
@@ -20,6 +21,13 @@ pub all-take : {X : Type 0} (P : X → Type 0) (n : ℕ) (xs : List X) → AllBy
 all-take P zero xs h = tt
 all-take P (suc n) [] h = tt
 all-take P (suc n) (x ∷ xs) h = (h.0, all-take P n xs h.1)
+
+all-reverse_aux : {X : Type 0} (P : X → Type 0) (xs ys : List X) → AllByRecursion P xs → AllByRecursion P ys → AllByRecursion P (reverse_aux xs ys)
+all-reverse_aux P [] ys h k = k
+all-reverse_aux P (x ∷ xs) ys h k = all-reverse_aux P xs (x ∷ ys) h.1 (h.0, k)
+
+pub all-reverse : {X : Type 0} (P : X → Type 0) (xs : List X) → AllByRecursion P xs → AllByRecursion P (reverse xs)
+all-reverse P xs h = all-reverse_aux P xs [] h tt
 
 pub all-filter : {X : Type 0} (P : X → Type 0) (test : X → Bool) (xs : List X) → AllByRecursion P xs → AllByRecursion P (filter test xs)
 all-filter P test [] h = tt
