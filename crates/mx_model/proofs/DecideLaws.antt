@@ -72,7 +72,7 @@ deed-at_gate c h hart target r t =
     decided-choice (length c.modules) h hart (not (x1 % 4 == 0)) (traps 19 x1) _ (λ e. lit< tt) (λ e.
     decided-choice (length c.modules) h hart (module_at c target).dead (without_look Bounces) _ (λ d. pc e) (λ d.
     decided-choice (length c.modules) h hart (nat_le most_frames (length hart.frames)) (traps 16 hart.pc) (without_look (Crosses target)) (λ f. lit< tt)
-      (λ f. (t, pc e, leb-false most_frames (length hart.frames) f))))
+    (λ f. (t, pc e, leb-false most_frames (length hart.frames) f))))
 
 -- at a return gate
 deed-returned_over : (modules h : ℕ) (hart : Hart) (rd target : ℕ) (frame : Frame) → IsFrame modules frame → IsDeed modules h hart (returned_over rd target frame)
@@ -105,12 +105,12 @@ number-load ram k Lhu h = number-two ram k h
 call-of : (modules h : ℕ) (hart : Hart) → IsHart modules h hart → IsCall modules h (call_of h hart)
 call-of modules h hart p = record { hart = refl; domain = p.domain; small = arguments }
   where
-  arguments : (i : ℕ) → arg (call_of h hart) i < 2 ^ 32
-  arguments zero = p.regs.small 10
-  arguments (suc zero) = p.regs.small 11
-  arguments (suc (suc zero)) = p.regs.small 12
-  arguments (suc (suc (suc zero))) = p.regs.small 13
-  arguments (suc (suc (suc (suc i)))) = lit< tt
+    arguments : (i : ℕ) → arg (call_of h hart) i < 2 ^ 32
+    arguments zero = p.regs.small 10
+    arguments (suc zero) = p.regs.small 11
+    arguments (suc (suc zero)) = p.regs.small 12
+    arguments (suc (suc (suc zero))) = p.regs.small 13
+    arguments (suc (suc (suc (suc i)))) = lit< tt
 
 deed-by_effect : (r : Reads) (c : Core) (h : ℕ) (hart : Hart) (e : Effect) → IsValid c → IsHart (length c.modules) h hart → IsEffect e →
     IsDeed (length c.modules) h hart (by_effect r c h hart e).deed
@@ -118,15 +118,15 @@ deed-by_effect r c h hart (Goes regs pc) v p q = q
 deed-by_effect r c h hart (Faults cause value) v p q = q
 deed-by_effect r c h hart (Loads a address width rd) v p q =
     deed-choice (length c.modules) h hart (is_denied r c hart.domain address A.Read) (Traps 5 address)
-      (Runs (written hart.regs rd (loaded width (load_at c address (load_size width)))) (next hart.pc)) (lit< tt)
-      (registers-written hart.regs rd _ p.regs (small-loaded width _ (number-load c.ram (address - ram_base) width v.ram_bytes)), pc-next hart.pc p.pc)
+    (Runs (written hart.regs rd (loaded width (load_at c address (load_size width)))) (next hart.pc)) (lit< tt)
+    (registers-written hart.regs rd _ p.regs (small-loaded width _ (number-load c.ram (address - ram_base) width v.ram_bytes)), pc-next hart.pc p.pc)
 deed-by_effect r c h hart (Stores a address size value) v p q =
     deed-choice (length c.modules) h hart (is_denied r c hart.domain address A.Write) (Traps 7 address) (Puts address size value) (lit< tt) tt
 deed-by_effect r c h hart Calls v p q = call-of (length c.modules) h hart p
 deed-by_effect r c h hart (Leaves rd target) v p q =
     deed-choice (length c.modules) h hart (is_return_at c hart.domain hart.pc) (at_return hart rd target) (plain_deed (jumps hart.regs hart.pc rd target))
-      (deed-at_return (length c.modules) h hart rd target p)
-      (deed-plain (length c.modules) h hart (jumps hart.regs hart.pc rd target) (effect-jumps hart.regs hart.pc rd target p.regs q))
+    (deed-at_return (length c.modules) h hart rd target p)
+    (deed-plain (length c.modules) h hart (jumps hart.regs hart.pc rd target) (effect-jumps hart.regs hart.pc rd target p.regs q))
 
 deed-by_word : (r : Reads) (c : Core) (h : ℕ) (hart : Hart) (word : ℕ) (o : Option Inst) → IsValid c → IsHart (length c.modules) h hart → IfSome o (Fits word) →
     IsDeed (length c.modules) h hart (by_word r c h hart word o).deed

@@ -38,14 +38,16 @@ set-first xs k v p = get_or-set_other xs k 0 v 0 (λ e. let q : ⊥ = omega (ari
 -- a register other than x0 set
 pub registers-set : (regs : List ℕ) (k v : ℕ) → 0 < k → IsRegisters regs → v < 2 ^ 32 → IsRegisters (slice_set regs k v)
 registers-set regs k v o h p = record {
-    count = length-set regs k v ∙ h.count;
-    small = set-small regs k v h.small p;
-    x0 = set-first regs k v o ∙ h.x0 }
+  count = length-set regs k v ∙ h.count;
+  small = set-small regs k v h.small p;
+  x0 = set-first regs k v o ∙ h.x0;
+}
 
 pub registers-written : (regs : List ℕ) (r v : ℕ) → IsRegisters regs → v < 2 ^ 32 → IsRegisters (written regs r v)
 registers-written regs r v h p = elim (r == 0) as (λ b. (r == 0) ≡ b → IsRegisters (cond b regs (slice_set regs r v))) [
-    true ↦ λ e. h
-  | false ↦ λ e. registers-set regs r v (not_zero r e) h p ] refl
+  | true ↦ λ e. h
+  | false ↦ λ e. registers-set regs r v (not_zero r e) h p
+] refl
 
 -- saved and restored registers
 map-small : (regs ns : List ℕ) → ((i : ℕ) → get_or regs i 0 < 2 ^ 32) → (i : ℕ) → get_or (list_map (reg regs) ns) i 0 < 2 ^ 32
@@ -162,8 +164,9 @@ IsEffect (Leaves rd target) = target < 2 ^ 32
 
 effect-goes_to : (regs : List ℕ) (target : ℕ) → IsRegisters regs → target < 2 ^ 32 → IsEffect (goes_to regs target)
 effect-goes_to regs target h p = elim (target % 4 == 0) as (λ b. (target % 4 == 0) ≡ b → IsEffect (cond b (Goes regs target) (Faults 0 target))) [
-    true ↦ λ e. (h, record { aligned = eqb-true (target % 4) 0 e; small = p })
-  | false ↦ λ e. lit< tt ] refl
+  | true ↦ λ e. (h, record { aligned = eqb-true (target % 4) 0 e; small = p })
+  | false ↦ λ e. lit< tt
+] refl
 
 pub effect-jumps : (regs : List ℕ) (pc rd target : ℕ) → IsRegisters regs → target < 2 ^ 32 → IsEffect (jumps regs pc rd target)
 effect-jumps regs pc rd target h p = effect-goes_to (written regs rd (next pc)) target (registers-written regs rd (next pc) h (small-plus pc 4)) p

@@ -60,12 +60,13 @@ valid-regs c h hart regs pc v p q s = valid-hart c h _ v (hart-regs (length c.mo
 hart-over : (modules h : ℕ) (hart : Hart) (frame : Frame) (regs : List ℕ) → IsHart modules h hart → IsFrame modules frame → IsRegisters regs → IsStatus modules h hart.status →
     IsHart modules h (record hart { regs = restored regs frame.kept; pc = frame.back; domain = frame.caller; frames = below_top hart.frames })
 hart-over modules h hart frame regs p f r s = record {
-    regs = registers-restored regs frame.kept r f.small;
-    pc = f.back;
-    domain = f.caller;
-    few_frames = let e = length-take (length hart.frames - 1) hart.frames in let k = p.few_frames in omega (arith, e, k);
-    frames = all-take (IsFrame modules) (length hart.frames - 1) hart.frames p.frames;
-    status = s }
+  regs = registers-restored regs frame.kept r f.small;
+  pc = f.back;
+  domain = f.caller;
+  few_frames = let e = length-take (length hart.frames - 1) hart.frames in let k = p.few_frames in omega (arith, e, k);
+  frames = all-take (IsFrame modules) (length hart.frames - 1) hart.frames p.frames;
+  status = s;
+}
 
 valid-over : (c : Core) (h : ℕ) (hart : Hart) (frame : Frame) (regs : List ℕ) → IsValid c → IsHart (length c.modules) h hart → IsFrame (length c.modules) frame →
     IsRegisters regs → IsValid (over_frame c h hart frame regs)
@@ -77,20 +78,22 @@ home-dead size harts m p = record { heap = p.heap; stack = p.stack; few_blocks =
 
 valid-killed : (d cause : ℕ) (c : Core) → IsValid c → IsValid (killed d cause c)
 valid-killed d cause c v = elim ((module_at c d).kills && not (cause == 20)) as (λ b. IsValid (cond b (with_module d (record (module_at c d) { dead = true }) c) c)) [
-    true ↦ valid-module c d _ v (home-dead c.size (length c.harts) (module_at c d) (home-at c d v))
-  | false ↦ v ]
+  | true ↦ valid-module c d _ v (home-dead c.size (length c.harts) (module_at c d) (home-at c d v))
+  | false ↦ v
+]
 
 modules-killed : (d cause : ℕ) (c : Core) → length (killed d cause c).modules ≡ length c.modules
 modules-killed d cause c = elim ((module_at c d).kills && not (cause == 20)) as (λ b. length (cond b (with_module d (record (module_at c d) { dead = true }) c) c).modules ≡ length c.modules) [
-    true ↦ length-set c.modules (d - 1) _
-  | false ↦ refl ]
+  | true ↦ length-set c.modules (d - 1) _
+  | false ↦ refl
+]
 
 valid-given_up : (c : Core) (h : ℕ) (hart : Hart) (cause : ℕ) (o : Option Frame) → IsValid c → IsHart (length c.modules) h hart → IsCause cause →
     IfSome o (IsFrame (length c.modules)) → IsValid (given_up c h hart cause o)
 valid-given_up c h hart cause None v p k f = valid-hart c h _ v (hart-halted (length c.modules) h hart None p)
 valid-given_up c h hart cause (Some frame) v p k f =
     valid-over c h hart frame (slice_set hart.regs 10 (fault_answer cause)) v p f
-      (registers-set hart.regs 10 (fault_answer cause) (lit< tt) p.regs (let q : fault_answer cause < 2 ^ 32 = omega (arith, k) in q))
+    (registers-set hart.regs 10 (fault_answer cause) (lit< tt) p.regs (let q : fault_answer cause < 2 ^ 32 = omega (arith, k) in q))
 
 top-frame : (modules h : ℕ) (hart : Hart) → IsHart modules h hart → IfSome (top hart.frames) (IsFrame modules)
 top-frame modules h hart p = all-last (IsFrame modules) hart.frames None p.frames tt
@@ -101,7 +104,7 @@ valid-trapped c h hart cause value v p k =
     let e = modules-killed hart.domain cause c in
     let q : IsHart (length (killed hart.domain cause c).modules) h hart = subst (λ (n : ℕ). IsHart n h hart) (sym e) p in
     valid-given_up (killed hart.domain cause c) h hart cause (top hart.frames) (valid-killed hart.domain cause c v) q k
-      (top-frame (length (killed hart.domain cause c).modules) h hart q)
+    (top-frame (length (killed hart.domain cause c).modules) h hart q)
 
 -- a crossing
 stack-small : (c : Core) (d h : ℕ) → IsValid c → h < length c.harts → stack_address c d h < 2 ^ 32
@@ -111,8 +114,9 @@ stack-small c d h v l =
     let few = v.few_words in
     let part : s.words * (h + 1) ≤ s.words * length c.harts = let q : h + 1 ≤ length c.harts = omega (arith, l) in mul-le-mul_left s.words q in
     elim (s.words == 0) as (λ b. cond b 0 (address_of (s.first + s.words * (h + 1))) < 2 ^ 32) [
-      true ↦ lit< tt
-    | false ↦ omega (arith, inside, few, part) ]
+      | true ↦ lit< tt
+      | false ↦ omega (arith, inside, few, part)
+    ]
 
 saved-stack-small : (modules : ℕ) (f : Frame) → IsFrame modules f → saved_stack f < 2 ^ 32
 saved-stack-small modules f p = p.small 0
@@ -125,7 +129,7 @@ stack-after : (c : Core) (h : ℕ) (hart : Hart) (target : ℕ) → IsValid c �
     unwrap_or (nearest hart.frames target) (stack_address c target h) < 2 ^ 32
 stack-after c h hart target v p l =
     nearest-small (length c.modules) (find (λ (f : Frame). f.caller == target) (reverse hart.frames)) (stack_address c target h)
-      (all-find (IsFrame (length c.modules)) (λ f. f.caller == target) (reverse hart.frames) (all-reverse (IsFrame (length c.modules)) hart.frames p.frames)) (stack-small c target h v l)
+    (all-find (IsFrame (length c.modules)) (λ f. f.caller == target) (reverse hart.frames) (all-reverse (IsFrame (length c.modules)) hart.frames p.frames)) (stack-small c target h v l)
 
 valid-crossed : (c : Core) (h : ℕ) (hart : Hart) (target : ℕ) → IsValid c → IsHart (length c.modules) h hart → h < length c.harts →
     IsModule (length c.modules) target → IsPc (reg hart.regs 1) → length hart.frames < most_frames → IsValid (crossed c h hart target)
@@ -139,7 +143,8 @@ valid-crossed c h hart target v p l t x few =
       domain = t;
       few_frames = let e = length-append hart.frames (frame ∷ []) in omega (arith, e, few);
       frames = all-append (IsFrame (length c.modules)) hart.frames frame p.frames f;
-      status = p.status }))
+      status = p.status;
+    }))
 
 -- a served call
 hart-in : (c e : Core) (h : ℕ) (hart : Hart) → Keeps c e → IsHart (length c.modules) h hart → IsHart (length e.modules) h hart
@@ -151,8 +156,9 @@ registers-answered hart a0 (Some n) r p q = registers-set (slice_set hart.regs 1
 
 valid-done : (h : ℕ) (hart : Hart) (s : Served) → IsServed s → IsHart (length s.core.modules) h hart → IsValid (done h hart s).core
 valid-done h hart s p q = elim s.stop as (λ b. IsValid (cond b (halted h hart (Some s.a0) s.core) (with_regs h hart (answered hart s.a0 s.a1) (next hart.pc) s.core))) [
-    true ↦ valid-hart s.core h _ p.core (hart-halted (length s.core.modules) h hart (Some s.a0) q)
-  | false ↦ valid-regs s.core h hart (answered hart s.a0 s.a1) (next hart.pc) p.core q (registers-answered hart s.a0 s.a1 q.regs p.a0 p.a1) (pc-next hart.pc q.pc) ]
+  | true ↦ valid-hart s.core h _ p.core (hart-halted (length s.core.modules) h hart (Some s.a0) q)
+  | false ↦ valid-regs s.core h hart (answered hart s.a0 s.a1) (next hart.pc) p.core q (registers-answered hart s.a0 s.a1 q.regs p.a0 p.a1) (pc-next hart.pc q.pc)
+]
 
 valid-served : (r : Reads) (c : Core) (h : ℕ) (hart : Hart) (call : Call) → IsValid c → IsHart (length c.modules) h hart → IsCall (length c.modules) h call → h < length c.harts →
     IsValid (served r c h hart call).core
@@ -182,8 +188,8 @@ valid-acted r c h hart (Runs regs pc) v p l d = valid-regs c h hart regs pc v p 
 valid-acted r c h hart (Puts address size value) v p l d =
     let stored = record c { ram = put_at c.ram (address - ram_base) size value } in
     valid-regs stored h hart hart.regs (next hart.pc)
-      (valid-ram c (put_at c.ram (address - ram_base) size value) v (length-put_at size c.ram (address - ram_base) value) (bytes-put_at size c.ram (address - ram_base) value v.ram_bytes))
-      p p.regs (pc-next hart.pc p.pc)
+    (valid-ram c (put_at c.ram (address - ram_base) size value) v (length-put_at size c.ram (address - ram_base) value) (bytes-put_at size c.ram (address - ram_base) value v.ram_bytes))
+    p p.regs (pc-next hart.pc p.pc)
 
 -- a decided deed of a given hart
 abbrev enacted_by : Reads → Core → ℕ → Hart → Decided → Made
@@ -199,7 +205,7 @@ valid-there r c h v l =
     let seen = looked_all r h d.looks c in
     let k = keeps-looked_all r h d.looks c in
     valid-acted r seen h (hart_at c h) d.deed (valid-looked_all r h d.looks c v) (hart-in c seen h (hart_at c h) k (v.harts h l))
-      (subst (λ (n : ℕ). h < n) (sym k.harts) l) (subst (λ (n : ℕ). IsDeed n h (hart_at c h) d.deed) (sym k.modules) (deed-decide r c h v l))
+    (subst (λ (n : ℕ). h < n) (sym k.harts) l) (subst (λ (n : ℕ). IsDeed n h (hart_at c h) d.deed) (sym k.modules) (deed-decide r c h v l))
 
 valid-nobody : (r : Reads) (c : Core) (h : ℕ) (hart : Hart) → hart ≡ no_hart → IsValid c →
     IsValid (enacted_by r c h hart (by_status r c h hart hart.status)).core
@@ -207,8 +213,9 @@ valid-nobody r c h hart e v = subst (λ (x : Hart). IsValid (enacted_by r c h x 
 
 valid-enacted : (r : Reads) (c : Core) (h : ℕ) → IsValid c → IsValid (enacted r c h (decide r c h)).core
 valid-enacted r c h v = elim (nat_lt h (length c.harts)) as (λ b. nat_lt h (length c.harts) ≡ b → IsValid (enacted r c h (decide r c h)).core) [
-    true ↦ λ e. valid-there r c h v (ltb-true h (length c.harts) e)
-  | false ↦ λ e. valid-nobody r c h (hart_at c h) (halted-beyond c h (ltb-false h (length c.harts) e)) v ] refl
+  | true ↦ λ e. valid-there r c h v (ltb-true h (length c.harts) e)
+  | false ↦ λ e. valid-nobody r c h (hart_at c h) (halted-beyond c h (ltb-false h (length c.harts) e)) v
+] refl
 
 valid-heard_first : (c : Core) (h : ℕ) → IsValid c → IsValid (heard_first c h)
 valid-heard_first c h v = elim (is_halted (hart_at c h).status) as (λ b. IsValid (cond b c (hears h c))) [ true ↦ v | false ↦ valid-hears h c v ]

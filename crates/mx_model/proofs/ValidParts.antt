@@ -50,17 +50,18 @@ pub valid-parts : (c : Core) (ram : List ℕ) (modules : List Module) (gates : L
     length caches ≡ length c.caches →
     IsValid (record c { ram = ram; modules = modules; gates = gates; harts = harts; caches = caches; turns = turns })
 valid-parts c ram modules gates harts caches turns v rl rb ml ms gl gs hl hs kl = record {
-    few_words = v.few_words;
-    ram_count = rl ∙ v.ram_count;
-    ram_bytes = rb;
-    some_modules = subst (λ (n : ℕ). 1 ≤ n) (sym ml) v.some_modules;
-    few_modules = subst (λ (n : ℕ). n ≤ 63) (sym ml) v.few_modules;
-    modules = subst (λ (n : ℕ). AllByRecursion (IsHome c.size n) modules) (sym hl) ms;
-    few_harts = subst (λ (n : ℕ). n ≤ 4) (sym hl) v.few_harts;
-    harts = subst (λ (n : ℕ). AreHarts n (length harts) harts) (sym ml) (subst (λ (n : ℕ). AreHarts (length c.modules) n harts) (sym hl) hs);
-    caches = kl ∙ v.caches ∙ sym hl;
-    few_gates = gl;
-    gates = subst (λ (n : ℕ). AllByRecursion (IsGate n c.size) gates) (sym ml) gs }
+  few_words = v.few_words;
+  ram_count = rl ∙ v.ram_count;
+  ram_bytes = rb;
+  some_modules = subst (λ (n : ℕ). 1 ≤ n) (sym ml) v.some_modules;
+  few_modules = subst (λ (n : ℕ). n ≤ 63) (sym ml) v.few_modules;
+  modules = subst (λ (n : ℕ). AllByRecursion (IsHome c.size n) modules) (sym hl) ms;
+  few_harts = subst (λ (n : ℕ). n ≤ 4) (sym hl) v.few_harts;
+  harts = subst (λ (n : ℕ). AreHarts n (length harts) harts) (sym ml) (subst (λ (n : ℕ). AreHarts (length c.modules) n harts) (sym hl) hs);
+  caches = kl ∙ v.caches ∙ sym hl;
+  few_gates = gl;
+  gates = subst (λ (n : ℕ). AllByRecursion (IsGate n c.size) gates) (sym ml) gs;
+}
 
 -- one part at a time
 pub valid-turns : (c : Core) (turns : ℕ) → IsValid c → IsValid (record c { turns = turns })
@@ -72,7 +73,7 @@ valid-ram c ram v e b = valid-parts c ram c.modules c.gates c.harts c.caches c.t
 pub valid-module : (c : Core) (d : ℕ) (m : Module) → IsValid c → IsHome c.size (length c.harts) m → IsValid (with_module d m c)
 valid-module c d m v p =
     valid-parts c c.ram (set c.modules (d - 1) m) c.gates c.harts c.caches c.turns v refl v.ram_bytes (length-set c.modules (d - 1) m)
-      (all-set (IsHome c.size (length c.harts)) c.modules (d - 1) m v.modules p) v.few_gates v.gates refl v.harts refl
+    (all-set (IsHome c.size (length c.harts)) c.modules (d - 1) m v.modules p) v.few_gates v.gates refl v.harts refl
 
 pub valid-gates : (c : Core) (gates : List Gate) → IsValid c → length gates ≤ most_gates → AllByRecursion (IsGate (length c.modules) c.size) gates →
     IsValid (record c { gates = gates })
@@ -87,17 +88,18 @@ valid-cache c h cache v = valid-caches c (set c.caches h cache) v (length-set c.
 pub harts-set : (modules count : ℕ) (harts : List Hart) (h : ℕ) (hart : Hart) → length harts ≡ count → AreHarts modules count harts → IsHart modules h hart →
     AreHarts modules count (set harts h hart)
 harts-set modules count harts h hart e hs p i l = elim (i == h) as (λ b. (i == h) ≡ b → IsHart modules i (get_or (set harts h hart) i no_hart)) [
-    true ↦ λ t.
+  | true ↦ λ t.
       let same : i ≡ h = eqb-true i h t in
       let inside : h < length harts = let q : h < count = subst (λ (n : ℕ). n < count) same l in subst (λ (n : ℕ). h < n) (sym e) q in
       subst (λ (n : ℕ). IsHart modules n (get_or (set harts h hart) n no_hart)) (sym same)
-        (subst (λ (x : Hart). IsHart modules h x) (sym (get_or-set_same harts h hart no_hart inside)) p)
-  | false ↦ λ t. subst (λ (x : Hart). IsHart modules i x) (sym (get_or-set_other harts h i hart no_hart (eqb-false i h t))) (hs i l) ] refl
+      (subst (λ (x : Hart). IsHart modules h x) (sym (get_or-set_same harts h hart no_hart inside)) p)
+  | false ↦ λ t. subst (λ (x : Hart). IsHart modules i x) (sym (get_or-set_other harts h i hart no_hart (eqb-false i h t))) (hs i l)
+] refl
 
 pub valid-hart : (c : Core) (h : ℕ) (hart : Hart) → IsValid c → IsHart (length c.modules) h hart → IsValid (with_hart h hart c)
 valid-hart c h hart v p =
     valid-parts c c.ram c.modules c.gates (set c.harts h hart) c.caches c.turns v refl v.ram_bytes refl v.modules v.few_gates v.gates
-      (length-set c.harts h hart) (harts-set (length c.modules) (length c.harts) c.harts h hart refl v.harts p) refl
+    (length-set c.harts h hart) (harts-set (length c.modules) (length c.harts) c.harts h hart refl v.harts p) refl
 
 -- a module that isn't there has empty areas
 pub home-none : (size harts : ℕ) → IsHome size harts no_module
@@ -134,19 +136,20 @@ hearing h p = if p.0 == h then p.1 else record p.1 { status = heard_by h p.1.sta
 
 pub hart-hearing : (modules i h : ℕ) (hart : Hart) → IsHart modules i hart → IsHart modules i (hearing h (i, hart))
 hart-hearing modules i h hart p = elim (i == h) as (λ b. IsHart modules i (cond b hart (record hart { status = heard_by h hart.status }))) [
-    true ↦ p
-  | false ↦ hart-status modules i hart (heard_by h hart.status) p (status-heard modules i h hart.status p.status) ]
+  | true ↦ p
+  | false ↦ hart-status modules i hart (heard_by h hart.status) p (status-heard modules i h hart.status p.status)
+]
 
 pub harts-hearing : (modules h : ℕ) (harts : List Hart) → AreHarts modules (length harts) harts →
     AreHarts modules (length harts) (list_map (hearing h) (enumerate_from 0 harts))
 harts-hearing modules h harts hs i l =
     let e : get_or (enumerate_from 0 harts) i (0, no_hart) ≡ (i, get_or harts i no_hart) =
-      get_or-enumerate_from 0 harts i (0, no_hart) l ∙ ap (λ (n : ℕ). (n, get_or harts i no_hart)) (zero-add i) in
+    get_or-enumerate_from 0 harts i (0, no_hart) l ∙ ap (λ (n : ℕ). (n, get_or harts i no_hart)) (zero-add i) in
     let m = get_or-map (hearing h) (enumerate_from 0 harts) i (0, no_hart) no_hart (subst (λ (n : ℕ). i < n) (sym (length-enumerate_from 0 harts)) l) in
     subst (λ (x : Hart). IsHart modules i x) (sym (m ∙ ap (hearing h) e)) (hart-hearing modules i h (get_or harts i no_hart) (hs i l))
 
 pub valid-hears : (h : ℕ) (c : Core) → IsValid c → IsValid (hears h c)
 valid-hears h c v =
     valid-parts c c.ram c.modules c.gates (list_map (hearing h) (enumerate_from 0 c.harts)) _ c.turns v refl v.ram_bytes refl v.modules v.few_gates v.gates
-      (length-map (enumerate_from 0 c.harts) (hearing h) ∙ length-enumerate_from 0 c.harts)
-      (harts-hearing (length c.modules) h c.harts v.harts) (length-set c.caches h _)
+    (length-map (enumerate_from 0 c.harts) (hearing h) ∙ length-enumerate_from 0 c.harts)
+    (harts-hearing (length c.modules) h c.harts v.harts) (length-set c.caches h _)

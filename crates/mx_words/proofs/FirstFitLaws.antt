@@ -18,17 +18,20 @@ NonePasses test first count = (b : ℕ) → first ≤ b → b < first + count �
 
 least-later : (test : ℕ → Bool) (first count a : ℕ) → test first ≡ false → IsLeast test (first + 1) count a → IsLeast test first (suc count) a
 least-later test first count a e p = record {
-    inside = let q = p.inside in omega (arith, q);
-    below = let q = p.below in omega (arith, q);
-    passes = p.passes;
-    least = λ b l u. elim (b == first) as (λ t. (b == first) ≡ t → test b ≡ false) [
-        true ↦ λ t. ap test (eqb-true b first t) ∙ e
-      | false ↦ λ t. p.least b (let n = eqb-false b first t in omega (arith, n, l)) u ] refl }
+  inside = let q = p.inside in omega (arith, q);
+  below = let q = p.below in omega (arith, q);
+  passes = p.passes;
+  least = λ b l u. elim (b == first) as (λ t. (b == first) ≡ t → test b ≡ false) [
+    | true ↦ λ t. ap test (eqb-true b first t) ∙ e
+    | false ↦ λ t. p.least b (let n = eqb-false b first t in omega (arith, n, l)) u
+  ] refl;
+}
 
 none-later : (test : ℕ → Bool) (first count : ℕ) → test first ≡ false → NonePasses test (first + 1) count → NonePasses test first (suc count)
 none-later test first count e p b l u = elim (b == first) as (λ t. (b == first) ≡ t → test b ≡ false) [
-    true ↦ λ t. ap test (eqb-true b first t) ∙ e
-  | false ↦ λ t. p b (let n = eqb-false b first t in omega (arith, n, l)) (omega (arith, u)) ] refl
+  | true ↦ λ t. ap test (eqb-true b first t) ∙ e
+  | false ↦ λ t. p b (let n = eqb-false b first t in omega (arith, n, l)) (omega (arith, u))
+] refl
 
 match-later : (test : ℕ → Bool) (first count : ℕ) (o : Option ℕ) → test first ≡ false →
     MatchOption o (NonePasses test (first + 1) count) (IsLeast test (first + 1) count) → MatchOption o (NonePasses test first (suc count)) (IsLeast test first (suc count))
@@ -39,9 +42,10 @@ pub find-range : (test : ℕ → Bool) (first count : ℕ) →
     MatchOption (find test (range_with_len first count)) (NonePasses test first count) (IsLeast test first count)
 find-range test first zero = λ b l u. absurd (let q : ⊥ = omega (arith, l, u) in q)
 find-range test first (suc count) = elim (test first) as (λ t. test first ≡ t →
-      MatchOption (cond t (Some first) (find test (range_with_len (first + 1) count))) (NonePasses test first (suc count)) (IsLeast test first (suc count))) [
-    true ↦ λ e. record { inside = omega arith; below = omega arith; passes = e; least = λ b l u. absurd (let q : ⊥ = omega (arith, l, u) in q) }
-  | false ↦ λ e. match-later test first count (find test (range_with_len (first + 1) count)) e (find-range test (first + 1) count) ] refl
+    MatchOption (cond t (Some first) (find test (range_with_len (first + 1) count))) (NonePasses test first (suc count)) (IsLeast test first (suc count))) [
+      | true ↦ λ e. record { inside = omega arith; below = omega arith; passes = e; least = λ b l u. absurd (let q : ⊥ = omega (arith, l, u) in q) }
+      | false ↦ λ e. match-later test first count (find test (range_with_len (first + 1) count)) e (find-range test (first + 1) count)
+    ] refl
 
 -- first fit is the least word of the area with room; where it has none, no word of the area has room
 pub place-least : (area : Area) (blocks : List Area) (n : ℕ) →

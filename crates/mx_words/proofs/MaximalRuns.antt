@@ -25,8 +25,9 @@ covered-before : {A : Type 0} (eq : A → A → Bool) → IsEquality eq → (x :
 covered-before eq h x [] = refl
 covered-before eq h x (r ∷ rs) = elim (eq x r.value) as
     (λ b. eq x r.value ≡ b → covered (cond b (record { count = r.count + 1; value = x } ∷ rs) (record { count = 1; value = x } ∷ r ∷ rs)) ≡ x ∷ (replicate r.count r.value ++ covered rs)) [
-    true ↦ λ e. ap (λ xs. xs ++ covered rs) (replicate-more r.count x) ∙ ap (λ y. x ∷ (replicate r.count y ++ covered rs)) (h.sound x r.value e)
-  | false ↦ λ e. refl ] refl
+      | true ↦ λ e. ap (λ xs. xs ++ covered rs) (replicate-more r.count x) ∙ ap (λ y. x ∷ (replicate r.count y ++ covered rs)) (h.sound x r.value e)
+      | false ↦ λ e. refl
+    ] refl
 
 pub covered-runs_of : {A : Type 0} (eq : A → A → Bool) → IsEquality eq → (xs : List A) → covered (runs_of eq xs) ≡ xs
 covered-runs_of eq h [] = refl
@@ -38,8 +39,9 @@ some-before : {A : Type 0} (eq : A → A → Bool) (x : A) (rs : List (Run A)) �
 some-before eq x [] p = (omega arith, tt)
 some-before {A} eq x (r ∷ rs) p = elim (eq x r.value) as
     (λ b. AllByRecursion (λ (q : Run A). 0 < q.count) (cond b (record { count = r.count + 1; value = x } ∷ rs) (record { count = 1; value = x } ∷ r ∷ rs))) [
-    true ↦ (omega arith, p.1)
-  | false ↦ (omega arith, p) ]
+      | true ↦ (omega arith, p.1)
+      | false ↦ (omega arith, p)
+    ]
 
 pub some-runs_of : {A : Type 0} (eq : A → A → Bool) (xs : List A) → AllByRecursion (λ (r : Run A). 0 < r.count) (runs_of eq xs)
 some-runs_of eq [] = tt
@@ -57,8 +59,9 @@ maximal-before : {A : Type 0} (eq : A → A → Bool) → IsEquality eq → (x :
 maximal-before eq h x [] p = tt
 maximal-before eq h x (r ∷ rs) p = elim (eq x r.value) as
     (λ b. eq x r.value ≡ b → AreMaximal eq (cond b (record { count = r.count + 1; value = x } ∷ rs) (record { count = 1; value = x } ∷ r ∷ rs))) [
-    true ↦ λ e. maximal-same eq x r.value r.count (r.count + 1) rs (h.sound x r.value e) p
-  | false ↦ λ e. (e, p) ] refl
+      | true ↦ λ e. maximal-same eq x r.value r.count (r.count + 1) rs (h.sound x r.value e) p
+      | false ↦ λ e. (e, p)
+    ] refl
 
 pub maximal-runs_of : {A : Type 0} (eq : A → A → Bool) → IsEquality eq → (xs : List A) → AreMaximal eq (runs_of eq xs)
 maximal-runs_of eq h [] = tt
