@@ -27,8 +27,13 @@ pub record Inline : Type 0 where
 -- a module with words alone
 abbrev pub inline : ℕ → Perm → List ℕ → Inline
 inline first p text = record {
-    first = first; perm = p; text = text;
-    heap = record { first = 0; count = 0 }; stack = record { first = 0; words = 0 }; kills = false }
+  first = first;
+  perm = p;
+  text = text;
+  heap = record { first = 0; count = 0 };
+  stack = record { first = 0; words = 0 };
+  kills = false;
+}
 
 abbrev pub bytes_of : ℕ → List ℕ
 bytes_of w = w % 256 ∷ w / 256 % 256 ∷ w / 65536 % 256 ∷ w / 16777216 ∷ []
@@ -61,32 +66,35 @@ Start = ℕ × ℕ
 
 abbrev pub core_of : List Inline → List Gate → List Hart → Core
 core_of modules gates harts = record {
-    ram = ram_from 0 modules;
-    modules = list_map module_of modules;
-    gates = gates;
-    harts = harts;
-    caches = list_map (λ (hart : Hart). no_cache) harts;
-    turns = 0;
-    size = 16384;
-    kind = K.Packed;
-    limit = record { upper = 128; leaf = 4096; spill = 4096 };
-    buffer = 32 }
+  ram = ram_from 0 modules;
+  modules = list_map module_of modules;
+  gates = gates;
+  harts = harts;
+  caches = list_map (λ (hart : Hart). no_cache) harts;
+  turns = 0;
+  size = 16384;
+  kind = K.Packed;
+  limit = record { upper = 128; leaf = 4096; spill = 4096 };
+  buffer = 32;
+}
 
 abbrev pub hart_of : List Inline → ℕ × Start → Hart
 hart_of modules p = record {
-    regs = slice_set (replicate 32 0) 2 (stack_address (core_of modules [] []) p.1.0 p.0);
-    pc = p.1.1;
-    domain = p.1.0;
-    frames = [];
-    status = Running }
+  regs = slice_set (replicate 32 0) 2 (stack_address (core_of modules [] []) p.1.0 p.0);
+  pc = p.1.1;
+  domain = p.1.0;
+  frames = [];
+  status = Running;
+}
 
 abbrev pub boot : List Inline → List Gate → List Start → State
 boot modules gates starts = record {
-    core = core_of modules gates (list_map (hart_of modules) (enumerate_from 0 starts));
-    grants = list_map (grants_at (length starts)) modules;
-    gives = gives_of (length starts) (enumerate_from 1 modules);
-    console = [];
-    notes = [] }
+  core = core_of modules gates (list_map (hart_of modules) (enumerate_from 0 starts));
+  grants = list_map (grants_at (length starts)) modules;
+  gives = gives_of (length starts) (enumerate_from 1 modules);
+  console = [];
+  notes = [];
+}
 
 -- what an example tells of a hart: pc, domain, the number of frames, and its registers
 pub record HartEnd : Type 0 where
@@ -114,9 +122,10 @@ regs_with values = fold (λ regs (p : ℕ × ℕ). slice_set regs p.0 p.1) (repl
 -- an end with one hart
 abbrev pub one_end : List Note → ℕ → ℕ → ℕ → ℕ → List (ℕ × ℕ) → End
 one_end notes turns pc domain frames values = record {
-    notes = notes;
-    turns = turns;
-    harts = record { pc = pc; domain = domain; frames = frames; regs = regs_with values } ∷ [] }
+  notes = notes;
+  turns = turns;
+  harts = record { pc = pc; domain = domain; frames = frames; regs = regs_with values } ∷ [];
+}
 
 -- the note of a fault
 abbrev pub fault : ℕ → ℕ → ℕ → ℕ → ℕ → ℕ → Note

@@ -38,7 +38,7 @@ counts s h = record { sidecar = (cache_at s.core h).sidecar; lookaside = (cache_
 abbrev waiting : State
 waiting =
     boot (record (inline 0 P.ExecuteRead (0x80001537 ∷ 0x00400593 ∷ 0x00200613 ∷ 0x00100693 ∷ 0x00300893 ∷ 0x00000073 ∷ 0x00100073 ∷ 0x80001537 ∷ 0x00400593 ∷ 0x00200613 ∷ 0x00500893 ∷ 0x00000013 ∷ 0x00000073 ∷ 0x00100073 ∷ [])) { stack = record { first = 1024; words = 4 } }
-      ∷ inline 2048 P.Read (0 ∷ []) ∷ []) [] ((1, 0x80000000) ∷ (1, 0x8000001C) ∷ [])
+    ∷ inline 2048 P.Read (0 ∷ []) ∷ []) [] ((1, 0x80000000) ∷ (1, 0x8000001C) ∷ [])
 
 transfer-under-a-waiting-grant : end (run (ByQuantum 1) 20 waiting)
     ≡ record { notes = fault 14 1 1 0x80000034 3 0x80000034 ∷ fault 15 0 1 0x80000018 3 0x80000018 ∷ []; turns = 15; harts = record { pc = 0x80000018; domain = 1; frames = 0; regs = regs_with ((2, 0x80001010) ∷ (10, 0xfffffffe) ∷ (11, 0x4) ∷ (12, 0x2) ∷ (13, 0x1) ∷ (17, 0x3) ∷ []) } ∷ record { pc = 0x80000034; domain = 1; frames = 0; regs = regs_with ((2, 0x80001020) ∷ (11, 0x4) ∷ (12, 0x2) ∷ (17, 0x5) ∷ []) } ∷ [] }
@@ -73,7 +73,7 @@ granted-map = refl
 abbrev allocating : State
 allocating =
     boot (record (inline 0 P.ExecuteRead (0x00200513 ∷ 0x00600893 ∷ 0x00000073 ∷ 0x00050293 ∷ 0x0112A023 ∷ 0x00700893 ∷ 0x00000073 ∷ 0x0112A023 ∷ [])) { heap = record { first = 1024; count = 8 } } ∷ [])
-      [] ((1, 0x80000000) ∷ [])
+    [] ((1, 0x80000000) ∷ [])
 
 alloc-store-free : end (run (ByQuantum 1) 10 allocating)
     ≡ record { notes = fault 8 0 1 0x8000001c 7 0x80001000 ∷ []; turns = 8; harts = record { pc = 0x8000001c; domain = 1; frames = 0; regs = regs_with ((5, 0x80001000) ∷ (17, 0x7) ∷ []) } ∷ [] }

@@ -73,8 +73,8 @@ crossing-with-a-crooked-return = refl
 abbrev dying : State
 dying =
     boot (inline 0 P.ExecuteRead (0x800012B7 ∷ 0x000280E7 ∷ 0x000280E7 ∷ 0x00100073 ∷ [])
-      ∷ record (inline 1024 P.ExecuteRead (0x00100073 ∷ [])) { kills = true } ∷ [])
-      (gate 1 1024 2 ∷ []) ((1, 0x80000000) ∷ [])
+    ∷ record (inline 1024 P.ExecuteRead (0x00100073 ∷ [])) { kills = true } ∷ [])
+    (gate 1 1024 2 ∷ []) ((1, 0x80000000) ∷ [])
 
 call-into-a-dead-module : end (run (ByQuantum 1) 20 dying)
     ≡ record { notes = fault 4 0 2 0x80001000 3 0x80001000 ∷ fault 7 0 1 0x8000000c 3 0x8000000c ∷ []; turns = 7; harts = record { pc = 0x8000000c; domain = 1; frames = 0; regs = regs_with ((1, 0x8000000c) ∷ (5, 0x80001000) ∷ (10, 0xffffff14) ∷ []) } ∷ [] }

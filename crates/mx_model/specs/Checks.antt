@@ -60,7 +60,8 @@ hears h c =
     let cache = fold (λ cache (r : ℕ × ℕ). without_range r.0 r.1 cache) (cache_at c h) (new_ranges c h) in
     record c {
       harts = list_map (λ (p : ℕ × Hart). if p.0 == h then p.1 else record p.1 { status = heard_by h p.1.status }) (enumerate_from 0 c.harts);
-      caches = slice_set c.caches h cache }
+      caches = slice_set c.caches h cache;
+    }
 
 -- whether a hart other than h keeps a call of h, which the set has heard, from its effect
 abbrev pub holds_up : ℕ → List Bool → ℕ → Status → Bool

@@ -8,3 +8,4 @@ pub mod State
 pub mod Turn
 pub mod Agreement
 pub mod Run
+pub mod Valid

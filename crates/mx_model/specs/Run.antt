@@ -31,17 +31,19 @@ owners_after owners (Some give) = laid give owners
 -- the state after what a turn made
 abbrev pub after : State → Made → State
 after s m = record {
-    core = m.core;
-    grants = grants_after s.grants m.change;
-    gives = s.gives ++ at_most_one m.give;
-    console = s.console ++ m.console;
-    notes = s.notes ++ at_most_one m.note }
+  core = m.core;
+  grants = grants_after s.grants m.change;
+  gives = s.gives ++ at_most_one m.give;
+  console = s.console ++ m.console;
+  notes = s.notes ++ at_most_one m.note;
+}
 
 abbrev pub flat_after : Flat → Made → Flat
 flat_after f m = record {
-    core = m.core;
-    maps = maps_after f.maps m.change;
-    owners = owners_after f.owners m.give }
+  core = m.core;
+  maps = maps_after f.maps m.change;
+  owners = owners_after f.owners m.give;
+}
 
 -- what a turn of hart h makes of a state, and of a flat state
 abbrev pub made_of : State → ℕ → Made

@@ -75,18 +75,20 @@ words c = c.size
 -- the flat state of a state: each list of grants replaced by its map, the gives by the owners, no console bytes and no notes
 abbrev pub flat : State → Flat
 flat s = record {
-    core = s.core;
-    maps = list_map (λ grants. map grants (words s.core)) s.grants;
-    owners = owners s.gives (words s.core) }
+  core = s.core;
+  maps = list_map (λ grants. map grants (words s.core)) s.grants;
+  owners = owners s.gives (words s.core);
+}
 
 -- a module that isn't there has no areas and is not dead
 abbrev pub no_module : Module
 no_module = record {
-    heap = record { first = 0; count = 0 };
-    blocks = [];
-    stack = record { first = 0; words = 0 };
-    kills = false;
-    dead = false }
+  heap = record { first = 0; count = 0 };
+  blocks = [];
+  stack = record { first = 0; words = 0 };
+  kills = false;
+  dead = false;
+}
 
 -- a hart that isn't there is halted
 abbrev pub no_hart : Hart
