@@ -37,7 +37,7 @@ module _ (b : ℕ) (gates : List Gate) (i : ℕ) where
 pub Indexes-link : (first next : List ℕ) (gates : List Gate) (i : ℕ) (g : Gate) (v : ℕ) → i < length gates → length gates ≤ 256 → g ≡ get_or gates i g → v ≡ get_or first (bucket g.domain g.word) 0 → Indexes first next gates (i + 1) → Indexes (set first (bucket g.domain g.word) i) (set next i v) gates i
 Indexes-link first next gates i g v within few read old x =
     let b = bucket g.domain g.word in
-    let in_table : b < 1024 = omega arith in
+    let in_table : b < 2048 = omega arith in
     record {
       buckets = length-set first b i ∙ x.buckets;
       places = length-set next i v ∙ x.places;
@@ -52,10 +52,10 @@ Indexes-link first next gates i g v within few read old x =
     }
 
 -- past the last gate no bucket has one
-pub Indexes-none : (next : List ℕ) (gates : List Gate) → length next ≡ 256 → Indexes (replicate 1024 (length gates)) next gates (length gates)
+pub Indexes-none : (next : List ℕ) (gates : List Gate) → length next ≡ 256 → Indexes (replicate 2048 (length gates)) next gates (length gates)
 Indexes-none next gates long = record {
-  buckets = length-replicate 1024 (length gates);
+  buckets = length-replicate 2048 (length gates);
   places = long;
-  heads = λ b low. get_or-replicate 1024 b (length gates) 0 low ∙ (let e : length gates ≡ length gates + 0 = omega arith in e) ∙ sym (ap (λ xs. length gates + position_or_len (lies_in b) xs) (drop_all (length gates) gates (omega arith)));
+  heads = λ b low. get_or-replicate 2048 b (length gates) 0 low ∙ (let e : length gates ≡ length gates + 0 = omega arith in e) ∙ sym (ap (λ xs. length gates + position_or_len (lies_in b) xs) (drop_all (length gates) gates (omega arith)));
   later = λ j d low high. absurd (omega arith);
 }

@@ -1,9 +1,8 @@
 -- What `find` gives past elements that fail, and beside a filter.
-use Rattle.std.proofs.Common.{◌≡◌, ℕ, zero, suc, ◌+◌, ◌-◌, ◌<◌, ◌≤◌, Bool, false, not, cond, ◌||◌, List, [], ◌∷◌, ◌++◌, length, get_or, take, drop, filter, find, None, Some, inl, inr, refl, sym, ap, ◌∙◌, arith, true, Option}
+use Rattle.std.proofs.Common.{◌≡◌, ℕ, zero, suc, ◌+◌, ◌-◌, ◌<◌, Bool, false, not, cond, ◌||◌, List, [], ◌∷◌, length, get_or, slice_get, drop, filter, find, None, Some, inl, inr, refl, sym, ap, ◌∙◌, arith, true}
 use Rattle.std.specs.Option.{is_some}
 use Rattle.std.specs.List.{prefix_len, position_or_len, list_any, last_or}
 use Rattle.std.proofs.lemmas.Bool.{cases_Bool, false≢true}
-use Rattle.std.proofs.lemmas.List.{take_more}
 use Rattle.std.proofs.lemmas.List.Filters.{length-filter_both}
 
 -- what passes p passes q, so nothing before the first that passes q passes p
@@ -77,12 +76,12 @@ find_none-at p (x ∷ xs) (suc k) d h within = elim (cases_Bool (p x)) [
   | inr fails ↦ find_none-at p xs k d (sym (ap (λ b. cond b (Some x) (find p xs)) fails) ∙ h) (omega arith)
 ]
 
--- what is appended is the last
-last-push : {X : Type 0} (o : Option X) (ys : List X) (y : X) → last_or o (ys ++ y ∷ []) ≡ Some y
-last-push o [] y = refl
-last-push o (x ∷ ys) y = last-push (Some x) ys y
+-- the last of a list is what stands at its last place
+last_is : {X : Type 0} (x : X) (xs : List X) → last_or (Some x) xs ≡ slice_get (x ∷ xs) (length xs)
+last_is x [] = refl
+last_is x (y ∷ ys) = last_is y ys
 
--- the last of the first n
-pub last-take : {X : Type 0} (xs : List X) (n : ℕ) (d : X) → 0 < n → n ≤ length xs → last_or None (take n xs) ≡ Some (get_or xs (n - 1) d)
-last-take xs n d some within =
-    ap (λ k. last_or None (take k xs)) (let e : n ≡ n - 1 + 1 = omega arith in e) ∙ ap (last_or None) (take_more xs (n - 1) d (omega arith)) ∙ last-push None (take (n - 1) xs) (get_or xs (n - 1) d)
+pub last-slice_get : {X : Type 0} (xs : List X) → last_or None xs ≡ slice_get xs (length xs - 1)
+last-slice_get [] = refl
+last-slice_get (x ∷ xs) =
+    last_is x xs ∙ ap (slice_get (x ∷ xs)) (let e : length xs ≡ suc (length xs) - 1 = omega arith in e)

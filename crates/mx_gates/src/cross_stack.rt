@@ -3,6 +3,7 @@
 ghost use Rattle.std.specs.Prelude.{◌≡◌, ◌≤◌, ◌==◌, [], ◌∷◌, ◌++◌, OnOk, OnErr, is_err, length, slice_get};
 ghost use Rattle.mx_model.specs.Gates.{top, below_top, nearest};
 
+use arrayvec::ArrayVec;
 use mx_model::Frame;
 use std::marker::Model;
 
@@ -16,19 +17,16 @@ pub struct Full;
 /// At most 64 frames of one hart, one for each gate through which it went and hasn't come back.
 #[derive(Drop)]
 pub struct CrossStack {
-    frames: [Frame; FRAMES],
-    depth: usize,
+    frames: ArrayVec<Frame, FRAMES>,
 }
 
 impl Model for CrossStack {
-    ghost use Rattle.std.specs.Prelude.{◌≡◌, ◌≤◌, List, length, take};
+    ghost use Rattle.std.specs.Prelude.{List};
     ghost use Rattle.mx_model.specs.declared.values.Frame.{Frame};
 
     ghost Value = { List Frame };
 
-    ghost view = { λ s. take s.depth s.frames };
-
-    ghost invariant = { λ s. (length s.frames ≡ 64) × (s.depth ≤ 64) };
+    ghost view = { λ s. s.frames.items };
 }
 
 impl CrossStack {
@@ -36,14 +34,8 @@ impl CrossStack {
     pub fn new() -> CrossStack
         ensures { result ≡ [] }
     {
-        let unused = Frame {
-            back: 0,
-            caller: 0,
-            kept: [0; 15],
-        };
         CrossStack {
-            frames: [unused; FRAMES],
-            depth: 0,
+            frames: ArrayVec::new(),
         }
     }
 
@@ -53,11 +45,10 @@ impl CrossStack {
         ensures full { is_err result ≡ (length self.old == 64) }
         ensures err { OnErr result (self.new ≡ self.old) }
     {
-        if self.depth == FRAMES {
+        if self.frames.is_full() {
             return Err(Full);
         }
-        self.frames[self.depth] = frame;
-        self.depth += 1;
+        self.frames.push(frame);
         Ok(())
     }
 
@@ -65,10 +56,7 @@ impl CrossStack {
     pub fn top(&self) -> Option<Frame>
         ensures { result ≡ top self.now }
     {
-        if self.depth == 0 {
-            return None;
-        }
-        Some(self.frames[self.depth - 1])
+        self.frames.as_slice().last().copied()
     }
 
     /// The top frame, which is taken off. `None` exactly where there is no frame.
@@ -76,20 +64,17 @@ impl CrossStack {
         ensures top { result ≡ top self.old }
         ensures rest { self.new ≡ below_top self.old }
     {
-        if self.depth == 0 {
-            return None;
-        }
-        self.depth -= 1;
-        Some(self.frames[self.depth])
+        self.frames.pop()
     }
 
     /// The saved x2 of the frame nearest the top whose caller is `domain`. `None` exactly where there is no such frame.
     pub fn nearest(&self, domain: u32) -> Option<u32>
         ensures { result ≡ nearest self.now domain }
     {
-        for i in (0..self.depth).rev() {
-            if self.frames[i].caller == domain {
-                return Some(self.frames[i].kept[0]);
+        let frames = self.frames.as_slice();
+        for i in (0..frames.len()).rev() {
+            if frames[i].caller == domain {
+                return Some(frames[i].kept[0]);
             }
         }
         None
@@ -100,17 +85,14 @@ impl CrossStack {
         ensures number { result ≡ length self.now }
         ensures bounded { result ≤ 64 }
     {
-        self.depth as u32
+        self.frames.len() as u32
     }
 
     /// Frame `i` from the bottom, counted from 0. `None` exactly where `i` isn't below the depth.
     pub fn frame(&self, i: u32) -> Option<Frame>
         ensures { result ≡ slice_get self.now i }
     {
-        if i as usize >= self.depth {
-            return None;
-        }
-        Some(self.frames[i as usize])
+        self.frames.as_slice().get(i as usize).copied()
     }
 }
 

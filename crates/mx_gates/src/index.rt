@@ -6,19 +6,20 @@ ghost use Rattle.mx_gates.specs.Index.{bucket, Indexes};
 use mx_model::Gate;
 
 /// How many buckets there are.
-pub const BUCKETS: usize = 1024;
+pub const BUCKETS: usize = 2048;
 
-/// The bucket of a domain and a word. Gates at neighbouring words lie in buckets of their own.
+/// The bucket of a domain and a word. Gates at neighbouring words lie in buckets of their own, and so do gates at the first
+/// words of neighbouring pages.
 pub fn bucket(domain: u32, word: u32) -> usize
     ensures value { result ≡ bucket domain word }
-    ensures bounded { result < 1024 }
+    ensures bounded { result < 2048 }
 {
-    (word as usize + 97 * domain as usize) % BUCKETS
+    (word as usize + 61 * (word as usize / 1024) + 97 * domain as usize) % BUCKETS
 }
 
 /// Indexes a list of gates anew: `first` gets the place of each bucket's first gate, and `next` for each gate the place of
 /// the next one of its bucket. The list's length stands for none.
-pub fn index(first: &mut [u16; 1024], next: &mut [u16; 256], gates: &[Gate])
+pub fn index(first: &mut [u16; BUCKETS], next: &mut [u16; 256], gates: &[Gate])
     requires { length gates.now ≤ 256 }
     ensures { Indexes first.new next.new gates.now 0 }
 {

@@ -3,5 +3,4 @@ use Rattle.mx_model.specs.Gates.{nearest}
 use Rattle.mx_gates.proofs.cross_stack.CrossStack.nearest.Given as goal
 
 abbrev pub invariant-loop-i : goal.invariant-loop-i
-invariant-loop-i l =
-    nearest (take l.i l.self-inside.frames) l.domain ≡ nearest (take l.self-inside.depth l.self-inside.frames) l.domain
+invariant-loop-i l = nearest (take l.i l.frames) l.domain ≡ nearest l.frames l.domain
