@@ -1,0 +1,7 @@
+//! Permission tables as sorted runs: one list of entries per domain, in frames of 64 words.
+#![tactic(auto)]
+
+mod chains;
+mod store;
+
+pub use chains::Chains;
