@@ -1,2 +1,4 @@
 mod ListLaws
 mod StoreLaws
+mod EntryLaws
+mod SoundLaws

@@ -1,2 +1,4 @@
 pub mod Lists
 pub mod Store
+pub mod Entries
+pub mod Sound

@@ -2,6 +2,7 @@
 #![tactic(auto)]
 
 mod chains;
+mod entries;
 mod store;
 
 pub use chains::Chains;
