@@ -2,3 +2,4 @@ mod ListLaws
 mod StoreLaws
 mod EntryLaws
 mod SoundLaws
+mod ChangeLaws

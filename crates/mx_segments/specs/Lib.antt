@@ -2,3 +2,4 @@ pub mod Lists
 pub mod Store
 pub mod Entries
 pub mod Sound
+pub mod Plan

@@ -3,6 +3,7 @@
 
 mod chains;
 mod entries;
+mod plan;
 mod store;
 
 pub use chains::Chains;
