@@ -3,3 +3,5 @@ mod StoreLaws
 mod EntryLaws
 mod SoundLaws
 mod ChangeLaws
+mod MoveLaws
+mod PlanLaws

@@ -32,3 +32,9 @@ pub record KeepsOthers (frames : Frames) (lists : List (List ℕ)) (frames' : Fr
   pub total : length frames' ≡ length frames
   pub chains : (other : ℕ) → other ≢ row → list_at lists' other ≡ list_at lists other
   pub words : (other i : ℕ) → other ≢ row → i < 64 * frames_in lists other → word_in frames' lists' other i ≡ word_in frames lists other i
+
+-- words of the list at one row are written, and nothing else changes
+pub record IsRewritten (frames frames' : Frames) (lists : List (List ℕ)) (row : ℕ) : Type 0 where
+  pub store : IsStore frames' lists
+  pub others : KeepsOthers frames lists frames' lists row
+  pub free : free_in frames' ≡ free_in frames

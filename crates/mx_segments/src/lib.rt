@@ -2,7 +2,9 @@
 #![tactic(auto)]
 
 mod chains;
+mod change;
 mod entries;
+mod moves;
 mod plan;
 mod store;
 

@@ -96,7 +96,10 @@ pub(crate) fn plan_of(leaf: &Pool<64>, chains: &Chains, row: u32, words: u32, fi
     requires sound { IsSound words leaf.now chains.now row }
     requires some { 0 < count }
     requires inside { first + count ≤ words }
-    ensures { IsPlan (map_in words leaf.now chains.now row) first count perm result }
+    ensures plan { IsPlan (map_in words leaf.now chains.now row) first count perm result }
+    ensures before { result.before ≤ result.behind }
+    ensures behind { result.behind ≤ result.all }
+    ensures all { result.all ≤ words }
 {
     let behind = first + count;
     let next = perm_or_none(leaf, chains, row, words, behind);
