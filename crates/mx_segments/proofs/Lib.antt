@@ -5,3 +5,4 @@ mod SoundLaws
 mod ChangeLaws
 mod MoveLaws
 mod PlanLaws
+mod LaidLaws

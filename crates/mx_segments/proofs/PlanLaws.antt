@@ -4,13 +4,15 @@ use Rattle.std.proofs.lemmas.Bool.Decides.{nat_tests}
 use Rattle.mx_words.specs.declared.perm.Perm.{Perm}
 use Rattle.mx_words.specs.Rights.{same, perm_at}
 use Rattle.mx_words.specs.Counting.{bit, count_below}
+use Rattle.mx_words.specs.Newest.{laid}
+use Rattle.mx_words.specs.Changes.{grant_of}
 use Rattle.mx_words.specs.Runs.{runs}
 use Rattle.mx_words.specs.Starts.{is_start}
 use Rattle.mx_words.proofs.CountingLaws.{count_below-le}
 use Rattle.mx_words.proofs.RunLaws.{runs-count}
 use Rattle.mx_segments.specs.declared.plan.Plan.{Plan}
 use Rattle.mx_segments.specs.Plan.{IsPlan, kept, total}
-use Rattle.mx_segments.proofs.ChangeLaws.{before-le, behind-le}
+use Rattle.mx_segments.proofs.ChangeLaws.{before-le, behind-le, total_is, length-new}
 
 pub and_true : (a b : ℕ) (x y : Bool) → a < b → x ≡ y → x ≡ (nat_lt a b && y)
 and_true a b x y lt e = let t : nat_lt a b ≡ true = grind (arith, nat_tests) in e ∙ sym (ap (λ s. s && y) t)
@@ -41,5 +43,5 @@ module _ (words : ℕ) (m : List Perm) (len : length m ≡ words) (first count :
   pub all-le : IsPlan m first count perm plan → plan.all ≤ words
   all-le is = omega (arith, is.all, runs-count m, count_below-le (length m) (is_start m))
 
-  pub order : IsPlan m first count perm plan → (plan.before ≤ plan.behind) × (plan.behind ≤ plan.all) × (plan.all ≤ words)
-  order is = (before-le words m len first count perm some inside plan is, behind-le words m len first count perm some inside plan is, all-le is)
+  pub order : IsPlan m first count perm plan → (plan.before ≤ plan.behind) × (plan.behind ≤ plan.all) × (plan.all ≤ words) × (total plan ≤ words)
+  order is = (before-le words m len first count perm some inside plan is, behind-le words m len first count perm some inside plan is, all-le is, omega (arith, total_is words m len first count perm some inside plan is, runs-count (laid (grant_of first count perm) m), count_below-le (length (laid (grant_of first count perm) m)) (is_start (laid (grant_of first count perm) m)), length-new words m len first count perm some inside))

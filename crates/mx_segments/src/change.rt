@@ -58,8 +58,7 @@ pub(crate) fn change_row(leaf: &mut Pool<64>, chains: &mut Chains, row: u32, wor
     make_room(leaf, chains, row, total);
     shift(leaf, chains, row, &plan);
     put_if(leaf, chains, row, plan.starts, plan.before, first, perm);
-    let behind = plan.before + u32::from(plan.starts);
-    put_if(leaf, chains, row, plan.ends, behind, first + count, plan.next);
+    put_if(leaf, chains, row, plan.ends, plan.second(), first + count, plan.next);
     clear(leaf, chains, row, total, plan.all);
     trim(leaf, chains, row, total.div_ceil(64));
 }

@@ -1,6 +1,7 @@
 //! What a change of a range does to the runs of one map.
 ghost use Rattle.std.specs.Prelude.{◌≡◌, ℕ, ◌+◌, ◌-◌, ◌*◌, ◌/◌, ◌<◌, ◌≤◌, ◌^◌, not, ◌==◌, ◌&&◌, ◌||◌, nat_lt, length};
 ghost use Rattle.mx_words.specs.Rights.{same, perm_at};
+ghost use Rattle.mx_words.specs.Counting.{bit};
 ghost use Rattle.mx_words.specs.Runs.{runs};
 ghost use Rattle.mx_words.specs.Newest.{laid};
 ghost use Rattle.mx_words.specs.Changes.{grant_of};
@@ -38,6 +39,14 @@ impl Plan {
         ensures { result ≡ kept self.now }
     {
         self.before + u32::from(self.starts) + u32::from(self.ends)
+    }
+
+    // The number of the run that begins right behind the range afterwards, if one does.
+    pub(crate) fn second(&self) -> u32
+        requires { self.now.before + 1 < 2 ^ 32 }
+        ensures { result ≡ self.now.before + bit self.now.starts }
+    {
+        self.before + u32::from(self.starts)
     }
 
     // How many runs there are afterwards.
@@ -100,6 +109,7 @@ pub(crate) fn plan_of(leaf: &Pool<64>, chains: &Chains, row: u32, words: u32, fi
     ensures before { result.before ≤ result.behind }
     ensures behind { result.behind ≤ result.all }
     ensures all { result.all ≤ words }
+    ensures most { total result ≤ words }
 {
     let behind = first + count;
     let next = perm_or_none(leaf, chains, row, words, behind);

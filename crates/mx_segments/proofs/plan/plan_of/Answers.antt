@@ -14,7 +14,7 @@ returns-then-behind-words c =
       c.runs_before.ensures c.runs_before-2.ensures c.runs_before-3.ensures c.starts_at.ensures c.perm_or_none-next.ensures
       (and_true (c.args.first + c.args.count) c.args.words c.differ.result (not (same c.args.perm c.perm_or_none-next.result)) (omega (arith, c.if-behind-words.true)) c.differ.ensures) in
     let o = order c.args.words m c.requires.sound.length_is c.args.first c.args.count c.args.perm c.requires.some c.requires.inside plan is in
-    record { plan = is; before = o.0; behind = o.1; all = o.2 }
+    record { plan = is; before = o.0; behind = o.1; all = o.2; most = o.3 }
 
 pub returns-else-behind-words : goal.returns-else-behind-words
 returns-else-behind-words c =
@@ -24,4 +24,4 @@ returns-else-behind-words c =
       c.runs_before.ensures c.runs_before-2.ensures c.runs_before-3.ensures c.starts_at.ensures c.perm_or_none-next.ensures
       (and_false (c.args.first + c.args.count) c.args.words (not (same c.args.perm c.perm_or_none-next.result)) c.if-behind-words.false) in
     let o = order c.args.words m c.requires.sound.length_is c.args.first c.args.count c.args.perm c.requires.some c.requires.inside plan is in
-    record { plan = is; before = o.0; behind = o.1; all = o.2 }
+    record { plan = is; before = o.0; behind = o.1; all = o.2; most = o.3 }
