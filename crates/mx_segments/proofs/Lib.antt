@@ -6,3 +6,4 @@ mod ChangeLaws
 mod MoveLaws
 mod PlanLaws
 mod LaidLaws
+pub mod KeptLaws

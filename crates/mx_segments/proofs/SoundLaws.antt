@@ -8,17 +8,23 @@ use Rattle.mx_words.specs.declared.tables.Kind.TheVariants as K
 use Rattle.mx_words.specs.Rights.{perm_at}
 use Rattle.mx_words.specs.Counting.{count_below}
 use Rattle.mx_words.specs.Runs.{runs}
-use Rattle.mx_words.specs.Reach.{span, span_within}
+use Rattle.mx_words.specs.declared.tables.Level.TheVariants as L
+use Rattle.mx_words.specs.declared.tables.Shown.{Shown}
+use Rattle.mx_words.specs.Reach.{span, span_within, shown_run}
+use Rattle.mx_words.specs.Reach.{stored as stored_item}
 use Rattle.mx_words.specs.Starts.{is_start}
-use Rattle.mx_words.proofs.CountingLaws.{count_below-mono, count_below_after}
+use Rattle.mx_words.proofs.CountingLaws.{IsCounted, count_below-mono, count_below_after}
 use Rattle.mx_words.proofs.RunLaws.{IsRound, span_within_is}
 use Rattle.mx_segments.specs.Store.{Frames, frames_in, word_in}
 use Rattle.mx_segments.specs.Entries.{perm_of, word_of_entry, begins_before, run_start, entry_of, entry_word}
 use Rattle.mx_segments.specs.Sound.{map_in, IsSound}
-use Rattle.mx_segments.proofs.EntryLaws.{runs_are, runs_held, before_passes, behind_fails, run_at, round, run_start_end, stored_entry, stored_some, stored_run, perm_of-entry, word_of-entry}
+use Rattle.mx_segments.proofs.EntryLaws.{runs_are, runs_held, before_passes, behind_fails, run_at, round, run_start_is, run_start_end, stored_entry, stored_some, stored_run, perm_of-entry, word_of-entry}
 
 abbrev made : ℕ → ℕ → Perm → Span
 made first next p = record { first = first; count = next - first; perm = p }
+
+abbrev shown : ℕ → ℕ → ℕ → Shown
+shown first next e = record { level = L.Segment; first = first; count = next - first; stored = e }
 
 module _ (words : ℕ) (fs : Frames) (ls : List (List ℕ)) (row : ℕ) (sound : IsSound words fs ls row) where
   abbrev map : List Perm
@@ -111,3 +117,21 @@ module _ (words : ℕ) (fs : Frames) (ls : List (List ℕ)) (row : ℕ) (sound :
       let r' : IsRound map 0 (length map) (run_start map (n - 1)) (run_start map n) i = subst R (sym length_is) r in
       let whole = span_within_is map 0 (length map) (run_start map (n - 1)) (run_start map n) i (omega arith) r' in
       ap (λ x. made x next p) is_first ∙ ap (λ x. made (run_start map (n - 1)) x p) is_next ∙ ap (made (run_start map (n - 1)) (run_start map n)) is_perm ∙ sym whole
+
+  -- the shown item of a word's run
+  pub shown_read : (i n first next e : ℕ) → i < words → n ≡ count_below (min (i + 1) words) (is_start map) →
+      first ≡ run_start map (n - 1) → next ≡ run_start map n → e ≡ stored (n - 1) →
+      record { level = L.Segment; first = first; count = next - first; stored = e } ≡ stored_item K.Segments map i
+  shown_read i n first next e lt at is_first is_next is =
+      let r = run_at words frames stored map sound i lt in
+      let k : n - 1 ≡ count_below (i + 1) (is_start map) - 1 = ap (λ x. x - 1) (at ∙ at_word i lt) in
+      let found : IsCounted words (is_start map) (count_below (i + 1) (is_start map) - 1) r.0 =
+          (let left = r.1.left in record { below = omega arith; passes = r.1.begins; place = r.1.place }) in
+      let start : run_start map (n - 1) ≡ r.0 = ap (run_start map) k ∙ run_start_is words frames stored map sound (count_below (i + 1) (is_start map) - 1) r.0 found in
+      let entry : e ≡ entry_word first (perm_at map i) =
+          is ∙ ap stored k ∙ r.1.entry ∙ ap (λ x. entry_word x (perm_at map i)) (sym (is_first ∙ start)) in
+      ap (shown first next) entry ∙ ap shown_run (span_read i n first next (perm_at map i) lt at is_first is_next refl)
+
+  -- a run begins in RAM
+  pub start_within : (i n first : ℕ) → i < words → n ≡ count_below (min (i + 1) words) (is_start map) → first ≡ run_start map (n - 1) → first < words
+  start_within i n first lt at is_first = let r = round_of i n lt at in let left = r.left in omega (arith, is_first)

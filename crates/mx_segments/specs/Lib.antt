@@ -3,3 +3,5 @@ pub mod Store
 pub mod Entries
 pub mod Sound
 pub mod Plan
+pub mod Kept
+pub mod Shape

@@ -4,7 +4,7 @@ ghost use Rattle.mx_words.specs.declared.tables.Kind.TheVariants as K;
 ghost use Rattle.mx_words.specs.Rights.{perm_at};
 ghost use Rattle.mx_words.specs.Counting.{count_below};
 ghost use Rattle.mx_words.specs.Runs.{runs};
-ghost use Rattle.mx_words.specs.Reach.{span};
+ghost use Rattle.mx_words.specs.Reach.{span, stored};
 ghost use Rattle.mx_words.specs.Starts.{is_start};
 ghost use Rattle.mx_table.specs.Tables.{most_words};
 ghost use Rattle.mx_segments.specs.Store.{frames_in, IsStore};
@@ -14,7 +14,7 @@ ghost use Rattle.mx_segments.specs.Sound.{map_in, IsSound};
 use crate::Chains;
 use crate::store::word;
 use mx_pool::Pool;
-use mx_words::{Perm, Span};
+use mx_words::{Level, Perm, Shown, Span};
 
 /// The address of RAM's first word.
 pub(crate) const RAM_BASE: u32 = 0x8000_0000;
@@ -116,5 +116,26 @@ pub(crate) fn run_in(leaf: &Pool<64>, chains: &Chains, row: u32, words: u32, at:
         first,
         count: next - first,
         perm,
+    }
+}
+
+/// The stored entry of a word's run in the map at a row, with the run.
+pub(crate) fn shown_in(leaf: &Pool<64>, chains: &Chains, row: u32, words: u32, at: u32) -> Shown
+    requires store { IsStore leaf.now chains.now }
+    requires row { row < length chains.now }
+    requires small { words ≤ most_words }
+    requires sound { IsSound words leaf.now chains.now row }
+    requires word { at < words }
+    ensures { result ≡ stored K.Segments (map_in words leaf.now chains.now row) at }
+{
+    let behind = runs_before(leaf, chains, row, words, at + 1);
+    let first = start_at(leaf, chains, row, words, behind - 1);
+    let next = start_at(leaf, chains, row, words, behind);
+    let stored = word(leaf, chains, row, behind - 1);
+    Shown {
+        level: Level::Segment,
+        first,
+        count: next - first,
+        stored,
     }
 }

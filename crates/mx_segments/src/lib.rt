@@ -6,6 +6,9 @@ mod change;
 mod entries;
 mod moves;
 mod plan;
+mod rows;
+mod segments;
 mod store;
 
 pub use chains::Chains;
+pub use segments::Segments;

@@ -6,6 +6,7 @@ ghost use Rattle.mx_words.specs.Runs.{runs};
 ghost use Rattle.mx_words.specs.Newest.{laid};
 ghost use Rattle.mx_words.specs.Changes.{grant_of};
 ghost use Rattle.mx_table.specs.Tables.{most_words};
+ghost use Rattle.mx_segments.specs.Lists.{most_frames};
 ghost use Rattle.mx_segments.specs.Store.{IsStore};
 ghost use Rattle.mx_segments.specs.Sound.{map_in, IsSound};
 ghost use Rattle.mx_segments.specs.Plan.{IsPlan, kept, total};
@@ -131,7 +132,8 @@ pub(crate) fn frames_after(leaf: &Pool<64>, chains: &Chains, row: u32, words: u3
     requires sound { IsSound words leaf.now chains.now row }
     requires some { 0 < count }
     requires inside { first + count ≤ words }
-    ensures { result ≡ (runs (laid (grant_of first count perm) (map_in words leaf.now chains.now row)) + 63) / 64 }
+    ensures frames { result ≡ (runs (laid (grant_of first count perm) (map_in words leaf.now chains.now row)) + 63) / 64 }
+    ensures most { result ≤ most_frames }
 {
     let plan = plan_of(leaf, chains, row, words, first, count, perm);
     plan.total().div_ceil(64)
