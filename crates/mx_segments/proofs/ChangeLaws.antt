@@ -28,13 +28,13 @@ module _ (words : ℕ) (m : List Perm) (len : length m ≡ words) (first count :
   pub length-new : length new ≡ words
   length-new = length-laid g m ∙ len
 
-  new_below : (i : ℕ) → i < first → perm_at new i ≡ perm_at m i
+  pub new_below : (i : ℕ) → i < first → perm_at new i ≡ perm_at m i
   new_below i lt = laid_below g m i P.None lt
 
-  new_in : (i : ℕ) → first ≤ i → i < first + count → perm_at new i ≡ perm
+  pub new_in : (i : ℕ) → first ≤ i → i < first + count → perm_at new i ≡ perm
   new_in i le lt = laid_in g m i P.None (omega (arith, len)) le lt
 
-  new_behind : (i : ℕ) → first + count ≤ i → perm_at new i ≡ perm_at m i
+  pub new_behind : (i : ℕ) → first + count ≤ i → perm_at new i ≡ perm_at m i
   new_behind i le = laid_behind g m i P.None le
 
   -- the test of two neighbours, after the first word
@@ -85,7 +85,7 @@ module _ (words : ℕ) (m : List Perm) (len : length m ≡ words) (first count :
     to_range : count_below (first + 1) (is_start new) ≡ plan.before + bit plan.starts
     to_range = omega (arith, count_below-more first (is_start new), before_is first (omega arith), is.before, ap bit starts_is)
 
-    in_range : (x : ℕ) → first < x → x ≤ first + count → count_below x (is_start new) ≡ plan.before + bit plan.starts
+    pub in_range : (x : ℕ) → first < x → x ≤ first + count → count_below x (is_start new) ≡ plan.before + bit plan.starts
     in_range x lt le = count_below_still (first + 1) x (is_start new) (omega arith) (λ i from below. start_inside i (omega arith) (omega arith)) ∙ to_range
 
     ends_is : first + count < words → is_start new (first + count) ≡ plan.ends

@@ -60,6 +60,9 @@ within_test leaf limit =
     last true = refl
     last false = refl
 
+pub fit_of : (leaf : ℕ) (limit : Need) → within (record { upper = 0; leaf = leaf; spill = 0 }) limit ≡ true → leaf ≤ limit.leaf
+fit_of leaf limit e = let test : nat_le leaf limit.leaf ≡ true = sym (within_test leaf limit) ∙ e in grind (arith, nat_tests)
+
 -- changed maps by row
 pub length-changed_from : (first count : ℕ) (given : ℕ → Option Perm) (d : ℕ) (ms : List (List Perm)) → length (changed_from first count given d ms) ≡ length ms
 length-changed_from first count given d [] = refl

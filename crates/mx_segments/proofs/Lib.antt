@@ -6,4 +6,6 @@ mod ChangeLaws
 mod MoveLaws
 mod PlanLaws
 mod LaidLaws
-pub mod KeptLaws
+mod KeptLaws
+mod SpanLaws
+mod TallyLaws

@@ -5,3 +5,4 @@ pub mod Sound
 pub mod Plan
 pub mod Kept
 pub mod Shape
+pub mod Tally

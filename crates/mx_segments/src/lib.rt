@@ -9,6 +9,7 @@ mod plan;
 mod rows;
 mod segments;
 mod store;
+mod tally;
 
 pub use chains::Chains;
 pub use segments::Segments;

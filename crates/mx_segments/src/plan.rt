@@ -61,8 +61,8 @@ impl Plan {
     }
 }
 
-// Whether two permissions differ.
-fn differ(one: Perm, other: Perm) -> bool
+/// Whether two permissions differ.
+pub(crate) fn differ(one: Perm, other: Perm) -> bool
     ensures { result ≡ not (same one other) }
 {
     one.number() != other.number()

@@ -7,6 +7,8 @@ use mx_table::{BuildRefused, Change, PermTables};
 use mx_words::{Need, Perm, Shown, Span, Spans};
 use std::alloc::Global;
 
+ghost use Rattle.std.specs.Prelude.{◌≡◌};
+ghost use Rattle.mx_words.specs.Caches.{raised};
 ghost use Rattle.mx_segments.specs.Kept.{IsKept};
 
 /// Permission tables as sorted runs. Each domain has a list of entries, one for each maximal run of its map, in the order of their
@@ -29,7 +31,7 @@ pub struct Segments {
 }
 
 impl Segments {
-    ghost use Rattle.std.specs.Prelude.{◌≡◌, ◌≤◌, ◌↔◌, length, IsNone, IfSome};
+    ghost use Rattle.std.specs.Prelude.{◌≤◌, ◌↔◌, length, IsNone, IfSome};
     ghost use Rattle.mx_words.specs.Runs.{runs};
     ghost use Rattle.mx_table.specs.Tables.{map_of};
     ghost use Rattle.mx_segments.specs.Entries.{entry_of};
@@ -45,6 +47,13 @@ impl Segments {
     {
         entry_at(&self.leaf, &self.chains, domain - 1, self.words, i)
     }
+}
+
+// A count raised by one, or as it was at its type's end.
+fn one_more(count: u64) -> u64
+    ensures { result ≡ raised count }
+{
+    if count < u64::MAX { count + 1 } else { count }
 }
 
 impl PermTables for Segments {
@@ -67,9 +76,7 @@ impl PermTables for Segments {
     }
 
     fn lookup(&mut self, domain: u32, word: u32) -> Span {
-        if self.lookups < u64::MAX {
-            self.lookups += 1;
-        }
+        self.lookups = one_more(self.lookups);
         run_in(&self.leaf, &self.chains, domain - 1, self.words, word)
     }
 
