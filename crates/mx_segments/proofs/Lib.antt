@@ -9,3 +9,4 @@ mod LaidLaws
 mod KeptLaws
 mod SpanLaws
 mod TallyLaws
+mod BuildLaws

@@ -1,6 +1,7 @@
 //! Permission tables as sorted runs: one list of entries per domain, in frames of 64 words.
 #![tactic(auto)]
 
+mod build;
 mod chains;
 mod change;
 mod entries;
