@@ -79,7 +79,9 @@ list_at-empty (suc n) (suc row) = list_at-empty n row
 
 none_longer : (n : ℕ) → sum_by (λ (l : List ℕ). length l) (replicate n []) ≡ 0
 none_longer zero = refl
-none_longer (suc n) = sum_by-cons (λ (l : List ℕ). length l) [] (replicate n []) ∙ none_longer n
+none_longer (suc n) =
+    let more : sum_by (λ (l : List ℕ). length l) ([] ∷ replicate n []) ≡ 0 + sum_by (λ (l : List ℕ). length l) (replicate n []) = sum_by-cons (λ (l : List ℕ). length l) [] (replicate n []) in
+    omega (arith, more, none_longer n)
 
 all_free : (n : ℕ) → free_in (replicate n None) ≡ n
 all_free zero = refl
@@ -93,7 +95,7 @@ empty_store frames rows =
     record {
       taken = λ row i lt. absurd (omega (arith, none row));
       apart = λ row i other j lt lt' e. absurd (omega (arith, none row));
-      counted = omega (arith, all_free frames, none_longer rows, length-replicate frames (None {A = List ℕ}))
+      counted = (let nothing : Option (List ℕ) = None in omega (arith, all_free frames, none_longer rows, length-replicate frames nothing))
     }
 
 -- the maps of the rows

@@ -51,7 +51,7 @@ need_leaf words fs ls sound =
       (λ i lt. let below : i < length ls = omega (arith, length-maps_in words fs ls) in
         ap segment_frames (maps_in-at words fs ls i [] below) ∙ sym ((sound i below).frames_are))
 
-within_is : (leaf : ℕ) (limit : Need) → leaf ≤ limit.leaf → within (record { upper = 0; leaf = leaf; spill = 0 }) limit ≡ true
+pub within_is : (leaf : ℕ) (limit : Need) → leaf ≤ limit.leaf → within (record { upper = 0; leaf = leaf; spill = 0 }) limit ≡ true
 within_is leaf limit le =
     let low : nat_le 0 limit.upper ≡ true = grind (arith, nat_tests) in
     let middle : nat_le leaf limit.leaf ≡ true = grind (arith, nat_tests) in

@@ -1,7 +1,10 @@
 //! Segment tables: the trait's calls, and the stored entries.
 use crate::Chains;
+use crate::build::lay_rows;
+use crate::chains::empty_chains;
 use crate::entries::{entry_at, perm_in, run_in, shown_in};
 use crate::rows::{change_all, need_after};
+use crate::tally::frames_of_all;
 use mx_pool::Pool;
 use mx_table::{BuildRefused, Change, PermTables};
 use mx_words::{Need, Perm, Shown, Span, Spans};
@@ -72,7 +75,31 @@ impl PermTables for Segments {
     ghost lookups = { λ t. t.lookups };
 
     fn build(alloc: Global, words: u32, rows: &[Spans], limit: Need) -> Result<Self, BuildRefused> {
-        Err(BuildRefused::NoMemory)
+        let needed = frames_of_all(rows, words);
+        if limit.leaf < needed {
+            return Err(BuildRefused::TablesFull {
+                need: Need {
+                    upper: 0,
+                    leaf: needed,
+                    spill: 0,
+                },
+            });
+        }
+        let count = rows.len() as u32;
+        let Ok(mut leaf) = Pool::new(alloc, limit.leaf + 2 * count) else {
+            return Err(BuildRefused::NoMemory);
+        };
+        let Ok(mut chains) = empty_chains(alloc, count) else {
+            return Err(BuildRefused::NoMemory);
+        };
+        lay_rows(&mut leaf, &mut chains, words, rows);
+        Ok(Segments {
+            leaf,
+            chains,
+            words,
+            limit,
+            lookups: 0,
+        })
     }
 
     fn lookup(&mut self, domain: u32, word: u32) -> Span {
