@@ -31,12 +31,13 @@ pub free_moved : (fs : Frames) (ls : List (List ℕ)) (fs' : Frames) (ls' : List
     KeepsOthers fs ls fs' ls' row → row < length ls → free_in fs' + frames_in ls' row ≡ free_in fs + frames_in ls row
 free_moved fs ls fs' ls' row st st' keeps within =
     let same : ls' ≡ set ls row (list_at ls' row) = same_lists ls' (set ls row (list_at ls' row))
-        (keeps.rows ∙ sym (length-set ls row (list_at ls' row)))
-        (λ k d lt. let below : k < length ls = omega (arith, keeps.rows) in elim (cases_eq k row) [
-          inl e ↦ (let G : ℕ → Type 0 = λ x. get_or ls' x d ≡ get_or (set ls row (list_at ls' row)) x d in
-            let row_lt : row < length ls' = omega (arith, keeps.rows) in
-            subst G (sym e) (get_or_default ls' row d [] row_lt ∙ sym (get_or-set_same ls row (list_at ls' row) d within)))
-        | inr ne ↦ (get_or_default ls' k d [] lt ∙ keeps.chains k ne ∙ get_or_default ls k [] d below ∙ sym (get_or-set_other ls row k (list_at ls' row) d ne)) ]) in
+    (keeps.rows ∙ sym (length-set ls row (list_at ls' row)))
+    (λ k d lt. let below : k < length ls = omega (arith, keeps.rows) in elim (cases_eq k row) [
+      | inl e ↦ (let G : ℕ → Type 0 = λ x. get_or ls' x d ≡ get_or (set ls row (list_at ls' row)) x d in
+          let row_lt : row < length ls' = omega (arith, keeps.rows) in
+          subst G (sym e) (get_or_default ls' row d [] row_lt ∙ sym (get_or-set_same ls row (list_at ls' row) d within)))
+      | inr ne ↦ (get_or_default ls' k d [] lt ∙ keeps.chains k ne ∙ get_or_default ls k [] d below ∙ sym (get_or-set_other ls row k (list_at ls' row) d ne))
+    ]) in
     let sums = sum_by-set length ls row (list_at ls' row) [] within in
     let whole : sum_by length ls' ≡ sum_by length (set ls row (list_at ls' row)) = ap (λ (x : List (List ℕ)). sum_by length x) same in
     let total = keeps.total in
@@ -57,11 +58,12 @@ start_chain words frames stored pos one first zeros =
       length_is = length-first words [] (no_row words) 0;
       frames_are = omega (arith, one, runs_one);
       entries = λ i lt start. elim (cases_eq i 0) [
-          inl e ↦ (let none : perm_at m 0 ≡ P.None = tail_none words [] (no_row words) 0 0 (omega arith) (omega arith) in
+        | inl e ↦ (let none : perm_at m 0 ≡ P.None = tail_none words [] (no_row words) 0 0 (omega arith) (omega arith) in
             let E : ℕ → Type 0 = λ x. stored (count_below x (is_start m)) ≡ entry_word x (perm_at m x) in
             subst E (sym e) (ap stored (count_below-zero (is_start m)) ∙ first ∙ ap (entry_word 0) (sym none)))
-        | inr ne ↦ (let both : true ≡ false = sym start ∙ none_started words [] (no_row words) pos i (omega arith) in cc) ];
-      rest = λ k from lt. zeros k (omega (arith, runs_one)) (omega (arith, one))
+        | inr ne ↦ (let both : true ≡ false = sym start ∙ none_started words [] (no_row words) pos i (omega arith) in cc)
+      ];
+      rest = λ k from lt. zeros k (omega (arith, runs_one)) (omega (arith, one));
     }
 
 -- a frame is left while the spans of a row are laid
@@ -95,7 +97,7 @@ empty_store frames rows =
     record {
       taken = λ row i lt. absurd (omega (arith, none row));
       apart = λ row i other j lt lt' e. absurd (omega (arith, none row));
-      counted = (let nothing : Option (List ℕ) = None in omega (arith, all_free frames, none_longer rows, length-replicate frames nothing))
+      counted = (let nothing : Option (List ℕ) = None in omega (arith, all_free frames, none_longer rows, length-replicate frames nothing));
     }
 
 -- the maps of the rows
@@ -103,10 +105,10 @@ pub maps_of_rows : (words : ℕ) (fs : Frames) (ls : List (List ℕ)) (rows : Li
     ((q : ℕ) → q < length ls → map_in words fs ls q ≡ row_map words (get_or rows q [])) → maps_in words fs ls ≡ list_map (row_map words) rows
 maps_of_rows words fs ls rows len each =
     same_lists (maps_in words fs ls) (list_map (row_map words) rows) (length-maps_in words fs ls ∙ len ∙ sym (length-map rows (row_map words)))
-      (λ k d lt. let below : k < length ls = omega (arith, length-maps_in words fs ls) in
-        maps_in-at words fs ls k d below ∙ each k below ∙ sym (get_or-map (row_map words) rows k [] d (omega (arith, len))))
+    (λ k d lt. let below : k < length ls = omega (arith, length-maps_in words fs ls) in
+    maps_in-at words fs ls k d below ∙ each k below ∙ sym (get_or-map (row_map words) rows k [] d (omega (arith, len))))
 
 pub need_of_rows : (words : ℕ) (rows : List (List Span)) → sum_by segment_frames (list_map (row_map words) rows) ≡ sum_by (λ row. segment_frames (row_map words row)) rows
 need_of_rows words rows =
     sum_by_same segment_frames (λ row. segment_frames (row_map words row)) (list_map (row_map words) rows) rows [] [] (length-map rows (row_map words))
-      (λ i lt. ap segment_frames (get_or-map (row_map words) rows i [] [] (omega (arith, length-map rows (row_map words)))))
+    (λ i lt. ap segment_frames (get_or-map (row_map words) rows i [] [] (omega (arith, length-map rows (row_map words)))))

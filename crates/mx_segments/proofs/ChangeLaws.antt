@@ -49,8 +49,9 @@ module _ (words : ℕ) (m : List Perm) (len : length m ≡ words) (first count :
 
   pub start_below : (i : ℕ) → i < first → is_start new i ≡ is_start m i
   start_below i lt = elim (cases_eq i 0) [
-      inl e ↦ (ap (is_start new) e ∙ sym (ap (is_start m) e))
-    | inr ne ↦ alike i (new_below (i - 1) (omega arith)) (new_below i lt) (omega arith) ]
+    | inl e ↦ (ap (is_start new) e ∙ sym (ap (is_start m) e))
+    | inr ne ↦ alike i (new_below (i - 1) (omega arith)) (new_below i lt) (omega arith)
+  ]
 
   pub start_inside : (i : ℕ) → first < i → i < first + count → is_start new i ≡ false
   start_inside i lt lt' =
@@ -62,12 +63,13 @@ module _ (words : ℕ) (m : List Perm) (len : length m ≡ words) (first count :
 
   pub start_first : is_start new first ≡ ((first == 0) || not (same (perm_at m (first - 1)) perm))
   start_first = elim (cases_eq first 0) [
-      inl e ↦ (let t : (first == 0) ≡ true = grind (arith, nat_tests) in
+    | inl e ↦ (let t : (first == 0) ≡ true = grind (arith, nat_tests) in
         ap (is_start new) e ∙ sym (ap (λ b. b || not (same (perm_at m (first - 1)) perm)) t))
     | inr ne ↦ (let t : (first == 0) ≡ false = grind (arith, nat_tests) in
         step new first (omega arith) ∙ ap (λ p. not (same p (perm_at new first))) (new_below (first - 1) (omega arith))
         ∙ ap (λ p. not (same (perm_at m (first - 1)) p)) (new_in first (omega arith) (omega arith))
-        ∙ sym (ap (λ b. b || not (same (perm_at m (first - 1)) perm)) t)) ]
+        ∙ sym (ap (λ b. b || not (same (perm_at m (first - 1)) perm)) t))
+  ]
 
   pub start_end : is_start new (first + count) ≡ not (same perm (perm_at m (first + count)))
   start_end =
@@ -135,14 +137,15 @@ module _ (words : ℕ) (m : List Perm) (len : length m ≡ words) (first count :
 
     pub total_is : runs new ≡ total plan
     total_is = elim (cases_lt (first + count) words) [
-        inl lt ↦ omega (arith, after words lt (omega arith), runs_new, all_is, behind-le)
+      | inl lt ↦ omega (arith, after words lt (omega arith), runs_new, all_is, behind-le)
       | inr ge ↦ (let e : first + count ≡ words = omega arith in
           let whole : min (first + count + 1) (length m) ≡ words = omega (arith, len) in
           let none : bit plan.ends ≡ 0 = ap bit (no_end e) in
           let behind : plan.behind ≡ count_below words (is_start m) = is.behind ∙ ap (λ x. count_below x (is_start m)) whole in
           let range = in_range (first + count) (omega arith) (omega arith) in
           let at_end : count_below words (is_start new) ≡ count_below (first + count) (is_start new) = ap (λ x. count_below x (is_start new)) (sym e) in
-          omega (arith, runs_new, all_is, none, behind, range, at_end)) ]
+          omega (arith, runs_new, all_is, none, behind, range, at_end))
+    ]
 
     -- the words that the change leaves are the new map's chain
     module _ (frames : ℕ) (stored : ℕ → ℕ) (chain : IsChain words frames stored m) (frames' : ℕ) (stored' : ℕ → ℕ)
@@ -176,17 +179,19 @@ module _ (words : ℕ) (m : List Perm) (len : length m ≡ words) (first count :
 
       entry_new : (i : ℕ) → i < words → is_start new i ≡ true → stored' (count_below i (is_start new)) ≡ entry_word i (perm_at new i)
       entry_new i lt start = elim (cases_order i first) [
-          inl e ↦ (let E : ℕ → Type 0 = λ x. is_start new x ≡ true → stored' (count_below x (is_start new)) ≡ entry_word x (perm_at new x) in subst E (sym e) entry_first start)
+        | inl e ↦ (let E : ℕ → Type 0 = λ x. is_start new x ≡ true → stored' (count_below x (is_start new)) ≡ entry_word x (perm_at new x) in subst E (sym e) entry_first start)
         | inr (inl h) ↦ entry_below i h start
         | inr (inr h) ↦ elim (cases_order i (first + count)) [
-            inl e ↦ (let E : ℕ → Type 0 = λ x. x < words → is_start new x ≡ true → stored' (count_below x (is_start new)) ≡ entry_word x (perm_at new x) in subst E (sym e) entry_end lt start)
+          | inl e ↦ (let E : ℕ → Type 0 = λ x. x < words → is_start new x ≡ true → stored' (count_below x (is_start new)) ≡ entry_word x (perm_at new x) in subst E (sym e) entry_end lt start)
           | inr (inl k) ↦ (let both : true ≡ false = sym start ∙ start_inside i h k in cc)
-          | inr (inr k) ↦ entry_behind i k lt start ] ]
+          | inr (inr k) ↦ entry_behind i k lt start
+        ]
+      ]
 
       pub laid_chain : IsChain words frames' stored' new
       laid_chain = record {
-          length_is = length-new;
-          frames_are = omega (arith, laid_down.frames_are, total_is);
-          entries = entry_new;
-          rest = λ k from below. laid_down.rest k (omega (arith, total_is)) below
-        }
+        length_is = length-new;
+        frames_are = omega (arith, laid_down.frames_are, total_is);
+        entries = entry_new;
+        rest = λ k from below. laid_down.rest k (omega (arith, total_is)) below;
+      }

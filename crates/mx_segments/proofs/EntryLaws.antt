@@ -86,15 +86,17 @@ module _ (words frames : ℕ) (stored : ℕ → ℕ) (m : List Perm) (chain : Is
 
   pub behind_fails : (x k : ℕ) → x ≤ words → count_below x (is_start m) ≤ k → k < 64 * frames → begins_before (stored k) x ≡ false
   behind_fails x k le from lt = elim (cases_lt k (runs m)) [
-      inl h ↦ by (count_below_find words (is_start m) k (omega (arith, runs_are)))
-    | inr h ↦ begins_before-zero (stored k) x (chain.rest k h lt) ]
+    | inl h ↦ by (count_below_find words (is_start m) k (omega (arith, runs_are)))
+    | inr h ↦ begins_before-zero (stored k) x (chain.rest k h lt)
+  ]
     where
       by : (i : ℕ) × IsCounted words (is_start m) k i → begins_before (stored k) x ≡ false
       by (i, found) =
           let entry : stored k ≡ entry_word i (perm_at m i) = ap stored (sym found.place) ∙ chain.entries i found.below found.passes in
           let behind : x ≤ i = elim (cases_lt i x) [
-              inl h ↦ absurd (omega (arith, count_below_after i x (is_start m) h found.passes, found.place))
-            | inr h ↦ h ] in
+            | inl h ↦ absurd (omega (arith, count_below_after i x (is_start m) h found.passes, found.place))
+            | inr h ↦ h
+          ] in
           ap (λ e. begins_before e x) entry ∙ begins_behind-entry i (perm_at m i) x behind
 
   pub entries_counted : (x : ℕ) → x ≤ words → count_below (64 * frames) (λ k. begins_before (stored k) x) ≡ count_below x (is_start m)
@@ -116,6 +118,7 @@ module _ (words frames : ℕ) (stored : ℕ → ℕ) (m : List Perm) (chain : Is
     where
       some : 1 ≤ count_below (i + 1) (is_start m)
       some = omega (arith, count_below_after 0 (i + 1) (is_start m) (omega arith) refl)
+
       by : (first : ℕ) × IsCounted (i + 1) (is_start m) (count_below (i + 1) (is_start m) - 1) first → (first : ℕ) × IsRunAt i first (count_below (i + 1) (is_start m) - 1)
       by (first, found) =
           let below = found.below in
@@ -124,16 +127,18 @@ module _ (words frames : ℕ) (stored : ℕ → ℕ) (m : List Perm) (chain : Is
           let step = count_below_yes first (is_start m) found.passes in
           let still : count_below (i + 1) (is_start m) ≡ count_below (first + 1) (is_start m) = omega (arith, some, step, place) in
           let alike : (j : ℕ) → first ≤ j → j ≤ i → perm_at m first ≡ perm_at m j =
-              λ j from to. same_in_run m first j from (λ x after most. count_below_same (first + 1) (i + 1) x (is_start m) still (omega arith) (omega arith)) in
-          let within : first < words = omega arith in
-          (first, record {
-            left = left;
-            begins = found.passes;
-            place = place;
-            counted = omega (arith, some);
-            alike = alike;
-            entry = ap stored (sym place) ∙ chain.entries first within found.passes ∙ ap (entry_word first) (alike i left (omega arith))
-          })
+          λ j from to. same_in_run m first j from (λ x after most. count_below_same (first + 1) (i + 1) x (is_start m) still (omega arith) (omega arith)) in
+          let within : first < words = omega arith in (
+            first,
+            record {
+              left = left;
+              begins = found.passes;
+              place = place;
+              counted = omega (arith, some);
+              alike = alike;
+              entry = ap stored (sym place) ∙ chain.entries first within found.passes ∙ ap (entry_word first) (alike i left (omega arith));
+            },
+          )
 
   pub read_at_is : (i : ℕ) → i < words → read_at frames stored i ≡ perm_at m i
   read_at_is i lt =
@@ -152,19 +157,20 @@ module _ (words frames : ℕ) (stored : ℕ → ℕ) (m : List Perm) (chain : Is
       let within : i ≤ length m = omega (arith, chain.length_is) in
       let step = count_below_yes i (is_start m) found.passes in
       count_below_is (length m) i (λ j. nat_le (count_below (j + 1) (is_start m)) k) within
-        (λ j lt. at_most (count_below (j + 1) (is_start m)) k (omega (arith, place, count_below-mono (j + 1) i (is_start m) (omega arith))))
-        (λ j from lt. more (count_below (j + 1) (is_start m)) k (omega (arith, place, step, count_below-mono (i + 1) (j + 1) (is_start m) (omega arith))))
+      (λ j lt. at_most (count_below (j + 1) (is_start m)) k (omega (arith, place, count_below-mono (j + 1) i (is_start m) (omega arith))))
+      (λ j from lt. more (count_below (j + 1) (is_start m)) k (omega (arith, place, step, count_below-mono (i + 1) (j + 1) (is_start m) (omega arith))))
     where
       at_most : (a b : ℕ) → a ≤ b → nat_le a b ≡ true
       at_most a b le = grind (arith, nat_tests)
+
       more : (a b : ℕ) → b < a → nat_le a b ≡ false
       more a b lt = grind (arith, nat_tests)
 
   pub run_start_end : (k : ℕ) → runs m ≤ k → run_start m k ≡ words
   run_start_end k le =
       count_below_is (length m) (length m) (λ j. nat_le (count_below (j + 1) (is_start m)) k) (omega arith)
-        (λ j lt. at_most (count_below (j + 1) (is_start m)) k (omega (arith, runs_are, chain.length_is, count_below-mono (j + 1) words (is_start m) (omega (arith, chain.length_is)))))
-        (λ j from lt. absurd (omega arith))
+      (λ j lt. at_most (count_below (j + 1) (is_start m)) k (omega (arith, runs_are, chain.length_is, count_below-mono (j + 1) words (is_start m) (omega (arith, chain.length_is)))))
+      (λ j from lt. absurd (omega arith))
       ∙ chain.length_is
     where
       at_most : (a b : ℕ) → a ≤ b → nat_le a b ≡ true
@@ -197,25 +203,33 @@ module _ (words frames : ℕ) (stored : ℕ → ℕ) (m : List Perm) (chain : Is
 
   next_run : (i k : ℕ) → i < words → count_below (i + 1) (is_start m) ≡ k + 1 → (b : ℕ) × IsNext k i b
   next_run i k lt counted = elim (cases_lt (k + 1) (runs m)) [
-      inl h ↦ by (count_below_find words (is_start m) (k + 1) (omega (arith, runs_are)))
-    | inr h ↦ (words, record {
+    | inl h ↦ by (count_below_find words (is_start m) (k + 1) (omega (arith, runs_are)))
+    | inr h ↦ (
+      words,
+      record {
         after = lt;
         within = omega arith;
         place = omega (arith, runs_are, count_below-mono (i + 1) words (is_start m) (omega arith));
         begins = λ below. absurd (omega arith);
-        start = run_start_end (k + 1) h
-      }) ]
+        start = run_start_end (k + 1) h;
+      },
+    )
+  ]
     where
       by : (b : ℕ) × IsCounted words (is_start m) (k + 1) b → (b : ℕ) × IsNext k i b
-      by (b, found) = (b, record {
+      by (b, found) = (
+        b,
+        record {
           after = elim (cases_lt i b) [
-              inl h ↦ h
-            | inr h ↦ absurd (omega (arith, counted, found.place, count_below_after b (i + 1) (is_start m) (omega arith) found.passes)) ];
+            | inl h ↦ h
+            | inr h ↦ absurd (omega (arith, counted, found.place, count_below_after b (i + 1) (is_start m) (omega arith) found.passes))
+          ];
           within = (let below = found.below in omega arith);
           place = found.place;
           begins = λ below. found.passes;
-          start = run_start_is (k + 1) b found
-        })
+          start = run_start_is (k + 1) b found;
+        },
+      )
 
   same_sym : (p q : Perm) → same p q ≡ false → same q p ≡ false
   same_sym p q e = by (same q p) refl
@@ -237,6 +251,7 @@ module _ (words frames : ℕ) (stored : ℕ → ℕ) (m : List Perm) (chain : Is
         where
           left : first ≤ i
           left = r.left
+
           with_next : (b : ℕ) × IsNext (count_below (i + 1) (is_start m) - 1) i b →
               (first : ℕ) × (run_start m (count_below (i + 1) (is_start m) - 1) ≡ first)
               × IsRound m 0 words first (run_start m (count_below (i + 1) (is_start m))) i
@@ -247,19 +262,19 @@ module _ (words frames : ℕ) (stored : ℕ → ℕ) (m : List Perm) (chain : Is
               let step = count_below_yes first (is_start m) r.begins in
               let still : count_below b (is_start m) ≡ count_below (first + 1) (is_start m) = omega (arith, n.place, r.place, step) in
               let alike : (j : ℕ) → first ≤ j → j < b → perm_at m first ≡ perm_at m j =
-                  λ j from to. same_in_run m first j from (λ x behind most. count_below_same (first + 1) b x (is_start m) still (omega arith) (omega arith)) in
+              λ j from to. same_in_run m first j from (λ x behind most. count_below_same (first + 1) b x (is_start m) still (omega arith) (omega arith)) in
               let here : perm_at m first ≡ perm_at m i = alike i left after in
               let counted : IsCounted words (is_start m) (count_below (i + 1) (is_start m) - 1) first = record { below = omega arith; passes = r.begins; place = r.place } in
               let round : IsRound m 0 words first b i = record {
-                  from = omega arith;
-                  left = left;
-                  right = after;
-                  to = within;
-                  inside = λ j from to. sym here ∙ alike j from to;
-                  before = λ some. ap (λ p. same p (perm_at m (first - 1))) (sym here) ∙ start_differs m first some r.begins;
-                  after = λ below. (let differs : same (perm_at m b) (perm_at m (b - 1)) ≡ false = start_differs m b (omega arith) (n.begins below) in
-                      let last : perm_at m (b - 1) ≡ perm_at m i = sym (alike (b - 1) (omega arith) (omega arith)) ∙ here in
-                      same_sym (perm_at m b) (perm_at m i) (ap (same (perm_at m b)) (sym last) ∙ differs))
-                } in
+                from = omega arith;
+                left = left;
+                right = after;
+                to = within;
+                inside = λ j from to. sym here ∙ alike j from to;
+                before = λ some. ap (λ p. same p (perm_at m (first - 1))) (sym here) ∙ start_differs m first some r.begins;
+                after = λ below. (let differs : same (perm_at m b) (perm_at m (b - 1)) ≡ false = start_differs m b (omega arith) (n.begins below) in
+                    let last : perm_at m (b - 1) ≡ perm_at m i = sym (alike (b - 1) (omega arith) (omega arith)) ∙ here in
+                    same_sym (perm_at m b) (perm_at m i) (ap (same (perm_at m b)) (sym last) ∙ differs));
+              } in
               let R : ℕ → Type 0 = λ x. IsRound m 0 words first x i in
               (first, run_start_is (count_below (i + 1) (is_start m) - 1) first counted, subst R (sym start) round)

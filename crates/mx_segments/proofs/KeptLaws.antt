@@ -32,7 +32,7 @@ chain_same words n n' w w' m chain same_n same =
       length_is = chain.length_is;
       frames_are = same_n ∙ chain.frames_are;
       entries = λ i lt start. same (count_below i (is_start m)) (omega (arith, held, runs_are words n w m chain, count_below_after i words (is_start m) lt start)) ∙ chain.entries i lt start;
-      rest = λ k from lt. same k (omega (arith, same_n)) ∙ chain.rest k from (omega (arith, same_n))
+      rest = λ k from lt. same k (omega (arith, same_n)) ∙ chain.rest k from (omega (arith, same_n));
     }
 
 -- a change of one row keeps the maps of all others
@@ -81,12 +81,12 @@ pub changed_maps_in : (words : ℕ) (fs : Frames) (ls : List (List ℕ)) (fs' : 
     maps_in words fs' ls' ≡ changed_from first count given 1 (maps_in words fs ls)
 changed_maps_in words fs ls fs' ls' first count given len each =
     same_lists (maps_in words fs' ls') (changed_from first count given 1 (maps_in words fs ls))
-      (length-maps_in words fs' ls' ∙ len ∙ sym (length-maps_in words fs ls) ∙ sym (length-changed_from first count given 1 (maps_in words fs ls)))
-      (λ k x lt. let below : k < length ls' = omega (arith, length-maps_in words fs' ls') in
-        let below' : k < length ls = omega (arith, len) in
-        let there : k < length (maps_in words fs ls) = omega (arith, length-maps_in words fs ls) in
-        maps_in-at words fs' ls' k x below ∙ each k below' ∙ ap (changed_map first count (given (k + 1))) (sym (maps_in-at words fs ls k x below'))
-        ∙ sym (changed_from-at first count given 1 (maps_in words fs ls) k (k + 1) x there (omega arith)))
+    (length-maps_in words fs' ls' ∙ len ∙ sym (length-maps_in words fs ls) ∙ sym (length-changed_from first count given 1 (maps_in words fs ls)))
+    (λ k x lt. let below : k < length ls' = omega (arith, length-maps_in words fs' ls') in
+    let below' : k < length ls = omega (arith, len) in
+    let there : k < length (maps_in words fs ls) = omega (arith, length-maps_in words fs ls) in
+    maps_in-at words fs' ls' k x below ∙ each k below' ∙ ap (changed_map first count (given (k + 1))) (sym (maps_in-at words fs ls k x below'))
+    ∙ sym (changed_from-at first count given 1 (maps_in words fs ls) k (k + 1) x there (omega arith)))
 
 pub sum_below-zero : (f : ℕ → ℕ) → sum_below 0 f ≡ 0
 unfolding sum_below
@@ -107,8 +107,8 @@ pub need_changed : (words : ℕ) (fs : Frames) (ls : List (List ℕ)) (first cou
 need_changed words fs ls first count given =
     let h : ℕ → List Perm = λ q. changed_map first count (given (q + 1)) (map_in words fs ls q) in
     let lists : list_below (length ls) h ≡ changed_from first count given 1 (maps_in words fs ls) =
-        list_below_is (length ls) h (changed_from first count given 1 (maps_in words fs ls)) (length-changed_from first count given 1 (maps_in words fs ls) ∙ length-maps_in words fs ls)
-          (λ i x lt. let there : i < length (maps_in words fs ls) = omega (arith, length-maps_in words fs ls) in
-            changed_from-at first count given 1 (maps_in words fs ls) i (i + 1) x there (omega arith)
-            ∙ ap (changed_map first count (given (i + 1))) (maps_in-at words fs ls i x lt)) in
+    list_below_is (length ls) h (changed_from first count given 1 (maps_in words fs ls)) (length-changed_from first count given 1 (maps_in words fs ls) ∙ length-maps_in words fs ls)
+    (λ i x lt. let there : i < length (maps_in words fs ls) = omega (arith, length-maps_in words fs ls) in
+    changed_from-at first count given 1 (maps_in words fs ls) i (i + 1) x there (omega arith)
+    ∙ ap (changed_map first count (given (i + 1))) (maps_in-at words fs ls i x lt)) in
     ap (λ (ms : List (List Perm)). sum_by segment_frames ms) (sym lists) ∙ sum_by-list_below segment_frames (length ls) h

@@ -87,17 +87,19 @@ module _ (w0 w1 w2 w3 w4 w5 w6 : ℕ → ℕ) (f0 f1 f6 : ℕ) (first count : �
   rest k from lt =
       let within : k < 64 * f1 = omega (arith, frames_are) in
       trim_words k lt ∙ elim (cases_lt k plan.all) [
-        inl h ↦ clear_zeros k (omega (arith, t_is)) h
-      | inr h ↦ (behind_all k from h within ∙ elim (cases_lt k (64 * f0)) [
-          inl o ↦ (room_words k o ∙ rest0 k h o)
-        | inr z ↦ room_zeros k z within ]) ]
+        | inl h ↦ clear_zeros k (omega (arith, t_is)) h
+        | inr h ↦ (behind_all k from h within ∙ elim (cases_lt k (64 * f0)) [
+          | inl o ↦ (room_words k o ∙ rest0 k h o)
+          | inr z ↦ room_zeros k z within
+        ])
+      ]
 
   pub laid_steps : IsLaid w0 f6 w6 first count perm plan
   laid_steps = record {
-      frames_are = frames_are;
-      same = same;
-      begins = begins;
-      ends = ends;
-      moved = moved;
-      rest = rest
-    }
+    frames_are = frames_are;
+    same = same;
+    begins = begins;
+    ends = ends;
+    moved = moved;
+    rest = rest;
+  }

@@ -37,7 +37,7 @@ module _ (words : ℕ) (m : List Perm) (len : length m ≡ words) (first count :
         all = all ∙ ap (λ x. count_below x (is_start m)) whole ∙ ap (λ x. count_below x (is_start m)) (sym len) ∙ sym (runs-count m);
         starts = starts;
         next = next;
-        ends = ends ∙ ap (λ w. nat_lt (first + count) w && not (same perm plan.next)) (sym len)
+        ends = ends ∙ ap (λ w. nat_lt (first + count) w && not (same perm plan.next)) (sym len);
       }
 
   pub all-le : IsPlan m first count perm plan → plan.all ≤ words

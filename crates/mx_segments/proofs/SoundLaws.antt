@@ -48,13 +48,15 @@ module _ (words : ℕ) (fs : Frames) (ls : List (List ℕ)) (row : ℕ) (sound :
   -- a test of the entry at k tells on which side of the count it stands
   pub passed : (x k e : ℕ) (b : Bool) → x ≤ words → k < 64 * frames → e ≡ stored k → b ≡ begins_before e x → b ≡ true → k < count_below x (is_start map)
   passed x k e b le lt is test yes' = elim (cases_lt k (count_below x (is_start map))) [
-      inl h ↦ h
-    | inr h ↦ (let both : true ≡ false = sym yes' ∙ test ∙ ap (λ n. begins_before n x) is ∙ behind_fails words frames stored map sound x k le h lt in cc) ]
+    | inl h ↦ h
+    | inr h ↦ (let both : true ≡ false = sym yes' ∙ test ∙ ap (λ n. begins_before n x) is ∙ behind_fails words frames stored map sound x k le h lt in cc)
+  ]
 
   pub failed : (x k e : ℕ) (b : Bool) → x ≤ words → e ≡ stored k → b ≡ begins_before e x → b ≡ false → count_below x (is_start map) ≤ k
   failed x k e b le is test no' = elim (cases_lt k (count_below x (is_start map))) [
-      inl h ↦ (let both : false ≡ true = sym no' ∙ test ∙ ap (λ n. begins_before n x) is ∙ before_passes words frames stored map sound x k le h in cc)
-    | inr h ↦ h ]
+    | inl h ↦ (let both : false ≡ true = sym no' ∙ test ∙ ap (λ n. begins_before n x) is ∙ before_passes words frames stored map sound x k le h in cc)
+    | inr h ↦ h
+  ]
 
   -- the count behind a word is that of its run, counted from 1
   pub some_before : (i : ℕ) → i < words → 1 ≤ count_below (min (i + 1) words) (is_start map)
@@ -85,8 +87,9 @@ module _ (words : ℕ) (fs : Frames) (ls : List (List ℕ)) (row : ℕ) (sound :
 
   pub no_run : (i e : ℕ) → e ≡ stored i → e ≡ 0 → runs map ≤ i
   no_run i e is none = elim (cases_lt i (runs map)) [
-      inl h ↦ absurd (omega (arith, stored_some words frames stored map sound i h))
-    | inr h ↦ h ]
+    | inl h ↦ absurd (omega (arith, stored_some words frames stored map sound i h))
+    | inr h ↦ h
+  ]
 
   pub start_end : (i : ℕ) → runs map ≤ i → run_start map i ≡ words
   start_end i le = run_start_end words frames stored map sound i le
@@ -126,10 +129,10 @@ module _ (words : ℕ) (fs : Frames) (ls : List (List ℕ)) (row : ℕ) (sound :
       let r = run_at words frames stored map sound i lt in
       let k : n - 1 ≡ count_below (i + 1) (is_start map) - 1 = ap (λ x. x - 1) (at ∙ at_word i lt) in
       let found : IsCounted words (is_start map) (count_below (i + 1) (is_start map) - 1) r.0 =
-          (let left = r.1.left in record { below = omega arith; passes = r.1.begins; place = r.1.place }) in
+      (let left = r.1.left in record { below = omega arith; passes = r.1.begins; place = r.1.place }) in
       let start : run_start map (n - 1) ≡ r.0 = ap (run_start map) k ∙ run_start_is words frames stored map sound (count_below (i + 1) (is_start map) - 1) r.0 found in
       let entry : e ≡ entry_word first (perm_at map i) =
-          is ∙ ap stored k ∙ r.1.entry ∙ ap (λ x. entry_word x (perm_at map i)) (sym (is_first ∙ start)) in
+      is ∙ ap stored k ∙ r.1.entry ∙ ap (λ x. entry_word x (perm_at map i)) (sym (is_first ∙ start)) in
       ap (shown first next) entry ∙ ap shown_run (span_read i n first next (perm_at map i) lt at is_first is_next refl)
 
   -- a run begins in RAM

@@ -86,19 +86,20 @@ module _ (words : ℕ) (row : List Span) (is : IsRow words row) where
       ap (λ (gs : List Grant). at gs i) (whole n)
       ∙ fold-append (laid_at i) P.None (list_map granted (take n row)) (list_map granted (drop n row))
       ∙ kept_by_all i (at (list_map granted (take n row)) i) (drop n row) (λ k lt.
-        let within : n + k < length row = omega (arith, length-drop n row) in
-        let here : span_at (drop n row) k ≡ span_at row (n + k) = get_or-drop n row k no_span in
-        let up : end_at row n ≤ end_at row (n + k) = ends_up n (n + k) (omega arith) (omega arith) in
-        let first : end_at row (n + k) ≤ (span_at row (n + k)).first = ends_before (n + k) within in
-        let F : Span → Type 0 = λ s. (i < s.first) ⊎ (s.first + s.count ≤ i) in
-        let far : i < (span_at row (n + k)).first = omega (arith, up, first) in
-        subst F (sym here) (inl far))
+      let within : n + k < length row = omega (arith, length-drop n row) in
+      let here : span_at (drop n row) k ≡ span_at row (n + k) = get_or-drop n row k no_span in
+      let up : end_at row n ≤ end_at row (n + k) = ends_up n (n + k) (omega arith) (omega arith) in
+      let first : end_at row (n + k) ≤ (span_at row (n + k)).first = ends_before (n + k) within in
+      let F : Span → Type 0 = λ s. (i < s.first) ⊎ (s.first + s.count ≤ i) in
+      let far : i < (span_at row (n + k)).first = omega (arith, up, first) in
+      subst F (sym here) (inl far))
 
   pub tail_none : (n i : ℕ) → n ≤ length row → end_at row n ≤ i → perm_at (first_spans words row n) i ≡ P.None
   tail_none n i le from = elim (cases_lt i words) [
-      inl lt ↦ (map-at (list_map granted (take n row)) words i P.None lt ∙ none_behind n i le from)
+    | inl lt ↦ (map-at (list_map granted (take n row)) words i P.None lt ∙ none_behind n i le from)
     | inr ge ↦ (let past : length (first_spans words row n) ≤ i = omega (arith, length-map_of (list_map granted (take n row)) words) in
-        get_or_past (first_spans words row n) i P.None past) ]
+        get_or_past (first_spans words row n) i P.None past)
+  ]
 
   pub alike_before : (n i : ℕ) → n ≤ length row → i < end_at row n → perm_at (row_map words row) i ≡ perm_at (first_spans words row n) i
   alike_before n i le before =
@@ -127,13 +128,14 @@ module _ (words : ℕ) (row : List Span) (is : IsRow words row) where
 
   starts_alike : (n i : ℕ) → n ≤ length row → i < end_at row n → is_start (first_spans words row n) i ≡ is_start (row_map words row) i
   starts_alike n i le before = elim (cases_eq i 0) [
-      inl e ↦ (ap (is_start (first_spans words row n)) e ∙ sym (ap (is_start (row_map words row)) e))
+    | inl e ↦ (ap (is_start (first_spans words row n)) e ∙ sym (ap (is_start (row_map words row)) e))
     | inr ne ↦ (let here = alike_before n i le before in
         let back = alike_before n (i - 1) le (omega arith) in
         start_step (first_spans words row n) i (omega arith)
         ∙ ap (λ p. not (same p (perm_at (first_spans words row n) i))) (sym back)
         ∙ ap (λ p. not (same (perm_at (row_map words row) (i - 1)) p)) (sym here)
-        ∙ sym (start_step (row_map words row) i (omega arith))) ]
+        ∙ sym (start_step (row_map words row) i (omega arith)))
+  ]
 
   pub no_start_behind : (n i : ℕ) → n ≤ length row → end_at row n < i → is_start (first_spans words row n) i ≡ false
   no_start_behind n i le from =
@@ -152,7 +154,8 @@ module _ (words : ℕ) (row : List Span) (is : IsRow words row) where
       let before : count_below e (is_start m) ≡ count_below e (is_start all) = count_below_agree e (is_start m) (is_start all) (λ i lt. starts_alike n i le lt) in
       let up = count_below-mono e words (is_start all) within in
       let most : count_below words (is_start m) ≤ count_below e (is_start m) + 1 = elim (cases_lt e words) [
-          inl lt ↦ (let still = count_below_still (e + 1) words (is_start m) (omega arith) (λ i from below. no_start_behind n i le (omega arith)) in
+        | inl lt ↦ (let still = count_below_still (e + 1) words (is_start m) (omega arith) (λ i from below. no_start_behind n i le (omega arith)) in
             omega (arith, still, count_below-more e (is_start m), bit-le (is_start m e)))
-        | inr ge ↦ (let whole : e ≡ words = omega arith in let c : count_below e (is_start m) ≡ count_below words (is_start m) = ap (λ x. count_below x (is_start m)) whole in omega (arith, c)) ] in
+        | inr ge ↦ (let whole : e ≡ words = omega arith in let c : count_below e (is_start m) ≡ count_below words (is_start m) = ap (λ x. count_below x (is_start m)) whole in omega (arith, c))
+      ] in
       omega (arith, count_m, count_all, before, up, most)

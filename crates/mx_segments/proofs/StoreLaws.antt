@@ -10,8 +10,9 @@ use Rattle.mx_segments.specs.Store.{Frames, frames_in, frame_in, word_in, IsStor
 -- a row that has frames is one of the rows
 pub row_within : (lists : List (List ℕ)) (row i : ℕ) → i < frames_in lists row → row < length lists
 row_within lists row i lt = elim (cases_lt row (length lists)) [
-    inl h ↦ h
-  | inr h ↦ (let none : frames_in lists row ≡ 0 = ap (λ (l : List ℕ). length l) (get_or_past lists row [] h) in absurd (omega (arith, none))) ]
+  | inl h ↦ h
+  | inr h ↦ (let none : frames_in lists row ≡ 0 = ap (λ (l : List ℕ). length l) (get_or_past lists row [] h) in absurd (omega (arith, none)))
+]
 
 pub place_within : (n i : ℕ) → i < 64 * n → i / 64 < n
 place_within n i lt = omega arith
@@ -32,35 +33,37 @@ module _ (fs fs' : Frames) (f : ℕ) (elsewhere : (g : ℕ) → g ≢ f → fram
 
   pub taken_still : (g : ℕ) → IsTaken fs' f → IsTaken fs g → IsTaken fs' g
   taken_still g here was = elim (cases_eq g f) [
-      inl e ↦ (ap (λ h. is_some (frame_at fs' h)) e ∙ here)
-    | inr ne ↦ (ap (λ (o : Option (List ℕ)). is_some o) (elsewhere g ne) ∙ was) ]
+    | inl e ↦ (ap (λ h. is_some (frame_at fs' h)) e ∙ here)
+    | inr ne ↦ (ap (λ (o : Option (List ℕ)). is_some o) (elsewhere g ne) ∙ was)
+  ]
 
 -- a word is written
 module _ (fs fs' : Frames) (ls : List (List ℕ)) (st : IsStore fs ls) (row i : ℕ) (within : i < 64 * frames_in ls row)
     (elsewhere : (g : ℕ) → g ≢ frame_in ls row (i / 64) → frame_at fs' g ≡ frame_at fs g) where
   pub put_store : IsTaken fs' (frame_in ls row (i / 64)) → free_in fs' ≡ free_in fs → length fs' ≡ length fs → IsStore fs' ls
   put_store here free total = record {
-      taken = λ r k lt. taken_still fs fs' (frame_in ls row (i / 64)) elsewhere (frame_in ls r k) here (st.taken r k lt);
-      apart = st.apart;
-      counted = (let c = st.counted in omega (arith, free, total))
-    }
+    taken = λ r k lt. taken_still fs fs' (frame_in ls row (i / 64)) elsewhere (frame_in ls r k) here (st.taken r k lt);
+    apart = st.apart;
+    counted = (let c = st.counted in omega (arith, free, total));
+  }
 
   pub put_elsewhere : ((k : ℕ) → k ≢ i % 64 → word_at fs' (frame_in ls row (i / 64)) k ≡ word_at fs (frame_in ls row (i / 64)) k) →
       (j : ℕ) → j < 64 * frames_in ls row → j ≢ i → word_in fs' ls row j ≡ word_in fs ls row j
   put_elsewhere others j lt ne = elim (cases_eq (frame_in ls row (j / 64)) (frame_in ls row (i / 64))) [
-      inl e ↦ (let place = (st.apart row (j / 64) row (i / 64) (place_within (frames_in ls row) j lt) (place_within (frames_in ls row) i within) e).1 in
+    | inl e ↦ (let place = (st.apart row (j / 64) row (i / 64) (place_within (frames_in ls row) j lt) (place_within (frames_in ls row) i within) e).1 in
         let differ : j % 64 ≢ i % 64 = λ r. ne (same_place j i place r) in
         ap (λ f. word_at fs' f (j % 64)) e ∙ others (j % 64) differ ∙ ap (λ f. word_at fs f (j % 64)) (sym e))
-    | inr apart ↦ word_still fs fs' (frame_in ls row (i / 64)) elsewhere (frame_in ls row (j / 64)) (j % 64) apart ]
+    | inr apart ↦ word_still fs fs' (frame_in ls row (i / 64)) elsewhere (frame_in ls row (j / 64)) (j % 64) apart
+  ]
 
   pub put_others : length fs' ≡ length fs → KeepsOthers fs ls fs' ls row
   put_others total = record {
-      rows = refl;
-      total = total;
-      chains = λ other ne. refl;
-      words = λ other j ne lt. word_still fs fs' (frame_in ls row (i / 64)) elsewhere (frame_in ls other (j / 64)) (j % 64)
-        (λ e. ne (st.apart other (j / 64) row (i / 64) (place_within (frames_in ls other) j lt) (place_within (frames_in ls row) i within) e).0)
-    }
+    rows = refl;
+    total = total;
+    chains = λ other ne. refl;
+    words = λ other j ne lt. word_still fs fs' (frame_in ls row (i / 64)) elsewhere (frame_in ls other (j / 64)) (j % 64)
+        (λ e. ne (st.apart other (j / 64) row (i / 64) (place_within (frames_in ls other) j lt) (place_within (frames_in ls row) i within) e).0);
+  }
 
 -- the list at one row is replaced
 module _ (ls : List (List ℕ)) (row : ℕ) (l : List ℕ) (within : row < length ls) where
@@ -97,19 +100,21 @@ module _ (fs fs' : Frames) (ls ls' : List (List ℕ)) (st : IsStore fs ls) (row 
 
   in_row : (i : ℕ) → i < frames_in ls' row → (IsOld row i) ⊎ (IsNew row i)
   in_row i lt = elim (cases_lt i (frames_in ls row)) [
-      inl h ↦ inl (record { below = h; frame = ap (λ (l : List ℕ). get_or l i 0) longer ∙ get_or_append_left (list_at ls row) (f ∷ []) 0 i h })
+    | inl h ↦ inl (record { below = h; frame = ap (λ (l : List ℕ). get_or l i 0) longer ∙ get_or_append_left (list_at ls row) (f ∷ []) 0 i h })
     | inr h ↦ (let last : i ≡ frames_in ls row = omega (arith, grow_frames) in
-        inr (record { row_is = refl; place = last; frame = ap (λ (l : List ℕ). get_or l i 0) longer ∙ get_or_push (list_at ls row) f 0 i (sym last) })) ]
+        inr (record { row_is = refl; place = last; frame = ap (λ (l : List ℕ). get_or l i 0) longer ∙ get_or_push (list_at ls row) f 0 i (sym last) }))
+  ]
 
   split : (r i : ℕ) → i < frames_in ls' r → (IsOld r i) ⊎ (IsNew r i)
   split r i lt = elim (cases_eq r row) [
-      inl e ↦ (let Q : ℕ → Type 0 = λ q. i < frames_in ls' q in
+    | inl e ↦ (let Q : ℕ → Type 0 = λ q. i < frames_in ls' q in
         let lt' : i < frames_in ls' row = subst Q e lt in
         let R : ℕ → Type 0 = λ q. (IsOld q i) ⊎ (IsNew q i) in
         subst R (sym e) (in_row i lt'))
     | inr ne ↦ (let same = same_list r ne in
         let frames : frames_in ls' r ≡ frames_in ls r = ap (λ (l : List ℕ). length l) same in
-        inl (record { below = omega (arith, frames); frame = ap (λ (l : List ℕ). get_or l i 0) same })) ]
+        inl (record { below = omega (arith, frames); frame = ap (λ (l : List ℕ). get_or l i 0) same }))
+  ]
 
   old_differs : (r i : ℕ) → i < frames_in ls r → frame_in ls r i ≢ f
   old_differs r i lt = taken_differs fs f (frame_in ls r i) (st.taken r i lt) was_free
@@ -119,17 +124,21 @@ module _ (fs fs' : Frames) (ls ls' : List (List ℕ)) (st : IsStore fs ls) (row 
 
   grow_taken : (r i : ℕ) → i < frames_in ls' r → IsTaken fs' (frame_in ls' r i)
   grow_taken r i lt = elim (split r i lt) [
-      inl h ↦ (ap (λ g. is_some (frame_at fs' g)) h.frame ∙ ap (λ (o : Option (List ℕ)). is_some o) (elsewhere (frame_in ls r i) (old_differs r i h.below)) ∙ st.taken r i h.below)
-    | inr h ↦ (ap (λ g. is_some (frame_at fs' g)) h.frame ∙ new_taken) ]
+    | inl h ↦ (ap (λ g. is_some (frame_at fs' g)) h.frame ∙ ap (λ (o : Option (List ℕ)). is_some o) (elsewhere (frame_in ls r i) (old_differs r i h.below)) ∙ st.taken r i h.below)
+    | inr h ↦ (ap (λ g. is_some (frame_at fs' g)) h.frame ∙ new_taken)
+  ]
 
   grow_apart : (r i q j : ℕ) → i < frames_in ls' r → j < frames_in ls' q → frame_in ls' r i ≡ frame_in ls' q j → (r ≡ q) × (i ≡ j)
   grow_apart r i q j lt lt' e = elim (split r i lt) [
-      inl h ↦ elim (split q j lt') [
-          inl k ↦ st.apart r i q j h.below k.below (sym h.frame ∙ e ∙ k.frame)
-        | inr k ↦ absurd (old_differs r i h.below (sym h.frame ∙ e ∙ k.frame)) ]
+    | inl h ↦ elim (split q j lt') [
+      | inl k ↦ st.apart r i q j h.below k.below (sym h.frame ∙ e ∙ k.frame)
+      | inr k ↦ absurd (old_differs r i h.below (sym h.frame ∙ e ∙ k.frame))
+    ]
     | inr h ↦ elim (split q j lt') [
-          inl k ↦ absurd (old_differs q j k.below (sym k.frame ∙ sym e ∙ h.frame))
-        | inr k ↦ (h.row_is ∙ sym k.row_is, h.place ∙ sym k.place) ] ]
+      | inl k ↦ absurd (old_differs q j k.below (sym k.frame ∙ sym e ∙ h.frame))
+      | inr k ↦ (h.row_is ∙ sym k.row_is, h.place ∙ sym k.place)
+    ]
+  ]
 
   grow_sum : sum_by length ls' ≡ sum_by length ls + 1
   grow_sum =
@@ -182,14 +191,14 @@ module _ (fs fs' : Frames) (ls ls' : List (List ℕ)) (st : IsStore fs ls) (row 
 
   kept_in_row : (i : ℕ) → i < frames_in ls' row → IsKept row i
   kept_in_row i lt = record {
-      below = omega (arith, shrink_frames);
-      frame = ap (λ (l : List ℕ). get_or l i 0) shorter ∙ get_or-take (frames_in ls row - 1) (list_at ls row) i 0 (omega (arith, shrink_frames));
-      differs = λ e. (let place : i ≡ frames_in ls row - 1 = (st.apart row i row (frames_in ls row - 1) (omega (arith, shrink_frames)) last_below (e ∙ last)).1 in absurd (omega (arith, shrink_frames, place)))
-    }
+    below = omega (arith, shrink_frames);
+    frame = ap (λ (l : List ℕ). get_or l i 0) shorter ∙ get_or-take (frames_in ls row - 1) (list_at ls row) i 0 (omega (arith, shrink_frames));
+    differs = λ e. (let place : i ≡ frames_in ls row - 1 = (st.apart row i row (frames_in ls row - 1) (omega (arith, shrink_frames)) last_below (e ∙ last)).1 in absurd (omega (arith, shrink_frames, place)));
+  }
 
   kept : (r i : ℕ) → i < frames_in ls' r → IsKept r i
   kept r i lt = elim (cases_eq r row) [
-      inl e ↦ (let Q : ℕ → Type 0 = λ q. i < frames_in ls' q in
+    | inl e ↦ (let Q : ℕ → Type 0 = λ q. i < frames_in ls' q in
         let lt' : i < frames_in ls' row = subst Q e lt in
         let R : ℕ → Type 0 = λ q. IsKept q i in
         subst R (sym e) (kept_in_row i lt'))
@@ -199,8 +208,9 @@ module _ (fs fs' : Frames) (ls ls' : List (List ℕ)) (st : IsStore fs ls) (row 
         record {
           below = below;
           frame = ap (λ (l : List ℕ). get_or l i 0) same;
-          differs = λ e. ne (st.apart r i row (frames_in ls row - 1) below last_below (e ∙ last)).0
-        }) ]
+          differs = λ e. ne (st.apart r i row (frames_in ls row - 1) below last_below (e ∙ last)).0;
+        })
+  ]
 
   shrink_taken : (r i : ℕ) → i < frames_in ls' r → IsTaken fs' (frame_in ls' r i)
   shrink_taken r i lt =

@@ -42,43 +42,47 @@ module _ (words : ℕ) (m : List Perm) (len : length m ≡ words) (tally : Tally
 
   before_is : counted_before tally first ≡ count_below first (is_start m)
   before_is = elim (cases_lt tally.end first) [
-      inl lt ↦ (let t : nat_lt tally.end first ≡ true = grind (arith, nat_tests) in
+    | inl lt ↦ (let t : nat_lt tally.end first ≡ true = grind (arith, nat_tests) in
         ap (λ b. cond b tally.runs tally.before) t ∙ sym (all_from first lt (omega arith)))
     | inr ge ↦ (let t : nat_lt tally.end first ≡ false = grind (arith, nat_tests) in
         let e : tally.end ≡ first = omega arith in
-        ap (λ b. cond b tally.runs tally.before) t ∙ is.before ∙ ap (λ x. count_below x (is_start m)) e) ]
+        ap (λ b. cond b tally.runs tally.before) t ∙ is.before ∙ ap (λ x. count_below x (is_start m)) e)
+  ]
 
   previous_is : 0 < first → perm_before tally first ≡ perm_at m (first - 1)
   previous_is pos = elim (cases_lt tally.end first) [
-      inl lt ↦ (let t : nat_lt tally.end first ≡ true = grind (arith, nat_tests) in
+    | inl lt ↦ (let t : nat_lt tally.end first ≡ true = grind (arith, nat_tests) in
         ap (λ b. cond b P.None tally.last) t ∙ sym (is.tail (first - 1) (omega arith)))
     | inr ge ↦ (let t : nat_lt tally.end first ≡ false = grind (arith, nat_tests) in
         let e : tally.end ≡ first = omega arith in
-        ap (λ b. cond b P.None tally.last) t ∙ is.last (omega arith) ∙ ap (λ x. perm_at m (x - 1)) e) ]
+        ap (λ b. cond b P.None tally.last) t ∙ is.last (omega arith) ∙ ap (λ x. perm_at m (x - 1)) e)
+  ]
 
   starts_are : ((first == 0) || not (same (perm_before tally first) perm)) ≡ ((first == 0) || not (same (perm_at m (first - 1)) perm))
   starts_are = elim (cases_eq first 0) [
-      inl e ↦ (let t : (first == 0) ≡ true = grind (arith, nat_tests) in
+    | inl e ↦ (let t : (first == 0) ≡ true = grind (arith, nat_tests) in
         ap (λ b. b || not (same (perm_before tally first) perm)) t ∙ sym (ap (λ b. b || not (same (perm_at m (first - 1)) perm)) t))
-    | inr ne ↦ ap (λ p. (first == 0) || not (same p perm)) (previous_is (omega arith)) ]
+    | inr ne ↦ ap (λ p. (first == 0) || not (same p perm)) (previous_is (omega arith))
+  ]
 
   module _ (plan : Plan) (at_before : plan.before ≡ counted_before tally first) (at_behind : plan.behind ≡ tally.runs) (at_all : plan.all ≡ tally.runs)
       (at_starts : plan.starts ≡ ((first == 0) || not (same (perm_before tally first) perm)))
       (at_ends : plan.ends ≡ (nat_lt (first + count) words && not (same perm P.None))) (at_next : plan.next ≡ P.None) where
     planned : IsPlan m first count perm plan
     planned = record {
-        before = at_before ∙ before_is;
-        behind = at_behind ∙ sym (elim (cases_lt (first + count) words) [
-            inl lt ↦ (let e : min (first + count + 1) (length m) ≡ first + count + 1 = omega (arith, len) in
-              ap (λ x. count_below x (is_start m)) e ∙ all_from (first + count + 1) (omega arith) (omega arith))
-          | inr ge ↦ (let e : min (first + count + 1) (length m) ≡ words = omega (arith, len) in
-              ap (λ x. count_below x (is_start m)) e ∙ all_from words (omega arith) (omega arith)) ]);
-        all = at_all ∙ is.all;
-        starts = at_starts ∙ starts_are;
-        next = at_next ∙ sym (is.tail (first + count) (omega arith));
-        ends = at_ends ∙ ap (λ w. nat_lt (first + count) w && not (same perm P.None)) (sym len)
-          ∙ ap (λ p. nat_lt (first + count) (length m) && not (same perm p)) (sym at_next)
-      }
+      before = at_before ∙ before_is;
+      behind = at_behind ∙ sym (elim (cases_lt (first + count) words) [
+        | inl lt ↦ (let e : min (first + count + 1) (length m) ≡ first + count + 1 = omega (arith, len) in
+            ap (λ x. count_below x (is_start m)) e ∙ all_from (first + count + 1) (omega arith) (omega arith))
+        | inr ge ↦ (let e : min (first + count + 1) (length m) ≡ words = omega (arith, len) in
+            ap (λ x. count_below x (is_start m)) e ∙ all_from words (omega arith) (omega arith))
+      ]);
+      all = at_all ∙ is.all;
+      starts = at_starts ∙ starts_are;
+      next = at_next ∙ sym (is.tail (first + count) (omega arith));
+      ends = at_ends ∙ ap (λ w. nat_lt (first + count) w && not (same perm P.None)) (sym len)
+          ∙ ap (λ p. nat_lt (first + count) (length m) && not (same perm p)) (sym at_next);
+    }
 
     pub tally_more : (tally' : Tally) → tally'.end ≡ first + count → tally'.before ≡ plan.before + bit plan.starts → tally'.runs ≡ kept plan → tally'.last ≡ perm →
         IsTally words (laid (grant_of first count perm) m) tally'
@@ -87,7 +91,7 @@ module _ (words : ℕ) (m : List Perm) (len : length m ≡ words) (tally : Tally
         let range = in_range words m len first count perm some inside plan planned (first + count) (omega arith) (omega arith) in
         let whole = total_is words m len first count perm some inside plan planned in
         let count_new : runs new ≡ count_below words (is_start new) =
-            runs-count new ∙ ap (λ x. count_below x (is_start new)) (length-new words m len first count perm some inside) in
+        runs-count new ∙ ap (λ x. count_below x (is_start new)) (length-new words m len first count perm some inside) in
         record {
           within = omega (arith, end_is);
           tail = λ j from. new_behind words m len first count perm some inside j (omega (arith, end_is)) ∙ is.tail j (omega (arith, end_is));
@@ -95,7 +99,7 @@ module _ (words : ℕ) (m : List Perm) (len : length m ≡ words) (tally : Tally
           all = omega (arith, runs_is, whole, at_all, at_behind);
           few = omega (arith, before_is', runs_is);
           most = omega (arith, runs_is, whole, at_all, at_behind, count_new, count_below-le words (is_start new));
-          last = λ pos. last_is ∙ sym (new_in words m len first count perm some inside (tally'.end - 1) (omega (arith, end_is)) (omega (arith, end_is)))
+          last = λ pos. last_is ∙ sym (new_in words m len first count perm some inside (tally'.end - 1) (omega (arith, end_is)) (omega (arith, end_is)));
         }
 
 -- no span yet
@@ -118,11 +122,11 @@ module _ (words : ℕ) (row : List Span) (is : IsRow words row) (pos : 1 ≤ wor
 
   pub first_tally : (tally : Tally) → tally.end ≡ 0 → tally.before ≡ 0 → tally.runs ≡ 1 → IsTally words (first_spans words row 0) tally
   first_tally tally end_is before_is runs_is = record {
-      within = omega (arith, end_is);
-      tail = λ j from. none_yet j;
-      before = before_is ∙ sym (count_below-zero (is_start (first_spans words row 0))) ∙ ap (λ x. count_below x (is_start (first_spans words row 0))) (sym end_is);
-      all = runs_is ∙ sym one_run;
-      few = omega (arith, before_is);
-      most = omega (arith, runs_is);
-      last = λ some. absurd (omega (arith, end_is))
-    }
+    within = omega (arith, end_is);
+    tail = λ j from. none_yet j;
+    before = before_is ∙ sym (count_below-zero (is_start (first_spans words row 0))) ∙ ap (λ x. count_below x (is_start (first_spans words row 0))) (sym end_is);
+    all = runs_is ∙ sym one_run;
+    few = omega (arith, before_is);
+    most = omega (arith, runs_is);
+    last = λ some. absurd (omega (arith, end_is));
+  }

@@ -48,8 +48,8 @@ pub need_leaf : (words : ℕ) (fs : Frames) (ls : List (List ℕ)) → ((row : �
     sum_by segment_frames (maps_in words fs ls) ≡ sum_by length ls
 need_leaf words fs ls sound =
     sum_by_same segment_frames length (maps_in words fs ls) ls [] [] (length-maps_in words fs ls)
-      (λ i lt. let below : i < length ls = omega (arith, length-maps_in words fs ls) in
-        ap segment_frames (maps_in-at words fs ls i [] below) ∙ sym ((sound i below).frames_are))
+    (λ i lt. let below : i < length ls = omega (arith, length-maps_in words fs ls) in
+    ap segment_frames (maps_in-at words fs ls i [] below) ∙ sym ((sound i below).frames_are))
 
 pub within_is : (leaf : ℕ) (limit : Need) → leaf ≤ limit.leaf → within (record { upper = 0; leaf = leaf; spill = 0 }) limit ≡ true
 within_is leaf limit le =
@@ -61,12 +61,11 @@ within_is leaf limit le =
 -- the tables' maps have the shape that the trait promises
 pub shaped_of : (words : ℕ) (fs : Frames) (ls : List (List ℕ)) (limit : Need) → IsKept fs ls words limit → IsShaped K.Segments words limit (maps_in words fs ls)
 shaped_of words fs ls limit kept = record {
-    some_words = kept.some_words;
-    few_words = kept.few_words;
-    some_maps = (let e = kept.some_rows in omega (arith, length-maps_in words fs ls));
-    few_maps = (let e = kept.few_rows in omega (arith, length-maps_in words fs ls));
-    each = λ d domain. ap (λ (m : List Perm). length m) (map_of-maps_in words fs ls d domain) ∙ (kept.sound (d - 1) (row_of words fs ls d domain)).length_is;
-    limited = kept.limited;
-    fit = within_is (sum_by segment_frames (maps_in words fs ls)) limit (let e = kept.fit in omega (arith, need_leaf words fs ls kept.sound))
-  }
-
+  some_words = kept.some_words;
+  few_words = kept.few_words;
+  some_maps = (let e = kept.some_rows in omega (arith, length-maps_in words fs ls));
+  few_maps = (let e = kept.few_rows in omega (arith, length-maps_in words fs ls));
+  each = λ d domain. ap (λ (m : List Perm). length m) (map_of-maps_in words fs ls d domain) ∙ (kept.sound (d - 1) (row_of words fs ls d domain)).length_is;
+  limited = kept.limited;
+  fit = within_is (sum_by segment_frames (maps_in words fs ls)) limit (let e = kept.fit in omega (arith, need_leaf words fs ls kept.sound));
+}

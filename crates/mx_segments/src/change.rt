@@ -39,7 +39,15 @@ fn shift(leaf: &mut Pool<64>, chains: &Chains, row: u32, plan: &Plan)
 
 /// Lays a permission over the words `first` to `first + count - 1` of the map at a row, and no other map changes. The list gets at
 /// most one frame more, and afterwards has just as many as the entries fill.
-pub(crate) fn change_row(leaf: &mut Pool<64>, chains: &mut Chains, row: u32, words: u32, first: u32, count: u32, perm: Perm)
+pub(crate) fn change_row(
+    leaf: &mut Pool<64>,
+    chains: &mut Chains,
+    row: u32,
+    words: u32,
+    first: u32,
+    count: u32,
+    perm: Perm,
+)
     requires store { IsStore leaf.old chains.old }
     requires row { row < length chains.old }
     requires small { words ≤ most_words }
@@ -58,7 +66,15 @@ pub(crate) fn change_row(leaf: &mut Pool<64>, chains: &mut Chains, row: u32, wor
     make_room(leaf, chains, row, total);
     shift(leaf, chains, row, &plan);
     put_if(leaf, chains, row, plan.starts, plan.before, first, perm);
-    put_if(leaf, chains, row, plan.ends, plan.second(), first + count, plan.next);
+    put_if(
+        leaf,
+        chains,
+        row,
+        plan.ends,
+        plan.second(),
+        first + count,
+        plan.next,
+    );
     clear(leaf, chains, row, total, plan.all);
     trim(leaf, chains, row, total.div_ceil(64));
 }

@@ -35,7 +35,13 @@ fn entry_perm(entry: u32) -> Perm
 }
 
 /// How many runs of the map at a row begin before a word, and before RAM's end.
-pub(crate) fn runs_before(leaf: &Pool<64>, chains: &Chains, row: u32, words: u32, before: u32) -> u32
+pub(crate) fn runs_before(
+    leaf: &Pool<64>,
+    chains: &Chains,
+    row: u32,
+    words: u32,
+    before: u32,
+) -> u32
     requires store { IsStore leaf.now chains.now }
     requires row { row < length chains.now }
     requires small { words ≤ most_words }
@@ -57,7 +63,13 @@ pub(crate) fn runs_before(leaf: &Pool<64>, chains: &Chains, row: u32, words: u32
 }
 
 /// The stored entry of run `i` of the map at a row. `None` exactly where there is no such run.
-pub(crate) fn entry_at(leaf: &Pool<64>, chains: &Chains, row: u32, words: u32, i: u32) -> Option<u32>
+pub(crate) fn entry_at(
+    leaf: &Pool<64>,
+    chains: &Chains,
+    row: u32,
+    words: u32,
+    i: u32,
+) -> Option<u32>
     requires store { IsStore leaf.now chains.now }
     requires row { row < length chains.now }
     requires sound { IsSound words leaf.now chains.now row }

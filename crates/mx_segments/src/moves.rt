@@ -77,7 +77,15 @@ pub(crate) fn clear(leaf: &mut Pool<64>, chains: &Chains, row: u32, from: u32, t
 }
 
 /// Writes the entry of a run that begins at a word, where there is one, at place `at`.
-pub(crate) fn put_if(leaf: &mut Pool<64>, chains: &Chains, row: u32, is_there: bool, at: u32, first: u32, perm: Perm)
+pub(crate) fn put_if(
+    leaf: &mut Pool<64>,
+    chains: &Chains,
+    row: u32,
+    is_there: bool,
+    at: u32,
+    first: u32,
+    perm: Perm,
+)
     requires store { IsStore leaf.old chains.now }
     requires row { row < length chains.now }
     requires place { is_there ≡ true → at < 64 * frames_in chains.now row }

@@ -99,7 +99,15 @@ fn perm_or_none(leaf: &Pool<64>, chains: &Chains, row: u32, words: u32, at: u32)
 }
 
 /// The plan of a change of the map at a row: the words `first` to `first + count - 1` get a permission.
-pub(crate) fn plan_of(leaf: &Pool<64>, chains: &Chains, row: u32, words: u32, first: u32, count: u32, perm: Perm) -> Plan
+pub(crate) fn plan_of(
+    leaf: &Pool<64>,
+    chains: &Chains,
+    row: u32,
+    words: u32,
+    first: u32,
+    count: u32,
+    perm: Perm,
+) -> Plan
     requires store { IsStore leaf.now chains.now }
     requires row { row < length chains.now }
     requires small { words ≤ most_words }
@@ -125,7 +133,15 @@ pub(crate) fn plan_of(leaf: &Pool<64>, chains: &Chains, row: u32, words: u32, fi
 }
 
 /// How many frames the map at a row needs after a change.
-pub(crate) fn frames_after(leaf: &Pool<64>, chains: &Chains, row: u32, words: u32, first: u32, count: u32, perm: Perm) -> u32
+pub(crate) fn frames_after(
+    leaf: &Pool<64>,
+    chains: &Chains,
+    row: u32,
+    words: u32,
+    first: u32,
+    count: u32,
+    perm: Perm,
+) -> u32
     requires store { IsStore leaf.now chains.now }
     requires row { row < length chains.now }
     requires small { words ≤ most_words }

@@ -1,4 +1,8 @@
 //! Segment tables: the trait's calls, and the stored entries.
+ghost use Rattle.std.specs.Prelude.{◌≡◌};
+ghost use Rattle.mx_words.specs.Caches.{raised};
+ghost use Rattle.mx_segments.specs.Kept.{IsKept};
+
 use crate::Chains;
 use crate::build::lay_rows;
 use crate::chains::empty_chains;
@@ -9,10 +13,6 @@ use mx_pool::Pool;
 use mx_table::{BuildRefused, Change, PermTables};
 use mx_words::{Need, Perm, Shown, Span, Spans};
 use std::alloc::Global;
-
-ghost use Rattle.std.specs.Prelude.{◌≡◌};
-ghost use Rattle.mx_words.specs.Caches.{raised};
-ghost use Rattle.mx_segments.specs.Kept.{IsKept};
 
 /// Permission tables as sorted runs. Each domain has a list of entries, one for each maximal run of its map, in the order of their
 /// addresses, 64 to a frame. Entry `i` of a domain stands in the leaf frame `chains.get(domain, i / 64)` at place `i % 64`.
@@ -34,17 +34,16 @@ pub struct Segments {
 }
 
 impl Segments {
-    ghost use Rattle.std.specs.Prelude.{◌≤◌, ◌↔◌, length, IsNone, IfSome};
+    ghost use Rattle.std.specs.Prelude.{◌≤◌, ◌↔◌, IsNone, IfSome};
     ghost use Rattle.mx_words.specs.Runs.{runs};
-    ghost use Rattle.mx_table.specs.Tables.{map_of};
+    ghost use Rattle.mx_table.specs.Tables.{map_of, IsDomain};
     ghost use Rattle.mx_segments.specs.Entries.{entry_of};
     ghost use Rattle.mx_segments.specs.Kept.{maps_in};
 
     /// The stored entry of run `i` of a domain's map, counted from 0: the address of the run's first word, with the run's permission
     /// in bits 1..0. `None` exactly where the map has no run `i`. Domains count from 1.
     pub fn entry(&self, domain: u32, i: u32) -> Option<u32>
-        requires first { 1 ≤ domain }
-        requires last { domain ≤ length self.now.chains }
+        requires { IsDomain (maps_in self.now.words self.now.leaf self.now.chains) domain }
         ensures none { IsNone result ↔ (runs (map_of (maps_in self.now.words self.now.leaf self.now.chains) domain) ≤ i) }
         ensures entry { IfSome result (λ e. e ≡ entry_of (map_of (maps_in self.now.words self.now.leaf self.now.chains) domain) i) }
     {
@@ -146,3 +145,6 @@ impl PermTables for Segments {
 
     ghost shaped = { λ t. shaped_of t.words t.leaf t.chains t.limit t.kept };
 }
+
+#[cfg(test)]
+mod tests;

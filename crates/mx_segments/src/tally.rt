@@ -25,14 +25,22 @@ pub(crate) struct Tally {
 fn count_before(tally: &Tally, first: u32) -> u32
     ensures { result ≡ counted_before tally.now first }
 {
-    if tally.end < first { tally.runs } else { tally.before }
+    if tally.end < first {
+        tally.runs
+    } else {
+        tally.before
+    }
 }
 
 // The permission of the word before a word behind the spans.
 fn perm_of_previous(tally: &Tally, first: u32) -> Perm
     ensures { result ≡ perm_before tally.now first }
 {
-    if tally.end < first { Perm::None } else { tally.last }
+    if tally.end < first {
+        Perm::None
+    } else {
+        tally.last
+    }
 }
 
 // Whether a run begins at the next span.

@@ -12,7 +12,7 @@ lay_span-requires-clause-spare c =
     let moved = free_moved c.args.leaf.now c.args.chains.now c.loop-n.leaf c.loop-n.chains c.args.row c.requires.store i.store i.others c.requires.row in
     let le : c.loop-n.n ≤ length c.args.spans.now = omega (arith, c.loop-n-test.true, c.len-n-end.ensures) in
     spare_left c.args.words c.args.spans.now c.loop-n.n c.requires.spans le (free_in c.loop-n.leaf) (frames_in c.loop-n.chains c.args.row) (free_in c.args.leaf.now)
-      (omega (arith, moved, c.requires.empty)) (i.sound.frames_are ∙ ap segment_frames i.map) c.requires.spare
+    (omega (arith, moved, c.requires.empty)) (i.sound.frames_are ∙ ap segment_frames i.map) c.requires.spare
 
 pub returns-clause-free : goal.returns-clause-free
 returns-clause-free c =

@@ -31,13 +31,15 @@ loop-row-preserved c =
       count = one.others.rows ∙ inv.count;
       total = one.others.total ∙ inv.total;
       sound = λ q lt. elim (cases_eq q row) [
-          inl e ↦ (let S : ℕ → Type 0 = λ x. IsSound words fs' ls' x in subst S (sym e) one.sound)
-        | inr ne ↦ kept_sound words fs ls fs' ls' row one.others q ne (inv.sound q (omega arith)) ];
+        | inl e ↦ (let S : ℕ → Type 0 = λ x. IsSound words fs' ls' x in subst S (sym e) one.sound)
+        | inr ne ↦ kept_sound words fs ls fs' ls' row one.others q ne (inv.sound q (omega arith))
+      ];
       maps = λ q lt. elim (cases_eq q row) [
-          inl e ↦ (let M : ℕ → Type 0 = λ x. map_in words fs' ls' x ≡ row_map words (get_or rows x []) in
+        | inl e ↦ (let M : ℕ → Type 0 = λ x. map_in words fs' ls' x ≡ row_map words (get_or rows x []) in
             subst M (sym e) (one.map ∙ ap (row_map words) here))
-        | inr ne ↦ (kept_map words fs ls fs' ls' row one.others q ne (inv.sound q (omega arith)) ∙ inv.maps q (omega arith)) ];
+        | inr ne ↦ (kept_map words fs ls fs' ls' row one.others q ne (inv.sound q (omega arith)) ∙ inv.maps q (omega arith))
+      ];
       empty = λ q from. (let ne : q ≡ row → ⊥ = λ e. omega arith in ap (λ (l : List ℕ). length l) (one.others.chains q ne) ∙ inv.empty q (omega arith));
       free = free_step _ _ _ _ _ _ _ one.free inv.free (sum_by_more (λ (r : List Span). segment_frames (row_map words r)) rows row [] within)
-        (ap (λ (r : List Span). segment_frames (row_map words r)) here)
+          (ap (λ (r : List Span). segment_frames (row_map words r)) here);
     }

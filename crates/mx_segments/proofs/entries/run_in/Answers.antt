@@ -21,5 +21,5 @@ overflow_sub-result c =
 pub returns : goal.returns
 returns c =
     span_read c.args.words c.args.leaf.now c.args.chains.now c.args.row c.requires.sound c.args.at c.runs_before-behind.result c.start_at-first.result c.start_at-next.result c.entry_perm-perm.result c.requires.word c.runs_before-behind.ensures
-      c.start_at-first.ensures c.start_at-next.ensures
-      (c.entry_perm-perm.ensures ∙ perm_read c.args.words c.args.leaf.now c.args.chains.now c.args.row c.requires.sound c.args.at c.runs_before-behind.result c.word.result c.requires.word c.runs_before-behind.ensures c.word.ensures)
+    c.start_at-first.ensures c.start_at-next.ensures
+    (c.entry_perm-perm.ensures ∙ perm_read c.args.words c.args.leaf.now c.args.chains.now c.args.row c.requires.sound c.args.at c.runs_before-behind.result c.word.result c.requires.word c.runs_before-behind.ensures c.word.ensures)

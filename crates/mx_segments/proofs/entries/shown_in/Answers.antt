@@ -21,4 +21,4 @@ overflow_sub-result c =
 pub returns : goal.returns
 returns c =
     shown_read c.args.words c.args.leaf.now c.args.chains.now c.args.row c.requires.sound c.args.at c.runs_before-behind.result c.start_at-first.result c.start_at-next.result c.word-stored.result c.requires.word c.runs_before-behind.ensures
-      c.start_at-first.ensures c.start_at-next.ensures c.word-stored.ensures
+    c.start_at-first.ensures c.start_at-next.ensures c.word-stored.ensures

@@ -7,6 +7,6 @@ loop-row-init c = record { needed = sym (sum_below-zero _); most = omega arith }
 
 pub loop-row-preserved : goal.loop-row-preserved
 loop-row-preserved c = record {
-    needed = sum_step _ _ _ _ c.loop-row.invariant.needed c.row_need-needed.ensures.need;
-    most = (let m = c.loop-row.invariant.most in omega (arith, c.row_need-needed.ensures.most))
-  }
+  needed = sum_step _ _ _ _ c.loop-row.invariant.needed c.row_need-needed.ensures.need;
+  most = (let m = c.loop-row.invariant.most in omega (arith, c.row_need-needed.ensures.most));
+}

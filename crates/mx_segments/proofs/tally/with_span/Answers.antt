@@ -28,13 +28,13 @@ returns c =
     let plan : Plan = record { before = c.count_before.result; behind = c.args.tally.now.runs; all = c.args.tally.now.runs; starts = c.is_begun.result; ends = c.is_ended.result; next = P.None } in
     let tally : Tally = record { end = s.first + s.count; before = c.second.result; runs = c.kept.result; last = s.perm } in
     let more : IsTally words (laid (grant_of s.first s.count s.perm) m) tally =
-        tally_more words m (length-first words row c.requires.row n) c.args.tally.now c.requires.tally s.first s.count s.perm some inside behind plan
-          c.count_before.ensures refl refl c.is_begun.ensures c.is_ended.ensures refl tally refl c.second.ensures c.kept.ensures refl in
+    tally_more words m (length-first words row c.requires.row n) c.args.tally.now c.requires.tally s.first s.count s.perm some inside behind plan
+    c.count_before.ensures refl refl c.is_begun.ensures c.is_ended.ensures refl tally refl c.second.ensures c.kept.ensures refl in
     let maps : laid (grant_of s.first s.count s.perm) m ≡ first_spans words row (n + 1) =
-        ap (λ (x : Span). laid (granted x) m) is ∙ sym (first_more words row c.requires.row n c.requires.place) in
+    ap (λ (x : Span). laid (granted x) m) is ∙ sym (first_more words row c.requires.row n c.requires.place) in
     let T : List Perm → Type 0 = λ x. IsTally words x tally in
     let next : suc n ≡ n + 1 = omega arith in
     record {
       tally = subst T maps more;
-      end = ap (λ (x : Span). x.first + x.count) is ∙ ap (end_at row) next
+      end = ap (λ (x : Span). x.first + x.count) is ∙ ap (end_at row) next;
     }

@@ -28,19 +28,21 @@ invariant_of-self c =
     let e = c.change_all.ensures in
     let need = need_leaf t.words c.change_all.new.leaf c.change_all.new.chains e.sound in
     let maps : sum_by segment_frames (maps_in t.words c.change_all.new.leaf c.change_all.new.chains) ≡ sum_by segment_frames (changed c.args.change.now (maps_in t.words t.leaf t.chains)) =
-        ap (λ (ms : List (List Perm)). sum_by segment_frames ms) (maps_changed c) in
+    ap (λ (ms : List (List Perm)). sum_by segment_frames ms) (maps_changed c) in
     let fit = fit_of (sum_by segment_frames (changed c.args.change.now (maps_in t.words t.leaf t.chains))) t.limit c.requires.fits in
     let some_rows = k.some_rows in
     let few_rows = k.few_rows in
     let room = k.room in
-    record { kept = record {
-      store = e.store;
-      some_words = k.some_words;
-      few_words = k.few_words;
-      some_rows = omega (arith, e.rows);
-      few_rows = omega (arith, e.rows);
-      sound = e.sound;
-      room = omega (arith, e.rows, e.total);
-      limited = k.limited;
-      fit = omega (arith, need, maps)
-    } }
+    record {
+      kept = record {
+        store = e.store;
+        some_words = k.some_words;
+        few_words = k.few_words;
+        some_rows = omega (arith, e.rows);
+        few_rows = omega (arith, e.rows);
+        sound = e.sound;
+        room = omega (arith, e.rows, e.total);
+        limited = k.limited;
+        fit = omega (arith, need, maps);
+      };
+    }

@@ -22,4 +22,4 @@ returns-clause-fits c =
     let maps = maps_of_rows c.args.words c.lay_rows.new.leaf c.lay_rows.new.chains c.args.rows.now len c.lay_rows.ensures.maps in
     let need = ap (λ (ms : List (List Perm)). sum_by segment_frames ms) maps ∙ need_of_rows c.args.words c.args.rows.now in
     within_is (sum_by segment_frames (maps_in c.args.words c.lay_rows.new.leaf c.lay_rows.new.chains)) c.args.limit
-      (omega (arith, need, c.frames_of_all-needed.ensures, c.if-limit-needed.false))
+    (omega (arith, need, c.frames_of_all-needed.ensures, c.if-limit-needed.false))

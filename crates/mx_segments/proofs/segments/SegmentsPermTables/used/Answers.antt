@@ -14,5 +14,5 @@ returns c =
     let need = need_leaf t.words t.leaf t.chains t.kept.sound in
     let counted = t.kept.store.counted in
     let leaf : t.limit.leaf + 2 * c.count.result - c.free_frames.result ≡ sum_by segment_frames (maps_in t.words t.leaf t.chains) =
-        omega (arith, need, counted, t.kept.room, c.count.ensures.count, c.free_frames.ensures) in
+    omega (arith, need, counted, t.kept.room, c.count.ensures.count, c.free_frames.ensures) in
     ap leaf_need leaf
