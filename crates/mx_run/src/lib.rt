@@ -1,13 +1,8 @@
-// A library with one function.
+//! The top call: the words of a command line, the files of a store, a boot, a run, and the texts of three sinks.
 #![tactic(auto)]
 
-ghost use Rattle.std.specs.Prelude.{◌≡◌};
-ghost use Rattle.mx_run.specs.Echo.{echo_of};
+mod status;
+mod words;
 
-// The `ensures` clause is the contract: what `echo` returns is `echo_of` of its argument, a definition
-// in `specs/Echo.antt`, which a caller's clause can cite too.
-pub fn echo(x: usize) -> usize
-    ensures { result ≡ echo_of x }
-{
-    x
-}
+pub use status::{FileRole, Status};
+pub use words::Words;
