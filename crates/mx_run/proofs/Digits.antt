@@ -1,6 +1,7 @@
 -- Decimal digits and the number that they spell.
-use Rattle.std.proofs.Common.{◌≡◌, ℕ, ◌+◌, ◌-◌, ◌*◌, ◌^◌, ◌<◌, ◌≤◌, true, List, [], ◌∷◌, length, get_or, refl, arith, rules, tests}
+use Rattle.std.proofs.Common.{◌≡◌, ℕ, zero, suc, ◌+◌, ◌-◌, ◌*◌, ◌^◌, ◌<◌, ◌≤◌, true, List, [], ◌∷◌, length, get_or, refl, ◌∙◌, mul_comm, arith, rules, tests}
 use Rattle.std.proofs.Math.Nat.{pow-le-pow_right}
+use Rattle.std.proofs.lemmas.Nat.{pow-add}
 use Rattle.std.proofs.lemmas.Bool.{and_parts}
 use Rattle.std.proofs.lemmas.Bool.Decides.{nat_tests}
 use Rattle.std.specs.Char.{is_ascii_digit, digit_value}
@@ -23,4 +24,4 @@ pub pow_small : (i : ℕ) → i < 10 → 10 ^ i ≤ 1000000000
 pow_small i below = let few : i ≤ 9 = omega arith in pow-le-pow_right (omega arith) few
 
 pub pow_next : (i : ℕ) → 10 ^ (i + 1) ≡ 10 * 10 ^ i
-pow_next i = grind arith
+pow_next i = pow-add 10 i 1 ∙ mul_comm (10 ^ i) 10
