@@ -1,2 +1,4 @@
+pub mod Machine
+pub mod Manifest
 pub mod Status
 pub mod Words

@@ -1,6 +1,8 @@
 //! The top call: the words of a command line, the files of a store, a boot, a run, and the texts of three sinks.
 #![tactic(auto)]
 
+mod action;
+mod machine;
 mod status;
 mod words;
 
