@@ -1,3 +1,4 @@
+pub mod Judged
 pub mod Machine
 pub mod Manifest
 pub mod Status

@@ -141,4 +141,5 @@ booted plan = record {
   registers = replicate 32 0;
   pc = plan.at;
   halted = false;
-  turns = 0 }
+  turns = 0;
+}

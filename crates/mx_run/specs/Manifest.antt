@@ -85,13 +85,13 @@ abbrev pub words_of : Items → Option (List ℕ)
 words_of no_items = Some []
 words_of (item value rest) =
     option_and_then (λ word. option_map (λ words. word ∷ words) (words_of rest))
-        (option_and_then (within 0 4294967295) (as_integer value))
+    (option_and_then (within 0 4294967295) (as_integer value))
 
 -- 1 to 65536 of them
 abbrev pub module_words : Items → Option (List ℕ)
 module_words items =
     option_and_then (λ words. if nat_lt 0 (length words) && nat_le (length words) 65536 then Some words else None)
-        (words_of items)
+    (words_of items)
 
 infixl 10 ◌>>=◌
 abbrev ◌>>=◌ : {A B : Type 0} → Option A → (A → Option B) → Option B

@@ -2,7 +2,9 @@
 #![tactic(auto)]
 
 mod action;
+mod keys;
 mod machine;
+mod manifest;
 mod status;
 mod words;
 

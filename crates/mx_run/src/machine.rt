@@ -1,13 +1,11 @@
 //! The small machine of the first path: one hart in one module that is given by its words.
 
-use std::marker::Model;
-
-use mx_words::{Perm, Span};
-
-use crate::action::{Action, Note};
-
 ghost use Rattle.std.specs.Prelude.{◌≡◌, ℕ, ◌+◌, ◌-◌, ◌*◌, ◌/◌, ◌%◌, ◌^◌, ◌<◌, ◌≤◌, [], ◌∷◌, length, slice_index};
 ghost use Rattle.mx_run.specs.Machine.{covers, IsRegisterAction, State, allows_fetch, permission, word_at, word_number, register, called, executed, next_action, after, noted, turn, next_note, is_addi, immediate};
+
+use crate::action::{Action, Note};
+use mx_words::{Perm, Span};
+use std::marker::Model;
 
 /// One hart in one module. RAM words outside the module are zero and of no permission.
 #[derive(Drop)]
@@ -27,13 +25,14 @@ impl Model for Machine {
     ghost Value = { State };
 
     ghost view = { λ m. record {
-        first = m.grant.first;
-        words = m.words.items;
-        grants = m.grant ∷ [];
-        registers = m.registers;
-        pc = m.pc;
-        halted = m.halted;
-        turns = m.turns } };
+      first = m.grant.first;
+      words = m.words.items;
+      grants = m.grant ∷ [];
+      registers = m.registers;
+      pc = m.pc;
+      halted = m.halted;
+      turns = m.turns;
+    } };
 
     ghost invariant = { λ m. m.grant.count ≡ vec_len m.words };
 }
@@ -175,5 +174,9 @@ fn immediate(word: u32) -> u32
     ensures { result ≡ immediate word }
 {
     let field = word / 1048576;
-    if field < 2048 { field } else { field + 4294963200 }
+    if field < 2048 {
+        field
+    } else {
+        field + 4294963200
+    }
 }

@@ -1,10 +1,10 @@
 //! How a call of the program ends.
 
-use mx_manifest::{BootFault, Key};
-use mx_words::Need;
-
 ghost use Rattle.std.specs.Prelude.{◌≡◌};
 ghost use Rattle.mx_run.specs.Status.{number_of};
+
+use mx_manifest::{BootFault, Key};
+use mx_words::Need;
 
 /// What a file is read for.
 #[derive(Clone, Copy, PartialEq, Eq, Debug)]

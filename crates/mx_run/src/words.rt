@@ -1,15 +1,14 @@
 //! The words of a command line and what they ask.
 
-use std::alloc::Global;
-use std::marker::Model;
-
-use mx_words::NoMemory;
-
 ghost use Rattle.std.specs.Prelude.{◌≡◌, ℕ, ◌^◌, ◌<◌, ◌≤◌, List, [], ◌∷◌, ◌++◌, length, map, option_map, IsTrue, OnOk, OnErr, IfSome, string_bytes};
 ghost use Rattle.std.specs.Char.{is_ascii_digit};
 ghost use Rattle.std.specs.List.{list_all};
 ghost use Rattle.std.specs.Str.Parse.{digits_value};
 ghost use Rattle.mx_run.specs.Words.{Request, is_name, is_number, run_request, meaning};
+
+use mx_words::NoMemory;
+use std::alloc::Global;
+use std::marker::Model;
 
 /// The words of a command line, without the program's name, in order.
 #[derive(Drop)]
