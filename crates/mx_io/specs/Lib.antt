@@ -2,3 +2,4 @@ pub mod Count
 pub mod Texts
 pub mod Store
 pub mod Sink
+pub mod Piece

@@ -21,11 +21,11 @@ pub record StoreState : Type 0 where
 
 -- any call of a store: its files stay, its count never falls, and it fails only where the count rose and success was not sure
 pub record Asks {A E : Type 0} (before now : StoreState) (result : Result A E) : Type 0 where
-  files : now.told ≡ before.told
-  later : before.faults ≤ now.faults
-  counted : now.faults < 2 ^ 64
-  failed : OnErr result (Rose before.faults now.faults)
-  sure : IsTrue before.sure → IsOk result × (now.faults ≡ before.faults) × IsTrue now.sure
+  pub files : now.told ≡ before.told
+  pub later : before.faults ≤ now.faults
+  pub counted : now.faults < 2 ^ 64
+  pub failed : OnErr result (Rose before.faults now.faults)
+  pub sure : IsTrue before.sure → IsOk result × (now.faults ≡ before.faults) × IsTrue now.sure
 
 -- the size of a file: nothing exactly where the name is absent, else the number of its bytes
 abbrev pub TellsSize : {E : Type 0} → Option FileMap → List ℕ → Result (Option ℕ) E → Type 0
@@ -33,6 +33,6 @@ TellsSize told name result = IfOk result (λ size. IfSome told (λ files. size �
 
 -- a part of a file: Ok k put its k bytes from place `at` on at the start of `into`; none for a slice with room exactly at the end
 pub record GivesBytes (told : Option FileMap) (name : List ℕ) (at : ℕ) (into : List ℕ) (k : ℕ) : Type 0 where
-  bound : k ≤ length into
-  bytes : IfSome told (λ files. take k into ≡ take k (drop at (file_bytes files name)))
-  end : IfSome told (λ files. 0 < length into → (k ≡ 0) ↔ (length (file_bytes files name) ≤ at))
+  pub bound : k ≤ length into
+  pub bytes : IfSome told (λ files. take k into ≡ take k (drop at (file_bytes files name)))
+  pub end : IfSome told (λ files. 0 < length into → (k ≡ 0) ↔ (length (file_bytes files name) ≤ at))

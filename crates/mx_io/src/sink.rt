@@ -1,5 +1,6 @@
 //! The trait of the sinks.
-ghost use Rattle.mx_io.specs.Sink.{SinkState, Writes};
+ghost use Rattle.std.specs.Prelude.{◌≤◌, length, drop};
+ghost use Rattle.mx_io.specs.Sink.{SinkState, Writes, Puts};
 
 use crate::Failed;
 
@@ -13,4 +14,24 @@ pub trait Sink {
     /// with bytes. Fails only where the count of faults rose in this call, and has then appended nothing.
     fn write(&mut self, bytes: &[u8]) -> Result<usize, Failed>
         ensures { Writes (state self.old) (state self.new) bytes.now result };
+}
+
+/// Puts bytes on a sink, all of them or, where a write fails, a prefix of them. Each write takes at least
+/// one byte, so there are at most as many writes as bytes.
+pub fn put_all<S: Sink>(sink: &mut S, bytes: &[u8]) -> Result<(), Failed>
+    ensures { Puts (S.state sink.old) (S.state sink.new) bytes.now result }
+{
+    let mut done = 0;
+    'parts: while done < bytes.len() {
+        done += write_from(sink, bytes, done)?;
+    }
+    Ok(())
+}
+
+// One write of the bytes from place `at` on.
+fn write_from<S: Sink>(sink: &mut S, bytes: &[u8], at: usize) -> Result<usize, Failed>
+    requires { at ≤ length bytes.now }
+    ensures { Writes (S.state sink.old) (S.state sink.new) (drop at bytes.now) result }
+{
+    sink.write(&bytes[at..])
 }
