@@ -1,5 +1,5 @@
 -- The manifest form of the first path: one module given by its words, one hart in it.
-use Rattle.std.specs.Prelude.{ℕ, ◌+◌, ◌*◌, ◌%◌, ℤ, pos, negsuc, Bool, ◌&&◌, ◌||◌, ◌==◌, nat_le, nat_lt, if◌then◌else◌, List, [], ◌∷◌, length, codes, Option, Some, None, option_and_then, option_map, Result, Ok, Err}
+use Rattle.std.specs.Prelude.{ℕ, ◌+◌, ◌*◌, ◌%◌, ◌≤◌, ℤ, pos, negsuc, Bool, ◌&&◌, ◌||◌, ◌==◌, nat_le, nat_lt, if◌then◌else◌, List, [], ◌∷◌, length, codes, Option, Some, None, option_and_then, option_map, Result, Ok, Err}
 use Rattle.std.specs.Char.{is_ascii_digit, is_ascii_lowercase}
 use Rattle.std.specs.List.{list_all}
 use Rattle.std.specs.Option.{ok_or}
@@ -115,6 +115,10 @@ hart_module members = if key_count members == 1 then text_at (codes "module") me
 abbrev pub lies_in_ram : ℕ → Plan → Bool
 lies_in_ram ram_kib plan =
     nat_le 2147483648 plan.at && nat_le (plan.at + 4 * length plan.words) (2147483648 + 1024 * ram_kib)
+
+-- they lie in the largest RAM
+abbrev pub LiesInRam : Plan → Type 0
+LiesInRam plan = (2147483648 ≤ plan.at) × (plan.at + 4 * length plan.words ≤ 2147483648 + 1024 * 16384)
 
 -- what the top table says
 abbrev pub plan_of : Members → Option Plan

@@ -5,6 +5,7 @@ mod action;
 mod keys;
 mod machine;
 mod manifest;
+mod report;
 mod status;
 mod words;
 

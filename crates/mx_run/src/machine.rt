@@ -1,25 +1,27 @@
 //! The small machine of the first path: one hart in one module that is given by its words.
 
-ghost use Rattle.std.specs.Prelude.{◌≡◌, ℕ, ◌+◌, ◌-◌, ◌*◌, ◌/◌, ◌%◌, ◌^◌, ◌<◌, ◌≤◌, [], ◌∷◌, length, slice_index};
-ghost use Rattle.mx_run.specs.Machine.{covers, IsRegisterAction, State, allows_fetch, permission, word_at, word_number, register, called, executed, next_action, after, noted, turn, next_note, is_addi, immediate};
+ghost use Rattle.std.specs.Prelude.{◌≡◌, ℕ, ◌+◌, ◌-◌, ◌*◌, ◌/◌, ◌%◌, ◌^◌, ◌<◌, ◌≤◌, [], ◌∷◌, length, slice_index, string_bytes};
+ghost use Rattle.mx_run.specs.Manifest.{LiesInRam};
+ghost use Rattle.mx_run.specs.Machine.{covers, IsRegisterAction, booted, State, allows_fetch, permission, word_at, word_number, register, called, executed, next_action, after, noted, turn, next_note, is_addi, immediate};
 
 use crate::action::{Action, Note};
+use crate::manifest::Plan;
 use mx_words::{Perm, Span};
 use std::marker::Model;
 
 /// One hart in one module. RAM words outside the module are zero and of no permission.
 #[derive(Drop)]
 pub(crate) struct Machine {
-    grant: Span,
-    words: Vec<u32>,
-    registers: [u32; 32],
-    pc: u32,
-    halted: bool,
-    turns: u64,
+    pub(crate) grant: Span,
+    pub(crate) words: Vec<u32>,
+    pub(crate) registers: [u32; 32],
+    pub(crate) pc: u32,
+    pub(crate) halted: bool,
+    pub(crate) turns: u64,
 }
 
 impl Model for Machine {
-    ghost use Rattle.std.specs.Prelude.{◌≡◌, [], ◌∷◌, vec_len};
+    ghost use Rattle.std.specs.Prelude.{◌≡◌, ◌+◌, ◌^◌, ◌≤◌, [], ◌∷◌, vec_len};
     ghost use Rattle.mx_run.specs.Machine.{State};
 
     ghost Value = { State };
@@ -34,10 +36,37 @@ impl Model for Machine {
       turns = m.turns;
     } };
 
-    ghost invariant = { λ m. m.grant.count ≡ vec_len m.words };
+    ghost invariant = { λ m. (m.grant.count ≡ vec_len m.words) × (m.grant.first + m.grant.count ≤ 2 ^ 22) };
 }
 
 impl Machine {
+    /// The machine at boot. Takes no memory.
+    pub(crate) fn boot(plan: Plan) -> (String, Machine)
+        requires { LiesInRam plan }
+        ensures name { string_bytes result.0 ≡ plan.name }
+        ensures machine { result.1 ≡ booted plan }
+    {
+        let Plan {
+            name,
+            at,
+            perm,
+            words,
+        } = plan;
+        let machine = Machine {
+            grant: Span {
+                first: (at - RAM_BASE) / 4,
+                count: words.len() as u32,
+                perm,
+            },
+            words,
+            registers: [0; 32],
+            pc: at,
+            halted: false,
+            turns: 0,
+        };
+        (name, machine)
+    }
+
     /// Makes one turn of a hart that isn't halted, and tells what the report has of it.
     pub(crate) fn turn(&mut self) -> Option<Note>
         requires { self.old.turns < 2 ^ 64 - 1 }

@@ -1,8 +1,9 @@
 //! The manifest of the first path: one module that is given by its words, and one hart in it.
 
-ghost use Rattle.std.specs.Prelude.{◌≡◌, ◌≤◌, option_copied, option_map, IfOk};
+ghost use Rattle.std.specs.Prelude.{◌≡◌, ◌≤◌, option_copied, option_map, IfOk, IfSome};
+ghost use Rattle.std.specs.Bool.{OnTrue};
 ghost use Rattle.toml.specs.View.{table_view};
-ghost use Rattle.mx_run.specs.Manifest.{file_fault, module_plan, hart_module, lies_in_ram, plan_of, document, judged};
+ghost use Rattle.mx_run.specs.Manifest.{file_fault, module_plan, hart_module, lies_in_ram, LiesInRam, plan_of, document, judged};
 ghost use Rattle.mx_run.specs.Judged.{IsJudged};
 
 use crate::keys::{
@@ -67,7 +68,8 @@ pub(crate) fn file_fault(number: u32) -> BootFault
 /// What the bytes of a manifest file say. Fault 1 exactly where they are no TOML document, fault 18 exactly
 /// where the document has another form than this path reads.
 pub(crate) fn read_plan(alloc: Global, bytes: &[u8]) -> Result<Plan, PlanRefused>
-    ensures { IsJudged (judged bytes.now) result }
+    ensures judged { IsJudged (judged bytes.now) result }
+    ensures placed { IfOk result LiesInRam }
 {
     match read_document(alloc, bytes) {
         Ok(Some(top)) => match plan_of(alloc, &top) {
@@ -102,7 +104,8 @@ fn read_document(alloc: Global, bytes: &[u8]) -> Result<Option<Table>, NoMemory>
 
 /// What the top table says, or nothing where it is outside the form.
 fn plan_of(alloc: Global, top: &Table) -> Result<Option<Plan>, NoMemory>
-    ensures { IfOk result (λ plan. plan ≡ plan_of (table_view top.now)) }
+    ensures plan { IfOk result (λ plan. plan ≡ plan_of (table_view top.now)) }
+    ensures placed { IfOk result (λ plan. IfSome plan LiesInRam) }
 {
     if key_count(top) != 4 {
         return Ok(None);
@@ -179,7 +182,8 @@ fn hart_module(hart: &Table) -> Option<&str>
 /// The module's words lie in RAM of `ram_kib` KiB.
 fn lies_in_ram(ram_kib: u32, plan: &Plan) -> bool
     requires { ram_kib ≤ 16384 }
-    ensures { result ≡ lies_in_ram ram_kib plan.now }
+    ensures value { result ≡ lies_in_ram ram_kib plan.now }
+    ensures placed { OnTrue result (LiesInRam plan.now) }
 {
     let first = u64::from(plan.at);
     let end = first + 4 * plan.words.len() as u64;
