@@ -1,6 +1,11 @@
+pub mod Asked
 pub mod Judged
 pub mod Machine
 pub mod Manifest
+pub mod Outcome
+pub mod Reading
+pub mod Refusal
 pub mod Report
 pub mod Status
+pub mod Top
 pub mod Words

@@ -5,8 +5,12 @@ mod action;
 mod keys;
 mod machine;
 mod manifest;
+mod reading;
+mod refusal;
 mod report;
+mod run;
 mod status;
+mod top;
 mod words;
 
 pub use status::{FileRole, Status};

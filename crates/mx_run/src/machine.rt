@@ -79,6 +79,13 @@ impl Machine {
         note
     }
 
+    /// The hart is halted.
+    pub(crate) fn is_halted(&self) -> bool
+        ensures { result ≡ self.now.halted }
+    {
+        self.halted
+    }
+
     /// What the hart does next.
     fn next_action(&self) -> Action
         ensures { result ≡ next_action self.now }

@@ -4,6 +4,7 @@ ghost use Rattle.std.specs.Prelude.{◌≡◌, ℕ, ◌^◌, ◌<◌, ◌≤◌,
 ghost use Rattle.std.specs.Char.{is_ascii_digit};
 ghost use Rattle.std.specs.List.{list_all};
 ghost use Rattle.std.specs.Str.Parse.{digits_value};
+ghost use Rattle.mx_run.specs.Asked.{request_of};
 ghost use Rattle.mx_run.specs.Words.{Request, is_name, is_number, run_request, meaning};
 
 use mx_words::NoMemory;
@@ -61,8 +62,7 @@ impl Words {
 
     /// What the words ask, or nothing exactly where they have no meaning. Takes no memory.
     pub(crate) fn asked(&self) -> Option<RunWords<'_>>
-        ensures meaning { option_map
-            (λ a. record { manifest = a.manifest.now; steps = a.steps }) result ≡ meaning self.now }
+        ensures meaning { option_map request_of result ≡ meaning self.now }
         ensures steps { IfSome result (λ a. a.steps < 10 ^ 10) }
     {
         if self.list.len() != 3 {
@@ -77,8 +77,7 @@ impl Words {
 }
 
 fn run_words<'a>(command: &str, manifest: &'a str, steps: &str) -> Option<RunWords<'a>>
-    ensures meaning { option_map
-        (λ a. record { manifest = a.manifest.now; steps = a.steps }) result ≡ run_request command.now manifest.now steps.now }
+    ensures meaning { option_map request_of result ≡ run_request command.now manifest.now steps.now }
     ensures steps { IfSome result (λ a. a.steps < 10 ^ 10) }
 {
     if command == "run" && is_name(manifest) && is_number(steps) {

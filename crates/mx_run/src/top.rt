@@ -1,0 +1,74 @@
+//! The top call.
+
+use std::alloc::Global;
+
+use mx_io::{Sink, Store};
+
+use crate::machine::Machine;
+use crate::manifest::{Plan, PlanRefused, file_fault, read_plan};
+use crate::reading::{ReadFault, read_file};
+use crate::refusal::{finish, refuse};
+use crate::run::run;
+use crate::status::{FileRole, Status};
+use crate::words::{RunWords, Words};
+
+ghost use Rattle.std.specs.Prelude.{◌≡◌, ◌<◌, ◌^◌};
+ghost use Rattle.mx_run.specs.Words.{Request};
+ghost use Rattle.mx_run.specs.Manifest.{LiesInRam, judged};
+ghost use Rattle.mx_run.specs.Outcome.{ran, judgement};
+ghost use Rattle.mx_run.specs.Top.{Ends, Answers, Responds};
+ghost use Rattle.mx_run.specs.Asked.{request_of};
+
+/// The most bytes of a manifest file.
+const MANIFEST_LIMIT: u64 = 1048576;
+
+/// Answers a request with what the store gives of its manifest file.
+fn respond<S: Store, R: Sink>(
+    alloc: Global,
+    request: &RunWords<'_>,
+    store: &mut S,
+    report: &mut R,
+) -> Status
+    requires { request.now.steps < 10 ^ 10 }
+    ensures { Responds (request_of request.now) (S.state store.old) (S.state store.new) (R.state report.old) (R.state report.new) result }
+{
+    let name = request.manifest;
+    match read_file(alloc, store, name, MANIFEST_LIMIT) {
+        Ok(bytes) => answer(alloc, request, bytes.as_slice(), report),
+        Err(ReadFault::Absent) => refuse(report, name, Status::NoFile(FileRole::Manifest)),
+        Err(ReadFault::Large) => refuse(report, name, Status::Refused(file_fault(9))),
+        Err(ReadFault::Short(told, got)) => {
+            let role = FileRole::Manifest;
+            refuse(report, name, Status::ShortFile { role, told, got })
+        }
+        Err(ReadFault::Broken) => refuse(report, name, Status::StoreFault),
+        Err(ReadFault::NoMemory) => Status::WantOfMemory,
+    }
+}
+
+/// Answers a request with the bytes of its manifest file.
+fn answer<R: Sink>(
+    alloc: Global,
+    request: &RunWords<'_>,
+    bytes: &[u8],
+    report: &mut R,
+) -> Status
+    requires { request.now.steps < 10 ^ 10 }
+    ensures { Answers (judgement (request_of request.now) (judged bytes.now)) (R.state report.old) (R.state report.new) result }
+{
+    match read_plan(alloc, bytes) {
+        Ok(plan) => start(plan, request.steps, report),
+        Err(PlanRefused::Fault(fault)) => refuse(report, request.manifest, Status::Refused(fault)),
+        Err(PlanRefused::NoMemory) => Status::WantOfMemory,
+    }
+}
+
+/// Runs an accepted boot.
+fn start<R: Sink>(plan: Plan, steps: u64, report: &mut R) -> Status
+    requires placed { LiesInRam plan }
+    requires steps { steps < 10 ^ 10 }
+    ensures { Ends (ran plan steps) (R.state report.old) (R.state report.new) result }
+{
+    let (name, mut machine) = Machine::boot(plan);
+    finish(run(report, name.as_str(), &mut machine, steps), Status::Ran)
+}
