@@ -39,10 +39,9 @@ pub record Reads (most : ℕ) (name : List ℕ) (before now : StoreState) (resul
 
 -- one part of a file was put at a place of the bytes: those before stay, and k more are the file's; none exactly at its end
 pub record TakesPart (told : Option (List ℕ)) (at : ℕ) (before now : List ℕ) (k : ℕ) : Type 0 where
-  pub length_stays : length now ≡ length before
-  pub bound : at + k ≤ length now
+  pub bound : at + k ≤ length before
   pub front : IfSome told (λ file. take at before ≡ take at file → take (at + k) now ≡ take (at + k) file)
-  pub end : IfSome told (λ file. at < length now → (k ≡ 0) ↔ (length file ≤ at))
+  pub end : IfSome told (λ file. at < length before → (k ≡ 0) ↔ (length file ≤ at))
 
 -- a file was read for which a size was told, which is its length where the store tells its files
 pub record ReadsTold (told : ℕ) (name : List ℕ) (before now : StoreState) (result : Result (Vec ℕ Global) ReadFault) : Type 0 where
