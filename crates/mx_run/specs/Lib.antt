@@ -3,6 +3,7 @@ pub mod Judged
 pub mod Machine
 pub mod Manifest
 pub mod Outcome
+pub mod Promise
 pub mod Reading
 pub mod Refusal
 pub mod Report

@@ -1,14 +1,14 @@
 -- How a call of the program ends.
-use Rattle.std.specs.Prelude.{◌≡◌, ◌≢◌, ℕ, ◌<◌, ◌≤◌, ◌⊎◌, Bool, IsTrue, List, length, Option, IfSome, Result, Ok, Err}
+use Rattle.std.specs.Prelude.{◌≡◌, ◌≢◌, ℕ, ◌<◌, ◌≤◌, ◌⊎◌, Bool, IsTrue, List, [], length, Option, Some, None, IfSome, Result, Ok, Err}
 use Rattle.mx_io.specs.Count.{Rose, Stays}
 use Rattle.mx_io.specs.Texts.{AppendsWhole, AppendsPrefix}
 use Rattle.mx_io.specs.Sink.{SinkState}
 use Rattle.mx_io.specs.Store.{StoreState}
 use Rattle.mx_run.specs.declared.status.Status.{Status}
-use Rattle.mx_run.specs.declared.status.Status.TheVariants.{ReportFault, WantOfMemory}
+use Rattle.mx_run.specs.declared.status.Status.TheVariants.{Usage, ReportFault, WantOfMemory}
 use Rattle.mx_run.specs.Words.{Request}
 use Rattle.mx_run.specs.Reading.{Kept}
-use Rattle.mx_run.specs.Outcome.{Outcome, Found, Absent, Large, Short, Broken, Whole, answer, found_in}
+use Rattle.mx_run.specs.Outcome.{Outcome, Found, Absent, Large, Short, Broken, Whole, answer, refusal, found_in}
 
 -- the status of a call whose last text was put, or could not be put
 abbrev pub finished : {A E : Type 0} → Result A E → Status → Status
@@ -39,3 +39,8 @@ pub record Responds (request : Request) (store stored : StoreState) (before now 
   pub kept : Kept store stored
   pub how : ((result ≡ WantOfMemory) × (now ≡ before))
     ⊎ ((found : Found) × IsFound store stored request.manifest found × Answers (answer request found) before now result)
+
+-- words without meaning are refused at once; a request is answered
+abbrev pub Reacts : Option Request → StoreState → StoreState → SinkState → SinkState → Status → Type 0
+Reacts None store stored before now result = Ends (refusal [] Usage) before now result × (stored ≡ store)
+Reacts (Some request) store stored before now result = Responds request store stored before now result

@@ -14,4 +14,5 @@ mod top;
 mod words;
 
 pub use status::{FileRole, Status};
+pub use top::mondrix;
 pub use words::Words;

@@ -12,15 +12,80 @@ use crate::run::run;
 use crate::status::{FileRole, Status};
 use crate::words::{RunWords, Words};
 
-ghost use Rattle.std.specs.Prelude.{◌≡◌, ◌<◌, ◌^◌};
-ghost use Rattle.mx_run.specs.Words.{Request};
+ghost use Rattle.std.specs.Prelude.{◌≡◌, ◌<◌, ◌^◌, ◌⊎◌};
+ghost use Rattle.mx_run.specs.Words.{meaning};
 ghost use Rattle.mx_run.specs.Manifest.{LiesInRam, judged};
 ghost use Rattle.mx_run.specs.Outcome.{ran, judgement};
-ghost use Rattle.mx_run.specs.Top.{Ends, Answers, Responds};
+ghost use Rattle.mx_run.specs.Top.{Ends, Answers, Responds, Reacts};
+ghost use Rattle.mx_run.specs.Promise.{outside, Headline, IsCaused, Completeness, OnlyItsLine, Prefixes, WritesNothing, RunsSome};
 ghost use Rattle.mx_run.specs.Asked.{request_of};
 
 /// The most bytes of a manifest file.
 const MANIFEST_LIMIT: u64 = 1048576;
+
+/// Does what the words ask: reads from the store, writes to the three sinks, and tells how it ended.
+///
+/// Words without a meaning end with `Usage` or, where their line can't be written, with the report's fault;
+/// then nothing is read and no memory is taken. The manifest file is read whole before the first step. Where
+/// memory is wanting nothing is written. On this path nothing is written to the console and the dump.
+pub fn mondrix<S: Store, C: Sink, R: Sink, D: Sink>(
+    alloc: Global,
+    words: &Words,
+    store: &mut S,
+    console: &mut C,
+    report: &mut R,
+    dump: &mut D,
+) -> Status
+    ensures headline { Headline words.now
+        (outside (S.state store.old) (C.state console.old) (R.state report.old) (D.state dump.old))
+        (outside (S.state store.new) (C.state console.new) (R.state report.new) (D.state dump.new)) result }
+
+    ensures caused { IsCaused words.now
+        (outside (S.state store.old) (C.state console.old) (R.state report.old) (D.state dump.old))
+        (outside (S.state store.new) (C.state console.new) (R.state report.new) (D.state dump.new)) result }
+
+    // Words without a meaning: only the line's own writing can change the status, and nothing is read.
+    ensures usage { meaning words.now ≡ None → (result ≡ Status.Usage) ⊎ (result ≡ Status.ReportFault) }
+    ensures unread { meaning words.now ≡ None → store.new ≡ store.old }
+
+    ensures complete { Completeness words.now
+        (outside (S.state store.old) (C.state console.old) (R.state report.old) (D.state dump.old))
+        (outside (S.state store.new) (C.state console.new) (R.state report.new) (D.state dump.new)) result }
+
+    ensures only_its_line { OnlyItsLine words.now
+        (outside (S.state store.old) (C.state console.old) (R.state report.old) (D.state dump.old))
+        (outside (S.state store.new) (C.state console.new) (R.state report.new) (D.state dump.new)) result }
+
+    ensures prefixes { Prefixes words.now
+        (outside (S.state store.old) (C.state console.old) (R.state report.old) (D.state dump.old))
+        (outside (S.state store.new) (C.state console.new) (R.state report.new) (D.state dump.new)) }
+
+    ensures want { result ≡ Status.WantOfMemory → WritesNothing
+        (outside (S.state store.old) (C.state console.old) (R.state report.old) (D.state dump.old))
+        (outside (S.state store.new) (C.state console.new) (R.state report.new) (D.state dump.new)) }
+
+    ensures runs_some { RunsSome words.now
+        (outside (S.state store.old) (C.state console.old) (R.state report.old) (D.state dump.old))
+        (outside (S.state store.new) (C.state console.new) (R.state report.new) (D.state dump.new)) result }
+{
+    react(alloc, words, store, report)
+}
+
+/// Does what the words ask, with the report as the only sink.
+fn react<S: Store, R: Sink>(
+    alloc: Global,
+    words: &Words,
+    store: &mut S,
+    report: &mut R,
+) -> Status
+    ensures answers { Reacts (meaning words.now) (S.state store.old) (S.state store.new) (R.state report.old) (R.state report.new) result }
+    ensures unread { meaning words.now ≡ None → store.new ≡ store.old }
+{
+    match words.asked() {
+        Some(request) => respond(alloc, &request, store, report),
+        None => refuse(report, "", Status::Usage),
+    }
+}
 
 /// Answers a request with what the store gives of its manifest file.
 fn respond<S: Store, R: Sink>(
