@@ -19,7 +19,7 @@ not_ok A e h = subst T (sym h) tt
 
 -- a call whose last text was put, or could not be put
 pub ends_finished : {A E : Type 0} (outcome : Outcome) {before now : SinkState} (put : Result A E) → Puts before now outcome.report put → Ends outcome before now (finished put outcome.status)
-ends_finished outcome (Ok a) puts = record { later = puts.later; how = inl (refl, puts.whole); sure = λ fits. (refl, (puts.sure fits).1) }
+ends_finished outcome (Ok a) puts = record { later = puts.later; how = inl (refl, puts.whole); sure = λ fits. (refl, puts.whole, (puts.sure fits).1) }
 ends_finished {A} outcome (Err e) puts =
     record { later = puts.later; how = inr (refl, puts.failed, puts.front); sure = λ fits. absurd (not_ok A e (puts.sure fits).0) }
 

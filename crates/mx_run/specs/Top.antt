@@ -20,7 +20,8 @@ pub record Ends (outcome : Outcome) (before now : SinkState) (result : Status) :
   pub later : before.faults ≤ now.faults
   pub how : ((result ≡ outcome.status) × AppendsWhole before.written now.written outcome.report)
     ⊎ ((result ≡ ReportFault) × Rose before.faults now.faults × AppendsPrefix before.written now.written outcome.report)
-  pub sure : length outcome.report ≤ before.room → (result ≡ outcome.status) × (now.faults ≡ before.faults)
+  pub sure : length outcome.report ≤ before.room
+    → (result ≡ outcome.status) × AppendsWhole before.written now.written outcome.report × (now.faults ≡ before.faults)
 
 -- the same, or memory was wanting and nothing was written
 abbrev pub Answers : Outcome → SinkState → SinkState → Status → Type 0

@@ -36,11 +36,11 @@ pub fn mondrix<S: Store, C: Sink, R: Sink, D: Sink>(
     report: &mut R,
     dump: &mut D,
 ) -> Status
-    ensures headline { Headline words.now
+    ensures headline { Headline (meaning words.now)
         (outside (S.state store.old) (C.state console.old) (R.state report.old) (D.state dump.old))
         (outside (S.state store.new) (C.state console.new) (R.state report.new) (D.state dump.new)) result }
 
-    ensures caused { IsCaused words.now
+    ensures caused { IsCaused (meaning words.now)
         (outside (S.state store.old) (C.state console.old) (R.state report.old) (D.state dump.old))
         (outside (S.state store.new) (C.state console.new) (R.state report.new) (D.state dump.new)) result }
 
@@ -48,15 +48,15 @@ pub fn mondrix<S: Store, C: Sink, R: Sink, D: Sink>(
     ensures usage { meaning words.now ≡ None → (result ≡ Status.Usage) ⊎ (result ≡ Status.ReportFault) }
     ensures unread { meaning words.now ≡ None → store.new ≡ store.old }
 
-    ensures complete { Completeness words.now
+    ensures complete { Completeness (meaning words.now)
         (outside (S.state store.old) (C.state console.old) (R.state report.old) (D.state dump.old))
         (outside (S.state store.new) (C.state console.new) (R.state report.new) (D.state dump.new)) result }
 
-    ensures only_its_line { OnlyItsLine words.now
+    ensures only_its_line { OnlyItsLine (meaning words.now)
         (outside (S.state store.old) (C.state console.old) (R.state report.old) (D.state dump.old))
         (outside (S.state store.new) (C.state console.new) (R.state report.new) (D.state dump.new)) result }
 
-    ensures prefixes { Prefixes words.now
+    ensures prefixes { Prefixes (meaning words.now)
         (outside (S.state store.old) (C.state console.old) (R.state report.old) (D.state dump.old))
         (outside (S.state store.new) (C.state console.new) (R.state report.new) (D.state dump.new)) }
 
@@ -64,7 +64,7 @@ pub fn mondrix<S: Store, C: Sink, R: Sink, D: Sink>(
         (outside (S.state store.old) (C.state console.old) (R.state report.old) (D.state dump.old))
         (outside (S.state store.new) (C.state console.new) (R.state report.new) (D.state dump.new)) }
 
-    ensures runs_some { RunsSome words.now
+    ensures runs_some { RunsSome (meaning words.now)
         (outside (S.state store.old) (C.state console.old) (R.state report.old) (D.state dump.old))
         (outside (S.state store.new) (C.state console.new) (R.state report.new) (D.state dump.new)) result }
 {
