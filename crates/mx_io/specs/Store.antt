@@ -1,5 +1,5 @@
 -- What a store says of itself, and what its calls answer.
-use Rattle.std.specs.Prelude.{◌≡◌, ℕ, ◌^◌, ◌<◌, ◌≤◌, ◌↔◌, Bool, IsTrue, List, [], length, take, drop, Option, Result, IsOk, IfOk, OnErr, IfSome, option_map, unwrap_or}
+use Rattle.std.specs.Prelude.{◌≡◌, ℕ, ◌^◌, ◌<◌, ◌≤◌, ◌↔◌, Bool, IsTrue, List, [], ◌++◌, length, take, drop, min, ◌-◌, Option, Result, IsOk, IfOk, OnErr, IfSome, option_map, unwrap_or}
 use Rattle.std.specs.Ordering.{nat_cmp}
 use Rattle.std.specs.Cmp.Lexicographic.{slice_cmp}
 use Rattle.std.specs.FinMap.{FinMap, get}
@@ -36,3 +36,8 @@ pub record GivesBytes (told : Option FileMap) (name : List ℕ) (at : ℕ) (into
   pub bound : k ≤ length into
   pub bytes : IfSome told (λ files. take k into ≡ take k (drop at (file_bytes files name)))
   pub end : IfSome told (λ files. 0 < length into → (k ≡ 0) ↔ (length (file_bytes files name) ≤ at))
+
+-- the greatest part from place `at` on was copied to the start of a slice, whose other bytes stay
+pub record CopiesPart (bytes : List ℕ) (at : ℕ) (old now : List ℕ) (k : ℕ) : Type 0 where
+  pub count : k ≡ min (length old) (length bytes - at)
+  pub copied : now ≡ take k (drop at bytes) ++ drop k old

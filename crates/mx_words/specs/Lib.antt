@@ -1,0 +1,13 @@
+pub mod Rights
+pub mod Ranges
+pub mod Bytes
+pub mod Counting
+pub mod Newest
+pub mod Changes
+pub mod Runs
+pub mod Need
+pub mod Reach
+pub mod Caches
+pub mod FirstFit
+pub mod Announced
+pub mod Starts

@@ -1,10 +1,17 @@
-//! The words of the machine: permissions, spans of RAM words, and the counts that tables need.
+//! The words of the machine: permissions, ranges and spans of RAM words, and what tables of permissions need.
+//! Beside the types, `specs/` holds the definitions that every crate above cites.
 #![tactic(auto)]
 
+mod blob;
 mod perm;
+mod ranges;
+mod spans;
 mod tables;
 
+pub use blob::Blob;
 pub use perm::{Access, Perm, Span};
+pub use ranges::{word_of, word_range};
+pub use spans::Spans;
 pub use tables::{Kind, Level, Need, Shown};
 
 /// An allocation was refused. The one answer that no contract ties to a cause.

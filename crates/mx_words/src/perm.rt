@@ -1,4 +1,6 @@
 //! Permissions of words, and spans of words that share one.
+ghost use Rattle.std.specs.Prelude.{◌≡◌, ◌<◌, ◌↔◌, IfSome, IsNone};
+ghost use Rattle.mx_words.specs.Rights.{number, from_number, allows};
 
 /// What a protection domain may do with one word of RAM.
 #[derive(Clone, Copy, PartialEq, Eq, Debug)]
@@ -33,4 +35,44 @@ pub struct Span {
     pub count: u32,
     /// The permission of each of them.
     pub perm: Perm,
+}
+
+impl Perm {
+    /// The number of the permission, 0 to 3, as tables store it and supervisor calls take it.
+    pub fn number(self) -> u32
+        ensures { result ≡ number self }
+    {
+        match self {
+            Perm::None => 0,
+            Perm::Read => 1,
+            Perm::ReadWrite => 2,
+            Perm::ExecuteRead => 3,
+        }
+    }
+
+    /// The permission with this number. `None` exactly above 3.
+    pub fn from_number(n: u32) -> Option<Perm>
+        ensures value { result ≡ from_number n }
+        ensures round { IfSome result (λ p. number p ≡ n) }
+        ensures above { IsNone result ↔ (3 < n) }
+    {
+        match n {
+            0 => Some(Perm::None),
+            1 => Some(Perm::Read),
+            2 => Some(Perm::ReadWrite),
+            3 => Some(Perm::ExecuteRead),
+            _ => None,
+        }
+    }
+
+    /// Whether the permission allows an access: a load needs any but none, a store read-write, a fetch execute-read.
+    pub fn allows(self, access: Access) -> bool
+        ensures { result ≡ allows self access }
+    {
+        match access {
+            Access::Read => self != Perm::None,
+            Access::Write => self == Perm::ReadWrite,
+            Access::Execute => self == Perm::ExecuteRead,
+        }
+    }
 }

@@ -1,0 +1,4 @@
+pub mod Boots
+pub mod ShortExamples
+pub mod GateExamples
+pub mod CallExamples

@@ -1,0 +1,65 @@
+//! A list of bytes.
+ghost use Rattle.std.specs.Prelude.{◌≡◌, ◌<◌, ◌≤◌, ◌^◌, ◌++◌, [], ◌∷◌, List, length, OnOk, OnErr, slice_index, ℕ};
+
+use crate::NoMemory;
+use std::alloc::Global;
+use std::marker::Model;
+
+/// A list of bytes, as a file's content or an image.
+#[derive(Drop)]
+pub struct Blob {
+    items: Vec<u8>,
+}
+
+impl Model for Blob {
+    ghost Value = { List ℕ };
+
+    ghost view = { λ s. s.items.items };
+
+    ghost invariant = { λ s. length s.items.items ≤ 2 ^ 31 };
+}
+
+impl Blob {
+    /// An empty list.
+    pub fn new(alloc: Global) -> Blob
+        ensures { result ≡ [] }
+    {
+        Blob {
+            items: Vec::new(alloc),
+        }
+    }
+
+    /// Appends a byte. The list holds fewer than 2^31 bytes. Where memory is refused, it stays as it was.
+    pub fn push(&mut self, item: u8) -> Result<(), NoMemory>
+        requires { length self.old < 2 ^ 31 }
+        ensures ok { OnOk result (self.new ≡ self.old ++ item ∷ []) }
+        ensures err { OnErr result (self.new ≡ self.old) }
+    {
+        match self.items.push(item) {
+            Ok(()) => Ok(()),
+            Err(_) => Err(NoMemory),
+        }
+    }
+
+    /// The number of bytes.
+    pub fn len(&self) -> u32
+        ensures { result ≡ length self.now }
+    {
+        self.items.len() as u32
+    }
+
+    /// The byte at place `i`, counted from 0 and below `len`.
+    pub fn get(&self, i: u32) -> u8
+        requires { i < length self.now }
+        ensures { result ≡ slice_index self.now i }
+    {
+        self.items[i as usize]
+    }
+
+    /// All bytes, in order.
+    pub fn as_slice(&self) -> &[u8]
+        ensures { result.now ≡ self.now }
+    {
+        self.items.as_slice()
+    }
+}
