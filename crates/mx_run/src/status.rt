@@ -1,6 +1,6 @@
 //! How a call of the program ends.
 
-ghost use Rattle.std.specs.Prelude.{◌≡◌};
+ghost use Rattle.std.specs.Prelude.{◌≡◌, ◌≤◌};
 ghost use Rattle.mx_run.specs.Status.{number_of};
 
 use mx_manifest::{BootFault, Key};
@@ -94,7 +94,8 @@ pub enum Status {
 impl Status {
     /// The number with which the program ends.
     pub fn number(&self) -> u32
-        ensures { result ≡ number_of self.now }
+        ensures value { result ≡ number_of self.now }
+        ensures small { result ≤ 14 }
     {
         match self {
             Status::Ran => 0,
