@@ -1,5 +1,5 @@
 -- How a call of the program ends.
-use Rattle.std.proofs.Common.{◌≡◌, ℕ, ◌≤◌, Bool, true, false, nat_lt, List, ◌++◌, length, flat_map, Option, Some, None, IfSome, Vec, Global, Result, Ok, Err, IsOk, T, refl, sym, subst, inl, inr, arith}
+use Rattle.std.proofs.Common.{◌≡◌, ℕ, ◌≤◌, false, nat_lt, List, ◌++◌, length, flat_map, Option, Some, None, IfSome, Vec, Global, Result, Ok, Err, IsOk, T, refl, sym, subst, inl, inr, arith}
 use Rattle.std.proofs.lemmas.Bool.Decides.{nat_tests}
 use Rattle.std.specs.FinMap.{get}
 use Rattle.mx_io.specs.Store.{FileMap}

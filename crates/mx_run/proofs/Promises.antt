@@ -1,9 +1,8 @@
 -- What the top call promises, from how it reacts.
-use Rattle.std.proofs.Common.{◌≡◌, ◌≢◌, ℕ, ◌<◌, ◌≤◌, ◌⊎◌, IsTrue, List, [], length, take, Option, Some, None, IsSome, IfSome, Result, Ok, Err, refl, sym, ap, subst, ◌∙◌, inl, inr, arith}
+use Rattle.std.proofs.Common.{◌≡◌, ◌≢◌, ℕ, ◌⊎◌, IsTrue, List, [], length, Option, Some, None, IfSome, Result, Ok, Err, refl, sym, ap, subst, ◌∙◌, inl, inr}
 use Rattle.std.proofs.Math.Seq.{take-length}
-use Rattle.std.specs.Bool.{⊤}
 use Rattle.mx_manifest.specs.declared.fault.BootFault.{BootFault}
-use Rattle.mx_io.specs.Count.{Rose, Stays}
+use Rattle.mx_io.specs.Count.{Rose}
 use Rattle.mx_io.specs.Texts.{appended, AppendsWhole, AppendsPrefix}
 use Rattle.mx_io.specs.Sink.{SinkState}
 use Rattle.mx_io.specs.Store.{FileMap, StoreState}
@@ -14,10 +13,9 @@ use Rattle.mx_run.specs.declared.status.Status.TheVariants.{Ran, Usage, Refused,
 use Rattle.mx_run.specs.Words.{Request}
 use Rattle.mx_run.specs.Manifest.{Plan, judged, file_fault}
 use Rattle.mx_run.specs.Refusal.{line_of}
-use Rattle.mx_run.specs.Reading.{Kept}
-use Rattle.mx_run.specs.Outcome.{Outcome, Found, Absent, Large, Short, Broken, Whole, answer, judgement, refusal, found_in, outcome_for}
+use Rattle.mx_run.specs.Outcome.{Outcome, Found, Absent, Large, Short, Broken, Whole, answer, judgement, refusal, found_in}
 use Rattle.mx_run.specs.Top.{Ends, Answers, IsFound, Responds, Reacts}
-use Rattle.mx_run.specs.Promise.{Outside, outside, CountsStay, CountsKept, Holds, HoldsPrefix, WritesNothing, Gives, Headline, IsOutcome, IsCaused, IsSure, Completeness, name_asked, OnlyItsLine, Prefixes, RunsSome}
+use Rattle.mx_run.specs.Promise.{Outside, outside, CountsStay, CountsKept, Holds, HoldsPrefix, WritesNothing, Gives, Headline, IsOutcome, IsCaused, IsSure, Completeness, OnlyItsLine, Prefixes, RunsSome}
 
 -- a fact of each value that an option may hold
 if_some : {A : Type 0} (o : Option A) (P : A → Type 0) → ((a : A) → o ≡ Some a → P a) → IfSome o P
@@ -123,10 +121,10 @@ module _ (s0 s1 : StoreState) (c k0 k1 d : SinkState) where
   pub headline_for : (asked : Option Request) (result : Status) → Reacts asked s0 s1 k0 k1 result → Headline asked b n result
   headline_for None result reacts =
       if_some s0.told (λ files. CountsStay b n → result ≢ WantOfMemory → Gives (refusal [] Usage) b n result)
-          (λ files told stay wanted. gives_ends (refusal [] Usage) result (quiet_refusal [] Usage) stay reacts.0)
+      (λ files told stay wanted. gives_ends (refusal [] Usage) result (quiet_refusal [] Usage) stay reacts.0)
   headline_for (Some r) result responds =
       if_some s0.told (λ files. CountsStay b n → result ≢ WantOfMemory → Gives (answer r (found_in files r.manifest)) b n result)
-          (λ files told stay wanted. headline_settled r files result stay wanted (settles r result files responds told))
+      (λ files told stay wanted. headline_settled r files result stay wanted (settles r result files responds told))
 
   -- the causes
   caused_by : (asked : Option Request) {result status : Status} → result ≡ status → IsCaused asked b n status → IsCaused asked b n result
@@ -142,7 +140,7 @@ module _ (s0 s1 : StoreState) (c k0 k1 d : SinkState) where
   outcome_found : (r : Request) (found : Found) → IfSome s0.told (λ files. found ≡ found_in files r.manifest) → IsOutcome (Some r) b (answer r found).status
   outcome_found r found is =
       if_some s0.told (λ files. (answer r found).status ≡ (answer r (found_in files r.manifest)).status)
-          (λ files told. ap (λ f. (answer r f).status) (some_of (λ fs. found ≡ found_in fs r.manifest) told is))
+      (λ files told. ap (λ f. (answer r f).status) (some_of (λ fs. found ≡ found_in fs r.manifest) told is))
 
   caused_found : (r : Request) (found : Found) → IsFound s0 s1 r.manifest found → IsCaused (Some r) b n (answer r found).status
   caused_found r Absent is = (refl, outcome_found r Absent is)
@@ -178,11 +176,11 @@ module _ (s0 s1 : StoreState) (c k0 k1 d : SinkState) where
   pub complete_for : (asked : Option Request) (result : Status) → Reacts asked s0 s1 k0 k1 result → Completeness asked b n result
   complete_for None result reacts =
       if_some s0.told (λ files. IsSure (refusal [] Usage) b → CountsKept b n × ((result ≡ WantOfMemory) ⊎ Gives (refusal [] Usage) b n result))
-          (λ files told sure. let e = reacts.0.sure sure.report in
-              (record { store = ap (λ (s : StoreState). s.faults) reacts.1; console = refl; report = e.2; dump = refl }, inr (e.0, holds (refusal [] Usage) (quiet_refusal [] Usage) e.1)))
+      (λ files told sure. let e = reacts.0.sure sure.report in
+      (record { store = ap (λ (s : StoreState). s.faults) reacts.1; console = refl; report = e.2; dump = refl }, inr (e.0, holds (refusal [] Usage) (quiet_refusal [] Usage) e.1)))
   complete_for (Some r) result responds =
       if_some s0.told (λ files. IsSure (answer r (found_in files r.manifest)) b → CountsKept b n × ((result ≡ WantOfMemory) ⊎ Gives (answer r (found_in files r.manifest)) b n result))
-          (λ files told sure. complete_settled r files result (responds.kept.sure sure.store).0 sure (settles r result files responds told))
+      (λ files told sure. complete_settled r files result (responds.kept.sure sure.store).0 sure (settles r result files responds told))
 
   -- a refusal's line
   lined_by : (name : List ℕ) {result status : Status} → result ≡ status → IfSome (line_of name status) (λ line. Holds (refusal name status) b n) → IfSome (line_of name result) (λ line. Holds (refusal name result) b n)
@@ -226,10 +224,10 @@ module _ (s0 s1 : StoreState) (c k0 k1 d : SinkState) where
   pub prefixes_for : (asked : Option Request) (result : Status) → Reacts asked s0 s1 k0 k1 result → Prefixes asked b n
   prefixes_for None result reacts =
       if_some s0.told (λ files. HoldsPrefix (refusal [] Usage) b n ⊎ (Rose s0.faults s1.faults × HoldsPrefix (refusal [] StoreFault) b n))
-          (λ files told. inl (holds_prefix (refusal [] Usage) (quiet_refusal [] Usage) (ends_prefix (refusal [] Usage) result reacts.0)))
+      (λ files told. inl (holds_prefix (refusal [] Usage) (quiet_refusal [] Usage) (ends_prefix (refusal [] Usage) result reacts.0)))
   prefixes_for (Some r) result responds =
       if_some s0.told (λ files. HoldsPrefix (answer r (found_in files r.manifest)) b n ⊎ (Rose s0.faults s1.faults × HoldsPrefix (refusal r.manifest StoreFault) b n))
-          (λ files told. prefixes_settled r files result (settles r result files responds told))
+      (λ files told. prefixes_settled r files result (settles r result files responds told))
 
   -- want of memory
   want_judgement : (r : Request) (j : Result Plan BootFault) → (judgement r j).status ≢ WantOfMemory

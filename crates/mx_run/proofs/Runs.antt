@@ -1,6 +1,6 @@
 -- Laws of runs: one more turn, a halted hart, and a run after a run.
 use Rattle.std.proofs.lemmas.Grind.{flat_map-append}
-use Rattle.std.proofs.Common.{◌≡◌, ℕ, zero, suc, ◌+◌, Bool, true, false, cond, List, [], ◌++◌, flat_map, option_to_list, refl, sym, ap, ◌∙◌, append_assoc, arith}
+use Rattle.std.proofs.Common.{◌≡◌, ℕ, zero, suc, ◌+◌, Bool, true, false, cond, [], ◌++◌, flat_map, option_to_list, refl, sym, ap, ◌∙◌, arith}
 use Rattle.mx_run.specs.declared.action.Action.{Action}
 use Rattle.mx_run.specs.declared.action.Action.TheVariants.{Trap, Exit, Put}
 use Rattle.mx_run.specs.Machine.{State, after, turn, next_note, run, notes}

@@ -1,7 +1,7 @@
 -- Tables as members, and arrays as items.
-use Rattle.std.proofs.Common.{◌≡◌, ◌≢◌, ℕ, ◌+◌, ◌<◌, ◌≤◌, List, [], ◌∷◌, ◌++◌, length, get_or, drop, Option, Some, None, option_map, option_and_then, String, Global, refl, sym, ◌∙◌, ap, append_assoc, arith}
+use Rattle.std.proofs.Common.{◌≡◌, ◌≢◌, ℕ, ◌+◌, ◌<◌, List, [], ◌∷◌, ◌++◌, length, get_or, drop, Option, Some, None, option_map, option_and_then, String, Global, refl, sym, ◌∙◌, ap, append_assoc, arith}
 use Rattle.toml.specs.declared.value.Value.{Value}
-use Rattle.toml.specs.Data.{Members, Items, no_items, item, as_integer}
+use Rattle.toml.specs.Data.{as_integer}
 use Rattle.toml.specs.View.{view, members_view, items_view}
 use Rattle.toml.proofs.Views.{items_view-drop}
 use Rattle.mx_run.specs.Manifest.{key_count, only_table, words_of, within}

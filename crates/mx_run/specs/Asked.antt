@@ -1,5 +1,4 @@
 -- What the code keeps of the words.
-use Rattle.std.specs.Prelude.{ℕ}
 use Rattle.mx_run.specs.Words.{Request}
 use Rattle.mx_run.specs.declared.words.RunWords.{RunWords}
 

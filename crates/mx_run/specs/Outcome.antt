@@ -1,5 +1,5 @@
 -- What the program answers and writes, as a function of the words and the files.
-use Rattle.std.specs.Prelude.{ℕ, ◌<◌, Bool, nat_lt, if◌then◌else◌, List, [], ◌++◌, length, Option, Some, None, unwrap_or, Result, Ok, Err, flat_map}
+use Rattle.std.specs.Prelude.{ℕ, nat_lt, if◌then◌else◌, List, [], ◌++◌, length, Option, Some, None, unwrap_or, Result, Ok, Err, flat_map}
 use Rattle.std.specs.FinMap.{get}
 use Rattle.mx_manifest.specs.declared.fault.BootFault.{BootFault}
 use Rattle.mx_io.specs.Store.{FileMap}

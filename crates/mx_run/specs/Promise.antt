@@ -100,7 +100,7 @@ pub record IsSure (outcome : Outcome) (before : Outside) : Type 0 where
 abbrev pub Completeness : Option Request → Outside → Outside → Status → Type 0
 Completeness asked before now result =
     IfSome before.store.told (λ files. IsSure (outcome_for asked files) before →
-        CountsKept before now × ((result ≡ WantOfMemory) ⊎ Gives (outcome_for asked files) before now result))
+    CountsKept before now × ((result ≡ WantOfMemory) ⊎ Gives (outcome_for asked files) before now result))
 
 -- the name of the manifest file that is asked for
 abbrev pub name_asked : Option Request → List ℕ
@@ -116,7 +116,7 @@ OnlyItsLine asked before now result =
 abbrev pub Prefixes : Option Request → Outside → Outside → Type 0
 Prefixes asked before now =
     IfSome before.store.told (λ files. HoldsPrefix (outcome_for asked files) before now
-        ⊎ (Rose before.store.faults now.store.faults × HoldsPrefix (refusal (name_asked asked) StoreFault) before now))
+    ⊎ (Rose before.store.faults now.store.faults × HoldsPrefix (refusal (name_asked asked) StoreFault) before now))
 
 -- over every store, a run is that of some manifest's bytes
 abbrev pub RunsSome : Option Request → Outside → Outside → Status → Type 0

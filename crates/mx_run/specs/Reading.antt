@@ -1,9 +1,9 @@
 -- What the reading of a whole file answers.
-use Rattle.std.specs.Prelude.{◌≡◌, ◌≢◌, ℕ, ◌+◌, ◌<◌, ◌≤◌, ◌↔◌, Bool, IsTrue, List, length, take, drop, Option, Some, None, IfSome, Result, Ok, Err, IfErr, Vec, ⊤}
+use Rattle.std.specs.Prelude.{◌≡◌, ◌≢◌, ℕ, ◌+◌, ◌<◌, ◌≤◌, ◌↔◌, IsTrue, List, length, take, Option, Some, None, IfSome, Result, Ok, Err, IfErr, Vec, ⊤}
 use Rattle.std.specs.FinMap.{get}
 use Rattle.std.specs.declared.alloc.Global.{Global}
 use Rattle.mx_io.specs.Count.{Rose}
-use Rattle.mx_io.specs.Store.{StoreState, file_bytes}
+use Rattle.mx_io.specs.Store.{StoreState}
 use Rattle.mx_run.specs.declared.reading.ReadFault.{ReadFault}
 use Rattle.mx_run.specs.declared.reading.ReadFault.TheVariants.{Absent, Large, Short, Broken, NoMemory}
 

@@ -1,5 +1,5 @@
 -- The lines of refusals, each a whole report.
-use Rattle.std.specs.Prelude.{ℕ, List, [], ◌∷◌, ◌++◌, decimal, codes, Option, Some, None}
+use Rattle.std.specs.Prelude.{ℕ, List, [], ◌∷◌, decimal, codes, Option, Some, None}
 use Rattle.std.specs.List.{concat}
 use Rattle.mx_manifest.specs.declared.fault.BootFault.{BootFault}
 use Rattle.mx_manifest.specs.declared.fault.Part.{Part}
@@ -57,7 +57,7 @@ detail_text name detail = concat (codes " key=" ∷ name ∷ codes " detail=" �
 unfoldable pub refused_line : BootFault → List ℕ
 refused_line fault =
     concat (fault_text fault.number ∷ place_text fault.place.part fault.place.index
-        ∷ detail_text (key_name fault.place.key) fault.detail ∷ [])
+    ∷ detail_text (key_name fault.place.key) fault.detail ∷ [])
 
 -- the words have no meaning
 unfoldable pub usage_line : List ℕ

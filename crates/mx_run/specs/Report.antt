@@ -1,5 +1,5 @@
 -- The lines of a run's report.
-use Rattle.std.specs.Prelude.{ℕ, ◌+◌, ◌*◌, List, [], ◌∷◌, ◌++◌, length, Bool, true, false, decimal, codes, flat_map}
+use Rattle.std.specs.Prelude.{ℕ, ◌+◌, ◌*◌, List, [], ◌∷◌, length, Bool, true, false, decimal, codes, flat_map}
 use Rattle.std.specs.List.{concat}
 use Rattle.mx_words.specs.declared.perm.Perm.{Perm}
 use Rattle.mx_words.specs.declared.perm.Perm.TheVariants as perm
@@ -13,7 +13,7 @@ use Rattle.mx_run.specs.Machine.{State, ram_base}
 unfoldable pub fault_line : ℕ → ℕ → ℕ → ℕ → List ℕ
 fault_line step pc cause value =
     concat (codes "fault step=" ∷ decimal step ∷ codes " hart=0 domain=1 pc=" ∷ hex_number pc
-        ∷ codes " cause=" ∷ decimal cause ∷ codes " value=" ∷ hex_number value ∷ codes "\n" ∷ [])
+    ∷ codes " cause=" ∷ decimal cause ∷ codes " value=" ∷ hex_number value ∷ codes "\n" ∷ [])
 
 -- the line of an exit
 unfoldable pub exit_line : ℕ → ℕ → List ℕ
@@ -72,7 +72,7 @@ address word = ram_base + 4 * word
 unfoldable pub map_line : Span → List ℕ
 map_line grant =
     concat (codes "map 1 " ∷ hex_number (address grant.first) ∷ codes " " ∷ hex_number (address (grant.first + grant.count))
-        ∷ codes " " ∷ permission_name grant.perm ∷ codes "\n" ∷ [])
+    ∷ codes " " ∷ permission_name grant.perm ∷ codes "\n" ∷ [])
 
 -- the run of words that the module owns: those that it gave
 unfoldable pub owner_line : ℕ → ℕ → List ℕ
@@ -83,4 +83,4 @@ owner_line first count =
 unfoldable pub closing : List ℕ → State → List ℕ
 closing name s =
     concat (end_line s.turns s.halted ∷ hart_line s.halted s.pc ∷ registers_line s.registers ∷ domain_line name
-        ∷ flat_map map_line s.grants ∷ owner_line s.first (length s.words) ∷ [])
+    ∷ flat_map map_line s.grants ∷ owner_line s.first (length s.words) ∷ [])

@@ -1,6 +1,6 @@
 -- How a call of the program ends.
-use Rattle.std.specs.Prelude.{◌≡◌, ◌≢◌, ℕ, ◌<◌, ◌≤◌, ◌⊎◌, Bool, IsTrue, List, [], length, Option, Some, None, IfSome, Result, Ok, Err}
-use Rattle.mx_io.specs.Count.{Rose, Stays}
+use Rattle.std.specs.Prelude.{◌≡◌, ℕ, ◌<◌, ◌≤◌, ◌⊎◌, IsTrue, List, [], length, Option, Some, None, IfSome, Result, Ok, Err}
+use Rattle.mx_io.specs.Count.{Rose}
 use Rattle.mx_io.specs.Texts.{AppendsWhole, AppendsPrefix}
 use Rattle.mx_io.specs.Sink.{SinkState}
 use Rattle.mx_io.specs.Store.{StoreState}
@@ -19,9 +19,9 @@ finished (Err e) status = ReportFault
 pub record Ends (outcome : Outcome) (before now : SinkState) (result : Status) : Type 0 where
   pub later : before.faults ≤ now.faults
   pub how : ((result ≡ outcome.status) × AppendsWhole before.written now.written outcome.report)
-    ⊎ ((result ≡ ReportFault) × Rose before.faults now.faults × AppendsPrefix before.written now.written outcome.report)
+      ⊎ ((result ≡ ReportFault) × Rose before.faults now.faults × AppendsPrefix before.written now.written outcome.report)
   pub sure : length outcome.report ≤ before.room
-    → (result ≡ outcome.status) × AppendsWhole before.written now.written outcome.report × (now.faults ≡ before.faults)
+      → (result ≡ outcome.status) × AppendsWhole before.written now.written outcome.report × (now.faults ≡ before.faults)
 
 -- the same, or memory was wanting and nothing was written
 abbrev pub Answers : Outcome → SinkState → SinkState → Status → Type 0
@@ -39,7 +39,7 @@ IsFound before now name (Whole bytes) = IfSome before.told (λ files. Whole byte
 pub record Responds (request : Request) (store stored : StoreState) (before now : SinkState) (result : Status) : Type 0 where
   pub kept : Kept store stored
   pub how : ((result ≡ WantOfMemory) × (now ≡ before))
-    ⊎ ((found : Found) × IsFound store stored request.manifest found × Answers (answer request found) before now result)
+      ⊎ ((found : Found) × IsFound store stored request.manifest found × Answers (answer request found) before now result)
 
 -- words without meaning are refused at once; a request is answered
 abbrev pub Reacts : Option Request → StoreState → StoreState → SinkState → SinkState → Status → Type 0

@@ -1,12 +1,11 @@
 //! The reading of a whole file from a store.
 
-use std::alloc::Global;
-
-use mx_io::{Failed, Store};
-
 ghost use Rattle.std.specs.Prelude.{◌≡◌, ◌≤◌, length, IfOk, option_map, vec_len};
 ghost use Rattle.mx_io.specs.Store.{Asks, file_bytes};
 ghost use Rattle.mx_run.specs.Reading.{Kept, Reads, ReadsTold, TakesPart};
+
+use mx_io::{Failed, Store};
+use std::alloc::Global;
 
 /// Why a file could not be read.
 #[derive(Clone, Copy, PartialEq, Eq, Debug)]

@@ -1,15 +1,14 @@
 //! The lines of refusals, each a whole report. No call takes memory.
 
-use mx_io::{Failed, Piece, Sink, put_all, put_pieces};
-use mx_manifest::{BootFault, Key, Part};
-
-use crate::status::Status;
-
 ghost use Rattle.std.specs.Prelude.{◌≡◌, [], unwrap_or};
 ghost use Rattle.mx_io.specs.Sink.{Puts};
 ghost use Rattle.mx_run.specs.Refusal.{line_of, refused_line, fault_text, place_text, detail_text, key_name, short_file_line, no_file_line, usage_line, store_fault_line};
 ghost use Rattle.mx_run.specs.Outcome.{refusal};
 ghost use Rattle.mx_run.specs.Top.{Ends, finished};
+
+use crate::status::Status;
+use mx_io::{Failed, Piece, Sink, put_all, put_pieces};
+use mx_manifest::{BootFault, Key, Part};
 
 /// Ends a call that refuses: its line is the whole report, or the report's fault is the status.
 pub(crate) fn refuse<R: Sink>(report: &mut R, name: &str, status: Status) -> Status
@@ -57,12 +56,7 @@ fn put_store_fault<R: Sink>(report: &mut R) -> Result<(), Failed>
 }
 
 #[tactic(auto, unfolding(crate::specs::Refusal::short_file_line))]
-fn put_short_file<R: Sink>(
-    report: &mut R,
-    name: &str,
-    told: u64,
-    got: u64,
-) -> Result<(), Failed>
+fn put_short_file<R: Sink>(report: &mut R, name: &str, told: u64, got: u64) -> Result<(), Failed>
     ensures { Puts (R.state report.old) (R.state report.new) (short_file_line name.now told got) result }
 {
     put_pieces(

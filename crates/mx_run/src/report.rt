@@ -1,14 +1,13 @@
 //! The lines of a run's report. No call takes memory.
 
-use mx_io::{Failed, Piece, Sink, put_all, put_pieces};
-use mx_words::{Perm, Span};
-
-use crate::action::Note;
-use crate::machine::Machine;
-
 ghost use Rattle.std.specs.Prelude.{◌≡◌, ◌+◌, ◌≤◌, ◌^◌, flat_map};
 ghost use Rattle.mx_io.specs.Sink.{Puts};
 ghost use Rattle.mx_run.specs.Report.{note_line, fault_line, exit_line, end_name, status_name, end_line, hart_line, register_text, registers_line, domain_line, permission_name, map_line, owner_line, closing};
+
+use crate::action::Note;
+use crate::machine::Machine;
+use mx_io::{Failed, Piece, Sink, put_all, put_pieces};
+use mx_words::{Perm, Span};
 
 /// Puts the line of a note.
 pub(crate) fn put_note<R: Sink>(report: &mut R, note: &Note) -> Result<(), Failed>
@@ -21,7 +20,13 @@ pub(crate) fn put_note<R: Sink>(report: &mut R, note: &Note) -> Result<(), Faile
 }
 
 #[tactic(auto, unfolding(crate::specs::Report::fault_line))]
-fn put_fault<R: Sink>(report: &mut R, step: u64, pc: u32, cause: u32, value: u32) -> Result<(), Failed>
+fn put_fault<R: Sink>(
+    report: &mut R,
+    step: u64,
+    pc: u32,
+    cause: u32,
+    value: u32,
+) -> Result<(), Failed>
     ensures { Puts (R.state report.old) (R.state report.new) (fault_line step pc cause value) result }
 {
     put_pieces(

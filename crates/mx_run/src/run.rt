@@ -1,14 +1,13 @@
 //! A run: its turns, the lines of its notes, and its closing lines. No call takes memory.
 
-use mx_io::{Failed, Sink};
-
-use crate::machine::Machine;
-use crate::report::{put_closing, put_note};
-
 ghost use Rattle.std.specs.Prelude.{◌≡◌, ◌+◌, ◌-◌, ◌^◌, ◌<◌, ◌++◌, flat_map, option_to_list, OnOk};
 ghost use Rattle.mx_io.specs.Sink.{Puts};
 ghost use Rattle.mx_run.specs.Machine.{turn, next_note, run, notes};
 ghost use Rattle.mx_run.specs.Report.{note_line, closing};
+
+use crate::machine::Machine;
+use crate::report::{put_closing, put_note};
+use mx_io::{Failed, Sink};
 
 /// Makes at most `steps` turns and puts the report of the run.
 pub(crate) fn run<R: Sink>(

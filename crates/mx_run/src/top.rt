@@ -1,8 +1,12 @@
 //! The top call.
 
-use std::alloc::Global;
-
-use mx_io::{Sink, Store};
+ghost use Rattle.std.specs.Prelude.{◌≡◌, ◌<◌, ◌^◌, ◌⊎◌};
+ghost use Rattle.mx_run.specs.Words.{meaning};
+ghost use Rattle.mx_run.specs.Manifest.{LiesInRam, judged};
+ghost use Rattle.mx_run.specs.Outcome.{ran, judgement};
+ghost use Rattle.mx_run.specs.Top.{Ends, Answers, Responds, Reacts};
+ghost use Rattle.mx_run.specs.Promise.{outside, Headline, IsCaused, Completeness, OnlyItsLine, Prefixes, WritesNothing, RunsSome};
+ghost use Rattle.mx_run.specs.Asked.{request_of};
 
 use crate::machine::Machine;
 use crate::manifest::{Plan, PlanRefused, file_fault, read_plan};
@@ -11,14 +15,8 @@ use crate::refusal::{finish, refuse};
 use crate::run::run;
 use crate::status::{FileRole, Status};
 use crate::words::{RunWords, Words};
-
-ghost use Rattle.std.specs.Prelude.{◌≡◌, ◌<◌, ◌^◌, ◌⊎◌};
-ghost use Rattle.mx_run.specs.Words.{meaning};
-ghost use Rattle.mx_run.specs.Manifest.{LiesInRam, judged};
-ghost use Rattle.mx_run.specs.Outcome.{ran, judgement};
-ghost use Rattle.mx_run.specs.Top.{Ends, Answers, Responds, Reacts};
-ghost use Rattle.mx_run.specs.Promise.{outside, Headline, IsCaused, Completeness, OnlyItsLine, Prefixes, WritesNothing, RunsSome};
-ghost use Rattle.mx_run.specs.Asked.{request_of};
+use mx_io::{Sink, Store};
+use std::alloc::Global;
 
 /// The most bytes of a manifest file.
 const MANIFEST_LIMIT: u64 = 1048576;
@@ -72,12 +70,7 @@ pub fn mondrix<S: Store, C: Sink, R: Sink, D: Sink>(
 }
 
 /// Does what the words ask, with the report as the only sink.
-fn react<S: Store, R: Sink>(
-    alloc: Global,
-    words: &Words,
-    store: &mut S,
-    report: &mut R,
-) -> Status
+fn react<S: Store, R: Sink>(alloc: Global, words: &Words, store: &mut S, report: &mut R) -> Status
     ensures answers { Reacts (meaning words.now) (S.state store.old) (S.state store.new) (R.state report.old) (R.state report.new) result }
     ensures unread { meaning words.now ≡ None → store.new ≡ store.old }
 {
@@ -112,12 +105,7 @@ fn respond<S: Store, R: Sink>(
 }
 
 /// Answers a request with the bytes of its manifest file.
-fn answer<R: Sink>(
-    alloc: Global,
-    request: &RunWords<'_>,
-    bytes: &[u8],
-    report: &mut R,
-) -> Status
+fn answer<R: Sink>(alloc: Global, request: &RunWords<'_>, bytes: &[u8], report: &mut R) -> Status
     requires { request.now.steps < 10 ^ 10 }
     ensures { Answers (judgement (request_of request.now) (judged bytes.now)) (R.state report.old) (R.state report.new) result }
 {

@@ -1,4 +1,4 @@
-use Rattle.std.proofs.Common.{◌≡◌, arith}
+use Rattle.std.proofs.Common.{arith}
 use Rattle.mx_run.proofs.Tables.{only_table_none}
 use Rattle.mx_run.proofs.keys.only_table.Goals as goal
 

@@ -21,4 +21,4 @@ pub returns : goal.returns
 unfolding refused_line
 returns g c =
     left_end (left_next (left_next (left_all _ _) c.in_ok-put_number.ensures) c.in_ok-put_place.ensures)
-        (puts_last (puts_same (ap (λ name. detail_text name c.args.fault.now.detail) c.key_name.ensures) c.put_detail.ensures))
+    (puts_last (puts_same (ap (λ name. detail_text name c.args.fault.now.detail) c.key_name.ensures) c.put_detail.ensures))

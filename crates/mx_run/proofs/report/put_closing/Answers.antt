@@ -1,4 +1,4 @@
-use Rattle.std.proofs.Common.{◌≡◌, length, ap, sym, arith}
+use Rattle.std.proofs.Common.{◌≡◌, length, ap, arith}
 use Rattle.std.proofs.lemmas.Result.{err_from_is_err_and}
 use Rattle.mx_io.proofs.Text.{left_all, left_next, left_stop, left_end}
 use Rattle.mx_run.specs.Report.{closing, map_line, owner_line}
@@ -34,8 +34,8 @@ unfolding closing
 returns-in_err-put_map g c =
     let p = err_from_is_err_and c.from_residual-in_err-put_map.result c.from_residual-in_err-put_map.ensures.1 in
     rw (← c.machine.view_is, p.1, p.2)
-        (left_stop _ (left_next (left_next (left_next (left_next (left_all _ _) c.in_ok-put_end.ensures) c.in_ok-put_hart.ensures) c.in_ok-put_registers.ensures) c.in_ok-put_domain.ensures)
-            (puts_single map_line c.machine.inside.grant c.in_err-put_map.ensures))
+    (left_stop _ (left_next (left_next (left_next (left_next (left_all _ _) c.in_ok-put_end.ensures) c.in_ok-put_hart.ensures) c.in_ok-put_registers.ensures) c.in_ok-put_domain.ensures)
+    (puts_single map_line c.machine.inside.grant c.in_err-put_map.ensures))
 
 pub returns : goal.returns
 unfolding closing
@@ -43,6 +43,6 @@ returns g c =
     let m = c.machine.inside in
     let count : m.grant.count ≡ length m.words.items = omega (arith, c.machine.invariant.0, m.words.ok.0) in
     rw (← c.machine.view_is)
-        (left_end (left_next (left_next (left_next (left_next (left_next (left_all _ _) c.in_ok-put_end.ensures) c.in_ok-put_hart.ensures) c.in_ok-put_registers.ensures) c.in_ok-put_domain.ensures)
-                (puts_single map_line m.grant c.in_ok-put_map.ensures))
-            (puts_last (puts_same (ap (owner_line m.grant.first) count) c.put_owner.ensures)))
+    (left_end (left_next (left_next (left_next (left_next (left_next (left_all _ _) c.in_ok-put_end.ensures) c.in_ok-put_hart.ensures) c.in_ok-put_registers.ensures) c.in_ok-put_domain.ensures)
+    (puts_single map_line m.grant c.in_ok-put_map.ensures))
+    (puts_last (puts_same (ap (owner_line m.grant.first) count) c.put_owner.ensures)))

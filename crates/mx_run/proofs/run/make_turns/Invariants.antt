@@ -9,5 +9,5 @@ invariant-loop-step g l = record {
   turns : l.machine.turns + (l.steps - l._step) < 2 ^ 64;
   state : run l.machine (l.steps - l._step) ≡ run l.initial.machine l.steps;
   left : Left (g.R.Sink.state l.initial.report) (g.R.Sink.state l.report) (flat_map note_line (notes l.initial.machine l.steps))
-    (flat_map note_line (notes l.machine (l.steps - l._step)))
+      (flat_map note_line (notes l.machine (l.steps - l._step)));
 }

@@ -13,4 +13,4 @@ returns-in_err-make_turns g c =
 pub returns : goal.returns
 returns g c =
     left_end (left_next (left_all _ _) c.in_ok-make_turns.ensures.notes)
-        (puts_same (ap (closing c.args.name.now) c.in_ok-make_turns.ensures.state) c.put_closing.ensures)
+    (puts_same (ap (closing c.args.name.now) c.in_ok-make_turns.ensures.state) c.put_closing.ensures)

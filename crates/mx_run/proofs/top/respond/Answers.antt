@@ -1,4 +1,4 @@
-use Rattle.std.proofs.Common.{inl, inr}
+use Rattle.std.proofs.Common.{inr}
 use Rattle.mx_run.specs.Outcome.{Whole, Short}
 use Rattle.mx_run.proofs.Endings.{found_whole}
 use Rattle.mx_run.proofs.top.respond.Goals as goal

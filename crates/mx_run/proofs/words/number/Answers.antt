@@ -1,4 +1,4 @@
-use Rattle.std.proofs.Common.{◌≡◌, ◌+◌, ◌*◌, ◌^◌, get_or, sym, ◌∙◌, ap, arith}
+use Rattle.std.proofs.Common.{get_or, arith}
 use Rattle.std.proofs.lemmas.Int.Digits.{digits_value_more}
 use Rattle.mx_run.proofs.Digits.{digit_at, digit_range, digit_value_is, pow_next}
 use Rattle.mx_run.proofs.words.number.Goals as goal
