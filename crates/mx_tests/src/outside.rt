@@ -56,17 +56,37 @@ fn hostile_files_are_refused(rt: HostRuntime) -> Result<(), Fail> {
     let cases: [(&[u8], &str); 7] = [
         (b"", "refused fault=18 at=manifest key=- detail=0\n"),
         (b"\xff", "refused fault=1 at=manifest key=- detail=0\n"),
-        (over.as_slice(), "refused fault=9 at=manifest key=- detail=0\n"),
-        (most.as_slice(), "refused fault=18 at=manifest key=- detail=0\n"),
-        (beyond.as_bytes(), "refused fault=18 at=manifest key=- detail=0\n"),
-        (unaligned.as_bytes(), "refused fault=18 at=manifest key=- detail=0\n"),
-        (none.as_bytes(), "refused fault=18 at=manifest key=- detail=0\n"),
+        (
+            over.as_slice(),
+            "refused fault=9 at=manifest key=- detail=0\n",
+        ),
+        (
+            most.as_slice(),
+            "refused fault=18 at=manifest key=- detail=0\n",
+        ),
+        (
+            beyond.as_bytes(),
+            "refused fault=18 at=manifest key=- detail=0\n",
+        ),
+        (
+            unaligned.as_bytes(),
+            "refused fault=18 at=manifest key=- detail=0\n",
+        ),
+        (
+            none.as_bytes(),
+            "refused fault=18 at=manifest key=- detail=0\n",
+        ),
     ];
     for (bytes, line) in cases {
         let mut files = Files::new(rt.alloc());
         files.add("first.toml", bytes)?;
         let mut report = Bytes::new(rt.alloc(), 100)?;
-        let status = answer(rt.alloc(), &["run", "first.toml", "10"], &mut files, &mut report)?;
+        let status = answer(
+            rt.alloc(),
+            &["run", "first.toml", "10"],
+            &mut files,
+            &mut report,
+        )?;
         assert_eq!(rt; status.number(), 3, "{line}");
         assert_eq!(rt; report.as_slice(), line.as_bytes());
     }
@@ -86,7 +106,10 @@ fn absent_and_short_files(rt: HostRuntime) -> Result<(), Fail> {
     let mut report = Bytes::new(rt.alloc(), 100)?;
     let status = answer(rt.alloc(), &words, &mut loose, &mut report)?;
     assert_eq!(rt; status.number(), 5);
-    assert_eq!(rt; report.as_slice(), b"short file first.toml told=10 got=4\n".as_slice());
+    assert_eq!(rt;
+        report.as_slice(),
+        b"short file first.toml told=10 got=4\n".as_slice()
+    );
     Ok(())
 }
 
@@ -117,6 +140,9 @@ fn each_call_fails_in_turn(rt: HostRuntime) -> Result<(), Fail> {
         assert_eq!(rt; status, Status::ReportFault, "write {call} of the report");
         assert!(rt; THREE_WORDS_REPORT.as_bytes().starts_with(report.as_slice()));
     }
-    assert!(rt; failed > 80, "the report has at least a write for each register");
+    assert!(rt;
+        failed > 80,
+        "the report has at least a write for each register"
+    );
     Ok(())
 }

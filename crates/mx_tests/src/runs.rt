@@ -60,9 +60,18 @@ fn runs_write_these_reports(rt: HostRuntime) -> Result<(), Fail> {
         let text = manifest(rt.alloc(), at, perm, words)?;
         files.add("first.toml", text.as_bytes())?;
         let mut report = Bytes::new(rt.alloc(), 1000)?;
-        let status = answer(rt.alloc(), &["run", "first.toml", steps], &mut files, &mut report)?;
+        let status = answer(
+            rt.alloc(),
+            &["run", "first.toml", steps],
+            &mut files,
+            &mut report,
+        )?;
         assert_eq!(rt; status, Status::Ran, "at {at}, {perm}, {steps} steps");
-        assert_eq!(rt; report.as_slice(), want.as_bytes(), "at {at}, {perm}, {steps} steps");
+        assert_eq!(rt;
+            report.as_slice(),
+            want.as_bytes(),
+            "at {at}, {perm}, {steps} steps"
+        );
     }
     Ok(())
 }
