@@ -1,15 +1,14 @@
 -- As many runs are stored as the owners of all words have.
-use Rattle.std.proofs.Common.{ℕ, zero, suc, ◌≡◌, ◌≢◌, ◌+◌, ◌-◌, ◌<◌, ◌≤◌, ◌⊎◌, ⊎_elim, Bool, true, false, not, ◌||◌, List, [], ◌∷◌, length, get_or, refl, sym, ◌∙◌, ap, subst, arith}
+use Rattle.std.proofs.Common.{ℕ, zero, suc, ◌≡◌, ◌≢◌, ◌+◌, ◌-◌, ◌<◌, ◌≤◌, Bool, true, false, not, ◌||◌, List, [], ◌∷◌, length, get_or, refl, sym, ◌∙◌, ap, arith}
 use Rattle.std.specs.Prelude.{◌==◌}
-use Rattle.std.proofs.lemmas.Bool.{cases_lt, cases_eq, eq-eqb, ne_eqb, lt-ltb, le-ltb}
-use Rattle.mx_words.specs.Counting.{count_below, list_below}
+use Rattle.std.proofs.lemmas.Bool.{eq-eqb, ne_eqb, lt-ltb, le-ltb}
+use Rattle.mx_words.specs.Counting.{count_below}
 use Rattle.mx_words.specs.Runs.{owner_runs}
-use Rattle.mx_words.specs.Starts.{is_owner_start}
 use Rattle.mx_words.proofs.CountingLaws.{count_below-zero, count_below_yes, count_below_still, length-list_below, list_below-at}
 use Rattle.mx_words.proofs.RunLaws.{owner_runs-count}
 use Rattle.mx_owners.specs.declared.runs.Run.{Run}
 use Rattle.mx_owners.specs.OwnerRuns.{Fill, owner_in, owners_in}
-use Rattle.mx_owners.proofs.FillLaws.{Fill-le, owner_in-right}
+use Rattle.mx_owners.proofs.FillLaws.{Fill-le}
 
 -- whether a run begins at word i, where f tells the owners
 abbrev pub starts : (ℕ → ℕ) → ℕ → Bool

@@ -1,16 +1,15 @@
 -- The runs after a give are those of the owners with the give laid over them.
-use Rattle.std.proofs.Common.{ℕ, zero, suc, ◌≡◌, ◌≢◌, ◌+◌, ◌-◌, ◌<◌, ◌≤◌, ◌⊎◌, ⊎_elim, Bool, true, false, not, ◌&&◌, List, [], ◌∷◌, ◌++◌, length, get_or, take, drop, replicate, refl, sym, ◌∙◌, ap, subst, arith, length-append, length-take, length-drop}
-use Rattle.std.specs.Prelude.{◌==◌, nat_lt, if◌then◌else◌}
-use Rattle.std.proofs.lemmas.Bool.{cases_lt, cases_eq, cases_Bool, eq-eqb, ne_eqb, eqb-true, eqb-false, lt-ltb, le-ltb, and_from, and_left, and_right}
+use Rattle.std.proofs.Common.{ℕ, zero, suc, ◌≡◌, ◌≢◌, ◌+◌, ◌-◌, ◌<◌, ◌≤◌, ⊎_elim, true, false, List, [], ◌∷◌, ◌++◌, length, take, drop, replicate, refl, sym, ◌∙◌, ap, subst, arith, length-append, length-drop}
+use Rattle.std.specs.Prelude.{◌==◌, nat_lt}
+use Rattle.std.proofs.lemmas.Bool.{cases_lt, cases_Bool, ne_eqb, eqb-true, eqb-false, lt-ltb, le-ltb}
 use Rattle.std.proofs.lemmas.List.{drop_more, drop_all, length_push, length-replicate, get_or-replicate}
 use Rattle.mx_words.specs.Newest.{Laid, laid, laid_at}
-use Rattle.mx_words.specs.Counting.{list_below}
 use Rattle.mx_words.proofs.CountingLaws.{length-list_below, list_below-at, list_below_is}
 use Rattle.mx_words.proofs.OverlayLaws.{laid_at_in, laid_at_below, laid_at_behind, length-laid, laid-at}
 use Rattle.mx_owners.specs.declared.runs.Run.{Run}
 use Rattle.mx_owners.specs.OwnerRuns.{Fill, owner_in, owners_in, run_at, no_run, place_of, runs_before, goes_on, end_behind, place_behind, given}
-use Rattle.mx_owners.proofs.FillLaws.{end_of, last_owner, Fill-append, Fill-left, Fill-right, Fill-le, Fill-end, Around, around, owner_in-left, owner_in-right, owner_before, owner_from, owner_within, owner_behind}
-use Rattle.mx_owners.proofs.PlaceLaws.{place-le, ends_before, ends_behind, place_within, begins_before, place-mono}
+use Rattle.mx_owners.proofs.FillLaws.{end_of, last_owner, Fill-append, Around, around, owner_in-left, owner_in-right, owner_before, owner_from, owner_within, owner_behind}
+use Rattle.mx_owners.proofs.PlaceLaws.{place-le, ends_behind, place_within, begins_before, place-mono}
 
 end_of-push : (low : ℕ) (xs : List Run) (r : Run) → end_of low (xs ++ r ∷ []) ≡ r.end
 end_of-push low [] r = refl

@@ -1,13 +1,12 @@
 -- The place of a word's run.
-use Rattle.std.proofs.Common.{ℕ, zero, suc, ◌≡◌, ◌≢◌, ◌+◌, ◌-◌, ◌<◌, ◌≤◌, ◌⊎◌, ⊎_elim, Bool, true, false, not, List, [], ◌∷◌, length, get_or, take, drop, refl, sym, ◌∙◌, ap, subst, arith, get_or-take}
+use Rattle.std.proofs.Common.{ℕ, suc, ◌≡◌, ◌≢◌, ◌<◌, ◌≤◌, ⊎_elim, not, List, [], ◌∷◌, length, get_or, take, sym, ◌∙◌, arith, get_or-take}
 use Rattle.std.specs.Prelude.{nat_lt}
-use Rattle.std.specs.List.{position_or_len}
-use Rattle.std.proofs.lemmas.Bool.{cases_lt, lt-ltb, le-ltb, ltb-true, ltb-false}
+use Rattle.std.proofs.lemmas.Bool.{cases_lt, ltb-true, ltb-false}
 use Rattle.std.proofs.lemmas.List.Sums.{fails_before_first, passes_at_first, prefix_len-le-length}
 use Rattle.mx_owners.specs.declared.runs.Run.{Run}
 use Rattle.mx_owners.specs.OwnerRuns.{Fill, owner_in, owners_in, run_at, no_run, place_of}
 use Rattle.mx_words.proofs.CountingLaws.{length-list_below, list_below-at}
-use Rattle.mx_owners.proofs.FillLaws.{end_of, Fill-le, Fill-end, end_bounds, Around, around, owner_within, next_differs}
+use Rattle.mx_owners.proofs.FillLaws.{end_of, Fill-end, end_bounds, Around, around, owner_within, next_differs}
 
 pub place-le : (rs : List Run) (w : ℕ) → place_of rs w ≤ length rs
 place-le rs w = prefix_len-le-length (λ (r : Run). not (nat_lt w r.end)) rs

@@ -1,4 +1,4 @@
-use Rattle.std.proofs.Common.{◌≡◌, ℕ, ◌+◌, ◌<◌, ◌≤◌, length}
+use Rattle.std.proofs.Common.{ℕ, ◌+◌, ◌<◌, ◌≤◌, length}
 use Rattle.mx_owners.specs.OwnerRuns.{run_at}
 use Rattle.mx_owners.proofs.runs.run_place.Given as goal
 

@@ -1,8 +1,8 @@
-use Rattle.std.proofs.Common.{◌≡◌, ◌+◌, ◌-◌, ◌<◌, ◌≤◌, ℕ, List, length, true, false, sym, ap, ◌∙◌, arith, refl}
+use Rattle.std.proofs.Common.{◌≡◌, ◌+◌, ◌-◌, ◌≤◌, ℕ, List, length, true, false, sym, ap, ◌∙◌, arith, refl}
 use Rattle.mx_words.specs.Newest.{Laid, laid}
 use Rattle.mx_words.specs.Runs.{owner_runs}
 use Rattle.mx_owners.specs.declared.runs.Run.{Run}
-use Rattle.mx_owners.specs.OwnerRuns.{given, owners_in, place_of, Fill}
+use Rattle.mx_owners.specs.OwnerRuns.{given, owners_in, Fill}
 use Rattle.mx_owners.proofs.FillLaws.{rising}
 use Rattle.mx_owners.proofs.PlaceLaws.{place_within, length-owners_in}
 use Rattle.mx_owners.proofs.CountLaws.{runs_counted}

@@ -1,6 +1,6 @@
 use Rattle.std.proofs.Common.{◌≡◌, [], ◌∷◌, ◌++◌, List, ap, ◌∙◌, refl, arith}
 use Rattle.mx_owners.specs.declared.runs.Run.{Run}
-use Rattle.mx_owners.specs.OwnerRuns.{owners_in, AreRuns, Fill}
+use Rattle.mx_owners.specs.OwnerRuns.{Fill}
 use Rattle.mx_owners.proofs.GiveLaws.{new_owners}
 use Rattle.mx_owners.proofs.owners.Owners.new.Goals as goal
 

@@ -1,6 +1,5 @@
-use Rattle.std.proofs.Common.{◌≡◌, ◌<◌, ◌≤◌, ℕ, List, length, sym, ap, ◌∙◌, arith}
+use Rattle.std.proofs.Common.{◌≡◌, ◌<◌, length, sym, ◌∙◌, arith}
 use Rattle.std.proofs.lemmas.List.{get_or_read}
-use Rattle.mx_owners.specs.declared.runs.Run.{Run}
 use Rattle.mx_owners.specs.OwnerRuns.{run_at, no_run, place_of, owners_in}
 use Rattle.mx_owners.proofs.FillLaws.{rising}
 use Rattle.mx_owners.proofs.PlaceLaws.{IsRound, is_round, length-owners_in}
