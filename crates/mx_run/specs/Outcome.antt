@@ -6,7 +6,7 @@ use Rattle.mx_io.specs.Store.{FileMap}
 use Rattle.mx_run.specs.declared.status.FileRole.TheVariants.{Manifest}
 use Rattle.mx_run.specs.declared.status.Status.{Status}
 use Rattle.mx_run.specs.declared.status.Status.TheVariants.{Ran, Usage, Refused, StoreFault, ShortFile, NoFile}
-use Rattle.mx_run.specs.Words.{Request, meaning}
+use Rattle.mx_run.specs.Words.{Request}
 use Rattle.mx_run.specs.Manifest.{Plan, manifest_limit, file_fault, judged}
 use Rattle.mx_run.specs.Machine.{booted, run, notes}
 use Rattle.mx_run.specs.Report.{note_line, closing}
@@ -61,11 +61,7 @@ found_file (Some bytes) = if nat_lt manifest_limit (length bytes) then Large els
 abbrev pub found_in : FileMap → List ℕ → Found
 found_in files name = found_file (get files name)
 
--- words without meaning are refused before any file is read
-abbrev pub outcome_for : Option Request → FileMap → Outcome
-outcome_for None files = refusal [] Usage
-outcome_for (Some request) files = answer request (found_in files request.manifest)
-
--- what the words give over the files
-abbrev pub outcome : List (List ℕ) → FileMap → Outcome
-outcome words files = outcome_for (meaning words) files
+-- what is asked gives this over the files; words without meaning are refused before any file is read
+abbrev pub outcome_of : Option Request → FileMap → Outcome
+outcome_of None files = refusal [] Usage
+outcome_of (Some request) files = answer request (found_in files request.manifest)

@@ -10,7 +10,7 @@ use Rattle.mx_run.specs.declared.status.Status.TheVariants.{Ran, Usage, Refused,
 use Rattle.mx_run.specs.Words.{Request}
 use Rattle.mx_run.specs.Manifest.{judged}
 use Rattle.mx_run.specs.Refusal.{line_of}
-use Rattle.mx_run.specs.Outcome.{Outcome, outcome_for, judgement, refusal}
+use Rattle.mx_run.specs.Outcome.{Outcome, outcome_of, judgement, refusal}
 
 -- the store and the three sinks at a moment
 pub record Outside : Type 0 where
@@ -63,11 +63,11 @@ Gives outcome before now result = (result ≡ outcome.status) × Holds outcome b
 -- are those of the outcome of what is asked over the files
 abbrev pub Headline : Option Request → Outside → Outside → Status → Type 0
 Headline asked before now result =
-    IfSome before.store.told (λ files. CountsStay before now → result ≢ WantOfMemory → Gives (outcome_for asked files) before now result)
+    IfSome before.store.told (λ files. CountsStay before now → result ≢ WantOfMemory → Gives (outcome_of asked files) before now result)
 
 -- a status that the outcome has, where the store tells its files
 abbrev pub IsOutcome : Option Request → Outside → Status → Type 0
-IsOutcome asked before status = IfSome before.store.told (λ files. status ≡ (outcome_for asked files).status)
+IsOutcome asked before status = IfSome before.store.told (λ files. status ≡ (outcome_of asked files).status)
 
 -- the cause of each status; the last seven never come on this path
 abbrev pub IsCaused : Option Request → Outside → Outside → Status → Type 0
@@ -99,8 +99,8 @@ pub record IsSure (outcome : Outcome) (before : Outside) : Type 0 where
 -- completeness: there the counts are kept, and the outcome is given or memory is wanting
 abbrev pub Completeness : Option Request → Outside → Outside → Status → Type 0
 Completeness asked before now result =
-    IfSome before.store.told (λ files. IsSure (outcome_for asked files) before →
-    CountsKept before now × ((result ≡ WantOfMemory) ⊎ Gives (outcome_for asked files) before now result))
+    IfSome before.store.told (λ files. IsSure (outcome_of asked files) before →
+    CountsKept before now × ((result ≡ WantOfMemory) ⊎ Gives (outcome_of asked files) before now result))
 
 -- the name of the manifest file that is asked for
 abbrev pub name_asked : Option Request → List ℕ
@@ -115,7 +115,7 @@ OnlyItsLine asked before now result =
 -- whatever fails, each sink holds a prefix of its text, or, where the store's count rose, of the line for that
 abbrev pub Prefixes : Option Request → Outside → Outside → Type 0
 Prefixes asked before now =
-    IfSome before.store.told (λ files. HoldsPrefix (outcome_for asked files) before now
+    IfSome before.store.told (λ files. HoldsPrefix (outcome_of asked files) before now
     ⊎ (Rose before.store.faults now.store.faults × HoldsPrefix (refusal (name_asked asked) StoreFault) before now))
 
 -- over every store, a run is that of some manifest's bytes
