@@ -1,5 +1,5 @@
 -- Facts of all elements of a list, under the edits that a turn makes; bytes and numbers in them.
-use Rattle.std.proofs.Common.{◌≡◌, ℕ, zero, suc, ◌+◌, ◌-◌, ◌*◌, ◌/◌, ◌%◌, ◌^◌, ◌<◌, ◌≤◌, Bool, true, false, not, cond, nat_lt, ◌||◌, List, [], ◌∷◌, ◌++◌, length, get_or, set, take, drop, replicate, refl, sym, ◌∙◌, ap, arith, rules, lit<, Option, Some, None}
+use Rattle.std.proofs.Common.{◌≡◌, ℕ, zero, suc, ◌+◌, ◌/◌, ◌%◌, ◌^◌, ◌<◌, ◌≤◌, Bool, true, false, not, cond, nat_lt, ◌||◌, List, [], ◌∷◌, ◌++◌, length, get_or, set, take, drop, replicate, refl, ◌∙◌, ap, arith, Option, Some}
 use mathlib.Core.List.{reverse_aux}
 use Rattle.std.specs.Prelude.{reverse, filter, find, IfSome, slice_index}
 use Rattle.std.specs.List.{AllByRecursion, list_any, last_or}

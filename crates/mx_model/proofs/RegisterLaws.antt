@@ -1,8 +1,7 @@
 -- Registers stay 32 numbers of 32 bits with x0 zero: writes, saves, restores, and the effect of every instruction.
-use Rattle.std.proofs.Common.{◌≡◌, ℕ, zero, suc, ◌+◌, ◌-◌, ◌*◌, ◌/◌, ◌%◌, ◌^◌, ◌<◌, ◌≤◌, Bool, true, false, not, ◌==◌, nat_lt, cond, List, [], ◌∷◌, length, get_or, set, fold, refl, sym, ◌∙◌, ap, subst, arith, rules, lit<, lit≤, eqb-true, ⊎_elim, Option, Some, None, if◌then◌else◌, ℤ, pos, negsuc}
+use Rattle.std.proofs.Common.{◌≡◌, ℕ, zero, suc, ◌-◌, ◌*◌, ◌/◌, ◌%◌, ◌^◌, ◌<◌, ◌≤◌, Bool, true, false, ◌==◌, nat_lt, cond, List, [], ◌∷◌, length, get_or, set, fold, refl, ◌∙◌, arith, rules, lit<, lit≤, eqb-true, ⊎_elim, ℤ, pos, negsuc}
 use Rattle.std.proofs.Common.{map as list_map}
-use Rattle.std.specs.Prelude.{zip, slice_index, slice_set, bit_and, bit_or, bit_xor, int_lt, int_div, int_rem, ◌*ℤ◌}
-use Rattle.std.specs.List.{list_all}
+use Rattle.std.specs.Prelude.{zip, slice_set, bit_and}
 use Rattle.std.specs.Int.{int_shr}
 use Rattle.std.proofs.lemmas.List.{length-set, get_or-set_other}
 use Rattle.std.proofs.lemmas.Bool.{eqb-false}
@@ -17,7 +16,7 @@ use Rattle.mx_isa.specs.declared.inst.ImmOp.TheVariants.{Addi, Slti, Sltiu, Xori
 use Rattle.mx_isa.specs.declared.inst.RegOp.{RegOp}
 use Rattle.mx_isa.specs.declared.inst.RegOp.TheVariants.{Add, Sub, Sll, Slt, Sltu, Xor, Srl, Sra, Or, And, Mul, Mulh, Mulhsu, Mulhu, Div, Divu, Rem, Remu}
 use Rattle.mx_isa.specs.Ranges.{IsValid as IsValidInst, IsExtended, IsOperand}
-use Rattle.mx_model.specs.Effect.{Effect, Goes, Faults, Loads, Stores, Calls, Leaves, effect, reg, written, plus, minus, next, goes_to, takes, flag, wrapped, signed, left, right, right_signed, high, imm_result, reg_result, loaded, load_size, store_size, sign_extended, holds, jumps}
+use Rattle.mx_model.specs.Effect.{Effect, Goes, Faults, Loads, Stores, Calls, Leaves, effect, reg, written, plus, next, goes_to, takes, flag, wrapped, right, imm_result, reg_result, loaded, load_size, store_size, holds, jumps}
 use Rattle.mx_model.specs.Turn.{saved, saved_registers, restored}
 use Rattle.mx_model.specs.Valid.{IsPc, IsRegisters}
 

@@ -1,42 +1,27 @@
 -- A served call leaves a valid state valid, and answers numbers of 32 bits.
-use Rattle.std.proofs.Common.{◌≡◌, ℕ, zero, suc, ◌+◌, ◌-◌, ◌*◌, ◌/◌, ◌%◌, ◌^◌, ◌<◌, ◌≤◌, Bool, true, false, not, cond, nat_lt, nat_le, ◌==◌, ◌&&◌, ◌||◌, List, [], ◌∷◌, ◌++◌, length, get_or, set, take, fold, refl, sym, ◌∙◌, ap, subst, arith, rules, lit<, lit≤, eqb-true, zero-add, if◌then◌else◌, Option, Some, None, unwrap_or, is_none}
-use Rattle.std.proofs.Common.{map as list_map}
-use Rattle.std.specs.Prelude.{IfSome, slice_index, slice_set}
-use Rattle.std.specs.List.{AllByRecursion, enumerate_from, list_any, range_with_len}
-use Rattle.std.specs.Option.{option_map_or}
-use Rattle.std.proofs.lemmas.Bool.{ltb-true, ltb-false, leb-true, leb-false, eqb-false}
-use Rattle.std.proofs.lemmas.List.{length-set, length-map, length-append, length-take, get_or-set_same, get_or-set_other, get_or-map}
-use Rattle.std.proofs.lemmas.List.FromFn.{length-enumerate_from, get_or-enumerate_from}
+use Rattle.std.proofs.Common.{◌≡◌, ℕ, ◌+◌, ◌-◌, ◌*◌, ◌%◌, ◌^◌, ◌<◌, ◌≤◌, Bool, true, false, not, cond, nat_lt, nat_le, ◌==◌, ◌&&◌, ◌||◌, List, [], ◌∷◌, ◌++◌, length, refl, sym, arith, lit<, if◌then◌else◌, Option, Some, None, unwrap_or, is_none}
+use Rattle.std.specs.Prelude.{IfSome}
+use Rattle.std.specs.List.{AllByRecursion, range_with_len}
+use Rattle.std.proofs.lemmas.Bool.{ltb-true, leb-true, leb-false}
+use Rattle.std.proofs.lemmas.List.{length-append}
 use Rattle.mx_words.specs.declared.perm.Perm.{Perm}
 use Rattle.mx_words.specs.declared.perm.Perm.TheVariants as P
 use Rattle.mx_words.specs.declared.perm.Access.TheVariants as A
 use Rattle.mx_words.specs.Announced.{is_announced}
 use Rattle.mx_words.specs.Bytes.{number_at, put_at, cleared_at}
-use Rattle.mx_words.specs.Caches.{Cache}
-use Rattle.mx_words.specs.FirstFit.{Area, has_room, place, with_block, without_block, most_blocks}
-use Rattle.mx_words.specs.Ranges.{ram_base, address_of, in_ram, word_of}
+use Rattle.mx_words.specs.FirstFit.{Area, has_room, with_block, without_block, most_blocks}
+use Rattle.mx_words.specs.Ranges.{ram_base, in_ram}
 use Rattle.mx_words.specs.Rights.{number, allows}
-use Rattle.mx_isa.specs.declared.inst.Inst.{Inst}
-use Rattle.mx_isa.specs.declared.inst.LoadWidth.{LoadWidth}
-use Rattle.mx_isa.specs.declared.inst.LoadWidth.TheVariants.{Lb, Lh, Lw, Lbu, Lhu}
-use Rattle.mx_isa.specs.Ranges.{IsValid as IsValidInst}
-use Rattle.mx_isa.specs.Table.{decoded}
-use Rattle.mx_isa.proofs.OfDecoded.{Fits, decoded-fits}
 use Rattle.mx_model.specs.declared.values.Call.{Call}
-use Rattle.mx_model.specs.declared.values.Frame.{Frame}
 use Rattle.mx_model.specs.declared.values.Gate.{Gate}
-use Rattle.mx_model.specs.Checks.{Look, arg, hears, heard_by, is_ready, looked, looked_all, leaves, drops, call_range}
-use Rattle.mx_model.specs.Effect.{Effect, Goes, Faults, Loads, Stores, Calls, Leaves, effect, reg, written, next, load_size, loaded, jumps}
-use Rattle.mx_model.specs.Gates.{call_gate, call_target, gate_at, is_at, without_gate, with_gate, has_gate, no_gate_fits, most_gates, most_frames, top, below_top, nearest, saved_stack}
+use Rattle.mx_model.specs.Checks.{Look, arg, looked, looked_all, drops, call_range}
+use Rattle.mx_model.specs.Gates.{is_at, without_gate, with_gate, has_gate, no_gate_fits, most_gates}
 use Rattle.mx_model.specs.Reads.{Reads}
-use Rattle.mx_model.specs.State.{Core, Hart, Module, Status, Running, Waiting, Halted, no_hart, no_module, hart_at, with_hart, with_cache, with_module, module_at, is_module}
-use Rattle.mx_model.specs.Turn.{Deed, Rests, Waits, Serves, Asks, Traps, Bounces, Crosses, Returns, Runs, Puts}
-use Rattle.mx_model.specs.Valid.{IsModule, IsPc, IsRegisters, IsFrame, IsCall, IsStatus, IsHart, IsGate, IsHome, IsValid}
-use Rattle.mx_model.proofs.ListLaws.{all-set, all-append, all-take, all-filter, all-at, all-find, found-passes, all-last, length-filter-le, length-filter-lt, length-with_block, length-put_at, bytes-put_at, length-cleared_at, bytes-cleared_at, number-one, number-two, number-four}
-use Rattle.mx_model.proofs.RegisterLaws.{registers-set, registers-written, registers-restored, saved-count, saved-small, small-loaded, small-plus, pc-next, IsCause, IsEffect, effect-valid, effect-jumps}
-use Rattle.mx_model.specs.Serve.{Served, Service, Exit, Write, Grant, RevokeAll, Transfer, Alloc, Free, AddGate, RemoveGate, AddReturnGate, Query, Self, Exchange, Unknown, Test, first_failed, judged, answers, code, serve, served_by, service, ended, write_from, written_out, write_looks, may_read, write_words, exchange_from, exchanged, look_of, arg_word, is_word, no_word, foreign_word, with_blocks, alloc_place, alloc_change, allocated, adds, serve_alloc, serve_free, freed_count, free_change, changes, serve_gate, serve_ungate, serve_return_gate, write_outside, no_range, owns, arg_range, grant_change, revoke_change, meets_heap, give_of}
-use Rattle.mx_model.proofs.ValidParts.{AreBytes, valid-ram, valid-module, valid-gates, valid-cache, valid-looked_all, home-at, same-harts-looked_all, same-modules-looked_all}
-use Rattle.mx_model.proofs.KeepLaws.{Keeps, keeps-serve}
+use Rattle.mx_model.specs.State.{Core, Module, module_at, is_module}
+use Rattle.mx_model.specs.Valid.{IsModule, IsCall, IsGate, IsHome, IsValid}
+use Rattle.mx_model.proofs.ListLaws.{all-append, all-filter, found-passes, length-filter-le, length-filter-lt, length-with_block, length-put_at, bytes-put_at, length-cleared_at, bytes-cleared_at, number-four}
+use Rattle.mx_model.specs.Serve.{Served, Service, Exit, Write, Grant, RevokeAll, Transfer, Alloc, Free, AddGate, RemoveGate, AddReturnGate, Query, Self, Exchange, Unknown, Test, first_failed, judged, answers, code, serve, served_by, service, ended, write_from, written_out, write_looks, exchange_from, exchanged, look_of, arg_word, is_word, no_word, foreign_word, with_blocks, alloc_place, alloc_change, allocated, adds, serve_alloc, serve_free, freed_count, free_change, changes, serve_gate, serve_ungate, serve_return_gate, write_outside, no_range, owns, arg_range, grant_change, revoke_change, meets_heap, give_of}
+use Rattle.mx_model.proofs.ValidParts.{valid-ram, valid-module, valid-gates, valid-cache, valid-looked_all, home-at}
 
 -- a valid outcome: the state is valid, and the answers are numbers of 32 bits
 pub record IsServed (s : Served) : Type 0 where

@@ -1,46 +1,30 @@
 -- A turn keeps a valid state valid.
-use Rattle.std.proofs.Common.{◌≡◌, ℕ, zero, suc, ◌+◌, ◌-◌, ◌*◌, ◌/◌, ◌%◌, ◌^◌, ◌<◌, ◌≤◌, Bool, true, false, not, cond, nat_lt, nat_le, ◌==◌, ◌&&◌, ◌||◌, List, [], ◌∷◌, ◌++◌, length, get_or, set, take, fold, refl, sym, ◌∙◌, ap, subst, arith, rules, lit<, lit≤, eqb-true, zero-add, if◌then◌else◌, Option, Some, None, unwrap_or, is_none}
-use Rattle.std.proofs.Common.{map as list_map}
-use Rattle.std.specs.Prelude.{IfSome, slice_index, slice_set, find, reverse}
+use Rattle.std.proofs.Common.{◌≡◌, ℕ, ◌+◌, ◌-◌, ◌*◌, ◌^◌, ◌<◌, ◌≤◌, Bool, true, false, not, cond, nat_lt, ◌==◌, ◌&&◌, List, [], ◌∷◌, length, refl, sym, subst, arith, lit<, Option, Some, None, unwrap_or}
+use Rattle.std.specs.Prelude.{IfSome, slice_set, find, reverse}
 use Rattle.std.proofs.Math.Nat.{mul-le-mul_left}
 use Rattle.std.proofs.Math.ListN.{get_or-eq_default}
-use Rattle.std.specs.List.{AllByRecursion, enumerate_from, list_any}
 use Rattle.std.specs.Option.{option_map_or}
-use Rattle.std.proofs.lemmas.Bool.{ltb-true, ltb-false, leb-true, leb-false, eqb-false}
-use Rattle.std.proofs.lemmas.List.{length-set, length-map, length-append, length-take, get_or-set_same, get_or-set_other, get_or-map}
-use Rattle.std.proofs.lemmas.List.FromFn.{length-enumerate_from, get_or-enumerate_from}
-use Rattle.mx_words.specs.declared.perm.Perm.{Perm}
-use Rattle.mx_words.specs.declared.perm.Access.TheVariants as A
-use Rattle.mx_words.specs.Announced.{is_announced}
-use Rattle.mx_words.specs.Bytes.{number_at, put_at, cleared_at}
-use Rattle.mx_words.specs.Caches.{Cache}
-use Rattle.mx_words.specs.FirstFit.{Area, has_room, place, with_block, without_block, most_blocks}
-use Rattle.mx_words.specs.Ranges.{ram_base, address_of, in_ram, word_of}
-use Rattle.mx_words.specs.Rights.{number, allows}
-use Rattle.mx_isa.specs.declared.inst.Inst.{Inst}
-use Rattle.mx_isa.specs.declared.inst.LoadWidth.{LoadWidth}
-use Rattle.mx_isa.specs.declared.inst.LoadWidth.TheVariants.{Lb, Lh, Lw, Lbu, Lhu}
-use Rattle.mx_isa.specs.Ranges.{IsValid as IsValidInst}
-use Rattle.mx_isa.specs.Table.{decoded}
-use Rattle.mx_isa.proofs.OfDecoded.{Fits, decoded-fits}
+use Rattle.std.proofs.lemmas.Bool.{ltb-true, ltb-false}
+use Rattle.std.proofs.lemmas.List.{length-set, length-append, length-take}
+use Rattle.mx_words.specs.Bytes.{put_at}
+use Rattle.mx_words.specs.Ranges.{ram_base, address_of}
 use Rattle.mx_model.specs.declared.values.Call.{Call}
 use Rattle.mx_model.specs.declared.values.Frame.{Frame}
-use Rattle.mx_model.specs.declared.values.Gate.{Gate}
-use Rattle.mx_model.specs.Checks.{Look, arg, hears, heard_by, is_ready, looked, looked_all, leaves, drops, call_range}
-use Rattle.mx_model.specs.Effect.{Effect, Goes, Faults, Loads, Stores, Calls, Leaves, effect, reg, written, next, load_size, loaded, jumps}
-use Rattle.mx_model.specs.Gates.{call_gate, call_target, gate_at, is_at, without_gate, with_gate, has_gate, no_gate_fits, most_gates, most_frames, top, below_top, nearest, saved_stack}
+use Rattle.mx_model.specs.Checks.{hears, looked_all}
+use Rattle.mx_model.specs.Effect.{reg, written, next}
+use Rattle.mx_model.specs.Gates.{most_frames, top, below_top, nearest, saved_stack}
 use Rattle.mx_model.specs.Reads.{Reads}
-use Rattle.mx_model.specs.State.{Core, Hart, Module, Status, Running, Waiting, Halted, no_hart, no_module, hart_at, with_hart, with_cache, with_module, module_at, is_module}
+use Rattle.mx_model.specs.State.{Core, Hart, Module, Running, Halted, no_hart, hart_at, with_module, module_at}
 use Rattle.mx_model.specs.Turn.{Deed, Rests, Waits, Serves, Asks, Traps, Bounces, Crosses, Returns, Runs, Puts}
-use Rattle.mx_model.specs.Valid.{IsModule, IsPc, IsRegisters, IsFrame, IsCall, IsStatus, IsHart, IsGate, IsHome, IsValid}
-use Rattle.mx_model.proofs.ListLaws.{all-set, all-append, all-reverse, all-take, all-filter, all-at, all-find, found-passes, all-last, length-filter-le, length-filter-lt, length-with_block, length-put_at, bytes-put_at, length-cleared_at, bytes-cleared_at, number-one, number-two, number-four}
-use Rattle.mx_model.proofs.RegisterLaws.{registers-set, registers-written, registers-restored, saved-count, saved-small, small-loaded, small-plus, pc-next, IsCause, IsEffect, effect-valid, effect-jumps}
+use Rattle.mx_model.specs.Valid.{IsModule, IsPc, IsRegisters, IsFrame, IsCall, IsStatus, IsHart, IsHome, IsValid}
+use Rattle.mx_model.proofs.ListLaws.{all-append, all-reverse, all-take, all-find, all-last, length-put_at, bytes-put_at}
+use Rattle.mx_model.proofs.RegisterLaws.{registers-set, registers-written, registers-restored, saved-count, saved-small, small-plus, pc-next, IsCause}
 use Rattle.mx_model.specs.Serve.{Served, serve}
-use Rattle.mx_model.specs.Turn.{Decided, Made, made, acted, asked, served, done, trapped, given_up, killed, over_frame, halted, crossed, with_regs, enacted, decide, heard_first, counted, is_halted, turned, is_served_now, by_status, answered, stack_address, saved, restored, fault_answer, nobody}
+use Rattle.mx_model.specs.Turn.{Decided, Made, acted, asked, served, done, trapped, given_up, killed, over_frame, halted, crossed, with_regs, enacted, decide, heard_first, counted, is_halted, turned, is_served_now, by_status, answered, stack_address, saved, restored, fault_answer}
 use Rattle.mx_model.proofs.DecideLaws.{IsDeed, deed-decide}
 use Rattle.mx_model.proofs.KeepLaws.{Keeps, keeps-serve, keeps-looked_all}
 use Rattle.mx_model.proofs.ServeLaws.{IsServed, served-serve}
-use Rattle.mx_model.proofs.ValidParts.{valid-turns, valid-hart, valid-module, valid-cache, valid-ram, valid-looked_all, valid-hears, home-at, same-harts-looked_all, same-modules-looked_all}
+use Rattle.mx_model.proofs.ValidParts.{valid-turns, valid-hart, valid-module, valid-cache, valid-ram, valid-looked_all, valid-hears, home-at}
 
 -- a hart with other registers and another pc runs
 hart-regs : (modules h : ℕ) (hart : Hart) (regs : List ℕ) (pc : ℕ) → IsHart modules h hart → IsRegisters regs → IsPc pc →

@@ -1,38 +1,19 @@
 -- A valid state with other parts is valid.
-use Rattle.std.proofs.Common.{◌≡◌, ℕ, zero, suc, ◌+◌, ◌-◌, ◌*◌, ◌/◌, ◌%◌, ◌^◌, ◌<◌, ◌≤◌, Bool, true, false, not, cond, nat_lt, nat_le, ◌==◌, ◌&&◌, ◌||◌, List, [], ◌∷◌, ◌++◌, length, get_or, set, take, fold, refl, sym, ◌∙◌, ap, subst, arith, rules, lit<, lit≤, eqb-true, zero-add, if◌then◌else◌, Option, Some, None, unwrap_or, is_none}
+use Rattle.std.proofs.Common.{◌≡◌, ℕ, ◌-◌, ◌<◌, ◌≤◌, true, false, cond, ◌==◌, List, [], ◌∷◌, length, get_or, set, refl, sym, ◌∙◌, ap, subst, arith, lit≤, eqb-true, zero-add, if◌then◌else◌}
 use Rattle.std.proofs.Common.{map as list_map}
-use Rattle.std.specs.Prelude.{IfSome, slice_index, slice_set}
-use Rattle.std.specs.List.{AllByRecursion, enumerate_from, list_any}
-use Rattle.std.specs.Option.{option_map_or}
-use Rattle.std.proofs.lemmas.Bool.{ltb-true, ltb-false, leb-true, leb-false, eqb-false}
-use Rattle.std.proofs.lemmas.List.{length-set, length-map, length-append, length-take, get_or-set_same, get_or-set_other, get_or-map}
+use Rattle.std.specs.Prelude.{slice_index}
+use Rattle.std.specs.List.{AllByRecursion, enumerate_from}
+use Rattle.std.proofs.lemmas.Bool.{eqb-false}
+use Rattle.std.proofs.lemmas.List.{length-set, length-map, get_or-set_same, get_or-set_other, get_or-map}
 use Rattle.std.proofs.lemmas.List.FromFn.{length-enumerate_from, get_or-enumerate_from}
-use Rattle.mx_words.specs.declared.perm.Perm.{Perm}
-use Rattle.mx_words.specs.declared.perm.Access.TheVariants as A
-use Rattle.mx_words.specs.Announced.{is_announced}
-use Rattle.mx_words.specs.Bytes.{number_at, put_at, cleared_at}
 use Rattle.mx_words.specs.Caches.{Cache}
-use Rattle.mx_words.specs.FirstFit.{Area, has_room, place, with_block, without_block, most_blocks}
-use Rattle.mx_words.specs.Ranges.{ram_base, address_of, in_ram, word_of}
-use Rattle.mx_words.specs.Rights.{number, allows}
-use Rattle.mx_isa.specs.declared.inst.Inst.{Inst}
-use Rattle.mx_isa.specs.declared.inst.LoadWidth.{LoadWidth}
-use Rattle.mx_isa.specs.declared.inst.LoadWidth.TheVariants.{Lb, Lh, Lw, Lbu, Lhu}
-use Rattle.mx_isa.specs.Ranges.{IsValid as IsValidInst}
-use Rattle.mx_isa.specs.Table.{decoded}
-use Rattle.mx_isa.proofs.OfDecoded.{Fits, decoded-fits}
-use Rattle.mx_model.specs.declared.values.Call.{Call}
-use Rattle.mx_model.specs.declared.values.Frame.{Frame}
 use Rattle.mx_model.specs.declared.values.Gate.{Gate}
-use Rattle.mx_model.specs.Checks.{Look, arg, hears, heard_by, is_ready, looked, looked_all, leaves, drops, call_range}
-use Rattle.mx_model.specs.Effect.{Effect, Goes, Faults, Loads, Stores, Calls, Leaves, effect, reg, written, next, load_size, loaded, jumps}
-use Rattle.mx_model.specs.Gates.{call_gate, call_target, gate_at, is_at, without_gate, with_gate, has_gate, no_gate_fits, most_gates, most_frames, top, below_top, nearest, saved_stack}
+use Rattle.mx_model.specs.Checks.{Look, hears, heard_by, looked, looked_all}
+use Rattle.mx_model.specs.Gates.{most_gates}
 use Rattle.mx_model.specs.Reads.{Reads}
-use Rattle.mx_model.specs.State.{Core, Hart, Module, Status, Running, Waiting, Halted, no_hart, no_module, hart_at, with_hart, with_cache, with_module, module_at, is_module}
-use Rattle.mx_model.specs.Turn.{Deed, Rests, Waits, Serves, Asks, Traps, Bounces, Crosses, Returns, Runs, Puts}
-use Rattle.mx_model.specs.Valid.{IsModule, IsPc, IsRegisters, IsFrame, IsCall, IsStatus, IsHart, IsGate, IsHome, IsValid}
-use Rattle.mx_model.proofs.ListLaws.{all-set, all-append, all-take, all-filter, all-at, all-find, found-passes, all-last, length-filter-le, length-filter-lt, length-with_block, length-put_at, bytes-put_at, length-cleared_at, bytes-cleared_at, number-one, number-two, number-four}
-use Rattle.mx_model.proofs.RegisterLaws.{registers-set, registers-written, registers-restored, saved-count, saved-small, small-loaded, small-plus, pc-next, IsCause, IsEffect, effect-valid, effect-jumps}
+use Rattle.mx_model.specs.State.{Core, Hart, Module, Status, Running, Waiting, Halted, no_hart, no_module, with_hart, with_cache, with_module, module_at}
+use Rattle.mx_model.specs.Valid.{IsStatus, IsHart, IsGate, IsHome, IsValid}
+use Rattle.mx_model.proofs.ListLaws.{all-set, all-at}
 
 -- the bytes of RAM, and one hart, as parts of a valid state
 abbrev pub AreBytes : List ℕ → Type 0
