@@ -4,7 +4,10 @@
 
 mod caches;
 mod gates;
+mod heaps;
+mod owners;
 
+use std::alloc::Global;
 use std::time::{CpuClock, Duration};
 use std::{env, io};
 
@@ -17,7 +20,9 @@ fn main(rt: HostRuntime) -> io::Result<()> {
     };
     time_gates(&rt, rounds)?;
     time_lookasides(&rt, rounds)?;
-    time_sidecars(&rt, rounds)
+    time_sidecars(&rt, rounds)?;
+    time_owners(&rt, rt.alloc(), rounds)?;
+    time_heaps(&rt, rt.alloc(), rounds)
 }
 
 /// `call_gate` and `is_return` at words without a gate, with 0 and with 256 gates elsewhere.
@@ -63,6 +68,40 @@ fn time_sidecars(rt: &(impl Print + Eprint + CpuClock), rounds: u64) -> io::Resu
         between,
         ended,
     )
+}
+
+/// `owner` where all words have one owner, and with 4096 runs of owners.
+fn time_owners(
+    rt: &(impl Print + Eprint + CpuClock),
+    alloc: Global,
+    rounds: u64,
+) -> io::Result<()> {
+    for words in [0, 2048] {
+        let Some(owners) = owners::owned(alloc, words) else {
+            return eprintln!(rt; "no memory");
+        };
+        let begun = rt.thread_cpu_time()?;
+        let seen = owners::owners_seen(&owners, rounds);
+        let ended = rt.thread_cpu_time()?;
+        println!(rt; "owner with {words} words of their own: domain 1 seen {seen} times")?;
+        tell(rt, "owner", rounds, begun, ended)?;
+    }
+    Ok(())
+}
+
+/// `alloc` and `free` of a heap with no other block, and with 1023 others.
+fn time_heaps(rt: &(impl Print + Eprint + CpuClock), alloc: Global, rounds: u64) -> io::Result<()> {
+    for blocks in [0, 1023] {
+        let Some(mut heap) = heaps::filled(alloc, blocks) else {
+            return eprintln!(rt; "no memory");
+        };
+        let begun = rt.thread_cpu_time()?;
+        let ended_blocks = heaps::blocks_ended(&mut heap, rounds);
+        let ended = rt.thread_cpu_time()?;
+        println!(rt; "alloc and free beside {blocks} blocks: {ended_blocks} ended")?;
+        tell(rt, "alloc and free", rounds, begun, ended)?;
+    }
+    Ok(())
 }
 
 /// One line of costs.
