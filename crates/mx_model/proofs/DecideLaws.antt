@@ -1,5 +1,5 @@
 -- What a hart decides in a valid state is valid.
-use Rattle.std.proofs.Common.{◌≡◌, ℕ, zero, suc, ◌-◌, ◌%◌, ◌^◌, ◌<◌, Bool, true, false, not, cond, nat_le, ◌==◌, List, length, refl, sym, lit<, eqb-true, if◌then◌else◌, Option, Some, None}
+use Rattle.std.proofs.Common.{◌≡◌, ℕ, zero, suc, ◌-◌, ◌%◌, ◌^◌, ◌<◌, Bool, true, false, not, cond, nat_le, ◌==◌, List, length, refl, sym, lit<, subst, eqb-true, if◌then◌else◌, Option, Some, None}
 use Rattle.std.specs.Prelude.{IfSome}
 use Rattle.std.specs.Option.{option_map_or}
 use Rattle.std.proofs.lemmas.Bool.{leb-false}
@@ -11,6 +11,7 @@ use Rattle.mx_isa.specs.declared.inst.LoadWidth.{LoadWidth}
 use Rattle.mx_isa.specs.declared.inst.LoadWidth.TheVariants.{Lb, Lh, Lw, Lbu, Lhu}
 use Rattle.mx_isa.specs.Table.{decoded}
 use Rattle.mx_isa.proofs.OfDecoded.{Fits, decoded-fits}
+use Rattle.mx_model.specs.declared.values.Call.{Call}
 use Rattle.mx_model.specs.declared.values.Frame.{Frame}
 use Rattle.mx_model.specs.declared.values.Gate.{Gate}
 use Rattle.mx_model.specs.Checks.{arg, is_ready}
@@ -30,7 +31,7 @@ abbrev pub IsDeed : ℕ → ℕ → Hart → Deed → Type 0
 IsDeed modules h hart Rests = Unit {0}
 IsDeed modules h hart Waits = Unit {0}
 IsDeed modules h hart (Serves call) = IsCall modules h call
-IsDeed modules h hart (Asks call) = IsCall modules h call
+IsDeed modules h hart (Asks call) = call ≡ call_of h hart
 IsDeed modules h hart (Traps cause value) = IsCause cause
 IsDeed modules h hart Bounces = IsPc (reg hart.regs 1)
 IsDeed modules h hart (Crosses target) = IsModule modules target × IsPc (reg hart.regs 1) × (length hart.frames < most_frames)
@@ -91,7 +92,7 @@ number-load ram k Lw h = number-four ram k h
 number-load ram k Lbu h = number-one ram k h
 number-load ram k Lhu h = number-two ram k h
 
-call-of : (modules h : ℕ) (hart : Hart) → IsHart modules h hart → IsCall modules h (call_of h hart)
+pub call-of : (modules h : ℕ) (hart : Hart) → IsHart modules h hart → IsCall modules h (call_of h hart)
 call-of modules h hart p = record { hart = refl; domain = p.domain; small = arguments }
   where
     arguments : (i : ℕ) → arg (call_of h hart) i < 2 ^ 32
@@ -111,7 +112,7 @@ deed-by_effect r c h hart (Loads a address width rd) v p q =
     (registers-written hart.regs rd _ p.regs (small-loaded width _ (number-load c.ram (address - ram_base) width v.ram_bytes)), pc-next hart.pc p.pc)
 deed-by_effect r c h hart (Stores a address size value) v p q =
     deed-choice (length c.modules) h hart (is_denied r c hart.domain address A.Write) (Traps 7 address) (Puts address size value) (lit< tt) tt
-deed-by_effect r c h hart Calls v p q = call-of (length c.modules) h hart p
+deed-by_effect r c h hart Calls v p q = refl
 deed-by_effect r c h hart (Leaves rd target) v p q =
     deed-choice (length c.modules) h hart (is_return_at c hart.domain hart.pc) (at_return hart rd target) (plain_deed (jumps hart.regs hart.pc rd target))
     (deed-at_return (length c.modules) h hart rd target p)
@@ -156,10 +157,12 @@ deed-runs_in r c h hart false v p =
     deed-runs_at r c h hart (call_gate_at c hart.domain hart.pc) v p (target-at c hart.domain (word_of hart.pc c.size) v)
 
 -- a hart that there is decides a valid deed
-deed-by_status : (r : Reads) (c : Core) (h : ℕ) (hart : Hart) (s : Status) → IsValid c → IsHart (length c.modules) h hart → IsStatus (length c.modules) h s →
+deed-by_status : (r : Reads) (c : Core) (h : ℕ) (hart : Hart) (s : Status) → IsValid c → IsHart (length c.modules) h hart → IsStatus h hart s →
     IsDeed (length c.modules) h hart (by_status r c h hart s).deed
 deed-by_status r c h hart (Halted code) v p q = tt
-deed-by_status r c h hart (Waiting call heard) v p q = deed-choice (length c.modules) h hart (is_ready c h heard) (Serves call) Waits q tt
+deed-by_status r c h hart (Waiting call heard) v p q =
+    deed-choice (length c.modules) h hart (is_ready c h heard) (Serves call) Waits
+    (subst (λ (k : Call). IsCall (length c.modules) h k) (sym q.own) (call-of (length c.modules) h hart p)) tt
 deed-by_status r c h hart Running v p q = deed-runs_in r c h hart (module_at c hart.domain).dead v p
 
 pub deed-decide : (r : Reads) (c : Core) (h : ℕ) → IsValid c → h < length c.harts → IsDeed (length c.modules) h (hart_at c h) (decide r c h).deed

@@ -5,6 +5,7 @@ use Rattle.std.proofs.Math.ListN.{get_or-map, get_or-eq_default}
 use Rattle.std.proofs.lemmas.List.{append-nil}
 use Rattle.std.proofs.lemmas.Bool.{ltb-true, ltb-false}
 use mathlib.Core.Path.{fun_ext}
+use Rattle.std.specs.Prelude.{option_to_list}
 use Rattle.mx_words.specs.declared.perm.Perm.{Perm}
 use Rattle.mx_words.specs.declared.perm.Perm.TheVariants as P
 use Rattle.mx_words.specs.declared.perm.Span.{Span}
@@ -16,7 +17,7 @@ use Rattle.mx_words.specs.Rights.{perm_at}
 use Rattle.mx_words.specs.Runs.{owner_runs}
 use Rattle.mx_words.proofs.OverlayLaws.{map-at, length-map_of, owners-at, length-owners, map-append, owners-append}
 use Rattle.mx_model.specs.Reads.{Reads, Change, reads, flat_reads, grants_of, map_in, most_owner_runs}
-use Rattle.mx_model.specs.Run.{after, flat_after, turn, flat_turn, made_of, flat_made, grants_after, maps_after, owners_after, at_most_one}
+use Rattle.mx_model.specs.Run.{after, flat_after, turn, flat_turn, made_of, flat_made, grants_after, maps_after, owners_after}
 use Rattle.mx_model.specs.State.{Core, State, Flat, words, flat}
 use Rattle.mx_model.specs.Turn.{Made, turned}
 use Rattle.mx_model.proofs.KeepLaws.{size-turned}
@@ -90,7 +91,7 @@ maps-after size grants None = refl
 maps-after size grants (Some c) = maps_of-granted c.first c.count size c.given 1 grants
 
 owners-after : (size : ℕ) (gives : List Give) (o : Option Give) →
-    owners (gives ++ at_most_one o) size ≡ owners_after (owners gives size) o
+    owners (gives ++ option_to_list o) size ≡ owners_after (owners gives size) o
 owners-after size gives None = ap (λ gs. owners gs size) (append-nil gives)
 owners-after size gives (Some g) = owners-append gives g size
 
@@ -100,8 +101,8 @@ whole core maps os = record { core = core; maps = maps; owners = os }
 -- what a turn made, in the flat state
 flat-after : (s : State) (m : Made) → m.core.size ≡ s.core.size → flat (after s m) ≡ flat_after (flat s) m
 flat-after s m e =
-    ap (λ n. whole m.core (maps_of n (grants_after s.grants m.change)) (owners (s.gives ++ at_most_one m.give) n)) e
-    ∙ ap (λ ms. whole m.core ms (owners (s.gives ++ at_most_one m.give) s.core.size)) (maps-after s.core.size s.grants m.change)
+    ap (λ n. whole m.core (maps_of n (grants_after s.grants m.change)) (owners (s.gives ++ option_to_list m.give) n)) e
+    ∙ ap (λ ms. whole m.core ms (owners (s.gives ++ option_to_list m.give) s.core.size)) (maps-after s.core.size s.grants m.change)
     ∙ ap (λ os. whole m.core (maps_after (flat s).maps m.change) os) (owners-after s.core.size s.gives m.give)
 
 -- the flat state after a turn is the turn of the flat state

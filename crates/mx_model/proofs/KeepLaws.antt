@@ -16,7 +16,7 @@ use Rattle.mx_model.specs.declared.values.Gate.{Gate}
 use Rattle.mx_model.specs.Checks.{Look, arg, hears, looked, looked_all, leaves, drops, call_range}
 use Rattle.mx_model.specs.Effect.{next}
 use Rattle.mx_model.specs.Reads.{Reads}
-use Rattle.mx_model.specs.Serve.{Served, Service, Exit, Write, Grant, RevokeAll, Transfer, Alloc, Free, AddGate, RemoveGate, AddReturnGate, Query, Self, Exchange, Unknown, judged, answers, serve, served_by, service, ended, write_from, written_out, write_looks, exchange_from, exchanged, with_blocks, look_of, arg_word, first_failed, allocated, alloc_place}
+use Rattle.mx_model.specs.Serve.{Served, Service, Exit, Write, Grant, RevokeAll, Transfer, Alloc, Free, AddGate, RemoveGate, AddReturnGate, Query, Self, Exchange, Unknown, judged, answers, serve, served_by, service, ended, write_from, written_out, write_looks, exchange_from, exchanged, with_blocks, look_of, arg_word, first_failed, allocated, alloc_place, alloc_from}
 use Rattle.mx_model.specs.State.{Core, Hart, Module, hart_at, with_hart, with_cache, with_module, module_at}
 use Rattle.mx_model.specs.Turn.{Deed, Rests, Waits, Serves, Asks, Traps, Bounces, Crosses, Returns, Runs, Puts, Decided, acted, asked, served, done, trapped, given_up, killed, over_frame, halted, with_regs, enacted, decide, heard_first, counted, is_halted, turned, is_served_now, answered}
 
@@ -102,6 +102,10 @@ keeps-allocated c call first =
     let cleared = record c { ram = cleared_at c.ram (4 * first) (4 * arg call 0) } in
     keeps-trans c cleared _ (keeps-ram _ c) (keeps-module call.domain _ cleared)
 
+keeps-alloc_from : (c : Core) (call : Call) (first : ℕ) (o : Option ℕ) → Keeps c (alloc_from c call first o).core
+keeps-alloc_from c call first (Some n) = keeps-refl c
+keeps-alloc_from c call first None = keeps-allocated c call first
+
 keeps-written_out : (r : Reads) (c : Core) (call : Call) → Keeps c (written_out r c call).core
 keeps-written_out r c call =
     let p = keeps-looked_all r call.hart (write_looks r call) c in
@@ -131,8 +135,7 @@ keeps-served_by Write r c call = keeps-write_from r c call _
 keeps-served_by Grant r c call = keeps-judged c c _ _ (keeps-refl c) (keeps-refl c)
 keeps-served_by RevokeAll r c call = keeps-judged c c _ _ (keeps-refl c) (keeps-refl c)
 keeps-served_by Transfer r c call = keeps-judged c c _ _ (keeps-refl c) (keeps-refl c)
-keeps-served_by Alloc r c call =
-    keeps-judged c c _ (allocated c call (unwrap_or (alloc_place c call) 0)) (keeps-refl c) (keeps-allocated c call (unwrap_or (alloc_place c call) 0))
+keeps-served_by Alloc r c call = keeps-alloc_from c call (unwrap_or (alloc_place c call) 0) _
 keeps-served_by Free r c call = keeps-judged c c _ _ (keeps-refl c) (keeps-blocks call _ c)
 keeps-served_by AddGate r c call = keeps-judged c c _ _ (keeps-refl c) (keeps-gates _ c)
 keeps-served_by RemoveGate r c call = keeps-judged c c _ _ (keeps-refl c) (keeps-gates _ c)

@@ -8,6 +8,7 @@ pub mod FlatLaws
 pub mod RunLaws
 pub mod RegisterLaws
 pub mod ListLaws
+pub mod ApartLaws
 pub mod ValidParts
 pub mod DecideLaws
 pub mod ServeLaws

@@ -1,8 +1,8 @@
 -- A served call leaves a valid state valid, and answers numbers of 32 bits.
 use Rattle.std.proofs.Common.{◌≡◌, ℕ, ◌+◌, ◌-◌, ◌*◌, ◌%◌, ◌^◌, ◌<◌, ◌≤◌, Bool, true, false, not, cond, nat_lt, nat_le, ◌==◌, ◌&&◌, ◌||◌, List, [], ◌∷◌, ◌++◌, length, refl, sym, arith, lit<, if◌then◌else◌, Option, Some, None, unwrap_or, is_none}
 use Rattle.std.specs.Prelude.{IfSome}
-use Rattle.std.specs.List.{AllByRecursion, range_with_len}
-use Rattle.std.proofs.lemmas.Bool.{ltb-true, leb-true, leb-false}
+use Rattle.std.specs.List.{AllByRecursion, list_any, range_with_len}
+use Rattle.std.proofs.lemmas.Bool.{eqb-false, ltb-true, leb-true, leb-false}
 use Rattle.std.proofs.lemmas.List.{length-append}
 use Rattle.mx_words.specs.declared.perm.Perm.{Perm}
 use Rattle.mx_words.specs.declared.perm.Perm.TheVariants as P
@@ -10,7 +10,7 @@ use Rattle.mx_words.specs.declared.perm.Access.TheVariants as A
 use Rattle.mx_words.specs.Announced.{is_announced}
 use Rattle.mx_words.specs.Bytes.{number_at, put_at, cleared_at}
 use Rattle.mx_words.specs.FirstFit.{Area, has_room, with_block, without_block, most_blocks}
-use Rattle.mx_words.specs.Ranges.{ram_base, in_ram}
+use Rattle.mx_words.specs.Ranges.{overlaps, ram_base, in_ram}
 use Rattle.mx_words.specs.Rights.{number, allows}
 use Rattle.mx_model.specs.declared.values.Call.{Call}
 use Rattle.mx_model.specs.declared.values.Gate.{Gate}
@@ -18,9 +18,10 @@ use Rattle.mx_model.specs.Checks.{Look, arg, looked, looked_all, drops, call_ran
 use Rattle.mx_model.specs.Gates.{is_at, without_gate, with_gate, has_gate, no_gate_fits, most_gates}
 use Rattle.mx_model.specs.Reads.{Reads}
 use Rattle.mx_model.specs.State.{Core, Module, module_at, is_module}
-use Rattle.mx_model.specs.Valid.{IsModule, IsCall, IsGate, IsHome, IsValid}
+use Rattle.mx_model.proofs.ApartLaws.{apart-with, apart-without, single-append, single-filter, single-others}
+use Rattle.mx_model.specs.Valid.{AreApart, IsModule, IsCall, IsGate, IsHome, IsValid}
 use Rattle.mx_model.proofs.ListLaws.{all-append, all-filter, found-passes, length-filter-le, length-filter-lt, length-with_block, length-put_at, bytes-put_at, length-cleared_at, bytes-cleared_at, number-four}
-use Rattle.mx_model.specs.Serve.{Served, Service, Exit, Write, Grant, RevokeAll, Transfer, Alloc, Free, AddGate, RemoveGate, AddReturnGate, Query, Self, Exchange, Unknown, Test, first_failed, judged, answers, code, serve, served_by, service, ended, write_from, written_out, write_looks, exchange_from, exchanged, look_of, arg_word, is_word, no_word, foreign_word, with_blocks, alloc_place, alloc_change, allocated, adds, serve_alloc, serve_free, freed_count, free_change, changes, serve_gate, serve_ungate, serve_return_gate, write_outside, no_range, owns, arg_range, grant_change, revoke_change, meets_heap, give_of}
+use Rattle.mx_model.specs.Serve.{Served, Service, Exit, Write, Grant, RevokeAll, Transfer, Alloc, Free, AddGate, RemoveGate, AddReturnGate, Query, Self, Exchange, Unknown, Test, first_failed, judged, answers, code, serve, served_by, service, ended, write_from, written_out, write_looks, exchange_from, exchanged, look_of, arg_word, is_word, no_word, foreign_word, with_blocks, alloc_place, alloc_change, allocated, alloc_from, adds, serve_alloc, serve_free, freed_count, free_change, changes, serve_gate, serve_ungate, serve_return_gate, write_outside, no_range, owns, arg_range, grant_change, revoke_change, meets_heap, give_of}
 use Rattle.mx_model.proofs.ValidParts.{valid-ram, valid-module, valid-gates, valid-cache, valid-looked_all, home-at}
 
 -- a valid outcome: the state is valid, and the answers are numbers of 32 bits
@@ -96,30 +97,46 @@ served-exchange_from r c h call (Some n) v p q = served-answers c (code n) v (co
 served-exchange_from r c h call None v p q = served-exchanged r c h call v p
 
 -- a module with other blocks
-home-blocks : (size harts : ℕ) (m : Module) (blocks : List Area) → IsHome size harts m → length blocks ≤ most_blocks → IsHome size harts (record m { blocks = blocks })
-home-blocks size harts m blocks p q = record { heap = p.heap; stack = p.stack; few_blocks = q }
+home-blocks : (size harts : ℕ) (m : Module) (blocks : List Area) → IsHome size harts m → length blocks ≤ most_blocks →
+    AreApart m.heap.first (m.heap.first + m.heap.count) blocks → IsHome size harts (record m { blocks = blocks })
+home-blocks size harts m blocks p q a = record { heap = p.heap; blocks = a; stack = p.stack; few_blocks = q }
 
-valid-blocks : (c : Core) (call : Call) (blocks : List Area) → IsValid c → length blocks ≤ most_blocks → IsValid (with_blocks call blocks c)
-valid-blocks c call blocks v q =
-    valid-module c call.domain _ v (home-blocks c.size (length c.harts) (module_at c call.domain) blocks (home-at c call.domain v) q)
+-- the heap area of the caller
+abbrev heap_of : Core → Call → Area
+heap_of c call = (module_at c call.domain).heap
+
+abbrev AreIn : Core → Call → List Area → Type 0
+AreIn c call blocks = AreApart (heap_of c call).first ((heap_of c call).first + (heap_of c call).count) blocks
+
+valid-blocks : (c : Core) (call : Call) (blocks : List Area) → IsValid c → length blocks ≤ most_blocks → AreIn c call blocks → IsValid (with_blocks call blocks c)
+valid-blocks c call blocks v q a =
+    valid-module c call.domain _ v (home-blocks c.size (length c.harts) (module_at c call.domain) blocks (home-at c call.domain v) q a)
+
+-- what room is: the words lie in the area and meet no block
+record HasRoom (area : Area) (blocks : List Area) (n a : ℕ) : Type 0 where
+  low : area.first ≤ a
+  high : a + n ≤ area.first + area.count
+  free : list_any (λ (b : Area). overlaps b.first b.count a n) blocks ≡ false
+
+three-true : (x y z : Bool) → (x && y && not z) ≡ true → (x ≡ true) × (y ≡ true) × (z ≡ false)
+three-true true true false e = (refl, refl, refl)
+three-true true true true e = absurd (let q : ⊥ = cc in q)
+three-true true false z e = absurd (let q : ⊥ = cc in q)
+three-true false y z e = absurd (let q : ⊥ = cc in q)
+
+room-is : (area : Area) (blocks : List Area) (n a : ℕ) → has_room area blocks n a ≡ true → HasRoom area blocks n a
+room-is area blocks n a e =
+    let t = three-true (nat_le area.first a) (nat_le (a + n) (area.first + area.count)) (list_any (λ (b : Area). overlaps b.first b.count a n) blocks) e in
+    record { low = leb-true area.first a t.0; high = leb-true (a + n) (area.first + area.count) t.1; free = t.2 }
 
 -- alloc: the place has room in the heap area, which lies in RAM
-room-inside : (area : Area) (blocks : List Area) (n a : ℕ) → has_room area blocks n a ≡ true → a + n ≤ area.first + area.count
-room-inside area blocks n a e =
-    leb-true (a + n) (area.first + area.count) (and-second (nat_le area.first a) (nat_le (a + n) (area.first + area.count)) _ e)
-  where
-    and-second : (x y z : Bool) → x && y && z ≡ true → y ≡ true
-    and-second x true z e = refl
-    and-second true false z e = e
-    and-second false false z e = e
-
 found-room : (o : Option ℕ) (P : ℕ → Type 0) → IfSome o P → is_none o ≡ false → P (unwrap_or o 0)
 found-room None P p e = absurd (let q : ⊥ = cc in q)
 found-room (Some a) P p e = p
 
 served-allocated : (c : Core) (h : ℕ) (call : Call) (first : ℕ) → IsValid c → first + arg call 0 ≤ c.size → length (module_at c call.domain).blocks < most_blocks →
-    IsServed (allocated c call first)
-served-allocated c h call first v p q =
+    HasRoom (heap_of c call) (module_at c call.domain).blocks (arg call 0) first → 0 < arg call 0 → IsServed (allocated c call first)
+served-allocated c h call first v p q room some =
     let b : Area = record { first = first; count = arg call 0 } in
     let inside : 4 * first + 4 * arg call 0 ≤ length c.ram = let e = v.ram_count in omega (arith, e, p) in
     let cleared = record c { ram = cleared_at c.ram (4 * first) (4 * arg call 0) } in
@@ -127,7 +144,8 @@ served-allocated c h call first v p q =
     (bytes-cleared_at c.ram (4 * first) (4 * arg call 0) v.ram_bytes) in
     let few : length (with_block b (module_at c call.domain).blocks) ≤ most_blocks = let e = length-with_block b (module_at c call.domain).blocks in omega (arith, e, q) in
     record {
-      core = valid-blocks cleared call (with_block b (module_at c call.domain).blocks) w few;
+      core = valid-blocks cleared call (with_block b (module_at c call.domain).blocks) w few
+          (apart-with b (heap_of c call).first ((heap_of c call).first + (heap_of c call).count) (module_at c call.domain).blocks room.low room.high some room.free (home-at c call.domain v).blocks);
       a0 = let s = v.few_words in omega (arith, s, p);
       a1 = tt;
     }
@@ -169,7 +187,8 @@ served-adds : (c : Core) (g : Gate) → IsValid c → IsGate (length c.modules) 
 served-adds c g v p e = served-answers (record c { gates = with_gate g c.gates }) 0
     (valid-gates c (with_gate g c.gates) v (gates-fit c.gates g.domain g.word g v.few_gates e)
     (all-append (IsGate (length c.modules) c.size) (without_gate g.domain g.word c.gates) g
-    (all-filter (IsGate (length c.modules) c.size) (λ x. not (is_at g.domain g.word x)) c.gates v.gates) p)) (lit< tt)
+    (all-filter (IsGate (length c.modules) c.size) (λ x. not (is_at g.domain g.word x)) c.gates v.gates) p)
+    (single-append g (without_gate g.domain g.word c.gates) (single-others g c.gates) (single-filter (λ x. not (is_at g.domain g.word x)) c.gates v.one_gate))) (lit< tt)
 
 module-is : (c : Core) (d : ℕ) → not (is_module c d) ≡ false → IsModule (length c.modules) d
 module-is c d e =
@@ -203,6 +222,11 @@ or-left : (x y : Bool) → x || y ≡ false → x ≡ false
 or-left true y e = e
 or-left false y e = refl
 
+served-alloc_from : (c : Core) (call : Call) (first : ℕ) (o : Option ℕ) → IsValid c → IfSome o (λ n. 0 < n) → (o ≡ None → IsServed (allocated c call first)) →
+    IsServed (alloc_from c call first o)
+served-alloc_from c call first (Some n) v p q = served-answers c (code n) v (code-small n p)
+served-alloc_from c call first None v p q = q refl
+
 served-alloc : (r : Reads) (c : Core) (h : ℕ) (call : Call) → IsValid c → IsServed (serve_alloc r c call)
 served-alloc r c h call v =
     let m = module_at c call.domain in
@@ -211,15 +235,17 @@ served-alloc r c h call v =
     let t2 : Test = (is_none (alloc_place c call), 6) in
     let t3 : Test = (nat_le most_blocks (length m.blocks), 7) in
     let t4 : Test = (not (r.fits (alloc_change first call)), 5) in
-    served-judged c (first_failed (t1 ∷ t2 ∷ t3 ∷ t4 ∷ [])) (allocated c call first) v
+    served-alloc_from c call first (first_failed (t1 ∷ t2 ∷ t3 ∷ t4 ∷ [])) v
     (codes-failed (t1 ∷ t2 ∷ t3 ∷ t4 ∷ []) (lit< tt, (lit< tt, (lit< tt, (lit< tt, tt))))) (λ e.
     let q = tests-four t1 t2 t3 t4 e in
     let room : has_room m.heap m.blocks (arg call 0) first ≡ true =
     found-room (alloc_place c call) (λ a. has_room m.heap m.blocks (arg call 0) a ≡ true)
     (found-passes (has_room m.heap m.blocks (arg call 0)) (range_with_len m.heap.first m.heap.count)) q.1 in
-    let inside = room-inside m.heap m.blocks (arg call 0) first room in
+    let has = room-is m.heap m.blocks (arg call 0) first room in
+    let inside = has.high in
     let home = (home-at c call.domain v).heap in
-    served-allocated c h call first v (omega (arith, inside, home)) (leb-false most_blocks (length m.blocks) q.2))
+    served-allocated c h call first v (omega (arith, inside, home)) (leb-false most_blocks (length m.blocks) q.2) has
+    (let z = eqb-false (arg call 0) 0 q.0 in omega (arith, z)))
 
 served-free : (r : Reads) (c : Core) (call : Call) → IsValid c → IsServed (serve_free r c call)
 served-free r c call v =
@@ -228,7 +254,12 @@ served-free r c call v =
     let l = length-filter-le (λ (b : Area). not (b.first == arg_word call)) m.blocks in let k = (home-at c call.domain v).few_blocks in omega (arith, l, k) in
     served-same c ((is_none (freed_count c call), 8) ∷ (not (r.fits (free_change c call)), 5) ∷ [])
     (changes (with_blocks call (without_block (arg_word call) m.blocks) c) (free_change c call)) v (lit< tt, (lit< tt, tt))
-    (record { core = valid-blocks c call (without_block (arg_word call) m.blocks) v few; a0 = lit< tt; a1 = tt })
+    (record {
+      core = valid-blocks c call (without_block (arg_word call) m.blocks) v few
+          (apart-without (arg_word call) m.heap.first (m.heap.first + m.heap.count) m.blocks (home-at c call.domain v).blocks);
+      a0 = lit< tt;
+      a1 = tt;
+    })
 
 served-gate : (r : Reads) (c : Core) (h : ℕ) (call : Call) → IsValid c → IsCall (length c.modules) h call → IsServed (serve_gate r c call)
 served-gate r c h call v p =
@@ -266,7 +297,8 @@ served-ungate r c call v =
     (answers (record c { gates = without_gate (arg call 1) (arg_word call) c.gates }) 0) v (lit< tt, (lit< tt, (lit< tt, (lit< tt, tt))))
     (served-answers (record c { gates = without_gate (arg call 1) (arg_word call) c.gates }) 0
     (valid-gates c (without_gate (arg call 1) (arg_word call) c.gates) v (omega (arith, l, k))
-    (all-filter (IsGate (length c.modules) c.size) (λ x. not (is_at (arg call 1) (arg_word call) x)) c.gates v.gates)) (lit< tt))
+    (all-filter (IsGate (length c.modules) c.size) (λ x. not (is_at (arg call 1) (arg_word call) x)) c.gates v.gates)
+    (single-filter (λ x. not (is_at (arg call 1) (arg_word call) x)) c.gates v.one_gate)) (lit< tt))
 
 small-number : (p : Perm) → number p < 2 ^ 32
 small-number P.None = lit< tt

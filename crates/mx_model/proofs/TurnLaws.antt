@@ -1,27 +1,28 @@
 -- A turn keeps a valid state valid.
-use Rattle.std.proofs.Common.{◌≡◌, ℕ, ◌+◌, ◌-◌, ◌*◌, ◌^◌, ◌<◌, ◌≤◌, Bool, true, false, not, cond, nat_lt, ◌==◌, ◌&&◌, List, [], ◌∷◌, length, refl, sym, subst, arith, lit<, Option, Some, None, unwrap_or}
+use Rattle.std.proofs.Common.{◌≡◌, ℕ, ◌+◌, ◌-◌, ◌*◌, ◌^◌, ◌<◌, ◌≤◌, Bool, true, false, not, cond, nat_lt, ◌==◌, ◌&&◌, ◌||◌, List, [], ◌∷◌, length, refl, sym, subst, arith, lit<, Option, Some, None, unwrap_or}
 use Rattle.std.specs.Prelude.{IfSome, slice_set, find, reverse}
 use Rattle.std.proofs.Math.Nat.{mul-le-mul_left}
 use Rattle.std.proofs.Math.ListN.{get_or-eq_default}
 use Rattle.std.specs.Option.{option_map_or}
 use Rattle.std.proofs.lemmas.Bool.{ltb-true, ltb-false}
 use Rattle.std.proofs.lemmas.List.{length-set, length-append, length-take}
+use Rattle.mx_words.specs.Announced.{is_announced}
 use Rattle.mx_words.specs.Bytes.{put_at}
 use Rattle.mx_words.specs.Ranges.{ram_base, address_of}
 use Rattle.mx_model.specs.declared.values.Call.{Call}
 use Rattle.mx_model.specs.declared.values.Frame.{Frame}
-use Rattle.mx_model.specs.Checks.{hears, looked_all}
+use Rattle.mx_model.specs.Checks.{hears, is_ready, looked_all}
 use Rattle.mx_model.specs.Effect.{reg, written, next}
 use Rattle.mx_model.specs.Gates.{most_frames, top, below_top, nearest, saved_stack}
 use Rattle.mx_model.specs.Reads.{Reads}
 use Rattle.mx_model.specs.State.{Core, Hart, Module, Running, Halted, no_hart, hart_at, with_module, module_at}
 use Rattle.mx_model.specs.Turn.{Deed, Rests, Waits, Serves, Asks, Traps, Bounces, Crosses, Returns, Runs, Puts}
-use Rattle.mx_model.specs.Valid.{IsModule, IsPc, IsRegisters, IsFrame, IsCall, IsStatus, IsHart, IsHome, IsValid}
+use Rattle.mx_model.specs.Valid.{IsModule, IsPc, IsRegisters, IsFrame, IsCall, IsHart, IsHome, IsValid}
 use Rattle.mx_model.proofs.ListLaws.{all-append, all-reverse, all-take, all-find, all-last, length-put_at, bytes-put_at}
 use Rattle.mx_model.proofs.RegisterLaws.{registers-set, registers-written, registers-restored, saved-count, saved-small, small-plus, pc-next, IsCause}
 use Rattle.mx_model.specs.Serve.{Served, serve}
-use Rattle.mx_model.specs.Turn.{Decided, Made, acted, asked, served, done, trapped, given_up, killed, over_frame, halted, crossed, with_regs, enacted, decide, heard_first, counted, is_halted, turned, is_served_now, by_status, answered, stack_address, saved, restored, fault_answer}
-use Rattle.mx_model.proofs.DecideLaws.{IsDeed, deed-decide}
+use Rattle.mx_model.specs.Turn.{Decided, Made, acted, asked, served, done, trapped, given_up, killed, over_frame, halted, crossed, with_regs, enacted, decide, heard_first, counted, is_halted, turned, is_served_now, by_status, answered, stack_address, saved, restored, fault_answer, nobody, call_of}
+use Rattle.mx_model.proofs.DecideLaws.{IsDeed, deed-decide, call-of}
 use Rattle.mx_model.proofs.KeepLaws.{Keeps, keeps-serve, keeps-looked_all}
 use Rattle.mx_model.proofs.ServeLaws.{IsServed, served-serve}
 use Rattle.mx_model.proofs.ValidParts.{valid-turns, valid-hart, valid-module, valid-cache, valid-ram, valid-looked_all, valid-hears, home-at}
@@ -41,24 +42,24 @@ valid-regs : (c : Core) (h : ℕ) (hart : Hart) (regs : List ℕ) (pc : ℕ) →
 valid-regs c h hart regs pc v p q s = valid-hart c h _ v (hart-regs (length c.modules) h hart regs pc p q s)
 
 -- the top frame given up
-hart-over : (modules h : ℕ) (hart : Hart) (frame : Frame) (regs : List ℕ) → IsHart modules h hart → IsFrame modules frame → IsRegisters regs → IsStatus modules h hart.status →
-    IsHart modules h (record hart { regs = restored regs frame.kept; pc = frame.back; domain = frame.caller; frames = below_top hart.frames })
-hart-over modules h hart frame regs p f r s = record {
+hart-over : (modules h : ℕ) (hart : Hart) (frame : Frame) (regs : List ℕ) → IsHart modules h hart → IsFrame modules frame → IsRegisters regs →
+    IsHart modules h (record hart { regs = restored regs frame.kept; pc = frame.back; domain = frame.caller; frames = below_top hart.frames; status = Running })
+hart-over modules h hart frame regs p f r = record {
   regs = registers-restored regs frame.kept r f.small;
   pc = f.back;
   domain = f.caller;
   few_frames = let e = length-take (length hart.frames - 1) hart.frames in let k = p.few_frames in omega (arith, e, k);
   frames = all-take (IsFrame modules) (length hart.frames - 1) hart.frames p.frames;
-  status = s;
+  status = tt;
 }
 
 valid-over : (c : Core) (h : ℕ) (hart : Hart) (frame : Frame) (regs : List ℕ) → IsValid c → IsHart (length c.modules) h hart → IsFrame (length c.modules) frame →
     IsRegisters regs → IsValid (over_frame c h hart frame regs)
-valid-over c h hart frame regs v p f r = valid-cache _ h _ (valid-hart c h _ v (hart-over (length c.modules) h hart frame regs p f r p.status))
+valid-over c h hart frame regs v p f r = valid-cache _ h _ (valid-hart c h _ v (hart-over (length c.modules) h hart frame regs p f r))
 
 -- a fault
 home-dead : (size harts : ℕ) (m : Module) → IsHome size harts m → IsHome size harts (record m { dead = true })
-home-dead size harts m p = record { heap = p.heap; stack = p.stack; few_blocks = p.few_blocks }
+home-dead size harts m p = record { heap = p.heap; blocks = p.blocks; stack = p.stack; few_blocks = p.few_blocks }
 
 valid-killed : (d cause : ℕ) (c : Core) → IsValid c → IsValid (killed d cause c)
 valid-killed d cause c v = elim ((module_at c d).kills && not (cause == 20)) as (λ b. IsValid (cond b (with_module d (record (module_at c d) { dead = true }) c) c)) [
@@ -127,7 +128,7 @@ valid-crossed c h hart target v p l t x few =
       domain = t;
       few_frames = let e = length-append hart.frames (frame ∷ []) in omega (arith, e, few);
       frames = all-append (IsFrame (length c.modules)) hart.frames frame p.frames f;
-      status = p.status;
+      status = tt;
     }))
 
 -- a served call
@@ -149,11 +150,23 @@ valid-served : (r : Reads) (c : Core) (h : ℕ) (hart : Hart) (call : Call) → 
 valid-served r c h hart call v p k l =
     valid-done h hart (serve r c call) (served-serve r c h call v k l) (hart-in c (serve r c call).core h hart (keeps-serve r c call) p)
 
-valid-asked : (r : Reads) (c : Core) (h : ℕ) (hart : Hart) (call : Call) (b : Bool) → IsValid c → IsHart (length c.modules) h hart → IsCall (length c.modules) h call → h < length c.harts →
-    IsValid (asked r c h hart call b).core
-valid-asked r c h hart call true v p k l = valid-served r c h hart call v p k l
-valid-asked r c h hart call false v p k l = valid-hart c h _ v
-    (record { regs = p.regs; pc = p.pc; domain = p.domain; few_frames = p.few_frames; frames = p.frames; status = k })
+-- a call that isn't served now is announced
+announced-later : (x y : Bool) → not x || y ≡ false → x ≡ true
+announced-later true y e = refl
+announced-later false y e = sym e
+
+valid-asked : (r : Reads) (c : Core) (h : ℕ) (hart : Hart) (call : Call) (b : Bool) → is_served_now c h call ≡ b → IsValid c → IsHart (length c.modules) h hart →
+    call ≡ call_of h hart → h < length c.harts → IsValid (asked r c h hart call b).core
+valid-asked r c h hart call true e v p k l =
+    valid-served r c h hart call v p (subst (λ (x : Call). IsCall (length c.modules) h x) (sym k) (call-of (length c.modules) h hart p)) l
+valid-asked r c h hart call false e v p k l = valid-hart c h _ v (record {
+  regs = p.regs;
+  pc = p.pc;
+  domain = p.domain;
+  few_frames = p.few_frames;
+  frames = p.frames;
+  status = record { own = k; announced = announced-later (is_announced call.number) (is_ready c h nobody) e; places = refl };
+})
 
 -- a deed
 valid-acted : (r : Reads) (c : Core) (h : ℕ) (hart : Hart) (deed : Deed) → IsValid c → IsHart (length c.modules) h hart → h < length c.harts →
@@ -161,7 +174,7 @@ valid-acted : (r : Reads) (c : Core) (h : ℕ) (hart : Hart) (deed : Deed) → I
 valid-acted r c h hart Rests v p l d = v
 valid-acted r c h hart Waits v p l d = v
 valid-acted r c h hart (Serves call) v p l d = valid-served r c h hart call v p d l
-valid-acted r c h hart (Asks call) v p l d = valid-asked r c h hart call (is_served_now c h call) v p d l
+valid-acted r c h hart (Asks call) v p l d = valid-asked r c h hart call (is_served_now c h call) refl v p d l
 valid-acted r c h hart (Traps cause value) v p l d = valid-trapped c h hart cause value v p d
 valid-acted r c h hart Bounces v p l d =
     valid-regs c h hart (slice_set hart.regs 10 (fault_answer 20)) (reg hart.regs 1) v p (registers-set hart.regs 10 (fault_answer 20) (lit< tt) p.regs (lit< tt)) d

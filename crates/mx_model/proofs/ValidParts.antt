@@ -12,7 +12,7 @@ use Rattle.mx_model.specs.Checks.{Look, hears, heard_by, looked, looked_all}
 use Rattle.mx_model.specs.Gates.{most_gates}
 use Rattle.mx_model.specs.Reads.{Reads}
 use Rattle.mx_model.specs.State.{Core, Hart, Module, Status, Running, Waiting, Halted, no_hart, no_module, with_hart, with_cache, with_module, module_at}
-use Rattle.mx_model.specs.Valid.{IsStatus, IsHart, IsGate, IsHome, IsValid}
+use Rattle.mx_model.specs.Valid.{AreSingle, IsStatus, IsHart, IsGate, IsHome, IsValid}
 use Rattle.mx_model.proofs.ListLaws.{all-set, all-at}
 
 -- the bytes of RAM, and one hart, as parts of a valid state
@@ -26,11 +26,11 @@ AreHarts modules count harts = (h : ℕ) → h < count → IsHart modules h (get
 pub valid-parts : (c : Core) (ram : List ℕ) (modules : List Module) (gates : List Gate) (harts : List Hart) (caches : List Cache) (turns : ℕ) → IsValid c →
     length ram ≡ length c.ram → AreBytes ram →
     length modules ≡ length c.modules → AllByRecursion (IsHome c.size (length c.harts)) modules →
-    length gates ≤ most_gates → AllByRecursion (IsGate (length c.modules) c.size) gates →
+    length gates ≤ most_gates → AllByRecursion (IsGate (length c.modules) c.size) gates → AreSingle gates →
     length harts ≡ length c.harts → AreHarts (length c.modules) (length c.harts) harts →
     length caches ≡ length c.caches →
     IsValid (record c { ram = ram; modules = modules; gates = gates; harts = harts; caches = caches; turns = turns })
-valid-parts c ram modules gates harts caches turns v rl rb ml ms gl gs hl hs kl = record {
+valid-parts c ram modules gates harts caches turns v rl rb ml ms gl gs g1 hl hs kl = record {
   few_words = v.few_words;
   ram_count = rl ∙ v.ram_count;
   ram_bytes = rb;
@@ -42,26 +42,27 @@ valid-parts c ram modules gates harts caches turns v rl rb ml ms gl gs hl hs kl 
   caches = kl ∙ v.caches ∙ sym hl;
   few_gates = gl;
   gates = subst (λ (n : ℕ). AllByRecursion (IsGate n c.size) gates) (sym ml) gs;
+  one_gate = g1;
 }
 
 -- one part at a time
 pub valid-turns : (c : Core) (turns : ℕ) → IsValid c → IsValid (record c { turns = turns })
-valid-turns c turns v = valid-parts c c.ram c.modules c.gates c.harts c.caches turns v refl v.ram_bytes refl v.modules v.few_gates v.gates refl v.harts refl
+valid-turns c turns v = valid-parts c c.ram c.modules c.gates c.harts c.caches turns v refl v.ram_bytes refl v.modules v.few_gates v.gates v.one_gate refl v.harts refl
 
 pub valid-ram : (c : Core) (ram : List ℕ) → IsValid c → length ram ≡ length c.ram → AreBytes ram → IsValid (record c { ram = ram })
-valid-ram c ram v e b = valid-parts c ram c.modules c.gates c.harts c.caches c.turns v e b refl v.modules v.few_gates v.gates refl v.harts refl
+valid-ram c ram v e b = valid-parts c ram c.modules c.gates c.harts c.caches c.turns v e b refl v.modules v.few_gates v.gates v.one_gate refl v.harts refl
 
 pub valid-module : (c : Core) (d : ℕ) (m : Module) → IsValid c → IsHome c.size (length c.harts) m → IsValid (with_module d m c)
 valid-module c d m v p =
     valid-parts c c.ram (set c.modules (d - 1) m) c.gates c.harts c.caches c.turns v refl v.ram_bytes (length-set c.modules (d - 1) m)
-    (all-set (IsHome c.size (length c.harts)) c.modules (d - 1) m v.modules p) v.few_gates v.gates refl v.harts refl
+    (all-set (IsHome c.size (length c.harts)) c.modules (d - 1) m v.modules p) v.few_gates v.gates v.one_gate refl v.harts refl
 
 pub valid-gates : (c : Core) (gates : List Gate) → IsValid c → length gates ≤ most_gates → AllByRecursion (IsGate (length c.modules) c.size) gates →
-    IsValid (record c { gates = gates })
-valid-gates c gates v l p = valid-parts c c.ram c.modules gates c.harts c.caches c.turns v refl v.ram_bytes refl v.modules l p refl v.harts refl
+    AreSingle gates → IsValid (record c { gates = gates })
+valid-gates c gates v l p q = valid-parts c c.ram c.modules gates c.harts c.caches c.turns v refl v.ram_bytes refl v.modules l p q refl v.harts refl
 
 pub valid-caches : (c : Core) (caches : List Cache) → IsValid c → length caches ≡ length c.caches → IsValid (record c { caches = caches })
-valid-caches c caches v e = valid-parts c c.ram c.modules c.gates c.harts caches c.turns v refl v.ram_bytes refl v.modules v.few_gates v.gates refl v.harts e
+valid-caches c caches v e = valid-parts c c.ram c.modules c.gates c.harts caches c.turns v refl v.ram_bytes refl v.modules v.few_gates v.gates v.one_gate refl v.harts e
 
 pub valid-cache : (c : Core) (h : ℕ) (cache : Cache) → IsValid c → IsValid (with_cache h cache c)
 valid-cache c h cache v = valid-caches c (set c.caches h cache) v (length-set c.caches h cache)
@@ -79,12 +80,12 @@ harts-set modules count harts h hart e hs p i l = elim (i == h) as (λ b. (i == 
 
 pub valid-hart : (c : Core) (h : ℕ) (hart : Hart) → IsValid c → IsHart (length c.modules) h hart → IsValid (with_hart h hart c)
 valid-hart c h hart v p =
-    valid-parts c c.ram c.modules c.gates (set c.harts h hart) c.caches c.turns v refl v.ram_bytes refl v.modules v.few_gates v.gates
+    valid-parts c c.ram c.modules c.gates (set c.harts h hart) c.caches c.turns v refl v.ram_bytes refl v.modules v.few_gates v.gates v.one_gate
     (length-set c.harts h hart) (harts-set (length c.modules) (length c.harts) c.harts h hart refl v.harts p) refl
 
 -- a module that isn't there has empty areas
 pub home-none : (size harts : ℕ) → IsHome size harts no_module
-home-none size harts = record { heap = omega arith; stack = omega arith; few_blocks = lit≤ tt }
+home-none size harts = record { heap = omega arith; blocks = omega arith; stack = omega arith; few_blocks = lit≤ tt }
 
 pub home-at : (c : Core) (d : ℕ) → IsValid c → IsHome c.size (length c.harts) (module_at c d)
 home-at c d v = all-at (IsHome c.size (length c.harts)) c.modules no_module v.modules (home-none c.size (length c.harts)) (d - 1)
@@ -103,14 +104,20 @@ same-modules-looked_all r h [] c = refl
 same-modules-looked_all r h (l ∷ ls) c = same-modules-looked_all r h ls (looked r h c l)
 
 -- hearing
-pub status-heard : (modules i h : ℕ) (s : Status) → IsStatus modules i s → IsStatus modules i (heard_by h s)
-status-heard modules i h Running p = tt
-status-heard modules i h (Waiting call heard) p = p
-status-heard modules i h (Halted code) p = tt
+pub status-heard : (i h : ℕ) (hart : Hart) (s : Status) → IsStatus i hart s → IsStatus i hart (heard_by h s)
+status-heard i h hart Running p = tt
+status-heard i h hart (Waiting call heard) p = record { own = p.own; announced = p.announced; places = length-set heard h true ∙ p.places }
+status-heard i h hart (Halted code) p = tt
 
-pub hart-status : (modules h : ℕ) (hart : Hart) (s : Status) → IsHart modules h hart → IsStatus modules h s → IsHart modules h (record hart { status = s })
+-- a hart with another status makes the same call
+status-moved : (h : ℕ) (hart : Hart) (s t : Status) → IsStatus h hart s → IsStatus h (record hart { status = t }) s
+status-moved h hart Running t p = tt
+status-moved h hart (Waiting call heard) t p = record { own = p.own; announced = p.announced; places = p.places }
+status-moved h hart (Halted code) t p = tt
+
+pub hart-status : (modules h : ℕ) (hart : Hart) (s : Status) → IsHart modules h hart → IsStatus h hart s → IsHart modules h (record hart { status = s })
 hart-status modules h hart s p q =
-    record { regs = p.regs; pc = p.pc; domain = p.domain; few_frames = p.few_frames; frames = p.frames; status = q }
+    record { regs = p.regs; pc = p.pc; domain = p.domain; few_frames = p.few_frames; frames = p.frames; status = status-moved h hart s s q }
 
 abbrev pub hearing : ℕ → ℕ × Hart → Hart
 hearing h p = if p.0 == h then p.1 else record p.1 { status = heard_by h p.1.status }
@@ -118,7 +125,7 @@ hearing h p = if p.0 == h then p.1 else record p.1 { status = heard_by h p.1.sta
 pub hart-hearing : (modules i h : ℕ) (hart : Hart) → IsHart modules i hart → IsHart modules i (hearing h (i, hart))
 hart-hearing modules i h hart p = elim (i == h) as (λ b. IsHart modules i (cond b hart (record hart { status = heard_by h hart.status }))) [
   | true ↦ p
-  | false ↦ hart-status modules i hart (heard_by h hart.status) p (status-heard modules i h hart.status p.status)
+  | false ↦ hart-status modules i hart (heard_by h hart.status) p (status-heard i h hart hart.status p.status)
 ]
 
 pub harts-hearing : (modules h : ℕ) (harts : List Hart) → AreHarts modules (length harts) harts →
@@ -131,6 +138,6 @@ harts-hearing modules h harts hs i l =
 
 pub valid-hears : (h : ℕ) (c : Core) → IsValid c → IsValid (hears h c)
 valid-hears h c v =
-    valid-parts c c.ram c.modules c.gates (list_map (hearing h) (enumerate_from 0 c.harts)) _ c.turns v refl v.ram_bytes refl v.modules v.few_gates v.gates
+    valid-parts c c.ram c.modules c.gates (list_map (hearing h) (enumerate_from 0 c.harts)) _ c.turns v refl v.ram_bytes refl v.modules v.few_gates v.gates v.one_gate
     (length-map (enumerate_from 0 c.harts) (hearing h) ∙ length-enumerate_from 0 c.harts)
     (harts-hearing (length c.modules) h c.harts v.harts) (length-set c.caches h _)

@@ -34,7 +34,7 @@ pub record Reads : Type 0 where
 abbrev pub most_owner_runs : ℕ
 most_owner_runs = 4096
 
--- a domain's grants, and its map; a domain that isn't there has no rights
+-- a domain's grants, and its map, for a domain from 1 on; one above the last has no rights
 abbrev pub grants_of : List (List Grant) → ℕ → List Grant
 grants_of grants d = slice_index_or grants (d - 1) []
 

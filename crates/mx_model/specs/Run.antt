@@ -1,5 +1,5 @@
 -- Turns of the abstract machine and of its flat states, and runs by a schedule.
-use Rattle.std.specs.Prelude.{ℕ, zero, suc, ◌/◌, ◌%◌, Bool, true, false, ◌||◌, nat_le, List, [], ◌∷◌, ◌++◌, length, slice_index, Option, Some, None}
+use Rattle.std.specs.Prelude.{option_to_list, ℕ, zero, suc, ◌/◌, ◌%◌, Bool, true, false, ◌||◌, nat_le, List, ◌++◌, length, slice_index, Option, Some, None}
 use Rattle.std.specs.List.{list_all}
 use Rattle.mx_words.specs.declared.perm.Perm.{Perm}
 use Rattle.mx_words.specs.Changes.{changed_maps, granted_all}
@@ -8,11 +8,6 @@ use Rattle.mx_model.specs.declared.values.TurnKind.{TurnKind}
 use Rattle.mx_model.specs.Reads.{Change, reads, flat_reads}
 use Rattle.mx_model.specs.State.{Core, Hart, State, Flat}
 use Rattle.mx_model.specs.Turn.{Made, turned, is_halted}
-
--- an optional item as a list
-abbrev pub at_most_one : {A : Type 0} → Option A → List A
-at_most_one None = []
-at_most_one (Some x) = x ∷ []
 
 -- the grants, and the maps, after a change of rights if there is one
 abbrev pub grants_after : List (List Grant) → Option Change → List (List Grant)
@@ -33,9 +28,9 @@ abbrev pub after : State → Made → State
 after s m = record {
   core = m.core;
   grants = grants_after s.grants m.change;
-  gives = s.gives ++ at_most_one m.give;
+  gives = s.gives ++ option_to_list m.give;
   console = s.console ++ m.console;
-  notes = s.notes ++ at_most_one m.note;
+  notes = s.notes ++ option_to_list m.note;
 }
 
 abbrev pub flat_after : Flat → Made → Flat

@@ -93,7 +93,8 @@ arg_word call = (arg call 0 - ram_base) / 4
 abbrev pub owns : Reads → Call → ℕ × ℕ → Bool
 owns r call range = list_all (λ w. r.owner w == call.domain) (range_with_len range.0 range.1)
 
--- one permission for one domain; for every domain but the caller; for the caller, and none for the others; none for all
+-- what a change gives each module (a change is asked for modules alone): a permission for one of them; none for all but the caller; read-write
+-- for the caller and none for the others; none for all
 abbrev pub to_one : ℕ → Perm → ℕ → Option Perm
 to_one one p d = if d == one then Some p else None
 
@@ -118,11 +119,12 @@ changes c change = record (answers c 0) { change = Some change }
 abbrev pub serve_exit : Core → Call → Served
 serve_exit c call = judged c (first_failed ((call.nested, 10) ∷ [])) (record (answers c (arg call 0)) { stop = true })
 
--- 2 write: the touched words, of which the first that the caller may not read is looked at last
+-- 2 write: whether a byte lies outside RAM
 abbrev pub write_outside : Core → Call → Bool
 write_outside c call =
     nat_lt 0 (arg call 1) && (nat_lt (arg call 0) ram_base || nat_lt (ram_base + 4 * words c) (arg call 0 + arg call 1))
 
+-- the touched words
 abbrev pub write_words : Call → List ℕ
 write_words call =
     let first = (arg call 0 - ram_base) / 4 in
@@ -135,6 +137,7 @@ may_read r d w = allows (r.perm d w) A.Read
 abbrev pub look_of : ℕ → ℕ → Look
 look_of d w = record { place = 10; domain = d; word = w }
 
+-- they are looked at from the lowest on, up to the first that the caller may not read
 abbrev pub write_looks : Reads → Call → List Look
 write_looks r call =
     let ws = write_words call in
@@ -219,15 +222,18 @@ allocated c call first =
       a0 = address_of first;
     }
 
+abbrev pub alloc_from : Core → Call → ℕ → Option ℕ → Served
+alloc_from c call first (Some n) = answers c (code n)
+alloc_from c call first None = allocated c call first
+
 abbrev pub serve_alloc : Reads → Core → Call → Served
 serve_alloc r c call =
     let first = unwrap_or (alloc_place c call) 0 in
-    judged c (first_failed (
+    alloc_from c call first (first_failed (
     (arg call 0 == 0, 1)
     ∷ (is_none (alloc_place c call), 6)
     ∷ (nat_le most_blocks (length (module_at c call.domain).blocks), 7)
     ∷ (not (r.fits (alloc_change first call)), 5) ∷ []))
-    (allocated c call first)
 
 -- 7 free
 abbrev pub freed_count : Core → Call → Option ℕ

@@ -80,7 +80,7 @@ flat s = record {
   owners = owners s.gives (words s.core);
 }
 
--- a module that isn't there has no areas and is not dead
+-- what is read of a module above the last one: it has no areas and is not dead
 abbrev pub no_module : Module
 no_module = record {
   heap = record { first = 0; count = 0 };
@@ -94,7 +94,7 @@ no_module = record {
 abbrev pub no_hart : Hart
 no_hart = record { regs = replicate 32 0; pc = 0; domain = 0; frames = []; status = Halted None }
 
--- module d; modules count from 1
+-- module d; modules count from 1, and none is asked for by 0, the supervisor's number
 abbrev pub module_at : Core → ℕ → Module
 module_at c d = slice_index_or c.modules (d - 1) no_module
 

@@ -142,7 +142,7 @@ abbrev pub by_word : Reads → Core → ℕ → Hart → ℕ → Option Inst →
 by_word r c h hart word None = traps 2 word
 by_word r c h hart word (Some inst) = by_effect r c h hart (effect inst hart.regs hart.pc)
 
--- a fetch, which looks at pc's word at place 0
+-- a fetch, denied or not
 abbrev pub fetches : Reads → Core → ℕ → Hart → Bool → Decided
 fetches r c h hart true = traps 1 hart.pc
 fetches r c h hart false = let word = load_at c hart.pc 4 in by_word r c h hart word (decoded word)
@@ -182,7 +182,7 @@ pub record Made : Type 0 where
 abbrev pub made : TurnKind → Core → Made
 made kind c = record { core = c; change = None; give = None; console = []; note = None; kind = kind }
 
--- hart h changed
+-- hart h with other registers and another pc; it runs
 abbrev pub with_regs : ℕ → Hart → List ℕ → ℕ → Core → Core
 with_regs h hart regs pc c = with_hart h (record hart { regs = regs; pc = pc; status = Running }) c
 
@@ -211,6 +211,7 @@ crossed c h hart target =
       regs = slice_set hart.regs 2 stack;
       domain = target;
       frames = hart.frames ++ frame ∷ [];
+      status = Running;
     }) c)
 
 -- the top frame is given up: the hart goes on in the caller at the return address with the fifteen registers restored, and the places are emptied
@@ -221,6 +222,7 @@ over_frame c h hart frame regs =
       pc = frame.back;
       domain = frame.caller;
       frames = below_top hart.frames;
+      status = Running;
     }) c)
 
 -- a hart that a fault or an exit halts

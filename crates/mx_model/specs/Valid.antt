@@ -1,12 +1,14 @@
 -- Valid states: lengths, ranges and alignment, which every turn keeps.
-use Rattle.std.specs.Prelude.{◌≡◌, ℕ, List, ◌+◌, ◌*◌, ◌%◌, ◌^◌, ◌<◌, ◌≤◌, length, slice_index}
+use Rattle.std.specs.Prelude.{◌≡◌, ℕ, List, [], ◌∷◌, ◌+◌, ◌*◌, ◌%◌, ◌^◌, ◌<◌, ◌≤◌, Bool, true, false, length, slice_index}
 use Rattle.std.specs.List.{AllByRecursion}
-use Rattle.mx_words.specs.FirstFit.{most_blocks}
+use Rattle.mx_words.specs.Announced.{is_announced}
+use Rattle.mx_words.specs.FirstFit.{Area, most_blocks}
 use Rattle.mx_model.specs.declared.values.Call.{Call}
 use Rattle.mx_model.specs.declared.values.Frame.{Frame}
 use Rattle.mx_model.specs.declared.values.Gate.{Gate}
 use Rattle.mx_model.specs.Checks.{arg}
-use Rattle.mx_model.specs.Gates.{most_gates, most_frames}
+use Rattle.mx_model.specs.Turn.{call_of}
+use Rattle.mx_model.specs.Gates.{is_at, most_gates, most_frames}
 use Rattle.mx_model.specs.State.{Core, Hart, Module, Status, Running, Waiting, Halted, hart_at}
 
 -- the number of a domain of a machine with so many modules
@@ -38,11 +40,16 @@ pub record IsCall (modules h : ℕ) (call : Call) : Type 0 where
   pub domain : IsModule modules call.domain
   pub small : (i : ℕ) → arg call i < 2 ^ 32
 
--- the call on which a hart waits is its own
-abbrev pub IsStatus : ℕ → ℕ → Status → Type 0
-IsStatus modules h Running = Unit {0}
-IsStatus modules h (Waiting call heard) = IsCall modules h call
-IsStatus modules h (Halted code) = Unit {0}
+-- the call on which hart h waits: it is that of its registers, and it is announced; the set of those who have heard it has four places
+pub record IsFlight (h : ℕ) (hart : Hart) (call : Call) (heard : List Bool) : Type 0 where
+  pub own : call ≡ call_of h hart
+  pub announced : is_announced call.number ≡ true
+  pub places : length heard ≡ 4
+
+abbrev pub IsStatus : ℕ → Hart → Status → Type 0
+IsStatus h hart Running = Unit {0}
+IsStatus h hart (Waiting call heard) = IsFlight h hart call heard
+IsStatus h hart (Halted code) = Unit {0}
 
 -- hart h
 pub record IsHart (modules h : ℕ) (hart : Hart) : Type 0 where
@@ -51,7 +58,7 @@ pub record IsHart (modules h : ℕ) (hart : Hart) : Type 0 where
   pub domain : IsModule modules hart.domain
   pub few_frames : length hart.frames ≤ most_frames
   pub frames : AllByRecursion (IsFrame modules) hart.frames
-  pub status : IsStatus modules h hart.status
+  pub status : IsStatus h hart hart.status
 
 -- a gate for a word of RAM
 pub record IsGate (modules size : ℕ) (g : Gate) : Type 0 where
@@ -59,9 +66,20 @@ pub record IsGate (modules size : ℕ) (g : Gate) : Type 0 where
   pub target : IsModule modules g.target
   pub word : g.word < size
 
--- a module whose areas lie in RAM
+-- at most one gate stands for a domain at a word: none behind a gate is for its domain at its word
+abbrev pub AreSingle : List Gate → Type 0
+AreSingle [] = Unit {0}
+AreSingle (g ∷ gs) = AllByRecursion (λ h. is_at g.domain g.word h ≡ false) gs × AreSingle gs
+
+-- live blocks of at least one word each, in the order of their addresses and apart, from word `low` on and before word `high`
+abbrev pub AreApart : ℕ → ℕ → List Area → Type 0
+AreApart low high [] = low ≤ high
+AreApart low high (b ∷ bs) = (low ≤ b.first) × (0 < b.count) × AreApart (b.first + b.count) high bs
+
+-- a module whose areas lie in RAM, and whose blocks lie apart in its heap area
 pub record IsHome (size harts : ℕ) (m : Module) : Type 0 where
   pub heap : m.heap.first + m.heap.count ≤ size
+  pub blocks : AreApart m.heap.first (m.heap.first + m.heap.count) m.blocks
   pub stack : m.stack.first + m.stack.words * harts ≤ size
   pub few_blocks : length m.blocks ≤ most_blocks
 
@@ -78,3 +96,4 @@ pub record IsValid (c : Core) : Type 0 where
   pub caches : length c.caches ≡ length c.harts
   pub few_gates : length c.gates ≤ most_gates
   pub gates : AllByRecursion (IsGate (length c.modules) c.size) c.gates
+  pub one_gate : AreSingle c.gates

@@ -82,7 +82,7 @@ pub enum TurnKind {
     Idle,
     /// The hart waits, and its call isn't served yet.
     Waited,
-    /// An instruction other than a supervisor call.
+    /// Any other turn: an instruction that neither calls, returns nor faults.
     Ran,
     /// A crossing that pushed a frame.
     Crossed,

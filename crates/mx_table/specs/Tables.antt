@@ -50,10 +50,11 @@ granted s = record { first = s.first; count = s.count; value = s.perm }
 abbrev pub row_map : ℕ → List Span → List Perm
 row_map words row = map (list_map granted row) words
 
--- the spans of a row: none is empty, each ends before the next begins, and the last ends in RAM
+-- what is read of a row behind its last span
 abbrev pub no_span : Span
 no_span = record { first = 0; count = 0; perm = P.None }
 
+-- the spans of a row: none is empty, each ends before the next begins, and the last ends in RAM
 pub record IsRow (words : ℕ) (row : List Span) : Type 0 where
   pub some : (i : ℕ) → i < length row → 0 < (slice_index_or row i no_span).count
   pub sorted : (i : ℕ) → i + 1 < length row →

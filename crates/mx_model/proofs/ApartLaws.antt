@@ -1,0 +1,97 @@
+-- Blocks that lie apart, and gates of which one at most stands for a domain at a word, under the edits that a turn makes.
+use Rattle.std.proofs.Common.{◌≡◌, ℕ, ◌+◌, ◌-◌, ◌<◌, ◌≤◌, Bool, true, false, not, cond, nat_lt, ◌==◌, ◌&&◌, ◌||◌, List, [], ◌∷◌, ◌++◌, refl, sym, ◌∙◌, ap, arith, ◌⊎◌, ⊎_elim, inl, inr}
+use Rattle.std.specs.Prelude.{filter}
+use Rattle.std.specs.List.{AllByRecursion, list_any}
+use Rattle.std.proofs.lemmas.Bool.{ltb-true, ltb-false, lt-ltb, ne_eqb}
+use Rattle.std.proofs.lemmas.Bool.Decides.{eqb_tells}
+use Rattle.mx_words.specs.FirstFit.{Area, with_block, without_block}
+use Rattle.mx_words.specs.Ranges.{overlaps}
+use Rattle.mx_model.specs.declared.values.Gate.{Gate}
+use Rattle.mx_model.specs.Gates.{is_at, without_gate}
+use Rattle.mx_model.specs.Valid.{AreApart, AreSingle}
+use Rattle.mx_model.proofs.ListLaws.{all-append, all-filter}
+
+-- blocks apart
+pub apart-lower : (low low' high : ℕ) (bs : List Area) → low' ≤ low → AreApart low high bs → AreApart low' high bs
+apart-lower low low' high [] e p = omega (arith, e, p)
+apart-lower low low' high (b ∷ bs) e p = let q = p.0 in (omega (arith, e, q), p.1, p.2)
+
+apart-ordered : (low high : ℕ) (bs : List Area) → AreApart low high bs → low ≤ high
+apart-ordered low high [] p = p
+apart-ordered low high (b ∷ bs) p = let q = apart-ordered (b.first + b.count) high bs p.2 in let r = p.0 in omega (arith, q, r)
+
+pub apart-without : (first low high : ℕ) (bs : List Area) → AreApart low high bs → AreApart low high (without_block first bs)
+apart-without first low high [] p = p
+apart-without first low high (b ∷ bs) p =
+    elim (not (b.first == first)) as (λ t. AreApart low high (cond t (b ∷ without_block first bs) (without_block first bs))) [
+      | true ↦ (p.0, p.1, apart-without first (b.first + b.count) high bs p.2)
+      | false ↦ apart-lower (b.first + b.count) low high (without_block first bs) (let r = p.0 in omega (arith, r)) (apart-without first (b.first + b.count) high bs p.2)
+    ]
+
+-- ranges of words that don't meet
+apart-ranges : (a n b m : ℕ) → 0 < n → 0 < m → overlaps a n b m ≡ false → (a + n ≤ b) ⊎ (b + m ≤ a)
+apart-ranges a n b m p q e = elim (nat_lt a b) as (λ t. nat_lt a b ≡ t → (nat_lt 0 n && nat_lt 0 m && cond t (nat_lt (b - a) n) (nat_lt (a - b) m)) ≡ false → (a + n ≤ b) ⊎ (b + m ≤ a)) [
+  | true ↦ λ t f. let l = ltb-true a b t in let u : nat_lt (b - a) n ≡ false = last-false (nat_lt 0 n) (nat_lt 0 m) (nat_lt (b - a) n) (lt-ltb 0 n p) (lt-ltb 0 m q) f in
+      let v = ltb-false (b - a) n u in inl (omega (arith, l, v))
+  | false ↦ λ t f. let l = ltb-false a b t in let u : nat_lt (a - b) m ≡ false = last-false (nat_lt 0 n) (nat_lt 0 m) (nat_lt (a - b) m) (lt-ltb 0 n p) (lt-ltb 0 m q) f in
+      let v = ltb-false (a - b) m u in inr (omega (arith, l, v))
+] refl e
+  where
+    last-false : (x y z : Bool) → x ≡ true → y ≡ true → (x && y && z) ≡ false → z ≡ false
+    last-false true true z p q f = f
+    last-false true false z p q f = absurd (let r : ⊥ = cc in r)
+    last-false false y z p q f = absurd (let r : ⊥ = cc in r)
+
+or-false : (x y : Bool) → (x || y) ≡ false → (x ≡ false) × (y ≡ false)
+or-false true y e = absurd (let r : ⊥ = cc in r)
+or-false false y e = (refl, e)
+
+-- a block that meets none of the others
+pub apart-with : (c : Area) (low high : ℕ) (bs : List Area) → low ≤ c.first → c.first + c.count ≤ high → 0 < c.count →
+    list_any (λ (b : Area). overlaps b.first b.count c.first c.count) bs ≡ false → AreApart low high bs → AreApart low high (with_block c bs)
+apart-with c low high [] l u s e p = (l, s, u)
+apart-with c low high (b ∷ bs) l u s e p =
+    let f = or-false (overlaps b.first b.count c.first c.count) (list_any (λ (x : Area). overlaps x.first x.count c.first c.count) bs) e in
+    let r = apart-ranges b.first b.count c.first c.count p.1 s f.0 in
+    elim (nat_lt c.first b.first) as (λ t. nat_lt c.first b.first ≡ t → AreApart low high (cond t (c ∷ b ∷ bs) (b ∷ with_block c bs))) [
+      | true ↦ λ t. let v = ltb-true c.first b.first t in
+          let k : c.first + c.count ≤ b.first = ⊎_elim (λ x. let y : c.first + c.count ≤ b.first = omega (arith, x, v) in y) (λ x. x) r in (l, s, (k, p.1, p.2))
+      | false ↦ λ t. let v = ltb-false c.first b.first t in
+          let w = p.1 in
+          let k : b.first + b.count ≤ c.first = ⊎_elim (λ x. x) (λ x. let y : b.first + b.count ≤ c.first = omega (arith, x, v, s, w) in y) r in
+          (p.0, p.1, apart-with c (b.first + b.count) high bs k u s f.1 p.2)
+    ] refl
+
+-- gates, at most one for each domain and word
+pub single-filter : (test : Gate → Bool) (gs : List Gate) → AreSingle gs → AreSingle (filter test gs)
+single-filter test [] p = tt
+single-filter test (g ∷ gs) p = elim (test g) as (λ b. AreSingle (cond b (g ∷ filter test gs) (filter test gs))) [
+  | true ↦ (all-filter (λ h. is_at g.domain g.word h ≡ false) test gs p.0, single-filter test gs p.1)
+  | false ↦ single-filter test gs p.1
+]
+
+pub single-append : (g : Gate) (gs : List Gate) → AllByRecursion (λ h. is_at h.domain h.word g ≡ false) gs → AreSingle gs → AreSingle (gs ++ g ∷ [])
+single-append g [] q p = (tt, tt)
+single-append g (h ∷ hs) q p = (all-append (λ x. is_at h.domain h.word x ≡ false) hs g p.0 q.0, single-append g hs q.1 p.1)
+
+-- equal numbers
+eq-same : (m n : ℕ) → m ≡ n → (m == n) ≡ true
+eq-same m n e = ⊎_elim (λ t. t.0) (λ f. absurd (f.1 e)) (eqb_tells m n)
+
+-- no gate of those without a domain and word is for these
+at-flipped : (g h : Gate) → is_at g.domain g.word h ≡ false → is_at h.domain h.word g ≡ false
+at-flipped g h e = flipped (h.domain == g.domain) (g.domain == h.domain) (h.word == g.word) (g.word == h.word) (eq-flipped h.domain g.domain) (eq-flipped h.word g.word) e
+  where
+    flipped : (a b x y : Bool) → a ≡ b → x ≡ y → (a && x) ≡ false → (b && y) ≡ false
+    flipped a b x y p q f = sym (ap (λ t. t && y) p) ∙ sym (ap (λ t. a && t) q) ∙ f
+
+    eq-flipped : (m n : ℕ) → (m == n) ≡ (n == m)
+    eq-flipped m n = ⊎_elim (λ t. t.0 ∙ sym (eq-same n m (sym t.1))) (λ f. f.0 ∙ sym (ne_eqb n m (λ q. f.1 (sym q)))) (eqb_tells m n)
+
+pub single-others : (g : Gate) (gs : List Gate) → AllByRecursion (λ h. is_at h.domain h.word g ≡ false) (without_gate g.domain g.word gs)
+single-others g [] = tt
+single-others g (h ∷ hs) = elim (is_at g.domain g.word h) as (λ b. is_at g.domain g.word h ≡ b →
+    AllByRecursion (λ x. is_at x.domain x.word g ≡ false) (cond (not b) (h ∷ without_gate g.domain g.word hs) (without_gate g.domain g.word hs))) [
+      | true ↦ λ e. single-others g hs
+      | false ↦ λ e. (at-flipped g h e, single-others g hs)
+    ] refl
