@@ -89,27 +89,60 @@ fn counts(tables: &Segments) -> (u32, u64) {
     (*words, *lookups)
 }
 
+type Seen = (
+    [Option<u32>; 4],
+    [Option<u32>; 4],
+    (u32, u32, Need, Need, Shown),
+);
+
+// The entries of domain 1 before and after read-write on words 1028 to 1031, and what is read then.
+fn before_and_after(alloc: Global) -> Option<Seen> {
+    let row = four_words(alloc).ok()?;
+    let mut tables = one_domain(alloc, row, 1).ok()?;
+    let before = entries(&tables);
+    let change = grant(1028, 4, Perm::ReadWrite);
+    if !tables.fits(&change) {
+        return None;
+    }
+    tables.apply(&change);
+    let after = entries(&tables);
+    let readings = readings(&tables, 1025);
+    Some((before, after, readings))
+}
+
+// Two permissions, a span and the counts after its lookup.
+fn looked_up(alloc: Global) -> Option<(Perm, Perm, Span, (u32, u64))> {
+    let row = four_words(alloc).ok()?;
+    let mut tables = one_domain(alloc, row, 1).ok()?;
+    let inside = tables.perm(1, 1027);
+    let behind = tables.perm(1, 1028);
+    let span = tables.lookup(1, 16383);
+    Some((inside, behind, span, counts(&tables)))
+}
+
+// What refuses tables without a leaf frame.
+fn without_frames(alloc: Global) -> Option<BuildRefused> {
+    let row = four_words(alloc).ok()?;
+    one_domain(alloc, row, 0).err()
+}
+
 #[test]
 fn segment_entries(rt: HostRuntime) -> Result<(), Fail> {
-    let row = four_words(rt.alloc()).ok().ok_or("memory")?;
-    let mut tables = one_domain(rt.alloc(), row, 1).ok().ok_or("fits")?;
-    let before = [
+    let (before, after, readings) = before_and_after(rt.alloc()).ok_or("memory")?;
+    let first = [
         Some(0x8000_0000),
         Some(0x8000_1002),
         Some(0x8000_1010),
         None,
     ];
-    assert_eq!(rt; entries(&tables), before);
-    let change = grant(1028, 4, Perm::ReadWrite);
-    assert!(rt; tables.fits(&change));
-    tables.apply(&change);
-    let after = [
+    assert_eq!(rt; before, first);
+    let second = [
         Some(0x8000_0000),
         Some(0x8000_1002),
         Some(0x8000_1020),
         None,
     ];
-    assert_eq!(rt; entries(&tables), after);
+    assert_eq!(rt; after, second);
     let need = Need {
         upper: 0,
         leaf: 1,
@@ -121,35 +154,32 @@ fn segment_entries(rt: HostRuntime) -> Result<(), Fail> {
         count: 8,
         stored: 0x8000_1002,
     };
-    assert_eq!(rt; readings(&tables, 1025), (16384, 1, need, need, shown));
+    assert_eq!(rt; readings, (16384, 1, need, need, shown));
     Ok(())
 }
 
 #[test]
 fn lookups_are_counted(rt: HostRuntime) -> Result<(), Fail> {
-    let row = four_words(rt.alloc()).ok().ok_or("memory")?;
-    let mut tables = one_domain(rt.alloc(), row, 1).ok().ok_or("fits")?;
-    assert_eq!(rt; tables.perm(1, 1027), Perm::ReadWrite);
-    assert_eq!(rt; tables.perm(1, 1028), Perm::None);
+    let seen = looked_up(rt.alloc()).ok_or("memory")?;
     let span = Span {
         first: 1028,
         count: 15356,
         perm: Perm::None,
     };
-    assert_eq!(rt; tables.lookup(1, 16383), span);
-    assert_eq!(rt; counts(&tables), (16384, 1));
+    assert_eq!(rt; seen, (Perm::ReadWrite, Perm::None, span, (16384, 1)));
     Ok(())
 }
 
 #[test]
 fn full_tables_are_refused(rt: HostRuntime) -> Result<(), Fail> {
-    let row = four_words(rt.alloc()).ok().ok_or("memory")?;
     let need = Need {
         upper: 0,
         leaf: 1,
         spill: 0,
     };
-    let refused = one_domain(rt.alloc(), row, 0).err().ok_or("built")?;
-    assert_eq!(rt; refused, BuildRefused::TablesFull { need });
+    assert_eq!(rt;
+        without_frames(rt.alloc()),
+        Some(BuildRefused::TablesFull { need })
+    );
     Ok(())
 }
