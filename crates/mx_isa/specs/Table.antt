@@ -1,5 +1,5 @@
 -- The instruction table: which words stand for which instruction.
-use Rattle.std.specs.Prelude.{ℕ, ◌+◌, ◌*◌, ◌^◌, ◌==◌, ◌&&◌, List, [], ◌∷◌, find, Option, Some, None, option_map, option_and_then, unwrap_or, is_some, if◌then◌else◌}
+use Rattle.std.specs.Prelude.{ℕ, ◌+◌, ◌*◌, ◌^◌, ◌==◌, ◌&&◌, Bool, true, List, [], ◌∷◌, find, Option, Some, None, option_map, option_and_then, unwrap_or, is_some, if◌then◌else◌}
 use Rattle.mx_isa.specs.declared.inst.Inst.{Inst}
 use Rattle.mx_isa.specs.declared.inst.Inst.TheVariants.{Lui, Auipc, Jal, Jalr, Branch, Load, Store, OpImm, Op, Fence, Ecall, Ebreak}
 use Rattle.mx_isa.specs.declared.inst.Cond.{Cond}
@@ -98,18 +98,23 @@ reg_op_f7 Divu = 1
 reg_op_f7 Rem = 1
 reg_op_f7 Remu = 1
 
+-- the branches
 abbrev pub conds : List Cond
 conds = Beq ∷ Bne ∷ Blt ∷ Bge ∷ Bltu ∷ Bgeu ∷ []
 
+-- the loads
 abbrev pub loads : List LoadWidth
 loads = Lb ∷ Lh ∷ Lw ∷ Lbu ∷ Lhu ∷ []
 
+-- the stores
 abbrev pub stores : List StoreWidth
 stores = Sb ∷ Sh ∷ Sw ∷ []
 
+-- the operations with an immediate
 abbrev pub imm_ops : List ImmOp
 imm_ops = Addi ∷ Slti ∷ Sltiu ∷ Xori ∷ Ori ∷ Andi ∷ Slli ∷ Srli ∷ Srai ∷ []
 
+-- the operations on two registers
 abbrev pub reg_ops : List RegOp
 reg_ops =
     Add ∷ Sub ∷ Sll ∷ Slt ∷ Sltu ∷ Xor ∷ Srl ∷ Sra ∷ Or ∷ And
@@ -127,9 +132,14 @@ load_of f3 = find (λ x. load_f3 x == f3) loads
 abbrev pub store_of : ℕ → Option StoreWidth
 store_of f3 = find (λ x. store_f3 x == f3) stores
 
+-- whether f7 is the wanted one, where one is wanted
+abbrev pub has_f7 : Option ℕ → ℕ → Bool
+has_f7 None f7 = true
+has_f7 (Some wanted) f7 = wanted == f7
+
 -- the operation with an immediate that has this f3 and, as a shift, this f7
 abbrev pub imm_op_of : ℕ → ℕ → Option ImmOp
-imm_op_of f3 f7 = find (λ op. (imm_op_f3 op == f3) && (unwrap_or (imm_op_f7 op) f7 == f7)) imm_ops
+imm_op_of f3 f7 = find (λ op. (imm_op_f3 op == f3) && has_f7 (imm_op_f7 op) f7) imm_ops
 
 -- the operation on two registers with this f3 and f7
 abbrev pub reg_op_of : ℕ → ℕ → Option RegOp

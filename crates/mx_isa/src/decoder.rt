@@ -221,7 +221,11 @@ fn store_offset(word: u32) -> u32
     ensures { result ≡ imm_s word }
 {
     let number = ((word >> 25) & 0x3F) * 32 + ((word >> 7) & 0x1F);
-    if word >> 31 == 0 { number } else { number + 0xFFFF_F800 }
+    if word >> 31 == 0 {
+        number
+    } else {
+        number + 0xFFFF_F800
+    }
 }
 
 // B

@@ -1,4 +1,11 @@
+pub mod Checks
 pub mod Effect
 pub mod Events
 pub mod Gates
+pub mod Reads
+pub mod Serve
 pub mod State
+pub mod Turn
+pub mod Agreement
+pub mod Run
+pub mod Valid
