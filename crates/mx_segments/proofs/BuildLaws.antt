@@ -1,25 +1,24 @@
 -- Lists that are filled row by row.
-use Rattle.std.proofs.Common.{◌≡◌, ◌≢◌, ℕ, zero, suc, ◌+◌, ◌-◌, ◌*◌, ◌/◌, ◌<◌, ◌≤◌, Bool, true, false, cond, List, [], ◌∷◌, Option, Some, None, is_none, length, get_or, set, take, replicate, sum_by, count_by, refl, sym, ◌∙◌, ap, subst, arith, inl, inr, length-set, get_or-set_same, get_or-set_other}
+use Rattle.std.proofs.Common.{◌≡◌, ℕ, zero, suc, ◌+◌, ◌<◌, ◌≤◌, true, false, cond, List, [], ◌∷◌, Option, None, is_none, length, get_or, set, replicate, sum_by, refl, sym, ◌∙◌, ap, subst, arith, inl, inr, length-set, get_or-set_same, get_or-set_other}
 use Rattle.std.proofs.Common.{map as list_map}
-use Rattle.std.proofs.lemmas.Bool.{cases_lt, cases_eq}
-use Rattle.std.proofs.lemmas.List.{same_lists, get_or_past, get_or_default, length-replicate, length-map, get_or-map}
+use Rattle.std.proofs.lemmas.Bool.{cases_eq}
+use Rattle.std.proofs.lemmas.List.{same_lists, get_or_default, length-replicate, length-map, get_or-map}
 use Rattle.std.proofs.lemmas.List.Sums.{sum_by-set, sum_by-cons}
-use Rattle.mx_words.specs.declared.perm.Perm.{Perm}
 use Rattle.mx_words.specs.declared.perm.Perm.TheVariants as P
 use Rattle.mx_words.specs.declared.perm.Span.{Span}
 use Rattle.mx_words.specs.Rights.{perm_at}
-use Rattle.mx_words.specs.Counting.{count_below, list_below}
+use Rattle.mx_words.specs.Counting.{count_below}
 use Rattle.mx_words.specs.Newest.{map}
 use Rattle.mx_words.specs.Runs.{runs}
 use Rattle.mx_words.specs.Need.{segment_frames}
 use Rattle.mx_words.specs.Starts.{is_start}
 use Rattle.mx_words.proofs.CountingLaws.{count_below-zero}
 use Rattle.mx_table.specs.Tables.{row_map, IsRow}
-use Rattle.mx_pool.specs.Frames.{frame_at, free_in}
+use Rattle.mx_pool.specs.Frames.{free_in}
 use Rattle.mx_segments.specs.Lists.{list_at}
-use Rattle.mx_segments.specs.Store.{Frames, frames_in, word_in, IsStore, KeepsOthers}
+use Rattle.mx_segments.specs.Store.{Frames, frames_in, IsStore, KeepsOthers}
 use Rattle.mx_segments.specs.Entries.{IsChain, entry_word}
-use Rattle.mx_segments.specs.Sound.{map_in, IsSound}
+use Rattle.mx_segments.specs.Sound.{map_in}
 use Rattle.mx_segments.specs.Kept.{maps_in}
 use Rattle.mx_segments.specs.Shape.{sum_by_same, length-maps_in, maps_in-at}
 use Rattle.mx_segments.specs.Tally.{first_spans}

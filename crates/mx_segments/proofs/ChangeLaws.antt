@@ -1,22 +1,21 @@
 -- What a permission laid over a range does to the runs of a map, and to the entries of a chain.
-use Rattle.std.proofs.Common.{◌≡◌, ◌≢◌, ℕ, zero, suc, ◌+◌, ◌-◌, ◌*◌, ◌/◌, ◌%◌, ◌<◌, ◌≤◌, ◌^◌, min, Bool, true, false, not, ◌==◌, ◌&&◌, ◌||◌, nat_lt, List, length, refl, sym, ◌∙◌, ap, subst, arith, inl, inr, ◌⊎◌}
-use Rattle.std.proofs.lemmas.Bool.{cases_lt, cases_eq, cases_order, cases_Bool}
+use Rattle.std.proofs.Common.{◌≡◌, ℕ, ◌+◌, ◌-◌, ◌<◌, ◌≤◌, min, true, false, not, ◌==◌, ◌&&◌, ◌||◌, nat_lt, List, length, sym, ◌∙◌, ap, subst, arith, inl, inr}
+use Rattle.std.proofs.lemmas.Bool.{cases_lt, cases_eq, cases_order}
 use Rattle.std.proofs.lemmas.Bool.Decides.{nat_tests}
 use Rattle.mx_words.specs.declared.perm.Perm.{Perm}
 use Rattle.mx_words.specs.declared.perm.Perm.TheVariants as P
-use Rattle.mx_words.specs.Rights.{number, same, perm_at}
+use Rattle.mx_words.specs.Rights.{same, perm_at}
 use Rattle.mx_words.specs.Counting.{bit, count_below}
 use Rattle.mx_words.specs.Newest.{Laid, laid}
 use Rattle.mx_words.specs.Runs.{runs}
 use Rattle.mx_words.specs.Starts.{is_start}
-use Rattle.mx_words.proofs.CountingLaws.{count_below_agree, count_below_along, count_below_still, count_below_yes, count_below-more, count_below-mono, count_below_after, bit-le}
+use Rattle.mx_words.proofs.CountingLaws.{count_below_agree, count_below_along, count_below_still, count_below-more, count_below-mono, count_below_after}
 use Rattle.mx_words.proofs.OverlayLaws.{laid_in, laid_below, laid_behind, length-laid}
 use Rattle.mx_words.proofs.RunLaws.{runs-count, is_start-behind, same_refl}
 use Rattle.mx_words.specs.Changes.{grant_of}
 use Rattle.mx_segments.specs.declared.plan.Plan.{Plan}
 use Rattle.mx_segments.specs.Entries.{entry_word, IsChain}
 use Rattle.mx_segments.specs.Plan.{IsPlan, IsLaid, kept, total}
-use Rattle.mx_segments.proofs.EntryLaws.{runs_are}
 
 module _ (words : ℕ) (m : List Perm) (len : length m ≡ words) (first count : ℕ) (perm : Perm) (some : 0 < count) (inside : first + count ≤ words) where
   abbrev g : Laid Perm

@@ -1,17 +1,16 @@
 -- What the entries of a chain tell of its map.
-use Rattle.std.proofs.Common.{◌≡◌, ◌≢◌, ℕ, zero, suc, ◌+◌, ◌-◌, ◌*◌, ◌/◌, ◌%◌, ◌<◌, ◌≤◌, ◌^◌, Bool, true, false, ◌&&◌, nat_lt, nat_le, List, length, get_or, unwrap_or, refl, sym, ◌∙◌, ap, subst, arith, inl, inr, ◌⊎◌}
-use Rattle.std.proofs.lemmas.Bool.{cases_lt, cases_eq, cases_Bool}
+use Rattle.std.proofs.Common.{◌≡◌, ℕ, ◌+◌, ◌-◌, ◌*◌, ◌/◌, ◌%◌, ◌<◌, ◌≤◌, Bool, true, false, ◌&&◌, nat_lt, nat_le, List, length, unwrap_or, refl, sym, ◌∙◌, ap, subst, arith, inl, inr}
+use Rattle.std.proofs.lemmas.Bool.{cases_lt}
 use Rattle.std.proofs.lemmas.Bool.Decides.{nat_tests}
 use Rattle.std.proofs.lemmas.List.{get_or_default}
 use Rattle.mx_words.specs.declared.perm.Perm.{Perm}
 use Rattle.mx_words.specs.declared.perm.Perm.TheVariants as P
 use Rattle.mx_words.specs.Rights.{number, from_number, same, perm_at}
-use Rattle.mx_words.specs.Ranges.{ram_base, address_of}
-use Rattle.mx_words.specs.Counting.{count_below, list_below}
+use Rattle.mx_words.specs.Ranges.{address_of}
+use Rattle.mx_words.specs.Counting.{count_below}
 use Rattle.mx_words.specs.Runs.{runs}
-use Rattle.mx_words.specs.Need.{segment_frames}
 use Rattle.mx_words.specs.Starts.{is_start}
-use Rattle.mx_words.proofs.CountingLaws.{IsCounted, count_below_find, count_below_is, count_below_yes, count_below-mono, count_below_after, count_below_same, count_below-order, count_below-le, list_below_is}
+use Rattle.mx_words.proofs.CountingLaws.{IsCounted, count_below_find, count_below_is, count_below_yes, count_below-mono, count_below_after, count_below_same, list_below_is}
 use Rattle.mx_words.proofs.RunLaws.{runs-count, same_in_run, start_differs, same_from, same_eq, IsRound}
 use Rattle.mx_segments.specs.Entries.{entry_word, perm_of, word_of_entry, begins_before, run_start, entry_of, read_at, read_map, IsChain}
 

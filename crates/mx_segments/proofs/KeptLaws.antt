@@ -1,26 +1,20 @@
 -- What follows for the maps of all domains.
-use Rattle.std.proofs.Common.{◌≡◌, ◌≢◌, ℕ, zero, suc, ◌+◌, ◌-◌, ◌*◌, ◌/◌, ◌<◌, ◌≤◌, Bool, true, false, ◌&&◌, nat_le, List, [], ◌∷◌, length, get_or, sum_by, IsTrue, Option, Some, None, refl, sym, ◌∙◌, ap, subst, arith, inl, inr}
-use Rattle.std.proofs.lemmas.Bool.{cases_lt, cases_eq}
+use Rattle.std.proofs.Common.{◌≡◌, ◌≢◌, ℕ, zero, suc, ◌+◌, ◌*◌, ◌<◌, ◌≤◌, Bool, true, false, ◌&&◌, nat_le, List, [], ◌∷◌, length, get_or, sum_by, Option, refl, sym, ◌∙◌, ap, arith}
 use Rattle.std.proofs.lemmas.Bool.Decides.{nat_tests}
 use Rattle.std.proofs.lemmas.List.{same_lists}
-use Rattle.std.proofs.lemmas.List.Sums.{sum_by-cons, sum_by_push}
+use Rattle.std.proofs.lemmas.List.Sums.{sum_by_push}
 use Rattle.mx_words.specs.declared.perm.Perm.{Perm}
-use Rattle.mx_words.specs.declared.tables.Kind.TheVariants as K
 use Rattle.mx_words.specs.declared.tables.Need.{Need}
 use Rattle.mx_words.specs.Counting.{count_below, list_below, sum_below}
 use Rattle.mx_words.specs.Starts.{is_start}
-use Rattle.mx_words.specs.Runs.{runs}
-use Rattle.mx_words.specs.Need.{segment_frames, need, within, fits}
+use Rattle.mx_words.specs.Need.{segment_frames, within}
 use Rattle.mx_words.specs.Changes.{changed_map, changed_from}
-use Rattle.mx_words.proofs.CountingLaws.{count_below_after, length-list_below, list_below-at, list_below_is, sum_below-more}
-use Rattle.mx_table.specs.Tables.{map_of, IsDomain, IsShaped}
-use Rattle.mx_pool.specs.Frames.{free_in}
-use Rattle.mx_segments.specs.Lists.{list_at}
+use Rattle.mx_words.proofs.CountingLaws.{count_below_after, list_below_is, sum_below-more}
 use Rattle.mx_segments.specs.Store.{Frames, frames_in, word_in, KeepsOthers}
-use Rattle.mx_segments.specs.Entries.{IsChain, entry_word, read_map}
+use Rattle.mx_segments.specs.Entries.{IsChain}
 use Rattle.mx_segments.specs.Sound.{map_in, IsSound}
-use Rattle.mx_segments.specs.Kept.{maps_in, IsKept}
-use Rattle.mx_segments.specs.Shape.{sum_by_same, length-maps_in, maps_in-at, map_of-maps_in, row_of, need_leaf}
+use Rattle.mx_segments.specs.Kept.{maps_in}
+use Rattle.mx_segments.specs.Shape.{length-maps_in, maps_in-at}
 use Rattle.mx_segments.proofs.EntryLaws.{runs_are, runs_held}
 use Rattle.mx_segments.proofs.LaidLaws.{means, means_itself}
 

@@ -10,3 +10,4 @@ mod KeptLaws
 mod SpanLaws
 mod TallyLaws
 mod BuildLaws
+mod TestLaws

@@ -1,5 +1,5 @@
 -- Laws of the lists of frame numbers.
-use Rattle.std.proofs.Common.{◌≡◌, ◌≢◌, ℕ, zero, suc, ◌+◌, ◌-◌, ◌<◌, ◌≤◌, List, [], ◌∷◌, ◌++◌, length, get_or, set, take, map, Vec, Global, vec_items, ap, ◌∙◌, sym, refl, arith}
+use Rattle.std.proofs.Common.{◌≡◌, ℕ, zero, suc, ◌<◌, List, [], ◌∷◌, length, get_or, map, Vec, Global, vec_items, ap, arith}
 use Rattle.mx_segments.specs.Lists.{list_at}
 
 -- what stands in a list of vectors, read as lists

@@ -1,8 +1,6 @@
 -- How changes of one row follow one another.
-use Rattle.std.proofs.Common.{◌≡◌, ◌≢◌, ℕ, ◌+◌, ◌*◌, ◌<◌, List, length, refl, sym, ◌∙◌, ap, arith}
-use Rattle.mx_pool.specs.Frames.{free_in}
-use Rattle.mx_segments.specs.Lists.{list_at}
-use Rattle.mx_segments.specs.Store.{Frames, frames_in, word_in, IsStore, KeepsOthers, IsRewritten}
+use Rattle.std.proofs.Common.{◌≡◌, ℕ, List, length, refl, ◌∙◌, ap, arith}
+use Rattle.mx_segments.specs.Store.{Frames, frames_in, IsStore, KeepsOthers, IsRewritten}
 
 pub keeps_refl : (fs : Frames) (ls : List (List ℕ)) (row : ℕ) → KeepsOthers fs ls fs ls row
 keeps_refl fs ls row = record { rows = refl; total = refl; chains = λ other ne. refl; words = λ other i ne lt. refl }

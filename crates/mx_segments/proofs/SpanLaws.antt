@@ -1,5 +1,5 @@
 -- The spans of a row: their order, and the maps of the first of them.
-use Rattle.std.proofs.Common.{◌≡◌, ◌≢◌, ℕ, zero, suc, ◌+◌, ◌-◌, ◌<◌, ◌≤◌, Bool, true, false, not, cond, List, [], ◌∷◌, ◌++◌, length, get_or, slice_get, Some, take, drop, fold, refl, sym, ◌∙◌, ap, subst, arith, inl, inr, ◌⊎◌, add-one, take-append-drop, length-take, length-drop, get_or-take, get_or-drop}
+use Rattle.std.proofs.Common.{◌≡◌, ℕ, zero, suc, ◌+◌, ◌-◌, ◌<◌, ◌≤◌, false, not, List, [], ◌∷◌, ◌++◌, length, get_or, slice_get, Some, take, drop, fold, refl, sym, ◌∙◌, ap, subst, arith, inl, inr, ◌⊎◌, take-append-drop, length-take, length-drop, get_or-take, get_or-drop}
 use Rattle.std.proofs.Common.{map as list_map}
 use Rattle.std.proofs.lemmas.Bool.{cases_lt, cases_eq}
 use Rattle.std.proofs.lemmas.List.{map-append, take_more, take_all, get_or_past}
@@ -8,12 +8,10 @@ use Rattle.mx_words.specs.declared.perm.Perm.{Perm}
 use Rattle.mx_words.specs.declared.perm.Perm.TheVariants as P
 use Rattle.mx_words.specs.declared.perm.Span.{Span}
 use Rattle.mx_words.specs.Rights.{same, perm_at}
-use Rattle.mx_words.specs.Ranges.{covers}
-use Rattle.mx_words.specs.Newest.{Laid, Grant, laid_at, at, map, laid}
+use Rattle.mx_words.specs.Newest.{Grant, laid_at, at, map, laid}
 use Rattle.mx_words.specs.Counting.{count_below}
 use Rattle.mx_words.specs.Runs.{runs}
 use Rattle.mx_words.specs.Starts.{is_start}
-use Rattle.mx_words.specs.Changes.{grant_of}
 use Rattle.mx_words.proofs.CountingLaws.{count_below_agree, count_below_still, count_below-more, count_below-mono, bit-le}
 use Rattle.mx_words.proofs.OverlayLaws.{laid_at_below, laid_at_behind, map-at, length-map_of}
 use Rattle.mx_words.proofs.OverlayLaws.{map-append as map-append_grant}

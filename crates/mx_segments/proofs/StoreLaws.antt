@@ -1,9 +1,9 @@
 -- What the writes of a word, and a frame more or less, do to the words of the lists.
-use Rattle.std.proofs.Common.{◌≡◌, ◌≢◌, ℕ, zero, suc, ◌+◌, ◌-◌, ◌*◌, ◌/◌, ◌%◌, ◌<◌, ◌≤◌, Bool, true, false, List, [], ◌∷◌, ◌++◌, Option, Some, None, IsSome, is_some, unwrap_or, length, get_or, set, take, replicate, sum_by, refl, sym, ◌∙◌, ap, subst, arith, inl, inr, ◌⊎◌, length-set, length-append, length-take, get_or-set_same, get_or-set_other, get_or-take}
+use Rattle.std.proofs.Common.{◌≡◌, ◌≢◌, ℕ, ◌+◌, ◌-◌, ◌*◌, ◌/◌, ◌%◌, ◌<◌, ◌≤◌, true, false, List, [], ◌∷◌, ◌++◌, Option, Some, None, is_some, unwrap_or, length, get_or, set, take, replicate, sum_by, refl, sym, ◌∙◌, ap, subst, arith, inl, inr, ◌⊎◌, length-take, get_or-set_same, get_or-set_other, get_or-take}
 use Rattle.std.proofs.lemmas.Bool.{cases_lt, cases_eq}
 use Rattle.std.proofs.lemmas.List.{get_or_append_left, get_or_push, get_or_past, get_or-replicate, length_push}
 use Rattle.std.proofs.lemmas.List.Sums.{sum_by-set}
-use Rattle.mx_pool.specs.Frames.{frame_at, IsTaken, words_of, word_at, free_in}
+use Rattle.mx_pool.specs.Frames.{frame_at, IsTaken, word_at, free_in}
 use Rattle.mx_segments.specs.Lists.{list_at}
 use Rattle.mx_segments.specs.Store.{Frames, frames_in, frame_in, word_in, IsStore, KeepsOthers}
 

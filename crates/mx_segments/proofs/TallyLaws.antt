@@ -1,5 +1,5 @@
 -- A tally with one span more.
-use Rattle.std.proofs.Common.{◌≡◌, ℕ, zero, suc, ◌+◌, ◌-◌, ◌<◌, ◌≤◌, min, Bool, true, false, cond, not, ◌==◌, ◌&&◌, ◌||◌, nat_lt, List, [], length, take, refl, sym, ◌∙◌, ap, subst, arith, inl, inr}
+use Rattle.std.proofs.Common.{◌≡◌, ℕ, ◌+◌, ◌-◌, ◌<◌, ◌≤◌, min, true, false, cond, not, ◌==◌, ◌&&◌, ◌||◌, nat_lt, List, length, refl, sym, ◌∙◌, ap, arith, inl, inr}
 use Rattle.std.proofs.lemmas.Bool.{cases_lt, cases_eq}
 use Rattle.std.proofs.lemmas.Bool.Decides.{nat_tests}
 use Rattle.mx_words.specs.declared.perm.Perm.{Perm}
@@ -7,20 +7,19 @@ use Rattle.mx_words.specs.declared.perm.Perm.TheVariants as P
 use Rattle.mx_words.specs.declared.perm.Span.{Span}
 use Rattle.mx_words.specs.Rights.{same, perm_at}
 use Rattle.mx_words.specs.Counting.{bit, count_below}
-use Rattle.mx_words.specs.Newest.{map, laid}
+use Rattle.mx_words.specs.Newest.{laid}
 use Rattle.mx_words.specs.Changes.{grant_of}
 use Rattle.mx_words.specs.Runs.{runs}
 use Rattle.mx_words.specs.Starts.{is_start}
-use Rattle.mx_words.proofs.CountingLaws.{count_below-zero, count_below_still, count_below_yes, count_below-le, count_below-mono}
-use Rattle.mx_words.proofs.OverlayLaws.{length-map_of}
+use Rattle.mx_words.proofs.CountingLaws.{count_below-zero, count_below_still, count_below_yes, count_below-le}
 use Rattle.mx_words.proofs.RunLaws.{runs-count, is_start-behind, same_refl}
-use Rattle.mx_table.specs.Tables.{granted, row_map, IsRow, no_span}
+use Rattle.mx_table.specs.Tables.{IsRow}
 use Rattle.mx_segments.specs.declared.plan.Plan.{Plan}
 use Rattle.mx_segments.specs.declared.tally.Tally.{Tally}
-use Rattle.mx_segments.specs.Plan.{IsPlan, kept, total}
-use Rattle.mx_segments.specs.Tally.{span_at, end_at, first_spans, IsTally, counted_before, perm_before, begins_at, begins_behind}
+use Rattle.mx_segments.specs.Plan.{IsPlan, kept}
+use Rattle.mx_segments.specs.Tally.{first_spans, IsTally, counted_before, perm_before}
 use Rattle.mx_segments.proofs.ChangeLaws.{in_range, total_is, new_in, new_behind, length-new}
-use Rattle.mx_segments.proofs.SpanLaws.{ends_before, tail_none, length-first, first_more}
+use Rattle.mx_segments.proofs.SpanLaws.{tail_none, length-first}
 
 step : (m : List Perm) (i : ℕ) → 0 < i → is_start m i ≡ not (same (perm_at m (i - 1)) (perm_at m i))
 step m i some =

@@ -1,6 +1,6 @@
 -- Lists of frame numbers, one for each domain.
 use Rattle.std.specs.declared.alloc.Global.{Global}
-use Rattle.std.specs.Prelude.{ℕ, ◌+◌, ◌-◌, ◌*◌, ◌^◌, ◌≤◌, List, [], length, slice_index, slice_index_or, Vec, vec_len, vec_capacity}
+use Rattle.std.specs.Prelude.{ℕ, ◌-◌, ◌^◌, ◌≤◌, List, [], slice_index_or, Vec, vec_len, vec_capacity}
 
 -- the greatest number of frames in one list: as many as the entries of 2^24 words fill
 abbrev pub most_frames : ℕ

@@ -1,11 +1,10 @@
 -- The maps of tables have the shape that the trait promises.
-use Rattle.std.proofs.Common.{◌≡◌, ℕ, zero, suc, ◌+◌, ◌-◌, ◌<◌, ◌≤◌, Bool, true, ◌&&◌, nat_le, List, [], ◌∷◌, length, get_or, sum_by, IsTrue, refl, sym, ◌∙◌, ap, arith}
+use Rattle.std.proofs.Common.{◌≡◌, ℕ, suc, ◌-◌, ◌<◌, ◌≤◌, true, ◌&&◌, nat_le, List, [], ◌∷◌, length, get_or, sum_by, refl, sym, ◌∙◌, ap, arith}
 use Rattle.std.proofs.lemmas.Bool.Decides.{nat_tests}
 use Rattle.std.proofs.lemmas.List.Sums.{sum_by-cons}
 use Rattle.mx_words.specs.declared.perm.Perm.{Perm}
 use Rattle.mx_words.specs.declared.tables.Kind.TheVariants as K
 use Rattle.mx_words.specs.declared.tables.Need.{Need}
-use Rattle.mx_words.specs.Counting.{list_below}
 use Rattle.mx_words.specs.Need.{segment_frames, within}
 use Rattle.mx_words.proofs.CountingLaws.{length-list_below, list_below-at}
 use Rattle.mx_table.specs.Tables.{map_of, IsDomain, IsShaped}

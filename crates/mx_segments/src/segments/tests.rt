@@ -1,36 +1,84 @@
+ghost use Rattle.std.specs.Prelude.{◌≡◌, ◌≢◌, ℕ, ◌+◌, ◌<◌, ◌≤◌, None, [], ◌∷◌, length, IfOk};
+ghost use Rattle.mx_table.specs.Change.{given};
+ghost use Rattle.mx_table.specs.Tables.{IsRow, IsDomain};
+ghost use Rattle.mx_segments.specs.Kept.{maps_in};
+
 use super::*;
+use mx_words::{Level, NoMemory};
 use std::test::Fail;
 
-// Tables of one domain over 16384 words, with read-write on words 1024 to 1027.
-fn one_domain(rt: &HostRuntime, leaf: u32) -> Result<Result<Segments, BuildRefused>, Fail> {
-    let mut row = Spans::new(rt.alloc());
-    row.push(Span {
-        first: 1024,
-        count: 4,
-        perm: Perm::ReadWrite,
-    })
-    .ok()
-    .ok_or("memory")?;
+// Tables of one domain over 16384 words.
+fn one_domain(alloc: Global, row: Spans, leaf: u32) -> Result<Segments, BuildRefused>
+    requires row { IsRow 16384 row }
+    requires leaf { leaf ≤ 1000 }
+    ensures one { IfOk result (λ t. length (maps_in t.words t.leaf t.chains) ≡ 1) }
+    ensures words { IfOk result (λ t. t.words ≡ 16384) }
+{
     let limit = Need {
         upper: 0,
         leaf,
         spill: 0,
     };
-    Ok(Segments::build(rt.alloc(), 16384, &[row], limit))
+    Segments::build(alloc, 16384, &[row], limit)
 }
 
-// What the trait's readers tell of tables.
-fn readings<T: PermTables>(tables: &T) -> (u32, u32, Need, Need) {
+// A row with read-write on words 1024 to 1027.
+fn four_words(alloc: Global) -> Result<Spans, NoMemory>
+    ensures { IfOk result (IsRow 16384) }
+{
+    let mut row = Spans::new(alloc);
+    row.push(Span {
+        first: 1024,
+        count: 4,
+        perm: Perm::ReadWrite,
+    })?;
+    Ok(row)
+}
+
+// A permission for domain 1 on a range.
+fn grant(first: u32, count: u32, perm: Perm) -> Change
+    ensures first { result.first ≡ first }
+    ensures count { result.count ≡ count }
+    ensures others { (d : ℕ) → d ≢ 1 → given result d ≡ None }
+{
+    let mut perms = [None; 64];
+    perms[1] = Some(perm);
+    Change {
+        first,
+        count,
+        perms,
+    }
+}
+
+// The first four entries of domain 1.
+fn entries(tables: &Segments) -> [Option<u32>; 4]
+    requires { length (maps_in tables.now.words tables.now.leaf tables.now.chains) ≡ 1 }
+{
+    [
+        tables.entry(1, 0),
+        tables.entry(1, 1),
+        tables.entry(1, 2),
+        tables.entry(1, 3),
+    ]
+}
+
+// What the trait's readers tell of tables of one domain, and of a word of them.
+fn readings<T: PermTables>(tables: &T, word: u32) -> (u32, u32, Need, Need, Shown)
+    requires domain { length (T.maps tables.now) ≡ 1 }
+    requires word { word < T.size tables.now }
+{
+    let shown = tables.shown(1, word);
     (
         tables.words(),
         tables.modules(),
         tables.limit(),
         tables.used(),
+        shown,
     )
 }
 
-// The frames and entries of segments, by their field names alone.
-fn fields(tables: &Segments) -> (u32, u64) {
+// The number of words and the count of lookups, taken from a value by just its field names.
+fn counts(tables: &Segments) -> (u32, u64) {
     let Segments {
         leaf: _,
         chains: _,
@@ -39,4 +87,99 @@ fn fields(tables: &Segments) -> (u32, u64) {
         lookups,
     } = tables;
     (*words, *lookups)
+}
+
+type Seen = (
+    [Option<u32>; 4],
+    [Option<u32>; 4],
+    (u32, u32, Need, Need, Shown),
+);
+
+// The entries of domain 1 before and after read-write on words 1028 to 1031, and what is read then.
+fn before_and_after(alloc: Global) -> Option<Seen> {
+    let row = four_words(alloc).ok()?;
+    let mut tables = one_domain(alloc, row, 1).ok()?;
+    let before = entries(&tables);
+    let change = grant(1028, 4, Perm::ReadWrite);
+    if !tables.fits(&change) {
+        return None;
+    }
+    tables.apply(&change);
+    let after = entries(&tables);
+    let readings = readings(&tables, 1025);
+    Some((before, after, readings))
+}
+
+// Two permissions, a span and the counts after its lookup.
+fn looked_up(alloc: Global) -> Option<(Perm, Perm, Span, (u32, u64))> {
+    let row = four_words(alloc).ok()?;
+    let mut tables = one_domain(alloc, row, 1).ok()?;
+    let inside = tables.perm(1, 1027);
+    let behind = tables.perm(1, 1028);
+    let span = tables.lookup(1, 16383);
+    Some((inside, behind, span, counts(&tables)))
+}
+
+// What refuses tables without a leaf frame.
+fn without_frames(alloc: Global) -> Option<BuildRefused> {
+    let row = four_words(alloc).ok()?;
+    one_domain(alloc, row, 0).err()
+}
+
+#[test]
+fn segment_entries(rt: HostRuntime) -> Result<(), Fail> {
+    let (before, after, readings) = before_and_after(rt.alloc()).ok_or("memory")?;
+    let first = [
+        Some(0x8000_0000),
+        Some(0x8000_1002),
+        Some(0x8000_1010),
+        None,
+    ];
+    assert_eq!(rt; before, first);
+    let second = [
+        Some(0x8000_0000),
+        Some(0x8000_1002),
+        Some(0x8000_1020),
+        None,
+    ];
+    assert_eq!(rt; after, second);
+    let need = Need {
+        upper: 0,
+        leaf: 1,
+        spill: 0,
+    };
+    let shown = Shown {
+        level: Level::Segment,
+        first: 1024,
+        count: 8,
+        stored: 0x8000_1002,
+    };
+    assert_eq!(rt; readings, (16384, 1, need, need, shown));
+    Ok(())
+}
+
+#[test]
+fn lookups_are_counted(rt: HostRuntime) -> Result<(), Fail> {
+    let seen = looked_up(rt.alloc()).ok_or("memory")?;
+    let span = Span {
+        first: 1028,
+        count: 15356,
+        perm: Perm::None,
+    };
+    assert_eq!(rt; seen, (Perm::ReadWrite, Perm::None, span, (16384, 1)));
+    Ok(())
+}
+
+#[test]
+fn full_tables_are_refused(rt: HostRuntime) -> Result<(), Fail> {
+    let need = Need {
+        upper: 0,
+        leaf: 1,
+        spill: 0,
+    };
+    assert_eq!(rt;
+        without_frames(rt.alloc()),
+        Some(BuildRefused::TablesFull { need })
+    );
+    Ok(())
 }

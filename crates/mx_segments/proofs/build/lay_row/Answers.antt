@@ -1,4 +1,4 @@
-use Rattle.std.proofs.Common.{◌≡◌, ◌+◌, ◌≤◌, length, sym, ◌∙◌, ap, arith}
+use Rattle.std.proofs.Common.{◌≤◌, length, ◌∙◌, ap, arith}
 use Rattle.mx_words.specs.Need.{segment_frames}
 use Rattle.mx_pool.specs.Frames.{free_in}
 use Rattle.mx_segments.specs.Store.{frames_in}

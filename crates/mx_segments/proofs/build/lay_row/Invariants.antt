@@ -1,4 +1,4 @@
-use Rattle.std.proofs.Common.{◌≡◌, ◌≤◌, length}
+use Rattle.std.proofs.Common.{◌≡◌}
 use Rattle.mx_segments.specs.Store.{IsStore, KeepsOthers}
 use Rattle.mx_segments.specs.Sound.{map_in, IsSound}
 use Rattle.mx_segments.specs.Tally.{first_spans}

@@ -1,11 +1,10 @@
-use Rattle.std.proofs.Common.{ℕ, ◌≡◌, ◌+◌, ◌<◌, ◌≤◌, List, [], length, get_or, take, sum_by, inl, inr, sym, ◌∙◌, ap, subst, arith}
+use Rattle.std.proofs.Common.{ℕ, ◌≡◌, ◌+◌, ◌<◌, List, [], length, get_or, inl, inr, sym, ◌∙◌, ap, subst, arith}
 use Rattle.std.proofs.lemmas.Bool.{cases_eq}
 use Rattle.std.proofs.lemmas.List.{get_or_read}
 use Rattle.std.proofs.lemmas.List.Sums.{sum_by_more}
 use Rattle.mx_words.specs.declared.perm.Span.{Span}
 use Rattle.mx_words.specs.Need.{segment_frames}
 use Rattle.mx_table.specs.Tables.{row_map}
-use Rattle.mx_segments.specs.Store.{frames_in}
 use Rattle.mx_segments.specs.Sound.{map_in, IsSound}
 use Rattle.mx_segments.proofs.KeptLaws.{kept_map, kept_sound}
 use Rattle.mx_segments.proofs.build.lay_rows.Goals as goal

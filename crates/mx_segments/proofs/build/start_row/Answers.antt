@@ -1,4 +1,4 @@
-use Rattle.std.proofs.Common.{◌≡◌, ℕ, ◌*◌, ◌<◌, ◌≤◌, [], ◌∙◌, arith}
+use Rattle.std.proofs.Common.{◌≡◌, [], ◌∙◌, arith}
 use Rattle.mx_words.specs.Newest.{map}
 use Rattle.mx_segments.specs.Store.{frames_in, word_in}
 use Rattle.mx_segments.specs.Entries.{IsChain}

@@ -1,11 +1,10 @@
-use Rattle.std.proofs.Common.{◌≡◌, ◌+◌, ◌-◌, ◌*◌, ◌/◌, ◌≤◌, ap, sym, ◌∙◌, arith}
-use Rattle.mx_words.specs.Counting.{bit}
+use Rattle.std.proofs.Common.{arith}
 use Rattle.mx_words.specs.Newest.{laid}
 use Rattle.mx_words.specs.Changes.{grant_of}
-use Rattle.mx_segments.specs.Store.{frames_in, word_in, KeepsOthers}
+use Rattle.mx_segments.specs.Store.{frames_in, word_in}
 use Rattle.mx_segments.specs.Entries.{IsChain}
 use Rattle.mx_segments.specs.Sound.{map_in}
-use Rattle.mx_segments.specs.Plan.{IsLaid, kept, total}
+use Rattle.mx_segments.specs.Plan.{IsLaid}
 use Rattle.mx_segments.proofs.MoveLaws.{keeps_trans}
 use Rattle.mx_segments.proofs.SoundLaws.{few_runs}
 use Rattle.mx_segments.proofs.ChangeLaws.{laid_chain}

@@ -1,4 +1,4 @@
-use Rattle.std.proofs.Common.{◌≡◌, ◌+◌, ◌-◌, ◌/◌, ◌<◌, ◌≤◌, min, arith}
+use Rattle.std.proofs.Common.{◌+◌, ◌-◌, ◌/◌, ◌≤◌, arith}
 use Rattle.mx_segments.proofs.SoundLaws.{few_before, passed, failed}
 use Rattle.mx_segments.proofs.entries.runs_before.Goals as goal
 

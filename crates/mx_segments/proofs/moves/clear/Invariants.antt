@@ -1,4 +1,4 @@
-use Rattle.std.proofs.Common.{ℕ, ◌≡◌, ◌+◌, ◌*◌, ◌-◌, ◌<◌, ◌≤◌}
+use Rattle.std.proofs.Common.{ℕ, ◌≡◌, ◌*◌, ◌<◌, ◌≤◌}
 use Rattle.mx_segments.specs.Store.{frames_in, word_in, IsRewritten}
 use Rattle.mx_segments.proofs.moves.clear.Given as goal
 

@@ -1,4 +1,4 @@
-use Rattle.std.proofs.Common.{ℕ, ◌≡◌, ◌+◌, ◌*◌, ◌-◌, ◌<◌, ◌≤◌, length}
+use Rattle.std.proofs.Common.{ℕ, ◌≡◌, ◌*◌, ◌<◌, ◌≤◌, length}
 use Rattle.mx_pool.specs.Frames.{free_in}
 use Rattle.mx_segments.specs.Store.{frames_in, word_in, IsStore, KeepsOthers}
 use Rattle.mx_segments.proofs.moves.trim.Given as goal

@@ -1,4 +1,4 @@
-use Rattle.std.proofs.Common.{◌≡◌, ◌+◌, not, nat_lt, refl, arith}
+use Rattle.std.proofs.Common.{◌+◌, not, nat_lt, arith}
 use Rattle.mx_words.specs.Rights.{same}
 use Rattle.mx_segments.specs.declared.plan.Plan.{Plan}
 use Rattle.mx_segments.specs.Plan.{IsPlan}

@@ -1,4 +1,4 @@
-use Rattle.std.proofs.Common.{◌≡◌, ◌≤◌, length}
+use Rattle.std.proofs.Common.{◌≡◌}
 use Rattle.mx_segments.specs.Tally.{end_at, first_spans, IsTally}
 use Rattle.mx_segments.proofs.tally.frames_of.Given as goal
 

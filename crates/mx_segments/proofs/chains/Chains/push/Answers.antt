@@ -1,4 +1,4 @@
-use Rattle.std.proofs.Common.{ℕ, ◌≡◌, ◌<◌, ◌++◌, [], ◌∷◌, List, length, set, vec_items, map, ap, ◌∙◌, sym, refl, arith, length-set}
+use Rattle.std.proofs.Common.{ℕ, ◌≡◌, ◌<◌, ◌++◌, [], ◌∷◌, List, length, set, vec_items, map, ap, ◌∙◌, arith}
 use Rattle.std.proofs.lemmas.List.{map-set, length-map}
 use Rattle.mx_segments.specs.Lists.{list_at}
 use Rattle.mx_segments.proofs.ListLaws.{item_list}

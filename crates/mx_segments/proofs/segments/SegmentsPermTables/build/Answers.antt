@@ -1,9 +1,9 @@
-use Rattle.std.proofs.Common.{◌≡◌, ℕ, ◌<◌, ◌≤◌, List, [], length, sum_by, sym, ◌∙◌, ap, arith}
+use Rattle.std.proofs.Common.{◌≡◌, ℕ, List, [], length, sum_by, ◌∙◌, ap, arith}
 use Rattle.std.proofs.lemmas.List.{length-replicate}
 use Rattle.mx_words.specs.declared.perm.Perm.{Perm}
 use Rattle.mx_words.specs.Need.{segment_frames}
 use Rattle.mx_segments.specs.Kept.{maps_in}
-use Rattle.mx_segments.specs.Shape.{within_is, need_leaf}
+use Rattle.mx_segments.specs.Shape.{within_is}
 use Rattle.mx_segments.proofs.BuildLaws.{maps_of_rows, need_of_rows}
 use Rattle.mx_segments.proofs.segments.SegmentsPermTables.build.Goals as goal
 
