@@ -1,0 +1,11 @@
+-- Lists of calls in flight.
+use Rattle.std.specs.Prelude.{ℕ, ◌==◌, Bool, List, find, Option}
+use Rattle.mx_check.specs.declared.flight.Flight.{Flight}
+
+-- whether a call is of hart h
+abbrev pub is_of : ℕ → Flight → Bool
+is_of h f = f.hart == h
+
+-- the call of hart h in a list, if any
+abbrev pub flight_of : List Flight → ℕ → Option Flight
+flight_of flights h = find (is_of h) flights
