@@ -1,1 +1,3 @@
 pub mod HartLaws
+pub mod LookLaws
+pub mod SpanLaws
