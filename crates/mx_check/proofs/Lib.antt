@@ -1,3 +1,4 @@
 pub mod HartLaws
 pub mod LookLaws
 pub mod SpanLaws
+pub mod KeepLaws

@@ -63,16 +63,16 @@ pub has_found_kept : (E : ℕ → Span → Type 0) (kept : List Entry) (domain w
     found_kept kept domain word ≡ Some s → E domain s × (has s word ≡ true)
 has_found_kept E [] domain word s all e = cc
 has_found_kept E (x ∷ xs) domain word s all e =
-    by (answers domain word x) refl e
+    by (has_found_kept E xs domain word s (All-tail (λ (e : Entry). E e.0 e.1) x xs all)) (answers domain word x) refl e
   where
-    by : (b : Bool) → answers domain word x ≡ b → option_map_or (λ (e : Entry). Some e.1) (cond b (Some x) (find (answers domain word) xs)) None ≡ Some s → E domain s × (has s word ≡ true)
-    by true hit e =
+    by : (found_kept xs domain word ≡ Some s → E domain s × (has s word ≡ true)) → (b : Bool) → answers domain word x ≡ b → option_map_or (λ (e : Entry). Some e.1) (cond b (Some x) (find (answers domain word) xs)) None ≡ Some s → E domain s × (has s word ≡ true)
+    by rest true hit e =
         let parts = both (x.0 == domain) (has x.1 word) hit in
         let same : x.1 ≡ s = cc in
         let own : x.0 ≡ domain = eqb-true x.0 domain parts.0 in
         let here : E x.0 x.1 = All-head (λ (e : Entry). E e.0 e.1) x xs all in
         (subst (λ (d : ℕ). E d s) own (subst (λ (t : Span). E x.0 t) same here), ap (λ (t : Span). has t word) (sym same) ∙ parts.1)
-    by false miss e = has_found_kept E xs domain word s (All-tail (λ (e : Entry). E e.0 e.1) x xs all) e
+    by rest false miss e = rest e
 
 -- a check keeps what holds of each span, where it holds of the span that goes into the place or is walked
 module _ {E : ℕ → Span → Type 0} {P : Span → Type 0} (most p domain word : ℕ) (walked : Span) (barred : Bool) (c : Cache) (each : EachSpan E P c)
@@ -103,18 +103,11 @@ module _ {E : ℕ → Span → Type 0} {P : Span → Type 0} (first count : ℕ)
   entries_after : (xs : List Entry) → All (λ (x : Entry). E x.0 x.1) xs → All (λ (x : Entry). E x.0 x.1 × (meets x.1 first count ≡ false)) (kept_without first count xs)
   entries_after [] all = All-nil (λ (x : Entry). E x.0 x.1 × (meets x.1 first count ≡ false))
   entries_after (x ∷ xs) all =
-      by (meets x.1 first count) refl
+      by (entries_after xs (All-tail (λ (y : Entry). E y.0 y.1) x xs all)) (meets x.1 first count) refl
     where
-      F : Entry → Type 0
-      unfolding F
-      F y = E y.0 y.1 × (meets y.1 first count ≡ false)
-
-      rest : All (λ (y : Entry). E y.0 y.1 × (meets y.1 first count ≡ false)) (kept_without first count xs)
-      rest = entries_after xs (All-tail (λ (y : Entry). E y.0 y.1) x xs all)
-
-      by : (b : Bool) → meets x.1 first count ≡ b → All (λ (y : Entry). E y.0 y.1 × (meets y.1 first count ≡ false)) (cond (not b) (x ∷ kept_without first count xs) (kept_without first count xs))
-      by true e = rest
-      by false e = All-cons (λ (y : Entry). E y.0 y.1 × (meets y.1 first count ≡ false)) x (kept_without first count xs) (All-head (λ (y : Entry). E y.0 y.1) x xs all, e) rest
+      by : All (λ (y : Entry). E y.0 y.1 × (meets y.1 first count ≡ false)) (kept_without first count xs) → (b : Bool) → meets x.1 first count ≡ b → All (λ (y : Entry). E y.0 y.1 × (meets y.1 first count ≡ false)) (cond (not b) (x ∷ kept_without first count xs) (kept_without first count xs))
+      by rest true e = rest
+      by rest false e = All-cons (λ (y : Entry). E y.0 y.1 × (meets y.1 first count ≡ false)) x (kept_without first count xs) (All-head (λ (y : Entry). E y.0 y.1) x xs all, e) rest
 
   place_after : (o : Option Span) → IfSome o P → IfSome (option_map_or (λ s. cond (meets s first count) None (Some s)) o None) (λ s. P s × (meets s first count ≡ false))
   place_after None holds = tt
