@@ -69,10 +69,11 @@ module _ (maps : List (List Perm)) (harts : List Kept) (h : ℕ) (step : Kept �
     agree = λ i. agree_there i (cases_eq i h);
     dropped = λ j i running apart. fact_there j i apart (cases_eq j h) (cases_eq i h) running;
     sets = λ i. sets_there i (cases_eq i h);
+    few = omega (arith, length-at_hart harts h step, keeps.few);
   }
 
 -- a fact of whatever an option holds, made weaker
-some_weaker : {A : Type 0} (P Q : A → Type 0) → ((x : A) → P x → Q x) → (o : Option A) → IfSome o P → IfSome o Q
+pub some_weaker : {A : Type 0} (P Q : A → Type 0) → ((x : A) → P x → Q x) → (o : Option A) → IfSome o P → IfSome o Q
 some_weaker P Q f None p = tt
 some_weaker P Q f (Some x) p = f x p
 
@@ -83,7 +84,7 @@ agrees_in_weaker maps own other f None s p = p
 agrees_in_weaker maps own other f (Some d) s p = f (map_of maps d) s p
 
 -- the first fact of a hart with the same spans and another exemption
-is_true_weaker : (maps : List (List Perm)) (own other : Option Flight) (d : Option ℕ) (c : Cache) →
+pub is_true_weaker : (maps : List (List Perm)) (own other : Option Flight) (d : Option ℕ) (c : Cache) →
     ((m : List Perm) (s : Span) → Agrees m own s → Agrees m other s) →
     EachSpan (λ e s. Agrees (map_of maps e) own s) (AgreesIn maps own d) c → EachSpan (λ e s. Agrees (map_of maps e) other s) (AgreesIn maps other d) c
 is_true_weaker maps own other d c f each =

@@ -2,3 +2,6 @@ pub mod HartLaws
 pub mod LookLaws
 pub mod SpanLaws
 pub mod KeepLaws
+pub mod HearLaws
+pub mod ChangeLaws
+pub mod StartLaws

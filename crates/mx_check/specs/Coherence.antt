@@ -1,5 +1,5 @@
 -- Coherence: what the spans that a checker keeps say of the maps as they are now.
-use Rattle.std.specs.Prelude.{◌≡◌, ◌≢◌, ℕ, Bool, true, false, List, All, IfSome, Option, Some, None}
+use Rattle.std.specs.Prelude.{◌≡◌, ◌≢◌, ℕ, ◌≤◌, Bool, true, false, List, All, IfSome, Option, Some, None}
 use Rattle.mx_words.specs.declared.perm.Perm.{Perm}
 use Rattle.mx_words.specs.declared.perm.Span.{Span}
 use Rattle.mx_words.specs.Caches.{Cache, Entry, has, meets}
@@ -51,3 +51,4 @@ pub record Keeps (maps : List (List Perm)) (harts : List Kept) : Type 0 where
   pub dropped : (h i : ℕ) → (hart_at harts h).halted ≡ false → i ≢ h →
       IfSome (hart_at harts i).flight (HasDropped h (hart_at harts h).cache)
   pub sets : (h : ℕ) → IfSome (hart_at harts h).flight IsSet
+  pub few : length harts ≤ 4

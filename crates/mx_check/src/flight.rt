@@ -28,14 +28,14 @@ pub struct Flights {
 }
 
 impl Model for Flights {
-    ghost use Rattle.std.specs.Prelude.{◌≡◌, ◌≤◌, List, length, take};
+    ghost use Rattle.std.specs.Prelude.{◌≡◌, ◌≤◌, List, length, take, All};
     ghost use Rattle.mx_check.specs.declared.flight.Flight.{Flight};
 
     ghost Value = { List Flight };
 
     ghost view = { λ f. take f.len f.items };
 
-    ghost invariant = { λ f. (length f.items ≡ 4) × (f.len ≤ 4) };
+    ghost invariant = { λ f. (length f.items ≡ 4) × (f.len ≤ 4) × All (λ x. length x.heard ≡ 4) f.items };
 }
 
 impl Flights {
