@@ -4,4 +4,6 @@ pub mod SpanLaws
 pub mod KeepLaws
 pub mod HearLaws
 pub mod ChangeLaws
+pub mod ReachLaws
+pub mod MayLaws
 pub mod StartLaws

@@ -1,7 +1,7 @@
 //! What is kept for one hart.
 ghost use Rattle.std.specs.Prelude.{◌≡◌, ◌<◌, ◌≤◌, Some, None, slice_set};
 ghost use Rattle.std.specs.Option.{option_map};
-ghost use Rattle.mx_words.specs.Caches.{raised, meets, found_kept};
+ghost use Rattle.mx_words.specs.Caches.{raised, found_kept};
 ghost use Rattle.mx_check.specs.Harts.{new_hart, no_hart, announced, heard_by, drops, finished, leaves, halts, has_heard};
 ghost use Rattle.mx_check.specs.Looks.{found, asked, listed, walked, names, flight_bars};
 ghost use Rattle.mx_check.specs.Calls.{news_of};
@@ -166,7 +166,7 @@ impl<const N: usize> Part<N> {
     {
         match self.flight {
             Some(flight) => {
-                flight.heard[by as usize] && meets(span, flight.first, flight.count)
+                flight.heard[by as usize] && span.meets(flight.first, flight.count)
             }
             None => false,
         }
@@ -246,18 +246,4 @@ fn raised(n: u64) -> u64
     ensures { result ≡ raised n }
 {
     if n < u64::MAX { n + 1 } else { n }
-}
-
-/// Whether the span shares a word with the range of `count` words from `first`. An empty one shares none.
-fn meets(span: &Span, first: u32, count: u32) -> bool
-    ensures { result ≡ meets span.now first count }
-{
-    if span.count == 0 || count == 0 {
-        return false;
-    }
-    if span.first < first {
-        first - span.first < span.count
-    } else {
-        span.first - first < count
-    }
 }

@@ -1,7 +1,6 @@
 -- One instruction over a bus: what it answers, and what it leaves.
-use Rattle.std.specs.Prelude.{ℕ, ◌%◌, Bool, true, false, ◌==◌, if◌then◌else◌, List, [], ◌∷◌, Option, Some, None}
+use Rattle.std.specs.Prelude.{◌≡◌, ℕ, ◌%◌, Bool, true, false, ◌==◌, if◌then◌else◌, List, [], ◌∷◌, Option, Some, None}
 use Rattle.mx_words.specs.declared.perm.Perm.{Perm}
-use Rattle.mx_words.specs.declared.perm.Access.{Access}
 use Rattle.mx_words.specs.declared.perm.Access.TheVariants.{Read, Write, Execute}
 use Rattle.mx_isa.specs.declared.inst.Inst.{Inst}
 use Rattle.mx_isa.specs.Table.{decoded}
@@ -67,3 +66,10 @@ touches_of (Leaves rd target) = []
 -- the fetch's touch, at place 0
 abbrev pub fetch_touch : ℕ → Touch
 fetch_touch pc = record { place = 0; address = pc; kind = Execute }
+
+-- the pc that an instruction leaves is a multiple of 4
+abbrev pub IsAligned : Outcome → Type 0
+IsAligned (Next pc) = pc % 4 ≡ 0
+IsAligned (Trap fault) = Unit {0}
+IsAligned Call = Unit {0}
+IsAligned (Back rd target) = Unit {0}

@@ -11,3 +11,6 @@ pub use bus::{Bus, Denied};
 pub use outcome::Outcome;
 pub use regs::Regs;
 pub use step::exec;
+
+#[cfg(test)]
+mod tests;

@@ -3,7 +3,7 @@ ghost use Rattle.std.specs.Prelude.{◌≡◌, ◌%◌, ◌<◌, ◌==◌, ◌�
 ghost use Rattle.mx_isa.specs.Ranges.{IsValid};
 ghost use Rattle.mx_model.specs.Effect.{effect, loads_at, stores_at, store_size, reg, written, next, plus};
 ghost use Rattle.mx_core.specs.Bus.{IsTouched};
-ghost use Rattle.mx_core.specs.Exec.{fetched, outcome_of, regs_after, bytes_after, touches_of, fetch_touch, trap};
+ghost use Rattle.mx_core.specs.Exec.{fetched, outcome_of, regs_after, bytes_after, touches_of, fetch_touch, trap, IsAligned};
 
 use crate::bus::{Bus, Denied};
 use crate::outcome::Outcome;
@@ -39,6 +39,7 @@ pub fn exec<B: Bus>(bus: &mut B, regs: &mut Regs, pc: u32, returns: bool) -> Out
     ensures bytes { B.bytes bus.new
         ≡ bytes_after (B.perm bus.old) (B.bytes bus.old) (fetched (B.perm bus.old) (B.bytes bus.old) regs.old pc) }
     ensures touches { IsTouched B.touches bus.old (fetch_touch pc ∷ touches_of (fetched (B.perm bus.old) (B.bytes bus.old) regs.old pc)) bus.new }
+    ensures aligned { IsAligned result }
     ensures map { B.perm bus.new ≡ B.perm bus.old }
     ensures usable { B.usable bus.new }
 {
@@ -55,6 +56,7 @@ pub fn exec<B: Bus>(bus: &mut B, regs: &mut Regs, pc: u32, returns: bool) -> Out
 #[tactic(auto, unfolding(mx_model::specs::Effect::effect, mx_isa::specs::Ranges::IsValid, crate::specs::Exec::outcome_of, crate::specs::Exec::regs_after, crate::specs::Exec::bytes_after, crate::specs::Exec::touches_of))]
 fn act<B: Bus>(bus: &mut B, regs: &mut Regs, pc: u32, returns: bool, inst: Inst) -> Outcome
     requires usable { B.usable bus.old }
+    requires aligned { pc % 4 ≡ 0 }
     requires valid { IsValid inst }
     ensures outcome { result ≡ outcome_of (B.perm bus.old) pc returns (effect inst regs.old pc) }
     ensures regs { regs.new
@@ -62,6 +64,7 @@ fn act<B: Bus>(bus: &mut B, regs: &mut Regs, pc: u32, returns: bool, inst: Inst)
     ensures bytes { B.bytes bus.new
         ≡ bytes_after (B.perm bus.old) (B.bytes bus.old) (effect inst regs.old pc) }
     ensures touches { IsTouched B.touches bus.old (touches_of (effect inst regs.old pc)) bus.new }
+    ensures aligned { IsAligned result }
     ensures map { B.perm bus.new ≡ B.perm bus.old }
     ensures usable { B.usable bus.new }
 {
@@ -119,8 +122,10 @@ fn trapped(cause: u32, value: u32) -> Outcome
 
 // rd takes a result.
 fn take(regs: &mut Regs, pc: u32, rd: u32, value: u32) -> Outcome
-    requires { rd < 32 }
+    requires aligned { pc % 4 ≡ 0 }
+    requires rd { rd < 32 }
     ensures outcome { result ≡ Outcome.Next (next pc) }
+    ensures aligned { IsAligned result }
     ensures regs { regs.new ≡ written regs.old rd value }
 {
     regs.set(rd, value);
@@ -129,7 +134,8 @@ fn take(regs: &mut Regs, pc: u32, rd: u32, value: u32) -> Outcome
 
 // The hart goes on at a target, unless it is no multiple of 4.
 fn go_to(target: u32) -> Outcome
-    ensures { result ≡ (if target % 4 == 0 then Outcome.Next target else trap 0 target) }
+    ensures outcome { result ≡ (if target % 4 == 0 then Outcome.Next target else trap 0 target) }
+    ensures aligned { IsAligned result }
 {
     if target % 4 == 0 {
         Outcome::Next(target)
@@ -145,6 +151,7 @@ fn jump(regs: &mut Regs, pc: u32, returns: bool, rd: u32, target: u32) -> Outcom
         ≡ (if returns then Outcome.Back rd target else (if target % 4 == 0 then Outcome.Next target else trap 0 target)) }
     ensures regs { regs.new
         ≡ (if returns then regs.old else (if target % 4 == 0 then written regs.old rd (next pc) else regs.old)) }
+    ensures aligned { IsAligned result }
 {
     if returns {
         Outcome::Back { rd, target }
@@ -168,12 +175,14 @@ fn load<B: Bus>(
     imm: u32,
 ) -> Outcome
     requires usable { B.usable bus.old }
+    requires aligned { pc % 4 ≡ 0 }
     requires rd { rd < 32 }
     requires rs1 { rs1 < 32 }
     ensures outcome { result ≡ outcome_of (B.perm bus.old) pc false (loads_at rs1 (plus (reg regs.old rs1) imm) width rd) }
     ensures regs { regs.new ≡ regs_after (B.perm bus.old) (B.bytes bus.old) regs.old pc false (loads_at rs1 (plus (reg regs.old rs1) imm) width rd) }
     ensures bytes { B.bytes bus.new ≡ B.bytes bus.old }
     ensures touches { IsTouched B.touches bus.old (touches_of (loads_at rs1 (plus (reg regs.old rs1) imm) width rd)) bus.new }
+    ensures aligned { IsAligned result }
     ensures map { B.perm bus.new ≡ B.perm bus.old }
     ensures usable { B.usable bus.new }
 {
@@ -200,12 +209,14 @@ fn store<B: Bus>(
     imm: u32,
 ) -> Outcome
     requires usable { B.usable bus.old }
+    requires aligned { pc % 4 ≡ 0 }
     requires rs1 { rs1 < 32 }
     requires rs2 { rs2 < 32 }
     ensures outcome { result ≡ outcome_of (B.perm bus.old) pc false (stores_at rs1 (plus (reg regs.old rs1) imm) (store_size width) (reg regs.old rs2)) }
     ensures regs { regs.new ≡ regs.old }
     ensures bytes { B.bytes bus.new ≡ bytes_after (B.perm bus.old) (B.bytes bus.old) (stores_at rs1 (plus (reg regs.old rs1) imm) (store_size width) (reg regs.old rs2)) }
     ensures touches { IsTouched B.touches bus.old (touches_of (stores_at rs1 (plus (reg regs.old rs1) imm) (store_size width) (reg regs.old rs2))) bus.new }
+    ensures aligned { IsAligned result }
     ensures map { B.perm bus.new ≡ B.perm bus.old }
     ensures usable { B.usable bus.new }
 {

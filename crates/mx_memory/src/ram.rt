@@ -42,7 +42,8 @@ impl Ram {
         requires size { IsSize size }
         requires aligned { addr % size ≡ 0 }
         requires inside { IsInside self.now addr size }
-        ensures { result ≡ number_at self.now (place_of addr) size }
+        ensures number { result ≡ number_at self.now (place_of addr) size }
+        ensures below { result < 256 ^ size }
     {
         let at = (addr - BASE) as usize;
         let bytes = self.bytes.as_slice();

@@ -1,39 +1,28 @@
 -- What a hart decides in a valid state is valid.
-use Rattle.std.proofs.Common.{◌≡◌, ℕ, zero, suc, ◌+◌, ◌-◌, ◌*◌, ◌/◌, ◌%◌, ◌^◌, ◌<◌, ◌≤◌, Bool, true, false, not, cond, nat_lt, nat_le, ◌==◌, ◌&&◌, ◌||◌, List, [], ◌∷◌, ◌++◌, length, get_or, set, take, fold, refl, sym, ◌∙◌, ap, subst, arith, rules, lit<, lit≤, eqb-true, zero-add, if◌then◌else◌, Option, Some, None, unwrap_or, is_none}
-use Rattle.std.proofs.Common.{map as list_map}
-use Rattle.std.specs.Prelude.{IfSome, slice_index, slice_set}
-use Rattle.std.specs.List.{AllByRecursion, enumerate_from, list_any}
+use Rattle.std.proofs.Common.{◌≡◌, ℕ, zero, suc, ◌-◌, ◌%◌, ◌^◌, ◌<◌, Bool, true, false, not, cond, nat_le, ◌==◌, List, length, refl, sym, lit<, eqb-true, if◌then◌else◌, Option, Some, None}
+use Rattle.std.specs.Prelude.{IfSome}
 use Rattle.std.specs.Option.{option_map_or}
-use Rattle.std.proofs.lemmas.Bool.{ltb-true, ltb-false, leb-true, leb-false, eqb-false}
-use Rattle.std.proofs.lemmas.List.{length-set, length-map, length-append, length-take, get_or-set_same, get_or-set_other, get_or-map}
-use Rattle.std.proofs.lemmas.List.FromFn.{length-enumerate_from, get_or-enumerate_from}
-use Rattle.mx_words.specs.declared.perm.Perm.{Perm}
+use Rattle.std.proofs.lemmas.Bool.{leb-false}
 use Rattle.mx_words.specs.declared.perm.Access.TheVariants as A
-use Rattle.mx_words.specs.Announced.{is_announced}
-use Rattle.mx_words.specs.Bytes.{number_at, put_at, cleared_at}
-use Rattle.mx_words.specs.Caches.{Cache}
-use Rattle.mx_words.specs.FirstFit.{Area, has_room, place, with_block, without_block, most_blocks}
-use Rattle.mx_words.specs.Ranges.{ram_base, address_of, in_ram, word_of}
-use Rattle.mx_words.specs.Rights.{number, allows}
+use Rattle.mx_words.specs.Bytes.{number_at}
+use Rattle.mx_words.specs.Ranges.{ram_base, word_of}
 use Rattle.mx_isa.specs.declared.inst.Inst.{Inst}
 use Rattle.mx_isa.specs.declared.inst.LoadWidth.{LoadWidth}
 use Rattle.mx_isa.specs.declared.inst.LoadWidth.TheVariants.{Lb, Lh, Lw, Lbu, Lhu}
-use Rattle.mx_isa.specs.Ranges.{IsValid as IsValidInst}
 use Rattle.mx_isa.specs.Table.{decoded}
 use Rattle.mx_isa.proofs.OfDecoded.{Fits, decoded-fits}
-use Rattle.mx_model.specs.declared.values.Call.{Call}
 use Rattle.mx_model.specs.declared.values.Frame.{Frame}
 use Rattle.mx_model.specs.declared.values.Gate.{Gate}
-use Rattle.mx_model.specs.Checks.{Look, arg, hears, heard_by, is_ready, looked, looked_all, leaves, drops, call_range}
+use Rattle.mx_model.specs.Checks.{arg, is_ready}
 use Rattle.mx_model.specs.Effect.{Effect, Goes, Faults, Loads, Stores, Calls, Leaves, effect, reg, written, next, load_size, loaded, jumps}
-use Rattle.mx_model.specs.Gates.{call_gate, call_target, gate_at, is_at, without_gate, with_gate, has_gate, no_gate_fits, most_gates, most_frames, top, below_top, nearest, saved_stack}
+use Rattle.mx_model.specs.Gates.{call_gate, call_target, gate_at, is_at, most_frames, top}
 use Rattle.mx_model.specs.Reads.{Reads}
-use Rattle.mx_model.specs.State.{Core, Hart, Module, Status, Running, Waiting, Halted, no_hart, no_module, hart_at, with_hart, with_cache, with_module, module_at, is_module}
+use Rattle.mx_model.specs.State.{Core, Hart, Status, Running, Waiting, Halted, hart_at, module_at}
 use Rattle.mx_model.specs.Turn.{Deed, Rests, Waits, Serves, Asks, Traps, Bounces, Crosses, Returns, Runs, Puts}
-use Rattle.mx_model.specs.Valid.{IsModule, IsPc, IsRegisters, IsFrame, IsCall, IsStatus, IsHart, IsGate, IsHome, IsValid}
-use Rattle.mx_model.proofs.ListLaws.{all-set, all-append, all-take, all-filter, all-at, all-find, found-passes, all-last, length-filter-le, length-filter-lt, length-with_block, length-put_at, bytes-put_at, length-cleared_at, bytes-cleared_at, number-one, number-two, number-four}
-use Rattle.mx_model.proofs.RegisterLaws.{registers-set, registers-written, registers-restored, saved-count, saved-small, small-loaded, small-plus, pc-next, IsCause, IsEffect, effect-valid, effect-jumps}
-use Rattle.mx_model.specs.Turn.{Decided, without_look, traps, perm_of, is_denied, call_gate_at, is_return_at, load_at, at_gate, returned_over, at_return, call_of, plain_deed, load_deed, store_deed, by_effect, by_word, fetches, after_look, runs_at, runs_in, by_status, decide}
+use Rattle.mx_model.specs.Valid.{IsModule, IsPc, IsRegisters, IsFrame, IsCall, IsStatus, IsHart, IsGate, IsValid}
+use Rattle.mx_model.proofs.ListLaws.{all-find, all-last, number-one, number-two, number-four}
+use Rattle.mx_model.proofs.RegisterLaws.{registers-written, small-loaded, pc-next, IsCause, IsEffect, effect-valid, effect-jumps}
+use Rattle.mx_model.specs.Turn.{Decided, without_look, traps, is_denied, call_gate_at, is_return_at, load_at, at_gate, returned_over, at_return, call_of, plain_deed, by_effect, by_word, fetches, runs_at, runs_in, by_status, decide}
 use Rattle.mx_model.proofs.ValidParts.{AreBytes}
 
 -- what each deed needs to keep hart h valid
@@ -72,7 +61,7 @@ deed-at_gate c h hart target r t =
     decided-choice (length c.modules) h hart (not (x1 % 4 == 0)) (traps 19 x1) _ (λ e. lit< tt) (λ e.
     decided-choice (length c.modules) h hart (module_at c target).dead (without_look Bounces) _ (λ d. pc e) (λ d.
     decided-choice (length c.modules) h hart (nat_le most_frames (length hart.frames)) (traps 16 hart.pc) (without_look (Crosses target)) (λ f. lit< tt)
-      (λ f. (t, pc e, leb-false most_frames (length hart.frames) f))))
+    (λ f. (t, pc e, leb-false most_frames (length hart.frames) f))))
 
 -- at a return gate
 deed-returned_over : (modules h : ℕ) (hart : Hart) (rd target : ℕ) (frame : Frame) → IsFrame modules frame → IsDeed modules h hart (returned_over rd target frame)
@@ -105,12 +94,12 @@ number-load ram k Lhu h = number-two ram k h
 call-of : (modules h : ℕ) (hart : Hart) → IsHart modules h hart → IsCall modules h (call_of h hart)
 call-of modules h hart p = record { hart = refl; domain = p.domain; small = arguments }
   where
-  arguments : (i : ℕ) → arg (call_of h hart) i < 2 ^ 32
-  arguments zero = p.regs.small 10
-  arguments (suc zero) = p.regs.small 11
-  arguments (suc (suc zero)) = p.regs.small 12
-  arguments (suc (suc (suc zero))) = p.regs.small 13
-  arguments (suc (suc (suc (suc i)))) = lit< tt
+    arguments : (i : ℕ) → arg (call_of h hart) i < 2 ^ 32
+    arguments zero = p.regs.small 10
+    arguments (suc zero) = p.regs.small 11
+    arguments (suc (suc zero)) = p.regs.small 12
+    arguments (suc (suc (suc zero))) = p.regs.small 13
+    arguments (suc (suc (suc (suc i)))) = lit< tt
 
 deed-by_effect : (r : Reads) (c : Core) (h : ℕ) (hart : Hart) (e : Effect) → IsValid c → IsHart (length c.modules) h hart → IsEffect e →
     IsDeed (length c.modules) h hart (by_effect r c h hart e).deed
@@ -118,15 +107,15 @@ deed-by_effect r c h hart (Goes regs pc) v p q = q
 deed-by_effect r c h hart (Faults cause value) v p q = q
 deed-by_effect r c h hart (Loads a address width rd) v p q =
     deed-choice (length c.modules) h hart (is_denied r c hart.domain address A.Read) (Traps 5 address)
-      (Runs (written hart.regs rd (loaded width (load_at c address (load_size width)))) (next hart.pc)) (lit< tt)
-      (registers-written hart.regs rd _ p.regs (small-loaded width _ (number-load c.ram (address - ram_base) width v.ram_bytes)), pc-next hart.pc p.pc)
+    (Runs (written hart.regs rd (loaded width (load_at c address (load_size width)))) (next hart.pc)) (lit< tt)
+    (registers-written hart.regs rd _ p.regs (small-loaded width _ (number-load c.ram (address - ram_base) width v.ram_bytes)), pc-next hart.pc p.pc)
 deed-by_effect r c h hart (Stores a address size value) v p q =
     deed-choice (length c.modules) h hart (is_denied r c hart.domain address A.Write) (Traps 7 address) (Puts address size value) (lit< tt) tt
 deed-by_effect r c h hart Calls v p q = call-of (length c.modules) h hart p
 deed-by_effect r c h hart (Leaves rd target) v p q =
     deed-choice (length c.modules) h hart (is_return_at c hart.domain hart.pc) (at_return hart rd target) (plain_deed (jumps hart.regs hart.pc rd target))
-      (deed-at_return (length c.modules) h hart rd target p)
-      (deed-plain (length c.modules) h hart (jumps hart.regs hart.pc rd target) (effect-jumps hart.regs hart.pc rd target p.regs q))
+    (deed-at_return (length c.modules) h hart rd target p)
+    (deed-plain (length c.modules) h hart (jumps hart.regs hart.pc rd target) (effect-jumps hart.regs hart.pc rd target p.regs q))
 
 deed-by_word : (r : Reads) (c : Core) (h : ℕ) (hart : Hart) (word : ℕ) (o : Option Inst) → IsValid c → IsHart (length c.modules) h hart → IfSome o (Fits word) →
     IsDeed (length c.modules) h hart (by_word r c h hart word o).deed

@@ -1,5 +1,5 @@
 -- The flat state after a turn is the turn of the flat state.
-use Rattle.std.proofs.Common.{◌≡◌, ℕ, ◌+◌, ◌-◌, ◌<◌, ◌≤◌, Bool, true, false, nat_lt, nat_le, if◌then◌else◌, List, [], ◌∷◌, ◌++◌, length, get_or, refl, sym, ◌∙◌, ap, arith, Option, Some, None, zero, suc}
+use Rattle.std.proofs.Common.{◌≡◌, ℕ, ◌+◌, ◌-◌, Bool, true, false, nat_lt, nat_le, if◌then◌else◌, List, [], ◌∷◌, ◌++◌, get_or, refl, sym, ◌∙◌, ap, Option, Some, None}
 use Rattle.std.proofs.Common.{map as list_map}
 use Rattle.std.proofs.Math.ListN.{get_or-map, get_or-eq_default}
 use Rattle.std.proofs.lemmas.List.{append-nil}
@@ -8,8 +8,8 @@ use mathlib.Core.Path.{fun_ext}
 use Rattle.mx_words.specs.declared.perm.Perm.{Perm}
 use Rattle.mx_words.specs.declared.perm.Perm.TheVariants as P
 use Rattle.mx_words.specs.declared.perm.Span.{Span}
-use Rattle.mx_words.specs.Changes.{changed_maps, changed_from, changed_map, granted_all, granted_from, changed_grants}
-use Rattle.mx_words.specs.Newest.{Grant, Give, at, owner, map, owners, laid}
+use Rattle.mx_words.specs.Changes.{changed_from, changed_map, granted_from, changed_grants}
+use Rattle.mx_words.specs.Newest.{Grant, Give, at, owner, map, owners}
 use Rattle.mx_words.specs.Need.{fits}
 use Rattle.mx_words.specs.Reach.{span}
 use Rattle.mx_words.specs.Rights.{perm_at}

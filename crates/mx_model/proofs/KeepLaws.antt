@@ -1,12 +1,9 @@
 -- What no turn changes: the number of words, the kind of tables, their limit and the size of the lookaside buffer; and the numbers of modules, harts
 -- and caches.
-use Rattle.std.proofs.Common.{◌≡◌, ℕ, ◌+◌, ◌-◌, ◌*◌, Bool, true, false, not, ◌==◌, ◌&&◌, List, [], ◌∷◌, ◌++◌, length, cond, refl, sym, ◌∙◌, ap, Option, Some, None, fold, unwrap_or}
-use Rattle.std.proofs.Common.{map as list_map}
+use Rattle.std.proofs.Common.{◌≡◌, ℕ, ◌-◌, ◌*◌, Bool, true, false, not, ◌==◌, ◌&&◌, List, [], ◌∷◌, length, cond, refl, ◌∙◌, Option, Some, None, unwrap_or}
 use Rattle.std.proofs.lemmas.List.{length-map, length-set}
 use Rattle.std.proofs.lemmas.List.FromFn.{length-enumerate_from}
 use Rattle.std.specs.List.{enumerate_from}
-use Rattle.mx_words.specs.declared.tables.Kind.{Kind}
-use Rattle.mx_words.specs.declared.tables.Need.{Need}
 use Rattle.mx_words.specs.declared.perm.Access.TheVariants as A
 use Rattle.mx_words.specs.Announced.{is_announced}
 use Rattle.mx_words.specs.Bytes.{number_at, put_at, cleared_at}
@@ -18,10 +15,10 @@ use Rattle.mx_model.specs.declared.values.Frame.{Frame}
 use Rattle.mx_model.specs.declared.values.Gate.{Gate}
 use Rattle.mx_model.specs.Checks.{Look, arg, hears, looked, looked_all, leaves, drops, call_range}
 use Rattle.mx_model.specs.Effect.{next}
-use Rattle.mx_model.specs.Reads.{Reads, Change}
-use Rattle.mx_model.specs.Serve.{Served, Service, Exit, Write, Grant, RevokeAll, Transfer, Alloc, Free, AddGate, RemoveGate, AddReturnGate, Query, Self, Exchange, Unknown, judged, answers, serve, served_by, service, ended, serve_write, write_from, written_out, write_looks, serve_exchange, exchange_from, exchanged, with_blocks, look_of, arg_word, code, first_failed, allocated, alloc_place}
-use Rattle.mx_model.specs.State.{Core, Hart, Module, Status, Running, Waiting, Halted, hart_at, with_hart, with_cache, with_module, module_at}
-use Rattle.mx_model.specs.Turn.{Deed, Rests, Waits, Serves, Asks, Traps, Bounces, Crosses, Returns, Runs, Puts, Decided, Made, made, acted, asked, served, done, trapped, given_up, killed, over_frame, halted, crossed, with_regs, enacted, decide, heard_first, counted, is_halted, turned, is_served_now, answered}
+use Rattle.mx_model.specs.Reads.{Reads}
+use Rattle.mx_model.specs.Serve.{Served, Service, Exit, Write, Grant, RevokeAll, Transfer, Alloc, Free, AddGate, RemoveGate, AddReturnGate, Query, Self, Exchange, Unknown, judged, answers, serve, served_by, service, ended, write_from, written_out, write_looks, exchange_from, exchanged, with_blocks, look_of, arg_word, first_failed, allocated, alloc_place}
+use Rattle.mx_model.specs.State.{Core, Hart, Module, hart_at, with_hart, with_cache, with_module, module_at}
+use Rattle.mx_model.specs.Turn.{Deed, Rests, Waits, Serves, Asks, Traps, Bounces, Crosses, Returns, Runs, Puts, Decided, acted, asked, served, done, trapped, given_up, killed, over_frame, halted, with_regs, enacted, decide, heard_first, counted, is_halted, turned, is_served_now, answered}
 
 -- what is the same in two cores
 pub record Keeps (c e : Core) : Type 0 where

@@ -11,3 +11,4 @@ pub mod ListLaws
 pub mod ValidParts
 pub mod DecideLaws
 pub mod ServeLaws
+pub mod TurnLaws

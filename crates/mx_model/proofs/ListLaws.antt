@@ -1,6 +1,7 @@
 -- Facts of all elements of a list, under the edits that a turn makes; bytes and numbers in them.
-use Rattle.std.proofs.Common.{◌≡◌, ℕ, zero, suc, ◌+◌, ◌-◌, ◌*◌, ◌/◌, ◌%◌, ◌^◌, ◌<◌, ◌≤◌, Bool, true, false, not, cond, nat_lt, ◌||◌, List, [], ◌∷◌, ◌++◌, length, get_or, set, take, drop, replicate, refl, sym, ◌∙◌, ap, arith, rules, lit<, Option, Some, None}
-use Rattle.std.specs.Prelude.{filter, find, IfSome, slice_index}
+use Rattle.std.proofs.Common.{◌≡◌, ℕ, zero, suc, ◌+◌, ◌/◌, ◌%◌, ◌^◌, ◌<◌, ◌≤◌, Bool, true, false, not, cond, nat_lt, ◌||◌, List, [], ◌∷◌, ◌++◌, length, get_or, set, take, drop, replicate, refl, ◌∙◌, ap, arith, Option, Some}
+use mathlib.Core.List.{reverse_aux}
+use Rattle.std.specs.Prelude.{reverse, filter, find, IfSome, slice_index}
 use Rattle.std.specs.List.{AllByRecursion, list_any, last_or}
 use Rattle.std.proofs.lemmas.List.{length-set}
 use Rattle.std.proofs.lemmas.Grind.{common_steps}
@@ -21,11 +22,19 @@ all-take P zero xs h = tt
 all-take P (suc n) [] h = tt
 all-take P (suc n) (x ∷ xs) h = (h.0, all-take P n xs h.1)
 
+all-reverse_aux : {X : Type 0} (P : X → Type 0) (xs ys : List X) → AllByRecursion P xs → AllByRecursion P ys → AllByRecursion P (reverse_aux xs ys)
+all-reverse_aux P [] ys h k = k
+all-reverse_aux P (x ∷ xs) ys h k = all-reverse_aux P xs (x ∷ ys) h.1 (h.0, k)
+
+pub all-reverse : {X : Type 0} (P : X → Type 0) (xs : List X) → AllByRecursion P xs → AllByRecursion P (reverse xs)
+all-reverse P xs h = all-reverse_aux P xs [] h tt
+
 pub all-filter : {X : Type 0} (P : X → Type 0) (test : X → Bool) (xs : List X) → AllByRecursion P xs → AllByRecursion P (filter test xs)
 all-filter P test [] h = tt
 all-filter P test (x ∷ xs) h = elim (test x) as (λ b. AllByRecursion P (cond b (x ∷ filter test xs) (filter test xs))) [
-    true ↦ (h.0, all-filter P test xs h.1)
-  | false ↦ all-filter P test xs h.1 ]
+  | true ↦ (h.0, all-filter P test xs h.1)
+  | false ↦ all-filter P test xs h.1
+]
 
 pub all-at : {X : Type 0} (P : X → Type 0) (xs : List X) (d : X) → AllByRecursion P xs → P d → (i : ℕ) → P (get_or xs i d)
 all-at P [] d h p i = p
@@ -39,8 +48,9 @@ all-find P test (x ∷ xs) h = elim (test x) as (λ b. IfSome (cond b (Some x) (
 pub found-passes : {X : Type 0} (test : X → Bool) (xs : List X) → IfSome (find test xs) (λ x. test x ≡ true)
 found-passes test [] = tt
 found-passes test (x ∷ xs) = elim (test x) as (λ b. test x ≡ b → IfSome (cond b (Some x) (find test xs)) (λ y. test y ≡ true)) [
-    true ↦ λ e. e
-  | false ↦ λ e. found-passes test xs ] refl
+  | true ↦ λ e. e
+  | false ↦ λ e. found-passes test xs
+] refl
 
 pub all-last : {X : Type 0} (P : X → Type 0) (xs : List X) (o : Option X) → AllByRecursion P xs → IfSome o P → IfSome (last_or o xs) P
 all-last P [] o h p = p
@@ -49,22 +59,25 @@ all-last P (x ∷ xs) o h p = all-last P xs (Some x) h.1 h.0
 pub length-filter-le : {X : Type 0} (test : X → Bool) (xs : List X) → length (filter test xs) ≤ length xs
 length-filter-le test [] = omega arith
 length-filter-le test (x ∷ xs) = elim (test x) as (λ b. length (cond b (x ∷ filter test xs) (filter test xs)) ≤ suc (length xs)) [
-    true ↦ let e = length-filter-le test xs in omega (arith, e)
-  | false ↦ let e = length-filter-le test xs in omega (arith, e) ]
+  | true ↦ let e = length-filter-le test xs in omega (arith, e)
+  | false ↦ let e = length-filter-le test xs in omega (arith, e)
+]
 
 -- where some element passes, fewer don't
 pub length-filter-lt : {X : Type 0} (test : X → Bool) (xs : List X) → list_any test xs ≡ true → length (filter (λ x. not (test x)) xs) < length xs
 length-filter-lt test [] e = absurd (let q : ⊥ = cc in q)
 length-filter-lt test (x ∷ xs) e = elim (test x) as
     (λ b. test x ≡ b → (b || list_any test xs) ≡ true → length (cond (not b) (x ∷ filter (λ y. not (test y)) xs) (filter (λ y. not (test y)) xs)) < suc (length xs)) [
-    true ↦ λ t p. let q = length-filter-le (λ y. not (test y)) xs in omega (arith, q)
-  | false ↦ λ t p. let q = length-filter-lt test xs p in omega (arith, q) ] refl e
+      | true ↦ λ t p. let q = length-filter-le (λ y. not (test y)) xs in omega (arith, q)
+      | false ↦ λ t p. let q = length-filter-lt test xs p in omega (arith, q)
+    ] refl e
 
 pub length-with_block : (b : Area) (xs : List Area) → length (with_block b xs) ≡ suc (length xs)
 length-with_block b [] = refl
 length-with_block b (x ∷ xs) = elim (nat_lt b.first x.first) as (λ t. length (cond t (b ∷ x ∷ xs) (x ∷ with_block b xs)) ≡ suc (suc (length xs))) [
-    true ↦ refl
-  | false ↦ ap suc (length-with_block b xs) ]
+  | true ↦ refl
+  | false ↦ ap suc (length-with_block b xs)
+]
 
 -- all bytes are below 256
 pub record AreBytes (xs : List ℕ) : Type 0 where

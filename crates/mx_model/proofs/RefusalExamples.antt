@@ -1,5 +1,5 @@
 -- Each call's success and each of its refusals, one line each, on small states.
-use Rattle.std.specs.Prelude.{◌≡◌, ℕ, ◌+◌, ◌-◌, ◌%◌, ◌^◌, Bool, true, false, List, [], ◌∷◌, ◌++◌, refl, replicate, Option, Some, None}
+use Rattle.std.specs.Prelude.{◌≡◌, ℕ, ◌+◌, ◌-◌, ◌%◌, ◌^◌, Bool, true, false, List, [], ◌∷◌, ◌++◌, refl, replicate, Some}
 use Rattle.std.specs.Prelude.{map as list_map}
 use Rattle.std.specs.List.{range_with_len}
 use Rattle.mx_words.specs.declared.perm.Perm.{Perm}
@@ -14,7 +14,7 @@ use Rattle.mx_model.specs.declared.values.Call.{Call}
 use Rattle.mx_model.specs.declared.values.Gate.{Gate}
 use Rattle.mx_model.specs.Reads.{reads, flat_reads}
 use Rattle.mx_model.specs.Serve.{serve}
-use Rattle.mx_model.specs.State.{State, Flat, Core, Module, no_hart, no_module}
+use Rattle.mx_model.specs.State.{State, Flat, Core, no_hart, no_module}
 
 -- 64 words and two modules. Module 1 owns words 16 to 25 and its heap area, words 32 to 39, in which two words are live; its line of the heap has
 -- four runs. Module 2 may read its line of words 16 to 31 but for word 17. A gate stands for module 2 at word 16.

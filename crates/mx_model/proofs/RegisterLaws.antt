@@ -1,8 +1,7 @@
 -- Registers stay 32 numbers of 32 bits with x0 zero: writes, saves, restores, and the effect of every instruction.
-use Rattle.std.proofs.Common.{◌≡◌, ℕ, zero, suc, ◌+◌, ◌-◌, ◌*◌, ◌/◌, ◌%◌, ◌^◌, ◌<◌, ◌≤◌, Bool, true, false, not, ◌==◌, nat_lt, cond, List, [], ◌∷◌, length, get_or, set, fold, refl, sym, ◌∙◌, ap, subst, arith, rules, lit<, lit≤, eqb-true, ⊎_elim, Option, Some, None, if◌then◌else◌, ℤ, pos, negsuc}
+use Rattle.std.proofs.Common.{◌≡◌, ℕ, zero, suc, ◌-◌, ◌*◌, ◌/◌, ◌%◌, ◌^◌, ◌<◌, ◌≤◌, Bool, true, false, ◌==◌, nat_lt, cond, List, [], ◌∷◌, length, get_or, set, fold, refl, ◌∙◌, arith, rules, lit<, lit≤, eqb-true, ⊎_elim, ℤ, pos, negsuc}
 use Rattle.std.proofs.Common.{map as list_map}
-use Rattle.std.specs.Prelude.{zip, slice_index, slice_set, bit_and, bit_or, bit_xor, int_lt, int_div, int_rem, ◌*ℤ◌}
-use Rattle.std.specs.List.{list_all}
+use Rattle.std.specs.Prelude.{zip, slice_set, bit_and}
 use Rattle.std.specs.Int.{int_shr}
 use Rattle.std.proofs.lemmas.List.{length-set, get_or-set_other}
 use Rattle.std.proofs.lemmas.Bool.{eqb-false}
@@ -17,7 +16,7 @@ use Rattle.mx_isa.specs.declared.inst.ImmOp.TheVariants.{Addi, Slti, Sltiu, Xori
 use Rattle.mx_isa.specs.declared.inst.RegOp.{RegOp}
 use Rattle.mx_isa.specs.declared.inst.RegOp.TheVariants.{Add, Sub, Sll, Slt, Sltu, Xor, Srl, Sra, Or, And, Mul, Mulh, Mulhsu, Mulhu, Div, Divu, Rem, Remu}
 use Rattle.mx_isa.specs.Ranges.{IsValid as IsValidInst, IsExtended, IsOperand}
-use Rattle.mx_model.specs.Effect.{Effect, Goes, Faults, Loads, Stores, Calls, Leaves, effect, reg, written, plus, minus, next, goes_to, takes, flag, wrapped, signed, left, right, right_signed, high, imm_result, reg_result, loaded, load_size, store_size, sign_extended, holds, jumps}
+use Rattle.mx_model.specs.Effect.{Effect, Goes, Faults, Loads, Stores, Calls, Leaves, effect, reg, written, plus, next, goes_to, takes, flag, wrapped, right, imm_result, reg_result, loaded, load_size, store_size, holds, jumps}
 use Rattle.mx_model.specs.Turn.{saved, saved_registers, restored}
 use Rattle.mx_model.specs.Valid.{IsPc, IsRegisters}
 
@@ -38,14 +37,16 @@ set-first xs k v p = get_or-set_other xs k 0 v 0 (λ e. let q : ⊥ = omega (ari
 -- a register other than x0 set
 pub registers-set : (regs : List ℕ) (k v : ℕ) → 0 < k → IsRegisters regs → v < 2 ^ 32 → IsRegisters (slice_set regs k v)
 registers-set regs k v o h p = record {
-    count = length-set regs k v ∙ h.count;
-    small = set-small regs k v h.small p;
-    x0 = set-first regs k v o ∙ h.x0 }
+  count = length-set regs k v ∙ h.count;
+  small = set-small regs k v h.small p;
+  x0 = set-first regs k v o ∙ h.x0;
+}
 
 pub registers-written : (regs : List ℕ) (r v : ℕ) → IsRegisters regs → v < 2 ^ 32 → IsRegisters (written regs r v)
 registers-written regs r v h p = elim (r == 0) as (λ b. (r == 0) ≡ b → IsRegisters (cond b regs (slice_set regs r v))) [
-    true ↦ λ e. h
-  | false ↦ λ e. registers-set regs r v (not_zero r e) h p ] refl
+  | true ↦ λ e. h
+  | false ↦ λ e. registers-set regs r v (not_zero r e) h p
+] refl
 
 -- saved and restored registers
 map-small : (regs ns : List ℕ) → ((i : ℕ) → get_or regs i 0 < 2 ^ 32) → (i : ℕ) → get_or (list_map (reg regs) ns) i 0 < 2 ^ 32
@@ -162,8 +163,9 @@ IsEffect (Leaves rd target) = target < 2 ^ 32
 
 effect-goes_to : (regs : List ℕ) (target : ℕ) → IsRegisters regs → target < 2 ^ 32 → IsEffect (goes_to regs target)
 effect-goes_to regs target h p = elim (target % 4 == 0) as (λ b. (target % 4 == 0) ≡ b → IsEffect (cond b (Goes regs target) (Faults 0 target))) [
-    true ↦ λ e. (h, record { aligned = eqb-true (target % 4) 0 e; small = p })
-  | false ↦ λ e. lit< tt ] refl
+  | true ↦ λ e. (h, record { aligned = eqb-true (target % 4) 0 e; small = p })
+  | false ↦ λ e. lit< tt
+] refl
 
 pub effect-jumps : (regs : List ℕ) (pc rd target : ℕ) → IsRegisters regs → target < 2 ^ 32 → IsEffect (jumps regs pc rd target)
 effect-jumps regs pc rd target h p = effect-goes_to (written regs rd (next pc)) target (registers-written regs rd (next pc) h (small-plus pc 4)) p

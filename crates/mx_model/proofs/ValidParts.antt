@@ -1,38 +1,19 @@
 -- A valid state with other parts is valid.
-use Rattle.std.proofs.Common.{◌≡◌, ℕ, zero, suc, ◌+◌, ◌-◌, ◌*◌, ◌/◌, ◌%◌, ◌^◌, ◌<◌, ◌≤◌, Bool, true, false, not, cond, nat_lt, nat_le, ◌==◌, ◌&&◌, ◌||◌, List, [], ◌∷◌, ◌++◌, length, get_or, set, take, fold, refl, sym, ◌∙◌, ap, subst, arith, rules, lit<, lit≤, eqb-true, zero-add, if◌then◌else◌, Option, Some, None, unwrap_or, is_none}
+use Rattle.std.proofs.Common.{◌≡◌, ℕ, ◌-◌, ◌<◌, ◌≤◌, true, false, cond, ◌==◌, List, [], ◌∷◌, length, get_or, set, refl, sym, ◌∙◌, ap, subst, arith, lit≤, eqb-true, zero-add, if◌then◌else◌}
 use Rattle.std.proofs.Common.{map as list_map}
-use Rattle.std.specs.Prelude.{IfSome, slice_index, slice_set}
-use Rattle.std.specs.List.{AllByRecursion, enumerate_from, list_any}
-use Rattle.std.specs.Option.{option_map_or}
-use Rattle.std.proofs.lemmas.Bool.{ltb-true, ltb-false, leb-true, leb-false, eqb-false}
-use Rattle.std.proofs.lemmas.List.{length-set, length-map, length-append, length-take, get_or-set_same, get_or-set_other, get_or-map}
+use Rattle.std.specs.Prelude.{slice_index}
+use Rattle.std.specs.List.{AllByRecursion, enumerate_from}
+use Rattle.std.proofs.lemmas.Bool.{eqb-false}
+use Rattle.std.proofs.lemmas.List.{length-set, length-map, get_or-set_same, get_or-set_other, get_or-map}
 use Rattle.std.proofs.lemmas.List.FromFn.{length-enumerate_from, get_or-enumerate_from}
-use Rattle.mx_words.specs.declared.perm.Perm.{Perm}
-use Rattle.mx_words.specs.declared.perm.Access.TheVariants as A
-use Rattle.mx_words.specs.Announced.{is_announced}
-use Rattle.mx_words.specs.Bytes.{number_at, put_at, cleared_at}
 use Rattle.mx_words.specs.Caches.{Cache}
-use Rattle.mx_words.specs.FirstFit.{Area, has_room, place, with_block, without_block, most_blocks}
-use Rattle.mx_words.specs.Ranges.{ram_base, address_of, in_ram, word_of}
-use Rattle.mx_words.specs.Rights.{number, allows}
-use Rattle.mx_isa.specs.declared.inst.Inst.{Inst}
-use Rattle.mx_isa.specs.declared.inst.LoadWidth.{LoadWidth}
-use Rattle.mx_isa.specs.declared.inst.LoadWidth.TheVariants.{Lb, Lh, Lw, Lbu, Lhu}
-use Rattle.mx_isa.specs.Ranges.{IsValid as IsValidInst}
-use Rattle.mx_isa.specs.Table.{decoded}
-use Rattle.mx_isa.proofs.OfDecoded.{Fits, decoded-fits}
-use Rattle.mx_model.specs.declared.values.Call.{Call}
-use Rattle.mx_model.specs.declared.values.Frame.{Frame}
 use Rattle.mx_model.specs.declared.values.Gate.{Gate}
-use Rattle.mx_model.specs.Checks.{Look, arg, hears, heard_by, is_ready, looked, looked_all, leaves, drops, call_range}
-use Rattle.mx_model.specs.Effect.{Effect, Goes, Faults, Loads, Stores, Calls, Leaves, effect, reg, written, next, load_size, loaded, jumps}
-use Rattle.mx_model.specs.Gates.{call_gate, call_target, gate_at, is_at, without_gate, with_gate, has_gate, no_gate_fits, most_gates, most_frames, top, below_top, nearest, saved_stack}
+use Rattle.mx_model.specs.Checks.{Look, hears, heard_by, looked, looked_all}
+use Rattle.mx_model.specs.Gates.{most_gates}
 use Rattle.mx_model.specs.Reads.{Reads}
-use Rattle.mx_model.specs.State.{Core, Hart, Module, Status, Running, Waiting, Halted, no_hart, no_module, hart_at, with_hart, with_cache, with_module, module_at, is_module}
-use Rattle.mx_model.specs.Turn.{Deed, Rests, Waits, Serves, Asks, Traps, Bounces, Crosses, Returns, Runs, Puts}
-use Rattle.mx_model.specs.Valid.{IsModule, IsPc, IsRegisters, IsFrame, IsCall, IsStatus, IsHart, IsGate, IsHome, IsValid}
-use Rattle.mx_model.proofs.ListLaws.{all-set, all-append, all-take, all-filter, all-at, all-find, found-passes, all-last, length-filter-le, length-filter-lt, length-with_block, length-put_at, bytes-put_at, length-cleared_at, bytes-cleared_at, number-one, number-two, number-four}
-use Rattle.mx_model.proofs.RegisterLaws.{registers-set, registers-written, registers-restored, saved-count, saved-small, small-loaded, small-plus, pc-next, IsCause, IsEffect, effect-valid, effect-jumps}
+use Rattle.mx_model.specs.State.{Core, Hart, Module, Status, Running, Waiting, Halted, no_hart, no_module, with_hart, with_cache, with_module, module_at}
+use Rattle.mx_model.specs.Valid.{IsStatus, IsHart, IsGate, IsHome, IsValid}
+use Rattle.mx_model.proofs.ListLaws.{all-set, all-at}
 
 -- the bytes of RAM, and one hart, as parts of a valid state
 abbrev pub AreBytes : List ℕ → Type 0
@@ -50,17 +31,18 @@ pub valid-parts : (c : Core) (ram : List ℕ) (modules : List Module) (gates : L
     length caches ≡ length c.caches →
     IsValid (record c { ram = ram; modules = modules; gates = gates; harts = harts; caches = caches; turns = turns })
 valid-parts c ram modules gates harts caches turns v rl rb ml ms gl gs hl hs kl = record {
-    few_words = v.few_words;
-    ram_count = rl ∙ v.ram_count;
-    ram_bytes = rb;
-    some_modules = subst (λ (n : ℕ). 1 ≤ n) (sym ml) v.some_modules;
-    few_modules = subst (λ (n : ℕ). n ≤ 63) (sym ml) v.few_modules;
-    modules = subst (λ (n : ℕ). AllByRecursion (IsHome c.size n) modules) (sym hl) ms;
-    few_harts = subst (λ (n : ℕ). n ≤ 4) (sym hl) v.few_harts;
-    harts = subst (λ (n : ℕ). AreHarts n (length harts) harts) (sym ml) (subst (λ (n : ℕ). AreHarts (length c.modules) n harts) (sym hl) hs);
-    caches = kl ∙ v.caches ∙ sym hl;
-    few_gates = gl;
-    gates = subst (λ (n : ℕ). AllByRecursion (IsGate n c.size) gates) (sym ml) gs }
+  few_words = v.few_words;
+  ram_count = rl ∙ v.ram_count;
+  ram_bytes = rb;
+  some_modules = subst (λ (n : ℕ). 1 ≤ n) (sym ml) v.some_modules;
+  few_modules = subst (λ (n : ℕ). n ≤ 63) (sym ml) v.few_modules;
+  modules = subst (λ (n : ℕ). AllByRecursion (IsHome c.size n) modules) (sym hl) ms;
+  few_harts = subst (λ (n : ℕ). n ≤ 4) (sym hl) v.few_harts;
+  harts = subst (λ (n : ℕ). AreHarts n (length harts) harts) (sym ml) (subst (λ (n : ℕ). AreHarts (length c.modules) n harts) (sym hl) hs);
+  caches = kl ∙ v.caches ∙ sym hl;
+  few_gates = gl;
+  gates = subst (λ (n : ℕ). AllByRecursion (IsGate n c.size) gates) (sym ml) gs;
+}
 
 -- one part at a time
 pub valid-turns : (c : Core) (turns : ℕ) → IsValid c → IsValid (record c { turns = turns })
@@ -72,7 +54,7 @@ valid-ram c ram v e b = valid-parts c ram c.modules c.gates c.harts c.caches c.t
 pub valid-module : (c : Core) (d : ℕ) (m : Module) → IsValid c → IsHome c.size (length c.harts) m → IsValid (with_module d m c)
 valid-module c d m v p =
     valid-parts c c.ram (set c.modules (d - 1) m) c.gates c.harts c.caches c.turns v refl v.ram_bytes (length-set c.modules (d - 1) m)
-      (all-set (IsHome c.size (length c.harts)) c.modules (d - 1) m v.modules p) v.few_gates v.gates refl v.harts refl
+    (all-set (IsHome c.size (length c.harts)) c.modules (d - 1) m v.modules p) v.few_gates v.gates refl v.harts refl
 
 pub valid-gates : (c : Core) (gates : List Gate) → IsValid c → length gates ≤ most_gates → AllByRecursion (IsGate (length c.modules) c.size) gates →
     IsValid (record c { gates = gates })
@@ -87,17 +69,18 @@ valid-cache c h cache v = valid-caches c (set c.caches h cache) v (length-set c.
 pub harts-set : (modules count : ℕ) (harts : List Hart) (h : ℕ) (hart : Hart) → length harts ≡ count → AreHarts modules count harts → IsHart modules h hart →
     AreHarts modules count (set harts h hart)
 harts-set modules count harts h hart e hs p i l = elim (i == h) as (λ b. (i == h) ≡ b → IsHart modules i (get_or (set harts h hart) i no_hart)) [
-    true ↦ λ t.
+  | true ↦ λ t.
       let same : i ≡ h = eqb-true i h t in
       let inside : h < length harts = let q : h < count = subst (λ (n : ℕ). n < count) same l in subst (λ (n : ℕ). h < n) (sym e) q in
       subst (λ (n : ℕ). IsHart modules n (get_or (set harts h hart) n no_hart)) (sym same)
-        (subst (λ (x : Hart). IsHart modules h x) (sym (get_or-set_same harts h hart no_hart inside)) p)
-  | false ↦ λ t. subst (λ (x : Hart). IsHart modules i x) (sym (get_or-set_other harts h i hart no_hart (eqb-false i h t))) (hs i l) ] refl
+      (subst (λ (x : Hart). IsHart modules h x) (sym (get_or-set_same harts h hart no_hart inside)) p)
+  | false ↦ λ t. subst (λ (x : Hart). IsHart modules i x) (sym (get_or-set_other harts h i hart no_hart (eqb-false i h t))) (hs i l)
+] refl
 
 pub valid-hart : (c : Core) (h : ℕ) (hart : Hart) → IsValid c → IsHart (length c.modules) h hart → IsValid (with_hart h hart c)
 valid-hart c h hart v p =
     valid-parts c c.ram c.modules c.gates (set c.harts h hart) c.caches c.turns v refl v.ram_bytes refl v.modules v.few_gates v.gates
-      (length-set c.harts h hart) (harts-set (length c.modules) (length c.harts) c.harts h hart refl v.harts p) refl
+    (length-set c.harts h hart) (harts-set (length c.modules) (length c.harts) c.harts h hart refl v.harts p) refl
 
 -- a module that isn't there has empty areas
 pub home-none : (size harts : ℕ) → IsHome size harts no_module
@@ -134,19 +117,20 @@ hearing h p = if p.0 == h then p.1 else record p.1 { status = heard_by h p.1.sta
 
 pub hart-hearing : (modules i h : ℕ) (hart : Hart) → IsHart modules i hart → IsHart modules i (hearing h (i, hart))
 hart-hearing modules i h hart p = elim (i == h) as (λ b. IsHart modules i (cond b hart (record hart { status = heard_by h hart.status }))) [
-    true ↦ p
-  | false ↦ hart-status modules i hart (heard_by h hart.status) p (status-heard modules i h hart.status p.status) ]
+  | true ↦ p
+  | false ↦ hart-status modules i hart (heard_by h hart.status) p (status-heard modules i h hart.status p.status)
+]
 
 pub harts-hearing : (modules h : ℕ) (harts : List Hart) → AreHarts modules (length harts) harts →
     AreHarts modules (length harts) (list_map (hearing h) (enumerate_from 0 harts))
 harts-hearing modules h harts hs i l =
     let e : get_or (enumerate_from 0 harts) i (0, no_hart) ≡ (i, get_or harts i no_hart) =
-      get_or-enumerate_from 0 harts i (0, no_hart) l ∙ ap (λ (n : ℕ). (n, get_or harts i no_hart)) (zero-add i) in
+    get_or-enumerate_from 0 harts i (0, no_hart) l ∙ ap (λ (n : ℕ). (n, get_or harts i no_hart)) (zero-add i) in
     let m = get_or-map (hearing h) (enumerate_from 0 harts) i (0, no_hart) no_hart (subst (λ (n : ℕ). i < n) (sym (length-enumerate_from 0 harts)) l) in
     subst (λ (x : Hart). IsHart modules i x) (sym (m ∙ ap (hearing h) e)) (hart-hearing modules i h (get_or harts i no_hart) (hs i l))
 
 pub valid-hears : (h : ℕ) (c : Core) → IsValid c → IsValid (hears h c)
 valid-hears h c v =
     valid-parts c c.ram c.modules c.gates (list_map (hearing h) (enumerate_from 0 c.harts)) _ c.turns v refl v.ram_bytes refl v.modules v.few_gates v.gates
-      (length-map (enumerate_from 0 c.harts) (hearing h) ∙ length-enumerate_from 0 c.harts)
-      (harts-hearing (length c.modules) h c.harts v.harts) (length-set c.caches h _)
+    (length-map (enumerate_from 0 c.harts) (hearing h) ∙ length-enumerate_from 0 c.harts)
+    (harts-hearing (length c.modules) h c.harts v.harts) (length-set c.caches h _)

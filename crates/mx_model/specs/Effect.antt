@@ -58,7 +58,7 @@ wrapped (negsuc n) = 2 ^ 32 - 1 - n % 2 ^ 32
 abbrev pub flag : Bool → ℕ
 flag b = if b then 1 else 0
 
--- a sum, a difference, shifts by up to 31, and high halves of products
+-- a difference modulo 2^32
 abbrev pub minus : ℕ → ℕ → ℕ
 minus a b = (a + (2 ^ 32 - b)) % 2 ^ 32
 

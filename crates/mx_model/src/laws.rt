@@ -21,5 +21,4 @@ pub fn run_after_a_run()
 /// What every turn keeps, whatever is answered of rights: in a valid state lengths, ranges and alignment stay valid.
 pub fn turns_keep_validity()
     ensures { (r : Reads) (c : Core) (h : ℕ) → IsValid c → IsValid (turned r c h).core }
-{
-}
+{}

@@ -1,4 +1,4 @@
-use Rattle.std.proofs.Common.{◌≡◌, FitsSigned, w32, to_z, arith, rules}
+use Rattle.std.proofs.Common.{◌≡◌, FitsSigned, w32, rules}
 use Rattle.std.proofs.lemmas.Int.{to_z-of_z}
 use Rattle.mx_model.specs.Effect.{reg_result, signed}
 use Rattle.mx_core.proofs.HighHalf.{high-product}
