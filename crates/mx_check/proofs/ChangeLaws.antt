@@ -1,15 +1,14 @@
 -- Coherence through a change: it meets no span of a hart that has heard of it, and the caller's own are exempt.
-use Rattle.std.proofs.Common.{◌≡◌, ◌≢◌, ℕ, zero, suc, ◌+◌, ◌-◌, ◌<◌, ◌≤◌, ◌⊎◌, inl, inr, ◌==◌, ◌&&◌, ◌||◌, Bool, true, false, List, [], ◌∷◌, length, get_or, Option, Some, None, refl, sym, ap, subst, ◌∙◌, arith}
-use Rattle.std.specs.Prelude.{All, IfSome}
+use Rattle.std.proofs.Common.{◌≡◌, ◌≢◌, ℕ, zero, suc, ◌+◌, ◌-◌, ◌<◌, ◌≤◌, ◌⊎◌, inl, inr, ◌==◌, ◌||◌, true, false, List, [], ◌∷◌, length, get_or, Option, Some, None, refl, sym, ap, subst, ◌∙◌, arith}
+use Rattle.std.specs.Prelude.{IfSome}
 use Rattle.std.proofs.lemmas.Bool.{cases_eq, cases_lt, ne_eqb}
-use Rattle.std.proofs.lemmas.Bool.Decides.{nat_tests}
 use Rattle.std.proofs.lemmas.List.{get_or_past}
 use Rattle.mx_words.specs.declared.perm.Perm.{Perm}
 use Rattle.mx_words.specs.declared.perm.Span.{Span}
 use Rattle.mx_words.specs.Counting.{all_below}
 use Rattle.mx_words.specs.Ranges.{covers}
 use Rattle.mx_words.specs.Rights.{perm_at}
-use Rattle.mx_words.specs.Caches.{Cache, Entry, has, meets}
+use Rattle.mx_words.specs.Caches.{Cache, meets}
 use Rattle.mx_words.specs.Changes.{grant_of, changed_map, changed_from}
 use Rattle.mx_words.proofs.CountingLaws.{all_below-at}
 use Rattle.mx_words.proofs.OverlayLaws.{laid_below, laid_behind, covers_in}
@@ -20,7 +19,7 @@ use Rattle.mx_words.specs.declared.perm.Perm.TheVariants as P
 use Rattle.mx_check.specs.declared.flight.Flight.{Flight}
 use Rattle.mx_check.specs.Harts.{Kept, no_hart, hart_at, is_in}
 use Rattle.mx_check.specs.Calls.{lets, ready_with, is_ready}
-use Rattle.mx_check.specs.Coherence.{EachSpan, is_spared, Agrees, AgreesIn, IsTrue, IsClear, HasDropped, Keeps}
+use Rattle.mx_check.specs.Coherence.{EachSpan, is_spared, Agrees, AgreesIn, IsTrue, HasDropped, Keeps}
 use Rattle.mx_check.specs.Conditions.{IsInside}
 use Rattle.mx_check.proofs.SpanLaws.{each_weaker, outside_range}
 

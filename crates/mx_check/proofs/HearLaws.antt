@@ -1,20 +1,21 @@
 -- Coherence and hearing: a hart drops its spans on a call's range first, and counts as having heard it then.
-use Rattle.std.proofs.Common.{◌≡◌, ◌≢◌, ℕ, zero, suc, ◌+◌, ◌<◌, ◌≤◌, ◌⊎◌, inl, inr, ◌==◌, Bool, true, false, cond, List, length, set, get_or, Option, Some, None, refl, sym, ap, subst, ◌∙◌, arith, get_or-set_same, get_or-set_other, length-set, eq-eqb}
+use Rattle.std.proofs.Common.{◌≡◌, ◌≢◌, ℕ, zero, suc, ◌<◌, ◌≤◌, ◌⊎◌, inl, inr, ◌==◌, Bool, true, false, cond, List, length, Option, Some, None, refl, sym, ap, subst, ◌∙◌, arith, get_or-set_same, get_or-set_other, length-set, eq-eqb}
 use Rattle.std.specs.Prelude.{IfSome}
 use Rattle.std.specs.Option.{option_map}
-use Rattle.std.proofs.lemmas.Bool.{cases_eq, cases_lt, ne_eqb, eqb-true}
+use Rattle.std.proofs.lemmas.Bool.{cases_eq, cases_lt, ne_eqb}
 use Rattle.std.proofs.lemmas.List.{get_or_past}
 use Rattle.mx_words.specs.declared.perm.Perm.{Perm}
 use Rattle.mx_words.specs.declared.perm.Span.{Span}
-use Rattle.mx_words.specs.Caches.{Cache, without_range}
+use Rattle.mx_words.specs.Caches.{without_range}
 use Rattle.mx_check.specs.declared.flight.Flight.{Flight}
 use Rattle.mx_check.specs.Harts.{Kept, no_hart, hart_at, at_hart, is_in, marked, heard_by, drops}
 use Rattle.mx_check.specs.Calls.{news_of, news, hears_news, hears_one, hears_first, hears}
-use Rattle.mx_check.specs.Coherence.{Agrees, AgreesIn, IsTrue, IsClear, HasDropped, IsSet, Keeps}
+use Rattle.mx_check.specs.Flights.{IsSet}
+use Rattle.mx_check.specs.Coherence.{Agrees, IsClear, HasDropped, Keeps}
 use Rattle.mx_check.specs.Conditions.{HasHeardAll}
 use Rattle.mx_check.proofs.LookLaws.{length-at_hart, hart_at-same, hart_at-other}
 use Rattle.mx_check.proofs.SpanLaws.{each_clear}
-use Rattle.mx_check.proofs.KeepLaws.{keeps_step, some_weaker, is_true_weaker, drop-keeps}
+use Rattle.mx_check.proofs.KeepLaws.{keeps_step, is_true_weaker, drop-keeps}
 
 -- a fact of the value that an option is known to hold
 some_is : {A : Type 0} (P : A → Type 0) (o : Option A) (x : A) → o ≡ Some x → IfSome o P → P x

@@ -1,22 +1,18 @@
 -- Coherence through the steps of single harts.
-use Rattle.std.proofs.Common.{◌≡◌, ◌≢◌, ℕ, zero, suc, ◌+◌, ◌<◌, ◌≤◌, ◌⊎◌, inl, inr, ◌==◌, ◌&&◌, Bool, true, false, cond, not, List, [], ◌∷◌, length, set, get_or, Option, Some, None, refl, sym, ap, subst, ◌∙◌, arith, get_or-set_same, get_or-set_other, length-set}
-use Rattle.std.specs.Prelude.{All, IfSome, replicate}
-use Rattle.std.specs.Option.{option_map}
+use Rattle.std.proofs.Common.{◌≡◌, ◌≢◌, ℕ, ◌<◌, ◌≤◌, ◌⊎◌, inl, inr, true, false, List, length, Option, Some, None, refl, sym, ap, subst, ◌∙◌, arith}
+use Rattle.std.specs.Prelude.{IfSome}
 use Rattle.std.proofs.lemmas.Bool.{cases_eq, cases_lt}
 use Rattle.std.proofs.lemmas.List.{get_or_past, get_or-replicate}
 use Rattle.mx_words.specs.declared.perm.Perm.{Perm}
 use Rattle.mx_words.specs.declared.perm.Span.{Span}
-use Rattle.mx_words.specs.Ranges.{covers}
-use Rattle.mx_words.specs.Rights.{perm_at}
-use Rattle.mx_words.specs.Caches.{Cache, has, meets, without_range}
+use Rattle.mx_words.specs.Caches.{Cache, meets, without_range}
 use Rattle.mx_table.specs.Tables.{map_of}
 use Rattle.mx_check.specs.declared.flight.Flight.{Flight}
-use Rattle.mx_check.specs.Harts.{Kept, no_hart, hart_at, at_hart, is_in, nobody, announced, marked, heard_by, drops, ended, finished, leaves, halts}
-use Rattle.mx_check.specs.Calls.{news_of, news, hears_news, hears_one, hears_first, hears}
-use Rattle.mx_check.specs.Coherence.{EachSpan, is_spared, Agrees, AgreesIn, IsTrue, IsClear, HasDropped, IsSet, Keeps}
-use Rattle.mx_check.specs.Conditions.{HasHeardAll}
+use Rattle.mx_check.specs.Harts.{Kept, hart_at, at_hart, is_in, nobody, announced, drops, ended, finished, leaves, halts}
+use Rattle.mx_check.specs.Flights.{IsSet}
+use Rattle.mx_check.specs.Coherence.{EachSpan, Agrees, AgreesIn, IsTrue, IsClear, HasDropped, Keeps}
 use Rattle.mx_check.proofs.LookLaws.{length-at_hart, hart_at-same, hart_at-other}
-use Rattle.mx_check.proofs.SpanLaws.{each_weaker, each_left, each_without, each_dropped, each_clear, outside_range}
+use Rattle.mx_check.proofs.SpanLaws.{each_weaker, each_left, each_without, each_dropped, outside_range}
 
 -- a hart that takes a step: both facts follow from what the step does to it
 module _ (maps : List (List Perm)) (harts : List Kept) (h : ℕ) (step : Kept → Kept) (keeps : Keeps maps harts) (there : h < length harts)

@@ -1,15 +1,13 @@
 -- A check that walks: what is asked of the caches first, and what the walk does to them then.
-use Rattle.std.proofs.Common.{◌≡◌, ◌≢◌, ℕ, zero, suc, ◌+◌, ◌<◌, ◌⊎◌, inl, inr, ◌==◌, ◌&&◌, Bool, true, false, not, List, length, set, get_or, Option, Some, None, refl, sym, ap, ◌∙◌, arith, length-set, get_or-set_same, get_or-set_other, eq-eqb}
+use Rattle.std.proofs.Common.{◌≡◌, ◌≢◌, ℕ, zero, suc, ◌<◌, ◌⊎◌, inl, inr, ◌==◌, ◌&&◌, Bool, true, not, List, length, set, Option, Some, None, refl, sym, ap, ◌∙◌, arith, length-set, get_or-set_same, get_or-set_other, eq-eqb}
 use Rattle.std.specs.Option.{option_map}
 use Rattle.std.proofs.lemmas.Bool.{cases_eq}
 use Rattle.std.proofs.lemmas.List.{set-set}
-use Rattle.mx_words.specs.declared.perm.Perm.{Perm}
 use Rattle.mx_words.specs.declared.perm.Span.{Span}
 use Rattle.mx_words.specs.Counting.{all_below}
-use Rattle.mx_words.specs.Caches.{Cache, with_walk, checked, checked_at, found_in_place, found_kept}
-use Rattle.mx_check.specs.declared.flight.Flight.{Flight}
+use Rattle.mx_words.specs.Caches.{found_in_place, found_kept}
 use Rattle.mx_check.specs.Harts.{Kept, no_hart, hart_at, at_hart}
-use Rattle.mx_check.specs.Looks.{flight_bars, bars, is_barred, first_of_two, found, answered_by, asked, walked, looks}
+use Rattle.mx_check.specs.Looks.{flight_bars, bars, is_barred, first_of_two, found, asked, walked, looks}
 
 -- two tests that agree below a number
 pub all_below_agree : (n : ℕ) (p q : ℕ → Bool) → ((i : ℕ) → i < n → p i ≡ q i) → all_below n p ≡ all_below n q

@@ -1,7 +1,7 @@
 -- Coherence and checks: what the caches and the tables answer is the map's permission, and what is kept agrees with the map.
-use Rattle.std.proofs.Common.{◌≡◌, ◌≢◌, ℕ, zero, suc, ◌+◌, ◌-◌, ◌<◌, ◌≤◌, ◌⊎◌, inl, inr, ◌==◌, ◌&&◌, Bool, true, false, not, List, length, get_or, Option, Some, None, refl, sym, ap, subst, ◌∙◌, arith}
+use Rattle.std.proofs.Common.{◌≡◌, ◌≢◌, ℕ, ◌-◌, ◌*◌, ◌/◌, ◌<◌, ◌≤◌, ◌⊎◌, inl, inr, ◌==◌, ◌&&◌, Bool, true, false, not, List, length, Option, Some, None, refl, sym, ap, subst, ◌∙◌, arith}
 use Rattle.std.specs.Prelude.{IfSome}
-use Rattle.std.proofs.lemmas.Bool.{cases_eq, cases_lt, ne_eqb}
+use Rattle.std.proofs.lemmas.Bool.{cases_lt, ne_eqb}
 use Rattle.std.proofs.lemmas.List.{get_or_past}
 use Rattle.mx_words.specs.declared.perm.Perm.{Perm}
 use Rattle.mx_words.specs.declared.perm.Perm.TheVariants as P
@@ -10,22 +10,24 @@ use Rattle.std.specs.Option.{option_map_or}
 use Rattle.mx_words.specs.declared.perm.Access.{Access}
 use Rattle.mx_words.specs.declared.tables.Kind.{Kind}
 use Rattle.mx_words.specs.Counting.{all_below}
-use Rattle.mx_words.specs.Ranges.{covers, word_of}
+use Rattle.mx_words.specs.Ranges.{ram_base, in_ram, word_of}
 use Rattle.mx_words.specs.Rights.{perm_at, perm, allows, denies}
-use Rattle.mx_words.specs.Caches.{Cache, has, meets, found_in_place, found_kept, checked}
+use Rattle.mx_words.specs.Caches.{has, meets, found_in_place, found_kept}
 use Rattle.mx_words.specs.Reach.{span}
 use Rattle.mx_words.proofs.CountingLaws.{all_below-at}
-use Rattle.mx_words.proofs.OverlayLaws.{covers_from, covers_in}
-use Rattle.mx_check.proofs.ReachLaws.{IsUniformRound}
+use Rattle.mx_words.proofs.OverlayLaws.{covers_from}
+use Rattle.std.proofs.lemmas.Bool.Decides.{nat_tests}
+use Rattle.std.specs.Prelude.{cond}
+use Rattle.mx_check.proofs.ReachLaws.{IsUniformRound, span_round}
 use Rattle.mx_table.specs.Tables.{map_of}
 use Rattle.mx_check.specs.declared.flight.Flight.{Flight}
 use Rattle.mx_check.specs.Harts.{Kept, no_hart, hart_at, at_hart, is_in}
 use Rattle.mx_check.specs.Looks.{flight_bars, bars, is_barred, first_of_two, found, names, looks, looked_at, looked, decided_by, decided_at, decided}
-use Rattle.mx_check.specs.Coherence.{EachSpan, Agrees, AgreesIn, IsTrue, IsClear, HasDropped, Keeps}
-use Rattle.mx_check.specs.Conditions.{HasHeardAll, MayLook}
+use Rattle.mx_check.specs.Coherence.{EachSpan, Agrees, AgreesIn, HasDropped, Keeps}
+use Rattle.mx_check.specs.Conditions.{MayLook}
 use Rattle.mx_check.proofs.LookLaws.{length-at_hart, hart_at-same, hart_at-other}
 use Rattle.mx_check.proofs.SpanLaws.{each_weaker, each_checked, has_found_in_place, has_found_kept}
-use Rattle.mx_check.proofs.KeepLaws.{keeps_step, some_weaker}
+use Rattle.mx_check.proofs.KeepLaws.{keeps_step}
 
 -- a walked span agrees with the map, whatever is exempt
 uniform_agrees : (m : List Perm) (own : Option Flight) (i : ℕ) (s : Span) → IsUniformRound m i s → Agrees m own s
@@ -171,3 +173,17 @@ module _ (kind : Kind) (maps : List (List Perm)) (harts : List Kept) (h domain m
 
   pub may_again : MayLook h domain (looked most kind (map_of maps domain) h place domain address harts)
   may_again = again_at (word_of address (length (map_of maps domain)))
+
+-- the word of an address in RAM is one of RAM's words
+word_below : (address words w : ℕ) → word_of address words ≡ Some w → w < words
+word_below address words w e = by (in_ram address words) refl e
+  where
+    by : (b : Bool) → in_ram address words ≡ b → cond b (Some ((address - ram_base) / 4)) None ≡ Some w → w < words
+    by true is e =
+        let at : (address - ram_base) / 4 ≡ w = cc in
+        let low : address - ram_base < 4 * words = grind (arith, nat_tests) in
+        omega (arith, at, low)
+    by false is e = cc
+
+pub word_round : (kind : Kind) (m : List Perm) (address word : ℕ) → word_of address (length m) ≡ Some word → IsUniformRound m word (span kind m word)
+word_round kind m address word e = span_round kind m word (word_below address (length m) word e)

@@ -1,5 +1,5 @@
 -- Laws of what a walk answers: the span has its word in it, lies in RAM, and all its words have the permission that it names.
-use Rattle.std.proofs.Common.{◌≡◌, ℕ, zero, suc, ◌+◌, ◌-◌, ◌*◌, ◌/◌, ◌%◌, ◌^◌, ◌<◌, ◌≤◌, ◌⊎◌, inl, inr, ◌==◌, ◌&&◌, ◌||◌, Bool, true, false, cond, not, nat_lt, min, List, [], ◌∷◌, length, get_or, take, drop, slice_range, reverse, refl, sym, ap, subst, ◌∙◌, arith, length-take, length-drop, get_or-take, get_or-drop}
+use Rattle.std.proofs.Common.{◌≡◌, ℕ, zero, suc, ◌+◌, ◌-◌, ◌*◌, ◌/◌, ◌<◌, ◌≤◌, ◌⊎◌, inl, inr, ◌==◌, ◌&&◌, ◌||◌, Bool, true, false, cond, List, [], ◌∷◌, length, get_or, take, drop, slice_range, reverse, refl, sym, ap, ◌∙◌, arith, length-take, length-drop, get_or-take, get_or-drop}
 use Rattle.std.specs.List.{list_all, prefix_len, suffix_len}
 use Rattle.std.proofs.Math.Nat.{suc-mul}
 use Rattle.std.proofs.lemmas.Bool.{eqb-true, cases_lt}
@@ -10,11 +10,10 @@ use Rattle.mx_words.specs.declared.perm.Perm.TheVariants as P
 use Rattle.mx_words.specs.declared.perm.Span.{Span}
 use Rattle.mx_words.specs.declared.tables.Kind.{Kind}
 use Rattle.mx_words.specs.declared.tables.Kind.TheVariants as K
-use Rattle.mx_words.specs.declared.tables.Level.{Level}
 use Rattle.mx_words.specs.declared.tables.Level.TheVariants as L
 use Rattle.mx_words.specs.Rights.{same, perm_at}
 use Rattle.mx_words.specs.Runs.{is_uniform, is_eighth_uniform, pieces, pieces_from, in_first, block_at, is_crowded, line_words, page_words, region_words}
-use Rattle.mx_words.specs.Reach.{span_within, first_in, count_in, block_span, line_span, most_reach, left_reach, right_reach, reached, span_at, span, level, trie_level, line_level}
+use Rattle.mx_words.specs.Reach.{span_within, first_in, block_span, line_span, left_reach, right_reach, reached, span_at, span, line_level}
 use Rattle.mx_words.proofs.RunLaws.{same_refl, same_eq, slice-at, length-slice}
 
 -- a span with word i in it, in the list, whose words all have the permission that it names

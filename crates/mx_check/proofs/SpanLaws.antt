@@ -1,14 +1,14 @@
 -- What holds of each span of a hart's caches, through the changes of the caches.
-use Rattle.std.proofs.Common.{◌≡◌, ◌≢◌, ℕ, zero, suc, ◌+◌, ◌<◌, ◌≤◌, ◌⊎◌, inl, inr, ◌==◌, ◌&&◌, Bool, true, false, cond, not, List, [], ◌∷◌, length, set, get_or, find, filter, take, map, Option, Some, None, refl, sym, ap, subst, ◌∙◌, arith}
-use Rattle.std.specs.Prelude.{All, IfSome, replicate}
+use Rattle.std.proofs.Common.{◌≡◌, ℕ, ◌<◌, ◌≤◌, ◌⊎◌, inl, inr, ◌==◌, ◌&&◌, Bool, true, false, cond, not, List, [], ◌∷◌, length, find, Option, Some, None, refl, sym, ap, subst, ◌∙◌, arith}
+use Rattle.std.specs.Prelude.{All, IfSome}
 use Rattle.std.specs.Option.{option_map_or}
 use Rattle.std.proofs.lemmas.Bool.Decides.{nat_tests}
 use Rattle.std.proofs.lemmas.Bool.{cases_lt, eqb-true}
 use Rattle.std.proofs.lemmas.List.{get_or_past}
-use Rattle.std.proofs.lemmas.List.Elements.{All-set, All-take, All-cons, All-nil, All-head, All-tail, All-weaker, All-filter, All-map, All-replicate}
+use Rattle.std.proofs.lemmas.List.Elements.{All-set, All-take, All-cons, All-nil, All-head, All-tail, All-weaker, All-map, All-replicate}
 use Rattle.mx_words.specs.declared.perm.Span.{Span}
-use Rattle.mx_words.specs.Ranges.{covers, overlaps}
-use Rattle.mx_words.specs.Caches.{Cache, Entry, has, meets, answers, in_place, found_in_place, found_kept, kept_with, kept_without, places_without, without_range, left_domain, no_cache, checked, checked_at, checked_behind, with_walk, with_place_hit, with_kept_hit}
+use Rattle.mx_words.specs.Ranges.{covers}
+use Rattle.mx_words.specs.Caches.{Cache, Entry, has, meets, answers, in_place, found_in_place, found_kept, kept_without, without_range, left_domain, no_cache, checked, checked_at, checked_behind, with_walk}
 use Rattle.mx_check.specs.Coherence.{EachSpan, IsClear}
 
 -- weaker facts

@@ -1,19 +1,18 @@
 -- Coherence at the start: empty caches keep both facts, whoever has heard what.
-use Rattle.std.proofs.Common.{◌≡◌, ◌≢◌, ℕ, zero, suc, ◌+◌, ◌<◌, ◌≤◌, ◌⊎◌, inl, inr, ◌==◌, Bool, true, false, cond, List, [], ◌∷◌, length, get_or, replicate, length-replicate, Option, Some, None, refl, sym, ap, subst, ◌∙◌, arith}
+use Rattle.std.proofs.Common.{◌≡◌, ℕ, ◌<◌, ◌≤◌, ◌⊎◌, inl, inr, Bool, true, false, cond, List, [], ◌∷◌, length, Option, Some, None, sym, ap, subst, arith}
 use Rattle.std.specs.Prelude.{All, IfSome}
 use Rattle.std.proofs.lemmas.Bool.{cases_lt}
-use Rattle.std.proofs.lemmas.List.{get_or_past, get_or-replicate}
+use Rattle.std.proofs.lemmas.List.{get_or_past, get_or-replicate, length-replicate}
 use Rattle.std.proofs.lemmas.List.Elements.{All-head, All-tail}
 use Rattle.mx_words.specs.declared.perm.Perm.{Perm}
-use Rattle.mx_words.specs.Counting.{list_below}
 use Rattle.mx_words.specs.Caches.{no_cache, meets}
 use Rattle.mx_words.proofs.CountingLaws.{length-list_below, list_below-at}
 use Rattle.mx_table.specs.Tables.{map_of}
 use Rattle.mx_check.specs.declared.flight.Flight.{Flight}
-use Rattle.mx_check.specs.Flights.{is_of, flight_of}
+use Rattle.mx_check.specs.Flights.{is_of, flight_of, IsSet}
 use Rattle.mx_check.specs.Harts.{Kept, new_hart, no_hart, hart_at}
 use Rattle.mx_check.specs.Calls.{new_harts, waiting_hart, waiting_harts}
-use Rattle.mx_check.specs.Coherence.{EachSpan, Agrees, AgreesIn, IsTrue, IsClear, HasDropped, IsSet, Keeps}
+use Rattle.mx_check.specs.Coherence.{EachSpan, Agrees, AgreesIn, IsClear, HasDropped, Keeps}
 use Rattle.mx_check.proofs.SpanLaws.{each_none}
 
 -- harts whose caches are empty

@@ -1,7 +1,5 @@
 -- What the calls on flights do to what the checker keeps.
-use Rattle.std.specs.Prelude.{ℕ, zero, suc, ◌==◌, ◌&&◌, ◌||◌, Bool, true, false, not, List, [], ◌∷◌, find, length, replicate, if◌then◌else◌, Option, Some, None}
-use Rattle.std.specs.Prelude.{map as list_map}
-use Rattle.std.specs.List.{range_with_len}
+use Rattle.std.specs.Prelude.{ℕ, zero, suc, ◌==◌, ◌||◌, Bool, false, List, length, replicate, if◌then◌else◌, Option, Some, None}
 use Rattle.mx_words.specs.Counting.{all_below, list_below}
 use Rattle.mx_check.specs.declared.flight.Flight.{Flight}
 use Rattle.mx_check.specs.Flights.{flight_of}

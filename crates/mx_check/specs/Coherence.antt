@@ -7,6 +7,7 @@ use Rattle.mx_words.specs.Ranges.{covers}
 use Rattle.mx_words.specs.Rights.{perm_at}
 use Rattle.mx_table.specs.Tables.{map_of}
 use Rattle.mx_check.specs.declared.flight.Flight.{Flight}
+use Rattle.mx_check.specs.Flights.{IsSet}
 use Rattle.mx_check.specs.Harts.{Kept, hart_at, is_in}
 use Rattle.std.specs.Prelude.{length}
 
@@ -40,10 +41,6 @@ IsClear first count c = EachSpan (λ d s. meets s first count ≡ false) (λ s. 
 -- second fact, of hart h and one call: where h has heard it, no span of h meets its range
 abbrev pub HasDropped : ℕ → Cache → Flight → Type 0
 HasDropped h c f = is_in f.heard h ≡ true → IsClear f.first f.count c
-
--- a set of harts has a place for each of the four
-abbrev pub IsSet : Flight → Type 0
-IsSet f = length f.heard ≡ 4
 
 -- what a checker keeps at every moment between its calls
 pub record Keeps (maps : List (List Perm)) (harts : List Kept) : Type 0 where

@@ -1,8 +1,8 @@
 -- The conditions of the checker's calls.
-use Rattle.std.specs.Prelude.{◌≡◌, ◌≢◌, ℕ, ◌+◌, ◌<◌, ◌≤◌, ◌⊎◌, Bool, true, false, List, length, All, IfSome, IsTrue, Option, Some, None}
+use Rattle.std.specs.Prelude.{◌≡◌, ◌≢◌, ℕ, ◌+◌, ◌<◌, ◌≤◌, ◌⊎◌, true, false, List, length, IfSome, None}
 use Rattle.mx_table.specs.declared.change.Change.{Change}
 use Rattle.mx_check.specs.declared.flight.Flight.{Flight}
-use Rattle.mx_check.specs.Harts.{Kept, hart_at, is_in, has_heard}
+use Rattle.mx_check.specs.Harts.{Kept, hart_at, is_in}
 use Rattle.mx_check.specs.Calls.{is_ready}
 
 -- hart h has heard the call in flight of each other hart

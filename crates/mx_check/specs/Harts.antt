@@ -1,5 +1,5 @@
 -- What the checker keeps for each hart, and the steps by which one hart's part changes.
-use Rattle.std.specs.Prelude.{ℕ, ◌&&◌, Bool, true, false, not, List, replicate, slice_set, slice_index_or, if◌then◌else◌, Option, Some, None}
+use Rattle.std.specs.Prelude.{ℕ, Bool, true, false, List, replicate, slice_set, slice_index_or, Option, Some, None}
 use Rattle.std.specs.Option.{option_map, option_map_or}
 use Rattle.mx_words.specs.Caches.{Cache, no_cache, left_domain, without_range}
 use Rattle.mx_check.specs.declared.flight.Flight.{Flight}

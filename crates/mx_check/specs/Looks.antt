@@ -1,16 +1,13 @@
 -- What a check of an address does to what the checker keeps.
-use Rattle.std.specs.Prelude.{ℕ, ◌==◌, ◌&&◌, Bool, true, false, not, List, is_none, Option, Some, None}
-use Rattle.std.specs.Option.{option_map_or}
+use Rattle.std.specs.Prelude.{ℕ, ◌==◌, ◌&&◌, Bool, false, not, List, Option, Some, None}
 use Rattle.mx_words.specs.declared.perm.Perm.{Perm}
 use Rattle.mx_words.specs.declared.perm.Perm.TheVariants as P
 use Rattle.mx_words.specs.declared.perm.Span.{Span}
-use Rattle.mx_words.specs.declared.perm.Access.{Access}
 use Rattle.mx_words.specs.declared.tables.Kind.{Kind}
 use Rattle.mx_words.specs.Caches.{Cache, raised, meets, found_in_place, found_kept, with_place_hit, with_kept_hit, with_walk, checked}
 use Rattle.mx_words.specs.Counting.{all_below}
 use Rattle.mx_words.specs.Ranges.{word_of}
 use Rattle.mx_words.specs.Reach.{span}
-use Rattle.mx_words.specs.Rights.{allows}
 use Rattle.mx_check.specs.declared.flight.Flight.{Flight}
 use Rattle.mx_check.specs.Harts.{Kept, hart_at, at_hart, is_in}
 use Rattle.std.specs.Prelude.{length}

@@ -1,11 +1,12 @@
 //! Tables and what is kept for each hart, with one step for each call.
-ghost use Rattle.std.specs.Prelude.{◌≡◌, ◌<◌, ◌≤◌, Ok, Err, length, is_err, IsTrue, IsFalse, ◌↔◌, OnOk, OnErr};
+ghost use Rattle.std.specs.Prelude.{◌≡◌, ◌<◌, ◌≤◌, Ok, Err, length, is_err, IsTrue, IsFalse, ◌↔◌, OnOk, OnErr, All};
 ghost use Rattle.mx_words.specs.Caches.{raised};
 ghost use Rattle.mx_words.specs.Need.{fits};
 ghost use Rattle.mx_words.specs.Reach.{span};
 ghost use Rattle.mx_words.specs.Rights.{perm_at, allows};
 ghost use Rattle.mx_table.specs.Change.{IsLawful, changed};
 ghost use Rattle.mx_table.specs.Tables.{IsDomain, map_of};
+ghost use Rattle.mx_check.specs.Flights.{IsSet};
 ghost use Rattle.mx_check.specs.Harts.{hart_at, at_hart, announced, finished, leaves, halts, has_heard};
 ghost use Rattle.mx_check.specs.Looks.{found, decided_by, decided, lookups_with, lookups_after, looks, walked, looked, is_barred};
 ghost use Rattle.mx_check.specs.Calls.{hears, is_ready, new_harts, waiting_harts};
@@ -18,12 +19,12 @@ use std::marker::Model;
 
 /// Tables, and the caches, calls and marks of each hart, with no promise about what the caches hold.
 #[derive(Drop)]
-pub struct Bare<T: PermTables + Drop, const N: usize> {
+pub struct Bare<T: PermTables, const N: usize> {
     tables: T,
     harts: Harts<N>,
 }
 
-impl<T: PermTables + Drop, const N: usize> Model for Bare<T, N> {
+impl<T: PermTables, const N: usize> Model for Bare<T, N> {
     ghost use Rattle.mx_check.specs.Calls.{Checks};
 
     ghost Value = { Checks T };
@@ -31,7 +32,7 @@ impl<T: PermTables + Drop, const N: usize> Model for Bare<T, N> {
     ghost view = { λ b. record { tables = b.tables; harts = b.harts } };
 }
 
-impl<T: PermTables + Drop, const N: usize> Bare<T, N> {
+impl<T: PermTables, const N: usize> Bare<T, N> {
     /// Tables and harts that have done nothing yet.
     pub fn new(tables: T, harts: u32) -> Bare<T, N>
         requires size { N ≤ 64 }
@@ -48,7 +49,8 @@ impl<T: PermTables + Drop, const N: usize> Bare<T, N> {
     pub fn resume(tables: T, harts: u32, flights: &Flights) -> Bare<T, N>
         requires size { N ≤ 64 }
         requires few { harts ≤ 4 }
-        ensures { result ≡ record { tables = tables; harts = waiting_harts flights.now harts } }
+        ensures value { result ≡ record { tables = tables; harts = waiting_harts flights.now harts } }
+        ensures sets { All IsSet flights.now }
     {
         Bare {
             tables,
@@ -57,14 +59,7 @@ impl<T: PermTables + Drop, const N: usize> Bare<T, N> {
     }
 
     /// Whether the tables or the caches allow an access. The check is counted, and what was walked is kept.
-    pub fn may(
-        &mut self,
-        hart: u32,
-        place: u32,
-        domain: u32,
-        addr: u32,
-        access: Access,
-    ) -> bool
+    pub fn may(&mut self, hart: u32, place: u32, domain: u32, addr: u32, access: Access) -> bool
         requires hart { hart < length self.old.harts }
         requires place { place < 32 }
         requires domain { IsDomain (T.maps self.old.tables) domain }

@@ -1,6 +1,6 @@
 //! Calls that are announced and haven't taken effect yet.
-ghost use Rattle.std.specs.Prelude.{◌≡◌, ◌<◌, ◌≤◌, None, [], ◌∷◌, ◌++◌, length};
-ghost use Rattle.mx_check.specs.Flights.{flight_of};
+ghost use Rattle.std.specs.Prelude.{◌≡◌, ◌<◌, ◌≤◌, None, [], ◌∷◌, ◌++◌, length, All};
+ghost use Rattle.mx_check.specs.Flights.{flight_of, IsSet};
 
 use std::marker::Model;
 
@@ -67,7 +67,8 @@ impl Flights {
 
     /// The call of a hart. `None` exactly where none is held.
     pub(crate) fn of(&self, hart: u32) -> Option<Flight>
-        ensures { result ≡ flight_of self.now hart }
+        ensures value { result ≡ flight_of self.now hart }
+        ensures sets { All IsSet self.now }
     {
         for i in 0..self.len {
             let flight = self.items[i];

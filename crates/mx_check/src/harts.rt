@@ -1,6 +1,7 @@
 //! What is kept for each of the harts.
-ghost use Rattle.std.specs.Prelude.{◌≡◌, ◌<◌, ◌≤◌, Some, None, length};
+ghost use Rattle.std.specs.Prelude.{◌≡◌, ◌<◌, ◌≤◌, Some, None, length, All};
 ghost use Rattle.std.specs.Option.{option_map};
+ghost use Rattle.mx_check.specs.Flights.{IsSet};
 ghost use Rattle.mx_check.specs.Harts.{hart_at, at_hart, announced, heard_by, drops, finished, leaves, halts, has_heard};
 ghost use Rattle.mx_check.specs.Looks.{found, asked, walked, names, bars, is_barred};
 ghost use Rattle.mx_check.specs.Calls.{news, hears_one, hears, lets, is_ready, new_harts, waiting_harts};
@@ -53,7 +54,8 @@ impl<const N: usize> Harts<N> {
     pub fn waiting(flights: &Flights, harts: u32) -> Harts<N>
         requires size { N ≤ 64 }
         requires few { harts ≤ 4 }
-        ensures { result ≡ waiting_harts flights.now harts }
+        ensures value { result ≡ waiting_harts flights.now harts }
+        ensures sets { All IsSet flights.now }
     {
         Harts {
             parts: [

@@ -4,10 +4,12 @@
 #![tactic(auto)]
 
 mod bare;
+mod checker;
 mod flight;
 mod harts;
 mod part;
 
+pub use checker::Checker;
 pub use flight::{Flight, Flights};
 pub use part::Counts;
 

@@ -41,16 +41,16 @@ impl<const N: usize> Model for Part<N> {
     ghost Value = { Kept };
 
     ghost view = { λ p. record {
-        cache = record {
-            places = p.places;
-            kept = p.kept;
-            sidecar = p.counts.sidecar;
-            lookaside = p.counts.lookaside;
-            walks = p.counts.walks;
-        };
-        halted = p.halted;
-        domain = p.domain;
-        flight = p.flight;
+      cache = record {
+        places = p.places;
+        kept = p.kept;
+        sidecar = p.counts.sidecar;
+        lookaside = p.counts.lookaside;
+        walks = p.counts.walks;
+      };
+      halted = p.halted;
+      domain = p.domain;
+      flight = p.flight;
     } };
 }
 
@@ -165,9 +165,7 @@ impl<const N: usize> Part<N> {
         ensures { result ≡ flight_bars by span.now self.now.flight }
     {
         match self.flight {
-            Some(flight) => {
-                flight.heard[by as usize] && span.meets(flight.first, flight.count)
-            }
+            Some(flight) => { flight.heard[by as usize] && span.meets(flight.first, flight.count) }
             None => false,
         }
     }

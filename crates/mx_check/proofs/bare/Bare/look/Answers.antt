@@ -1,4 +1,4 @@
-use Rattle.std.proofs.Common.{◌≡◌, ◌<◌, List, length, ap, ◌∙◌, arith}
+use Rattle.std.proofs.Common.{◌<◌, List, length, ap, ◌∙◌, arith}
 use Rattle.mx_words.specs.Reach.{span}
 use Rattle.mx_table.specs.Tables.{map_of}
 use Rattle.mx_check.specs.Harts.{Kept, at_hart}
