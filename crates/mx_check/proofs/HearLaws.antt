@@ -12,7 +12,7 @@ use Rattle.mx_check.specs.Harts.{Kept, no_hart, hart_at, at_hart, is_in, marked,
 use Rattle.mx_check.specs.Calls.{news_of, news, hears_news, hears_one, hears_first, hears}
 use Rattle.mx_check.specs.Flights.{IsSet}
 use Rattle.mx_check.specs.Coherence.{Agrees, IsClear, HasDropped, Keeps}
-use Rattle.mx_check.specs.Conditions.{HasHeardAll}
+use Rattle.mx_check.specs.Conditions.{HasHeardAll, SameButCaches}
 use Rattle.mx_check.proofs.LookLaws.{length-at_hart, hart_at-same, hart_at-other}
 use Rattle.mx_check.proofs.SpanLaws.{each_clear}
 use Rattle.mx_check.proofs.KeepLaws.{keeps_step, is_true_weaker, drop-keeps}
@@ -95,6 +95,31 @@ pub length-hears_first : (h n : ℕ) (harts : List Kept) → length (hears_first
 length-hears_first h zero harts = refl
 length-hears_first h (suc n) harts =
     length-hears_news h n (news h n (hears_first h n harts)) (hears_first h n harts) ∙ length-hears_first h n harts
+
+-- the hart that hears changes only its caches
+module _ (harts : List Kept) (h i : ℕ) (there : h < length harts) where
+  own_news : (o : Option (ℕ × ℕ)) → news h i harts ≡ o → SameButCaches (hart_at (hears_news h i o harts) h) (hart_at harts h)
+  own_news None e = record { halted = refl; domain = refl; flight = refl }
+  own_news (Some r) e =
+      let apart = (news-some h i harts r e).0 in
+      let now : hart_at (hears_news h i (Some r) harts) h ≡ drops r.0 r.1 (hart_at harts h) =
+      hart_at-other (at_hart h (drops r.0 r.1) harts) i (heard_by h) h (λ x. apart (sym x)) ∙ hart_at-same harts h (drops r.0 r.1) there in
+      record { halted = ap (λ (k : Kept). k.halted) now; domain = ap (λ (k : Kept). k.domain) now; flight = ap (λ (k : Kept). k.flight) now }
+
+  pub own_one : SameButCaches (hart_at (hears_one h i harts) h) (hart_at harts h)
+  own_one = own_news (news h i harts) refl
+
+own_joined : (a b c : Kept) → SameButCaches a b → SameButCaches b c → SameButCaches a c
+own_joined a b c x y = record { halted = x.halted ∙ y.halted; domain = x.domain ∙ y.domain; flight = x.flight ∙ y.flight }
+
+own_first : (harts : List Kept) (h n : ℕ) → h < length harts → SameButCaches (hart_at (hears_first h n harts) h) (hart_at harts h)
+own_first harts h zero there = record { halted = refl; domain = refl; flight = refl }
+own_first harts h (suc n) there =
+    own_joined (hart_at (hears_first h (suc n) harts) h) (hart_at (hears_first h n harts) h) (hart_at harts h)
+    (own_one (hears_first h n harts) h n (omega (arith, length-hears_first h n harts))) (own_first harts h n there)
+
+pub hears_own : (harts : List Kept) (h : ℕ) → h < length harts → SameButCaches (hart_at (hears h harts) h) (hart_at harts h)
+hears_own harts h there = own_first harts h (length harts) there
 
 -- hearing one call keeps both facts
 module _ (maps : List (List Perm)) (harts : List Kept) (h i : ℕ) (keeps : Keeps maps harts) (there : h < length harts) (other : i < length harts) where

@@ -18,6 +18,12 @@ pub record MayLook (h domain : ℕ) (harts : List Kept) : Type 0 where
   pub heard : HasHeardAll h harts
   pub same_domain : IfSome (hart_at harts h).domain (λ d. d ≡ domain)
 
+-- a hart is as before but for its caches
+pub record SameButCaches (now before : Kept) : Type 0 where
+  pub halted : now.halted ≡ before.halted
+  pub domain : now.domain ≡ before.domain
+  pub flight : now.flight ≡ before.flight
+
 -- a range is empty or in a RAM of `words` words
 abbrev pub IsWithin : ℕ → ℕ → ℕ → Type 0
 IsWithin first count words = (count ≡ 0) ⊎ (first + count ≤ words)

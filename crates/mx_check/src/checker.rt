@@ -7,7 +7,7 @@ ghost use Rattle.mx_table.specs.Tables.{IsDomain, map_of};
 ghost use Rattle.mx_check.specs.Harts.{hart_at, at_hart, announced, finished, leaves, halts, has_heard};
 ghost use Rattle.mx_check.specs.Looks.{lookups_after, looked};
 ghost use Rattle.mx_check.specs.Calls.{hears, is_ready, new_harts, waiting_harts};
-ghost use Rattle.mx_check.specs.Conditions.{MayLook, HasHeardAll, MayAnnounce, IsWithin, MayChange, IsResumable};
+ghost use Rattle.mx_check.specs.Conditions.{MayLook, HasHeardAll, SameButCaches, MayAnnounce, IsWithin, MayChange, IsResumable};
 
 use crate::bare::Bare;
 use crate::{Counts, Flights, TablesFull};
@@ -99,6 +99,8 @@ impl<T: PermTables, const N: usize> Checker<T, N> {
         requires running { (hart_at self.old.harts hart).halted ≡ false }
         ensures after { self.new ≡ record self.old { harts = hears hart self.old.harts } }
         ensures heard { HasHeardAll hart self.new.harts }
+        ensures own { SameButCaches (hart_at self.new.harts hart) (hart_at self.old.harts hart) }
+        ensures same_length { length self.new.harts ≡ length self.old.harts }
     {
         self.bare.hear(hart);
     }

@@ -97,10 +97,10 @@ impl<const N: usize> Part<N> {
         ensures after { self.new ≡ listed place domain word self.old }
     {
         match self.kept.find(domain, word) {
-            Some(span) => {
-                self.places.keep(place, span);
+            Some(newest) => {
+                self.places.keep(place, newest);
                 self.counts.lookaside = raised(self.counts.lookaside);
-                Some(span.perm)
+                Some(newest.perm)
             }
             None => None,
         }
