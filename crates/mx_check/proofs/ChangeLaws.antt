@@ -1,0 +1,137 @@
+-- Coherence through a change: it meets no span of a hart that has heard of it, and the caller's own are exempt.
+use Rattle.std.proofs.Common.{◌≡◌, ◌≢◌, ℕ, zero, suc, ◌+◌, ◌-◌, ◌<◌, ◌≤◌, ◌⊎◌, inl, inr, ◌==◌, ◌||◌, true, false, List, [], ◌∷◌, length, get_or, Option, Some, None, refl, sym, ap, subst, ◌∙◌, arith}
+use Rattle.std.specs.Prelude.{IfSome}
+use Rattle.std.proofs.lemmas.Bool.{cases_eq, cases_lt, ne_eqb}
+use Rattle.std.proofs.lemmas.List.{get_or_past}
+use Rattle.mx_words.specs.declared.perm.Perm.{Perm}
+use Rattle.mx_words.specs.declared.perm.Span.{Span}
+use Rattle.mx_words.specs.Counting.{all_below}
+use Rattle.mx_words.specs.Ranges.{covers}
+use Rattle.mx_words.specs.Rights.{perm_at}
+use Rattle.mx_words.specs.Caches.{Cache, meets}
+use Rattle.mx_words.specs.Changes.{grant_of, changed_map, changed_from}
+use Rattle.mx_words.proofs.CountingLaws.{all_below-at}
+use Rattle.mx_words.proofs.OverlayLaws.{laid_below, laid_behind, covers_in}
+use Rattle.mx_table.specs.declared.change.Change.{Change}
+use Rattle.mx_table.specs.Change.{given, changed}
+use Rattle.mx_table.specs.Tables.{map_of}
+use Rattle.mx_words.specs.declared.perm.Perm.TheVariants as P
+use Rattle.mx_check.specs.declared.flight.Flight.{Flight}
+use Rattle.mx_check.specs.Harts.{Kept, no_hart, hart_at, is_in}
+use Rattle.mx_check.specs.Calls.{lets, ready_with, is_ready}
+use Rattle.mx_check.specs.Coherence.{EachSpan, is_spared, Agrees, AgreesIn, IsTrue, HasDropped, Keeps}
+use Rattle.mx_check.specs.Conditions.{IsInside}
+use Rattle.mx_check.proofs.SpanLaws.{each_weaker, outside_range}
+
+-- a map stays as it was outside the range of a change
+changed_map-outside : (first count : ℕ) (o : Option Perm) (m : List Perm) (w : ℕ) → (w < first) ⊎ (first + count ≤ w) → perm_at (changed_map first count o m) w ≡ perm_at m w
+changed_map-outside first count None m w out = refl
+changed_map-outside first count (Some p) m w (inl lt) = laid_below (grant_of first count p) m w P.None lt
+changed_map-outside first count (Some p) m w (inr le) = laid_behind (grant_of first count p) m w P.None le
+
+changed_from-outside : (first count : ℕ) (by : ℕ → Option Perm) (d k : ℕ) (ms : List (List Perm)) (w : ℕ) → (w < first) ⊎ (first + count ≤ w) →
+    perm_at (get_or (changed_from first count by d ms) k []) w ≡ perm_at (get_or ms k []) w
+changed_from-outside first count by d k [] w out = refl
+changed_from-outside first count by d zero (m ∷ ms) w out = changed_map-outside first count (by d) m w out
+changed_from-outside first count by d (suc k) (m ∷ ms) w out = changed_from-outside first count by (d + 1) k ms w out
+
+pub changed-outside : (c : Change) (maps : List (List Perm)) (d w : ℕ) → (w < c.first) ⊎ (c.first + c.count ≤ w) →
+    perm_at (map_of (changed c maps) d) w ≡ perm_at (map_of maps d) w
+changed-outside c maps d w out = changed_from-outside c.first c.count (given c) 1 (d - 1) maps w out
+
+-- a word outside a range that takes in the change's
+outside : (c : Change) (f : Flight) (w : ℕ) → IsInside c f → covers f.first f.count w ≡ false → (w < c.first) ⊎ (c.first + c.count ≤ w)
+outside c f w inside out = by (cases_lt w c.first) (cases_lt w (c.first + c.count))
+  where
+    by : (w < c.first) ⊎ (c.first ≤ w) → (w < c.first + c.count) ⊎ (c.first + c.count ≤ w) → (w < c.first) ⊎ (c.first + c.count ≤ w)
+    by (inl lt) y = inl lt
+    by (inr le) (inr far) = inr far
+    by (inr le) (inl lt) =
+        let i0 = inside.0 in
+        let i1 = inside.1 in
+        let hit : covers f.first f.count w ≡ true = covers_in f.first f.count w (omega arith) (omega arith) in
+        let clash : true ≡ false = sym hit ∙ out in
+        absurd (cc)
+
+-- two facts of each span at once
+pub each_both : {E F : ℕ → Span → Type 0} {P Q : Span → Type 0} (c : Cache) → EachSpan E P c → EachSpan F Q c → EachSpan (λ d s. E d s × F d s) (λ s. P s × Q s) c
+each_both {E} {F} {P} {Q} c a b = record {
+  entries = λ k d lt. (a.entries k d lt, b.entries k d lt);
+  places = λ k d lt. place (get_or c.places k d) (a.places k d lt) (b.places k d lt);
+}
+  where
+    place : (o : Option Span) → IfSome o P → IfSome o Q → IfSome o (λ s. P s × Q s)
+    place None p q = tt
+    place (Some s) p q = (p, q)
+
+-- the range of a ready call: each other running hart has heard it
+ready-heard : (harts : List Kept) (h i : ℕ) (f : Flight) → (hart_at harts h).flight ≡ Some f → is_ready h harts ≡ true → i < length harts → i ≢ h →
+    (hart_at harts i).halted ≡ false → is_in f.heard i ≡ true
+ready-heard harts h i f flying ready lt ne running =
+    let all : all_below (length harts) (lets h f harts) ≡ true = sym (ap (λ (o : Option Flight). ready_with h o harts) flying) ∙ ready in
+    let at : lets h f harts i ≡ true = all_below-at (length harts) i (lets h f harts) all lt in
+    let other : (i == h) ≡ false = ne_eqb i h ne in
+    sym (ap (λ b. b || (hart_at harts i).halted || is_in f.heard i) other ∙ ap (λ b. false || b || is_in f.heard i) running) ∙ at
+
+module _ (maps : List (List Perm)) (harts : List Kept) (h : ℕ) (c : Change) (f : Flight) (keeps : Keeps maps harts)
+    (flying : (hart_at harts h).flight ≡ Some f) (ready : is_ready h harts ≡ true) (inside : IsInside c f) where
+  -- the caller's spans agree with the changed maps but for the words of its call
+  own_agrees : (d : ℕ) (own : Option Flight) (s : Span) → own ≡ Some f → Agrees (map_of maps d) own s → Agrees (map_of (changed c maps) d) own s
+  own_agrees d own s e a = record {
+    at = λ word in_span spared.
+        let out : covers f.first f.count word ≡ false = sym (ap (λ (o : Option Flight). is_spared o word) e) ∙ spared in
+        changed-outside c maps d word (outside c f word inside out) ∙ a.at word in_span spared;
+  }
+
+  own_agrees_in : (d : Option ℕ) (own : Option Flight) (s : Span) → own ≡ Some f → AgreesIn maps own d s → AgreesIn (changed c maps) own d s
+  own_agrees_in None own s e a = a
+  own_agrees_in (Some d) own s e a = own_agrees d own s e a
+
+  -- those of a hart that keeps no span of the range agree as before
+  clear_agrees : (d : ℕ) (own : Option Flight) (s : Span) → Agrees (map_of maps d) own s → meets s f.first f.count ≡ false → Agrees (map_of (changed c maps) d) own s
+  clear_agrees d own s a apart = record {
+    at = λ word in_span spared. changed-outside c maps d word (outside c f word inside (outside_range s f.first f.count word apart in_span)) ∙ a.at word in_span spared;
+  }
+
+  clear_agrees_in : (d : Option ℕ) (own : Option Flight) (s : Span) → AgreesIn maps own d s → meets s f.first f.count ≡ false → AgreesIn (changed c maps) own d s
+  clear_agrees_in None own s a apart = a
+  clear_agrees_in (Some d) own s a apart = clear_agrees d own s a apart
+
+  dropped_there : (i : ℕ) → (hart_at harts i).halted ≡ false → i ≢ h → HasDropped i (hart_at harts i).cache f
+  dropped_there i running ne =
+      let F : Option Flight → Type 0 = λ o. IfSome o (HasDropped i (hart_at harts i).cache) in
+      subst F flying (keeps.dropped i h running (λ e. ne (sym e)))
+
+  agrees_there : (i : ℕ) → (hart_at harts i).halted ≡ false → (i ≡ h) ⊎ (i ≢ h) → (i < length harts) ⊎ (length harts ≤ i) → IsTrue (changed c maps) (hart_at harts i)
+  agrees_there i running (inl e) lt =
+      let k = hart_at harts i in
+      let flown : k.flight ≡ Some f = ap (λ n. (hart_at harts n).flight) e ∙ flying in
+      each_weaker (λ d s a. own_agrees d k.flight s flown a) (λ s a. own_agrees_in k.domain k.flight s flown a) k.cache (keeps.agree i running)
+  agrees_there i running (inr ne) (inl lt) =
+      let k = hart_at harts i in
+      let heard : is_in f.heard i ≡ true = ready-heard harts h i f flying ready lt ne running in
+      each_weaker (λ d s a. clear_agrees d k.flight s a.0 a.1) (λ s a. clear_agrees_in k.domain k.flight s a.0 a.1) k.cache
+      (each_both k.cache (keeps.agree i running) (dropped_there i running ne heard))
+  agrees_there i running (inr ne) (inr le) =
+      let past : hart_at harts i ≡ no_hart = get_or_past harts i no_hart le in
+      let clash : true ≡ false = sym (ap (λ (k : Kept). k.halted) past) ∙ running in
+      absurd (cc)
+
+  pub change-keeps : Keeps (changed c maps) harts
+  change-keeps = record {
+    agree = λ i running. agrees_there i running (cases_eq i h) (cases_lt i (length harts));
+    dropped = keeps.dropped;
+    sets = keeps.sets;
+    few = keeps.few;
+  }
+
+-- the same from the conditions as they are stated
+pub change-keeps-ready : (maps : List (List Perm)) (harts : List Kept) (h : ℕ) (c : Change) → Keeps maps harts → is_ready h harts ≡ true →
+    IfSome (hart_at harts h).flight (IsInside c) → Keeps (changed c maps) harts
+change-keeps-ready maps harts h c keeps ready inside = by (hart_at harts h).flight refl inside
+  where
+    by : (o : Option Flight) → (hart_at harts h).flight ≡ o → IfSome o (IsInside c) → Keeps (changed c maps) harts
+    by None e p =
+        let clash : false ≡ true = sym (ap (λ (o : Option Flight). ready_with h o harts) e) ∙ ready in
+        absurd (cc)
+    by (Some f) e p = change-keeps maps harts h c f keeps e ready p

@@ -1,0 +1,169 @@
+-- Coherence through the steps of single harts.
+use Rattle.std.proofs.Common.{◌≡◌, ◌≢◌, ℕ, ◌<◌, ◌≤◌, ◌⊎◌, inl, inr, true, false, List, length, Option, Some, None, refl, sym, ap, subst, ◌∙◌, arith}
+use Rattle.std.specs.Prelude.{IfSome}
+use Rattle.std.proofs.lemmas.Bool.{cases_eq, cases_lt}
+use Rattle.std.proofs.lemmas.List.{get_or_past, get_or-replicate}
+use Rattle.mx_words.specs.declared.perm.Perm.{Perm}
+use Rattle.mx_words.specs.declared.perm.Span.{Span}
+use Rattle.mx_words.specs.Caches.{Cache, meets, without_range}
+use Rattle.mx_table.specs.Tables.{map_of}
+use Rattle.mx_check.specs.declared.flight.Flight.{Flight}
+use Rattle.mx_check.specs.Harts.{Kept, hart_at, at_hart, is_in, nobody, announced, drops, ended, finished, leaves, halts}
+use Rattle.mx_check.specs.Flights.{IsSet}
+use Rattle.mx_check.specs.Coherence.{EachSpan, Agrees, AgreesIn, IsTrue, IsClear, HasDropped, Keeps}
+use Rattle.mx_check.proofs.LookLaws.{length-at_hart, hart_at-same, hart_at-other}
+use Rattle.mx_check.proofs.SpanLaws.{each_weaker, each_left, each_without, each_dropped, outside_range}
+
+-- a hart that takes a step: both facts follow from what the step does to it
+module _ (maps : List (List Perm)) (harts : List Kept) (h : ℕ) (step : Kept → Kept) (keeps : Keeps maps harts) (there : h < length harts)
+    (own : (step (hart_at harts h)).halted ≡ false → IsTrue maps (step (hart_at harts h)))
+    (own_dropped : (i : ℕ) → (step (hart_at harts h)).halted ≡ false → i ≢ h → IfSome (hart_at harts i).flight (HasDropped h (step (hart_at harts h)).cache))
+    (others_dropped : (i : ℕ) → (hart_at harts i).halted ≡ false → i ≢ h → IfSome (step (hart_at harts h)).flight (HasDropped i (hart_at harts i).cache))
+    (set_there : IfSome (step (hart_at harts h)).flight IsSet) where
+  same : hart_at (at_hart h step harts) h ≡ step (hart_at harts h)
+  same = hart_at-same harts h step there
+
+  agree_there : (i : ℕ) → (i ≡ h) ⊎ (i ≢ h) → (hart_at (at_hart h step harts) i).halted ≡ false → IsTrue maps (hart_at (at_hart h step harts) i)
+  agree_there i (inl e) =
+      let is : hart_at (at_hart h step harts) i ≡ step (hart_at harts h) = ap (hart_at (at_hart h step harts)) e ∙ same in
+      subst (λ (k : Kept). k.halted ≡ false → IsTrue maps k) (sym is) own
+  agree_there i (inr ne) =
+      subst (λ (k : Kept). k.halted ≡ false → IsTrue maps k) (sym (hart_at-other harts h step i ne)) (keeps.agree i)
+
+  -- the second fact of hart j and the call of hart i
+  fact_there : (j i : ℕ) → i ≢ j → (j ≡ h) ⊎ (j ≢ h) → (i ≡ h) ⊎ (i ≢ h) →
+      (hart_at (at_hart h step harts) j).halted ≡ false → IfSome (hart_at (at_hart h step harts) i).flight (HasDropped j (hart_at (at_hart h step harts) j).cache)
+  fact_there j i apart (inl ej) (inl ei) = absurd (apart (ei ∙ sym ej))
+  fact_there j i apart (inl ej) (inr ni) =
+      let isj : hart_at (at_hart h step harts) j ≡ step (hart_at harts h) = ap (hart_at (at_hart h step harts)) ej ∙ same in
+      let isi = hart_at-other harts h step i ni in
+      subst (λ (k : Kept). k.halted ≡ false → IfSome (hart_at (at_hart h step harts) i).flight (HasDropped j k.cache)) (sym isj)
+      (subst (λ (o : Kept). (step (hart_at harts h)).halted ≡ false → IfSome o.flight (HasDropped j (step (hart_at harts h)).cache)) (sym isi)
+      (subst (λ (n : ℕ). (step (hart_at harts h)).halted ≡ false → IfSome (hart_at harts i).flight (HasDropped n (step (hart_at harts h)).cache)) (sym ej)
+      (λ running. own_dropped i running ni)))
+  fact_there j i apart (inr nj) (inl ei) =
+      let isi : hart_at (at_hart h step harts) i ≡ step (hart_at harts h) = ap (hart_at (at_hart h step harts)) ei ∙ same in
+      let isj = hart_at-other harts h step j nj in
+      subst (λ (k : Kept). k.halted ≡ false → IfSome (hart_at (at_hart h step harts) i).flight (HasDropped j k.cache)) (sym isj)
+      (subst (λ (o : Kept). (hart_at harts j).halted ≡ false → IfSome o.flight (HasDropped j (hart_at harts j).cache)) (sym isi)
+      (λ running. others_dropped j running nj))
+  fact_there j i apart (inr nj) (inr ni) =
+      let isi = hart_at-other harts h step i ni in
+      let isj = hart_at-other harts h step j nj in
+      subst (λ (k : Kept). k.halted ≡ false → IfSome (hart_at (at_hart h step harts) i).flight (HasDropped j k.cache)) (sym isj)
+      (subst (λ (o : Kept). (hart_at harts j).halted ≡ false → IfSome o.flight (HasDropped j (hart_at harts j).cache)) (sym isi)
+      (λ running. keeps.dropped j i running apart))
+
+  sets_there : (i : ℕ) → (i ≡ h) ⊎ (i ≢ h) → IfSome (hart_at (at_hart h step harts) i).flight IsSet
+  sets_there i (inl e) =
+      let is : hart_at (at_hart h step harts) i ≡ step (hart_at harts h) = ap (hart_at (at_hart h step harts)) e ∙ same in
+      subst (λ (k : Kept). IfSome k.flight IsSet) (sym is) set_there
+  sets_there i (inr ne) = subst (λ (k : Kept). IfSome k.flight IsSet) (sym (hart_at-other harts h step i ne)) (keeps.sets i)
+
+  pub keeps_step : Keeps maps (at_hart h step harts)
+  keeps_step = record {
+    agree = λ i. agree_there i (cases_eq i h);
+    dropped = λ j i running apart. fact_there j i apart (cases_eq j h) (cases_eq i h) running;
+    sets = λ i. sets_there i (cases_eq i h);
+    few = omega (arith, length-at_hart harts h step, keeps.few);
+  }
+
+-- a fact of whatever an option holds, made weaker
+pub some_weaker : {A : Type 0} (P Q : A → Type 0) → ((x : A) → P x → Q x) → (o : Option A) → IfSome o P → IfSome o Q
+some_weaker P Q f None p = tt
+some_weaker P Q f (Some x) p = f x p
+
+-- a span that agrees with a map agrees with it under a wider exemption
+agrees_in_weaker : (maps : List (List Perm)) (own other : Option Flight) → ((m : List Perm) (s : Span) → Agrees m own s → Agrees m other s) →
+    (d : Option ℕ) (s : Span) → AgreesIn maps own d s → AgreesIn maps other d s
+agrees_in_weaker maps own other f None s p = p
+agrees_in_weaker maps own other f (Some d) s p = f (map_of maps d) s p
+
+-- the first fact of a hart with the same spans and another exemption
+pub is_true_weaker : (maps : List (List Perm)) (own other : Option Flight) (d : Option ℕ) (c : Cache) →
+    ((m : List Perm) (s : Span) → Agrees m own s → Agrees m other s) →
+    EachSpan (λ e s. Agrees (map_of maps e) own s) (AgreesIn maps own d) c → EachSpan (λ e s. Agrees (map_of maps e) other s) (AgreesIn maps other d) c
+is_true_weaker maps own other d c f each =
+    each_weaker (λ e s p. f (map_of maps e) s p) (agrees_in_weaker maps own other f d) c each
+
+agrees_more : (m : List Perm) (f : Flight) (s : Span) → Agrees m None s → Agrees m (Some f) s
+agrees_more m f s a = record { at = λ word inside spared. a.at word inside refl }
+
+agrees_from_none : (own : Option Flight) (f : Flight) → own ≡ None → (m : List Perm) (s : Span) → Agrees m own s → Agrees m (Some f) s
+agrees_from_none own f e m s a = agrees_more m f s (subst (λ (o : Option Flight). Agrees m o s) e a)
+
+-- nobody has heard a call that is just announced
+nobody_in : (i : ℕ) → is_in nobody i ≡ false
+nobody_in i = by (cases_lt i 4)
+  where
+    by : (i < 4) ⊎ (4 ≤ i) → is_in nobody i ≡ false
+    by (inl lt) = get_or-replicate 4 i false false lt
+    by (inr le) = get_or_past nobody i false le
+
+module _ (maps : List (List Perm)) (harts : List Kept) (h : ℕ) (keeps : Keeps maps harts) (there : h < length harts) where
+  pub announce-keeps : (first count : ℕ) → (hart_at harts h).flight ≡ None → Keeps maps (at_hart h (announced h first count) harts)
+  announce-keeps first count free =
+      let f : Flight = record { hart = h; first = first; count = count; heard = nobody } in
+      keeps_step maps harts h (announced h first count) keeps there
+      (λ running. is_true_weaker maps (hart_at harts h).flight (Some f) (hart_at harts h).domain (hart_at harts h).cache
+      (agrees_from_none (hart_at harts h).flight f free) (keeps.agree h running))
+      (λ i running apart. keeps.dropped h i running apart)
+      (λ i running apart hit. let clash : true ≡ false = sym hit ∙ nobody_in i in cc)
+      refl
+
+  pub halt-keeps : Keeps maps (at_hart h halts harts)
+  halt-keeps =
+      keeps_step maps harts h halts keeps there
+      (λ running. let clash : true ≡ false = running in cc)
+      (λ i running apart. let clash : true ≡ false = running in cc)
+      (λ i running apart. keeps.dropped i h running (λ e. apart (sym e)))
+      (keeps.sets h)
+
+  pub leave-keeps : Keeps maps (at_hart h leaves harts)
+  leave-keeps =
+      let k = hart_at harts h in
+      keeps_step maps harts h leaves keeps there
+      (λ running. each_left (AgreesIn maps k.flight None) k.cache (keeps.agree h running))
+      (λ i running apart. some_weaker (HasDropped h k.cache) (HasDropped h (leaves k).cache)
+      (λ f p hit. each_left (λ s. meets s f.first f.count ≡ false) k.cache (p hit)) (hart_at harts i).flight (keeps.dropped h i running apart))
+      (λ i running apart. keeps.dropped i h running (λ e. apart (sym e)))
+      (keeps.sets h)
+
+  pub drop-keeps : (first count : ℕ) → Keeps maps (at_hart h (drops first count) harts)
+  drop-keeps first count =
+      let k = hart_at harts h in
+      keeps_step maps harts h (drops first count) keeps there
+      (λ running. each_without first count k.cache (keeps.agree h running))
+      (λ i running apart. some_weaker (HasDropped h k.cache) (HasDropped h (drops first count k).cache)
+      (λ f p hit. each_without first count k.cache (p hit)) (hart_at harts i).flight (keeps.dropped h i running apart))
+      (λ i running apart. keeps.dropped i h running (λ e. apart (sym e)))
+      (keeps.sets h)
+
+  -- once its call has ended, the caller's spans agree without exemption, since none meets the range
+  agrees_ended : (f : Flight) (m : List Perm) (s : Span) → Agrees m (Some f) s → meets s f.first f.count ≡ false → Agrees m None s
+  agrees_ended f m s a apart = record { at = λ word inside spared. a.at word inside (outside_range s f.first f.count word apart inside) }
+
+  in_ended : (f : Flight) (d : Option ℕ) (s : Span) → AgreesIn maps (Some f) d s → meets s f.first f.count ≡ false → AgreesIn maps None d s
+  in_ended f None s a apart = a
+  in_ended f (Some d) s a apart = agrees_ended f (map_of maps d) s a apart
+
+  true_ended : (own : Option Flight) (d : Option ℕ) (c : Cache) → EachSpan (λ e s. Agrees (map_of maps e) own s) (AgreesIn maps own d) c →
+      EachSpan (λ e s. Agrees (map_of maps e) None s) (AgreesIn maps None d) (ended own c)
+  true_ended None d c each = each
+  true_ended (Some f) d c each =
+      each_weaker (λ e s p. agrees_ended f (map_of maps e) s p.0 p.1) (λ s p. in_ended f d s p.0 p.1) (without_range f.first f.count c)
+      (each_dropped f.first f.count c each)
+
+  dropped_ended : (own : Option Flight) (c : Cache) (first count : ℕ) → IsClear first count c → IsClear first count (ended own c)
+  dropped_ended None c first count p = p
+  dropped_ended (Some f) c first count p = each_without f.first f.count c p
+
+  pub finish-keeps : Keeps maps (at_hart h finished harts)
+  finish-keeps =
+      let k = hart_at harts h in
+      keeps_step maps harts h finished keeps there
+      (λ running. true_ended k.flight k.domain k.cache (keeps.agree h running))
+      (λ i running apart. some_weaker (HasDropped h k.cache) (HasDropped h (finished k).cache)
+      (λ f p hit. dropped_ended k.flight k.cache f.first f.count (p hit)) (hart_at harts i).flight (keeps.dropped h i running apart))
+      (λ i running apart. tt)
+      tt

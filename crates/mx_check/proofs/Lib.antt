@@ -1,0 +1,9 @@
+pub mod HartLaws
+pub mod LookLaws
+pub mod SpanLaws
+pub mod KeepLaws
+pub mod HearLaws
+pub mod ChangeLaws
+pub mod ReachLaws
+pub mod MayLaws
+pub mod StartLaws

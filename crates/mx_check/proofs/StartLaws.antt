@@ -1,0 +1,71 @@
+-- Coherence at the start: empty caches keep both facts, whoever has heard what.
+use Rattle.std.proofs.Common.{◌≡◌, ℕ, ◌<◌, ◌≤◌, ◌⊎◌, inl, inr, Bool, true, false, cond, List, [], ◌∷◌, length, Option, Some, None, sym, ap, subst, arith}
+use Rattle.std.specs.Prelude.{All, IfSome}
+use Rattle.std.proofs.lemmas.Bool.{cases_lt}
+use Rattle.std.proofs.lemmas.List.{get_or_past, get_or-replicate, length-replicate}
+use Rattle.std.proofs.lemmas.List.Elements.{All-head, All-tail}
+use Rattle.mx_words.specs.declared.perm.Perm.{Perm}
+use Rattle.mx_words.specs.Caches.{no_cache, meets}
+use Rattle.mx_words.proofs.CountingLaws.{length-list_below, list_below-at}
+use Rattle.mx_table.specs.Tables.{map_of}
+use Rattle.mx_check.specs.declared.flight.Flight.{Flight}
+use Rattle.mx_check.specs.Flights.{is_of, flight_of, IsSet}
+use Rattle.mx_check.specs.Harts.{Kept, new_hart, no_hart, hart_at}
+use Rattle.mx_check.specs.Calls.{new_harts, waiting_hart, waiting_harts}
+use Rattle.mx_check.specs.Coherence.{EachSpan, Agrees, AgreesIn, IsClear, HasDropped, Keeps}
+use Rattle.mx_check.proofs.SpanLaws.{each_none}
+
+-- harts whose caches are empty
+module _ (maps : List (List Perm)) (harts : List Kept) (empty : (i : ℕ) → (hart_at harts i).cache ≡ no_cache) (sets : (i : ℕ) → IfSome (hart_at harts i).flight IsSet)
+    (few : length harts ≤ 4) where
+  dropped_from : (h : ℕ) (o : Option Flight) → IfSome o (HasDropped h (hart_at harts h).cache)
+  dropped_from h None = tt
+  dropped_from h (Some f) =
+      λ hit. subst (λ c. IsClear f.first f.count c) (sym (empty h)) (each_none (λ d s. meets s f.first f.count ≡ false) (λ s. meets s f.first f.count ≡ false))
+
+  pub empty-keeps : Keeps maps harts
+  empty-keeps = record {
+    agree = λ h running.
+        let k = hart_at harts h in
+        subst (λ c. EachSpan (λ d s. Agrees (map_of maps d) k.flight s) (AgreesIn maps k.flight k.domain) c) (sym (empty h))
+        (each_none (λ d s. Agrees (map_of maps d) k.flight s) (AgreesIn maps k.flight k.domain));
+    dropped = λ h i running apart. dropped_from h (hart_at harts i).flight;
+    sets = sets;
+    few = few;
+  }
+
+module _ (maps : List (List Perm)) (n : ℕ) (few : n ≤ 4) where
+  new_at : (i : ℕ) → (i < n) ⊎ (n ≤ i) → ((hart_at (new_harts n) i).cache ≡ no_cache) × ((hart_at (new_harts n) i).flight ≡ None)
+  new_at i (inl lt) = let e = get_or-replicate n i new_hart no_hart lt in (ap (λ (k : Kept). k.cache) e, ap (λ (k : Kept). k.flight) e)
+  new_at i (inr le) =
+      let e = get_or_past (new_harts n) i no_hart (omega (arith, length-replicate n new_hart)) in
+      (ap (λ (k : Kept). k.cache) e, ap (λ (k : Kept). k.flight) e)
+
+  pub new-keeps : Keeps maps (new_harts n)
+  new-keeps =
+      empty-keeps maps (new_harts n) (λ i. (new_at i (cases_lt i n)).0)
+      (λ i. subst (λ (o : Option Flight). IfSome o IsSet) (sym (new_at i (cases_lt i n)).1) tt)
+      (omega (arith, length-replicate n new_hart))
+
+-- a call in a list of calls
+flight_of-all : (P : Flight → Type 0) (flights : List Flight) (h : ℕ) → All P flights → IfSome (flight_of flights h) P
+flight_of-all P [] h all = tt
+flight_of-all P (f ∷ fs) h all = by (flight_of-all P fs h (All-tail P f fs all)) (is_of h f)
+  where
+    by : IfSome (flight_of fs h) P → (b : Bool) → IfSome (cond b (Some f) (flight_of fs h)) P
+    by rest true = All-head P f fs all
+    by rest false = rest
+
+module _ (maps : List (List Perm)) (flights : List Flight) (n : ℕ) (few : n ≤ 4) (all : All IsSet flights) where
+  waiting_at : (i : ℕ) → (i < n) ⊎ (n ≤ i) → ((hart_at (waiting_harts flights n) i).cache ≡ no_cache) × IfSome (hart_at (waiting_harts flights n) i).flight IsSet
+  waiting_at i (inl lt) =
+      let e = list_below-at n i (waiting_hart flights) no_hart lt in
+      (ap (λ (k : Kept). k.cache) e, subst (λ (k : Kept). IfSome k.flight IsSet) (sym e) (flight_of-all IsSet flights i all))
+  waiting_at i (inr le) =
+      let e = get_or_past (waiting_harts flights n) i no_hart (omega (arith, length-list_below n (waiting_hart flights))) in
+      (ap (λ (k : Kept). k.cache) e, subst (λ (k : Kept). IfSome k.flight IsSet) (sym e) tt)
+
+  pub waiting-keeps : Keeps maps (waiting_harts flights n)
+  waiting-keeps =
+      empty-keeps maps (waiting_harts flights n) (λ i. (waiting_at i (cases_lt i n)).0) (λ i. (waiting_at i (cases_lt i n)).1)
+      (omega (arith, length-list_below n (waiting_hart flights)))

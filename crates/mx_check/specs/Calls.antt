@@ -1,0 +1,60 @@
+-- What the calls on flights do to what the checker keeps.
+use Rattle.std.specs.Prelude.{ℕ, zero, suc, ◌==◌, ◌||◌, Bool, false, List, length, replicate, if◌then◌else◌, Option, Some, None}
+use Rattle.mx_words.specs.Counting.{all_below, list_below}
+use Rattle.mx_check.specs.declared.flight.Flight.{Flight}
+use Rattle.mx_check.specs.Flights.{flight_of}
+use Rattle.mx_check.specs.Harts.{Kept, new_hart, hart_at, at_hart, is_in, drops, heard_by}
+
+-- what a checker means: its tables, and what it keeps for each hart
+pub record Checks (T : Type 0) : Type 0 where
+  pub tables : T
+  pub harts : List Kept
+
+-- the range of a call in flight, where hart h hasn't heard it yet
+abbrev pub news_of : ℕ → Option Flight → Option (ℕ × ℕ)
+news_of h None = None
+news_of h (Some f) = if is_in f.heard h then None else Some (f.first, f.count)
+
+-- hart h hears the call of hart i: it drops its spans that meet the range, and has heard the call
+abbrev pub hears_news : ℕ → ℕ → Option (ℕ × ℕ) → List Kept → List Kept
+hears_news h i None harts = harts
+hears_news h i (Some r) harts = at_hart i (heard_by h) (at_hart h (drops r.0 r.1) harts)
+
+abbrev pub news : ℕ → ℕ → List Kept → Option (ℕ × ℕ)
+news h i harts = if i == h then None else news_of h (hart_at harts i).flight
+
+abbrev pub hears_one : ℕ → ℕ → List Kept → List Kept
+hears_one h i harts = hears_news h i (news h i harts) harts
+
+-- hart h hears the calls of the first n harts, one after another
+abbrev pub hears_first : ℕ → ℕ → List Kept → List Kept
+hears_first h zero harts = harts
+hears_first h (suc n) harts = hears_one h n (hears_first h n harts)
+
+-- hart h hears each call in flight of another hart
+abbrev pub hears : ℕ → List Kept → List Kept
+hears h harts = hears_first h (length harts) harts
+
+-- whether hart i doesn't hold up a call of hart h: it is h, is halted or has heard the call
+abbrev pub lets : ℕ → Flight → List Kept → ℕ → Bool
+lets h f harts i = (i == h) || (hart_at harts i).halted || is_in f.heard i
+
+-- whether the call of hart h may take effect: each other hart that isn't halted has heard it
+abbrev pub ready_with : ℕ → Option Flight → List Kept → Bool
+ready_with h None harts = false
+ready_with h (Some f) harts = all_below (length harts) (lets h f harts)
+
+abbrev pub is_ready : ℕ → List Kept → Bool
+is_ready h harts = ready_with h (hart_at harts h).flight harts
+
+-- harts at the start
+abbrev pub new_harts : ℕ → List Kept
+new_harts n = replicate n new_hart
+
+-- a hart that has done nothing but announce the call on which it waits
+abbrev pub waiting_hart : List Flight → ℕ → Kept
+waiting_hart flights h = record new_hart { flight = flight_of flights h }
+
+-- n harts, of which those named have these calls in flight
+abbrev pub waiting_harts : List Flight → ℕ → List Kept
+waiting_harts flights n = list_below n (waiting_hart flights)

@@ -1,0 +1,51 @@
+-- Coherence: what the spans that a checker keeps say of the maps as they are now.
+use Rattle.std.specs.Prelude.{◌≡◌, ◌≢◌, ℕ, ◌≤◌, Bool, true, false, List, All, IfSome, Option, Some, None}
+use Rattle.mx_words.specs.declared.perm.Perm.{Perm}
+use Rattle.mx_words.specs.declared.perm.Span.{Span}
+use Rattle.mx_words.specs.Caches.{Cache, Entry, has, meets}
+use Rattle.mx_words.specs.Ranges.{covers}
+use Rattle.mx_words.specs.Rights.{perm_at}
+use Rattle.mx_table.specs.Tables.{map_of}
+use Rattle.mx_check.specs.declared.flight.Flight.{Flight}
+use Rattle.mx_check.specs.Flights.{IsSet}
+use Rattle.mx_check.specs.Harts.{Kept, hart_at, is_in}
+use Rattle.std.specs.Prelude.{length}
+
+-- E of each entry of the list, and P of each span in a place
+pub record EachSpan (E : ℕ → Span → Type 0) (P : Span → Type 0) (c : Cache) : Type 0 where
+  pub entries : All (λ (e : Entry). E e.0 e.1) c.kept
+  pub places : All (λ (o : Option Span). IfSome o P) c.places
+
+-- whether a word lies in the range of a hart's own call in flight
+abbrev pub is_spared : Option Flight → ℕ → Bool
+is_spared None word = false
+is_spared (Some f) word = covers f.first f.count word
+
+-- a span has its permission on each of its words in a map, but for the words of the hart's own call
+pub record Agrees (m : List Perm) (own : Option Flight) (s : Span) : Type 0 where
+  pub at : (word : ℕ) → has s word ≡ true → is_spared own word ≡ false → perm_at m word ≡ s.perm
+
+-- the same in the map of the domain that is kept for the hart; where none is, its places hold no span
+abbrev pub AgreesIn : List (List Perm) → Option Flight → Option ℕ → Span → Type 0
+AgreesIn maps own None s = ⊥
+AgreesIn maps own (Some d) s = Agrees (map_of maps d) own s
+
+-- first fact, of one hart: an entry's span agrees with its own domain's map, a place's with that of the kept domain
+abbrev pub IsTrue : List (List Perm) → Kept → Type 0
+IsTrue maps k = EachSpan (λ d s. Agrees (map_of maps d) k.flight s) (AgreesIn maps k.flight k.domain) k.cache
+
+-- no span of a hart meets a range
+abbrev pub IsClear : ℕ → ℕ → Cache → Type 0
+IsClear first count c = EachSpan (λ d s. meets s first count ≡ false) (λ s. meets s first count ≡ false) c
+
+-- second fact, of hart h and one call: where h has heard it, no span of h meets its range
+abbrev pub HasDropped : ℕ → Cache → Flight → Type 0
+HasDropped h c f = is_in f.heard h ≡ true → IsClear f.first f.count c
+
+-- what a checker keeps at every moment between its calls
+pub record Keeps (maps : List (List Perm)) (harts : List Kept) : Type 0 where
+  pub agree : (h : ℕ) → (hart_at harts h).halted ≡ false → IsTrue maps (hart_at harts h)
+  pub dropped : (h i : ℕ) → (hart_at harts h).halted ≡ false → i ≢ h →
+      IfSome (hart_at harts i).flight (HasDropped h (hart_at harts h).cache)
+  pub sets : (h : ℕ) → IfSome (hart_at harts h).flight IsSet
+  pub few : length harts ≤ 4

@@ -1,0 +1,18 @@
+//! The checker of all accesses: permission tables behind a sidecar and a lookaside buffer for each hart, kept coherent while
+//! announced calls change rights. A hart that has heard of a call keeps no span of its range, and a call takes effect only where
+//! every other running hart has heard it.
+#![tactic(auto)]
+
+mod bare;
+mod checker;
+mod flight;
+mod harts;
+mod part;
+
+pub use checker::Checker;
+pub use flight::{Flight, Flights};
+pub use part::Counts;
+
+/// A change needs more than the limit of the tables.
+#[derive(Clone, Copy, PartialEq, Eq, Debug)]
+pub struct TablesFull;
