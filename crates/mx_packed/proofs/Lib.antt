@@ -1,0 +1,4 @@
+pub mod RunCodes
+pub mod Decoding
+pub mod Entries
+pub mod EntryRuns
