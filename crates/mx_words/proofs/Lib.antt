@@ -1,2 +1,5 @@
 pub mod Examples
 pub mod CacheExamples
+pub mod CountingLaws
+pub mod OverlayLaws
+pub mod RunLaws

@@ -1,5 +1,5 @@
 -- First fit: the lowest place for a block in a heap area.
-use Rattle.std.specs.Prelude.{ℕ, ◌+◌, Bool, not, ◌&&◌, nat_le, List, find, Option}
+use Rattle.std.specs.Prelude.{ℕ, ◌+◌, Bool, not, ◌&&◌, ◌==◌, nat_lt, nat_le, List, [], ◌∷◌, filter, find, Option, option_map, if◌then◌else◌}
 use Rattle.std.specs.List.{list_any, range_with_len}
 use Rattle.mx_words.specs.Ranges.{overlaps}
 
@@ -16,3 +16,19 @@ has_room area blocks n a =
 -- the least word with room for n words, and nothing where there is none
 abbrev pub place : Area → List Area → ℕ → Option ℕ
 place area blocks n = find (has_room area blocks n) (range_with_len area.first area.count)
+
+-- a live block among those by address, and the blocks without the one that begins at a word
+abbrev pub with_block : Area → List Area → List Area
+with_block b [] = b ∷ []
+with_block b (x ∷ xs) = if nat_lt b.first x.first then b ∷ x ∷ xs else x ∷ with_block b xs
+
+abbrev pub without_block : ℕ → List Area → List Area
+without_block first blocks = filter (λ (b : Area). not (b.first == first)) blocks
+
+-- the number of words of the live block that begins at a word
+abbrev pub block_at : List Area → ℕ → Option ℕ
+block_at blocks first = option_map (λ (b : Area). b.count) (find (λ (b : Area). b.first == first) blocks)
+
+-- how many live blocks a heap has at most
+abbrev pub most_blocks : ℕ
+most_blocks = 1024

@@ -1,5 +1,6 @@
 pub mod Rights
 pub mod Ranges
+pub mod Bytes
 pub mod Counting
 pub mod Newest
 pub mod Changes
@@ -9,3 +10,4 @@ pub mod Reach
 pub mod Caches
 pub mod FirstFit
 pub mod Announced
+pub mod Starts

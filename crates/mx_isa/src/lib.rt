@@ -1,0 +1,15 @@
+//! The 48 instructions of RV32IM: their words, and one value for each.
+#![tactic(auto)]
+
+mod decoder;
+mod encoder;
+mod inst;
+mod ranges;
+
+pub use decoder::decode;
+pub use encoder::encode;
+pub use inst::{Cond, ImmOp, Inst, LoadWidth, RegOp, StoreWidth};
+pub use ranges::is_valid;
+
+#[cfg(test)]
+mod tests;

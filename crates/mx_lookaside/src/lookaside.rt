@@ -1,0 +1,122 @@
+//! The entries of one hart, in a ring of slots.
+
+ghost use Rattle.std.specs.Prelude.{◌≡◌, ◌≤◌, [], length};
+ghost use Rattle.mx_words.specs.Caches.{answers, meets, found_kept, kept_with, kept_without};
+
+use mx_words::{Perm, Span};
+use std::marker::Model;
+
+/// How many slots the ring has, whatever `N` is.
+const SLOTS: usize = 64;
+
+/// At most `N` entries, the newest first: a protection domain and a span of RAM words that its table gave. The ring has
+/// 64 slots, so `N` is at most 64.
+#[derive(Drop)]
+pub struct Lookaside<const N: usize> {
+    slots: [(u32, Span); SLOTS],
+    newest: usize,
+    len: usize,
+}
+
+impl<const N: usize> Model for Lookaside<N> {
+    ghost use Rattle.std.specs.Prelude.{◌≡◌, ◌<◌, ◌≤◌, List, length};
+    ghost use Rattle.mx_words.specs.Caches.{Entry};
+    ghost use Rattle.mx_lookaside.specs.Window.{window};
+
+    ghost Value = { List Entry };
+
+    ghost view = { λ l. window l.newest l.len l.slots };
+
+    ghost invariant = { λ l. (length l.slots ≡ 64) × (l.newest < 64) × (l.len ≤ N) × (N ≤ 64) };
+}
+
+impl<const N: usize> Lookaside<N> {
+    /// No entry. `N` is at most 64, since the ring has 64 slots.
+    pub fn new() -> Lookaside<N>
+        requires { N ≤ 64 }
+        ensures { result ≡ [] }
+    {
+        let unused = Span {
+            first: 0,
+            count: 0,
+            perm: Perm::None,
+        };
+        Lookaside {
+            slots: [(0, unused); SLOTS],
+            newest: 0,
+            len: 0,
+        }
+    }
+
+    /// The span of the newest entry of `domain` that covers the RAM word `word`. `None` exactly where no entry of the domain
+    /// does.
+    pub fn find(&self, domain: u32, word: u32) -> Option<Span>
+        ensures found { result ≡ found_kept self.now domain word }
+        ensures bounded { length self.now ≤ N }
+    {
+        for age in 0..self.len {
+            let entry = self.slots[(self.newest + age) % SLOTS];
+            if answers(&entry, domain, word) {
+                return Some(entry.1);
+            }
+        }
+        None
+    }
+
+    /// Makes (domain, span) the newest entry. A buffer with `N` entries loses its oldest.
+    pub fn keep(&mut self, domain: u32, span: Span)
+        ensures { self.new ≡ kept_with N (domain, span) self.old }
+    {
+        self.newest = (self.newest + SLOTS - 1) % SLOTS;
+        self.slots[self.newest] = (domain, span);
+        self.len = (self.len + 1).min(N);
+    }
+
+    /// Removes the entries of all domains whose span shares a word with the range of `count` words from `first`. The others
+    /// stay in their order, and an empty range removes none.
+    pub fn drop_overlap(&mut self, first: u32, count: u32)
+        ensures { self.new ≡ kept_without first count self.old }
+    {
+        let mut kept = 0;
+        for i in 0..self.len {
+            let entry = self.slots[(self.newest + i) % SLOTS];
+            if !meets(&entry.1, first, count) {
+                self.slots[(self.newest + kept) % SLOTS] = entry;
+                kept += 1;
+            }
+        }
+        self.len = kept;
+    }
+
+    /// Removes all entries.
+    pub fn clear(&mut self)
+        ensures { self.new ≡ [] }
+    {
+        self.len = 0;
+    }
+}
+
+/// Whether the entry is the domain's and its span covers `word`.
+fn answers(entry: &(u32, Span), domain: u32, word: u32) -> bool
+    ensures { result ≡ answers domain word entry.now }
+{
+    let span = &entry.1;
+    entry.0 == domain && span.first <= word && word - span.first < span.count
+}
+
+/// Whether the span shares a word with the range of `count` words from `first`. An empty one shares none.
+fn meets(span: &Span, first: u32, count: u32) -> bool
+    ensures { result ≡ meets span.now first count }
+{
+    if span.count == 0 || count == 0 {
+        return false;
+    }
+    if span.first < first {
+        first - span.first < span.count
+    } else {
+        span.first - first < count
+    }
+}
+
+#[cfg(test)]
+mod tests;

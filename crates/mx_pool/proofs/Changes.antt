@@ -1,0 +1,81 @@
+-- What a write, a take and a give show afterwards, in terms of what the pool showed before.
+use Rattle.std.proofs.Common.{ℕ, ◌≡◌, ◌≢◌, ◌+◌, ◌*◌, ◌-◌, ◌<◌, ◌≤◌, Bool, true, false, not, List, [], Option, None, Some, IsSome, is_none, unwrap_or, length, take, drop, set, replicate, get_or, refl, sym, ◌∙◌, ap, arith, length-take, length-drop, get_or-set_other, get_or-set_same}
+use Rattle.std.specs.List.{count_by}
+use Rattle.mx_pool.specs.Stored.{IsPool, frames_of}
+use Rattle.mx_pool.proofs.StoredFrames.{SameOutside, set_inside, is_marked, marked_below, marked_shows, unmarked_shows, shown_elsewhere, zeroed_shows, length-frames_of, free_in-frames_of, count-mark, count-unmark, frame_fits}
+use Rattle.mx_pool.proofs.FreeList.{frame_room, top_within, top_unmarked}
+
+module _ (size : ℕ) (ws : List ℕ) (ts : List Bool) (free : List ℕ) (spare : ℕ) (pool : IsPool size ws ts free spare)
+    (frames : List (Option (List ℕ))) (view : frames_of size ws ts ≡ frames) where
+  -- another frame after a change of frame f
+  pub elsewhere : (f g : ℕ) (us : List ℕ) (ss : List Bool) → SameOutside size f ws us → g ≢ f → get_or ss g false ≡ get_or ts g false →
+      get_or (frames_of size us ss) g None ≡ get_or frames g None
+  elsewhere f g us ss same ne mark = shown_elsewhere size f g ws us ts ss same ne mark ∙ ap (λ (fs : List (Option (List ℕ))). get_or fs g None) view
+
+  pub total : (us : List ℕ) (ss : List Bool) → length ss ≡ length ts → length (frames_of size us ss) ≡ length frames
+  total us ss len = length-frames_of size us ss ∙ len ∙ sym (length-frames_of size ws ts) ∙ ap (λ (fs : List (Option (List ℕ))). length fs) view
+
+  pub free_now : count_by is_none frames ≡ spare
+  free_now = ap (λ (fs : List (Option (List ℕ))). count_by is_none fs) (sym view) ∙ free_in-frames_of size ws ts ∙ sym pool.counted
+
+  -- a write at a place of a taken frame
+  words_are : (f : ℕ) → IsSome (get_or frames f None) → unwrap_or (get_or frames f None) [] ≡ take size (drop (f * size) ws)
+  words_are f h = rw (← view, marked_shows size ws ts f (is_marked size ws ts frames view f h)) refl
+
+  pub written_frame : (f at v : ℕ) → IsSome (get_or frames f None) →
+      get_or (frames_of size (set ws (f * size + at) v) ts) f None ≡ Some (set (unwrap_or (get_or frames f None) []) at v)
+  written_frame f at v h =
+      marked_shows size (set ws (f * size + at) v) ts f (is_marked size ws ts frames view f h)
+      ∙ ap (λ (xs : List ℕ). Some xs) (set_inside size f at v ws)
+      ∙ ap (λ (xs : List ℕ). Some (set xs at v)) (sym (words_are f h))
+
+  pub written_here : (f at v : ℕ) → IsSome (get_or frames f None) → at < size →
+      get_or (unwrap_or (get_or (frames_of size (set ws (f * size + at) v) ts) f None) []) at 0 ≡ v
+  written_here f at v h lt =
+      let room : f * size + size ≤ length ws = frame_room size ws ts free spare pool frames view f h in
+      let long : at < length (unwrap_or (get_or frames f None) []) = rw (words_are f h, length-take, length-drop) (omega arith) in
+      rw (written_frame f at v h) (get_or-set_same (unwrap_or (get_or frames f None) []) at v 0 long)
+
+  pub written_others : (f at v k : ℕ) → IsSome (get_or frames f None) → k ≢ at →
+      get_or (unwrap_or (get_or (frames_of size (set ws (f * size + at) v) ts) f None) []) k 0 ≡ get_or (unwrap_or (get_or frames f None) []) k 0
+  written_others f at v k h ne = rw (written_frame f at v h) (get_or-set_other (unwrap_or (get_or frames f None) []) at k v 0 ne)
+
+  pub written_free : (us : List ℕ) → count_by is_none (frames_of size us ts) ≡ count_by is_none frames
+  written_free us = free_in-frames_of size us ts ∙ sym pool.counted ∙ sym free_now
+
+  -- a taken frame, given back
+  pub given_here : (f : ℕ) → IsSome (get_or frames f None) → get_or (frames_of size ws (set ts f false)) f None ≡ None
+  given_here f h =
+      let mark : get_or ts f false ≡ true = is_marked size ws ts frames view f h in
+      unmarked_shows size ws (set ts f false) f (get_or-set_same ts f false false (marked_below ts f mark))
+
+  pub given_free : (f : ℕ) → IsSome (get_or frames f None) → count_by is_none (frames_of size ws (set ts f false)) ≡ count_by is_none frames + 1
+  given_free f h =
+      let mark : get_or ts f false ≡ true = is_marked size ws ts frames view f h in
+      let more : count_by not (set ts f false) ≡ count_by not ts + 1 = count-unmark ts f (marked_below ts f mark) mark in
+      let new : count_by is_none (frames_of size ws (set ts f false)) ≡ count_by not (set ts f false) = free_in-frames_of size ws (set ts f false) in
+      omega (arith, more, new, pool.counted, free_now)
+
+  -- the frame on top of the free ones, marked and zeroed
+  pub was_free : (f : ℕ) → f ≡ get_or free (spare - 1) 0 → 0 < spare → get_or frames f None ≡ None
+  was_free f e some = rw (← view) (unmarked_shows size ws ts f (top_unmarked size ws ts free spare pool f e some))
+
+  pub taken_here : (f : ℕ) (us : List ℕ) → f ≡ get_or free (spare - 1) 0 → 0 < spare → length us ≡ length ws →
+      ((i : ℕ) → f * size ≤ i → i < f * size + size → get_or us i 0 ≡ 0) →
+      get_or (frames_of size us (set ts f true)) f None ≡ Some (replicate size 0)
+  taken_here f us e some len zeros =
+      let within : f < length ts = top_within size ws ts free spare pool f e some in
+      let fits : f * size + size ≤ length us = frame_fits size (length ts) (length us) f (len ∙ pool.room) within in
+      marked_shows size us (set ts f true) f (get_or-set_same ts f true false within)
+      ∙ ap (λ (xs : List ℕ). Some xs) (zeroed_shows size f us fits zeros)
+
+  pub taken_free : (f : ℕ) (us : List ℕ) → f ≡ get_or free (spare - 1) 0 → 0 < spare →
+      count_by is_none (frames_of size us (set ts f true)) + 1 ≡ count_by is_none frames
+  taken_free f us e some =
+      let less : count_by not (set ts f true) + 1 ≡ count_by not ts =
+      count-mark ts f (top_within size ws ts free spare pool f e some) (top_unmarked size ws ts free spare pool f e some) in
+      let new : count_by is_none (frames_of size us (set ts f true)) ≡ count_by not (set ts f true) = free_in-frames_of size us (set ts f true) in
+      omega (arith, less, new, pool.counted, free_now)
+
+  pub taken_within : (f : ℕ) → f ≡ get_or free (spare - 1) 0 → 0 < spare → f < length frames
+  taken_within f e some = rw (← view, length-frames_of) (top_within size ws ts free spare pool f e some)

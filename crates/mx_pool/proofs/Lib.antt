@@ -1,0 +1,3 @@
+pub mod StoredFrames
+pub mod FreeList
+pub mod Changes

@@ -1,0 +1,169 @@
+//! Frames of words out of one flat store, which the permission tables stand in.
+#![tactic(auto)]
+
+ghost use Rattle.std.specs.Prelude.{◌≡◌, ◌≢◌, ℕ, ◌+◌, ◌-◌, ◌<◌, ◌≤◌, ◌^◌, ◌↔◌, false, None, Some, length, replicate, slice_index, slice_set, IsNone, IfSome, IfOk, OnSome, IfNone};
+ghost use Rattle.mx_pool.specs.Frames.{frame_at, IsTaken, words_of, word_at, free_in};
+
+use mx_words::NoMemory;
+use std::alloc::Global;
+use std::marker::Model;
+
+/// Frames of `WORDS` words each, numbered from 0, each of them free or taken.
+///
+/// All memory is taken when the pool is made: no later call takes any, and none fails for want of it.
+#[derive(Drop)]
+pub struct Pool<const WORDS: usize> {
+    words: Vec<u32>,
+    taken: Vec<bool>,
+    free: Vec<u32>,
+    spare: u32,
+}
+
+impl<const WORDS: usize> Model for Pool<WORDS> {
+    ghost use Rattle.std.specs.Prelude.{ℕ, List, Option};
+    ghost use Rattle.mx_pool.specs.Stored.{frames_of, IsPool};
+
+    ghost Value = { List (Option (List ℕ)) };
+
+    ghost view = { λ p. frames_of WORDS p.words.items p.taken.items };
+
+    ghost invariant = { λ p. IsPool WORDS p.words.items p.taken.items p.free.items p.spare };
+}
+
+impl<const WORDS: usize> Pool<WORDS> {
+    /// A pool of that many frames, fewer than 2^30, all of them free.
+    pub fn new(alloc: Global, frames: u32) -> Result<Pool<WORDS>, NoMemory>
+        requires { frames < 2 ^ 30 }
+        ensures { IfOk result (λ p. p ≡ replicate frames None) }
+    {
+        let number = frames as usize;
+        let Some(size) = number.checked_mul(WORDS) else {
+            return Err(NoMemory);
+        };
+        let words = zeros(alloc, size)?;
+        let taken = unmarked(alloc, number)?;
+        let free = downwards(alloc, frames)?;
+        Ok(Pool {
+            words,
+            taken,
+            free,
+            spare: frames,
+        })
+    }
+
+    /// Takes a free frame, whose words are 0 from then on. `None` exactly where no frame is free.
+    pub fn take(&mut self) -> Option<u32>
+        ensures none { IsNone result ↔ (free_in self.old ≡ 0) }
+        ensures unchanged { IfNone result (self.new ≡ self.old) }
+
+        // The frame was free, and the calls to come find it zeroed.
+        ensures was_free { IfSome result (λ f. frame_at self.old f ≡ None) }
+        ensures here { IfSome result (λ f. frame_at self.new f ≡ Some (replicate WORDS 0)) }
+        ensures elsewhere { IfSome result (λ f. (g : ℕ) → g ≢ f → frame_at self.new g ≡ frame_at self.old g) }
+
+        ensures fewer { OnSome result (free_in self.new + 1 ≡ free_in self.old) }
+        ensures total { length self.new ≡ length self.old }
+        ensures within { IfSome result (λ f. f < length self.old) }
+        ensures small { IfSome result (λ f. f < 2 ^ 30) }
+    {
+        if self.spare == 0 {
+            return None;
+        }
+        self.spare -= 1;
+        let frame = self.free[self.spare as usize];
+        self.taken[frame as usize] = true;
+        clear(&mut self.words, frame as usize * WORDS, WORDS);
+        Some(frame)
+    }
+
+    /// Gives a taken frame back, which is free from then on.
+    pub fn give(&mut self, frame: u32)
+        requires { IsTaken self.old frame }
+        ensures here { frame_at self.new frame ≡ None }
+        ensures elsewhere { (g : ℕ) → g ≢ frame → frame_at self.new g ≡ frame_at self.old g }
+        ensures more { free_in self.new ≡ free_in self.old + 1 }
+        ensures total { length self.new ≡ length self.old }
+    {
+        self.taken[frame as usize] = false;
+        self.free[self.spare as usize] = frame;
+        self.spare += 1;
+    }
+
+    /// The word at place `at`, below `WORDS`, of a taken frame.
+    pub fn get(&self, frame: u32, at: u32) -> u32
+        requires taken { IsTaken self.now frame }
+        requires within { at < WORDS }
+        ensures { result ≡ word_at self.now frame at }
+    {
+        self.words[frame as usize * WORDS + at as usize]
+    }
+
+    /// Writes the word at place `at`, below `WORDS`, of a taken frame.
+    pub fn set(&mut self, frame: u32, at: u32, value: u32)
+        requires taken { IsTaken self.old frame }
+        requires within { at < WORDS }
+        ensures frame { frame_at self.new frame ≡ Some (slice_set (words_of self.old frame) at value) }
+        ensures elsewhere { (g : ℕ) → g ≢ frame → frame_at self.new g ≡ frame_at self.old g }
+        ensures here { word_at self.new frame at ≡ value }
+        ensures others { (k : ℕ) → k ≢ at → word_at self.new frame k ≡ word_at self.old frame k }
+        ensures free { free_in self.new ≡ free_in self.old }
+        ensures total { length self.new ≡ length self.old }
+    {
+        self.words[frame as usize * WORDS + at as usize] = value;
+    }
+
+    /// The number of free frames.
+    pub fn free_frames(&self) -> u32
+        ensures { result ≡ free_in self.now }
+    {
+        self.spare
+    }
+}
+
+// `size` words that are 0.
+fn zeros(alloc: Global, size: usize) -> Result<Vec<u32>, NoMemory>
+    ensures { IfOk result (λ v. v.items ≡ replicate size 0) }
+{
+    match Vec::from_elem(alloc, 0, size) {
+        Ok(words) => Ok(words),
+        Err(_) => Err(NoMemory),
+    }
+}
+
+// `number` marks, none of them set.
+fn unmarked(alloc: Global, number: usize) -> Result<Vec<bool>, NoMemory>
+    ensures { IfOk result (λ v. v.items ≡ replicate number false) }
+{
+    match Vec::from_elem(alloc, false, number) {
+        Ok(marks) => Ok(marks),
+        Err(_) => Err(NoMemory),
+    }
+}
+
+// The numbers of `frames` frames, the lowest last.
+fn downwards(alloc: Global, frames: u32) -> Result<Vec<u32>, NoMemory>
+    ensures len { IfOk result (λ v. length v.items ≡ frames) }
+    ensures each { IfOk result (λ v. (i : ℕ) → i < frames → slice_index v.items i ≡ frames - 1 - i) }
+{
+    let mut free = zeros(alloc, frames as usize)?;
+    for i in 0..frames {
+        free[i as usize] = frames - 1 - i;
+    }
+    Ok(free)
+}
+
+// Makes `count` words from `first` on 0.
+fn clear(words: &mut [u32], first: usize, count: usize)
+    requires { first + count ≤ length words.old }
+    ensures total { length words.new ≡ length words.old }
+    ensures inside { (i : ℕ) → first ≤ i → i < first + count → slice_index words.new i ≡ 0 }
+    ensures below { (i : ℕ) → i < first → slice_index words.new i ≡ slice_index words.old i }
+    ensures behind { (i : ℕ) → first + count ≤ i → slice_index words.new i ≡ slice_index words.old i }
+{
+    for i in first..first + count {
+        words[i] = 0;
+    }
+}
+
+#[cfg(test)]
+mod tests;
