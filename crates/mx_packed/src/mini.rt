@@ -116,3 +116,42 @@ pub fn unpack(entry: u32) -> Option<Unpacked>
         _ => None,
     }
 }
+
+#[cfg(test)]
+mod tests {
+    use super::*;
+    use std::process::Abort;
+
+    const N: Perm = Perm::None;
+
+    const R: Perm = Perm::Read;
+
+    const W: Perm = Perm::ReadWrite;
+
+    // A line with its reaches is stored as this entry, and read back from it.
+    fn stands_for(rt: &impl Abort, perms: [Perm; 16], left: u32, right: u32, entry: u32)
+        requires left { left ≤ 31 }
+        requires right { right ≤ 31 }
+    {
+        assert_eq!(rt; pack(&perms, left, right), Some(entry));
+        assert_eq!(rt; unpack(entry), Some(Unpacked { perms, left, right }));
+    }
+
+    #[test]
+    fn stored_lines(rt: HostRuntime) {
+        let five_read = [R, R, R, R, R, N, N, N, N, N, N, N, N, N, N, N];
+        stands_for(&rt, five_read, 31, 31, 0xFFC0_1406);
+        stands_for(&rt, five_read, 31, 0, 0xF800_1406);
+        let first_read = [R, N, N, N, N, N, N, N, N, N, N, N, N, N, N, N];
+        stands_for(&rt, first_read, 0, 31, 0x07C0_0406);
+        let four_runs = [N, R, W, N, N, N, N, N, N, N, N, N, N, N, N, N];
+        stands_for(&rt, four_runs, 16, 31, 0x87CC_8492);
+        let five_runs = [N, R, W, N, N, N, N, N, N, N, N, N, N, N, N, R];
+        assert_eq!(rt; pack(&five_runs, 0, 0), None);
+        // A plain entry, a spill entry, runs out of order, and two runs with one permission.
+        assert_eq!(rt; unpack(0), None);
+        assert_eq!(rt; unpack(3), None);
+        assert_eq!(rt; unpack(2 + 0x4400), None);
+        assert_eq!(rt; unpack(2 + 0x400), None);
+    }
+}
