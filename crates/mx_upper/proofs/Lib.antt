@@ -1,3 +1,5 @@
 pub mod Digits
 pub mod Spans
 pub mod PlainRuns
+pub mod PieceLaws
+pub mod BlockLaws
