@@ -1,18 +1,17 @@
 -- Blocks of a map by number: how many are broken, which are eighth-uniform, and which a change leaves alone.
-use Rattle.std.proofs.Common.{◌≡◌, ◌≢◌, ℕ, zero, suc, ◌+◌, ◌-◌, ◌*◌, ◌/◌, ◌<◌, ◌≤◌, ◌⊎◌, inl, inr, ◌==◌, ◌&&◌, ◌||◌, Bool, true, false, not, List, [], ◌∷◌, length, take, drop, get_or, refl, sym, ap, ◌∙◌, arith, length-take, length-drop, eq-eqb}
-use Rattle.std.specs.List.{list_all, count_by}
-use Rattle.std.proofs.lemmas.Bool.{eqb-true, eqb-false, cases_lt, cases_eq}
-use Rattle.std.proofs.lemmas.List.{get_or-take, get_or-drop, ext_get_or, get_or_past, drop_more}
+use Rattle.std.proofs.Common.{◌≡◌, ◌≢◌, ℕ, zero, suc, ◌+◌, ◌*◌, ◌/◌, ◌<◌, ◌≤◌, ◌⊎◌, inl, inr, ◌==◌, ◌&&◌, ◌||◌, Bool, true, false, not, List, [], ◌∷◌, length, drop, refl, sym, ap, ◌∙◌, arith, length-take, length-drop, eq-eqb}
+use Rattle.std.specs.List.{list_all}
+use Rattle.std.proofs.lemmas.Bool.{eqb-true, cases_lt, cases_eq}
+use Rattle.std.proofs.lemmas.List.{get_or-take, get_or-drop, ext_get_or, get_or_past}
 use Rattle.std.proofs.lemmas.Nat.{mul-add-lt}
 use Rattle.mx_words.specs.declared.perm.Perm.{Perm}
 use Rattle.mx_words.specs.declared.perm.Perm.TheVariants as P
-use Rattle.mx_words.specs.Rights.{number, same, perm_at}
-use Rattle.mx_words.specs.Counting.{bit, count_below}
-use Rattle.mx_words.specs.Runs.{runs, is_uniform, is_eighth_uniform, broken_blocks, crowded_lines, is_crowded, pieces, block_at, line_words}
-use Rattle.mx_words.proofs.CountingLaws.{count_below_agree}
+use Rattle.mx_words.specs.Rights.{same, perm_at}
+use Rattle.mx_words.specs.Counting.{count_below}
+use Rattle.mx_words.specs.Runs.{is_uniform, is_eighth_uniform, broken_blocks, crowded_lines, is_crowded, pieces, line_words}
 use Rattle.mx_words.proofs.RunLaws.{same_eq, same_from}
 use Rattle.mx_upper.specs.Blocks.{block_of, is_broken, IsUniform, IsEven}
-use Rattle.mx_upper.proofs.PieceLaws.{piece, piece-none, count_pieces, all_pieces-at, all_pieces_are}
+use Rattle.mx_upper.proofs.PieceLaws.{piece, count_pieces, all_pieces-at, all_pieces_are}
 
 -- counts by block number, over any bound that takes in all of RAM
 pub broken_blocks-count : (size : ℕ) (m : List Perm) (k : ℕ) → 0 < size → length m ≤ k * size →
@@ -33,8 +32,8 @@ block_of-same size m n b long agree =
     ext_get_or P.None (block_of size m b) (block_of size n b)
     (omega (arith, length-take size (drop (b * size) m), length-take size (drop (b * size) n), length-drop (b * size) m, length-drop (b * size) n))
     (λ i below.
-        let inside : i < size = omega (arith, length-take size (drop (b * size) m)) in
-        block_of-at size m b i inside ∙ agree i inside ∙ sym (block_of-at size n b i inside))
+    let inside : i < size = omega (arith, length-take size (drop (b * size) m)) in
+    block_of-at size m b i inside ∙ agree i inside ∙ sym (block_of-at size n b i inside))
 
 -- both, or one of two tests
 and-parts : (a b : Bool) → (a && b) ≡ true → (a ≡ true) × (b ≡ true)
@@ -84,11 +83,11 @@ uniform_is size (p ∷ ps) short alike =
     let first : list_all (same p) ps ≡ true = all_same_are p ps (λ k below. sym (alike (suc k) (omega arith))) in
     rw first (full (cases_eq (length ps + 1) size))
   where
-  full : (length ps + 1 ≡ size) ⊎ (length ps + 1 ≢ size) → (same p P.None || (length ps + 1 == size)) ≡ true
-  full (inl h) = or-second (same p P.None) (length ps + 1 == size) (eq-eqb (length ps + 1) size h)
-  full (inr h) =
-      let none : p ≡ P.None = sym (alike (suc (length ps)) (omega arith)) ∙ get_or_past ps (length ps) P.None (omega arith) in
-      rw (same_from p P.None none) refl
+    full : (length ps + 1 ≡ size) ⊎ (length ps + 1 ≢ size) → (same p P.None || (length ps + 1 == size)) ≡ true
+    full (inl h) = or-second (same p P.None) (length ps + 1 == size) (eq-eqb (length ps + 1) size h)
+    full (inr h) =
+        let none : p ≡ P.None = sym (alike (suc (length ps)) (omega arith)) ∙ get_or_past ps (length ps) P.None (omega arith) in
+        rw (same_from p P.None none) refl
 
 -- the words of a part of a block
 part-at : (size part : ℕ) (m : List Perm) (b e k : ℕ) → size ≡ 8 * part → e < 8 → k < part →
@@ -106,7 +105,7 @@ pub even_from : (size part : ℕ) (m : List Perm) (b : ℕ) → size / 8 ≡ par
     is_eighth_uniform size (block_of size m b) ≡ true → IsEven m (b * size) part
 even_from size part m b is eight some h =
     let all : list_all (is_uniform part) (pieces part (block_of size m b)) ≡ true =
-        ap (λ n. list_all (is_uniform n) (pieces n (block_of size m b))) (sym is) ∙ h in
+    ap (λ n. list_all (is_uniform n) (pieces n (block_of size m b))) (sym is) ∙ h in
     record {
       parts = λ e below. record {
         alike = λ k inside.
@@ -124,14 +123,14 @@ even_is size part m b is eight some even =
     let short : length (block_of size m b) ≤ 8 * part = omega (arith, length-take size (drop (b * size) m)) in
     ap (λ n. list_all (is_uniform n) (pieces n (block_of size m b))) is
     ∙ all_pieces_are part (is_uniform part) some 8 (block_of size m b) short
-        (λ e below.
-            uniform_is part (piece part (block_of size m b) e) (omega (arith, length-take part (drop (e * part) (block_of size m b))))
-            (λ k inside.
-                let zero_more : b * size + e * part + 0 ≡ b * size + e * part = omega arith in
-                part-at size part m b e k eight below inside
-                ∙ (even.parts e below).alike k inside
-                ∙ ap (perm_at m) (sym zero_more)
-                ∙ sym (part-at size part m b e 0 eight below some)))
+    (λ e below.
+    uniform_is part (piece part (block_of size m b) e) (omega (arith, length-take part (drop (e * part) (block_of size m b))))
+    (λ k inside.
+    let zero_more : b * size + e * part + 0 ≡ b * size + e * part = omega arith in
+    part-at size part m b e k eight below inside
+    ∙ (even.parts e below).alike k inside
+    ∙ ap (perm_at m) (sym zero_more)
+    ∙ sym (part-at size part m b e 0 eight below some)))
 
 -- a block of which all words have one permission isn't broken
 pub uniform-even : (m : List Perm) (first part : ℕ) → IsUniform m first (8 * part) → IsEven m first part

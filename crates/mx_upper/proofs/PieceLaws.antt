@@ -1,12 +1,12 @@
 -- A list in pieces, by the number of the piece.
-use Rattle.std.proofs.Common.{◌≡◌, ◌≢◌, ℕ, zero, suc, ◌+◌, ◌-◌, ◌*◌, ◌<◌, ◌≤◌, Bool, true, false, ◌&&◌, List, [], ◌∷◌, length, take, drop, refl, sym, ap, ◌∙◌, arith, length-drop, add-one}
+use Rattle.std.proofs.Common.{◌≡◌, ℕ, zero, suc, ◌+◌, ◌-◌, ◌*◌, ◌<◌, ◌≤◌, Bool, true, false, ◌&&◌, List, [], ◌∷◌, length, take, drop, refl, sym, ap, ◌∙◌, arith, length-drop, add-one}
 use Rattle.std.proofs.Math.Nat.{suc-mul}
 use Rattle.std.proofs.lemmas.List.{drop-drop}
 use Rattle.std.proofs.lemmas.List.Sums.{sum_by-cons}
 use Rattle.std.specs.List.{list_all, count_by}
 use Rattle.mx_words.specs.Counting.{bit, count_below}
 use Rattle.mx_words.specs.Runs.{pieces, pieces_from, in_first}
-use Rattle.mx_words.proofs.CountingLaws.{count_below-zero, count_below_first, count_below_agree, count_below_none, count_below-more}
+use Rattle.mx_words.proofs.CountingLaws.{count_below-zero, count_below_first, count_below_agree, count_below_none}
 
 -- the first piece, where `left` elements may follow the first one, and the pieces of the rest
 pieces_from-first : {A : Type 0} (size left : ℕ) (x : A) (xs : List A) →
@@ -61,14 +61,14 @@ count_pieces size f some none (suc k) [] short =
 count_pieces size f some none (suc k) (x ∷ xs) short =
     let rest = count_pieces size f some none k (drop size (x ∷ xs)) (rest-short size k (x ∷ xs) short) in
     let first : count_by f (pieces size (x ∷ xs)) ≡ bit (f (take size (x ∷ xs))) + count_by f (pieces size (drop size (x ∷ xs))) =
-        ap (count_by f) (pieces-first size x xs some) ∙ sum_by-cons (λ ys. bit (f ys)) (take size (x ∷ xs)) (pieces size (drop size (x ∷ xs))) in
+    ap (count_by f) (pieces-first size x xs some) ∙ sum_by-cons (λ ys. bit (f ys)) (take size (x ∷ xs)) (pieces size (drop size (x ∷ xs))) in
     let here : bit (f (piece size (x ∷ xs) 0)) ≡ bit (f (take size (x ∷ xs))) = ap (λ ys. bit (f ys)) (piece-zero size (x ∷ xs)) in
     let shift : count_below k (λ j. f (piece size (drop size (x ∷ xs)) j)) ≡ count_below k (λ j. f (piece size (x ∷ xs) (j + 1))) =
-        count_below_agree k (λ j. f (piece size (drop size (x ∷ xs)) j)) (λ j. f (piece size (x ∷ xs) (j + 1)))
-        (λ j below. rw add-one (ap f (piece-next size (x ∷ xs) j))) in
+    count_below_agree k (λ j. f (piece size (drop size (x ∷ xs)) j)) (λ j. f (piece size (x ∷ xs) (j + 1)))
+    (λ j below. rw add-one (ap f (piece-next size (x ∷ xs) j))) in
     let whole = count_below_first k (λ j. f (piece size (x ∷ xs) j)) in
     let w : count_below (suc k) (λ j. f (piece size (x ∷ xs) j)) ≡ bit (f (piece size (x ∷ xs) 0)) + count_below k (λ j. f (piece size (x ∷ xs) (j + 1))) =
-        rw add-one at whole in
+    rw add-one at whole in
     omega (arith, rest, first, here, shift, w)
 
 -- all pieces pass a test that an empty piece passes
@@ -92,7 +92,7 @@ all_pieces-at size f some none zero (x ∷ xs) all =
 all_pieces-at size f some none (suc j) (x ∷ xs) all =
     ap f (sym (piece-next size (x ∷ xs) j))
     ∙ all_pieces-at size f some none j (drop size (x ∷ xs))
-        (and-right (f (take size (x ∷ xs))) (list_all f (pieces size (drop size (x ∷ xs)))) (ap (list_all f) (sym (pieces-first size x xs some)) ∙ all))
+    (and-right (f (take size (x ∷ xs))) (list_all f (pieces size (drop size (x ∷ xs)))) (ap (list_all f) (sym (pieces-first size x xs some)) ∙ all))
 
 pub all_pieces_are : {A : Type 0} (size : ℕ) (f : List A → Bool) → 0 < size → (k : ℕ) (xs : List A) → length xs ≤ k * size →
     ((j : ℕ) → j < k → f (piece size xs j) ≡ true) → list_all f (pieces size xs) ≡ true
@@ -101,6 +101,6 @@ all_pieces_are size f some zero (x ∷ xs) short each = absurd (omega arith)
 all_pieces_are size f some (suc k) (x ∷ xs) short each =
     ap (list_all f) (pieces-first size x xs some)
     ∙ and-both (f (take size (x ∷ xs))) (list_all f (pieces size (drop size (x ∷ xs))))
-        (ap f (sym (piece-zero size (x ∷ xs))) ∙ each 0 (omega arith))
-        (all_pieces_are size f some k (drop size (x ∷ xs)) (rest-short size k (x ∷ xs) short)
-            (λ j below. ap f (piece-next size (x ∷ xs) j) ∙ each (suc j) (omega arith)))
+    (ap f (sym (piece-zero size (x ∷ xs))) ∙ each 0 (omega arith))
+    (all_pieces_are size f some k (drop size (x ∷ xs)) (rest-short size k (x ∷ xs) short)
+    (λ j below. ap f (piece-next size (x ∷ xs) j) ∙ each (suc j) (omega arith)))

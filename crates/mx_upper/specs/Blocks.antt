@@ -1,5 +1,5 @@
 -- The aligned blocks of a map by their numbers. Words outside RAM have no permission.
-use Rattle.std.specs.Prelude.{◌≡◌, ℕ, ◌+◌, ◌*◌, ◌/◌, ◌<◌, Bool, not, List, take, drop}
+use Rattle.std.specs.Prelude.{◌≡◌, ℕ, ◌+◌, ◌*◌, ◌<◌, Bool, not, List, take, drop}
 use Rattle.mx_words.specs.declared.perm.Perm.{Perm}
 use Rattle.mx_words.specs.Rights.{perm_at}
 use Rattle.mx_words.specs.Runs.{is_eighth_uniform}
