@@ -3,3 +3,4 @@ pub mod Spans
 pub mod PlainRuns
 pub mod PieceLaws
 pub mod BlockLaws
+pub mod WalkLaws

@@ -1,3 +1,5 @@
 pub mod Leaf
 pub mod Digits
 pub mod Blocks
+pub mod Walk
+pub mod Found

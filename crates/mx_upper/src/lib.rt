@@ -2,7 +2,10 @@
 #![tactic(auto)]
 
 mod leaf;
+mod roots;
 mod vector;
+mod walk;
 
 pub use leaf::LeafForm;
+pub use roots::Roots;
 pub use vector::Vector;
