@@ -4,3 +4,5 @@ pub mod PlainRuns
 pub mod PieceLaws
 pub mod BlockLaws
 pub mod WalkLaws
+pub mod LeafSpans
+pub mod FoundSpans

@@ -7,6 +7,7 @@ use Rattle.mx_words.specs.Runs.{line_words, page_words, region_words}
 use Rattle.mx_words.specs.Reach.{vector, level, line_at, first_in}
 use Rattle.mx_upper.specs.Blocks.{IsEven}
 use Rattle.mx_upper.specs.Leaf.{needs_spill, IsStored}
+use Rattle.mx_upper.specs.Walk.{form_left, form_right}
 use Rattle.mx_upper.specs.declared.walk.Found.{Found}
 use Rattle.mx_upper.specs.declared.walk.Found.TheVariants as F
 
@@ -20,6 +21,8 @@ pub record IsLeaf (kind : Kind) (m : List Perm) (i entry spilled : ℕ) : Type 0
   pub left : ℕ
   pub right : ℕ
   pub number : ℕ
+  pub left_is : left ≡ form_left kind m (first_in line_words i)
+  pub right_is : right ≡ form_right kind m (first_in line_words i)
   pub stored : IsStored kind (line_at m (first_in line_words i)) left right number (first_in line_words i) entry spilled
 
 -- a walk for word i ends at the level that decides it, with the word that stands there

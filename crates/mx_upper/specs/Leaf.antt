@@ -1,5 +1,5 @@
 -- Leaf entries of tries: the stored word of a line of 16 words, and the span that it gives.
-use Rattle.std.specs.Prelude.{◌≡◌, ℕ, ◌+◌, ◌-◌, ◌*◌, ◌/◌, ◌%◌, ◌^◌, ◌<◌, ◌≤◌, ◌==◌, ◌⊎◌, Bool, false, nat_lt, List, length, if◌then◌else◌, Option, Some, None}
+use Rattle.std.specs.Prelude.{◌≡◌, ℕ, ◌+◌, ◌-◌, ◌*◌, ◌/◌, ◌%◌, ◌^◌, ◌<◌, ◌≤◌, ◌==◌, ◌⊎◌, Bool, false, nat_lt, min, List, length, if◌then◌else◌, Option, Some, None}
 use Rattle.mx_words.specs.declared.perm.Perm.{Perm}
 use Rattle.mx_words.specs.declared.perm.Span.{Span}
 use Rattle.mx_words.specs.declared.tables.Kind.{Kind}
@@ -85,3 +85,7 @@ pub record IsEntry (kind : Kind) (line : ℕ) (entry spilled : ℕ) : Type 0 whe
   pub right : ℕ
   pub spill : ℕ
   pub stored : IsStored kind perms left right spill line entry spilled
+
+-- a span that begins in a RAM of `words` words, cut at RAM's end
+abbrev pub cut_at : ℕ → Span → Span
+cut_at words s = record { first = s.first; count = min s.count (words - s.first); perm = s.perm }

@@ -4,6 +4,7 @@ use Rattle.std.specs.Option.{option_map_or}
 use Rattle.mx_words.specs.declared.perm.Perm.{Perm}
 use Rattle.mx_words.specs.declared.perm.Perm.TheVariants as P
 use Rattle.mx_words.specs.declared.tables.Kind.{Kind}
+use Rattle.mx_words.specs.declared.tables.Kind.TheVariants as K
 use Rattle.mx_words.specs.Rights.{from_number, perm_at}
 use Rattle.mx_words.specs.Counting.{list_below}
 use Rattle.mx_words.specs.Runs.{line_words, page_words, region_words}
@@ -63,17 +64,29 @@ numbered n = unwrap_or (from_number n) P.None
 abbrev pub vector_perm : ℕ → ℕ → Perm
 vector_perm entry e = numbered (digit (entry / 4) e)
 
--- what stands for a line: an entry made with some reaches that stay in RAM, and its spill word
-pub record IsLine (kind : Kind) (spill : Frames) (m : List Perm) (z entry : ℕ) : Type 0 where
+-- the reaches of a line's entry by the map: 0 where entries have none
+abbrev pub form_left : Kind → List Perm → ℕ → ℕ
+form_left K.Packed m line = left_reach m line
+form_left kind m line = 0
+
+abbrev pub form_right : Kind → List Perm → ℕ → ℕ
+form_right K.Packed m line = right_reach m line
+form_right kind m line = 0
+
+-- what stands for a line: an entry made with some reaches that stay in RAM, and its spill word; where the tables are exact, the
+-- reaches are the map's
+pub record IsLine (kind : Kind) (exact : Bool) (spill : Frames) (m : List Perm) (z entry : ℕ) : Type 0 where
   pub left : ℕ
   pub right : ℕ
   pub number : ℕ
+  pub left_is : exact ≡ true → left ≡ form_left kind m (z * line_words)
+  pub right_is : exact ≡ true → right ≡ form_right kind m (z * line_words)
   pub stored : IsStored kind (line_at m (z * line_words)) left right number (z * line_words) entry (spilled_word kind spill entry)
   pub spill_taken : needs_spill kind (line_at m (z * line_words)) ≡ true → IsTaken spill number
 
 -- a domain's tables stand for its map: a block without a table is eighth-uniform and has its vector, and each line of a page with a leaf
 -- table has its entry
-pub record IsShown (kind : Kind) (upper leaf spill : Frames) (root : ℕ) (m : List Perm) : Type 0 where
+pub record IsShown (kind : Kind) (exact : Bool) (upper leaf spill : Frames) (root : ℕ) (m : List Perm) : Type 0 where
   pub root_taken : IsTaken upper root
   pub region_even : (x : ℕ) → x < most_regions → has_mid upper root x ≡ false → IsEven m (x * region_words) 131072
   pub region_vector : (x : ℕ) → x < most_regions → has_mid upper root x ≡ false → root_word upper root x ≡ vector region_words m (x * region_words)
@@ -81,14 +94,9 @@ pub record IsShown (kind : Kind) (upper leaf spill : Frames) (root : ℕ) (m : L
   pub page_even : (y : ℕ) → y < most_pages → has_mid upper root (y / 1024) ≡ true → is_pointer (mid_word upper root y) ≡ false → IsEven m (y * page_words) 128
   pub page_vector : (y : ℕ) → y < most_pages → has_mid upper root (y / 1024) ≡ true → is_pointer (mid_word upper root y) ≡ false → mid_word upper root y ≡ vector page_words m (y * page_words)
   pub leaf_taken : (y : ℕ) → y < most_pages → has_mid upper root (y / 1024) ≡ true → is_pointer (mid_word upper root y) ≡ true → IsTaken leaf (target (mid_word upper root y))
-  pub line : (z : ℕ) → z < most_lines → has_mid upper root (z / 64 / 1024) ≡ true → is_pointer (mid_word upper root (z / 64)) ≡ true → IsLine kind spill m z (leaf_word upper leaf root z)
+  pub line : (z : ℕ) → z < most_lines → has_mid upper root (z / 64 / 1024) ≡ true → is_pointer (mid_word upper root (z / 64)) ≡ true → IsLine kind exact spill m z (leaf_word upper leaf root z)
 
 -- the tables are no more than the map needs
 pub record IsTight (upper : Frames) (root : ℕ) (m : List Perm) : Type 0 where
   pub mids : (x : ℕ) → x < most_regions → has_mid upper root x ≡ is_broken region_words m x
   pub leaves : (y : ℕ) → y < most_pages → has_leaf upper root y ≡ is_broken page_words m y
-
--- the reaches of a line's entry are the map's
-pub record IsReaching (kind : Kind) (m : List Perm) (z left right : ℕ) : Type 0 where
-  pub left_is : left ≡ left_reach m (z * line_words)
-  pub right_is : right ≡ right_reach m (z * line_words)

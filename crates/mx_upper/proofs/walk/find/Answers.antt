@@ -1,4 +1,4 @@
-use Rattle.std.proofs.Common.{◌≡◌, ◌∙◌, ◌*◌, ◌/◌, sym, ap, arith, subst, ℕ}
+use Rattle.std.proofs.Common.{◌≡◌, ◌∙◌, ◌*◌, ◌/◌, true, sym, ap, arith, subst, ℕ}
 use Rattle.mx_words.specs.Runs.{line_words}
 use Rattle.mx_words.specs.Reach.{line_at, first_in}
 use Rattle.mx_pool.specs.Frames.{IsTaken}
@@ -26,7 +26,7 @@ get-in_leaf-requires g c =
 
 pub get-requires : goal.get-requires
 get-requires g c =
-    let line : IsLine g.L.LeafForm.kind c.args.spill.now g.map (c.args.word / 16) c.get-in_leaf.result =
+    let line : IsLine g.L.LeafForm.kind true c.args.spill.now g.map (c.args.word / 16) c.get-in_leaf.result =
         walk-line g.L.LeafForm.kind c.args.upper.now c.args.leaf.now c.args.spill.now c.args.root g.map c.args.word g.met.L.LeafForm.trie c.requires.1.0 c.requires.1.1.0 c.requires.1.1.1
         c.get-in_root.result c.get-in_mid.result c.get-in_leaf.result c.get-in_root.ensures c.if-in_root-ne0.false c.get-in_mid.ensures c.if-in_mid-ne0.false c.get-in_leaf.ensures in
     let named = c.spill_of.ensures.named (line_at g.map (c.args.word / 16 * 16)) line.left line.right line.number line.stored.entry_is in
@@ -36,7 +36,7 @@ get-requires g c =
 
 pub returns-in-None : goal.returns-in-None
 returns-in-None g c =
-    let line : IsLine g.L.LeafForm.kind c.args.spill.now g.map (c.args.word / 16) c.get-in_leaf.result =
+    let line : IsLine g.L.LeafForm.kind true c.args.spill.now g.map (c.args.word / 16) c.get-in_leaf.result =
         walk-line g.L.LeafForm.kind c.args.upper.now c.args.leaf.now c.args.spill.now c.args.root g.map c.args.word g.met.L.LeafForm.trie c.requires.1.0 c.requires.1.1.0 c.requires.1.1.1
         c.get-in_root.result c.get-in_mid.result c.get-in_leaf.result c.get-in_root.ensures c.if-in_root-ne0.false c.get-in_mid.ensures c.if-in_mid-ne0.false c.get-in_leaf.ensures in
     let named = c.spill_of.ensures.named (line_at g.map (c.args.word / 16 * 16)) line.left line.right line.number line.stored.entry_is in
@@ -47,7 +47,7 @@ returns-in-None g c =
 
 pub returns-in-Some : goal.returns-in-Some
 returns-in-Some g c =
-    let line : IsLine g.L.LeafForm.kind c.args.spill.now g.map (c.args.word / 16) c.get-in_leaf.result =
+    let line : IsLine g.L.LeafForm.kind true c.args.spill.now g.map (c.args.word / 16) c.get-in_leaf.result =
         walk-line g.L.LeafForm.kind c.args.upper.now c.args.leaf.now c.args.spill.now c.args.root g.map c.args.word g.met.L.LeafForm.trie c.requires.1.0 c.requires.1.1.0 c.requires.1.1.1
         c.get-in_root.result c.get-in_mid.result c.get-in_leaf.result c.get-in_root.ensures c.if-in_root-ne0.false c.get-in_mid.ensures c.if-in_mid-ne0.false c.get-in_leaf.ensures in
     let named = c.spill_of.ensures.named (line_at g.map (c.args.word / 16 * 16)) line.left line.right line.number line.stored.entry_is in
