@@ -172,21 +172,21 @@ module _ (kind : Kind) (upper leaf spill : Frames) (root : ℕ) (m : List Perm) 
   -- the line's entry has no spill word, or has one
   pub walk-leaf : (a b l : ℕ) → a ≡ word_at upper root (i / 1048576) → a % 4 ≡ 0 → b ≡ word_at upper (a / 4) (i / 1024 % 1024) → b % 4 ≡ 0 →
       (line : IsLine kind true spill m (i / 16) l) → spill_number kind l ≡ None → needs_spill kind (line_at m (first_in line_words i)) ≡ false →
-      (level kind m i ≡ L.Leaf) × IsLeaf kind m i l 0
+      (level kind m i ≡ L.Leaf) × IsLeaf kind false m i l 0
   walk-leaf a b l e hit f also line none miss =
       let T : ℕ → Type 0 = λ n. IsStored kind (line_at m (first_in line_words i)) line.left line.right line.number (first_in line_words i) l n in
       let zero_word : spilled_word kind spill l ≡ 0 = ap (λ o. option_map_or (λ n. word_at spill n 0) o 0) none in
       (level-line kind m i k (region-broken a e hit) (page-broken a b e hit f also) ∙ line_level-leaf kind m i k miss,
-       record { left = line.left; right = line.right; number = line.number; left_is = line.left_is refl; right_is = line.right_is refl; stored = subst T zero_word line.stored })
+       record { crowded_is = miss; left = line.left; right = line.right; number = line.number; left_is = line.left_is refl; right_is = line.right_is refl; stored = subst T zero_word line.stored })
 
   pub walk-spill : (a b l n s : ℕ) → a ≡ word_at upper root (i / 1048576) → a % 4 ≡ 0 → b ≡ word_at upper (a / 4) (i / 1024 % 1024) → b % 4 ≡ 0 →
       (line : IsLine kind true spill m (i / 16) l) → spill_number kind l ≡ Some n → s ≡ word_at spill n 0 → needs_spill kind (line_at m (first_in line_words i)) ≡ true →
-      (level kind m i ≡ L.Spill) × IsLeaf kind m i l s
+      (level kind m i ≡ L.Spill) × IsLeaf kind true m i l s
   walk-spill a b l n s e hit f also line some is crowded =
       let T : ℕ → Type 0 = λ n. IsStored kind (line_at m (first_in line_words i)) line.left line.right line.number (first_in line_words i) l n in
       let word : spilled_word kind spill l ≡ s = ap (λ o. option_map_or (λ n. word_at spill n 0) o 0) some ∙ sym is in
       (level-line kind m i k (region-broken a e hit) (page-broken a b e hit f also) ∙ line_level-spill kind m i k crowded,
-       record { left = line.left; right = line.right; number = line.number; left_is = line.left_is refl; right_is = line.right_is refl; stored = subst T word line.stored })
+       record { crowded_is = crowded; left = line.left; right = line.right; number = line.number; left_is = line.left_is refl; right_is = line.right_is refl; stored = subst T word line.stored })
 
 -- a named spill word tells whether the line needs one
 pub named-none : (b : Bool) (n : ℕ) → None ≡ (if b then Some n else None) → b ≡ false

@@ -16,8 +16,9 @@ pub record IsVector (size part : ℕ) (m : List Perm) (i entry : ℕ) : Type 0 w
   pub even : IsEven m (first_in size i) part
   pub entry_is : entry ≡ vector size m (first_in size i)
 
--- an entry, with its spill word, of word i's line
-pub record IsLeaf (kind : Kind) (m : List Perm) (i entry spilled : ℕ) : Type 0 where
+-- an entry of word i's line, with its spill word where the line needs one
+pub record IsLeaf (kind : Kind) (crowded : Bool) (m : List Perm) (i entry spilled : ℕ) : Type 0 where
+  pub crowded_is : needs_spill kind (line_at m (first_in line_words i)) ≡ crowded
   pub left : ℕ
   pub right : ℕ
   pub number : ℕ
@@ -29,5 +30,5 @@ pub record IsLeaf (kind : Kind) (m : List Perm) (i entry spilled : ℕ) : Type 0
 abbrev pub IsFound : Kind → List Perm → ℕ → Found → Type 0
 IsFound kind m i (F.Root entry) = (level kind m i ≡ L.Root) × IsVector region_words 131072 m i entry
 IsFound kind m i (F.Mid entry) = (level kind m i ≡ L.Mid) × IsVector page_words 128 m i entry
-IsFound kind m i (F.Leaf entry) = (level kind m i ≡ L.Leaf) × IsLeaf kind m i entry 0
-IsFound kind m i (F.Spill entry spilled) = (level kind m i ≡ L.Spill) × IsLeaf kind m i entry spilled
+IsFound kind m i (F.Leaf entry) = (level kind m i ≡ L.Leaf) × IsLeaf kind false m i entry 0
+IsFound kind m i (F.Spill entry spilled) = (level kind m i ≡ L.Spill) × IsLeaf kind true m i entry spilled
