@@ -6,3 +6,4 @@ pub mod BlockLaws
 pub mod WalkLaws
 pub mod LeafSpans
 pub mod FoundSpans
+pub mod FoundItems

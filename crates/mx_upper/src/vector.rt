@@ -65,7 +65,7 @@ fn run_end(entry: u32, i: u32) -> u32
 }
 
 /// The permission at place `i` of a plain entry.
-fn perm_in(entry: u32, i: u32) -> Perm
+pub(crate) fn perm_in(entry: u32, i: u32) -> Perm
     requires { i < 16 }
     ensures { number result ≡ digit entry i }
 {

@@ -1,11 +1,17 @@
 //! The walk of a domain's tables for one word: three indexed reads at most, and a decode.
-ghost use Rattle.std.specs.Prelude.{◌≡◌, ℕ, ◌+◌, ◌-◌, ◌*◌, ◌/◌, ◌%◌, ◌<◌, ◌≤◌, ◌^◌, List, length, true, false};
+ghost use Rattle.std.specs.Prelude.{◌≡◌, ℕ, ◌+◌, ◌-◌, ◌*◌, ◌/◌, ◌%◌, ◌<◌, ◌≤◌, ◌^◌, List, length, min, true, false};
 ghost use Rattle.mx_words.specs.declared.perm.Perm.{Perm};
+ghost use Rattle.mx_words.specs.Rights.{number};
+ghost use Rattle.mx_words.specs.Reach.{span, stored, first_in};
+ghost use Rattle.mx_upper.specs.Digits.{digit};
+ghost use Rattle.mx_upper.specs.Leaf.{cut_at};
 ghost use Rattle.mx_upper.specs.Walk.{IsShown, IsTight};
 ghost use Rattle.mx_upper.specs.Found.{IsFound};
 
 use crate::LeafForm;
+use crate::vector::perm_in;
 use mx_pool::Pool;
+use mx_words::{Level, Shown, Span};
 
 /// Where a walk ends, and the stored word that it finds there.
 #[derive(Clone, Copy, PartialEq, Eq, Debug)]
@@ -40,5 +46,81 @@ pub(crate) fn find<L: LeafForm>(upper: &Pool<1024>, leaf: &Pool<64>, spill: &Poo
     match L::spill_of(in_leaf) {
         None => Found::Leaf(in_leaf),
         Some(number) => Found::Spill(in_leaf, spill.get(number, 0)),
+    }
+}
+
+/// The words of RAM that a part of a vector stands for, which are aligned in blocks of `part` words.
+fn part_span(entry: u32, part: u32, word: u32, words: u32) -> Span
+    requires some { 0 < part }
+    requires inside { word < words }
+    ensures first { result.first ≡ first_in part word }
+    ensures count { result.count ≡ min part (words - first_in part word) }
+    ensures perm { number result.perm ≡ digit (entry / 4) (word / part % 8) }
+{
+    let first = word / part * part;
+    Span {
+        first,
+        count: part.min(words - first),
+        perm: perm_in(entry / 4, word / part % 8),
+    }
+}
+
+/// A span, cut at RAM's end.
+fn cut(run: Span, words: u32) -> Span
+    ensures { result ≡ cut_at words run }
+{
+    Span {
+        first: run.first,
+        count: run.count.min(words.saturating_sub(run.first)),
+        perm: run.perm,
+    }
+}
+
+/// The span that a walk answers for a word, by what it found.
+pub(crate) fn found_span<L: LeafForm>(found: Found, word: u32, words: u32) -> Span
+    ghost map: { List Perm }
+    requires found { IsFound L.kind map word found }
+    requires long { length map ≡ words }
+    requires inside { word < words }
+    requires few { words ≤ 2 ^ 24 }
+    ensures { result ≡ span L.kind map word }
+{
+    let line = word / 0x10 * 0x10;
+    match found {
+        Found::Root(entry) => part_span(entry, 0x2_0000, word, words),
+        Found::Mid(entry) => part_span(entry, 0x80, word, words),
+        Found::Leaf(entry) => cut(L::run(entry, 0, line, word), words),
+        Found::Spill(entry, spilled) => cut(L::run(entry, spilled, line, word), words),
+    }
+}
+
+/// An item that stands for a word's block of `size` words.
+fn block_item(level: Level, size: u32, word: u32, words: u32, stored: u32) -> Shown
+    requires some { 0 < size }
+    requires inside { word < words }
+    ensures { result ≡ record { level = level; first = first_in size word; count = min size (words - first_in size word); stored = stored } }
+{
+    let first = word / size * size;
+    Shown {
+        level,
+        first,
+        count: size.min(words - first),
+        stored,
+    }
+}
+
+/// The stored item that decides a word, by what a walk found.
+pub(crate) fn found_item<L: LeafForm>(found: Found, word: u32, words: u32) -> Shown
+    ghost map: { List Perm }
+    requires found { IsFound L.kind map word found }
+    requires long { length map ≡ words }
+    requires inside { word < words }
+    ensures { result ≡ stored L.kind map word }
+{
+    match found {
+        Found::Root(entry) => block_item(Level::Root, 0x10_0000, word, words, entry),
+        Found::Mid(entry) => block_item(Level::Mid, 0x400, word, words, entry),
+        Found::Leaf(entry) => block_item(Level::Leaf, 0x10, word, words, entry),
+        Found::Spill(_, spilled) => block_item(Level::Spill, 0x10, word, words, spilled),
     }
 }
