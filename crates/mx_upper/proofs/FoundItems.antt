@@ -1,5 +1,5 @@
 -- What a walk's end gives, put together from its parts.
-use Rattle.std.proofs.Common.{◌≡◌, ℕ, ◌+◌, ◌-◌, ◌*◌, ◌/◌, ◌%◌, ◌<◌, ◌≤◌, inl, inr, Bool, true, false, min, List, length, if◌then◌else◌, refl, sym, ap, ◌∙◌, arith}
+use Rattle.std.proofs.Common.{◌≡◌, ℕ, ◌+◌, ◌-◌, ◌*◌, ◌/◌, ◌%◌, ◌<◌, inl, inr, Bool, true, false, min, List, length, if◌then◌else◌, refl, sym, ap, ◌∙◌, arith}
 use Rattle.mx_words.specs.declared.perm.Perm.{Perm}
 use Rattle.mx_words.specs.declared.perm.Span.{Span}
 use Rattle.mx_words.specs.declared.tables.Kind.{Kind}
@@ -89,5 +89,5 @@ pub spill-item : (kind : Kind) (m : List Perm) (i entry spilled words : ℕ) →
     ◌≡◌ {A = Shown} (record { level = L.Spill; first = first_in 16 i; count = min 16 (words - first_in 16 i); stored = spilled }) (stored kind m i)
 spill-item kind m i entry spilled words at leaf long =
     let is : spilled ≡ packed (line_at m (first_in line_words i)) =
-        leaf.stored.spilled_is ∙ ap (λ (v : Bool). if v then packed (line_at m (first_in line_words i)) else 0) leaf.crowded_is in
+    leaf.stored.spilled_is ∙ ap (λ (v : Bool). if v then packed (line_at m (first_in line_words i)) else 0) leaf.crowded_is in
     item-at L.Spill line_words i words spilled m (packed (line_at m (first_in line_words i))) long is ∙ sym (ap (λ l. stored_at kind l m i) at)

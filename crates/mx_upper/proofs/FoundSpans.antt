@@ -1,8 +1,7 @@
 -- The span and the item that a walk's end gives are those of the map.
-use Rattle.std.proofs.Common.{◌≡◌, ◌≢◌, ℕ, zero, suc, ◌+◌, ◌-◌, ◌*◌, ◌/◌, ◌%◌, ◌^◌, ◌<◌, ◌≤◌, ◌⊎◌, inl, inr, ◌==◌, Bool, true, false, min, List, [], ◌∷◌, length, take, drop, map, if◌then◌else◌, refl, sym, ap, ◌∙◌, arith, subst, eq-eqb, length-drop, length-take}
-use Rattle.std.specs.List.{prefix_len, suffix_len, slice_range, range_with_len}
+use Rattle.std.proofs.Common.{◌≡◌, ◌≢◌, ℕ, ◌+◌, ◌-◌, ◌*◌, ◌/◌, ◌<◌, ◌≤◌, ◌⊎◌, inl, inr, ◌==◌, Bool, true, false, min, List, length, take, drop, if◌then◌else◌, sym, ap, ◌∙◌, arith, eq-eqb, length-drop, length-take}
 use Rattle.std.proofs.Math.Nat.{mul_comm}
-use Rattle.std.proofs.lemmas.Bool.{cases_lt, ne_eqb}
+use Rattle.std.proofs.lemmas.Bool.{ne_eqb}
 use Rattle.std.proofs.lemmas.Bool.Decides.{eqb_tells}
 use Rattle.std.proofs.lemmas.List.FromFn.{get_or-map-range_with_len}
 use Rattle.std.proofs.lemmas.List.Sums.{suffix_len-le-length, prefix_len-le-length}
@@ -11,19 +10,16 @@ use Rattle.mx_words.specs.declared.perm.Perm.TheVariants as P
 use Rattle.mx_words.specs.declared.perm.Span.{Span}
 use Rattle.mx_words.specs.declared.tables.Kind.{Kind}
 use Rattle.mx_words.specs.declared.tables.Kind.TheVariants as K
-use Rattle.mx_words.specs.declared.tables.Level.{Level}
 use Rattle.mx_words.specs.declared.tables.Level.TheVariants as L
 use Rattle.mx_words.specs.Rights.{number, same, perm_at}
-use Rattle.mx_words.specs.Runs.{line_words, page_words, region_words}
-use Rattle.mx_words.specs.Reach.{level, span, span_at, span_within, line_span, line_at, first_in, count_in, block_span, left_reach, right_reach, reached, packed, vector, eighths}
+use Rattle.mx_words.specs.Runs.{line_words}
+use Rattle.mx_words.specs.Reach.{level, span, span_at, span_within, line_span, line_at, first_in, left_reach, right_reach, reached, packed, eighths}
 use Rattle.mx_upper.specs.Digits.{digit}
-use Rattle.mx_upper.specs.Blocks.{IsEven}
-use Rattle.mx_upper.specs.Leaf.{IsTrieKind, needs_spill, line_run, placed, lengthened, left_of_run, right_of_run, entry_run, cut_at}
-use Rattle.mx_upper.specs.Walk.{form_left, form_right}
+use Rattle.mx_upper.specs.Leaf.{IsTrieKind, line_run, placed, lengthened, left_of_run, right_of_run, entry_run, cut_at}
 use Rattle.mx_upper.specs.Found.{IsVector, IsLeaf}
 use Rattle.mx_upper.proofs.Digits.{digit-packed}
-use Rattle.mx_upper.proofs.PlainRuns.{number-one_to_one, left_of_run-none, right_of_run-none, lengthened-none}
-use Rattle.mx_upper.proofs.Spans.{IsRunIn, span_within-is}
+use Rattle.mx_upper.proofs.PlainRuns.{left_of_run-none, right_of_run-none, lengthened-none}
+use Rattle.mx_upper.proofs.Spans.{span_within-is}
 use Rattle.mx_upper.proofs.LeafSpans.{Run, run_of, length-line, line-at, line_span-is}
 
 -- a vector's digit is the permission of its part
@@ -48,9 +44,9 @@ vector-digit size part m i e k entry is v below inside at =
 shift-first : (line a : ℕ) → (line + a == line) ≡ (a == 0)
 shift-first line a = cases (eqb_tells a 0)
   where
-  cases : ((a == 0) ≡ true) × (a ≡ 0) ⊎ ((a == 0) ≡ false) × (a ≢ 0) → (line + a == line) ≡ (a == 0)
-  cases (inl h) = eq-eqb (line + a) line (omega arith) ∙ sym h.0
-  cases (inr h) = ne_eqb (line + a) line (λ e. h.1 (omega arith)) ∙ sym h.0
+    cases : ((a == 0) ≡ true) × (a ≡ 0) ⊎ ((a == 0) ≡ false) × (a ≢ 0) → (line + a == line) ≡ (a == 0)
+    cases (inl h) = eq-eqb (line + a) line (omega arith) ∙ sym h.0
+    cases (inr h) = ne_eqb (line + a) line (λ e. h.1 (omega arith)) ∙ sym h.0
 
 -- cut spans of lines
 module _ (m : List Perm) (b k : ℕ) (below : k < line_words) (inside : b * line_words + k < length m) where
@@ -78,9 +74,9 @@ pub record Chosen (x y n v : ℕ) : Type 0 where
 chosen : (x y n : ℕ) → Chosen x y n (if x == y then n else 0)
 chosen x y n = cases (eqb_tells x y)
   where
-  cases : ((x == y) ≡ true) × (x ≡ y) ⊎ ((x == y) ≡ false) × (x ≢ y) → Chosen x y n (if x == y then n else 0)
-  cases (inl h) = record { either = inl (h.1, ap (λ (b : Bool). if b then n else 0) h.0) }
-  cases (inr h) = record { either = inr (h.1, ap (λ (b : Bool). if b then n else 0) h.0) }
+    cases : ((x == y) ≡ true) × (x ≡ y) ⊎ ((x == y) ≡ false) × (x ≢ y) → Chosen x y n (if x == y then n else 0)
+    cases (inl h) = record { either = inl (h.1, ap (λ (b : Bool). if b then n else 0) h.0) }
+    cases (inr h) = record { either = inr (h.1, ap (λ (b : Bool). if b then n else 0) h.0) }
 
 -- how long a run is that its reaches lengthen, cut at RAM's end
 module _ (line f l size lr rr : ℕ) (some : f < l) (short : l ≤ 16) (inside : line + f < size) (left_in : lr ≤ line) (right_in : rr ≤ size - (line + 16)) where
@@ -123,10 +119,10 @@ reached-cut m b k below inside =
     let p : Perm = perm_at ps k in
     let q : Perm = perm_at m (line + k) in
     let count : min ((if f == 0 then lr else 0) + (l - f) + (if f + (l - f) == 16 then rt else 0)) (length m - (line + f - (if f == 0 then lr else 0)))
-        ≡ (if f == 0 then lr else 0) + c + (if line + f + c == line + 16 then rt else 0) =
-        count-parts line f l (length m) lr rt (omega arith) up_to (omega arith) (left_reach-in m line) (right_reach-in m line)
-            (if f == 0 then lr else 0) (if f + (l - f) == 16 then rt else 0) (if line + f + c == line + 16 then rt else 0)
-            (chosen f 0 lr).either (chosen (f + (l - f)) 16 rt).either (chosen (line + f + c) (line + 16) rt).either in
+    ≡ (if f == 0 then lr else 0) + c + (if line + f + c == line + 16 then rt else 0) =
+    count-parts line f l (length m) lr rt (omega arith) up_to (omega arith) (left_reach-in m line) (right_reach-in m line)
+    (if f == 0 then lr else 0) (if f + (l - f) == 16 then rt else 0) (if line + f + c == line + 16 then rt else 0)
+    (chosen f 0 lr).either (chosen (f + (l - f)) 16 rt).either (chosen (line + f + c) (line + 16) rt).either in
     ap (λ (s : Span). cut_at (length m) (lengthened (left_of_run false s lr) (right_of_run false s rt) (placed line s))) (line_run-parts m b k below inside)
     ∙ ap (λ (n : ℕ). record { first = line + f - (if f == 0 then lr else 0); count = n; perm = p }) count
     ∙ ap (λ (x : Perm). record { first = line + f - (if f == 0 then lr else 0); count = (if f == 0 then lr else 0) + c + (if line + f + c == line + 16 then rt else 0); perm = x }) (line-at m b k below)

@@ -7,3 +7,5 @@ pub mod WalkLaws
 pub mod LeafSpans
 pub mod FoundSpans
 pub mod FoundItems
+pub mod ChangeLaws
+pub mod ReachLaws

@@ -1,5 +1,5 @@
 -- What the stored words on the way of a walk say of its word.
-use Rattle.std.proofs.Common.{◌≡◌, ◌≢◌, ℕ, zero, suc, ◌+◌, ◌-◌, ◌*◌, ◌/◌, ◌%◌, ◌^◌, ◌<◌, ◌≤◌, ◌⊎◌, inl, inr, ◌==◌, ◌&&◌, Bool, true, false, not, nat_lt, List, length, Option, Some, None, if◌then◌else◌, refl, sym, ap, ◌∙◌, arith, eq-eqb, subst}
+use Rattle.std.proofs.Common.{◌≡◌, ◌≢◌, ℕ, ◌*◌, ◌/◌, ◌%◌, ◌^◌, ◌<◌, inl, inr, ◌&&◌, Bool, true, false, not, nat_lt, List, Some, None, if◌then◌else◌, refl, sym, ap, ◌∙◌, arith, eq-eqb, subst}
 use Rattle.std.specs.Option.{option_map_or}
 use Rattle.std.proofs.lemmas.Bool.{ne_eqb}
 use Rattle.mx_words.specs.declared.perm.Perm.{Perm}
@@ -8,11 +8,11 @@ use Rattle.mx_words.specs.declared.tables.Kind.TheVariants as K
 use Rattle.mx_words.specs.declared.tables.Level.{Level}
 use Rattle.mx_words.specs.declared.tables.Level.TheVariants as L
 use Rattle.mx_words.specs.Runs.{runs, is_eighth_uniform, is_crowded, block_at, whole_line, line_words, page_words, region_words}
-use Rattle.mx_words.specs.Reach.{vector, level, trie_level, line_level, line_at, first_in}
+use Rattle.mx_words.specs.Reach.{level, trie_level, line_level, line_at, first_in}
 use Rattle.mx_pool.specs.Frames.{IsTaken, word_at}
-use Rattle.mx_upper.specs.Blocks.{block_of, is_broken, IsEven}
-use Rattle.mx_upper.specs.Leaf.{IsTrieKind, needs_spill, spill_number, leaf_entry, IsStored}
-use Rattle.mx_upper.specs.Walk.{Frames, most_regions, most_pages, most_lines, is_pointer, target, root_word, mid_word, leaf_word, spilled_word, has_mid, has_leaf, IsLine, IsShown, IsTight}
+use Rattle.mx_upper.specs.Blocks.{block_of, is_broken}
+use Rattle.mx_upper.specs.Leaf.{IsTrieKind, needs_spill, spill_number, IsStored}
+use Rattle.mx_upper.specs.Walk.{Frames, most_regions, most_pages, most_lines, is_pointer, mid_word, leaf_word, spilled_word, has_mid, has_leaf, IsLine, IsShown, IsTight}
 use Rattle.mx_upper.specs.Found.{IsVector, IsLeaf}
 
 -- the level of a word, by the blocks that hold it
@@ -100,16 +100,16 @@ and-true {a} {b} e f = ap (λ v. v && b) e ∙ f
 -- the words on the way
 module _ (kind : Kind) (upper leaf spill : Frames) (root : ℕ) (m : List Perm) (i : ℕ) (k : IsTrieKind kind) (shown : IsShown kind true upper leaf spill root m)
     (tight : IsTight upper root m) (below : i < 2 ^ 24) where
-
   region-closed : (a : ℕ) → a ≡ word_at upper root (i / 1048576) → a % 4 ≢ 0 → has_mid upper root (i / 1048576) ≡ false
   region-closed a e miss = ne_eqb (word_at upper root (i / 1048576) % 4) 0 (λ f. miss (ap (λ n. n % 4) e ∙ f))
 
   pub walk-root : (a : ℕ) → a ≡ word_at upper root (i / 1048576) → a % 4 ≢ 0 → (level kind m i ≡ L.Root) × IsVector region_words 131072 m i a
   walk-root a e miss =
       let x : i / 1048576 < most_regions = omega arith in
-      let closed = region-closed a e miss in
-      (level-root kind m i k (sym (tight.mids (i / 1048576) x) ∙ closed),
-       record { even = shown.region_even (i / 1048576) x closed; entry_is = e ∙ shown.region_vector (i / 1048576) x closed })
+      let closed = region-closed a e miss in (
+        level-root kind m i k (sym (tight.mids (i / 1048576) x) ∙ closed),
+        record { even = shown.region_even (i / 1048576) x closed; entry_is = e ∙ shown.region_vector (i / 1048576) x closed },
+      )
 
   region-opened : (a : ℕ) → a ≡ word_at upper root (i / 1048576) → a % 4 ≡ 0 → has_mid upper root (i / 1024 / 1024) ≡ true
   region-opened a e hit =
@@ -134,9 +134,10 @@ module _ (kind : Kind) (upper leaf spill : Frames) (root : ℕ) (m : List Perm) 
       let opened = region-opened a e hit in
       let is = mid-is a b e f in
       let closed : is_pointer (mid_word upper root (i / 1024)) ≡ false = ne_eqb (mid_word upper root (i / 1024) % 4) 0 (λ h. miss (ap (λ n. n % 4) is ∙ h)) in
-      let whole : has_leaf upper root (i / 1024) ≡ false = and-false opened closed in
-      (level-mid kind m i k (region-broken a e hit) (sym (tight.leaves (i / 1024) y) ∙ whole),
-       record { even = shown.page_even (i / 1024) y opened closed; entry_is = is ∙ shown.page_vector (i / 1024) y opened closed })
+      let whole : has_leaf upper root (i / 1024) ≡ false = and-false opened closed in (
+        level-mid kind m i k (region-broken a e hit) (sym (tight.leaves (i / 1024) y) ∙ whole),
+        record { even = shown.page_even (i / 1024) y opened closed; entry_is = is ∙ shown.page_vector (i / 1024) y opened closed },
+      )
 
   page-opened : (a b : ℕ) → a ≡ word_at upper root (i / 1048576) → b ≡ word_at upper (a / 4) (i / 1024 % 1024) → b % 4 ≡ 0 →
       is_pointer (mid_word upper root (i / 1024)) ≡ true
@@ -175,18 +176,20 @@ module _ (kind : Kind) (upper leaf spill : Frames) (root : ℕ) (m : List Perm) 
       (level kind m i ≡ L.Leaf) × IsLeaf kind false m i l 0
   walk-leaf a b l e hit f also line none miss =
       let T : ℕ → Type 0 = λ n. IsStored kind (line_at m (first_in line_words i)) line.left line.right line.number (first_in line_words i) l n in
-      let zero_word : spilled_word kind spill l ≡ 0 = ap (λ o. option_map_or (λ n. word_at spill n 0) o 0) none in
-      (level-line kind m i k (region-broken a e hit) (page-broken a b e hit f also) ∙ line_level-leaf kind m i k miss,
-       record { crowded_is = miss; left = line.left; right = line.right; number = line.number; left_is = line.left_is refl; right_is = line.right_is refl; stored = subst T zero_word line.stored })
+      let zero_word : spilled_word kind spill l ≡ 0 = ap (λ o. option_map_or (λ n. word_at spill n 0) o 0) none in (
+        level-line kind m i k (region-broken a e hit) (page-broken a b e hit f also) ∙ line_level-leaf kind m i k miss,
+        record { crowded_is = miss; left = line.left; right = line.right; number = line.number; left_is = line.left_is refl; right_is = line.right_is refl; stored = subst T zero_word line.stored },
+      )
 
   pub walk-spill : (a b l n s : ℕ) → a ≡ word_at upper root (i / 1048576) → a % 4 ≡ 0 → b ≡ word_at upper (a / 4) (i / 1024 % 1024) → b % 4 ≡ 0 →
       (line : IsLine kind true spill m (i / 16) l) → spill_number kind l ≡ Some n → s ≡ word_at spill n 0 → needs_spill kind (line_at m (first_in line_words i)) ≡ true →
       (level kind m i ≡ L.Spill) × IsLeaf kind true m i l s
   walk-spill a b l n s e hit f also line some is crowded =
       let T : ℕ → Type 0 = λ n. IsStored kind (line_at m (first_in line_words i)) line.left line.right line.number (first_in line_words i) l n in
-      let word : spilled_word kind spill l ≡ s = ap (λ o. option_map_or (λ n. word_at spill n 0) o 0) some ∙ sym is in
-      (level-line kind m i k (region-broken a e hit) (page-broken a b e hit f also) ∙ line_level-spill kind m i k crowded,
-       record { crowded_is = crowded; left = line.left; right = line.right; number = line.number; left_is = line.left_is refl; right_is = line.right_is refl; stored = subst T word line.stored })
+      let word : spilled_word kind spill l ≡ s = ap (λ o. option_map_or (λ n. word_at spill n 0) o 0) some ∙ sym is in (
+        level-line kind m i k (region-broken a e hit) (page-broken a b e hit f also) ∙ line_level-spill kind m i k crowded,
+        record { crowded_is = crowded; left = line.left; right = line.right; number = line.number; left_is = line.left_is refl; right_is = line.right_is refl; stored = subst T word line.stored },
+      )
 
 -- a named spill word tells whether the line needs one
 pub named-none : (b : Bool) (n : ℕ) → None ≡ (if b then Some n else None) → b ≡ false

@@ -1,14 +1,13 @@
 -- The stored words of a trie: where a walk for a word goes, what it finds, and how that stands for a map.
-use Rattle.std.specs.Prelude.{◌≡◌, ℕ, ◌+◌, ◌-◌, ◌*◌, ◌/◌, ◌%◌, ◌^◌, ◌<◌, ◌≤◌, ◌==◌, ◌&&◌, Bool, true, false, not, List, [], length, slice_index, if◌then◌else◌, Option, unwrap_or}
+use Rattle.std.specs.Prelude.{◌≡◌, ℕ, ◌*◌, ◌/◌, ◌%◌, ◌<◌, ◌==◌, ◌&&◌, Bool, true, false, List, Option, unwrap_or}
 use Rattle.std.specs.Option.{option_map_or}
 use Rattle.mx_words.specs.declared.perm.Perm.{Perm}
 use Rattle.mx_words.specs.declared.perm.Perm.TheVariants as P
 use Rattle.mx_words.specs.declared.tables.Kind.{Kind}
 use Rattle.mx_words.specs.declared.tables.Kind.TheVariants as K
-use Rattle.mx_words.specs.Rights.{from_number, perm_at}
-use Rattle.mx_words.specs.Counting.{list_below}
+use Rattle.mx_words.specs.Rights.{from_number}
 use Rattle.mx_words.specs.Runs.{line_words, page_words, region_words}
-use Rattle.mx_words.specs.Reach.{packed, vector, line_at, left_reach, right_reach}
+use Rattle.mx_words.specs.Reach.{vector, line_at, left_reach, right_reach}
 use Rattle.mx_pool.specs.Frames.{IsTaken, word_at}
 use Rattle.mx_upper.specs.Digits.{digit}
 use Rattle.mx_upper.specs.Blocks.{is_broken, IsEven}

@@ -27,7 +27,13 @@ pub(crate) enum Found {
 }
 
 /// Walks the tables below a root table for a word.
-pub(crate) fn find<L: LeafForm>(upper: &Pool<1024>, leaf: &Pool<64>, spill: &Pool<1>, root: u32, word: u32) -> Found
+pub(crate) fn find<L: LeafForm>(
+    upper: &Pool<1024>,
+    leaf: &Pool<64>,
+    spill: &Pool<1>,
+    root: u32,
+    word: u32,
+) -> Found
     ghost map: { List Perm }
     requires shown { IsShown L.kind true upper.now leaf.now spill.now root map }
     requires tight { IsTight upper.now root map }

@@ -1,6 +1,5 @@
-use Rattle.std.proofs.Common.{◌≡◌, ◌∙◌, ◌*◌, ◌/◌, true, sym, ap, arith, subst, ℕ}
-use Rattle.mx_words.specs.Runs.{line_words}
-use Rattle.mx_words.specs.Reach.{line_at, first_in}
+use Rattle.std.proofs.Common.{◌∙◌, ◌*◌, ◌/◌, true, sym, arith, subst, ℕ}
+use Rattle.mx_words.specs.Reach.{line_at}
 use Rattle.mx_pool.specs.Frames.{IsTaken}
 use Rattle.mx_upper.specs.Leaf.{needs_spill}
 use Rattle.mx_upper.specs.Walk.{IsLine}
@@ -18,17 +17,20 @@ returns-then-in_mid-ne0 g c =
     c.get-in_root.result c.get-in_mid.result c.get-in_root.ensures c.if-in_root-ne0.false c.get-in_mid.ensures c.if-in_mid-ne0.true
 
 pub get-in_leaf-requires : goal.get-in_leaf-requires
-get-in_leaf-requires g c =
-    (omega arith,
-     (walk-taken g.L.LeafForm.kind c.args.upper.now c.args.leaf.now c.args.spill.now c.args.root g.map c.args.word g.met.L.LeafForm.trie c.requires.1.0 c.requires.1.1.0 c.requires.1.1.1
-      c.get-in_root.result c.get-in_mid.result c.get-in_root.ensures c.if-in_root-ne0.false c.get-in_mid.ensures c.if-in_mid-ne0.false,
-      omega arith))
+get-in_leaf-requires g c = (
+  omega arith,
+  (
+    walk-taken g.L.LeafForm.kind c.args.upper.now c.args.leaf.now c.args.spill.now c.args.root g.map c.args.word g.met.L.LeafForm.trie c.requires.1.0 c.requires.1.1.0 c.requires.1.1.1
+        c.get-in_root.result c.get-in_mid.result c.get-in_root.ensures c.if-in_root-ne0.false c.get-in_mid.ensures c.if-in_mid-ne0.false,
+    omega arith,
+  ),
+)
 
 pub get-requires : goal.get-requires
 get-requires g c =
     let line : IsLine g.L.LeafForm.kind true c.args.spill.now g.map (c.args.word / 16) c.get-in_leaf.result =
-        walk-line g.L.LeafForm.kind c.args.upper.now c.args.leaf.now c.args.spill.now c.args.root g.map c.args.word g.met.L.LeafForm.trie c.requires.1.0 c.requires.1.1.0 c.requires.1.1.1
-        c.get-in_root.result c.get-in_mid.result c.get-in_leaf.result c.get-in_root.ensures c.if-in_root-ne0.false c.get-in_mid.ensures c.if-in_mid-ne0.false c.get-in_leaf.ensures in
+    walk-line g.L.LeafForm.kind c.args.upper.now c.args.leaf.now c.args.spill.now c.args.root g.map c.args.word g.met.L.LeafForm.trie c.requires.1.0 c.requires.1.1.0 c.requires.1.1.1
+    c.get-in_root.result c.get-in_mid.result c.get-in_leaf.result c.get-in_root.ensures c.if-in_root-ne0.false c.get-in_mid.ensures c.if-in_mid-ne0.false c.get-in_leaf.ensures in
     let named = c.spill_of.ensures.named (line_at g.map (c.args.word / 16 * 16)) line.left line.right line.number line.stored.entry_is in
     let both = named-some (needs_spill g.L.LeafForm.kind (line_at g.map (c.args.word / 16 * 16))) line.number c.in-Some.number (sym c.in-Some.is ∙ named) in
     let T : ℕ → Type 0 = λ n. IsTaken c.args.spill.now n in
@@ -37,8 +39,8 @@ get-requires g c =
 pub returns-in-None : goal.returns-in-None
 returns-in-None g c =
     let line : IsLine g.L.LeafForm.kind true c.args.spill.now g.map (c.args.word / 16) c.get-in_leaf.result =
-        walk-line g.L.LeafForm.kind c.args.upper.now c.args.leaf.now c.args.spill.now c.args.root g.map c.args.word g.met.L.LeafForm.trie c.requires.1.0 c.requires.1.1.0 c.requires.1.1.1
-        c.get-in_root.result c.get-in_mid.result c.get-in_leaf.result c.get-in_root.ensures c.if-in_root-ne0.false c.get-in_mid.ensures c.if-in_mid-ne0.false c.get-in_leaf.ensures in
+    walk-line g.L.LeafForm.kind c.args.upper.now c.args.leaf.now c.args.spill.now c.args.root g.map c.args.word g.met.L.LeafForm.trie c.requires.1.0 c.requires.1.1.0 c.requires.1.1.1
+    c.get-in_root.result c.get-in_mid.result c.get-in_leaf.result c.get-in_root.ensures c.if-in_root-ne0.false c.get-in_mid.ensures c.if-in_mid-ne0.false c.get-in_leaf.ensures in
     let named = c.spill_of.ensures.named (line_at g.map (c.args.word / 16 * 16)) line.left line.right line.number line.stored.entry_is in
     walk-leaf g.L.LeafForm.kind c.args.upper.now c.args.leaf.now c.args.spill.now c.args.root g.map c.args.word g.met.L.LeafForm.trie c.requires.1.0 c.requires.1.1.0 c.requires.1.1.1
     c.get-in_root.result c.get-in_mid.result c.get-in_leaf.result c.get-in_root.ensures c.if-in_root-ne0.false c.get-in_mid.ensures c.if-in_mid-ne0.false line
@@ -48,8 +50,8 @@ returns-in-None g c =
 pub returns-in-Some : goal.returns-in-Some
 returns-in-Some g c =
     let line : IsLine g.L.LeafForm.kind true c.args.spill.now g.map (c.args.word / 16) c.get-in_leaf.result =
-        walk-line g.L.LeafForm.kind c.args.upper.now c.args.leaf.now c.args.spill.now c.args.root g.map c.args.word g.met.L.LeafForm.trie c.requires.1.0 c.requires.1.1.0 c.requires.1.1.1
-        c.get-in_root.result c.get-in_mid.result c.get-in_leaf.result c.get-in_root.ensures c.if-in_root-ne0.false c.get-in_mid.ensures c.if-in_mid-ne0.false c.get-in_leaf.ensures in
+    walk-line g.L.LeafForm.kind c.args.upper.now c.args.leaf.now c.args.spill.now c.args.root g.map c.args.word g.met.L.LeafForm.trie c.requires.1.0 c.requires.1.1.0 c.requires.1.1.1
+    c.get-in_root.result c.get-in_mid.result c.get-in_leaf.result c.get-in_root.ensures c.if-in_root-ne0.false c.get-in_mid.ensures c.if-in_mid-ne0.false c.get-in_leaf.ensures in
     let named = c.spill_of.ensures.named (line_at g.map (c.args.word / 16 * 16)) line.left line.right line.number line.stored.entry_is in
     let both = named-some (needs_spill g.L.LeafForm.kind (line_at g.map (c.args.word / 16 * 16))) line.number c.in-Some.number (sym c.in-Some.is ∙ named) in
     walk-spill g.L.LeafForm.kind c.args.upper.now c.args.leaf.now c.args.spill.now c.args.root g.map c.args.word g.met.L.LeafForm.trie c.requires.1.0 c.requires.1.1.0 c.requires.1.1.1

@@ -1,5 +1,5 @@
-use Rattle.std.proofs.Common.{◌≡◌, ◌∙◌, ◌*◌, ◌/◌, ap, sym, subst, arith}
-use Rattle.mx_words.specs.Reach.{span, line_at}
+use Rattle.std.proofs.Common.{◌∙◌, ◌*◌, ◌/◌, ap, sym, subst, arith}
+use Rattle.mx_words.specs.Reach.{line_at}
 use Rattle.mx_upper.specs.Leaf.{cut_at}
 use Rattle.mx_upper.specs.declared.walk.Found.{Found}
 use Rattle.mx_upper.specs.declared.walk.Found.TheVariants as F
