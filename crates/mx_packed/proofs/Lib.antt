@@ -1,4 +1,2 @@
-pub mod RunCodes
-pub mod Decoding
 pub mod Entries
 pub mod EntryRuns

@@ -1,3 +1,1 @@
 pub mod Pack
-pub mod Codes
-pub mod Decoded

@@ -5,7 +5,7 @@ ghost use Rattle.mx_words.specs.Rights.{number};
 ghost use Rattle.mx_words.specs.Runs.{runs, line_words};
 ghost use Rattle.mx_upper.specs.Leaf.{form_reach};
 ghost use Rattle.mx_packed.specs.Pack.{pack_of};
-ghost use Rattle.mx_packed.specs.Codes.{value_code, start_code};
+ghost use Rattle.mx_upper.specs.Codes.{value_code, start_code};
 
 use mx_words::Perm;
 

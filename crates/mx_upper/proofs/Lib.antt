@@ -9,3 +9,7 @@ pub mod FoundSpans
 pub mod FoundItems
 pub mod ChangeLaws
 pub mod ReachLaws
+pub mod RunCodes
+pub mod Decoding
+pub mod MiniEntries
+pub mod ReadLines

@@ -9,7 +9,7 @@ use Rattle.mx_words.specs.Rights.{from_number}
 use Rattle.mx_words.specs.Runs.{line_words, page_words, region_words}
 use Rattle.mx_words.specs.Reach.{vector, line_at, left_reach, right_reach}
 use Rattle.mx_pool.specs.Frames.{IsTaken, word_at}
-use Rattle.mx_upper.specs.Digits.{digit}
+use Rattle.mx_upper.specs.Digits.{digit, numbered}
 use Rattle.mx_upper.specs.Blocks.{is_broken, IsEven}
 use Rattle.mx_upper.specs.Leaf.{spill_number, needs_spill, IsStored}
 
@@ -54,10 +54,6 @@ has_mid upper root x = is_pointer (root_word upper root x)
 
 abbrev pub has_leaf : Frames → ℕ → ℕ → Bool
 has_leaf upper root y = has_mid upper root (y / 1024) && is_pointer (mid_word upper root y)
-
--- the permission with a number, which is below 4
-abbrev pub numbered : ℕ → Perm
-numbered n = unwrap_or (from_number n) P.None
 
 -- the permission of part e of a block that has a vector
 abbrev pub vector_perm : ℕ → ℕ → Perm

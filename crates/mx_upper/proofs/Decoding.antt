@@ -7,9 +7,9 @@ use Rattle.mx_words.specs.declared.perm.Perm.TheVariants as P
 use Rattle.mx_words.specs.Rights.{number, same, perm_at}
 use Rattle.mx_upper.proofs.Digits.{number-small}
 use Rattle.mx_upper.proofs.PlainRuns.{number-one_to_one}
-use Rattle.mx_packed.specs.Codes.{value_code, start_code}
-use Rattle.mx_packed.specs.Decoded.{IsDecoded}
-use Rattle.mx_packed.proofs.RunCodes.{value_code-same, value_code-other, start_code-same, start_code-other}
+use Rattle.mx_upper.specs.Codes.{value_code, start_code}
+use Rattle.mx_upper.specs.Decoded.{IsDecoded}
+use Rattle.mx_upper.proofs.RunCodes.{value_code-same, value_code-other, start_code-same, start_code-other}
 
 -- the lowest digit is the first permission
 lowest-step : (p q : Perm) (rest : ℕ) → rest % 4 ≡ number q → (if same p q then rest else number p + 4 * rest) % 4 ≡ number p

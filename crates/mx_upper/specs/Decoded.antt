@@ -2,7 +2,7 @@
 use Rattle.std.specs.Prelude.{◌≡◌, ℕ, ◌<◌, List, drop}
 use Rattle.mx_words.specs.declared.perm.Perm.{Perm}
 use Rattle.mx_words.specs.Rights.{perm_at}
-use Rattle.mx_packed.specs.Codes.{value_code, start_code}
+use Rattle.mx_upper.specs.Codes.{value_code, start_code}
 
 -- the first words stand in the line, and the codes that are left are those of the other words
 pub record IsDecoded (perms line : List Perm) (place values starts : ℕ) : Type 0 where
