@@ -13,3 +13,4 @@ pub mod RunCodes
 pub mod Decoding
 pub mod MiniEntries
 pub mod ReadLines
+pub mod StandingLaws

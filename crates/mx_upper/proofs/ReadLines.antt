@@ -3,7 +3,7 @@ use Rattle.std.proofs.Common.{◌≡◌, ◌≢◌, ℕ, zero, suc, ◌+◌, ◌
 use Rattle.std.proofs.Math.ListN.{length-set}
 use Rattle.std.proofs.lemmas.Bool.{ltb-false, ne_eqb}
 use Rattle.std.proofs.lemmas.Bool.Decides.{eqb_tells}
-use Rattle.std.proofs.lemmas.List.{ext_get_or, drop_more, at_drop_all}
+use Rattle.std.proofs.lemmas.List.{ext_get_or, drop_more, at_drop_all, get_or_default}
 use Rattle.mx_words.specs.declared.perm.Perm.{Perm}
 use Rattle.mx_words.specs.declared.perm.Perm.TheVariants as P
 use Rattle.mx_words.specs.declared.tables.Kind.{Kind}
@@ -16,7 +16,7 @@ use Rattle.mx_upper.specs.Digits.{digit, numbered}
 use Rattle.mx_upper.specs.Codes.{value_code, start_code}
 use Rattle.mx_upper.specs.Decoded.{IsDecoded}
 use Rattle.mx_upper.specs.Leaf.{IsTrieKind, needs_spill, packed_entry, IsStored}
-use Rattle.mx_upper.specs.Walk.{Frames, most_regions, most_pages, most_lines, has_mid, is_pointer, root_word, mid_word, leaf_word, spilled_word, vector_perm, IsLine, IsShown}
+use Rattle.mx_upper.specs.Walk.{Frames, most_regions, most_pages, most_lines, has_mid, is_pointer, root_word, mid_word, leaf_word, spilled_word, vector_perm, line_number, IsLine, IsShown}
 use Rattle.mx_upper.specs.Found.{IsVector}
 use Rattle.mx_upper.specs.Read.{plain_line, codes_line, packed_line, read_line, leaf_perm, read_at, read_map}
 use Rattle.mx_upper.proofs.Digits.{digit-packed}
@@ -123,3 +123,61 @@ read_line-is K.Segments (inl e) perms left right spill line entry spilled s = ab
 read_line-is K.Segments (inr e) perms left right spill line entry spilled s = absurd (cc)
 read_line-is K.Multilevel k perms left right spill line entry spilled s = ap plain_line s.entry_is ∙ plain_line-packed perms s.whole
 read_line-is K.Packed k perms left right spill line entry spilled s = packed-reads perms left right spill line entry spilled s
+
+-- the word that is read is the map's
+module _ (kind : Kind) (lefts rights : ℕ → ℕ) (upper leaf spill : Frames) (root : ℕ) (m : List Perm) (k : IsTrieKind kind) (shown : IsShown kind lefts rights upper leaf spill root m) where
+  root-read : (i : ℕ) → i < 2 ^ 24 → has_mid upper root (i / 1048576) ≡ false → vector_perm (root_word upper root (i / 1048576)) (i / 131072 % 8) ≡ perm_at m i
+  root-read i below closed =
+      let x : i / 1048576 < most_regions = omega arith in
+      let v : IsVector region_words 131072 m i (root_word upper root (i / 1048576)) =
+          record { even = shown.region_even (i / 1048576) x closed; entry_is = shown.region_vector (i / 1048576) x closed } in
+      ap numbered (vector-digit 1048576 131072 m i (i / 131072 % 8) (i % 131072) (root_word upper root (i / 1048576)) refl v (omega arith) (omega arith) (omega arith))
+      ∙ numbered-number (perm_at m i)
+
+  open-at : (i : ℕ) → has_mid upper root (i / 1048576) ≡ true → has_mid upper root (i / 1024 / 1024) ≡ true
+  open-at i opened = let at : i / 1024 / 1024 ≡ i / 1048576 = omega arith in ap (has_mid upper root) at ∙ opened
+
+  mid-read : (i : ℕ) → i < 2 ^ 24 → has_mid upper root (i / 1048576) ≡ true → is_pointer (mid_word upper root (i / 1024)) ≡ false →
+      vector_perm (mid_word upper root (i / 1024)) (i / 128 % 8) ≡ perm_at m i
+  mid-read i below opened closed =
+      let y : i / 1024 < most_pages = omega arith in
+      let v : IsVector page_words 128 m i (mid_word upper root (i / 1024)) =
+          record { even = shown.page_even (i / 1024) y (open-at i opened) closed; entry_is = shown.page_vector (i / 1024) y (open-at i opened) closed } in
+      ap numbered (vector-digit 1024 128 m i (i / 128 % 8) (i % 128) (mid_word upper root (i / 1024)) refl v (omega arith) (omega arith) (omega arith))
+      ∙ numbered-number (perm_at m i)
+
+  leaf-read : (i : ℕ) → i < 2 ^ 24 → has_mid upper root (i / 1048576) ≡ true → is_pointer (mid_word upper root (i / 1024)) ≡ true →
+      leaf_perm kind spill (leaf_word upper leaf root (i / 16)) i ≡ perm_at m i
+  leaf-read i below opened page =
+      let z : i / 16 < most_lines = omega arith in
+      let at : i / 16 / 64 ≡ i / 1024 = omega arith in
+      let region : has_mid upper root (i / 16 / 64 / 1024) ≡ true = ap (λ n. has_mid upper root (n / 1024)) at ∙ open-at i opened in
+      let pointer : is_pointer (mid_word upper root (i / 16 / 64)) ≡ true = ap (λ n. is_pointer (mid_word upper root n)) at ∙ page in
+      let line : IsLine kind spill m (i / 16) (lefts (i / 16)) (rights (i / 16)) (leaf_word upper leaf root (i / 16)) = shown.line (i / 16) z region pointer in
+      let here : i / 16 * line_words + i % 16 ≡ i = omega arith in
+      ap (λ xs. perm_at xs (i % 16)) (read_line-is kind k (line_at m (i / 16 * line_words)) (lefts (i / 16)) (rights (i / 16)) (line_number kind (leaf_word upper leaf root (i / 16))) (i / 16 * line_words) (leaf_word upper leaf root (i / 16)) (spilled_word kind spill (leaf_word upper leaf root (i / 16))) line.stored)
+      ∙ line-at m (i / 16) (i % 16) (omega arith)
+      ∙ ap (perm_at m) here
+
+  page-read : (i : ℕ) → i < 2 ^ 24 → has_mid upper root (i / 1048576) ≡ true →
+      (if is_pointer (mid_word upper root (i / 1024)) then leaf_perm kind spill (leaf_word upper leaf root (i / 16)) i else vector_perm (mid_word upper root (i / 1024)) (i / 128 % 8)) ≡ perm_at m i
+  page-read i below opened =
+      elim (is_pointer (mid_word upper root (i / 1024))) as (λ b. is_pointer (mid_word upper root (i / 1024)) ≡ b → (if b then leaf_perm kind spill (leaf_word upper leaf root (i / 16)) i else vector_perm (mid_word upper root (i / 1024)) (i / 128 % 8)) ≡ perm_at m i) [
+        true ↦ λ e. leaf-read i below opened e
+      | false ↦ λ e. mid-read i below opened e
+      ] refl
+
+  pub read_at-is : (i : ℕ) → i < 2 ^ 24 → read_at kind upper leaf spill root i ≡ perm_at m i
+  read_at-is i below =
+      elim (has_mid upper root (i / 1048576)) as (λ b. has_mid upper root (i / 1048576) ≡ b →
+          (if b then (if is_pointer (mid_word upper root (i / 1024)) then leaf_perm kind spill (leaf_word upper leaf root (i / 16)) i else vector_perm (mid_word upper root (i / 1024)) (i / 128 % 8))
+          else vector_perm (root_word upper root (i / 1048576)) (i / 131072 % 8)) ≡ perm_at m i) [
+        true ↦ λ e. page-read i below e
+      | false ↦ λ e. root-read i below e
+      ] refl
+
+  pub read_map-is : (words : ℕ) → words ≤ 2 ^ 24 → length m ≡ words → read_map kind upper leaf spill words root ≡ m
+  unfolding read_map
+  read_map-is words few long =
+      list_below_is words (read_at kind upper leaf spill root) m long
+      (λ i d below. get_or_default m i d P.None (omega arith) ∙ sym (read_at-is i (omega arith)))

@@ -12,7 +12,7 @@ use Rattle.mx_words.specs.Reach.{level, trie_level, line_level, line_at, first_i
 use Rattle.mx_pool.specs.Frames.{IsTaken, word_at}
 use Rattle.mx_upper.specs.Blocks.{block_of, is_broken}
 use Rattle.mx_upper.specs.Leaf.{IsTrieKind, needs_spill, spill_number, IsStored}
-use Rattle.mx_upper.specs.Walk.{Frames, most_regions, most_pages, most_lines, is_pointer, mid_word, leaf_word, spilled_word, has_mid, has_leaf, IsLine, IsShown, IsTight}
+use Rattle.mx_upper.specs.Walk.{Frames, most_regions, most_pages, most_lines, is_pointer, mid_word, leaf_word, spilled_word, has_mid, has_leaf, map_left, map_right, line_number, IsLine, IsShown, IsTight}
 use Rattle.mx_upper.specs.Found.{IsVector, IsLeaf}
 
 -- the level of a word, by the blocks that hold it
@@ -98,7 +98,7 @@ and-true : {a b : Bool} → a ≡ true → b ≡ true → (a && b) ≡ true
 and-true {a} {b} e f = ap (λ v. v && b) e ∙ f
 
 -- the words on the way
-module _ (kind : Kind) (upper leaf spill : Frames) (root : ℕ) (m : List Perm) (i : ℕ) (k : IsTrieKind kind) (shown : IsShown kind true upper leaf spill root m)
+module _ (kind : Kind) (upper leaf spill : Frames) (root : ℕ) (m : List Perm) (i : ℕ) (k : IsTrieKind kind) (shown : IsShown kind (map_left kind m) (map_right kind m) upper leaf spill root m)
     (tight : IsTight upper root m) (below : i < 2 ^ 24) where
   region-closed : (a : ℕ) → a ≡ word_at upper root (i / 1048576) → a % 4 ≢ 0 → has_mid upper root (i / 1048576) ≡ false
   region-closed a e miss = ne_eqb (word_at upper root (i / 1048576) % 4) 0 (λ f. miss (ap (λ n. n % 4) e ∙ f))
@@ -160,35 +160,35 @@ module _ (kind : Kind) (upper leaf spill : Frames) (root : ℕ) (m : List Perm) 
       subst T (sym (mid-is a b e f)) (shown.leaf_taken (i / 1024) y (region-opened a e hit) (page-opened a b e f also))
 
   pub walk-line : (a b l : ℕ) → a ≡ word_at upper root (i / 1048576) → a % 4 ≡ 0 → b ≡ word_at upper (a / 4) (i / 1024 % 1024) → b % 4 ≡ 0 →
-      l ≡ word_at leaf (b / 4) (i / 16 % 64) → IsLine kind true spill m (i / 16) l
+      l ≡ word_at leaf (b / 4) (i / 16 % 64) → IsLine kind spill m (i / 16) (map_left kind m (i / 16)) (map_right kind m (i / 16)) l
   walk-line a b l e hit f also h =
       let z : i / 16 < most_lines = omega arith in
       let at : i / 1024 ≡ i / 16 / 64 = omega arith in
       let opened : has_mid upper root (i / 16 / 64 / 1024) ≡ true = ap (λ n. has_mid upper root (n / 1024)) (sym at) ∙ region-opened a e hit in
       let page : is_pointer (mid_word upper root (i / 16 / 64)) ≡ true = ap (λ n. is_pointer (mid_word upper root n)) (sym at) ∙ page-opened a b e f also in
       let is : l ≡ leaf_word upper leaf root (i / 16) = h ∙ ap (λ n. word_at leaf (n / 4) (i / 16 % 64)) (mid-is a b e f ∙ ap (mid_word upper root) at) in
-      let T : ℕ → Type 0 = λ n. IsLine kind true spill m (i / 16) n in
+      let T : ℕ → Type 0 = λ n. IsLine kind spill m (i / 16) (map_left kind m (i / 16)) (map_right kind m (i / 16)) n in
       subst T (sym is) (shown.line (i / 16) z opened page)
 
   -- the line's entry has no spill word, or has one
   pub walk-leaf : (a b l : ℕ) → a ≡ word_at upper root (i / 1048576) → a % 4 ≡ 0 → b ≡ word_at upper (a / 4) (i / 1024 % 1024) → b % 4 ≡ 0 →
-      (line : IsLine kind true spill m (i / 16) l) → spill_number kind l ≡ None → needs_spill kind (line_at m (first_in line_words i)) ≡ false →
+      (line : IsLine kind spill m (i / 16) (map_left kind m (i / 16)) (map_right kind m (i / 16)) l) → spill_number kind l ≡ None → needs_spill kind (line_at m (first_in line_words i)) ≡ false →
       (level kind m i ≡ L.Leaf) × IsLeaf kind false m i l 0
   walk-leaf a b l e hit f also line none miss =
-      let T : ℕ → Type 0 = λ n. IsStored kind (line_at m (first_in line_words i)) line.left line.right line.number (first_in line_words i) l n in
+      let T : ℕ → Type 0 = λ n. IsStored kind (line_at m (first_in line_words i)) (map_left kind m (i / 16)) (map_right kind m (i / 16)) (line_number kind l) (first_in line_words i) l n in
       let zero_word : spilled_word kind spill l ≡ 0 = ap (λ o. option_map_or (λ n. word_at spill n 0) o 0) none in (
         level-line kind m i k (region-broken a e hit) (page-broken a b e hit f also) ∙ line_level-leaf kind m i k miss,
-        record { crowded_is = miss; left = line.left; right = line.right; number = line.number; left_is = line.left_is refl; right_is = line.right_is refl; stored = subst T zero_word line.stored },
+        record { crowded_is = miss; left = map_left kind m (i / 16); right = map_right kind m (i / 16); number = line_number kind l; left_is = refl; right_is = refl; stored = subst T zero_word line.stored },
       )
 
   pub walk-spill : (a b l n s : ℕ) → a ≡ word_at upper root (i / 1048576) → a % 4 ≡ 0 → b ≡ word_at upper (a / 4) (i / 1024 % 1024) → b % 4 ≡ 0 →
-      (line : IsLine kind true spill m (i / 16) l) → spill_number kind l ≡ Some n → s ≡ word_at spill n 0 → needs_spill kind (line_at m (first_in line_words i)) ≡ true →
+      (line : IsLine kind spill m (i / 16) (map_left kind m (i / 16)) (map_right kind m (i / 16)) l) → spill_number kind l ≡ Some n → s ≡ word_at spill n 0 → needs_spill kind (line_at m (first_in line_words i)) ≡ true →
       (level kind m i ≡ L.Spill) × IsLeaf kind true m i l s
   walk-spill a b l n s e hit f also line some is crowded =
-      let T : ℕ → Type 0 = λ n. IsStored kind (line_at m (first_in line_words i)) line.left line.right line.number (first_in line_words i) l n in
+      let T : ℕ → Type 0 = λ n. IsStored kind (line_at m (first_in line_words i)) (map_left kind m (i / 16)) (map_right kind m (i / 16)) (line_number kind l) (first_in line_words i) l n in
       let word : spilled_word kind spill l ≡ s = ap (λ o. option_map_or (λ n. word_at spill n 0) o 0) some ∙ sym is in (
         level-line kind m i k (region-broken a e hit) (page-broken a b e hit f also) ∙ line_level-spill kind m i k crowded,
-        record { crowded_is = crowded; left = line.left; right = line.right; number = line.number; left_is = line.left_is refl; right_is = line.right_is refl; stored = subst T word line.stored },
+        record { crowded_is = crowded; left = map_left kind m (i / 16); right = map_right kind m (i / 16); number = line_number kind l; left_is = refl; right_is = refl; stored = subst T word line.stored },
       )
 
 -- a named spill word tells whether the line needs one

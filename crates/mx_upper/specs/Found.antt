@@ -32,3 +32,8 @@ IsFound kind m i (F.Root entry) = (level kind m i ≡ L.Root) × IsVector region
 IsFound kind m i (F.Mid entry) = (level kind m i ≡ L.Mid) × IsVector page_words 128 m i entry
 IsFound kind m i (F.Leaf entry) = (level kind m i ≡ L.Leaf) × IsLeaf kind false m i entry 0
 IsFound kind m i (F.Spill entry spilled) = (level kind m i ≡ L.Spill) × IsLeaf kind true m i entry spilled
+
+-- what a walk for word i finds in the tables of some map
+pub record IsSomeFound (kind : Kind) (i : ℕ) (found : Found) : Type 0 where
+  pub map : List Perm
+  pub found_in : IsFound kind map i found

@@ -6,3 +6,4 @@ pub mod Found
 pub mod Codes
 pub mod Decoded
 pub mod Read
+pub mod Standing

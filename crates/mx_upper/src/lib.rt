@@ -3,9 +3,11 @@
 
 mod leaf;
 mod roots;
+mod trie;
 mod vector;
 mod walk;
 
 pub use leaf::LeafForm;
 pub use roots::Roots;
+pub use trie::Trie;
 pub use vector::Vector;

@@ -5,8 +5,9 @@ ghost use Rattle.mx_words.specs.Rights.{number};
 ghost use Rattle.mx_words.specs.Reach.{span, stored, first_in};
 ghost use Rattle.mx_upper.specs.Digits.{digit};
 ghost use Rattle.mx_upper.specs.Leaf.{cut_at};
-ghost use Rattle.mx_upper.specs.Walk.{IsShown, IsTight};
-ghost use Rattle.mx_upper.specs.Found.{IsFound};
+ghost use Rattle.mx_upper.specs.Walk.{IsShown, IsTight, map_left, map_right};
+ghost use Rattle.mx_upper.specs.Found.{IsFound, IsSomeFound};
+ghost use Rattle.mx_upper.specs.Read.{read_map};
 
 use crate::LeafForm;
 use crate::vector::perm_in;
@@ -26,19 +27,20 @@ pub(crate) enum Found {
     Spill(u32, u32),
 }
 
-/// Walks the tables below a root table for a word.
+/// Walks the tables below a root table for a word of a RAM of `words` words.
 pub(crate) fn find<L: LeafForm>(
     upper: &Pool<1024>,
     leaf: &Pool<64>,
     spill: &Pool<1>,
+    words: u32,
     root: u32,
     word: u32,
 ) -> Found
-    ghost map: { List Perm }
-    requires shown { IsShown L.kind true upper.now leaf.now spill.now root map }
-    requires tight { IsTight upper.now root map }
-    requires word { word < 2 ^ 24 }
-    ensures { IsFound L.kind map word result }
+    requires shown { let map = read_map L.kind upper.now leaf.now spill.now words root in IsShown L.kind (map_left L.kind map) (map_right L.kind map) upper.now leaf.now spill.now root map }
+    requires tight { IsTight upper.now root (read_map L.kind upper.now leaf.now spill.now words root) }
+    requires few { words ≤ 2 ^ 24 }
+    requires inside { word < words }
+    ensures { IsFound L.kind (read_map L.kind upper.now leaf.now spill.now words root) word result }
 {
     let in_root = upper.get(root, word / 0x10_0000);
     if in_root % 4 != 0 {
@@ -84,12 +86,9 @@ fn cut(run: Span, words: u32) -> Span
 
 /// The span that a walk answers for a word, by what it found.
 pub(crate) fn found_span<L: LeafForm>(found: Found, word: u32, words: u32) -> Span
-    ghost map: { List Perm }
-    requires found { IsFound L.kind map word found }
-    requires long { length map ≡ words }
+    requires found { IsSomeFound L.kind word found }
     requires inside { word < words }
-    requires few { words ≤ 2 ^ 24 }
-    ensures { result ≡ span L.kind map word }
+    ensures { (map : List Perm) → IsFound L.kind map word found → length map ≡ words → result ≡ span L.kind map word }
 {
     let line = word / 0x10 * 0x10;
     match found {
@@ -117,11 +116,8 @@ fn block_item(level: Level, size: u32, word: u32, words: u32, stored: u32) -> Sh
 
 /// The stored item that decides a word, by what a walk found.
 pub(crate) fn found_item<L: LeafForm>(found: Found, word: u32, words: u32) -> Shown
-    ghost map: { List Perm }
-    requires found { IsFound L.kind map word found }
-    requires long { length map ≡ words }
-    requires inside { word < words }
-    ensures { result ≡ stored L.kind map word }
+    requires { word < words }
+    ensures { (map : List Perm) → IsFound L.kind map word found → length map ≡ words → result ≡ stored L.kind map word }
 {
     match found {
         Found::Root(entry) => block_item(Level::Root, 0x10_0000, word, words, entry),
