@@ -1,5 +1,5 @@
 -- What a packed entry is packed from.
-use Rattle.std.proofs.Common.{◌≡◌, ℕ, ◌+◌, ◌*◌, ◌/◌, ◌%◌, ◌^◌, ◌<◌, ◌≤◌, true, false, nat_lt, List, length, Some, None, if◌then◌else◌, refl, ◌∙◌, arith}
+use Rattle.std.proofs.Common.{◌≡◌, ℕ, ◌≤◌, true, false, nat_lt, List, length, Some, None, if◌then◌else◌, refl, arith}
 use Rattle.std.proofs.lemmas.Bool.{ltb-true, ltb-false}
 use Rattle.mx_words.specs.declared.perm.Perm.{Perm}
 use Rattle.mx_words.specs.Rights.{same}
@@ -7,8 +7,6 @@ use Rattle.mx_words.specs.Runs.{runs, runs_of}
 use Rattle.mx_words.specs.Reach.{mini_entry}
 use Rattle.mx_upper.proofs.MiniEntries.{IsMade, mini-made}
 use Rattle.mx_packed.specs.Pack.{pack_of}
-use Rattle.mx_upper.specs.Codes.{value_code, start_code}
-use Rattle.mx_upper.proofs.RunCodes.{mini-codes, value_code-below, start_code-below}
 
 -- a line is packed exactly where it has at most four runs
 pub pack_of-few : (perms : List Perm) (left right : ℕ) → runs perms ≤ 4 → pack_of perms left right ≡ Some (mini_entry (runs_of same perms) left right)

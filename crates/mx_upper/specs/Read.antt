@@ -35,8 +35,8 @@ leaf_perm kind spill entry i = perm_at (read_line kind entry (spilled_word kind 
 abbrev pub read_at : Kind → Frames → Frames → Frames → ℕ → ℕ → Perm
 read_at kind upper leaf spill root i =
     if has_mid upper root (i / 1048576) then
-        (if is_pointer (mid_word upper root (i / 1024)) then leaf_perm kind spill (leaf_word upper leaf root (i / 16)) i
-        else vector_perm (mid_word upper root (i / 1024)) (i / 128 % 8))
+    (if is_pointer (mid_word upper root (i / 1024)) then leaf_perm kind spill (leaf_word upper leaf root (i / 16)) i
+    else vector_perm (mid_word upper root (i / 1024)) (i / 128 % 8))
     else vector_perm (root_word upper root (i / 1048576)) (i / 131072 % 8)
 
 -- a domain's map, and the maps of all domains

@@ -2,10 +2,8 @@
 use Rattle.std.specs.Prelude.{◌≡◌, ℕ, ◌*◌, ◌/◌, ◌%◌, ◌<◌, ◌==◌, ◌&&◌, Bool, true, false, List, Option, unwrap_or}
 use Rattle.std.specs.Option.{option_map_or}
 use Rattle.mx_words.specs.declared.perm.Perm.{Perm}
-use Rattle.mx_words.specs.declared.perm.Perm.TheVariants as P
 use Rattle.mx_words.specs.declared.tables.Kind.{Kind}
 use Rattle.mx_words.specs.declared.tables.Kind.TheVariants as K
-use Rattle.mx_words.specs.Rights.{from_number}
 use Rattle.mx_words.specs.Runs.{line_words, page_words, region_words}
 use Rattle.mx_words.specs.Reach.{vector, line_at, left_reach, right_reach}
 use Rattle.mx_pool.specs.Frames.{IsTaken, word_at}

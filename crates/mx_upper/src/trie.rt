@@ -2,6 +2,7 @@
 ghost use Rattle.std.specs.Prelude.{◌≡◌, ℕ, ◌+◌, ◌-◌, ◌<◌, ◌≤◌, List, length};
 ghost use Rattle.mx_words.specs.declared.perm.Perm.{Perm};
 ghost use Rattle.mx_words.specs.Rights.{perm_at};
+ghost use Rattle.mx_words.specs.Caches.{raised};
 ghost use Rattle.mx_words.specs.Need.{need};
 ghost use Rattle.mx_words.specs.Reach.{span, stored};
 ghost use Rattle.mx_table.specs.Tables.{map_of, IsDomain};
@@ -96,5 +97,67 @@ impl<L: LeafForm> Trie<L> {
             leaf: self.limit.leaf + spare - self.leaf.free_frames(),
             spill: self.limit.spill + spare - self.spill.free_frames(),
         }
+    }
+
+    /// The span that a walk for a domain's word answers. The count of lookups rises by one, or stays at 2^64 - 1, and all else stays.
+    /// The domain is one of 1 to `modules`, the word lies in RAM.
+    pub fn lookup(&mut self, domain: u32, word: u32) -> Span
+        requires first { 1 ≤ domain }
+        requires last { domain ≤ length self.old.roots }
+        requires inside { word < self.old.words }
+        ensures found { result ≡ span L.kind (map_of (read_maps L.kind self.old.upper self.old.leaf self.old.spill self.old.words self.old.roots) domain) word }
+        ensures counted { self.new.lookups ≡ raised self.old.lookups }
+        ensures same_upper { self.new.upper ≡ self.old.upper }
+        ensures same_leaf { self.new.leaf ≡ self.old.leaf }
+        ensures same_spill { self.new.spill ≡ self.old.spill }
+        ensures same_roots { self.new.roots ≡ self.old.roots }
+        ensures same_words { self.new.words ≡ self.old.words }
+        ensures same_limit { self.new.limit ≡ self.old.limit }
+    {
+        let span = self.span_of(domain, word);
+        self.lookups = self.lookups.saturating_add(1);
+        span
+    }
+
+    /// The limit.
+    pub fn limit(&self) -> Need
+        ensures { result ≡ self.now.limit }
+    {
+        self.limit
+    }
+
+    /// The number of words of RAM, 1 to 2^24.
+    pub fn words(&self) -> u32
+        ensures { result ≡ self.now.words }
+    {
+        self.words
+    }
+
+    /// The number of domains, 1 to 63.
+    pub fn modules(&self) -> u32
+        ensures { result ≡ length self.now.roots }
+    {
+        self.roots.count()
+    }
+}
+
+#[cfg(test)]
+mod tests {
+    use super::*;
+    use crate::Vector;
+
+    // Tables have these fields and no others.
+    fn fields(tables: &Trie<Vector>) -> (u32, u64) {
+        let Trie {
+            upper: _,
+            leaf: _,
+            spill: _,
+            roots: _,
+            words,
+            limit: _,
+            lookups,
+            form: _,
+        } = tables;
+        (*words, *lookups)
     }
 }

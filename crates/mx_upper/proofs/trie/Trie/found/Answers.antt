@@ -1,4 +1,4 @@
-use Rattle.std.proofs.Common.{sym, subst, List}
+use Rattle.std.proofs.Common.{subst, List}
 use Rattle.mx_words.specs.declared.perm.Perm.{Perm}
 use Rattle.mx_upper.specs.Found.{IsFound}
 use Rattle.mx_upper.proofs.StandingLaws.{standing-shown, standing-tight, standing-map}

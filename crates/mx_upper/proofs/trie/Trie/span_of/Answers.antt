@@ -1,9 +1,6 @@
-use Rattle.std.proofs.Common.{◌≡◌, ◌+◌, ◌-◌, ◌*◌, length, ap, sym, ◌∙◌, arith}
-use Rattle.mx_words.specs.declared.perm.Span.{Span}
-use Rattle.mx_words.specs.Need.{need}
 use Rattle.mx_table.specs.Tables.{map_of}
 use Rattle.mx_upper.specs.Read.{read_maps}
-use Rattle.mx_upper.proofs.StandingLaws.{length-map_of, span-perm, need-is, length-read_maps}
+use Rattle.mx_upper.proofs.StandingLaws.{length-map_of}
 use Rattle.mx_upper.proofs.trie.Trie.span_of.Goals as goal
 
 pub returns : goal.returns
