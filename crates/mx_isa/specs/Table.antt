@@ -98,18 +98,23 @@ reg_op_f7 Divu = 1
 reg_op_f7 Rem = 1
 reg_op_f7 Remu = 1
 
+-- the branches
 abbrev pub conds : List Cond
 conds = Beq ∷ Bne ∷ Blt ∷ Bge ∷ Bltu ∷ Bgeu ∷ []
 
+-- the loads
 abbrev pub loads : List LoadWidth
 loads = Lb ∷ Lh ∷ Lw ∷ Lbu ∷ Lhu ∷ []
 
+-- the stores
 abbrev pub stores : List StoreWidth
 stores = Sb ∷ Sh ∷ Sw ∷ []
 
+-- the operations with an immediate
 abbrev pub imm_ops : List ImmOp
 imm_ops = Addi ∷ Slti ∷ Sltiu ∷ Xori ∷ Ori ∷ Andi ∷ Slli ∷ Srli ∷ Srai ∷ []
 
+-- the operations on two registers
 abbrev pub reg_ops : List RegOp
 reg_ops =
     Add ∷ Sub ∷ Sll ∷ Slt ∷ Sltu ∷ Xor ∷ Srl ∷ Sra ∷ Or ∷ And

@@ -1,7 +1,7 @@
 //! The entries of one hart, in a ring of slots.
 
 ghost use Rattle.std.specs.Prelude.{◌≡◌, ◌≤◌, [], length};
-ghost use Rattle.mx_words.specs.Caches.{answers, meets, found_kept, kept_with, kept_without};
+ghost use Rattle.mx_words.specs.Caches.{answers, found_kept, kept_with, kept_without};
 
 use mx_words::{Perm, Span};
 use std::marker::Model;
@@ -80,7 +80,7 @@ impl<const N: usize> Lookaside<N> {
         let mut kept = 0;
         for i in 0..self.len {
             let entry = self.slots[(self.newest + i) % SLOTS];
-            if !meets(&entry.1, first, count) {
+            if !entry.1.meets(first, count) {
                 self.slots[(self.newest + kept) % SLOTS] = entry;
                 kept += 1;
             }
@@ -100,22 +100,7 @@ impl<const N: usize> Lookaside<N> {
 fn answers(entry: &(u32, Span), domain: u32, word: u32) -> bool
     ensures { result ≡ answers domain word entry.now }
 {
-    let span = &entry.1;
-    entry.0 == domain && span.first <= word && word - span.first < span.count
-}
-
-/// Whether the span shares a word with the range of `count` words from `first`. An empty one shares none.
-fn meets(span: &Span, first: u32, count: u32) -> bool
-    ensures { result ≡ meets span.now first count }
-{
-    if span.count == 0 || count == 0 {
-        return false;
-    }
-    if span.first < first {
-        first - span.first < span.count
-    } else {
-        span.first - first < count
-    }
+    entry.0 == domain && entry.1.covers(word)
 }
 
 #[cfg(test)]

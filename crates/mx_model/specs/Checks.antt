@@ -1,5 +1,5 @@
 -- Checks of words, hearing, and the caches. A turn looks at words at places; what its caches keep follows from these looks.
-use Rattle.std.specs.Prelude.{ℕ, ◌+◌, ◌-◌, Bool, true, false, not, ◌==◌, ◌&&◌, ◌||◌, List, [], ◌∷◌, fold, filter_map, slice_index, slice_index_or, slice_set, if◌then◌else◌, Option, Some, None}
+use Rattle.std.specs.Prelude.{ℕ, Bool, true, false, not, ◌==◌, ◌&&◌, List, [], ◌∷◌, fold, filter_map, slice_index, slice_index_or, slice_set, if◌then◌else◌, Option, Some, None}
 use Rattle.std.specs.Prelude.{map as list_map}
 use Rattle.std.specs.List.{list_any, enumerate_from}
 use Rattle.std.specs.Option.{option_map_or}
@@ -7,7 +7,7 @@ use Rattle.mx_words.specs.Announced.{announced}
 use Rattle.mx_words.specs.Caches.{checked, without_range, left_domain, meets}
 use Rattle.mx_words.specs.Ranges.{word_of}
 use Rattle.mx_model.specs.declared.values.Call.{Call}
-use Rattle.mx_model.specs.State.{Core, Hart, Status, Running, Waiting, Halted, words, module_at, hart_at, with_cache, cache_at}
+use Rattle.mx_model.specs.State.{Core, Hart, Status, Running, Waiting, Halted, words, module_at, with_cache, cache_at}
 use Rattle.mx_model.specs.Reads.{Reads}
 
 -- a look at a word at a place, by a hart in a domain
@@ -60,7 +60,8 @@ hears h c =
     let cache = fold (λ cache (r : ℕ × ℕ). without_range r.0 r.1 cache) (cache_at c h) (new_ranges c h) in
     record c {
       harts = list_map (λ (p : ℕ × Hart). if p.0 == h then p.1 else record p.1 { status = heard_by h p.1.status }) (enumerate_from 0 c.harts);
-      caches = slice_set c.caches h cache }
+      caches = slice_set c.caches h cache;
+    }
 
 -- whether a hart other than h keeps a call of h, which the set has heard, from its effect
 abbrev pub holds_up : ℕ → List Bool → ℕ → Status → Bool

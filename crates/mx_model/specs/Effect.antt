@@ -1,5 +1,5 @@
 -- What one instruction does: its one access, or its fault, or the new registers and the next pc.
-use Rattle.std.specs.Prelude.{ℕ, ◌+◌, ◌-◌, ◌*◌, ◌/◌, ◌%◌, ◌^◌, Bool, true, false, not, ◌==◌, nat_lt, if◌then◌else◌, List, slice_index, slice_set, ℤ, pos, negsuc, ◌*ℤ◌, int_lt, int_div, int_rem, bit_and, bit_or, bit_xor}
+use Rattle.std.specs.Prelude.{ℕ, ◌+◌, ◌-◌, ◌*◌, ◌/◌, ◌%◌, ◌^◌, Bool, not, ◌==◌, nat_lt, if◌then◌else◌, List, slice_index, slice_set, ℤ, pos, negsuc, ◌*ℤ◌, int_lt, int_div, int_rem, bit_and, bit_or, bit_xor}
 use Rattle.std.specs.Int.{cast_signed, int_shr, w32}
 use Rattle.mx_isa.specs.declared.inst.Inst.{Inst}
 use Rattle.mx_isa.specs.declared.inst.Inst.TheVariants.{Lui, Auipc, Jal, Jalr, Branch, Load, Store, OpImm, Op, Fence, Ecall, Ebreak}
@@ -58,7 +58,7 @@ wrapped (negsuc n) = 2 ^ 32 - 1 - n % 2 ^ 32
 abbrev pub flag : Bool → ℕ
 flag b = if b then 1 else 0
 
--- a sum, a difference, shifts by up to 31, and high halves of products
+-- a difference modulo 2^32
 abbrev pub minus : ℕ → ℕ → ℕ
 minus a b = (a + (2 ^ 32 - b)) % 2 ^ 32
 

@@ -6,3 +6,6 @@ pub mod Reads
 pub mod Serve
 pub mod State
 pub mod Turn
+pub mod Agreement
+pub mod Run
+pub mod Valid

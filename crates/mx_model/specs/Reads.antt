@@ -1,5 +1,5 @@
 -- What a turn reads of rights and owners. The two kinds of state answer it alike, so a turn is one function of these answers.
-use Rattle.std.specs.Prelude.{ℕ, ◌+◌, ◌-◌, Bool, nat_lt, nat_le, List, [], ◌∷◌, ◌++◌, slice_index, slice_index_or, if◌then◌else◌, Option}
+use Rattle.std.specs.Prelude.{ℕ, ◌-◌, Bool, nat_lt, nat_le, List, [], ◌∷◌, ◌++◌, slice_index, slice_index_or, if◌then◌else◌, Option}
 use Rattle.std.specs.Prelude.{map as list_map}
 use Rattle.mx_words.specs.declared.perm.Perm.{Perm}
 use Rattle.mx_words.specs.declared.perm.Perm.TheVariants as P
@@ -10,7 +10,7 @@ use Rattle.mx_words.specs.Changes.{changed_maps, granted_all}
 use Rattle.mx_words.specs.Runs.{owner_runs}
 use Rattle.mx_words.specs.Need.{fits}
 use Rattle.mx_words.specs.Reach.{span}
-use Rattle.mx_model.specs.State.{Core, State, Flat, words}
+use Rattle.mx_model.specs.State.{State, Flat, words}
 
 -- a change of rights: a range, and the permission that each domain named gets on it
 pub record Change : Type 0 where
@@ -50,7 +50,8 @@ reads s =
       owner = λ i. if nat_lt i size then owner s.gives i else 0;
       walk = λ d i. span s.core.kind (map (grants_of s.grants d) size) i;
       fits = λ (c : Change). fits s.core.kind s.core.limit (list_map (λ grants. map grants size) (granted_all c.first c.count c.given s.grants));
-      few_runs = λ give. nat_le (owner_runs (owners (s.gives ++ give ∷ []) size)) most_owner_runs }
+      few_runs = λ give. nat_le (owner_runs (owners (s.gives ++ give ∷ []) size)) most_owner_runs;
+    }
 
 -- what a flat state answers from its maps and its owners
 abbrev pub flat_reads : Flat → Reads
@@ -61,4 +62,5 @@ flat_reads f =
       owner = λ i. slice_index f.owners i;
       walk = λ d i. span f.core.kind (map_in size f.maps d) i;
       fits = λ (c : Change). fits f.core.kind f.core.limit (changed_maps c.first c.count c.given f.maps);
-      few_runs = λ give. nat_le (owner_runs (laid give f.owners)) most_owner_runs }
+      few_runs = λ give. nat_le (owner_runs (laid give f.owners)) most_owner_runs;
+    }

@@ -2,10 +2,8 @@
 use Rattle.std.specs.Prelude.{ℕ, ◌+◌, ◌-◌, ◌*◌, ◌/◌, ◌%◌, ◌^◌, Bool, true, false, not, ◌==◌, ◌&&◌, ◌||◌, nat_lt, nat_le, List, [], ◌∷◌, length, take, drop, if◌then◌else◌, Option, Some, None, unwrap_or, is_none}
 use Rattle.std.specs.Prelude.{map as list_map}
 use Rattle.std.specs.List.{list_all, range_with_len, prefix_len}
-use Rattle.std.specs.Option.{option_map_or}
 use Rattle.mx_words.specs.declared.perm.Perm.{Perm}
 use Rattle.mx_words.specs.declared.perm.Perm.TheVariants as P
-use Rattle.mx_words.specs.declared.perm.Access.{Access}
 use Rattle.mx_words.specs.declared.perm.Access.TheVariants as A
 use Rattle.mx_words.specs.Announced.{is_announced}
 use Rattle.mx_words.specs.Bytes.{number_at, put_at, cleared_at}
@@ -18,7 +16,7 @@ use Rattle.mx_model.specs.declared.values.Gate.{Gate}
 use Rattle.mx_model.specs.Checks.{Look, arg, call_range, drops, looked_all}
 use Rattle.mx_model.specs.Gates.{with_gate, without_gate, has_gate, no_gate_fits}
 use Rattle.mx_model.specs.Reads.{Reads, Change}
-use Rattle.mx_model.specs.State.{Core, Module, words, module_at, with_module, is_module}
+use Rattle.mx_model.specs.State.{Core, words, module_at, with_module, is_module}
 
 -- the calls by their numbers
 pub data Service : Type 0 where
@@ -149,7 +147,7 @@ abbrev pub written_out : Reads → Core → Call → Served
 written_out r c call =
     let looked = looked_all r call.hart (write_looks r call) c in
     judged looked (first_failed ((not (list_all (may_read r call.domain) (write_words call)), 12) ∷ []))
-      (record (answers looked (arg call 1)) { console = bytes_at c (arg call 0) (arg call 1) })
+    (record (answers looked (arg call 1)) { console = bytes_at c (arg call 0) (arg call 1) })
 
 abbrev pub write_from : Reads → Core → Call → Option ℕ → Served
 write_from r c call (Some n) = answers c (code n)
@@ -165,12 +163,12 @@ grant_change c call = change_of (arg_range c call) (to_one (arg call 2) (unwrap_
 abbrev pub serve_grant : Reads → Core → Call → Served
 serve_grant r c call =
     judged c (first_failed (
-        (no_range c call, 1)
-        ∷ (not (is_module c (arg call 2)), 3)
-        ∷ (nat_lt 3 (arg call 3), 4)
-        ∷ (not (owns r call (arg_range c call)), 2)
-        ∷ (not (r.fits (grant_change c call)), 5) ∷ []))
-      (changes c (grant_change c call))
+    (no_range c call, 1)
+    ∷ (not (is_module c (arg call 2)), 3)
+    ∷ (nat_lt 3 (arg call 3), 4)
+    ∷ (not (owns r call (arg_range c call)), 2)
+    ∷ (not (r.fits (grant_change c call)), 5) ∷ []))
+    (changes c (grant_change c call))
 
 -- 4 revoke_all
 abbrev pub revoke_change : Core → Call → Change
@@ -179,10 +177,10 @@ revoke_change c call = change_of (arg_range c call) (none_but call.domain)
 abbrev pub serve_revoke_all : Reads → Core → Call → Served
 serve_revoke_all r c call =
     judged c (first_failed (
-        (no_range c call, 1)
-        ∷ (not (owns r call (arg_range c call)), 2)
-        ∷ (not (r.fits (revoke_change c call)), 5) ∷ []))
-      (changes c (revoke_change c call))
+    (no_range c call, 1)
+    ∷ (not (owns r call (arg_range c call)), 2)
+    ∷ (not (r.fits (revoke_change c call)), 5) ∷ []))
+    (changes c (revoke_change c call))
 
 -- 5 transfer: the caller's heap area stays its own
 abbrev pub meets_heap : Core → Call → Bool
@@ -196,11 +194,11 @@ give_of c call = record { first = (arg_range c call).0; count = (arg_range c cal
 abbrev pub serve_transfer : Reads → Core → Call → Served
 serve_transfer r c call =
     judged c (first_failed (
-        (no_range c call || meets_heap c call, 1)
-        ∷ (nat_lt (length c.modules) (arg call 2), 3)
-        ∷ (not (owns r call (arg_range c call)), 2)
-        ∷ (not (r.few_runs (give_of c call)), 14) ∷ []))
-      (record (answers c 0) { give = Some (give_of c call) })
+    (no_range c call || meets_heap c call, 1)
+    ∷ (nat_lt (length c.modules) (arg call 2), 3)
+    ∷ (not (owns r call (arg_range c call)), 2)
+    ∷ (not (r.few_runs (give_of c call)), 14) ∷ []))
+    (record (answers c 0) { give = Some (give_of c call) })
 
 -- the caller's module with other live blocks
 abbrev pub with_blocks : Call → List Area → Core → Core
@@ -218,17 +216,18 @@ allocated c call first =
     let cleared = record c { ram = cleared_at c.ram (4 * first) (4 * arg call 0) } in
     let block : Area = record { first = first; count = arg call 0 } in
     record (changes (with_blocks call (with_block block (module_at c call.domain).blocks) cleared) (alloc_change first call)) {
-      a0 = address_of first }
+      a0 = address_of first;
+    }
 
 abbrev pub serve_alloc : Reads → Core → Call → Served
 serve_alloc r c call =
     let first = unwrap_or (alloc_place c call) 0 in
     judged c (first_failed (
-        (arg call 0 == 0, 1)
-        ∷ (is_none (alloc_place c call), 6)
-        ∷ (nat_le most_blocks (length (module_at c call.domain).blocks), 7)
-        ∷ (not (r.fits (alloc_change first call)), 5) ∷ []))
-      (allocated c call first)
+    (arg call 0 == 0, 1)
+    ∷ (is_none (alloc_place c call), 6)
+    ∷ (nat_le most_blocks (length (module_at c call.domain).blocks), 7)
+    ∷ (not (r.fits (alloc_change first call)), 5) ∷ []))
+    (allocated c call first)
 
 -- 7 free
 abbrev pub freed_count : Core → Call → Option ℕ
@@ -240,9 +239,9 @@ free_change c call = change_of (arg_word call, unwrap_or (freed_count c call) 0)
 abbrev pub serve_free : Reads → Core → Call → Served
 serve_free r c call =
     judged c (first_failed (
-        (is_none (freed_count c call), 8)
-        ∷ (not (r.fits (free_change c call)), 5) ∷ []))
-      (changes (with_blocks call (without_block (arg_word call) (module_at c call.domain).blocks) c) (free_change c call))
+    (is_none (freed_count c call), 8)
+    ∷ (not (r.fits (free_change c call)), 5) ∷ []))
+    (changes (with_blocks call (without_block (arg_word call) (module_at c call.domain).blocks) c) (free_change c call))
 
 -- whether the caller doesn't own the word of a0
 abbrev pub foreign_word : Reads → Call → Bool
@@ -259,39 +258,39 @@ adds c g = answers (record c { gates = with_gate g c.gates }) 0
 abbrev pub serve_gate : Reads → Core → Call → Served
 serve_gate r c call =
     judged c (first_failed (
-        (no_word c call, 1)
-        ∷ (not (is_module c (arg call 1)) || (arg call 1 == call.domain), 3)
-        ∷ (foreign_word r call, 2)
-        ∷ (no_gate_fits c.gates (arg call 1) (arg_word call), 9) ∷ []))
-      (adds c (record { domain = arg call 1; word = arg_word call; target = call.domain }))
+    (no_word c call, 1)
+    ∷ (not (is_module c (arg call 1)) || (arg call 1 == call.domain), 3)
+    ∷ (foreign_word r call, 2)
+    ∷ (no_gate_fits c.gates (arg call 1) (arg_word call), 9) ∷ []))
+    (adds c (record { domain = arg call 1; word = arg_word call; target = call.domain }))
 
 -- 9 ungate
 abbrev pub serve_ungate : Reads → Core → Call → Served
 serve_ungate r c call =
     judged c (first_failed (
-        (no_word c call, 1)
-        ∷ (not (is_module c (arg call 1)), 3)
-        ∷ (foreign_word r call, 2)
-        ∷ (not (has_gate c.gates (arg call 1) (arg_word call)), 15) ∷ []))
-      (answers (record c { gates = without_gate (arg call 1) (arg_word call) c.gates }) 0)
+    (no_word c call, 1)
+    ∷ (not (is_module c (arg call 1)), 3)
+    ∷ (foreign_word r call, 2)
+    ∷ (not (has_gate c.gates (arg call 1) (arg_word call)), 15) ∷ []))
+    (answers (record c { gates = without_gate (arg call 1) (arg_word call) c.gates }) 0)
 
 -- 10 return_gate
 abbrev pub serve_return_gate : Reads → Core → Call → Served
 serve_return_gate r c call =
     judged c (first_failed (
-        (no_word c call, 1)
-        ∷ (foreign_word r call, 2)
-        ∷ (no_gate_fits c.gates call.domain (arg_word call), 9) ∷ []))
-      (adds c (record { domain = call.domain; word = arg_word call; target = call.domain }))
+    (no_word c call, 1)
+    ∷ (foreign_word r call, 2)
+    ∷ (no_gate_fits c.gates call.domain (arg_word call), 9) ∷ []))
+    (adds c (record { domain = call.domain; word = arg_word call; target = call.domain }))
 
 -- 11 query: the permission's number, read from no cache and counted nowhere
 abbrev pub serve_query : Reads → Core → Call → Served
 serve_query r c call =
     judged c (first_failed (
-        (no_word c call, 1)
-        ∷ (not (is_module c (arg call 1)), 3)
-        ∷ (not (arg call 1 == call.domain) && foreign_word r call, 2) ∷ []))
-      (answers c (number (r.perm (arg call 1) (arg_word call))))
+    (no_word c call, 1)
+    ∷ (not (is_module c (arg call 1)), 3)
+    ∷ (not (arg call 1 == call.domain) && foreign_word r call, 2) ∷ []))
+    (answers c (number (r.perm (arg call 1) (arg_word call))))
 
 -- 12 self
 abbrev pub serve_self : Core → Call → Served
@@ -302,8 +301,9 @@ abbrev pub exchanged : Reads → Core → Call → Served
 exchanged r c call =
     let looked = looked_all r call.hart (look_of call.domain (arg_word call) ∷ []) c in
     judged looked (first_failed ((not (allows (r.perm call.domain (arg_word call)) A.Write), 12) ∷ []))
-      (record (answers (record looked { ram = put_at c.ram (4 * arg_word call) 4 (arg call 1) }) 0) {
-        a1 = Some (number_at c.ram (4 * arg_word call) 4) })
+    (record (answers (record looked { ram = put_at c.ram (4 * arg_word call) 4 (arg call 1) }) 0) {
+      a1 = Some (number_at c.ram (4 * arg_word call) 4);
+    })
 
 abbrev pub exchange_from : Reads → Core → Call → Option ℕ → Served
 exchange_from r c call (Some n) = answers c (code n)

@@ -1,6 +1,6 @@
 -- The state of the abstract machine, in which a domain holds only a list of grants, and the flat state, in which maps and owners stand in
 -- place of the lists of grants and gives.
-use Rattle.std.specs.Prelude.{ℕ, ◌-◌, ◌/◌, Bool, false, ◌&&◌, nat_le, List, [], length, replicate, slice_index_or, slice_set, Option, None}
+use Rattle.std.specs.Prelude.{ℕ, ◌-◌, Bool, false, ◌&&◌, nat_le, List, [], length, replicate, slice_index_or, slice_set, Option, None}
 use Rattle.std.specs.Prelude.{map as list_map}
 use Rattle.mx_words.specs.declared.perm.Perm.{Perm}
 use Rattle.mx_words.specs.declared.tables.Kind.{Kind}
@@ -41,7 +41,7 @@ pub record Hart : Type 0 where
   pub status : Status
 
 -- what both kinds of state have: RAM's bytes, modules 1 to M, gates, harts from 0 on and the caches of each, the number of turns made;
--- and what no turn changes: the kind of tables, their limit and the size of the lookaside buffer
+-- and what no turn changes: the number of words of RAM, the kind of tables, their limit and the size of the lookaside buffer
 pub record Core : Type 0 where
   pub ram : List ℕ
   pub modules : List Module
@@ -49,6 +49,7 @@ pub record Core : Type 0 where
   pub harts : List Hart
   pub caches : List Cache
   pub turns : ℕ
+  pub size : ℕ
   pub kind : Kind
   pub limit : Need
   pub buffer : ℕ
@@ -69,23 +70,25 @@ pub record Flat : Type 0 where
 
 -- the number of words of RAM
 abbrev pub words : Core → ℕ
-words c = length c.ram / 4
+words c = c.size
 
 -- the flat state of a state: each list of grants replaced by its map, the gives by the owners, no console bytes and no notes
 abbrev pub flat : State → Flat
 flat s = record {
-    core = s.core;
-    maps = list_map (λ grants. map grants (words s.core)) s.grants;
-    owners = owners s.gives (words s.core) }
+  core = s.core;
+  maps = list_map (λ grants. map grants (words s.core)) s.grants;
+  owners = owners s.gives (words s.core);
+}
 
 -- a module that isn't there has no areas and is not dead
 abbrev pub no_module : Module
 no_module = record {
-    heap = record { first = 0; count = 0 };
-    blocks = [];
-    stack = record { first = 0; words = 0 };
-    kills = false;
-    dead = false }
+  heap = record { first = 0; count = 0 };
+  blocks = [];
+  stack = record { first = 0; words = 0 };
+  kills = false;
+  dead = false;
+}
 
 -- a hart that isn't there is halted
 abbrev pub no_hart : Hart

@@ -1,5 +1,5 @@
 -- One turn of one hart. First it is decided what happens, from a few readings of the state; then it is done.
-use Rattle.std.specs.Prelude.{◌≡◌, ℕ, ◌+◌, ◌-◌, ◌*◌, ◌/◌, ◌%◌, ◌^◌, Bool, true, false, not, ◌==◌, ◌&&◌, nat_lt, nat_le, List, [], ◌∷◌, ◌++◌, length, zip, fold, slice_set, if◌then◌else◌, Option, Some, None, unwrap_or, is_none}
+use Rattle.std.specs.Prelude.{ℕ, ◌+◌, ◌-◌, ◌*◌, ◌%◌, Bool, true, false, not, ◌==◌, ◌&&◌, ◌||◌, nat_lt, nat_le, List, [], ◌∷◌, ◌++◌, length, zip, fold, slice_set, if◌then◌else◌, Option, Some, None, unwrap_or}
 use Rattle.std.specs.Prelude.{map as list_map}
 use Rattle.std.specs.Option.{option_map_or}
 use Rattle.mx_words.specs.declared.perm.Perm.{Perm}
@@ -15,7 +15,6 @@ use Rattle.mx_isa.specs.declared.inst.Inst.{Inst}
 use Rattle.mx_isa.specs.declared.inst.LoadWidth.{LoadWidth}
 use Rattle.mx_isa.specs.Table.{decoded}
 use Rattle.mx_model.specs.declared.values.Call.{Call}
-use Rattle.mx_model.specs.declared.values.Fault.{Fault}
 use Rattle.mx_model.specs.declared.values.Frame.{Frame}
 use Rattle.mx_model.specs.declared.values.Note.{Note}
 use Rattle.mx_model.specs.declared.values.Note.TheVariants as N
@@ -26,7 +25,7 @@ use Rattle.mx_model.specs.Effect.{Effect, Goes, Faults, Loads, Stores, Calls, Le
 use Rattle.mx_model.specs.Gates.{call_gate, is_return, most_frames, top, below_top, nearest}
 use Rattle.mx_model.specs.Reads.{Reads, Change}
 use Rattle.mx_model.specs.Serve.{Served, serve}
-use Rattle.mx_model.specs.State.{Core, Hart, Module, Status, Running, Waiting, Halted, words, module_at, with_module, hart_at, with_hart}
+use Rattle.mx_model.specs.State.{Core, Hart, Status, Running, Waiting, Halted, words, module_at, with_module, hart_at, with_hart}
 
 -- what a hart does in its turn
 pub data Deed : Type 0 where
@@ -99,11 +98,12 @@ at_return hart rd target = option_map_or (returned_over rd target) (top hart.fra
 -- the call that a hart makes
 abbrev pub call_of : ℕ → Hart → Call
 call_of h hart = record {
-    number = reg hart.regs 17;
-    args = list_map (reg hart.regs) (10 ∷ 11 ∷ 12 ∷ 13 ∷ []);
-    hart = h;
-    domain = hart.domain;
-    nested = nat_lt 0 (length hart.frames) }
+  number = reg hart.regs 17;
+  args = list_map (reg hart.regs) (10 ∷ 11 ∷ 12 ∷ 13 ∷ []);
+  hart = h;
+  domain = hart.domain;
+  nested = nat_lt 0 (length hart.frames);
+}
 
 -- what an effect without an access does, or a jump that isn't a return
 abbrev pub plain_deed : Effect → Deed
@@ -126,11 +126,13 @@ abbrev pub by_effect : Reads → Core → ℕ → Hart → Effect → Decided
 by_effect r c h hart (Goes regs pc) = without_look (Runs regs pc)
 by_effect r c h hart (Faults cause value) = traps cause value
 by_effect r c h hart (Loads p address width rd) = record {
-    looks = looks_at c p hart.domain address;
-    deed = load_deed r c hart address width rd }
+  looks = looks_at c p hart.domain address;
+  deed = load_deed r c hart address width rd;
+}
 by_effect r c h hart (Stores p address size value) = record {
-    looks = looks_at c p hart.domain address;
-    deed = store_deed r c hart address size value }
+  looks = looks_at c p hart.domain address;
+  deed = store_deed r c hart address size value;
+}
 by_effect r c h hart Calls = without_look (Asks (call_of h hart))
 by_effect r c h hart (Leaves rd target) = without_look (
     if is_return_at c hart.domain hart.pc then at_return hart rd target else plain_deed (jumps hart.regs hart.pc rd target))
@@ -208,7 +210,8 @@ crossed c h hart target =
     leaves h (with_hart h (record hart {
       regs = slice_set hart.regs 2 stack;
       domain = target;
-      frames = hart.frames ++ frame ∷ [] }) c)
+      frames = hart.frames ++ frame ∷ [];
+    }) c)
 
 -- the top frame is given up: the hart goes on in the caller at the return address with the fifteen registers restored, and the places are emptied
 abbrev pub over_frame : Core → ℕ → Hart → Frame → List ℕ → Core
@@ -217,7 +220,8 @@ over_frame c h hart frame regs =
       regs = restored regs frame.kept;
       pc = frame.back;
       domain = frame.caller;
-      frames = below_top hart.frames }) c)
+      frames = below_top hart.frames;
+    }) c)
 
 -- a hart that a fault or an exit halts
 abbrev pub halted : ℕ → Hart → Option ℕ → Core → Core
@@ -241,7 +245,8 @@ killed d cause c =
 abbrev pub trapped : Core → ℕ → Hart → ℕ → ℕ → Made
 trapped c h hart cause value =
     record (made T.Trapped (given_up (killed hart.domain cause c) h hart cause (top hart.frames))) {
-      note = Some (N.Fault c.turns h hart.domain hart.pc (record { cause = cause; value = value })) }
+      note = Some (N.Fault c.turns h hart.domain hart.pc (record { cause = cause; value = value }));
+    }
 
 -- the hart after a served call that doesn't end it: a0, and for an exchange a1, and the next pc
 abbrev pub answered : Hart → ℕ → Option ℕ → List ℕ
@@ -250,12 +255,13 @@ answered hart a0 a1 = let regs = slice_set hart.regs 10 a0 in option_map_or (sli
 -- a served call
 abbrev pub done : ℕ → Hart → Served → Made
 done h hart s = record (made T.Called (
-      if s.stop then halted h hart (Some s.a0) s.core
-        else with_regs h hart (answered hart s.a0 s.a1) (next hart.pc) s.core)) {
-    change = s.change;
-    give = s.give;
-    console = s.console;
-    note = if s.stop then Some (N.Exit s.core.turns h hart.domain s.a0) else None }
+    if s.stop then halted h hart (Some s.a0) s.core
+    else with_regs h hart (answered hart s.a0 s.a1) (next hart.pc) s.core)) {
+      change = s.change;
+      give = s.give;
+      console = s.console;
+      note = if s.stop then Some (N.Exit s.core.turns h hart.domain s.a0) else None;
+    }
 
 abbrev pub served : Reads → Core → ℕ → Hart → Call → Made
 served r c h hart call = done h hart (serve r c call)

@@ -10,7 +10,7 @@ pub struct Fault {
 }
 
 /// What a hart returns to when it leaves the domain that it entered through a gate.
-#[derive(Clone, Copy, PartialEq, Eq, Debug)]
+#[derive(Clone, Copy, PartialEq, Eq, Debug, Default)]
 pub struct Frame {
     /// The return address, a multiple of 4.
     pub back: u32,

@@ -1,7 +1,7 @@
 //! The places of one hart.
 
 ghost use Rattle.std.specs.Prelude.{◌≡◌, ◌<◌, None, Some, replicate, slice_set};
-ghost use Rattle.mx_words.specs.Caches.{place_count, has, meets, found_in_place, places_without};
+ghost use Rattle.mx_words.specs.Caches.{place_count, found_in_place, places_without};
 
 use mx_words::Span;
 use std::marker::Model;
@@ -45,7 +45,7 @@ impl Sidecars {
     {
         let held = self.spans[place as usize];
         match held {
-            Some(span) if has(&span, word) => Some(span),
+            Some(span) if span.covers(word) => Some(span),
             _ => None,
         }
     }
@@ -65,7 +65,7 @@ impl Sidecars {
     {
         for at in 0..PLACES {
             if let Some(span) = self.spans[at] {
-                if meets(&span, first, count) {
+                if span.meets(first, count) {
                     self.spans[at] = None;
                 }
             }
@@ -79,27 +79,6 @@ impl Sidecars {
         for place in 0..PLACES {
             self.spans[place] = None;
         }
-    }
-}
-
-/// Whether `word` is one of the span's words.
-fn has(span: &Span, word: u32) -> bool
-    ensures { result ≡ has span.now word }
-{
-    span.first <= word && word - span.first < span.count
-}
-
-/// Whether the span shares a word with the range of `count` words from `first`. An empty one shares none.
-fn meets(span: &Span, first: u32, count: u32) -> bool
-    ensures { result ≡ meets span.now first count }
-{
-    if span.count == 0 || count == 0 {
-        return false;
-    }
-    if span.first < first {
-        first - span.first < span.count
-    } else {
-        span.first - first < count
     }
 }
 

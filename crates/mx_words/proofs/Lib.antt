@@ -3,3 +3,5 @@ pub mod CacheExamples
 pub mod CountingLaws
 pub mod OverlayLaws
 pub mod RunLaws
+pub mod FirstFitLaws
+pub mod MaximalRuns

@@ -1,5 +1,6 @@
 //! Permissions of words, and spans of words that share one.
 ghost use Rattle.std.specs.Prelude.{◌≡◌, ◌<◌, ◌↔◌, IfSome, IsNone};
+ghost use Rattle.mx_words.specs.Caches.{has, meets};
 ghost use Rattle.mx_words.specs.Rights.{number, from_number, allows};
 
 /// What a protection domain may do with one word of RAM.
@@ -73,6 +74,29 @@ impl Perm {
             Access::Read => self != Perm::None,
             Access::Write => self == Perm::ReadWrite,
             Access::Execute => self == Perm::ExecuteRead,
+        }
+    }
+}
+
+impl Span {
+    /// Whether `word` is one of the span's words.
+    pub fn covers(&self, word: u32) -> bool
+        ensures { result ≡ has self.now word }
+    {
+        self.first <= word && word - self.first < self.count
+    }
+
+    /// Whether the span shares a word with the `count` words from `first` on. With an empty range it shares none.
+    pub fn meets(&self, first: u32, count: u32) -> bool
+        ensures { result ≡ meets self.now first count }
+    {
+        if self.count == 0 || count == 0 {
+            return false;
+        }
+        if self.first < first {
+            first - self.first < self.count
+        } else {
+            self.first - first < count
         }
     }
 }

@@ -1,4 +1,4 @@
-use Rattle.std.proofs.Common.{◌≡◌, ◌<◌, ◌≤◌, true, false, not, sym, ap, ◌∙◌, refl, arith, length-set}
+use Rattle.std.proofs.Common.{◌<◌, ◌≤◌, not, sym, ap, ◌∙◌, refl, arith, length-set}
 use Rattle.mx_words.specs.Caches.{Entry, meets}
 use Rattle.mx_lookaside.proofs.Entries.{moves, left_out}
 use Rattle.mx_lookaside.proofs.lookaside.Lookaside.drop_overlap.Goals as goal

@@ -1,4 +1,4 @@
-use Rattle.std.proofs.Common.{◌≡◌, List, sym, ap, ◌∙◌, arith}
+use Rattle.std.proofs.Common.{List, sym, ap, ◌∙◌, arith}
 use Rattle.mx_words.specs.Caches.{Entry, found_kept}
 use Rattle.mx_lookaside.proofs.Entries.{answered, passed}
 use Rattle.mx_lookaside.proofs.lookaside.Lookaside.find.Goals as goal

@@ -1,4 +1,4 @@
-use Rattle.std.proofs.Common.{◌≡◌, ℕ, ◌∷◌, List, take, refl, ap, ◌∙◌, arith}
+use Rattle.std.proofs.Common.{◌∷◌, List, take, refl, ap, ◌∙◌, arith}
 use Rattle.mx_words.specs.Caches.{Entry}
 use Rattle.mx_lookaside.proofs.Ring.{window_keep}
 use Rattle.mx_lookaside.proofs.lookaside.Lookaside.keep.Goals as goal

@@ -1,0 +1,88 @@
+-- What a file is read as: an image, or its first fault.
+use Rattle.std.specs.Prelude.{◌≡◌, ◌<◌, ◌≤◌, ℕ, ◌+◌, ◌*◌, ◌%◌, ◌==◌, nat_eq, nat_lt, Bool, not, ◌&&◌, ◌||◌, if◌then◌else◌, List, [], ◌∷◌, ◌++◌, length, map, filter, Option, Some, None, Result, Ok, Err}
+use Rattle.std.specs.List.{starts_with, flat_map, enumerate_from}
+use Rattle.mx_elf.specs.declared.image.Image.{Image}
+use Rattle.mx_elf.specs.declared.image.ImageFault.{ImageFault}
+use Rattle.mx_elf.specs.declared.segment.Seg.{Seg}
+use Rattle.mx_elf.specs.Field.{places}
+use Rattle.mx_elf.specs.Header.{ei_class, ei_data, e_type, e_machine, e_entry, e_phoff, e_phentsize, e_phnum, p_type, p_offset, p_vaddr, p_filesz, p_memsz, p_flags}
+
+-- a row of the table of faults: its number, and whether it applies
+abbrev pub Row : Type 0
+Row = ℕ × Bool
+
+-- the number of the first row that applies
+abbrev pub first_fault : List Row → Option ℕ
+first_fault [] = None
+first_fault (row ∷ rows) = if row.1 then Some row.0 else first_fault rows
+
+-- the bytes 7F 45 4C 46, with which each file begins
+abbrev pub magic : List ℕ
+magic = 0x7F ∷ 0x45 ∷ 0x4C ∷ 0x46 ∷ []
+
+-- the faults of the file header and of the table of program headers, in order
+abbrev pub header_rows : List ℕ → List Row
+header_rows bytes =
+    (1, nat_lt (length bytes) 52)
+    ∷ (2, not (starts_with nat_eq bytes magic))
+    ∷ (3, not (ei_class bytes == 1) || not (ei_data bytes == 1))
+    ∷ (4, not (e_type bytes == 2))
+    ∷ (5, not (e_machine bytes == 243))
+    ∷ (6, not (e_phnum bytes == 0) && (not (e_phentsize bytes == 32) || nat_lt (length bytes) (e_phoff bytes + 32 * e_phnum bytes)))
+    ∷ []
+
+-- the faults of a segment with its place among the loaded ones, in a file of size bytes
+abbrev pub segment_rows : ℕ → ℕ × Seg → List Row
+segment_rows size placed =
+    let s = placed.1 in
+    (7, placed.0 == 16)
+    ∷ (8, not (s.file == 0) && nat_lt size (s.offset + s.file))
+    ∷ (9, nat_lt s.memory s.file)
+    ∷ (10, not (s.address % 4 == 0))
+    ∷ []
+
+-- whether the program header at a place is a loaded segment
+abbrev pub is_loaded : List ℕ → ℕ → Bool
+is_loaded bytes at = (p_type bytes at == 1) && nat_lt 0 (p_memsz bytes at)
+
+-- what it says
+abbrev pub segment_at : List ℕ → ℕ → Seg
+segment_at bytes at = record {
+  offset = p_offset bytes at;
+  file = p_filesz bytes at;
+  address = p_vaddr bytes at;
+  memory = p_memsz bytes at;
+  flags = p_flags bytes at;
+}
+
+-- the loaded segments among program headers at these places
+abbrev pub segments_at : List ℕ → List ℕ → List Seg
+segments_at bytes headers = map (segment_at bytes) (filter (is_loaded bytes) headers)
+
+-- the loaded segments of the file, in its order
+abbrev pub segments_of : List ℕ → List Seg
+segments_of bytes = segments_at bytes (places (e_phoff bytes) 32 (e_phnum bytes))
+
+-- the rows of segments, one after the other, the first one being at this place among the loaded ones
+abbrev pub rows_from : ℕ → ℕ → List Seg → List Row
+rows_from size place segments = flat_map (segment_rows size) (enumerate_from place segments)
+
+-- all faults that a file may have, in the order in which they are tested
+abbrev pub rows_of : List ℕ → List Row
+rows_of bytes = header_rows bytes ++ rows_from (length bytes) 0 (segments_of bytes)
+
+-- a value, unless there is a fault
+abbrev pub unless : {T : Type 0} → Option ℕ → T → Result T ImageFault
+unless None value = Ok value
+unless (Some number) value = Err (record { number = number })
+
+-- what is known of a loaded segment in a file of size bytes
+pub record IsSound (size : ℕ) (s : Seg) : Type 0 where
+  pub inside : 0 < s.file → s.offset + s.file ≤ size
+  pub held : s.file ≤ s.memory
+  pub covers : 0 < s.memory
+  pub aligned : s.address % 4 ≡ 0
+
+-- the image of a file, or its first fault
+unfoldable pub image_of : List ℕ → Result Image ImageFault
+image_of bytes = unless (first_fault (rows_of bytes)) (record { entry = e_entry bytes; segments = segments_of bytes })

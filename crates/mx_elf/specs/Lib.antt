@@ -1,0 +1,5 @@
+pub mod Field
+pub mod Header
+pub mod Segment
+pub mod Image
+pub mod Symbol

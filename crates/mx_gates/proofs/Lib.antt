@@ -1,0 +1,4 @@
+pub mod Lists
+pub mod Buckets
+pub mod Lookup
+pub mod Apart

@@ -1,0 +1,2 @@
+pub mod HeapState
+pub mod Places

@@ -1,0 +1,19 @@
+//! Live blocks, and the refusals of a heap.
+
+/// Why a heap has no place for a block.
+#[derive(Clone, Copy, PartialEq, Eq, Debug)]
+pub enum HeapError {
+    /// No free words in a row are enough.
+    NoRoom,
+    /// There is room, and 1024 blocks live already.
+    BlocksFull,
+}
+
+/// A live block: the RAM words `first` to `first + count - 1`.
+#[derive(Clone, Copy, PartialEq, Eq, Debug)]
+pub struct Block {
+    /// The number of its first word, 0 to 2^24 - 1.
+    pub first: u32,
+    /// The number of words, at least one.
+    pub count: u32,
+}

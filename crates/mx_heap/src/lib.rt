@@ -1,0 +1,12 @@
+//! Heaps: areas of RAM words in which blocks are placed by first fit.
+#![tactic(auto)]
+
+mod block;
+mod heap;
+mod parts;
+
+pub use block::{Block, HeapError};
+pub use heap::Heap;
+
+#[cfg(test)]
+mod tests;

@@ -1,0 +1,164 @@
+//! The parts of a heap area: live blocks and holes, in the order of their addresses.
+
+ghost use Rattle.std.specs.Prelude.{◌≡◌, ℕ, ◌+◌, ◌-◌, ◌<◌, ◌≤◌, ◌^◌, vec_len, position, slice_get};
+ghost use Rattle.std.specs.Vec.{vec_capacity};
+ghost use Rattle.std.specs.Option.{option_map};
+ghost use Rattle.mx_heap.specs.HeapState.{area_of};
+ghost use Rattle.mx_heap.specs.Places.{blocks_of, fitting, is_hole_for, is_hole_around, is_block_at, part_at, hole_words, with_hole, without_hole, split, joined};
+
+use crate::block::{Block, HeapError};
+
+// The most blocks that live in one heap.
+pub const MOST_BLOCKS: u32 = 1024;
+
+// The words `first` to `first + count - 1`: a live block, or a hole.
+#[derive(Clone, Copy, PartialEq, Eq, Debug)]
+pub struct Part {
+    pub first: u32,
+    pub count: u32,
+    pub live: bool,
+}
+
+// The place of the lowest hole with room for that many words.
+pub fn hole_for(parts: &[Part], words: u32) -> Option<usize>
+    ensures { result ≡ position (is_hole_for words) parts.now }
+{
+    parts.iter().position(|p| !p.live && words <= p.count)
+}
+
+// The place of the hole that holds all words of a block.
+pub fn hole_around(parts: &[Part], first: u32, count: u32) -> Option<usize>
+    ensures { result ≡ position (is_hole_around first count) parts.now }
+{
+    let end = first as u64 + count as u64;
+    parts.iter().position(|p| !p.live
+        && (p.first <= first && end <= p.first as u64 + p.count as u64))
+}
+
+// The place of the live block that begins at a word.
+pub fn block_place(parts: &[Part], first: u32) -> Option<usize>
+    ensures { result ≡ position (is_block_at first) parts.now }
+{
+    parts.iter().position(|p| p.live && p.first == first)
+}
+
+// The place of the lowest hole for a block, where no more than 1023 blocks live.
+pub fn fitting_hole(parts: &[Part], live: u32, words: u32) -> Result<usize, HeapError>
+    ensures { result ≡ fitting (position (is_hole_for words) parts.now) live }
+{
+    match hole_for(parts, words) {
+        None => Err(HeapError::NoRoom),
+        Some(_) if live == MOST_BLOCKS => Err(HeapError::BlocksFull),
+        Some(i) => Ok(i),
+    }
+}
+
+// The live block at place `i` among the live ones.
+pub fn nth_block(parts: &[Part], i: u32) -> Option<Block>
+    ensures { option_map area_of result ≡ slice_get (blocks_of parts.now) i }
+{
+    let mut left = i;
+    for p in parts {
+        if p.live {
+            if left == 0 {
+                return Some(Block {
+                    first: p.first,
+                    count: p.count,
+                });
+            }
+            left -= 1;
+        }
+    }
+    None
+}
+
+// The words of part `i` where it is a hole, else 0.
+fn words_of_hole(parts: &[Part], i: usize) -> u32
+    ensures { result ≡ hole_words parts.now i }
+{
+    if i < parts.len() && !parts[i].live {
+        parts[i].count
+    } else {
+        0
+    }
+}
+
+// Puts a hole at place `i`, where it has a word.
+fn put_hole(parts: &mut Vec<Part>, i: usize, first: u32, count: u32)
+    requires place { i ≤ vec_len parts.old }
+    requires room { vec_len parts.old < vec_capacity parts.old }
+    ensures items { parts.new.items ≡ with_hole parts.old.items i first count }
+    ensures len { vec_len parts.new ≤ vec_len parts.old + 1 }
+    ensures not_less { vec_len parts.old ≤ vec_len parts.new }
+    ensures capacity { vec_capacity parts.old ≤ vec_capacity parts.new }
+{
+    if count > 0 {
+        let part = Part {
+            first,
+            count,
+            live: false,
+        };
+        match parts.insert(i, part) {
+            Ok(()) => {}
+            Err(_) => unreachable!(),
+        }
+    }
+}
+
+// Takes part `i` out, where it is a hole of `count` words and so has one.
+fn cut_hole(parts: &mut Vec<Part>, i: usize, count: u32)
+    requires { 0 < count → i < vec_len parts.old }
+    ensures items { parts.new.items ≡ without_hole parts.old.items i count }
+    ensures len { vec_len parts.old ≤ vec_len parts.new + 1 }
+    ensures capacity { vec_capacity parts.new ≡ vec_capacity parts.old }
+{
+    if count > 0 {
+        parts.remove(i);
+    }
+}
+
+// Makes a block live in the hole at place `i`, which holds its words.
+pub fn split_hole(parts: &mut Vec<Part>, i: usize, first: u32, count: u32)
+    requires place { i < vec_len parts.old }
+    requires room { vec_len parts.old + 2 ≤ vec_capacity parts.old }
+    requires begins { (part_at parts.old.items i).first ≤ first }
+    requires ends { first + count ≤ (part_at parts.old.items i).first + (part_at parts.old.items i).count }
+    requires fits { (part_at parts.old.items i).first + (part_at parts.old.items i).count < 2 ^ 32 }
+    ensures items { parts.new.items ≡ split parts.old.items i first count }
+    ensures capacity { vec_capacity parts.old ≤ vec_capacity parts.new }
+{
+    let hole = parts[i];
+    parts[i] = Part {
+        first,
+        count,
+        live: true,
+    };
+    put_hole(
+        parts,
+        i + 1,
+        first + count,
+        hole.first + hole.count - (first + count),
+    );
+    put_hole(parts, i, hole.first, first - hole.first);
+}
+
+// Ends the live block at place `i`: its words and the holes on both sides become one hole.
+pub fn join_holes(parts: &mut Vec<Part>, i: usize)
+    requires place { i < vec_len parts.old }
+    requires low { hole_words parts.old.items (i - 1) ≤ (part_at parts.old.items i).first }
+    requires high { hole_words parts.old.items (i - 1) + (part_at parts.old.items i).count + hole_words parts.old.items (i + 1) < 2 ^ 32 }
+    ensures items { parts.new.items ≡ joined parts.old.items i }
+    ensures capacity { vec_capacity parts.new ≡ vec_capacity parts.old }
+{
+    let block = parts[i];
+    // The first part has none before it: the block itself is no hole.
+    let before = words_of_hole(parts, i.saturating_sub(1));
+    let behind = words_of_hole(parts, i + 1);
+    parts[i] = Part {
+        first: block.first - before,
+        count: before + block.count + behind,
+        live: false,
+    };
+    cut_hole(parts, i + 1, behind);
+    cut_hole(parts, i.saturating_sub(1), before);
+}

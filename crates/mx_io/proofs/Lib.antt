@@ -1,0 +1,4 @@
+pub mod CallLaws
+pub mod Lookup
+pub mod SinkLaws
+pub mod Text

@@ -1,0 +1,11 @@
+pub mod Count
+pub mod Texts
+pub mod Store
+pub mod Sink
+pub mod Piece
+pub mod Calls
+pub mod Named
+pub mod Files
+pub mod Bytes
+pub mod Loose
+pub mod Real

@@ -1,0 +1,38 @@
+-- Files in memory that tell nothing, each with a size of its own, as values.
+use Rattle.std.specs.Prelude.{ℕ, List, [], true, Option, None, map, option_map, unwrap_or}
+use Rattle.std.specs.Coded.{Coded, coded×, coded_ℕ, coded_list}
+use Rattle.std.specs.Ordering.{nat_cmp}
+use Rattle.std.specs.Cmp.Lexicographic.{slice_cmp}
+use Rattle.std.specs.FinMap.{FinMap, from_entries, get, insert, code}
+use Rattle.mx_io.specs.declared.named.Named.{Named}
+use Rattle.mx_io.specs.declared.loose.LooseFile.{LooseFile}
+use Rattle.mx_io.specs.Named.{named}
+use Rattle.mx_io.specs.Store.{StoreState}
+
+-- from names to a size and bytes
+abbrev pub LooseMap : Type 0
+LooseMap = FinMap (slice_cmp nat_cmp) (ℕ × List ℕ)
+
+-- a code by which two of them are told apart
+abbrev pub loose_code : Coded LooseMap
+loose_code = code (coded_list coded_ℕ) (coded× coded_ℕ (coded_list coded_ℕ))
+
+-- the files that entries under names make, the newest first
+abbrev pub loose_of : List (Named LooseFile) → LooseMap
+loose_of entries = from_entries (map (λ e. (e.0, (e.1.size, e.1.bytes.items))) (named entries))
+
+-- the size that is told of a name
+abbrev pub loose_size : LooseMap → List ℕ → Option ℕ
+loose_size files name = option_map (λ f. f.0) (get files name)
+
+-- the bytes under a name, none where it is absent
+abbrev pub loose_bytes : LooseMap → List ℕ → List ℕ
+loose_bytes files name = unwrap_or (option_map (λ f. f.1) (get files name)) []
+
+-- with a size and bytes under a name, in place of older ones
+abbrev pub with_loose : LooseMap → List ℕ → ℕ → List ℕ → LooseMap
+with_loose files name size bytes = insert files name (size, bytes)
+
+-- as a store: it tells nothing, and no call fails
+abbrev pub loose_store : LooseMap → StoreState
+loose_store files = record { told = None; faults = 0; sure = true }

@@ -1,0 +1,83 @@
+//! The files of the current folder.
+ghost use Rattle.std.specs.Prelude.{◌≡◌, ◌≤◌, IfOk, None, length};
+ghost use Rattle.mx_io.specs.Store.{Asks, TellsSize, GivesBytes};
+ghost use Rattle.mx_io.specs.Real.{untold_store};
+
+use crate::faults::count_fault;
+use crate::{Failed, Store};
+use std::fs::OpenFile;
+use std::io::{ErrorKind, Read, Seek, SeekFrom};
+use std::marker::Model;
+use std::rt::Files;
+use std::{fs, io};
+
+/// The files of the current folder, read through the runtime: a store that tells nothing of content. An
+/// absent file has no size. A name that is a folder, or that can't be opened for another cause than
+/// absence, is a fault.
+#[derive(Drop)]
+pub struct FolderStore<R> {
+    files: R,
+    faults: u64,
+}
+
+impl<R> Model for FolderStore<R> {
+    ghost use Rattle.std.specs.Prelude.{ℕ, ◌<◌, ◌^◌};
+
+    ghost Value = { ℕ };
+
+    ghost view = { λ s. s.faults };
+
+    ghost invariant = { λ s. s.faults < 2 ^ 64 };
+}
+
+impl<R: Files> FolderStore<R> {
+    /// A store over the current folder, with no fault counted.
+    pub fn new(files: R) -> FolderStore<R>
+        ensures { result ≡ 0 }
+    {
+        FolderStore { files, faults: 0 }
+    }
+}
+
+impl<R: Files> Store for FolderStore<R> {
+    ghost state = { untold_store };
+
+    /// The size of the file; None where it is absent.
+    fn size(&mut self, name: &str) -> Result<Option<u64>, Failed> {
+        match file_size(&self.files, name) {
+            Ok(size) => Ok(size),
+            Err(_) => Err(count_fault(&mut self.faults)),
+        }
+    }
+
+    /// Opens the file anew in each call, so nothing is kept between two of them.
+    fn read(&mut self, name: &str, at: u64, into: &mut [u8]) -> Result<usize, Failed> {
+        match read_part(&self.files, name, at, into) {
+            Ok(count) => Ok(count),
+            Err(_) => Err(count_fault(&mut self.faults)),
+        }
+    }
+}
+
+// The size of a file, None where it is absent. A folder has none, and is an error.
+fn file_size<R: Files>(files: &R, name: &str) -> io::Result<Option<u64>> {
+    let file = match fs::open(files, name) {
+        Ok(file) => file,
+        Err(error) if error.kind() == ErrorKind::NotFound => return Ok(None),
+        Err(error) => return Err(error),
+    };
+    let data = file.metadata()?;
+    if data.is_dir() {
+        return Err(io::Error::from(ErrorKind::IsADirectory));
+    }
+    Ok(Some(data.len()))
+}
+
+// One read from place `at` on.
+fn read_part<R: Files>(files: &R, name: &str, at: u64, into: &mut [u8]) -> io::Result<usize>
+    ensures { IfOk result (λ k. k ≤ length into.new) }
+{
+    let mut file = fs::open(files, name)?;
+    file.seek(SeekFrom::Start(at))?;
+    file.read(into)
+}

@@ -1,0 +1,31 @@
+//! The outside: stores that files are read from and sinks that bytes are written to, in memory and real.
+#![tactic(auto)]
+
+mod bytes;
+mod calls;
+mod faults;
+mod files;
+mod folder;
+mod loose;
+mod named;
+mod part;
+mod piece;
+mod sink;
+mod store;
+mod streams;
+
+pub use bytes::Bytes;
+pub use files::Files;
+pub use folder::FolderStore;
+pub use loose::Loose;
+pub use piece::{Piece, put_pieces};
+pub use sink::{Sink, put_all};
+pub use store::Store;
+pub use streams::{FileSink, StderrSink, StdoutSink};
+
+/// A call of a store or a sink failed. Comes only where the count of faults of that object rose in the call.
+#[derive(Clone, Copy, PartialEq, Eq, Debug)]
+pub struct Failed;
+
+#[cfg(test)]
+mod tests;

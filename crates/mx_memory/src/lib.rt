@@ -1,0 +1,6 @@
+//! The machine's RAM.
+#![tactic(auto)]
+
+mod ram;
+
+pub use ram::Ram;

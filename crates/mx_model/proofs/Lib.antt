@@ -1,0 +1,14 @@
+pub mod Boots
+pub mod ShortExamples
+pub mod GateExamples
+pub mod CallExamples
+pub mod RefusalExamples
+pub mod KeepLaws
+pub mod FlatLaws
+pub mod RunLaws
+pub mod RegisterLaws
+pub mod ListLaws
+pub mod ValidParts
+pub mod DecideLaws
+pub mod ServeLaws
+pub mod TurnLaws

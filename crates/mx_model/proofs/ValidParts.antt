@@ -1,0 +1,136 @@
+-- A valid state with other parts is valid.
+use Rattle.std.proofs.Common.{◌≡◌, ℕ, ◌-◌, ◌<◌, ◌≤◌, true, false, cond, ◌==◌, List, [], ◌∷◌, length, get_or, set, refl, sym, ◌∙◌, ap, subst, arith, lit≤, eqb-true, zero-add, if◌then◌else◌}
+use Rattle.std.proofs.Common.{map as list_map}
+use Rattle.std.specs.Prelude.{slice_index}
+use Rattle.std.specs.List.{AllByRecursion, enumerate_from}
+use Rattle.std.proofs.lemmas.Bool.{eqb-false}
+use Rattle.std.proofs.lemmas.List.{length-set, length-map, get_or-set_same, get_or-set_other, get_or-map}
+use Rattle.std.proofs.lemmas.List.FromFn.{length-enumerate_from, get_or-enumerate_from}
+use Rattle.mx_words.specs.Caches.{Cache}
+use Rattle.mx_model.specs.declared.values.Gate.{Gate}
+use Rattle.mx_model.specs.Checks.{Look, hears, heard_by, looked, looked_all}
+use Rattle.mx_model.specs.Gates.{most_gates}
+use Rattle.mx_model.specs.Reads.{Reads}
+use Rattle.mx_model.specs.State.{Core, Hart, Module, Status, Running, Waiting, Halted, no_hart, no_module, with_hart, with_cache, with_module, module_at}
+use Rattle.mx_model.specs.Valid.{IsStatus, IsHart, IsGate, IsHome, IsValid}
+use Rattle.mx_model.proofs.ListLaws.{all-set, all-at}
+
+-- the bytes of RAM, and one hart, as parts of a valid state
+abbrev pub AreBytes : List ℕ → Type 0
+AreBytes ram = (i : ℕ) → slice_index ram i < 256
+
+abbrev pub AreHarts : ℕ → ℕ → List Hart → Type 0
+AreHarts modules count harts = (h : ℕ) → h < count → IsHart modules h (get_or harts h no_hart)
+
+-- a valid state with other parts
+pub valid-parts : (c : Core) (ram : List ℕ) (modules : List Module) (gates : List Gate) (harts : List Hart) (caches : List Cache) (turns : ℕ) → IsValid c →
+    length ram ≡ length c.ram → AreBytes ram →
+    length modules ≡ length c.modules → AllByRecursion (IsHome c.size (length c.harts)) modules →
+    length gates ≤ most_gates → AllByRecursion (IsGate (length c.modules) c.size) gates →
+    length harts ≡ length c.harts → AreHarts (length c.modules) (length c.harts) harts →
+    length caches ≡ length c.caches →
+    IsValid (record c { ram = ram; modules = modules; gates = gates; harts = harts; caches = caches; turns = turns })
+valid-parts c ram modules gates harts caches turns v rl rb ml ms gl gs hl hs kl = record {
+  few_words = v.few_words;
+  ram_count = rl ∙ v.ram_count;
+  ram_bytes = rb;
+  some_modules = subst (λ (n : ℕ). 1 ≤ n) (sym ml) v.some_modules;
+  few_modules = subst (λ (n : ℕ). n ≤ 63) (sym ml) v.few_modules;
+  modules = subst (λ (n : ℕ). AllByRecursion (IsHome c.size n) modules) (sym hl) ms;
+  few_harts = subst (λ (n : ℕ). n ≤ 4) (sym hl) v.few_harts;
+  harts = subst (λ (n : ℕ). AreHarts n (length harts) harts) (sym ml) (subst (λ (n : ℕ). AreHarts (length c.modules) n harts) (sym hl) hs);
+  caches = kl ∙ v.caches ∙ sym hl;
+  few_gates = gl;
+  gates = subst (λ (n : ℕ). AllByRecursion (IsGate n c.size) gates) (sym ml) gs;
+}
+
+-- one part at a time
+pub valid-turns : (c : Core) (turns : ℕ) → IsValid c → IsValid (record c { turns = turns })
+valid-turns c turns v = valid-parts c c.ram c.modules c.gates c.harts c.caches turns v refl v.ram_bytes refl v.modules v.few_gates v.gates refl v.harts refl
+
+pub valid-ram : (c : Core) (ram : List ℕ) → IsValid c → length ram ≡ length c.ram → AreBytes ram → IsValid (record c { ram = ram })
+valid-ram c ram v e b = valid-parts c ram c.modules c.gates c.harts c.caches c.turns v e b refl v.modules v.few_gates v.gates refl v.harts refl
+
+pub valid-module : (c : Core) (d : ℕ) (m : Module) → IsValid c → IsHome c.size (length c.harts) m → IsValid (with_module d m c)
+valid-module c d m v p =
+    valid-parts c c.ram (set c.modules (d - 1) m) c.gates c.harts c.caches c.turns v refl v.ram_bytes (length-set c.modules (d - 1) m)
+    (all-set (IsHome c.size (length c.harts)) c.modules (d - 1) m v.modules p) v.few_gates v.gates refl v.harts refl
+
+pub valid-gates : (c : Core) (gates : List Gate) → IsValid c → length gates ≤ most_gates → AllByRecursion (IsGate (length c.modules) c.size) gates →
+    IsValid (record c { gates = gates })
+valid-gates c gates v l p = valid-parts c c.ram c.modules gates c.harts c.caches c.turns v refl v.ram_bytes refl v.modules l p refl v.harts refl
+
+pub valid-caches : (c : Core) (caches : List Cache) → IsValid c → length caches ≡ length c.caches → IsValid (record c { caches = caches })
+valid-caches c caches v e = valid-parts c c.ram c.modules c.gates c.harts caches c.turns v refl v.ram_bytes refl v.modules v.few_gates v.gates refl v.harts e
+
+pub valid-cache : (c : Core) (h : ℕ) (cache : Cache) → IsValid c → IsValid (with_cache h cache c)
+valid-cache c h cache v = valid-caches c (set c.caches h cache) v (length-set c.caches h cache)
+
+pub harts-set : (modules count : ℕ) (harts : List Hart) (h : ℕ) (hart : Hart) → length harts ≡ count → AreHarts modules count harts → IsHart modules h hart →
+    AreHarts modules count (set harts h hart)
+harts-set modules count harts h hart e hs p i l = elim (i == h) as (λ b. (i == h) ≡ b → IsHart modules i (get_or (set harts h hart) i no_hart)) [
+  | true ↦ λ t.
+      let same : i ≡ h = eqb-true i h t in
+      let inside : h < length harts = let q : h < count = subst (λ (n : ℕ). n < count) same l in subst (λ (n : ℕ). h < n) (sym e) q in
+      subst (λ (n : ℕ). IsHart modules n (get_or (set harts h hart) n no_hart)) (sym same)
+      (subst (λ (x : Hart). IsHart modules h x) (sym (get_or-set_same harts h hart no_hart inside)) p)
+  | false ↦ λ t. subst (λ (x : Hart). IsHart modules i x) (sym (get_or-set_other harts h i hart no_hart (eqb-false i h t))) (hs i l)
+] refl
+
+pub valid-hart : (c : Core) (h : ℕ) (hart : Hart) → IsValid c → IsHart (length c.modules) h hart → IsValid (with_hart h hart c)
+valid-hart c h hart v p =
+    valid-parts c c.ram c.modules c.gates (set c.harts h hart) c.caches c.turns v refl v.ram_bytes refl v.modules v.few_gates v.gates
+    (length-set c.harts h hart) (harts-set (length c.modules) (length c.harts) c.harts h hart refl v.harts p) refl
+
+-- a module that isn't there has empty areas
+pub home-none : (size harts : ℕ) → IsHome size harts no_module
+home-none size harts = record { heap = omega arith; stack = omega arith; few_blocks = lit≤ tt }
+
+pub home-at : (c : Core) (d : ℕ) → IsValid c → IsHome c.size (length c.harts) (module_at c d)
+home-at c d v = all-at (IsHome c.size (length c.harts)) c.modules no_module v.modules (home-none c.size (length c.harts)) (d - 1)
+
+-- looks change caches alone
+pub valid-looked_all : (r : Reads) (h : ℕ) (looks : List Look) (c : Core) → IsValid c → IsValid (looked_all r h looks c)
+valid-looked_all r h [] c v = v
+valid-looked_all r h (l ∷ ls) c v = valid-looked_all r h ls (looked r h c l) (valid-cache c h _ v)
+
+pub same-harts-looked_all : (r : Reads) (h : ℕ) (looks : List Look) (c : Core) → (looked_all r h looks c).harts ≡ c.harts
+same-harts-looked_all r h [] c = refl
+same-harts-looked_all r h (l ∷ ls) c = same-harts-looked_all r h ls (looked r h c l)
+
+pub same-modules-looked_all : (r : Reads) (h : ℕ) (looks : List Look) (c : Core) → (looked_all r h looks c).modules ≡ c.modules
+same-modules-looked_all r h [] c = refl
+same-modules-looked_all r h (l ∷ ls) c = same-modules-looked_all r h ls (looked r h c l)
+
+-- hearing
+pub status-heard : (modules i h : ℕ) (s : Status) → IsStatus modules i s → IsStatus modules i (heard_by h s)
+status-heard modules i h Running p = tt
+status-heard modules i h (Waiting call heard) p = p
+status-heard modules i h (Halted code) p = tt
+
+pub hart-status : (modules h : ℕ) (hart : Hart) (s : Status) → IsHart modules h hart → IsStatus modules h s → IsHart modules h (record hart { status = s })
+hart-status modules h hart s p q =
+    record { regs = p.regs; pc = p.pc; domain = p.domain; few_frames = p.few_frames; frames = p.frames; status = q }
+
+abbrev pub hearing : ℕ → ℕ × Hart → Hart
+hearing h p = if p.0 == h then p.1 else record p.1 { status = heard_by h p.1.status }
+
+pub hart-hearing : (modules i h : ℕ) (hart : Hart) → IsHart modules i hart → IsHart modules i (hearing h (i, hart))
+hart-hearing modules i h hart p = elim (i == h) as (λ b. IsHart modules i (cond b hart (record hart { status = heard_by h hart.status }))) [
+  | true ↦ p
+  | false ↦ hart-status modules i hart (heard_by h hart.status) p (status-heard modules i h hart.status p.status)
+]
+
+pub harts-hearing : (modules h : ℕ) (harts : List Hart) → AreHarts modules (length harts) harts →
+    AreHarts modules (length harts) (list_map (hearing h) (enumerate_from 0 harts))
+harts-hearing modules h harts hs i l =
+    let e : get_or (enumerate_from 0 harts) i (0, no_hart) ≡ (i, get_or harts i no_hart) =
+    get_or-enumerate_from 0 harts i (0, no_hart) l ∙ ap (λ (n : ℕ). (n, get_or harts i no_hart)) (zero-add i) in
+    let m = get_or-map (hearing h) (enumerate_from 0 harts) i (0, no_hart) no_hart (subst (λ (n : ℕ). i < n) (sym (length-enumerate_from 0 harts)) l) in
+    subst (λ (x : Hart). IsHart modules i x) (sym (m ∙ ap (hearing h) e)) (hart-hearing modules i h (get_or harts i no_hart) (hs i l))
+
+pub valid-hears : (h : ℕ) (c : Core) → IsValid c → IsValid (hears h c)
+valid-hears h c v =
+    valid-parts c c.ram c.modules c.gates (list_map (hearing h) (enumerate_from 0 c.harts)) _ c.turns v refl v.ram_bytes refl v.modules v.few_gates v.gates
+    (length-map (enumerate_from 0 c.harts) (hearing h) ∙ length-enumerate_from 0 c.harts)
+    (harts-hearing (length c.modules) h c.harts v.harts) (length-set c.caches h _)

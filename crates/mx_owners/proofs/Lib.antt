@@ -1,0 +1,4 @@
+pub mod FillLaws
+pub mod PlaceLaws
+pub mod CountLaws
+pub mod GiveLaws

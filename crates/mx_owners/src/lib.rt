@@ -1,0 +1,10 @@
+//! The owner of each word of RAM.
+#![tactic(auto)]
+
+mod owners;
+mod runs;
+
+pub use owners::{Owners, OwnersFull};
+
+#[cfg(test)]
+mod tests;

@@ -1,0 +1,12 @@
+pub mod Asked
+pub mod Judged
+pub mod Machine
+pub mod Manifest
+pub mod Outcome
+pub mod Promise
+pub mod Reading
+pub mod Refusal
+pub mod Report
+pub mod Status
+pub mod Top
+pub mod Words

@@ -1,0 +1,97 @@
+-- The lines of refusals, each a whole report.
+use Rattle.std.specs.Prelude.{ℕ, List, [], ◌∷◌, decimal, codes, Option, Some, None}
+use Rattle.std.specs.List.{concat}
+use Rattle.mx_manifest.specs.declared.fault.BootFault.{BootFault}
+use Rattle.mx_manifest.specs.declared.fault.Part.{Part}
+use Rattle.mx_manifest.specs.declared.fault.Part.TheVariants as part
+use Rattle.mx_manifest.specs.declared.fault.Key.{Key}
+use Rattle.mx_manifest.specs.declared.fault.Key.TheVariants as key
+use Rattle.mx_run.specs.declared.status.Status.{Status}
+use Rattle.mx_run.specs.declared.status.Status.TheVariants.{Ran, Usage, Refused, TablesFull, StoreFault, ShortFile, NoFile, ConsoleFault, ReportFault, DumpFault, WantOfMemory, AsmFault, Unlike, NoDomain, SecondRefused, SecondTablesFull, SnapshotFault}
+
+-- the text of a table of the manifest, or of the schedule
+unfoldable pub place_text : Part → ℕ → List ℕ
+place_text part.Manifest index = concat (codes "manifest" ∷ [])
+place_text part.Module index = concat (codes "module." ∷ decimal index ∷ [])
+place_text part.Hart index = concat (codes "hart." ∷ decimal index ∷ [])
+place_text part.Schedule index = concat (codes "schedule" ∷ [])
+
+-- the name of a key, or `-` for none
+abbrev pub key_name : Key → List ℕ
+key_name key.Version = codes "version"
+key_name key.RamKib = codes "ram_kib"
+key_name key.Tables = codes "tables"
+key_name key.Upper = codes "upper"
+key_name key.Leaf = codes "leaf"
+key_name key.Spill = codes "spill"
+key_name key.Lookaside = codes "lookaside"
+key_name key.Quantum = codes "quantum"
+key_name key.Module = codes "module"
+key_name key.Hart = codes "hart"
+key_name key.Name = codes "name"
+key_name key.Image = codes "image"
+key_name key.At = codes "at"
+key_name key.Perm = codes "perm"
+key_name key.Words = codes "words"
+key_name key.Wx = codes "wx"
+key_name key.Heap = codes "heap"
+key_name key.HeapWords = codes "heap_words"
+key_name key.Stack = codes "stack"
+key_name key.StackWords = codes "stack_words"
+key_name key.Gates = codes "gates"
+key_name key.Returns = codes "returns"
+key_name key.OnFault = codes "on_fault"
+key_name key.Seal = codes "seal"
+key_name key.Entry = codes "entry"
+key_name key.NoKey = codes "-"
+
+-- the number of a fault
+unfoldable pub fault_text : ℕ → List ℕ
+fault_text number = concat (codes "refused fault=" ∷ decimal number ∷ codes " at=" ∷ [])
+
+-- the key at which it stands, and what it adds
+unfoldable pub detail_text : List ℕ → ℕ → List ℕ
+detail_text name detail = concat (codes " key=" ∷ name ∷ codes " detail=" ∷ decimal detail ∷ codes "\n" ∷ [])
+
+-- a boot is refused
+unfoldable pub refused_line : BootFault → List ℕ
+refused_line fault =
+    concat (fault_text fault.number ∷ place_text fault.place.part fault.place.index
+    ∷ detail_text (key_name fault.place.key) fault.detail ∷ [])
+
+-- the words have no meaning
+unfoldable pub usage_line : List ℕ
+usage_line = codes "mondrix: these words have no meaning\n"
+
+-- the store failed
+unfoldable pub store_fault_line : List ℕ
+store_fault_line = codes "store fault\n"
+
+-- a file ended early
+unfoldable pub short_file_line : List ℕ → ℕ → ℕ → List ℕ
+short_file_line name told got =
+    concat (codes "short file " ∷ name ∷ codes " told=" ∷ decimal told ∷ codes " got=" ∷ decimal got ∷ codes "\n" ∷ [])
+
+-- a file is absent
+unfoldable pub no_file_line : List ℕ → List ℕ
+no_file_line name = concat (codes "no file " ∷ name ∷ codes "\n" ∷ [])
+
+-- the line of a status, where it is one that this path gives and that has a line
+abbrev pub line_of : List ℕ → Status → Option (List ℕ)
+line_of name Usage = Some usage_line
+line_of name (Refused fault) = Some (refused_line fault)
+line_of name StoreFault = Some store_fault_line
+line_of name (ShortFile role told got) = Some (short_file_line name told got)
+line_of name (NoFile role) = Some (no_file_line name)
+line_of name Ran = None
+line_of name (TablesFull need limit) = None
+line_of name ConsoleFault = None
+line_of name ReportFault = None
+line_of name DumpFault = None
+line_of name WantOfMemory = None
+line_of name (AsmFault line number) = None
+line_of name (Unlike key) = None
+line_of name NoDomain = None
+line_of name (SecondRefused fault) = None
+line_of name (SecondTablesFull need limit) = None
+line_of name (SnapshotFault at number) = None

@@ -1,0 +1,18 @@
+//! The top call: the words of a command line, the files of a store, a boot, a run, and the texts of three sinks.
+#![tactic(auto)]
+
+mod action;
+mod keys;
+mod machine;
+mod manifest;
+mod reading;
+mod refusal;
+mod report;
+mod run;
+mod status;
+mod top;
+mod words;
+
+pub use status::{FileRole, Status};
+pub use top::mondrix;
+pub use words::Words;

@@ -1,0 +1,175 @@
+//! The lines of refusals, each a whole report. No call takes memory.
+
+ghost use Rattle.std.specs.Prelude.{◌≡◌, [], unwrap_or};
+ghost use Rattle.mx_io.specs.Sink.{Puts};
+ghost use Rattle.mx_run.specs.Refusal.{line_of, refused_line, fault_text, place_text, detail_text, key_name, short_file_line, no_file_line, usage_line, store_fault_line};
+ghost use Rattle.mx_run.specs.Outcome.{refusal};
+ghost use Rattle.mx_run.specs.Top.{Ends, finished};
+
+use crate::status::Status;
+use mx_io::{Failed, Piece, Sink, put_all, put_pieces};
+use mx_manifest::{BootFault, Key, Part};
+
+/// Ends a call that refuses: its line is the whole report, or the report's fault is the status.
+pub(crate) fn refuse<R: Sink>(report: &mut R, name: &str, status: Status) -> Status
+    ensures { Ends (refusal name.now status) (R.state report.old) (R.state report.new) result }
+{
+    finish(put_line(report, name, &status), status)
+}
+
+/// The status of a call whose last text was put, or could not be put.
+pub(crate) fn finish(put: Result<(), Failed>, status: Status) -> Status
+    ensures { result ≡ finished put status }
+{
+    match put {
+        Ok(()) => status,
+        Err(Failed) => Status::ReportFault,
+    }
+}
+
+/// Puts the line of a refusal; `name` is the name of the file that it is about.
+fn put_line<R: Sink>(report: &mut R, name: &str, status: &Status) -> Result<(), Failed>
+    ensures { Puts (R.state report.old) (R.state report.new) (unwrap_or (line_of name.now status.now) []) result }
+{
+    match *status {
+        Status::Usage => put_usage(report),
+        Status::Refused(fault) => put_refused(report, &fault),
+        Status::StoreFault => put_store_fault(report),
+        Status::ShortFile { told, got, .. } => put_short_file(report, name, told, got),
+        Status::NoFile(_) => put_no_file(report, name),
+        _ => put_all(report, b""),
+    }
+}
+
+#[tactic(auto, unfolding(crate::specs::Refusal::usage_line))]
+fn put_usage<R: Sink>(report: &mut R) -> Result<(), Failed>
+    ensures { Puts (R.state report.old) (R.state report.new) usage_line result }
+{
+    put_all(report, b"mondrix: these words have no meaning\n")
+}
+
+#[tactic(auto, unfolding(crate::specs::Refusal::store_fault_line))]
+fn put_store_fault<R: Sink>(report: &mut R) -> Result<(), Failed>
+    ensures { Puts (R.state report.old) (R.state report.new) store_fault_line result }
+{
+    put_all(report, b"store fault\n")
+}
+
+#[tactic(auto, unfolding(crate::specs::Refusal::short_file_line))]
+fn put_short_file<R: Sink>(report: &mut R, name: &str, told: u64, got: u64) -> Result<(), Failed>
+    ensures { Puts (R.state report.old) (R.state report.new) (short_file_line name.now told got) result }
+{
+    put_pieces(
+        report,
+        &[
+            Piece::Text("short file "),
+            Piece::Text(name),
+            Piece::Text(" told="),
+            Piece::Number(told),
+            Piece::Text(" got="),
+            Piece::Number(got),
+            Piece::Text("\n"),
+        ],
+    )
+}
+
+#[tactic(auto, unfolding(crate::specs::Refusal::no_file_line))]
+fn put_no_file<R: Sink>(report: &mut R, name: &str) -> Result<(), Failed>
+    ensures { Puts (R.state report.old) (R.state report.new) (no_file_line name.now) result }
+{
+    put_pieces(
+        report,
+        &[
+            Piece::Text("no file "),
+            Piece::Text(name),
+            Piece::Text("\n"),
+        ],
+    )
+}
+
+fn put_refused<R: Sink>(report: &mut R, fault: &BootFault) -> Result<(), Failed>
+    ensures { Puts (R.state report.old) (R.state report.new) (refused_line fault.now) result }
+{
+    put_number(report, fault.number)?;
+    put_place(report, fault.place.part, fault.place.index)?;
+    put_detail(report, key_name(fault.place.key), fault.detail)
+}
+
+#[tactic(auto, unfolding(crate::specs::Refusal::fault_text))]
+fn put_number<R: Sink>(report: &mut R, number: u32) -> Result<(), Failed>
+    ensures { Puts (R.state report.old) (R.state report.new) (fault_text number) result }
+{
+    put_pieces(
+        report,
+        &[
+            Piece::Text("refused fault="),
+            Piece::Number(number as u64),
+            Piece::Text(" at="),
+        ],
+    )
+}
+
+#[tactic(auto, unfolding(crate::specs::Refusal::place_text))]
+fn put_place<R: Sink>(report: &mut R, part: Part, index: u32) -> Result<(), Failed>
+    ensures { Puts (R.state report.old) (R.state report.new) (place_text part index) result }
+{
+    match part {
+        Part::Manifest => put_pieces(report, &[Piece::Text("manifest")]),
+        Part::Module => put_pieces(
+            report,
+            &[Piece::Text("module."), Piece::Number(index as u64)],
+        ),
+        Part::Hart => put_pieces(report, &[Piece::Text("hart."), Piece::Number(index as u64)]),
+        Part::Schedule => put_pieces(report, &[Piece::Text("schedule")]),
+    }
+}
+
+#[tactic(auto, unfolding(crate::specs::Refusal::detail_text))]
+fn put_detail<R: Sink>(report: &mut R, name: &str, detail: u32) -> Result<(), Failed>
+    ensures { Puts (R.state report.old) (R.state report.new) (detail_text name.now detail) result }
+{
+    put_pieces(
+        report,
+        &[
+            Piece::Text(" key="),
+            Piece::Text(name),
+            Piece::Text(" detail="),
+            Piece::Number(detail as u64),
+            Piece::Text("\n"),
+        ],
+    )
+}
+
+/// The name of a key as the manifest has it, `-` for none.
+fn key_name(key: Key) -> &'static str
+    ensures { result.now ≡ key_name key }
+{
+    match key {
+        Key::Version => "version",
+        Key::RamKib => "ram_kib",
+        Key::Tables => "tables",
+        Key::Upper => "upper",
+        Key::Leaf => "leaf",
+        Key::Spill => "spill",
+        Key::Lookaside => "lookaside",
+        Key::Quantum => "quantum",
+        Key::Module => "module",
+        Key::Hart => "hart",
+        Key::Name => "name",
+        Key::Image => "image",
+        Key::At => "at",
+        Key::Perm => "perm",
+        Key::Words => "words",
+        Key::Wx => "wx",
+        Key::Heap => "heap",
+        Key::HeapWords => "heap_words",
+        Key::Stack => "stack",
+        Key::StackWords => "stack_words",
+        Key::Gates => "gates",
+        Key::Returns => "returns",
+        Key::OnFault => "on_fault",
+        Key::Seal => "seal",
+        Key::Entry => "entry",
+        Key::NoKey => "-",
+    }
+}

@@ -1,0 +1,12 @@
+mod ListLaws
+mod StoreLaws
+mod EntryLaws
+mod SoundLaws
+mod ChangeLaws
+mod MoveLaws
+mod PlanLaws
+mod LaidLaws
+mod KeptLaws
+mod SpanLaws
+mod TallyLaws
+mod BuildLaws

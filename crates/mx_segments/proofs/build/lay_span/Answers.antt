@@ -1,0 +1,18 @@
+use Rattle.std.proofs.Common.{◌≡◌, List, sym, ◌∙◌, ap}
+use Rattle.mx_words.specs.declared.perm.Perm.{Perm}
+use Rattle.mx_words.specs.declared.perm.Span.{Span}
+use Rattle.mx_words.specs.Newest.{laid}
+use Rattle.mx_words.specs.Changes.{grant_of}
+use Rattle.mx_table.specs.Tables.{granted, no_span}
+use Rattle.mx_segments.specs.Tally.{first_spans}
+use Rattle.mx_segments.proofs.SpanLaws.{got, first_more}
+use Rattle.mx_segments.proofs.build.lay_span.Goals as goal
+
+pub returns-clause-map : goal.returns-clause-map
+returns-clause-map c =
+    let s = c.get-span.result in
+    let row = c.args.spans.now in
+    c.change_row.ensures.changed
+    ∙ ap (λ (m : List Perm). laid (grant_of s.first s.count s.perm) m) c.requires.map
+    ∙ ap (λ (x : Span). laid (granted x) (first_spans c.args.words row c.args.n)) (got row c.args.n s no_span c.get-span.ensures)
+    ∙ sym (first_more c.args.words row c.requires.spans c.args.n c.requires.place)

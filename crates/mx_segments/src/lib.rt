@@ -1,0 +1,16 @@
+//! Permission tables as sorted runs: one list of entries per domain, in frames of 64 words.
+#![tactic(auto)]
+
+mod build;
+mod chains;
+mod change;
+mod entries;
+mod moves;
+mod plan;
+mod rows;
+mod segments;
+mod store;
+mod tally;
+
+pub use chains::Chains;
+pub use segments::Segments;

@@ -1,0 +1,9 @@
+//! Tests that cross crates: the top call over files and sinks in memory.
+#![tactic(auto)]
+
+#[cfg(test)]
+mod manifests;
+#[cfg(test)]
+mod outside;
+#[cfg(test)]
+mod runs;

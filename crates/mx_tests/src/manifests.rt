@@ -1,0 +1,37 @@
+//! Manifests of one module that is given by its words, and the call of the program on them.
+
+use mx_io::{Bytes, Sink, Store};
+use mx_run::{Status, Words, mondrix};
+use std::alloc::{AllocError, Global};
+use std::test::Fail;
+
+/// The words of the program that leaves with 5 after three steps.
+pub const THREE_WORDS: &str = "0x00100893, 0x00500513, 0x00000073";
+
+/// A manifest of one module `m` with these words, and a hart in it.
+pub fn manifest(alloc: Global, at: &str, perm: &str, words: &str) -> Result<String, AllocError> {
+    format!(in alloc;
+        "version = 1\nram_kib = 64\n\n[[module]]\nname = \"m\"\nat = {at}\nperm = \"{perm}\"\nwords = [{words}]\n\n[[hart]]\nmodule = \"m\"\n"
+    )
+}
+
+/// The program's answer to these words; the console and the dump get nothing.
+pub fn answer<S: Store, R: Sink>(
+    alloc: Global,
+    words: &[&str],
+    store: &mut S,
+    report: &mut R,
+) -> Result<Status, Fail> {
+    let mut list = Words::new(alloc);
+    for word in words {
+        list.push(word)?;
+    }
+    let mut console = Bytes::new(alloc, 8)?;
+    let mut dump = Bytes::new(alloc, 8)?;
+    let status = mondrix(alloc, &list, store, &mut console, report, &mut dump);
+    if console.as_slice().is_empty() && dump.as_slice().is_empty() {
+        Ok(status)
+    } else {
+        Err("the console or the dump got bytes")?
+    }
+}

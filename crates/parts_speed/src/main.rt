@@ -1,0 +1,120 @@
+//! Times calls of the machine's parts: `parts_speed ROUNDS` prints to stdout what the calls answered, and to stderr the
+//! processor time that so many calls of each kind took.
+#![tactic(auto)]
+
+mod caches;
+mod gates;
+mod heaps;
+mod owners;
+
+use std::alloc::Global;
+use std::time::{CpuClock, Duration};
+use std::{env, io};
+
+fn main(rt: HostRuntime) -> io::Result<()> {
+    let mut args = env::args(&rt)?;
+    let _name = args.next();
+    let rounds = args.next().and_then(|word| word.parse::<u64>().ok());
+    let Some(rounds) = rounds else {
+        return eprintln!(rt; "parts_speed ROUNDS");
+    };
+    time_gates(&rt, rounds)?;
+    time_lookasides(&rt, rounds)?;
+    time_sidecars(&rt, rounds)?;
+    time_owners(&rt, rt.alloc(), rounds)?;
+    time_heaps(&rt, rt.alloc(), rounds)
+}
+
+/// `call_gate` and `is_return` at words without a gate, with 0 and with 256 gates elsewhere.
+fn time_gates(rt: &(impl Print + Eprint + CpuClock), rounds: u64) -> io::Result<()> {
+    for count in [0, 256] {
+        let gates = gates::elsewhere(count);
+        let begun = rt.thread_cpu_time()?;
+        let found = gates::looked_up(&gates, rounds);
+        let ended = rt.thread_cpu_time()?;
+        println!(rt; "call_gate with {count} gates elsewhere: {found} found")?;
+        tell(rt, "call_gate and is_return", rounds, begun, ended)?;
+    }
+    Ok(())
+}
+
+/// `keep` into a lookaside buffer of 8 and of 64 entries.
+fn time_lookasides(rt: &(impl Print + Eprint + CpuClock), rounds: u64) -> io::Result<()> {
+    let begun = rt.thread_cpu_time()?;
+    let small = caches::entries_kept::<8>(rounds);
+    let between = rt.thread_cpu_time()?;
+    let large = caches::entries_kept::<64>(rounds);
+    let ended = rt.thread_cpu_time()?;
+    println!(rt; "keep with N of 8: {small} entries")?;
+    tell(rt, "keep with N of 8", rounds, begun, between)?;
+    println!(rt; "keep with N of 64: {large} entries")?;
+    tell(rt, "keep with N of 64", rounds, between, ended)
+}
+
+/// A hit in a sidecar, and the emptying of all its places.
+fn time_sidecars(rt: &(impl Print + Eprint + CpuClock), rounds: u64) -> io::Result<()> {
+    let begun = rt.thread_cpu_time()?;
+    let hits = caches::sidecar_hits(rounds);
+    let between = rt.thread_cpu_time()?;
+    let emptied = caches::hits_before_clear(rounds);
+    let ended = rt.thread_cpu_time()?;
+    println!(rt; "find in a sidecar: {hits} hits")?;
+    tell(rt, "find in a sidecar", rounds, begun, between)?;
+    println!(rt; "keep, find and clear of a sidecar: {emptied} hits")?;
+    tell(
+        rt,
+        "keep, find and clear of a sidecar",
+        rounds,
+        between,
+        ended,
+    )
+}
+
+/// `owner` where all words have one owner, and with 4096 runs of owners.
+fn time_owners(
+    rt: &(impl Print + Eprint + CpuClock),
+    alloc: Global,
+    rounds: u64,
+) -> io::Result<()> {
+    for words in [0, 2048] {
+        let Some(owners) = owners::owned(alloc, words) else {
+            return eprintln!(rt; "no memory");
+        };
+        let begun = rt.thread_cpu_time()?;
+        let seen = owners::owners_seen(&owners, rounds);
+        let ended = rt.thread_cpu_time()?;
+        println!(rt; "owner with {words} words of their own: domain 1 seen {seen} times")?;
+        tell(rt, "owner", rounds, begun, ended)?;
+    }
+    Ok(())
+}
+
+/// `alloc` and `free` of a heap with no other block, and with 1023 others.
+fn time_heaps(rt: &(impl Print + Eprint + CpuClock), alloc: Global, rounds: u64) -> io::Result<()> {
+    for blocks in [0, 1023] {
+        let Some(mut heap) = heaps::filled(alloc, blocks) else {
+            return eprintln!(rt; "no memory");
+        };
+        let begun = rt.thread_cpu_time()?;
+        let ended_blocks = heaps::blocks_ended(&mut heap, rounds);
+        let ended = rt.thread_cpu_time()?;
+        println!(rt; "alloc and free beside {blocks} blocks: {ended_blocks} ended")?;
+        tell(rt, "alloc and free", rounds, begun, ended)?;
+    }
+    Ok(())
+}
+
+/// One line of costs.
+fn tell(
+    rt: &impl Eprint,
+    what: &str,
+    rounds: u64,
+    begun: Duration,
+    ended: Duration,
+) -> io::Result<()> {
+    let taken = ended.checked_sub(begun).unwrap_or_default();
+    eprintln!(rt;
+        "{what}: rounds={rounds} microseconds={}",
+        taken.as_micros()
+    )
+}
