@@ -1,0 +1,105 @@
+//! Packed entries as leaf entries.
+ghost use Rattle.std.specs.Prelude.{◌≡◌, ◌≢◌, ℕ, ◌+◌, ◌-◌, ◌*◌, ◌/◌, ◌%◌, ◌<◌, ◌≤◌, ◌^◌, ◌==◌, refl, ◌⊎◌, if◌then◌else◌};
+ghost use Rattle.std.proofs.Common.{inr};
+ghost use Rattle.mx_words.specs.declared.tables.Kind.TheVariants as K;
+ghost use Rattle.mx_words.specs.Runs.{line_words};
+ghost use Rattle.mx_upper.specs.Leaf.{lengthened};
+
+use crate::mini::{line_of, pack, run_count};
+use mx_upper::{LeafForm, Vector};
+use mx_words::{Perm, Span};
+
+/// Packed leaf entries: up to four runs in the entry, which reaches up to 31 words over each edge of the line; a line with more
+/// runs has a spill word in the form of a plain entry.
+#[derive(Clone, Copy, PartialEq, Eq, Debug)]
+pub struct Packed;
+
+/// A line's run, lengthened to the left where it begins the line and to the right where it ends it.
+fn lengthen(run: Span, line: u32, left: u32, right: u32) -> Span
+    requires at { line ≤ run.first }
+    requires before { left ≤ line }
+    requires behind { run.first + run.count ≤ line + line_words }
+    requires room { line + line_words + right ≤ 2 ^ 24 }
+    ensures { result ≡ lengthened (if run.first == line then left else 0) (if run.first + run.count == line + line_words then right else 0) run }
+{
+    let before = if run.first == line { left } else { 0 };
+    let behind = if run.first + run.count == line + 16 {
+        right
+    } else {
+        0
+    };
+    Span {
+        first: run.first - before,
+        count: before + run.count + behind,
+        perm: run.perm,
+    }
+}
+
+impl LeafForm for Packed {
+    ghost kind = { K.Packed };
+
+    ghost REACH = { 31 };
+
+    const REACH: u32 = 31;
+
+    ghost trie = { inr refl };
+
+    ghost reach = { refl };
+
+    fn needs_spill(perms: &[Perm; 16]) -> bool {
+        run_count(perms) > 4
+    }
+
+    fn entry(perms: &[Perm; 16], left: u32, right: u32, spill: u32) -> u32 {
+        match pack(perms, left, right) {
+            Some(entry) => entry,
+            None => 3 + 4 * spill,
+        }
+    }
+
+    fn spill_of(entry: u32) -> Option<u32> {
+        if entry % 4 == 3 {
+            Some(entry / 4)
+        } else {
+            None
+        }
+    }
+
+    fn run(entry: u32, spilled: u32, line: u32, word: u32) -> Span {
+        if entry % 4 == 3 {
+            return Vector::run(spilled, 0, line, word);
+        }
+        let perms = line_of(entry / 4 % 0x100, entry / 0x400 % 0x1000);
+        let run = Vector::run(Vector::entry(&perms, 0, 0, 0), 0, line, word);
+        lengthen(run, line, entry / 0x800_0000, entry / 0x40_0000 % 0x20)
+    }
+}
+
+#[cfg(test)]
+mod tests {
+    use super::*;
+
+    const N: Perm = Perm::None;
+
+    const R: Perm = Perm::Read;
+
+    const W: Perm = Perm::ReadWrite;
+
+    // The entry of the line, its spill word, and the run of a word, through the bound.
+    fn stored<L: LeafForm>(perms: &[Perm; 16]) -> (u32, Option<u32>) {
+        let entry = L::entry(perms, 0, 0, 9);
+        (entry, L::spill_of(entry))
+    }
+
+    #[test]
+    fn forms_of_a_line(rt: HostRuntime) {
+        let four_runs = [N, R, W, N, N, N, N, N, N, N, N, N, N, N, N, N];
+        let five_runs = [N, R, W, N, N, N, N, N, N, N, N, N, N, N, N, R];
+        assert!(rt; !Packed::needs_spill(&four_runs));
+        assert!(rt; Packed::needs_spill(&five_runs));
+        assert!(rt; !Vector::needs_spill(&five_runs));
+        assert_eq!(rt; stored::<Packed>(&five_runs), (0x27, Some(9)));
+        assert_eq!(rt; stored::<Packed>(&four_runs), (0x000C_8492, None));
+        assert_eq!(rt; stored::<Vector>(&five_runs), (0x4000_0024, None));
+    }
+}

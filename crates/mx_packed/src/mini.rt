@@ -1,0 +1,157 @@
+//! Packed entries: up to four runs of a line and two reaches in 32 bits.
+ghost use Rattle.std.specs.Prelude.{◌≡◌, ◌≢◌, ℕ, ◌+◌, ◌-◌, ◌*◌, ◌/◌, ◌%◌, ◌<◌, ◌≤◌, ◌^◌, List, length, Option, Some, IfSome};
+ghost use Rattle.mx_words.specs.declared.perm.Perm.{Perm};
+ghost use Rattle.mx_words.specs.Rights.{number};
+ghost use Rattle.mx_words.specs.Runs.{runs, line_words};
+ghost use Rattle.mx_upper.specs.Leaf.{form_reach};
+ghost use Rattle.mx_packed.specs.Pack.{pack_of};
+ghost use Rattle.mx_upper.specs.Codes.{value_code, start_code};
+
+use mx_words::Perm;
+
+/// What a packed entry says of a line: its 16 permissions, and how many words right before and right behind the line have the
+/// permission of its first and of its last word, 0 to 31 each.
+#[derive(Clone, Copy, PartialEq, Eq, Debug)]
+pub struct Unpacked {
+    /// The permissions of the line's words.
+    pub perms: [Perm; 16],
+    /// The left reach.
+    pub left: u32,
+    /// The right reach.
+    pub right: u32,
+}
+
+/// The number of runs of a line.
+pub(crate) fn run_count(perms: &[Perm; 16]) -> u32
+    ensures value { result ≡ runs perms.now }
+    ensures few { result ≤ 16 }
+{
+    let mut count = 1;
+    let mut place = 15;
+    while place > 0 {
+        place -= 1;
+        if perms[place].number() != perms[place + 1].number() {
+            count += 1;
+        }
+    }
+    count
+}
+
+/// The packed entry of a line's permissions with both reaches, 0 to 31. `None` exactly for more than four runs.
+pub fn pack(perms: &[Perm; 16], left: u32, right: u32) -> Option<u32>
+    requires left { left ≤ 31 }
+    requires right { right ≤ 31 }
+    ensures { result ≡ pack_of perms.now left right }
+{
+    if run_count(perms) > 4 {
+        return None;
+    }
+    let (values, starts) = codes(perms);
+    Some(2 + 4 * values + 0x400 * starts + 0x40_0000 * right + 0x800_0000 * left)
+}
+
+/// The permissions of a line's runs, two bits each, and the starts of its second, third and fourth run, four bits each. The line has at
+/// most four runs.
+fn codes(perms: &[Perm; 16]) -> (u32, u32)
+    requires { runs perms.now ≤ 4 }
+    ensures values { result.0 ≡ value_code perms.now }
+    ensures starts { result.1 ≡ start_code 0 perms.now }
+    ensures values_below { result.0 < 256 }
+    ensures starts_below { result.1 < 4096 }
+{
+    let mut values = perms[15].number();
+    let mut starts = 0;
+    let mut place = 15;
+    while place > 0 {
+        place -= 1;
+        let here = perms[place].number();
+        if here != perms[place + 1].number() {
+            values = here + 4 * values;
+            starts = place as u32 + 1 + 16 * starts;
+        }
+    }
+    (values, starts)
+}
+
+/// The permission with a number, 0 to 3.
+fn perm_of(n: u32) -> Perm
+    requires { n < 4 }
+    ensures { number result ≡ n }
+{
+    match Perm::from_number(n) {
+        Some(perm) => perm,
+        None => unreachable!(),
+    }
+}
+
+/// The permissions of a line from those of its runs and from the starts of the runs.
+pub(crate) fn line_of(values: u32, starts: u32) -> [Perm; 16]
+    ensures { (perms : List Perm) → length perms ≡ line_words → values ≡ value_code perms → starts ≡ start_code 0 perms → result ≡ perms }
+{
+    let mut line = [Perm::None; 16];
+    let mut values_left = values;
+    let mut starts_left = starts;
+    for place in 0..16usize {
+        line[place] = perm_of(values_left % 4);
+        if starts_left % 16 == place as u32 + 1 {
+            values_left /= 4;
+            starts_left /= 16;
+        }
+    }
+    line
+}
+
+/// The arguments for which `pack` gives an entry. `None` exactly where it gives it for none.
+pub fn unpack(entry: u32) -> Option<Unpacked>
+    ensures packs { IfSome result (λ u. pack_of u.perms u.left u.right ≡ Some entry) }
+    ensures left { IfSome result (λ u. u.left ≤ 31) }
+    ensures right { IfSome result (λ u. u.right ≤ 31) }
+    ensures all { (perms : List Perm) (left right : ℕ) → length perms ≡ line_words → left ≤ 31 → right ≤ 31 → pack_of perms left right ≡ Some entry → result ≡ Some (record { perms = perms; left = left; right = right }) }
+{
+    let perms = line_of(entry / 4 % 0x100, entry / 0x400 % 0x1000);
+    let left = entry / 0x800_0000;
+    let right = entry / 0x40_0000 % 0x20;
+    match pack(&perms, left, right) {
+        Some(word) if word == entry => Some(Unpacked { perms, left, right }),
+        _ => None,
+    }
+}
+
+#[cfg(test)]
+mod tests {
+    use super::*;
+    use std::process::Abort;
+
+    const N: Perm = Perm::None;
+
+    const R: Perm = Perm::Read;
+
+    const W: Perm = Perm::ReadWrite;
+
+    // A line with its reaches is stored as this entry, and read back from it.
+    fn stands_for(rt: &impl Abort, perms: [Perm; 16], left: u32, right: u32, entry: u32)
+        requires left { left ≤ 31 }
+        requires right { right ≤ 31 }
+    {
+        assert_eq!(rt; pack(&perms, left, right), Some(entry));
+        assert_eq!(rt; unpack(entry), Some(Unpacked { perms, left, right }));
+    }
+
+    #[test]
+    fn stored_lines(rt: HostRuntime) {
+        let five_read = [R, R, R, R, R, N, N, N, N, N, N, N, N, N, N, N];
+        stands_for(&rt, five_read, 31, 31, 0xFFC0_1406);
+        stands_for(&rt, five_read, 31, 0, 0xF800_1406);
+        let first_read = [R, N, N, N, N, N, N, N, N, N, N, N, N, N, N, N];
+        stands_for(&rt, first_read, 0, 31, 0x07C0_0406);
+        let four_runs = [N, R, W, N, N, N, N, N, N, N, N, N, N, N, N, N];
+        stands_for(&rt, four_runs, 16, 31, 0x87CC_8492);
+        let five_runs = [N, R, W, N, N, N, N, N, N, N, N, N, N, N, N, R];
+        assert_eq!(rt; pack(&five_runs, 0, 0), None);
+        // A plain entry, a spill entry, runs out of order, and two runs with one permission.
+        assert_eq!(rt; unpack(0), None);
+        assert_eq!(rt; unpack(3), None);
+        assert_eq!(rt; unpack(2 + 0x4400), None);
+        assert_eq!(rt; unpack(2 + 0x400), None);
+    }
+}

@@ -1,0 +1,16 @@
+pub mod Digits
+pub mod Spans
+pub mod PlainRuns
+pub mod PieceLaws
+pub mod BlockLaws
+pub mod WalkLaws
+pub mod LeafSpans
+pub mod FoundSpans
+pub mod FoundItems
+pub mod ChangeLaws
+pub mod ReachLaws
+pub mod RunCodes
+pub mod Decoding
+pub mod MiniEntries
+pub mod ReadLines
+pub mod StandingLaws

@@ -1,0 +1,201 @@
+-- What the stored words on the way of a walk say of its word.
+use Rattle.std.proofs.Common.{◌≡◌, ◌≢◌, ℕ, ◌*◌, ◌/◌, ◌%◌, ◌^◌, ◌<◌, inl, inr, ◌&&◌, Bool, true, false, not, nat_lt, List, Some, None, if◌then◌else◌, refl, sym, ap, ◌∙◌, arith, eq-eqb, subst}
+use Rattle.std.specs.Option.{option_map_or}
+use Rattle.std.proofs.lemmas.Bool.{ne_eqb}
+use Rattle.mx_words.specs.declared.perm.Perm.{Perm}
+use Rattle.mx_words.specs.declared.tables.Kind.{Kind}
+use Rattle.mx_words.specs.declared.tables.Kind.TheVariants as K
+use Rattle.mx_words.specs.declared.tables.Level.{Level}
+use Rattle.mx_words.specs.declared.tables.Level.TheVariants as L
+use Rattle.mx_words.specs.Runs.{runs, is_eighth_uniform, is_crowded, block_at, whole_line, line_words, page_words, region_words}
+use Rattle.mx_words.specs.Reach.{level, trie_level, line_level, line_at, first_in}
+use Rattle.mx_pool.specs.Frames.{IsTaken, word_at}
+use Rattle.mx_upper.specs.Blocks.{block_of, is_broken}
+use Rattle.mx_upper.specs.Leaf.{IsTrieKind, needs_spill, spill_number, IsStored}
+use Rattle.mx_upper.specs.Walk.{Frames, most_regions, most_pages, most_lines, is_pointer, mid_word, leaf_word, spilled_word, has_mid, has_leaf, map_left, map_right, line_number, IsLine, IsShown, IsTight}
+use Rattle.mx_upper.specs.Found.{IsVector, IsLeaf}
+
+-- the level of a word, by the blocks that hold it
+trie_kind-level : (kind : Kind) (m : List Perm) (i : ℕ) → IsTrieKind kind → level kind m i ≡ trie_level kind m i
+trie_kind-level kind m i (inl e) = ap (λ k. level k m i) e ∙ sym (ap (λ k. trie_level k m i) e)
+trie_kind-level kind m i (inr e) = ap (λ k. level k m i) e ∙ sym (ap (λ k. trie_level k m i) e)
+
+not-false : (b : Bool) → not b ≡ false → b ≡ true
+not-false true e = refl
+not-false false e = sym e
+
+not-true : (b : Bool) → not b ≡ true → b ≡ false
+not-true true e = sym e
+not-true false e = refl
+
+-- which of the three levels two tests choose
+abbrev pick : Bool → Bool → Level → Level
+pick region page line = if region then L.Root else if page then L.Mid else line
+
+trie_level-pick : (kind : Kind) (m : List Perm) (i : ℕ) →
+    trie_level kind m i ≡ pick (is_eighth_uniform region_words (block_at region_words m i)) (is_eighth_uniform page_words (block_at page_words m i)) (line_level kind (is_crowded (block_at line_words m i)))
+trie_level-pick kind m i = refl
+
+pick-root : (a b : Bool) (l : Level) → a ≡ true → pick a b l ≡ L.Root
+pick-root a b l e = ap (λ v. pick v b l) e
+
+pick-mid : (a b : Bool) (l : Level) → a ≡ false → b ≡ true → pick a b l ≡ L.Mid
+pick-mid a b l e f = ap (λ v. pick v b l) e ∙ ap (λ v. pick false v l) f
+
+pick-line : (a b : Bool) (l : Level) → a ≡ false → b ≡ false → pick a b l ≡ l
+pick-line a b l e f = ap (λ v. pick v b l) e ∙ ap (λ v. pick false v l) f
+
+level-root : (kind : Kind) (m : List Perm) (i : ℕ) → IsTrieKind kind → is_broken region_words m (i / region_words) ≡ false → level kind m i ≡ L.Root
+level-root kind m i k e =
+    let whole : is_eighth_uniform region_words (block_at region_words m i) ≡ true = not-false (is_eighth_uniform region_words (block_at region_words m i)) e in
+    trie_kind-level kind m i k ∙ trie_level-pick kind m i
+    ∙ pick-root (is_eighth_uniform region_words (block_at region_words m i)) (is_eighth_uniform page_words (block_at page_words m i)) (line_level kind (is_crowded (block_at line_words m i))) whole
+
+level-mid : (kind : Kind) (m : List Perm) (i : ℕ) → IsTrieKind kind → is_broken region_words m (i / region_words) ≡ true →
+    is_broken page_words m (i / page_words) ≡ false → level kind m i ≡ L.Mid
+level-mid kind m i k e f =
+    let odd : is_eighth_uniform region_words (block_at region_words m i) ≡ false = not-true (is_eighth_uniform region_words (block_at region_words m i)) e in
+    let even : is_eighth_uniform page_words (block_at page_words m i) ≡ true = not-false (is_eighth_uniform page_words (block_at page_words m i)) f in
+    trie_kind-level kind m i k ∙ trie_level-pick kind m i
+    ∙ pick-mid (is_eighth_uniform region_words (block_at region_words m i)) (is_eighth_uniform page_words (block_at page_words m i)) (line_level kind (is_crowded (block_at line_words m i))) odd even
+
+level-line : (kind : Kind) (m : List Perm) (i : ℕ) → IsTrieKind kind → is_broken region_words m (i / region_words) ≡ true →
+    is_broken page_words m (i / page_words) ≡ true → level kind m i ≡ line_level kind (is_crowded (block_at line_words m i))
+level-line kind m i k e f =
+    let odd : is_eighth_uniform region_words (block_at region_words m i) ≡ false = not-true (is_eighth_uniform region_words (block_at region_words m i)) e in
+    let odd_page : is_eighth_uniform page_words (block_at page_words m i) ≡ false = not-true (is_eighth_uniform page_words (block_at page_words m i)) f in
+    trie_kind-level kind m i k ∙ trie_level-pick kind m i
+    ∙ pick-line (is_eighth_uniform region_words (block_at region_words m i)) (is_eighth_uniform page_words (block_at page_words m i)) (line_level kind (is_crowded (block_at line_words m i))) odd odd_page
+
+-- whether a word's line is crowded is whether it needs a spill word, in packed tries
+crowded-line : (m : List Perm) (i : ℕ) → needs_spill K.Packed (line_at m (first_in line_words i)) ≡ is_crowded (block_at line_words m i)
+crowded-line m i =
+    let e : i / 16 * 16 / 16 ≡ i / 16 = omega arith in
+    ap (λ b. nat_lt 4 (runs (whole_line (block_of line_words m b)))) e
+
+line_level-spill : (kind : Kind) (m : List Perm) (i : ℕ) → IsTrieKind kind → needs_spill kind (line_at m (first_in line_words i)) ≡ true →
+    line_level kind (is_crowded (block_at line_words m i)) ≡ L.Spill
+line_level-spill kind m i (inl e) hit =
+    absurd (let f : false ≡ true = ap (λ k. needs_spill k (line_at m (first_in line_words i))) (sym e) ∙ hit in cc)
+line_level-spill kind m i (inr e) hit =
+    let packed : needs_spill K.Packed (line_at m (first_in line_words i)) ≡ true = ap (λ k. needs_spill k (line_at m (first_in line_words i))) (sym e) ∙ hit in
+    ap (λ k. line_level k (is_crowded (block_at line_words m i))) e
+    ∙ ap (line_level K.Packed) (sym (crowded-line m i) ∙ packed)
+
+line_level-leaf : (kind : Kind) (m : List Perm) (i : ℕ) → IsTrieKind kind → needs_spill kind (line_at m (first_in line_words i)) ≡ false →
+    line_level kind (is_crowded (block_at line_words m i)) ≡ L.Leaf
+line_level-leaf kind m i (inl e) miss = ap (λ k. line_level k (is_crowded (block_at line_words m i))) e
+line_level-leaf kind m i (inr e) miss =
+    let packed : needs_spill K.Packed (line_at m (first_in line_words i)) ≡ false = ap (λ k. needs_spill k (line_at m (first_in line_words i))) (sym e) ∙ miss in
+    ap (λ k. line_level k (is_crowded (block_at line_words m i))) e
+    ∙ ap (line_level K.Packed) (sym (crowded-line m i) ∙ packed)
+
+-- both tests
+and-false : {a b : Bool} → a ≡ true → b ≡ false → (a && b) ≡ false
+and-false {a} {b} e f = ap (λ v. v && b) e ∙ f
+
+and-true : {a b : Bool} → a ≡ true → b ≡ true → (a && b) ≡ true
+and-true {a} {b} e f = ap (λ v. v && b) e ∙ f
+
+-- the words on the way
+module _ (kind : Kind) (upper leaf spill : Frames) (root : ℕ) (m : List Perm) (i : ℕ) (k : IsTrieKind kind) (shown : IsShown kind (map_left kind m) (map_right kind m) upper leaf spill root m)
+    (tight : IsTight upper root m) (below : i < 2 ^ 24) where
+  region-closed : (a : ℕ) → a ≡ word_at upper root (i / 1048576) → a % 4 ≢ 0 → has_mid upper root (i / 1048576) ≡ false
+  region-closed a e miss = ne_eqb (word_at upper root (i / 1048576) % 4) 0 (λ f. miss (ap (λ n. n % 4) e ∙ f))
+
+  pub walk-root : (a : ℕ) → a ≡ word_at upper root (i / 1048576) → a % 4 ≢ 0 → (level kind m i ≡ L.Root) × IsVector region_words 131072 m i a
+  walk-root a e miss =
+      let x : i / 1048576 < most_regions = omega arith in
+      let closed = region-closed a e miss in (
+        level-root kind m i k (sym (tight.mids (i / 1048576) x) ∙ closed),
+        record { even = shown.region_even (i / 1048576) x closed; entry_is = e ∙ shown.region_vector (i / 1048576) x closed },
+      )
+
+  region-opened : (a : ℕ) → a ≡ word_at upper root (i / 1048576) → a % 4 ≡ 0 → has_mid upper root (i / 1024 / 1024) ≡ true
+  region-opened a e hit =
+      let at : i / 1024 / 1024 ≡ i / 1048576 = omega arith in
+      ap (has_mid upper root) at ∙ eq-eqb (word_at upper root (i / 1048576) % 4) 0 (ap (λ n. n % 4) (sym e) ∙ hit)
+
+  region-broken : (a : ℕ) → a ≡ word_at upper root (i / 1048576) → a % 4 ≡ 0 → is_broken region_words m (i / 1048576) ≡ true
+  region-broken a e hit =
+      let x : i / 1048576 < most_regions = omega arith in
+      let at : i / 1048576 ≡ i / 1024 / 1024 = omega arith in
+      sym (tight.mids (i / 1048576) x) ∙ ap (has_mid upper root) at ∙ region-opened a e hit
+
+  mid-is : (a b : ℕ) → a ≡ word_at upper root (i / 1048576) → b ≡ word_at upper (a / 4) (i / 1024 % 1024) → b ≡ mid_word upper root (i / 1024)
+  mid-is a b e f =
+      let at : i / 1048576 ≡ i / 1024 / 1024 = omega arith in
+      f ∙ ap (λ n. word_at upper (n / 4) (i / 1024 % 1024)) (e ∙ ap (word_at upper root) at)
+
+  pub walk-mid : (a b : ℕ) → a ≡ word_at upper root (i / 1048576) → a % 4 ≡ 0 → b ≡ word_at upper (a / 4) (i / 1024 % 1024) → b % 4 ≢ 0 →
+      (level kind m i ≡ L.Mid) × IsVector page_words 128 m i b
+  walk-mid a b e hit f miss =
+      let y : i / 1024 < most_pages = omega arith in
+      let opened = region-opened a e hit in
+      let is = mid-is a b e f in
+      let closed : is_pointer (mid_word upper root (i / 1024)) ≡ false = ne_eqb (mid_word upper root (i / 1024) % 4) 0 (λ h. miss (ap (λ n. n % 4) is ∙ h)) in
+      let whole : has_leaf upper root (i / 1024) ≡ false = and-false opened closed in (
+        level-mid kind m i k (region-broken a e hit) (sym (tight.leaves (i / 1024) y) ∙ whole),
+        record { even = shown.page_even (i / 1024) y opened closed; entry_is = is ∙ shown.page_vector (i / 1024) y opened closed },
+      )
+
+  page-opened : (a b : ℕ) → a ≡ word_at upper root (i / 1048576) → b ≡ word_at upper (a / 4) (i / 1024 % 1024) → b % 4 ≡ 0 →
+      is_pointer (mid_word upper root (i / 1024)) ≡ true
+  page-opened a b e f hit = eq-eqb (mid_word upper root (i / 1024) % 4) 0 (ap (λ n. n % 4) (sym (mid-is a b e f)) ∙ hit)
+
+  page-broken : (a b : ℕ) → a ≡ word_at upper root (i / 1048576) → a % 4 ≡ 0 → b ≡ word_at upper (a / 4) (i / 1024 % 1024) → b % 4 ≡ 0 →
+      is_broken page_words m (i / 1024) ≡ true
+  page-broken a b e hit f also =
+      let y : i / 1024 < most_pages = omega arith in
+      let opened = region-opened a e hit in
+      let page = page-opened a b e f also in
+      let whole : has_leaf upper root (i / 1024) ≡ true = and-true opened page in
+      sym (tight.leaves (i / 1024) y) ∙ whole
+
+  pub walk-taken : (a b : ℕ) → a ≡ word_at upper root (i / 1048576) → a % 4 ≡ 0 → b ≡ word_at upper (a / 4) (i / 1024 % 1024) → b % 4 ≡ 0 →
+      IsTaken leaf (b / 4)
+  walk-taken a b e hit f also =
+      let y : i / 1024 < most_pages = omega arith in
+      let T : ℕ → Type 0 = λ n. IsTaken leaf (n / 4) in
+      subst T (sym (mid-is a b e f)) (shown.leaf_taken (i / 1024) y (region-opened a e hit) (page-opened a b e f also))
+
+  pub walk-line : (a b l : ℕ) → a ≡ word_at upper root (i / 1048576) → a % 4 ≡ 0 → b ≡ word_at upper (a / 4) (i / 1024 % 1024) → b % 4 ≡ 0 →
+      l ≡ word_at leaf (b / 4) (i / 16 % 64) → IsLine kind spill m (i / 16) (map_left kind m (i / 16)) (map_right kind m (i / 16)) l
+  walk-line a b l e hit f also h =
+      let z : i / 16 < most_lines = omega arith in
+      let at : i / 1024 ≡ i / 16 / 64 = omega arith in
+      let opened : has_mid upper root (i / 16 / 64 / 1024) ≡ true = ap (λ n. has_mid upper root (n / 1024)) (sym at) ∙ region-opened a e hit in
+      let page : is_pointer (mid_word upper root (i / 16 / 64)) ≡ true = ap (λ n. is_pointer (mid_word upper root n)) (sym at) ∙ page-opened a b e f also in
+      let is : l ≡ leaf_word upper leaf root (i / 16) = h ∙ ap (λ n. word_at leaf (n / 4) (i / 16 % 64)) (mid-is a b e f ∙ ap (mid_word upper root) at) in
+      let T : ℕ → Type 0 = λ n. IsLine kind spill m (i / 16) (map_left kind m (i / 16)) (map_right kind m (i / 16)) n in
+      subst T (sym is) (shown.line (i / 16) z opened page)
+
+  -- the line's entry has no spill word, or has one
+  pub walk-leaf : (a b l : ℕ) → a ≡ word_at upper root (i / 1048576) → a % 4 ≡ 0 → b ≡ word_at upper (a / 4) (i / 1024 % 1024) → b % 4 ≡ 0 →
+      (line : IsLine kind spill m (i / 16) (map_left kind m (i / 16)) (map_right kind m (i / 16)) l) → spill_number kind l ≡ None → needs_spill kind (line_at m (first_in line_words i)) ≡ false →
+      (level kind m i ≡ L.Leaf) × IsLeaf kind false m i l 0
+  walk-leaf a b l e hit f also line none miss =
+      let T : ℕ → Type 0 = λ n. IsStored kind (line_at m (first_in line_words i)) (map_left kind m (i / 16)) (map_right kind m (i / 16)) (line_number kind l) (first_in line_words i) l n in
+      let zero_word : spilled_word kind spill l ≡ 0 = ap (λ o. option_map_or (λ n. word_at spill n 0) o 0) none in (
+        level-line kind m i k (region-broken a e hit) (page-broken a b e hit f also) ∙ line_level-leaf kind m i k miss,
+        record { crowded_is = miss; left = map_left kind m (i / 16); right = map_right kind m (i / 16); number = line_number kind l; left_is = refl; right_is = refl; stored = subst T zero_word line.stored },
+      )
+
+  pub walk-spill : (a b l n s : ℕ) → a ≡ word_at upper root (i / 1048576) → a % 4 ≡ 0 → b ≡ word_at upper (a / 4) (i / 1024 % 1024) → b % 4 ≡ 0 →
+      (line : IsLine kind spill m (i / 16) (map_left kind m (i / 16)) (map_right kind m (i / 16)) l) → spill_number kind l ≡ Some n → s ≡ word_at spill n 0 → needs_spill kind (line_at m (first_in line_words i)) ≡ true →
+      (level kind m i ≡ L.Spill) × IsLeaf kind true m i l s
+  walk-spill a b l n s e hit f also line some is crowded =
+      let T : ℕ → Type 0 = λ n. IsStored kind (line_at m (first_in line_words i)) (map_left kind m (i / 16)) (map_right kind m (i / 16)) (line_number kind l) (first_in line_words i) l n in
+      let word : spilled_word kind spill l ≡ s = ap (λ o. option_map_or (λ n. word_at spill n 0) o 0) some ∙ sym is in (
+        level-line kind m i k (region-broken a e hit) (page-broken a b e hit f also) ∙ line_level-spill kind m i k crowded,
+        record { crowded_is = crowded; left = map_left kind m (i / 16); right = map_right kind m (i / 16); number = line_number kind l; left_is = refl; right_is = refl; stored = subst T word line.stored },
+      )
+
+-- a named spill word tells whether the line needs one
+pub named-none : (b : Bool) (n : ℕ) → None ≡ (if b then Some n else None) → b ≡ false
+named-none true n e = cc
+named-none false n e = refl
+
+pub named-some : (b : Bool) (n r : ℕ) → Some r ≡ (if b then Some n else None) → (b ≡ true) × (r ≡ n)
+named-some true n r e = (refl, cc)
+named-some false n r e = absurd (cc)

@@ -1,0 +1,11 @@
+use Rattle.mx_table.specs.Tables.{map_of}
+use Rattle.mx_upper.specs.Read.{read_maps}
+use Rattle.mx_upper.proofs.StandingLaws.{length-map_of}
+use Rattle.mx_upper.proofs.trie.Trie.span_of.Goals as goal
+
+pub returns : goal.returns
+returns g c =
+    c.found_span.ensures
+    (map_of (read_maps g.L.LeafForm.kind c.args.self.now.upper c.args.self.now.leaf c.args.self.now.spill c.args.self.now.words c.args.self.now.roots) c.args.domain)
+    c.found.ensures
+    (length-map_of g.L.LeafForm.kind c.args.self.now.upper c.args.self.now.leaf c.args.self.now.spill c.args.self.now.words c.args.self.now.roots c.args.domain c.requires.first c.requires.last)

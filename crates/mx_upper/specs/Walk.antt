@@ -1,0 +1,100 @@
+-- The stored words of a trie: where a walk for a word goes, what it finds, and how that stands for a map.
+use Rattle.std.specs.Prelude.{◌≡◌, ℕ, ◌*◌, ◌/◌, ◌%◌, ◌<◌, ◌==◌, ◌&&◌, Bool, true, false, List, Option, unwrap_or}
+use Rattle.std.specs.Option.{option_map_or}
+use Rattle.mx_words.specs.declared.perm.Perm.{Perm}
+use Rattle.mx_words.specs.declared.tables.Kind.{Kind}
+use Rattle.mx_words.specs.declared.tables.Kind.TheVariants as K
+use Rattle.mx_words.specs.Runs.{line_words, page_words, region_words}
+use Rattle.mx_words.specs.Reach.{vector, line_at, left_reach, right_reach}
+use Rattle.mx_pool.specs.Frames.{IsTaken, word_at}
+use Rattle.mx_upper.specs.Digits.{digit, numbered}
+use Rattle.mx_upper.specs.Blocks.{is_broken, IsEven}
+use Rattle.mx_upper.specs.Leaf.{spill_number, needs_spill, IsStored}
+
+-- the meaning of a pool: by frame number, its words where it is taken
+abbrev pub Frames : Type 0
+Frames = List (Option (List ℕ))
+
+-- the greatest numbers of regions, pages and lines
+abbrev pub most_regions : ℕ
+most_regions = 16
+
+abbrev pub most_pages : ℕ
+most_pages = 16384
+
+abbrev pub most_lines : ℕ
+most_lines = 1048576
+
+-- whether an upper entry is a pointer, and where it points
+abbrev pub is_pointer : ℕ → Bool
+is_pointer entry = entry % 4 == 0
+
+abbrev pub target : ℕ → ℕ
+target entry = entry / 4
+
+-- the entry of region x in a root table, of page y in the mid table of its region, and of line z in the leaf table of its page
+abbrev pub root_word : Frames → ℕ → ℕ → ℕ
+root_word upper root x = word_at upper root x
+
+abbrev pub mid_word : Frames → ℕ → ℕ → ℕ
+mid_word upper root y = word_at upper (target (root_word upper root (y / 1024))) (y % 1024)
+
+abbrev pub leaf_word : Frames → Frames → ℕ → ℕ → ℕ
+leaf_word upper leaf root z = word_at leaf (target (mid_word upper root (z / 64))) (z % 64)
+
+-- the spill word of a leaf entry, or 0 where it has none
+abbrev pub spilled_word : Kind → Frames → ℕ → ℕ
+spilled_word kind spill entry = option_map_or (λ n. word_at spill n 0) (spill_number kind entry) 0
+
+-- whether region x has a mid table, and whether page y has a leaf table
+abbrev pub has_mid : Frames → ℕ → ℕ → Bool
+has_mid upper root x = is_pointer (root_word upper root x)
+
+abbrev pub has_leaf : Frames → ℕ → ℕ → Bool
+has_leaf upper root y = has_mid upper root (y / 1024) && is_pointer (mid_word upper root y)
+
+-- the permission of part e of a block that has a vector
+abbrev pub vector_perm : ℕ → ℕ → Perm
+vector_perm entry e = numbered (digit (entry / 4) e)
+
+-- the reaches of a line's entry by the map: 0 where entries have none
+abbrev pub form_left : Kind → List Perm → ℕ → ℕ
+form_left K.Packed m line = left_reach m line
+form_left kind m line = 0
+
+abbrev pub form_right : Kind → List Perm → ℕ → ℕ
+form_right K.Packed m line = right_reach m line
+form_right kind m line = 0
+
+-- the reaches of line z's entry by the map
+abbrev pub map_left : Kind → List Perm → ℕ → ℕ
+map_left kind m z = form_left kind m (z * line_words)
+
+abbrev pub map_right : Kind → List Perm → ℕ → ℕ
+map_right kind m z = form_right kind m (z * line_words)
+
+-- the number of a leaf entry's spill word, or 0 where it has none
+abbrev pub line_number : Kind → ℕ → ℕ
+line_number kind entry = unwrap_or (spill_number kind entry) 0
+
+-- what stands for line z: an entry made with these reaches, and its spill word
+pub record IsLine (kind : Kind) (spill : Frames) (m : List Perm) (z left right entry : ℕ) : Type 0 where
+  pub stored : IsStored kind (line_at m (z * line_words)) left right (line_number kind entry) (z * line_words) entry (spilled_word kind spill entry)
+  pub spill_taken : needs_spill kind (line_at m (z * line_words)) ≡ true → IsTaken spill (line_number kind entry)
+
+-- a domain's tables stand for its map: a block without a table is eighth-uniform and has its vector, and each line of a page with a leaf
+-- table has its entry, with the left and right reaches that are given by line number
+pub record IsShown (kind : Kind) (lefts rights : ℕ → ℕ) (upper leaf spill : Frames) (root : ℕ) (m : List Perm) : Type 0 where
+  pub root_taken : IsTaken upper root
+  pub region_even : (x : ℕ) → x < most_regions → has_mid upper root x ≡ false → IsEven m (x * region_words) 131072
+  pub region_vector : (x : ℕ) → x < most_regions → has_mid upper root x ≡ false → root_word upper root x ≡ vector region_words m (x * region_words)
+  pub mid_taken : (x : ℕ) → x < most_regions → has_mid upper root x ≡ true → IsTaken upper (target (root_word upper root x))
+  pub page_even : (y : ℕ) → y < most_pages → has_mid upper root (y / 1024) ≡ true → is_pointer (mid_word upper root y) ≡ false → IsEven m (y * page_words) 128
+  pub page_vector : (y : ℕ) → y < most_pages → has_mid upper root (y / 1024) ≡ true → is_pointer (mid_word upper root y) ≡ false → mid_word upper root y ≡ vector page_words m (y * page_words)
+  pub leaf_taken : (y : ℕ) → y < most_pages → has_mid upper root (y / 1024) ≡ true → is_pointer (mid_word upper root y) ≡ true → IsTaken leaf (target (mid_word upper root y))
+  pub line : (z : ℕ) → z < most_lines → has_mid upper root (z / 64 / 1024) ≡ true → is_pointer (mid_word upper root (z / 64)) ≡ true → IsLine kind spill m z (lefts z) (rights z) (leaf_word upper leaf root z)
+
+-- the tables are no more than the map needs
+pub record IsTight (upper : Frames) (root : ℕ) (m : List Perm) : Type 0 where
+  pub mids : (x : ℕ) → x < most_regions → has_mid upper root x ≡ is_broken region_words m x
+  pub leaves : (y : ℕ) → y < most_pages → has_leaf upper root y ≡ is_broken page_words m y
