@@ -4,6 +4,5 @@ pub mod SpanLaws
 pub mod KeepLaws
 pub mod HearLaws
 pub mod ChangeLaws
-pub mod ReachLaws
 pub mod MayLaws
 pub mod StartLaws

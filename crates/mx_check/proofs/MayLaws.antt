@@ -18,7 +18,7 @@ use Rattle.mx_words.proofs.CountingLaws.{all_below-at}
 use Rattle.mx_words.proofs.OverlayLaws.{covers_from}
 use Rattle.std.proofs.lemmas.Bool.Decides.{nat_tests}
 use Rattle.std.specs.Prelude.{cond}
-use Rattle.mx_check.proofs.ReachLaws.{IsUniformRound, span_round}
+use Rattle.mx_words.proofs.ReachLaws.{IsUniformRound, span_round}
 use Rattle.mx_table.specs.Tables.{map_of}
 use Rattle.mx_check.specs.declared.flight.Flight.{Flight}
 use Rattle.mx_check.specs.Harts.{Kept, no_hart, hart_at, at_hart, is_in}

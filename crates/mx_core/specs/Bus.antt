@@ -6,10 +6,6 @@ use Rattle.mx_words.specs.Rights.{allows}
 use Rattle.mx_words.specs.Ranges.{ram_base}
 use Rattle.mx_words.specs.Bytes.{number_at, put_at}
 
--- the sizes of an access, in bytes
-abbrev pub IsSize : ℕ → Type 0
-IsSize size = (size ≡ 1) ⊎ ((size ≡ 2) ⊎ (size ≡ 4))
-
 -- whether a map, the permission at each address, denies an access
 unfoldable pub denied : (ℕ → Perm) → ℕ → Access → Bool
 denied perm address access = not (allows (perm address) access)

@@ -3,7 +3,8 @@ ghost use Rattle.std.specs.Prelude.{◌≡◌, ℕ, ◌%◌, ◌^◌, ◌<◌, L
 ghost use Rattle.mx_words.specs.declared.perm.Perm.{Perm};
 ghost use Rattle.mx_words.specs.declared.perm.Access.{Access};
 ghost use Rattle.mx_words.specs.declared.perm.Access.TheVariants.{Read, Write, Execute};
-ghost use Rattle.mx_core.specs.Bus.{IsSize, denied, load_at, store_at};
+ghost use Rattle.mx_words.specs.Bytes.{IsSize};
+ghost use Rattle.mx_core.specs.Bus.{denied, load_at, store_at};
 
 /// The map allows no such access here.
 #[derive(Clone, Copy, PartialEq, Eq, Debug)]

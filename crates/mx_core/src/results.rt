@@ -1,7 +1,7 @@
 //! The results of operations, and whether branches are taken.
 ghost use Rattle.std.specs.Prelude.{◌≡◌, ◌<◌, ◌*◌, ◌^◌, IsTrue};
 ghost use Rattle.mx_model.specs.Effect.{holds, imm_result, reg_result, loaded, load_size, store_size};
-ghost use Rattle.mx_core.specs.Bus.{IsSize};
+ghost use Rattle.mx_words.specs.Bytes.{IsSize};
 
 use mx_isa::{Cond, ImmOp, LoadWidth, RegOp, StoreWidth};
 

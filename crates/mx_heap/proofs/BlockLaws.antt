@@ -2,7 +2,7 @@
 use Rattle.std.proofs.Common.{ℕ, ◌≡◌, ◌+◌, ◌<◌, ◌≤◌, List, [], ◌∷◌, ◌++◌, Some, refl, ap, arith}
 use Rattle.std.proofs.lemmas.Bool.{ne_eqb, eq-eqb, lt-ltb, le-ltb}
 use Rattle.mx_words.specs.FirstFit.{Area, with_block, without_block, block_at}
-use Rattle.mx_heap.specs.HeapState.{AreApart}
+use Rattle.mx_words.specs.FirstFit.{AreApart}
 use Rattle.mx_heap.proofs.RoomLaws.{apart-le}
 
 -- a block goes between those below it and those behind it

@@ -6,7 +6,7 @@ use Rattle.std.proofs.lemmas.Bool.{lt-ltb, le-ltb, true_from_ne_false}
 use Rattle.std.proofs.lemmas.List.{append_assoc, get_or_at, set_at, take_at, drop_at, length_push, length-take-le}
 use Rattle.mx_words.specs.FirstFit.{Area, with_block}
 use Rattle.mx_heap.specs.declared.parts.Part.{Part}
-use Rattle.mx_heap.specs.HeapState.{AreApart}
+use Rattle.mx_words.specs.FirstFit.{AreApart}
 use Rattle.mx_heap.specs.Places.{Fill, blocks_of, part_at, wall, hole, live_part, with_hole, split}
 use Rattle.mx_heap.proofs.FillLaws.{end_of, last_live, Fill-append, Fill-left, Fill-right, Fill-apart, apart_lower, blocks-hole, blocks-append}
 use Rattle.mx_heap.proofs.RoomLaws.{cut_at}

@@ -3,7 +3,7 @@ use Rattle.std.proofs.Common.{ℕ, ◌≡◌, ◌+◌, ◌*◌, ◌≤◌, ⊎_e
 use Rattle.std.proofs.lemmas.Bool.{cases_Bool}
 use Rattle.mx_words.specs.FirstFit.{Area}
 use Rattle.mx_heap.specs.declared.parts.Part.{Part}
-use Rattle.mx_heap.specs.HeapState.{AreApart}
+use Rattle.mx_words.specs.FirstFit.{AreApart}
 use Rattle.mx_heap.specs.Places.{Fill, blocks_of}
 
 -- the word behind the last part

@@ -8,7 +8,7 @@ use Rattle.std.proofs.lemmas.List.Edits.{remove-append_right}
 use Rattle.std.proofs.lemmas.List.Quantifiers.{position-Some}
 use Rattle.mx_words.specs.FirstFit.{Area, without_block, block_at}
 use Rattle.mx_heap.specs.declared.parts.Part.{Part}
-use Rattle.mx_heap.specs.HeapState.{AreApart}
+use Rattle.mx_words.specs.FirstFit.{AreApart}
 use Rattle.mx_heap.specs.Places.{Fill, blocks_of, part_at, wall, hole, hole_words, without_hole, joined, is_block_at}
 use Rattle.mx_heap.proofs.FillLaws.{end_of, last_live, block_of, Fill-append, Fill-left, Fill-right, Fill-le, Fill-apart, blocks-live, blocks-hole, blocks-append}
 use Rattle.mx_heap.proofs.RoomLaws.{part_bounds, position_none}

@@ -9,7 +9,7 @@ use Rattle.std.proofs.lemmas.List.Sums.{fails_before_first}
 use Rattle.mx_words.specs.FirstFit.{Area, has_room, place}
 use Rattle.mx_words.specs.Ranges.{overlaps}
 use Rattle.mx_heap.specs.declared.parts.Part.{Part}
-use Rattle.mx_heap.specs.HeapState.{AreApart}
+use Rattle.mx_words.specs.FirstFit.{AreApart}
 use Rattle.mx_heap.specs.Places.{Fill, blocks_of, part_at, is_hole_for, is_hole_around, wall}
 use Rattle.mx_heap.proofs.FillLaws.{end_of, last_live, Fill-left, Fill-right, Fill-le, Fill-apart, blocks-live, blocks-hole, blocks-append}
 

@@ -1,17 +1,12 @@
 -- The meaning of a heap, and what its calls answer.
 use Rattle.std.specs.Prelude.{ℕ, ◌+◌, ◌<◌, ◌≤◌, Bool, ◌&&◌, nat_lt, List, [], ◌∷◌, length}
-use Rattle.mx_words.specs.FirstFit.{Area, has_room, most_blocks}
+use Rattle.mx_words.specs.FirstFit.{Area, AreApart, has_room, most_blocks}
 use Rattle.mx_heap.specs.declared.block.Block.{Block}
 
 -- a heap: its area, and its live blocks in the order of their addresses
 pub record HeapState : Type 0 where
   pub area : Area
   pub blocks : List Area
-
--- blocks of at least one word, in the order of their addresses and apart, from word `low` to before word `high`
-abbrev pub AreApart : ℕ → ℕ → List Area → Type 0
-AreApart low high [] = low ≤ high
-AreApart low high (b ∷ bs) = (low ≤ b.first) × (0 < b.count) × AreApart (b.first + b.count) high bs
 
 -- what is true of every heap: its blocks lie apart in its area, and they are no more than a heap may have
 pub record IsHeap (heap : HeapState) : Type 0 where

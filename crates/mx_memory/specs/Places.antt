@@ -6,10 +6,6 @@ use Rattle.mx_words.specs.Ranges.{ram_base}
 abbrev pub place_of : ℕ → ℕ
 place_of addr = addr - ram_base
 
--- the sizes of an access, in bytes
-abbrev pub IsSize : ℕ → Type 0
-IsSize size = (size ≡ 1) ⊎ ((size ≡ 2) ⊎ (size ≡ 4))
-
 -- the `size` bytes at an address lie in RAM
 abbrev pub IsInside : List ℕ → ℕ → ℕ → Type 0
 IsInside bytes addr size = (ram_base ≤ addr) × (addr - ram_base + size ≤ length bytes)

@@ -1,7 +1,8 @@
 //! RAM as a list of bytes.
 ghost use Rattle.std.specs.Prelude.{◌≡◌, ℕ, ◌+◌, ◌*◌, ◌%◌, ◌^◌, ◌<◌, ◌≤◌, List, length, replicate, slice_index, IfOk};
 ghost use Rattle.mx_words.specs.Bytes.{number_at, put_at, cleared_at};
-ghost use Rattle.mx_memory.specs.Places.{place_of, IsSize, IsInside};
+ghost use Rattle.mx_memory.specs.Places.{place_of, IsInside};
+ghost use Rattle.mx_words.specs.Bytes.{IsSize};
 
 use mx_words::NoMemory;
 use std::alloc::Global;

@@ -4,11 +4,11 @@ use Rattle.std.specs.Prelude.{filter}
 use Rattle.std.specs.List.{AllByRecursion, list_any}
 use Rattle.std.proofs.lemmas.Bool.{ltb-true, ltb-false, lt-ltb, ne_eqb}
 use Rattle.std.proofs.lemmas.Bool.Decides.{eqb_tells}
-use Rattle.mx_words.specs.FirstFit.{Area, with_block, without_block}
+use Rattle.mx_words.specs.FirstFit.{AreApart, Area, with_block, without_block}
 use Rattle.mx_words.specs.Ranges.{overlaps}
 use Rattle.mx_model.specs.declared.values.Gate.{Gate}
 use Rattle.mx_model.specs.Gates.{is_at, without_gate}
-use Rattle.mx_model.specs.Valid.{AreApart, AreSingle}
+use Rattle.mx_model.specs.Valid.{AreSingle}
 use Rattle.mx_model.proofs.ListLaws.{all-append, all-filter}
 
 -- blocks apart

@@ -14,9 +14,9 @@ use Rattle.mx_words.specs.Newest.{Grant, Give, at, owner, map, owners}
 use Rattle.mx_words.specs.Need.{fits}
 use Rattle.mx_words.specs.Reach.{span}
 use Rattle.mx_words.specs.Rights.{perm_at}
-use Rattle.mx_words.specs.Runs.{owner_runs}
+use Rattle.mx_words.specs.Runs.{owner_runs, most_owner_runs}
 use Rattle.mx_words.proofs.OverlayLaws.{map-at, length-map_of, owners-at, length-owners, map-append, owners-append}
-use Rattle.mx_model.specs.Reads.{Reads, Change, reads, flat_reads, grants_of, map_in, most_owner_runs}
+use Rattle.mx_model.specs.Reads.{Reads, Change, reads, flat_reads, grants_of, map_in}
 use Rattle.mx_model.specs.Run.{after, flat_after, turn, flat_turn, made_of, flat_made, grants_after, maps_after, owners_after}
 use Rattle.mx_model.specs.State.{Core, State, Flat, words, flat}
 use Rattle.mx_model.specs.Turn.{Made, turned}

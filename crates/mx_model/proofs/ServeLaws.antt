@@ -9,7 +9,7 @@ use Rattle.mx_words.specs.declared.perm.Perm.TheVariants as P
 use Rattle.mx_words.specs.declared.perm.Access.TheVariants as A
 use Rattle.mx_words.specs.Announced.{is_announced}
 use Rattle.mx_words.specs.Bytes.{number_at, put_at, cleared_at}
-use Rattle.mx_words.specs.FirstFit.{Area, has_room, with_block, without_block, most_blocks}
+use Rattle.mx_words.specs.FirstFit.{AreApart, Area, has_room, with_block, without_block, most_blocks}
 use Rattle.mx_words.specs.Ranges.{overlaps, ram_base, in_ram}
 use Rattle.mx_words.specs.Rights.{number, allows}
 use Rattle.mx_model.specs.declared.values.Call.{Call}
@@ -19,7 +19,7 @@ use Rattle.mx_model.specs.Gates.{is_at, without_gate, with_gate, has_gate, no_ga
 use Rattle.mx_model.specs.Reads.{Reads}
 use Rattle.mx_model.specs.State.{Core, Module, module_at, is_module}
 use Rattle.mx_model.proofs.ApartLaws.{apart-with, apart-without, single-append, single-filter, single-others}
-use Rattle.mx_model.specs.Valid.{AreApart, IsModule, IsCall, IsGate, IsHome, IsValid}
+use Rattle.mx_model.specs.Valid.{IsModule, IsCall, IsGate, IsHome, IsValid}
 use Rattle.mx_model.proofs.ListLaws.{all-append, all-filter, found-passes, length-filter-le, length-filter-lt, length-with_block, length-put_at, bytes-put_at, length-cleared_at, bytes-cleared_at, number-four}
 use Rattle.mx_model.specs.Serve.{Served, Service, Exit, Write, Grant, RevokeAll, Transfer, Alloc, Free, AddGate, RemoveGate, AddReturnGate, Query, Self, Exchange, Unknown, Test, first_failed, judged, answers, code, serve, served_by, service, ended, write_from, written_out, write_looks, exchange_from, exchanged, look_of, arg_word, is_word, no_word, foreign_word, with_blocks, alloc_place, alloc_change, allocated, alloc_from, adds, serve_alloc, serve_free, freed_count, free_change, changes, serve_gate, serve_ungate, serve_return_gate, write_outside, no_range, owns, arg_range, grant_change, revoke_change, meets_heap, give_of}
 use Rattle.mx_model.proofs.ValidParts.{valid-ram, valid-module, valid-gates, valid-cache, valid-looked_all, home-at}

@@ -7,7 +7,7 @@ use Rattle.mx_words.specs.declared.perm.Span.{Span}
 use Rattle.mx_words.specs.Rights.{perm_at}
 use Rattle.mx_words.specs.Newest.{Grant, Give, at, owner, map, owners, laid}
 use Rattle.mx_words.specs.Changes.{changed_maps, granted_all}
-use Rattle.mx_words.specs.Runs.{owner_runs}
+use Rattle.mx_words.specs.Runs.{owner_runs, most_owner_runs}
 use Rattle.mx_words.specs.Need.{fits}
 use Rattle.mx_words.specs.Reach.{span}
 use Rattle.mx_model.specs.State.{State, Flat, words}
@@ -29,10 +29,6 @@ pub record Reads : Type 0 where
   pub fits : Change → Bool
   -- whether the owners' runs after a give are at most 4096
   pub few_runs : Give → Bool
-
--- how many maximal runs of one owner there are at most
-abbrev pub most_owner_runs : ℕ
-most_owner_runs = 4096
 
 -- a domain's grants, and its map, for a domain from 1 on; one above the last has no rights
 abbrev pub grants_of : List (List Grant) → ℕ → List Grant

@@ -2,7 +2,7 @@
 use Rattle.std.specs.Prelude.{◌≡◌, ℕ, List, [], ◌∷◌, ◌+◌, ◌*◌, ◌%◌, ◌^◌, ◌<◌, ◌≤◌, Bool, true, false, length, slice_index}
 use Rattle.std.specs.List.{AllByRecursion}
 use Rattle.mx_words.specs.Announced.{is_announced}
-use Rattle.mx_words.specs.FirstFit.{Area, most_blocks}
+use Rattle.mx_words.specs.FirstFit.{AreApart, most_blocks}
 use Rattle.mx_model.specs.declared.values.Call.{Call}
 use Rattle.mx_model.specs.declared.values.Frame.{Frame}
 use Rattle.mx_model.specs.declared.values.Gate.{Gate}
@@ -70,11 +70,6 @@ pub record IsGate (modules size : ℕ) (g : Gate) : Type 0 where
 abbrev pub AreSingle : List Gate → Type 0
 AreSingle [] = Unit {0}
 AreSingle (g ∷ gs) = AllByRecursion (λ h. is_at g.domain g.word h ≡ false) gs × AreSingle gs
-
--- live blocks of at least one word each, in the order of their addresses and apart, from word `low` on and before word `high`
-abbrev pub AreApart : ℕ → ℕ → List Area → Type 0
-AreApart low high [] = low ≤ high
-AreApart low high (b ∷ bs) = (low ≤ b.first) × (0 < b.count) × AreApart (b.first + b.count) high bs
 
 -- a module whose areas lie in RAM, and whose blocks lie apart in its heap area
 pub record IsHome (size harts : ℕ) (m : Module) : Type 0 where

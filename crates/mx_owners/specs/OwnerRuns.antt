@@ -2,11 +2,8 @@
 use Rattle.std.specs.Prelude.{ℕ, ◌≡◌, ◌≢◌, ◌+◌, ◌-◌, ◌<◌, ◌≤◌, Bool, ◌==◌, ◌&&◌, nat_lt, List, [], ◌∷◌, ◌++◌, length, take, drop, slice_index_or, if◌then◌else◌}
 use Rattle.std.specs.List.{position_or_len}
 use Rattle.mx_words.specs.Counting.{list_below}
+use Rattle.mx_words.specs.Runs.{most_owner_runs}
 use Rattle.mx_owners.specs.declared.runs.Run.{Run}
-
--- how many maximal runs of equal owner there are at most
-abbrev pub most_runs : ℕ
-most_runs = 4096
 
 -- what stands beyond the last run
 abbrev pub no_run : Run
@@ -35,7 +32,7 @@ pub record AreRuns (words : ℕ) (runs : List Run) : Type 0 where
   pub some : 0 < words
   pub in_ram : words ≤ 16777216
   pub fill : Fill 0 words 0 runs
-  pub few : length runs ≤ most_runs
+  pub few : length runs ≤ most_owner_runs
 
 -- the place of the run of a word: how many runs end at it or before
 abbrev pub place_of : List Run → ℕ → ℕ
@@ -69,5 +66,5 @@ given runs owner first behind =
 -- the same, with room for the runs of a give on both sides of the exchange
 pub record AreOwners (words : ℕ) (runs : List Run) (room next_room : ℕ) : Type 0 where
   pub are : AreRuns words runs
-  pub room_is : most_runs + 2 ≤ room
-  pub next_is : most_runs + 2 ≤ next_room
+  pub room_is : most_owner_runs + 2 ≤ room
+  pub next_is : most_owner_runs + 2 ≤ next_room

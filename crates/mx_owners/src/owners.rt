@@ -38,7 +38,7 @@ impl Model for Owners {
 impl Owners {
     ghost use Rattle.mx_words.specs.Newest.{laid};
     ghost use Rattle.mx_words.specs.Runs.{owner_runs};
-    ghost use Rattle.mx_owners.specs.OwnerRuns.{most_runs};
+    ghost use Rattle.mx_words.specs.Runs.{most_owner_runs};
 
     /// Owners of `words` words of RAM, 1 to 2^24: the supervisor owns them all.
     pub fn new(alloc: Global, words: u32) -> Result<Owners, NoMemory>
@@ -71,7 +71,7 @@ impl Owners {
         requires some { 0 < count }
         requires in_ram { first + count ≤ length self.old }
         ensures ok { OnOk result (self.new ≡ laid (record { first = first; count = count; value = domain }) self.old) }
-        ensures full { IsErr result ↔ (most_runs < owner_runs (laid (record { first = first; count = count; value = domain }) self.old)) }
+        ensures full { IsErr result ↔ (most_owner_runs < owner_runs (laid (record { first = first; count = count; value = domain }) self.old)) }
         ensures unchanged { OnErr result (self.new ≡ self.old) }
         ensures total { length self.new ≡ length self.old }
     {

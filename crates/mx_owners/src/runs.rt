@@ -2,7 +2,8 @@
 
 ghost use Rattle.std.specs.Prelude.{◌≡◌, ℕ, ◌+◌, ◌-◌, ◌<◌, ◌≤◌, ◌++◌, length, drop, [], vec_len, IfOk};
 ghost use Rattle.std.specs.Vec.{vec_capacity};
-ghost use Rattle.mx_owners.specs.OwnerRuns.{most_runs, run_at, place_of, runs_before, goes_on, end_behind, place_behind, given};
+ghost use Rattle.mx_words.specs.Runs.{most_owner_runs};
+ghost use Rattle.mx_owners.specs.OwnerRuns.{run_at, place_of, runs_before, goes_on, end_behind, place_behind, given};
 
 use mx_words::NoMemory;
 use std::alloc::Global;
@@ -20,7 +21,7 @@ pub struct Run {
 // Room for as many runs as a give may make before they are counted.
 pub fn room(alloc: Global) -> Result<Vec<Run>, NoMemory>
     ensures items { IfOk result (λ v. v.items ≡ []) }
-    ensures capacity { IfOk result (λ v. most_runs + 2 ≤ vec_capacity v) }
+    ensures capacity { IfOk result (λ v. most_owner_runs + 2 ≤ vec_capacity v) }
 {
     match Vec::with_capacity(alloc, MOST_RUNS + 2) {
         Ok(runs) => Ok(runs),
@@ -30,7 +31,7 @@ pub fn room(alloc: Global) -> Result<Vec<Run>, NoMemory>
 
 // The place of a word's run. The width starts at the most runs that there may be, so that each look-up takes the same steps.
 pub fn run_place(runs: &[Run], word: u32) -> usize
-    requires few { length runs.now ≤ most_runs }
+    requires few { length runs.now ≤ most_owner_runs }
     requires rising { (i j : ℕ) → i ≤ j → j < length runs.now → (run_at runs.now i).end ≤ (run_at runs.now j).end }
     ensures place { result ≡ place_of runs.now word }
     ensures within { result ≤ length runs.now }
@@ -65,7 +66,7 @@ fn add_runs(next: &mut Vec<Run>, runs: &[Run])
 // Makes `next` the runs before a give.
 fn put_before(next: &mut Vec<Run>, runs: &[Run], owner: u32, first: u32)
     requires room { length runs.now + 2 ≤ vec_capacity next.old }
-    requires few { length runs.now ≤ most_runs }
+    requires few { length runs.now ≤ most_owner_runs }
     requires rising { (i j : ℕ) → i ≤ j → j < length runs.now → (run_at runs.now i).end ≤ (run_at runs.now j).end }
     requires within { 0 < first → place_of runs.now (first - 1) < length runs.now }
     ensures items { next.new.items ≡ runs_before runs.now owner first }
@@ -89,7 +90,7 @@ fn put_before(next: &mut Vec<Run>, runs: &[Run], owner: u32, first: u32)
 // Makes `next` the runs after a give of the words from `first` to before `behind`.
 pub fn put_given(next: &mut Vec<Run>, runs: &[Run], owner: u32, first: u32, behind: u32)
     requires room { length runs.now + 2 ≤ vec_capacity next.old }
-    requires few { length runs.now ≤ most_runs }
+    requires few { length runs.now ≤ most_owner_runs }
     requires rising { (i j : ℕ) → i ≤ j → j < length runs.now → (run_at runs.now i).end ≤ (run_at runs.now j).end }
     requires within { 0 < first → place_of runs.now (first - 1) < length runs.now }
     requires fits { length (given runs.now owner first behind) ≤ length runs.now + 2 }

@@ -5,3 +5,4 @@ pub mod OverlayLaws
 pub mod RunLaws
 pub mod FirstFitLaws
 pub mod MaximalRuns
+pub mod ReachLaws

@@ -1,5 +1,5 @@
 -- Little-endian numbers in a list of bytes.
-use Rattle.std.specs.Prelude.{ℕ, zero, suc, ◌+◌, ◌*◌, ◌/◌, ◌%◌, List, ◌++◌, take, drop, replicate, slice_index, slice_set}
+use Rattle.std.specs.Prelude.{◌≡◌, ◌⊎◌, ℕ, zero, suc, ◌+◌, ◌*◌, ◌/◌, ◌%◌, List, ◌++◌, take, drop, replicate, slice_index, slice_set}
 
 -- the number that the `size` bytes from place k on hold
 unfoldable pub number_at : List ℕ → ℕ → ℕ → ℕ
@@ -14,3 +14,7 @@ put_at bytes k (suc size) n = put_at (slice_set bytes k (n % 256)) (k + 1) size 
 -- the bytes with n zero bytes from place k on
 unfoldable pub cleared_at : List ℕ → ℕ → ℕ → List ℕ
 cleared_at bytes k n = take k bytes ++ replicate n 0 ++ drop (k + n) bytes
+
+-- the sizes of an access, in bytes
+abbrev pub IsSize : ℕ → Type 0
+IsSize size = (size ≡ 1) ⊎ ((size ≡ 2) ⊎ (size ≡ 4))

@@ -1,5 +1,5 @@
 -- First fit: the lowest place for a block in a heap area.
-use Rattle.std.specs.Prelude.{ℕ, ◌+◌, Bool, not, ◌&&◌, ◌==◌, nat_lt, nat_le, List, [], ◌∷◌, filter, find, Option, option_map, if◌then◌else◌}
+use Rattle.std.specs.Prelude.{ℕ, ◌+◌, ◌<◌, ◌≤◌, Bool, not, ◌&&◌, ◌==◌, nat_lt, nat_le, List, [], ◌∷◌, filter, find, Option, option_map, if◌then◌else◌}
 use Rattle.std.specs.List.{list_any, range_with_len}
 use Rattle.mx_words.specs.Ranges.{overlaps}
 
@@ -32,3 +32,8 @@ block_at blocks first = option_map (λ (b : Area). b.count) (find (λ (b : Area)
 -- how many live blocks a heap has at most
 abbrev pub most_blocks : ℕ
 most_blocks = 1024
+
+-- live blocks of at least one word each, in the order of their addresses and apart, from word `low` on and before word `high`
+abbrev pub AreApart : ℕ → ℕ → List Area → Type 0
+AreApart low high [] = low ≤ high
+AreApart low high (b ∷ bs) = (low ≤ b.first) × (0 < b.count) × AreApart (b.first + b.count) high bs

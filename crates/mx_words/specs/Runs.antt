@@ -30,6 +30,10 @@ runs m = length (runs_of same m)
 abbrev pub owner_runs : List ℕ → ℕ
 owner_runs os = length (runs_of (λ a b. a == b) os)
 
+-- how many maximal runs of one owner there are at most
+abbrev pub most_owner_runs : ℕ
+most_owner_runs = 4096
+
 -- the sizes of the blocks of words: a line, a page, a region
 abbrev pub line_words : ℕ
 line_words = 16
