@@ -19,7 +19,7 @@ use Rattle.mx_words.specs.declared.perm.Perm.TheVariants as P
 use Rattle.mx_check.specs.declared.flight.Flight.{Flight}
 use Rattle.mx_check.specs.Harts.{Kept, no_hart, hart_at, is_in}
 use Rattle.mx_check.specs.Calls.{lets, ready_with, is_ready}
-use Rattle.mx_check.specs.Coherence.{EachSpan, is_spared, Agrees, AgreesIn, IsTrue, HasDropped, Keeps}
+use Rattle.mx_check.specs.Coherence.{EachSpan, is_spared, Agrees, AgreesIn, AreCurrent, HasDropped, Keeps}
 use Rattle.mx_check.specs.Conditions.{IsInside}
 use Rattle.mx_check.proofs.SpanLaws.{each_weaker, outside_range}
 
@@ -102,7 +102,7 @@ module _ (maps : List (List Perm)) (harts : List Kept) (h : ℕ) (c : Change) (f
       let F : Option Flight → Type 0 = λ o. IfSome o (HasDropped i (hart_at harts i).cache) in
       subst F flying (keeps.dropped i h running (λ e. ne (sym e)))
 
-  agrees_there : (i : ℕ) → (hart_at harts i).halted ≡ false → (i ≡ h) ⊎ (i ≢ h) → (i < length harts) ⊎ (length harts ≤ i) → IsTrue (changed c maps) (hart_at harts i)
+  agrees_there : (i : ℕ) → (hart_at harts i).halted ≡ false → (i ≡ h) ⊎ (i ≢ h) → (i < length harts) ⊎ (length harts ≤ i) → AreCurrent (changed c maps) (hart_at harts i)
   agrees_there i running (inl e) lt =
       let k = hart_at harts i in
       let flown : k.flight ≡ Some f = ap (λ n. (hart_at harts n).flight) e ∙ flying in

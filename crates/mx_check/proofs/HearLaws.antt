@@ -15,7 +15,7 @@ use Rattle.mx_check.specs.Coherence.{Agrees, IsClear, HasDropped, Keeps}
 use Rattle.mx_check.specs.Conditions.{HasHeardAll, SameButCaches}
 use Rattle.mx_check.proofs.LookLaws.{length-at_hart, hart_at-same, hart_at-other}
 use Rattle.mx_check.proofs.SpanLaws.{each_clear}
-use Rattle.mx_check.proofs.KeepLaws.{keeps_step, is_true_weaker, drop-keeps}
+use Rattle.mx_check.proofs.KeepLaws.{keeps_step, current_weaker, drop-keeps}
 
 -- a fact of the value that an option is known to hold
 some_is : {A : Type 0} (P : A → Type 0) (o : Option A) (x : A) → o ≡ Some x → IfSome o P → P x
@@ -56,7 +56,7 @@ module _ (maps : List (List Perm)) (harts : List Kept) (h i : ℕ) (f : Flight) 
       let k = hart_at harts i in
       let flown : option_map (marked h) k.flight ≡ Some (marked h f) = ap (option_map (marked h)) flying in
       keeps_step maps harts i (heard_by h) keeps there
-      (λ running. is_true_weaker maps k.flight (option_map (marked h) k.flight) k.domain k.cache (marked-agrees h k.flight) (keeps.agree i running))
+      (λ running. current_weaker maps k.flight (option_map (marked h) k.flight) k.domain k.cache (marked-agrees h k.flight) (keeps.agree i running))
       (λ j running apart. keeps.dropped i j running apart)
       (λ j running apart. some_has (HasDropped j (hart_at harts j).cache) (option_map (marked h) k.flight) (marked h f) flown (others j running apart (cases_eq j h)))
       (marked-set h k.flight (keeps.sets i))

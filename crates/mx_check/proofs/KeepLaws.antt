@@ -10,25 +10,25 @@ use Rattle.mx_table.specs.Tables.{map_of}
 use Rattle.mx_check.specs.declared.flight.Flight.{Flight}
 use Rattle.mx_check.specs.Harts.{Kept, hart_at, at_hart, is_in, nobody, announced, drops, ended, finished, leaves, halts}
 use Rattle.mx_check.specs.Flights.{IsSet}
-use Rattle.mx_check.specs.Coherence.{EachSpan, Agrees, AgreesIn, IsTrue, IsClear, HasDropped, Keeps}
+use Rattle.mx_check.specs.Coherence.{EachSpan, Agrees, AgreesIn, AreCurrent, IsClear, HasDropped, Keeps}
 use Rattle.mx_check.proofs.LookLaws.{length-at_hart, hart_at-same, hart_at-other}
 use Rattle.mx_check.proofs.SpanLaws.{each_weaker, each_left, each_without, each_dropped, outside_range}
 
 -- a hart that takes a step: both facts follow from what the step does to it
 module _ (maps : List (List Perm)) (harts : List Kept) (h : ℕ) (step : Kept → Kept) (keeps : Keeps maps harts) (there : h < length harts)
-    (own : (step (hart_at harts h)).halted ≡ false → IsTrue maps (step (hart_at harts h)))
+    (own : (step (hart_at harts h)).halted ≡ false → AreCurrent maps (step (hart_at harts h)))
     (own_dropped : (i : ℕ) → (step (hart_at harts h)).halted ≡ false → i ≢ h → IfSome (hart_at harts i).flight (HasDropped h (step (hart_at harts h)).cache))
     (others_dropped : (i : ℕ) → (hart_at harts i).halted ≡ false → i ≢ h → IfSome (step (hart_at harts h)).flight (HasDropped i (hart_at harts i).cache))
     (set_there : IfSome (step (hart_at harts h)).flight IsSet) where
   same : hart_at (at_hart h step harts) h ≡ step (hart_at harts h)
   same = hart_at-same harts h step there
 
-  agree_there : (i : ℕ) → (i ≡ h) ⊎ (i ≢ h) → (hart_at (at_hart h step harts) i).halted ≡ false → IsTrue maps (hart_at (at_hart h step harts) i)
+  agree_there : (i : ℕ) → (i ≡ h) ⊎ (i ≢ h) → (hart_at (at_hart h step harts) i).halted ≡ false → AreCurrent maps (hart_at (at_hart h step harts) i)
   agree_there i (inl e) =
       let is : hart_at (at_hart h step harts) i ≡ step (hart_at harts h) = ap (hart_at (at_hart h step harts)) e ∙ same in
-      subst (λ (k : Kept). k.halted ≡ false → IsTrue maps k) (sym is) own
+      subst (λ (k : Kept). k.halted ≡ false → AreCurrent maps k) (sym is) own
   agree_there i (inr ne) =
-      subst (λ (k : Kept). k.halted ≡ false → IsTrue maps k) (sym (hart_at-other harts h step i ne)) (keeps.agree i)
+      subst (λ (k : Kept). k.halted ≡ false → AreCurrent maps k) (sym (hart_at-other harts h step i ne)) (keeps.agree i)
 
   -- the second fact of hart j and the call of hart i
   fact_there : (j i : ℕ) → i ≢ j → (j ≡ h) ⊎ (j ≢ h) → (i ≡ h) ⊎ (i ≢ h) →
@@ -80,10 +80,10 @@ agrees_in_weaker maps own other f None s p = p
 agrees_in_weaker maps own other f (Some d) s p = f (map_of maps d) s p
 
 -- the first fact of a hart with the same spans and another exemption
-pub is_true_weaker : (maps : List (List Perm)) (own other : Option Flight) (d : Option ℕ) (c : Cache) →
+pub current_weaker : (maps : List (List Perm)) (own other : Option Flight) (d : Option ℕ) (c : Cache) →
     ((m : List Perm) (s : Span) → Agrees m own s → Agrees m other s) →
     EachSpan (λ e s. Agrees (map_of maps e) own s) (AgreesIn maps own d) c → EachSpan (λ e s. Agrees (map_of maps e) other s) (AgreesIn maps other d) c
-is_true_weaker maps own other d c f each =
+current_weaker maps own other d c f each =
     each_weaker (λ e s p. f (map_of maps e) s p) (agrees_in_weaker maps own other f d) c each
 
 agrees_more : (m : List Perm) (f : Flight) (s : Span) → Agrees m None s → Agrees m (Some f) s
@@ -105,7 +105,7 @@ module _ (maps : List (List Perm)) (harts : List Kept) (h : ℕ) (keeps : Keeps 
   announce-keeps first count free =
       let f : Flight = record { hart = h; first = first; count = count; heard = nobody } in
       keeps_step maps harts h (announced h first count) keeps there
-      (λ running. is_true_weaker maps (hart_at harts h).flight (Some f) (hart_at harts h).domain (hart_at harts h).cache
+      (λ running. current_weaker maps (hart_at harts h).flight (Some f) (hart_at harts h).domain (hart_at harts h).cache
       (agrees_from_none (hart_at harts h).flight f free) (keeps.agree h running))
       (λ i running apart. keeps.dropped h i running apart)
       (λ i running apart hit. let clash : true ≡ false = sym hit ∙ nobody_in i in cc)
@@ -147,10 +147,10 @@ module _ (maps : List (List Perm)) (harts : List Kept) (h : ℕ) (keeps : Keeps 
   in_ended f None s a apart = a
   in_ended f (Some d) s a apart = agrees_ended f (map_of maps d) s a apart
 
-  true_ended : (own : Option Flight) (d : Option ℕ) (c : Cache) → EachSpan (λ e s. Agrees (map_of maps e) own s) (AgreesIn maps own d) c →
+  current_ended : (own : Option Flight) (d : Option ℕ) (c : Cache) → EachSpan (λ e s. Agrees (map_of maps e) own s) (AgreesIn maps own d) c →
       EachSpan (λ e s. Agrees (map_of maps e) None s) (AgreesIn maps None d) (ended own c)
-  true_ended None d c each = each
-  true_ended (Some f) d c each =
+  current_ended None d c each = each
+  current_ended (Some f) d c each =
       each_weaker (λ e s p. agrees_ended f (map_of maps e) s p.0 p.1) (λ s p. in_ended f d s p.0 p.1) (without_range f.first f.count c)
       (each_dropped f.first f.count c each)
 
@@ -162,7 +162,7 @@ module _ (maps : List (List Perm)) (harts : List Kept) (h : ℕ) (keeps : Keeps 
   finish-keeps =
       let k = hart_at harts h in
       keeps_step maps harts h finished keeps there
-      (λ running. true_ended k.flight k.domain k.cache (keeps.agree h running))
+      (λ running. current_ended k.flight k.domain k.cache (keeps.agree h running))
       (λ i running apart. some_weaker (HasDropped h k.cache) (HasDropped h (finished k).cache)
       (λ f p hit. dropped_ended k.flight k.cache f.first f.count (p hit)) (hart_at harts i).flight (keeps.dropped h i running apart))
       (λ i running apart. tt)

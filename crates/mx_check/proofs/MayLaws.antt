@@ -71,15 +71,15 @@ module _ (maps : List (List Perm)) (own : Option Flight) (domain : ℕ) where
   of_domain (Some d) same s a = subst (λ (n : ℕ). Agrees (map_of maps n) own s) same a
 
 module _ (kind : Kind) (maps : List (List Perm)) (harts : List Kept) (h domain : ℕ) (keeps : Keeps maps harts) (may : MayLook h domain harts) where
-  true_now : EachSpan (λ d s. Agrees (map_of maps d) (hart_at harts h).flight s) (λ s. Agrees (map_of maps domain) (hart_at harts h).flight s) (hart_at harts h).cache
-  true_now =
+  current_now : EachSpan (λ d s. Agrees (map_of maps d) (hart_at harts h).flight s) (λ s. Agrees (map_of maps domain) (hart_at harts h).flight s) (hart_at harts h).cache
+  current_now =
       each_weaker (λ d s a. a) (of_domain maps (hart_at harts h).flight domain (hart_at harts h).domain may.same_domain) (hart_at harts h).cache (keeps.agree h may.running)
 
   -- the domain alone is named
   pub named-keeps : Keeps maps (at_hart h (names domain) harts)
   named-keeps =
       keeps_step maps harts h (names domain) keeps may.hart
-      (λ running. true_now)
+      (λ running. current_now)
       (λ i running apart. keeps.dropped h i running apart)
       (λ i running apart. keeps.dropped i h running (λ e. apart (sym e)))
       (keeps.sets h)
@@ -100,7 +100,7 @@ module _ (kind : Kind) (maps : List (List Perm)) (harts : List Kept) (h domain :
     looks-keeps =
         let k = hart_at harts h in
         keeps_step maps harts h (looks most place domain word s (is_barred h s harts)) keeps may.hart
-        (λ running. each_checked most place domain word s (is_barred h s harts) k.cache true_now (λ t p. p)
+        (λ running. each_checked most place domain word s (is_barred h s harts) k.cache current_now (λ t p. p)
         (λ free. uniform_agrees (map_of maps domain) k.flight word s round))
         (λ i running apart. dropped_looked i apart (hart_at harts i).flight refl (keeps.dropped h i running apart))
         (λ i running apart. keeps.dropped i h running (λ e. apart (sym e)))
@@ -115,10 +115,10 @@ module _ (kind : Kind) (maps : List (List Perm)) (harts : List Kept) (h domain :
     by_found : (a b : Option Span) → found_in_place (hart_at harts h).cache.places place word ≡ a → found_kept (hart_at harts h).cache.kept domain word ≡ b →
         (decided_by (first_of_two a b) s) ≡ perm_at (map_of maps domain) word
     by_found (Some t) b ea eb =
-        let p = has_found_in_place (λ s. Agrees (map_of maps domain) (hart_at harts h).flight s) (hart_at harts h).cache.places place word t true_now.places ea in
+        let p = has_found_in_place (λ s. Agrees (map_of maps domain) (hart_at harts h).flight s) (hart_at harts h).cache.places place word t current_now.places ea in
         unexempt t p.0 p.1
     by_found None (Some t) ea eb =
-        let p = has_found_kept (λ d s. Agrees (map_of maps d) (hart_at harts h).flight s) (hart_at harts h).cache.kept domain word t true_now.entries eb in
+        let p = has_found_kept (λ d s. Agrees (map_of maps d) (hart_at harts h).flight s) (hart_at harts h).cache.kept domain word t current_now.entries eb in
         unexempt t p.0 p.1
     by_found None None ea eb =
         sym (round.alike word round.left round.right)

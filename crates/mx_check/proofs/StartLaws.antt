@@ -10,7 +10,8 @@ use Rattle.mx_words.proofs.CountingLaws.{length-list_below, list_below-at}
 use Rattle.mx_table.specs.Tables.{map_of}
 use Rattle.mx_check.specs.declared.flight.Flight.{Flight}
 use Rattle.mx_check.specs.Flights.{is_of, flight_of, IsSet}
-use Rattle.mx_check.specs.Harts.{Kept, new_hart, no_hart, hart_at}
+use Rattle.mx_check.specs.Harts.{Kept, new_hart, no_hart, hart_at, is_in}
+use Rattle.mx_check.specs.Conditions.{MayLook}
 use Rattle.mx_check.specs.Calls.{new_harts, waiting_hart, waiting_harts}
 use Rattle.mx_check.specs.Coherence.{EachSpan, Agrees, AgreesIn, IsClear, HasDropped, Keeps}
 use Rattle.mx_check.proofs.SpanLaws.{each_none}
@@ -69,3 +70,19 @@ module _ (maps : List (List Perm)) (flights : List Flight) (n : ℕ) (few : n �
   waiting-keeps =
       empty-keeps maps (waiting_harts flights n) (λ i. (waiting_at i (cases_lt i n)).0) (λ i. (waiting_at i (cases_lt i n)).1)
       (omega (arith, length-list_below n (waiting_hart flights)))
+
+-- a hart that has done nothing yet may check in any domain
+new_flight : (n i : ℕ) → (i < n) ⊎ (n ≤ i) → (hart_at (new_harts n) i).flight ≡ None
+new_flight n i (inl lt) = ap (λ (k : Kept). k.flight) (get_or-replicate n i new_hart no_hart lt)
+new_flight n i (inr le) = ap (λ (k : Kept). k.flight) (get_or_past (new_harts n) i no_hart (omega (arith, length-replicate n new_hart)))
+
+pub new_may : (n h domain : ℕ) → h < n → MayLook h domain (new_harts n)
+new_may n h domain lt =
+    let now = get_or-replicate n h new_hart no_hart lt in
+    record {
+      hart = omega (arith, length-replicate n new_hart);
+      running = ap (λ (k : Kept). k.halted) now;
+      free = ap (λ (k : Kept). k.flight) now;
+      heard = λ i ne. subst (λ (o : Option Flight). IfSome o (λ f. is_in f.heard h ≡ true)) (sym (new_flight n i (cases_lt i n))) tt;
+      same_domain = subst (λ (k : Kept). IfSome k.domain (λ d. d ≡ domain)) (sym now) tt;
+    }

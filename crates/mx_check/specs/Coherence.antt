@@ -30,9 +30,9 @@ abbrev pub AgreesIn : List (List Perm) → Option Flight → Option ℕ → Span
 AgreesIn maps own None s = ⊥
 AgreesIn maps own (Some d) s = Agrees (map_of maps d) own s
 
--- first fact, of one hart: an entry's span agrees with its own domain's map, a place's with that of the kept domain
-abbrev pub IsTrue : List (List Perm) → Kept → Type 0
-IsTrue maps k = EachSpan (λ d s. Agrees (map_of maps d) k.flight s) (AgreesIn maps k.flight k.domain) k.cache
+-- first fact, the spans of one hart are current: an entry's span agrees with its own domain's map, a place's with that of the kept domain
+abbrev pub AreCurrent : List (List Perm) → Kept → Type 0
+AreCurrent maps k = EachSpan (λ d s. Agrees (map_of maps d) k.flight s) (AgreesIn maps k.flight k.domain) k.cache
 
 -- no span of a hart meets a range
 abbrev pub IsClear : ℕ → ℕ → Cache → Type 0
@@ -44,7 +44,7 @@ HasDropped h c f = is_in f.heard h ≡ true → IsClear f.first f.count c
 
 -- what a checker keeps at every moment between its calls
 pub record Keeps (maps : List (List Perm)) (harts : List Kept) : Type 0 where
-  pub agree : (h : ℕ) → (hart_at harts h).halted ≡ false → IsTrue maps (hart_at harts h)
+  pub agree : (h : ℕ) → (hart_at harts h).halted ≡ false → AreCurrent maps (hart_at harts h)
   pub dropped : (h i : ℕ) → (hart_at harts h).halted ≡ false → i ≢ h →
       IfSome (hart_at harts i).flight (HasDropped h (hart_at harts h).cache)
   pub sets : (h : ℕ) → IfSome (hart_at harts h).flight IsSet

@@ -1,6 +1,6 @@
 use Rattle.mx_check.proofs.HearLaws.{hear-keeps, heard_all, hears_own, length-hears_first}
-use Rattle.std.proofs.Common.{◌≡◌, ◌<◌, length, ap, ◌∙◌}
-use Rattle.mx_check.specs.Harts.{Kept, hart_at}
+use Rattle.std.proofs.Common.{◌<◌, length, ap, ◌∙◌}
+use Rattle.mx_check.specs.Harts.{hart_at}
 use Rattle.mx_check.specs.Calls.{Checks}
 use Rattle.mx_check.specs.Conditions.{SameButCaches}
 use Rattle.mx_check.proofs.checker.Checker.hear.Goals as goal
