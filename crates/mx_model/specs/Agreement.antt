@@ -1,4 +1,5 @@
 -- What two states share for a hart, and where its turns end to depend on that alone.
+-- The rules: docs/MACHINE.md, "Agreement".
 use Rattle.std.specs.Prelude.{◌≡◌, ℕ, ◌+◌, ◌-◌, ◌*◌, ◌/◌, ◌<◌, Bool, true, false, slice_index, if◌then◌else◌, Option, Some, None, option_map, IsTrue}
 use Rattle.mx_words.specs.declared.perm.Access.TheVariants as A
 use Rattle.mx_words.specs.Ranges.{ram_base}

@@ -1,4 +1,5 @@
 -- Checks of words, hearing, and the caches. A turn looks at words at places; what its caches keep follows from these looks.
+-- The rules: docs/MACHINE.md, "Announced calls" and "Checks and counts".
 use Rattle.std.specs.Prelude.{ℕ, Bool, true, false, not, ◌==◌, ◌&&◌, List, [], ◌∷◌, fold, filter_map, slice_index, slice_index_or, slice_set, if◌then◌else◌, Option, Some, None}
 use Rattle.std.specs.Prelude.{map as list_map}
 use Rattle.std.specs.List.{list_any, enumerate_from}

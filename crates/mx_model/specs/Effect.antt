@@ -1,4 +1,5 @@
 -- What one instruction does: its one access, or its fault, or the new registers and the next pc.
+-- The rules: docs/MACHINE.md, "Instructions".
 use Rattle.std.specs.Prelude.{ℕ, ◌+◌, ◌-◌, ◌*◌, ◌/◌, ◌%◌, ◌^◌, Bool, not, ◌==◌, nat_lt, if◌then◌else◌, List, slice_index, slice_set, ℤ, pos, negsuc, ◌*ℤ◌, int_lt, int_div, int_rem, bit_and, bit_or, bit_xor}
 use Rattle.std.specs.Int.{cast_signed, int_shr, w32}
 use Rattle.mx_isa.specs.declared.inst.Inst.{Inst}

@@ -1,4 +1,5 @@
 -- What a turn adds: console bytes, and at most one note.
+-- The rules: docs/MACHINE.md, "One turn".
 use Rattle.std.specs.Prelude.{ℕ, List, [], Option, None}
 use Rattle.mx_model.specs.declared.values.Note.{Note}
 

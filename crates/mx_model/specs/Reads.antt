@@ -1,4 +1,5 @@
 -- What a turn reads of rights and owners. The two kinds of state answer it alike, so a turn is one function of these answers.
+-- The rules: docs/MACHINE.md, "Memory, domains, harts".
 use Rattle.std.specs.Prelude.{ℕ, ◌-◌, Bool, nat_lt, nat_le, List, [], ◌∷◌, ◌++◌, slice_index, slice_index_or, if◌then◌else◌, Option}
 use Rattle.std.specs.Prelude.{map as list_map}
 use Rattle.mx_words.specs.declared.perm.Perm.{Perm}

@@ -1,4 +1,5 @@
 -- The supervisor's calls. For each: its tests in order with their codes, judged where the call takes effect, and its one effect.
+-- The rules: docs/MACHINE.md, "Supervisor calls".
 use Rattle.std.specs.Prelude.{ℕ, ◌+◌, ◌-◌, ◌*◌, ◌/◌, ◌%◌, ◌^◌, Bool, true, false, not, ◌==◌, ◌&&◌, ◌||◌, nat_lt, nat_le, List, [], ◌∷◌, length, take, drop, if◌then◌else◌, Option, Some, None, unwrap_or, is_none}
 use Rattle.std.specs.Prelude.{map as list_map}
 use Rattle.std.specs.List.{list_all, range_with_len, prefix_len}

@@ -1,5 +1,6 @@
 -- The state of the abstract machine, in which a domain holds only a list of grants, and the flat state, in which maps and owners stand in
 -- place of the lists of grants and gives.
+-- The rules: docs/MACHINE.md, "Memory, domains, harts".
 use Rattle.std.specs.Prelude.{ℕ, ◌-◌, Bool, false, ◌&&◌, nat_le, List, [], length, replicate, slice_index_or, slice_set, Option, None}
 use Rattle.std.specs.Prelude.{map as list_map}
 use Rattle.mx_words.specs.declared.perm.Perm.{Perm}

@@ -1,4 +1,5 @@
 -- One turn of one hart. First it is decided what happens, from a few readings of the state; then it is done.
+-- The rules: docs/MACHINE.md, "One turn", "Faults" and "Gates".
 use Rattle.std.specs.Prelude.{ℕ, ◌+◌, ◌-◌, ◌*◌, ◌%◌, Bool, true, false, not, ◌==◌, ◌&&◌, ◌||◌, nat_lt, nat_le, List, [], ◌∷◌, ◌++◌, length, zip, fold, slice_set, if◌then◌else◌, Option, Some, None, unwrap_or}
 use Rattle.std.specs.Prelude.{map as list_map}
 use Rattle.std.specs.Option.{option_map_or}

@@ -1,4 +1,5 @@
 -- The range of words that an announced call may change.
+-- The rules: docs/MACHINE.md, "Announced calls".
 use Rattle.std.specs.Prelude.{ℕ, ◌==◌, ◌||◌, Bool, if◌then◌else◌, unwrap_or}
 use Rattle.mx_words.specs.Ranges.{word_range}
 

@@ -1,4 +1,5 @@
 -- Little-endian numbers in a list of bytes.
+-- The rules: docs/MACHINE.md, "Memory, domains, harts".
 use Rattle.std.specs.Prelude.{◌≡◌, ◌⊎◌, ℕ, zero, suc, ◌+◌, ◌*◌, ◌/◌, ◌%◌, List, ◌++◌, take, drop, replicate, slice_index, slice_set}
 
 -- the number that the `size` bytes from place k on hold

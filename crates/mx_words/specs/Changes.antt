@@ -1,4 +1,5 @@
 -- A change of rights on one range of words: it names some domains, and for each the permission that it gets.
+-- The rules: docs/MACHINE.md, "Memory, domains, harts" and "Supervisor calls".
 use Rattle.std.specs.Prelude.{ℕ, ◌+◌, List, [], ◌∷◌, ◌++◌, Option}
 use Rattle.std.specs.Option.{option_map_or}
 use Rattle.mx_words.specs.declared.perm.Perm.{Perm}

@@ -1,4 +1,5 @@
 -- What the maps of all domains need in a kind of tables. It is counted over the maps alone.
+-- The rules: docs/MACHINE.md, "Needs of the tables".
 use Rattle.std.specs.Prelude.{ℕ, ◌+◌, ◌/◌, Bool, ◌&&◌, nat_le, List, sum_by}
 use Rattle.mx_words.specs.declared.perm.Perm.{Perm}
 use Rattle.mx_words.specs.declared.tables.Kind.{Kind}

@@ -1,4 +1,5 @@
 -- Lists in which the newest entry for a word decides: grants of permissions, and gives of words to their owners.
+-- The rules: docs/MACHINE.md, "Memory, domains, harts".
 use Rattle.std.specs.Prelude.{ℕ, ◌+◌, List, [], ◌∷◌, if◌then◌else◌, fold}
 use Rattle.std.specs.Prelude.{map as list_map}
 use Rattle.std.specs.List.{range_with_len}

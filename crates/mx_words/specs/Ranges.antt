@@ -1,4 +1,5 @@
 -- Ranges of RAM words, and the addresses of words. Word i has the address 0x80000000 + 4 i.
+-- The rules: docs/MACHINE.md, "Memory, domains, harts" and "Supervisor calls".
 use Rattle.std.specs.Prelude.{ℕ, ◌+◌, ◌-◌, ◌*◌, ◌/◌, ◌%◌, Bool, ◌==◌, ◌&&◌, nat_lt, nat_le, if◌then◌else◌, Option, Some, None}
 
 -- the address of RAM's first byte

@@ -1,4 +1,5 @@
 -- Permissions and what they allow. A permission belongs to a domain and a word of RAM.
+-- The rules: docs/MACHINE.md, "Memory, domains, harts".
 use Rattle.std.specs.Prelude.{ℕ, Bool, true, false, not, List, ◌==◌, Option, Some, if◌then◌else◌, slice_index_or, length}
 use Rattle.std.specs.Prelude.{None as Nothing}
 use Rattle.mx_words.specs.declared.perm.Perm.{Perm}
