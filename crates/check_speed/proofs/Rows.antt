@@ -1,5 +1,5 @@
 -- A row of one span is a row.
-use Rattle.std.proofs.Common.{◌≡◌, ℕ, zero, suc, ◌+◌, ◌<◌, ◌≤◌, List, [], ◌∷◌, ◌++◌, length, arith}
+use Rattle.std.proofs.Common.{ℕ, zero, suc, ◌+◌, ◌<◌, ◌≤◌, [], ◌∷◌, arith}
 use Rattle.mx_words.specs.declared.perm.Span.{Span}
 use Rattle.mx_table.specs.Tables.{IsRow, no_span}
 use Rattle.std.proofs.Common.{get_or}
