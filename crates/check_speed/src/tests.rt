@@ -1,11 +1,12 @@
 //! Worked runs of a checker over tables that count what they are asked.
 ghost use Rattle.std.specs.Prelude.{◌≡◌, ℕ, ◌≤◌, length};
 ghost use Rattle.mx_check.specs.Conditions.{MayLook};
+ghost use Rattle.mx_table.specs.Change.{IsLawful};
 
 use crate::counted::Counted;
 use crate::tables::tables;
-use mx_check::{Checker, Counts};
-use mx_table::PermTables;
+use mx_check::{Checker, Counts, Flight, Flights};
+use mx_table::{Change, PermTables};
 use mx_words::{Access, Perm, Span};
 use std::test::Fail;
 
@@ -97,5 +98,58 @@ fn a_call_waits_for_the_other_hart(rt: HostRuntime) -> Result<(), Fail> {
     let late = checker.ready(1);
     assert!(rt; late);
     assert!(rt; checker.heard(0, 1));
+    Ok(())
+}
+
+/// None on words 1024 to 1027 for domain 2.
+fn withdrawal() -> Change
+    ensures lawful { IsLawful result 16384 2 }
+    ensures first { result.first ≡ 1024 }
+    ensures count { result.count ≡ 4 }
+{
+    let mut perms = [None; 64];
+    perms[2] = Some(Perm::None);
+    Change {
+        first: 1024,
+        count: 4,
+        perms,
+    }
+}
+
+#[test]
+#[tactic(auto, unfolding(mx_words::specs::Counting::list_below))]
+fn a_heard_call_takes_effect(rt: HostRuntime) -> Result<(), Fail> {
+    let own = Span {
+        first: 0,
+        count: 1,
+        perm: Perm::ExecuteRead,
+    };
+    let other = Span {
+        first: 1024,
+        count: 4,
+        perm: Perm::Read,
+    };
+    let Ok(tables) = tables::<Counted>(rt.alloc(), own, other) else {
+        return Err("no tables")?;
+    };
+    let mut flights = Flights::new();
+    flights.push(Flight {
+        hart: 0,
+        first: 1024,
+        count: 4,
+        heard: [false, true, false, false],
+    });
+    let mut checker = Checker::<Counted, 8>::resume(tables, 2, &flights);
+    let before = checker.perm(2, 1024);
+    assert_eq!(rt; before, Perm::Read);
+    let ready = checker.ready(0);
+    assert!(rt; ready);
+    let change = withdrawal();
+    let changed = checker.change(0, &change);
+    assert!(rt; changed.is_ok());
+    checker.finish(0);
+    checker.halt(1);
+    let heard = checker.heard(0, 1);
+    assert!(rt; !heard);
     Ok(())
 }
