@@ -1,5 +1,5 @@
 -- Spans that rows of sample tables may have.
-use Rattle.std.specs.Prelude.{ℕ, ◌+◌, ◌<◌, ◌≤◌}
+use Rattle.std.specs.Prelude.{◌+◌, ◌<◌, ◌≤◌}
 use Rattle.mx_words.specs.declared.perm.Span.{Span}
 
 -- a span that isn't empty and lies in 64 KiB of RAM

@@ -2,8 +2,12 @@
 //! stderr the processor time that the checks took.
 #![tactic(auto)]
 
+#[cfg(test)]
+mod counted;
 mod hits;
 mod tables;
+#[cfg(test)]
+mod tests;
 
 use mx_segments::Segments;
 use mx_words::{Perm, Span};

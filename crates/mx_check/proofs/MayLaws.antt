@@ -21,7 +21,7 @@ use Rattle.std.specs.Prelude.{cond}
 use Rattle.mx_words.proofs.ReachLaws.{IsUniformRound, span_round}
 use Rattle.mx_table.specs.Tables.{map_of}
 use Rattle.mx_check.specs.declared.flight.Flight.{Flight}
-use Rattle.mx_check.specs.Harts.{Kept, no_hart, hart_at, at_hart, is_in}
+use Rattle.mx_check.specs.Harts.{Kept, no_hart, hart_at, at_hart, is_in, leaves}
 use Rattle.mx_check.specs.Looks.{flight_bars, bars, is_barred, first_of_two, found, names, looks, looked_at, looked, decided_by, decided_at, decided}
 use Rattle.mx_check.specs.Coherence.{EachSpan, Agrees, AgreesIn, HasDropped, Keeps}
 use Rattle.mx_check.specs.Conditions.{MayLook}
@@ -187,3 +187,15 @@ word_below address words w e = by (in_ram address words) refl e
 
 pub word_round : (kind : Kind) (m : List Perm) (address word : ℕ) → word_of address (length m) ≡ Some word → IsUniformRound m word (span kind m word)
 word_round kind m address word e = span_round kind m word (word_below address (length m) word e)
+
+-- a hart that has left its domain may check in any
+pub leave_may : (harts : List Kept) (h domain next : ℕ) → MayLook h domain harts → MayLook h next (at_hart h leaves harts)
+leave_may harts h domain next may =
+    let now = hart_at-same harts h leaves may.hart in
+    record {
+      hart = omega (arith, length-at_hart harts h leaves, may.hart);
+      running = ap (λ (k : Kept). k.halted) now ∙ may.running;
+      free = ap (λ (k : Kept). k.flight) now ∙ may.free;
+      heard = λ i ne. subst (λ (k : Kept). IfSome k.flight (λ f. is_in f.heard h ≡ true)) (sym (hart_at-other harts h leaves i ne)) (may.heard i ne);
+      same_domain = subst (λ (k : Kept). IfSome k.domain (λ d. d ≡ next)) (sym now) tt;
+    }
