@@ -1,7 +1,9 @@
 //! Worked runs of a checker over tables that count what they are asked.
-ghost use Rattle.std.specs.Prelude.{◌≡◌, ℕ, ◌≤◌, length};
+ghost use Rattle.std.specs.Prelude.{◌≡◌, ℕ, ◌≤◌, length, true, Some, None};
+ghost use Rattle.mx_check.specs.Calls.{is_ready};
 ghost use Rattle.mx_check.specs.Conditions.{MayLook};
 ghost use Rattle.mx_table.specs.Change.{IsLawful};
+ghost use Rattle.check_speed.specs.Revoke.{called, IsReader};
 
 use crate::counted::Counted;
 use crate::tables::tables;
@@ -151,5 +153,121 @@ fn a_heard_call_takes_effect(rt: HostRuntime) -> Result<(), Fail> {
     checker.halt(1);
     let heard = checker.heard(0, 1);
     assert!(rt; !heard);
+    Ok(())
+}
+
+/// A checker of two harts.
+fn two_harts(tables: Counted) -> Checker<Counted, 8>
+    ensures reader { IsReader result.harts }
+    ensures none { called result.harts ≡ None }
+    ensures tables { result.tables ≡ tables }
+{
+    Checker::new(tables, 2)
+}
+
+/// Hart 1 hears every call in flight.
+fn listen(checker: &mut Checker<Counted, 8>)
+    requires reader { IsReader checker.old.harts }
+    ensures reader { IsReader checker.new.harts }
+    ensures may { MayLook 1 2 checker.new.harts }
+    ensures same_call { called checker.new.harts ≡ called checker.old.harts }
+    ensures same_tables { checker.new.tables ≡ checker.old.tables }
+{
+    checker.hear(1);
+}
+
+/// Whether domain 2 may read word 1024, as hart 1 finds at place 5, and hart 1's counts then.
+fn look(checker: &mut Checker<Counted, 8>) -> (bool, Counts)
+    requires reader { IsReader checker.old.harts }
+    requires may { MayLook 1 2 checker.old.harts }
+    requires two { length (⟦<Counted as PermTables>⟧.maps checker.old.tables) ≡ 2 }
+    ensures reader { IsReader checker.new.harts }
+    ensures may { MayLook 1 2 checker.new.harts }
+    ensures same_call { called checker.new.harts ≡ called checker.old.harts }
+    ensures two { length (⟦<Counted as PermTables>⟧.maps checker.new.tables) ≡ 2 }
+    ensures same_size { ⟦<Counted as PermTables>⟧.size checker.new.tables ≡ ⟦<Counted as PermTables>⟧.size checker.old.tables }
+{
+    let answer = checker.may(1, 5, 2, BASE + 4096, Access::Read);
+    (answer, checker.counts(1))
+}
+
+/// Hart 0 announces a call on words 1024 to 1027.
+fn call(checker: &mut Checker<Counted, 8>)
+    requires reader { IsReader checker.old.harts }
+    requires none { called checker.old.harts ≡ None }
+    requires size { ⟦<Counted as PermTables>⟧.size checker.old.tables ≡ 16384 }
+    ensures reader { IsReader checker.new.harts }
+    ensures range { called checker.new.harts ≡ Some (1024, 4) }
+    ensures same_tables { checker.new.tables ≡ checker.old.tables }
+{
+    checker.announce(0, 1024, 4);
+}
+
+/// The ready call of hart 0 withdraws domain 2's rights on its words and ends. The answer is whether the tables had room.
+fn withdraw(checker: &mut Checker<Counted, 8>) -> bool
+    requires reader { IsReader checker.old.harts }
+    requires may { MayLook 1 2 checker.old.harts }
+    requires range { called checker.old.harts ≡ Some (1024, 4) }
+    requires ready { is_ready 0 checker.old.harts ≡ true }
+    requires size { ⟦<Counted as PermTables>⟧.size checker.old.tables ≡ 16384 }
+    requires two { length (⟦<Counted as PermTables>⟧.maps checker.old.tables) ≡ 2 }
+    ensures reader { IsReader checker.new.harts }
+    ensures may { MayLook 1 2 checker.new.harts }
+    ensures two { length (⟦<Counted as PermTables>⟧.maps checker.new.tables) ≡ 2 }
+{
+    let change = withdrawal();
+    match checker.change(0, &change) {
+        Ok(()) => {
+            checker.finish(0);
+            true
+        }
+        Err(_) => false,
+    }
+}
+
+/// The counts of a hart whose buffer answered nothing.
+fn counts_of(sidecar: u64, walks: u64) -> Counts {
+    Counts {
+        sidecar,
+        lookaside: 0,
+        walks,
+    }
+}
+
+#[test]
+fn a_withdrawal_reaches_the_other_hart(rt: HostRuntime) -> Result<(), Fail> {
+    let own = Span {
+        first: 0,
+        count: 1,
+        perm: Perm::ExecuteRead,
+    };
+    let other = Span {
+        first: 1024,
+        count: 4,
+        perm: Perm::Read,
+    };
+    let Ok(tables) = tables::<Counted>(rt.alloc(), own, other) else {
+        return Err("no tables")?;
+    };
+    let mut checker = two_harts(tables);
+    listen(&mut checker);
+    let first = look(&mut checker);
+    assert_eq!(rt; first, (true, counts_of(0, 1)));
+    call(&mut checker);
+    listen(&mut checker);
+    let second = look(&mut checker);
+    assert_eq!(rt; second, (true, counts_of(0, 2)));
+    listen(&mut checker);
+    let third = look(&mut checker);
+    assert_eq!(rt; third, (true, counts_of(0, 3)));
+    let ready = checker.ready(0);
+    assert!(rt; ready);
+    let withdrawn = withdraw(&mut checker);
+    assert!(rt; withdrawn);
+    let fourth = look(&mut checker);
+    assert_eq!(rt; fourth, (false, counts_of(0, 4)));
+    let fifth = look(&mut checker);
+    assert_eq!(rt; fifth, (false, counts_of(1, 4)));
+    assert_eq!(rt; checker.tables().inner.lookups, 4);
     Ok(())
 }
