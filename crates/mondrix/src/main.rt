@@ -1,14 +1,13 @@
 //! The program: the words of the command line, the files of the folder, the standard streams.
 #![tactic(auto)]
 
+use mx_io::{FileSink, FolderStore, StderrSink, StdoutSink};
+use mx_run::{Status, Words, mondrix};
+use mx_words::NoMemory;
 use std::alloc::Global;
 use std::env;
 use std::io::ErrorKind;
 use std::process::ExitCode;
-
-use mx_io::{FileSink, FolderStore, StderrSink, StdoutSink};
-use mx_run::{Status, Words, mondrix};
-use mx_words::NoMemory;
 
 fn main(rt: HostRuntime) -> ExitCode {
     let status = match read_words(rt.alloc(), &rt) {
