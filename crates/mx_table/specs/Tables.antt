@@ -61,7 +61,7 @@ pub record IsRow (words : ℕ) (row : List Span) : Type 0 where
       (slice_index_or row i no_span).first + (slice_index_or row i no_span).count ≤ (slice_index_or row (i + 1) no_span).first
   pub inside : (i : ℕ) → i < length row → (slice_index_or row i no_span).first + (slice_index_or row i no_span).count ≤ words
 
--- why tables for these maps aren't built: the need of the maps, which exceeds the limit, or want of memory
+-- why tables for these maps aren't built: the need of the maps, which exceeds the limit, or want of memory for maps that fit
 abbrev pub IsRefused : Kind → Need → List (List Perm) → BuildRefused → Type 0
 IsRefused kind limit maps (TablesFull needed) = (needed ≡ need kind maps) × IsFalse (within needed limit)
-IsRefused kind limit maps NoMemory = Unit {0}
+IsRefused kind limit maps NoMemory = IsTrue (fits kind limit maps)
