@@ -1,15 +1,15 @@
 -- What follows for the maps of all domains.
-use Rattle.std.proofs.Common.{◌≡◌, ◌≢◌, ℕ, zero, suc, ◌+◌, ◌*◌, ◌<◌, ◌≤◌, Bool, true, false, ◌&&◌, nat_le, List, [], ◌∷◌, length, get_or, sum_by, Option, refl, sym, ◌∙◌, ap, arith}
+use Rattle.std.proofs.Common.{◌≡◌, ◌≢◌, ℕ, ◌+◌, ◌*◌, ◌<◌, ◌≤◌, Bool, true, false, ◌&&◌, nat_le, List, length, sum_by, Option, refl, sym, ◌∙◌, ap, arith}
 use Rattle.std.proofs.lemmas.Bool.Decides.{nat_tests}
 use Rattle.std.proofs.lemmas.List.{same_lists}
-use Rattle.std.proofs.lemmas.List.Sums.{sum_by_push}
 use Rattle.mx_words.specs.declared.perm.Perm.{Perm}
 use Rattle.mx_words.specs.declared.tables.Need.{Need}
 use Rattle.mx_words.specs.Counting.{count_below, list_below, sum_below}
 use Rattle.mx_words.specs.Starts.{is_start}
 use Rattle.mx_words.specs.Need.{segment_frames, within}
 use Rattle.mx_words.specs.Changes.{changed_map, changed_from}
-use Rattle.mx_words.proofs.CountingLaws.{count_below_after, list_below_is, sum_below-more}
+use Rattle.mx_words.proofs.CountingLaws.{count_below_after, list_below_is, sum_below-more, sum_by-list_below}
+use Rattle.mx_words.proofs.ChangeLaws.{length-changed_from, changed_from-at}
 use Rattle.mx_segments.specs.Store.{Frames, frames_in, word_in, KeepsOthers}
 use Rattle.mx_segments.specs.Entries.{IsChain}
 use Rattle.mx_segments.specs.Sound.{map_in, IsSound}
@@ -57,17 +57,6 @@ within_test leaf limit =
 pub fit_of : (leaf : ℕ) (limit : Need) → within (record { upper = 0; leaf = leaf; spill = 0 }) limit ≡ true → leaf ≤ limit.leaf
 fit_of leaf limit e = let test : nat_le leaf limit.leaf ≡ true = sym (within_test leaf limit) ∙ e in grind (arith, nat_tests)
 
--- changed maps by row
-pub length-changed_from : (first count : ℕ) (given : ℕ → Option Perm) (d : ℕ) (ms : List (List Perm)) → length (changed_from first count given d ms) ≡ length ms
-length-changed_from first count given d [] = refl
-length-changed_from first count given d (m ∷ ms) = ap suc (length-changed_from first count given (d + 1) ms)
-
-pub changed_from-at : (first count : ℕ) (given : ℕ → Option Perm) (d : ℕ) (ms : List (List Perm)) (i e : ℕ) (x : List Perm) → i < length ms → d + i ≡ e →
-    get_or (changed_from first count given d ms) i x ≡ changed_map first count (given e) (get_or ms i x)
-changed_from-at first count given d [] i e x lt sum = absurd (omega arith)
-changed_from-at first count given d (m ∷ ms) zero e x lt sum = let same : d ≡ e = omega arith in ap (λ k. changed_map first count (given k) m) same
-changed_from-at first count given d (m ∷ ms) (suc i) e x lt sum = changed_from-at first count given (d + 1) ms i e x (omega arith) (omega arith)
-
 -- where each row has its changed map, the maps are the changed ones
 pub changed_maps_in : (words : ℕ) (fs : Frames) (ls : List (List ℕ)) (fs' : Frames) (ls' : List (List ℕ)) (first count : ℕ) (given : ℕ → Option Perm) →
     length ls' ≡ length ls →
@@ -82,19 +71,10 @@ changed_maps_in words fs ls fs' ls' first count given len each =
     maps_in-at words fs' ls' k x below ∙ each k below' ∙ ap (changed_map first count (given (k + 1))) (sym (maps_in-at words fs ls k x below'))
     ∙ sym (changed_from-at first count given 1 (maps_in words fs ls) k (k + 1) x there (omega arith)))
 
-pub sum_below-zero : (f : ℕ → ℕ) → sum_below 0 f ≡ 0
-unfolding sum_below
-sum_below-zero f = refl
-
 pub sum_step : (f : ℕ → ℕ) (n a b : ℕ) → a ≡ sum_below n f → b ≡ f n → a + b ≡ sum_below (n + 1) f
 sum_step f n a b so_far here = omega (arith, so_far, here, sum_below-more n f)
 
 -- the need of the changed maps, row by row
-pub sum_by-list_below : {A : Type 0} (f : A → ℕ) (n : ℕ) (g : ℕ → A) → sum_by f (list_below n g) ≡ sum_below n (λ i. f (g i))
-unfolding list_below sum_below
-sum_by-list_below f zero g = refl
-sum_by-list_below f (suc n) g = sum_by_push f (list_below n g) (g n) ∙ ap (λ s. s + f (g n)) (sum_by-list_below f n g)
-
 pub need_changed : (words : ℕ) (fs : Frames) (ls : List (List ℕ)) (first count : ℕ) (given : ℕ → Option Perm) →
     sum_by segment_frames (changed_from first count given 1 (maps_in words fs ls))
     ≡ sum_below (length ls) (λ q. segment_frames (changed_map first count (given (q + 1)) (map_in words fs ls q)))

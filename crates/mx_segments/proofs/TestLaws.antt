@@ -2,10 +2,10 @@
 use Rattle.std.proofs.Common.{◌≡◌, ℕ, zero, suc, ◌+◌, ◌<◌, ◌≤◌, List, [], ◌∷◌, Option, length, get_or, replicate, refl, ◌∙◌, ap, arith}
 use Rattle.mx_words.specs.declared.perm.Perm.{Perm}
 use Rattle.mx_words.specs.declared.perm.Span.{Span}
-use Rattle.mx_table.specs.Tables.{IsRow, no_span}
+use Rattle.mx_table.specs.Tables.{IsRow}
 use Rattle.mx_words.specs.Changes.{changed_from}
 use Rattle.mx_segments.specs.Tally.{span_at}
-use Rattle.mx_segments.proofs.KeptLaws.{length-changed_from}
+use Rattle.mx_words.proofs.ChangeLaws.{length-changed_from}
 
 pub one_row : (words : ℕ) (s : Span) → 0 < s.count → s.first + s.count ≤ words → IsRow words (s ∷ [])
 one_row words s some inside = record {

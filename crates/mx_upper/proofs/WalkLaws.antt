@@ -10,7 +10,7 @@ use Rattle.mx_words.specs.declared.tables.Level.TheVariants as L
 use Rattle.mx_words.specs.Runs.{runs, is_eighth_uniform, is_crowded, block_at, whole_line, line_words, page_words, region_words}
 use Rattle.mx_words.specs.Reach.{level, trie_level, line_level, line_at, first_in}
 use Rattle.mx_pool.specs.Frames.{IsTaken, word_at}
-use Rattle.mx_upper.specs.Blocks.{block_of, is_broken}
+use Rattle.mx_words.specs.Blocks.{block_of, is_broken}
 use Rattle.mx_upper.specs.Leaf.{IsTrieKind, needs_spill, spill_number, IsStored}
 use Rattle.mx_upper.specs.Walk.{Frames, most_regions, most_pages, most_lines, is_pointer, mid_word, leaf_word, spilled_word, has_mid, has_leaf, map_left, map_right, line_number, IsLine, IsShown, IsTight}
 use Rattle.mx_upper.specs.Found.{IsVector, IsLeaf}

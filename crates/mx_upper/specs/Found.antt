@@ -5,7 +5,7 @@ use Rattle.mx_words.specs.declared.tables.Kind.{Kind}
 use Rattle.mx_words.specs.declared.tables.Level.TheVariants as L
 use Rattle.mx_words.specs.Runs.{line_words, page_words, region_words}
 use Rattle.mx_words.specs.Reach.{vector, level, line_at, first_in}
-use Rattle.mx_upper.specs.Blocks.{IsEven}
+use Rattle.mx_words.specs.Blocks.{IsEven}
 use Rattle.mx_upper.specs.Leaf.{needs_spill, IsStored}
 use Rattle.mx_upper.specs.Walk.{form_left, form_right}
 use Rattle.mx_upper.specs.declared.walk.Found.{Found}

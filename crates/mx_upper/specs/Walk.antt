@@ -8,7 +8,7 @@ use Rattle.mx_words.specs.Runs.{line_words, page_words, region_words}
 use Rattle.mx_words.specs.Reach.{vector, line_at, left_reach, right_reach}
 use Rattle.mx_pool.specs.Frames.{IsTaken, word_at}
 use Rattle.mx_upper.specs.Digits.{digit, numbered}
-use Rattle.mx_upper.specs.Blocks.{is_broken, IsEven}
+use Rattle.mx_words.specs.Blocks.{is_broken, IsEven}
 use Rattle.mx_upper.specs.Leaf.{spill_number, needs_spill, IsStored}
 
 -- the meaning of a pool: by frame number, its words where it is taken

@@ -1,7 +1,8 @@
 -- Laws on counting, summing, testing and listing the numbers below a bound.
-use Rattle.std.proofs.Common.{◌≡◌, ◌≢◌, ℕ, zero, suc, ◌+◌, ◌-◌, ◌<◌, ◌≤◌, Bool, true, false, ◌&&◌, List, [], ◌∷◌, length, get_or, refl, sym, ◌∙◌, ap, arith, inl, inr, ◌⊎◌, add-one, length-append}
+use Rattle.std.proofs.Common.{◌≡◌, ◌≢◌, ℕ, zero, suc, ◌+◌, ◌-◌, ◌<◌, ◌≤◌, Bool, true, false, ◌&&◌, List, [], ◌∷◌, length, get_or, sum_by, refl, sym, ◌∙◌, ap, arith, inl, inr, ◌⊎◌, add-one, length-append}
 use Rattle.std.proofs.lemmas.Bool.{cases_lt}
 use Rattle.std.proofs.lemmas.List.{get_or_append_left, get_or_push, same_lists}
+use Rattle.std.proofs.lemmas.List.Sums.{sum_by_push}
 use Rattle.mx_words.specs.Counting.{bit, count_below, all_below, sum_below, list_below}
 
 -- a number that is at most n is below n or is n
@@ -180,7 +181,32 @@ all_below-at (suc n) i p all lt =
     both true b e = (refl, e)
     both false b e = (cc, cc)
 
+-- the numbers below a, and k more from a on
+pub count_below-plus : (a k : ℕ) (p : ℕ → Bool) → count_below (a + k) p ≡ count_below a p + count_below k (λ i. p (a + i))
+unfolding count_below
+count_below-plus a zero p =
+    let none : a + 0 ≡ a = omega arith in
+    let same : count_below (a + 0) p ≡ count_below a p = ap (λ n. count_below n p) none in
+    omega (arith, same)
+count_below-plus a (suc k) p =
+    let here : a + suc k ≡ suc (a + k) = omega arith in
+    let more : count_below (a + suc k) p ≡ count_below (a + k) p + bit (p (a + k)) = ap (λ n. count_below n p) here in
+    omega (arith, more, count_below-plus a k p)
+
+-- tests that differ on k numbers from a on alone
+pub count_below_part : (n a k : ℕ) (p q : ℕ → Bool) → a + k ≤ n → ((i : ℕ) → i < n → (i < a) ⊎ (a + k ≤ i) → p i ≡ q i) →
+    count_below n q + count_below k (λ i. p (a + i)) ≡ count_below n p + count_below k (λ i. q (a + i))
+count_below_part n a k p q within same =
+    let low : count_below a p ≡ count_below a q = count_below_agree a p q (λ i below. same i (omega arith) (inl below)) in
+    let high : count_below n p + count_below (a + k) q ≡ count_below n q + count_below (a + k) p =
+    count_below_along (a + k) n p q within (λ i from below. same i below (inr from)) in
+    omega (arith, low, high, count_below-plus a k p, count_below-plus a k q)
+
 -- sums
+pub sum_below-zero : (f : ℕ → ℕ) → sum_below 0 f ≡ 0
+unfolding sum_below
+sum_below-zero f = refl
+
 pub sum_below-more : (n : ℕ) (f : ℕ → ℕ) → sum_below (n + 1) f ≡ sum_below n f + f n
 unfolding sum_below
 sum_below-more n f = rw add-one refl
@@ -228,3 +254,8 @@ pub list_below_is : {A : Type 0} (n : ℕ) (f : ℕ → A) (xs : List A) → len
 list_below_is n f xs len each =
     same_lists (list_below n f) xs (length-list_below n f ∙ sym len)
     (λ k d lt. let below : k < n = omega (arith, length-list_below n f) in list_below-at n k f d below ∙ sym (each k d below))
+
+pub sum_by-list_below : {A : Type 0} (f : A → ℕ) (n : ℕ) (g : ℕ → A) → sum_by f (list_below n g) ≡ sum_below n (λ i. f (g i))
+unfolding list_below sum_below
+sum_by-list_below f zero g = refl
+sum_by-list_below f (suc n) g = sum_by_push f (list_below n g) (g n) ∙ ap (λ s. s + f (g n)) (sum_by-list_below f n g)

@@ -2,7 +2,12 @@ pub mod Examples
 pub mod CacheExamples
 pub mod CountingLaws
 pub mod OverlayLaws
+pub mod ChangeLaws
 pub mod RunLaws
 pub mod FirstFitLaws
 pub mod MaximalRuns
+pub mod PieceLaws
+pub mod BlockLaws
 pub mod ReachLaws
+pub mod LocalReach
+pub mod BrokenLaws

@@ -1,9 +1,8 @@
 -- Laws of what a walk answers: the span has its word in it, lies in RAM, and all its words have the permission that it names.
-use Rattle.std.proofs.Common.{◌≡◌, ℕ, zero, suc, ◌+◌, ◌-◌, ◌*◌, ◌/◌, ◌<◌, ◌≤◌, ◌⊎◌, inl, inr, ◌==◌, ◌&&◌, ◌||◌, Bool, true, false, cond, List, [], ◌∷◌, length, get_or, take, drop, slice_range, reverse, refl, sym, ap, ◌∙◌, arith, length-take, length-drop, get_or-take, get_or-drop}
+use Rattle.std.proofs.Common.{◌≡◌, ℕ, ◌+◌, ◌-◌, ◌*◌, ◌/◌, ◌<◌, ◌≤◌, ◌⊎◌, inl, inr, ◌==◌, Bool, true, false, cond, List, length, get_or, take, drop, slice_range, reverse, refl, sym, ap, ◌∙◌, arith, length-take, length-drop, get_or-take, get_or-drop}
 use Rattle.std.specs.List.{list_all, prefix_len, suffix_len}
-use Rattle.std.proofs.Math.Nat.{suc-mul}
 use Rattle.std.proofs.lemmas.Bool.{eqb-true, cases_lt}
-use Rattle.std.proofs.lemmas.List.{get_or-reverse, get_or_past, drop-drop}
+use Rattle.std.proofs.lemmas.List.{get_or-reverse}
 use Rattle.std.proofs.lemmas.List.Sums.{prefix_len_passes, prefix_len_stops, prefix_len-le-length, suffix_len-le-length}
 use Rattle.mx_words.specs.declared.perm.Perm.{Perm}
 use Rattle.mx_words.specs.declared.perm.Perm.TheVariants as P
@@ -12,8 +11,10 @@ use Rattle.mx_words.specs.declared.tables.Kind.{Kind}
 use Rattle.mx_words.specs.declared.tables.Kind.TheVariants as K
 use Rattle.mx_words.specs.declared.tables.Level.TheVariants as L
 use Rattle.mx_words.specs.Rights.{same, perm_at}
-use Rattle.mx_words.specs.Runs.{is_uniform, is_eighth_uniform, pieces, pieces_from, in_first, block_at, is_crowded, line_words, page_words, region_words}
+use Rattle.mx_words.specs.Runs.{is_uniform, is_eighth_uniform, pieces, block_at, is_crowded, line_words, page_words, region_words}
 use Rattle.mx_words.specs.Reach.{span_within, first_in, block_span, line_span, left_reach, right_reach, reached, span_at, span, line_level}
+use Rattle.mx_words.proofs.PieceLaws.{piece, all_pieces-at}
+use Rattle.mx_words.proofs.BlockLaws.{uniform_from}
 use Rattle.mx_words.proofs.RunLaws.{same_refl, same_eq, slice-at, length-slice}
 
 -- a span with word i in it, in the list, whose words all have the permission that it names
@@ -107,84 +108,6 @@ module _ (m : List Perm) (low high i : ℕ) (from : low ≤ i) (to : i < high) (
         inside = omega (arith, most, right_most, right_short);
         alike = λ w lo hi. alike_within w (omega (arith, most)) (omega (arith, most)) (cases_lt w i);
       }
-
--- a list in pieces: the first piece, and the pieces of the rest
-pieces_from-first : {A : Type 0} (size left : ℕ) (x : A) (xs : List A) →
-    pieces_from size left (x ∷ xs) ≡ take (suc left) (x ∷ xs) ∷ pieces_from size (size - 1) (drop (suc left) (x ∷ xs))
-pieces_from-first size zero x xs = refl
-pieces_from-first size (suc left) x [] = refl
-pieces_from-first size (suc left) x (y ∷ ys) = ap (in_first x) (pieces_from-first size left y ys)
-
-pieces-first : {A : Type 0} (size : ℕ) (x : A) (xs : List A) → 0 < size →
-    pieces size (x ∷ xs) ≡ take size (x ∷ xs) ∷ pieces size (drop size (x ∷ xs))
-pieces-first zero x xs some = absurd (omega arith)
-pieces-first (suc n) x xs some =
-    let e : suc n - 1 ≡ n = omega arith in
-    pieces_from-first (suc n) (suc n - 1) x xs
-    ∙ ap (λ k. take (suc k) (x ∷ xs) ∷ pieces_from (suc n) (suc n - 1) (drop (suc k) (x ∷ xs))) e
-
-abbrev piece : {A : Type 0} → ℕ → List A → ℕ → List A
-piece size xs j = take size (drop (j * size) xs)
-
-piece-next : {A : Type 0} (size : ℕ) (xs : List A) (j : ℕ) → piece size (drop size xs) j ≡ piece size xs (suc j)
-piece-next size xs j =
-    let e : size + j * size ≡ suc j * size = omega (arith, suc-mul j size) in
-    ap (take size) (drop-drop (j * size) size xs ∙ ap (λ n. drop n xs) e)
-
-piece-zero : {A : Type 0} (size : ℕ) (xs : List A) → piece size xs 0 ≡ take size xs
-piece-zero size xs = let e : 0 * size ≡ 0 = omega arith in ap (λ n. take size (drop n xs)) e
-
-drop-none : {A : Type 0} (n : ℕ) → drop {A = A} n [] ≡ []
-drop-none zero = refl
-drop-none (suc n) = refl
-
-take-none : {A : Type 0} (n : ℕ) → take {A = A} n [] ≡ []
-take-none zero = refl
-take-none (suc n) = refl
-
-piece-none : {A : Type 0} (size j : ℕ) → piece {A = A} size [] j ≡ []
-piece-none {A} size j = ap (take {A = A} size) (drop-none (j * size)) ∙ take-none size
-
-and-parts : (a b : Bool) → (a && b) ≡ true → (a ≡ true) × (b ≡ true)
-and-parts true b h = (refl, h)
-and-parts false b h = cc
-
-or-parts : (a b : Bool) → (a || b) ≡ true → (a ≡ true) ⊎ (b ≡ true)
-or-parts true b h = inl refl
-or-parts false b h = inr h
-
--- where all pieces pass a test that an empty piece passes, each does
-all_pieces-at : {A : Type 0} (size : ℕ) (f : List A → Bool) → 0 < size → f [] ≡ true → (j : ℕ) (xs : List A) →
-    list_all f (pieces size xs) ≡ true → f (piece size xs j) ≡ true
-all_pieces-at size f some none j [] all = ap f (piece-none size j) ∙ none
-all_pieces-at size f some none zero (x ∷ xs) all =
-    ap f (piece-zero size (x ∷ xs))
-    ∙ (and-parts (f (take size (x ∷ xs))) (list_all f (pieces size (drop size (x ∷ xs)))) (ap (list_all f) (sym (pieces-first size x xs some)) ∙ all)).0
-all_pieces-at size f some none (suc j) (x ∷ xs) all =
-    ap f (sym (piece-next size (x ∷ xs) j))
-    ∙ all_pieces-at size f some none j (drop size (x ∷ xs))
-    (and-parts (f (take size (x ∷ xs))) (list_all f (pieces size (drop size (x ∷ xs)))) (ap (list_all f) (sym (pieces-first size x xs some)) ∙ all)).1
-
--- words that have one permission, by index
-all_same-at : (p : Perm) (ps : List Perm) (k : ℕ) → list_all (same p) ps ≡ true → k < length ps → p ≡ perm_at ps k
-all_same-at p [] k h below = absurd (omega arith)
-all_same-at p (q ∷ qs) zero h below = same_eq p q (and-parts (same p q) (list_all (same p) qs) h).0
-all_same-at p (q ∷ qs) (suc k) h below = all_same-at p qs k (and-parts (same p q) (list_all (same p) qs) h).1 (omega arith)
-
-uniform_past : (p : Perm) (ps : List Perm) (size k : ℕ) → length ps ≤ k → suc k < size → (same p P.None ≡ true) ⊎ ((length ps + 1 == size) ≡ true) → perm_at ps k ≡ p
-uniform_past p ps size k out below (inl h) = get_or_past ps k P.None out ∙ sym (same_eq p P.None h)
-uniform_past p ps size k out below (inr h) = absurd (let full : length ps + 1 ≡ size = eqb-true (length ps + 1) size h in omega arith)
-
-uniform_step : (size : ℕ) (p : Perm) (ps : List Perm) (k : ℕ) → is_uniform size (p ∷ ps) ≡ true → suc k < size → (k < length ps) ⊎ (length ps ≤ k) → perm_at ps k ≡ p
-uniform_step size p ps k e below (inl h) =
-    sym (all_same-at p ps k (and-parts (list_all (same p) ps) (same p P.None || (length ps + 1 == size)) e).0 h)
-uniform_step size p ps k e below (inr h) =
-    uniform_past p ps size k h below (or-parts (same p P.None) (length ps + 1 == size) (and-parts (list_all (same p) ps) (same p P.None || (length ps + 1 == size)) e).1)
-
-uniform_from : (size : ℕ) (xs : List Perm) → is_uniform size xs ≡ true → (k : ℕ) → k < size → perm_at xs k ≡ perm_at xs 0
-uniform_from size [] e k below = get_or_past [] k P.None (omega arith)
-uniform_from size (p ∷ ps) e zero below = refl
-uniform_from size (p ∷ ps) e (suc k) below = uniform_step size p ps k e below (cases_lt k (length ps))
 
 -- a word of a part of the block that begins at a word
 part-at : (size part start : ℕ) (m : List Perm) (e k : ℕ) → e * part + k < size → k < part →

@@ -5,6 +5,7 @@ pub mod Counting
 pub mod Newest
 pub mod Changes
 pub mod Runs
+pub mod Blocks
 pub mod Need
 pub mod Reach
 pub mod Caches

@@ -1,4 +1,4 @@
-use Rattle.std.proofs.Common.{◌≡◌, ◌*◌, ◌<◌, refl, sym, arith}
+use Rattle.std.proofs.Common.{◌*◌, ◌<◌, refl, arith}
 use Rattle.mx_segments.specs.Store.{frames_in}
 use Rattle.mx_segments.proofs.SoundLaws.{no_run, entry_read}
 use Rattle.mx_segments.proofs.entries.entry_at.Goals as goal

@@ -1,4 +1,4 @@
-use Rattle.std.proofs.Common.{◌≡◌, ◌∙◌, arith}
+use Rattle.std.proofs.Common.{◌∙◌, arith}
 use Rattle.mx_segments.proofs.SoundLaws.{some_before, place_held, perm_read, starts_rise, span_read}
 use Rattle.mx_segments.proofs.entries.run_in.Goals as goal
 

@@ -1,4 +1,4 @@
-use Rattle.std.proofs.Common.{◌≡◌, ◌∙◌, arith}
+use Rattle.std.proofs.Common.{arith}
 use Rattle.mx_segments.proofs.SoundLaws.{some_before, place_held, starts_rise, shown_read}
 use Rattle.mx_segments.proofs.entries.shown_in.Goals as goal
 

@@ -1,4 +1,4 @@
-use Rattle.std.proofs.Common.{◌≡◌, refl, sym}
+use Rattle.std.proofs.Common.{refl, sym}
 use Rattle.mx_segments.proofs.SoundLaws.{start_end}
 use Rattle.mx_segments.proofs.entries.start_at.Goals as goal
 

@@ -1,4 +1,4 @@
-use Rattle.std.proofs.Common.{◌≡◌, ◌+◌, ◌/◌, arith}
+use Rattle.std.proofs.Common.{arith}
 use Rattle.mx_segments.specs.Sound.{map_in}
 use Rattle.mx_segments.proofs.ChangeLaws.{total_is}
 use Rattle.mx_segments.proofs.plan.frames_after.Goals as goal

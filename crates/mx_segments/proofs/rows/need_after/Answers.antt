@@ -1,5 +1,6 @@
-use Rattle.std.proofs.Common.{◌≡◌, sym, arith}
-use Rattle.mx_segments.proofs.KeptLaws.{sum_below-zero, sum_step}
+use Rattle.std.proofs.Common.{sym, arith}
+use Rattle.mx_words.proofs.CountingLaws.{sum_below-zero}
+use Rattle.mx_segments.proofs.KeptLaws.{sum_step}
 use Rattle.mx_segments.proofs.rows.need_after.Goals as goal
 
 pub loop-row-init : goal.loop-row-init

@@ -1,4 +1,4 @@
-use Rattle.std.proofs.Common.{ℕ, ◌≡◌, ◌+◌, ◌*◌, ◌<◌, ◌≤◌, length}
+use Rattle.std.proofs.Common.{◌≡◌, ◌+◌, ◌*◌, ◌≤◌}
 use Rattle.mx_words.specs.Changes.{changed_map}
 use Rattle.mx_words.specs.Counting.{sum_below}
 use Rattle.mx_words.specs.Need.{segment_frames}

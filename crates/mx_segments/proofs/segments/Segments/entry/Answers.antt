@@ -1,10 +1,7 @@
-use Rattle.std.proofs.Common.{◌≡◌, ℕ, ◌-◌, ◌<◌, ◌≤◌, ◌↔◌, List, [], length, IsNone, IfSome, sym, subst, arith}
+use Rattle.std.proofs.Common.{◌≡◌, ℕ, ◌-◌, ◌≤◌, ◌↔◌, List, IsNone, IfSome, sym, subst}
 use Rattle.mx_words.specs.declared.perm.Perm.{Perm}
 use Rattle.mx_words.specs.Runs.{runs}
-use Rattle.mx_table.specs.Tables.{map_of}
 use Rattle.mx_segments.specs.Entries.{entry_of}
-use Rattle.mx_segments.specs.Sound.{map_in}
-use Rattle.mx_segments.specs.Kept.{maps_in}
 use Rattle.mx_segments.specs.Shape.{map_of-maps_in, row_of}
 use Rattle.mx_segments.proofs.segments.Segments.entry.Goals as goal
 

@@ -1,7 +1,6 @@
-use Rattle.std.proofs.Common.{◌≡◌, ℕ, ◌≤◌, List, length, sum_by, sym, ◌∙◌, ap, arith}
+use Rattle.std.proofs.Common.{◌≡◌, List, sum_by, ap, arith}
 use Rattle.mx_words.specs.declared.perm.Perm.{Perm}
 use Rattle.mx_words.specs.Need.{segment_frames}
-use Rattle.mx_words.specs.Changes.{changed_from}
 use Rattle.mx_table.specs.Change.{given, changed}
 use Rattle.mx_segments.specs.Kept.{maps_in}
 use Rattle.mx_segments.specs.Shape.{need_leaf}

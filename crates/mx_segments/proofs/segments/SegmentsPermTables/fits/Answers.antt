@@ -1,4 +1,4 @@
-use Rattle.std.proofs.Common.{◌≡◌, ℕ, nat_le, sum_by, sym, ◌∙◌, ap}
+use Rattle.std.proofs.Common.{ℕ, nat_le, sum_by, sym, ◌∙◌, ap}
 use Rattle.mx_words.specs.Need.{segment_frames}
 use Rattle.mx_words.specs.Changes.{changed_from}
 use Rattle.mx_table.specs.Change.{given}

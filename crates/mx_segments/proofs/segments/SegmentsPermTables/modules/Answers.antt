@@ -1,4 +1,4 @@
-use Rattle.std.proofs.Common.{◌≡◌, sym, ◌∙◌}
+use Rattle.std.proofs.Common.{sym, ◌∙◌}
 use Rattle.mx_segments.specs.Shape.{length-maps_in}
 use Rattle.mx_segments.proofs.segments.SegmentsPermTables.modules.Goals as goal
 

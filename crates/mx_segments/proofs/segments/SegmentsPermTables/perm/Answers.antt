@@ -1,4 +1,4 @@
-use Rattle.std.proofs.Common.{◌≡◌, ◌-◌, List, sym, ◌∙◌, ap}
+use Rattle.std.proofs.Common.{◌-◌, List, sym, ◌∙◌, ap}
 use Rattle.mx_words.specs.declared.perm.Perm.{Perm}
 use Rattle.mx_words.specs.Rights.{perm_at}
 use Rattle.mx_segments.specs.Shape.{map_of-maps_in, row_of}

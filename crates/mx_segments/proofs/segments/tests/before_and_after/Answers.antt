@@ -1,4 +1,4 @@
-use Rattle.std.proofs.Common.{◌≡◌, List, length, ◌∙◌, rules}
+use Rattle.std.proofs.Common.{rules}
 use Rattle.mx_table.specs.Change.{given}
 use Rattle.mx_segments.specs.Kept.{maps_in}
 use Rattle.mx_segments.proofs.TestLaws.{length-changed}

@@ -1,4 +1,4 @@
-use Rattle.std.proofs.Common.{◌≡◌, List, length, Result, Ok, Err, IfOk, ap}
+use Rattle.std.proofs.Common.{List, length, Result, Ok, Err, IfOk, ap}
 use Rattle.mx_words.specs.declared.perm.Perm.{Perm}
 use Rattle.mx_segments.proofs.segments.tests.one_domain.Goals as goal
 

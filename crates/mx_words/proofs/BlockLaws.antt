@@ -10,8 +10,8 @@ use Rattle.mx_words.specs.Rights.{same, perm_at}
 use Rattle.mx_words.specs.Counting.{count_below}
 use Rattle.mx_words.specs.Runs.{is_uniform, is_eighth_uniform, broken_blocks, crowded_lines, is_crowded, pieces, line_words}
 use Rattle.mx_words.proofs.RunLaws.{same_eq, same_from}
-use Rattle.mx_upper.specs.Blocks.{block_of, is_broken, IsUniform, IsEven}
-use Rattle.mx_upper.proofs.PieceLaws.{piece, count_pieces, all_pieces-at, all_pieces_are}
+use Rattle.mx_words.specs.Blocks.{block_of, is_broken, IsUniform, IsEven}
+use Rattle.mx_words.proofs.PieceLaws.{piece, count_pieces, all_pieces-at, all_pieces_are}
 
 -- counts by block number, over any bound that takes in all of RAM
 pub broken_blocks-count : (size : ℕ) (m : List Perm) (k : ℕ) → 0 < size → length m ≤ k * size →
