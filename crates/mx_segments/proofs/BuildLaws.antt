@@ -14,6 +14,8 @@ use Rattle.mx_words.specs.Need.{segment_frames}
 use Rattle.mx_words.specs.Starts.{is_start}
 use Rattle.mx_words.proofs.CountingLaws.{count_below-zero}
 use Rattle.mx_table.specs.Tables.{row_map, IsRow}
+use Rattle.mx_table.specs.Rows.{first_spans}
+use Rattle.mx_table.proofs.RowLaws.{length-first, tail_none}
 use Rattle.mx_pool.specs.Frames.{free_in}
 use Rattle.mx_segments.specs.Lists.{list_at}
 use Rattle.mx_segments.specs.Store.{Frames, frames_in, IsStore, KeepsOthers}
@@ -21,8 +23,7 @@ use Rattle.mx_segments.specs.Entries.{IsChain, entry_word}
 use Rattle.mx_segments.specs.Sound.{map_in}
 use Rattle.mx_segments.specs.Kept.{maps_in}
 use Rattle.mx_segments.specs.Shape.{sum_by_same, length-maps_in, maps_in-at}
-use Rattle.mx_segments.specs.Tally.{first_spans}
-use Rattle.mx_segments.proofs.SpanLaws.{length-first, tail_none, runs_first}
+use Rattle.mx_segments.proofs.SpanLaws.{runs_first}
 use Rattle.mx_segments.proofs.TallyLaws.{none_started, one_run}
 
 -- the free frames after a change of one row

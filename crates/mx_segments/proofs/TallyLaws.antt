@@ -14,12 +14,13 @@ use Rattle.mx_words.specs.Starts.{is_start}
 use Rattle.mx_words.proofs.CountingLaws.{count_below-zero, count_below_still, count_below_yes, count_below-le}
 use Rattle.mx_words.proofs.RunLaws.{runs-count, is_start-behind, same_refl}
 use Rattle.mx_table.specs.Tables.{IsRow}
+use Rattle.mx_table.specs.Rows.{first_spans}
+use Rattle.mx_table.proofs.RowLaws.{tail_none, length-first}
 use Rattle.mx_segments.specs.declared.plan.Plan.{Plan}
 use Rattle.mx_segments.specs.declared.tally.Tally.{Tally}
 use Rattle.mx_segments.specs.Plan.{IsPlan, kept}
-use Rattle.mx_segments.specs.Tally.{first_spans, IsTally, counted_before, perm_before}
+use Rattle.mx_segments.specs.Tally.{IsTally, counted_before, perm_before}
 use Rattle.mx_segments.proofs.ChangeLaws.{in_range, total_is, new_in, new_behind, length-new}
-use Rattle.mx_segments.proofs.SpanLaws.{tail_none, length-first}
 
 step : (m : List Perm) (i : ℕ) → 0 < i → is_start m i ≡ not (same (perm_at m (i - 1)) (perm_at m i))
 step m i some =

@@ -4,7 +4,7 @@ use Rattle.mx_words.specs.declared.perm.Perm.{Perm}
 use Rattle.mx_words.specs.declared.perm.Span.{Span}
 use Rattle.mx_table.specs.Tables.{IsRow}
 use Rattle.mx_words.specs.Changes.{changed_from}
-use Rattle.mx_segments.specs.Tally.{span_at}
+use Rattle.mx_table.specs.Rows.{span_at}
 use Rattle.mx_words.proofs.ChangeLaws.{length-changed_from}
 
 pub one_row : (words : ℕ) (s : Span) → 0 < s.count → s.first + s.count ≤ words → IsRow words (s ∷ [])

@@ -1,28 +1,13 @@
 -- The runs of the map of a row's first spans, counted span by span.
-use Rattle.std.specs.Prelude.{ℕ, zero, suc, ◌≡◌, ◌+◌, ◌-◌, ◌<◌, ◌≤◌, Bool, not, ◌==◌, ◌&&◌, ◌||◌, nat_lt, if◌then◌else◌, List, take, slice_index_or}
-use Rattle.std.specs.Prelude.{map as list_map}
+use Rattle.std.specs.Prelude.{ℕ, ◌≡◌, ◌+◌, ◌-◌, ◌<◌, ◌≤◌, Bool, not, ◌==◌, ◌&&◌, ◌||◌, nat_lt, if◌then◌else◌, List}
 use Rattle.mx_words.specs.declared.perm.Perm.{Perm}
 use Rattle.mx_words.specs.declared.perm.Perm.TheVariants as P
 use Rattle.mx_words.specs.declared.perm.Span.{Span}
-use Rattle.mx_words.specs.Newest.{map}
 use Rattle.mx_words.specs.Rights.{same, perm_at}
 use Rattle.mx_words.specs.Counting.{count_below}
 use Rattle.mx_words.specs.Runs.{runs}
 use Rattle.mx_words.specs.Starts.{is_start}
-use Rattle.mx_table.specs.Tables.{granted, no_span}
 use Rattle.mx_segments.specs.declared.tally.Tally.{Tally}
-
--- a span of a row, and where the first n of them end
-abbrev pub span_at : List Span → ℕ → Span
-span_at row i = slice_index_or row i no_span
-
-abbrev pub end_at : List Span → ℕ → ℕ
-end_at row zero = 0
-end_at row (suc n) = (span_at row n).first + (span_at row n).count
-
--- the map of the first n spans of a row
-abbrev pub first_spans : ℕ → List Span → ℕ → List Perm
-first_spans words row n = map (list_map granted (take n row)) words
 
 -- a tally of a map in which no word has a permission from `end` on: how many runs begin before that word, how many there are, and
 -- the permission of the word before it

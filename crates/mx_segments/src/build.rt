@@ -4,9 +4,9 @@ ghost use Rattle.mx_words.specs.Need.{segment_frames};
 ghost use Rattle.mx_words.specs.Newest.{map};
 ghost use Rattle.mx_pool.specs.Frames.{free_in};
 ghost use Rattle.mx_table.specs.Tables.{most_words, row_map, IsRow};
+ghost use Rattle.mx_table.specs.Rows.{first_spans};
 ghost use Rattle.mx_segments.specs.Store.{frames_in, IsStore, KeepsOthers};
 ghost use Rattle.mx_segments.specs.Sound.{map_in, IsSound};
-ghost use Rattle.mx_segments.specs.Tally.{first_spans};
 
 use crate::Chains;
 use crate::change::change_row;

@@ -2,8 +2,9 @@
 ghost use Rattle.std.specs.Prelude.{◌≡◌, ◌+◌, ◌*◌, ◌<◌, ◌≤◌, length, sum_by, All};
 ghost use Rattle.mx_words.specs.Need.{segment_frames};
 ghost use Rattle.mx_table.specs.Tables.{most_words, row_map, IsRow};
+ghost use Rattle.mx_table.specs.Rows.{end_at, first_spans};
 ghost use Rattle.mx_segments.specs.Lists.{most_frames};
-ghost use Rattle.mx_segments.specs.Tally.{end_at, first_spans, IsTally, counted_before, perm_before, begins_at, begins_behind};
+ghost use Rattle.mx_segments.specs.Tally.{IsTally, counted_before, perm_before, begins_at, begins_behind};
 
 use crate::plan::{Plan, differ};
 use mx_words::{Perm, Span, Spans};

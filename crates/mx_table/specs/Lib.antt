@@ -1,2 +1,3 @@
 pub mod Change
 pub mod Tables
+pub mod Rows

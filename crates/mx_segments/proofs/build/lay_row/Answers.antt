@@ -1,8 +1,8 @@
 use Rattle.std.proofs.Common.{◌≤◌, length, ◌∙◌, ap, arith}
 use Rattle.mx_words.specs.Need.{segment_frames}
+use Rattle.mx_table.proofs.RowLaws.{first_all}
 use Rattle.mx_pool.specs.Frames.{free_in}
 use Rattle.mx_segments.specs.Store.{frames_in}
-use Rattle.mx_segments.proofs.SpanLaws.{first_all}
 use Rattle.mx_segments.proofs.BuildLaws.{free_moved, spare_left}
 use Rattle.mx_segments.proofs.build.lay_row.Goals as goal
 

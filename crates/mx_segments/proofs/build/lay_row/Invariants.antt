@@ -1,7 +1,7 @@
 use Rattle.std.proofs.Common.{◌≡◌}
+use Rattle.mx_table.specs.Rows.{first_spans}
 use Rattle.mx_segments.specs.Store.{IsStore, KeepsOthers}
 use Rattle.mx_segments.specs.Sound.{map_in, IsSound}
-use Rattle.mx_segments.specs.Tally.{first_spans}
 use Rattle.mx_segments.proofs.build.lay_row.Given as goal
 
 abbrev pub invariant-loop-n : goal.invariant-loop-n

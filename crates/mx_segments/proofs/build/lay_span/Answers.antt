@@ -4,8 +4,8 @@ use Rattle.mx_words.specs.declared.perm.Span.{Span}
 use Rattle.mx_words.specs.Newest.{laid}
 use Rattle.mx_words.specs.Changes.{grant_of}
 use Rattle.mx_table.specs.Tables.{granted, no_span}
-use Rattle.mx_segments.specs.Tally.{first_spans}
-use Rattle.mx_segments.proofs.SpanLaws.{got, first_more}
+use Rattle.mx_table.specs.Rows.{first_spans}
+use Rattle.mx_table.proofs.RowLaws.{got, first_more}
 use Rattle.mx_segments.proofs.build.lay_span.Goals as goal
 
 pub returns-clause-map : goal.returns-clause-map

@@ -1,5 +1,6 @@
 use Rattle.std.proofs.Common.{◌≡◌}
-use Rattle.mx_segments.specs.Tally.{end_at, first_spans, IsTally}
+use Rattle.mx_table.specs.Rows.{end_at, first_spans}
+use Rattle.mx_segments.specs.Tally.{IsTally}
 use Rattle.mx_segments.proofs.tally.frames_of.Given as goal
 
 abbrev pub invariant-loop-n : goal.invariant-loop-n

@@ -5,10 +5,11 @@ use Rattle.mx_words.specs.declared.perm.Span.{Span}
 use Rattle.mx_words.specs.Newest.{laid}
 use Rattle.mx_words.specs.Changes.{grant_of}
 use Rattle.mx_table.specs.Tables.{granted, no_span}
+use Rattle.mx_table.specs.Rows.{span_at, end_at, first_spans}
+use Rattle.mx_table.proofs.RowLaws.{got, ends_before, length-first, first_more}
 use Rattle.mx_segments.specs.declared.plan.Plan.{Plan}
 use Rattle.mx_segments.specs.declared.tally.Tally.{Tally}
-use Rattle.mx_segments.specs.Tally.{span_at, end_at, first_spans, IsTally}
-use Rattle.mx_segments.proofs.SpanLaws.{got, ends_before, length-first, first_more}
+use Rattle.mx_segments.specs.Tally.{IsTally}
 use Rattle.mx_segments.proofs.TallyLaws.{tally_more}
 use Rattle.mx_segments.proofs.tally.with_span.Goals as goal
 
