@@ -1,0 +1,8 @@
+pub mod RunTests
+pub mod BlockTests
+pub mod StoredWords
+pub mod NeedSums
+pub mod MapLaws
+pub mod ShapeLaws
+pub mod RowLaws
+pub mod GrantLaws
