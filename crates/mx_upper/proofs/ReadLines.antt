@@ -25,7 +25,7 @@ use Rattle.mx_upper.proofs.MiniEntries.{IsMade, mini-made}
 use Rattle.mx_upper.proofs.LeafSpans.{line-at}
 use Rattle.mx_upper.proofs.FoundSpans.{vector-digit}
 
-numbered-number : (p : Perm) → numbered (number p) ≡ p
+pub numbered-number : (p : Perm) → numbered (number p) ≡ p
 numbered-number P.None = refl
 numbered-number P.Read = refl
 numbered-number P.ReadWrite = refl
@@ -130,7 +130,7 @@ read_line-is K.Packed k perms left right spill line entry spilled s = packed-rea
 
 -- the word that is read is the map's
 module _ (kind : Kind) (lefts rights : ℕ → ℕ) (upper leaf spill : Frames) (root : ℕ) (m : List Perm) (k : IsTrieKind kind) (shown : IsShown kind lefts rights upper leaf spill root m) where
-  root-read : (i : ℕ) → i < 2 ^ 24 → has_mid upper root (i / 1048576) ≡ false → vector_perm (root_word upper root (i / 1048576)) (i / 131072 % 8) ≡ perm_at m i
+  pub root-read : (i : ℕ) → i < 2 ^ 24 → has_mid upper root (i / 1048576) ≡ false → vector_perm (root_word upper root (i / 1048576)) (i / 131072 % 8) ≡ perm_at m i
   root-read i below closed =
       let x : i / 1048576 < most_regions = omega arith in
       let v : IsVector region_words 131072 m i (root_word upper root (i / 1048576)) =
@@ -141,7 +141,7 @@ module _ (kind : Kind) (lefts rights : ℕ → ℕ) (upper leaf spill : Frames) 
   open-at : (i : ℕ) → has_mid upper root (i / 1048576) ≡ true → has_mid upper root (i / 1024 / 1024) ≡ true
   open-at i opened = let at : i / 1024 / 1024 ≡ i / 1048576 = omega arith in ap (has_mid upper root) at ∙ opened
 
-  mid-read : (i : ℕ) → i < 2 ^ 24 → has_mid upper root (i / 1048576) ≡ true → is_pointer (mid_word upper root (i / 1024)) ≡ false →
+  pub mid-read : (i : ℕ) → i < 2 ^ 24 → has_mid upper root (i / 1048576) ≡ true → is_pointer (mid_word upper root (i / 1024)) ≡ false →
       vector_perm (mid_word upper root (i / 1024)) (i / 128 % 8) ≡ perm_at m i
   mid-read i below opened closed =
       let y : i / 1024 < most_pages = omega arith in

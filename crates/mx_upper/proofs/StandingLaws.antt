@@ -1,6 +1,6 @@
 -- What tables that stand say of one domain.
-use Rattle.std.proofs.Common.{◌≡◌, ℕ, ◌-◌, ◌≤◌, List, [], length, refl, sym, ap, ◌∙◌, arith, subst}
-use Rattle.std.proofs.lemmas.List.{get_or-map, length-map}
+use Rattle.std.proofs.Common.{◌≡◌, ℕ, ◌-◌, ◌/◌, ◌<◌, ◌≤◌, ◌&&◌, Bool, List, [], length, get_or, refl, sym, ap, ◌∙◌, arith, subst}
+use Rattle.std.proofs.lemmas.List.{get_or-map}
 use Rattle.mx_words.specs.declared.perm.Perm.{Perm}
 use Rattle.mx_words.specs.declared.tables.Kind.{Kind}
 use Rattle.mx_words.specs.declared.tables.Kind.TheVariants as K
@@ -9,53 +9,62 @@ use Rattle.mx_words.specs.declared.tables.Level.TheVariants as L
 use Rattle.mx_words.specs.Rights.{perm_at}
 use Rattle.mx_words.specs.Reach.{level, span, span_at}
 use Rattle.mx_words.specs.declared.tables.Need.{Need}
-use Rattle.mx_words.proofs.CountingLaws.{length-list_below}
 use Rattle.mx_table.specs.Tables.{map_of, IsDomain}
-use Rattle.mx_upper.specs.Walk.{Frames, map_left, map_right, IsShown, IsTight}
-use Rattle.mx_upper.specs.Read.{read_at, read_map, read_maps}
+use Rattle.mx_upper.specs.Walk.{Frames, is_pointer, mid_word, map_left, map_right, IsShown, IsTight}
+use Rattle.mx_upper.specs.Forest.{root_at, map_at}
+use Rattle.mx_upper.specs.Laying.{IsCanonical}
+use Rattle.mx_upper.specs.Read.{read_map, read_maps}
+use Rattle.mx_upper.specs.Shape.{length-read_maps, map_of-read}
 use Rattle.mx_upper.specs.Standing.{root_of, IsStanding}
 
+-- canonical tables show their map with the map's reaches
+pub canonical-shown : (kind : Kind) (words : ℕ) (upper leaf spill : Frames) (roots : List ℕ) (d : ℕ) {lefts rights : ℕ → ℕ} →
+    IsShown kind lefts rights upper leaf spill (root_at roots d) (map_at kind words upper leaf spill roots d) → IsCanonical kind words upper leaf spill roots d →
+    IsShown kind (map_left kind (map_at kind words upper leaf spill roots d)) (map_right kind (map_at kind words upper leaf spill roots d)) upper leaf spill (root_at roots d) (map_at kind words upper leaf spill roots d)
+canonical-shown kind words upper leaf spill roots d shown canonical = record {
+  root_taken = shown.root_taken;
+  region_even = shown.region_even;
+  region_vector = shown.region_vector;
+  mid_taken = shown.mid_taken;
+  page_even = shown.page_even;
+  page_vector = shown.page_vector;
+  leaf_taken = shown.leaf_taken;
+  line = λ z below opened pointer.
+      canonical.reached z below (ap (λ (b : Bool). b && is_pointer (mid_word upper (root_at roots d) (z / 64))) opened ∙ pointer);
+}
+
 module _ (kind : Kind) (upper leaf spill : Frames) (words : ℕ) (roots : List ℕ) where
-  pub length-read_maps : length (read_maps kind upper leaf spill words roots) ≡ length roots
+  pub map_at-read : (d : ℕ) → d < length roots → get_or (read_maps kind upper leaf spill words roots) d [] ≡ map_at kind words upper leaf spill roots d
   unfolding read_maps
-  length-read_maps = length-map roots (read_map kind upper leaf spill words)
-
-  pub length-read_map : (root : ℕ) → length (read_map kind upper leaf spill words root) ≡ words
-  unfolding read_map
-  length-read_map root = length-list_below words (read_at kind upper leaf spill root)
-
-  pub map_of-read : (d : ℕ) → 1 ≤ d → d ≤ length roots → map_of (read_maps kind upper leaf spill words roots) d ≡ read_map kind upper leaf spill words (root_of roots d)
-  unfolding read_maps
-  map_of-read d first last = get_or-map (read_map kind upper leaf spill words) roots (d - 1) 0 [] (omega arith)
+  map_at-read d below = get_or-map (read_map kind upper leaf spill words) roots d 0 [] below
 
   pub domain-read : (d : ℕ) → 1 ≤ d → d ≤ length roots → IsDomain (read_maps kind upper leaf spill words roots) d
-  domain-read d first last = record { first = first; last = omega (arith, length-read_maps) }
+  domain-read d first last = record { first = first; last = omega (arith, length-read_maps kind upper leaf spill words roots) }
 
   pub domain-from : (d : ℕ) → IsDomain (read_maps kind upper leaf spill words roots) d → d ≤ length roots
-  domain-from d is = omega (arith, is.last, length-read_maps)
+  domain-from d is = omega (arith, is.last, length-read_maps kind upper leaf spill words roots)
 
-  module _ (limit : Need) (stands : IsStanding kind upper leaf spill roots words limit (read_maps kind upper leaf spill words roots)) (d root : ℕ) (first : 1 ≤ d) (last : d ≤ length roots) (is : root ≡ root_of roots d) where
+  module _ (limit : Need) (stands : IsStanding kind upper leaf spill roots words limit) (d root : ℕ) (first : 1 ≤ d) (last : d ≤ length roots) (is : root ≡ root_of roots d) where
     map-is : map_of (read_maps kind upper leaf spill words roots) d ≡ read_map kind upper leaf spill words root
-    map-is = map_of-read d first last ∙ ap (read_map kind upper leaf spill words) (sym is)
+    map-is = map_of-read kind upper leaf spill words roots d first last ∙ ap (read_map kind upper leaf spill words) (sym is)
+
+    -- the root table's frame, of a domain that counts from 0
+    shown-at : IsShown kind (map_left kind (map_at kind words upper leaf spill roots (d - 1))) (map_right kind (map_at kind words upper leaf spill roots (d - 1)))
+        upper leaf spill (root_at roots (d - 1)) (map_at kind words upper leaf spill roots (d - 1))
+    shown-at = canonical-shown kind words upper leaf spill roots (d - 1) ((stands.tables.shown (d - 1) (omega arith)).shown) (stands.canonical (d - 1) (omega arith))
 
     pub standing-shown : IsShown kind (map_left kind (read_map kind upper leaf spill words root)) (map_right kind (read_map kind upper leaf spill words root)) upper leaf spill root (read_map kind upper leaf spill words root)
     standing-shown =
-        let T : ℕ → Type 0 = λ r. IsShown kind (map_left kind (map_of (read_maps kind upper leaf spill words roots) d)) (map_right kind (map_of (read_maps kind upper leaf spill words roots) d)) upper leaf spill r (map_of (read_maps kind upper leaf spill words roots) d) in
-        let S : List Perm → Type 0 = λ m. IsShown kind (map_left kind m) (map_right kind m) upper leaf spill root m in
-        subst S map-is (subst T (sym is) (stands.shown d (domain-read d first last)))
+        let T : ℕ → Type 0 = λ r. IsShown kind (map_left kind (read_map kind upper leaf spill words r)) (map_right kind (read_map kind upper leaf spill words r)) upper leaf spill r (read_map kind upper leaf spill words r) in
+        subst T (sym is) shown-at
 
     pub standing-tight : IsTight upper root (read_map kind upper leaf spill words root)
     standing-tight =
-        let T : ℕ → Type 0 = λ r. IsTight upper r (map_of (read_maps kind upper leaf spill words roots) d) in
-        let S : List Perm → Type 0 = λ m. IsTight upper root m in
-        subst S map-is (subst T (sym is) (stands.tight d (domain-read d first last)))
+        let T : ℕ → Type 0 = λ r. IsTight upper r (read_map kind upper leaf spill words r) in
+        subst T (sym is) (stands.canonical (d - 1) (omega arith)).tight
 
     pub standing-map : read_map kind upper leaf spill words root ≡ map_of (read_maps kind upper leaf spill words roots) d
     standing-map = sym map-is
-
-pub length-map_of : (kind : Kind) (upper leaf spill : Frames) (words : ℕ) (roots : List ℕ) (d : ℕ) → 1 ≤ d → d ≤ length roots → length (map_of (read_maps kind upper leaf spill words roots) d) ≡ words
-length-map_of kind upper leaf spill words roots d first last =
-    ap (λ (m : List Perm). length m) (map_of-read kind upper leaf spill words roots d first last) ∙ length-read_map kind upper leaf spill words roots (root_of roots d)
 
 -- a span has the permission of its word
 span_at-perm : (kind : Kind) (l : Level) (m : List Perm) (i : ℕ) → (span_at kind l m i).perm ≡ perm_at m i

@@ -1,5 +1,5 @@
 -- What the stored words on the way of a walk say of its word.
-use Rattle.std.proofs.Common.{◌≡◌, ◌≢◌, ℕ, ◌*◌, ◌/◌, ◌%◌, ◌^◌, ◌<◌, inl, inr, ◌&&◌, Bool, true, false, not, nat_lt, List, Some, None, if◌then◌else◌, refl, sym, ap, ◌∙◌, arith, eq-eqb, subst}
+use Rattle.std.proofs.Common.{◌≡◌, ◌≢◌, ℕ, ◌*◌, ◌/◌, ◌%◌, ◌^◌, ◌<◌, inl, inr, ◌&&◌, Bool, true, false, not, nat_lt, List, length, Some, None, if◌then◌else◌, refl, sym, ap, ◌∙◌, arith, eq-eqb, lt-ltb, subst}
 use Rattle.std.specs.Option.{option_map_or}
 use Rattle.std.proofs.lemmas.Bool.{ne_eqb}
 use Rattle.mx_words.specs.declared.perm.Perm.{Perm}
@@ -12,7 +12,7 @@ use Rattle.mx_words.specs.Reach.{level, trie_level, line_level, line_at, first_i
 use Rattle.mx_pool.specs.Frames.{IsTaken, word_at}
 use Rattle.mx_words.specs.Blocks.{block_of, is_broken}
 use Rattle.mx_upper.specs.Leaf.{IsTrieKind, needs_spill, spill_number, IsStored}
-use Rattle.mx_upper.specs.Walk.{Frames, most_regions, most_pages, most_lines, is_pointer, mid_word, leaf_word, spilled_word, has_mid, has_leaf, map_left, map_right, line_number, IsLine, IsShown, IsTight}
+use Rattle.mx_upper.specs.Walk.{form_left, form_right, Frames, most_regions, most_pages, most_lines, is_pointer, mid_word, leaf_word, spilled_word, has_mid, has_leaf, map_left, map_right, line_number, IsLine, IsShown, IsTight}
 use Rattle.mx_upper.specs.Found.{IsVector, IsLeaf}
 
 -- the level of a word, by the blocks that hold it
@@ -97,6 +97,13 @@ and-false {a} {b} e f = ap (λ v. v && b) e ∙ f
 and-true : {a b : Bool} → a ≡ true → b ≡ true → (a && b) ≡ true
 and-true {a} {b} e f = ap (λ v. v && b) e ∙ f
 
+-- the reaches of a line in RAM
+pub map_left-in : (kind : Kind) (m : List Perm) (z : ℕ) → z * line_words < length m → map_left kind m z ≡ form_left kind m (z * line_words)
+map_left-in kind m z inside = ap (λ (b : Bool). if b then form_left kind m (z * line_words) else 0) (lt-ltb (z * line_words) (length m) inside)
+
+pub map_right-in : (kind : Kind) (m : List Perm) (z : ℕ) → z * line_words < length m → map_right kind m z ≡ form_right kind m (z * line_words)
+map_right-in kind m z inside = ap (λ (b : Bool). if b then form_right kind m (z * line_words) else 0) (lt-ltb (z * line_words) (length m) inside)
+
 -- the words on the way
 module _ (kind : Kind) (upper leaf spill : Frames) (root : ℕ) (m : List Perm) (i : ℕ) (k : IsTrieKind kind) (shown : IsShown kind (map_left kind m) (map_right kind m) upper leaf spill root m)
     (tight : IsTight upper root m) (below : i < 2 ^ 24) where
@@ -172,23 +179,25 @@ module _ (kind : Kind) (upper leaf spill : Frames) (root : ℕ) (m : List Perm) 
 
   -- the line's entry has no spill word, or has one
   pub walk-leaf : (a b l : ℕ) → a ≡ word_at upper root (i / 1048576) → a % 4 ≡ 0 → b ≡ word_at upper (a / 4) (i / 1024 % 1024) → b % 4 ≡ 0 →
-      (line : IsLine kind spill m (i / 16) (map_left kind m (i / 16)) (map_right kind m (i / 16)) l) → spill_number kind l ≡ None → needs_spill kind (line_at m (first_in line_words i)) ≡ false →
+      i < length m → (line : IsLine kind spill m (i / 16) (map_left kind m (i / 16)) (map_right kind m (i / 16)) l) → spill_number kind l ≡ None → needs_spill kind (line_at m (first_in line_words i)) ≡ false →
       (level kind m i ≡ L.Leaf) × IsLeaf kind false m i l 0
-  walk-leaf a b l e hit f also line none miss =
+  walk-leaf a b l e hit f also inside line none miss =
+      let z : i / 16 * line_words < length m = omega arith in
       let T : ℕ → Type 0 = λ n. IsStored kind (line_at m (first_in line_words i)) (map_left kind m (i / 16)) (map_right kind m (i / 16)) (line_number kind l) (first_in line_words i) l n in
       let zero_word : spilled_word kind spill l ≡ 0 = ap (λ o. option_map_or (λ n. word_at spill n 0) o 0) none in (
         level-line kind m i k (region-broken a e hit) (page-broken a b e hit f also) ∙ line_level-leaf kind m i k miss,
-        record { crowded_is = miss; left = map_left kind m (i / 16); right = map_right kind m (i / 16); number = line_number kind l; left_is = refl; right_is = refl; stored = subst T zero_word line.stored },
+        record { crowded_is = miss; left = map_left kind m (i / 16); right = map_right kind m (i / 16); number = line_number kind l; left_is = map_left-in kind m (i / 16) z; right_is = map_right-in kind m (i / 16) z; stored = subst T zero_word line.stored },
       )
 
   pub walk-spill : (a b l n s : ℕ) → a ≡ word_at upper root (i / 1048576) → a % 4 ≡ 0 → b ≡ word_at upper (a / 4) (i / 1024 % 1024) → b % 4 ≡ 0 →
-      (line : IsLine kind spill m (i / 16) (map_left kind m (i / 16)) (map_right kind m (i / 16)) l) → spill_number kind l ≡ Some n → s ≡ word_at spill n 0 → needs_spill kind (line_at m (first_in line_words i)) ≡ true →
+      i < length m → (line : IsLine kind spill m (i / 16) (map_left kind m (i / 16)) (map_right kind m (i / 16)) l) → spill_number kind l ≡ Some n → s ≡ word_at spill n 0 → needs_spill kind (line_at m (first_in line_words i)) ≡ true →
       (level kind m i ≡ L.Spill) × IsLeaf kind true m i l s
-  walk-spill a b l n s e hit f also line some is crowded =
+  walk-spill a b l n s e hit f also inside line some is crowded =
+      let z : i / 16 * line_words < length m = omega arith in
       let T : ℕ → Type 0 = λ n. IsStored kind (line_at m (first_in line_words i)) (map_left kind m (i / 16)) (map_right kind m (i / 16)) (line_number kind l) (first_in line_words i) l n in
       let word : spilled_word kind spill l ≡ s = ap (λ o. option_map_or (λ n. word_at spill n 0) o 0) some ∙ sym is in (
         level-line kind m i k (region-broken a e hit) (page-broken a b e hit f also) ∙ line_level-spill kind m i k crowded,
-        record { crowded_is = crowded; left = map_left kind m (i / 16); right = map_right kind m (i / 16); number = line_number kind l; left_is = refl; right_is = refl; stored = subst T word line.stored },
+        record { crowded_is = crowded; left = map_left kind m (i / 16); right = map_right kind m (i / 16); number = line_number kind l; left_is = map_left-in kind m (i / 16) z; right_is = map_right-in kind m (i / 16) z; stored = subst T word line.stored },
       )
 
 -- a named spill word tells whether the line needs one

@@ -1,8 +1,6 @@
 -- Lines and pages of which all words have one permission.
 use Rattle.std.specs.Prelude.{ℕ, ◌+◌, ◌*◌, List, replicate}
 use Rattle.mx_words.specs.declared.perm.Perm.{Perm}
-use Rattle.mx_words.specs.declared.tables.Kind.{Kind}
-use Rattle.mx_upper.specs.Leaf.{IsEntry}
 
 -- a line of one permission
 abbrev pub flat_line : Perm → List Perm
@@ -11,8 +9,3 @@ flat_line p = replicate 16 p
 -- the vector of a block of which all words have the permission with a number
 abbrev pub flat_vector : ℕ → ℕ
 flat_vector n = 1 + 4 * 0x5555 * n
-
--- an entry of some line, with whatever spill word
-pub record IsSomeEntry (kind : Kind) (line entry : ℕ) : Type 0 where
-  pub spilled : ℕ
-  pub entry_of : IsEntry kind line entry spilled

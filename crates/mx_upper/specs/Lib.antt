@@ -6,5 +6,10 @@ pub mod Codes
 pub mod Decoded
 pub mod Read
 pub mod Standing
+pub mod Shape
 pub mod Forest
 pub mod Filled
+pub mod Steps
+pub mod Views
+pub mod Laying
+pub mod Roots

@@ -1,5 +1,5 @@
 -- The stored words of a trie: where a walk for a word goes, what it finds, and how that stands for a map.
-use Rattle.std.specs.Prelude.{◌≡◌, ℕ, ◌*◌, ◌/◌, ◌%◌, ◌<◌, ◌==◌, ◌&&◌, Bool, true, false, List, Option, unwrap_or}
+use Rattle.std.specs.Prelude.{◌≡◌, ℕ, ◌*◌, ◌/◌, ◌%◌, ◌<◌, ◌==◌, ◌&&◌, Bool, true, false, nat_lt, if◌then◌else◌, List, length, Option, unwrap_or}
 use Rattle.std.specs.Option.{option_map_or}
 use Rattle.mx_words.specs.declared.perm.Perm.{Perm}
 use Rattle.mx_words.specs.declared.tables.Kind.{Kind}
@@ -66,12 +66,12 @@ abbrev pub form_right : Kind → List Perm → ℕ → ℕ
 form_right K.Packed m line = right_reach m line
 form_right kind m line = 0
 
--- the reaches of line z's entry by the map
+-- the reaches of line z's entry by the map; a line outside RAM has none
 abbrev pub map_left : Kind → List Perm → ℕ → ℕ
-map_left kind m z = form_left kind m (z * line_words)
+map_left kind m z = if nat_lt (z * line_words) (length m) then form_left kind m (z * line_words) else 0
 
 abbrev pub map_right : Kind → List Perm → ℕ → ℕ
-map_right kind m z = form_right kind m (z * line_words)
+map_right kind m z = if nat_lt (z * line_words) (length m) then form_right kind m (z * line_words) else 0
 
 -- the number of a leaf entry's spill word, or 0 where it has none
 abbrev pub line_number : Kind → ℕ → ℕ

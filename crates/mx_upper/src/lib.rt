@@ -1,14 +1,26 @@
 //! Tables of permissions as tries: a root table and mid tables per domain over leaf entries of any lawful form.
 #![tactic(auto)]
 
-mod even;
+mod after;
+mod build;
+mod change;
+mod changed_view;
+mod close;
+mod counts;
 mod fill;
+mod lay;
 mod leaf;
 mod line;
+mod open;
+mod range;
+mod reach;
 mod roots;
-mod tables;
+mod row_view;
+mod scan;
+mod table_view;
 mod trie;
 mod vector;
+mod view;
 mod walk;
 
 pub use leaf::LeafForm;

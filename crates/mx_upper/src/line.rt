@@ -1,9 +1,9 @@
 //! The entry of a line, with its spill word.
 ghost use Rattle.std.specs.Prelude.{◌≡◌, ◌≢◌, ℕ, ◌+◌, ◌-◌, ◌*◌, ◌/◌, ◌%◌, ◌<◌, ◌≤◌, ◌^◌, length, true, false, None, Some, IfSome, is_some, IsTrue};
 ghost use Rattle.mx_words.specs.Counting.{bit};
-ghost use Rattle.mx_words.specs.Reach.{packed};
 ghost use Rattle.mx_pool.specs.Frames.{frame_at, IsTaken, word_at, free_in};
-ghost use Rattle.mx_upper.specs.Leaf.{leaf_entry, needs_spill, spill_number};
+ghost use Rattle.mx_upper.specs.Leaf.{needs_spill, spill_number};
+ghost use Rattle.mx_upper.specs.Steps.{IsLineWritten, IsLaidOver};
 
 use crate::{LeafForm, Vector};
 use mx_pool::Pool;
@@ -64,25 +64,24 @@ pub(crate) fn set_line<L: LeafForm>(
     requires taken { IfSome (spill_number L.kind (word_at leaf.old frame place)) (λ n. IsTaken spill.old n) }
     requires few { IfSome (spill_number L.kind (word_at leaf.old frame place)) (λ n. n < 2 ^ 30) }
     requires room { needs_spill L.kind perms.now ≡ true → spill_number L.kind (word_at leaf.old frame place) ≡ None → 0 < free_in spill.old }
-    ensures small { result < 2 ^ 30 }
-    ensures entry { word_at leaf.new frame place ≡ leaf_entry L.kind perms.now 0 0 result }
-    ensures others { (k : ℕ) → k ≢ place → word_at leaf.new frame k ≡ word_at leaf.old frame k }
-    ensures table { IsTaken leaf.new frame }
-    ensures leaf_elsewhere { (g : ℕ) → g ≢ frame → frame_at leaf.new g ≡ frame_at leaf.old g }
-    ensures leaf_free { free_in leaf.new ≡ free_in leaf.old }
-    ensures leaf_total { length leaf.new ≡ length leaf.old }
-    ensures stored { needs_spill L.kind perms.now ≡ true → IsTaken spill.new result }
-    ensures word { needs_spill L.kind perms.now ≡ true → word_at spill.new result 0 ≡ packed perms.now }
-    ensures reused { needs_spill L.kind perms.now ≡ true → IfSome (spill_number L.kind (word_at leaf.old frame place)) (λ n. result ≡ n) }
-    ensures fresh { needs_spill L.kind perms.now ≡ true → spill_number L.kind (word_at leaf.old frame place) ≡ None → frame_at spill.old result ≡ None }
-    ensures given { needs_spill L.kind perms.now ≡ false → IfSome (spill_number L.kind (word_at leaf.old frame place)) (λ n. frame_at spill.new n ≡ None) }
-    ensures elsewhere { (g : ℕ) → (needs_spill L.kind perms.now ≡ true → g ≢ result) → (spill_number L.kind (word_at leaf.old frame place) ≢ Some g) → frame_at spill.new g ≡ frame_at spill.old g }
-    ensures free { free_in spill.new + bit (needs_spill L.kind perms.now) ≡ free_in spill.old + bit (is_some (spill_number L.kind (word_at leaf.old frame place))) }
-    ensures total { length spill.new ≡ length spill.old }
+    ensures { IsLineWritten L.kind leaf.old spill.old leaf.new spill.new frame place perms.now result }
 {
     let old = L::spill_of(leaf.get(frame, place));
     let needs = L::needs_spill(perms);
     let number = put_spill(spill, old, needs, Vector::entry(perms, 0, 0, 0));
     leaf.set(frame, place, L::entry(perms, 0, 0, number));
     number
+}
+
+/// A line's permissions with one of them on the places `from` to `to - 1`.
+pub(crate) fn laid_over(old: &[Perm; 16], from: u32, to: u32, perm: Perm) -> [Perm; 16]
+    requires from { from ≤ to }
+    requires to { to ≤ 16 }
+    ensures { IsLaidOver old.now result from to perm }
+{
+    let mut new = *old;
+    for place in from..to {
+        new[place as usize] = perm;
+    }
+    new
 }

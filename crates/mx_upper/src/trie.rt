@@ -1,24 +1,28 @@
 //! Tables of permissions as tries.
 ghost use Rattle.std.specs.Prelude.{◌≡◌, ℕ, ◌+◌, ◌-◌, ◌<◌, ◌≤◌, List, length};
-ghost use Rattle.mx_words.specs.declared.perm.Perm.{Perm};
-ghost use Rattle.mx_words.specs.Rights.{perm_at};
-ghost use Rattle.mx_words.specs.Caches.{raised};
-ghost use Rattle.mx_words.specs.Need.{need};
-ghost use Rattle.mx_words.specs.Reach.{span, stored};
-ghost use Rattle.mx_table.specs.Tables.{map_of, IsDomain};
+ghost use Rattle.mx_words.specs.Need.{within};
+ghost use Rattle.mx_words.specs.Reach.{span};
+ghost use Rattle.mx_table.specs.Tables.{map_of};
 ghost use Rattle.mx_upper.specs.Read.{read_maps};
 ghost use Rattle.mx_upper.specs.Standing.{IsStanding};
+ghost use Rattle.mx_upper.specs.Shape.{shaped_of};
 ghost use Rattle.mx_upper.specs.Found.{IsFound};
 
 use crate::LeafForm;
+use crate::after::need_after;
+use crate::build::{lay_rows, make_roots, need_of_rows};
+use crate::change::change_all;
 use crate::roots::Roots;
 use crate::walk::{Found, find, found_item, found_span};
 use mx_pool::Pool;
-use mx_words::{Need, Perm, Shown, Span};
+use mx_table::{BuildRefused, Change, PermTables};
+use mx_words::{Need, Perm, Shown, Span, Spans};
+use std::alloc::Global;
 use std::marker::PhantomData;
 
 /// The permissions of all domains as tries: per domain a root table, whose entries stand for regions of 2^20 words, and below it mid
 /// tables, whose entries stand for pages of 1024 words, and leaf tables, whose entries stand for lines of 16 words.
+#[derive(Drop)]
 pub struct Trie<L: LeafForm> {
     /// Root and mid tables.
     pub upper: Pool<1024>,
@@ -36,7 +40,7 @@ pub struct Trie<L: LeafForm> {
     pub lookups: u64,
     /// The form of the leaf entries.
     pub form: PhantomData<L>,
-    pub ghost stands: { IsStanding L.kind upper leaf spill roots words limit (read_maps L.kind upper leaf spill words roots) },
+    pub ghost stands: { ∥ IsStanding L.kind upper leaf spill roots words limit ∥₁ },
 }
 
 impl<L: LeafForm> Trie<L> {
@@ -66,31 +70,92 @@ impl<L: LeafForm> Trie<L> {
     {
         found_span::<L>(self.found(domain, word), word, self.words)
     }
+}
 
-    /// The permission of a word in a domain's map. The domain is one of 1 to `modules`, the word lies in RAM.
-    pub fn perm(&self, domain: u32, word: u32) -> Perm
-        requires first { 1 ≤ domain }
-        requires last { domain ≤ length self.now.roots }
-        requires inside { word < self.now.words }
-        ensures { result ≡ perm_at (map_of (read_maps L.kind self.now.upper self.now.leaf self.now.spill self.now.words self.now.roots) domain) word }
-    {
+/// Whether a need is within a limit.
+fn is_within(need: Need, limit: Need) -> bool
+    ensures { result ≡ within need limit }
+{
+    need.upper <= limit.upper && need.leaf <= limit.leaf && need.spill <= limit.spill
+}
+
+impl<L: LeafForm> PermTables for Trie<L> {
+    ghost kind = { L.kind };
+
+    ghost maps = { λ t. read_maps L.kind t.upper t.leaf t.spill t.words t.roots };
+
+    ghost size = { λ t. t.words };
+
+    ghost limits = { λ t. t.limit };
+
+    ghost lookups = { λ t. t.lookups };
+
+    fn build(alloc: Global, words: u32, rows: &[Spans], limit: Need) -> Result<Self, BuildRefused> {
+        let need = need_of_rows::<L>(rows, words);
+        if !is_within(need, limit) {
+            return Err(BuildRefused::TablesFull { need });
+        }
+        let spare = 2 * rows.len() as u32;
+        let Ok(mut upper) = Pool::new(alloc, limit.upper + spare) else {
+            return Err(BuildRefused::NoMemory);
+        };
+        let Ok(mut leaf) = Pool::new(alloc, limit.leaf + spare) else {
+            return Err(BuildRefused::NoMemory);
+        };
+        let Ok(mut spill) = Pool::new(alloc, limit.spill + spare) else {
+            return Err(BuildRefused::NoMemory);
+        };
+        let Ok(roots) = make_roots(alloc, &mut upper, rows.len() as u32) else {
+            return Err(BuildRefused::NoMemory);
+        };
+        lay_rows::<L>(&mut upper, &mut leaf, &mut spill, &roots, words, rows);
+        Ok(Trie {
+            upper,
+            leaf,
+            spill,
+            roots,
+            words,
+            limit,
+            lookups: 0,
+            form: PhantomData,
+        })
+    }
+
+    fn lookup(&mut self, domain: u32, word: u32) -> Span {
+        let span = self.span_of(domain, word);
+        self.lookups = self.lookups.saturating_add(1);
+        span
+    }
+
+    fn perm(&self, domain: u32, word: u32) -> Perm {
         self.span_of(domain, word).perm
     }
 
-    /// The stored item that decides a word in a domain's map. The domain is one of 1 to `modules`, the word lies in RAM.
-    pub fn shown(&self, domain: u32, word: u32) -> Shown
-        requires first { 1 ≤ domain }
-        requires last { domain ≤ length self.now.roots }
-        requires inside { word < self.now.words }
-        ensures { result ≡ stored L.kind (map_of (read_maps L.kind self.now.upper self.now.leaf self.now.spill self.now.words self.now.roots) domain) word }
-    {
-        found_item::<L>(self.found(domain, word), word, self.words)
+    fn fits(&self, change: &Change) -> bool {
+        let need = need_after::<L>(
+            &self.upper,
+            &self.leaf,
+            &self.spill,
+            &self.roots,
+            self.words,
+            change,
+            self.used(),
+        );
+        is_within(need, self.limit)
     }
 
-    /// What the tables take, which is what the maps need.
-    pub fn used(&self) -> Need
-        ensures { result ≡ need L.kind (read_maps L.kind self.now.upper self.now.leaf self.now.spill self.now.words self.now.roots) }
-    {
+    fn apply(&mut self, change: &Change) {
+        change_all::<L>(
+            &mut self.upper,
+            &mut self.leaf,
+            &mut self.spill,
+            &self.roots,
+            self.words,
+            change,
+        );
+    }
+
+    fn used(&self) -> Need {
         let spare = 2 * self.roots.count();
         Need {
             upper: self.limit.upper + spare - self.upper.free_frames(),
@@ -99,51 +164,28 @@ impl<L: LeafForm> Trie<L> {
         }
     }
 
-    /// The span that a walk for a domain's word answers. The count of lookups rises by one, or stays at 2^64 - 1, and all else stays.
-    /// The domain is one of 1 to `modules`, the word lies in RAM.
-    pub fn lookup(&mut self, domain: u32, word: u32) -> Span
-        requires first { 1 ≤ domain }
-        requires last { domain ≤ length self.old.roots }
-        requires inside { word < self.old.words }
-        ensures found { result ≡ span L.kind (map_of (read_maps L.kind self.old.upper self.old.leaf self.old.spill self.old.words self.old.roots) domain) word }
-        ensures counted { self.new.lookups ≡ raised self.old.lookups }
-        ensures same_upper { self.new.upper ≡ self.old.upper }
-        ensures same_leaf { self.new.leaf ≡ self.old.leaf }
-        ensures same_spill { self.new.spill ≡ self.old.spill }
-        ensures same_roots { self.new.roots ≡ self.old.roots }
-        ensures same_words { self.new.words ≡ self.old.words }
-        ensures same_limit { self.new.limit ≡ self.old.limit }
-    {
-        let span = self.span_of(domain, word);
-        self.lookups = self.lookups.saturating_add(1);
-        span
-    }
-
-    /// The limit.
-    pub fn limit(&self) -> Need
-        ensures { result ≡ self.now.limit }
-    {
+    fn limit(&self) -> Need {
         self.limit
     }
 
-    /// The number of words of RAM, 1 to 2^24.
-    pub fn words(&self) -> u32
-        ensures { result ≡ self.now.words }
-    {
+    fn words(&self) -> u32 {
         self.words
     }
 
-    /// The number of domains, 1 to 63.
-    pub fn modules(&self) -> u32
-        ensures { result ≡ length self.now.roots }
-    {
+    fn modules(&self) -> u32 {
         self.roots.count()
     }
+
+    fn shown(&self, domain: u32, word: u32) -> Shown {
+        found_item::<L>(self.found(domain, word), word, self.words)
+    }
+
+    ghost shaped = { λ t. shaped_of L.kind t.upper t.leaf t.spill t.roots t.words t.limit t.stands };
 }
 
 #[cfg(test)]
 mod tests {
-    use super::*;
+    use super::Trie;
     use crate::Vector;
 
     // Tables have these fields and no others.

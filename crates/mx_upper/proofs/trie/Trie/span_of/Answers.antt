@@ -1,6 +1,6 @@
 use Rattle.mx_table.specs.Tables.{map_of}
 use Rattle.mx_upper.specs.Read.{read_maps}
-use Rattle.mx_upper.proofs.StandingLaws.{length-map_of}
+use Rattle.mx_upper.specs.Shape.{length-map_of}
 use Rattle.mx_upper.proofs.trie.Trie.span_of.Goals as goal
 
 pub returns : goal.returns

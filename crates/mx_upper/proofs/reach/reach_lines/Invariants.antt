@@ -1,0 +1,10 @@
+-- The lines before the loop's one have the reaches of the map.
+use Rattle.std.proofs.Common.{◌≤◌, max}
+use Rattle.mx_upper.proofs.LaidLaws.{AreLinesReached}
+use Rattle.mx_upper.proofs.reach.reach_lines.Given as goal
+
+abbrev pub invariant-loop-line : goal.invariant-loop-line
+invariant-loop-line g l = record {
+  reached : AreLinesReached g.L.LeafForm.kind l.lay.words l.upper l.fn.leaf l.spill l.leaf l.roots l.lay.row l.from l.line;
+  bound : l.line ≤ max l.from l.to;
+}

@@ -1,0 +1,15 @@
+use Rattle.std.proofs.Common.{ℕ, ◌-◌, ◌<◌, ◌≤◌, length}
+use Rattle.mx_upper.proofs.RowSpans.{span_in}
+use Rattle.mx_upper.proofs.row_view.begun.Given as goal
+
+-- the spans before `low` begin at the word or before it, those from `high` on behind it
+abbrev pub invariant-loop-low : goal.invariant-loop-low
+invariant-loop-low l = record {
+  order : l.low ≤ l.high;
+  within : l.high ≤ length l.row;
+  begun : (k : ℕ) → k < l.low → (span_in l.row k).first ≤ l.word;
+  later : (k : ℕ) → l.high ≤ k → k < length l.row → l.word < (span_in l.row k).first;
+}
+
+abbrev pub decreases-loop-low : goal.decreases-loop-low
+decreases-loop-low l = l.high - l.low

@@ -1,0 +1,122 @@
+//! A permission for a range of words of one domain, and what is written of it in one line, and taken away behind it.
+ghost use Rattle.std.specs.Prelude.{◌≡◌, ◌≢◌, ℕ, ◌*◌, ◌/◌, ◌<◌, ◌≤◌, ◌⊎◌, true, false, length};
+ghost use Rattle.mx_words.specs.Runs.{line_words, page_words, region_words};
+ghost use Rattle.mx_words.specs.Reach.{line_at};
+ghost use Rattle.mx_words.specs.Blocks.{is_broken};
+ghost use Rattle.mx_pool.specs.Frames.{free_in};
+ghost use Rattle.mx_upper.specs.Leaf.{needs_spill};
+ghost use Rattle.mx_upper.specs.Walk.{most_regions, most_pages, most_lines, has_mid, has_leaf};
+ghost use Rattle.mx_upper.specs.Forest.{has_spill, root_at, map_at, IsTables, IsLineKept};
+ghost use Rattle.mx_upper.specs.Laying.{part_first, part_end, with_range, IsRangeLaid, ArePagesTight};
+
+use crate::close::{take_page, take_region};
+use crate::line::{laid_over, set_line};
+use crate::scan::{is_page_even, is_region_even, line_perms, page_vector, region_vector};
+use crate::table_view::map_of;
+use crate::{LeafForm, Roots};
+use mx_pool::Pool;
+use mx_words::Perm;
+
+/// A permission for the words `first` to `end - 1` of one domain.
+#[derive(Clone, Copy)]
+pub(crate) struct Laying {
+    /// The number of RAM words.
+    pub words: u32,
+    /// The domain, counted from 0.
+    pub row: u32,
+    pub first: u32,
+    pub end: u32,
+    pub perm: Perm,
+}
+
+/// Lays the permission over that part of the range that lies in a line, whose page has a leaf table.
+pub(crate) fn lay_line<L: LeafForm>(
+    upper: &Pool<1024>,
+    leaf: &mut Pool<64>,
+    spill: &mut Pool<1>,
+    roots: &Roots,
+    lay: &Laying,
+    line: u32,
+)
+    requires tables { IsTables L.kind lay.now.words upper.now leaf.old spill.old roots.now }
+    requires row { lay.now.row < length roots.now }
+    requires line { line < most_lines }
+    requires leafed { has_leaf upper.now (root_at roots.now lay.now.row) (line / 64) ≡ true }
+    requires meets { part_first lay.now.first line_words line < part_end lay.now.end line_words line }
+    requires inside { lay.now.end ≤ lay.now.words }
+    requires room { needs_spill L.kind (line_at (with_range (part_first lay.now.first line_words line) (part_end lay.now.end line_words line) lay.now.perm (map_at L.kind lay.now.words upper.now leaf.old spill.old roots.now lay.now.row)) (line * line_words)) ≡ true → has_spill L.kind upper.now leaf.old (root_at roots.now lay.now.row) line ≡ false → 0 < free_in spill.old }
+    ensures { IsRangeLaid L.kind lay.now.words upper.now leaf.old spill.old upper.now leaf.new spill.new roots.now lay.now.row (part_first lay.now.first line_words line) (part_end lay.now.end line_words line) lay.now.perm }
+{
+    let mid = upper.get(roots.at(lay.row), line / 0x1_0000) / 4;
+    let frame = upper.get(mid, line / 0x40 % 0x400) / 4;
+    let old = line_perms(&map_of::<L>(upper, leaf, spill, roots, lay), line);
+    let begin = line * 16;
+    let from = lay.first.max(begin) - begin;
+    let to = lay.end.min(begin + 16) - begin;
+    set_line::<L>(
+        leaf,
+        spill,
+        frame,
+        line % 0x40,
+        &laid_over(&old, from, to, lay.perm),
+    );
+}
+
+/// Takes the leaf table of a page away where the page is eighth-uniform.
+pub(crate) fn close_page<L: LeafForm>(
+    upper: &mut Pool<1024>,
+    leaf: &mut Pool<64>,
+    spill: &Pool<1>,
+    roots: &Roots,
+    lay: &Laying,
+    page: u32,
+)
+    requires tables { IsTables L.kind lay.now.words upper.old leaf.old spill.now roots.now }
+    requires row { lay.now.row < length roots.now }
+    requires page { page < most_pages }
+    requires leafed { has_leaf upper.old (root_at roots.now lay.now.row) page ≡ true }
+    ensures tables { IsTables L.kind lay.now.words upper.new leaf.new spill.now roots.now }
+    ensures maps { (e : ℕ) → e < length roots.now → map_at L.kind lay.now.words upper.new leaf.new spill.now roots.now e ≡ map_at L.kind lay.now.words upper.old leaf.old spill.now roots.now e }
+    ensures mids { (e k : ℕ) → e < length roots.now → k < most_regions → has_mid upper.new (root_at roots.now e) k ≡ has_mid upper.old (root_at roots.now e) k }
+    ensures here { has_leaf upper.new (root_at roots.now lay.now.row) page ≡ is_broken page_words (map_at L.kind lay.now.words upper.old leaf.old spill.now roots.now lay.now.row) page }
+    ensures leaves { (e k : ℕ) → e < length roots.now → k < most_pages → (e ≢ lay.now.row) ⊎ (k ≢ page) → has_leaf upper.new (root_at roots.now e) k ≡ has_leaf upper.old (root_at roots.now e) k }
+    ensures lines { (e z : ℕ) → e < length roots.now → z < most_lines → has_leaf upper.old (root_at roots.now e) (z / 64) ≡ true → has_leaf upper.new (root_at roots.now e) (z / 64) ≡ true → IsLineKept L.kind upper.old leaf.old spill.now upper.new leaf.new spill.now (root_at roots.now e) z }
+    ensures upper_total { length upper.new ≡ length upper.old }
+    ensures leaf_total { length leaf.new ≡ length leaf.old }
+{
+    let map = map_of::<L>(upper, leaf, spill, roots, lay);
+    if is_page_even(&map, page) {
+        let vector = page_vector(&map, page);
+        let mid = upper.get(roots.at(lay.row), page / 0x400) / 4;
+        take_page(upper, leaf, mid, page % 0x400, vector);
+    }
+}
+
+/// Takes the mid table of a region away where the region is eighth-uniform. Just its broken pages have leaf tables.
+pub(crate) fn close_region<L: LeafForm>(
+    upper: &mut Pool<1024>,
+    leaf: &Pool<64>,
+    spill: &Pool<1>,
+    roots: &Roots,
+    lay: &Laying,
+    region: u32,
+)
+    requires tables { IsTables L.kind lay.now.words upper.old leaf.now spill.now roots.now }
+    requires row { lay.now.row < length roots.now }
+    requires region { region < most_regions }
+    requires opened { has_mid upper.old (root_at roots.now lay.now.row) region ≡ true }
+    requires pages { ArePagesTight upper.old (root_at roots.now lay.now.row) (map_at L.kind lay.now.words upper.old leaf.now spill.now roots.now lay.now.row) }
+    ensures tables { IsTables L.kind lay.now.words upper.new leaf.now spill.now roots.now }
+    ensures maps { (e : ℕ) → e < length roots.now → map_at L.kind lay.now.words upper.new leaf.now spill.now roots.now e ≡ map_at L.kind lay.now.words upper.old leaf.now spill.now roots.now e }
+    ensures here { has_mid upper.new (root_at roots.now lay.now.row) region ≡ is_broken region_words (map_at L.kind lay.now.words upper.old leaf.now spill.now roots.now lay.now.row) region }
+    ensures mids { (e k : ℕ) → e < length roots.now → k < most_regions → (e ≢ lay.now.row) ⊎ (k ≢ region) → has_mid upper.new (root_at roots.now e) k ≡ has_mid upper.old (root_at roots.now e) k }
+    ensures leaves { (e y : ℕ) → e < length roots.now → y < most_pages → has_leaf upper.new (root_at roots.now e) y ≡ has_leaf upper.old (root_at roots.now e) y }
+    ensures lines { (e z : ℕ) → e < length roots.now → z < most_lines → has_leaf upper.old (root_at roots.now e) (z / 64) ≡ true → IsLineKept L.kind upper.old leaf.now spill.now upper.new leaf.now spill.now (root_at roots.now e) z }
+    ensures total { length upper.new ≡ length upper.old }
+{
+    let map = map_of::<L>(upper, leaf, spill, roots, lay);
+    if is_region_even(&map, region) {
+        let vector = region_vector(&map, region);
+        take_region(upper, roots.at(lay.row), region, vector);
+    }
+}

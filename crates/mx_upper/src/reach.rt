@@ -1,0 +1,165 @@
+//! The reaches of entries, written anew after a permission was laid over a range.
+ghost use Rattle.std.specs.Prelude.{◌≡◌, ◌≢◌, ℕ, ◌+◌, ◌-◌, ◌*◌, ◌/◌, ◌<◌, ◌≤◌, ◌⊎◌, true, false, length};
+ghost use Rattle.mx_table.specs.Tables.{most_words};
+ghost use Rattle.mx_upper.specs.Walk.{most_pages, most_lines, leaf_word, has_leaf, map_left, map_right, IsLine};
+ghost use Rattle.mx_upper.specs.Forest.{root_at, map_at, IsTables, IsLineKept, IsPathTaken};
+ghost use Rattle.mx_upper.specs.Laying.{IsCanonical, IsRoomy, IsDomainLaid};
+
+use crate::lay::Laying;
+use crate::range::lay_range;
+use crate::scan::{left_of, line_perms, right_of};
+use crate::table_view::map_of;
+use crate::view::View;
+use crate::{LeafForm, Roots};
+use mx_pool::Pool;
+
+/// The left reach of a line's entry by a map of `words` words of RAM. A line outside RAM has none.
+fn left_in<L: LeafForm, V: View>(view: &V, words: u32, line: u32) -> u32
+    requires lawful { V.lawful view.now }
+    requires line { line < most_lines }
+    requires words { words ≡ length (V.map view.now) }
+    ensures { result ≡ map_left L.kind (V.map view.now) line }
+{
+    if line * 16 < words {
+        left_of(view, line).min(L::REACH)
+    } else {
+        0
+    }
+}
+
+/// The right reach of a line's entry by a map of `words` words of RAM. A line outside RAM has none.
+fn right_in<L: LeafForm, V: View>(view: &V, words: u32, line: u32) -> u32
+    requires lawful { V.lawful view.now }
+    requires line { line < most_lines }
+    requires words { words ≡ length (V.map view.now) }
+    requires few { words ≤ most_words }
+    ensures { result ≡ map_right L.kind (V.map view.now) line }
+{
+    if line * 16 < words {
+        right_of(view, words, line).min(L::REACH)
+    } else {
+        0
+    }
+}
+
+/// Writes the entry of a line, whose page has a leaf table, with the reaches of the map.
+fn write_reaches<L: LeafForm>(
+    upper: &Pool<1024>,
+    leaf: &mut Pool<64>,
+    spill: &Pool<1>,
+    roots: &Roots,
+    lay: &Laying,
+    line: u32,
+)
+    requires tables { IsTables L.kind lay.now.words upper.now leaf.old spill.now roots.now }
+    requires row { lay.now.row < length roots.now }
+    requires line { line < most_lines }
+    requires leafed { has_leaf upper.now (root_at roots.now lay.now.row) (line / 64) ≡ true }
+    ensures tables { IsTables L.kind lay.now.words upper.now leaf.new spill.now roots.now }
+    ensures maps { (e : ℕ) → e < length roots.now → map_at L.kind lay.now.words upper.now leaf.new spill.now roots.now e ≡ map_at L.kind lay.now.words upper.now leaf.old spill.now roots.now e }
+    ensures here { let m = map_at L.kind lay.now.words upper.now leaf.old spill.now roots.now lay.now.row in IsLine L.kind spill.now m line (map_left L.kind m line) (map_right L.kind m line) (leaf_word upper.now leaf.new (root_at roots.now lay.now.row) line) }
+    ensures lines { (e z : ℕ) → e < length roots.now → z < most_lines → (e ≢ lay.now.row) ⊎ (z ≢ line) → has_leaf upper.now (root_at roots.now e) (z / 64) ≡ true → IsLineKept L.kind upper.now leaf.old spill.now upper.now leaf.new spill.now (root_at roots.now e) z }
+    ensures total { length leaf.new ≡ length leaf.old }
+{
+    let mid = upper.get(roots.at(lay.row), line / 0x1_0000) / 4;
+    let frame = upper.get(mid, line / 0x40 % 0x400) / 4;
+    let number = L::spill_of(leaf.get(frame, line % 0x40)).unwrap_or(0);
+    let map = map_of::<L>(upper, leaf, spill, roots, lay);
+    let perms = line_perms(&map, line);
+    let left = left_in::<L, _>(&map, lay.words, line);
+    let right = right_in::<L, _>(&map, lay.words, line);
+    leaf.set(frame, line % 0x40, L::entry(&perms, left, right, number));
+}
+
+/// Whether a page of a domain has a leaf table.
+pub(crate) fn has_table(upper: &Pool<1024>, root: u32, page: u32) -> bool
+    requires tables { IsPathTaken upper.now root page }
+    requires page { page < most_pages }
+    ensures { result ≡ has_leaf upper.now root page }
+{
+    let in_root = upper.get(root, page / 0x400);
+    in_root % 4 == 0 && upper.get(in_root / 4, page % 0x400) % 4 == 0
+}
+
+/// Writes the entries of the lines `from` to `to - 1` with the reaches of the map. Lines that have no entry are passed over.
+fn reach_lines<L: LeafForm>(
+    upper: &Pool<1024>,
+    leaf: &mut Pool<64>,
+    spill: &Pool<1>,
+    roots: &Roots,
+    lay: &Laying,
+    from: u32,
+    to: u32,
+)
+    requires tables { IsTables L.kind lay.now.words upper.now leaf.old spill.now roots.now }
+    requires row { lay.now.row < length roots.now }
+    requires to { to ≤ most_lines }
+    ensures tables { IsTables L.kind lay.now.words upper.now leaf.new spill.now roots.now }
+    ensures maps { (e : ℕ) → e < length roots.now → map_at L.kind lay.now.words upper.now leaf.new spill.now roots.now e ≡ map_at L.kind lay.now.words upper.now leaf.old spill.now roots.now e }
+    ensures here { let m = map_at L.kind lay.now.words upper.now leaf.old spill.now roots.now lay.now.row in (z : ℕ) → from ≤ z → z < to → has_leaf upper.now (root_at roots.now lay.now.row) (z / 64) ≡ true → IsLine L.kind spill.now m z (map_left L.kind m z) (map_right L.kind m z) (leaf_word upper.now leaf.new (root_at roots.now lay.now.row) z) }
+    ensures lines { (e z : ℕ) → e < length roots.now → z < most_lines → (e ≢ lay.now.row) ⊎ ((z < from) ⊎ (to ≤ z)) → has_leaf upper.now (root_at roots.now e) (z / 64) ≡ true → IsLineKept L.kind upper.now leaf.old spill.now upper.now leaf.new spill.now (root_at roots.now e) z }
+    ensures total { length leaf.new ≡ length leaf.old }
+{
+    for line in from..to {
+        if has_table(upper, roots.at(lay.row), line / 0x40) {
+            write_reaches::<L>(upper, leaf, spill, roots, lay, line);
+        }
+    }
+}
+
+/// The first line whose reach a range may change: two lines before it, or the first line of its first page where that had no leaf table.
+fn first_line(lay: &Laying, had_table: bool) -> u32
+    ensures near { (z : ℕ) → z < result → z * 16 + 47 ≤ lay.now.first }
+    ensures page { had_table ≡ false → (z : ℕ) → z < result → z / 64 < lay.now.first / 1024 }
+{
+    let near = (lay.first / 16).saturating_sub(2);
+    if had_table {
+        near
+    } else {
+        near.min(lay.first / 0x400 * 0x40)
+    }
+}
+
+/// The line behind the last one whose reach a range may change.
+fn line_behind(lay: &Laying, had_table: bool) -> u32
+    requires some { lay.now.first < lay.now.end }
+    requires inside { lay.now.end ≤ 16777216 }
+    ensures most { result ≤ most_lines }
+    ensures near { (z : ℕ) → result ≤ z → z < most_lines → lay.now.end + 31 ≤ z * 16 }
+    ensures page { had_table ≡ false → (z : ℕ) → result ≤ z → z < most_lines → (lay.now.end - 1) / 1024 < z / 64 }
+{
+    let near = ((lay.end - 1) / 16 + 3).min(0x10_0000);
+    if had_table {
+        near
+    } else {
+        near.max((lay.end - 1) / 0x400 * 0x40 + 0x40)
+    }
+}
+
+/// Lays a permission over a range of words of one domain. Afterwards the domain's tables are just those that its map needs, and each
+/// entry has the reaches of the map.
+pub(crate) fn lay<L: LeafForm>(
+    upper: &mut Pool<1024>,
+    leaf: &mut Pool<64>,
+    spill: &mut Pool<1>,
+    roots: &Roots,
+    lay: &Laying,
+)
+    requires tables { IsTables L.kind lay.now.words upper.old leaf.old spill.old roots.now }
+    requires row { lay.now.row < length roots.now }
+    requires some { lay.now.first < lay.now.end }
+    requires inside { lay.now.end ≤ lay.now.words }
+    requires canonical { IsCanonical L.kind lay.now.words upper.old leaf.old spill.old roots.now lay.now.row }
+    requires room { IsRoomy L.kind upper.old leaf.old spill.old (root_at roots.now lay.now.row) (map_at L.kind lay.now.words upper.old leaf.old spill.old roots.now lay.now.row) lay.now.first lay.now.end lay.now.perm }
+    ensures { IsDomainLaid L.kind lay.now.words upper.old leaf.old spill.old upper.new leaf.new spill.new roots.now lay.now.row lay.now.first lay.now.end lay.now.perm }
+{
+    let root = roots.at(lay.row);
+    let had_first = has_table(upper, root, lay.first / 0x400);
+    let had_last = has_table(upper, root, (lay.end - 1) / 0x400);
+    lay_range::<L>(upper, leaf, spill, roots, lay);
+    if 0 < L::REACH {
+        let from = first_line(lay, had_first);
+        let to = line_behind(lay, had_last);
+        reach_lines::<L>(upper, leaf, spill, roots, lay, from, to);
+    }
+}
