@@ -1,14 +1,12 @@
 -- The frames that are free, and those that the maps need, are all frames of tables that are no more than their maps need.
-use Rattle.std.proofs.Common.{◌≡◌, ℕ, ◌+◌, ◌*◌, ◌<◌, ◌≤◌, List, [], length, get_or, sym, ap, ◌∙◌, arith}
+use Rattle.std.proofs.Common.{◌≡◌, ℕ, ◌+◌, ◌<◌, ◌≤◌, List, [], length, get_or, sym, ap, ◌∙◌, arith}
 use Rattle.mx_words.specs.declared.perm.Perm.{Perm}
 use Rattle.mx_words.specs.declared.tables.Kind.{Kind}
 use Rattle.mx_words.specs.declared.tables.Need.{Need}
 use Rattle.mx_words.specs.Counting.{count_below, sum_below}
 use Rattle.mx_words.specs.Runs.{broken_blocks, page_words, region_words}
-use Rattle.mx_words.specs.Blocks.{is_broken}
 use Rattle.mx_words.specs.Need.{need}
-use Rattle.mx_words.proofs.CountingLaws.{count_below_agree, sum_below_agree}
-use Rattle.mx_words.proofs.BlockLaws.{broken_blocks-count}
+use Rattle.mx_words.proofs.CountingLaws.{sum_below_agree}
 use Rattle.mx_table.specs.Tables.{most_words}
 use Rattle.mx_pool.specs.Frames.{free_in}
 use Rattle.mx_upper.specs.Leaf.{IsTrieKind}
@@ -17,6 +15,7 @@ use Rattle.mx_upper.specs.Read.{read_maps}
 use Rattle.mx_upper.specs.Forest.{has_spill, root_at, map_at, IsTables}
 use Rattle.mx_upper.specs.Laying.{spill_lines}
 use Rattle.mx_upper.specs.Standing.{IsStanding}
+use Rattle.mx_upper.proofs.CountLaws.{tight-regions, tight-pages}
 use Rattle.mx_upper.proofs.NeedLaws.{IsNeedCounted, need-counted}
 use Rattle.mx_upper.proofs.SpillLaws.{spill_lines-are}
 use Rattle.mx_upper.specs.Shape.{length-read_maps}
@@ -34,19 +33,6 @@ module _ (kind : Kind) (words : ℕ) (upper leaf spill : Frames) (roots : List �
     (tight : (d : ℕ) → d < length roots → IsTight upper (root_at roots d) (map_at kind words upper leaf spill roots d)) where
   short : (d : ℕ) → length (map_at kind words upper leaf spill roots d) ≤ most_words
   short d = omega (arith, length-map_at kind words upper leaf spill roots d, tables.few_words)
-
-  -- the mid and leaf tables of a domain are as many as its map has broken blocks
-  pub mids-counted : (d : ℕ) → d < length roots → count_below most_regions (has_mid upper (root_at roots d)) ≡ broken_blocks region_words (map_at kind words upper leaf spill roots d)
-  mids-counted d domain =
-      let within : length (map_at kind words upper leaf spill roots d) ≤ 16 * region_words = omega (arith, short d) in
-      count_below_agree most_regions (has_mid upper (root_at roots d)) (is_broken region_words (map_at kind words upper leaf spill roots d)) (tight d domain).mids
-      ∙ sym (broken_blocks-count region_words (map_at kind words upper leaf spill roots d) most_regions (omega arith) within)
-
-  pub leaves-counted : (d : ℕ) → d < length roots → count_below most_pages (has_leaf upper (root_at roots d)) ≡ broken_blocks page_words (map_at kind words upper leaf spill roots d)
-  leaves-counted d domain =
-      let within : length (map_at kind words upper leaf spill roots d) ≤ 16384 * page_words = omega (arith, short d) in
-      count_below_agree most_pages (has_leaf upper (root_at roots d)) (is_broken page_words (map_at kind words upper leaf spill roots d)) (tight d domain).leaves
-      ∙ sym (broken_blocks-count page_words (map_at kind words upper leaf spill roots d) most_pages (omega arith) within)
 
   read-need : IsNeedCounted kind (read_maps kind upper leaf spill words roots)
   read-need =
@@ -72,13 +58,15 @@ module _ (kind : Kind) (words : ℕ) (upper leaf spill : Frames) (roots : List �
       tables.forest.upper_count,
       read-need.upper,
       length-read_maps kind upper leaf spill words roots,
-      summed (broken_blocks region_words) (λ d. count_below most_regions (has_mid upper (root_at roots d))) mids-counted,
+      summed (broken_blocks region_words) (λ d. count_below most_regions (has_mid upper (root_at roots d)))
+      (λ d domain. tight-regions upper (root_at roots d) (map_at kind words upper leaf spill roots d) (tight d domain) (short d)),
     );
     leaf_need = omega (
       arith,
       tables.forest.leaf_count,
       read-need.leaf,
-      summed (broken_blocks page_words) (λ d. count_below most_pages (has_leaf upper (root_at roots d))) leaves-counted,
+      summed (broken_blocks page_words) (λ d. count_below most_pages (has_leaf upper (root_at roots d)))
+      (λ d domain. tight-pages upper (root_at roots d) (map_at kind words upper leaf spill roots d) (tight d domain) (short d)),
     );
     spill_need = omega (
       arith,

@@ -1,5 +1,5 @@
--- Digits of two bits, by shift and mask, and of packed permissions.
-use Rattle.std.proofs.Common.{◌≡◌, ℕ, zero, suc, ◌+◌, ◌*◌, ◌/◌, ◌%◌, ◌^◌, ◌<◌, ◌≤◌, List, [], ◌∷◌, length, refl, ap, ◌∙◌, arith}
+-- The numbers of permissions, and digits of two bits, by shift and mask, and of packed permissions.
+use Rattle.std.proofs.Common.{◌≡◌, ℕ, zero, suc, ◌+◌, ◌*◌, ◌/◌, ◌%◌, ◌^◌, ◌<◌, ◌≤◌, List, [], ◌∷◌, length, refl, ap, ◌∙◌, arith, eq-eqb}
 use Rattle.std.proofs.Math.Nat.{pow-suc, div-one}
 use Rattle.std.proofs.lemmas.Nat.{shr-shr, and_mask}
 use Rattle.std.specs.Int.Bits.{bit_and}
@@ -7,7 +7,18 @@ use Rattle.mx_words.specs.declared.perm.Perm.{Perm}
 use Rattle.mx_words.specs.declared.perm.Perm.TheVariants as P
 use Rattle.mx_words.specs.Rights.{number, perm_at}
 use Rattle.mx_words.specs.Reach.{packed}
-use Rattle.mx_upper.specs.Digits.{digit}
+use Rattle.mx_words.proofs.RunLaws.{same_eq}
+use Rattle.mx_upper.specs.Digits.{digit, numbered}
+
+-- a permission has its number alone, and is told by it
+pub number-one_to_one : (p q : Perm) → number p ≡ number q → p ≡ q
+number-one_to_one p q e = same_eq p q (eq-eqb (number p) (number q) e)
+
+pub numbered-number : (p : Perm) → numbered (number p) ≡ p
+numbered-number P.None = refl
+numbered-number P.Read = refl
+numbered-number P.ReadWrite = refl
+numbered-number P.ExecuteRead = refl
 
 pub digit-zero : (w : ℕ) → digit w 0 ≡ w % 4
 unfolding digit

@@ -1,6 +1,6 @@
 -- Lines, pages and regions of which the parts have one permission each: no line needs a spill word, and no block is broken.
-use Rattle.std.proofs.Common.{◌≡◌, ℕ, ◌+◌, ◌-◌, ◌*◌, ◌/◌, ◌%◌, ◌<◌, ◌≤◌, ◌==◌, Bool, true, false, not, nat_lt, if◌then◌else◌, List, Some, None, length, refl, sym, ap, ◌∙◌, arith}
-use Rattle.std.proofs.lemmas.Bool.{ltb-false, ne_eqb}
+use Rattle.std.proofs.Common.{◌≡◌, ℕ, ◌+◌, ◌-◌, ◌*◌, ◌/◌, ◌%◌, ◌<◌, ◌≤◌, ◌==◌, Bool, false, not, nat_lt, if◌then◌else◌, List, Some, None, length, refl, sym, ap, ◌∙◌, arith}
+use Rattle.std.proofs.lemmas.Bool.{ltb-false, ne_eqb, not-false}
 use Rattle.mx_words.specs.declared.perm.Perm.{Perm}
 use Rattle.mx_words.specs.declared.tables.Kind.{Kind}
 use Rattle.mx_words.specs.declared.tables.Kind.TheVariants as K
@@ -64,10 +64,6 @@ none-named K.Multilevel perms left right spill line entry spilled k s few = refl
 none-named K.Packed perms left right spill line entry spilled k s few = packed-none perms left right spill line entry spilled s few
 
 -- a block that isn't broken is even
-not-false : (b : Bool) → not b ≡ false → b ≡ true
-not-false true e = refl
-not-false false e = sym e
-
 pub even-of : (m : List Perm) (y : ℕ) → is_broken page_words m y ≡ false → IsEven m (y * page_words) 128
 even-of m y whole = even_from 1024 128 m y refl refl (omega arith) (not-false (is_eighth_uniform page_words (block_of page_words m y)) whole)
 

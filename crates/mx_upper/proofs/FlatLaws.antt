@@ -19,6 +19,7 @@ use Rattle.mx_upper.specs.Filled.{flat_line, flat_vector}
 use Rattle.mx_upper.specs.Leaf.{IsTrieKind, needs_spill, leaf_entry, spill_number}
 use Rattle.mx_upper.specs.Walk.{Frames, most_lines, vector_perm, spilled_word, line_number, IsLine}
 use Rattle.mx_upper.specs.Found.{IsVector}
+use Rattle.mx_upper.proofs.Digits.{numbered-number}
 use Rattle.mx_upper.proofs.FoundSpans.{vector-digit}
 use Rattle.mx_upper.proofs.LeafSpans.{length-line, line-at}
 
@@ -74,12 +75,6 @@ even-line m y z at even =
     ∙ ap (perm_at m) here
     ∙ (even.parts (z % 64 / 8) (omega arith)).alike (z % 8 * 16 + i) (omega arith)
     ∙ sym (get_or-replicate 16 i p P.None inside))
-
-numbered-number : (p : Perm) → numbered (number p) ≡ p
-numbered-number P.None = refl
-numbered-number P.Read = refl
-numbered-number P.ReadWrite = refl
-numbered-number P.ExecuteRead = refl
 
 -- the digit of a part in the vector of an even block is the number of the part's permission
 pub vector-part : (size part : ℕ) (m : List Perm) (b e k entry : ℕ) → size / 8 ≡ part → (b * size + e * part + k) / size ≡ b → e < 8 → k < part →

@@ -15,7 +15,7 @@ use Rattle.mx_upper.proofs.ForestLaws.{DifferOnLine, other-line}
 use Rattle.mx_upper.proofs.RangeLaws.{with_range-more, with_range-below, with_range-behind, length-with_range}
 use Rattle.mx_upper.proofs.RoomLaws.{spill-stays}
 use Rattle.mx_upper.proofs.SpillLaws.{has_spill-is}
-use Rattle.mx_upper.proofs.TightLaws.{one-more}
+use Rattle.mx_upper.proofs.ForestChanges.{one-more}
 
 -- a range in one line changes that line alone
 range-differs : (c behind z : ℕ) (p : Perm) (m : List Perm) → c ≤ behind → z * 16 ≤ c → behind ≤ z * 16 + 16 → DifferOnLine m (with_range c behind p m) z

@@ -1,6 +1,6 @@
 -- Tables of several domains lie apart, each in frames that are taken; what a frame that stays keeps.
-use Rattle.std.proofs.Common.{◌≡◌, ◌≢◌, ℕ, ◌+◌, ◌*◌, ◌/◌, ◌%◌, ◌<◌, ◌⊎◌, inl, inr, ◌&&◌, Bool, true, false, List, [], Option, None, IsSome, is_some, unwrap_or, slice_index, length, refl, sym, ap, ◌∙◌, arith, subst}
-use Rattle.std.proofs.lemmas.Bool.{ne_eqb, cases_eq}
+use Rattle.std.proofs.Common.{◌≡◌, ◌≢◌, ℕ, ◌+◌, ◌*◌, ◌/◌, ◌%◌, ◌<◌, ◌⊎◌, inl, inr, ◌&&◌, Bool, true, false, List, [], Option, None, IsSome, is_some, unwrap_or, slice_index, length, refl, sym, ap, ◌∙◌, arith, subst, true≢false}
+use Rattle.std.proofs.lemmas.Bool.{ne_eqb, cases_eq, and_parts}
 use Rattle.mx_words.specs.declared.perm.Perm.{Perm}
 use Rattle.mx_words.specs.declared.tables.Kind.{Kind}
 use Rattle.mx_words.specs.Reach.{vector}
@@ -16,21 +16,25 @@ word-kept frames frames' f place e = ap (λ (o : Option (List ℕ)). slice_index
 pub taken-kept : (frames frames' : Frames) (f : ℕ) → frame_at frames' f ≡ frame_at frames f → IsTaken frames f → IsTaken frames' f
 taken-kept frames frames' f e taken = let T : Option (List ℕ) → Type 0 = λ o. IsSome o in subst T (sym e) taken
 
+-- a frame that is taken is no free one
+pub taken-differs : (frames : Frames) (f g : ℕ) → IsTaken frames f → frame_at frames g ≡ None → f ≢ g
+taken-differs frames f g taken free e =
+    let S : Option (List ℕ) → Type 0 = λ o. IsSome o in
+    true≢false (sym (subst S (ap (frame_at frames) e ∙ free) taken))
+
 -- a vector is no pointer
 pub vector-closed : (size : ℕ) (m : List Perm) (first entry : ℕ) → entry ≡ vector size m first → is_pointer entry ≡ false
 vector-closed size m first entry e = ne_eqb (entry % 4) 0 (λ h. omega arith)
 
--- both of two tests
-and-parts : (a b : Bool) → (a && b) ≡ true → (a ≡ true) × (b ≡ true)
-and-parts true b h = (refl, h)
-and-parts false b h = absurd (let f : false ≡ true = h in cc)
+-- a page with a leaf table lies in a region with a mid table, and its mid word is a pointer
+pub leaf-parts : (upper : Frames) (root y : ℕ) → has_leaf upper root y ≡ true → (has_mid upper root (y / 1024) ≡ true) × (is_pointer (mid_word upper root y) ≡ true)
+leaf-parts upper root y h = and_parts (has_mid upper root (y / 1024)) (is_pointer (mid_word upper root y)) h
 
--- a page with a leaf table lies in a region with a mid table
 pub leaf-region : (upper : Frames) (root y : ℕ) → has_leaf upper root y ≡ true → has_mid upper root (y / 1024) ≡ true
-leaf-region upper root y h = (and-parts (has_mid upper root (y / 1024)) (is_pointer (mid_word upper root y)) h).0
+leaf-region upper root y h = (leaf-parts upper root y h).0
 
 pub leaf-pointer : (upper : Frames) (root y : ℕ) → has_leaf upper root y ≡ true → is_pointer (mid_word upper root y) ≡ true
-leaf-pointer upper root y h = (and-parts (has_mid upper root (y / 1024)) (is_pointer (mid_word upper root y)) h).1
+leaf-pointer upper root y h = (leaf-parts upper root y h).1
 
 pub leaf-from : (upper : Frames) (root y : ℕ) → has_mid upper root (y / 1024) ≡ true → is_pointer (mid_word upper root y) ≡ true → has_leaf upper root y ≡ true
 leaf-from upper root y region pointer = ap (λ (b : Bool). b && is_pointer (mid_word upper root y)) region ∙ pointer
@@ -61,7 +65,7 @@ spill-agree kind upper leaf upper' leaf' root z pages words =
     (λ opened. ap (λ w. is_some (spill_number kind w)) (words opened))
 
 pub spill-page : (kind : Kind) (upper leaf : Frames) (root z : ℕ) → has_spill kind upper leaf root z ≡ true → has_leaf upper root (z / 64) ≡ true
-spill-page kind upper leaf root z h = (and-parts (has_leaf upper root (z / 64)) (is_some (spill_number kind (leaf_word upper leaf root z))) h).0
+spill-page kind upper leaf root z h = (and_parts (has_leaf upper root (z / 64)) (is_some (spill_number kind (leaf_word upper leaf root z))) h).0
 
 pub spill-no-page : (kind : Kind) (upper leaf : Frames) (root z : ℕ) → has_leaf upper root (z / 64) ≡ false → has_spill kind upper leaf root z ≡ false
 spill-no-page kind upper leaf root z h = ap (λ (b : Bool). b && is_some (spill_number kind (leaf_word upper leaf root z))) h
@@ -119,12 +123,8 @@ module _ (kind : Kind) (upper leaf spill : Frames) (roots : List ℕ) (forest : 
       let same : forest.leaf_owner (target (mid_word upper (root_at roots d) y)) ≡ forest.leaf_owner (target (mid_word upper (root_at roots e) k)) = ap forest.leaf_owner h in
       (omega arith, omega arith)
 
--- no mid table is a root table, and each table is in a frame that is taken
+-- each table is in a frame that is taken
 module _ (kind : Kind) (words : ℕ) (upper leaf spill : Frames) (roots : List ℕ) (tables : IsTables kind words upper leaf spill roots) where
-  pub mid-not-root : (d e x : ℕ) → d < length roots → e < length roots → x < most_regions → has_mid upper (root_at roots d) x ≡ true →
-      target (root_word upper (root_at roots d) x) ≢ root_at roots e
-  mid-not-root = mid-root-apart kind upper leaf spill roots tables.forest
-
   pub root-taken : (d : ℕ) → d < length roots → IsTaken upper (root_at roots d)
   root-taken d domain = (tables.shown d domain).shown.root_taken
 

@@ -2,11 +2,10 @@
 use Rattle.std.proofs.Common.{◌≡◌, ◌≢◌, ℕ, ◌+◌, ◌*◌, ◌/◌, ◌%◌, ◌<◌, ◌⊎◌, inl, inr, true, false, List, None, length, refl, sym, ap, ◌∙◌, arith, subst}
 use Rattle.std.proofs.lemmas.Bool.{cases_eq}
 use Rattle.mx_words.specs.declared.tables.Kind.{Kind}
-use Rattle.mx_words.specs.Counting.{bit, count_below, sum_below}
+use Rattle.mx_words.specs.Counting.{count_below, sum_below}
 use Rattle.mx_words.specs.Runs.{line_words, page_words}
 use Rattle.mx_words.specs.Reach.{vector, line_at}
 use Rattle.mx_words.specs.Blocks.{IsEven}
-use Rattle.mx_words.proofs.CountingLaws.{count_below_agree, count_below_changed, sum_below_agree, sum_below_changed}
 use Rattle.mx_pool.specs.Frames.{frame_at, IsTaken, word_at}
 use Rattle.mx_upper.specs.Leaf.{IsTrieKind, spill_number}
 use Rattle.mx_upper.specs.Walk.{Frames, most_regions, most_pages, most_lines, is_pointer, target, root_word, mid_word, leaf_word, spilled_word, line_number, has_mid, has_leaf}
@@ -16,6 +15,7 @@ use Rattle.mx_upper.proofs.EvenLaws.{even-line, none-named}
 use Rattle.mx_upper.proofs.ForestLaws.{shown-stays}
 use Rattle.mx_upper.proofs.TableLaws.{IsPage, KeepsPage, shown-page}
 use Rattle.mx_upper.proofs.TablesLaws.{maps-from, tables-from, length-map_at}
+use Rattle.mx_upper.proofs.ForestChanges.{sum-count-same, sum-count-more}
 use Rattle.mx_upper.proofs.OwnerLaws.{word-kept, taken-kept, vector-closed, leaf-region, leaf-pointer, leaf-from, leaf-closed, leaf-agree, spill-agree, spill-page, spill-no-page, spill-none, place-cases, place-clash, mid-root-apart, mid-apart, leaf-apart}
 
 -- other places of one mid table
@@ -138,26 +138,16 @@ module _ (kind : Kind) (words : ℕ) (upper leaf spill upper' leaf' : Frames) (r
 
     upper-count : sum_below (length roots) (λ e. count_below most_regions (has_mid upper' (root_at roots e))) ≡ sum_below (length roots) (λ e. count_below most_regions (has_mid upper (root_at roots e)))
     upper-count =
-        sum_below_agree (length roots) (λ e. count_below most_regions (has_mid upper' (root_at roots e))) (λ e. count_below most_regions (has_mid upper (root_at roots e)))
-        (λ e inside. count_below_agree most_regions (has_mid upper' (root_at roots e)) (has_mid upper (root_at roots e)) (λ x low. mids-same e x inside))
+        sum-count-same (length roots) most_regions (λ e. has_mid upper (root_at roots e)) (λ e. has_mid upper' (root_at roots e)) (λ e x inside low. mids-same e x inside)
 
-    here-count : count_below most_pages (has_leaf upper' (root_at roots d)) + 1 ≡ count_below most_pages (has_leaf upper (root_at roots d))
-    here-count =
-        let changed = count_below_changed most_pages y (has_leaf upper (root_at roots d)) (has_leaf upper' (root_at roots d)) below (λ j low ne. sym (pages-same d j domain low (inr ne))) in
-        let one : bit (has_leaf upper (root_at roots d) y) ≡ 1 = ap bit opened in
-        let none : bit (has_leaf upper' (root_at roots d) y) ≡ 0 = ap bit here-closed in
-        omega (arith, changed, one, none)
-
-    leaf-count : sum_below (length roots) (λ e. count_below most_pages (has_leaf upper' (root_at roots e))) + 1 ≡ sum_below (length roots) (λ e. count_below most_pages (has_leaf upper (root_at roots e)))
+    leaf-count : sum_below (length roots) (λ e. count_below most_pages (has_leaf upper (root_at roots e))) ≡ sum_below (length roots) (λ e. count_below most_pages (has_leaf upper' (root_at roots e))) + 1
     leaf-count =
-        let changed = sum_below_changed (length roots) d (λ e. count_below most_pages (has_leaf upper (root_at roots e))) (λ e. count_below most_pages (has_leaf upper' (root_at roots e))) domain
-        (λ e inside ne. count_below_agree most_pages (has_leaf upper (root_at roots e)) (has_leaf upper' (root_at roots e)) (λ j low. sym (pages-same e j inside low (inl ne)))) in
-        omega (arith, changed, here-count)
+        sum-count-more (length roots) most_pages d y (λ e. has_leaf upper' (root_at roots e)) (λ e. has_leaf upper (root_at roots e)) domain below
+        (λ e j inside low ne. sym (pages-same e j inside low ne)) here-closed opened
 
     spill-count : sum_below (length roots) (λ e. count_below most_lines (has_spill kind upper' leaf' (root_at roots e))) ≡ sum_below (length roots) (λ e. count_below most_lines (has_spill kind upper leaf (root_at roots e)))
     spill-count =
-        sum_below_agree (length roots) (λ e. count_below most_lines (has_spill kind upper' leaf' (root_at roots e))) (λ e. count_below most_lines (has_spill kind upper leaf (root_at roots e)))
-        (λ e inside. count_below_agree most_lines (has_spill kind upper' leaf' (root_at roots e)) (has_spill kind upper leaf (root_at roots e)) (λ z low. spills-same e z inside low))
+        sum-count-same (length roots) most_lines (λ e. has_spill kind upper leaf (root_at roots e)) (λ e. has_spill kind upper' leaf' (root_at roots e)) spills-same
 
     forest-after : IsForest kind upper' leaf' spill roots
     forest-after = record {

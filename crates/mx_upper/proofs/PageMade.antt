@@ -14,7 +14,8 @@ use Rattle.mx_upper.proofs.ForestLaws.{shown-stays}
 use Rattle.mx_upper.proofs.TableLaws.{IsPage, shown-page}
 use Rattle.mx_upper.proofs.TablesLaws.{maps-from, tables-from, length-map_at}
 use Rattle.mx_upper.proofs.FlatLaws.{flat-spill, page-line-stands}
-use Rattle.mx_upper.proofs.ForestChanges.{taken-differs, word-stays, taken-stays, cases_pair, with_owner, owner-here, owner-elsewhere, sum-count-same, sum-count-more, root-taken, mid-taken, leaf-taken, root-mid-apart, mids-apart, are-same, has_leaf-parts, has_leaf-from, has_leaf-same, has_spill-same, no_reaches, no_reach-here, shown-no_reaches}
+use Rattle.mx_upper.proofs.ForestChanges.{with_owner, owner-here, owner-elsewhere, sum-count-same, sum-count-more, are-same, no_reaches, no_reach-here, shown-no_reaches}
+use Rattle.mx_upper.proofs.OwnerLaws.{taken-differs, word-kept, taken-kept, place-cases, place-clash, leaf-parts, leaf-from, leaf-agree, spill-agree, mid-root-apart, mid-apart, root-taken, mid-taken, leaf-taken}
 
 module _ (kind : Kind) (words : ℕ) (upper leaf spill upper' leaf' : Frames) (roots : List ℕ) (d y : ℕ) (k : IsTrieKind kind) (tables : IsTables kind words upper leaf spill roots)
     (domain : d < length roots) (below : y < most_pages) (opened : has_mid upper (root_at roots d) (y / 1024) ≡ true) where
@@ -22,10 +23,10 @@ module _ (kind : Kind) (words : ℕ) (upper leaf spill upper' leaf' : Frames) (r
       (made : IsPageMade kind upper leaf upper' leaf' (target (root_word upper (root_at roots d) (y / 1024))) (y % 1024) frame) where
     -- the words of the root tables
     root-stays : (e : ℕ) → e < length roots → frame_at upper' (root_at roots e) ≡ frame_at upper (root_at roots e)
-    root-stays e inside = made.upper_elsewhere (root_at roots e) (root-mid-apart kind words upper leaf spill roots tables e d (y / 1024) inside domain (omega arith) opened)
+    root-stays e inside = made.upper_elsewhere (root_at roots e) (λ same. mid-root-apart kind upper leaf spill roots tables.forest d e (y / 1024) domain inside (omega arith) opened (sym same))
 
     root-same : (e x : ℕ) → e < length roots → root_word upper' (root_at roots e) x ≡ root_word upper (root_at roots e) x
-    root-same e x inside = word-stays upper upper' (root_at roots e) x (root-stays e inside)
+    root-same e x inside = word-kept upper upper' (root_at roots e) x (root-stays e inside)
 
     mids-same : (e x : ℕ) → e < length roots → has_mid upper' (root_at roots e) x ≡ has_mid upper (root_at roots e) x
     mids-same e x inside = ap is_pointer (root-same e x inside)
@@ -34,10 +35,11 @@ module _ (kind : Kind) (words : ℕ) (upper leaf spill upper' leaf' : Frames) (r
     mid-stays : (e x : ℕ) → e < length roots → x < most_regions → has_mid upper (root_at roots e) x ≡ true → (e ≢ d) ⊎ (x ≢ y / 1024) →
         frame_at upper' (target (root_word upper (root_at roots e) x)) ≡ frame_at upper (target (root_word upper (root_at roots e) x))
     mid-stays e x inside at region ne =
-        made.upper_elsewhere (target (root_word upper (root_at roots e) x)) (mids-apart kind words upper leaf spill roots tables e x d (y / 1024) inside at domain (omega arith) region opened ne)
+        made.upper_elsewhere (target (root_word upper (root_at roots e) x)) 
+        (λ same. place-clash d (y / 1024) e x ne (mid-apart kind upper leaf spill roots tables.forest e d x (y / 1024) inside domain at (omega arith) region opened same))
 
     mid-still-taken : (e x : ℕ) → e < length roots → x < most_regions → has_mid upper (root_at roots e) x ≡ true → IsTaken upper' (target (root_word upper (root_at roots e) x))
-    mid-still-taken e x inside at region = cases (cases_pair e d x (y / 1024))
+    mid-still-taken e x inside at region = cases (place-cases d (y / 1024) e x)
       where
         cases : ((e ≡ d) × (x ≡ y / 1024)) ⊎ ((e ≢ d) ⊎ (x ≢ y / 1024)) → IsTaken upper' (target (root_word upper (root_at roots e) x))
         cases (inl h) =
@@ -45,13 +47,13 @@ module _ (kind : Kind) (words : ℕ) (upper leaf spill upper' leaf' : Frames) (r
             let S : ℕ → Type 0 = λ n. IsTaken upper' (target (root_word upper (root_at roots n) x)) in
             subst S (sym h.0) (subst T (sym h.1) made.mid_taken)
         cases (inr ne) =
-            taken-stays upper upper' (target (root_word upper (root_at roots e) x)) (mid-stays e x inside at region ne)
+            taken-kept upper upper' (target (root_word upper (root_at roots e) x)) (mid-stays e x inside at region ne)
             (mid-taken kind words upper leaf spill roots tables e x inside at region)
 
     mid-same : (e n : ℕ) → e < length roots → n < most_pages → has_mid upper (root_at roots e) (n / 1024) ≡ true → (e ≢ d) ⊎ (n ≢ y) →
         mid_word upper' (root_at roots e) n ≡ mid_word upper (root_at roots e) n
     mid-same e n inside at region ne =
-        ap (λ w. word_at upper' (target w) (n % 1024)) (root-same e (n / 1024) inside) ∙ cases (cases_pair e d (n / 1024) (y / 1024))
+        ap (λ w. word_at upper' (target w) (n % 1024)) (root-same e (n / 1024) inside) ∙ cases (place-cases d (y / 1024) e (n / 1024))
       where
         cases : ((e ≡ d) × (n / 1024 ≡ y / 1024)) ⊎ ((e ≢ d) ⊎ (n / 1024 ≢ y / 1024)) →
             word_at upper' (target (root_word upper (root_at roots e) (n / 1024))) (n % 1024) ≡ word_at upper (target (root_word upper (root_at roots e) (n / 1024))) (n % 1024)
@@ -61,14 +63,14 @@ module _ (kind : Kind) (words : ℕ) (upper leaf spill upper' leaf' : Frames) (r
             let table : target (root_word upper (root_at roots e) (n / 1024)) ≡ target (root_word upper (root_at roots d) (y / 1024)) =
             ap (λ a. target (root_word upper (root_at roots a) (n / 1024))) h.0 ∙ ap (λ b. target (root_word upper (root_at roots d) b)) h.1 in
             ap (λ f. word_at upper' f (n % 1024)) table ∙ made.others (n % 1024) other ∙ sym (ap (λ f. word_at upper f (n % 1024)) table)
-        cases (inr apart) = word-stays upper upper' (target (root_word upper (root_at roots e) (n / 1024))) (n % 1024) (mid-stays e (n / 1024) inside (omega arith) region apart)
+        cases (inr apart) = word-kept upper upper' (target (root_word upper (root_at roots e) (n / 1024))) (n % 1024) (mid-stays e (n / 1024) inside (omega arith) region apart)
 
     here : mid_word upper' (root_at roots d) y ≡ 4 * frame
     here = ap (λ w. word_at upper' (target w) (y % 1024)) (root-same d (y / 1024) domain) ∙ made.linked
 
     -- a page that has a leaf table is another page
     other-page : (e n : ℕ) → is_pointer (mid_word upper (root_at roots e) n) ≡ true → (e ≢ d) ⊎ (n ≢ y)
-    other-page e n pointer = cases (cases_pair e d n y)
+    other-page e n pointer = cases (place-cases d y e n)
       where
         cases : ((e ≡ d) × (n ≡ y)) ⊎ ((e ≢ d) ⊎ (n ≢ y)) → (e ≢ d) ⊎ (n ≢ y)
         cases (inl h) =
@@ -81,28 +83,28 @@ module _ (kind : Kind) (words : ℕ) (upper leaf spill upper' leaf' : Frames) (r
         (target (mid_word upper (root_at roots e) n) ≢ frame) × (frame_at leaf' (target (mid_word upper (root_at roots e) n)) ≡ frame_at leaf (target (mid_word upper (root_at roots e) n)))
     leaf-stays e n inside at region pointer =
         let other : target (mid_word upper (root_at roots e) n) ≢ frame =
-        taken-differs leaf (target (mid_word upper (root_at roots e) n)) frame (leaf-taken kind words upper leaf spill roots tables e n inside at region pointer) made.was_free in
+        taken-differs leaf (target (mid_word upper (root_at roots e) n)) frame (leaf-taken kind words upper leaf spill roots tables e n inside at (leaf-from upper (root_at roots e) n region pointer)) made.was_free in
         (other, made.leaf_elsewhere (target (mid_word upper (root_at roots e) n)) other)
 
     leaf-still-taken : (e n : ℕ) → e < length roots → n < most_pages → has_mid upper (root_at roots e) (n / 1024) ≡ true → is_pointer (mid_word upper (root_at roots e) n) ≡ true →
         IsTaken leaf' (target (mid_word upper (root_at roots e) n))
     leaf-still-taken e n inside at region pointer =
-        taken-stays leaf leaf' (target (mid_word upper (root_at roots e) n)) (leaf-stays e n inside at region pointer).1 (leaf-taken kind words upper leaf spill roots tables e n inside at region pointer)
+        taken-kept leaf leaf' (target (mid_word upper (root_at roots e) n)) (leaf-stays e n inside at region pointer).1 (leaf-taken kind words upper leaf spill roots tables e n inside at (leaf-from upper (root_at roots e) n region pointer))
 
     leaf-same : (e z : ℕ) → e < length roots → z < most_lines → has_mid upper (root_at roots e) (z / 64 / 1024) ≡ true → is_pointer (mid_word upper (root_at roots e) (z / 64)) ≡ true →
         leaf_word upper' leaf' (root_at roots e) z ≡ leaf_word upper leaf (root_at roots e) z
     leaf-same e z inside at region pointer =
         ap (λ w. word_at leaf' (target w) (z % 64)) (mid-same e (z / 64) inside (omega arith) region (other-page e (z / 64) pointer))
-        ∙ word-stays leaf leaf' (target (mid_word upper (root_at roots e) (z / 64))) (z % 64) (leaf-stays e (z / 64) inside (omega arith) region pointer).1
+        ∙ word-kept leaf leaf' (target (mid_word upper (root_at roots e) (z / 64))) (z % 64) (leaf-stays e (z / 64) inside (omega arith) region pointer).1
 
     -- which pages have leaf tables
     leaves-same : (e n : ℕ) → e < length roots → n < most_pages → (e ≢ d) ⊎ (n ≢ y) → has_leaf upper' (root_at roots e) n ≡ has_leaf upper (root_at roots e) n
-    leaves-same e n inside at ne = has_leaf-same upper upper' (root_at roots e) n (mids-same e (n / 1024) inside) (λ region. mid-same e n inside at region ne)
+    leaves-same e n inside at ne = leaf-agree upper upper' (root_at roots e) n (mids-same e (n / 1024) inside) (λ region. mid-same e n inside at region ne)
 
     leaf-here : has_leaf upper' (root_at roots d) y ≡ true
     leaf-here =
         let linked = here in
-        has_leaf-from upper' (root_at roots d) y (mids-same d (y / 1024) domain ∙ opened) (eq-eqb (mid_word upper' (root_at roots d) y % 4) 0 (omega (arith, linked)))
+        leaf-from upper' (root_at roots d) y (mids-same d (y / 1024) domain ∙ opened) (eq-eqb (mid_word upper' (root_at roots d) y % 4) 0 (omega (arith, linked)))
 
     leaf-none : has_leaf upper (root_at roots d) y ≡ false
     leaf-none = and_right (has_mid upper (root_at roots d) (y / 1024)) (is_pointer (mid_word upper (root_at roots d) y)) closed
@@ -114,7 +116,7 @@ module _ (kind : Kind) (words : ℕ) (upper leaf spill upper' leaf' : Frames) (r
         ap (λ f. word_at leaf' f (z % 64)) table ∙ made.lines (z % 64) (omega arith)
 
     spills-same : (e z : ℕ) → e < length roots → z < most_lines → has_spill kind upper' leaf' (root_at roots e) z ≡ has_spill kind upper leaf (root_at roots e) z
-    spills-same e z inside at = cases (cases_pair e d (z / 64) y)
+    spills-same e z inside at = cases (place-cases d y e (z / 64))
       where
         cases : ((e ≡ d) × (z / 64 ≡ y)) ⊎ ((e ≢ d) ⊎ (z / 64 ≢ y)) → has_spill kind upper' leaf' (root_at roots e) z ≡ has_spill kind upper leaf (root_at roots e) z
         cases (inl h) =
@@ -125,9 +127,9 @@ module _ (kind : Kind) (words : ℕ) (upper leaf spill upper' leaf' : Frames) (r
             (and_right (has_leaf upper' (root_at roots d) (z / 64)) (is_some (spill_number kind (leaf_word upper' leaf' (root_at roots d) z))) none
             ∙ sym (and_left (has_leaf upper (root_at roots d) (z / 64)) (is_some (spill_number kind (leaf_word upper leaf (root_at roots d) z))) (ap (has_leaf upper (root_at roots d)) h.1 ∙ leaf-none)))
         cases (inr ne) =
-            has_spill-same kind upper leaf upper' leaf' (root_at roots e) z (leaves-same e (z / 64) inside (omega arith) ne)
+            spill-agree kind upper leaf upper' leaf' (root_at roots e) z (leaves-same e (z / 64) inside (omega arith) ne)
             (λ page.
-            let parts = has_leaf-parts upper (root_at roots e) (z / 64) page in
+            let parts = leaf-parts upper (root_at roots e) (z / 64) page in
             leaf-same e z inside at parts.0 parts.1)
 
     forest : IsForest kind upper' leaf' spill roots
@@ -148,7 +150,7 @@ module _ (kind : Kind) (words : ℕ) (upper leaf spill upper' leaf' : Frames) (r
           leaf_owned = owned;
           spill_owned = λ e z inside at crowded.
               (let was : has_spill kind upper leaf (root_at roots e) z ≡ true = sym (spills-same e z inside at) ∙ crowded in
-              let page = has_leaf-parts upper (root_at roots e) (z / 64) (and_parts (has_leaf upper (root_at roots e) (z / 64)) (is_some (spill_number kind (leaf_word upper leaf (root_at roots e) z))) was).0 in
+              let page = leaf-parts upper (root_at roots e) (z / 64) (and_parts (has_leaf upper (root_at roots e) (z / 64)) (is_some (spill_number kind (leaf_word upper leaf (root_at roots e) z))) was).0 in
               ap (λ w. old.spill_owner (line_number kind w)) (leaf-same e z inside at page.0 page.1) ∙ old.spill_owned e z inside at was);
           upper_count = omega (arith, old.upper_count, mids, made.upper_free, made.upper_total);
           leaf_count = omega (arith, old.leaf_count, leaves, made.leaf_free, made.leaf_total);
@@ -157,7 +159,7 @@ module _ (kind : Kind) (words : ℕ) (upper leaf spill upper' leaf' : Frames) (r
       where
         owned : (e n : ℕ) → e < length roots → n < most_pages → has_leaf upper' (root_at roots e) n ≡ true →
             with_owner tables.forest.leaf_owner frame (16384 * d + y) (target (mid_word upper' (root_at roots e) n)) ≡ 16384 * e + n
-        owned e n inside at page = cases (cases_pair e d n y)
+        owned e n inside at page = cases (place-cases d y e n)
           where
             cases : ((e ≡ d) × (n ≡ y)) ⊎ ((e ≢ d) ⊎ (n ≢ y)) → with_owner tables.forest.leaf_owner frame (16384 * d + y) (target (mid_word upper' (root_at roots e) n)) ≡ 16384 * e + n
             cases (inl h) =
@@ -169,7 +171,7 @@ module _ (kind : Kind) (words : ℕ) (upper leaf spill upper' leaf' : Frames) (r
                 owner-here tables.forest.leaf_owner frame (16384 * d + y) (target (mid_word upper' (root_at roots e) n)) f ∙ omega arith
             cases (inr ne) =
                 let was : has_leaf upper (root_at roots e) n ≡ true = sym (leaves-same e n inside at ne) ∙ page in
-                let parts = has_leaf-parts upper (root_at roots e) n was in
+                let parts = leaf-parts upper (root_at roots e) n was in
                 ap (λ w. with_owner tables.forest.leaf_owner frame (16384 * d + y) (target w)) (mid-same e n inside at parts.0 ne)
                 ∙ owner-elsewhere tables.forest.leaf_owner frame (16384 * d + y) (target (mid_word upper (root_at roots e) n)) (leaf-stays e n inside at parts.0 parts.1).0
                 ∙ tables.forest.leaf_owned e n inside at was
@@ -183,7 +185,7 @@ module _ (kind : Kind) (words : ℕ) (upper leaf spill upper' leaf' : Frames) (r
           rights = loose.rights;
           shown = shown-stays kind loose.lefts loose.rights upper leaf spill upper' leaf' spill (root_at roots e) (map_at kind words upper leaf spill roots e) loose.shown
               (are-same kind words upper leaf spill upper' leaf' roots e tables inside
-              (taken-stays upper upper' (root_at roots e) (root-stays e inside) (root-taken kind words upper leaf spill roots tables e inside))
+              (taken-kept upper upper' (root_at roots e) (root-stays e inside) (root-taken kind words upper leaf spill roots tables e inside))
               (λ x at. root-same e x inside)
               (λ x at region. mid-still-taken e x inside at region)
               (λ n at region. mid-same e n inside at region (inl ne))
@@ -221,7 +223,7 @@ module _ (kind : Kind) (words : ℕ) (upper leaf spill upper' leaf' : Frames) (r
           rights = no_reaches loose.rights y;
           shown = shown-page kind (no_reaches loose.lefts y) (no_reaches loose.rights y) upper leaf spill upper' leaf' (root_at roots d) (map_at kind words upper leaf spill roots d) y
               (shown-no_reaches kind loose.lefts loose.rights upper leaf spill (root_at roots d) (map_at kind words upper leaf spill roots d) y loose.shown closed)
-              (taken-stays upper upper' (root_at roots d) (root-stays d domain) (root-taken kind words upper leaf spill roots tables d domain))
+              (taken-kept upper upper' (root_at roots d) (root-stays d domain) (root-taken kind words upper leaf spill roots tables d domain))
               (λ x at. root-same d x domain)
               (λ x at region. mid-still-taken d x domain at region)
               (λ n at ne region.
@@ -255,7 +257,7 @@ module _ (kind : Kind) (words : ℕ) (upper leaf spill upper' leaf' : Frames) (r
     mids = λ e x inside at. mids-same frame closed made e x inside;
     leaves = leaves-same frame closed made;
     lines = λ e z inside at page.
-        (let parts = has_leaf-parts upper (root_at roots e) (z / 64) page in
+        (let parts = leaf-parts upper (root_at roots e) (z / 64) page in
         record { entry = leaf-same frame closed made e z inside at parts.0 parts.1; spilled = refl });
     upper_total = made.upper_total;
     leaf_total = made.leaf_total;
@@ -266,7 +268,7 @@ module _ (kind : Kind) (words : ℕ) (upper leaf spill upper' leaf' : Frames) (r
   page-kept-whole pointer = record {
     tables = tables;
     maps = λ e inside. refl;
-    here = has_leaf-from upper (root_at roots d) y opened pointer;
+    here = leaf-from upper (root_at roots d) y opened pointer;
     mids = λ e x inside at. refl;
     leaves = λ e n inside at ne. refl;
     lines = λ e z inside at page. record { entry = refl; spilled = refl };

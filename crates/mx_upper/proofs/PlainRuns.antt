@@ -10,27 +10,8 @@ use Rattle.mx_words.specs.Runs.{line_words}
 use Rattle.mx_words.specs.Reach.{packed}
 use Rattle.mx_upper.specs.Digits.{digit}
 use Rattle.mx_upper.specs.Leaf.{IsStored, entry_run, left_of_run, right_of_run, lengthened, placed, line_run}
-use Rattle.mx_upper.proofs.Digits.{digit-packed}
+use Rattle.mx_upper.proofs.Digits.{digit-packed, number-one_to_one}
 use Rattle.mx_upper.proofs.Spans.{IsRunIn, span_within-is}
-
--- a permission has its number alone
-pub number-one_to_one : (p q : Perm) → number p ≡ number q → p ≡ q
-number-one_to_one P.None P.None e = refl
-number-one_to_one P.None P.Read e = absurd (omega arith)
-number-one_to_one P.None P.ReadWrite e = absurd (omega arith)
-number-one_to_one P.None P.ExecuteRead e = absurd (omega arith)
-number-one_to_one P.Read P.None e = absurd (omega arith)
-number-one_to_one P.Read P.Read e = refl
-number-one_to_one P.Read P.ReadWrite e = absurd (omega arith)
-number-one_to_one P.Read P.ExecuteRead e = absurd (omega arith)
-number-one_to_one P.ReadWrite P.None e = absurd (omega arith)
-number-one_to_one P.ReadWrite P.Read e = absurd (omega arith)
-number-one_to_one P.ReadWrite P.ReadWrite e = refl
-number-one_to_one P.ReadWrite P.ExecuteRead e = absurd (omega arith)
-number-one_to_one P.ExecuteRead P.None e = absurd (omega arith)
-number-one_to_one P.ExecuteRead P.Read e = absurd (omega arith)
-number-one_to_one P.ExecuteRead P.ReadWrite e = absurd (omega arith)
-number-one_to_one P.ExecuteRead P.ExecuteRead e = refl
 
 -- what a scan of a plain entry's digits round a place finds
 pub record IsScan (entry place begin last : ℕ) : Type 0 where

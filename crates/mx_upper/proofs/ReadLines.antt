@@ -19,17 +19,11 @@ use Rattle.mx_upper.specs.Leaf.{IsTrieKind, packed_entry, IsStored}
 use Rattle.mx_upper.specs.Walk.{Frames, most_regions, most_pages, most_lines, has_mid, is_pointer, root_word, mid_word, leaf_word, spilled_word, vector_perm, line_number, IsLine, IsShown}
 use Rattle.mx_upper.specs.Found.{IsVector}
 use Rattle.mx_upper.specs.Read.{plain_line, codes_line, packed_line, read_line, leaf_perm, read_at, read_map}
-use Rattle.mx_upper.proofs.Digits.{digit-packed}
+use Rattle.mx_upper.proofs.Digits.{digit-packed, numbered-number}
 use Rattle.mx_upper.proofs.Decoding.{decoded-ended, decoded-going, value_code-first}
 use Rattle.mx_upper.proofs.MiniEntries.{IsMade, mini-made}
 use Rattle.mx_upper.proofs.LeafSpans.{line-at}
 use Rattle.mx_upper.proofs.FoundSpans.{vector-digit}
-
-pub numbered-number : (p : Perm) → numbered (number p) ≡ p
-numbered-number P.None = refl
-numbered-number P.Read = refl
-numbered-number P.ReadWrite = refl
-numbered-number P.ExecuteRead = refl
 
 number-numbered : (n : ℕ) → n < 4 → number (numbered n) ≡ n
 number-numbered n below = cases (n_cases n below)

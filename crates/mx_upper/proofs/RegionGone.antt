@@ -2,11 +2,10 @@
 use Rattle.std.proofs.Common.{◌≡◌, ◌≢◌, ℕ, ◌+◌, ◌*◌, ◌/◌, ◌%◌, ◌<◌, ◌⊎◌, inl, inr, true, false, List, length, refl, sym, ap, ◌∙◌, arith, subst}
 use Rattle.std.proofs.lemmas.Bool.{cases_eq}
 use Rattle.mx_words.specs.declared.tables.Kind.{Kind}
-use Rattle.mx_words.specs.Counting.{bit, count_below, sum_below}
+use Rattle.mx_words.specs.Counting.{count_below, sum_below}
 use Rattle.mx_words.specs.Runs.{region_words}
 use Rattle.mx_words.specs.Reach.{vector}
 use Rattle.mx_words.specs.Blocks.{IsEven}
-use Rattle.mx_words.proofs.CountingLaws.{count_below_agree, count_below_changed, sum_below_agree, sum_below_changed}
 use Rattle.mx_pool.specs.Frames.{frame_at, word_at}
 use Rattle.mx_upper.specs.Leaf.{IsTrieKind}
 use Rattle.mx_upper.specs.Walk.{Frames, most_regions, most_pages, most_lines, is_pointer, target, root_word, mid_word, leaf_word, line_number, has_mid, has_leaf}
@@ -15,6 +14,7 @@ use Rattle.mx_upper.specs.Steps.{IsRegionGone, IsRegionClosed}
 use Rattle.mx_upper.proofs.ForestLaws.{shown-stays}
 use Rattle.mx_upper.proofs.TableLaws.{IsRegion, KeepsPage, shown-region}
 use Rattle.mx_upper.proofs.TablesLaws.{maps-from, tables-from, length-map_at}
+use Rattle.mx_upper.proofs.ForestChanges.{sum-count-same, sum-count-more}
 use Rattle.mx_upper.proofs.OwnerLaws.{word-kept, taken-kept, vector-closed, leaf-region, leaf-from, leaf-no-region, leaf-agree, spill-agree, spill-page, place-cases, place-clash, root-apart, mid-root-apart, mid-apart}
 
 module _ (kind : Kind) (words : ℕ) (upper leaf spill upper' : Frames) (roots : List ℕ) (d x : ℕ) (k : IsTrieKind kind) (tables : IsTables kind words upper leaf spill roots)
@@ -108,28 +108,18 @@ module _ (kind : Kind) (words : ℕ) (upper leaf spill upper' : Frames) (roots :
         let was : has_spill kind upper leaf (root_at roots e) z ≡ true = sym (spills-same e z inside low) ∙ o in
         ap (λ w. tables.forest.spill_owner (line_number kind w)) (line-same e z inside low (spill-page kind upper leaf (root_at roots e) z was)) ∙ tables.forest.spill_owned e z inside low was
 
-    here-count : count_below most_regions (has_mid upper' (root_at roots d)) + 1 ≡ count_below most_regions (has_mid upper (root_at roots d))
-    here-count =
-        let changed = count_below_changed most_regions x (has_mid upper (root_at roots d)) (has_mid upper' (root_at roots d)) below (λ j low ne. sym (mids-same d j domain (inr ne))) in
-        let one : bit (has_mid upper (root_at roots d) x) ≡ 1 = ap bit opened in
-        let none : bit (has_mid upper' (root_at roots d) x) ≡ 0 = ap bit here-closed in
-        omega (arith, changed, one, none)
-
-    upper-count : sum_below (length roots) (λ e. count_below most_regions (has_mid upper' (root_at roots e))) + 1 ≡ sum_below (length roots) (λ e. count_below most_regions (has_mid upper (root_at roots e)))
+    upper-count : sum_below (length roots) (λ e. count_below most_regions (has_mid upper (root_at roots e))) ≡ sum_below (length roots) (λ e. count_below most_regions (has_mid upper' (root_at roots e))) + 1
     upper-count =
-        let changed = sum_below_changed (length roots) d (λ e. count_below most_regions (has_mid upper (root_at roots e))) (λ e. count_below most_regions (has_mid upper' (root_at roots e))) domain
-        (λ e inside ne. count_below_agree most_regions (has_mid upper (root_at roots e)) (has_mid upper' (root_at roots e)) (λ j low. sym (mids-same e j inside (inl ne)))) in
-        omega (arith, changed, here-count)
+        sum-count-more (length roots) most_regions d x (λ e. has_mid upper' (root_at roots e)) (λ e. has_mid upper (root_at roots e)) domain below
+        (λ e j inside low ne. sym (mids-same e j inside ne)) here-closed opened
 
     leaf-count : sum_below (length roots) (λ e. count_below most_pages (has_leaf upper' (root_at roots e))) ≡ sum_below (length roots) (λ e. count_below most_pages (has_leaf upper (root_at roots e)))
     leaf-count =
-        sum_below_agree (length roots) (λ e. count_below most_pages (has_leaf upper' (root_at roots e))) (λ e. count_below most_pages (has_leaf upper (root_at roots e)))
-        (λ e inside. count_below_agree most_pages (has_leaf upper' (root_at roots e)) (has_leaf upper (root_at roots e)) (λ j low. pages-same e j inside low))
+        sum-count-same (length roots) most_pages (λ e. has_leaf upper (root_at roots e)) (λ e. has_leaf upper' (root_at roots e)) pages-same
 
     spill-count : sum_below (length roots) (λ e. count_below most_lines (has_spill kind upper' leaf (root_at roots e))) ≡ sum_below (length roots) (λ e. count_below most_lines (has_spill kind upper leaf (root_at roots e)))
     spill-count =
-        sum_below_agree (length roots) (λ e. count_below most_lines (has_spill kind upper' leaf (root_at roots e))) (λ e. count_below most_lines (has_spill kind upper leaf (root_at roots e)))
-        (λ e inside. count_below_agree most_lines (has_spill kind upper' leaf (root_at roots e)) (has_spill kind upper leaf (root_at roots e)) (λ z low. spills-same e z inside low))
+        sum-count-same (length roots) most_lines (λ e. has_spill kind upper leaf (root_at roots e)) (λ e. has_spill kind upper' leaf (root_at roots e)) spills-same
 
     forest-after : IsForest kind upper' leaf spill roots
     forest-after = record {

@@ -15,7 +15,8 @@ use Rattle.mx_upper.proofs.ForestLaws.{shown-stays}
 use Rattle.mx_upper.proofs.TableLaws.{IsRegion, shown-region}
 use Rattle.mx_upper.proofs.TablesLaws.{maps-from, tables-from, length-map_at}
 use Rattle.mx_upper.proofs.FlatLaws.{region-page-even, region-page-vector}
-use Rattle.mx_upper.proofs.ForestChanges.{taken-differs, word-stays, taken-stays, cases_pair, with_owner, owner-here, owner-elsewhere, sum-count-same, sum-count-more, root-taken, mid-taken, leaf-taken, roots-apart, root-mid-apart, are-same, has_leaf-parts, has_leaf-same, has_spill-same}
+use Rattle.mx_upper.proofs.ForestChanges.{with_owner, owner-here, owner-elsewhere, sum-count-same, sum-count-more, are-same}
+use Rattle.mx_upper.proofs.OwnerLaws.{taken-differs, word-kept, taken-kept, place-cases, leaf-parts, leaf-from, leaf-agree, spill-agree, root-apart, mid-root-apart, root-taken, mid-taken, leaf-taken}
 
 module _ (kind : Kind) (words : ℕ) (upper leaf spill upper' : Frames) (roots : List ℕ) (d x : ℕ) (k : IsTrieKind kind) (tables : IsTables kind words upper leaf spill roots)
     (domain : d < length roots) (below : x < most_regions) where
@@ -30,7 +31,7 @@ module _ (kind : Kind) (words : ℕ) (upper leaf spill upper' : Frames) (roots :
         cases : (e ≡ d) ⊎ (e ≢ d) → IsTaken upper' (root_at roots e)
         cases (inl h) = let S : ℕ → Type 0 = λ n. IsTaken upper' (root_at roots n) in subst S (sym h) made.root_taken
         cases (inr ne) =
-            taken-stays upper upper' (root_at roots e) (made.elsewhere (root_at roots e) (roots-apart kind words upper leaf spill roots tables e d inside domain ne) (root-fresh e inside))
+            taken-kept upper upper' (root_at roots e) (made.elsewhere (root_at roots e) (root-apart kind upper leaf spill roots tables.forest e d inside domain ne) (root-fresh e inside))
             (root-taken kind words upper leaf spill roots tables e inside)
 
     root-same : (e n : ℕ) → e < length roots → (e ≢ d) ⊎ (n ≢ x) → root_word upper' (root_at roots e) n ≡ root_word upper (root_at roots e) n
@@ -41,7 +42,7 @@ module _ (kind : Kind) (words : ℕ) (upper leaf spill upper' : Frames) (roots :
             let S : ℕ → Type 0 = λ a. root_word upper' (root_at roots a) n ≡ root_word upper (root_at roots a) n in
             subst S (sym h) (made.others n (elim ne [ inl f ↦ absurd (f h) | inr f ↦ f ]))
         cases (inr apart) =
-            word-stays upper upper' (root_at roots e) n (made.elsewhere (root_at roots e) (roots-apart kind words upper leaf spill roots tables e d inside domain apart) (root-fresh e inside))
+            word-kept upper upper' (root_at roots e) n (made.elsewhere (root_at roots e) (root-apart kind upper leaf spill roots tables.forest e d inside domain apart) (root-fresh e inside))
 
     mids-same : (e n : ℕ) → e < length roots → n < most_regions → (e ≢ d) ⊎ (n ≢ x) → has_mid upper' (root_at roots e) n ≡ has_mid upper (root_at roots e) n
     mids-same e n inside at ne = ap is_pointer (root-same e n inside ne)
@@ -51,7 +52,7 @@ module _ (kind : Kind) (words : ℕ) (upper leaf spill upper' : Frames) (roots :
 
     -- a region that has a mid table is another region
     other-region : (e n : ℕ) → has_mid upper (root_at roots e) n ≡ true → (e ≢ d) ⊎ (n ≢ x)
-    other-region e n region = cases (cases_pair e d n x)
+    other-region e n region = cases (place-cases d x e n)
       where
         cases : ((e ≡ d) × (n ≡ x)) ⊎ ((e ≢ d) ⊎ (n ≢ x)) → (e ≢ d) ⊎ (n ≢ x)
         cases (inl h) =
@@ -67,16 +68,16 @@ module _ (kind : Kind) (words : ℕ) (upper leaf spill upper' : Frames) (roots :
     mid-stays : (e n : ℕ) → e < length roots → n < most_regions → has_mid upper (root_at roots e) n ≡ true →
         frame_at upper' (target (root_word upper (root_at roots e) n)) ≡ frame_at upper (target (root_word upper (root_at roots e) n))
     mid-stays e n inside at region =
-        made.elsewhere (target (root_word upper (root_at roots e) n)) (λ same. root-mid-apart kind words upper leaf spill roots tables d e n domain inside at region (sym same)) (mid-fresh e n inside at region)
+        made.elsewhere (target (root_word upper (root_at roots e) n)) (mid-root-apart kind upper leaf spill roots tables.forest e d n inside domain at region) (mid-fresh e n inside at region)
 
     mid-still-taken : (e n : ℕ) → e < length roots → n < most_regions → has_mid upper (root_at roots e) n ≡ true → IsTaken upper' (target (root_word upper (root_at roots e) n))
     mid-still-taken e n inside at region =
-        taken-stays upper upper' (target (root_word upper (root_at roots e) n)) (mid-stays e n inside at region) (mid-taken kind words upper leaf spill roots tables e n inside at region)
+        taken-kept upper upper' (target (root_word upper (root_at roots e) n)) (mid-stays e n inside at region) (mid-taken kind words upper leaf spill roots tables e n inside at region)
 
     mid-same : (e y : ℕ) → e < length roots → y < most_pages → has_mid upper (root_at roots e) (y / 1024) ≡ true → mid_word upper' (root_at roots e) y ≡ mid_word upper (root_at roots e) y
     mid-same e y inside at region =
         ap (λ w. word_at upper' (target w) (y % 1024)) (root-same e (y / 1024) inside (other-region e (y / 1024) region))
-        ∙ word-stays upper upper' (target (root_word upper (root_at roots e) (y / 1024))) (y % 1024) (mid-stays e (y / 1024) inside (omega arith) region)
+        ∙ word-kept upper upper' (target (root_word upper (root_at roots e) (y / 1024))) (y % 1024) (mid-stays e (y / 1024) inside (omega arith) region)
 
     -- the words of the region's pages are vectors
     page-here : (y : ℕ) → y / 1024 ≡ x → mid_word upper' (root_at roots d) y ≡ flat_vector (digit (root_word upper (root_at roots d) x / 4) (y % 1024 / 128))
@@ -94,7 +95,7 @@ module _ (kind : Kind) (words : ℕ) (upper leaf spill upper' : Frames) (roots :
     leaf-same e z inside at region pointer = ap (λ w. word_at leaf (target w) (z % 64)) (mid-same e (z / 64) inside (omega arith) region)
 
     leaves-same : (e y : ℕ) → e < length roots → y < most_pages → has_leaf upper' (root_at roots e) y ≡ has_leaf upper (root_at roots e) y
-    leaves-same e y inside at = cases (cases_pair e d (y / 1024) x)
+    leaves-same e y inside at = cases (place-cases d x e (y / 1024))
       where
         cases : ((e ≡ d) × (y / 1024 ≡ x)) ⊎ ((e ≢ d) ⊎ (y / 1024 ≢ x)) → has_leaf upper' (root_at roots e) y ≡ has_leaf upper (root_at roots e) y
         cases (inl h) =
@@ -102,13 +103,13 @@ module _ (kind : Kind) (words : ℕ) (upper leaf spill upper' : Frames) (roots :
             subst S (sym h.0)
             (and_right (has_mid upper' (root_at roots d) (y / 1024)) (is_pointer (mid_word upper' (root_at roots d) y)) (page-none y h.1)
             ∙ sym (and_left (has_mid upper (root_at roots d) (y / 1024)) (is_pointer (mid_word upper (root_at roots d) y)) (ap (has_mid upper (root_at roots d)) h.1 ∙ closed)))
-        cases (inr ne) = has_leaf-same upper upper' (root_at roots e) y (mids-same e (y / 1024) inside (omega arith) ne) (λ region. mid-same e y inside at region)
+        cases (inr ne) = leaf-agree upper upper' (root_at roots e) y (mids-same e (y / 1024) inside (omega arith) ne) (λ region. mid-same e y inside at region)
 
     spills-same : (e z : ℕ) → e < length roots → z < most_lines → has_spill kind upper' leaf (root_at roots e) z ≡ has_spill kind upper leaf (root_at roots e) z
     spills-same e z inside at =
-        has_spill-same kind upper leaf upper' leaf (root_at roots e) z (leaves-same e (z / 64) inside (omega arith))
+        spill-agree kind upper leaf upper' leaf (root_at roots e) z (leaves-same e (z / 64) inside (omega arith))
         (λ page.
-        let parts = has_leaf-parts upper (root_at roots e) (z / 64) page in
+        let parts = leaf-parts upper (root_at roots e) (z / 64) page in
         leaf-same e z inside at parts.0 parts.1)
 
     forest : IsForest kind upper' leaf spill roots
@@ -128,11 +129,11 @@ module _ (kind : Kind) (words : ℕ) (upper leaf spill upper' : Frames) (roots :
           mid_owned = owned;
           leaf_owned = λ e y inside at page.
               (let was : has_leaf upper (root_at roots e) y ≡ true = sym (leaves-same e y inside at) ∙ page in
-              let parts = has_leaf-parts upper (root_at roots e) y was in
+              let parts = leaf-parts upper (root_at roots e) y was in
               ap (λ w. old.leaf_owner (target w)) (mid-same e y inside at parts.0) ∙ old.leaf_owned e y inside at was);
           spill_owned = λ e z inside at crowded.
               (let was : has_spill kind upper leaf (root_at roots e) z ≡ true = sym (spills-same e z inside at) ∙ crowded in
-              let page = has_leaf-parts upper (root_at roots e) (z / 64) (and_parts (has_leaf upper (root_at roots e) (z / 64)) (is_some (spill_number kind (leaf_word upper leaf (root_at roots e) z))) was).0 in
+              let page = leaf-parts upper (root_at roots e) (z / 64) (and_parts (has_leaf upper (root_at roots e) (z / 64)) (is_some (spill_number kind (leaf_word upper leaf (root_at roots e) z))) was).0 in
               ap (λ w. old.spill_owner (line_number kind w)) (leaf-same e z inside at page.0 page.1) ∙ old.spill_owned e z inside at was);
           upper_count = omega (arith, old.upper_count, mids, made.free, made.total);
           leaf_count = omega (arith, old.leaf_count, leaves);
@@ -141,7 +142,7 @@ module _ (kind : Kind) (words : ℕ) (upper leaf spill upper' : Frames) (roots :
       where
         owned : (e n : ℕ) → e < length roots → n < most_regions → has_mid upper' (root_at roots e) n ≡ true →
             with_owner tables.forest.upper_owner frame (17 * d + 1 + x) (target (root_word upper' (root_at roots e) n)) ≡ 17 * e + 1 + n
-        owned e n inside at region = cases (cases_pair e d n x)
+        owned e n inside at region = cases (place-cases d x e n)
           where
             cases : ((e ≡ d) × (n ≡ x)) ⊎ ((e ≢ d) ⊎ (n ≢ x)) → with_owner tables.forest.upper_owner frame (17 * d + 1 + x) (target (root_word upper' (root_at roots e) n)) ≡ 17 * e + 1 + n
             cases (inl h) =
@@ -169,7 +170,7 @@ module _ (kind : Kind) (words : ℕ) (upper leaf spill upper' : Frames) (roots :
               (λ n at. root-same e n inside (inl ne))
               (λ n at region. mid-still-taken e n inside at region)
               (λ y at region. mid-same e y inside at region)
-              (λ y at region pointer. leaf-taken kind words upper leaf spill roots tables e y inside at region pointer)
+              (λ y at region pointer. leaf-taken kind words upper leaf spill roots tables e y inside at (leaf-from upper (root_at roots e) y region pointer))
               (λ z at region pointer. leaf-same e z inside at region pointer));
         }
 
@@ -206,7 +207,7 @@ module _ (kind : Kind) (words : ℕ) (upper leaf spill upper' : Frames) (roots :
               (λ y at ne region.
               record {
                 mid_same = mid-same d y domain at region;
-                taken = λ pointer. leaf-taken kind words upper leaf spill roots tables d y domain at region pointer;
+                taken = λ pointer. leaf-taken kind words upper leaf spill roots tables d y domain at (leaf-from upper (root_at roots d) y region pointer);
                 leaf_same = λ z inside is pointer.
                     leaf-same d z domain inside (ap (λ b. has_mid upper (root_at roots d) (b / 1024)) is ∙ region) (ap (λ b. is_pointer (mid_word upper (root_at roots d) b)) is ∙ pointer);
               })
@@ -233,7 +234,7 @@ module _ (kind : Kind) (words : ℕ) (upper leaf spill upper' : Frames) (roots :
     mids = mids-same frame closed made;
     leaves = leaves-same frame closed made;
     lines = λ e z inside at page.
-        (let parts = has_leaf-parts upper (root_at roots e) (z / 64) page in
+        (let parts = leaf-parts upper (root_at roots e) (z / 64) page in
         record { entry = leaf-same frame closed made e z inside at parts.0 parts.1; spilled = refl });
     total = made.total;
   }

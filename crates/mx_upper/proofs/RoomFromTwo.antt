@@ -1,12 +1,11 @@
 -- Two frames of each kind that are free are room for a range of any domain, and the change of one domain's map takes at most two.
-use Rattle.std.proofs.Common.{◌≡◌, ◌≢◌, ℕ, ◌+◌, ◌-◌, ◌*◌, ◌/◌, ◌<◌, ◌≤◌, inl, inr, ◌==◌, ◌||◌, List, length, refl, sym, ap, ◌∙◌, arith, subst}
+use Rattle.std.proofs.Common.{◌≡◌, ℕ, ◌+◌, ◌-◌, ◌*◌, ◌/◌, ◌<◌, ◌≤◌, inl, inr, ◌==◌, ◌||◌, List, length, refl, sym, ap, ◌∙◌, arith, subst}
 use Rattle.std.proofs.lemmas.Bool.{cases_eq}
 use Rattle.mx_words.specs.declared.perm.Perm.{Perm}
 use Rattle.mx_words.specs.declared.tables.Kind.{Kind}
-use Rattle.mx_words.specs.Counting.{count_below, sum_below}
+use Rattle.mx_words.specs.Counting.{count_below}
 use Rattle.mx_words.specs.Runs.{broken_blocks, page_words, region_words}
 use Rattle.mx_words.specs.Blocks.{is_broken}
-use Rattle.mx_words.proofs.CountingLaws.{sum_below_changed}
 use Rattle.mx_words.proofs.BrokenLaws.{broken-after}
 use Rattle.mx_pool.specs.Frames.{free_in}
 use Rattle.mx_upper.specs.Leaf.{IsTrieKind}
@@ -15,6 +14,7 @@ use Rattle.mx_upper.specs.Forest.{has_spill, root_at, map_at, IsTables}
 use Rattle.mx_upper.specs.Laying.{with_range, spill_lines, IsRoomy, IsCanonical, IsDomainLaid}
 use Rattle.mx_upper.proofs.TablesLaws.{length-map_at}
 use Rattle.mx_upper.proofs.SpillLaws.{spill_lines-are}
+use Rattle.mx_upper.proofs.RoomLaws.{free-changed}
 use Rattle.mx_upper.proofs.CountLaws.{broken-with_range, spill-with_range, tight-regions, tight-pages}
 
 -- a first part of a range, with the block behind it counted as broken
@@ -58,12 +58,6 @@ module _ (kind : Kind) (words : ℕ) (upper leaf spill : Frames) (roots : List �
             omega (arith, most, spill_lines-are kind words upper leaf spill roots k tables d domain));
       }
 
--- what is free before and after, where one domain has at most two tables more and the others have as many
-free-after : (n d free free' total total' : ℕ) (f g : ℕ → ℕ) → d < n → total' ≡ total → free + sum_below n f ≡ total → free' + sum_below n g ≡ total' →
-    ((e : ℕ) → e < n → e ≢ d → f e ≡ g e) → g d ≤ f d + 2 → free ≤ free' + 2
-free-after n d free free' total total' f g below long before after same more =
-    omega (arith, before, after, sum_below_changed n d f g below same)
-
 module _ (kind : Kind) (words : ℕ) (upper leaf spill upper' leaf' spill' : Frames) (roots : List ℕ) (k : IsTrieKind kind) (tables : IsTables kind words upper leaf spill roots)
     (canonical : (e : ℕ) → e < length roots → IsCanonical kind words upper leaf spill roots e) (d first end : ℕ) (p : Perm) (domain : d < length roots) (range : first ≤ end) (inside : end ≤ words)
     (laid : IsDomainLaid kind words upper leaf spill upper' leaf' spill' roots d first end p) where
@@ -82,38 +76,37 @@ module _ (kind : Kind) (words : ℕ) (upper leaf spill upper' leaf' spill' : Fra
   upper-after =
       let more : broken_blocks region_words (map_at kind words upper' leaf' spill' roots d) ≤ broken_blocks region_words (map_at kind words upper leaf spill roots d) + 2 =
       rw laid.map (broken-with_range region_words 131072 most_regions (map_at kind words upper leaf spill roots d) first end p refl refl (omega arith) range long few) in
-      let all = free-after (length roots) d (free_in upper + length roots) (free_in upper' + length roots) (length upper) (length upper')
+      let all = free-changed (length roots) d (free_in upper + length roots) (free_in upper' + length roots) (length upper) (length upper')
       (λ e. count_below most_regions (has_mid upper (root_at roots e))) (λ e. count_below most_regions (has_mid upper' (root_at roots e)))
       domain laid.upper_total tables.forest.upper_count laid.tables.forest.upper_count
       (λ e below other.
       region-tables kind words upper leaf spill roots k tables e below (canonical e below)
       ∙ sym (ap (broken_blocks region_words) (laid.maps e below other))
-      ∙ sym (region-tables kind words upper' leaf' spill' roots k laid.tables e below (canonical-laid e below)))
-      (omega (arith, more, region-tables kind words upper leaf spill roots k tables d domain (canonical d domain), region-tables kind words upper' leaf' spill' roots k laid.tables d domain laid.canonical)) in
-      omega (arith, all)
+      ∙ sym (region-tables kind words upper' leaf' spill' roots k laid.tables e below (canonical-laid e below))) in
+      omega (arith, all, more, region-tables kind words upper leaf spill roots k tables d domain (canonical d domain), region-tables kind words upper' leaf' spill' roots k laid.tables d domain laid.canonical)
 
   pub leaf-after : free_in leaf ≤ free_in leaf' + 2
   leaf-after =
       let more : broken_blocks page_words (map_at kind words upper' leaf' spill' roots d) ≤ broken_blocks page_words (map_at kind words upper leaf spill roots d) + 2 =
       rw laid.map (broken-with_range page_words 128 most_pages (map_at kind words upper leaf spill roots d) first end p refl refl (omega arith) range long few) in
-      free-after (length roots) d (free_in leaf) (free_in leaf') (length leaf) (length leaf')
+      let all = free-changed (length roots) d (free_in leaf) (free_in leaf') (length leaf) (length leaf')
       (λ e. count_below most_pages (has_leaf upper (root_at roots e))) (λ e. count_below most_pages (has_leaf upper' (root_at roots e)))
       domain laid.leaf_total tables.forest.leaf_count laid.tables.forest.leaf_count
       (λ e below other.
       page-tables kind words upper leaf spill roots k tables e below (canonical e below)
       ∙ sym (ap (broken_blocks page_words) (laid.maps e below other))
-      ∙ sym (page-tables kind words upper' leaf' spill' roots k laid.tables e below (canonical-laid e below)))
-      (omega (arith, more, page-tables kind words upper leaf spill roots k tables d domain (canonical d domain), page-tables kind words upper' leaf' spill' roots k laid.tables d domain laid.canonical))
+      ∙ sym (page-tables kind words upper' leaf' spill' roots k laid.tables e below (canonical-laid e below))) in
+      omega (arith, all, more, page-tables kind words upper leaf spill roots k tables d domain (canonical d domain), page-tables kind words upper' leaf' spill' roots k laid.tables d domain laid.canonical)
 
   pub spill-after : free_in spill ≤ free_in spill' + 2
   spill-after =
       let more : spill_lines kind (map_at kind words upper' leaf' spill' roots d) ≤ spill_lines kind (map_at kind words upper leaf spill roots d) + 2 =
       rw laid.map (spill-with_range kind (map_at kind words upper leaf spill roots d) first end p range long few) in
-      free-after (length roots) d (free_in spill) (free_in spill') (length spill) (length spill')
+      let all = free-changed (length roots) d (free_in spill) (free_in spill') (length spill) (length spill')
       (λ e. count_below most_lines (has_spill kind upper leaf (root_at roots e))) (λ e. count_below most_lines (has_spill kind upper' leaf' (root_at roots e)))
       domain laid.spill_total tables.forest.spill_count laid.tables.forest.spill_count
       (λ e below other.
       spill_lines-are kind words upper leaf spill roots k tables e below
       ∙ sym (ap (spill_lines kind) (laid.maps e below other))
-      ∙ sym (spill_lines-are kind words upper' leaf' spill' roots k laid.tables e below))
-      (omega (arith, more, spill_lines-are kind words upper leaf spill roots k tables d domain, spill_lines-are kind words upper' leaf' spill' roots k laid.tables d domain))
+      ∙ sym (spill_lines-are kind words upper' leaf' spill' roots k laid.tables e below)) in
+      omega (arith, all, more, spill_lines-are kind words upper leaf spill roots k tables d domain, spill_lines-are kind words upper' leaf' spill' roots k laid.tables d domain)

@@ -15,37 +15,36 @@ use Rattle.mx_upper.proofs.SpillLaws.{spill_lines-are}
 use Rattle.mx_upper.proofs.RangeLaws.{with_range-more}
 
 -- what is free and what one domain has, where the others have what they had
-total-stays : (n d free free' total total' : ℕ) (f g : ℕ → ℕ) → d < n → total' ≡ total → free + sum_below n f ≡ total → free' + sum_below n g ≡ total' →
-    ((e : ℕ) → e < n → e ≢ d → g e ≡ f e) → g d + free' ≡ f d + free
-total-stays n d free free' total total' f g below long before after same =
-    omega (arith, before, after, sum_below_changed n d f g below (λ e inside other. sym (same e inside other)))
+pub free-changed : (n d free free' total total' : ℕ) (f g : ℕ → ℕ) → d < n → total' ≡ total → free + sum_below n f ≡ total → free' + sum_below n g ≡ total' →
+    ((e : ℕ) → e < n → e ≢ d → f e ≡ g e) → g d + free' ≡ f d + free
+free-changed n d free free' total total' f g below long before after same = omega (arith, before, after, sum_below_changed n d f g below same)
 
 module _ (kind : Kind) (words : ℕ) (upper leaf spill upper' leaf' spill' : Frames) (roots : List ℕ) (d first c : ℕ) (p : Perm) (k : IsTrieKind kind)
     (tables : IsTables kind words upper leaf spill roots) (domain : d < length roots) (laid : IsRangeLaid kind words upper leaf spill upper' leaf' spill' roots d first c p) where
   pub upper-stays : count_below most_regions (has_mid upper' (root_at roots d)) + free_in upper' ≡ count_below most_regions (has_mid upper (root_at roots d)) + free_in upper
   upper-stays =
-      let whole = total-stays (length roots) d (free_in upper + length roots) (free_in upper' + length roots) (length upper) (length upper')
+      let whole = free-changed (length roots) d (free_in upper + length roots) (free_in upper' + length roots) (length upper) (length upper')
       (λ e. count_below most_regions (has_mid upper (root_at roots e))) (λ e. count_below most_regions (has_mid upper' (root_at roots e)))
       domain laid.upper_total tables.forest.upper_count laid.tables.forest.upper_count
-      (λ e below other. count_below_agree most_regions (has_mid upper' (root_at roots e)) (has_mid upper (root_at roots e)) (λ x inside. laid.mids e x below inside other)) in
+      (λ e below other. count_below_agree most_regions (has_mid upper (root_at roots e)) (has_mid upper' (root_at roots e)) (λ x inside. sym (laid.mids e x below inside other))) in
       omega (arith, whole)
 
   pub leaf-stays : count_below most_pages (has_leaf upper' (root_at roots d)) + free_in leaf' ≡ count_below most_pages (has_leaf upper (root_at roots d)) + free_in leaf
   leaf-stays =
-      total-stays (length roots) d (free_in leaf) (free_in leaf') (length leaf) (length leaf')
+      free-changed (length roots) d (free_in leaf) (free_in leaf') (length leaf) (length leaf')
       (λ e. count_below most_pages (has_leaf upper (root_at roots e))) (λ e. count_below most_pages (has_leaf upper' (root_at roots e)))
       domain laid.leaf_total tables.forest.leaf_count laid.tables.forest.leaf_count
-      (λ e below other. count_below_agree most_pages (has_leaf upper' (root_at roots e)) (has_leaf upper (root_at roots e)) (λ y inside. laid.leaves e y below inside other))
+      (λ e below other. count_below_agree most_pages (has_leaf upper (root_at roots e)) (has_leaf upper' (root_at roots e)) (λ y inside. sym (laid.leaves e y below inside other)))
 
   pub spill-stays : count_below most_lines (has_spill kind upper' leaf' (root_at roots d)) + free_in spill' ≡ count_below most_lines (has_spill kind upper leaf (root_at roots d)) + free_in spill
   spill-stays =
-      total-stays (length roots) d (free_in spill) (free_in spill') (length spill) (length spill')
+      free-changed (length roots) d (free_in spill) (free_in spill') (length spill) (length spill')
       (λ e. count_below most_lines (has_spill kind upper leaf (root_at roots e))) (λ e. count_below most_lines (has_spill kind upper' leaf' (root_at roots e)))
       domain laid.spill_total tables.forest.spill_count laid.tables.forest.spill_count
       (λ e below other.
-      spill_lines-are kind words upper' leaf' spill' roots k laid.tables e below
-      ∙ ap (spill_lines kind) (laid.maps e below other)
-      ∙ sym (spill_lines-are kind words upper leaf spill roots k tables e below))
+      spill_lines-are kind words upper leaf spill roots k tables e below
+      ∙ sym (ap (spill_lines kind) (laid.maps e below other))
+      ∙ sym (spill_lines-are kind words upper' leaf' spill' roots k laid.tables e below))
 
   -- room for a range is room for a part behind what was laid
   pub room-from : (behind end : ℕ) → first ≤ c → behind ≤ end →

@@ -7,7 +7,7 @@ use Rattle.mx_pool.specs.Frames.{frame_at, IsTaken, free_in}
 use Rattle.mx_upper.specs.Walk.{Frames, most_regions, root_word}
 use Rattle.mx_upper.specs.Forest.{root_at}
 use Rattle.mx_upper.specs.Roots.{IsRootMade, AreRoots}
-use Rattle.mx_upper.proofs.ForestChanges.{taken-differs, word-stays, taken-stays}
+use Rattle.mx_upper.proofs.OwnerLaws.{taken-differs, word-kept, taken-kept}
 
 -- a frame that was free, with vectors of no permission for the first regions
 pub record IsRootBegun (upper upper' : Frames) (frame x : ℕ) : Type 0 where
@@ -41,8 +41,8 @@ module _ (upper upper' : Frames) (roots : List ℕ) (frame : ℕ) (are : AreRoot
   old-root d below =
       let stays : frame_at upper' (root_at roots d) ≡ frame_at upper (root_at roots d) = made.elsewhere (root_at roots d) (apart-from d below) in
       record {
-        taken = taken-stays upper upper' (root_at roots d) stays (are.taken d below);
-        vectors = λ x inside. word-stays upper upper' (root_at roots d) x stays ∙ are.vectors d x below inside;
+        taken = taken-kept upper upper' (root_at roots d) stays (are.taken d below);
+        vectors = λ x inside. word-kept upper upper' (root_at roots d) x stays ∙ are.vectors d x below inside;
       }
 
   each-root : (d : ℕ) → (d < length roots) ⊎ (length roots ≤ d) → d < length roots + 1 → IsRoot d (root_at (roots ++ frame ∷ []) d)

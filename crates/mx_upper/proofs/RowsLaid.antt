@@ -3,11 +3,10 @@ use Rattle.std.proofs.Common.{◌≡◌, ◌≢◌, ℕ, ◌+◌, ◌/◌, ◌<�
 use Rattle.mx_words.specs.declared.perm.Perm.{Perm}
 use Rattle.mx_words.specs.declared.perm.Span.{Span}
 use Rattle.mx_words.specs.declared.tables.Kind.{Kind}
-use Rattle.mx_words.specs.Counting.{count_below, sum_below}
+use Rattle.mx_words.specs.Counting.{count_below}
 use Rattle.mx_words.specs.Newest.{map}
 use Rattle.mx_words.specs.Runs.{page_words, region_words, broken_blocks}
 use Rattle.mx_words.specs.Blocks.{is_broken}
-use Rattle.mx_words.proofs.CountingLaws.{sum_below_changed}
 use Rattle.mx_table.specs.Tables.{row_map, IsRow}
 use Rattle.mx_table.specs.Rows.{span_at, first_spans}
 use Rattle.mx_pool.specs.Frames.{free_in}
@@ -17,6 +16,7 @@ use Rattle.mx_upper.specs.Forest.{has_spill, root_at, map_at, IsTables}
 use Rattle.mx_upper.specs.Laying.{with_range, spill_lines, IsRoomy, IsCanonical, IsDomainLaid}
 use Rattle.mx_upper.proofs.SpillLaws.{spill_lines-are}
 use Rattle.mx_upper.proofs.EmptyTables.{empty-blocks, empty-lines}
+use Rattle.mx_upper.proofs.RoomLaws.{free-changed}
 use Rattle.mx_upper.proofs.RoomFromTwo.{region-tables, page-tables, canonical-laid}
 use Rattle.mx_upper.proofs.RowRoom.{span-laid, cut-broken, cut-spill}
 
@@ -30,11 +30,6 @@ pub record IsRowBegun (kind : Kind) (words : ℕ) (upper leaf spill upper' leaf'
   pub leaf_total : length leaf' ≡ length leaf
   pub spill_total : length spill' ≡ length spill
 
--- what is left free where one domain, which had no table, has some, and the others have as many as before
-left-free : (n d free free' total total' : ℕ) (f g : ℕ → ℕ) → d < n → total' ≡ total → free + sum_below n f ≡ total → free' + sum_below n g ≡ total' →
-    ((e : ℕ) → e < n → e ≢ d → f e ≡ g e) → f d ≡ 0 → free' + g d ≡ free
-left-free n d free free' total total' f g below long before after same none = omega (arith, before, after, none, sum_below_changed n d f g below same)
-
 module _ (kind : Kind) (words : ℕ) (upper leaf spill upper' leaf' spill' : Frames) (roots : List ℕ) (d : ℕ) (row : List Span) (n : ℕ) (k : IsTrieKind kind)
     (tables : IsTables kind words upper leaf spill roots) (canonical : (e : ℕ) → e < length roots → IsCanonical kind words upper leaf spill roots e)
     (domain : d < length roots) (empty : map_at kind words upper leaf spill roots d ≡ map [] words)
@@ -43,42 +38,42 @@ module _ (kind : Kind) (words : ℕ) (upper leaf spill upper' leaf' spill' : Fra
   pub upper-left : free_in upper' + broken_blocks region_words (first_spans words row n) ≡ free_in upper
   upper-left =
       let few = tables.few_words in
-      let all = left-free (length roots) d (free_in upper + length roots) (free_in upper' + length roots) (length upper) (length upper')
+      let all = free-changed (length roots) d (free_in upper + length roots) (free_in upper' + length roots) (length upper) (length upper')
       (λ e. count_below most_regions (has_mid upper (root_at roots e))) (λ e. count_below most_regions (has_mid upper' (root_at roots e)))
       domain begun.upper_total tables.forest.upper_count begun.tables.forest.upper_count
       (λ e below other.
       region-tables kind words upper leaf spill roots k tables e below (canonical e below)
       ∙ sym (ap (broken_blocks region_words) (begun.same e below other))
-      ∙ sym (region-tables kind words upper' leaf' spill' roots k begun.tables e below (begun.canonical e below)))
-      (region-tables kind words upper leaf spill roots k tables d domain (canonical d domain) ∙ ap (broken_blocks region_words) empty
-      ∙ empty-blocks 1048576 131072 16 words refl refl (omega arith) (omega arith)) in
-      omega (arith, all, region-tables kind words upper' leaf' spill' roots k begun.tables d domain (begun.canonical d domain), ap (broken_blocks region_words) begun.laid)
+      ∙ sym (region-tables kind words upper' leaf' spill' roots k begun.tables e below (begun.canonical e below))) in
+      omega (arith, all, region-tables kind words upper' leaf' spill' roots k begun.tables d domain (begun.canonical d domain), ap (broken_blocks region_words) begun.laid,
+      region-tables kind words upper leaf spill roots k tables d domain (canonical d domain) ∙ ap (broken_blocks region_words) empty
+      ∙ empty-blocks 1048576 131072 16 words refl refl (omega arith) (omega arith))
 
   pub leaf-left : free_in leaf' + broken_blocks page_words (first_spans words row n) ≡ free_in leaf
   leaf-left =
       let few = tables.few_words in
-      let all = left-free (length roots) d (free_in leaf) (free_in leaf') (length leaf) (length leaf')
+      let all = free-changed (length roots) d (free_in leaf) (free_in leaf') (length leaf) (length leaf')
       (λ e. count_below most_pages (has_leaf upper (root_at roots e))) (λ e. count_below most_pages (has_leaf upper' (root_at roots e)))
       domain begun.leaf_total tables.forest.leaf_count begun.tables.forest.leaf_count
       (λ e below other.
       page-tables kind words upper leaf spill roots k tables e below (canonical e below)
       ∙ sym (ap (broken_blocks page_words) (begun.same e below other))
-      ∙ sym (page-tables kind words upper' leaf' spill' roots k begun.tables e below (begun.canonical e below)))
-      (page-tables kind words upper leaf spill roots k tables d domain (canonical d domain) ∙ ap (broken_blocks page_words) empty
-      ∙ empty-blocks 1024 128 16384 words refl refl (omega arith) (omega arith)) in
-      omega (arith, all, page-tables kind words upper' leaf' spill' roots k begun.tables d domain (begun.canonical d domain), ap (broken_blocks page_words) begun.laid)
+      ∙ sym (page-tables kind words upper' leaf' spill' roots k begun.tables e below (begun.canonical e below))) in
+      omega (arith, all, page-tables kind words upper' leaf' spill' roots k begun.tables d domain (begun.canonical d domain), ap (broken_blocks page_words) begun.laid,
+      page-tables kind words upper leaf spill roots k tables d domain (canonical d domain) ∙ ap (broken_blocks page_words) empty
+      ∙ empty-blocks 1024 128 16384 words refl refl (omega arith) (omega arith))
 
   pub spill-left : free_in spill' + spill_lines kind (first_spans words row n) ≡ free_in spill
   spill-left =
-      let all = left-free (length roots) d (free_in spill) (free_in spill') (length spill) (length spill')
+      let all = free-changed (length roots) d (free_in spill) (free_in spill') (length spill) (length spill')
       (λ e. count_below most_lines (has_spill kind upper leaf (root_at roots e))) (λ e. count_below most_lines (has_spill kind upper' leaf' (root_at roots e)))
       domain begun.spill_total tables.forest.spill_count begun.tables.forest.spill_count
       (λ e below other.
       spill_lines-are kind words upper leaf spill roots k tables e below
       ∙ sym (ap (spill_lines kind) (begun.same e below other))
-      ∙ sym (spill_lines-are kind words upper' leaf' spill' roots k begun.tables e below))
-      (spill_lines-are kind words upper leaf spill roots k tables d domain ∙ ap (spill_lines kind) empty ∙ empty-lines kind words k) in
-      omega (arith, all, spill_lines-are kind words upper' leaf' spill' roots k begun.tables d domain, ap (spill_lines kind) begun.laid)
+      ∙ sym (spill_lines-are kind words upper' leaf' spill' roots k begun.tables e below)) in
+      omega (arith, all, spill_lines-are kind words upper' leaf' spill' roots k begun.tables d domain, ap (spill_lines kind) begun.laid,
+      spill_lines-are kind words upper leaf spill roots k tables d domain ∙ ap (spill_lines kind) empty ∙ empty-lines kind words k)
 
   -- the next span has room
   module _ (is : IsRow words row) (below : n < length row) (upper_room : broken_blocks region_words (row_map words row) + 1 ≤ free_in upper)

@@ -1,5 +1,5 @@
 -- What spans round words tell of a map: which words are alike, and how far they reach.
-use Rattle.std.proofs.Common.{◌≡◌, ◌≢◌, ℕ, zero, suc, ◌+◌, ◌-◌, ◌<◌, ◌≤◌, ◌⊎◌, inl, inr, Bool, true, false, min, List, length, take, drop, sym, ap, ◌∙◌, arith, eq-eqb}
+use Rattle.std.proofs.Common.{◌≡◌, ◌≢◌, ℕ, zero, suc, ◌+◌, ◌-◌, ◌<◌, ◌≤◌, ◌⊎◌, inl, inr, Bool, true, false, min, List, length, take, drop, sym, ap, ◌∙◌, arith}
 use Rattle.std.specs.List.{prefix_len, suffix_len}
 use Rattle.std.proofs.lemmas.Bool.{cases_lt, ne_eqb}
 use Rattle.std.proofs.lemmas.List.Sums.{suffix_len-take_yes, suffix_len-take_no, prefix_len-drop_yes, prefix_len-drop_no, prefix_len-drop_all}
@@ -10,17 +10,15 @@ use Rattle.mx_words.specs.Rights.{number, same, perm_at}
 use Rattle.mx_words.specs.Runs.{line_words}
 use Rattle.mx_words.specs.Reach.{left_reach, right_reach}
 use Rattle.mx_words.specs.Blocks.{IsUniform}
-use Rattle.mx_words.proofs.RunLaws.{same_eq, same_from}
+use Rattle.mx_words.proofs.RunLaws.{same_from}
 use Rattle.mx_upper.specs.Views.{IsRound}
+use Rattle.mx_upper.proofs.Digits.{number-one_to_one}
 
 -- the words from `from` up to `to` have one permission
 pub record IsAlike (m : List Perm) (from to : ℕ) (p : Perm) : Type 0 where
   pub alike : (k : ℕ) → from ≤ k → k < to → perm_at m k ≡ p
 
--- permissions of one number are the same
-pub number-same : (p q : Perm) → number p ≡ number q → p ≡ q
-number-same p q e = same_eq p q (eq-eqb (number p) (number q) e)
-
+-- permissions of different numbers
 pub same-other : (p q : Perm) → number q ≢ number p → same p q ≡ false
 same-other p q ne = ne_eqb (number p) (number q) (λ e. ne (sym e))
 
@@ -44,7 +42,7 @@ pub alike-on : (m : List Perm) (from to : ℕ) (p : Perm) (s : Span) → IsAlike
 alike-on m from to p s a r e = record {
   alike = λ k le lt. elim (cases_lt k to) [
     | inl h ↦ a.alike k le h
-    | inr h ↦ (let first = r.from in r.alike k (omega arith) lt ∙ number-same s.perm p e)
+    | inr h ↦ (let first = r.from in r.alike k (omega arith) lt ∙ number-one_to_one s.perm p e)
   ];
 }
 
@@ -53,7 +51,7 @@ pub alike-back : (m : List Perm) (from to : ℕ) (p : Perm) (s : Span) → 0 < f
     IsAlike m s.first to p
 alike-back m from to p s some a r e = record {
   alike = λ k le lt. elim (cases_lt k from) [
-    | inl h ↦ (let behind = r.to in r.alike k le (omega arith) ∙ number-same s.perm p e)
+    | inl h ↦ (let behind = r.to in r.alike k le (omega arith) ∙ number-one_to_one s.perm p e)
     | inr h ↦ a.alike k h lt
   ];
 }

@@ -15,7 +15,8 @@ use Rattle.mx_upper.specs.Leaf.{IsTrieKind, needs_spill, line_run, left_of_run, 
 use Rattle.mx_upper.specs.Walk.{Frames, most_lines, most_pages, is_pointer, root_word, mid_word, leaf_word, spilled_word, has_mid, vector_perm, line_number, IsLine, IsShown}
 use Rattle.mx_upper.specs.Views.{IsRound}
 use Rattle.mx_upper.proofs.LeafSpans.{line-at}
-use Rattle.mx_upper.proofs.ReadLines.{numbered-number, root-read, mid-read}
+use Rattle.mx_upper.proofs.Digits.{numbered-number}
+use Rattle.mx_upper.proofs.ReadLines.{root-read, mid-read}
 
 -- a run that can be cut to its word's line
 pub record IsCut (perms : List Perm) (line word : ℕ) (run : Span) : Type 0 where

@@ -3,15 +3,15 @@ use Rattle.std.proofs.Common.{◌≡◌, ◌≢◌, ℕ, ◌+◌, ◌*◌, ◌/�
 use Rattle.std.proofs.lemmas.Bool.{ne_eqb}
 use Rattle.mx_words.specs.declared.perm.Perm.{Perm}
 use Rattle.mx_words.specs.declared.tables.Kind.{Kind}
-use Rattle.mx_words.specs.Counting.{bit, count_below}
+use Rattle.mx_words.specs.Counting.{count_below}
 use Rattle.mx_words.specs.Rights.{perm_at}
 use Rattle.mx_words.specs.Runs.{page_words, region_words}
 use Rattle.mx_words.specs.Blocks.{is_broken}
-use Rattle.mx_words.proofs.CountingLaws.{count_below_changed}
 use Rattle.mx_words.proofs.BlockLaws.{is_broken-same}
 use Rattle.mx_pool.specs.Frames.{free_in}
 use Rattle.mx_upper.specs.Walk.{Frames, most_regions, most_pages, has_mid, has_leaf}
 use Rattle.mx_upper.specs.Laying.{with_range, ArePagesTight, AreRegionsTight, IsRoomy}
+use Rattle.mx_upper.proofs.ForestChanges.{one-more}
 use Rattle.mx_upper.proofs.RangeLaws.{with_range-none, with_range-below, with_range-behind, length-with_range}
 
 -- a block outside a range
@@ -23,13 +23,6 @@ broken-out size b first end p m some apart =
     word : (k : ℕ) → k < size → (b * size + size ≤ first) ⊎ (end ≤ b * size) → perm_at (with_range first end p m) (b * size + k) ≡ perm_at m (b * size + k)
     word k below (inl h) = with_range-below first end p m (b * size + k) (omega arith)
     word k below (inr h) = with_range-behind first end p m (b * size + k) some (omega arith)
-
--- one more passes
-pub one-more : (n x : ℕ) (p q : ℕ → Bool) → x < n → p x ≡ false → q x ≡ true → ((i : ℕ) → i < n → i ≢ x → p i ≡ q i) → count_below n q ≡ count_below n p + 1
-one-more n x p q below none here same =
-    let was : bit (p x) ≡ 0 = ap bit none in
-    let is : bit (q x) ≡ 1 = ap bit here in
-    omega (arith, was, is, count_below_changed n x p q below same)
 
 or-true : (a : Bool) → (a || true) ≡ true
 or-true true = refl

@@ -1,17 +1,17 @@
 -- What a change of all domains makes of tables that stand, and what it needs.
-use Rattle.std.proofs.Common.{◌≡◌, ℕ, ◌+◌, ◌*◌, ◌<◌, ◌≤◌, true, nat_le, ◌&&◌, Bool, false, List, [], length, get_or, Option, None, Some, refl, sym, ap, ◌∙◌, arith, subst, IsTrue}
+use Rattle.std.proofs.Common.{◌≡◌, ℕ, ◌+◌, ◌*◌, ◌<◌, ◌≤◌, true, nat_le, ◌&&◌, List, [], length, get_or, Option, sym, ap, ◌∙◌, arith, subst, IsTrue}
+use Rattle.std.proofs.lemmas.Bool.{and_parts}
 use Rattle.std.proofs.lemmas.Bool.Decides.{nat_tests}
 use Rattle.std.proofs.lemmas.List.{same_lists, get_or_default}
 use Rattle.mx_words.specs.declared.perm.Perm.{Perm}
 use Rattle.mx_words.specs.declared.tables.Kind.{Kind}
 use Rattle.mx_words.specs.declared.tables.Need.{Need}
-use Rattle.mx_words.specs.Changes.{grant_of, changed_map, changed_from}
+use Rattle.mx_words.specs.Changes.{changed_map, changed_from}
 use Rattle.mx_words.specs.Counting.{sum_below}
 use Rattle.mx_words.specs.Need.{need, within, fits}
 use Rattle.mx_words.specs.Runs.{broken_blocks, page_words, region_words}
 use Rattle.mx_words.proofs.ChangeLaws.{length-changed_from, changed_from-at}
 use Rattle.mx_words.proofs.CountingLaws.{sum_below_agree}
-use Rattle.mx_words.proofs.OverlayLaws.{length-laid}
 use Rattle.mx_table.specs.Tables.{most_words}
 use Rattle.mx_pool.specs.Frames.{free_in}
 use Rattle.mx_upper.specs.Leaf.{IsTrieKind}
@@ -21,16 +21,13 @@ use Rattle.mx_upper.specs.Forest.{map_at, IsTables}
 use Rattle.mx_upper.specs.Laying.{spill_lines, IsCanonical}
 use Rattle.mx_upper.specs.Standing.{IsStanding}
 use Rattle.mx_upper.specs.Shape.{length-read_maps}
+use Rattle.mx_upper.proofs.NeedRows.{length-changed_map}
 use Rattle.mx_upper.proofs.NeedLaws.{IsNeedCounted, need-counted}
 use Rattle.mx_upper.proofs.StandingLaws.{map_at-read}
 use Rattle.mx_upper.proofs.CountedLaws.{tables-counted}
 use Rattle.mx_upper.proofs.TablesLaws.{length-map_at}
 
 -- each part of a need is within the limit
-and-true : (a b : Bool) → (a && b) ≡ true → (a ≡ true) × (b ≡ true)
-and-true true b e = (refl, e)
-and-true false b e = (cc, cc)
-
 pub record IsWithin (n limit : Need) : Type 0 where
   pub upper : n.upper ≤ limit.upper
   pub leaf : n.leaf ≤ limit.leaf
@@ -38,17 +35,12 @@ pub record IsWithin (n limit : Need) : Type 0 where
 
 pub within-parts : (n limit : Need) → within n limit ≡ true → IsWithin n limit
 within-parts n limit e =
-    let outer = and-true (nat_le n.upper limit.upper && nat_le n.leaf limit.leaf) (nat_le n.spill limit.spill) e in
-    let inner = and-true (nat_le n.upper limit.upper) (nat_le n.leaf limit.leaf) outer.0 in
+    let outer = and_parts (nat_le n.upper limit.upper && nat_le n.leaf limit.leaf) (nat_le n.spill limit.spill) e in
+    let inner = and_parts (nat_le n.upper limit.upper) (nat_le n.leaf limit.leaf) outer.0 in
     let a : nat_le n.upper limit.upper ≡ true = inner.0 in
     let b : nat_le n.leaf limit.leaf ≡ true = inner.1 in
     let c : nat_le n.spill limit.spill ≡ true = outer.1 in
     record { upper = grind (arith, nat_tests); leaf = grind (arith, nat_tests); spill = grind (arith, nat_tests) }
-
--- the length of a changed map
-pub length-changed_map : (first count : ℕ) (given : Option Perm) (m : List Perm) → length (changed_map first count given m) ≡ length m
-length-changed_map first count None m = refl
-length-changed_map first count (Some p) m = length-laid (grant_of first count p) m
 
 -- what the maps of tables that are no more than they need are counted as
 pub record IsNeedTold (n : Need) (domains : ℕ) (kind : Kind) (maps : ℕ → List Perm) : Type 0 where

@@ -1,7 +1,7 @@
 -- What the stored words on the way of a walk say of its word.
-use Rattle.std.proofs.Common.{◌≡◌, ◌≢◌, ℕ, ◌*◌, ◌/◌, ◌%◌, ◌^◌, ◌<◌, inl, inr, ◌&&◌, Bool, true, false, not, nat_lt, List, length, Some, None, if◌then◌else◌, refl, sym, ap, ◌∙◌, arith, eq-eqb, lt-ltb, subst}
+use Rattle.std.proofs.Common.{◌≡◌, ◌≢◌, ℕ, ◌*◌, ◌/◌, ◌%◌, ◌^◌, ◌<◌, inl, inr, ◌&&◌, Bool, true, false, nat_lt, List, length, Some, None, if◌then◌else◌, refl, sym, ap, ◌∙◌, arith, eq-eqb, lt-ltb, subst}
 use Rattle.std.specs.Option.{option_map_or}
-use Rattle.std.proofs.lemmas.Bool.{ne_eqb}
+use Rattle.std.proofs.lemmas.Bool.{ne_eqb, not-true, not-false}
 use Rattle.mx_words.specs.declared.perm.Perm.{Perm}
 use Rattle.mx_words.specs.declared.tables.Kind.{Kind}
 use Rattle.mx_words.specs.declared.tables.Kind.TheVariants as K
@@ -19,14 +19,6 @@ use Rattle.mx_upper.specs.Found.{IsVector, IsLeaf}
 trie_kind-level : (kind : Kind) (m : List Perm) (i : ℕ) → IsTrieKind kind → level kind m i ≡ trie_level kind m i
 trie_kind-level kind m i (inl e) = ap (λ k. level k m i) e ∙ sym (ap (λ k. trie_level k m i) e)
 trie_kind-level kind m i (inr e) = ap (λ k. level k m i) e ∙ sym (ap (λ k. trie_level k m i) e)
-
-not-false : (b : Bool) → not b ≡ false → b ≡ true
-not-false true e = refl
-not-false false e = sym e
-
-not-true : (b : Bool) → not b ≡ true → b ≡ false
-not-true true e = sym e
-not-true false e = refl
 
 -- which of the three levels two tests choose
 abbrev pick : Bool → Bool → Level → Level
