@@ -18,7 +18,6 @@ use Rattle.mx_upper.specs.Forest.{map_at}
 use Rattle.mx_upper.specs.Laying.{spill_lines}
 use Rattle.mx_upper.specs.Shape.{length-read_maps}
 use Rattle.mx_upper.proofs.NeedLaws.{sum_by-below}
-use Rattle.mx_upper.proofs.RootLaws.{free-fresh}
 use Rattle.mx_upper.proofs.StandingLaws.{map_at-read, need-is}
 use Rattle.mx_upper.proofs.TrieLaws.{IsNeedTold, need-told}
 
@@ -65,13 +64,6 @@ module _ (kind : Kind) (k : IsTrieKind kind) (words : ℕ) (few : words ≤ most
 
     pub fits-built : (limit : Need) → IsTrue (fits kind limit (list_map (row_map words) rows)) → IsTrue (fits kind limit (read_maps kind upper leaf spill words roots))
     fits-built limit fit = let T : List (List Perm) → Type 0 = λ ms. IsTrue (fits kind limit ms) in subst T (sym maps-built) fit
-
--- a pool of which no frame was taken
-pub fresh-length : (frames : Frames) (n : ℕ) → frames ≡ replicate n None → length frames ≡ n
-fresh-length frames n is = ap (λ (fs : Frames). length fs) is ∙ length-replicate {A = _} n None
-
-pub fresh-free : (frames : Frames) (n : ℕ) → frames ≡ replicate n None → free_in frames ≡ length frames
-fresh-free frames n is = free-fresh frames (is ∙ ap (λ m. replicate m None) (sym (fresh-length frames n is)))
 
 -- room for a need within the limit, and one more frame
 pub room-for : (sum needed limit spare free total : ℕ) → needed ≡ sum → needed ≤ limit → free ≡ total → total ≡ limit + spare → 1 ≤ spare → sum + 1 ≤ free

@@ -25,6 +25,7 @@ use Rattle.mx_upper.specs.Laying.{spill_lines, IsCanonical}
 use Rattle.mx_upper.specs.Roots.{AreRoots}
 use Rattle.mx_upper.proofs.EvenLaws.{even-line}
 use Rattle.mx_upper.proofs.TablesLaws.{maps-from, tables-from}
+use Rattle.mx_upper.proofs.PresentTables.{leaf-no-region, spill-no-page}
 
 -- a map without permissions
 pub empty-at : (words i : ℕ) → perm_at (map [] words) i ≡ P.None
@@ -92,10 +93,10 @@ module _ (kind : Kind) (k : IsTrieKind kind) (words : ℕ) (few : words ≤ most
   no-mid d x below inside = ap is_pointer (are.vectors d x below inside)
 
   no-leaf : (d y : ℕ) → d < length roots → y < most_pages → has_leaf upper (root_at roots d) y ≡ false
-  no-leaf d y below inside = ap (λ b. b && is_pointer (mid_word upper (root_at roots d) y)) (no-mid d (y / 1024) below (omega arith))
+  no-leaf d y below inside = leaf-no-region upper (root_at roots d) y (no-mid d (y / 1024) below (omega arith))
 
   no-spill : (d z : ℕ) → d < length roots → z < most_lines → has_spill kind upper leaf (root_at roots d) z ≡ false
-  no-spill d z below inside = ap (λ b. b && is_some (spill_number kind (leaf_word upper leaf (root_at roots d) z))) (no-leaf d (z / 64) below (omega arith))
+  no-spill d z below inside = spill-no-page kind upper leaf (root_at roots d) z (no-leaf d (z / 64) below (omega arith))
 
   forest-of-roots : IsForest kind upper leaf spill roots
   forest-of-roots = record {

@@ -8,6 +8,7 @@ use Rattle.mx_words.proofs.CountingLaws.{count_below_agree, count_below_changed,
 use Rattle.mx_pool.specs.Frames.{IsTaken}
 use Rattle.mx_upper.specs.Walk.{Frames, most_regions, most_pages, most_lines, is_pointer, target, root_word, mid_word, leaf_word, has_mid, IsLine, IsShown}
 use Rattle.mx_upper.specs.Forest.{root_at, map_at, IsTables, AreSame}
+use Rattle.mx_upper.proofs.ForestLaws.{shown-reaches}
 
 -- owners with that of one more frame
 abbrev pub with_owner : (ℕ → ℕ) → ℕ → ℕ → ℕ → ℕ
@@ -77,17 +78,10 @@ no_reach-elsewhere reaches y z ne = ap (λ (b : Bool). if b then 0 else reaches 
 
 pub shown-no_reaches : (kind : Kind) (lefts rights : ℕ → ℕ) (upper leaf spill : Frames) (root : ℕ) (m : List Perm) (y : ℕ) → IsShown kind lefts rights upper leaf spill root m →
     is_pointer (mid_word upper root y) ≡ false → IsShown kind (no_reaches lefts y) (no_reaches rights y) upper leaf spill root m
-shown-no_reaches kind lefts rights upper leaf spill root m y shown closed = record {
-  root_taken = shown.root_taken;
-  region_even = shown.region_even;
-  region_vector = shown.region_vector;
-  mid_taken = shown.mid_taken;
-  page_even = shown.page_even;
-  page_vector = shown.page_vector;
-  leaf_taken = shown.leaf_taken;
-  line = λ z below opened pointer.
-      (let other : z / 64 ≢ y = λ at. (let both : true ≡ false = sym pointer ∙ ap (λ n. is_pointer (mid_word upper root n)) at ∙ closed in absurd (cc)) in
-      let L : ℕ → Type 0 = λ a. IsLine kind spill m z a (no_reaches rights y z) (leaf_word upper leaf root z) in
-      let R : ℕ → Type 0 = λ b. IsLine kind spill m z (lefts z) b (leaf_word upper leaf root z) in
-      subst L (sym (no_reach-elsewhere lefts y z other)) (subst R (sym (no_reach-elsewhere rights y z other)) (shown.line z below opened pointer)));
-}
+shown-no_reaches kind lefts rights upper leaf spill root m y shown closed =
+    shown-reaches kind (no_reaches lefts y) (no_reaches rights y) upper leaf spill root m shown
+    (λ z below opened pointer.
+    let other : z / 64 ≢ y = λ at. (let both : true ≡ false = sym pointer ∙ ap (λ n. is_pointer (mid_word upper root n)) at ∙ closed in absurd (cc)) in
+    let L : ℕ → Type 0 = λ a. IsLine kind spill m z a (no_reaches rights y z) (leaf_word upper leaf root z) in
+    let R : ℕ → Type 0 = λ b. IsLine kind spill m z (lefts z) b (leaf_word upper leaf root z) in
+    subst L (sym (no_reach-elsewhere lefts y z other)) (subst R (sym (no_reach-elsewhere rights y z other)) (shown.line z below opened pointer)))

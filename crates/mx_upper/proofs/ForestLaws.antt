@@ -202,3 +202,18 @@ module _ (kind : Kind) (lefts rights : ℕ → ℕ) (upper leaf spill leaf' spil
     leaf_taken = written.leaf_taken;
     line = line-any;
   }
+
+-- tables show a map with any reaches with which its lines' entries stand
+pub shown-reaches : (kind : Kind) {lefts rights : ℕ → ℕ} (lefts' rights' : ℕ → ℕ) (upper leaf spill : Frames) (root : ℕ) (m : List Perm) → IsShown kind lefts rights upper leaf spill root m →
+    ((z : ℕ) → z < most_lines → has_mid upper root (z / 64 / 1024) ≡ true → is_pointer (mid_word upper root (z / 64)) ≡ true →
+    IsLine kind spill m z (lefts' z) (rights' z) (leaf_word upper leaf root z)) → IsShown kind lefts' rights' upper leaf spill root m
+shown-reaches kind lefts' rights' upper leaf spill root m shown lines = record {
+  root_taken = shown.root_taken;
+  region_even = shown.region_even;
+  region_vector = shown.region_vector;
+  mid_taken = shown.mid_taken;
+  page_even = shown.page_even;
+  page_vector = shown.page_vector;
+  leaf_taken = shown.leaf_taken;
+  line = lines;
+}

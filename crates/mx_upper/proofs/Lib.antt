@@ -2,6 +2,8 @@ pub mod Digits
 pub mod Spans
 pub mod PlainRuns
 pub mod WalkLaws
+pub mod PresentTables
+pub mod WalkWords
 pub mod LeafSpans
 pub mod FoundSpans
 pub mod FoundItems
@@ -24,7 +26,6 @@ pub mod NeedLaws
 pub mod RangeLaws
 pub mod RoomLaws
 pub mod TightLaws
-pub mod ToldSpills
 pub mod ChangedRows
 pub mod CountLaws
 pub mod NeedRows

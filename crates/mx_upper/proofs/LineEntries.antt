@@ -8,9 +8,10 @@ use Rattle.mx_pool.specs.Frames.{IsTaken}
 use Rattle.mx_upper.specs.Leaf.{IsTrieKind, needs_spill, spill_number, named_spill}
 use Rattle.mx_upper.specs.Walk.{Frames, most_lines, target, mid_word, leaf_word, line_number, has_leaf, IsLine}
 use Rattle.mx_upper.specs.Forest.{root_at, map_at, IsTables}
-use Rattle.mx_upper.proofs.OwnerLaws.{leaf-region, leaf-pointer, leaf-taken}
+use Rattle.mx_upper.proofs.OwnerLaws.{leaf-taken}
 use Rattle.mx_upper.proofs.EntryLaws.{named-by}
 use Rattle.mx_upper.proofs.WalkLaws.{named-some}
+use Rattle.mx_upper.proofs.PresentTables.{leaf-region, leaf-pointer}
 
 -- a number that is there
 pub some-is : (o : Option ℕ) → is_some o ≡ true → o ≡ Some (unwrap_or o 0)

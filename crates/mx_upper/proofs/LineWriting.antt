@@ -13,10 +13,11 @@ use Rattle.mx_upper.specs.Leaf.{IsTrieKind, needs_spill, spill_number}
 use Rattle.mx_upper.specs.Walk.{Frames, most_lines, target, mid_word, leaf_word, spilled_word, line_number, has_leaf, IsLine}
 use Rattle.mx_upper.specs.Forest.{has_spill, root_at, map_at, IsForest, IsLoose, IsTables, IsLineKept, AreSame}
 use Rattle.mx_upper.specs.Steps.{IsEntryWritten}
-use Rattle.mx_upper.proofs.OwnerLaws.{word-kept, taken-kept, leaf-region, leaf-pointer, leaf-from, spill-agree, place-cases, leaf-apart}
+use Rattle.mx_upper.proofs.OwnerLaws.{word-kept, taken-kept, place-cases, leaf-apart}
 use Rattle.mx_upper.proofs.LineEntries.{some-is, line-stands, line-named}
 use Rattle.mx_upper.proofs.ForestLaws.{DifferOnLine, IsWritten, set_reach, shown-stays, shown-written}
 use Rattle.mx_upper.proofs.TablesLaws.{tables-from, maps-from, length-map_at}
+use Rattle.mx_upper.proofs.PresentTables.{leaf-region, leaf-pointer, leaf-from, spill-agree}
 
 -- the spill words after the entry of line z of domain d was written: those of the other lines stay, and each has its owner
 pub record AreSpillsKept (kind : Kind) (upper leaf spill spill' : Frames) (roots : List ℕ) (d z entry : ℕ) : Type 0 where

@@ -16,7 +16,8 @@ use Rattle.mx_upper.proofs.ForestLaws.{shown-stays}
 use Rattle.mx_upper.proofs.TableLaws.{IsPage, KeepsPage, shown-page}
 use Rattle.mx_upper.proofs.TablesLaws.{maps-from, tables-from, length-map_at}
 use Rattle.mx_upper.proofs.ForestChanges.{sum-count-same, sum-count-more}
-use Rattle.mx_upper.proofs.OwnerLaws.{word-kept, taken-kept, vector-closed, leaf-region, leaf-pointer, leaf-from, leaf-closed, leaf-agree, spill-agree, spill-page, spill-no-page, spill-none, place-cases, place-clash, mid-root-apart, mid-apart, leaf-apart}
+use Rattle.mx_upper.proofs.OwnerLaws.{word-kept, taken-kept, vector-closed, place-cases, place-clash, mid-root-apart, mid-apart, leaf-apart}
+use Rattle.mx_upper.proofs.PresentTables.{leaf-region, leaf-pointer, leaf-from, leaf-closed, leaf-agree, spill-agree, spill-page, spill-no-page, spill-none}
 
 -- other places of one mid table
 other-place : (d y e j : ℕ) → (e ≢ d) ⊎ (j ≢ y) → (e ≡ d) × (j / 1024 ≡ y / 1024) → j % 1024 ≢ y % 1024

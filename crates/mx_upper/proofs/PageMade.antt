@@ -15,7 +15,8 @@ use Rattle.mx_upper.proofs.TableLaws.{IsPage, shown-page}
 use Rattle.mx_upper.proofs.TablesLaws.{maps-from, tables-from, length-map_at}
 use Rattle.mx_upper.proofs.FlatLaws.{flat-spill, page-line-stands}
 use Rattle.mx_upper.proofs.ForestChanges.{with_owner, owner-here, owner-elsewhere, sum-count-same, sum-count-more, are-same, no_reaches, no_reach-here, shown-no_reaches}
-use Rattle.mx_upper.proofs.OwnerLaws.{taken-differs, word-kept, taken-kept, place-cases, place-clash, leaf-parts, leaf-from, leaf-agree, spill-agree, mid-root-apart, mid-apart, root-taken, mid-taken, leaf-taken}
+use Rattle.mx_upper.proofs.OwnerLaws.{taken-differs, word-kept, taken-kept, place-cases, place-clash, mid-root-apart, mid-apart, root-taken, mid-taken, leaf-taken}
+use Rattle.mx_upper.proofs.PresentTables.{leaf-parts, leaf-from, leaf-agree, spill-agree}
 
 module _ (kind : Kind) (words : ℕ) (upper leaf spill upper' leaf' : Frames) (roots : List ℕ) (d y : ℕ) (k : IsTrieKind kind) (tables : IsTables kind words upper leaf spill roots)
     (domain : d < length roots) (below : y < most_pages) (opened : has_mid upper (root_at roots d) (y / 1024) ≡ true) where

@@ -15,7 +15,8 @@ use Rattle.mx_upper.proofs.ForestLaws.{shown-stays}
 use Rattle.mx_upper.proofs.TableLaws.{IsRegion, KeepsPage, shown-region}
 use Rattle.mx_upper.proofs.TablesLaws.{maps-from, tables-from, length-map_at}
 use Rattle.mx_upper.proofs.ForestChanges.{sum-count-same, sum-count-more}
-use Rattle.mx_upper.proofs.OwnerLaws.{word-kept, taken-kept, vector-closed, leaf-region, leaf-from, leaf-no-region, leaf-agree, spill-agree, spill-page, place-cases, place-clash, root-apart, mid-root-apart, mid-apart}
+use Rattle.mx_upper.proofs.OwnerLaws.{word-kept, taken-kept, vector-closed, place-cases, place-clash, root-apart, mid-root-apart, mid-apart}
+use Rattle.mx_upper.proofs.PresentTables.{leaf-region, leaf-from, leaf-no-region, leaf-agree, spill-agree, spill-page}
 
 module _ (kind : Kind) (words : ℕ) (upper leaf spill upper' : Frames) (roots : List ℕ) (d x : ℕ) (k : IsTrieKind kind) (tables : IsTables kind words upper leaf spill roots)
     (domain : d < length roots) (below : x < most_regions) where

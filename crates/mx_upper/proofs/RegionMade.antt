@@ -16,7 +16,8 @@ use Rattle.mx_upper.proofs.TableLaws.{IsRegion, shown-region}
 use Rattle.mx_upper.proofs.TablesLaws.{maps-from, tables-from, length-map_at}
 use Rattle.mx_upper.proofs.FlatLaws.{region-page-even, region-page-vector}
 use Rattle.mx_upper.proofs.ForestChanges.{with_owner, owner-here, owner-elsewhere, sum-count-same, sum-count-more, are-same}
-use Rattle.mx_upper.proofs.OwnerLaws.{taken-differs, word-kept, taken-kept, place-cases, leaf-parts, leaf-from, leaf-agree, spill-agree, root-apart, mid-root-apart, root-taken, mid-taken, leaf-taken}
+use Rattle.mx_upper.proofs.OwnerLaws.{taken-differs, word-kept, taken-kept, place-cases, root-apart, mid-root-apart, root-taken, mid-taken, leaf-taken}
+use Rattle.mx_upper.proofs.PresentTables.{leaf-parts, leaf-from, leaf-agree, spill-agree}
 
 module _ (kind : Kind) (words : ℕ) (upper leaf spill upper' : Frames) (roots : List ℕ) (d x : ℕ) (k : IsTrieKind kind) (tables : IsTables kind words upper leaf spill roots)
     (domain : d < length roots) (below : x < most_regions) where

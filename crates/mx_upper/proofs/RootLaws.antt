@@ -1,7 +1,7 @@
 -- The root tables of domains whose maps have no permissions: how they are made, and that they stand for such maps.
 use Rattle.std.proofs.Common.{◌≡◌, ◌≢◌, ℕ, ◌+◌, ◌*◌, ◌<◌, ◌≤◌, ◌⊎◌, inl, inr, List, [], ◌∷◌, ◌++◌, length, Option, None, replicate, is_none, cond, refl, sym, ap, ◌∙◌, arith, subst, length-append}
 use Rattle.std.proofs.lemmas.Bool.{cases_lt}
-use Rattle.std.proofs.lemmas.List.{get_or_append_left, get_or_push}
+use Rattle.std.proofs.lemmas.List.{get_or_append_left, get_or_push, length-replicate}
 use Rattle.std.proofs.lemmas.List.Folds.{sum_by-replicate}
 use Rattle.mx_pool.specs.Frames.{frame_at, IsTaken, free_in}
 use Rattle.mx_upper.specs.Walk.{Frames, most_regions, root_word}
@@ -74,13 +74,16 @@ module _ (upper upper' : Frames) (roots : List ℕ) (frame : ℕ) (are : AreRoot
       }
 
 -- frames of which none is taken
-pub free-fresh : (upper : Frames) → upper ≡ replicate (length upper) None → free_in upper ≡ length upper
-free-fresh upper fresh = ap free_in fresh ∙ free-all (length upper)
+pub fresh-length : (frames : Frames) (n : ℕ) → frames ≡ replicate n None → length frames ≡ n
+fresh-length frames n is = ap (λ (fs : Frames). length fs) is ∙ length-replicate {A = _} n None
+
+pub fresh-free : (frames : Frames) (n : ℕ) → frames ≡ replicate n None → free_in frames ≡ length frames
+fresh-free frames n is = ap free_in is ∙ free-all n ∙ sym (fresh-length frames n is)
 
 pub no-roots : (upper : Frames) → upper ≡ replicate (length upper) None → AreRoots upper []
 no-roots upper fresh = record {
   taken = λ d below. absurd (omega arith);
   apart = λ d e below. absurd (omega arith);
   vectors = λ d x below. absurd (omega arith);
-  count = omega (arith, free-fresh upper fresh);
+  count = omega (arith, fresh-free upper (length upper) fresh);
 }

@@ -9,16 +9,9 @@ use Rattle.mx_words.specs.Rights.{perm_at}
 use Rattle.mx_words.specs.Newest.{laid_at}
 use Rattle.mx_words.proofs.OverlayLaws.{laid_at_in, laid_at_below, laid_at_behind, length-map_of, map-at}
 use Rattle.mx_table.specs.Tables.{most_words, no_span, granted, row_map, IsRow}
+use Rattle.mx_table.specs.Rows.{span_at}
+use Rattle.mx_table.proofs.RowLaws.{ends_before, ends_up}
 use Rattle.mx_upper.specs.Views.{IsRound, IsBegun, IsBegin}
-
--- a span of a row by its place
-abbrev pub span_in : List Span → ℕ → Span
-span_in row k = slice_index_or row k no_span
-
-pub span-got : (row : List Span) (k : ℕ) (s : Span) → slice_get row k ≡ Some s → s ≡ span_in row k
-span-got [] k s e = absurd (cc)
-span-got (x ∷ row) zero s e = cc
-span-got (x ∷ row) (suc k) s e = span-got row k s e
 
 -- whether a word lies before a span or behind it
 abbrev IsOut : ℕ → Span → Type 0
@@ -28,13 +21,13 @@ laid-out : (i : ℕ) (older : Perm) (s : Span) → IsOut i s → laid_at i older
 laid-out i older s (inl h) = laid_at_below i older (granted s) h
 laid-out i older s (inr h) = laid_at_behind i older (granted s) h
 
-fold-none : (i : ℕ) (older : Perm) (row : List Span) → ((k : ℕ) → k < length row → IsOut i (span_in row k)) → fold (laid_at i) older (map granted row) ≡ older
+fold-none : (i : ℕ) (older : Perm) (row : List Span) → ((k : ℕ) → k < length row → IsOut i (span_at row k)) → fold (laid_at i) older (map granted row) ≡ older
 fold-none i older [] out = refl
 fold-none i older (s ∷ row) out =
     fold-none i (laid_at i older (granted s)) row (λ k lt. out (suc k) (omega arith)) ∙ laid-out i older s (out 0 (omega arith))
 
-fold-in : (i : ℕ) (older : Perm) (row : List Span) (j : ℕ) → j < length row → (span_in row j).first ≤ i → i < (span_in row j).first + (span_in row j).count →
-    ((k : ℕ) → j < k → k < length row → i < (span_in row k).first) → fold (laid_at i) older (map granted row) ≡ (span_in row j).perm
+fold-in : (i : ℕ) (older : Perm) (row : List Span) (j : ℕ) → j < length row → (span_at row j).first ≤ i → i < (span_at row j).first + (span_at row j).count →
+    ((k : ℕ) → j < k → k < length row → i < (span_at row k).first) → fold (laid_at i) older (map granted row) ≡ (span_at row j).perm
 fold-in i older [] j lt from to later = absurd (omega arith)
 fold-in i older (s ∷ row) zero lt from to later =
     fold-none i (laid_at i older (granted s)) row (λ k below. inl (later (suc k) (omega arith) (omega arith))) ∙ laid_at_in i older (granted s) from to
@@ -42,7 +35,7 @@ fold-in i older (s ∷ row) (suc j) lt from to later =
     fold-in i (laid_at i older (granted s)) row j (omega arith) from to (λ k above below. later (suc k) (omega arith) (omega arith))
 
 -- a word in no span has no permission
-row-none : (words : ℕ) (row : List Span) (i : ℕ) → ((k : ℕ) → k < length row → IsOut i (span_in row k)) → perm_at (row_map words row) i ≡ P.None
+row-none : (words : ℕ) (row : List Span) (i : ℕ) → ((k : ℕ) → k < length row → IsOut i (span_at row k)) → perm_at (row_map words row) i ≡ P.None
 row-none words row i out = elim (cases_lt i words) [
   | inl h ↦ map-at (map granted row) words i P.None h ∙ fold-none i P.None row out
   | inr h ↦ get_or_past (row_map words row) i P.None (omega (arith, length-map_of (map granted row) words))
@@ -50,41 +43,28 @@ row-none words row i out = elim (cases_lt i words) [
 
 module _ (words : ℕ) (row : List Span) (sorted : IsRow words row) where
   -- each span ends before those behind it begin
-  row-order : (j k : ℕ) → j < k → k < length row → (span_in row j).first + (span_in row j).count ≤ (span_in row k).first
-  row-order j zero above below = absurd (omega arith)
-  row-order j (suc k) above below =
-      let at : k + 1 ≡ suc k = omega arith in
-      let next : (span_in row (k + 1)).first ≡ (span_in row (suc k)).first = ap (λ n. (span_in row n).first) at in
-      let step : (span_in row k).first + (span_in row k).count ≤ (span_in row (k + 1)).first = sorted.sorted k (omega arith) in
-      cases next step (cases_lt j k) (λ h. row-order j k h (omega arith))
-    where
-      cases : (span_in row (k + 1)).first ≡ (span_in row (suc k)).first → (span_in row k).first + (span_in row k).count ≤ (span_in row (k + 1)).first → (j < k) ⊎ (k ≤ j) →
-          (j < k → (span_in row j).first + (span_in row j).count ≤ (span_in row k).first) → (span_in row j).first + (span_in row j).count ≤ (span_in row (suc k)).first
-      cases next step (inl h) before = omega (arith, before h)
-      cases next step (inr h) before =
-          let same : k ≡ j = omega arith in
-          let end : (span_in row k).first + (span_in row k).count ≡ (span_in row j).first + (span_in row j).count = ap (λ n. (span_in row n).first + (span_in row n).count) same in
-          omega arith
+  row-order : (j k : ℕ) → j < k → k < length row → (span_at row j).first + (span_at row j).count ≤ (span_at row k).first
+  row-order j k above below = omega (arith, ends_up words row sorted (suc j) k (omega arith) (omega arith), ends_before words row sorted k below)
 
   -- the firsts of spans never fall
-  pub row-firsts : (j k : ℕ) → j ≤ k → k < length row → (span_in row j).first ≤ (span_in row k).first
+  pub row-firsts : (j k : ℕ) → j ≤ k → k < length row → (span_at row j).first ≤ (span_at row k).first
   row-firsts j k le below = cases (cases_lt j k)
     where
-      cases : (j < k) ⊎ (k ≤ j) → (span_in row j).first ≤ (span_in row k).first
+      cases : (j < k) ⊎ (k ≤ j) → (span_at row j).first ≤ (span_at row k).first
       cases (inl h) = omega (arith, row-order j k h below)
       cases (inr h) =
           let same : j ≡ k = omega arith in
-          let first : (span_in row j).first ≡ (span_in row k).first = ap (λ n. (span_in row n).first) same in
+          let first : (span_at row j).first ≡ (span_at row k).first = ap (λ n. (span_at row n).first) same in
           omega arith
 
-  row-spans : (j i : ℕ) → j < length row → (span_in row j).first ≤ i → i < (span_in row j).first + (span_in row j).count → perm_at (row_map words row) i ≡ (span_in row j).perm
+  row-spans : (j i : ℕ) → j < length row → (span_at row j).first ≤ i → i < (span_at row j).first + (span_at row j).count → perm_at (row_map words row) i ≡ (span_at row j).perm
   row-spans j i below from to =
       map-at (map granted row) words i P.None (omega (arith, sorted.inside j below))
       ∙ fold-in i P.None row j below from to (λ k above lt. omega (arith, row-order j k above lt))
 
   -- the words round a word
   module _ (word next : ℕ) (few : words ≤ most_words) (below : word < most_words) (b : IsBegun row word next) where
-    later-first : (k : ℕ) (end : ℕ) → IsBegin row next end → next ≤ k → k < length row → end ≤ (span_in row k).first
+    later-first : (k : ℕ) (end : ℕ) → IsBegin row next end → next ≤ k → k < length row → end ≤ (span_at row k).first
     later-first k end e le lt =
         let is = e.inside (omega arith) in omega (arith, row-firsts next k le lt)
 
@@ -104,11 +84,11 @@ module _ (words : ℕ) (row : List Span) (sorted : IsRow words row) where
           alike = λ i lo hi. row-none words row i (λ k lt. inl (omega (arith, later-first k end e (omega arith) lt)));
         }
 
-    pub span-round : (s : Span) → 0 < next → s ≡ span_in row (next - 1) → word < s.first + s.count → IsRound (row_map words row) word s
+    pub span-round : (s : Span) → 0 < next → s ≡ span_at row (next - 1) → word < s.first + s.count → IsRound (row_map words row) word s
     span-round s some is to =
         let within = b.within in
-        let first : s.first ≡ (span_in row (next - 1)).first = ap (λ (t : Span). t.first) is in
-        let count : s.count ≡ (span_in row (next - 1)).count = ap (λ (t : Span). t.count) is in
+        let first : s.first ≡ (span_at row (next - 1)).first = ap (λ (t : Span). t.first) is in
+        let count : s.count ≡ (span_at row (next - 1)).count = ap (λ (t : Span). t.count) is in
         record {
           from = omega (arith, b.begun (next - 1) (omega arith));
           to = to;
@@ -116,12 +96,12 @@ module _ (words : ℕ) (row : List Span) (sorted : IsRow words row) where
           alike = λ i lo hi. row-spans (next - 1) i (omega arith) (omega arith) (omega arith) ∙ sym (ap (λ (t : Span). t.perm) is);
         }
 
-    pub gap-round : (s : Span) (end : ℕ) → 0 < next → s ≡ span_in row (next - 1) → s.first + s.count ≤ word → IsBegin row next end →
+    pub gap-round : (s : Span) (end : ℕ) → 0 < next → s ≡ span_at row (next - 1) → s.first + s.count ≤ word → IsBegin row next end →
         IsRound (row_map words row) word (record { first = s.first + s.count; count = end - (s.first + s.count); perm = P.None })
     gap-round s end some is behind e =
         let within = b.within in
         let most = end-most end e (cases_lt next (length row)) in
-        let stop : s.first + s.count ≡ (span_in row (next - 1)).first + (span_in row (next - 1)).count = ap (λ (t : Span). t.first + t.count) is in
+        let stop : s.first + s.count ≡ (span_at row (next - 1)).first + (span_at row (next - 1)).count = ap (λ (t : Span). t.first + t.count) is in
         record {
           from = behind;
           to = omega (arith, most.0);
@@ -132,12 +112,12 @@ module _ (words : ℕ) (row : List Span) (sorted : IsRow words row) where
           ]);
         }
       where
-        ends : (k i : ℕ) → k < length row → k < next → (span_in row (next - 1)).first + (span_in row (next - 1)).count ≤ i → (span_in row k).first + (span_in row k).count ≤ i
+        ends : (k i : ℕ) → k < length row → k < next → (span_at row (next - 1)).first + (span_at row (next - 1)).count ≤ i → (span_at row k).first + (span_at row k).count ≤ i
         ends k i lt h le = cases (cases_lt k (next - 1))
           where
-            cases : (k < next - 1) ⊎ (next - 1 ≤ k) → (span_in row k).first + (span_in row k).count ≤ i
+            cases : (k < next - 1) ⊎ (next - 1 ≤ k) → (span_at row k).first + (span_at row k).count ≤ i
             cases (inl g) = let within = b.within in omega (arith, row-order k (next - 1) g (omega arith))
             cases (inr g) =
                 let same : k ≡ next - 1 = omega arith in
-                let end : (span_in row k).first + (span_in row k).count ≡ (span_in row (next - 1)).first + (span_in row (next - 1)).count = ap (λ n. (span_in row n).first + (span_in row n).count) same in
+                let end : (span_at row k).first + (span_at row k).count ≡ (span_at row (next - 1)).first + (span_at row (next - 1)).count = ap (λ n. (span_at row n).first + (span_at row n).count) same in
                 omega arith

@@ -14,8 +14,8 @@ use Rattle.mx_upper.specs.Read.{read_maps}
 use Rattle.mx_upper.specs.Forest.{has_spill, root_at, map_at, IsForest}
 use Rattle.mx_upper.specs.Standing.{IsStanding}
 use Rattle.mx_upper.proofs.OwnersFound.{IsApart, HasOwners, apart-owned, owners-found}
-use Rattle.mx_upper.proofs.OwnerLaws.{leaf-region, leaf-pointer}
 use Rattle.mx_upper.proofs.StandingLaws.{canonical-shown}
+use Rattle.mx_upper.proofs.PresentTables.{leaf-region, leaf-pointer}
 
 -- the upper tables by number: domain d's root table at 17 d, and the mid table of its region x at 17 d + 1 + x
 abbrev upper_live : Frames → List ℕ → ℕ → Bool

@@ -16,22 +16,17 @@ use Rattle.mx_upper.specs.Laying.{IsCanonical}
 use Rattle.mx_upper.specs.Read.{read_map, read_maps}
 use Rattle.mx_upper.specs.Shape.{length-read_maps, map_of-read}
 use Rattle.mx_upper.specs.Standing.{root_of, IsStanding}
+use Rattle.mx_upper.proofs.ForestLaws.{shown-reaches}
+use Rattle.mx_upper.proofs.PresentTables.{leaf-from}
 
 -- canonical tables show their map with the map's reaches
 pub canonical-shown : (kind : Kind) (words : ℕ) (upper leaf spill : Frames) (roots : List ℕ) (d : ℕ) {lefts rights : ℕ → ℕ} →
     IsShown kind lefts rights upper leaf spill (root_at roots d) (map_at kind words upper leaf spill roots d) → IsCanonical kind words upper leaf spill roots d →
     IsShown kind (map_left kind (map_at kind words upper leaf spill roots d)) (map_right kind (map_at kind words upper leaf spill roots d)) upper leaf spill (root_at roots d) (map_at kind words upper leaf spill roots d)
-canonical-shown kind words upper leaf spill roots d shown canonical = record {
-  root_taken = shown.root_taken;
-  region_even = shown.region_even;
-  region_vector = shown.region_vector;
-  mid_taken = shown.mid_taken;
-  page_even = shown.page_even;
-  page_vector = shown.page_vector;
-  leaf_taken = shown.leaf_taken;
-  line = λ z below opened pointer.
-      canonical.reached z below (ap (λ (b : Bool). b && is_pointer (mid_word upper (root_at roots d) (z / 64))) opened ∙ pointer);
-}
+canonical-shown kind words upper leaf spill roots d shown canonical =
+    let m : List Perm = map_at kind words upper leaf spill roots d in
+    shown-reaches kind (map_left kind m) (map_right kind m) upper leaf spill (root_at roots d) m shown
+    (λ z below opened pointer. canonical.reached z below (leaf-from upper (root_at roots d) (z / 64) opened pointer))
 
 module _ (kind : Kind) (upper leaf spill : Frames) (words : ℕ) (roots : List ℕ) where
   pub map_at-read : (d : ℕ) → d < length roots → get_or (read_maps kind upper leaf spill words roots) d [] ≡ map_at kind words upper leaf spill roots d

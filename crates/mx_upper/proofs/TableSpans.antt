@@ -17,6 +17,7 @@ use Rattle.mx_upper.specs.Views.{IsRound}
 use Rattle.mx_upper.proofs.LeafSpans.{line-at}
 use Rattle.mx_upper.proofs.Digits.{numbered-number}
 use Rattle.mx_upper.proofs.ReadLines.{root-read, mid-read}
+use Rattle.mx_upper.proofs.WalkWords.{region-closed, region-opened, mid-is, page-closed, page-opened}
 
 -- a run that can be cut to its word's line
 pub record IsCut (perms : List Perm) (line word : ℕ) (run : Span) : Type 0 where
@@ -109,17 +110,6 @@ line-cut kind spill m left right word entry spilled run line e made =
 
 -- the words on the way of a walk
 module _ (kind : Kind) (lefts rights : ℕ → ℕ) (upper leaf spill : Frames) (root : ℕ) (m : List Perm) (i : ℕ) (k : IsTrieKind kind) (shown : IsShown kind lefts rights upper leaf spill root m) (below : i < 2 ^ 24) where
-  region-closed : (a : ℕ) → a ≡ word_at upper root (i / 1048576) → a % 4 ≢ 0 → has_mid upper root (i / 1048576) ≡ false
-  region-closed a e miss = ne_eqb (word_at upper root (i / 1048576) % 4) 0 (λ f. miss (ap (λ n. n % 4) e ∙ f))
-
-  region-opened : (a : ℕ) → a ≡ word_at upper root (i / 1048576) → a % 4 ≡ 0 → has_mid upper root (i / 1048576) ≡ true
-  region-opened a e hit = eq-eqb (word_at upper root (i / 1048576) % 4) 0 (ap (λ n. n % 4) (sym e) ∙ hit)
-
-  mid-is : (a b : ℕ) → a ≡ word_at upper root (i / 1048576) → b ≡ word_at upper (a / 4) (i / 1024 % 1024) → b ≡ mid_word upper root (i / 1024)
-  mid-is a b e f =
-      let at : i / 1048576 ≡ i / 1024 / 1024 = omega arith in
-      f ∙ ap (λ n. word_at upper (n / 4) (i / 1024 % 1024)) (e ∙ ap (word_at upper root) at)
-
   -- the part of a region that has a vector
   part-root : (a : ℕ) (s : Span) → a ≡ word_at upper root (i / 1048576) → a % 4 ≢ 0 →
       s.first ≡ i / 131072 * 131072 → s.count ≡ 131072 → number s.perm ≡ digit (a / 4) (i / 131072 % 8) → IsRound m i s
@@ -130,7 +120,7 @@ module _ (kind : Kind) (lefts rights : ℕ → ℕ) (upper leaf spill : Frames) 
     alike = λ j lo hi.
         let part : j / 131072 ≡ i / 131072 = omega arith in
         let region : j / 1048576 ≡ i / 1048576 = omega arith in
-        let closed : has_mid upper root (j / 1048576) ≡ false = ap (has_mid upper root) region ∙ region-closed a e miss in
+        let closed : has_mid upper root (j / 1048576) ≡ false = ap (has_mid upper root) region ∙ region-closed upper root i a e miss in
         sym (root-read kind lefts rights upper leaf spill root m k shown j (omega arith) closed)
         ∙ ap (λ n. vector_perm (root_word upper root n) (j / 131072 % 8)) region
         ∙ ap (λ n. vector_perm n (j / 131072 % 8)) (sym e)
@@ -147,7 +137,7 @@ module _ (kind : Kind) (lefts rights : ℕ → ℕ) (upper leaf spill : Frames) 
     whole = omega arith;
     alike = λ j lo hi.
         let region : j / 1048576 ≡ i / 1048576 = omega arith in
-        let closed : has_mid upper root (j / 1048576) ≡ false = ap (has_mid upper root) region ∙ region-closed a e miss in
+        let closed : has_mid upper root (j / 1048576) ≡ false = ap (has_mid upper root) region ∙ region-closed upper root i a e miss in
         sym (root-read kind lefts rights upper leaf spill root m k shown j (omega arith) closed)
         ∙ ap (λ n. vector_perm (root_word upper root n) (j / 131072 % 8)) region
         ∙ ap (λ n. vector_perm n (j / 131072 % 8)) (sym e)
@@ -172,13 +162,13 @@ module _ (kind : Kind) (lefts rights : ℕ → ℕ) (upper leaf spill : Frames) 
     alike = λ j lo hi.
         let part : j / 128 ≡ i / 128 = omega arith in
         let page : j / 1024 ≡ i / 1024 = omega arith in
-        let region : j / 1048576 ≡ i / 1048576 = omega arith in
-        let opened : has_mid upper root (j / 1048576) ≡ true = ap (has_mid upper root) region ∙ region-opened a e hit in
+        let region : j / 1048576 ≡ i / 1024 / 1024 = omega arith in
+        let opened : has_mid upper root (j / 1048576) ≡ true = ap (has_mid upper root) region ∙ region-opened upper root i a e hit in
         let closed : is_pointer (mid_word upper root (j / 1024)) ≡ false =
-        ap (λ n. is_pointer (mid_word upper root n)) page ∙ ne_eqb (mid_word upper root (i / 1024) % 4) 0 (λ h. miss (ap (λ n. n % 4) (mid-is a b e f) ∙ h)) in
+        ap (λ n. is_pointer (mid_word upper root n)) page ∙ page-closed upper root i a b e f miss in
         sym (mid-read kind lefts rights upper leaf spill root m k shown j (omega arith) opened closed)
         ∙ ap (λ n. vector_perm (mid_word upper root n) (j / 128 % 8)) page
-        ∙ ap (λ n. vector_perm n (j / 128 % 8)) (sym (mid-is a b e f))
+        ∙ ap (λ n. vector_perm n (j / 128 % 8)) (sym (mid-is upper root i a b e f))
         ∙ ap (λ n. vector_perm b (n % 8)) part
         ∙ ap numbered (sym perm) ∙ numbered-number s.perm;
   }
@@ -193,13 +183,13 @@ module _ (kind : Kind) (lefts rights : ℕ → ℕ) (upper leaf spill : Frames) 
     whole = omega arith;
     alike = λ j lo hi.
         let page : j / 1024 ≡ i / 1024 = omega arith in
-        let region : j / 1048576 ≡ i / 1048576 = omega arith in
-        let opened : has_mid upper root (j / 1048576) ≡ true = ap (has_mid upper root) region ∙ region-opened a e hit in
+        let region : j / 1048576 ≡ i / 1024 / 1024 = omega arith in
+        let opened : has_mid upper root (j / 1048576) ≡ true = ap (has_mid upper root) region ∙ region-opened upper root i a e hit in
         let closed : is_pointer (mid_word upper root (j / 1024)) ≡ false =
-        ap (λ n. is_pointer (mid_word upper root n)) page ∙ ne_eqb (mid_word upper root (i / 1024) % 4) 0 (λ h. miss (ap (λ n. n % 4) (mid-is a b e f) ∙ h)) in
+        ap (λ n. is_pointer (mid_word upper root n)) page ∙ page-closed upper root i a b e f miss in
         sym (mid-read kind lefts rights upper leaf spill root m k shown j (omega arith) opened closed)
         ∙ ap (λ n. vector_perm (mid_word upper root n) (j / 128 % 8)) page
-        ∙ ap (λ n. vector_perm n (j / 128 % 8)) (sym (mid-is a b e f))
+        ∙ ap (λ n. vector_perm n (j / 128 % 8)) (sym (mid-is upper root i a b e f))
         ∙ ap numbered (flat (j / 128 % 8) (omega arith) ∙ sym (flat (i / 1024 % 8) (omega arith)) ∙ sym perm) ∙ numbered-number s.perm;
   }
 
@@ -210,28 +200,3 @@ module _ (kind : Kind) (lefts rights : ℕ → ℕ) (upper leaf spill : Frames) 
       part-mid a b s e hit f miss (first ∙ ap (λ n. i / n * n) h) (count ∙ h) (perm ∙ ap (λ n. digit (b / 4) (i / n % 8)) h)
   around-mid a b size s e hit f miss (inr h) first count perm =
       whole-mid a b s e hit f miss h.1 (first ∙ ap (λ n. i / n * n) h.0) (count ∙ h.0) (perm ∙ ap (λ n. digit (b / 4) (i / n % 8)) h.0)
-
-  page-opened : (a b : ℕ) → a ≡ word_at upper root (i / 1048576) → b ≡ word_at upper (a / 4) (i / 1024 % 1024) → b % 4 ≡ 0 →
-      is_pointer (mid_word upper root (i / 1024)) ≡ true
-  page-opened a b e f hit = eq-eqb (mid_word upper root (i / 1024) % 4) 0 (ap (λ n. n % 4) (sym (mid-is a b e f)) ∙ hit)
-
-  mid-opened : (a : ℕ) → a ≡ word_at upper root (i / 1048576) → a % 4 ≡ 0 → has_mid upper root (i / 1024 / 1024) ≡ true
-  mid-opened a e hit = let at : i / 1024 / 1024 ≡ i / 1048576 = omega arith in ap (has_mid upper root) at ∙ region-opened a e hit
-
-  -- the leaf table of a page that has one, and the entry of a line
-  pub around-taken : (a b : ℕ) → a ≡ word_at upper root (i / 1048576) → a % 4 ≡ 0 → b ≡ word_at upper (a / 4) (i / 1024 % 1024) → b % 4 ≡ 0 → IsTaken leaf (b / 4)
-  around-taken a b e hit f also =
-      let y : i / 1024 < most_pages = omega arith in
-      let T : ℕ → Type 0 = λ n. IsTaken leaf (n / 4) in
-      subst T (sym (mid-is a b e f)) (shown.leaf_taken (i / 1024) y (mid-opened a e hit) (page-opened a b e f also))
-
-  pub around-entry : (a b l : ℕ) → a ≡ word_at upper root (i / 1048576) → a % 4 ≡ 0 → b ≡ word_at upper (a / 4) (i / 1024 % 1024) → b % 4 ≡ 0 →
-      l ≡ word_at leaf (b / 4) (i / 16 % 64) → IsLine kind spill m (i / 16) (lefts (i / 16)) (rights (i / 16)) l
-  around-entry a b l e hit f also h =
-      let z : i / 16 < most_lines = omega arith in
-      let at : i / 1024 ≡ i / 16 / 64 = omega arith in
-      let opened : has_mid upper root (i / 16 / 64 / 1024) ≡ true = ap (λ n. has_mid upper root (n / 1024)) (sym at) ∙ mid-opened a e hit in
-      let page : is_pointer (mid_word upper root (i / 16 / 64)) ≡ true = ap (λ n. is_pointer (mid_word upper root n)) (sym at) ∙ page-opened a b e f also in
-      let is : l ≡ leaf_word upper leaf root (i / 16) = h ∙ ap (λ n. word_at leaf (n / 4) (i / 16 % 64)) (mid-is a b e f ∙ ap (mid_word upper root) at) in
-      let T : ℕ → Type 0 = λ n. IsLine kind spill m (i / 16) (lefts (i / 16)) (rights (i / 16)) n in
-      subst T (sym is) (shown.line (i / 16) z opened page)

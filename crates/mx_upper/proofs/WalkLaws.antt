@@ -14,6 +14,8 @@ use Rattle.mx_words.specs.Blocks.{block_of, is_broken}
 use Rattle.mx_upper.specs.Leaf.{IsTrieKind, needs_spill, spill_number, IsStored}
 use Rattle.mx_upper.specs.Walk.{form_left, form_right, Frames, most_regions, most_pages, most_lines, is_pointer, mid_word, leaf_word, spilled_word, has_mid, has_leaf, map_left, map_right, line_number, IsLine, IsShown, IsTight}
 use Rattle.mx_upper.specs.Found.{IsVector, IsLeaf}
+use Rattle.mx_upper.proofs.PresentTables.{leaf-from, leaf-closed}
+use Rattle.mx_upper.proofs.WalkWords.{region-closed, region-opened, mid-is, page-closed, page-opened}
 
 -- the level of a word, by the blocks that hold it
 trie_kind-level : (kind : Kind) (m : List Perm) (i : ℕ) → IsTrieKind kind → level kind m i ≡ trie_level kind m i
@@ -82,13 +84,6 @@ line_level-leaf kind m i (inr e) miss =
     ap (λ k. line_level k (is_crowded (block_at line_words m i))) e
     ∙ ap (line_level K.Packed) (sym (crowded-line m i) ∙ packed)
 
--- both tests
-and-false : {a b : Bool} → a ≡ true → b ≡ false → (a && b) ≡ false
-and-false {a} {b} e f = ap (λ v. v && b) e ∙ f
-
-and-true : {a b : Bool} → a ≡ true → b ≡ true → (a && b) ≡ true
-and-true {a} {b} e f = ap (λ v. v && b) e ∙ f
-
 -- the reaches of a line in RAM
 pub map_left-in : (kind : Kind) (m : List Perm) (z : ℕ) → z * line_words < length m → map_left kind m z ≡ form_left kind m (z * line_words)
 map_left-in kind m z inside = ap (λ (b : Bool). if b then form_left kind m (z * line_words) else 0) (lt-ltb (z * line_words) (length m) inside)
@@ -99,75 +94,40 @@ map_right-in kind m z inside = ap (λ (b : Bool). if b then form_right kind m (z
 -- the words on the way
 module _ (kind : Kind) (upper leaf spill : Frames) (root : ℕ) (m : List Perm) (i : ℕ) (k : IsTrieKind kind) (shown : IsShown kind (map_left kind m) (map_right kind m) upper leaf spill root m)
     (tight : IsTight upper root m) (below : i < 2 ^ 24) where
-  region-closed : (a : ℕ) → a ≡ word_at upper root (i / 1048576) → a % 4 ≢ 0 → has_mid upper root (i / 1048576) ≡ false
-  region-closed a e miss = ne_eqb (word_at upper root (i / 1048576) % 4) 0 (λ f. miss (ap (λ n. n % 4) e ∙ f))
-
   pub walk-root : (a : ℕ) → a ≡ word_at upper root (i / 1048576) → a % 4 ≢ 0 → (level kind m i ≡ L.Root) × IsVector region_words 131072 m i a
   walk-root a e miss =
       let x : i / 1048576 < most_regions = omega arith in
-      let closed = region-closed a e miss in (
+      let closed = region-closed upper root i a e miss in (
         level-root kind m i k (sym (tight.mids (i / 1048576) x) ∙ closed),
         record { even = shown.region_even (i / 1048576) x closed; entry_is = e ∙ shown.region_vector (i / 1048576) x closed },
       )
-
-  region-opened : (a : ℕ) → a ≡ word_at upper root (i / 1048576) → a % 4 ≡ 0 → has_mid upper root (i / 1024 / 1024) ≡ true
-  region-opened a e hit =
-      let at : i / 1024 / 1024 ≡ i / 1048576 = omega arith in
-      ap (has_mid upper root) at ∙ eq-eqb (word_at upper root (i / 1048576) % 4) 0 (ap (λ n. n % 4) (sym e) ∙ hit)
 
   region-broken : (a : ℕ) → a ≡ word_at upper root (i / 1048576) → a % 4 ≡ 0 → is_broken region_words m (i / 1048576) ≡ true
   region-broken a e hit =
       let x : i / 1048576 < most_regions = omega arith in
       let at : i / 1048576 ≡ i / 1024 / 1024 = omega arith in
-      sym (tight.mids (i / 1048576) x) ∙ ap (has_mid upper root) at ∙ region-opened a e hit
-
-  mid-is : (a b : ℕ) → a ≡ word_at upper root (i / 1048576) → b ≡ word_at upper (a / 4) (i / 1024 % 1024) → b ≡ mid_word upper root (i / 1024)
-  mid-is a b e f =
-      let at : i / 1048576 ≡ i / 1024 / 1024 = omega arith in
-      f ∙ ap (λ n. word_at upper (n / 4) (i / 1024 % 1024)) (e ∙ ap (word_at upper root) at)
+      sym (tight.mids (i / 1048576) x) ∙ ap (has_mid upper root) at ∙ region-opened upper root i a e hit
 
   pub walk-mid : (a b : ℕ) → a ≡ word_at upper root (i / 1048576) → a % 4 ≡ 0 → b ≡ word_at upper (a / 4) (i / 1024 % 1024) → b % 4 ≢ 0 →
       (level kind m i ≡ L.Mid) × IsVector page_words 128 m i b
   walk-mid a b e hit f miss =
       let y : i / 1024 < most_pages = omega arith in
-      let opened = region-opened a e hit in
-      let is = mid-is a b e f in
-      let closed : is_pointer (mid_word upper root (i / 1024)) ≡ false = ne_eqb (mid_word upper root (i / 1024) % 4) 0 (λ h. miss (ap (λ n. n % 4) is ∙ h)) in
-      let whole : has_leaf upper root (i / 1024) ≡ false = and-false opened closed in (
+      let opened = region-opened upper root i a e hit in
+      let is = mid-is upper root i a b e f in
+      let closed : is_pointer (mid_word upper root (i / 1024)) ≡ false = page-closed upper root i a b e f miss in
+      let whole : has_leaf upper root (i / 1024) ≡ false = leaf-closed upper root (i / 1024) opened closed in (
         level-mid kind m i k (region-broken a e hit) (sym (tight.leaves (i / 1024) y) ∙ whole),
         record { even = shown.page_even (i / 1024) y opened closed; entry_is = is ∙ shown.page_vector (i / 1024) y opened closed },
       )
-
-  page-opened : (a b : ℕ) → a ≡ word_at upper root (i / 1048576) → b ≡ word_at upper (a / 4) (i / 1024 % 1024) → b % 4 ≡ 0 →
-      is_pointer (mid_word upper root (i / 1024)) ≡ true
-  page-opened a b e f hit = eq-eqb (mid_word upper root (i / 1024) % 4) 0 (ap (λ n. n % 4) (sym (mid-is a b e f)) ∙ hit)
 
   page-broken : (a b : ℕ) → a ≡ word_at upper root (i / 1048576) → a % 4 ≡ 0 → b ≡ word_at upper (a / 4) (i / 1024 % 1024) → b % 4 ≡ 0 →
       is_broken page_words m (i / 1024) ≡ true
   page-broken a b e hit f also =
       let y : i / 1024 < most_pages = omega arith in
-      let opened = region-opened a e hit in
-      let page = page-opened a b e f also in
-      let whole : has_leaf upper root (i / 1024) ≡ true = and-true opened page in
+      let opened = region-opened upper root i a e hit in
+      let page = page-opened upper root i a b e f also in
+      let whole : has_leaf upper root (i / 1024) ≡ true = leaf-from upper root (i / 1024) opened page in
       sym (tight.leaves (i / 1024) y) ∙ whole
-
-  pub walk-taken : (a b : ℕ) → a ≡ word_at upper root (i / 1048576) → a % 4 ≡ 0 → b ≡ word_at upper (a / 4) (i / 1024 % 1024) → b % 4 ≡ 0 →
-      IsTaken leaf (b / 4)
-  walk-taken a b e hit f also =
-      let y : i / 1024 < most_pages = omega arith in
-      let T : ℕ → Type 0 = λ n. IsTaken leaf (n / 4) in
-      subst T (sym (mid-is a b e f)) (shown.leaf_taken (i / 1024) y (region-opened a e hit) (page-opened a b e f also))
-
-  pub walk-line : (a b l : ℕ) → a ≡ word_at upper root (i / 1048576) → a % 4 ≡ 0 → b ≡ word_at upper (a / 4) (i / 1024 % 1024) → b % 4 ≡ 0 →
-      l ≡ word_at leaf (b / 4) (i / 16 % 64) → IsLine kind spill m (i / 16) (map_left kind m (i / 16)) (map_right kind m (i / 16)) l
-  walk-line a b l e hit f also h =
-      let z : i / 16 < most_lines = omega arith in
-      let at : i / 1024 ≡ i / 16 / 64 = omega arith in
-      let opened : has_mid upper root (i / 16 / 64 / 1024) ≡ true = ap (λ n. has_mid upper root (n / 1024)) (sym at) ∙ region-opened a e hit in
-      let page : is_pointer (mid_word upper root (i / 16 / 64)) ≡ true = ap (λ n. is_pointer (mid_word upper root n)) (sym at) ∙ page-opened a b e f also in
-      let is : l ≡ leaf_word upper leaf root (i / 16) = h ∙ ap (λ n. word_at leaf (n / 4) (i / 16 % 64)) (mid-is a b e f ∙ ap (mid_word upper root) at) in
-      let T : ℕ → Type 0 = λ n. IsLine kind spill m (i / 16) (map_left kind m (i / 16)) (map_right kind m (i / 16)) n in
-      subst T (sym is) (shown.line (i / 16) z opened page)
 
   -- the line's entry has no spill word, or has one
   pub walk-leaf : (a b l : ℕ) → a ≡ word_at upper root (i / 1048576) → a % 4 ≡ 0 → b ≡ word_at upper (a / 4) (i / 1024 % 1024) → b % 4 ≡ 0 →

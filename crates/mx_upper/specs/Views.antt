@@ -1,10 +1,11 @@
 -- Maps that are read span by span.
-use Rattle.std.specs.Prelude.{◌≡◌, ℕ, ◌+◌, ◌<◌, ◌≤◌, List, length, slice_index_or}
+use Rattle.std.specs.Prelude.{◌≡◌, ℕ, ◌+◌, ◌<◌, ◌≤◌, List, length}
 use Rattle.mx_words.specs.declared.perm.Perm.{Perm}
 use Rattle.mx_words.specs.declared.perm.Span.{Span}
 use Rattle.mx_words.specs.declared.tables.Kind.{Kind}
 use Rattle.mx_words.specs.Rights.{perm_at}
-use Rattle.mx_table.specs.Tables.{most_words, no_span}
+use Rattle.mx_table.specs.Tables.{most_words}
+use Rattle.mx_table.specs.Rows.{span_at}
 use Rattle.mx_upper.specs.Walk.{Frames, IsLine}
 
 -- a span round a word, on which the map has one permission; words outside RAM have none
@@ -24,10 +25,10 @@ pub record IsSomeLine (kind : Kind) (spill : Frames) (z entry : ℕ) : Type 0 wh
 -- how many spans of a row begin at a word or before it
 pub record IsBegun (row : List Span) (word next : ℕ) : Type 0 where
   pub within : next ≤ length row
-  pub begun : (k : ℕ) → k < next → (slice_index_or row k no_span).first ≤ word
-  pub later : (k : ℕ) → next ≤ k → k < length row → word < (slice_index_or row k no_span).first
+  pub begun : (k : ℕ) → k < next → (span_at row k).first ≤ word
+  pub later : (k : ℕ) → next ≤ k → k < length row → word < (span_at row k).first
 
 -- where the span at a place begins, or the end of all words where there is none
 pub record IsBegin (row : List Span) (place begin : ℕ) : Type 0 where
-  pub inside : place < length row → begin ≡ (slice_index_or row place no_span).first
+  pub inside : place < length row → begin ≡ (span_at row place).first
   pub behind : length row ≤ place → begin ≡ most_words

@@ -2,7 +2,7 @@ use Rattle.std.proofs.Common.{ℕ, ◌≡◌, ◌/◌, true, sym, ap, ◌∙◌}
 use Rattle.mx_pool.specs.Frames.{word_at}
 use Rattle.mx_upper.specs.Walk.{has_leaf}
 use Rattle.mx_upper.specs.Forest.{root_at}
-use Rattle.mx_upper.proofs.ToldSpills.{spill-told}
+use Rattle.mx_upper.proofs.WalkWords.{spill-told}
 use Rattle.mx_upper.proofs.after.is_spilled.Goals as goal
 
 pub returns : goal.returns

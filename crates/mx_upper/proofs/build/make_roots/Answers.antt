@@ -1,6 +1,6 @@
 use Rattle.std.proofs.Common.{◌≡◌, ℕ, ◌+◌, length, [], refl, sym, ap, subst, ◌∙◌, arith, List, ◌++◌, ◌∷◌, length-append}
 use Rattle.mx_upper.specs.Roots.{AreRoots}
-use Rattle.mx_upper.proofs.RootLaws.{free-fresh, no-roots, roots-more}
+use Rattle.mx_upper.proofs.RootLaws.{fresh-free, no-roots, roots-more}
 use Rattle.mx_upper.proofs.build.make_roots.Goals as goal
 
 pub loop-init : goal.loop-init
@@ -14,7 +14,7 @@ loop-init c =
 
 pub make_root-frame-requires : goal.make_root-frame-requires
 make_root-frame-requires c =
-    omega (arith, c.loop.invariant.count, c.loop.invariant.total, c.loop.invariant.are.count, c.loop-test.true, c.requires.room, free-fresh c.args.upper.now c.requires.fresh)
+    omega (arith, c.loop.invariant.count, c.loop.invariant.total, c.loop.invariant.are.count, c.loop-test.true, c.requires.room, fresh-free c.args.upper.now _ c.requires.fresh)
 
 pub push-requires : goal.push-requires
 push-requires c = omega (arith, c.loop.invariant.count, c.loop-test.true, c.requires.count)

@@ -1,6 +1,7 @@
 use Rattle.std.proofs.Common.{◌/◌, arith}
-use Rattle.mx_upper.proofs.TableSpans.{around-root, around-mid, around-taken, around-entry}
+use Rattle.mx_upper.proofs.TableSpans.{around-root, around-mid}
 use Rattle.mx_upper.proofs.table_view.around_in.Goals as goal
+use Rattle.mx_upper.proofs.WalkWords.{walk-taken, walk-line}
 
 pub returns-then-in_root-ne0 : goal.returns-then-in_root-ne0
 returns-then-in_root-ne0 g c = λ m t.
@@ -18,7 +19,7 @@ get-requires g c =
     let t = c.requires.shown.1 in (
       omega arith,
       (
-        around-taken g.L.LeafForm.kind t.lefts t.rights c.args.upper.now c.args.leaf.now c.args.spill.now c.args.root c.requires.shown.0 c.args.word g.met.L.LeafForm.trie t.shown c.requires.word
+        walk-taken g.L.LeafForm.kind t.lefts t.rights c.args.upper.now c.args.leaf.now c.args.spill.now c.args.root c.requires.shown.0 c.args.word t.shown c.requires.word
             c.get-in_root.result c.get-in_mid.result c.get-in_root.ensures c.if-in_root-ne0.false c.get-in_mid.ensures c.if-in_mid-ne0.false,
         omega arith,
       ),
@@ -30,12 +31,12 @@ around_line-requires-clause-line g c =
       map = c.requires.shown.0;
       left = t.lefts (c.args.word / 16);
       right = t.rights (c.args.word / 16);
-      line = around-entry g.L.LeafForm.kind t.lefts t.rights c.args.upper.now c.args.leaf.now c.args.spill.now c.args.root c.requires.shown.0 c.args.word g.met.L.LeafForm.trie t.shown c.requires.word
+      line = walk-line g.L.LeafForm.kind t.lefts t.rights c.args.upper.now c.args.leaf.now c.args.spill.now c.args.root c.requires.shown.0 c.args.word t.shown c.requires.word
           c.get-in_root.result c.get-in_mid.result c.get.result c.get-in_root.ensures c.if-in_root-ne0.false c.get-in_mid.ensures c.if-in_mid-ne0.false c.get.ensures;
     }
 
 pub returns : goal.returns
 returns g c = λ m t.
     c.around_line.ensures m (t.lefts (c.args.word / 16)) (t.rights (c.args.word / 16))
-    (around-entry g.L.LeafForm.kind t.lefts t.rights c.args.upper.now c.args.leaf.now c.args.spill.now c.args.root m c.args.word g.met.L.LeafForm.trie t.shown c.requires.word
+    (walk-line g.L.LeafForm.kind t.lefts t.rights c.args.upper.now c.args.leaf.now c.args.spill.now c.args.root m c.args.word t.shown c.requires.word
     c.get-in_root.result c.get-in_mid.result c.get.result c.get-in_root.ensures c.if-in_root-ne0.false c.get-in_mid.ensures c.if-in_mid-ne0.false c.get.ensures)

@@ -4,9 +4,10 @@ use Rattle.mx_pool.specs.Frames.{IsTaken}
 use Rattle.mx_upper.specs.Leaf.{needs_spill}
 use Rattle.mx_upper.specs.Walk.{IsLine, map_left, map_right, line_number}
 use Rattle.mx_upper.specs.Read.{read_map}
-use Rattle.mx_upper.proofs.WalkLaws.{walk-root, walk-mid, walk-taken, walk-line, walk-leaf, walk-spill, named-none, named-some}
+use Rattle.mx_upper.proofs.WalkLaws.{walk-root, walk-mid, walk-leaf, walk-spill, named-none, named-some}
 use Rattle.mx_upper.specs.Shape.{length-read_map}
 use Rattle.mx_upper.proofs.walk.find.Goals as goal
+use Rattle.mx_upper.proofs.WalkWords.{walk-taken, walk-line}
 
 pub returns-then-in_root-ne0 : goal.returns-then-in_root-ne0
 returns-then-in_root-ne0 g c =
@@ -22,7 +23,7 @@ pub get-in_leaf-requires : goal.get-in_leaf-requires
 get-in_leaf-requires g c = (
   omega arith,
   (
-    walk-taken g.L.LeafForm.kind c.args.upper.now c.args.leaf.now c.args.spill.now c.args.root (read_map g.L.LeafForm.kind c.args.upper.now c.args.leaf.now c.args.spill.now c.args.words c.args.root) c.args.word g.met.L.LeafForm.trie c.requires.shown c.requires.tight (omega arith)
+    walk-taken g.L.LeafForm.kind (map_left g.L.LeafForm.kind (read_map g.L.LeafForm.kind c.args.upper.now c.args.leaf.now c.args.spill.now c.args.words c.args.root)) (map_right g.L.LeafForm.kind (read_map g.L.LeafForm.kind c.args.upper.now c.args.leaf.now c.args.spill.now c.args.words c.args.root)) c.args.upper.now c.args.leaf.now c.args.spill.now c.args.root (read_map g.L.LeafForm.kind c.args.upper.now c.args.leaf.now c.args.spill.now c.args.words c.args.root) c.args.word c.requires.shown (omega arith)
         c.get-in_root.result c.get-in_mid.result c.get-in_root.ensures c.if-in_root-ne0.false c.get-in_mid.ensures c.if-in_mid-ne0.false,
     omega arith,
   ),
@@ -31,7 +32,7 @@ get-in_leaf-requires g c = (
 pub get-requires : goal.get-requires
 get-requires g c =
     let line : IsLine g.L.LeafForm.kind c.args.spill.now (read_map g.L.LeafForm.kind c.args.upper.now c.args.leaf.now c.args.spill.now c.args.words c.args.root) (c.args.word / 16) (map_left g.L.LeafForm.kind (read_map g.L.LeafForm.kind c.args.upper.now c.args.leaf.now c.args.spill.now c.args.words c.args.root) (c.args.word / 16)) (map_right g.L.LeafForm.kind (read_map g.L.LeafForm.kind c.args.upper.now c.args.leaf.now c.args.spill.now c.args.words c.args.root) (c.args.word / 16)) c.get-in_leaf.result =
-    walk-line g.L.LeafForm.kind c.args.upper.now c.args.leaf.now c.args.spill.now c.args.root (read_map g.L.LeafForm.kind c.args.upper.now c.args.leaf.now c.args.spill.now c.args.words c.args.root) c.args.word g.met.L.LeafForm.trie c.requires.shown c.requires.tight (omega arith)
+    walk-line g.L.LeafForm.kind (map_left g.L.LeafForm.kind (read_map g.L.LeafForm.kind c.args.upper.now c.args.leaf.now c.args.spill.now c.args.words c.args.root)) (map_right g.L.LeafForm.kind (read_map g.L.LeafForm.kind c.args.upper.now c.args.leaf.now c.args.spill.now c.args.words c.args.root)) c.args.upper.now c.args.leaf.now c.args.spill.now c.args.root (read_map g.L.LeafForm.kind c.args.upper.now c.args.leaf.now c.args.spill.now c.args.words c.args.root) c.args.word c.requires.shown (omega arith)
     c.get-in_root.result c.get-in_mid.result c.get-in_leaf.result c.get-in_root.ensures c.if-in_root-ne0.false c.get-in_mid.ensures c.if-in_mid-ne0.false c.get-in_leaf.ensures in
     let named = c.spill_of.ensures.named (line_at (read_map g.L.LeafForm.kind c.args.upper.now c.args.leaf.now c.args.spill.now c.args.words c.args.root) (c.args.word / 16 * 16)) (map_left g.L.LeafForm.kind (read_map g.L.LeafForm.kind c.args.upper.now c.args.leaf.now c.args.spill.now c.args.words c.args.root) (c.args.word / 16)) (map_right g.L.LeafForm.kind (read_map g.L.LeafForm.kind c.args.upper.now c.args.leaf.now c.args.spill.now c.args.words c.args.root) (c.args.word / 16)) (line_number g.L.LeafForm.kind c.get-in_leaf.result) line.stored.entry_is in
     let both = named-some (needs_spill g.L.LeafForm.kind (line_at (read_map g.L.LeafForm.kind c.args.upper.now c.args.leaf.now c.args.spill.now c.args.words c.args.root) (c.args.word / 16 * 16))) (line_number g.L.LeafForm.kind c.get-in_leaf.result) c.in-Some.number (sym c.in-Some.is ∙ named) in
@@ -41,7 +42,7 @@ get-requires g c =
 pub returns-in-None : goal.returns-in-None
 returns-in-None g c =
     let line : IsLine g.L.LeafForm.kind c.args.spill.now (read_map g.L.LeafForm.kind c.args.upper.now c.args.leaf.now c.args.spill.now c.args.words c.args.root) (c.args.word / 16) (map_left g.L.LeafForm.kind (read_map g.L.LeafForm.kind c.args.upper.now c.args.leaf.now c.args.spill.now c.args.words c.args.root) (c.args.word / 16)) (map_right g.L.LeafForm.kind (read_map g.L.LeafForm.kind c.args.upper.now c.args.leaf.now c.args.spill.now c.args.words c.args.root) (c.args.word / 16)) c.get-in_leaf.result =
-    walk-line g.L.LeafForm.kind c.args.upper.now c.args.leaf.now c.args.spill.now c.args.root (read_map g.L.LeafForm.kind c.args.upper.now c.args.leaf.now c.args.spill.now c.args.words c.args.root) c.args.word g.met.L.LeafForm.trie c.requires.shown c.requires.tight (omega arith)
+    walk-line g.L.LeafForm.kind (map_left g.L.LeafForm.kind (read_map g.L.LeafForm.kind c.args.upper.now c.args.leaf.now c.args.spill.now c.args.words c.args.root)) (map_right g.L.LeafForm.kind (read_map g.L.LeafForm.kind c.args.upper.now c.args.leaf.now c.args.spill.now c.args.words c.args.root)) c.args.upper.now c.args.leaf.now c.args.spill.now c.args.root (read_map g.L.LeafForm.kind c.args.upper.now c.args.leaf.now c.args.spill.now c.args.words c.args.root) c.args.word c.requires.shown (omega arith)
     c.get-in_root.result c.get-in_mid.result c.get-in_leaf.result c.get-in_root.ensures c.if-in_root-ne0.false c.get-in_mid.ensures c.if-in_mid-ne0.false c.get-in_leaf.ensures in
     let named = c.spill_of.ensures.named (line_at (read_map g.L.LeafForm.kind c.args.upper.now c.args.leaf.now c.args.spill.now c.args.words c.args.root) (c.args.word / 16 * 16)) (map_left g.L.LeafForm.kind (read_map g.L.LeafForm.kind c.args.upper.now c.args.leaf.now c.args.spill.now c.args.words c.args.root) (c.args.word / 16)) (map_right g.L.LeafForm.kind (read_map g.L.LeafForm.kind c.args.upper.now c.args.leaf.now c.args.spill.now c.args.words c.args.root) (c.args.word / 16)) (line_number g.L.LeafForm.kind c.get-in_leaf.result) line.stored.entry_is in
     walk-leaf g.L.LeafForm.kind c.args.upper.now c.args.leaf.now c.args.spill.now c.args.root (read_map g.L.LeafForm.kind c.args.upper.now c.args.leaf.now c.args.spill.now c.args.words c.args.root) c.args.word g.met.L.LeafForm.trie c.requires.shown c.requires.tight (omega arith)
@@ -52,7 +53,7 @@ returns-in-None g c =
 pub returns-in-Some : goal.returns-in-Some
 returns-in-Some g c =
     let line : IsLine g.L.LeafForm.kind c.args.spill.now (read_map g.L.LeafForm.kind c.args.upper.now c.args.leaf.now c.args.spill.now c.args.words c.args.root) (c.args.word / 16) (map_left g.L.LeafForm.kind (read_map g.L.LeafForm.kind c.args.upper.now c.args.leaf.now c.args.spill.now c.args.words c.args.root) (c.args.word / 16)) (map_right g.L.LeafForm.kind (read_map g.L.LeafForm.kind c.args.upper.now c.args.leaf.now c.args.spill.now c.args.words c.args.root) (c.args.word / 16)) c.get-in_leaf.result =
-    walk-line g.L.LeafForm.kind c.args.upper.now c.args.leaf.now c.args.spill.now c.args.root (read_map g.L.LeafForm.kind c.args.upper.now c.args.leaf.now c.args.spill.now c.args.words c.args.root) c.args.word g.met.L.LeafForm.trie c.requires.shown c.requires.tight (omega arith)
+    walk-line g.L.LeafForm.kind (map_left g.L.LeafForm.kind (read_map g.L.LeafForm.kind c.args.upper.now c.args.leaf.now c.args.spill.now c.args.words c.args.root)) (map_right g.L.LeafForm.kind (read_map g.L.LeafForm.kind c.args.upper.now c.args.leaf.now c.args.spill.now c.args.words c.args.root)) c.args.upper.now c.args.leaf.now c.args.spill.now c.args.root (read_map g.L.LeafForm.kind c.args.upper.now c.args.leaf.now c.args.spill.now c.args.words c.args.root) c.args.word c.requires.shown (omega arith)
     c.get-in_root.result c.get-in_mid.result c.get-in_leaf.result c.get-in_root.ensures c.if-in_root-ne0.false c.get-in_mid.ensures c.if-in_mid-ne0.false c.get-in_leaf.ensures in
     let named = c.spill_of.ensures.named (line_at (read_map g.L.LeafForm.kind c.args.upper.now c.args.leaf.now c.args.spill.now c.args.words c.args.root) (c.args.word / 16 * 16)) (map_left g.L.LeafForm.kind (read_map g.L.LeafForm.kind c.args.upper.now c.args.leaf.now c.args.spill.now c.args.words c.args.root) (c.args.word / 16)) (map_right g.L.LeafForm.kind (read_map g.L.LeafForm.kind c.args.upper.now c.args.leaf.now c.args.spill.now c.args.words c.args.root) (c.args.word / 16)) (line_number g.L.LeafForm.kind c.get-in_leaf.result) line.stored.entry_is in
     let both = named-some (needs_spill g.L.LeafForm.kind (line_at (read_map g.L.LeafForm.kind c.args.upper.now c.args.leaf.now c.args.spill.now c.args.words c.args.root) (c.args.word / 16 * 16))) (line_number g.L.LeafForm.kind c.get-in_leaf.result) c.in-Some.number (sym c.in-Some.is ∙ named) in

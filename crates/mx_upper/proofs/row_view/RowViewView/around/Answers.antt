@@ -1,6 +1,9 @@
 use Rattle.std.proofs.Common.{◌≡◌, ◌+◌, ◌-◌, ap, arith}
+use Rattle.mx_table.specs.Rows.{span_at}
+use Rattle.mx_table.proofs.RowLaws.{got}
+use Rattle.mx_table.specs.Tables.{no_span}
 use Rattle.mx_words.specs.declared.perm.Span.{Span}
-use Rattle.mx_upper.proofs.RowSpans.{span_in, span-got, first-round, span-round, gap-round}
+use Rattle.mx_upper.proofs.RowSpans.{first-round, span-round, gap-round}
 use Rattle.mx_upper.proofs.row_view.RowViewView.around.Goals as goal
 
 pub returns-then-next-eq0 : goal.returns-then-next-eq0
@@ -11,8 +14,8 @@ returns-then-next-eq0 c =
 pub overflow_add-behind : goal.overflow_add-behind
 overflow_add-behind c =
     let v = c.args.self.now in
-    let is : c.get-span.result ≡ span_in v.row.now (c.begun-next.result - 1) = span-got v.row.now (c.begun-next.result - 1) c.get-span.result c.get-span.ensures in
-    let end : c.get-span.result.first + c.get-span.result.count ≡ (span_in v.row.now (c.begun-next.result - 1)).first + (span_in v.row.now (c.begun-next.result - 1)).count =
+    let is : c.get-span.result ≡ span_at v.row.now (c.begun-next.result - 1) = got v.row.now (c.begun-next.result - 1) c.get-span.result no_span c.get-span.ensures in
+    let end : c.get-span.result.first + c.get-span.result.count ≡ (span_at v.row.now (c.begun-next.result - 1)).first + (span_at v.row.now (c.begun-next.result - 1)).count =
     ap (λ (s : Span). s.first + s.count) is in
     let within = c.begun-next.ensures.within in
     let inside = c.requires.lawful.0.inside (c.begun-next.result - 1) (omega (arith, c.if-next-eq0.false)) in
@@ -23,10 +26,10 @@ pub returns-then-word-behind : goal.returns-then-word-behind
 returns-then-word-behind c =
     let v = c.args.self.now in
     span-round v.words v.row.now c.requires.lawful.0 c.args.word c.begun-next.result c.requires.lawful.1 c.requires.word c.begun-next.ensures c.get-span.result (omega (arith, c.if-next-eq0.false))
-    (span-got v.row.now (c.begun-next.result - 1) c.get-span.result c.get-span.ensures) c.if-word-behind.true
+    (got v.row.now (c.begun-next.result - 1) c.get-span.result no_span c.get-span.ensures) c.if-word-behind.true
 
 pub returns-else-word-behind : goal.returns-else-word-behind
 returns-else-word-behind c =
     let v = c.args.self.now in
     gap-round v.words v.row.now c.requires.lawful.0 c.args.word c.begun-next.result c.requires.lawful.1 c.requires.word c.begun-next.ensures c.get-span.result c.begin_of-end.result (omega (arith, c.if-next-eq0.false))
-    (span-got v.row.now (c.begun-next.result - 1) c.get-span.result c.get-span.ensures) c.if-word-behind.false c.begin_of-end.ensures
+    (got v.row.now (c.begun-next.result - 1) c.get-span.result no_span c.get-span.ensures) c.if-word-behind.false c.begin_of-end.ensures

@@ -1,8 +1,9 @@
 use Rattle.std.proofs.Common.{sym, ◌∙◌, arith, length, ◌*◌}
 use Rattle.mx_upper.proofs.EmptyTables.{tables-of-roots, maps-of-roots, canonical-of-roots}
 use Rattle.mx_upper.proofs.TrieLaws.{within-parts}
-use Rattle.mx_upper.proofs.BuiltLaws.{IsRowsNeed, rows-need, rows-fit, maps-built, fits-built, fresh-length, fresh-free, room-for}
+use Rattle.mx_upper.proofs.BuiltLaws.{IsRowsNeed, rows-need, rows-fit, maps-built, fits-built, room-for}
 use Rattle.mx_upper.proofs.trie.TriePermTables.build.Goals as goal
+use Rattle.mx_upper.proofs.RootLaws.{fresh-length, fresh-free}
 
 pub returns-then-not-is_within-clause-refused : goal.returns-then-not-is_within-clause-refused
 returns-then-not-is_within-clause-refused g c =
