@@ -1,5 +1,5 @@
--- The numbers of permissions, and digits of two bits, by shift and mask, and of packed permissions.
-use Rattle.std.proofs.Common.{◌≡◌, ℕ, zero, suc, ◌+◌, ◌*◌, ◌/◌, ◌%◌, ◌^◌, ◌<◌, ◌≤◌, List, [], ◌∷◌, length, refl, ap, ◌∙◌, arith, eq-eqb}
+-- The numbers of permissions, and digits of two bits, by shift and mask, of packed permissions, and of one permission eight times.
+use Rattle.std.proofs.Common.{◌≡◌, ℕ, zero, suc, ◌+◌, ◌*◌, ◌/◌, ◌%◌, ◌^◌, ◌<◌, ◌≤◌, List, [], ◌∷◌, length, refl, ap, ◌∙◌, arith, eq-eqb, sym}
 use Rattle.std.proofs.Math.Nat.{pow-suc, div-one}
 use Rattle.std.proofs.lemmas.Nat.{shr-shr, and_mask}
 use Rattle.std.specs.Int.Bits.{bit_and}
@@ -71,3 +71,15 @@ packed-below (suc n) (p ∷ ps) few =
     let small : number p < 4 = number-small p in
     let more : packed ps < 4 ^ n = packed-below n ps (omega arith) in
     rw pow-suc (omega arith)
+
+-- the digits of a number in which one digit stands eight times
+pub flat-digits : (n e : ℕ) → n ≡ 21845 * (n % 4) → e < 8 → digit n e ≡ n % 4
+flat-digits n zero same below = sym (shifted n 0) ∙ omega arith
+flat-digits n (suc zero) same below = sym (shifted n 1) ∙ omega arith
+flat-digits n (suc (suc zero)) same below = sym (shifted n 2) ∙ omega arith
+flat-digits n (suc (suc (suc zero))) same below = sym (shifted n 3) ∙ omega arith
+flat-digits n (suc (suc (suc (suc zero)))) same below = sym (shifted n 4) ∙ omega arith
+flat-digits n (suc (suc (suc (suc (suc zero))))) same below = sym (shifted n 5) ∙ omega arith
+flat-digits n (suc (suc (suc (suc (suc (suc zero)))))) same below = sym (shifted n 6) ∙ omega arith
+flat-digits n (suc (suc (suc (suc (suc (suc (suc zero))))))) same below = sym (shifted n 7) ∙ omega arith
+flat-digits n (suc (suc (suc (suc (suc (suc (suc (suc e)))))))) same below = absurd (omega arith)

@@ -24,7 +24,7 @@ use Rattle.mx_upper.specs.Forest.{has_spill, root_at, map_at, IsForest, IsLoose,
 use Rattle.mx_upper.specs.Laying.{spill_lines, IsCanonical}
 use Rattle.mx_upper.specs.Roots.{AreRoots}
 use Rattle.mx_upper.proofs.EvenLaws.{even-line}
-use Rattle.mx_upper.proofs.TablesLaws.{maps-from, tables-from}
+use Rattle.mx_upper.proofs.MapsRead.{maps-from, tables-from}
 use Rattle.mx_upper.proofs.PresentTables.{leaf-no-region, spill-no-page}
 
 -- a map without permissions

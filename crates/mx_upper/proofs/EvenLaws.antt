@@ -1,5 +1,5 @@
--- Lines, pages and regions of which the parts have one permission each: no line needs a spill word, and no block is broken.
-use Rattle.std.proofs.Common.{◌≡◌, ℕ, ◌+◌, ◌-◌, ◌*◌, ◌/◌, ◌%◌, ◌<◌, ◌≤◌, ◌==◌, Bool, false, not, nat_lt, if◌then◌else◌, List, Some, None, length, refl, sym, ap, ◌∙◌, arith}
+-- Lines, pages and regions of which the parts have one permission each: how they are told, and that no line of theirs needs a spill word.
+use Rattle.std.proofs.Common.{◌≡◌, ℕ, ◌+◌, ◌-◌, ◌*◌, ◌/◌, ◌%◌, ◌<◌, ◌≤◌, ◌==◌, Bool, false, not, nat_lt, if◌then◌else◌, List, Some, None, length, refl, sym, ap, ◌∙◌, arith, true}
 use Rattle.std.proofs.lemmas.Bool.{ltb-false, ne_eqb, not-false}
 use Rattle.mx_words.specs.declared.perm.Perm.{Perm}
 use Rattle.mx_words.specs.declared.tables.Kind.{Kind}
@@ -11,7 +11,7 @@ use Rattle.mx_words.specs.Starts.{is_start}
 use Rattle.mx_words.specs.Blocks.{block_of, is_broken, IsEven}
 use Rattle.mx_words.proofs.CountingLaws.{count_below_is}
 use Rattle.mx_words.proofs.RunLaws.{runs-count, is_start-first, is_start-behind, same_from}
-use Rattle.mx_words.proofs.BlockLaws.{even_from, whole-even}
+use Rattle.mx_words.proofs.BlockLaws.{even_from, whole-even, even_is}
 use Rattle.mx_upper.specs.Leaf.{IsTrieKind, needs_spill, packed_entry, spill_number, IsStored}
 use Rattle.mx_upper.specs.Walk.{Frames, most_pages, has_leaf}
 use Rattle.mx_upper.specs.Laying.{ArePagesTight}
@@ -86,3 +86,14 @@ even-region-page m x y even at = whole-even 1024 128 m y refl refl (omega arith)
 pub even-region-empty : (upper : Frames) (root : ℕ) (m : List Perm) (x : ℕ) → ArePagesTight upper root m → IsEven m (x * region_words) 131072 →
     (y : ℕ) → y < most_pages → y / 1024 ≡ x → has_leaf upper root y ≡ false
 even-region-empty upper root m x tight even y low at = tight.leaves y low ∙ even-region-page m x y even at
+
+tests-agree : (a b : Bool) → (a ≡ true → b ≡ true) → (b ≡ true → a ≡ true) → a ≡ not (not b)
+tests-agree true true f g = refl
+tests-agree true false f g = sym (f refl)
+tests-agree false true f g = g refl
+tests-agree false false f g = refl
+
+pub even-tells : (size part : ℕ) (m : List Perm) (b : ℕ) (told : Bool) → size / 8 ≡ part → size ≡ 8 * part → 0 < part →
+    (told ≡ true → IsEven m (b * size) part) → (IsEven m (b * size) part → told ≡ true) → told ≡ not (is_broken size m b)
+even-tells size part m b told is eight some from to =
+    tests-agree told (is_eighth_uniform size (block_of size m b)) (λ e. even_is size part m b is eight some (from e)) (λ e. to (even_from size part m b is eight some e))

@@ -19,7 +19,7 @@ use Rattle.mx_upper.specs.Leaf.{IsTrieKind, line_run, placed, lengthened, left_o
 use Rattle.mx_upper.specs.Found.{IsVector, IsLeaf}
 use Rattle.mx_upper.proofs.Digits.{digit-packed}
 use Rattle.mx_upper.proofs.PlainRuns.{left_of_run-none, right_of_run-none, lengthened-none}
-use Rattle.mx_upper.proofs.Spans.{span_within-is}
+use Rattle.mx_upper.proofs.RunBounds.{span_within-is}
 use Rattle.mx_upper.proofs.LeafSpans.{Run, run_of, length-line, line-at, line_span-is}
 
 -- a vector's digit is the permission of its part

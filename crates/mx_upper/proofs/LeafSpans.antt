@@ -9,7 +9,7 @@ use Rattle.mx_words.specs.Rights.{same, perm_at}
 use Rattle.mx_words.specs.Runs.{line_words, block_at}
 use Rattle.mx_words.specs.Reach.{span_within, line_at}
 use Rattle.mx_words.proofs.RunLaws.{same_refl}
-use Rattle.mx_upper.proofs.Spans.{IsRunIn, span_within-is}
+use Rattle.mx_upper.proofs.RunBounds.{IsRunIn, span_within-is}
 
 -- every word has a run: its first word, and the word behind it
 pub record Run (m : List Perm) (low high i : ℕ) : Type 0 where

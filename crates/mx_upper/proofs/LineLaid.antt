@@ -21,7 +21,7 @@ use Rattle.mx_upper.proofs.LeafSpans.{length-line, line-at}
 use Rattle.mx_upper.proofs.WalkLaws.{named-some}
 use Rattle.mx_upper.proofs.EntryLaws.{named-by, some-named, line-made}
 use Rattle.mx_upper.proofs.ForestLaws.{DifferOnLine}
-use Rattle.mx_upper.proofs.TablesLaws.{length-map_at}
+use Rattle.mx_upper.proofs.MapsRead.{length-map_at}
 use Rattle.mx_upper.proofs.LineEntries.{spill-taken, spill-owner}
 use Rattle.mx_upper.proofs.LineWriting.{AreSpillsKept, lines-kept, tables-written, map-written, maps-kept}
 

@@ -16,7 +16,7 @@ use Rattle.mx_upper.specs.Steps.{IsEntryWritten}
 use Rattle.mx_upper.proofs.OwnerLaws.{word-kept, taken-kept, place-cases, leaf-apart}
 use Rattle.mx_upper.proofs.LineEntries.{some-is, line-stands, line-named}
 use Rattle.mx_upper.proofs.ForestLaws.{DifferOnLine, IsWritten, set_reach, shown-stays, shown-written}
-use Rattle.mx_upper.proofs.TablesLaws.{tables-from, maps-from, length-map_at}
+use Rattle.mx_upper.proofs.MapsRead.{tables-from, maps-from, length-map_at}
 use Rattle.mx_upper.proofs.PresentTables.{leaf-region, leaf-pointer, leaf-from, spill-agree}
 
 -- the spill words after the entry of line z of domain d was written: those of the other lines stay, and each has its owner

@@ -13,8 +13,8 @@ use Rattle.mx_upper.specs.Forest.{has_spill, root_at, map_at, IsForest, IsLoose,
 use Rattle.mx_upper.specs.Steps.{IsPageGone, IsPageClosed}
 use Rattle.mx_upper.proofs.EvenLaws.{even-line, none-named}
 use Rattle.mx_upper.proofs.ForestLaws.{shown-stays}
-use Rattle.mx_upper.proofs.TableLaws.{IsPage, KeepsPage, shown-page}
-use Rattle.mx_upper.proofs.TablesLaws.{maps-from, tables-from, length-map_at}
+use Rattle.mx_upper.proofs.OneTableChanged.{IsPage, KeepsPage, shown-page}
+use Rattle.mx_upper.proofs.MapsRead.{maps-from, tables-from, length-map_at}
 use Rattle.mx_upper.proofs.ForestChanges.{sum-count-same, sum-count-more}
 use Rattle.mx_upper.proofs.OwnerLaws.{word-kept, taken-kept, vector-closed, place-cases, place-clash, mid-root-apart, mid-apart, leaf-apart}
 use Rattle.mx_upper.proofs.PresentTables.{leaf-region, leaf-pointer, leaf-from, leaf-closed, leaf-agree, spill-agree, spill-page, spill-no-page, spill-none}

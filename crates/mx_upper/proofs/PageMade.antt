@@ -11,8 +11,8 @@ use Rattle.mx_upper.specs.Walk.{Frames, most_regions, most_pages, most_lines, is
 use Rattle.mx_upper.specs.Forest.{has_spill, root_at, map_at, IsForest, IsLoose, IsTables}
 use Rattle.mx_upper.specs.Steps.{IsPageMade, IsPageOpened}
 use Rattle.mx_upper.proofs.ForestLaws.{shown-stays}
-use Rattle.mx_upper.proofs.TableLaws.{IsPage, shown-page}
-use Rattle.mx_upper.proofs.TablesLaws.{maps-from, tables-from, length-map_at}
+use Rattle.mx_upper.proofs.OneTableChanged.{IsPage, shown-page}
+use Rattle.mx_upper.proofs.MapsRead.{maps-from, tables-from, length-map_at}
 use Rattle.mx_upper.proofs.FlatLaws.{flat-spill, page-line-stands}
 use Rattle.mx_upper.proofs.ForestChanges.{with_owner, owner-here, owner-elsewhere, sum-count-same, sum-count-more, are-same, no_reaches, no_reach-here, shown-no_reaches}
 use Rattle.mx_upper.proofs.OwnerLaws.{taken-differs, word-kept, taken-kept, place-cases, place-clash, mid-root-apart, mid-apart, root-taken, mid-taken, leaf-taken}

@@ -1,5 +1,5 @@
 -- A permission laid over a range in two steps, and steps that leave all maps as they were.
-use Rattle.std.proofs.Common.{◌≡◌, ◌≢◌, ℕ, ◌+◌, ◌-◌, ◌*◌, ◌/◌, ◌<◌, ◌≤◌, ◌⊎◌, inl, inr, true, List, length, refl, sym, ap, ◌∙◌, arith, subst}
+use Rattle.std.proofs.Common.{◌≡◌, ◌≢◌, ℕ, ◌+◌, ◌-◌, ◌*◌, ◌/◌, ◌<◌, ◌≤◌, ◌⊎◌, inl, inr, true, List, length, refl, sym, ap, ◌∙◌, arith, subst, min, max}
 use Rattle.std.proofs.lemmas.Bool.{cases_eq}
 use Rattle.mx_words.specs.declared.perm.Perm.{Perm}
 use Rattle.mx_words.specs.declared.perm.Perm.TheVariants as P
@@ -109,3 +109,7 @@ range-ends kind words upper leaf spill upper' leaf' spill' roots d first first' 
     let F : ℕ → Type 0 = λ a. IsRangeLaid kind words upper leaf spill upper' leaf' spill' roots d a end p in
     let E : ℕ → Type 0 = λ b. IsRangeLaid kind words upper leaf spill upper' leaf' spill' roots d first' b p in
     subst E f (subst F e laid)
+
+-- the first word of a range that lies in block k or behind it, or the range's end
+abbrev pub cut : ℕ → ℕ → ℕ → ℕ → ℕ
+cut size first end k = min end (max first (k * size))

@@ -12,8 +12,8 @@ use Rattle.mx_upper.specs.Walk.{Frames, most_regions, most_pages, most_lines, is
 use Rattle.mx_upper.specs.Forest.{has_spill, root_at, map_at, IsForest, IsLoose, IsTables, AreSame}
 use Rattle.mx_upper.specs.Steps.{IsRegionGone, IsRegionClosed}
 use Rattle.mx_upper.proofs.ForestLaws.{shown-stays}
-use Rattle.mx_upper.proofs.TableLaws.{IsRegion, KeepsPage, shown-region}
-use Rattle.mx_upper.proofs.TablesLaws.{maps-from, tables-from, length-map_at}
+use Rattle.mx_upper.proofs.OneTableChanged.{IsRegion, KeepsPage, shown-region}
+use Rattle.mx_upper.proofs.MapsRead.{maps-from, tables-from, length-map_at}
 use Rattle.mx_upper.proofs.ForestChanges.{sum-count-same, sum-count-more}
 use Rattle.mx_upper.proofs.OwnerLaws.{word-kept, taken-kept, vector-closed, place-cases, place-clash, root-apart, mid-root-apart, mid-apart}
 use Rattle.mx_upper.proofs.PresentTables.{leaf-region, leaf-from, leaf-no-region, leaf-agree, spill-agree, spill-page}

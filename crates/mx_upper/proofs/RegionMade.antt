@@ -12,8 +12,8 @@ use Rattle.mx_upper.specs.Walk.{Frames, most_regions, most_pages, most_lines, is
 use Rattle.mx_upper.specs.Forest.{has_spill, root_at, map_at, IsForest, IsLoose, IsTables}
 use Rattle.mx_upper.specs.Steps.{IsRegionMade, IsRegionOpened}
 use Rattle.mx_upper.proofs.ForestLaws.{shown-stays}
-use Rattle.mx_upper.proofs.TableLaws.{IsRegion, shown-region}
-use Rattle.mx_upper.proofs.TablesLaws.{maps-from, tables-from, length-map_at}
+use Rattle.mx_upper.proofs.OneTableChanged.{IsRegion, shown-region}
+use Rattle.mx_upper.proofs.MapsRead.{maps-from, tables-from, length-map_at}
 use Rattle.mx_upper.proofs.FlatLaws.{region-page-even, region-page-vector}
 use Rattle.mx_upper.proofs.ForestChanges.{with_owner, owner-here, owner-elsewhere, sum-count-same, sum-count-more, are-same}
 use Rattle.mx_upper.proofs.OwnerLaws.{taken-differs, word-kept, taken-kept, place-cases, root-apart, mid-root-apart, root-taken, mid-taken, leaf-taken}

@@ -12,10 +12,10 @@ use Rattle.mx_upper.specs.Leaf.{IsTrieKind}
 use Rattle.mx_upper.specs.Walk.{Frames, most_regions, most_pages, most_lines, has_mid, has_leaf}
 use Rattle.mx_upper.specs.Forest.{has_spill, root_at, map_at, IsTables}
 use Rattle.mx_upper.specs.Laying.{with_range, spill_lines, IsRoomy, IsCanonical, IsDomainLaid}
-use Rattle.mx_upper.proofs.TablesLaws.{length-map_at}
+use Rattle.mx_upper.proofs.MapsRead.{length-map_at}
 use Rattle.mx_upper.proofs.SpillLaws.{spill_lines-are}
 use Rattle.mx_upper.proofs.RoomLaws.{free-changed}
-use Rattle.mx_upper.proofs.CountLaws.{broken-with_range, spill-with_range, tight-regions, tight-pages}
+use Rattle.mx_upper.proofs.RangeCounts.{broken-with_range, spill-with_range, tight-regions, tight-pages}
 
 -- a first part of a range, with the block behind it counted as broken
 first-part : (size part n : ℕ) (m : List Perm) (first c : ℕ) (p : Perm) → size / 8 ≡ part → size ≡ 8 * part → 0 < part → first ≤ c → c ≤ length m → length m ≤ n * size →

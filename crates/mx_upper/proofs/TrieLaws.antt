@@ -21,11 +21,11 @@ use Rattle.mx_upper.specs.Forest.{map_at, IsTables}
 use Rattle.mx_upper.specs.Laying.{spill_lines, IsCanonical}
 use Rattle.mx_upper.specs.Standing.{IsStanding}
 use Rattle.mx_upper.specs.Shape.{length-read_maps}
-use Rattle.mx_upper.proofs.NeedRows.{length-changed_map}
+use Rattle.mx_upper.proofs.NeedOfChange.{length-changed_map}
 use Rattle.mx_upper.proofs.NeedLaws.{IsNeedCounted, need-counted}
 use Rattle.mx_upper.proofs.StandingLaws.{map_at-read}
-use Rattle.mx_upper.proofs.CountedLaws.{tables-counted}
-use Rattle.mx_upper.proofs.TablesLaws.{length-map_at}
+use Rattle.mx_upper.proofs.FramesCounted.{tables-counted}
+use Rattle.mx_upper.proofs.MapsRead.{length-map_at}
 
 -- each part of a need is within the limit
 pub record IsWithin (n limit : Need) : Type 0 where

@@ -2,7 +2,7 @@ use Rattle.std.proofs.Common.{ℕ, ◌≡◌, ◌+◌, ◌-◌, Bool, arith, ap,
 use Rattle.mx_words.proofs.CountingLaws.{bit-le}
 use Rattle.mx_words.specs.Counting.{count_below}
 use Rattle.mx_upper.specs.Forest.{has_spill, root_at}
-use Rattle.mx_upper.proofs.ViewCountLaws.{count-none, count-more, byte-bit}
+use Rattle.mx_upper.proofs.BlockCounts.{count-none, count-more, byte-bit}
 use Rattle.mx_upper.proofs.after.lines_spilled.Goals as goal
 use Rattle.mx_upper.proofs.after.lines_spilled.Given.{Over}
 use Rattle.mx_upper.proofs.after.lines_spilled.Goals.{After-from-count}

@@ -1,7 +1,7 @@
 use Rattle.std.proofs.Common.{rules, length, arith}
 use Rattle.mx_table.specs.Change.{given}
 use Rattle.mx_upper.specs.Forest.{map_at}
-use Rattle.mx_upper.proofs.NeedRows.{changed_at, need-none, row-small, row-laid, row-left, upper-all, leaf-all, spill-all}
+use Rattle.mx_upper.proofs.NeedOfChange.{changed_at, need-none, row-small, row-laid, row-left, upper-all, leaf-all, spill-all}
 use Rattle.mx_upper.proofs.after.need_after.Goals as goal
 use Rattle.mx_upper.proofs.after.need_after.Goals.{in-Some, in_default}
 

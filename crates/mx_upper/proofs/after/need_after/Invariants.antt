@@ -1,6 +1,6 @@
 use Rattle.mx_table.specs.Change.{given}
 use Rattle.mx_upper.specs.Forest.{map_at}
-use Rattle.mx_upper.proofs.NeedRows.{IsNeedTo, changed_at}
+use Rattle.mx_upper.proofs.NeedOfChange.{IsNeedTo, changed_at}
 use Rattle.mx_upper.proofs.after.need_after.Given as goal
 
 -- the need with the maps of the domains so far changed

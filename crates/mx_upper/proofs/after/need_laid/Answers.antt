@@ -1,6 +1,6 @@
 use Rattle.std.proofs.Common.{length, ap, ◌∙◌, arith}
-use Rattle.mx_upper.proofs.TablesLaws.{length-map_at}
-use Rattle.mx_upper.proofs.NeedAfter.{regions-after, pages-after, lines-after}
+use Rattle.mx_upper.proofs.MapsRead.{length-map_at}
+use Rattle.mx_upper.proofs.NeedOfRange.{regions-after, pages-after, lines-after}
 use Rattle.mx_upper.proofs.after.need_laid.Goals as goal
 
 pub regions_broken-requires-clause-lawful : goal.regions_broken-requires-clause-lawful

@@ -3,7 +3,7 @@ use Rattle.mx_words.proofs.CountingLaws.{bit-le}
 use Rattle.mx_words.specs.Counting.{count_below}
 use Rattle.mx_upper.specs.Walk.{has_leaf}
 use Rattle.mx_upper.specs.Forest.{root_at}
-use Rattle.mx_upper.proofs.ViewCountLaws.{count-none, count-more, byte-bit}
+use Rattle.mx_upper.proofs.BlockCounts.{count-none, count-more, byte-bit}
 use Rattle.mx_upper.proofs.after.pages_told.Goals as goal
 use Rattle.mx_upper.proofs.after.pages_told.Goals.{After-from-count}
 

@@ -4,7 +4,7 @@ use Rattle.mx_words.specs.Counting.{count_below}
 use Rattle.mx_pool.specs.Frames.{word_at}
 use Rattle.mx_upper.specs.Walk.{has_mid}
 use Rattle.mx_upper.specs.Forest.{root_at}
-use Rattle.mx_upper.proofs.ViewCountLaws.{count-none, count-more, byte-bit}
+use Rattle.mx_upper.proofs.BlockCounts.{count-none, count-more, byte-bit}
 use Rattle.mx_upper.proofs.after.regions_told.Goals as goal
 use Rattle.mx_upper.proofs.after.regions_told.Goals.{After-from-count}
 

@@ -3,7 +3,7 @@ use Rattle.mx_words.specs.Runs.{line_words}
 use Rattle.mx_words.specs.Reach.{line_at}
 use Rattle.mx_upper.specs.Leaf.{needs_spill}
 use Rattle.mx_words.proofs.CountingLaws.{bit-le}
-use Rattle.mx_upper.proofs.ViewCountLaws.{count-none, count-more, byte-bit}
+use Rattle.mx_upper.proofs.BlockCounts.{count-none, count-more, byte-bit}
 use Rattle.mx_upper.proofs.counts.lines_crowded.Goals as goal
 
 pub loop-line-init : goal.loop-line-init

@@ -1,6 +1,6 @@
 use Rattle.std.proofs.Common.{◌+◌, ap, ◌∙◌, arith}
 use Rattle.mx_words.specs.Runs.{page_words, region_words}
-use Rattle.mx_upper.proofs.ViewCountLaws.{blocks-count, pages-spill}
+use Rattle.mx_upper.proofs.BlockCounts.{blocks-count, pages-spill}
 use Rattle.mx_upper.proofs.counts.need_of.Goals as goal
 
 pub returns-clause-upper : goal.returns-clause-upper

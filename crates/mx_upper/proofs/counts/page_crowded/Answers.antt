@@ -5,7 +5,7 @@ use Rattle.mx_words.specs.Runs.{line_words, page_words}
 use Rattle.mx_words.specs.Reach.{line_at}
 use Rattle.mx_words.specs.Blocks.{is_broken}
 use Rattle.mx_upper.specs.Leaf.{needs_spill}
-use Rattle.mx_upper.proofs.ViewCountLaws.{even-lines}
+use Rattle.mx_upper.proofs.BlockCounts.{even-lines}
 use Rattle.mx_upper.proofs.counts.page_crowded.Goals as goal
 
 pub returns-then-is_page_even-clause-count : goal.returns-then-is_page_even-clause-count

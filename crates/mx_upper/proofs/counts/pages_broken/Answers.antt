@@ -3,7 +3,7 @@ use Rattle.std.proofs.Math.Bool.{not-not}
 use Rattle.mx_words.specs.Runs.{page_words}
 use Rattle.mx_words.specs.Blocks.{is_broken}
 use Rattle.mx_words.proofs.CountingLaws.{bit-le}
-use Rattle.mx_upper.proofs.ViewCountLaws.{count-none, count-more, byte-bit}
+use Rattle.mx_upper.proofs.BlockCounts.{count-none, count-more, byte-bit}
 use Rattle.mx_upper.proofs.counts.pages_broken.Goals as goal
 
 pub loop-page-init : goal.loop-page-init

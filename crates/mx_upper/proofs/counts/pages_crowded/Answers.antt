@@ -3,7 +3,7 @@ use Rattle.mx_words.specs.Runs.{line_words}
 use Rattle.mx_words.specs.Reach.{line_at}
 use Rattle.mx_words.proofs.CountingLaws.{count_below-zero}
 use Rattle.mx_upper.specs.Leaf.{needs_spill}
-use Rattle.mx_upper.proofs.ViewCountLaws.{count-page}
+use Rattle.mx_upper.proofs.BlockCounts.{count-page}
 use Rattle.mx_upper.proofs.counts.pages_crowded.Goals as goal
 
 pub loop-page-init : goal.loop-page-init

@@ -1,5 +1,5 @@
 use Rattle.std.proofs.Common.{◌-◌, ◌*◌, arith}
-use Rattle.mx_upper.proofs.PartLaws.{page-entry, part-table, part-taken, part-small, part-room, part-laid}
+use Rattle.mx_upper.proofs.RangeInLine.{page-entry, part-table, part-taken, part-small, part-room, part-laid}
 use Rattle.mx_upper.proofs.lay.lay_line.Goals as goal
 
 pub set_line-requires-clause-table : goal.set_line-requires-clause-table

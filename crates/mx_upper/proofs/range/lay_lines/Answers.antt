@@ -3,8 +3,7 @@ use Rattle.mx_words.specs.Runs.{line_words, page_words}
 use Rattle.mx_upper.specs.Walk.{has_leaf}
 use Rattle.mx_upper.specs.Forest.{root_at}
 use Rattle.mx_upper.specs.Laying.{part_first, part_end}
-use Rattle.mx_upper.proofs.CutLaws.{cut}
-use Rattle.mx_upper.proofs.RangeLaws.{range-none, range-more, range-ends}
+use Rattle.mx_upper.proofs.RangeLaws.{cut, range-none, range-more, range-ends}
 use Rattle.mx_upper.proofs.LineNeed.{line-need}
 use Rattle.mx_upper.proofs.range.lay_lines.Goals as goal
 

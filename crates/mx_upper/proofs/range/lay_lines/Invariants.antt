@@ -1,5 +1,5 @@
 use Rattle.mx_upper.specs.Laying.{IsRangeLaid}
-use Rattle.mx_upper.proofs.CutLaws.{cut}
+use Rattle.mx_upper.proofs.RangeLaws.{cut}
 use Rattle.mx_upper.proofs.range.lay_lines.Given as goal
 
 abbrev pub invariant-loop-line : goal.invariant-loop-line

@@ -5,7 +5,7 @@ use Rattle.mx_upper.specs.Laying.{part_first, part_end, IsRoomy}
 use Rattle.mx_upper.proofs.RoomLaws.{room-from}
 use Rattle.mx_upper.proofs.StepLaws.{way-laid}
 use Rattle.mx_upper.proofs.TightLaws.{upper-need, leaf-need}
-use Rattle.mx_upper.proofs.PageLaid.{IsPageLeft, page-laid, page-tight, page-mids}
+use Rattle.mx_upper.proofs.RangeInPage.{IsPageLeft, page-laid, page-tight, page-mids}
 use Rattle.mx_upper.proofs.range.lay_page.Given.{Over}
 use Rattle.mx_upper.proofs.range.lay_page.Goals as goal
 use Rattle.mx_upper.proofs.range.lay_page.Goals.{After-close_page}

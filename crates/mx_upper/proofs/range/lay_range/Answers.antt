@@ -2,10 +2,9 @@ use Rattle.std.proofs.Common.{◌≡◌, ◌+◌, ◌*◌, ◌/◌, ◌⊎◌, i
 use Rattle.std.proofs.lemmas.Bool.{cases_lt}
 use Rattle.mx_words.specs.Runs.{region_words}
 use Rattle.mx_upper.specs.Laying.{part_first, part_end}
-use Rattle.mx_upper.proofs.CutLaws.{cut}
-use Rattle.mx_upper.proofs.RangeLaws.{range-none, range-ends}
+use Rattle.mx_upper.proofs.RangeLaws.{cut, range-none, range-ends}
 use Rattle.mx_upper.proofs.RoomLaws.{room-from}
-use Rattle.mx_upper.proofs.RegionLaid.{tight-more}
+use Rattle.mx_upper.proofs.RangeInRegion.{tight-more}
 use Rattle.mx_upper.proofs.range.lay_range.Goals as goal
 
 pub loop-region-init : goal.loop-region-init

@@ -1,7 +1,7 @@
 use Rattle.mx_upper.specs.Walk.{IsTight}
 use Rattle.mx_upper.specs.Forest.{root_at, map_at}
 use Rattle.mx_upper.specs.Laying.{IsRangeLaid}
-use Rattle.mx_upper.proofs.CutLaws.{cut}
+use Rattle.mx_upper.proofs.RangeLaws.{cut}
 use Rattle.mx_upper.proofs.range.lay_range.Given as goal
 
 abbrev pub invariant-loop-region : goal.invariant-loop-region

@@ -4,10 +4,9 @@ use Rattle.mx_words.specs.Runs.{page_words, region_words}
 use Rattle.mx_upper.specs.Walk.{has_mid}
 use Rattle.mx_upper.specs.Forest.{root_at, map_at}
 use Rattle.mx_upper.specs.Laying.{part_first, part_end, IsRangeLaid, AreRegionsTight}
-use Rattle.mx_upper.proofs.CutLaws.{cut}
-use Rattle.mx_upper.proofs.RangeLaws.{range-none, range-ends}
+use Rattle.mx_upper.proofs.RangeLaws.{cut, range-none, range-ends}
 use Rattle.mx_upper.proofs.RoomLaws.{room-from}
-use Rattle.mx_upper.proofs.RegionLaid.{regions-tight, tight-more, IsRegionLeft, region-laid, region-tight}
+use Rattle.mx_upper.proofs.RangeInRegion.{regions-tight, tight-more, IsRegionLeft, region-laid, region-tight}
 use Rattle.mx_upper.proofs.range.lay_region.Given.{Over}
 use Rattle.mx_upper.proofs.range.lay_region.Goals as goal
 use Rattle.mx_upper.proofs.range.lay_region.Goals.{After-close_region}

@@ -2,7 +2,7 @@ use Rattle.std.proofs.Common.{◌≡◌, ◌≢◌, ℕ, ◌/◌, ◌<◌, true}
 use Rattle.mx_upper.specs.Walk.{most_regions, has_mid}
 use Rattle.mx_upper.specs.Forest.{root_at, map_at}
 use Rattle.mx_upper.specs.Laying.{IsRangeLaid, ArePagesTight}
-use Rattle.mx_upper.proofs.CutLaws.{cut}
+use Rattle.mx_upper.proofs.RangeLaws.{cut}
 use Rattle.mx_upper.proofs.range.lay_region.Given as goal
 
 abbrev pub invariant-loop-page : goal.invariant-loop-page

@@ -3,7 +3,7 @@ use Rattle.mx_upper.specs.Leaf.{form_reach}
 use Rattle.mx_upper.specs.Walk.{has_leaf}
 use Rattle.mx_upper.specs.Forest.{root_at, IsPathTaken}
 use Rattle.mx_upper.proofs.OwnerLaws.{path-taken}
-use Rattle.mx_upper.proofs.LaidLaws.{domain-laid, domain-plain, far-from}
+use Rattle.mx_upper.proofs.DomainLaid.{domain-laid, domain-plain, far-from}
 use Rattle.mx_upper.proofs.reach.lay.Goals as goal
 
 pub has_table-had_last-requires-clause-tables : goal.has_table-had_last-requires-clause-tables

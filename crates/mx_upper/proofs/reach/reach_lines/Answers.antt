@@ -1,7 +1,7 @@
 use Rattle.std.proofs.Common.{ap, sym, ◌∙◌, ◌+◌, ◌/◌, arith, subst, ℕ}
 use Rattle.mx_upper.specs.Walk.{Frames, has_leaf}
-use Rattle.mx_upper.proofs.LaidLaws.{AreLinesReached}
-use Rattle.mx_upper.proofs.LinesReached.{reached-skip, reached-more, lines-outside}
+use Rattle.mx_upper.proofs.DomainLaid.{AreLinesReached}
+use Rattle.mx_upper.proofs.ReachesWritten.{reached-skip, reached-more, lines-outside}
 use Rattle.mx_upper.proofs.reach.reach_lines.Goals as goal
 use Rattle.mx_upper.proofs.reach.reach_lines.Goals.{then-has_table, else-has_table}
 

@@ -1,6 +1,6 @@
 -- The lines before the loop's one have the reaches of the map.
 use Rattle.std.proofs.Common.{◌≤◌, max}
-use Rattle.mx_upper.proofs.LaidLaws.{AreLinesReached}
+use Rattle.mx_upper.proofs.DomainLaid.{AreLinesReached}
 use Rattle.mx_upper.proofs.reach.reach_lines.Given as goal
 
 abbrev pub invariant-loop-line : goal.invariant-loop-line

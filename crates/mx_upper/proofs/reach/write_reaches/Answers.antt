@@ -1,9 +1,9 @@
 use Rattle.std.proofs.Common.{◌∙◌, ap, sym, arith, List, ℕ, length, Option, unwrap_or, is_some}
 use Rattle.mx_words.specs.declared.perm.Perm.{Perm}
 use Rattle.mx_upper.specs.Walk.{line_number}
-use Rattle.mx_upper.proofs.PartLaws.{page-entry, part-table}
-use Rattle.mx_upper.proofs.TablesLaws.{length-map_at}
-use Rattle.mx_upper.proofs.ReachWritten.{reach-written}
+use Rattle.mx_upper.proofs.RangeInLine.{page-entry, part-table}
+use Rattle.mx_upper.proofs.MapsRead.{length-map_at}
+use Rattle.mx_upper.proofs.ReachesWritten.{reach-written}
 use Rattle.mx_upper.proofs.reach.write_reaches.Goals as goal
 
 pub left_in-left-requires-clause-words : goal.left_in-left-requires-clause-words

@@ -1,5 +1,5 @@
 use Rattle.std.proofs.Common.{refl, arith}
-use Rattle.mx_upper.proofs.Evenness.{even-tells}
+use Rattle.mx_upper.proofs.EvenLaws.{even-tells}
 use Rattle.mx_upper.proofs.scan.is_region_even.Goals as goal
 
 pub returns : goal.returns

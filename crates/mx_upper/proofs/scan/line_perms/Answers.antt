@@ -1,7 +1,7 @@
 use Rattle.std.proofs.Common.{ℕ, ◌+◌, ◌*◌, refl, sym, subst, arith}
 use Rattle.mx_upper.specs.Views.{IsRound}
 use Rattle.mx_upper.proofs.Scans.{round-perm}
-use Rattle.mx_upper.proofs.Lines.{told-more, told-all, along-round, round-along}
+use Rattle.mx_upper.proofs.LinePerms.{told-more, told-all, along-round, round-along}
 use Rattle.mx_upper.proofs.scan.line_perms.Goals as goal
 use Rattle.mx_upper.proofs.scan.line_perms.Goals.{then-span-word, else-span-word}
 

@@ -1,5 +1,5 @@
 use Rattle.std.proofs.Common.{◌+◌, ◌*◌}
-use Rattle.mx_upper.proofs.Lines.{IsLineTold, IsAlong}
+use Rattle.mx_upper.proofs.LinePerms.{IsLineTold, IsAlong}
 use Rattle.mx_upper.proofs.scan.line_perms.Given as goal
 
 -- the first permissions are told, and the span is the last one that was read

@@ -1,5 +1,5 @@
 use Rattle.std.proofs.Common.{◌/◌, inr, refl}
-use Rattle.mx_upper.proofs.FlatVectors.{flat-digits}
+use Rattle.mx_upper.proofs.Digits.{flat-digits}
 use Rattle.mx_upper.proofs.table_view.alike_in.Goals as goal
 
 pub returns-then-perms : goal.returns-then-perms

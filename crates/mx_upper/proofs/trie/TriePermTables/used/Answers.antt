@@ -3,7 +3,7 @@ use Rattle.mx_words.specs.Need.{need}
 use Rattle.mx_upper.specs.Read.{read_maps}
 use Rattle.mx_upper.proofs.StandingAgain.{standing-again}
 use Rattle.mx_upper.proofs.StandingLaws.{need-is}
-use Rattle.mx_upper.proofs.CountedLaws.{standing-counted}
+use Rattle.mx_upper.proofs.FramesCounted.{standing-counted}
 use Rattle.mx_upper.proofs.trie.TriePermTables.used.Goals as goal
 
 pub overflow_sub-result : goal.overflow_sub-result

@@ -15,7 +15,7 @@ use Rattle.mx_upper.specs.Laying.{part_first, part_end, with_range, IsRangeLaid}
 use Rattle.mx_upper.proofs.LineEntries.{table-taken, line-spill_taken, line-spill_small}
 use Rattle.mx_upper.proofs.LineLaid.{line-new, line-laid}
 use Rattle.mx_upper.proofs.StepLaws.{line-part-laid}
-use Rattle.mx_upper.proofs.TablesLaws.{length-map_at}
+use Rattle.mx_upper.proofs.MapsRead.{length-map_at}
 use Rattle.mx_upper.proofs.PresentTables.{spill-none}
 
 -- the entry of a line's page, by the words that were read for it

@@ -15,13 +15,13 @@ use Rattle.mx_upper.specs.Read.{read_maps}
 use Rattle.mx_upper.specs.Forest.{has_spill, root_at, map_at, IsTables}
 use Rattle.mx_upper.specs.Laying.{spill_lines}
 use Rattle.mx_upper.specs.Standing.{IsStanding}
-use Rattle.mx_upper.proofs.CountLaws.{tight-regions, tight-pages}
+use Rattle.mx_upper.proofs.RangeCounts.{tight-regions, tight-pages}
 use Rattle.mx_upper.proofs.NeedLaws.{IsNeedCounted, need-counted}
 use Rattle.mx_upper.proofs.SpillLaws.{spill_lines-are}
 use Rattle.mx_upper.specs.Shape.{length-read_maps}
 use Rattle.mx_upper.proofs.StandingLaws.{map_at-read}
 use Rattle.mx_upper.proofs.StandingAgain.{standing-again}
-use Rattle.mx_upper.proofs.TablesLaws.{length-map_at}
+use Rattle.mx_upper.proofs.MapsRead.{length-map_at}
 
 -- the frames that are free, and those that the maps need, are all frames
 pub record IsCounted (kind : Kind) (words : ℕ) (upper leaf spill : Frames) (roots : List ℕ) : Type 0 where

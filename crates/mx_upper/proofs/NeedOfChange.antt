@@ -17,7 +17,7 @@ use Rattle.mx_upper.specs.Leaf.{needs_spill}
 use Rattle.mx_upper.specs.Walk.{Frames, most_regions, most_pages, most_lines}
 use Rattle.mx_upper.specs.Forest.{map_at}
 use Rattle.mx_upper.specs.Laying.{with_range, spill_lines}
-use Rattle.mx_upper.proofs.TablesLaws.{length-map_at}
+use Rattle.mx_upper.proofs.MapsRead.{length-map_at}
 
 -- a sum goes on by no less than nothing, and by no more than the greatest value each time
 pub record IsBetween (f : ℕ → ℕ) (most n m : ℕ) : Type 0 where

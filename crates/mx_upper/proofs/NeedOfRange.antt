@@ -11,9 +11,9 @@ use Rattle.mx_upper.specs.Leaf.{IsTrieKind, needs_spill}
 use Rattle.mx_upper.specs.Walk.{Frames, most_regions, most_pages, has_mid, has_leaf}
 use Rattle.mx_upper.specs.Forest.{has_spill, root_at, map_at, IsTables}
 use Rattle.mx_upper.specs.Laying.{with_range, spill_lines, IsCanonical}
-use Rattle.mx_upper.proofs.TablesLaws.{length-map_at}
+use Rattle.mx_upper.proofs.MapsRead.{length-map_at}
 use Rattle.mx_upper.proofs.SpillLaws.{has_spill-is}
-use Rattle.mx_upper.proofs.CountLaws.{broken-range, spill-range}
+use Rattle.mx_upper.proofs.RangeCounts.{broken-range, spill-range}
 
 module _ (kind : Kind) (words : ℕ) (upper leaf spill : Frames) (roots : List ℕ) (k : IsTrieKind kind) (tables : IsTables kind words upper leaf spill roots) (d : ℕ) (domain : d < length roots)
     (canonical : IsCanonical kind words upper leaf spill roots d) (first end : ℕ) (p : Perm) (range : first < end) (inside : end ≤ words) (m : List Perm) (is : m ≡ map_at kind words upper leaf spill roots d)
