@@ -15,6 +15,7 @@ use Rattle.mx_table.specs.Tables.{most_words}
 use Rattle.mx_upper.specs.Leaf.{IsTrieKind, needs_spill}
 use Rattle.mx_upper.specs.Walk.{most_lines}
 use Rattle.mx_upper.specs.Laying.{spill_lines}
+use Rattle.mx_upper.proofs.SpillLaws.{spill_lines-plain, spill_lines-packed}
 
 -- a sum over a list, by index
 pub sum_by-below : {A : Type 0} (f : A → ℕ) (xs : List A) (x : A) → sum_by f xs ≡ sum_below (length xs) (λ i. f (get_or xs i x))
@@ -33,16 +34,6 @@ sum_below-none : (n : ℕ) (f : ℕ → ℕ) → ((i : ℕ) → i < n → f i �
 unfolding sum_below
 sum_below-none zero f none = refl
 sum_below-none (suc n) f none = omega (arith, none n (omega arith), sum_below-none n f (λ i below. none i (omega arith)))
-
--- the lines that need a spill word are the crowded ones in packed tables, and none in plain ones
-pub spill_lines-plain : (m : List Perm) → spill_lines K.Multilevel m ≡ 0
-spill_lines-plain m = count_below_none most_lines (λ z. needs_spill K.Multilevel (line_at m (z * line_words))) (λ z below. refl)
-
-pub spill_lines-packed : (m : List Perm) → length m ≤ most_words → spill_lines K.Packed m ≡ crowded_lines m
-spill_lines-packed m few =
-    count_below_agree most_lines (λ z. needs_spill K.Packed (line_at m (z * line_words))) (λ b. is_crowded (block_of line_words m b))
-    (λ z below. (let at : z * 16 / 16 ≡ z = omega arith in ap (λ b. nat_lt 4 (runs (whole_line (block_of line_words m b)))) at))
-    ∙ sym (crowded_lines-count m most_lines few)
 
 -- the need of maps in a kind of tries: a root table per domain and a mid table per broken region, a leaf table per broken page, and a
 -- spill word per line that needs one

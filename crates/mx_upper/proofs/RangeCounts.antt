@@ -18,8 +18,8 @@ use Rattle.mx_words.proofs.BrokenLaws.{block-below, block-above, broken_blocks-a
 use Rattle.mx_upper.specs.Leaf.{needs_spill}
 use Rattle.mx_upper.specs.Walk.{Frames, most_regions, most_pages, most_lines, has_mid, has_leaf, IsTight}
 use Rattle.mx_upper.specs.Laying.{with_range, spill_lines}
-use Rattle.mx_upper.proofs.NeedLaws.{spill_lines-plain, spill_lines-packed}
 use Rattle.mx_upper.proofs.RangeLaws.{length-with_range}
+use Rattle.mx_upper.proofs.SpillLaws.{spill_lines-plain, spill_lines-packed}
 
 -- a line that begins at block z
 pub line_at-block : (m : List Perm) (z : ℕ) → needs_spill K.Packed (line_at m (z * line_words)) ≡ is_crowded (block_of line_words m z)

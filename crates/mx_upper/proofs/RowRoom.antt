@@ -24,7 +24,7 @@ use Rattle.mx_upper.specs.Leaf.{needs_spill}
 use Rattle.mx_upper.specs.Walk.{most_lines}
 use Rattle.mx_upper.specs.Laying.{with_range, spill_lines}
 use Rattle.mx_upper.proofs.RangeLaws.{with_range-below, with_range-behind, length-with_range}
-use Rattle.mx_upper.proofs.NeedLaws.{spill_lines-plain, spill_lines-packed}
+use Rattle.mx_upper.proofs.SpillLaws.{spill_lines-plain, spill_lines-packed}
 
 -- the lines of a map up to word c that need a spill word, with no permission from there on, are at most one more
 spill-cut : (kind : Kind) (m n : List Perm) (c : ℕ) → length n ≡ length m → length m ≤ 16777216 → ((i : ℕ) → i < c → perm_at n i ≡ perm_at m i) → ((i : ℕ) → c ≤ i → perm_at n i ≡ P.None) →

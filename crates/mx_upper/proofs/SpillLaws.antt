@@ -1,11 +1,15 @@
--- The lines that have a spill word are those that need one.
-use Rattle.std.proofs.Common.{◌≡◌, ℕ, ◌*◌, ◌/◌, ◌<◌, ◌&&◌, Bool, true, false, List, length, is_some, refl, sym, ap, ◌∙◌, arith}
+-- The lines that have a spill word are those that need one, and how many these are.
+use Rattle.std.proofs.Common.{◌≡◌, ℕ, ◌*◌, ◌/◌, ◌<◌, ◌&&◌, Bool, true, false, List, length, is_some, refl, sym, ap, ◌∙◌, arith, ◌≤◌, nat_lt}
+use Rattle.mx_words.specs.declared.perm.Perm.{Perm}
 use Rattle.mx_words.specs.declared.tables.Kind.{Kind}
-use Rattle.mx_words.specs.Runs.{line_words, page_words}
+use Rattle.mx_words.specs.declared.tables.Kind.TheVariants as K
+use Rattle.mx_words.specs.Runs.{line_words, page_words, runs, whole_line, crowded_lines, is_crowded}
 use Rattle.mx_words.specs.Counting.{count_below}
 use Rattle.mx_words.specs.Reach.{line_at}
-use Rattle.mx_words.specs.Blocks.{IsEven}
-use Rattle.mx_words.proofs.CountingLaws.{count_below_agree}
+use Rattle.mx_words.specs.Blocks.{IsEven, block_of}
+use Rattle.mx_words.proofs.CountingLaws.{count_below_agree, count_below_none}
+use Rattle.mx_words.proofs.BlockLaws.{crowded_lines-count}
+use Rattle.mx_table.specs.Tables.{most_words}
 use Rattle.mx_upper.specs.Leaf.{IsTrieKind, needs_spill, spill_number}
 use Rattle.mx_upper.specs.Walk.{Frames, most_lines, is_pointer, mid_word, leaf_word, line_number, has_mid, has_leaf}
 use Rattle.mx_upper.specs.Forest.{has_spill, root_at, map_at, IsTables}
@@ -13,6 +17,16 @@ use Rattle.mx_upper.specs.Laying.{spill_lines}
 use Rattle.mx_upper.proofs.EntryLaws.{some-named}
 use Rattle.mx_upper.proofs.EvenLaws.{even-line, even-of, even-region-page}
 use Rattle.mx_upper.proofs.LineEntries.{line-named}
+
+-- the lines that need a spill word are the crowded ones in packed tables, and none in plain ones
+pub spill_lines-plain : (m : List Perm) → spill_lines K.Multilevel m ≡ 0
+spill_lines-plain m = count_below_none most_lines (λ z. needs_spill K.Multilevel (line_at m (z * line_words))) (λ z below. refl)
+
+pub spill_lines-packed : (m : List Perm) → length m ≤ most_words → spill_lines K.Packed m ≡ crowded_lines m
+spill_lines-packed m few =
+    count_below_agree most_lines (λ z. needs_spill K.Packed (line_at m (z * line_words))) (λ b. is_crowded (block_of line_words m b))
+    (λ z below. (let at : z * 16 / 16 ≡ z = omega arith in ap (λ b. nat_lt 4 (runs (whole_line (block_of line_words m b)))) at))
+    ∙ sym (crowded_lines-count m most_lines few)
 
 module _ (kind : Kind) (words : ℕ) (upper leaf spill : Frames) (roots : List ℕ) (k : IsTrieKind kind) (tables : IsTables kind words upper leaf spill roots)
     (d : ℕ) (domain : d < length roots) where

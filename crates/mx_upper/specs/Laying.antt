@@ -9,6 +9,7 @@ use Rattle.mx_words.specs.Runs.{line_words, page_words, region_words}
 use Rattle.mx_words.specs.Reach.{line_at}
 use Rattle.mx_words.specs.Blocks.{is_broken}
 use Rattle.mx_pool.specs.Frames.{free_in}
+use Rattle.mx_upper.specs.declared.lay.Laying.{Laying}
 use Rattle.mx_upper.specs.Leaf.{needs_spill}
 use Rattle.mx_upper.specs.Walk.{Frames, most_regions, most_pages, most_lines, leaf_word, has_mid, has_leaf, map_left, map_right, IsLine, IsTight}
 use Rattle.mx_upper.specs.Forest.{has_spill, root_at, map_at, IsTables, IsLineKept}
@@ -88,3 +89,17 @@ pub record IsDomainLaid (kind : Kind) (words : ℕ) (upper leaf spill upper' lea
   pub upper_total : length upper' ≡ length upper
   pub leaf_total : length leaf' ≡ length leaf
   pub spill_total : length spill' ≡ length spill
+
+-- of a laying: the map of its domain, that the domain's tables are tight, that there are frames for a part of its range, and that it
+-- is laid on a part of its range
+abbrev pub map_in : Kind → Frames → Frames → Frames → List ℕ → Laying → List Perm
+map_in kind upper leaf spill roots lay = map_at kind lay.words upper leaf spill roots lay.row
+
+abbrev pub IsTightIn : Kind → Frames → Frames → Frames → List ℕ → Laying → Type 0
+IsTightIn kind upper leaf spill roots lay = IsTight upper (root_at roots lay.row) (map_in kind upper leaf spill roots lay)
+
+abbrev pub IsRoomyIn : Kind → Frames → Frames → Frames → List ℕ → Laying → ℕ → ℕ → Type 0
+IsRoomyIn kind upper leaf spill roots lay first end = IsRoomy kind upper leaf spill (root_at roots lay.row) (map_in kind upper leaf spill roots lay) first end lay.perm
+
+abbrev pub IsLaidIn : Kind → Frames → Frames → Frames → Frames → Frames → Frames → List ℕ → Laying → ℕ → ℕ → Type 0
+IsLaidIn kind upper leaf spill upper' leaf' spill' roots lay first end = IsRangeLaid kind lay.words upper leaf spill upper' leaf' spill' roots lay.row first end lay.perm

@@ -8,7 +8,7 @@ ghost use Rattle.mx_table.specs.Tables.{most_modules};
 ghost use Rattle.mx_pool.specs.Frames.{IsTaken};
 ghost use Rattle.mx_upper.specs.Walk.{most_regions, most_pages, most_lines, has_mid, has_leaf};
 ghost use Rattle.mx_upper.specs.Forest.{has_spill, root_at, map_at, IsTables, IsPathTaken};
-ghost use Rattle.mx_upper.specs.Laying.{with_range, spill_lines, IsCanonical};
+ghost use Rattle.mx_upper.specs.Laying.{with_range, spill_lines, IsCanonical, map_in};
 
 use crate::change::laying_of;
 use crate::changed_view::ChangedView;
@@ -22,7 +22,7 @@ use mx_table::Change;
 use mx_words::Need;
 
 /// How many of the regions `from` to `to - 1` of a domain have mid tables.
-fn regions_told(upper: &Pool<1024>, roots: &Roots, row: u32, from: u32, to: u32) -> u32
+fn regions_opened(upper: &Pool<1024>, roots: &Roots, row: u32, from: u32, to: u32) -> u32
     requires from { from ≤ to }
     requires to { to ≤ most_regions }
     requires row { row < length roots.now }
@@ -38,7 +38,7 @@ fn regions_told(upper: &Pool<1024>, roots: &Roots, row: u32, from: u32, to: u32)
 }
 
 /// How many of the pages `from` to `to - 1` of a domain have leaf tables.
-fn pages_told(upper: &Pool<1024>, roots: &Roots, row: u32, from: u32, to: u32) -> u32
+fn pages_opened(upper: &Pool<1024>, roots: &Roots, row: u32, from: u32, to: u32) -> u32
     requires from { from ≤ to }
     requires to { to ≤ most_pages }
     requires row { row < length roots.now }
@@ -114,15 +114,15 @@ fn need_laid<L: LeafForm>(
     requires canonical { IsCanonical L.kind lay.now.words upper.now leaf.now spill.now roots.now lay.now.row }
     requires some { lay.now.first < lay.now.end }
     requires inside { lay.now.end ≤ lay.now.words }
-    requires upper { broken_blocks region_words (map_at L.kind lay.now.words upper.now leaf.now spill.now roots.now lay.now.row) ≤ need.upper }
-    requires leaf { broken_blocks page_words (map_at L.kind lay.now.words upper.now leaf.now spill.now roots.now lay.now.row) ≤ need.leaf }
-    requires spill { spill_lines L.kind (map_at L.kind lay.now.words upper.now leaf.now spill.now roots.now lay.now.row) ≤ need.spill }
+    requires upper { broken_blocks region_words (map_in L.kind upper.now leaf.now spill.now roots.now lay.now) ≤ need.upper }
+    requires leaf { broken_blocks page_words (map_in L.kind upper.now leaf.now spill.now roots.now lay.now) ≤ need.leaf }
+    requires spill { spill_lines L.kind (map_in L.kind upper.now leaf.now spill.now roots.now lay.now) ≤ need.spill }
     requires few_upper { need.upper ≤ 67108864 }
     requires few_leaf { need.leaf ≤ 67108864 }
     requires few_spill { need.spill ≤ 67108864 }
-    ensures upper { let m = map_at L.kind lay.now.words upper.now leaf.now spill.now roots.now lay.now.row in result.upper + broken_blocks region_words m ≡ need.upper + broken_blocks region_words (with_range lay.now.first lay.now.end lay.now.perm m) }
-    ensures leaf { let m = map_at L.kind lay.now.words upper.now leaf.now spill.now roots.now lay.now.row in result.leaf + broken_blocks page_words m ≡ need.leaf + broken_blocks page_words (with_range lay.now.first lay.now.end lay.now.perm m) }
-    ensures spill { let m = map_at L.kind lay.now.words upper.now leaf.now spill.now roots.now lay.now.row in result.spill + spill_lines L.kind m ≡ need.spill + spill_lines L.kind (with_range lay.now.first lay.now.end lay.now.perm m) }
+    ensures upper { let m = map_in L.kind upper.now leaf.now spill.now roots.now lay.now in result.upper + broken_blocks region_words m ≡ need.upper + broken_blocks region_words (with_range lay.now.first lay.now.end lay.now.perm m) }
+    ensures leaf { let m = map_in L.kind upper.now leaf.now spill.now roots.now lay.now in result.leaf + broken_blocks page_words m ≡ need.leaf + broken_blocks page_words (with_range lay.now.first lay.now.end lay.now.perm m) }
+    ensures spill { let m = map_in L.kind upper.now leaf.now spill.now roots.now lay.now in result.spill + spill_lines L.kind m ≡ need.spill + spill_lines L.kind (with_range lay.now.first lay.now.end lay.now.perm m) }
 {
     let old = map_of::<L>(upper, leaf, spill, roots, lay);
     let new = ChangedView {
@@ -137,9 +137,9 @@ fn need_laid<L: LeafForm>(
     let lines = (lay.first / 0x10, last / 0x10 + 1);
     Need {
         upper: need.upper + regions_broken(&new, regions.0, regions.1)
-            - regions_told(upper, roots, lay.row, regions.0, regions.1),
+            - regions_opened(upper, roots, lay.row, regions.0, regions.1),
         leaf: need.leaf + pages_broken(&new, pages.0, pages.1)
-            - pages_told(upper, roots, lay.row, pages.0, pages.1),
+            - pages_opened(upper, roots, lay.row, pages.0, pages.1),
         spill: need.spill + lines_crowded::<L, ChangedView<TableView<L>>>(&new, lines.0, lines.1)
             - lines_spilled::<L>(upper, leaf, spill, roots, lay, lines.0, lines.1),
     }

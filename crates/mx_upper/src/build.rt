@@ -12,7 +12,7 @@ ghost use Rattle.mx_upper.specs.Roots.{IsRootMade, AreRoots};
 
 use crate::counts::need_of;
 use crate::lay::Laying;
-use crate::reach::lay;
+use crate::reach::lay_domain;
 use crate::row_view::RowView;
 use crate::{LeafForm, Roots};
 use mx_pool::Pool;
@@ -111,14 +111,14 @@ fn lay_row<L: LeafForm>(
 {
     for n in 0..spans.len() {
         let span = spans.get(n);
-        let laying = Laying {
+        let lay = Laying {
             words,
             row,
             first: span.first,
             end: span.first + span.count,
             perm: span.perm,
         };
-        lay::<L>(upper, leaf, spill, roots, &laying);
+        lay_domain::<L>(upper, leaf, spill, roots, &lay);
     }
 }
 

@@ -8,7 +8,7 @@ ghost use Rattle.mx_upper.specs.Forest.{map_at, IsTables};
 ghost use Rattle.mx_upper.specs.Laying.{IsCanonical};
 
 use crate::lay::Laying;
-use crate::reach::lay;
+use crate::reach::lay_domain;
 use crate::{LeafForm, Roots};
 use mx_pool::Pool;
 use mx_table::Change;
@@ -67,8 +67,8 @@ fn change_one<L: LeafForm>(
     ensures leaf_total { length leaf.new ≡ length leaf.old }
     ensures spill_total { length spill.new ≡ length spill.old }
 {
-    if let Some(laying) = laying_of(words, row, change) {
-        lay::<L>(upper, leaf, spill, roots, &laying);
+    if let Some(lay) = laying_of(words, row, change) {
+        lay_domain::<L>(upper, leaf, spill, roots, &lay);
     }
 }
 

@@ -1,4 +1,4 @@
-//! How many blocks have tables, and how many a map needs.
+//! How many blocks of a map are broken, how many of its lines need a spill word, and so what it needs in tables.
 ghost use Rattle.std.specs.Prelude.{◌≡◌, ℕ, ◌+◌, ◌-◌, ◌*◌, ◌/◌, ◌<◌, ◌≤◌, length};
 ghost use Rattle.mx_words.specs.Counting.{count_below};
 ghost use Rattle.mx_words.specs.Runs.{line_words, page_words, region_words, broken_blocks};

@@ -7,7 +7,7 @@ ghost use Rattle.mx_pool.specs.Frames.{free_in};
 ghost use Rattle.mx_upper.specs.Leaf.{needs_spill};
 ghost use Rattle.mx_upper.specs.Walk.{most_regions, most_pages, most_lines, has_mid, has_leaf};
 ghost use Rattle.mx_upper.specs.Forest.{has_spill, root_at, map_at, IsTables, IsLineKept};
-ghost use Rattle.mx_upper.specs.Laying.{part_first, part_end, with_range, IsRangeLaid, ArePagesTight};
+ghost use Rattle.mx_upper.specs.Laying.{part_first, part_end, with_range, ArePagesTight, map_in, IsLaidIn};
 
 use crate::close::{take_page, take_region};
 use crate::line::{laid_over, set_line};
@@ -44,8 +44,8 @@ pub(crate) fn lay_line<L: LeafForm>(
     requires leafed { has_leaf upper.now (root_at roots.now lay.now.row) (line / 64) ≡ true }
     requires meets { part_first lay.now.first line_words line < part_end lay.now.end line_words line }
     requires inside { lay.now.end ≤ lay.now.words }
-    requires room { needs_spill L.kind (line_at (with_range (part_first lay.now.first line_words line) (part_end lay.now.end line_words line) lay.now.perm (map_at L.kind lay.now.words upper.now leaf.old spill.old roots.now lay.now.row)) (line * line_words)) ≡ true → has_spill L.kind upper.now leaf.old (root_at roots.now lay.now.row) line ≡ false → 0 < free_in spill.old }
-    ensures { IsRangeLaid L.kind lay.now.words upper.now leaf.old spill.old upper.now leaf.new spill.new roots.now lay.now.row (part_first lay.now.first line_words line) (part_end lay.now.end line_words line) lay.now.perm }
+    requires room { needs_spill L.kind (line_at (with_range (part_first lay.now.first line_words line) (part_end lay.now.end line_words line) lay.now.perm (map_in L.kind upper.now leaf.old spill.old roots.now lay.now)) (line * line_words)) ≡ true → has_spill L.kind upper.now leaf.old (root_at roots.now lay.now.row) line ≡ false → 0 < free_in spill.old }
+    ensures { IsLaidIn L.kind upper.now leaf.old spill.old upper.now leaf.new spill.new roots.now lay.now (part_first lay.now.first line_words line) (part_end lay.now.end line_words line) }
 {
     let mid = upper.get(roots.at(lay.row), line / 0x1_0000) / 4;
     let frame = upper.get(mid, line / 0x40 % 0x400) / 4;
@@ -78,7 +78,7 @@ pub(crate) fn close_page<L: LeafForm>(
     ensures tables { IsTables L.kind lay.now.words upper.new leaf.new spill.now roots.now }
     ensures maps { (e : ℕ) → e < length roots.now → map_at L.kind lay.now.words upper.new leaf.new spill.now roots.now e ≡ map_at L.kind lay.now.words upper.old leaf.old spill.now roots.now e }
     ensures mids { (e k : ℕ) → e < length roots.now → k < most_regions → has_mid upper.new (root_at roots.now e) k ≡ has_mid upper.old (root_at roots.now e) k }
-    ensures here { has_leaf upper.new (root_at roots.now lay.now.row) page ≡ is_broken page_words (map_at L.kind lay.now.words upper.old leaf.old spill.now roots.now lay.now.row) page }
+    ensures here { has_leaf upper.new (root_at roots.now lay.now.row) page ≡ is_broken page_words (map_in L.kind upper.old leaf.old spill.now roots.now lay.now) page }
     ensures leaves { (e k : ℕ) → e < length roots.now → k < most_pages → (e ≢ lay.now.row) ⊎ (k ≢ page) → has_leaf upper.new (root_at roots.now e) k ≡ has_leaf upper.old (root_at roots.now e) k }
     ensures lines { (e z : ℕ) → e < length roots.now → z < most_lines → has_leaf upper.old (root_at roots.now e) (z / 64) ≡ true → has_leaf upper.new (root_at roots.now e) (z / 64) ≡ true → IsLineKept L.kind upper.old leaf.old spill.now upper.new leaf.new spill.now (root_at roots.now e) z }
     ensures upper_total { length upper.new ≡ length upper.old }
@@ -105,10 +105,10 @@ pub(crate) fn close_region<L: LeafForm>(
     requires row { lay.now.row < length roots.now }
     requires region { region < most_regions }
     requires opened { has_mid upper.old (root_at roots.now lay.now.row) region ≡ true }
-    requires pages { ArePagesTight upper.old (root_at roots.now lay.now.row) (map_at L.kind lay.now.words upper.old leaf.now spill.now roots.now lay.now.row) }
+    requires pages { ArePagesTight upper.old (root_at roots.now lay.now.row) (map_in L.kind upper.old leaf.now spill.now roots.now lay.now) }
     ensures tables { IsTables L.kind lay.now.words upper.new leaf.now spill.now roots.now }
     ensures maps { (e : ℕ) → e < length roots.now → map_at L.kind lay.now.words upper.new leaf.now spill.now roots.now e ≡ map_at L.kind lay.now.words upper.old leaf.now spill.now roots.now e }
-    ensures here { has_mid upper.new (root_at roots.now lay.now.row) region ≡ is_broken region_words (map_at L.kind lay.now.words upper.old leaf.now spill.now roots.now lay.now.row) region }
+    ensures here { has_mid upper.new (root_at roots.now lay.now.row) region ≡ is_broken region_words (map_in L.kind upper.old leaf.now spill.now roots.now lay.now) region }
     ensures mids { (e k : ℕ) → e < length roots.now → k < most_regions → (e ≢ lay.now.row) ⊎ (k ≢ region) → has_mid upper.new (root_at roots.now e) k ≡ has_mid upper.old (root_at roots.now e) k }
     ensures leaves { (e y : ℕ) → e < length roots.now → y < most_pages → has_leaf upper.new (root_at roots.now e) y ≡ has_leaf upper.old (root_at roots.now e) y }
     ensures lines { (e z : ℕ) → e < length roots.now → z < most_lines → has_leaf upper.old (root_at roots.now e) (z / 64) ≡ true → IsLineKept L.kind upper.old leaf.now spill.now upper.new leaf.now spill.now (root_at roots.now e) z }

@@ -4,9 +4,9 @@ ghost use Rattle.std.specs.Prelude.{◌≡◌, ◌≢◌, ℕ, ◌+◌, ◌/◌,
 ghost use Rattle.mx_words.specs.Counting.{count_below};
 ghost use Rattle.mx_words.specs.Runs.{page_words, region_words};
 ghost use Rattle.mx_pool.specs.Frames.{free_in};
-ghost use Rattle.mx_upper.specs.Walk.{most_regions, most_pages, most_lines, has_mid, has_leaf, IsTight};
-ghost use Rattle.mx_upper.specs.Forest.{has_spill, root_at, map_at, IsTables};
-ghost use Rattle.mx_upper.specs.Laying.{part_first, part_end, with_range, spill_lines, IsRangeLaid, IsWayOpened, ArePagesTight, AreRegionsTight, IsRoomy};
+ghost use Rattle.mx_upper.specs.Walk.{most_regions, most_pages, most_lines, has_mid, has_leaf};
+ghost use Rattle.mx_upper.specs.Forest.{has_spill, root_at, IsTables};
+ghost use Rattle.mx_upper.specs.Laying.{part_first, part_end, with_range, spill_lines, IsWayOpened, ArePagesTight, AreRegionsTight, map_in, IsTightIn, IsRoomyIn, IsLaidIn};
 
 use crate::lay::{Laying, close_page, close_region, lay_line};
 use crate::open::{open_page, open_region};
@@ -28,8 +28,8 @@ fn lay_lines<L: LeafForm>(
     requires leafed { has_leaf upper.now (root_at roots.now lay.now.row) page ≡ true }
     requires meets { part_first lay.now.first page_words page < part_end lay.now.end page_words page }
     requires inside { lay.now.end ≤ lay.now.words }
-    requires room { (c : ℕ) → part_first lay.now.first page_words page ≤ c → c ≤ part_end lay.now.end page_words page → spill_lines L.kind (with_range (part_first lay.now.first page_words page) c lay.now.perm (map_at L.kind lay.now.words upper.now leaf.old spill.old roots.now lay.now.row)) ≤ count_below most_lines (has_spill L.kind upper.now leaf.old (root_at roots.now lay.now.row)) + free_in spill.old }
-    ensures { IsRangeLaid L.kind lay.now.words upper.now leaf.old spill.old upper.now leaf.new spill.new roots.now lay.now.row (part_first lay.now.first page_words page) (part_end lay.now.end page_words page) lay.now.perm }
+    requires room { (c : ℕ) → part_first lay.now.first page_words page ≤ c → c ≤ part_end lay.now.end page_words page → spill_lines L.kind (with_range (part_first lay.now.first page_words page) c lay.now.perm (map_in L.kind upper.now leaf.old spill.old roots.now lay.now)) ≤ count_below most_lines (has_spill L.kind upper.now leaf.old (root_at roots.now lay.now.row)) + free_in spill.old }
+    ensures { IsLaidIn L.kind upper.now leaf.old spill.old upper.now leaf.new spill.new roots.now lay.now (part_first lay.now.first page_words page) (part_end lay.now.end page_words page) }
 {
     let first = lay.first.max(page * 0x400);
     let end = lay.end.min(page * 0x400 + 0x400);
@@ -74,11 +74,11 @@ fn lay_page<L: LeafForm>(
     requires page { page < most_pages }
     requires meets { part_first lay.now.first page_words page < part_end lay.now.end page_words page }
     requires inside { lay.now.end ≤ lay.now.words }
-    requires pages { ArePagesTight upper.old (root_at roots.now lay.now.row) (map_at L.kind lay.now.words upper.old leaf.old spill.old roots.now lay.now.row) }
-    requires regions { AreRegionsTight upper.old (root_at roots.now lay.now.row) (map_at L.kind lay.now.words upper.old leaf.old spill.old roots.now lay.now.row) (page / 1024) }
-    requires room { IsRoomy L.kind upper.old leaf.old spill.old (root_at roots.now lay.now.row) (map_at L.kind lay.now.words upper.old leaf.old spill.old roots.now lay.now.row) (part_first lay.now.first page_words page) (part_end lay.now.end page_words page) lay.now.perm }
-    ensures laid { IsRangeLaid L.kind lay.now.words upper.old leaf.old spill.old upper.new leaf.new spill.new roots.now lay.now.row (part_first lay.now.first page_words page) (part_end lay.now.end page_words page) lay.now.perm }
-    ensures pages { ArePagesTight upper.new (root_at roots.now lay.now.row) (map_at L.kind lay.now.words upper.new leaf.new spill.new roots.now lay.now.row) }
+    requires pages { ArePagesTight upper.old (root_at roots.now lay.now.row) (map_in L.kind upper.old leaf.old spill.old roots.now lay.now) }
+    requires regions { AreRegionsTight upper.old (root_at roots.now lay.now.row) (map_in L.kind upper.old leaf.old spill.old roots.now lay.now) (page / 1024) }
+    requires room { IsRoomyIn L.kind upper.old leaf.old spill.old roots.now lay.now (part_first lay.now.first page_words page) (part_end lay.now.end page_words page) }
+    ensures laid { IsLaidIn L.kind upper.old leaf.old spill.old upper.new leaf.new spill.new roots.now lay.now (part_first lay.now.first page_words page) (part_end lay.now.end page_words page) }
+    ensures pages { ArePagesTight upper.new (root_at roots.now lay.now.row) (map_in L.kind upper.new leaf.new spill.new roots.now lay.now) }
     ensures opened { has_mid upper.new (root_at roots.now lay.now.row) (page / 1024) ≡ true }
     ensures mids { (k : ℕ) → k < most_regions → k ≢ page / 1024 → has_mid upper.new (root_at roots.now lay.now.row) k ≡ has_mid upper.old (root_at roots.now lay.now.row) k }
 {
@@ -101,10 +101,10 @@ fn lay_region<L: LeafForm>(
     requires region { region < most_regions }
     requires meets { part_first lay.now.first region_words region < part_end lay.now.end region_words region }
     requires inside { lay.now.end ≤ lay.now.words }
-    requires tight { IsTight upper.old (root_at roots.now lay.now.row) (map_at L.kind lay.now.words upper.old leaf.old spill.old roots.now lay.now.row) }
-    requires room { IsRoomy L.kind upper.old leaf.old spill.old (root_at roots.now lay.now.row) (map_at L.kind lay.now.words upper.old leaf.old spill.old roots.now lay.now.row) (part_first lay.now.first region_words region) (part_end lay.now.end region_words region) lay.now.perm }
-    ensures laid { IsRangeLaid L.kind lay.now.words upper.old leaf.old spill.old upper.new leaf.new spill.new roots.now lay.now.row (part_first lay.now.first region_words region) (part_end lay.now.end region_words region) lay.now.perm }
-    ensures tight { IsTight upper.new (root_at roots.now lay.now.row) (map_at L.kind lay.now.words upper.new leaf.new spill.new roots.now lay.now.row) }
+    requires tight { IsTightIn L.kind upper.old leaf.old spill.old roots.now lay.now }
+    requires room { IsRoomyIn L.kind upper.old leaf.old spill.old roots.now lay.now (part_first lay.now.first region_words region) (part_end lay.now.end region_words region) }
+    ensures laid { IsLaidIn L.kind upper.old leaf.old spill.old upper.new leaf.new spill.new roots.now lay.now (part_first lay.now.first region_words region) (part_end lay.now.end region_words region) }
+    ensures tight { IsTightIn L.kind upper.new leaf.new spill.new roots.now lay.now }
 {
     let first = lay.first.max(region * 0x10_0000);
     let end = lay.end.min(region * 0x10_0000 + 0x10_0000);
@@ -126,10 +126,10 @@ pub(crate) fn lay_range<L: LeafForm>(
     requires row { lay.now.row < length roots.now }
     requires some { lay.now.first < lay.now.end }
     requires inside { lay.now.end ≤ lay.now.words }
-    requires tight { IsTight upper.old (root_at roots.now lay.now.row) (map_at L.kind lay.now.words upper.old leaf.old spill.old roots.now lay.now.row) }
-    requires room { IsRoomy L.kind upper.old leaf.old spill.old (root_at roots.now lay.now.row) (map_at L.kind lay.now.words upper.old leaf.old spill.old roots.now lay.now.row) lay.now.first lay.now.end lay.now.perm }
-    ensures laid { IsRangeLaid L.kind lay.now.words upper.old leaf.old spill.old upper.new leaf.new spill.new roots.now lay.now.row lay.now.first lay.now.end lay.now.perm }
-    ensures tight { IsTight upper.new (root_at roots.now lay.now.row) (map_at L.kind lay.now.words upper.new leaf.new spill.new roots.now lay.now.row) }
+    requires tight { IsTightIn L.kind upper.old leaf.old spill.old roots.now lay.now }
+    requires room { IsRoomyIn L.kind upper.old leaf.old spill.old roots.now lay.now lay.now.first lay.now.end }
+    ensures laid { IsLaidIn L.kind upper.old leaf.old spill.old upper.new leaf.new spill.new roots.now lay.now lay.now.first lay.now.end }
+    ensures tight { IsTightIn L.kind upper.new leaf.new spill.new roots.now lay.now }
 {
     for region in lay.first / 0x10_0000..(lay.end - 1) / 0x10_0000 + 1 {
         lay_region::<L>(upper, leaf, spill, roots, lay, region);

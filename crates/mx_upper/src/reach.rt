@@ -3,7 +3,7 @@ ghost use Rattle.std.specs.Prelude.{◌≡◌, ◌≢◌, ℕ, ◌+◌, ◌-◌,
 ghost use Rattle.mx_table.specs.Tables.{most_words};
 ghost use Rattle.mx_upper.specs.Walk.{most_pages, most_lines, leaf_word, has_leaf, map_left, map_right, IsLine};
 ghost use Rattle.mx_upper.specs.Forest.{root_at, map_at, IsTables, IsLineKept, IsPathTaken};
-ghost use Rattle.mx_upper.specs.Laying.{IsCanonical, IsRoomy, IsDomainLaid};
+ghost use Rattle.mx_upper.specs.Laying.{IsCanonical, IsDomainLaid, map_in, IsRoomyIn};
 
 use crate::lay::Laying;
 use crate::range::lay_range;
@@ -57,7 +57,7 @@ fn write_reaches<L: LeafForm>(
     requires leafed { has_leaf upper.now (root_at roots.now lay.now.row) (line / 64) ≡ true }
     ensures tables { IsTables L.kind lay.now.words upper.now leaf.new spill.now roots.now }
     ensures maps { (e : ℕ) → e < length roots.now → map_at L.kind lay.now.words upper.now leaf.new spill.now roots.now e ≡ map_at L.kind lay.now.words upper.now leaf.old spill.now roots.now e }
-    ensures here { let m = map_at L.kind lay.now.words upper.now leaf.old spill.now roots.now lay.now.row in IsLine L.kind spill.now m line (map_left L.kind m line) (map_right L.kind m line) (leaf_word upper.now leaf.new (root_at roots.now lay.now.row) line) }
+    ensures here { let m = map_in L.kind upper.now leaf.old spill.now roots.now lay.now in IsLine L.kind spill.now m line (map_left L.kind m line) (map_right L.kind m line) (leaf_word upper.now leaf.new (root_at roots.now lay.now.row) line) }
     ensures lines { (e z : ℕ) → e < length roots.now → z < most_lines → (e ≢ lay.now.row) ⊎ (z ≢ line) → has_leaf upper.now (root_at roots.now e) (z / 64) ≡ true → IsLineKept L.kind upper.now leaf.old spill.now upper.now leaf.new spill.now (root_at roots.now e) z }
     ensures total { length leaf.new ≡ length leaf.old }
 {
@@ -96,7 +96,7 @@ fn reach_lines<L: LeafForm>(
     requires to { to ≤ most_lines }
     ensures tables { IsTables L.kind lay.now.words upper.now leaf.new spill.now roots.now }
     ensures maps { (e : ℕ) → e < length roots.now → map_at L.kind lay.now.words upper.now leaf.new spill.now roots.now e ≡ map_at L.kind lay.now.words upper.now leaf.old spill.now roots.now e }
-    ensures here { let m = map_at L.kind lay.now.words upper.now leaf.old spill.now roots.now lay.now.row in (z : ℕ) → from ≤ z → z < to → has_leaf upper.now (root_at roots.now lay.now.row) (z / 64) ≡ true → IsLine L.kind spill.now m z (map_left L.kind m z) (map_right L.kind m z) (leaf_word upper.now leaf.new (root_at roots.now lay.now.row) z) }
+    ensures here { let m = map_in L.kind upper.now leaf.old spill.now roots.now lay.now in (z : ℕ) → from ≤ z → z < to → has_leaf upper.now (root_at roots.now lay.now.row) (z / 64) ≡ true → IsLine L.kind spill.now m z (map_left L.kind m z) (map_right L.kind m z) (leaf_word upper.now leaf.new (root_at roots.now lay.now.row) z) }
     ensures lines { (e z : ℕ) → e < length roots.now → z < most_lines → (e ≢ lay.now.row) ⊎ ((z < from) ⊎ (to ≤ z)) → has_leaf upper.now (root_at roots.now e) (z / 64) ≡ true → IsLineKept L.kind upper.now leaf.old spill.now upper.now leaf.new spill.now (root_at roots.now e) z }
     ensures total { length leaf.new ≡ length leaf.old }
 {
@@ -138,7 +138,7 @@ fn line_behind(lay: &Laying, had_table: bool) -> u32
 
 /// Lays a permission over a range of words of one domain. Afterwards the domain's tables are just those that its map needs, and each
 /// entry has the reaches of the map.
-pub(crate) fn lay<L: LeafForm>(
+pub(crate) fn lay_domain<L: LeafForm>(
     upper: &mut Pool<1024>,
     leaf: &mut Pool<64>,
     spill: &mut Pool<1>,
@@ -150,7 +150,7 @@ pub(crate) fn lay<L: LeafForm>(
     requires some { lay.now.first < lay.now.end }
     requires inside { lay.now.end ≤ lay.now.words }
     requires canonical { IsCanonical L.kind lay.now.words upper.old leaf.old spill.old roots.now lay.now.row }
-    requires room { IsRoomy L.kind upper.old leaf.old spill.old (root_at roots.now lay.now.row) (map_at L.kind lay.now.words upper.old leaf.old spill.old roots.now lay.now.row) lay.now.first lay.now.end lay.now.perm }
+    requires room { IsRoomyIn L.kind upper.old leaf.old spill.old roots.now lay.now lay.now.first lay.now.end }
     ensures { IsDomainLaid L.kind lay.now.words upper.old leaf.old spill.old upper.new leaf.new spill.new roots.now lay.now.row lay.now.first lay.now.end lay.now.perm }
 {
     let root = roots.at(lay.row);

@@ -5,9 +5,10 @@ ghost use Rattle.mx_words.specs.Rights.{number};
 ghost use Rattle.mx_table.specs.Tables.{most_words};
 ghost use Rattle.mx_upper.specs.Digits.{digit};
 ghost use Rattle.mx_upper.specs.Walk.{IsLine};
-ghost use Rattle.mx_upper.specs.Forest.{IsLoose, IsTables, map_at};
+ghost use Rattle.mx_upper.specs.Forest.{IsLoose, IsTables};
 ghost use Rattle.mx_upper.specs.Read.{read_map};
 ghost use Rattle.mx_upper.specs.Views.{IsRound, IsSomeLine};
+ghost use Rattle.mx_upper.specs.Laying.{map_in};
 
 use crate::lay::Laying;
 use crate::vector::perm_in;
@@ -124,7 +125,7 @@ pub(crate) fn map_of<'a, L: LeafForm>(
     lay: &Laying,
 ) -> TableView<'a, L>
     requires { lay.now.row < length roots.now }
-    ensures map { ⟦<TableView<'static, L> as View>⟧.map result ≡ map_at L.kind lay.now.words upper.now leaf.now spill.now roots.now lay.now.row }
+    ensures map { ⟦<TableView<'static, L> as View>⟧.map result ≡ map_in L.kind upper.now leaf.now spill.now roots.now lay.now }
     ensures lawful { IsTables L.kind lay.now.words upper.now leaf.now spill.now roots.now → ⟦<TableView<'static, L> as View>⟧.lawful result }
 {
     TableView {

@@ -12,8 +12,8 @@ regions_broken-requires-clause-lawful g c =
 pub overflow_sub-result : goal.overflow_sub-result
 overflow_sub-result g c =
     let all = regions-after g.L.LeafForm.kind c.args.lay.now.words c.args.upper.now c.args.leaf.now c.args.spill.now c.args.roots.now g.met.L.LeafForm.trie c.requires.tables c.args.lay.now.row c.requires.row
-    c.requires.canonical c.args.lay.now.first c.args.lay.now.end c.args.lay.now.perm c.requires.some c.requires.inside _ c.map_of-old.ensures.map c.regions_told.result c.regions_broken.result
-    c.regions_told.ensures.count c.regions_broken.ensures.count in
+    c.requires.canonical c.args.lay.now.first c.args.lay.now.end c.args.lay.now.perm c.requires.some c.requires.inside _ c.map_of-old.ensures.map c.regions_opened.result c.regions_broken.result
+    c.regions_opened.ensures.count c.regions_broken.ensures.count in
     omega (arith, all, c.requires.upper)
 
 pub pages_broken-requires-clause-lawful : goal.pages_broken-requires-clause-lawful
@@ -25,8 +25,8 @@ pages_broken-requires-clause-lawful g c =
 pub overflow_sub-result-2 : goal.overflow_sub-result-2
 overflow_sub-result-2 g c =
     let all = pages-after g.L.LeafForm.kind c.args.lay.now.words c.args.upper.now c.args.leaf.now c.args.spill.now c.args.roots.now g.met.L.LeafForm.trie c.requires.tables c.args.lay.now.row c.requires.row
-    c.requires.canonical c.args.lay.now.first c.args.lay.now.end c.args.lay.now.perm c.requires.some c.requires.inside _ c.map_of-old.ensures.map c.pages_told.result c.pages_broken.result
-    c.pages_told.ensures.count c.pages_broken.ensures.count in
+    c.requires.canonical c.args.lay.now.first c.args.lay.now.end c.args.lay.now.perm c.requires.some c.requires.inside _ c.map_of-old.ensures.map c.pages_opened.result c.pages_broken.result
+    c.pages_opened.ensures.count c.pages_broken.ensures.count in
     omega (arith, all, c.requires.leaf)
 
 pub lines_crowded-requires-clause-lawful : goal.lines_crowded-requires-clause-lawful
@@ -45,15 +45,15 @@ overflow_sub-result-3 g c =
 pub returns-clause-upper : goal.returns-clause-upper
 returns-clause-upper g c =
     let all = regions-after g.L.LeafForm.kind c.args.lay.now.words c.args.upper.now c.args.leaf.now c.args.spill.now c.args.roots.now g.met.L.LeafForm.trie c.requires.tables c.args.lay.now.row c.requires.row
-    c.requires.canonical c.args.lay.now.first c.args.lay.now.end c.args.lay.now.perm c.requires.some c.requires.inside _ c.map_of-old.ensures.map c.regions_told.result c.regions_broken.result
-    c.regions_told.ensures.count c.regions_broken.ensures.count in
+    c.requires.canonical c.args.lay.now.first c.args.lay.now.end c.args.lay.now.perm c.requires.some c.requires.inside _ c.map_of-old.ensures.map c.regions_opened.result c.regions_broken.result
+    c.regions_opened.ensures.count c.regions_broken.ensures.count in
     omega (arith, all, c.requires.upper)
 
 pub returns-clause-leaf : goal.returns-clause-leaf
 returns-clause-leaf g c =
     let all = pages-after g.L.LeafForm.kind c.args.lay.now.words c.args.upper.now c.args.leaf.now c.args.spill.now c.args.roots.now g.met.L.LeafForm.trie c.requires.tables c.args.lay.now.row c.requires.row
-    c.requires.canonical c.args.lay.now.first c.args.lay.now.end c.args.lay.now.perm c.requires.some c.requires.inside _ c.map_of-old.ensures.map c.pages_told.result c.pages_broken.result
-    c.pages_told.ensures.count c.pages_broken.ensures.count in
+    c.requires.canonical c.args.lay.now.first c.args.lay.now.end c.args.lay.now.perm c.requires.some c.requires.inside _ c.map_of-old.ensures.map c.pages_opened.result c.pages_broken.result
+    c.pages_opened.ensures.count c.pages_broken.ensures.count in
     omega (arith, all, c.requires.leaf)
 
 pub returns-clause-spill : goal.returns-clause-spill

@@ -12,32 +12,32 @@ pub loop-n-init : goal.loop-n-init
 loop-n-init g c =
     row-none g.L.LeafForm.kind c.args.words c.args.upper.now c.args.leaf.now c.args.spill.now c.args.roots.now c.args.row c.args.spans.now c.requires.tables c.requires.canonical c.requires.empty
 
-pub lay-requires-clause-some : goal.lay-requires-clause-some
-lay-requires-clause-some g c =
+pub lay_domain-requires-clause-some : goal.lay_domain-requires-clause-some
+lay_domain-requires-clause-some g c =
     let at : c.get-span.result ≡ span_at c.args.spans.now c.loop-n.n = got c.args.spans.now c.loop-n.n c.get-span.result no_span c.get-span.ensures in
     let count = ap (λ (s : Span). s.count) at in
     let some = c.requires.spans.some c.loop-n.n (omega (arith, c.loop-n-test.true, c.len-n-end.ensures)) in
     omega (arith, count, some)
 
-pub lay-requires-clause-inside : goal.lay-requires-clause-inside
-lay-requires-clause-inside g c =
+pub lay_domain-requires-clause-inside : goal.lay_domain-requires-clause-inside
+lay_domain-requires-clause-inside g c =
     let at : c.get-span.result ≡ span_at c.args.spans.now c.loop-n.n = got c.args.spans.now c.loop-n.n c.get-span.result no_span c.get-span.ensures in
     let end = ap (λ (s : Span). s.first + s.count) at in
     let inside = c.requires.spans.inside c.loop-n.n (omega (arith, c.loop-n-test.true, c.len-n-end.ensures)) in
     omega (arith, end, inside)
 
-pub lay-requires-clause-room : goal.lay-requires-clause-room
-lay-requires-clause-room g c =
+pub lay_domain-requires-clause-room : goal.lay_domain-requires-clause-room
+lay_domain-requires-clause-room g c =
     row-room-at g.L.LeafForm.kind c.args.words c.args.upper.now c.args.leaf.now c.args.spill.now c.loop-n.upper c.loop-n.leaf c.loop-n.spill c.args.roots.now c.args.row c.args.spans.now c.loop-n.n
     g.met.L.LeafForm.trie c.requires.tables c.requires.canonical c.requires.row c.requires.empty c.loop-n.invariant c.requires.spans (omega (arith, c.loop-n-test.true, c.len-n-end.ensures))
     c.requires.upper_room c.requires.leaf_room c.requires.spill_room c.get-span.result (got c.args.spans.now c.loop-n.n c.get-span.result no_span c.get-span.ensures)
 
 pub loop-n-preserved : goal.loop-n-preserved
 loop-n-preserved g c =
-    row-more g.L.LeafForm.kind c.args.words c.args.upper.now c.args.leaf.now c.args.spill.now c.loop-n.upper c.loop-n.leaf c.loop-n.spill c.lay.new.upper c.lay.new.leaf c.lay.new.spill
+    row-more g.L.LeafForm.kind c.args.words c.args.upper.now c.args.leaf.now c.args.spill.now c.loop-n.upper c.loop-n.leaf c.loop-n.spill c.lay_domain.new.upper c.lay_domain.new.leaf c.lay_domain.new.spill
     c.args.roots.now c.args.row c.args.spans.now c.loop-n.n c.get-span.result
     g.met.L.LeafForm.trie c.requires.spans (omega (arith, c.loop-n-test.true, c.len-n-end.ensures)) c.requires.row (got c.args.spans.now c.loop-n.n c.get-span.result no_span c.get-span.ensures)
-    c.loop-n.invariant c.lay.ensures
+    c.loop-n.invariant c.lay_domain.ensures
 
 pub returns-clause-upper_free : goal.returns-clause-upper_free
 returns-clause-upper_free g c =

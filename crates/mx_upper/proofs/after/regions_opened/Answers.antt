@@ -5,8 +5,8 @@ use Rattle.mx_pool.specs.Frames.{word_at}
 use Rattle.mx_upper.specs.Walk.{has_mid}
 use Rattle.mx_upper.specs.Forest.{root_at}
 use Rattle.mx_upper.proofs.BlockCounts.{count-none, count-more, byte-bit}
-use Rattle.mx_upper.proofs.after.regions_told.Goals as goal
-use Rattle.mx_upper.proofs.after.regions_told.Goals.{After-from-count}
+use Rattle.mx_upper.proofs.after.regions_opened.Goals as goal
+use Rattle.mx_upper.proofs.after.regions_opened.Goals.{After-from-count}
 
 abbrev told : After-from-count → Bool
 told c = c.get.result % 4 == 0

@@ -4,8 +4,8 @@ use Rattle.mx_words.specs.Counting.{count_below}
 use Rattle.mx_upper.specs.Walk.{has_leaf}
 use Rattle.mx_upper.specs.Forest.{root_at}
 use Rattle.mx_upper.proofs.BlockCounts.{count-none, count-more, byte-bit}
-use Rattle.mx_upper.proofs.after.pages_told.Goals as goal
-use Rattle.mx_upper.proofs.after.pages_told.Goals.{After-from-count}
+use Rattle.mx_upper.proofs.after.pages_opened.Goals as goal
+use Rattle.mx_upper.proofs.after.pages_opened.Goals.{After-from-count}
 
 abbrev told : After-from-count → Bool
 told c = c.has_table.result

@@ -2,7 +2,7 @@ use Rattle.std.proofs.Common.{◌≡◌, ◌+◌, ◌-◌, ◌≤◌}
 use Rattle.mx_words.specs.Counting.{count_below}
 use Rattle.mx_upper.specs.Walk.{has_mid}
 use Rattle.mx_upper.specs.Forest.{root_at}
-use Rattle.mx_upper.proofs.after.regions_told.Given as goal
+use Rattle.mx_upper.proofs.after.regions_opened.Given as goal
 
 -- the regions so far are counted
 abbrev pub invariant-loop-region : goal.invariant-loop-region

@@ -2,7 +2,7 @@ use Rattle.std.proofs.Common.{◌≡◌, ◌+◌, ◌-◌, ◌≤◌}
 use Rattle.mx_words.specs.Counting.{count_below}
 use Rattle.mx_upper.specs.Walk.{has_leaf}
 use Rattle.mx_upper.specs.Forest.{root_at}
-use Rattle.mx_upper.proofs.after.pages_told.Given as goal
+use Rattle.mx_upper.proofs.after.pages_opened.Given as goal
 
 -- the pages so far are counted
 abbrev pub invariant-loop-page : goal.invariant-loop-page

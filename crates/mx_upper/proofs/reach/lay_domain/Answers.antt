@@ -4,7 +4,7 @@ use Rattle.mx_upper.specs.Walk.{has_leaf}
 use Rattle.mx_upper.specs.Forest.{root_at, IsPathTaken}
 use Rattle.mx_upper.proofs.OwnerLaws.{path-taken}
 use Rattle.mx_upper.proofs.DomainLaid.{domain-laid, domain-plain, far-from}
-use Rattle.mx_upper.proofs.reach.lay.Goals as goal
+use Rattle.mx_upper.proofs.reach.lay_domain.Goals as goal
 
 pub has_table-had_last-requires-clause-tables : goal.has_table-had_last-requires-clause-tables
 has_table-had_last-requires-clause-tables g c =
