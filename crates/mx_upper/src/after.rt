@@ -6,7 +6,7 @@ ghost use Rattle.mx_words.specs.Runs.{page_words, region_words, broken_blocks};
 ghost use Rattle.mx_table.specs.Change.{given};
 ghost use Rattle.mx_table.specs.Tables.{most_modules};
 ghost use Rattle.mx_pool.specs.Frames.{IsTaken};
-ghost use Rattle.mx_upper.specs.Walk.{most_regions, most_pages, most_lines, has_mid, has_leaf};
+ghost use Rattle.mx_upper.specs.Walk.{Frames, most_regions, most_pages, most_lines, has_mid, has_leaf};
 ghost use Rattle.mx_upper.specs.Forest.{has_spill, root_at, map_at, IsTables, IsPathTaken};
 ghost use Rattle.mx_upper.specs.Laying.{with_range, spill_lines, IsCanonical, map_in};
 
@@ -57,17 +57,16 @@ fn pages_opened(upper: &Pool<1024>, roots: &Roots, row: u32, from: u32, to: u32)
 fn is_spilled<L: LeafForm>(
     upper: &Pool<1024>,
     leaf: &Pool<64>,
-    spill: &Pool<1>,
     roots: &Roots,
-    lay: &Laying,
+    row: u32,
     line: u32,
 ) -> bool
-    requires tables { IsTables L.kind lay.now.words upper.now leaf.now spill.now roots.now }
-    requires row { lay.now.row < length roots.now }
+    requires tables { (words : ℕ) × ((spill : Frames) × IsTables L.kind words upper.now leaf.now spill roots.now) }
+    requires row { row < length roots.now }
     requires line { line < most_lines }
-    ensures { result ≡ has_spill L.kind upper.now leaf.now (root_at roots.now lay.now.row) line }
+    ensures { result ≡ has_spill L.kind upper.now leaf.now (root_at roots.now row) line }
 {
-    let root = roots.at(lay.row);
+    let root = roots.at(row);
     if !has_table(upper, root, line / 0x40) {
         return false;
     }
@@ -80,22 +79,21 @@ fn is_spilled<L: LeafForm>(
 fn lines_spilled<L: LeafForm>(
     upper: &Pool<1024>,
     leaf: &Pool<64>,
-    spill: &Pool<1>,
     roots: &Roots,
-    lay: &Laying,
+    row: u32,
     from: u32,
     to: u32,
 ) -> u32
-    requires tables { IsTables L.kind lay.now.words upper.now leaf.now spill.now roots.now }
-    requires row { lay.now.row < length roots.now }
+    requires tables { (words : ℕ) × ((spill : Frames) × IsTables L.kind words upper.now leaf.now spill roots.now) }
+    requires row { row < length roots.now }
     requires from { from ≤ to }
     requires to { to ≤ most_lines }
-    ensures count { result ≡ count_below (to - from) (λ i. has_spill L.kind upper.now leaf.now (root_at roots.now lay.now.row) (from + i)) }
+    ensures count { result ≡ count_below (to - from) (λ i. has_spill L.kind upper.now leaf.now (root_at roots.now row) (from + i)) }
     ensures most { result ≤ to - from }
 {
     let mut count = 0;
     for line in from..to {
-        count += u32::from(is_spilled::<L>(upper, leaf, spill, roots, lay, line));
+        count += u32::from(is_spilled::<L>(upper, leaf, roots, row, line));
     }
     count
 }
@@ -141,7 +139,7 @@ fn need_laid<L: LeafForm>(
         leaf: need.leaf + pages_broken(&new, pages.0, pages.1)
             - pages_opened(upper, roots, lay.row, pages.0, pages.1),
         spill: need.spill + lines_crowded::<L, ChangedView<TableView<L>>>(&new, lines.0, lines.1)
-            - lines_spilled::<L>(upper, leaf, spill, roots, lay, lines.0, lines.1),
+            - lines_spilled::<L>(upper, leaf, roots, lay.row, lines.0, lines.1),
     }
 }
 

@@ -4,7 +4,7 @@ ghost use Rattle.std.specs.Prelude.{◌≡◌, ◌≢◌, ℕ, ◌+◌, ◌/◌,
 ghost use Rattle.mx_words.specs.Counting.{count_below};
 ghost use Rattle.mx_words.specs.Runs.{page_words, region_words};
 ghost use Rattle.mx_pool.specs.Frames.{free_in};
-ghost use Rattle.mx_upper.specs.Walk.{most_regions, most_pages, most_lines, has_mid, has_leaf};
+ghost use Rattle.mx_upper.specs.Walk.{Frames, most_regions, most_pages, most_lines, has_mid, has_leaf};
 ghost use Rattle.mx_upper.specs.Forest.{has_spill, root_at, IsTables};
 ghost use Rattle.mx_upper.specs.Laying.{part_first, part_end, with_range, spill_lines, IsWayOpened, ArePagesTight, AreRegionsTight, map_in, IsTightIn, IsRoomyIn, IsLaidIn};
 
@@ -42,19 +42,18 @@ fn lay_lines<L: LeafForm>(
 fn open_way<L: LeafForm>(
     upper: &mut Pool<1024>,
     leaf: &mut Pool<64>,
-    spill: &Pool<1>,
     roots: &Roots,
-    lay: &Laying,
+    row: u32,
     page: u32,
 )
-    requires tables { IsTables L.kind lay.now.words upper.old leaf.old spill.now roots.now }
-    requires row { lay.now.row < length roots.now }
+    requires tables { (words : ℕ) × ((spill : Frames) × IsTables L.kind words upper.old leaf.old spill roots.now) }
+    requires row { row < length roots.now }
     requires page { page < most_pages }
-    requires upper_room { has_mid upper.old (root_at roots.now lay.now.row) (page / 1024) ≡ false → 0 < free_in upper.old }
-    requires leaf_room { has_leaf upper.old (root_at roots.now lay.now.row) page ≡ false → 0 < free_in leaf.old }
-    ensures { IsWayOpened L.kind lay.now.words upper.old leaf.old spill.now upper.new leaf.new roots.now lay.now.row page }
+    requires upper_room { has_mid upper.old (root_at roots.now row) (page / 1024) ≡ false → 0 < free_in upper.old }
+    requires leaf_room { has_leaf upper.old (root_at roots.now row) page ≡ false → 0 < free_in leaf.old }
+    ensures { (words : ℕ) (spill : Frames) → IsTables L.kind words upper.old leaf.old spill roots.now → IsWayOpened L.kind words upper.old leaf.old spill upper.new leaf.new roots.now row page }
 {
-    let root = roots.at(lay.row);
+    let root = roots.at(row);
     open_region(upper, root, page / 0x400);
     let mid = upper.get(root, page / 0x400) / 4;
     open_page::<L>(upper, leaf, mid, page % 0x400);
@@ -82,7 +81,7 @@ fn lay_page<L: LeafForm>(
     ensures opened { has_mid upper.new (root_at roots.now lay.now.row) (page / 1024) ≡ true }
     ensures mids { (k : ℕ) → k < most_regions → k ≢ page / 1024 → has_mid upper.new (root_at roots.now lay.now.row) k ≡ has_mid upper.old (root_at roots.now lay.now.row) k }
 {
-    open_way::<L>(upper, leaf, spill, roots, lay, page);
+    open_way::<L>(upper, leaf, roots, lay.row, page);
     lay_lines::<L>(upper, leaf, spill, roots, lay, page);
     close_page::<L>(upper, leaf, spill, roots, lay, page);
 }

@@ -14,13 +14,13 @@ pub loop-line-init : goal.loop-line-init
 loop-line-init g c = record {
   begun = omega arith;
   within = c.requires.from;
-  count_is = count-none c.args.from (λ x. has_spill g.L.LeafForm.kind c.args.upper.now c.args.leaf.now (root_at c.args.roots.now c.args.lay.now.row) x);
+  count_is = count-none c.args.from (λ x. has_spill g.L.LeafForm.kind c.args.upper.now c.args.leaf.now (root_at c.args.roots.now c.args.row) x);
   most = omega arith;
 }
 
 pub loop-line-preserved : goal.loop-line-preserved
 loop-line-preserved g c =
-    let more = count-more c.args.from c.loop-line.line c.loop-line.count (λ x. has_spill g.L.LeafForm.kind c.args.upper.now c.args.leaf.now (root_at c.args.roots.now c.args.lay.now.row) x) (told g c) c.loop-line.invariant.begun c.loop-line.invariant.count_is
+    let more = count-more c.args.from c.loop-line.line c.loop-line.count (λ x. has_spill g.L.LeafForm.kind c.args.upper.now c.args.leaf.now (root_at c.args.roots.now c.args.row) x) (told g c) c.loop-line.invariant.begun c.loop-line.invariant.count_is
     c.is_spilled.ensures in
     let byte = byte-bit (told g c) in
     record {
@@ -36,7 +36,7 @@ overflow_add-count g c = omega (arith, c.loop-line.invariant.most, c.from-count.
 pub returns-clause-count : goal.returns-clause-count
 returns-clause-count g c =
     let last : c.loop-line.line ≡ c.args.to = omega (arith, c.loop-line.invariant.within) in
-    c.loop-line.invariant.count_is ∙ ap (λ (n : ℕ). count_below (n - c.args.from) (λ i. has_spill g.L.LeafForm.kind c.args.upper.now c.args.leaf.now (root_at c.args.roots.now c.args.lay.now.row) (c.args.from + i))) last
+    c.loop-line.invariant.count_is ∙ ap (λ (n : ℕ). count_below (n - c.args.from) (λ i. has_spill g.L.LeafForm.kind c.args.upper.now c.args.leaf.now (root_at c.args.roots.now c.args.row) (c.args.from + i))) last
 
 pub returns-clause-most : goal.returns-clause-most
 returns-clause-most g c = omega (arith, c.loop-line.invariant.most, c.loop-line.invariant.within)

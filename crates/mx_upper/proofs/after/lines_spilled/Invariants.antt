@@ -8,6 +8,6 @@ abbrev pub invariant-loop-line : goal.invariant-loop-line
 invariant-loop-line g l = record {
   begun : l.from ≤ l.line;
   within : l.line ≤ l.to;
-  count_is : l.count ≡ count_below (l.line - l.from) (λ i. has_spill g.L.LeafForm.kind l.upper l.leaf (root_at l.roots l.lay.row) (l.from + i));
+  count_is : l.count ≡ count_below (l.line - l.from) (λ i. has_spill g.L.LeafForm.kind l.upper l.leaf (root_at l.roots l.row) (l.from + i));
   most : l.count ≤ l.line - l.from;
 }
