@@ -1,5 +1,5 @@
 -- Root tables of vectors of no permission, and no other tables, stand for maps without permissions.
-use Rattle.std.proofs.Common.{◌≡◌, ℕ, zero, suc, ◌+◌, ◌*◌, ◌/◌, ◌<◌, ◌≤◌, ◌==◌, ◌&&◌, Bool, true, false, is_some, if◌then◌else◌, inl, inr, List, [], ◌∷◌, length, refl, sym, ap, ◌∙◌, arith, subst, eq-eqb}
+use Rattle.std.proofs.Common.{◌≡◌, ℕ, zero, suc, ◌+◌, ◌*◌, ◌/◌, ◌<◌, ◌≤◌, ◌==◌, Bool, true, false, if◌then◌else◌, inl, inr, List, [], ◌∷◌, length, refl, sym, ap, ◌∙◌, arith, subst, eq-eqb}
 use Rattle.std.proofs.Common.{map as list_map}
 use Rattle.std.specs.List.{range_with_len}
 use Rattle.std.proofs.lemmas.Bool.{cases_lt, ne_eqb, true≢false}
@@ -18,8 +18,8 @@ use Rattle.mx_words.proofs.OverlayLaws.{map-at, length-map_of}
 use Rattle.mx_words.proofs.BlockLaws.{broken_blocks-count, whole-even}
 use Rattle.mx_table.specs.Tables.{most_words}
 use Rattle.mx_pool.specs.Frames.{free_in}
-use Rattle.mx_upper.specs.Leaf.{IsTrieKind, needs_spill, spill_number}
-use Rattle.mx_upper.specs.Walk.{Frames, most_regions, most_pages, most_lines, is_pointer, mid_word, leaf_word, has_mid, has_leaf, IsShown, IsTight}
+use Rattle.mx_upper.specs.Leaf.{IsTrieKind, needs_spill}
+use Rattle.mx_upper.specs.Walk.{Frames, most_regions, most_pages, most_lines, is_pointer, has_mid, has_leaf, IsShown, IsTight}
 use Rattle.mx_upper.specs.Forest.{has_spill, root_at, map_at, IsForest, IsLoose, IsTables}
 use Rattle.mx_upper.specs.Laying.{spill_lines, IsCanonical}
 use Rattle.mx_upper.specs.Roots.{AreRoots}

@@ -59,14 +59,14 @@ module _ (kind : Kind) (words : ℕ) (upper leaf spill : Frames) (roots : List �
       read-need.upper,
       length-read_maps kind upper leaf spill words roots,
       summed (broken_blocks region_words) (λ d. count_below most_regions (has_mid upper (root_at roots d)))
-      (λ d domain. tight-regions upper (root_at roots d) (map_at kind words upper leaf spill roots d) (tight d domain) (short d)),
+          (λ d domain. tight-regions upper (root_at roots d) (map_at kind words upper leaf spill roots d) (tight d domain) (short d)),
     );
     leaf_need = omega (
       arith,
       tables.forest.leaf_count,
       read-need.leaf,
       summed (broken_blocks page_words) (λ d. count_below most_pages (has_leaf upper (root_at roots d)))
-      (λ d domain. tight-pages upper (root_at roots d) (map_at kind words upper leaf spill roots d) (tight d domain) (short d)),
+          (λ d domain. tight-pages upper (root_at roots d) (map_at kind words upper leaf spill roots d) (tight d domain) (short d)),
     );
     spill_need = omega (
       arith,

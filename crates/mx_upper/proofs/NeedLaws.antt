@@ -1,19 +1,15 @@
 -- What the maps of all domains need in a trie, counted domain by domain.
-use Rattle.std.proofs.Common.{◌≡◌, ℕ, zero, suc, ◌+◌, ◌*◌, ◌/◌, ◌<◌, ◌≤◌, inl, inr, nat_lt, List, [], length, get_or, sum_by, refl, sym, ap, ◌∙◌, arith}
+use Rattle.std.proofs.Common.{◌≡◌, ℕ, zero, suc, ◌+◌, ◌<◌, ◌≤◌, inl, inr, List, [], length, get_or, sum_by, refl, sym, ap, ◌∙◌, arith}
 use Rattle.std.proofs.lemmas.List.{get_or_default}
 use Rattle.mx_words.specs.declared.perm.Perm.{Perm}
 use Rattle.mx_words.specs.declared.tables.Kind.{Kind}
 use Rattle.mx_words.specs.declared.tables.Kind.TheVariants as K
 use Rattle.mx_words.specs.Counting.{sum_below, list_below}
-use Rattle.mx_words.specs.Runs.{runs, whole_line, broken_blocks, crowded_lines, is_crowded, line_words, page_words, region_words}
-use Rattle.mx_words.specs.Reach.{line_at}
-use Rattle.mx_words.specs.Blocks.{block_of}
+use Rattle.mx_words.specs.Runs.{broken_blocks, crowded_lines, page_words, region_words}
 use Rattle.mx_words.specs.Need.{need, upper_frames}
-use Rattle.mx_words.proofs.CountingLaws.{count_below_agree, count_below_none, sum_below_agree, list_below_is, sum_by-list_below}
-use Rattle.mx_words.proofs.BlockLaws.{crowded_lines-count}
+use Rattle.mx_words.proofs.CountingLaws.{sum_below_agree, list_below_is, sum_by-list_below}
 use Rattle.mx_table.specs.Tables.{most_words}
-use Rattle.mx_upper.specs.Leaf.{IsTrieKind, needs_spill}
-use Rattle.mx_upper.specs.Walk.{most_lines}
+use Rattle.mx_upper.specs.Leaf.{IsTrieKind}
 use Rattle.mx_upper.specs.Laying.{spill_lines}
 use Rattle.mx_upper.proofs.SpillLaws.{spill_lines-plain, spill_lines-packed}
 

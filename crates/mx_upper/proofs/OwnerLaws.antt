@@ -1,13 +1,12 @@
 -- Tables of several domains lie apart, each in frames that are taken; what a frame that stays keeps.
-use Rattle.std.proofs.Common.{◌≡◌, ◌≢◌, ℕ, ◌+◌, ◌*◌, ◌/◌, ◌%◌, ◌<◌, ◌⊎◌, inl, inr, ◌&&◌, Bool, true, false, List, [], Option, None, IsSome, is_some, unwrap_or, slice_index, length, refl, sym, ap, ◌∙◌, arith, subst, true≢false}
-use Rattle.std.proofs.lemmas.Bool.{ne_eqb, cases_eq, and_parts}
+use Rattle.std.proofs.Common.{◌≡◌, ◌≢◌, ℕ, ◌+◌, ◌*◌, ◌/◌, ◌%◌, ◌<◌, ◌⊎◌, inl, inr, true, false, List, [], Option, None, IsSome, unwrap_or, slice_index, length, sym, ap, ◌∙◌, arith, subst, true≢false}
+use Rattle.std.proofs.lemmas.Bool.{ne_eqb, cases_eq}
 use Rattle.mx_words.specs.declared.perm.Perm.{Perm}
 use Rattle.mx_words.specs.declared.tables.Kind.{Kind}
 use Rattle.mx_words.specs.Reach.{vector}
 use Rattle.mx_pool.specs.Frames.{frame_at, IsTaken, word_at}
-use Rattle.mx_upper.specs.Leaf.{spill_number}
-use Rattle.mx_upper.specs.Walk.{Frames, most_regions, most_pages, is_pointer, target, root_word, mid_word, leaf_word, has_mid, has_leaf}
-use Rattle.mx_upper.specs.Forest.{has_spill, root_at, IsForest, IsTables, IsPathTaken}
+use Rattle.mx_upper.specs.Walk.{Frames, most_regions, most_pages, is_pointer, target, root_word, mid_word, has_mid, has_leaf}
+use Rattle.mx_upper.specs.Forest.{root_at, IsForest, IsTables, IsPathTaken}
 use Rattle.mx_upper.proofs.PresentTables.{leaf-region, leaf-pointer}
 
 -- a frame that holds what it held

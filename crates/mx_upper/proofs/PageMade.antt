@@ -36,7 +36,7 @@ module _ (kind : Kind) (words : ℕ) (upper leaf spill upper' leaf' : Frames) (r
     mid-stays : (e x : ℕ) → e < length roots → x < most_regions → has_mid upper (root_at roots e) x ≡ true → (e ≢ d) ⊎ (x ≢ y / 1024) →
         frame_at upper' (target (root_word upper (root_at roots e) x)) ≡ frame_at upper (target (root_word upper (root_at roots e) x))
     mid-stays e x inside at region ne =
-        made.upper_elsewhere (target (root_word upper (root_at roots e) x)) 
+        made.upper_elsewhere (target (root_word upper (root_at roots e) x))
         (λ same. place-clash d (y / 1024) e x ne (mid-apart kind upper leaf spill roots tables.forest e d x (y / 1024) inside domain at (omega arith) region opened same))
 
     mid-still-taken : (e x : ℕ) → e < length roots → x < most_regions → has_mid upper (root_at roots e) x ≡ true → IsTaken upper' (target (root_word upper (root_at roots e) x))

@@ -1,13 +1,10 @@
 -- Which pages have leaf tables, and which lines have spill words, by the words on the way to them.
-use Rattle.std.proofs.Common.{◌≡◌, ◌≢◌, ℕ, ◌+◌, ◌*◌, ◌/◌, ◌%◌, ◌<◌, ◌⊎◌, inl, inr, ◌&&◌, Bool, true, false, List, [], Option, None, IsSome, is_some, unwrap_or, slice_index, length, refl, sym, ap, ◌∙◌, arith, subst, true≢false}
-use Rattle.std.proofs.lemmas.Bool.{ne_eqb, cases_eq, and_parts}
-use Rattle.mx_words.specs.declared.perm.Perm.{Perm}
+use Rattle.std.proofs.Common.{◌≡◌, ℕ, ◌/◌, ◌&&◌, Bool, true, false, Option, None, is_some, refl, ap, ◌∙◌}
+use Rattle.std.proofs.lemmas.Bool.{and_parts}
 use Rattle.mx_words.specs.declared.tables.Kind.{Kind}
-use Rattle.mx_words.specs.Reach.{vector}
-use Rattle.mx_pool.specs.Frames.{frame_at, IsTaken, word_at}
 use Rattle.mx_upper.specs.Leaf.{spill_number}
-use Rattle.mx_upper.specs.Walk.{Frames, most_regions, most_pages, is_pointer, target, root_word, mid_word, leaf_word, has_mid, has_leaf}
-use Rattle.mx_upper.specs.Forest.{has_spill, root_at, IsForest, IsTables, IsPathTaken}
+use Rattle.mx_upper.specs.Walk.{Frames, is_pointer, mid_word, leaf_word, has_mid, has_leaf}
+use Rattle.mx_upper.specs.Forest.{has_spill}
 
 -- a page with a leaf table lies in a region with a mid table, and its mid word is a pointer
 pub leaf-parts : (upper : Frames) (root y : ℕ) → has_leaf upper root y ≡ true → (has_mid upper root (y / 1024) ≡ true) × (is_pointer (mid_word upper root y) ≡ true)

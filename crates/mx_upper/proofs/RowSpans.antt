@@ -1,5 +1,5 @@
 -- The map of a row of sorted spans, span by span and between the spans.
-use Rattle.std.proofs.Common.{◌≡◌, ℕ, zero, suc, ◌+◌, ◌-◌, ◌<◌, ◌≤◌, ◌⊎◌, inl, inr, List, [], ◌∷◌, length, slice_index_or, slice_get, Some, fold, map, refl, sym, ap, ◌∙◌, arith}
+use Rattle.std.proofs.Common.{◌≡◌, ℕ, zero, suc, ◌+◌, ◌-◌, ◌<◌, ◌≤◌, ◌⊎◌, inl, inr, List, [], ◌∷◌, length, fold, map, refl, sym, ap, ◌∙◌, arith}
 use Rattle.std.proofs.lemmas.Bool.{cases_lt}
 use Rattle.std.proofs.lemmas.List.{get_or_past}
 use Rattle.mx_words.specs.declared.perm.Perm.{Perm}
@@ -8,7 +8,7 @@ use Rattle.mx_words.specs.declared.perm.Span.{Span}
 use Rattle.mx_words.specs.Rights.{perm_at}
 use Rattle.mx_words.specs.Newest.{laid_at}
 use Rattle.mx_words.proofs.OverlayLaws.{laid_at_in, laid_at_below, laid_at_behind, length-map_of, map-at}
-use Rattle.mx_table.specs.Tables.{most_words, no_span, granted, row_map, IsRow}
+use Rattle.mx_table.specs.Tables.{most_words, granted, row_map, IsRow}
 use Rattle.mx_table.specs.Rows.{span_at}
 use Rattle.mx_table.proofs.RowLaws.{ends_before, ends_up}
 use Rattle.mx_upper.specs.Views.{IsRound, IsBegun, IsBegin}

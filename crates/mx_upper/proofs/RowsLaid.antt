@@ -45,9 +45,14 @@ module _ (kind : Kind) (words : ℕ) (upper leaf spill upper' leaf' spill' : Fra
       region-tables kind words upper leaf spill roots k tables e below (canonical e below)
       ∙ sym (ap (broken_blocks region_words) (begun.same e below other))
       ∙ sym (region-tables kind words upper' leaf' spill' roots k begun.tables e below (begun.canonical e below))) in
-      omega (arith, all, region-tables kind words upper' leaf' spill' roots k begun.tables d domain (begun.canonical d domain), ap (broken_blocks region_words) begun.laid,
-      region-tables kind words upper leaf spill roots k tables d domain (canonical d domain) ∙ ap (broken_blocks region_words) empty
-      ∙ empty-blocks 1048576 131072 16 words refl refl (omega arith) (omega arith))
+      omega (
+        arith,
+        all,
+        region-tables kind words upper' leaf' spill' roots k begun.tables d domain (begun.canonical d domain),
+        ap (broken_blocks region_words) begun.laid,
+        region-tables kind words upper leaf spill roots k tables d domain (canonical d domain) ∙ ap (broken_blocks region_words) empty
+            ∙ empty-blocks 1048576 131072 16 words refl refl (omega arith) (omega arith),
+      )
 
   pub leaf-left : free_in leaf' + broken_blocks page_words (first_spans words row n) ≡ free_in leaf
   leaf-left =
@@ -59,9 +64,14 @@ module _ (kind : Kind) (words : ℕ) (upper leaf spill upper' leaf' spill' : Fra
       page-tables kind words upper leaf spill roots k tables e below (canonical e below)
       ∙ sym (ap (broken_blocks page_words) (begun.same e below other))
       ∙ sym (page-tables kind words upper' leaf' spill' roots k begun.tables e below (begun.canonical e below))) in
-      omega (arith, all, page-tables kind words upper' leaf' spill' roots k begun.tables d domain (begun.canonical d domain), ap (broken_blocks page_words) begun.laid,
-      page-tables kind words upper leaf spill roots k tables d domain (canonical d domain) ∙ ap (broken_blocks page_words) empty
-      ∙ empty-blocks 1024 128 16384 words refl refl (omega arith) (omega arith))
+      omega (
+        arith,
+        all,
+        page-tables kind words upper' leaf' spill' roots k begun.tables d domain (begun.canonical d domain),
+        ap (broken_blocks page_words) begun.laid,
+        page-tables kind words upper leaf spill roots k tables d domain (canonical d domain) ∙ ap (broken_blocks page_words) empty
+            ∙ empty-blocks 1024 128 16384 words refl refl (omega arith) (omega arith),
+      )
 
   pub spill-left : free_in spill' + spill_lines kind (first_spans words row n) ≡ free_in spill
   spill-left =
@@ -72,8 +82,13 @@ module _ (kind : Kind) (words : ℕ) (upper leaf spill upper' leaf' spill' : Fra
       spill_lines-are kind words upper leaf spill roots k tables e below
       ∙ sym (ap (spill_lines kind) (begun.same e below other))
       ∙ sym (spill_lines-are kind words upper' leaf' spill' roots k begun.tables e below)) in
-      omega (arith, all, spill_lines-are kind words upper' leaf' spill' roots k begun.tables d domain, ap (spill_lines kind) begun.laid,
-      spill_lines-are kind words upper leaf spill roots k tables d domain ∙ ap (spill_lines kind) empty ∙ empty-lines kind words k)
+      omega (
+        arith,
+        all,
+        spill_lines-are kind words upper' leaf' spill' roots k begun.tables d domain,
+        ap (spill_lines kind) begun.laid,
+        spill_lines-are kind words upper leaf spill roots k tables d domain ∙ ap (spill_lines kind) empty ∙ empty-lines kind words k,
+      )
 
   -- the next span has room
   module _ (is : IsRow words row) (below : n < length row) (upper_room : broken_blocks region_words (row_map words row) + 1 ≤ free_in upper)

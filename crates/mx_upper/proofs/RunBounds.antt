@@ -1,7 +1,6 @@
 -- A run of equal permissions, given by the same permission inside and another one at both edges.
 use Rattle.std.proofs.Common.{◌≡◌, ℕ, ◌-◌, ◌<◌, ◌≤◌, true, false, List, length}
 use Rattle.mx_words.specs.declared.perm.Perm.{Perm}
-use Rattle.mx_words.specs.declared.perm.Perm.TheVariants as P
 use Rattle.mx_words.specs.Rights.{same, perm_at}
 use Rattle.mx_words.specs.Reach.{span_within}
 use Rattle.mx_words.proofs.RunLaws.{same_eq, span_within_is}

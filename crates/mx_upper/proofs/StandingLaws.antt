@@ -1,5 +1,5 @@
 -- What tables that stand say of one domain.
-use Rattle.std.proofs.Common.{◌≡◌, ℕ, ◌-◌, ◌/◌, ◌<◌, ◌≤◌, ◌&&◌, Bool, List, [], length, get_or, refl, sym, ap, ◌∙◌, arith, subst}
+use Rattle.std.proofs.Common.{◌≡◌, ℕ, ◌-◌, ◌/◌, ◌<◌, ◌≤◌, List, [], length, get_or, refl, sym, ap, ◌∙◌, arith, subst}
 use Rattle.std.proofs.lemmas.List.{get_or-map}
 use Rattle.mx_words.specs.declared.perm.Perm.{Perm}
 use Rattle.mx_words.specs.declared.tables.Kind.{Kind}
@@ -10,7 +10,7 @@ use Rattle.mx_words.specs.Rights.{perm_at}
 use Rattle.mx_words.specs.Reach.{level, span, span_at}
 use Rattle.mx_words.specs.declared.tables.Need.{Need}
 use Rattle.mx_table.specs.Tables.{map_of, IsDomain}
-use Rattle.mx_upper.specs.Walk.{Frames, is_pointer, mid_word, map_left, map_right, IsShown, IsTight}
+use Rattle.mx_upper.specs.Walk.{Frames, map_left, map_right, IsShown, IsTight}
 use Rattle.mx_upper.specs.Forest.{root_at, map_at}
 use Rattle.mx_upper.specs.Laying.{IsCanonical}
 use Rattle.mx_upper.specs.Read.{read_map, read_maps}

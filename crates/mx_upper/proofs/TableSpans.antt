@@ -1,6 +1,5 @@
 -- The spans that a walk of a domain's tables gives are spans of its map, whatever reaches the entries have.
-use Rattle.std.proofs.Common.{◌≡◌, ◌≢◌, ℕ, ◌+◌, ◌-◌, ◌*◌, ◌/◌, ◌%◌, ◌^◌, ◌<◌, ◌≤◌, ◌⊎◌, inl, inr, ◌==◌, Bool, true, false, min, max, List, length, if◌then◌else◌, refl, sym, ap, ◌∙◌, subst, arith, eq-eqb}
-use Rattle.std.proofs.lemmas.Bool.{ne_eqb}
+use Rattle.std.proofs.Common.{◌≡◌, ◌≢◌, ℕ, ◌+◌, ◌-◌, ◌*◌, ◌/◌, ◌%◌, ◌^◌, ◌<◌, ◌≤◌, ◌⊎◌, inl, inr, ◌==◌, Bool, true, false, min, max, List, length, if◌then◌else◌, refl, sym, ap, ◌∙◌, subst, arith}
 use Rattle.std.proofs.lemmas.Bool.Decides.{eqb_tells}
 use Rattle.mx_words.specs.declared.perm.Perm.{Perm}
 use Rattle.mx_words.specs.declared.perm.Span.{Span}
@@ -9,15 +8,15 @@ use Rattle.mx_words.specs.Rights.{number, perm_at}
 use Rattle.mx_words.specs.Reach.{line_at}
 use Rattle.mx_words.proofs.ReachLaws.{IsUniformRound, within_round, within_high}
 use Rattle.mx_table.specs.Tables.{most_words}
-use Rattle.mx_pool.specs.Frames.{IsTaken, word_at}
+use Rattle.mx_pool.specs.Frames.{word_at}
 use Rattle.mx_upper.specs.Digits.{digit, numbered}
 use Rattle.mx_upper.specs.Leaf.{IsTrieKind, needs_spill, line_run, left_of_run, right_of_run, entry_run, IsStored}
-use Rattle.mx_upper.specs.Walk.{Frames, most_lines, most_pages, is_pointer, root_word, mid_word, leaf_word, spilled_word, has_mid, vector_perm, line_number, IsLine, IsShown}
+use Rattle.mx_upper.specs.Walk.{Frames, is_pointer, root_word, mid_word, spilled_word, has_mid, vector_perm, line_number, IsLine, IsShown}
 use Rattle.mx_upper.specs.Views.{IsRound}
 use Rattle.mx_upper.proofs.LeafSpans.{line-at}
 use Rattle.mx_upper.proofs.Digits.{numbered-number}
 use Rattle.mx_upper.proofs.ReadLines.{root-read, mid-read}
-use Rattle.mx_upper.proofs.WalkWords.{region-closed, region-opened, mid-is, page-closed, page-opened}
+use Rattle.mx_upper.proofs.WalkWords.{region-closed, region-opened, mid-is, page-closed}
 
 -- a run that can be cut to its word's line
 pub record IsCut (perms : List Perm) (line word : ℕ) (run : Span) : Type 0 where

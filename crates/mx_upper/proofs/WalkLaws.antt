@@ -1,7 +1,7 @@
 -- What the stored words on the way of a walk say of its word.
-use Rattle.std.proofs.Common.{◌≡◌, ◌≢◌, ℕ, ◌*◌, ◌/◌, ◌%◌, ◌^◌, ◌<◌, inl, inr, ◌&&◌, Bool, true, false, nat_lt, List, length, Some, None, if◌then◌else◌, refl, sym, ap, ◌∙◌, arith, eq-eqb, lt-ltb, subst}
+use Rattle.std.proofs.Common.{◌≡◌, ◌≢◌, ℕ, ◌*◌, ◌/◌, ◌%◌, ◌^◌, ◌<◌, inl, inr, Bool, true, false, nat_lt, List, length, Some, None, if◌then◌else◌, refl, sym, ap, ◌∙◌, arith, lt-ltb, subst}
 use Rattle.std.specs.Option.{option_map_or}
-use Rattle.std.proofs.lemmas.Bool.{ne_eqb, not-true, not-false}
+use Rattle.std.proofs.lemmas.Bool.{not-true, not-false}
 use Rattle.mx_words.specs.declared.perm.Perm.{Perm}
 use Rattle.mx_words.specs.declared.tables.Kind.{Kind}
 use Rattle.mx_words.specs.declared.tables.Kind.TheVariants as K
@@ -9,10 +9,10 @@ use Rattle.mx_words.specs.declared.tables.Level.{Level}
 use Rattle.mx_words.specs.declared.tables.Level.TheVariants as L
 use Rattle.mx_words.specs.Runs.{runs, is_eighth_uniform, is_crowded, block_at, whole_line, line_words, page_words, region_words}
 use Rattle.mx_words.specs.Reach.{level, trie_level, line_level, line_at, first_in}
-use Rattle.mx_pool.specs.Frames.{IsTaken, word_at}
+use Rattle.mx_pool.specs.Frames.{word_at}
 use Rattle.mx_words.specs.Blocks.{block_of, is_broken}
 use Rattle.mx_upper.specs.Leaf.{IsTrieKind, needs_spill, spill_number, IsStored}
-use Rattle.mx_upper.specs.Walk.{form_left, form_right, Frames, most_regions, most_pages, most_lines, is_pointer, mid_word, leaf_word, spilled_word, has_mid, has_leaf, map_left, map_right, line_number, IsLine, IsShown, IsTight}
+use Rattle.mx_upper.specs.Walk.{form_left, form_right, Frames, most_regions, most_pages, is_pointer, mid_word, spilled_word, has_mid, has_leaf, map_left, map_right, line_number, IsLine, IsShown, IsTight}
 use Rattle.mx_upper.specs.Found.{IsVector, IsLeaf}
 use Rattle.mx_upper.proofs.PresentTables.{leaf-from, leaf-closed}
 use Rattle.mx_upper.proofs.WalkWords.{region-closed, region-opened, mid-is, page-closed, page-opened}
