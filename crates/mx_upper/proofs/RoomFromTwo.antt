@@ -65,9 +65,6 @@ module _ (kind : Kind) (words : ℕ) (upper leaf spill upper' leaf' spill' : Fra
   pub canonical-laid : (e : ℕ) → e < length roots → IsCanonical kind words upper' leaf' spill' roots e
   canonical-laid e below = elim (cases_eq e d) [ inl h ↦ subst (λ (x : ℕ). IsCanonical kind words upper' leaf' spill' roots x) (sym h) laid.canonical | inr h ↦ laid.others e below h (canonical e below) ]
 
-  few : length (map_at kind words upper leaf spill roots d) ≤ 16777216
-  few = let most = tables.few_words in omega (arith, most, length-map_at kind words upper leaf spill roots d)
-
   long : end ≤ length (map_at kind words upper leaf spill roots d)
   long = omega (arith, length-map_at kind words upper leaf spill roots d)
 
@@ -75,7 +72,7 @@ module _ (kind : Kind) (words : ℕ) (upper leaf spill upper' leaf' spill' : Fra
   pub upper-after : free_in upper ≤ free_in upper' + 2
   upper-after =
       let more : broken_blocks region_words (map_at kind words upper' leaf' spill' roots d) ≤ broken_blocks region_words (map_at kind words upper leaf spill roots d) + 2 =
-      rw laid.map (broken-with_range region_words 131072 most_regions (map_at kind words upper leaf spill roots d) first end p refl refl (omega arith) range long few) in
+      rw laid.map (broken-with_range region_words 131072 most_regions (map_at kind words upper leaf spill roots d) first end p refl refl (omega arith) range long (map-few kind words upper leaf spill roots k tables d domain (canonical d domain))) in
       let all = free-changed (length roots) d (free_in upper + length roots) (free_in upper' + length roots) (length upper) (length upper')
       (λ e. count_below most_regions (has_mid upper (root_at roots e))) (λ e. count_below most_regions (has_mid upper' (root_at roots e)))
       domain laid.upper_total tables.forest.upper_count laid.tables.forest.upper_count
@@ -88,7 +85,7 @@ module _ (kind : Kind) (words : ℕ) (upper leaf spill upper' leaf' spill' : Fra
   pub leaf-after : free_in leaf ≤ free_in leaf' + 2
   leaf-after =
       let more : broken_blocks page_words (map_at kind words upper' leaf' spill' roots d) ≤ broken_blocks page_words (map_at kind words upper leaf spill roots d) + 2 =
-      rw laid.map (broken-with_range page_words 128 most_pages (map_at kind words upper leaf spill roots d) first end p refl refl (omega arith) range long few) in
+      rw laid.map (broken-with_range page_words 128 most_pages (map_at kind words upper leaf spill roots d) first end p refl refl (omega arith) range long (map-few kind words upper leaf spill roots k tables d domain (canonical d domain))) in
       let all = free-changed (length roots) d (free_in leaf) (free_in leaf') (length leaf) (length leaf')
       (λ e. count_below most_pages (has_leaf upper (root_at roots e))) (λ e. count_below most_pages (has_leaf upper' (root_at roots e)))
       domain laid.leaf_total tables.forest.leaf_count laid.tables.forest.leaf_count
@@ -101,7 +98,7 @@ module _ (kind : Kind) (words : ℕ) (upper leaf spill upper' leaf' spill' : Fra
   pub spill-after : free_in spill ≤ free_in spill' + 2
   spill-after =
       let more : spill_lines kind (map_at kind words upper' leaf' spill' roots d) ≤ spill_lines kind (map_at kind words upper leaf spill roots d) + 2 =
-      rw laid.map (spill-with_range kind (map_at kind words upper leaf spill roots d) first end p range long few) in
+      rw laid.map (spill-with_range kind (map_at kind words upper leaf spill roots d) first end p range long (map-few kind words upper leaf spill roots k tables d domain (canonical d domain))) in
       let all = free-changed (length roots) d (free_in spill) (free_in spill') (length spill) (length spill')
       (λ e. count_below most_lines (has_spill kind upper leaf (root_at roots e))) (λ e. count_below most_lines (has_spill kind upper' leaf' (root_at roots e)))
       domain laid.spill_total tables.forest.spill_count laid.tables.forest.spill_count
