@@ -5,6 +5,8 @@
 #[cfg(test)]
 mod counted;
 mod hits;
+#[cfg(test)]
+mod runs;
 mod tables;
 #[cfg(test)]
 mod tests;

@@ -1,4 +1,4 @@
-//! Tests that cross crates: the top call over files and sinks in memory.
+//! Tests that cross crates: the top call over files and sinks in memory, and tables of each kind.
 #![tactic(auto)]
 
 #[cfg(test)]
@@ -7,3 +7,5 @@ mod manifests;
 mod outside;
 #[cfg(test)]
 mod runs;
+#[cfg(test)]
+mod tables;

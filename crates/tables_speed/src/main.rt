@@ -1,0 +1,147 @@
+//! Times calls of permission tables: `tables_speed KIND ROUNDS`, with KIND segments, multilevel or packed, prints to stdout what the
+//! calls answered, which is the same for each kind, and to stderr the processor time that so many calls of each took.
+#![tactic(auto)]
+
+ghost use Rattle.std.specs.Prelude.{◌≡◌, ◌/◌, ◌<◌, ◌≤◌, ◌^◌, length};
+
+mod calls;
+mod sample;
+
+use calls::Range;
+use mx_packed::Packed;
+use mx_segments::Segments;
+use mx_table::PermTables;
+use mx_upper::{Trie, Vector};
+use mx_words::Kind;
+use std::alloc::Global;
+use std::time::{CpuClock, Duration};
+use std::{env, io};
+
+fn main(rt: HostRuntime) -> io::Result<()> {
+    let mut args = env::args(&rt)?;
+    let _name = args.next();
+    let kind = args.next().and_then(|word| kind_of(word.as_str()));
+    let rounds = args.next().and_then(|word| word.parse::<u64>().ok());
+    let (Some(kind), Some(rounds)) = (kind, rounds) else {
+        return eprintln!(rt; "tables_speed KIND ROUNDS, with KIND segments, multilevel or packed");
+    };
+    match kind {
+        Kind::Segments => time_kind::<Segments>(&rt, rt.alloc(), rounds),
+        Kind::Multilevel => time_kind::<Trie<Vector>>(&rt, rt.alloc(), rounds),
+        Kind::Packed => time_kind::<Trie<Packed>>(&rt, rt.alloc(), rounds),
+    }
+}
+
+/// The kind of this name.
+fn kind_of(name: &str) -> Option<Kind> {
+    match name {
+        "segments" => Some(Kind::Segments),
+        "multilevel" => Some(Kind::Multilevel),
+        "packed" => Some(Kind::Packed),
+        _ => None,
+    }
+}
+
+/// Times the calls over tables of 64 KiB and of 64 MiB of RAM.
+fn time_kind<T: PermTables + Drop>(
+    rt: &(impl Print + Eprint + CpuClock),
+    alloc: Global,
+    rounds: u64,
+) -> io::Result<()> {
+    time_size::<T>(rt, alloc, 1 << 14, rounds)?;
+    time_size::<T>(rt, alloc, 1 << 24, rounds)
+}
+
+/// Times the calls over tables of a RAM of `words` words: changes are of a word, of a page, and of 4 MiB where RAM is larger.
+fn time_size<T: PermTables + Drop>(
+    rt: &(impl Print + Eprint + CpuClock),
+    alloc: Global,
+    words: u32,
+    rounds: u64,
+) -> io::Result<()>
+    requires few { 16384 ≤ words }
+    requires most { words ≤ 2 ^ 24 }
+{
+    let Some(mut tables) = sample::tables::<T>(alloc, words) else {
+        return eprintln!(rt; "no memory");
+    };
+    time_reads(rt, &mut tables, words, rounds)?;
+    time_changes(rt, &mut tables, words, 1, rounds)?;
+    time_changes(rt, &mut tables, words, 1024, rounds)?;
+    if words / 2 >= 1 << 20 {
+        time_changes(rt, &mut tables, words, 1 << 20, rounds)?;
+    }
+    Ok(())
+}
+
+/// `perm` and `lookup` at words in and behind each span.
+fn time_reads<T: PermTables>(
+    rt: &(impl Print + Eprint + CpuClock),
+    tables: &mut T,
+    words: u32,
+    rounds: u64,
+) -> io::Result<()>
+    requires few { 16384 ≤ words }
+    requires most { words ≤ 2 ^ 24 }
+    requires one { length (T.maps tables.old) ≡ 1 }
+    requires size { T.size tables.old ≡ words }
+    ensures one { length (T.maps tables.new) ≡ 1 }
+    ensures size { T.size tables.new ≡ words }
+{
+    let begun = rt.thread_cpu_time()?;
+    let seen = calls::perms(tables, words, rounds);
+    let between = rt.thread_cpu_time()?;
+    let found = calls::lookups(tables, words, rounds);
+    let ended = rt.thread_cpu_time()?;
+    println!(rt; "perm in {words} words: {seen} allowed")?;
+    println!(rt; "lookup in {words} words: {found} allowed")?;
+    tell(rt, "perm", words, 1, rounds, begun, between)?;
+    tell(rt, "lookup", words, 1, rounds, between, ended)
+}
+
+/// `fits` alone, and `fits` with `apply`, of changes of `count` words from the middle of RAM on, as often as makes about `rounds`
+/// lines of 16 words, and at least twice.
+fn time_changes<T: PermTables>(
+    rt: &(impl Print + Eprint + CpuClock),
+    tables: &mut T,
+    words: u32,
+    count: u32,
+    rounds: u64,
+) -> io::Result<()>
+    requires some { 0 < count }
+    requires half { count ≤ words / 2 }
+    requires one { length (T.maps tables.old) ≡ 1 }
+    requires size { T.size tables.old ≡ words }
+    ensures one { length (T.maps tables.new) ≡ 1 }
+    ensures size { T.size tables.new ≡ words }
+{
+    let first = words / 2;
+    let range = Range { first, count };
+    let rounds = (rounds / u64::from(count / 16 + 1)).max(2);
+    let begun = rt.thread_cpu_time()?;
+    let fit = calls::fitting(tables, range, rounds);
+    let between = rt.thread_cpu_time()?;
+    let made = calls::made(tables, range, rounds);
+    let ended = rt.thread_cpu_time()?;
+    println!(rt; "fits of {count} in {words} words: {fit} fit")?;
+    println!(rt; "apply of {count} in {words} words: {made} made")?;
+    tell(rt, "fits", words, count, rounds, begun, between)?;
+    tell(rt, "apply", words, count, rounds, between, ended)
+}
+
+/// One line of costs.
+fn tell(
+    rt: &impl Eprint,
+    call: &str,
+    words: u32,
+    count: u32,
+    rounds: u64,
+    begun: Duration,
+    ended: Duration,
+) -> io::Result<()> {
+    let taken = ended.checked_sub(begun).unwrap_or_default();
+    eprintln!(rt;
+        "name={call}-{count}-{words} rounds={rounds} microseconds={}",
+        taken.as_micros()
+    )
+}
