@@ -1,9 +1,9 @@
 //! Two domains over 3000 words, in each kind of tables; what is read of them is worked out by hand.
-ghost use Rattle.std.specs.Prelude.{◌≡◌, ◌≢◌, ℕ, ◌+◌, ◌<◌, ◌≤◌, None, length, IfOk, IfSome};
-ghost use Rattle.mx_table.specs.Change.{given};
+ghost use Rattle.std.specs.Prelude.{◌≡◌, ◌+◌, ◌<◌, ◌≤◌, length, IfOk, IfSome};
 ghost use Rattle.mx_table.specs.Tables.{IsDomain, IsRow};
 
 use super::*;
+use crate::samples::{grant, try_change};
 use mx_words::Level;
 use std::test::Fail;
 
@@ -15,21 +15,6 @@ const LIMIT: Need = Need {
     spill: 10,
 };
 
-// A permission for domain 1 on a range.
-fn grant(first: u32, count: u32, perm: Perm) -> Change
-    ensures first { result.first ≡ first }
-    ensures count { result.count ≡ count }
-    ensures others { (d : ℕ) → d ≢ 1 → given result d ≡ None }
-{
-    let mut perms = [None; 64];
-    perms[1] = Some(perm);
-    Change {
-        first,
-        count,
-        perms,
-    }
-}
-
 // Makes a change for domain 1 of two, where it fits.
 fn give<T: PermTables>(tables: &mut T, first: u32, count: u32, perm: Perm) -> Option<()>
     requires two { length (T.maps tables.old) ≡ 2 }
@@ -38,12 +23,11 @@ fn give<T: PermTables>(tables: &mut T, first: u32, count: u32, perm: Perm) -> Op
     ensures two { length (T.maps tables.new) ≡ 2 }
     ensures size { T.size tables.new ≡ T.size tables.old }
 {
-    let change = grant(first, count, perm);
-    if !tables.fits(&change) {
-        return None;
+    if try_change(tables, &grant(first, count, perm)) {
+        Some(())
+    } else {
+        None
     }
-    tables.apply(&change);
-    Some(())
 }
 
 // A row of one span.
