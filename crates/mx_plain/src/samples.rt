@@ -1,7 +1,7 @@
 //! Sample rows of permission tables, and changes of the rights of their first domain.
-ghost use Rattle.std.specs.Prelude.{◌≡◌, ℕ, ◌+◌, ◌*◌, ◌^◌, ◌<◌, ◌≤◌, [], ◌∷◌, length, IsTrue, IsFalse, IfOk, IfErr};
+ghost use Rattle.std.specs.Prelude.{◌≡◌, ℕ, ◌+◌, ◌*◌, ◌^◌, ◌<◌, ◌≤◌, [], ◌∷◌, length, Some, IsTrue, IsFalse, IfOk, IfErr};
 ghost use Rattle.mx_words.specs.Need.{fits};
-ghost use Rattle.mx_table.specs.Change.{IsLawful, changed};
+ghost use Rattle.mx_table.specs.Change.{IsLawful, given, changed};
 ghost use Rattle.mx_table.specs.Tables.{most_words, row_map, IsRow, IsLimit, IsRefused};
 
 use mx_table::{BuildRefused, Change, PermTables};
@@ -13,7 +13,8 @@ pub fn row(alloc: Global, span: Span, step: u32, count: u32) -> Result<Spans, No
     requires some { 0 < span.count }
     requires apart { span.count ≤ step }
     requires inside { span.first + step * count ≤ most_words }
-    ensures { IfOk result (λ r. (words : ℕ) → span.first + step * count ≤ words → IsRow words r) }
+    ensures row { IfOk result (λ r. (words : ℕ) → span.first + step * count ≤ words → IsRow words r) }
+    ensures count { IfOk result (λ r. length r ≡ count) }
 {
     let mut row = Spans::new(alloc);
     for i in 0..count {
@@ -51,6 +52,7 @@ pub fn grant(first: u32, count: u32, perm: Perm) -> Change
     requires some { 0 < count }
     ensures first { result.first ≡ first }
     ensures count { result.count ≡ count }
+    ensures perm { given result 1 ≡ Some perm }
     ensures lawful { (words modules : ℕ) → first + count ≤ words → 1 ≤ modules → IsLawful result words modules }
 {
     let mut perms = [None; 64];
