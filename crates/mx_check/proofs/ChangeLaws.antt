@@ -17,7 +17,8 @@ use Rattle.mx_table.specs.Change.{given, changed}
 use Rattle.mx_table.specs.Tables.{map_of}
 use Rattle.mx_words.specs.declared.perm.Perm.TheVariants as P
 use Rattle.mx_check.specs.declared.flight.Flight.{Flight}
-use Rattle.mx_check.specs.Harts.{Kept, no_hart, hart_at, is_in}
+use Rattle.mx_words.specs.Hearing.{is_in}
+use Rattle.mx_check.specs.Harts.{Kept, no_hart, hart_at}
 use Rattle.mx_check.specs.Calls.{lets, ready_with, is_ready}
 use Rattle.mx_check.specs.Coherence.{EachSpan, is_spared, Agrees, AgreesIn, AreCurrent, HasDropped, Keeps}
 use Rattle.mx_check.specs.Conditions.{IsInside}

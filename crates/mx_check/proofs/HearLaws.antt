@@ -8,7 +8,8 @@ use Rattle.mx_words.specs.declared.perm.Perm.{Perm}
 use Rattle.mx_words.specs.declared.perm.Span.{Span}
 use Rattle.mx_words.specs.Caches.{without_range}
 use Rattle.mx_check.specs.declared.flight.Flight.{Flight}
-use Rattle.mx_check.specs.Harts.{Kept, no_hart, hart_at, at_hart, is_in, marked, heard_by, drops}
+use Rattle.mx_words.specs.Hearing.{is_in}
+use Rattle.mx_check.specs.Harts.{Kept, no_hart, hart_at, at_hart, marked, heard_by, drops}
 use Rattle.mx_check.specs.Calls.{news_of, news, hears_news, hears_one, hears_first, hears}
 use Rattle.mx_check.specs.Flights.{IsSet}
 use Rattle.mx_check.specs.Coherence.{Agrees, IsClear, HasDropped, Keeps}

@@ -8,7 +8,8 @@ use Rattle.mx_words.specs.declared.perm.Span.{Span}
 use Rattle.mx_words.specs.Caches.{Cache, meets, without_range}
 use Rattle.mx_table.specs.Tables.{map_of}
 use Rattle.mx_check.specs.declared.flight.Flight.{Flight}
-use Rattle.mx_check.specs.Harts.{Kept, hart_at, at_hart, is_in, nobody, announced, drops, ended, finished, leaves, halts}
+use Rattle.mx_words.specs.Hearing.{is_in, nobody}
+use Rattle.mx_check.specs.Harts.{Kept, hart_at, at_hart, announced, drops, ended, finished, leaves_domain, halts}
 use Rattle.mx_check.specs.Flights.{IsSet}
 use Rattle.mx_check.specs.Coherence.{EachSpan, Agrees, AgreesIn, AreCurrent, IsClear, HasDropped, Keeps}
 use Rattle.mx_check.proofs.LookLaws.{length-at_hart, hart_at-same, hart_at-other}
@@ -119,12 +120,12 @@ module _ (maps : List (List Perm)) (harts : List Kept) (h : ℕ) (keeps : Keeps 
       (λ i running apart. keeps.dropped i h running (λ e. apart (sym e)))
       (keeps.sets h)
 
-  pub leave-keeps : Keeps maps (at_hart h leaves harts)
+  pub leave-keeps : Keeps maps (at_hart h leaves_domain harts)
   leave-keeps =
       let k = hart_at harts h in
-      keeps_step maps harts h leaves keeps there
+      keeps_step maps harts h leaves_domain keeps there
       (λ running. each_left (AgreesIn maps k.flight None) k.cache (keeps.agree h running))
-      (λ i running apart. some_weaker (HasDropped h k.cache) (HasDropped h (leaves k).cache)
+      (λ i running apart. some_weaker (HasDropped h k.cache) (HasDropped h (leaves_domain k).cache)
       (λ f p hit. each_left (λ s. meets s f.first f.count ≡ false) k.cache (p hit)) (hart_at harts i).flight (keeps.dropped h i running apart))
       (λ i running apart. keeps.dropped i h running (λ e. apart (sym e)))
       (keeps.sets h)

@@ -12,7 +12,7 @@ use Rattle.mx_words.specs.declared.tables.Kind.{Kind}
 use Rattle.mx_words.specs.Counting.{all_below}
 use Rattle.mx_words.specs.Ranges.{ram_base, in_ram, word_of}
 use Rattle.mx_words.specs.Rights.{perm_at, perm, allows, denies}
-use Rattle.mx_words.specs.Caches.{has, meets, found_in_place, found_kept}
+use Rattle.mx_words.specs.Caches.{covers_word, meets, found_in_place, found_kept}
 use Rattle.mx_words.specs.Reach.{span}
 use Rattle.mx_words.proofs.CountingLaws.{all_below-at}
 use Rattle.mx_words.proofs.OverlayLaws.{covers_from}
@@ -21,8 +21,9 @@ use Rattle.std.specs.Prelude.{cond}
 use Rattle.mx_words.proofs.ReachLaws.{IsUniformRound, span_round}
 use Rattle.mx_table.specs.Tables.{map_of}
 use Rattle.mx_check.specs.declared.flight.Flight.{Flight}
-use Rattle.mx_check.specs.Harts.{Kept, no_hart, hart_at, at_hart, is_in, leaves}
-use Rattle.mx_check.specs.Looks.{flight_bars, bars, is_barred, first_of_two, found, names, looks, looked_at, looked, decided_by, decided_at, decided}
+use Rattle.mx_words.specs.Hearing.{is_in}
+use Rattle.mx_check.specs.Harts.{Kept, no_hart, hart_at, at_hart, leaves_domain}
+use Rattle.mx_check.specs.Looks.{flight_bars, hart_bars, is_barred, first_of_two, found, with_domain, looks, looked_at, looked, decided_by, decided_at, decided}
 use Rattle.mx_check.specs.Coherence.{EachSpan, Agrees, AgreesIn, HasDropped, Keeps}
 use Rattle.mx_check.specs.Conditions.{MayLook}
 use Rattle.mx_check.proofs.LookLaws.{length-at_hart, hart_at-same, hart_at-other}
@@ -48,9 +49,9 @@ second a b e hit = sym (ap (λ x. x && b) hit) ∙ e
 unbarred : (h : ℕ) (s : Span) (harts : List Kept) (i : ℕ) (f : Flight) → is_barred h s harts ≡ false → i < length harts → i ≢ h →
     (hart_at harts i).flight ≡ Some f → is_in f.heard h ≡ true → meets s f.first f.count ≡ false
 unbarred h s harts i f free lt ne flying hit =
-    let all : all_below (length harts) (λ i. not (bars h s harts i)) ≡ true = not_false (all_below (length harts) (λ i. not (bars h s harts i))) free in
-    let at : not (bars h s harts i) ≡ true = all_below-at (length harts) i (λ i. not (bars h s harts i)) all lt in
-    let no_bar : bars h s harts i ≡ false = not_true (bars h s harts i) at in
+    let all : all_below (length harts) (λ i. not (hart_bars h s harts i)) ≡ true = not_false (all_below (length harts) (λ i. not (hart_bars h s harts i))) free in
+    let at : not (hart_bars h s harts i) ≡ true = all_below-at (length harts) i (λ i. not (hart_bars h s harts i)) all lt in
+    let no_bar : hart_bars h s harts i ≡ false = not_true (hart_bars h s harts i) at in
     let other : not (i == h) ≡ true = ap not (ne_eqb i h ne) in
     let flight : flight_bars h s (hart_at harts i).flight ≡ false = second (not (i == h)) (flight_bars h s (hart_at harts i).flight) no_bar other in
     second (is_in f.heard h) (meets s f.first f.count) (sym (ap (flight_bars h s) flying) ∙ flight) hit
@@ -76,9 +77,9 @@ module _ (kind : Kind) (maps : List (List Perm)) (harts : List Kept) (h domain :
       each_weaker (λ d s a. a) (of_domain maps (hart_at harts h).flight domain (hart_at harts h).domain may.same_domain) (hart_at harts h).cache (keeps.agree h may.running)
 
   -- the domain alone is named
-  pub named-keeps : Keeps maps (at_hart h (names domain) harts)
+  pub named-keeps : Keeps maps (at_hart h (with_domain domain) harts)
   named-keeps =
-      keeps_step maps harts h (names domain) keeps may.hart
+      keeps_step maps harts h (with_domain domain) keeps may.hart
       (λ running. current_now)
       (λ i running apart. keeps.dropped h i running apart)
       (λ i running apart. keeps.dropped i h running (λ e. apart (sym e)))
@@ -107,7 +108,7 @@ module _ (kind : Kind) (maps : List (List Perm)) (harts : List Kept) (h domain :
         (keeps.sets h)
 
     -- what decides is the map's permission
-    unexempt : (t : Span) → Agrees (map_of maps domain) (hart_at harts h).flight t → has t word ≡ true → t.perm ≡ perm_at (map_of maps domain) word
+    unexempt : (t : Span) → Agrees (map_of maps domain) (hart_at harts h).flight t → covers_word t word ≡ true → t.perm ≡ perm_at (map_of maps domain) word
     unexempt t a inside =
         let a' : Agrees (map_of maps domain) None t = subst (λ (o : Option Flight). Agrees (map_of maps domain) o t) may.free a in
         sym (a'.at word inside refl)
@@ -160,14 +161,14 @@ module _ (kind : Kind) (maps : List (List Perm)) (harts : List Kept) (h domain m
   double true = refl
   double false = refl
 
-  pub answer_is : (access : Access) → allows (decided kind (map_of maps domain) place domain address (hart_at harts h).cache) access ≡ not (denies (map_of maps domain) address access)
+  pub answer_is : (access : Access) → allows (decided kind (map_of maps domain) place domain address (hart_at harts h).cache) access ≡ not (denies (perm (map_of maps domain)) address access)
   answer_is access =
       ap (λ (p : Perm). allows p access) (decided_there (word_of address (length (map_of maps domain))) refl)
       ∙ double (allows (perm (map_of maps domain) address) access)
 
   -- the hart may check again
   again_at : (o : Option ℕ) → MayLook h domain (looked_at most kind (map_of maps domain) h place domain o harts)
-  again_at None = again_after harts h domain (names domain) may (λ k. refl) (λ k. refl) (λ k. refl)
+  again_at None = again_after harts h domain (with_domain domain) may (λ k. refl) (λ k. refl) (λ k. refl)
   again_at (Some word) =
       again_after harts h domain (looks most place domain word (span kind (map_of maps domain) word) (is_barred h (span kind (map_of maps domain) word) harts)) may (λ k. refl) (λ k. refl) (λ k. refl)
 
@@ -189,13 +190,13 @@ pub word_round : (kind : Kind) (m : List Perm) (address word : ℕ) → word_of 
 word_round kind m address word e = span_round kind m word (word_below address (length m) word e)
 
 -- a hart that has left its domain may check in any
-pub leave_may : (harts : List Kept) (h domain next : ℕ) → MayLook h domain harts → MayLook h next (at_hart h leaves harts)
+pub leave_may : (harts : List Kept) (h domain next : ℕ) → MayLook h domain harts → MayLook h next (at_hart h leaves_domain harts)
 leave_may harts h domain next may =
-    let now = hart_at-same harts h leaves may.hart in
+    let now = hart_at-same harts h leaves_domain may.hart in
     record {
-      hart = omega (arith, length-at_hart harts h leaves, may.hart);
+      hart = omega (arith, length-at_hart harts h leaves_domain, may.hart);
       running = ap (λ (k : Kept). k.halted) now ∙ may.running;
       free = ap (λ (k : Kept). k.flight) now ∙ may.free;
-      heard = λ i ne. subst (λ (k : Kept). IfSome k.flight (λ f. is_in f.heard h ≡ true)) (sym (hart_at-other harts h leaves i ne)) (may.heard i ne);
+      heard = λ i ne. subst (λ (k : Kept). IfSome k.flight (λ f. is_in f.heard h ≡ true)) (sym (hart_at-other harts h leaves_domain i ne)) (may.heard i ne);
       same_domain = subst (λ (k : Kept). IfSome k.domain (λ d. d ≡ next)) (sym now) tt;
     }

@@ -8,7 +8,7 @@ use Rattle.std.proofs.lemmas.List.{get_or_past}
 use Rattle.std.proofs.lemmas.List.Elements.{All-set, All-take, All-cons, All-nil, All-head, All-tail, All-weaker, All-map, All-replicate}
 use Rattle.mx_words.specs.declared.perm.Span.{Span}
 use Rattle.mx_words.specs.Ranges.{covers}
-use Rattle.mx_words.specs.Caches.{Cache, Entry, has, meets, answers, in_place, found_in_place, found_kept, kept_without, without_range, left_domain, no_cache, checked, checked_at, checked_behind, with_walk}
+use Rattle.mx_words.specs.Caches.{Cache, Entry, covers_word, meets, is_for, in_place, found_in_place, found_kept, kept_without, without_range, left_domain, no_cache, checked, checked_at, checked_behind, with_walk}
 use Rattle.mx_check.specs.Coherence.{EachSpan, IsClear}
 
 -- weaker facts
@@ -39,20 +39,20 @@ each_left {E} {P} Q c each = record {
 
 -- what a place answers covers the word
 pub has_found_in_place : (P : Span → Type 0) (places : List (Option Span)) (p word : ℕ) (s : Span) → All (λ (o : Option Span). IfSome o P) places →
-    found_in_place places p word ≡ Some s → P s × (has s word ≡ true)
+    found_in_place places p word ≡ Some s → P s × (covers_word s word ≡ true)
 has_found_in_place P places p word s all e = by (in_place places p) (there (cases_lt p (length places))) e
   where
     there : (p < length places) ⊎ (length places ≤ p) → IfSome (in_place places p) P
     there (inl lt) = all p None lt
     there (inr le) = subst (λ (o : Option Span). IfSome o P) (sym (get_or_past places p None le)) tt
 
-    at : (t : Span) (b : Bool) → P t → has t word ≡ b → cond b (Some t) None ≡ Some s → P s × (has s word ≡ true)
-    at t true holds covers e = let same : t ≡ s = cc in (subst P same holds, ap (λ (x : Span). has x word) (sym same) ∙ covers)
+    at : (t : Span) (b : Bool) → P t → covers_word t word ≡ b → cond b (Some t) None ≡ Some s → P s × (covers_word s word ≡ true)
+    at t true holds covers e = let same : t ≡ s = cc in (subst P same holds, ap (λ (x : Span). covers_word x word) (sym same) ∙ covers)
     at t false holds covers e = cc
 
-    by : (o : Option Span) → IfSome o P → option_map_or (λ s. cond (has s word) (Some s) None) o None ≡ Some s → P s × (has s word ≡ true)
+    by : (o : Option Span) → IfSome o P → option_map_or (λ s. cond (covers_word s word) (Some s) None) o None ≡ Some s → P s × (covers_word s word ≡ true)
     by None holds e = cc
-    by (Some t) holds e = at t (has t word) holds refl e
+    by (Some t) holds e = at t (covers_word t word) holds refl e
 
 -- what the list answers is of the domain and covers the word
 both : (a b : Bool) → (a && b) ≡ true → (a ≡ true) × (b ≡ true)
@@ -60,34 +60,34 @@ both true b e = (refl, e)
 both false b e = cc
 
 pub has_found_kept : (E : ℕ → Span → Type 0) (kept : List Entry) (domain word : ℕ) (s : Span) → All (λ (e : Entry). E e.0 e.1) kept →
-    found_kept kept domain word ≡ Some s → E domain s × (has s word ≡ true)
+    found_kept kept domain word ≡ Some s → E domain s × (covers_word s word ≡ true)
 has_found_kept E [] domain word s all e = cc
 has_found_kept E (x ∷ xs) domain word s all e =
-    by (has_found_kept E xs domain word s (All-tail (λ (e : Entry). E e.0 e.1) x xs all)) (answers domain word x) refl e
+    by (has_found_kept E xs domain word s (All-tail (λ (e : Entry). E e.0 e.1) x xs all)) (is_for domain word x) refl e
   where
-    by : (found_kept xs domain word ≡ Some s → E domain s × (has s word ≡ true)) → (b : Bool) → answers domain word x ≡ b → option_map_or (λ (e : Entry). Some e.1) (cond b (Some x) (find (answers domain word) xs)) None ≡ Some s → E domain s × (has s word ≡ true)
+    by : (found_kept xs domain word ≡ Some s → E domain s × (covers_word s word ≡ true)) → (b : Bool) → is_for domain word x ≡ b → option_map_or (λ (e : Entry). Some e.1) (cond b (Some x) (find (is_for domain word) xs)) None ≡ Some s → E domain s × (covers_word s word ≡ true)
     by rest true hit e =
-        let parts = both (x.0 == domain) (has x.1 word) hit in
+        let parts = both (x.0 == domain) (covers_word x.1 word) hit in
         let same : x.1 ≡ s = cc in
         let own : x.0 ≡ domain = eqb-true x.0 domain parts.0 in
         let here : E x.0 x.1 = All-head (λ (e : Entry). E e.0 e.1) x xs all in
-        (subst (λ (d : ℕ). E d s) own (subst (λ (t : Span). E x.0 t) same here), ap (λ (t : Span). has t word) (sym same) ∙ parts.1)
+        (subst (λ (d : ℕ). E d s) own (subst (λ (t : Span). E x.0 t) same here), ap (λ (t : Span). covers_word t word) (sym same) ∙ parts.1)
     by rest false miss e = rest e
 
 -- a check keeps what holds of each span, where it holds of the span that goes into the place or is walked
 module _ {E : ℕ → Span → Type 0} {P : Span → Type 0} (most p domain word : ℕ) (walked : Span) (barred : Bool) (c : Cache) (each : EachSpan E P c)
-    (listed : (s : Span) → E domain s → P s) (new : barred ≡ false → E domain walked) where
+    (after_list : (s : Span) → E domain s → P s) (new : barred ≡ false → E domain walked) where
   after_walk : (b : Bool) → barred ≡ b → EachSpan E P (with_walk most p domain walked b c)
   after_walk true e = record { entries = each.entries; places = each.places }
   after_walk false e = record {
     entries = All-take (λ (x : Entry). E x.0 x.1) most ((domain, walked) ∷ c.kept) (All-cons (λ (x : Entry). E x.0 x.1) (domain, walked) c.kept (new e) each.entries);
-    places = All-set (λ (o : Option Span). IfSome o P) c.places p (Some walked) (listed walked (new e)) each.places;
+    places = All-set (λ (o : Option Span). IfSome o P) c.places p (Some walked) (after_list walked (new e)) each.places;
   }
 
   behind : (o : Option Span) → found_kept c.kept domain word ≡ o → EachSpan E P (checked_behind most p domain walked barred o c)
   behind (Some s) e = record {
     entries = each.entries;
-    places = All-set (λ (o : Option Span). IfSome o P) c.places p (Some s) (listed s (has_found_kept E c.kept domain word s each.entries e).0) each.places;
+    places = All-set (λ (o : Option Span). IfSome o P) c.places p (Some s) (after_list s (has_found_kept E c.kept domain word s each.entries e).0) each.places;
   }
   behind None e = after_walk barred refl
 
@@ -131,7 +131,7 @@ module _ {E : ℕ → Span → Type 0} {P : Span → Type 0} (first count : ℕ)
   each_clear = each_weaker (λ d s x. x.1) (λ s x. x.1) (without_range first count c) each_dropped
 
 -- a word of a span that doesn't meet a range isn't in the range
-pub outside_range : (s : Span) (first count word : ℕ) → meets s first count ≡ false → has s word ≡ true → covers first count word ≡ false
+pub outside_range : (s : Span) (first count word : ℕ) → meets s first count ≡ false → covers_word s word ≡ true → covers first count word ≡ false
 outside_range s first count word apart inside = by (covers first count word) refl
   where
     meeting : covers first count word ≡ true → meets s first count ≡ true

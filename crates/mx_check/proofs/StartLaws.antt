@@ -10,7 +10,8 @@ use Rattle.mx_words.proofs.CountingLaws.{length-list_below, list_below-at}
 use Rattle.mx_table.specs.Tables.{map_of}
 use Rattle.mx_check.specs.declared.flight.Flight.{Flight}
 use Rattle.mx_check.specs.Flights.{is_of, flight_of, IsSet}
-use Rattle.mx_check.specs.Harts.{Kept, new_hart, no_hart, hart_at, is_in}
+use Rattle.mx_words.specs.Hearing.{is_in}
+use Rattle.mx_check.specs.Harts.{Kept, new_hart, no_hart, hart_at}
 use Rattle.mx_check.specs.Conditions.{MayLook}
 use Rattle.mx_check.specs.Calls.{new_harts, waiting_hart, waiting_harts}
 use Rattle.mx_check.specs.Coherence.{EachSpan, Agrees, AgreesIn, IsClear, HasDropped, Keeps}

@@ -1,9 +1,10 @@
 -- What the calls on flights do to what the checker keeps.
-use Rattle.std.specs.Prelude.{ℕ, zero, suc, ◌==◌, ◌||◌, Bool, false, List, length, replicate, if◌then◌else◌, Option, Some, None}
+use Rattle.std.specs.Prelude.{ℕ, zero, suc, ◌==◌, Bool, false, List, length, replicate, if◌then◌else◌, Option, Some, None}
 use Rattle.mx_words.specs.Counting.{all_below, list_below}
+use Rattle.mx_words.specs.Hearing.{unheard_range, lets_pass}
 use Rattle.mx_check.specs.declared.flight.Flight.{Flight}
 use Rattle.mx_check.specs.Flights.{flight_of}
-use Rattle.mx_check.specs.Harts.{Kept, new_hart, hart_at, at_hart, is_in, drops, heard_by}
+use Rattle.mx_check.specs.Harts.{Kept, new_hart, hart_at, at_hart, drops, heard_by}
 
 -- what a checker means: its tables, and what it keeps for each hart
 pub record Checks (T : Type 0) : Type 0 where
@@ -13,7 +14,7 @@ pub record Checks (T : Type 0) : Type 0 where
 -- the range of a call in flight, where hart h hasn't heard it yet
 abbrev pub news_of : ℕ → Option Flight → Option (ℕ × ℕ)
 news_of h None = None
-news_of h (Some f) = if is_in f.heard h then None else Some (f.first, f.count)
+news_of h (Some f) = unheard_range h f.heard (f.first, f.count)
 
 -- hart h hears the call of hart i: it drops its spans that meet the range, and has heard the call
 abbrev pub hears_news : ℕ → ℕ → Option (ℕ × ℕ) → List Kept → List Kept
@@ -35,9 +36,9 @@ hears_first h (suc n) harts = hears_one h n (hears_first h n harts)
 abbrev pub hears : ℕ → List Kept → List Kept
 hears h harts = hears_first h (length harts) harts
 
--- whether hart i doesn't hold up a call of hart h: it is h, is halted or has heard the call
+-- whether hart i doesn't hold up a call of hart h
 abbrev pub lets : ℕ → Flight → List Kept → ℕ → Bool
-lets h f harts i = (i == h) || (hart_at harts i).halted || is_in f.heard i
+lets h f harts i = lets_pass h f.heard i (hart_at harts i).halted
 
 -- whether the call of hart h may take effect: each other hart that isn't halted has heard it
 abbrev pub ready_with : ℕ → Option Flight → List Kept → Bool

@@ -2,13 +2,14 @@
 use Rattle.std.specs.Prelude.{◌≡◌, ◌≢◌, ℕ, ◌≤◌, Bool, true, false, List, All, IfSome, Option, Some, None}
 use Rattle.mx_words.specs.declared.perm.Perm.{Perm}
 use Rattle.mx_words.specs.declared.perm.Span.{Span}
-use Rattle.mx_words.specs.Caches.{Cache, Entry, has, meets}
+use Rattle.mx_words.specs.Caches.{Cache, Entry, covers_word, meets}
 use Rattle.mx_words.specs.Ranges.{covers}
 use Rattle.mx_words.specs.Rights.{perm_at}
 use Rattle.mx_table.specs.Tables.{map_of}
 use Rattle.mx_check.specs.declared.flight.Flight.{Flight}
 use Rattle.mx_check.specs.Flights.{IsSet}
-use Rattle.mx_check.specs.Harts.{Kept, hart_at, is_in}
+use Rattle.mx_words.specs.Hearing.{is_in}
+use Rattle.mx_check.specs.Harts.{Kept, hart_at}
 use Rattle.std.specs.Prelude.{length}
 
 -- E of each entry of the list, and P of each span in a place
@@ -23,7 +24,7 @@ is_spared (Some f) word = covers f.first f.count word
 
 -- a span has its permission on each of its words in a map, but for the words of the hart's own call
 pub record Agrees (m : List Perm) (own : Option Flight) (s : Span) : Type 0 where
-  pub at : (word : ℕ) → has s word ≡ true → is_spared own word ≡ false → perm_at m word ≡ s.perm
+  pub at : (word : ℕ) → covers_word s word ≡ true → is_spared own word ≡ false → perm_at m word ≡ s.perm
 
 -- the same in the map of the domain that is kept for the hart; where none is, its places hold no span
 abbrev pub AgreesIn : List (List Perm) → Option Flight → Option ℕ → Span → Type 0

@@ -1,7 +1,8 @@
 -- What the checker keeps for each hart, and the steps by which one hart's part changes.
-use Rattle.std.specs.Prelude.{ℕ, Bool, true, false, List, replicate, slice_set, slice_index_or, Option, Some, None}
+use Rattle.std.specs.Prelude.{ℕ, Bool, true, false, List, slice_set, slice_index_or, Option, Some, None}
 use Rattle.std.specs.Option.{option_map, option_map_or}
 use Rattle.mx_words.specs.Caches.{Cache, no_cache, left_domain, without_range}
+use Rattle.mx_words.specs.Hearing.{is_in, nobody, with_hearer}
 use Rattle.mx_check.specs.declared.flight.Flight.{Flight}
 
 -- a hart's caches, whether it is halted, the domain that its checks since it last left a domain named, and its call in flight
@@ -27,21 +28,13 @@ hart_at harts h = slice_index_or harts h no_hart
 abbrev pub at_hart : ℕ → (Kept → Kept) → List Kept → List Kept
 at_hart h step harts = slice_set harts h (step (hart_at harts h))
 
--- whether hart h is in a set of harts
-abbrev pub is_in : List Bool → ℕ → Bool
-is_in set h = slice_index_or set h false
-
--- no hart has heard a call when it is announced
-abbrev pub nobody : List Bool
-nobody = replicate 4 false
-
 -- the hart has a call in flight that changes at most the words first to first + count - 1
 abbrev pub announced : ℕ → ℕ → ℕ → Kept → Kept
 announced h first count k = record k { flight = Some (record { hart = h; first = first; count = count; heard = nobody }) }
 
 -- hart h has heard the hart's call
 abbrev pub marked : ℕ → Flight → Flight
-marked h f = record f { heard = slice_set f.heard h true }
+marked h f = record f { heard = with_hearer h f.heard }
 
 abbrev pub heard_by : ℕ → Kept → Kept
 heard_by h k = record k { flight = option_map (marked h) k.flight }
@@ -59,8 +52,8 @@ abbrev pub finished : Kept → Kept
 finished k = record k { cache = ended k.flight k.cache; flight = None }
 
 -- the hart's places are emptied, and no domain is kept for it
-abbrev pub leaves : Kept → Kept
-leaves k = record k { cache = left_domain k.cache; domain = None }
+abbrev pub leaves_domain : Kept → Kept
+leaves_domain k = record k { cache = left_domain k.cache; domain = None }
 
 -- the hart counts as halted from here on
 abbrev pub halts : Kept → Kept

@@ -7,8 +7,8 @@ ghost use Rattle.mx_words.specs.Rights.{perm_at, allows};
 ghost use Rattle.mx_table.specs.Change.{IsLawful, changed};
 ghost use Rattle.mx_table.specs.Tables.{IsDomain, map_of};
 ghost use Rattle.mx_check.specs.Flights.{IsSet};
-ghost use Rattle.mx_check.specs.Harts.{hart_at, at_hart, announced, finished, leaves, halts, has_heard};
-ghost use Rattle.mx_check.specs.Looks.{found, decided_by, decided, lookups_with, lookups_after, looks, walked, looked, is_barred};
+ghost use Rattle.mx_check.specs.Harts.{hart_at, at_hart, announced, finished, leaves_domain, halts, has_heard};
+ghost use Rattle.mx_check.specs.Looks.{found, decided_by, decided, lookups_with, lookups_after, looks, after_walk, looked, is_barred};
 ghost use Rattle.mx_check.specs.Calls.{hears, is_ready, new_harts, waiting_harts};
 
 use crate::harts::Harts;
@@ -105,7 +105,7 @@ impl<T: PermTables, const N: usize> Bare<T, N> {
         requires domain { IsDomain (T.maps self.old.tables) domain }
         requires word { word < T.size self.old.tables }
         ensures answer { result ≡ (span T.kind (map_of (T.maps self.old.tables) domain) word).perm }
-        ensures harts { let s = span T.kind (map_of (T.maps self.old.tables) domain) word in self.new.harts ≡ at_hart hart (walked N place domain s (is_barred hart s self.old.harts)) self.old.harts }
+        ensures harts { let s = span T.kind (map_of (T.maps self.old.tables) domain) word in self.new.harts ≡ at_hart hart (after_walk N place domain s (is_barred hart s self.old.harts)) self.old.harts }
         ensures lookups { T.lookups self.new.tables ≡ raised (T.lookups self.old.tables) }
         ensures same_maps { T.maps self.new.tables ≡ T.maps self.old.tables }
         ensures same_size { T.size self.new.tables ≡ T.size self.old.tables }
@@ -179,7 +179,7 @@ impl<T: PermTables, const N: usize> Bare<T, N> {
     /// Empties the hart's places, and keeps no domain for it.
     pub fn leave_domain(&mut self, hart: u32)
         requires { hart < length self.old.harts }
-        ensures { self.new ≡ record self.old { harts = at_hart hart leaves self.old.harts } }
+        ensures { self.new ≡ record self.old { harts = at_hart hart leaves_domain self.old.harts } }
     {
         self.harts.leave(hart);
     }

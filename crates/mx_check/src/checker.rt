@@ -1,10 +1,10 @@
 //! The checker, whose caches are coherent at every moment between its calls.
 ghost use Rattle.std.specs.Prelude.{◌≡◌, ◌<◌, ◌≤◌, ◌↔◌, None, true, false, not, length, is_err, IsTrue, IsFalse, OnOk, OnErr, All};
 ghost use Rattle.mx_words.specs.Need.{fits};
-ghost use Rattle.mx_words.specs.Rights.{perm_at, denies};
+ghost use Rattle.mx_words.specs.Rights.{perm_at, perm, denies};
 ghost use Rattle.mx_table.specs.Change.{IsLawful, changed};
 ghost use Rattle.mx_table.specs.Tables.{IsDomain, map_of};
-ghost use Rattle.mx_check.specs.Harts.{hart_at, at_hart, announced, finished, leaves, halts, has_heard};
+ghost use Rattle.mx_check.specs.Harts.{hart_at, at_hart, announced, finished, leaves_domain, halts, has_heard};
 ghost use Rattle.mx_check.specs.Looks.{lookups_after, looked};
 ghost use Rattle.mx_check.specs.Calls.{hears, is_ready, new_harts, waiting_harts};
 ghost use Rattle.mx_check.specs.Conditions.{MayLook, HasHeardAll, SameButCaches, MayAnnounce, IsWithin, MayChange, IsResumable};
@@ -71,7 +71,7 @@ impl<T: PermTables, const N: usize> Checker<T, N> {
         requires may { MayLook hart domain self.old.harts }
         requires place { place < 32 }
         requires domain { IsDomain (T.maps self.old.tables) domain }
-        ensures answer { result ≡ not (denies (map_of (T.maps self.old.tables) domain) addr access) }
+        ensures answer { result ≡ not (denies (perm (map_of (T.maps self.old.tables) domain)) addr access) }
         ensures harts { self.new.harts ≡ looked N T.kind (map_of (T.maps self.old.tables) domain) hart place domain addr self.old.harts }
         ensures lookups { T.lookups self.new.tables ≡ lookups_after (map_of (T.maps self.old.tables) domain) place domain addr (hart_at self.old.harts hart).cache (T.lookups self.old.tables) }
         ensures again { MayLook hart domain self.new.harts }
@@ -151,7 +151,7 @@ impl<T: PermTables, const N: usize> Checker<T, N> {
     /// buffer stays.
     pub fn leave_domain(&mut self, hart: u32)
         requires { hart < length self.old.harts }
-        ensures { self.new ≡ record self.old { harts = at_hart hart leaves self.old.harts } }
+        ensures { self.new ≡ record self.old { harts = at_hart hart leaves_domain self.old.harts } }
     {
         self.bare.leave_domain(hart);
     }

@@ -2,8 +2,8 @@
 ghost use Rattle.std.specs.Prelude.{◌≡◌, ◌<◌, ◌≤◌, Some, None, length, All};
 ghost use Rattle.std.specs.Option.{option_map};
 ghost use Rattle.mx_check.specs.Flights.{IsSet};
-ghost use Rattle.mx_check.specs.Harts.{hart_at, at_hart, announced, heard_by, drops, finished, leaves, halts, has_heard};
-ghost use Rattle.mx_check.specs.Looks.{found, asked, walked, names, bars, is_barred};
+ghost use Rattle.mx_check.specs.Harts.{hart_at, at_hart, announced, heard_by, drops, finished, leaves_domain, halts, has_heard};
+ghost use Rattle.mx_check.specs.Looks.{found, after_caches, after_walk, with_domain, hart_bars, is_barred};
 ghost use Rattle.mx_check.specs.Calls.{news, hears_one, hears, lets, is_ready, new_harts, waiting_harts};
 
 use crate::part::Part;
@@ -81,7 +81,7 @@ impl<const N: usize> Harts<N> {
         requires hart { hart < length self.old }
         requires place { place < 32 }
         ensures answer { result ≡ option_map (λ s. s.perm) (found place domain word (hart_at self.old hart).cache) }
-        ensures after { self.new ≡ at_hart hart (asked place domain word) self.old }
+        ensures after { self.new ≡ at_hart hart (after_caches place domain word) self.old }
     {
         let part = &mut self.parts[hart as usize];
         part.answer(place, domain, word)
@@ -91,7 +91,7 @@ impl<const N: usize> Harts<N> {
     pub fn keep(&mut self, hart: u32, place: u32, domain: u32, span: Span, barred: bool)
         requires hart { hart < length self.old }
         requires place { place < 32 }
-        ensures { self.new ≡ at_hart hart (walked N place domain span barred) self.old }
+        ensures { self.new ≡ at_hart hart (after_walk N place domain span barred) self.old }
     {
         let part = &mut self.parts[hart as usize];
         part.keep(place, domain, span, barred);
@@ -136,7 +136,7 @@ impl<const N: usize> Harts<N> {
     /// As `Part::leave`, for one hart.
     pub fn leave(&mut self, hart: u32)
         requires { hart < length self.old }
-        ensures { self.new ≡ at_hart hart leaves self.old }
+        ensures { self.new ≡ at_hart hart leaves_domain self.old }
     {
         let part = &mut self.parts[hart as usize];
         part.leave();
@@ -229,13 +229,13 @@ impl<const N: usize> Harts<N> {
     }
 
     /// Whether the call of hart `i` keeps the hart from keeping a span.
-    fn bars(&self, hart: u32, span: &Span, i: u32) -> bool
+    fn hart_bars(&self, hart: u32, span: &Span, i: u32) -> bool
         requires hart { hart < length self.now }
         requires other { i < length self.now }
-        ensures { result ≡ bars hart span.now self.now i }
+        ensures { result ≡ hart_bars hart span.now self.now i }
     {
         let part = &self.parts[i as usize];
-        i != hart && part.bars(hart, span)
+        i != hart && part.hart_bars(hart, span)
     }
 
     /// Whether a span meets the range of a call in flight of another hart that the hart has heard.
@@ -246,7 +246,7 @@ impl<const N: usize> Harts<N> {
     {
         let mut clear = true;
         for i in 0..self.len() {
-            clear = clear && !self.bars(hart, span, i);
+            clear = clear && !self.hart_bars(hart, span, i);
         }
         !clear
     }

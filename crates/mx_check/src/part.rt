@@ -2,8 +2,8 @@
 ghost use Rattle.std.specs.Prelude.{◌≡◌, ◌<◌, ◌≤◌, Some, None, slice_set};
 ghost use Rattle.std.specs.Option.{option_map};
 ghost use Rattle.mx_words.specs.Caches.{raised, found_kept};
-ghost use Rattle.mx_check.specs.Harts.{new_hart, no_hart, announced, heard_by, drops, finished, leaves, halts, has_heard};
-ghost use Rattle.mx_check.specs.Looks.{found, asked, listed, walked, names, flight_bars};
+ghost use Rattle.mx_check.specs.Harts.{new_hart, no_hart, announced, heard_by, drops, finished, leaves_domain, halts, has_heard};
+ghost use Rattle.mx_check.specs.Looks.{found, after_caches, after_list, after_walk, with_domain, flight_bars};
 ghost use Rattle.mx_check.specs.Calls.{news_of};
 
 use crate::Flight;
@@ -78,7 +78,7 @@ impl<const N: usize> Part<N> {
     pub fn answer(&mut self, place: u32, domain: u32, word: u32) -> Option<Perm>
         requires { place < 32 }
         ensures answer { result ≡ option_map (λ s. s.perm) (found place domain word self.old.cache) }
-        ensures after { self.new ≡ asked place domain word self.old }
+        ensures after { self.new ≡ after_caches place domain word self.old }
     {
         self.domain = Some(domain);
         match self.places.find(place, word) {
@@ -94,7 +94,7 @@ impl<const N: usize> Part<N> {
     fn list_answer(&mut self, place: u32, domain: u32, word: u32) -> Option<Perm>
         requires { place < 32 }
         ensures answer { result ≡ option_map (λ s. s.perm) (found_kept self.old.cache.kept domain word) }
-        ensures after { self.new ≡ listed place domain word self.old }
+        ensures after { self.new ≡ after_list place domain word self.old }
     {
         match self.kept.find(domain, word) {
             Some(newest) => {
@@ -109,7 +109,7 @@ impl<const N: usize> Part<N> {
     /// Keeps what a walk found, unless it is barred, and counts the walk.
     pub fn keep(&mut self, place: u32, domain: u32, span: Span, barred: bool)
         requires { place < 32 }
-        ensures { self.new ≡ walked N place domain span barred self.old }
+        ensures { self.new ≡ after_walk N place domain span barred self.old }
     {
         self.counts.walks = raised(self.counts.walks);
         if !barred {
@@ -160,7 +160,7 @@ impl<const N: usize> Part<N> {
     }
 
     /// Whether a span meets the range of the call in flight, where the hart `by` has heard it.
-    pub fn bars(&self, by: u32, span: &Span) -> bool
+    pub fn hart_bars(&self, by: u32, span: &Span) -> bool
         requires { by < 4 }
         ensures { result ≡ flight_bars by span.now self.now.flight }
     {
@@ -202,7 +202,7 @@ impl<const N: usize> Part<N> {
 
     /// Empties the places, and keeps no domain.
     pub fn leave(&mut self)
-        ensures { self.new ≡ leaves self.old }
+        ensures { self.new ≡ leaves_domain self.old }
     {
         self.places.clear();
         self.domain = None;

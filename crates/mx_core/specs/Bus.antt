@@ -1,14 +1,14 @@
 -- What a bus is: bytes behind a map, and what touches it.
-use Rattle.std.specs.Prelude.{◌≡◌, ℕ, ◌-◌, Bool, not, ◌⊎◌, List, [], ◌∷◌}
+use Rattle.std.specs.Prelude.{◌≡◌, ℕ, ◌-◌, Bool, ◌⊎◌, List, [], ◌∷◌}
 use Rattle.mx_words.specs.declared.perm.Perm.{Perm}
 use Rattle.mx_words.specs.declared.perm.Access.{Access}
-use Rattle.mx_words.specs.Rights.{allows}
+use Rattle.mx_words.specs.Rights.{denies}
 use Rattle.mx_words.specs.Ranges.{ram_base}
 use Rattle.mx_words.specs.Bytes.{number_at, put_at}
 
--- whether a map, the permission at each address, denies an access
+-- whether a map, the permission at each address, denies an access: `denies` as a word of its own between the layers
 unfoldable pub denied : (ℕ → Perm) → ℕ → Access → Bool
-denied perm address access = not (allows (perm address) access)
+denied perm address access = denies perm address access
 
 -- the number that the bytes at an address hold
 unfoldable pub load_at : List ℕ → ℕ → ℕ → ℕ

@@ -4,7 +4,7 @@ use Rattle.mx_words.specs.declared.perm.Perm.{Perm}
 use Rattle.mx_words.specs.declared.perm.Access.TheVariants.{Read, Write, Execute}
 use Rattle.mx_isa.specs.declared.inst.Inst.{Inst}
 use Rattle.mx_isa.specs.Table.{decoded}
-use Rattle.mx_model.specs.Effect.{Effect, Goes, Faults, Loads, Stores, Calls, Leaves, effect, written, next, load_size, loaded}
+use Rattle.mx_model.specs.Effect.{Effect, Goes, Faults, Loads, Stores, Calls, Jumps, effect, by_target, written, next, load_size, loaded}
 use Rattle.mx_core.specs.declared.outcome.Outcome.{Outcome}
 use Rattle.mx_core.specs.declared.outcome.Outcome.TheVariants.{Next, Trap, Call, Back}
 use Rattle.mx_core.specs.Bus.{denied, load_at, store_at, Touch}
@@ -34,7 +34,7 @@ outcome_of perm pc returns (Faults cause value) = trap cause value
 outcome_of perm pc returns (Loads place address width rd) = if denied perm address Read then trap 5 address else Next (next pc)
 outcome_of perm pc returns (Stores place address size value) = if denied perm address Write then trap 7 address else Next (next pc)
 outcome_of perm pc returns Calls = Call
-outcome_of perm pc returns (Leaves rd target) = if returns then Back rd target else (if target % 4 == 0 then Next target else trap 0 target)
+outcome_of perm pc returns (Jumps rd target) = if returns then Back rd target else by_target target (Next target) (trap 0 target)
 
 -- the registers after an effect
 unfoldable pub regs_after : (ℕ → Perm) → List ℕ → List ℕ → ℕ → Bool → Effect → List ℕ
@@ -43,7 +43,7 @@ regs_after perm bytes regs pc returns (Faults cause value) = regs
 regs_after perm bytes regs pc returns (Loads place address width rd) = if denied perm address Read then regs else written regs rd (loaded width (load_at bytes address (load_size width)))
 regs_after perm bytes regs pc returns (Stores place address size value) = regs
 regs_after perm bytes regs pc returns Calls = regs
-regs_after perm bytes regs pc returns (Leaves rd target) = if returns then regs else (if target % 4 == 0 then written regs rd (next pc) else regs)
+regs_after perm bytes regs pc returns (Jumps rd target) = if returns then regs else by_target target (written regs rd (next pc)) regs
 
 -- RAM's bytes after an effect
 unfoldable pub bytes_after : (ℕ → Perm) → List ℕ → Effect → List ℕ
@@ -52,7 +52,7 @@ bytes_after perm bytes (Faults cause value) = bytes
 bytes_after perm bytes (Loads place address width rd) = bytes
 bytes_after perm bytes (Stores place address size value) = if denied perm address Write then bytes else store_at bytes address size value
 bytes_after perm bytes Calls = bytes
-bytes_after perm bytes (Leaves rd target) = bytes
+bytes_after perm bytes (Jumps rd target) = bytes
 
 -- the touch of an effect's access
 unfoldable pub touches_of : Effect → List Touch
@@ -61,7 +61,7 @@ touches_of (Faults cause value) = []
 touches_of (Loads place address width rd) = record { place = place; address = address; kind = Read } ∷ []
 touches_of (Stores place address size value) = record { place = place; address = address; kind = Write } ∷ []
 touches_of Calls = []
-touches_of (Leaves rd target) = []
+touches_of (Jumps rd target) = []
 
 -- the fetch's touch, at place 0
 abbrev pub fetch_touch : ℕ → Touch

@@ -1,7 +1,7 @@
 -- A live block among others that lie apart: put in, found, and taken out.
 use Rattle.std.proofs.Common.{ℕ, ◌≡◌, ◌+◌, ◌<◌, ◌≤◌, List, [], ◌∷◌, ◌++◌, Some, refl, ap, arith}
 use Rattle.std.proofs.lemmas.Bool.{ne_eqb, eq-eqb, lt-ltb, le-ltb}
-use Rattle.mx_words.specs.FirstFit.{Area, with_block, without_block, block_at}
+use Rattle.mx_words.specs.FirstFit.{Area, with_block, without_block, block_words}
 use Rattle.mx_words.specs.FirstFit.{AreApart}
 use Rattle.mx_heap.proofs.RoomLaws.{apart-le}
 
@@ -16,7 +16,7 @@ with_block_between low mid high b (x ∷ xs) ys h le some k =
     rw (le-ltb b.first x.first above) (ap (λ (bs : List Area). x ∷ bs) (with_block_between (x.first + x.count) mid high b xs ys h.2 le some k))
 
 -- a block is found where it begins
-pub block_at_between : (low mid : ℕ) (b : Area) (xs ys : List Area) → AreApart low mid xs → mid ≤ b.first → block_at (xs ++ b ∷ ys) b.first ≡ Some b.count
+pub block_at_between : (low mid : ℕ) (b : Area) (xs ys : List Area) → AreApart low mid xs → mid ≤ b.first → block_words (xs ++ b ∷ ys) b.first ≡ Some b.count
 block_at_between low mid b [] ys h le = rw (eq-eqb b.first b.first refl) refl
 block_at_between low mid b (x ∷ xs) ys h le =
     let end : x.first + x.count ≤ mid = apart-le (x.first + x.count) mid xs h.2 in

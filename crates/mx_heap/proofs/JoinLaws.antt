@@ -6,7 +6,7 @@ use Rattle.std.proofs.lemmas.Bool.{cases_Bool, lt-ltb, eqb-true, and_parts, true
 use Rattle.std.proofs.lemmas.List.{append_assoc, get_or_at, set_at, length_push, get_or-append_right, append-nil}
 use Rattle.std.proofs.lemmas.List.Edits.{remove-append_right}
 use Rattle.std.proofs.lemmas.List.Quantifiers.{position-Some}
-use Rattle.mx_words.specs.FirstFit.{Area, without_block, block_at}
+use Rattle.mx_words.specs.FirstFit.{Area, without_block, block_words}
 use Rattle.mx_heap.specs.declared.parts.Part.{Part}
 use Rattle.mx_words.specs.FirstFit.{AreApart}
 use Rattle.mx_heap.specs.Places.{Fill, blocks_of, part_at, wall, hole, hole_words, without_hole, joined, is_block_at}
@@ -161,7 +161,7 @@ pub record AfterJoin (low high : ℕ) (ps : List Part) (i : ℕ) : Type 0 where
   pub fewer : length (blocks_of (joined ps i)) + 1 ≡ length (blocks_of ps)
   pub before : hole_words ps (i - 1) ≤ (part_at ps i).first
   pub words : hole_words ps (i - 1) + (part_at ps i).count + hole_words ps (i + 1) ≤ high
-  pub found : block_at (blocks_of ps) (part_at ps i).first ≡ Some (part_at ps i).count
+  pub found : block_words (blocks_of ps) (part_at ps i).first ≡ Some (part_at ps i).count
 
 pub after_join : (low high : ℕ) (ps : List Part) (i : ℕ) → Fill low high true ps → i < length ps → (part_at ps i).live ≡ true → AfterJoin low high ps i
 after_join low high ps i fill lt live =
@@ -226,10 +226,10 @@ standing low high ps first i fill e =
 
 -- where no live part begins at a word, no block does
 absent : (ps : List Part) (first : ℕ) → ((k : ℕ) → k < length ps → is_block_at first (part_at ps k) ≡ false) →
-    (block_at (blocks_of ps) first ≡ None) × (without_block first (blocks_of ps) ≡ blocks_of ps)
+    (block_words (blocks_of ps) first ≡ None) × (without_block first (blocks_of ps) ≡ blocks_of ps)
 absent [] first h = (refl, refl)
 absent (p ∷ ps) first h =
-    let rest : (block_at (blocks_of ps) first ≡ None) × (without_block first (blocks_of ps) ≡ blocks_of ps) = absent ps first (λ k lt. h (suc k) (omega arith)) in
+    let rest : (block_words (blocks_of ps) first ≡ None) × (without_block first (blocks_of ps) ≡ blocks_of ps) = absent ps first (λ k lt. h (suc k) (omega arith)) in
     ⊎_elim
     (λ (t : p.live ≡ true).
     let here : is_block_at first p ≡ false = h 0 (omega arith) in
@@ -239,5 +239,5 @@ absent (p ∷ ps) first h =
     (cases_Bool p.live)
 
 pub no_block : (ps : List Part) (first : ℕ) → position (is_block_at first) ps ≡ None →
-    (block_at (blocks_of ps) first ≡ None) × (without_block first (blocks_of ps) ≡ blocks_of ps)
+    (block_words (blocks_of ps) first ≡ None) × (without_block first (blocks_of ps) ≡ blocks_of ps)
 no_block ps first e = absent ps first (position_none (is_block_at first) ps e)

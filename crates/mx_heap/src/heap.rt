@@ -37,7 +37,7 @@ impl Model for Heap {
 }
 
 impl Heap {
-    ghost use Rattle.mx_words.specs.FirstFit.{place, with_block, without_block, block_at, most_blocks};
+    ghost use Rattle.mx_words.specs.FirstFit.{place, with_block, without_block, block_words, most_blocks};
     ghost use Rattle.mx_heap.specs.HeapState.{IsHeap, LiesIn, may_live, area_of};
 
     /// A heap over the RAM words `first` to `first + count - 1`, which end at most at 2^24, with no live block. An area
@@ -105,7 +105,7 @@ impl Heap {
     /// Ends the live block that begins at word `first`, and tells its number of words. `None` exactly where no live block
     /// begins there; then nothing changes.
     pub fn free(&mut self, first: u32) -> Option<u32>
-        ensures count { result ≡ block_at self.old.blocks first }
+        ensures count { result ≡ block_words self.old.blocks first }
         ensures inside { IfSome result (λ n. (0 < n) × LiesIn self.old.area first n) }
         ensures ended { self.new ≡ record self.old { blocks = without_block first self.old.blocks } }
         ensures unchanged { IfNone result (self.new ≡ self.old) }
@@ -122,7 +122,7 @@ impl Heap {
 
     /// The number of words of the live block that begins at word `first`. `None` exactly where there is none.
     pub fn block(&self, first: u32) -> Option<u32>
-        ensures count { result ≡ block_at self.now.blocks first }
+        ensures count { result ≡ block_words self.now.blocks first }
         ensures inside { IfSome result (λ n. (0 < n) × LiesIn self.now.area first n) }
     {
         match block_place(&self.parts, first) {

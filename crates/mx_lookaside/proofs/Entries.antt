@@ -4,7 +4,7 @@ use Rattle.std.specs.Option.{option_map_or}
 use Rattle.std.proofs.lemmas.List.{at_drop_more, get_or_default}
 use Rattle.std.proofs.lemmas.List.Filters.{FiltersInPlace, FiltersInPlace-more_set, FiltersInPlace-more_no}
 use Rattle.mx_words.specs.declared.perm.Span.{Span}
-use Rattle.mx_words.specs.Caches.{Entry, answers, found_kept}
+use Rattle.mx_words.specs.Caches.{Entry, is_for, found_kept}
 use Rattle.mx_lookaside.specs.Window.{window}
 use Rattle.mx_lookaside.proofs.Ring.{length-window, get_or-window, set-window}
 
@@ -12,21 +12,21 @@ module _ (domain word k n : ℕ) (slots : List Entry) (start : k < 64) (fits : n
   -- what the entries from the i-th on answer, by what the entry in its slot does
   from_here : Bool → Option Span
   from_here b =
-      option_map_or (λ (e : Entry). Some e.1) (cond b (Some (get_or slots ((k + i) % 64) d)) (find (answers domain word) (drop (i + 1) (window k n slots)))) None
+      option_map_or (λ (e : Entry). Some e.1) (cond b (Some (get_or slots ((k + i) % 64) d)) (find (is_for domain word) (drop (i + 1) (window k n slots)))) None
 
-  entry_there : found_kept (drop i (window k n slots)) domain word ≡ from_here (answers domain word (get_or slots ((k + i) % 64) d))
+  entry_there : found_kept (drop i (window k n slots)) domain word ≡ from_here (is_for domain word (get_or slots ((k + i) % 64) d))
   unfolding from_here
   entry_there =
       at_drop_more (λ (es : List Entry). found_kept es domain word) (window k n slots) i d (omega (arith, length-window k n slots start fits long))
-      ∙ ap (λ (e : Entry). option_map_or (λ (e : Entry). Some e.1) (cond (answers domain word e) (Some e) (find (answers domain word) (drop (i + 1) (window k n slots)))) None) (get_or-window k n slots start fits long i d in_use)
+      ∙ ap (λ (e : Entry). option_map_or (λ (e : Entry). Some e.1) (cond (is_for domain word e) (Some e) (find (is_for domain word) (drop (i + 1) (window k n slots)))) None) (get_or-window k n slots start fits long i d in_use)
 
   -- an entry that answers is the newest that does
-  pub answered : answers domain word (get_or slots ((k + i) % 64) d) ≡ true → found_kept (drop i (window k n slots)) domain word ≡ Some (get_or slots ((k + i) % 64) d).1
+  pub answered : is_for domain word (get_or slots ((k + i) % 64) d) ≡ true → found_kept (drop i (window k n slots)) domain word ≡ Some (get_or slots ((k + i) % 64) d).1
   unfolding from_here
   answered hit = entry_there ∙ ap from_here hit
 
   -- an entry that doesn't leaves the answer to the older ones
-  pub passed : answers domain word (get_or slots ((k + i) % 64) d) ≡ false → found_kept (drop i (window k n slots)) domain word ≡ found_kept (drop (i + 1) (window k n slots)) domain word
+  pub passed : is_for domain word (get_or slots ((k + i) % 64) d) ≡ false → found_kept (drop i (window k n slots)) domain word ≡ found_kept (drop (i + 1) (window k n slots)) domain word
   unfolding from_here
   passed miss = entry_there ∙ ap from_here miss
 

@@ -1,7 +1,7 @@
 //! The entries of one hart, in a ring of slots.
 
 ghost use Rattle.std.specs.Prelude.{◌≡◌, ◌≤◌, [], length};
-ghost use Rattle.mx_words.specs.Caches.{answers, found_kept, kept_with, kept_without};
+ghost use Rattle.mx_words.specs.Caches.{is_for, found_kept, kept_with, kept_without};
 
 use mx_words::{Perm, Span};
 use std::marker::Model;
@@ -98,7 +98,7 @@ impl<const N: usize> Lookaside<N> {
 
 /// Whether the entry is the domain's and its span covers `word`.
 fn answers(entry: &(u32, Span), domain: u32, word: u32) -> bool
-    ensures { result ≡ answers domain word entry.now }
+    ensures { result ≡ is_for domain word entry.now }
 {
     entry.0 == domain && entry.1.covers(word)
 }

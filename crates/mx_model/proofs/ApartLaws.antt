@@ -7,9 +7,10 @@ use Rattle.std.proofs.lemmas.Bool.Decides.{eqb_tells}
 use Rattle.mx_words.specs.FirstFit.{AreApart, Area, with_block, without_block}
 use Rattle.mx_words.specs.Ranges.{overlaps}
 use Rattle.mx_model.specs.declared.values.Gate.{Gate}
-use Rattle.mx_model.specs.Gates.{is_at, without_gate}
-use Rattle.mx_model.specs.Valid.{AreSingle}
-use Rattle.mx_model.proofs.ListLaws.{all-append, all-filter}
+use Rattle.mx_model.specs.Gates.{AreSingle, is_at, without_gate}
+use Rattle.std.proofs.lemmas.List.Kept.{AllPairs-filter}
+use Rattle.std.proofs.lemmas.List.Quantifiers.{all_pairs_push}
+use Rattle.mx_model.proofs.ListLaws.{all-in}
 
 -- blocks apart
 pub apart-lower : (low low' high : ℕ) (bs : List Area) → low' ≤ low → AreApart low high bs → AreApart low' high bs
@@ -64,15 +65,12 @@ apart-with c low high (b ∷ bs) l u s e p =
 
 -- gates, at most one for each domain and word
 pub single-filter : (test : Gate → Bool) (gs : List Gate) → AreSingle gs → AreSingle (filter test gs)
-single-filter test [] p = tt
-single-filter test (g ∷ gs) p = elim (test g) as (λ b. AreSingle (cond b (g ∷ filter test gs) (filter test gs))) [
-  | true ↦ (all-filter (λ h. is_at g.domain g.word h ≡ false) test gs p.0, single-filter test gs p.1)
-  | false ↦ single-filter test gs p.1
-]
+single-filter test gs p = AllPairs-filter (λ (g h : Gate). is_at g.domain g.word h ≡ false) test gs p
 
 pub single-append : (g : Gate) (gs : List Gate) → AllByRecursion (λ h. is_at h.domain h.word g ≡ false) gs → AreSingle gs → AreSingle (gs ++ g ∷ [])
-single-append g [] q p = (tt, tt)
-single-append g (h ∷ hs) q p = (all-append (λ x. is_at h.domain h.word x ≡ false) hs g p.0 q.0, single-append g hs q.1 p.1)
+single-append g gs q p =
+    all_pairs_push (λ (g h : Gate). is_at g.domain g.word h ≡ false) gs g p
+    (λ k d l. all-in (λ (h : Gate). is_at h.domain h.word g ≡ false) gs d q k l)
 
 -- equal numbers
 eq-same : (m n : ℕ) → m ≡ n → (m == n) ≡ true

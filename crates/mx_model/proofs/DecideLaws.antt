@@ -15,37 +15,37 @@ use Rattle.mx_model.specs.declared.values.Call.{Call}
 use Rattle.mx_model.specs.declared.values.Frame.{Frame}
 use Rattle.mx_model.specs.declared.values.Gate.{Gate}
 use Rattle.mx_model.specs.Checks.{arg, is_ready}
-use Rattle.mx_model.specs.Effect.{Effect, Goes, Faults, Loads, Stores, Calls, Leaves, effect, reg, written, next, load_size, loaded, jumps}
+use Rattle.mx_model.specs.Effect.{Effect, Goes, Faults, Loads, Stores, Calls, Jumps, effect, reg, written, next, load_size, loaded}
 use Rattle.mx_model.specs.Gates.{call_gate, call_target, gate_at, is_at, most_frames, top}
 use Rattle.mx_model.specs.Reads.{Reads}
 use Rattle.mx_model.specs.State.{Core, Hart, Status, Running, Waiting, Halted, hart_at, module_at}
-use Rattle.mx_model.specs.Turn.{Deed, Rests, Waits, Serves, Asks, Traps, Bounces, Crosses, Returns, Runs, Puts}
+use Rattle.mx_model.specs.Turn.{Action, Rests, Waits, Serves, Asks, Traps, Bounces, Crosses, Returns, Runs, Writes}
 use Rattle.mx_model.specs.Valid.{IsModule, IsPc, IsRegisters, IsFrame, IsCall, IsStatus, IsHart, IsGate, IsValid}
 use Rattle.mx_model.proofs.ListLaws.{all-find, all-last, number-one, number-two, number-four}
-use Rattle.mx_model.proofs.RegisterLaws.{registers-written, small-loaded, pc-next, IsCause, IsEffect, effect-valid, effect-jumps}
-use Rattle.mx_model.specs.Turn.{Decided, without_look, traps, is_denied, call_gate_at, is_return_at, load_at, at_gate, returned_over, at_return, call_of, plain_deed, by_effect, by_word, fetches, runs_at, runs_in, by_status, decide}
+use Rattle.mx_model.proofs.RegisterLaws.{registers-written, small-loaded, pc-next, IsCause, IsEffect, effect-valid, small-plus}
+use Rattle.mx_model.specs.Turn.{Decided, without_look, traps, is_denied, call_gate_at, is_return_at, load_at, at_gate, returned_over, at_return, call_of, jump_action, by_effect, by_word, fetches, runs_at, runs_in, by_status, decide}
 use Rattle.mx_model.proofs.ValidParts.{AreBytes}
 
--- what each deed needs to keep hart h valid
-abbrev pub IsDeed : ℕ → ℕ → Hart → Deed → Type 0
-IsDeed modules h hart Rests = Unit {0}
-IsDeed modules h hart Waits = Unit {0}
-IsDeed modules h hart (Serves call) = IsCall modules h call
-IsDeed modules h hart (Asks call) = call ≡ call_of h hart
-IsDeed modules h hart (Traps cause value) = IsCause cause
-IsDeed modules h hart Bounces = IsPc (reg hart.regs 1)
-IsDeed modules h hart (Crosses target) = IsModule modules target × IsPc (reg hart.regs 1) × (length hart.frames < most_frames)
-IsDeed modules h hart (Returns rd frame) = IsFrame modules frame
-IsDeed modules h hart (Runs regs pc) = IsRegisters regs × IsPc pc
-IsDeed modules h hart (Puts address size value) = Unit {0}
+-- what each action needs to keep hart h valid
+abbrev pub IsAction : ℕ → ℕ → Hart → Action → Type 0
+IsAction modules h hart Rests = Unit {0}
+IsAction modules h hart Waits = Unit {0}
+IsAction modules h hart (Serves call) = IsCall modules h call
+IsAction modules h hart (Asks call) = call ≡ call_of h hart
+IsAction modules h hart (Traps cause value) = IsCause cause
+IsAction modules h hart Bounces = IsPc (reg hart.regs 1)
+IsAction modules h hart (Crosses target) = IsModule modules target × IsPc (reg hart.regs 1) × (length hart.frames < most_frames)
+IsAction modules h hart (Returns rd frame) = IsFrame modules frame
+IsAction modules h hart (Runs regs pc) = IsRegisters regs × IsPc pc
+IsAction modules h hart (Writes address size value) = Unit {0}
 
--- whether a deed leaves hart h as it is, where there may be no such hart
-deed-choice : (modules h : ℕ) (hart : Hart) (b : Bool) (d e : Deed) → IsDeed modules h hart d → IsDeed modules h hart e → IsDeed modules h hart (cond b d e)
-deed-choice modules h hart true d e p q = p
-deed-choice modules h hart false d e p q = q
+-- whether a action leaves hart h as it is, where there may be no such hart
+action-choice : (modules h : ℕ) (hart : Hart) (b : Bool) (d e : Action) → IsAction modules h hart d → IsAction modules h hart e → IsAction modules h hart (cond b d e)
+action-choice modules h hart true d e p q = p
+action-choice modules h hart false d e p q = q
 
 decided-choice : (modules h : ℕ) (hart : Hart) (b : Bool) (d e : Decided) →
-    (b ≡ true → IsDeed modules h hart d.deed) → (b ≡ false → IsDeed modules h hart e.deed) → IsDeed modules h hart (if b then d else e).deed
+    (b ≡ true → IsAction modules h hart d.action) → (b ≡ false → IsAction modules h hart e.action) → IsAction modules h hart (if b then d else e).action
 decided-choice modules h hart true d e p q = p refl
 decided-choice modules h hart false d e p q = q refl
 
@@ -54,9 +54,9 @@ not-false : (b : Bool) → not b ≡ false → b ≡ true
 not-false true e = refl
 not-false false e = sym e
 
-deed-at_gate : (c : Core) (h : ℕ) (hart : Hart) (target : ℕ) → IsRegisters hart.regs → IsModule (length c.modules) target →
-    IsDeed (length c.modules) h hart (at_gate c hart target).deed
-deed-at_gate c h hart target r t =
+action-at_gate : (c : Core) (h : ℕ) (hart : Hart) (target : ℕ) → IsRegisters hart.regs → IsModule (length c.modules) target →
+    IsAction (length c.modules) h hart (at_gate c hart target).action
+action-at_gate c h hart target r t =
     let x1 = reg hart.regs 1 in
     let pc : not (x1 % 4 == 0) ≡ false → IsPc x1 = λ e. record { aligned = eqb-true (x1 % 4) 0 (not-false (x1 % 4 == 0) e); small = r.small 1 } in
     decided-choice (length c.modules) h hart (not (x1 % 4 == 0)) (traps 19 x1) _ (λ e. lit< tt) (λ e.
@@ -65,25 +65,24 @@ deed-at_gate c h hart target r t =
     (λ f. (t, pc e, leb-false most_frames (length hart.frames) f))))
 
 -- at a return gate
-deed-returned_over : (modules h : ℕ) (hart : Hart) (rd target : ℕ) (frame : Frame) → IsFrame modules frame → IsDeed modules h hart (returned_over rd target frame)
-deed-returned_over modules h hart rd target frame p = deed-choice modules h hart (frame.back == target) (Returns rd frame) (Traps 17 target) p (lit< tt)
+action-returned_over : (modules h : ℕ) (hart : Hart) (rd target : ℕ) (frame : Frame) → IsFrame modules frame → IsAction modules h hart (returned_over rd target frame)
+action-returned_over modules h hart rd target frame p = action-choice modules h hart (frame.back == target) (Returns rd frame) (Traps 17 target) p (lit< tt)
 
-deed-over : (modules h : ℕ) (hart : Hart) (rd target : ℕ) (o : Option Frame) → IfSome o (IsFrame modules) →
-    IsDeed modules h hart (option_map_or (returned_over rd target) o (Traps 18 target))
-deed-over modules h hart rd target None p = lit< tt
-deed-over modules h hart rd target (Some frame) p = deed-returned_over modules h hart rd target frame p
+action-over : (modules h : ℕ) (hart : Hart) (rd target : ℕ) (o : Option Frame) → IfSome o (IsFrame modules) →
+    IsAction modules h hart (option_map_or (returned_over rd target) o (Traps 18 target))
+action-over modules h hart rd target None p = lit< tt
+action-over modules h hart rd target (Some frame) p = action-returned_over modules h hart rd target frame p
 
-deed-at_return : (modules h : ℕ) (hart : Hart) (rd target : ℕ) → IsHart modules h hart → IsDeed modules h hart (at_return hart rd target)
-deed-at_return modules h hart rd target p = deed-over modules h hart rd target (top hart.frames) (all-last (IsFrame modules) hart.frames None p.frames tt)
+action-at_return : (modules h : ℕ) (hart : Hart) (rd target : ℕ) → IsHart modules h hart → IsAction modules h hart (at_return hart rd target)
+action-at_return modules h hart rd target p = action-over modules h hart rd target (top hart.frames) (all-last (IsFrame modules) hart.frames None p.frames tt)
 
--- by an instruction's effect
-deed-plain : (modules h : ℕ) (hart : Hart) (e : Effect) → IsEffect e → IsDeed modules h hart (plain_deed e)
-deed-plain modules h hart (Goes regs pc) p = p
-deed-plain modules h hart (Faults cause value) p = p
-deed-plain modules h hart (Loads a b w rd) p = tt
-deed-plain modules h hart (Stores a b s v) p = tt
-deed-plain modules h hart Calls p = tt
-deed-plain modules h hart (Leaves rd target) p = tt
+-- at a jump that isn't a return
+action-jump : (modules h : ℕ) (hart : Hart) (rd target : ℕ) → IsHart modules h hart → target < 2 ^ 32 → IsAction modules h hart (jump_action hart rd target)
+action-jump modules h hart rd target p q = elim (target % 4 == 0) as (λ b. (target % 4 == 0) ≡ b →
+    IsAction modules h hart (cond b (Runs (written hart.regs rd (next hart.pc)) target) (Traps 0 target))) [
+      | true ↦ λ e. (registers-written hart.regs rd (next hart.pc) p.regs (small-plus hart.pc 4), record { aligned = eqb-true (target % 4) 0 e; small = q })
+      | false ↦ λ e. lit< tt
+    ] refl
 
 number-load : (ram : List ℕ) (k : ℕ) (width : LoadWidth) → AreBytes ram → number_at ram k (load_size width) < 256 ^ load_size width
 number-load ram k Lb h = number-one ram k h
@@ -102,40 +101,40 @@ call-of modules h hart p = record { hart = refl; domain = p.domain; small = argu
     arguments (suc (suc (suc zero))) = p.regs.small 13
     arguments (suc (suc (suc (suc i)))) = lit< tt
 
-deed-by_effect : (r : Reads) (c : Core) (h : ℕ) (hart : Hart) (e : Effect) → IsValid c → IsHart (length c.modules) h hart → IsEffect e →
-    IsDeed (length c.modules) h hart (by_effect r c h hart e).deed
-deed-by_effect r c h hart (Goes regs pc) v p q = q
-deed-by_effect r c h hart (Faults cause value) v p q = q
-deed-by_effect r c h hart (Loads a address width rd) v p q =
-    deed-choice (length c.modules) h hart (is_denied r c hart.domain address A.Read) (Traps 5 address)
+action-by_effect : (r : Reads) (c : Core) (h : ℕ) (hart : Hart) (e : Effect) → IsValid c → IsHart (length c.modules) h hart → IsEffect e →
+    IsAction (length c.modules) h hart (by_effect r c h hart e).action
+action-by_effect r c h hart (Goes regs pc) v p q = q
+action-by_effect r c h hart (Faults cause value) v p q = q
+action-by_effect r c h hart (Loads a address width rd) v p q =
+    action-choice (length c.modules) h hart (is_denied r c hart.domain address A.Read) (Traps 5 address)
     (Runs (written hart.regs rd (loaded width (load_at c address (load_size width)))) (next hart.pc)) (lit< tt)
     (registers-written hart.regs rd _ p.regs (small-loaded width _ (number-load c.ram (address - ram_base) width v.ram_bytes)), pc-next hart.pc p.pc)
-deed-by_effect r c h hart (Stores a address size value) v p q =
-    deed-choice (length c.modules) h hart (is_denied r c hart.domain address A.Write) (Traps 7 address) (Puts address size value) (lit< tt) tt
-deed-by_effect r c h hart Calls v p q = refl
-deed-by_effect r c h hart (Leaves rd target) v p q =
-    deed-choice (length c.modules) h hart (is_return_at c hart.domain hart.pc) (at_return hart rd target) (plain_deed (jumps hart.regs hart.pc rd target))
-    (deed-at_return (length c.modules) h hart rd target p)
-    (deed-plain (length c.modules) h hart (jumps hart.regs hart.pc rd target) (effect-jumps hart.regs hart.pc rd target p.regs q))
+action-by_effect r c h hart (Stores a address size value) v p q =
+    action-choice (length c.modules) h hart (is_denied r c hart.domain address A.Write) (Traps 7 address) (Writes address size value) (lit< tt) tt
+action-by_effect r c h hart Calls v p q = refl
+action-by_effect r c h hart (Jumps rd target) v p q =
+    action-choice (length c.modules) h hart (is_return_at c hart.domain hart.pc) (at_return hart rd target) (jump_action hart rd target)
+    (action-at_return (length c.modules) h hart rd target p)
+    (action-jump (length c.modules) h hart rd target p q)
 
-deed-by_word : (r : Reads) (c : Core) (h : ℕ) (hart : Hart) (word : ℕ) (o : Option Inst) → IsValid c → IsHart (length c.modules) h hart → IfSome o (Fits word) →
-    IsDeed (length c.modules) h hart (by_word r c h hart word o).deed
-deed-by_word r c h hart word None v p q = lit< tt
-deed-by_word r c h hart word (Some inst) v p q =
-    deed-by_effect r c h hart (effect inst hart.regs hart.pc) v p (effect-valid inst hart.regs hart.pc q.valid p.regs p.pc)
+action-by_word : (r : Reads) (c : Core) (h : ℕ) (hart : Hart) (word : ℕ) (o : Option Inst) → IsValid c → IsHart (length c.modules) h hart → IfSome o (Fits word) →
+    IsAction (length c.modules) h hart (by_word r c h hart word o).action
+action-by_word r c h hart word None v p q = lit< tt
+action-by_word r c h hart word (Some inst) v p q =
+    action-by_effect r c h hart (effect inst hart.regs hart.pc) v p (effect-valid inst hart.regs hart.pc q.valid p.regs p.pc)
 
-deed-fetches : (r : Reads) (c : Core) (h : ℕ) (hart : Hart) (b : Bool) → IsValid c → IsHart (length c.modules) h hart →
-    IsDeed (length c.modules) h hart (fetches r c h hart b).deed
-deed-fetches r c h hart true v p = lit< tt
-deed-fetches r c h hart false v p =
+action-fetches : (r : Reads) (c : Core) (h : ℕ) (hart : Hart) (b : Bool) → IsValid c → IsHart (length c.modules) h hart →
+    IsAction (length c.modules) h hart (fetches r c h hart b).action
+action-fetches r c h hart true v p = lit< tt
+action-fetches r c h hart false v p =
     let word = load_at c hart.pc 4 in
     let small : word < 2 ^ 32 = number-four c.ram (hart.pc - ram_base) v.ram_bytes in
-    deed-by_word r c h hart word (decoded word) v p (decoded-fits word small)
+    action-by_word r c h hart word (decoded word) v p (decoded-fits word small)
 
-deed-runs_at : (r : Reads) (c : Core) (h : ℕ) (hart : Hart) (o : Option ℕ) → IsValid c → IsHart (length c.modules) h hart →
-    IfSome o (IsModule (length c.modules)) → IsDeed (length c.modules) h hart (runs_at r c h hart o).deed
-deed-runs_at r c h hart (Some target) v p q = deed-at_gate c h hart target p.regs q
-deed-runs_at r c h hart None v p q = deed-fetches r c h hart (is_denied r c hart.domain hart.pc A.Execute) v p
+action-runs_at : (r : Reads) (c : Core) (h : ℕ) (hart : Hart) (o : Option ℕ) → IsValid c → IsHart (length c.modules) h hart →
+    IfSome o (IsModule (length c.modules)) → IsAction (length c.modules) h hart (runs_at r c h hart o).action
+action-runs_at r c h hart (Some target) v p q = action-at_gate c h hart target p.regs q
+action-runs_at r c h hart None v p q = action-fetches r c h hart (is_denied r c hart.domain hart.pc A.Execute) v p
 
 -- the target of a call gate is a module
 target-module : (modules size : ℕ) (g : Gate) → IsGate modules size g → IfSome (call_target g) (IsModule modules)
@@ -150,20 +149,20 @@ target-at c d None v = tt
 target-at c d (Some w) v =
     target-some (length c.modules) c.size (gate_at c.gates d w) (all-find (IsGate (length c.modules) c.size) (is_at d w) c.gates v.gates)
 
-deed-runs_in : (r : Reads) (c : Core) (h : ℕ) (hart : Hart) (b : Bool) → IsValid c → IsHart (length c.modules) h hart →
-    IsDeed (length c.modules) h hart (runs_in r c h hart b).deed
-deed-runs_in r c h hart true v p = lit< tt
-deed-runs_in r c h hart false v p =
-    deed-runs_at r c h hart (call_gate_at c hart.domain hart.pc) v p (target-at c hart.domain (word_of hart.pc c.size) v)
+action-runs_in : (r : Reads) (c : Core) (h : ℕ) (hart : Hart) (b : Bool) → IsValid c → IsHart (length c.modules) h hart →
+    IsAction (length c.modules) h hart (runs_in r c h hart b).action
+action-runs_in r c h hart true v p = lit< tt
+action-runs_in r c h hart false v p =
+    action-runs_at r c h hart (call_gate_at c hart.domain hart.pc) v p (target-at c hart.domain (word_of hart.pc c.size) v)
 
--- a hart that there is decides a valid deed
-deed-by_status : (r : Reads) (c : Core) (h : ℕ) (hart : Hart) (s : Status) → IsValid c → IsHart (length c.modules) h hart → IsStatus h hart s →
-    IsDeed (length c.modules) h hart (by_status r c h hart s).deed
-deed-by_status r c h hart (Halted code) v p q = tt
-deed-by_status r c h hart (Waiting call heard) v p q =
-    deed-choice (length c.modules) h hart (is_ready c h heard) (Serves call) Waits
+-- a hart that there is decides a valid action
+action-by_status : (r : Reads) (c : Core) (h : ℕ) (hart : Hart) (s : Status) → IsValid c → IsHart (length c.modules) h hart → IsStatus h hart s →
+    IsAction (length c.modules) h hart (by_status r c h hart s).action
+action-by_status r c h hart (Halted code) v p q = tt
+action-by_status r c h hart (Waiting call heard) v p q =
+    action-choice (length c.modules) h hart (is_ready c h heard) (Serves call) Waits
     (subst (λ (k : Call). IsCall (length c.modules) h k) (sym q.own) (call-of (length c.modules) h hart p)) tt
-deed-by_status r c h hart Running v p q = deed-runs_in r c h hart (module_at c hart.domain).dead v p
+action-by_status r c h hart Running v p q = action-runs_in r c h hart (module_at c hart.domain).dead v p
 
-pub deed-decide : (r : Reads) (c : Core) (h : ℕ) → IsValid c → h < length c.harts → IsDeed (length c.modules) h (hart_at c h) (decide r c h).deed
-deed-decide r c h v l = deed-by_status r c h (hart_at c h) (hart_at c h).status v (v.harts h l) (v.harts h l).status
+pub action-decide : (r : Reads) (c : Core) (h : ℕ) → IsValid c → h < length c.harts → IsAction (length c.modules) h (hart_at c h) (decide r c h).action
+action-decide r c h v l = action-by_status r c h (hart_at c h) (hart_at c h).status v (v.harts h l) (v.harts h l).status

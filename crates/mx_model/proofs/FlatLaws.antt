@@ -18,7 +18,7 @@ use Rattle.mx_words.specs.Runs.{owner_runs, most_owner_runs}
 use Rattle.mx_words.proofs.OverlayLaws.{map-at, length-map_of, owners-at, length-owners, map-append, owners-append}
 use Rattle.mx_model.specs.Reads.{Reads, Change, reads, flat_reads, grants_of, map_in}
 use Rattle.mx_model.specs.Run.{after, flat_after, turn, flat_turn, made_of, flat_made, grants_after, maps_after, owners_after}
-use Rattle.mx_model.specs.State.{Core, State, Flat, words, flat}
+use Rattle.mx_model.specs.State.{Core, State, Flat, flat}
 use Rattle.mx_model.specs.Turn.{Made, turned}
 use Rattle.mx_model.proofs.KeepLaws.{size-turned}
 
@@ -62,7 +62,7 @@ answering perm owner walk fits few_runs = record { perm = perm; owner = owner; w
 
 pub reads-flat : (s : State) → reads s ≡ flat_reads (flat s)
 reads-flat s =
-    let size = words s.core in
+    let size = s.core.size in
     let f = flat s in
     let r = reads s in
     let q = flat_reads (flat s) in

@@ -10,15 +10,16 @@ use Rattle.mx_words.specs.Bytes.{number_at, put_at, cleared_at}
 use Rattle.mx_words.specs.Rights.{allows}
 use Rattle.mx_words.specs.Caches.{Cache}
 use Rattle.mx_words.specs.FirstFit.{Area}
+use Rattle.mx_words.specs.FirstRow.{first_row}
 use Rattle.mx_model.specs.declared.values.Call.{Call}
 use Rattle.mx_model.specs.declared.values.Frame.{Frame}
 use Rattle.mx_model.specs.declared.values.Gate.{Gate}
-use Rattle.mx_model.specs.Checks.{Look, arg, hears, looked, looked_all, leaves, drops, call_range}
+use Rattle.mx_model.specs.Checks.{Look, arg, hears, looked, looked_all, empties_places, drops, call_range, is_halted}
 use Rattle.mx_model.specs.Effect.{next}
 use Rattle.mx_model.specs.Reads.{Reads}
-use Rattle.mx_model.specs.Serve.{Served, Service, Exit, Write, Grant, RevokeAll, Transfer, Alloc, Free, AddGate, RemoveGate, AddReturnGate, Query, Self, Exchange, Unknown, judged, answers, serve, served_by, service, ended, write_from, written_out, write_looks, exchange_from, exchanged, with_blocks, look_of, arg_word, first_failed, allocated, alloc_place, alloc_from}
+use Rattle.mx_model.specs.Serve.{Served, Service, Exit, Write, Grant, RevokeAll, Transfer, Alloc, Free, AddGate, RemoveGate, AddReturnGate, Query, Self, Exchange, Unknown, judged, answers, serve, served_by, service, ended, write_from, written_out, write_looks, exchange_from, exchanged, with_blocks, look_of, arg_word, allocated, alloc_place, alloc_from}
 use Rattle.mx_model.specs.State.{Core, Hart, Module, hart_at, with_hart, with_cache, with_module, module_at}
-use Rattle.mx_model.specs.Turn.{Deed, Rests, Waits, Serves, Asks, Traps, Bounces, Crosses, Returns, Runs, Puts, Decided, acted, asked, served, done, trapped, given_up, killed, over_frame, halted, with_regs, enacted, decide, heard_first, counted, is_halted, turned, is_served_now, answered}
+use Rattle.mx_model.specs.Turn.{Action, Rests, Waits, Serves, Asks, Traps, Bounces, Crosses, Returns, Runs, Writes, Decided, acted, asked, served, done, trapped, given_up, killed, over_frame, halted, with_regs, enacted, decide, heard_first, counted, turned, is_served_now, answered}
 
 -- what is the same in two cores
 pub record Keeps (c e : Core) : Type 0 where
@@ -79,8 +80,8 @@ keeps-looked_all r h [] c = keeps-refl c
 keeps-looked_all r h (l ∷ ls) c =
     keeps-trans c (looked r h c l) (looked_all r h ls (looked r h c l)) (keeps-looked r h c l) (keeps-looked_all r h ls (looked r h c l))
 
-keeps-leaves : (h : ℕ) (c : Core) → Keeps c (leaves h c)
-keeps-leaves h c = keeps-cache h _ c
+keeps-empties_places : (h : ℕ) (c : Core) → Keeps c (empties_places h c)
+keeps-empties_places h c = keeps-cache h _ c
 
 keeps-drops : (h : ℕ) (range : ℕ × ℕ) (c : Core) → Keeps c (drops h range c)
 keeps-drops h range c = keeps-cache h _ c
@@ -121,7 +122,7 @@ keeps-exchanged r c call =
     let p = keeps-looked_all r call.hart (look_of call.domain (arg_word call) ∷ []) c in
     let ram = put_at c.ram (4 * arg_word call) 4 (arg call 1) in
     let q = keeps-trans c seen (record seen { ram = ram }) p (keeps-ram ram seen) in
-    keeps-judged c seen (first_failed ((not (allows (r.perm call.domain (arg_word call)) A.Write), 12) ∷ []))
+    keeps-judged c seen (first_row ((not (allows (r.perm call.domain (arg_word call)) A.Write), 12) ∷ []))
     (record (answers (record seen { ram = ram }) 0) { a1 = Some (number_at c.ram (4 * arg_word call) 4) }) p q
 
 keeps-exchange_from : (r : Reads) (c : Core) (call : Call) (o : Option ℕ) → Keeps c (exchange_from r c call o).core
@@ -170,7 +171,7 @@ keeps-asked r c h hart call false = keeps-hart h _ c
 
 -- a fault
 keeps-over_frame : (c : Core) (h : ℕ) (hart : Hart) (frame : Frame) (regs : List ℕ) → Keeps c (over_frame c h hart frame regs)
-keeps-over_frame c h hart frame regs = keeps-trans c _ _ (keeps-hart h _ c) (keeps-leaves h _)
+keeps-over_frame c h hart frame regs = keeps-trans c _ _ (keeps-hart h _ c) (keeps-empties_places h _)
 
 keeps-given_up : (c : Core) (h : ℕ) (hart : Hart) (cause : ℕ) (o : Option Frame) → Keeps c (given_up c h hart cause o)
 keeps-given_up c h hart cause None = keeps-hart h _ c
@@ -186,22 +187,22 @@ keeps-trapped : (c : Core) (h : ℕ) (hart : Hart) (cause value : ℕ) → Keeps
 keeps-trapped c h hart cause value =
     keeps-trans c (killed hart.domain cause c) _ (keeps-killed hart.domain cause c) (keeps-given_up (killed hart.domain cause c) h hart cause _)
 
--- a deed
-keeps-acted : (r : Reads) (c : Core) (h : ℕ) (hart : Hart) (deed : Deed) → Keeps c (acted r c h hart deed).core
+-- an action
+keeps-acted : (r : Reads) (c : Core) (h : ℕ) (hart : Hart) (action : Action) → Keeps c (acted r c h hart action).core
 keeps-acted r c h hart Rests = keeps-refl c
 keeps-acted r c h hart Waits = keeps-refl c
 keeps-acted r c h hart (Serves call) = keeps-served r c h hart call
 keeps-acted r c h hart (Asks call) = keeps-asked r c h hart call (is_served_now c h call)
 keeps-acted r c h hart (Traps cause value) = keeps-trapped c h hart cause value
 keeps-acted r c h hart Bounces = keeps-hart h _ c
-keeps-acted r c h hart (Crosses target) = keeps-trans c _ _ (keeps-hart h _ c) (keeps-leaves h _)
+keeps-acted r c h hart (Crosses target) = keeps-trans c _ _ (keeps-hart h _ c) (keeps-empties_places h _)
 keeps-acted r c h hart (Returns rd frame) = keeps-over_frame c h hart frame _
 keeps-acted r c h hart (Runs regs pc) = keeps-hart h _ c
-keeps-acted r c h hart (Puts address size value) = keeps-parts c _ c.modules c.gates _ c.caches refl (length-set c.harts h _) refl
+keeps-acted r c h hart (Writes address size value) = keeps-parts c _ c.modules c.gates _ c.caches refl (length-set c.harts h _) refl
 
 keeps-enacted : (r : Reads) (c : Core) (h : ℕ) (d : Decided) → Keeps c (enacted r c h d).core
 keeps-enacted r c h d =
-    keeps-trans c (looked_all r h d.looks c) _ (keeps-looked_all r h d.looks c) (keeps-acted r (looked_all r h d.looks c) h (hart_at c h) d.deed)
+    keeps-trans c (looked_all r h d.looks c) _ (keeps-looked_all r h d.looks c) (keeps-acted r (looked_all r h d.looks c) h (hart_at c h) d.action)
 
 keeps-heard_first : (c : Core) (h : ℕ) → Keeps c (heard_first c h)
 keeps-heard_first c h = elim (is_halted (hart_at c h).status) as (λ b. Keeps c (cond b c (hears h c))) [

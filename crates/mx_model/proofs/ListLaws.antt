@@ -41,6 +41,11 @@ all-at P [] d h p i = p
 all-at P (x ∷ xs) d h p zero = h.0
 all-at P (x ∷ xs) d h p (suc i) = all-at P xs d h.1 p i
 
+pub all-in : {X : Type 0} (P : X → Type 0) (xs : List X) (d : X) → AllByRecursion P xs → (i : ℕ) → i < length xs → P (get_or xs i d)
+all-in P [] d h i l = absurd (let q : ⊥ = omega (arith, l) in q)
+all-in P (x ∷ xs) d h zero l = h.0
+all-in P (x ∷ xs) d h (suc i) l = all-in P xs d h.1 i (omega (arith, l))
+
 pub all-find : {X : Type 0} (P : X → Type 0) (test : X → Bool) (xs : List X) → AllByRecursion P xs → IfSome (find test xs) P
 all-find P test [] h = tt
 all-find P test (x ∷ xs) h = elim (test x) as (λ b. IfSome (cond b (Some x) (find test xs)) P) [ true ↦ h.0 | false ↦ all-find P test xs h.1 ]

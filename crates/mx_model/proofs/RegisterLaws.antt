@@ -7,6 +7,7 @@ use Rattle.std.proofs.lemmas.List.{length-set, get_or-set_other}
 use Rattle.std.proofs.lemmas.Bool.{eqb-false}
 use Rattle.std.proofs.lemmas.Nat.{xor_lt, or_lt, and_le_l, mod_below}
 use Rattle.std.proofs.Math.Nat.{div-le_self, mod-le}
+use Rattle.mx_isa.specs.Fields.{extended}
 use Rattle.mx_isa.specs.declared.inst.Inst.{Inst}
 use Rattle.mx_isa.specs.declared.inst.Inst.TheVariants.{Lui, Auipc, Jal, Jalr, Branch, Load, Store, OpImm, Op, Fence, Ecall, Ebreak}
 use Rattle.mx_isa.specs.declared.inst.LoadWidth.{LoadWidth}
@@ -16,7 +17,7 @@ use Rattle.mx_isa.specs.declared.inst.ImmOp.TheVariants.{Addi, Slti, Sltiu, Xori
 use Rattle.mx_isa.specs.declared.inst.RegOp.{RegOp}
 use Rattle.mx_isa.specs.declared.inst.RegOp.TheVariants.{Add, Sub, Sll, Slt, Sltu, Xor, Srl, Sra, Or, And, Mul, Mulh, Mulhsu, Mulhu, Div, Divu, Rem, Remu}
 use Rattle.mx_isa.specs.Ranges.{IsValid as IsValidInst, IsExtended, IsOperand}
-use Rattle.mx_model.specs.Effect.{Effect, Goes, Faults, Loads, Stores, Calls, Leaves, effect, reg, written, plus, next, goes_to, takes, flag, wrapped, right, imm_result, reg_result, loaded, load_size, store_size, holds, jumps}
+use Rattle.mx_model.specs.Effect.{Effect, Goes, Faults, Loads, Stores, Calls, Jumps, effect, reg, written, plus, next, taken, takes, flag, wrapped, right, imm_result, reg_result, loaded, load_size, store_size, holds}
 use Rattle.mx_model.specs.Turn.{saved, saved_registers, restored}
 use Rattle.mx_model.specs.Valid.{IsPc, IsRegisters}
 
@@ -137,7 +138,7 @@ small-reg Remu a b p q = small-choice (b == 0) _ _ p (let e : a % b ≤ a = mod-
 
 -- what a load writes
 pub small-loaded : (width : LoadWidth) (n : ℕ) → n < 256 ^ load_size width → loaded width n < 2 ^ 32
-unfolding loaded
+unfolding loaded extended
 small-loaded Lb n p = small-choice (nat_lt n (2 ^ 7)) _ _ (omega arith) (omega arith)
 small-loaded Lh n p = small-choice (nat_lt n (2 ^ 15)) _ _ (omega arith) (omega arith)
 small-loaded Lw n p = omega arith
@@ -159,16 +160,13 @@ IsEffect (Faults cause value) = IsCause cause
 IsEffect (Loads p address width rd) = Unit {0}
 IsEffect (Stores p address size value) = Unit {0}
 IsEffect Calls = Unit {0}
-IsEffect (Leaves rd target) = target < 2 ^ 32
+IsEffect (Jumps rd target) = target < 2 ^ 32
 
-effect-goes_to : (regs : List ℕ) (target : ℕ) → IsRegisters regs → target < 2 ^ 32 → IsEffect (goes_to regs target)
-effect-goes_to regs target h p = elim (target % 4 == 0) as (λ b. (target % 4 == 0) ≡ b → IsEffect (cond b (Goes regs target) (Faults 0 target))) [
+effect-taken : (regs : List ℕ) (target : ℕ) → IsRegisters regs → target < 2 ^ 32 → IsEffect (taken regs target)
+effect-taken regs target h p = elim (target % 4 == 0) as (λ b. (target % 4 == 0) ≡ b → IsEffect (cond b (Goes regs target) (Faults 0 target))) [
   | true ↦ λ e. (h, record { aligned = eqb-true (target % 4) 0 e; small = p })
   | false ↦ λ e. lit< tt
 ] refl
-
-pub effect-jumps : (regs : List ℕ) (pc rd target : ℕ) → IsRegisters regs → target < 2 ^ 32 → IsEffect (jumps regs pc rd target)
-effect-jumps regs pc rd target h p = effect-goes_to (written regs rd (next pc)) target (registers-written regs rd (next pc) h (small-plus pc 4)) p
 
 effect-takes : (regs : List ℕ) (pc rd v : ℕ) → IsRegisters regs → IsPc pc → v < 2 ^ 32 → IsEffect (takes regs pc rd v)
 effect-takes regs pc rd v h p q = (registers-written regs rd v h q, pc-next pc p)
@@ -198,7 +196,7 @@ effect-valid (Auipc rd imm) regs pc v h p = effect-takes regs pc rd _ h p (small
 effect-valid (Jal rd imm) regs pc v h p = small-plus pc imm
 effect-valid (Jalr rd rs1 imm) regs pc v h p = let e = small-plus (reg regs rs1) imm in omega (arith, e)
 effect-valid (Branch c rs1 rs2 imm) regs pc v h p =
-    effect-choice (holds c (reg regs rs1) (reg regs rs2)) _ _ (effect-goes_to regs (plus pc imm) h (small-plus pc imm)) (h, pc-next pc p)
+    effect-choice (holds c (reg regs rs1) (reg regs rs2)) _ _ (effect-taken regs (plus pc imm) h (small-plus pc imm)) (h, pc-next pc p)
 effect-valid (Load width rd rs1 imm) regs pc v h p =
     effect-choice (plus (reg regs rs1) imm % load_size width == 0) (Loads rs1 (plus (reg regs rs1) imm) width rd) (Faults 4 (plus (reg regs rs1) imm)) tt (lit< tt)
 effect-valid (Store width rs1 rs2 imm) regs pc v h p =

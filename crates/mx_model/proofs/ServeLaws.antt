@@ -12,6 +12,7 @@ use Rattle.mx_words.specs.Bytes.{number_at, put_at, cleared_at}
 use Rattle.mx_words.specs.FirstFit.{AreApart, Area, has_room, with_block, without_block, most_blocks}
 use Rattle.mx_words.specs.Ranges.{overlaps, ram_base, in_ram}
 use Rattle.mx_words.specs.Rights.{number, allows}
+use Rattle.mx_words.specs.FirstRow.{first_row, Row}
 use Rattle.mx_model.specs.declared.values.Call.{Call}
 use Rattle.mx_model.specs.declared.values.Gate.{Gate}
 use Rattle.mx_model.specs.Checks.{Look, arg, looked, looked_all, drops, call_range}
@@ -21,7 +22,7 @@ use Rattle.mx_model.specs.State.{Core, Module, module_at, is_module}
 use Rattle.mx_model.proofs.ApartLaws.{apart-with, apart-without, single-append, single-filter, single-others}
 use Rattle.mx_model.specs.Valid.{IsModule, IsCall, IsGate, IsHome, IsValid}
 use Rattle.mx_model.proofs.ListLaws.{all-append, all-filter, found-passes, length-filter-le, length-filter-lt, length-with_block, length-put_at, bytes-put_at, length-cleared_at, bytes-cleared_at, number-four}
-use Rattle.mx_model.specs.Serve.{Served, Service, Exit, Write, Grant, RevokeAll, Transfer, Alloc, Free, AddGate, RemoveGate, AddReturnGate, Query, Self, Exchange, Unknown, Test, first_failed, judged, answers, code, serve, served_by, service, ended, write_from, written_out, write_looks, exchange_from, exchanged, look_of, arg_word, is_word, no_word, foreign_word, with_blocks, alloc_place, alloc_change, allocated, alloc_from, adds, serve_alloc, serve_free, freed_count, free_change, changes, serve_gate, serve_ungate, serve_return_gate, write_outside, no_range, owns, arg_range, grant_change, revoke_change, meets_heap, give_of}
+use Rattle.mx_model.specs.Serve.{Served, Service, Exit, Write, Grant, RevokeAll, Transfer, Alloc, Free, AddGate, RemoveGate, AddReturnGate, Query, Self, Exchange, Unknown, judged, answers, code, serve, served_by, service, ended, write_from, written_out, write_looks, exchange_from, exchanged, look_of, arg_word, is_word, no_word, foreign_word, with_blocks, alloc_place, alloc_change, allocated, alloc_from, adds, serve_alloc, serve_free, freed_count, free_change, changes, serve_gate, serve_ungate, serve_return_gate, write_outside, no_range, owns, arg_range, grant_change, revoke_change, meets_heap, give_of}
 use Rattle.mx_model.proofs.ValidParts.{valid-ram, valid-module, valid-gates, valid-cache, valid-looked_all, home-at}
 
 -- a valid outcome: the state is valid, and the answers are numbers of 32 bits
@@ -31,8 +32,8 @@ pub record IsServed (s : Served) : Type 0 where
   pub a1 : IfSome s.a1 (λ n. n < 2 ^ 32)
 
 -- a test passed
-test-head : (t : Test) (ts : List Test) → first_failed (t ∷ ts) ≡ None → (t.0 ≡ false) × (first_failed ts ≡ None)
-test-head t ts e = elim t.0 as (λ b. (if b then Some t.1 else first_failed ts) ≡ None → (b ≡ false) × (first_failed ts ≡ None)) [
+test-head : (t : Row ℕ) (ts : List (Row ℕ)) → first_row (t ∷ ts) ≡ None → (t.0 ≡ false) × (first_row ts ≡ None)
+test-head t ts e = elim t.0 as (λ b. (if b then Some t.1 else first_row ts) ≡ None → (b ≡ false) × (first_row ts ≡ None)) [
   | true ↦ λ f. absurd (let q : ⊥ = cc in q)
   | false ↦ λ f. (refl, f)
 ] e
@@ -41,12 +42,12 @@ code-small : (n : ℕ) → 0 < n → code n < 2 ^ 32
 code-small n p = omega arith
 
 -- the codes of a list of tests aren't zero
-abbrev AreCodes : List Test → Type 0
-AreCodes tests = AllByRecursion (λ (t : Test). 0 < t.1) tests
+abbrev AreCodes : List (Row ℕ) → Type 0
+AreCodes tests = AllByRecursion (λ (t : Row ℕ). 0 < t.1) tests
 
-codes-failed : (tests : List Test) → AreCodes tests → IfSome (first_failed tests) (λ n. 0 < n)
+codes-failed : (tests : List (Row ℕ)) → AreCodes tests → IfSome (first_row tests) (λ n. 0 < n)
 codes-failed [] p = tt
-codes-failed (t ∷ ts) p = elim t.0 as (λ b. IfSome (if b then Some t.1 else first_failed ts) (λ n. 0 < n)) [ true ↦ p.0 | false ↦ codes-failed ts p.1 ]
+codes-failed (t ∷ ts) p = elim t.0 as (λ b. IfSome (if b then Some t.1 else first_row ts) (λ n. 0 < n)) [ true ↦ p.0 | false ↦ codes-failed ts p.1 ]
 
 served-answers : (c : Core) (a0 : ℕ) → IsValid c → a0 < 2 ^ 32 → IsServed (answers c a0)
 served-answers c a0 v p = record { core = v; a0 = p; a1 = tt }
@@ -56,8 +57,8 @@ served-judged c None s v p q = q refl
 served-judged c (Some n) s v p q = served-answers c (code n) v (code-small n p)
 
 -- calls that change nothing of what is valid
-served-same : (c : Core) (tests : List Test) (s : Served) → IsValid c → AreCodes tests → IsServed s → IsServed (judged c (first_failed tests) s)
-served-same c tests s v p q = served-judged c (first_failed tests) s v (codes-failed tests p) (λ e. q)
+served-same : (c : Core) (tests : List (Row ℕ)) (s : Served) → IsValid c → AreCodes tests → IsServed s → IsServed (judged c (first_row tests) s)
+served-same c tests s v p q = served-judged c (first_row tests) s v (codes-failed tests p) (λ e. q)
 
 arg-small : (modules h : ℕ) (call : Call) (i : ℕ) → IsCall modules h call → arg call i < 2 ^ 32
 arg-small modules h call i p = p.small i
@@ -84,7 +85,7 @@ served-exchanged r c h call v p =
     let w = valid-looked_all r call.hart looks c v in
     let ram = put_at c.ram (4 * arg_word call) 4 (arg call 1) in
     let old = number_at c.ram (4 * arg_word call) 4 in
-    served-judged seen (first_failed ((not (allows (r.perm call.domain (arg_word call)) A.Write), 12) ∷ []))
+    served-judged seen (first_row ((not (allows (r.perm call.domain (arg_word call)) A.Write), 12) ∷ []))
     (record (answers (record seen { ram = ram }) 0) { a1 = Some old }) w (codes-failed ((not (allows (r.perm call.domain (arg_word call)) A.Write), 12) ∷ []) (lit< tt, tt)) (λ e. record {
       core = valid-ram seen ram w (length-put_at 4 c.ram (4 * arg_word call) (arg call 1)) (bytes-put_at 4 c.ram (4 * arg_word call) (arg call 1) v.ram_bytes);
       a0 = lit< tt;
@@ -209,13 +210,13 @@ module-is c d e =
     and-left false y e = e
 
 -- each test of a list that no test fails
-tests-two : (s t : Test) → first_failed (s ∷ t ∷ []) ≡ None → (s.0 ≡ false) × (t.0 ≡ false)
+tests-two : (s t : Row ℕ) → first_row (s ∷ t ∷ []) ≡ None → (s.0 ≡ false) × (t.0 ≡ false)
 tests-two s t e = let p = test-head s (t ∷ []) e in (p.0, (test-head t [] p.1).0)
 
-tests-three : (s t u : Test) → first_failed (s ∷ t ∷ u ∷ []) ≡ None → (s.0 ≡ false) × (t.0 ≡ false) × (u.0 ≡ false)
+tests-three : (s t u : Row ℕ) → first_row (s ∷ t ∷ u ∷ []) ≡ None → (s.0 ≡ false) × (t.0 ≡ false) × (u.0 ≡ false)
 tests-three s t u e = let p = test-head s (t ∷ u ∷ []) e in let q = tests-two t u p.1 in (p.0, q.0, q.1)
 
-tests-four : (s t u w : Test) → first_failed (s ∷ t ∷ u ∷ w ∷ []) ≡ None → (s.0 ≡ false) × (t.0 ≡ false) × (u.0 ≡ false) × (w.0 ≡ false)
+tests-four : (s t u w : Row ℕ) → first_row (s ∷ t ∷ u ∷ w ∷ []) ≡ None → (s.0 ≡ false) × (t.0 ≡ false) × (u.0 ≡ false) × (w.0 ≡ false)
 tests-four s t u w e = let p = test-head s (t ∷ u ∷ w ∷ []) e in let q = tests-three t u w p.1 in (p.0, q.0, q.1, q.2)
 
 or-left : (x y : Bool) → x || y ≡ false → x ≡ false
@@ -231,11 +232,11 @@ served-alloc : (r : Reads) (c : Core) (h : ℕ) (call : Call) → IsValid c → 
 served-alloc r c h call v =
     let m = module_at c call.domain in
     let first = unwrap_or (alloc_place c call) 0 in
-    let t1 : Test = (arg call 0 == 0, 1) in
-    let t2 : Test = (is_none (alloc_place c call), 6) in
-    let t3 : Test = (nat_le most_blocks (length m.blocks), 7) in
-    let t4 : Test = (not (r.fits (alloc_change first call)), 5) in
-    served-alloc_from c call first (first_failed (t1 ∷ t2 ∷ t3 ∷ t4 ∷ [])) v
+    let t1 : Row ℕ = (arg call 0 == 0, 1) in
+    let t2 : Row ℕ = (is_none (alloc_place c call), 6) in
+    let t3 : Row ℕ = (nat_le most_blocks (length m.blocks), 7) in
+    let t4 : Row ℕ = (not (r.fits (alloc_change first call)), 5) in
+    served-alloc_from c call first (first_row (t1 ∷ t2 ∷ t3 ∷ t4 ∷ [])) v
     (codes-failed (t1 ∷ t2 ∷ t3 ∷ t4 ∷ []) (lit< tt, (lit< tt, (lit< tt, (lit< tt, tt))))) (λ e.
     let q = tests-four t1 t2 t3 t4 e in
     let room : has_room m.heap m.blocks (arg call 0) first ≡ true =
@@ -263,12 +264,12 @@ served-free r c call v =
 
 served-gate : (r : Reads) (c : Core) (h : ℕ) (call : Call) → IsValid c → IsCall (length c.modules) h call → IsServed (serve_gate r c call)
 served-gate r c h call v p =
-    let t1 : Test = (no_word c call, 1) in
-    let t2 : Test = (not (is_module c (arg call 1)) || (arg call 1 == call.domain), 3) in
-    let t3 : Test = (foreign_word r call, 2) in
-    let t4 : Test = (no_gate_fits c.gates (arg call 1) (arg_word call), 9) in
+    let t1 : Row ℕ = (no_word c call, 1) in
+    let t2 : Row ℕ = (not (is_module c (arg call 1)) || (arg call 1 == call.domain), 3) in
+    let t3 : Row ℕ = (foreign_word r call, 2) in
+    let t4 : Row ℕ = (no_gate_fits c.gates (arg call 1) (arg_word call), 9) in
     let g : Gate = record { domain = arg call 1; word = arg_word call; target = call.domain } in
-    served-judged c (first_failed (t1 ∷ t2 ∷ t3 ∷ t4 ∷ [])) (adds c g) v
+    served-judged c (first_row (t1 ∷ t2 ∷ t3 ∷ t4 ∷ [])) (adds c g) v
     (codes-failed (t1 ∷ t2 ∷ t3 ∷ t4 ∷ []) (lit< tt, (lit< tt, (lit< tt, (lit< tt, tt))))) (λ e.
     let q = tests-four t1 t2 t3 t4 e in
     served-adds c g v (record {
@@ -279,11 +280,11 @@ served-gate r c h call v p =
 
 served-return_gate : (r : Reads) (c : Core) (h : ℕ) (call : Call) → IsValid c → IsCall (length c.modules) h call → IsServed (serve_return_gate r c call)
 served-return_gate r c h call v p =
-    let t1 : Test = (no_word c call, 1) in
-    let t2 : Test = (foreign_word r call, 2) in
-    let t3 : Test = (no_gate_fits c.gates call.domain (arg_word call), 9) in
+    let t1 : Row ℕ = (no_word c call, 1) in
+    let t2 : Row ℕ = (foreign_word r call, 2) in
+    let t3 : Row ℕ = (no_gate_fits c.gates call.domain (arg_word call), 9) in
     let g : Gate = record { domain = call.domain; word = arg_word call; target = call.domain } in
-    served-judged c (first_failed (t1 ∷ t2 ∷ t3 ∷ [])) (adds c g) v
+    served-judged c (first_row (t1 ∷ t2 ∷ t3 ∷ [])) (adds c g) v
     (codes-failed (t1 ∷ t2 ∷ t3 ∷ []) (lit< tt, (lit< tt, (lit< tt, tt)))) (λ e.
     let q = tests-three t1 t2 t3 e in
     served-adds c g v (record { domain = p.domain; target = p.domain; word = word-inside c call q.0 }) q.2)

@@ -11,18 +11,19 @@ use Rattle.mx_words.specs.Bytes.{put_at}
 use Rattle.mx_words.specs.Ranges.{ram_base, address_of}
 use Rattle.mx_model.specs.declared.values.Call.{Call}
 use Rattle.mx_model.specs.declared.values.Frame.{Frame}
-use Rattle.mx_model.specs.Checks.{hears, is_ready, looked_all}
+use Rattle.mx_model.specs.Checks.{hears, is_ready, looked_all, is_halted}
 use Rattle.mx_model.specs.Effect.{reg, written, next}
 use Rattle.mx_model.specs.Gates.{most_frames, top, below_top, nearest, saved_stack}
 use Rattle.mx_model.specs.Reads.{Reads}
 use Rattle.mx_model.specs.State.{Core, Hart, Module, Running, Halted, no_hart, hart_at, with_module, module_at}
-use Rattle.mx_model.specs.Turn.{Deed, Rests, Waits, Serves, Asks, Traps, Bounces, Crosses, Returns, Runs, Puts}
+use Rattle.mx_model.specs.Turn.{Action, Rests, Waits, Serves, Asks, Traps, Bounces, Crosses, Returns, Runs, Writes}
 use Rattle.mx_model.specs.Valid.{IsModule, IsPc, IsRegisters, IsFrame, IsCall, IsHart, IsHome, IsValid}
 use Rattle.mx_model.proofs.ListLaws.{all-append, all-reverse, all-take, all-find, all-last, length-put_at, bytes-put_at}
 use Rattle.mx_model.proofs.RegisterLaws.{registers-set, registers-written, registers-restored, saved-count, saved-small, small-plus, pc-next, IsCause}
 use Rattle.mx_model.specs.Serve.{Served, serve}
-use Rattle.mx_model.specs.Turn.{Decided, Made, acted, asked, served, done, trapped, given_up, killed, over_frame, halted, crossed, with_regs, enacted, decide, heard_first, counted, is_halted, turned, is_served_now, by_status, answered, stack_address, saved, restored, fault_answer, nobody, call_of}
-use Rattle.mx_model.proofs.DecideLaws.{IsDeed, deed-decide, call-of}
+use Rattle.mx_words.specs.Hearing.{nobody}
+use Rattle.mx_model.specs.Turn.{Decided, Made, acted, asked, served, done, trapped, given_up, killed, over_frame, halted, crossed, with_regs, enacted, decide, heard_first, counted, turned, is_served_now, by_status, answered, stack_address, saved, restored, fault_answer, call_of}
+use Rattle.mx_model.proofs.DecideLaws.{IsAction, action-decide, call-of}
 use Rattle.mx_model.proofs.KeepLaws.{Keeps, keeps-serve, keeps-looked_all}
 use Rattle.mx_model.proofs.ServeLaws.{IsServed, served-serve}
 use Rattle.mx_model.proofs.ValidParts.{valid-turns, valid-hart, valid-module, valid-cache, valid-ram, valid-looked_all, valid-hears, home-at}
@@ -168,9 +169,9 @@ valid-asked r c h hart call false e v p k l = valid-hart c h _ v (record {
   status = record { own = k; announced = announced-later (is_announced call.number) (is_ready c h nobody) e; places = refl };
 })
 
--- a deed
-valid-acted : (r : Reads) (c : Core) (h : ℕ) (hart : Hart) (deed : Deed) → IsValid c → IsHart (length c.modules) h hart → h < length c.harts →
-    IsDeed (length c.modules) h hart deed → IsValid (acted r c h hart deed).core
+-- an action
+valid-acted : (r : Reads) (c : Core) (h : ℕ) (hart : Hart) (action : Action) → IsValid c → IsHart (length c.modules) h hart → h < length c.harts →
+    IsAction (length c.modules) h hart action → IsValid (acted r c h hart action).core
 valid-acted r c h hart Rests v p l d = v
 valid-acted r c h hart Waits v p l d = v
 valid-acted r c h hart (Serves call) v p l d = valid-served r c h hart call v p d l
@@ -182,15 +183,15 @@ valid-acted r c h hart (Crosses target) v p l d = valid-crossed c h hart target 
 valid-acted r c h hart (Returns rd frame) v p l d =
     valid-over c h hart frame (written hart.regs rd (next hart.pc)) v p d (registers-written hart.regs rd (next hart.pc) p.regs (small-plus hart.pc 4))
 valid-acted r c h hart (Runs regs pc) v p l d = valid-regs c h hart regs pc v p d.0 d.1
-valid-acted r c h hart (Puts address size value) v p l d =
+valid-acted r c h hart (Writes address size value) v p l d =
     let stored = record c { ram = put_at c.ram (address - ram_base) size value } in
     valid-regs stored h hart hart.regs (next hart.pc)
     (valid-ram c (put_at c.ram (address - ram_base) size value) v (length-put_at size c.ram (address - ram_base) value) (bytes-put_at size c.ram (address - ram_base) value v.ram_bytes))
     p p.regs (pc-next hart.pc p.pc)
 
--- a decided deed of a given hart
+-- a decided action of a given hart
 abbrev enacted_by : Reads → Core → ℕ → Hart → Decided → Made
-enacted_by r c h hart d = acted r (looked_all r h d.looks c) h hart d.deed
+enacted_by r c h hart d = acted r (looked_all r h d.looks c) h hart d.action
 
 -- a hart that there is makes its turn; one that isn't there is halted
 halted-beyond : (c : Core) (h : ℕ) → length c.harts ≤ h → hart_at c h ≡ no_hart
@@ -201,8 +202,8 @@ valid-there r c h v l =
     let d = decide r c h in
     let seen = looked_all r h d.looks c in
     let k = keeps-looked_all r h d.looks c in
-    valid-acted r seen h (hart_at c h) d.deed (valid-looked_all r h d.looks c v) (hart-in c seen h (hart_at c h) k (v.harts h l))
-    (subst (λ (n : ℕ). h < n) (sym k.harts) l) (subst (λ (n : ℕ). IsDeed n h (hart_at c h) d.deed) (sym k.modules) (deed-decide r c h v l))
+    valid-acted r seen h (hart_at c h) d.action (valid-looked_all r h d.looks c v) (hart-in c seen h (hart_at c h) k (v.harts h l))
+    (subst (λ (n : ℕ). h < n) (sym k.harts) l) (subst (λ (n : ℕ). IsAction n h (hart_at c h) d.action) (sym k.modules) (action-decide r c h v l))
 
 valid-nobody : (r : Reads) (c : Core) (h : ℕ) (hart : Hart) → hart ≡ no_hart → IsValid c →
     IsValid (enacted_by r c h hart (by_status r c h hart hart.status)).core

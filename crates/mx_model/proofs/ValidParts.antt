@@ -9,10 +9,10 @@ use Rattle.std.proofs.lemmas.List.FromFn.{length-enumerate_from, get_or-enumerat
 use Rattle.mx_words.specs.Caches.{Cache}
 use Rattle.mx_model.specs.declared.values.Gate.{Gate}
 use Rattle.mx_model.specs.Checks.{Look, hears, heard_by, looked, looked_all}
-use Rattle.mx_model.specs.Gates.{most_gates}
+use Rattle.mx_model.specs.Gates.{AreSingle, most_gates}
 use Rattle.mx_model.specs.Reads.{Reads}
 use Rattle.mx_model.specs.State.{Core, Hart, Module, Status, Running, Waiting, Halted, no_hart, no_module, with_hart, with_cache, with_module, module_at}
-use Rattle.mx_model.specs.Valid.{AreSingle, IsStatus, IsHart, IsGate, IsHome, IsValid}
+use Rattle.mx_model.specs.Valid.{IsStatus, IsHart, IsGate, IsHome, IsValid}
 use Rattle.mx_model.proofs.ListLaws.{all-set, all-at}
 
 -- the bytes of RAM, and one hart, as parts of a valid state

@@ -7,7 +7,7 @@ use Rattle.mx_words.specs.Rights.{allows}
 use Rattle.mx_isa.specs.declared.inst.Inst.{Inst}
 use Rattle.mx_isa.specs.Table.{decoded}
 use Rattle.mx_model.specs.declared.values.Gate.{Gate}
-use Rattle.mx_model.specs.Effect.{Effect, Goes, Faults, Loads, Stores, Calls, Leaves, effect, reg, jumps}
+use Rattle.mx_model.specs.Effect.{Effect, Goes, Faults, Loads, Stores, Calls, Jumps, effect, by_target, reg}
 use Rattle.mx_model.specs.Gates.{gate_at}
 use Rattle.mx_model.specs.Reads.{Reads, reads, flat_reads}
 use Rattle.mx_model.specs.State.{Core, Hart, Status, Running, Waiting, Halted, State, Flat, module_at, hart_at}
@@ -37,7 +37,7 @@ pub record Agrees (r : Reads) (c : Core) (q : Reads) (e : Core) (h : ℕ) : Type
   pub same_regs : (hart_at c h).regs ≡ (hart_at e h).regs
   pub same_domain : (hart_at c h).domain ≡ (hart_at e h).domain
   pub same_map : (i : ℕ) → r.perm (hart_at c h).domain i ≡ q.perm (hart_at c h).domain i
-  pub same_fate : (module_at c (hart_at c h).domain).dead ≡ (module_at e (hart_at c h).domain).dead
+  pub same_death : (module_at c (hart_at c h).domain).dead ≡ (module_at e (hart_at c h).domain).dead
   pub same_gates : (i : ℕ) → target_at c (hart_at c h).domain i ≡ target_at e (hart_at c h).domain i
   pub same_bytes : (i : ℕ) → IsTrue (allows (r.perm (hart_at c h).domain i) A.Read) →
       (k : ℕ) → k < 4 → slice_index c.ram (4 * i + k) ≡ slice_index e.ram (4 * i + k)
@@ -55,12 +55,6 @@ pub data Border : Type 0 where
   -- nothing
   Nothing : Border
 
--- a plain effect faults, or is no border
-abbrev pub effect_border : Effect → Border
-effect_border (Goes regs pc) = Nothing
-effect_border (Faults cause value) = Trap cause value
-effect_border _ = Nothing
-
 abbrev pub border_of_effect : Reads → Core → Hart → Effect → Border
 border_of_effect r c hart (Goes regs pc) = Nothing
 border_of_effect r c hart (Faults cause value) = Trap cause value
@@ -68,8 +62,8 @@ border_of_effect r c hart (Loads p address width rd) = if is_denied r c hart.dom
 border_of_effect r c hart (Stores p address size value) = if is_denied r c hart.domain address A.Write then Trap 7 address else Nothing
 border_of_effect r c hart Calls =
     Call (reg hart.regs 17) (reg hart.regs 10) (reg hart.regs 11) (reg hart.regs 12) (reg hart.regs 13)
-border_of_effect r c hart (Leaves rd target) =
-    if is_return_at c hart.domain hart.pc then Back hart.pc target else effect_border (jumps hart.regs hart.pc rd target)
+border_of_effect r c hart (Jumps rd target) =
+    if is_return_at c hart.domain hart.pc then Back hart.pc target else by_target target Nothing (Trap 0 target)
 
 abbrev pub border_of_word : Reads → Core → Hart → ℕ → Option Inst → Border
 border_of_word r c hart word None = Trap 2 word

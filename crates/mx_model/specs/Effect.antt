@@ -2,6 +2,7 @@
 -- The rules: docs/MACHINE.md, "Instructions".
 use Rattle.std.specs.Prelude.{ℕ, ◌+◌, ◌-◌, ◌*◌, ◌/◌, ◌%◌, ◌^◌, Bool, not, ◌==◌, nat_lt, if◌then◌else◌, List, slice_index, slice_set, ℤ, pos, negsuc, ◌*ℤ◌, int_lt, int_div, int_rem, bit_and, bit_or, bit_xor}
 use Rattle.std.specs.Int.{cast_signed, int_shr, w32}
+use Rattle.mx_isa.specs.Fields.{extended}
 use Rattle.mx_isa.specs.declared.inst.Inst.{Inst}
 use Rattle.mx_isa.specs.declared.inst.Inst.TheVariants.{Lui, Auipc, Jal, Jalr, Branch, Load, Store, OpImm, Op, Fence, Ecall, Ebreak}
 use Rattle.mx_isa.specs.declared.inst.Cond.{Cond}
@@ -28,7 +29,7 @@ pub data Effect : Type 0 where
   -- a supervisor call
   Calls : Effect
   -- a JAL or JALR to the target
-  Leaves : (rd : ℕ) → (target : ℕ) → Effect
+  Jumps : (rd : ℕ) → (target : ℕ) → Effect
 
 -- the value of a register
 abbrev pub reg : List ℕ → ℕ → ℕ
@@ -135,21 +136,21 @@ store_size Sb = 1
 store_size Sh = 2
 store_size Sw = 4
 
--- a number of `bits` bits, its sign extended to 32
-abbrev pub sign_extended : ℕ → ℕ → ℕ
-sign_extended bits n = if nat_lt n (2 ^ (bits - 1)) then n else (n + (2 ^ 32 - 2 ^ bits))
-
 -- what a load writes, from the number that its bytes hold
 unfoldable pub loaded : LoadWidth → ℕ → ℕ
-loaded Lb n = sign_extended 8 n
-loaded Lh n = sign_extended 16 n
+loaded Lb n = extended 8 n
+loaded Lh n = extended 16 n
 loaded Lw n = n
 loaded Lbu n = n
 loaded Lhu n = n
 
--- the hart goes on at a target, unless it is no multiple of 4
-abbrev pub goes_to : List ℕ → ℕ → Effect
-goes_to regs target = if target % 4 == 0 then Goes regs target else Faults 0 target
+-- what a jump or a taken branch comes to: one thing where its target is a multiple of 4, and another where it isn't
+abbrev pub by_target : {A : Type 0} → ℕ → A → A → A
+by_target target aligned misaligned = if target % 4 == 0 then aligned else misaligned
+
+-- a taken branch
+abbrev pub taken : List ℕ → ℕ → Effect
+taken regs target = by_target target (Goes regs target) (Faults 0 target)
 
 -- rd takes a result, and the hart goes on after the instruction
 abbrev pub takes : List ℕ → ℕ → ℕ → ℕ → Effect
@@ -167,9 +168,9 @@ stores_at place address size value = if address % size == 0 then Stores place ad
 unfoldable pub effect : Inst → List ℕ → ℕ → Effect
 effect (Lui rd imm) regs pc = takes regs pc rd imm
 effect (Auipc rd imm) regs pc = takes regs pc rd (plus pc imm)
-effect (Jal rd imm) regs pc = Leaves rd (plus pc imm)
-effect (Jalr rd rs1 imm) regs pc = Leaves rd (plus (reg regs rs1) imm / 2 * 2)
-effect (Branch cond rs1 rs2 imm) regs pc = if holds cond (reg regs rs1) (reg regs rs2) then goes_to regs (plus pc imm) else Goes regs (next pc)
+effect (Jal rd imm) regs pc = Jumps rd (plus pc imm)
+effect (Jalr rd rs1 imm) regs pc = Jumps rd (plus (reg regs rs1) imm / 2 * 2)
+effect (Branch cond rs1 rs2 imm) regs pc = if holds cond (reg regs rs1) (reg regs rs2) then taken regs (plus pc imm) else Goes regs (next pc)
 effect (Load width rd rs1 imm) regs pc = loads_at rs1 (plus (reg regs rs1) imm) width rd
 effect (Store width rs1 rs2 imm) regs pc = stores_at rs1 (plus (reg regs rs1) imm) (store_size width) (reg regs rs2)
 effect (OpImm op rd rs1 imm) regs pc = takes regs pc rd (imm_result op (reg regs rs1) imm)
@@ -177,8 +178,3 @@ effect (Op op rd rs1 rs2) regs pc = takes regs pc rd (reg_result op (reg regs rs
 effect (Fence fields) regs pc = Goes regs (next pc)
 effect Ecall regs pc = Calls
 effect Ebreak regs pc = Faults 3 pc
-
--- a JAL or JALR where no return gate stands: rd takes pc + 4 and the hart goes on at the target, or
--- a misaligned target faults and writes no register
-abbrev pub jumps : List ℕ → ℕ → ℕ → ℕ → Effect
-jumps regs pc rd target = goes_to (written regs rd (next pc)) target

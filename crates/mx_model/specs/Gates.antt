@@ -1,8 +1,8 @@
 -- Gates as a list with at most one per domain and word, and frames from the bottom of a cross stack to its top.
 -- The rules: docs/MACHINE.md, "Gates".
-use Rattle.std.specs.Prelude.{ℕ, ◌-◌, Bool, false, not, if◌then◌else◌, ◌==◌, ◌&&◌, nat_le, List, [], ◌∷◌, ◌++◌, length, take, reverse, filter, find, slice_index, Option, Some, None}
+use Rattle.std.specs.Prelude.{◌≡◌, ℕ, ◌-◌, Bool, false, not, if◌then◌else◌, ◌==◌, ◌&&◌, nat_le, List, [], ◌∷◌, ◌++◌, length, take, reverse, filter, find, slice_index, Option, Some, None}
 use Rattle.std.specs.Option.{option_map_or}
-use Rattle.std.specs.List.{list_any, last_or}
+use Rattle.std.specs.List.{AllPairs, list_any, last_or}
 use Rattle.mx_model.specs.declared.values.Gate.{Gate}
 use Rattle.mx_model.specs.declared.values.Frame.{Frame}
 
@@ -47,6 +47,10 @@ has_gate gates domain word = list_any (is_at domain word) gates
 -- whether no gate for a domain and word can be added: as many stand as may, and none of them is there
 abbrev pub no_gate_fits : List Gate → ℕ → ℕ → Bool
 no_gate_fits gates domain word = nat_le most_gates (length gates) && not (has_gate gates domain word)
+
+-- at most one gate stands for a domain at a word
+abbrev pub AreSingle : List Gate → Type 0
+AreSingle gates = AllPairs (λ (g h : Gate). is_at g.domain g.word h ≡ false) gates
 
 -- the top frame, and the frames below it
 abbrev pub top : List Frame → Option Frame

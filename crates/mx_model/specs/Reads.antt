@@ -11,7 +11,7 @@ use Rattle.mx_words.specs.Changes.{changed_maps, granted_all}
 use Rattle.mx_words.specs.Runs.{owner_runs, most_owner_runs}
 use Rattle.mx_words.specs.Need.{fits}
 use Rattle.mx_words.specs.Reach.{span}
-use Rattle.mx_model.specs.State.{State, Flat, words}
+use Rattle.mx_model.specs.State.{State, Flat}
 
 -- a change of rights: a range, and the permission that each domain named gets on it
 pub record Change : Type 0 where
@@ -41,7 +41,7 @@ map_in size maps d = slice_index_or maps (d - 1) (map [] size)
 -- what a state answers from its lists of grants and gives
 abbrev pub reads : State → Reads
 reads s =
-    let size = words s.core in
+    let size = s.core.size in
     record {
       perm = λ d i. if nat_lt i size then at (grants_of s.grants d) i else P.None;
       owner = λ i. if nat_lt i size then owner s.gives i else 0;
@@ -53,7 +53,7 @@ reads s =
 -- what a flat state answers from its maps and its owners
 abbrev pub flat_reads : Flat → Reads
 flat_reads f =
-    let size = words f.core in
+    let size = f.core.size in
     record {
       perm = λ d i. perm_at (map_in size f.maps d) i;
       owner = λ i. slice_index f.owners i;

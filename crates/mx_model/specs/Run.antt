@@ -5,10 +5,11 @@ use Rattle.std.specs.List.{list_all}
 use Rattle.mx_words.specs.declared.perm.Perm.{Perm}
 use Rattle.mx_words.specs.Changes.{changed_maps, granted_all}
 use Rattle.mx_words.specs.Newest.{Grant, Give, laid}
+use Rattle.mx_model.specs.Checks.{is_halted}
 use Rattle.mx_model.specs.declared.values.TurnKind.{TurnKind}
 use Rattle.mx_model.specs.Reads.{Change, reads, flat_reads}
 use Rattle.mx_model.specs.State.{Core, Hart, State, Flat}
-use Rattle.mx_model.specs.Turn.{Made, turned, is_halted}
+use Rattle.mx_model.specs.Turn.{Made, turned}
 
 -- the grants, and the maps, after a change of rights if there is one
 abbrev pub grants_after : List (List Grant) → Option Change → List (List Grant)

@@ -8,16 +8,17 @@ use Rattle.mx_words.specs.declared.perm.Perm.TheVariants as P
 use Rattle.mx_words.specs.declared.perm.Access.TheVariants as A
 use Rattle.mx_words.specs.Announced.{is_announced}
 use Rattle.mx_words.specs.Bytes.{number_at, put_at, cleared_at}
-use Rattle.mx_words.specs.FirstFit.{Area, place, with_block, without_block, block_at, most_blocks}
+use Rattle.mx_words.specs.FirstFit.{Area, place, with_block, without_block, block_words, most_blocks}
+use Rattle.mx_words.specs.FirstRow.{first_row}
 use Rattle.mx_words.specs.Newest.{Give}
-use Rattle.mx_words.specs.Ranges.{ram_base, address_of, in_ram, is_range, word_range, overlaps}
+use Rattle.mx_words.specs.Ranges.{ram_base, address_of, in_ram, is_range, range_words, overlaps}
 use Rattle.mx_words.specs.Rights.{number, from_number, allows}
 use Rattle.mx_model.specs.declared.values.Call.{Call}
 use Rattle.mx_model.specs.declared.values.Gate.{Gate}
 use Rattle.mx_model.specs.Checks.{Look, arg, call_range, drops, looked_all}
 use Rattle.mx_model.specs.Gates.{with_gate, without_gate, has_gate, no_gate_fits}
 use Rattle.mx_model.specs.Reads.{Reads, Change}
-use Rattle.mx_model.specs.State.{Core, words, module_at, with_module, is_module}
+use Rattle.mx_model.specs.State.{Core, module_at, with_module, is_module}
 
 -- the calls by their numbers
 pub data Service : Type 0 where
@@ -62,30 +63,22 @@ answers c a0 = record { core = c; change = None; give = None; console = []; a0 =
 abbrev pub code : ℕ → ℕ
 code n = 2 ^ 32 - n
 
--- a test of a call: whether it fails, and the code that it then gives
-abbrev pub Test : Type 0
-Test = Bool × ℕ
-
--- the code of the first test that fails
-abbrev pub first_failed : List Test → Option ℕ
-first_failed [] = None
-first_failed (t ∷ ts) = if t.0 then Some t.1 else first_failed ts
-
--- a call is refused by the first test that fails, and is done where none does
+-- the tests of a call are rows: whether each fails, and the code that it then gives; a call is refused by the first that fails, and
+-- is done where none does
 abbrev pub judged : Core → Option ℕ → Served → Served
 judged c (Some n) done = answers c (code n)
 judged c None done = done
 
 -- the words of the range of a0 and a1
 abbrev pub arg_range : Core → Call → ℕ × ℕ
-arg_range c call = unwrap_or (word_range (arg call 0) (arg call 1) (words c)) (0, 0)
+arg_range c call = range_words (arg call 0) (arg call 1) c.size
 
 abbrev pub no_range : Core → Call → Bool
-no_range c call = not (is_range (arg call 0) (arg call 1) (words c))
+no_range c call = not (is_range (arg call 0) (arg call 1) c.size)
 
 -- whether an address is that of a word of RAM, and that word
 abbrev pub is_word : Core → ℕ → Bool
-is_word c address = (address % 4 == 0) && in_ram address (words c)
+is_word c address = (address % 4 == 0) && in_ram address c.size
 
 abbrev pub arg_word : Call → ℕ
 arg_word call = (arg call 0 - ram_base) / 4
@@ -118,12 +111,12 @@ changes c change = record (answers c 0) { change = Some change }
 
 -- 1 exit: not with a frame on the cross stack
 abbrev pub serve_exit : Core → Call → Served
-serve_exit c call = judged c (first_failed ((call.nested, 10) ∷ [])) (record (answers c (arg call 0)) { stop = true })
+serve_exit c call = judged c (first_row ((call.nested, 10) ∷ [])) (record (answers c (arg call 0)) { stop = true })
 
 -- 2 write: whether a byte lies outside RAM
 abbrev pub write_outside : Core → Call → Bool
 write_outside c call =
-    nat_lt 0 (arg call 1) && (nat_lt (arg call 0) ram_base || nat_lt (ram_base + 4 * words c) (arg call 0 + arg call 1))
+    nat_lt 0 (arg call 1) && (nat_lt (arg call 0) ram_base || nat_lt (ram_base + 4 * c.size) (arg call 0 + arg call 1))
 
 -- the touched words
 abbrev pub write_words : Call → List ℕ
@@ -150,7 +143,7 @@ bytes_at c address size = take size (drop (address - ram_base) c.ram)
 abbrev pub written_out : Reads → Core → Call → Served
 written_out r c call =
     let looked = looked_all r call.hart (write_looks r call) c in
-    judged looked (first_failed ((not (list_all (may_read r call.domain) (write_words call)), 12) ∷ []))
+    judged looked (first_row ((not (list_all (may_read r call.domain) (write_words call)), 12) ∷ []))
     (record (answers looked (arg call 1)) { console = bytes_at c (arg call 0) (arg call 1) })
 
 abbrev pub write_from : Reads → Core → Call → Option ℕ → Served
@@ -158,7 +151,7 @@ write_from r c call (Some n) = answers c (code n)
 write_from r c call None = written_out r c call
 
 abbrev pub serve_write : Reads → Core → Call → Served
-serve_write r c call = write_from r c call (first_failed ((nat_lt 4096 (arg call 1), 11) ∷ (write_outside c call, 1) ∷ []))
+serve_write r c call = write_from r c call (first_row ((nat_lt 4096 (arg call 1), 11) ∷ (write_outside c call, 1) ∷ []))
 
 -- 3 grant
 abbrev pub grant_change : Core → Call → Change
@@ -166,7 +159,7 @@ grant_change c call = change_of (arg_range c call) (to_one (arg call 2) (unwrap_
 
 abbrev pub serve_grant : Reads → Core → Call → Served
 serve_grant r c call =
-    judged c (first_failed (
+    judged c (first_row (
     (no_range c call, 1)
     ∷ (not (is_module c (arg call 2)), 3)
     ∷ (nat_lt 3 (arg call 3), 4)
@@ -180,7 +173,7 @@ revoke_change c call = change_of (arg_range c call) (none_but call.domain)
 
 abbrev pub serve_revoke_all : Reads → Core → Call → Served
 serve_revoke_all r c call =
-    judged c (first_failed (
+    judged c (first_row (
     (no_range c call, 1)
     ∷ (not (owns r call (arg_range c call)), 2)
     ∷ (not (r.fits (revoke_change c call)), 5) ∷ []))
@@ -197,7 +190,7 @@ give_of c call = record { first = (arg_range c call).0; count = (arg_range c cal
 
 abbrev pub serve_transfer : Reads → Core → Call → Served
 serve_transfer r c call =
-    judged c (first_failed (
+    judged c (first_row (
     (no_range c call || meets_heap c call, 1)
     ∷ (nat_lt (length c.modules) (arg call 2), 3)
     ∷ (not (owns r call (arg_range c call)), 2)
@@ -230,7 +223,7 @@ alloc_from c call first None = allocated c call first
 abbrev pub serve_alloc : Reads → Core → Call → Served
 serve_alloc r c call =
     let first = unwrap_or (alloc_place c call) 0 in
-    alloc_from c call first (first_failed (
+    alloc_from c call first (first_row (
     (arg call 0 == 0, 1)
     ∷ (is_none (alloc_place c call), 6)
     ∷ (nat_le most_blocks (length (module_at c call.domain).blocks), 7)
@@ -238,14 +231,14 @@ serve_alloc r c call =
 
 -- 7 free
 abbrev pub freed_count : Core → Call → Option ℕ
-freed_count c call = if is_word c (arg call 0) then block_at (module_at c call.domain).blocks (arg_word call) else None
+freed_count c call = if is_word c (arg call 0) then block_words (module_at c call.domain).blocks (arg_word call) else None
 
 abbrev pub free_change : Core → Call → Change
 free_change c call = change_of (arg_word call, unwrap_or (freed_count c call) 0) none_at_all
 
 abbrev pub serve_free : Reads → Core → Call → Served
 serve_free r c call =
-    judged c (first_failed (
+    judged c (first_row (
     (is_none (freed_count c call), 8)
     ∷ (not (r.fits (free_change c call)), 5) ∷ []))
     (changes (with_blocks call (without_block (arg_word call) (module_at c call.domain).blocks) c) (free_change c call))
@@ -264,7 +257,7 @@ adds c g = answers (record c { gates = with_gate g c.gates }) 0
 -- 8 gate: into the caller, for another domain
 abbrev pub serve_gate : Reads → Core → Call → Served
 serve_gate r c call =
-    judged c (first_failed (
+    judged c (first_row (
     (no_word c call, 1)
     ∷ (not (is_module c (arg call 1)) || (arg call 1 == call.domain), 3)
     ∷ (foreign_word r call, 2)
@@ -274,7 +267,7 @@ serve_gate r c call =
 -- 9 ungate
 abbrev pub serve_ungate : Reads → Core → Call → Served
 serve_ungate r c call =
-    judged c (first_failed (
+    judged c (first_row (
     (no_word c call, 1)
     ∷ (not (is_module c (arg call 1)), 3)
     ∷ (foreign_word r call, 2)
@@ -284,7 +277,7 @@ serve_ungate r c call =
 -- 10 return_gate
 abbrev pub serve_return_gate : Reads → Core → Call → Served
 serve_return_gate r c call =
-    judged c (first_failed (
+    judged c (first_row (
     (no_word c call, 1)
     ∷ (foreign_word r call, 2)
     ∷ (no_gate_fits c.gates call.domain (arg_word call), 9) ∷ []))
@@ -293,7 +286,7 @@ serve_return_gate r c call =
 -- 11 query: the permission's number, read from no cache and counted nowhere
 abbrev pub serve_query : Reads → Core → Call → Served
 serve_query r c call =
-    judged c (first_failed (
+    judged c (first_row (
     (no_word c call, 1)
     ∷ (not (is_module c (arg call 1)), 3)
     ∷ (not (arg call 1 == call.domain) && foreign_word r call, 2) ∷ []))
@@ -307,7 +300,7 @@ serve_self c call = answers c (256 * call.hart + call.domain)
 abbrev pub exchanged : Reads → Core → Call → Served
 exchanged r c call =
     let looked = looked_all r call.hart (look_of call.domain (arg_word call) ∷ []) c in
-    judged looked (first_failed ((not (allows (r.perm call.domain (arg_word call)) A.Write), 12) ∷ []))
+    judged looked (first_row ((not (allows (r.perm call.domain (arg_word call)) A.Write), 12) ∷ []))
     (record (answers (record looked { ram = put_at c.ram (4 * arg_word call) 4 (arg call 1) }) 0) {
       a1 = Some (number_at c.ram (4 * arg_word call) 4);
     })
@@ -317,7 +310,7 @@ exchange_from r c call (Some n) = answers c (code n)
 exchange_from r c call None = exchanged r c call
 
 abbrev pub serve_exchange : Reads → Core → Call → Served
-serve_exchange r c call = exchange_from r c call (first_failed ((no_word c call, 1) ∷ []))
+serve_exchange r c call = exchange_from r c call (first_row ((no_word c call, 1) ∷ []))
 
 -- a call of each kind
 abbrev pub served_by : Service → Reads → Core → Call → Served

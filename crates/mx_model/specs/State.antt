@@ -69,16 +69,12 @@ pub record Flat : Type 0 where
   pub maps : List (List Perm)
   pub owners : List ℕ
 
--- the number of words of RAM
-abbrev pub words : Core → ℕ
-words c = c.size
-
 -- the flat state of a state: each list of grants replaced by its map, the gives by the owners, no console bytes and no notes
 abbrev pub flat : State → Flat
 flat s = record {
   core = s.core;
-  maps = list_map (λ grants. map grants (words s.core)) s.grants;
-  owners = owners s.gives (words s.core);
+  maps = list_map (λ grants. map grants s.core.size) s.grants;
+  owners = owners s.gives s.core.size;
 }
 
 -- what is read of a module above the last one: it has no areas and is not dead

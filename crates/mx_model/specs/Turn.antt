@@ -9,9 +9,10 @@ use Rattle.mx_words.specs.declared.perm.Access.{Access}
 use Rattle.mx_words.specs.declared.perm.Access.TheVariants as A
 use Rattle.mx_words.specs.Announced.{is_announced}
 use Rattle.mx_words.specs.Bytes.{number_at, put_at}
+use Rattle.mx_words.specs.Hearing.{nobody}
 use Rattle.mx_words.specs.Newest.{Give}
 use Rattle.mx_words.specs.Ranges.{ram_base, word_of, address_of}
-use Rattle.mx_words.specs.Rights.{allows}
+use Rattle.mx_words.specs.Rights.{denies}
 use Rattle.mx_isa.specs.declared.inst.Inst.{Inst}
 use Rattle.mx_isa.specs.declared.inst.LoadWidth.{LoadWidth}
 use Rattle.mx_isa.specs.Table.{decoded}
@@ -21,43 +22,43 @@ use Rattle.mx_model.specs.declared.values.Note.{Note}
 use Rattle.mx_model.specs.declared.values.Note.TheVariants as N
 use Rattle.mx_model.specs.declared.values.TurnKind.{TurnKind}
 use Rattle.mx_model.specs.declared.values.TurnKind.TheVariants as T
-use Rattle.mx_model.specs.Checks.{Look, hears, is_ready, looks_at, looked_all, leaves}
-use Rattle.mx_model.specs.Effect.{Effect, Goes, Faults, Loads, Stores, Calls, Leaves, effect, jumps, reg, written, next, load_size, loaded}
+use Rattle.mx_model.specs.Checks.{Look, hears, is_halted, is_ready, looks_at, looked_all, empties_places}
+use Rattle.mx_model.specs.Effect.{Effect, Goes, Faults, Loads, Stores, Calls, Jumps, effect, by_target, reg, written, next, load_size, loaded}
 use Rattle.mx_model.specs.Gates.{call_gate, is_return, most_frames, top, below_top, nearest}
 use Rattle.mx_model.specs.Reads.{Reads, Change}
 use Rattle.mx_model.specs.Serve.{Served, serve}
-use Rattle.mx_model.specs.State.{Core, Hart, Status, Running, Waiting, Halted, words, module_at, with_module, hart_at, with_hart}
+use Rattle.mx_model.specs.State.{Core, Hart, Status, Running, Waiting, Halted, module_at, with_module, hart_at, with_hart}
 
 -- what a hart does in its turn
-pub data Deed : Type 0 where
+pub data Action : Type 0 where
   -- it is halted, or isn't there
-  Rests : Deed
+  Rests : Action
   -- its call may not take effect yet
-  Waits : Deed
+  Waits : Action
   -- its call takes effect
-  Serves : (call : Call) → Deed
+  Serves : (call : Call) → Action
   -- it makes a supervisor call
-  Asks : (call : Call) → Deed
+  Asks : (call : Call) → Action
   -- it faults
-  Traps : (cause : ℕ) → (value : ℕ) → Deed
+  Traps : (cause : ℕ) → (value : ℕ) → Action
   -- a dead target sends it back from a gate
-  Bounces : Deed
+  Bounces : Action
   -- it crosses at a gate into a domain
-  Crosses : (target : ℕ) → Deed
+  Crosses : (target : ℕ) → Action
   -- it returns over its top frame, by an instruction that writes rd
-  Returns : (rd : ℕ) → (frame : Frame) → Deed
+  Returns : (rd : ℕ) → (frame : Frame) → Action
   -- an instruction leaves these registers and this pc
-  Runs : (regs : List ℕ) → (pc : ℕ) → Deed
+  Runs : (regs : List ℕ) → (pc : ℕ) → Action
   -- an instruction stores the low `size` bytes of a value
-  Puts : (address : ℕ) → (size : ℕ) → (value : ℕ) → Deed
+  Writes : (address : ℕ) → (size : ℕ) → (value : ℕ) → Action
 
--- a deed, and the words that the hart looks at before it, in order
+-- an action, and the words that the hart looks at before it, in order
 pub record Decided : Type 0 where
   pub looks : List Look
-  pub deed : Deed
+  pub action : Action
 
-abbrev pub without_look : Deed → Decided
-without_look deed = record { looks = []; deed = deed }
+abbrev pub without_look : Action → Decided
+without_look action = record { looks = []; action = action }
 
 -- a trap by a cause, with no look
 abbrev pub traps : ℕ → ℕ → Decided
@@ -65,17 +66,17 @@ traps cause value = without_look (Traps cause value)
 
 -- the permission of a domain at an address, none outside RAM, and whether it denies an access there
 abbrev pub perm_of : Reads → Core → ℕ → ℕ → Perm
-perm_of r c d address = option_map_or (r.perm d) (word_of address (words c)) P.None
+perm_of r c d address = option_map_or (r.perm d) (word_of address c.size) P.None
 
 abbrev pub is_denied : Reads → Core → ℕ → ℕ → Access → Bool
-is_denied r c d address access = not (allows (perm_of r c d address) access)
+is_denied r c d address access = denies (perm_of r c d) address access
 
 -- the call gate, or a return gate, that stands for a domain at an address
 abbrev pub call_gate_at : Core → ℕ → ℕ → Option ℕ
-call_gate_at c d address = option_map_or (call_gate c.gates d) (word_of address (words c)) None
+call_gate_at c d address = option_map_or (call_gate c.gates d) (word_of address c.size) None
 
 abbrev pub is_return_at : Core → ℕ → ℕ → Bool
-is_return_at c d address = option_map_or (is_return c.gates d) (word_of address (words c)) false
+is_return_at c d address = option_map_or (is_return c.gates d) (word_of address c.size) false
 
 -- the number that the bytes at an address hold
 abbrev pub load_at : Core → ℕ → ℕ → ℕ
@@ -90,10 +91,10 @@ at_gate c hart target =
     without_look (Crosses target)
 
 -- at a return gate (case 7): JAL and JALR return over the top frame
-abbrev pub returned_over : ℕ → ℕ → Frame → Deed
+abbrev pub returned_over : ℕ → ℕ → Frame → Action
 returned_over rd target frame = if frame.back == target then Returns rd frame else Traps 17 target
 
-abbrev pub at_return : Hart → ℕ → ℕ → Deed
+abbrev pub at_return : Hart → ℕ → ℕ → Action
 at_return hart rd target = option_map_or (returned_over rd target) (top hart.frames) (Traps 18 target)
 
 -- the call that a hart makes
@@ -106,21 +107,20 @@ call_of h hart = record {
   nested = nat_lt 0 (length hart.frames);
 }
 
--- what an effect without an access does, or a jump that isn't a return
-abbrev pub plain_deed : Effect → Deed
-plain_deed (Goes regs pc) = Runs regs pc
-plain_deed (Faults cause value) = Traps cause value
-plain_deed _ = Rests
+-- a JAL or JALR where no return gate stands: rd takes pc + 4 and the hart goes on at the target, or a misaligned target faults and
+-- writes no register
+abbrev pub jump_action : Hart → ℕ → ℕ → Action
+jump_action hart rd target = by_target target (Runs (written hart.regs rd (next hart.pc)) target) (Traps 0 target)
 
 -- a load, and a store
-abbrev pub load_deed : Reads → Core → Hart → ℕ → LoadWidth → ℕ → Deed
-load_deed r c hart address width rd =
+abbrev pub load_action : Reads → Core → Hart → ℕ → LoadWidth → ℕ → Action
+load_action r c hart address width rd =
     if is_denied r c hart.domain address A.Read then Traps 5 address else
     Runs (written hart.regs rd (loaded width (load_at c address (load_size width)))) (next hart.pc)
 
-abbrev pub store_deed : Reads → Core → Hart → ℕ → ℕ → ℕ → Deed
-store_deed r c hart address size value =
-    if is_denied r c hart.domain address A.Write then Traps 7 address else Puts address size value
+abbrev pub store_action : Reads → Core → Hart → ℕ → ℕ → ℕ → Action
+store_action r c hart address size value =
+    if is_denied r c hart.domain address A.Write then Traps 7 address else Writes address size value
 
 -- what a fetched instruction does by its effect (cases 7 to 9)
 abbrev pub by_effect : Reads → Core → ℕ → Hart → Effect → Decided
@@ -128,15 +128,15 @@ by_effect r c h hart (Goes regs pc) = without_look (Runs regs pc)
 by_effect r c h hart (Faults cause value) = traps cause value
 by_effect r c h hart (Loads p address width rd) = record {
   looks = looks_at c p hart.domain address;
-  deed = load_deed r c hart address width rd;
+  action = load_action r c hart address width rd;
 }
 by_effect r c h hart (Stores p address size value) = record {
   looks = looks_at c p hart.domain address;
-  deed = store_deed r c hart address size value;
+  action = store_action r c hart address size value;
 }
 by_effect r c h hart Calls = without_look (Asks (call_of h hart))
-by_effect r c h hart (Leaves rd target) = without_look (
-    if is_return_at c hart.domain hart.pc then at_return hart rd target else plain_deed (jumps hart.regs hart.pc rd target))
+by_effect r c h hart (Jumps rd target) = without_look (
+    if is_return_at c hart.domain hart.pc then at_return hart rd target else jump_action hart rd target)
 
 -- a fetched word that matches no row of the instruction table, or an instruction (case 6)
 abbrev pub by_word : Reads → Core → ℕ → Hart → ℕ → Option Inst → Decided
@@ -149,7 +149,7 @@ fetches r c h hart true = traps 1 hart.pc
 fetches r c h hart false = let word = load_at c hart.pc 4 in by_word r c h hart word (decoded word)
 
 abbrev pub after_look : List Look → Decided → Decided
-after_look looks d = record { looks = looks ++ d.looks; deed = d.deed }
+after_look looks d = record { looks = looks ++ d.looks; action = d.action }
 
 abbrev pub runs_at : Reads → Core → ℕ → Hart → Option ℕ → Decided
 runs_at r c h hart (Some target) = at_gate c hart target
@@ -208,7 +208,7 @@ abbrev pub crossed : Core → ℕ → Hart → ℕ → Core
 crossed c h hart target =
     let frame : Frame = record { back = reg hart.regs 1; caller = hart.domain; kept = saved hart.regs } in
     let stack = unwrap_or (nearest hart.frames target) (stack_address c target h) in
-    leaves h (with_hart h (record hart {
+    empties_places h (with_hart h (record hart {
       regs = slice_set hart.regs 2 stack;
       domain = target;
       frames = hart.frames ++ frame ∷ [];
@@ -218,7 +218,7 @@ crossed c h hart target =
 -- the top frame is given up: the hart goes on in the caller at the return address with the fifteen registers restored, and the places are emptied
 abbrev pub over_frame : Core → ℕ → Hart → Frame → List ℕ → Core
 over_frame c h hart frame regs =
-    leaves h (with_hart h (record hart {
+    empties_places h (with_hart h (record hart {
       regs = restored regs frame.kept;
       pc = frame.back;
       domain = frame.caller;
@@ -269,10 +269,6 @@ done h hart s = record (made T.Called (
 abbrev pub served : Reads → Core → ℕ → Hart → Call → Made
 served r c h hart call = done h hart (serve r c call)
 
--- nobody has heard a call that was just announced
-abbrev pub nobody : List Bool
-nobody = false ∷ false ∷ false ∷ false ∷ []
-
 -- an announced call waits until the other harts have heard it; where they are all halted, or for another call, it is served at once (case 8)
 abbrev pub asked : Reads → Core → ℕ → Hart → Call → Bool → Made
 asked r c h hart call true = served r c h hart call
@@ -281,8 +277,8 @@ asked r c h hart call false = made T.Called (with_hart h (record hart { status =
 abbrev pub is_served_now : Core → ℕ → Call → Bool
 is_served_now c h call = not (is_announced call.number) || is_ready c h nobody
 
--- a deed done, in the state after the looks
-abbrev pub acted : Reads → Core → ℕ → Hart → Deed → Made
+-- an action done, in the state after the looks
+abbrev pub acted : Reads → Core → ℕ → Hart → Action → Made
 acted r c h hart Rests = made T.Idle c
 acted r c h hart Waits = made T.Waited c
 acted r c h hart (Serves call) = served r c h hart call
@@ -292,17 +288,12 @@ acted r c h hart Bounces = made T.Returned (with_regs h hart (slice_set hart.reg
 acted r c h hart (Crosses target) = made T.Crossed (crossed c h hart target)
 acted r c h hart (Returns rd frame) = made T.Returned (over_frame c h hart frame (written hart.regs rd (next hart.pc)))
 acted r c h hart (Runs regs pc) = made T.Ran (with_regs h hart regs pc c)
-acted r c h hart (Puts address size value) =
+acted r c h hart (Writes address size value) =
     made T.Ran (with_regs h hart hart.regs (next hart.pc) (record c { ram = put_at c.ram (address - ram_base) size value }))
 
--- the decided deed done behind its looks
+-- the decided action done behind its looks
 abbrev pub enacted : Reads → Core → ℕ → Decided → Made
-enacted r c h d = acted r (looked_all r h d.looks c) h (hart_at c h) d.deed
-
--- whether hart h is halted, or isn't there
-abbrev pub is_halted : Status → Bool
-is_halted (Halted code) = true
-is_halted status = false
+enacted r c h d = acted r (looked_all r h d.looks c) h (hart_at c h) d.action
 
 -- hart h hears the others' calls, unless it is halted (case 2)
 abbrev pub heard_first : Core → ℕ → Core

@@ -3,12 +3,13 @@ use Rattle.std.specs.Prelude.{◌≡◌, ℕ, List, [], ◌∷◌, ◌+◌, ◌*
 use Rattle.std.specs.List.{AllByRecursion}
 use Rattle.mx_words.specs.Announced.{is_announced}
 use Rattle.mx_words.specs.FirstFit.{AreApart, most_blocks}
+use Rattle.mx_words.specs.Ranges.{most_words}
 use Rattle.mx_model.specs.declared.values.Call.{Call}
 use Rattle.mx_model.specs.declared.values.Frame.{Frame}
 use Rattle.mx_model.specs.declared.values.Gate.{Gate}
 use Rattle.mx_model.specs.Checks.{arg}
 use Rattle.mx_model.specs.Turn.{call_of}
-use Rattle.mx_model.specs.Gates.{is_at, most_gates, most_frames}
+use Rattle.mx_model.specs.Gates.{AreSingle, most_gates, most_frames}
 use Rattle.mx_model.specs.State.{Core, Hart, Module, Status, Running, Waiting, Halted, hart_at}
 
 -- the number of a domain of a machine with so many modules
@@ -66,11 +67,6 @@ pub record IsGate (modules size : ℕ) (g : Gate) : Type 0 where
   pub target : IsModule modules g.target
   pub word : g.word < size
 
--- at most one gate stands for a domain at a word: none behind a gate is for its domain at its word
-abbrev pub AreSingle : List Gate → Type 0
-AreSingle [] = Unit {0}
-AreSingle (g ∷ gs) = AllByRecursion (λ h. is_at g.domain g.word h ≡ false) gs × AreSingle gs
-
 -- a module whose areas lie in RAM, and whose blocks lie apart in its heap area
 pub record IsHome (size harts : ℕ) (m : Module) : Type 0 where
   pub heap : m.heap.first + m.heap.count ≤ size
@@ -80,7 +76,7 @@ pub record IsHome (size harts : ℕ) (m : Module) : Type 0 where
 
 -- all but rights and owners
 pub record IsValid (c : Core) : Type 0 where
-  pub few_words : c.size ≤ 2 ^ 24
+  pub few_words : c.size ≤ most_words
   pub ram_count : length c.ram ≡ 4 * c.size
   pub ram_bytes : (i : ℕ) → slice_index c.ram i < 256
   pub some_modules : 1 ≤ length c.modules

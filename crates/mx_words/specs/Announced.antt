@@ -1,7 +1,7 @@
 -- The range of words that an announced call may change.
 -- The rules: docs/MACHINE.md, "Announced calls".
-use Rattle.std.specs.Prelude.{ℕ, ◌==◌, ◌||◌, Bool, if◌then◌else◌, unwrap_or}
-use Rattle.mx_words.specs.Ranges.{word_range}
+use Rattle.std.specs.Prelude.{ℕ, ◌==◌, ◌||◌, Bool, if◌then◌else◌}
+use Rattle.mx_words.specs.Ranges.{range_words}
 
 -- whether a call is announced: grant, revoke_all, alloc and free change rights
 abbrev pub is_announced : ℕ → Bool
@@ -14,4 +14,4 @@ names_range number = (number == 3) || (number == 4)
 -- grant and revoke_all announce the range of a0 and a1, alloc and free the caller's heap area; no words are (0, 0)
 abbrev pub announced : ℕ → ℕ → ℕ → ℕ → (ℕ × ℕ) → (ℕ × ℕ)
 announced number a0 a1 words heap =
-    if names_range number then unwrap_or (word_range a0 a1 words) (0, 0) else heap
+    if names_range number then range_words a0 a1 words else heap

@@ -32,8 +32,8 @@ abbrev pub raised : ℕ → ℕ
 raised n = if nat_lt n (2 ^ 64 - 1) then n + 1 else n
 
 -- whether a span covers a word; whether it meets a range
-abbrev pub has : Span → ℕ → Bool
-has s word = covers s.first s.count word
+abbrev pub covers_word : Span → ℕ → Bool
+covers_word s word = covers s.first s.count word
 
 abbrev pub meets : Span → ℕ → ℕ → Bool
 meets s first count = overlaps s.first s.count first count
@@ -45,15 +45,15 @@ in_place places p = slice_index_or places p None
 -- the span of a place where it covers the word
 abbrev pub found_in_place : List (Option Span) → ℕ → ℕ → Option Span
 found_in_place places p word =
-    option_map_or (λ s. if has s word then Some s else None) (in_place places p) None
+    option_map_or (λ s. if covers_word s word then Some s else None) (in_place places p) None
 
 -- whether a kept entry is of the domain and covers the word
-abbrev pub answers : ℕ → ℕ → Entry → Bool
-answers domain word e = (e.0 == domain) && has e.1 word
+abbrev pub is_for : ℕ → ℕ → Entry → Bool
+is_for domain word e = (e.0 == domain) && covers_word e.1 word
 
 -- the newest kept span of the domain that covers the word
 abbrev pub found_kept : List Entry → ℕ → ℕ → Option Span
-found_kept kept domain word = option_map_or (λ (e : Entry). Some e.1) (find (answers domain word) kept) None
+found_kept kept domain word = option_map_or (λ (e : Entry). Some e.1) (find (is_for domain word) kept) None
 
 -- the list with a new entry in front, of which at most `most` stay
 abbrev pub kept_with : ℕ → Entry → List Entry → List Entry

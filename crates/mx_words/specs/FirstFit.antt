@@ -27,8 +27,8 @@ abbrev pub without_block : ℕ → List Area → List Area
 without_block first blocks = filter (λ (b : Area). not (b.first == first)) blocks
 
 -- the number of words of the live block that begins at a word
-abbrev pub block_at : List Area → ℕ → Option ℕ
-block_at blocks first = option_map (λ (b : Area). b.count) (find (λ (b : Area). b.first == first) blocks)
+abbrev pub block_words : List Area → ℕ → Option ℕ
+block_words blocks first = option_map (λ (b : Area). b.count) (find (λ (b : Area). b.first == first) blocks)
 
 -- how many live blocks a heap has at most
 abbrev pub most_blocks : ℕ

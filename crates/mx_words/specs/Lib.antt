@@ -9,6 +9,8 @@ pub mod Blocks
 pub mod Need
 pub mod Reach
 pub mod Caches
+pub mod Hearing
+pub mod FirstRow
 pub mod FirstFit
 pub mod Announced
 pub mod Starts

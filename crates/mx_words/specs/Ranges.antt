@@ -1,10 +1,14 @@
 -- Ranges of RAM words, and the addresses of words. Word i has the address 0x80000000 + 4 i.
 -- The rules: docs/MACHINE.md, "Memory, domains, harts" and "Supervisor calls".
-use Rattle.std.specs.Prelude.{ℕ, ◌+◌, ◌-◌, ◌*◌, ◌/◌, ◌%◌, Bool, ◌==◌, ◌&&◌, nat_lt, nat_le, if◌then◌else◌, Option, Some, None}
+use Rattle.std.specs.Prelude.{ℕ, ◌+◌, ◌-◌, ◌*◌, ◌/◌, ◌%◌, Bool, ◌==◌, ◌&&◌, nat_lt, nat_le, if◌then◌else◌, Option, Some, None, unwrap_or}
+use Rattle.mx_words.specs.declared.ranges.TheConstants.{RAM_BASE, MOST_WORDS}
 
--- the address of RAM's first byte
+-- the address of RAM's first byte, and the greatest number of words of a RAM
 abbrev pub ram_base : ℕ
-ram_base = 0x80000000
+ram_base = RAM_BASE
+
+abbrev pub most_words : ℕ
+most_words = MOST_WORDS
 
 -- the address of a word
 abbrev pub address_of : ℕ → ℕ
@@ -35,3 +39,7 @@ is_range address size words =
 abbrev pub word_range : ℕ → ℕ → ℕ → Option (ℕ × ℕ)
 word_range address size words =
     if is_range address size words then Some ((address - ram_base) / 4, (size + 3) / 4) else None
+
+-- the same, where no words, (0, 0), stand for what is no range
+abbrev pub range_words : ℕ → ℕ → ℕ → ℕ × ℕ
+range_words address size words = unwrap_or (word_range address size words) (0, 0)

@@ -49,6 +49,6 @@ perm_at m i = slice_index_or m i P.None
 abbrev pub perm : List Perm → ℕ → Perm
 perm m address = option_map_or (perm_at m) (word_of address (length m)) P.None
 
--- whether a domain's map denies an access at an address
-abbrev pub denies : List Perm → ℕ → Access → Bool
-denies m address access = not (allows (perm m address) access)
+-- whether the permissions of a domain, by address, deny an access at an address
+abbrev pub denies : (ℕ → Perm) → ℕ → Access → Bool
+denies perms address access = not (allows (perms address) access)

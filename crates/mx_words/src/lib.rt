@@ -10,7 +10,7 @@ mod tables;
 
 pub use blob::Blob;
 pub use perm::{Access, Perm, Span};
-pub use ranges::{word_of, word_range};
+pub use ranges::{MOST_WORDS, RAM_BASE, word_of, word_range};
 pub use spans::Spans;
 pub use tables::{Kind, Level, Need, Shown};
 

@@ -1,6 +1,6 @@
 //! Permissions of words, and spans of words that share one.
 ghost use Rattle.std.specs.Prelude.{◌≡◌, ◌<◌, ◌↔◌, IfSome, IsNone};
-ghost use Rattle.mx_words.specs.Caches.{has, meets};
+ghost use Rattle.mx_words.specs.Caches.{covers_word, meets};
 ghost use Rattle.mx_words.specs.Rights.{number, from_number, allows};
 
 /// What a protection domain may do with one word of RAM.
@@ -81,7 +81,7 @@ impl Perm {
 impl Span {
     /// Whether `word` is one of the span's words.
     pub fn covers(&self, word: u32) -> bool
-        ensures { result ≡ has self.now word }
+        ensures { result ≡ covers_word self.now word }
     {
         self.first <= word && word - self.first < self.count
     }

@@ -3,7 +3,10 @@ ghost use Rattle.std.specs.Prelude.{◌≡◌, ◌≤◌, ◌^◌};
 ghost use Rattle.mx_words.specs.Ranges.{word_of, word_range};
 
 /// The address of RAM's first byte.
-const RAM_BASE: u32 = 0x8000_0000;
+pub const RAM_BASE: u32 = 0x8000_0000;
+
+/// The greatest number of words of a RAM, which has 64 MiB.
+pub const MOST_WORDS: u32 = 0x100_0000;
 
 /// The number of the word that holds an address, in a RAM of `words` words, at most 2^24. `None` exactly outside RAM.
 pub fn word_of(addr: u32, words: u32) -> Option<u32>
