@@ -101,6 +101,7 @@ impl<T: PermTables, const N: usize> Checker<T, N> {
         ensures heard { HasHeardAll hart self.new.harts }
         ensures own { SameButCaches (hart_at self.new.harts hart) (hart_at self.old.harts hart) }
         ensures same_length { length self.new.harts ≡ length self.old.harts }
+        ensures few { length self.new.harts ≤ 4 }
     {
         self.bare.hear(hart);
     }
@@ -117,7 +118,8 @@ impl<T: PermTables, const N: usize> Checker<T, N> {
     /// Whether the hart has a call in flight that may take effect: each other hart that isn't halted has heard it.
     pub fn ready(&self, hart: u32) -> bool
         requires { hart < length self.now.harts }
-        ensures { result ≡ is_ready hart self.now.harts }
+        ensures ready { result ≡ is_ready hart self.now.harts }
+        ensures few { length self.now.harts ≤ 4 }
     {
         self.bare.ready(hart)
     }

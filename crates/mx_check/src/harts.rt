@@ -100,7 +100,7 @@ impl<const N: usize> Harts<N> {
     /// As `Part::name`, for one hart.
     pub fn name(&mut self, hart: u32, domain: u32)
         requires { hart < length self.old }
-        ensures { self.new ≡ at_hart hart (names domain) self.old }
+        ensures { self.new ≡ at_hart hart (with_domain domain) self.old }
     {
         let part = &mut self.parts[hart as usize];
         part.name(domain);

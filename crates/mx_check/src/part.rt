@@ -120,7 +120,7 @@ impl<const N: usize> Part<N> {
 
     /// Keeps the domain of a check that looks at no word.
     pub fn name(&mut self, domain: u32)
-        ensures { self.new ≡ names domain self.old }
+        ensures { self.new ≡ with_domain domain self.old }
     {
         self.domain = Some(domain);
     }

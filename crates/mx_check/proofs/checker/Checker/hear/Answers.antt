@@ -1,5 +1,5 @@
 use Rattle.mx_check.proofs.HearLaws.{hear-keeps, heard_all, hears_own, length-hears_first}
-use Rattle.std.proofs.Common.{◌<◌, length, ap, ◌∙◌}
+use Rattle.std.proofs.Common.{ℕ, ◌<◌, ◌≤◌, length, ap, ◌∙◌, sym, subst}
 use Rattle.mx_check.specs.Harts.{hart_at}
 use Rattle.mx_check.specs.Calls.{Checks}
 use Rattle.mx_check.specs.Conditions.{SameButCaches}
@@ -22,3 +22,7 @@ returns-clause-same_length g c =
     ap (λ (x : Checks _). length x.harts) c.hear.ensures
     ∙ length-hears_first c.args.hart (length c.self.inside.bare.harts) c.self.inside.bare.harts
     ∙ ap (λ (x : Checks _). length x.harts) c.self.view_is
+
+pub returns-clause-few : goal.returns-clause-few
+returns-clause-few g c = subst (λ (n : ℕ). n ≤ 4) (sym (ap (λ (x : Checks _). length x.harts) c.hear.ensures
+    ∙ length-hears_first c.args.hart (length c.self.inside.bare.harts) c.self.inside.bare.harts)) c.self.invariant.few
