@@ -5,7 +5,7 @@ use mx_words::{Need, Perm, Shown, Span, Spans};
 use std::alloc::Global;
 use std::cell::Cell;
 
-/// Segment tables, and the number of their calls of `perm`, `shown` and `fits`.
+/// Segment tables, and the number of their calls of `perm`, `span`, `shown` and `fits`.
 #[derive(Drop)]
 pub struct Counted {
     pub inner: Segments,
@@ -13,7 +13,7 @@ pub struct Counted {
 }
 
 impl Counted {
-    /// The number of calls of `perm`, `shown` and `fits`.
+    /// The number of calls of `perm`, `span`, `shown` and `fits`.
     pub fn asked(&self) -> u64 {
         self.asked.get()
     }
@@ -50,6 +50,11 @@ impl PermTables for Counted {
 
     fn lookup(&mut self, domain: u32, word: u32) -> Span {
         self.inner.lookup(domain, word)
+    }
+
+    fn span(&self, domain: u32, word: u32) -> Span {
+        self.ask();
+        self.inner.span(domain, word)
     }
 
     fn perm(&self, domain: u32, word: u32) -> Perm {

@@ -145,7 +145,12 @@ impl<K: PlainKind> PermTables for PlainTables<K> {
     }
 
     fn lookup(&mut self, domain: u32, word: u32) -> Span {
+        let span = self.span(domain, word);
         self.lookups = one_more(self.lookups);
+        span
+    }
+
+    fn span(&self, domain: u32, word: u32) -> Span {
         span_of(K::kind(), &self.maps[domain as usize - 1], word)
     }
 

@@ -102,7 +102,12 @@ impl PermTables for Segments {
     }
 
     fn lookup(&mut self, domain: u32, word: u32) -> Span {
+        let span = self.span(domain, word);
         self.lookups = one_more(self.lookups);
+        span
+    }
+
+    fn span(&self, domain: u32, word: u32) -> Span {
         run_in(&self.leaf, &self.chains, domain - 1, self.words, word)
     }
 

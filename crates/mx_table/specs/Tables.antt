@@ -1,6 +1,8 @@
 -- What tables of permissions mean: one map per domain, a limit, and a count of lookups.
-use Rattle.std.specs.Prelude.{◌≡◌, ℕ, ◌+◌, ◌-◌, ◌^◌, ◌<◌, ◌≤◌, List, [], slice_index_or, length, IsTrue, IsFalse}
+use Rattle.std.specs.Prelude.{◌≡◌, ℕ, ◌+◌, ◌-◌, ◌<◌, ◌≤◌, List, [], slice_index_or, length, IsTrue, IsFalse}
 use Rattle.std.specs.Prelude.{map as list_map}
+use Rattle.mx_table.specs.declared.TheConstants.{MODULES}
+pub use Rattle.mx_words.specs.Ranges.{most_words}
 use Rattle.mx_words.specs.declared.perm.Perm.{Perm}
 use Rattle.mx_words.specs.declared.perm.Perm.TheVariants as P
 use Rattle.mx_words.specs.declared.perm.Span.{Span}
@@ -11,12 +13,9 @@ use Rattle.mx_words.specs.Need.{need, within, fits}
 use Rattle.mx_table.specs.declared.refused.BuildRefused.{BuildRefused}
 use Rattle.mx_table.specs.declared.refused.BuildRefused.TheVariants.{TablesFull, NoMemory}
 
--- the greatest number of domains, and of words of RAM
+-- the greatest number of domains
 abbrev pub most_modules : ℕ
-most_modules = 63
-
-abbrev pub most_words : ℕ
-most_words = 2 ^ 24
+most_modules = MODULES
 
 -- domain d's map; domains count from 1
 abbrev pub map_of : List (List Perm) → ℕ → List Perm

@@ -60,6 +60,12 @@ pub trait PermTables: Sized {
         ensures same_size { size self.new ≡ size self.old }
         ensures same_limit { limits self.new ≡ limits self.old };
 
+    /// What `lookup` answers for the word. It is not counted, and nothing changes.
+    fn span(&self, domain: u32, word: u32) -> Span
+        requires domain { IsDomain (maps self.now) domain }
+        requires word { word < size self.now }
+        ensures { result ≡ span kind (map_of (maps self.now) domain) word };
+
     /// The permission of a word in a domain's map. It is not counted.
     fn perm(&self, domain: u32, word: u32) -> Perm
         requires domain { IsDomain (maps self.now) domain }
@@ -105,3 +111,8 @@ pub trait PermTables: Sized {
     // The maps always have the shape that the other calls rely on, and need no more than the limit.
     ghost shaped: { (t : Self) → IsShaped kind (size t) (limits t) (maps t) };
 }
+
+/// A law: tables of every kind have 1 to 63 maps, each with one permission for each of the 1 to 2^24 words, and they fit the limit.
+pub fn shape_of<T: PermTables>(tables: &T)
+    ensures { IsShaped T.kind (T.size tables.now) (T.limits tables.now) (T.maps tables.now) }
+{}

@@ -1,7 +1,6 @@
 //! Tables of permissions as tries.
 ghost use Rattle.std.specs.Prelude.{◌≡◌, ℕ, ◌+◌, ◌-◌, ◌<◌, ◌≤◌, List, length};
 ghost use Rattle.mx_words.specs.Need.{within};
-ghost use Rattle.mx_words.specs.Reach.{span};
 ghost use Rattle.mx_table.specs.Tables.{map_of};
 ghost use Rattle.mx_upper.specs.Read.{read_maps};
 ghost use Rattle.mx_upper.specs.Standing.{IsStanding};
@@ -60,16 +59,6 @@ impl<L: LeafForm> Trie<L> {
             word,
         )
     }
-
-    /// The span that a walk for a domain's word answers. It isn't counted.
-    fn span_of(&self, domain: u32, word: u32) -> Span
-        requires first { 1 ≤ domain }
-        requires last { domain ≤ length self.now.roots }
-        requires inside { word < self.now.words }
-        ensures { result ≡ span L.kind (map_of (read_maps L.kind self.now.upper self.now.leaf self.now.spill self.now.words self.now.roots) domain) word }
-    {
-        found_span::<L>(self.found(domain, word), word, self.words)
-    }
 }
 
 /// Whether a need is within a limit.
@@ -122,13 +111,17 @@ impl<L: LeafForm> PermTables for Trie<L> {
     }
 
     fn lookup(&mut self, domain: u32, word: u32) -> Span {
-        let span = self.span_of(domain, word);
+        let span = self.span(domain, word);
         self.lookups = self.lookups.saturating_add(1);
         span
     }
 
+    fn span(&self, domain: u32, word: u32) -> Span {
+        found_span::<L>(self.found(domain, word), word, self.words)
+    }
+
     fn perm(&self, domain: u32, word: u32) -> Perm {
-        self.span_of(domain, word).perm
+        self.span(domain, word).perm
     }
 
     fn fits(&self, change: &Change) -> bool {

@@ -3,7 +3,7 @@ use Rattle.mx_words.specs.declared.perm.Perm.{Perm}
 use Rattle.mx_words.specs.declared.tables.Kind.TheVariants as K
 use Rattle.mx_words.specs.Reach.{span}
 use Rattle.mx_segments.specs.Shape.{map_of-maps_in, row_of}
-use Rattle.mx_segments.proofs.segments.SegmentsPermTables.lookup.Goals as goal
+use Rattle.mx_segments.proofs.segments.SegmentsPermTables.span.Goals as goal
 
 pub run_in-requires-clause-row : goal.run_in-requires-clause-row
 run_in-requires-clause-row c = let t = c.args.self.now in row_of t.words t.leaf t.chains c.args.domain c.requires.domain
@@ -11,5 +11,5 @@ run_in-requires-clause-row c = let t = c.args.self.now in row_of t.words t.leaf 
 pub run_in-requires-clause-sound : goal.run_in-requires-clause-sound
 run_in-requires-clause-sound c = let t = c.args.self.now in t.kept.sound (c.args.domain - 1) (row_of t.words t.leaf t.chains c.args.domain c.requires.domain)
 
-pub returns-clause-found : goal.returns-clause-found
-returns-clause-found c = let t = c.args.self.now in c.run_in.ensures ∙ ap (λ (m : List Perm). span K.Segments m c.args.word) (sym (map_of-maps_in t.words t.leaf t.chains c.args.domain c.requires.domain))
+pub returns : goal.returns
+returns c = let t = c.args.self.now in c.run_in.ensures ∙ ap (λ (m : List Perm). span K.Segments m c.args.word) (sym (map_of-maps_in t.words t.leaf t.chains c.args.domain c.requires.domain))
