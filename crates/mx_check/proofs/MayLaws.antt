@@ -1,7 +1,7 @@
 -- Coherence and checks: what the caches and the tables answer is the map's permission, and what is kept agrees with the map.
 use Rattle.std.proofs.Common.{◌≡◌, ◌≢◌, ℕ, ◌-◌, ◌*◌, ◌/◌, ◌<◌, ◌≤◌, ◌⊎◌, inl, inr, ◌==◌, ◌&&◌, Bool, true, false, not, List, length, Option, Some, None, refl, sym, ap, subst, ◌∙◌, arith}
 use Rattle.std.specs.Prelude.{IfSome}
-use Rattle.std.proofs.lemmas.Bool.{cases_lt, ne_eqb}
+use Rattle.std.proofs.lemmas.Bool.{cases_lt, ne_eqb, not-false, not-true}
 use Rattle.std.proofs.lemmas.List.{get_or_past}
 use Rattle.mx_words.specs.declared.perm.Perm.{Perm}
 use Rattle.mx_words.specs.declared.perm.Perm.TheVariants as P
@@ -35,23 +35,15 @@ uniform_agrees : (m : List Perm) (own : Option Flight) (i : ℕ) (s : Span) → 
 uniform_agrees m own i s u = record { at = λ word inside spared. let c = covers_from s.first s.count word inside in u.alike word c.0 c.1 }
 
 -- a span that isn't barred meets no range of a call that the hart has heard
-not_false : (b : Bool) → not b ≡ false → b ≡ true
-not_false true e = refl
-not_false false e = cc
-
-not_true : (b : Bool) → not b ≡ true → b ≡ false
-not_true true e = cc
-not_true false e = refl
-
 second : (a b : Bool) → (a && b) ≡ false → a ≡ true → b ≡ false
 second a b e hit = sym (ap (λ x. x && b) hit) ∙ e
 
 unbarred : (h : ℕ) (s : Span) (harts : List Kept) (i : ℕ) (f : Flight) → is_barred h s harts ≡ false → i < length harts → i ≢ h →
     (hart_at harts i).flight ≡ Some f → is_in f.heard h ≡ true → meets s f.first f.count ≡ false
 unbarred h s harts i f free lt ne flying hit =
-    let all : all_below (length harts) (λ i. not (hart_bars h s harts i)) ≡ true = not_false (all_below (length harts) (λ i. not (hart_bars h s harts i))) free in
+    let all : all_below (length harts) (λ i. not (hart_bars h s harts i)) ≡ true = not-false (all_below (length harts) (λ i. not (hart_bars h s harts i))) free in
     let at : not (hart_bars h s harts i) ≡ true = all_below-at (length harts) i (λ i. not (hart_bars h s harts i)) all lt in
-    let no_bar : hart_bars h s harts i ≡ false = not_true (hart_bars h s harts i) at in
+    let no_bar : hart_bars h s harts i ≡ false = not-true (hart_bars h s harts i) at in
     let other : not (i == h) ≡ true = ap not (ne_eqb i h ne) in
     let flight : flight_bars h s (hart_at harts i).flight ≡ false = second (not (i == h)) (flight_bars h s (hart_at harts i).flight) no_bar other in
     second (is_in f.heard h) (meets s f.first f.count) (sym (ap (flight_bars h s) flying) ∙ flight) hit

@@ -3,7 +3,7 @@ use Rattle.std.proofs.Common.{◌≡◌, ℕ, ◌<◌, ◌≤◌, ◌⊎◌, inl
 use Rattle.std.specs.Prelude.{All, IfSome}
 use Rattle.std.specs.Option.{option_map_or}
 use Rattle.std.proofs.lemmas.Bool.Decides.{nat_tests}
-use Rattle.std.proofs.lemmas.Bool.{cases_lt, eqb-true}
+use Rattle.std.proofs.lemmas.Bool.{cases_lt, eqb-true, and_parts}
 use Rattle.std.proofs.lemmas.List.{get_or_past}
 use Rattle.std.proofs.lemmas.List.Elements.{All-set, All-take, All-cons, All-nil, All-head, All-tail, All-weaker, All-map, All-replicate}
 use Rattle.mx_words.specs.declared.perm.Span.{Span}
@@ -55,10 +55,6 @@ has_found_in_place P places p word s all e = by (in_place places p) (there (case
     by (Some t) holds e = at t (covers_word t word) holds refl e
 
 -- what the list answers is of the domain and covers the word
-both : (a b : Bool) → (a && b) ≡ true → (a ≡ true) × (b ≡ true)
-both true b e = (refl, e)
-both false b e = cc
-
 pub has_found_kept : (E : ℕ → Span → Type 0) (kept : List Entry) (domain word : ℕ) (s : Span) → All (λ (e : Entry). E e.0 e.1) kept →
     found_kept kept domain word ≡ Some s → E domain s × (covers_word s word ≡ true)
 has_found_kept E [] domain word s all e = cc
@@ -67,7 +63,7 @@ has_found_kept E (x ∷ xs) domain word s all e =
   where
     by : (found_kept xs domain word ≡ Some s → E domain s × (covers_word s word ≡ true)) → (b : Bool) → is_for domain word x ≡ b → option_map_or (λ (e : Entry). Some e.1) (cond b (Some x) (find (is_for domain word) xs)) None ≡ Some s → E domain s × (covers_word s word ≡ true)
     by rest true hit e =
-        let parts = both (x.0 == domain) (covers_word x.1 word) hit in
+        let parts = and_parts (x.0 == domain) (covers_word x.1 word) hit in
         let same : x.1 ≡ s = cc in
         let own : x.0 ≡ domain = eqb-true x.0 domain parts.0 in
         let here : E x.0 x.1 = All-head (λ (e : Entry). E e.0 e.1) x xs all in

@@ -5,17 +5,9 @@ use Rattle.std.specs.Option.{option_or}
 use Rattle.std.proofs.lemmas.List.{append-nil, length-append}
 use Rattle.mx_elf.specs.declared.segment.Seg.{Seg}
 use Rattle.mx_elf.specs.Field.{places}
-use Rattle.mx_elf.specs.Image.{Row, first_fault, segment_rows, is_loaded, segment_at, segments_at, rows_from}
+use Rattle.mx_elf.specs.Image.{first_fault, segment_rows, is_loaded, segment_at, segments_at, rows_from}
+use Rattle.mx_words.proofs.FirstRowLaws.{first_row-append}
 use Rattle.mx_elf.proofs.Places.{places-first, places-next, places-last}
-
--- the first fault of two lists of rows
-pub first_fault-append : (xs ys : List Row) → first_fault (xs ++ ys) ≡ option_or (first_fault xs) (first_fault ys)
-first_fault-append [] ys = refl
-first_fault-append (x ∷ xs) ys =
-    elim x.1 as (λ b. cond b (Some x.0) (first_fault (xs ++ ys)) ≡ option_or (cond b (Some x.0) (first_fault xs)) (first_fault ys)) [
-      | true ↦ refl
-      | false ↦ first_fault-append xs ys
-    ]
 
 -- what is loaded before the k-th header, and what its faults have to do with those of all
 pub record IsSoFar (bytes : List ℕ) (first count k : ℕ) (items : List Seg) : Type 0 where
@@ -44,7 +36,7 @@ here bytes first count k lt holds = rw (places-next first 32 count k lt, holds) 
 -- and its faults come first
 pub faults-here : (size n : ℕ) (s : Seg) (rest : List Seg)
     → first_fault (rows_from size n (s ∷ rest)) ≡ option_or (first_fault (segment_rows size (n, s))) (first_fault (rows_from size (n + 1) rest))
-faults-here size n s rest = first_fault-append (segment_rows size (n, s)) (rows_from size (n + 1) rest)
+faults-here size n s rest = first_row-append (segment_rows size (n, s)) (rows_from size (n + 1) rest)
 
 pub adds : (bytes : List ℕ) (first count k : ℕ) (items : List Seg) → k < count → is_loaded bytes (first + 32 * k) ≡ true
     → first_fault (segment_rows (length bytes) (length items, segment_at bytes (first + 32 * k))) ≡ None

@@ -10,7 +10,8 @@ use Rattle.mx_elf.specs.declared.segment.Seg.{Seg}
 use Rattle.mx_elf.specs.Field.{places}
 use Rattle.mx_elf.specs.Header.{e_entry, e_phoff, e_phnum, p_memsz}
 use Rattle.mx_elf.specs.Image.{first_fault, header_rows, segment_rows, rows_from, rows_of, is_loaded, segment_at, segments_at, segments_of, image_of, unless, IsSound}
-use Rattle.mx_elf.proofs.Loading.{first_fault-append, faults-here}
+use Rattle.mx_words.proofs.FirstRowLaws.{first_row-append}
+use Rattle.mx_elf.proofs.Loading.{faults-here}
 
 -- where neither of two has a value
 neither : (a b : Option ℕ) → option_or a b ≡ None → (a ≡ None) × (b ≡ None)
@@ -74,7 +75,7 @@ unfolding image_of
 sound-image bytes image e =
     let parts = given (first_fault (rows_of bytes)) image (record { entry = e_entry bytes; segments = segments_of bytes }) e in
     let none = neither (first_fault (header_rows bytes)) (first_fault (rows_from (length bytes) 0 (segments_of bytes)))
-    (sym (first_fault-append (header_rows bytes) (rows_from (length bytes) 0 (segments_of bytes))) ∙ parts.0) in
+    (sym (first_row-append (header_rows bytes) (rows_from (length bytes) 0 (segments_of bytes))) ∙ parts.0) in
     let all = sound-all (length bytes) 0 (segments_of bytes) (covers-all bytes (places (e_phoff bytes) 32 (e_phnum bytes))) (omega arith) none.1 in
     let same : image.segments ≡ segments_of bytes = ap (λ (i : Image). i.segments) parts.1 in
     rw same (all.0, omega (arith, all.1))

@@ -1,44 +1,44 @@
 -- What a file is read as: an image, or its first fault.
 use Rattle.std.specs.Prelude.{◌≡◌, ◌<◌, ◌≤◌, ℕ, ◌+◌, ◌*◌, ◌%◌, ◌==◌, nat_eq, nat_lt, Bool, not, ◌&&◌, ◌||◌, if◌then◌else◌, List, [], ◌∷◌, ◌++◌, length, map, filter, Option, Some, None, Result, Ok, Err}
 use Rattle.std.specs.List.{starts_with, flat_map, enumerate_from}
+use Rattle.mx_words.specs.FirstRow.{Row, first_row}
 use Rattle.mx_elf.specs.declared.image.Image.{Image}
 use Rattle.mx_elf.specs.declared.image.ImageFault.{ImageFault}
 use Rattle.mx_elf.specs.declared.segment.Seg.{Seg}
 use Rattle.mx_elf.specs.Field.{places}
 use Rattle.mx_elf.specs.Header.{ei_class, ei_data, e_type, e_machine, e_entry, e_phoff, e_phentsize, e_phnum, p_type, p_offset, p_vaddr, p_filesz, p_memsz, p_flags}
 
--- a row of the table of faults: its number, and whether it applies
-abbrev pub Row : Type 0
-Row = ℕ × Bool
+-- a row of the table of faults: whether it applies, and its number
+abbrev pub Fault : Type 0
+Fault = Row ℕ
 
 -- the number of the first row that applies
-abbrev pub first_fault : List Row → Option ℕ
-first_fault [] = None
-first_fault (row ∷ rows) = if row.1 then Some row.0 else first_fault rows
+abbrev pub first_fault : List Fault → Option ℕ
+first_fault rows = first_row rows
 
 -- the bytes 7F 45 4C 46, with which each file begins
 abbrev pub magic : List ℕ
 magic = 0x7F ∷ 0x45 ∷ 0x4C ∷ 0x46 ∷ []
 
 -- the faults of the file header and of the table of program headers, in order
-abbrev pub header_rows : List ℕ → List Row
+abbrev pub header_rows : List ℕ → List Fault
 header_rows bytes =
-    (1, nat_lt (length bytes) 52)
-    ∷ (2, not (starts_with nat_eq bytes magic))
-    ∷ (3, not (ei_class bytes == 1) || not (ei_data bytes == 1))
-    ∷ (4, not (e_type bytes == 2))
-    ∷ (5, not (e_machine bytes == 243))
-    ∷ (6, not (e_phnum bytes == 0) && (not (e_phentsize bytes == 32) || nat_lt (length bytes) (e_phoff bytes + 32 * e_phnum bytes)))
+    (nat_lt (length bytes) 52, 1)
+    ∷ (not (starts_with nat_eq bytes magic), 2)
+    ∷ (not (ei_class bytes == 1) || not (ei_data bytes == 1), 3)
+    ∷ (not (e_type bytes == 2), 4)
+    ∷ (not (e_machine bytes == 243), 5)
+    ∷ (not (e_phnum bytes == 0) && (not (e_phentsize bytes == 32) || nat_lt (length bytes) (e_phoff bytes + 32 * e_phnum bytes)), 6)
     ∷ []
 
 -- the faults of a segment with its place among the loaded ones, in a file of size bytes
-abbrev pub segment_rows : ℕ → ℕ × Seg → List Row
+abbrev pub segment_rows : ℕ → ℕ × Seg → List Fault
 segment_rows size placed =
     let s = placed.1 in
-    (7, placed.0 == 16)
-    ∷ (8, not (s.file == 0) && nat_lt size (s.offset + s.file))
-    ∷ (9, nat_lt s.memory s.file)
-    ∷ (10, not (s.address % 4 == 0))
+    (placed.0 == 16, 7)
+    ∷ (not (s.file == 0) && nat_lt size (s.offset + s.file), 8)
+    ∷ (nat_lt s.memory s.file, 9)
+    ∷ (not (s.address % 4 == 0), 10)
     ∷ []
 
 -- whether the program header at a place is a loaded segment
@@ -64,11 +64,11 @@ abbrev pub segments_of : List ℕ → List Seg
 segments_of bytes = segments_at bytes (places (e_phoff bytes) 32 (e_phnum bytes))
 
 -- the rows of segments, one after the other, the first one being at this place among the loaded ones
-abbrev pub rows_from : ℕ → ℕ → List Seg → List Row
+abbrev pub rows_from : ℕ → ℕ → List Seg → List Fault
 rows_from size place segments = flat_map (segment_rows size) (enumerate_from place segments)
 
 -- all faults that a file may have, in the order in which they are tested
-abbrev pub rows_of : List ℕ → List Row
+abbrev pub rows_of : List ℕ → List Fault
 rows_of bytes = header_rows bytes ++ rows_from (length bytes) 0 (segments_of bytes)
 
 -- a value, unless there is a fault

@@ -1,5 +1,6 @@
 -- What a word decodes to is valid, and its word is that word.
 use Rattle.std.proofs.Common.{◌≡◌, ℕ, ◌+◌, ◌*◌, ◌^◌, ◌<◌, Bool, true, false, cond, ◌==◌, ◌&&◌, List, [], ◌∷◌, Option, Some, None, refl, arith, sym, eqb-true}
+use Rattle.std.proofs.lemmas.Bool.{and_parts}
 use Rattle.std.specs.Prelude.{find, option_map, option_and_then, IfSome}
 use Rattle.mx_isa.specs.declared.inst.Inst.{Inst}
 use Rattle.mx_isa.specs.declared.inst.Inst.TheVariants.{Lui, Auipc, Jal, Jalr, Branch, Load, Store, OpImm, Op, Fence, Ecall, Ebreak}
@@ -83,15 +84,6 @@ IsOffset-imm_j w =
     let e = low-extended_21 n h in
     (IsExtended-21 n h, omega arith)
 
--- both parts of a conjunction
-and-left : (a b : Bool) → (a && b) ≡ true → a ≡ true
-and-left true b h = refl
-and-left false b h = h
-
-and-right : (a b : Bool) → (a && b) ≡ true → b ≡ true
-and-right true b h = h
-and-right false b h = cc
-
 -- an operation with an immediate
 op_imm-fits : (op : ImmOp) (w : ℕ) → w < 2 ^ 32 → opcode_of w ≡ 0x13 → imm_op_f3 op ≡ f3_of w → has_f7 (imm_op_f7 op) (f7_of w) ≡ true → Fits w (OpImm op (rd_of w) (rs1_of w) (imm_of_op op w))
 unfolding encoded IsValid
@@ -161,8 +153,8 @@ store-fits w h o x f = record { valid = (omega arith, omega arith, IsExtended-im
 op-fits : (w : ℕ) → w < 2 ^ 32 → opcode_of w ≡ 0x33 → (x : RegOp) → ((reg_op_f3 x == f3_of w) && (reg_op_f7 x == f7_of w)) ≡ true → Fits w (Op x (rd_of w) (rs1_of w) (rs2_of w))
 unfolding encoded IsValid
 op-fits w h o x p =
-    let f = eqb-true (reg_op_f3 x) (f3_of w) (and-left (reg_op_f3 x == f3_of w) (reg_op_f7 x == f7_of w) p) in
-    let g = eqb-true (reg_op_f7 x) (f7_of w) (and-right (reg_op_f3 x == f3_of w) (reg_op_f7 x == f7_of w) p) in
+    let f = eqb-true (reg_op_f3 x) (f3_of w) (and_parts (reg_op_f3 x == f3_of w) (reg_op_f7 x == f7_of w) p).0 in
+    let g = eqb-true (reg_op_f7 x) (f7_of w) (and_parts (reg_op_f3 x == f3_of w) (reg_op_f7 x == f7_of w) p).1 in
     record { valid = (omega arith, omega arith, omega arith); word = omega arith }
 
 -- the two words of the system opcode
@@ -192,7 +184,7 @@ AreSound-rows w h = (
               λ o. IfSome-option_map (λ x. (store_f3 x == f3_of w) ≡ true) (Fits w) (λ x. Store x (rs1_of w) (rs2_of w) (imm_s w)) (store_of (f3_of w)) (IfSome-find (λ x. store_f3 x == f3_of w) stores) (store-fits w h o),
               (
                 λ o. IfSome-option_map (λ op. ((imm_op_f3 op == f3_of w) && has_f7 (imm_op_f7 op) (f7_of w)) ≡ true) (Fits w) (λ op. OpImm op (rd_of w) (rs1_of w) (imm_of_op op w)) (imm_op_of (f3_of w) (f7_of w)) (IfSome-find (λ op. (imm_op_f3 op == f3_of w) && has_f7 (imm_op_f7 op) (f7_of w)) imm_ops)
-                    (λ op p. op_imm-fits op w h o (eqb-true (imm_op_f3 op) (f3_of w) (and-left (imm_op_f3 op == f3_of w) (has_f7 (imm_op_f7 op) (f7_of w)) p)) (and-right (imm_op_f3 op == f3_of w) (has_f7 (imm_op_f7 op) (f7_of w)) p)),
+                    (λ op p. op_imm-fits op w h o (eqb-true (imm_op_f3 op) (f3_of w) (and_parts (imm_op_f3 op == f3_of w) (has_f7 (imm_op_f7 op) (f7_of w)) p).0) (and_parts (imm_op_f3 op == f3_of w) (has_f7 (imm_op_f7 op) (f7_of w)) p).1),
                 (
                   λ o. IfSome-option_map (λ x. ((reg_op_f3 x == f3_of w) && (reg_op_f7 x == f7_of w)) ≡ true) (Fits w) (λ x. Op x (rd_of w) (rs1_of w) (rs2_of w)) (reg_op_of (f3_of w) (f7_of w)) (IfSome-find (λ x. (reg_op_f3 x == f3_of w) && (reg_op_f7 x == f7_of w)) reg_ops) (op-fits w h o),
                   (

@@ -1,7 +1,7 @@
 -- Blocks of a map by number: how many are broken, which are eighth-uniform, and which a change leaves alone.
 use Rattle.std.proofs.Common.{◌≡◌, ◌≢◌, ℕ, zero, suc, ◌+◌, ◌*◌, ◌/◌, ◌<◌, ◌≤◌, ◌⊎◌, inl, inr, ◌==◌, ◌&&◌, ◌||◌, Bool, true, false, not, List, [], ◌∷◌, length, drop, refl, sym, ap, ◌∙◌, arith, length-take, length-drop, eq-eqb}
 use Rattle.std.specs.List.{list_all}
-use Rattle.std.proofs.lemmas.Bool.{eqb-true, cases_lt, cases_eq}
+use Rattle.std.proofs.lemmas.Bool.{eqb-true, cases_lt, cases_eq, and_parts, or_cases, or_right}
 use Rattle.std.proofs.lemmas.List.{get_or-take, get_or-drop, ext_get_or, get_or_past}
 use Rattle.std.proofs.lemmas.Nat.{mul-add-lt}
 use Rattle.mx_words.specs.declared.perm.Perm.{Perm}
@@ -35,24 +35,12 @@ block_of-same size m n b long agree =
     let inside : i < size = omega (arith, length-take size (drop (b * size) m)) in
     block_of-at size m b i inside ∙ agree i inside ∙ sym (block_of-at size n b i inside))
 
--- both, or one of two tests
-and-parts : (a b : Bool) → (a && b) ≡ true → (a ≡ true) × (b ≡ true)
-and-parts true b h = (refl, h)
-and-parts false b h = absurd (let f : false ≡ true = h in cc)
-
-or-parts : (a b : Bool) → (a || b) ≡ true → (a ≡ true) ⊎ (b ≡ true)
-or-parts true b h = inl refl
-or-parts false b h = inr h
-
-or-second : (a b : Bool) → b ≡ true → (a || b) ≡ true
-or-second true b h = refl
-or-second false b h = h
 
 -- a permission that a whole list has
 all_same-at : (p : Perm) (ps : List Perm) (k : ℕ) → list_all (same p) ps ≡ true → k < length ps → p ≡ perm_at ps k
 all_same-at p [] k h below = absurd (omega arith)
-all_same-at p (q ∷ qs) zero h below = same_eq p q (and-parts (same p q) (list_all (same p) qs) h).0
-all_same-at p (q ∷ qs) (suc k) h below = all_same-at p qs k (and-parts (same p q) (list_all (same p) qs) h).1 (omega arith)
+all_same-at p (q ∷ qs) zero h below = same_eq p q (and_parts (same p q) (list_all (same p) qs) h).0
+all_same-at p (q ∷ qs) (suc k) h below = all_same-at p qs k (and_parts (same p q) (list_all (same p) qs) h).1 (omega arith)
 
 all_same_are : (p : Perm) (ps : List Perm) → ((k : ℕ) → k < length ps → p ≡ perm_at ps k) → list_all (same p) ps ≡ true
 all_same_are p [] each = refl
@@ -68,9 +56,9 @@ uniform_past p ps size k out below (inr h) = absurd (let full : length ps + 1 �
 
 uniform_step : (size : ℕ) (p : Perm) (ps : List Perm) (k : ℕ) → is_uniform size (p ∷ ps) ≡ true → suc k < size → (k < length ps) ⊎ (length ps ≤ k) → perm_at ps k ≡ p
 uniform_step size p ps k e below (inl h) =
-    sym (all_same-at p ps k (and-parts (list_all (same p) ps) (same p P.None || (length ps + 1 == size)) e).0 h)
+    sym (all_same-at p ps k (and_parts (list_all (same p) ps) (same p P.None || (length ps + 1 == size)) e).0 h)
 uniform_step size p ps k e below (inr h) =
-    uniform_past p ps size k h below (or-parts (same p P.None) (length ps + 1 == size) (and-parts (list_all (same p) ps) (same p P.None || (length ps + 1 == size)) e).1)
+    uniform_past p ps size k h below (or_cases (same p P.None) (length ps + 1 == size) (and_parts (list_all (same p) ps) (same p P.None || (length ps + 1 == size)) e).1)
 
 pub uniform_from : (size : ℕ) (xs : List Perm) → is_uniform size xs ≡ true → (k : ℕ) → k < size → perm_at xs k ≡ perm_at xs 0
 uniform_from size [] e k below = get_or_past [] k P.None (omega arith)
@@ -84,7 +72,7 @@ uniform_is size (p ∷ ps) short alike =
     rw first (full (cases_eq (length ps + 1) size))
   where
     full : (length ps + 1 ≡ size) ⊎ (length ps + 1 ≢ size) → (same p P.None || (length ps + 1 == size)) ≡ true
-    full (inl h) = or-second (same p P.None) (length ps + 1 == size) (eq-eqb (length ps + 1) size h)
+    full (inl h) = or_right (same p P.None) (length ps + 1 == size) (eq-eqb (length ps + 1) size h)
     full (inr h) =
         let none : p ≡ P.None = sym (alike (suc (length ps)) (omega arith)) ∙ get_or_past ps (length ps) P.None (omega arith) in
         rw (same_from p P.None none) refl

@@ -4,7 +4,7 @@ use Rattle.std.proofs.Common.{◌≡◌, ◌≢◌, ℕ, zero, suc, ◌+◌, ◌
 use Rattle.std.proofs.lemmas.List.{get_or_append_left, length-replicate, get_or_past}
 use Rattle.std.proofs.Math.Nat.{div-mul-le_self, lt-div-mul-add, suc-mul}
 use Rattle.std.proofs.lemmas.Nat.{mul-le}
-use Rattle.std.proofs.lemmas.Bool.{cases_lt, cases_eq, le-ltb, ne_eqb}
+use Rattle.std.proofs.lemmas.Bool.{cases_lt, cases_eq, le-ltb, ne_eqb, or_parts}
 use Rattle.mx_words.specs.declared.perm.Perm.{Perm}
 use Rattle.mx_words.specs.declared.perm.Perm.TheVariants as P
 use Rattle.mx_words.specs.Rights.{perm_at}
@@ -120,19 +120,11 @@ count_two_more n x y p q h =
     let all = count_below-sum n p q (λ i. (i == x) || (i == y)) (λ i below e f. h i below (apart_left i f) (apart_right i f) e) in
     omega (arith, count_below-one n x, count_below-one n y)
   where
-    or-left : (a b : Bool) → (a || b) ≡ false → a ≡ false
-    or-left true b e = cc
-    or-left false b e = refl
-
-    or-right : (a b : Bool) → (a || b) ≡ false → b ≡ false
-    or-right true b e = cc
-    or-right false b e = e
-
     apart_left : (i : ℕ) → ((i == x) || (i == y)) ≡ false → i ≢ x
-    apart_left i f e = let a : (i == x) ≡ true = eq-eqb i x e in let b : (i == x) ≡ false = or-left (i == x) (i == y) f in cc
+    apart_left i f e = let a : (i == x) ≡ true = eq-eqb i x e in let b : (i == x) ≡ false = (or_parts (i == x) (i == y) f).0 in cc
 
     apart_right : (i : ℕ) → ((i == x) || (i == y)) ≡ false → i ≢ y
-    apart_right i f e = let a : (i == y) ≡ true = eq-eqb i y e in let b : (i == y) ≡ false = or-right (i == x) (i == y) f in cc
+    apart_right i f e = let a : (i == y) ≡ true = eq-eqb i y e in let b : (i == y) ≡ false = (or_parts (i == x) (i == y) f).1 in cc
 
 -- a whole line is itself
 whole-at : (block : List Perm) (p : Perm) → length block ≡ 16 → ((k : ℕ) → k < 16 → perm_at block k ≡ p) → (k : ℕ) → k < length (whole_line block) → perm_at (whole_line block) k ≡ p

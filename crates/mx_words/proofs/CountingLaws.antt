@@ -1,6 +1,6 @@
 -- Laws on counting, summing, testing and listing the numbers below a bound.
 use Rattle.std.proofs.Common.{◌≡◌, ◌≢◌, ℕ, zero, suc, ◌+◌, ◌-◌, ◌<◌, ◌≤◌, Bool, true, false, ◌&&◌, List, [], ◌∷◌, length, get_or, sum_by, refl, sym, ◌∙◌, ap, arith, inl, inr, ◌⊎◌, add-one, length-append}
-use Rattle.std.proofs.lemmas.Bool.{cases_lt}
+use Rattle.std.proofs.lemmas.Bool.{cases_lt, and_parts}
 use Rattle.std.proofs.lemmas.List.{get_or_append_left, get_or_push, same_lists}
 use Rattle.std.proofs.lemmas.List.Sums.{sum_by_push}
 use Rattle.mx_words.specs.Counting.{bit, count_below, all_below, sum_below, list_below}
@@ -175,11 +175,7 @@ pub all_below-at : (n i : ℕ) (p : ℕ → Bool) → all_below n p ≡ true →
 unfolding all_below
 all_below-at zero i p all lt = absurd (omega arith)
 all_below-at (suc n) i p all lt =
-    elim (cases_below i n (omega arith)) [ inl h ↦ all_below-at n i p (both (all_below n p) (p n) all).0 h | inr h ↦ ap p h ∙ (both (all_below n p) (p n) all).1 ]
-  where
-    both : (a b : Bool) → (a && b) ≡ true → (a ≡ true) × (b ≡ true)
-    both true b e = (refl, e)
-    both false b e = (cc, cc)
+    elim (cases_below i n (omega arith)) [ inl h ↦ all_below-at n i p (and_parts (all_below n p) (p n) all).0 h | inr h ↦ ap p h ∙ (and_parts (all_below n p) (p n) all).1 ]
 
 -- the numbers below a, and k more from a on
 pub count_below-plus : (a k : ℕ) (p : ℕ → Bool) → count_below (a + k) p ≡ count_below a p + count_below k (λ i. p (a + i))

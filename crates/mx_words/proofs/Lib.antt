@@ -11,3 +11,4 @@ pub mod BlockLaws
 pub mod ReachLaws
 pub mod LocalReach
 pub mod BrokenLaws
+pub mod FirstRowLaws

@@ -1,5 +1,6 @@
 -- A list in pieces, by the number of the piece.
 use Rattle.std.proofs.Common.{◌≡◌, ℕ, zero, suc, ◌+◌, ◌-◌, ◌*◌, ◌<◌, ◌≤◌, Bool, true, false, ◌&&◌, List, [], ◌∷◌, length, take, drop, refl, sym, ap, ◌∙◌, arith, length-drop, add-one}
+use Rattle.std.proofs.lemmas.Bool.{and_from, and_parts}
 use Rattle.std.proofs.Math.Nat.{suc-mul}
 use Rattle.std.proofs.lemmas.List.{drop-drop}
 use Rattle.std.proofs.lemmas.List.Sums.{sum_by-cons}
@@ -72,27 +73,16 @@ count_pieces size f some none (suc k) (x ∷ xs) short =
     omega (arith, rest, first, here, shift, w)
 
 -- all pieces pass a test that an empty piece passes
-and-left : (a b : Bool) → (a && b) ≡ true → a ≡ true
-and-left true b e = refl
-and-left false b e = e
-
-and-right : (a b : Bool) → (a && b) ≡ true → b ≡ true
-and-right true b e = e
-and-right false b e = cc
-
-and-both : (a b : Bool) → a ≡ true → b ≡ true → (a && b) ≡ true
-and-both a b e f = rw (e, f) refl
-
 pub all_pieces-at : {A : Type 0} (size : ℕ) (f : List A → Bool) → 0 < size → f [] ≡ true → (j : ℕ) (xs : List A) →
     list_all f (pieces size xs) ≡ true → f (piece size xs j) ≡ true
 all_pieces-at size f some none j [] all = ap f (piece-none size j) ∙ none
 all_pieces-at size f some none zero (x ∷ xs) all =
     ap f (piece-zero size (x ∷ xs))
-    ∙ and-left (f (take size (x ∷ xs))) (list_all f (pieces size (drop size (x ∷ xs)))) (ap (list_all f) (sym (pieces-first size x xs some)) ∙ all)
+    ∙ (and_parts (f (take size (x ∷ xs))) (list_all f (pieces size (drop size (x ∷ xs)))) (ap (list_all f) (sym (pieces-first size x xs some)) ∙ all)).0
 all_pieces-at size f some none (suc j) (x ∷ xs) all =
     ap f (sym (piece-next size (x ∷ xs) j))
     ∙ all_pieces-at size f some none j (drop size (x ∷ xs))
-    (and-right (f (take size (x ∷ xs))) (list_all f (pieces size (drop size (x ∷ xs)))) (ap (list_all f) (sym (pieces-first size x xs some)) ∙ all))
+    (and_parts (f (take size (x ∷ xs))) (list_all f (pieces size (drop size (x ∷ xs)))) (ap (list_all f) (sym (pieces-first size x xs some)) ∙ all)).1
 
 pub all_pieces_are : {A : Type 0} (size : ℕ) (f : List A → Bool) → 0 < size → (k : ℕ) (xs : List A) → length xs ≤ k * size →
     ((j : ℕ) → j < k → f (piece size xs j) ≡ true) → list_all f (pieces size xs) ≡ true
@@ -100,7 +90,7 @@ all_pieces_are size f some k [] short each = refl
 all_pieces_are size f some zero (x ∷ xs) short each = absurd (omega arith)
 all_pieces_are size f some (suc k) (x ∷ xs) short each =
     ap (list_all f) (pieces-first size x xs some)
-    ∙ and-both (f (take size (x ∷ xs))) (list_all f (pieces size (drop size (x ∷ xs))))
+    ∙ and_from (f (take size (x ∷ xs))) (list_all f (pieces size (drop size (x ∷ xs))))
     (ap f (sym (piece-zero size (x ∷ xs))) ∙ each 0 (omega arith))
     (all_pieces_are size f some k (drop size (x ∷ xs)) (rest-short size k (x ∷ xs) short)
     (λ j below. ap f (piece-next size (x ∷ xs) j) ∙ each (suc j) (omega arith)))

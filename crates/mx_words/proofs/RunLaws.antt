@@ -1,5 +1,6 @@
 -- Laws of maximal runs: their number is that of their first places, and the span round a word.
 use Rattle.std.proofs.Common.{◌≡◌, ℕ, zero, suc, ◌+◌, ◌-◌, ◌<◌, ◌≤◌, Bool, true, false, cond, not, ◌==◌, ◌||◌, List, [], ◌∷◌, length, get_or, drop, slice_range, refl, sym, ◌∙◌, ap, arith, length-take, length-drop, get_or-take, get_or-drop}
+use Rattle.std.proofs.lemmas.Bool.{not-false}
 use Rattle.std.proofs.lemmas.Bool.Decides.{nat_tests}
 use Rattle.std.specs.List.{prefix_len, suffix_len}
 use Rattle.std.proofs.lemmas.List.Sums.{prefix_len_is, suffix_len_is}
@@ -117,12 +118,8 @@ is_start-first m = refl
 pub is_start-behind : (m : List Perm) (i : ℕ) → is_start m (i + 1) ≡ not (same (perm_at m i) (perm_at m (i + 1)))
 is_start-behind m i = begins_behind same P.None m i
 
-not_false : (b : Bool) → not b ≡ false → b ≡ true
-not_false true e = refl
-not_false false e = cc
-
 pub no_start_same : (m : List Perm) (i : ℕ) → is_start m (i + 1) ≡ false → perm_at m i ≡ perm_at m (i + 1)
-no_start_same m i e = same_eq (perm_at m i) (perm_at m (i + 1)) (not_false (same (perm_at m i) (perm_at m (i + 1))) (sym (is_start-behind m i) ∙ e))
+no_start_same m i e = same_eq (perm_at m i) (perm_at m (i + 1)) (not-false (same (perm_at m i) (perm_at m (i + 1))) (sym (is_start-behind m i) ∙ e))
 
 -- where no run begins behind word i up to word j, they have one permission
 pub no_start_between : (m : List Perm) (i k : ℕ) → ((x : ℕ) → i < x → x ≤ i + k → is_start m x ≡ false) → perm_at m i ≡ perm_at m (i + k)
