@@ -6,10 +6,7 @@ ghost use Rattle.mx_check.specs.Conditions.{MayLook};
 use mx_check::Checker;
 use mx_segments::Segments;
 use mx_table::PermTables;
-use mx_words::Access;
-
-/// The address of RAM's first byte.
-const BASE: u32 = 0x8000_0000;
+use mx_words::{RAM_BASE, Access};
 
 /// A checker of one hart over these tables.
 pub fn fresh(tables: Segments) -> Checker<Segments, 8>
@@ -27,7 +24,7 @@ pub fn hits(checker: &mut Checker<Segments, 8>, rounds: u64) -> u64
 {
     let mut allowed = 0;
     for round in 0..rounds {
-        let addr = BASE + (round % 1024) as u32 * 4;
+        let addr = RAM_BASE + (round % 1024) as u32 * 4;
         if checker.may(0, 5, 1, addr, Access::Read) {
             allowed += 1;
         }

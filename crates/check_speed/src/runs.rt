@@ -7,10 +7,7 @@ ghost use Rattle.check_speed.specs.Revoke.{called, IsReader};
 
 use mx_check::{Checker, Counts};
 use mx_table::{Change, PermTables};
-use mx_words::{Access, Perm};
-
-/// The address of RAM's first byte.
-const BASE: u32 = 0x8000_0000;
+use mx_words::{RAM_BASE, Access, Perm};
 
 /// A check of word 0 by hart 0 at place 5 in a domain, which the hart then leaves.
 fn visit<T: PermTables, const N: usize>(
@@ -25,7 +22,7 @@ fn visit<T: PermTables, const N: usize>(
     ensures free { (d : ℕ) → MayLook 0 d checker.new.harts }
     ensures two { length (T.maps checker.new.tables) ≡ 2 }
 {
-    let answer = checker.may(0, 5, domain, BASE, access);
+    let answer = checker.may(0, 5, domain, RAM_BASE, access);
     checker.leave_domain(0);
     answer
 }
@@ -40,8 +37,8 @@ pub fn two_domains<T: PermTables, const N: usize>(
 {
     let first = visit(checker, 1, Access::Write);
     let second = visit(checker, 2, Access::Write);
-    let third = checker.may(0, 5, 1, BASE, Access::Read);
-    let fourth = checker.may(0, 5, 1, BASE, Access::Write);
+    let third = checker.may(0, 5, 1, RAM_BASE, Access::Read);
+    let fourth = checker.may(0, 5, 1, RAM_BASE, Access::Write);
     ([first, second, third, fourth], checker.counts(0))
 }
 
@@ -82,7 +79,7 @@ fn look<T: PermTables, const N: usize>(checker: &mut Checker<T, N>) -> (bool, Co
     ensures two { length (T.maps checker.new.tables) ≡ 2 }
     ensures same_size { T.size checker.new.tables ≡ T.size checker.old.tables }
 {
-    let answer = checker.may(1, 5, 2, BASE + 4096, Access::Read);
+    let answer = checker.may(1, 5, 2, RAM_BASE + 4096, Access::Read);
     (answer, checker.counts(1))
 }
 

@@ -4,12 +4,9 @@ ghost use Rattle.mx_words.specs.Bytes.{number_at, put_at, cleared_at};
 ghost use Rattle.mx_memory.specs.Places.{place_of, IsInside};
 ghost use Rattle.mx_words.specs.Bytes.{IsSize};
 
-use mx_words::NoMemory;
+use mx_words::{NoMemory, RAM_BASE};
 use std::alloc::Global;
 use std::marker::Model;
-
-/// The address of RAM's first byte.
-const BASE: u32 = 0x8000_0000;
 
 /// RAM: a list of bytes, of which the first has the address 0x80000000. Numbers lie in it
 /// little-endian (RISC-V unprivileged manual 20191213, 1.4).
@@ -46,7 +43,7 @@ impl Ram {
         ensures number { result ≡ number_at self.now (place_of addr) size }
         ensures below { result < 256 ^ size }
     {
-        let at = (addr - BASE) as usize;
+        let at = (addr - RAM_BASE) as usize;
         let bytes = self.bytes.as_slice();
         match size {
             1 => u32::from(bytes[at]),
@@ -65,7 +62,7 @@ impl Ram {
         ensures bytes { self.new ≡ put_at self.old (place_of addr) size value }
         ensures size { length self.new ≡ length self.old }
     {
-        let at = (addr - BASE) as usize;
+        let at = (addr - RAM_BASE) as usize;
         let bytes = self.bytes.as_mut_slice();
         match size {
             1 => put_byte(bytes, at, value),

@@ -7,12 +7,9 @@ ghost use Rattle.mx_words.specs.Bytes.{put_at};
 
 use mx_core::{Bus, Denied};
 use mx_memory::Ram;
-use mx_words::{Access, NoMemory, Perm};
+use mx_words::{RAM_BASE, Access, NoMemory, Perm};
 use std::alloc::Global;
 use std::marker::Model;
-
-/// The address of RAM's first byte.
-const BASE: u32 = 0x8000_0000;
 
 /// RAM and one permission per word, looked up by index at each access.
 #[derive(Drop)]
@@ -107,7 +104,7 @@ fn perm_at(perms: &[Perm], addr: u32) -> Perm
     ensures value { result ≡ perm perms.now addr }
     ensures inside { (result ≡ Perm.None) ⊎ ((ram_base ≤ addr) × (addr - ram_base < 4 * length perms.now)) }
 {
-    let word = (addr.wrapping_sub(BASE) / 4) as usize;
+    let word = (addr.wrapping_sub(RAM_BASE) / 4) as usize;
     if word < perms.len() {
         perms[word]
     } else {

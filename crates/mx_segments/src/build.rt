@@ -10,10 +10,9 @@ ghost use Rattle.mx_segments.specs.Sound.{map_in, IsSound};
 
 use crate::Chains;
 use crate::change::change_row;
-use crate::entries::RAM_BASE;
 use crate::store::{grow, put};
 use mx_pool::Pool;
-use mx_words::Spans;
+use mx_words::{RAM_BASE, Spans};
 
 // Gives an empty list its first frame, with the one entry of a map without permissions.
 fn start_row(leaf: &mut Pool<64>, chains: &mut Chains, row: u32, words: u32)

@@ -14,10 +14,7 @@ ghost use Rattle.mx_segments.specs.Sound.{map_in, IsSound};
 use crate::Chains;
 use crate::store::word;
 use mx_pool::Pool;
-use mx_words::{Level, Perm, Shown, Span};
-
-/// The address of RAM's first word.
-pub(crate) const RAM_BASE: u32 = 0x8000_0000;
+use mx_words::{Level, Perm, RAM_BASE, Shown, Span};
 
 // Whether a stored word is an entry of a run that begins before a word.
 fn is_before(stored: u32, word: u32) -> bool

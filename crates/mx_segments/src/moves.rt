@@ -6,10 +6,9 @@ ghost use Rattle.mx_segments.specs.Store.{frames_in, word_in, IsStore, KeepsOthe
 ghost use Rattle.mx_segments.specs.Entries.{entry_word};
 
 use crate::Chains;
-use crate::entries::RAM_BASE;
 use crate::store::{grow, put, shrink, word};
 use mx_pool::Pool;
-use mx_words::Perm;
+use mx_words::{Perm, RAM_BASE};
 
 // Writes word `from` at place `to` too.
 fn copy_word(leaf: &mut Pool<64>, chains: &Chains, row: u32, from: u32, to: u32)
