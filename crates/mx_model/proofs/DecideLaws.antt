@@ -73,12 +73,12 @@ action-over : (modules h : ℕ) (hart : Hart) (rd target : ℕ) (o : Option Fram
 action-over modules h hart rd target None p = lit< tt
 action-over modules h hart rd target (Some frame) p = action-returned_over modules h hart rd target frame p
 
-action-at_return : (modules h : ℕ) (hart : Hart) (rd target : ℕ) → IsHart modules h hart → IsAction modules h hart (at_return hart rd target)
-action-at_return modules h hart rd target p = action-over modules h hart rd target (top hart.frames) (all-last (IsFrame modules) hart.frames None p.frames tt)
+action-at_return : (modules harts h : ℕ) (hart : Hart) (rd target : ℕ) → IsHart modules harts h hart → IsAction modules h hart (at_return hart rd target)
+action-at_return modules harts h hart rd target p = action-over modules h hart rd target (top hart.frames) (all-last (IsFrame modules) hart.frames None p.frames tt)
 
 -- at a jump that isn't a return
-action-jump : (modules h : ℕ) (hart : Hart) (rd target : ℕ) → IsHart modules h hart → target < 2 ^ 32 → IsAction modules h hart (jump_action hart rd target)
-action-jump modules h hart rd target p q = elim (target % 4 == 0) as (λ b. (target % 4 == 0) ≡ b →
+action-jump : (modules harts h : ℕ) (hart : Hart) (rd target : ℕ) → IsHart modules harts h hart → target < 2 ^ 32 → IsAction modules h hart (jump_action hart rd target)
+action-jump modules harts h hart rd target p q = elim (target % 4 == 0) as (λ b. (target % 4 == 0) ≡ b →
     IsAction modules h hart (cond b (Runs (written hart.regs rd (next hart.pc)) target) (Traps 0 target))) [
       | true ↦ λ e. (registers-written hart.regs rd (next hart.pc) p.regs (small-plus hart.pc 4), record { aligned = eqb-true (target % 4) 0 e; small = q })
       | false ↦ λ e. lit< tt
@@ -91,8 +91,8 @@ number-load ram k Lw h = number-four ram k h
 number-load ram k Lbu h = number-one ram k h
 number-load ram k Lhu h = number-two ram k h
 
-pub call-of : (modules h : ℕ) (hart : Hart) → IsHart modules h hart → IsCall modules h (call_of h hart)
-call-of modules h hart p = record { hart = refl; domain = p.domain; small = arguments }
+pub call-of : (modules harts h : ℕ) (hart : Hart) → IsHart modules harts h hart → IsCall modules h (call_of h hart)
+call-of modules harts h hart p = record { hart = refl; domain = p.domain; small = arguments }
   where
     arguments : (i : ℕ) → arg (call_of h hart) i < 2 ^ 32
     arguments zero = p.regs.small 10
@@ -101,7 +101,7 @@ call-of modules h hart p = record { hart = refl; domain = p.domain; small = argu
     arguments (suc (suc (suc zero))) = p.regs.small 13
     arguments (suc (suc (suc (suc i)))) = lit< tt
 
-action-by_effect : (r : Reads) (c : Core) (h : ℕ) (hart : Hart) (e : Effect) → IsValid c → IsHart (length c.modules) h hart → IsEffect e →
+action-by_effect : (r : Reads) (c : Core) (h : ℕ) (hart : Hart) (e : Effect) → IsValid c → IsHart (length c.modules) (length c.harts) h hart → IsEffect e →
     IsAction (length c.modules) h hart (by_effect r c h hart e).action
 action-by_effect r c h hart (Goes regs pc) v p q = q
 action-by_effect r c h hart (Faults cause value) v p q = q
@@ -114,16 +114,16 @@ action-by_effect r c h hart (Stores a address size value) v p q =
 action-by_effect r c h hart Calls v p q = refl
 action-by_effect r c h hart (Jumps rd target) v p q =
     action-choice (length c.modules) h hart (is_return_at c hart.domain hart.pc) (at_return hart rd target) (jump_action hart rd target)
-    (action-at_return (length c.modules) h hart rd target p)
-    (action-jump (length c.modules) h hart rd target p q)
+    (action-at_return (length c.modules) (length c.harts) h hart rd target p)
+    (action-jump (length c.modules) (length c.harts) h hart rd target p q)
 
-action-by_word : (r : Reads) (c : Core) (h : ℕ) (hart : Hart) (word : ℕ) (o : Option Inst) → IsValid c → IsHart (length c.modules) h hart → IfSome o (Fits word) →
+action-by_word : (r : Reads) (c : Core) (h : ℕ) (hart : Hart) (word : ℕ) (o : Option Inst) → IsValid c → IsHart (length c.modules) (length c.harts) h hart → IfSome o (Fits word) →
     IsAction (length c.modules) h hart (by_word r c h hart word o).action
 action-by_word r c h hart word None v p q = lit< tt
 action-by_word r c h hart word (Some inst) v p q =
     action-by_effect r c h hart (effect inst hart.regs hart.pc) v p (effect-valid inst hart.regs hart.pc q.valid p.regs p.pc)
 
-action-fetches : (r : Reads) (c : Core) (h : ℕ) (hart : Hart) (b : Bool) → IsValid c → IsHart (length c.modules) h hart →
+action-fetches : (r : Reads) (c : Core) (h : ℕ) (hart : Hart) (b : Bool) → IsValid c → IsHart (length c.modules) (length c.harts) h hart →
     IsAction (length c.modules) h hart (fetches r c h hart b).action
 action-fetches r c h hart true v p = lit< tt
 action-fetches r c h hart false v p =
@@ -131,7 +131,7 @@ action-fetches r c h hart false v p =
     let small : word < 2 ^ 32 = number-four c.ram (hart.pc - ram_base) v.ram_bytes in
     action-by_word r c h hart word (decoded word) v p (decoded-fits word small)
 
-action-runs_at : (r : Reads) (c : Core) (h : ℕ) (hart : Hart) (o : Option ℕ) → IsValid c → IsHart (length c.modules) h hart →
+action-runs_at : (r : Reads) (c : Core) (h : ℕ) (hart : Hart) (o : Option ℕ) → IsValid c → IsHart (length c.modules) (length c.harts) h hart →
     IfSome o (IsModule (length c.modules)) → IsAction (length c.modules) h hart (runs_at r c h hart o).action
 action-runs_at r c h hart (Some target) v p q = action-at_gate c h hart target p.regs q
 action-runs_at r c h hart None v p q = action-fetches r c h hart (is_denied r c hart.domain hart.pc A.Execute) v p
@@ -149,19 +149,19 @@ target-at c d None v = tt
 target-at c d (Some w) v =
     target-some (length c.modules) c.size (gate_at c.gates d w) (all-find (IsGate (length c.modules) c.size) (is_at d w) c.gates v.gates)
 
-action-runs_in : (r : Reads) (c : Core) (h : ℕ) (hart : Hart) (b : Bool) → IsValid c → IsHart (length c.modules) h hart →
+action-runs_in : (r : Reads) (c : Core) (h : ℕ) (hart : Hart) (b : Bool) → IsValid c → IsHart (length c.modules) (length c.harts) h hart →
     IsAction (length c.modules) h hart (runs_in r c h hart b).action
 action-runs_in r c h hart true v p = lit< tt
 action-runs_in r c h hart false v p =
     action-runs_at r c h hart (call_gate_at c hart.domain hart.pc) v p (target-at c hart.domain (word_of hart.pc c.size) v)
 
 -- a hart that there is decides a valid action
-action-by_status : (r : Reads) (c : Core) (h : ℕ) (hart : Hart) (s : Status) → IsValid c → IsHart (length c.modules) h hart → IsStatus h hart s →
+action-by_status : (r : Reads) (c : Core) (h : ℕ) (hart : Hart) (s : Status) → IsValid c → IsHart (length c.modules) (length c.harts) h hart → IsStatus (length c.harts) h hart s →
     IsAction (length c.modules) h hart (by_status r c h hart s).action
 action-by_status r c h hart (Halted code) v p q = tt
 action-by_status r c h hart (Waiting call heard) v p q =
     action-choice (length c.modules) h hart (is_ready c h heard) (Serves call) Waits
-    (subst (λ (k : Call). IsCall (length c.modules) h k) (sym q.own) (call-of (length c.modules) h hart p)) tt
+    (subst (λ (k : Call). IsCall (length c.modules) h k) (sym q.own) (call-of (length c.modules) (length c.harts) h hart p)) tt
 action-by_status r c h hart Running v p q = action-runs_in r c h hart (module_at c hart.domain).dead v p
 
 pub action-decide : (r : Reads) (c : Core) (h : ℕ) → IsValid c → h < length c.harts → IsAction (length c.modules) h (hart_at c h) (decide r c h).action

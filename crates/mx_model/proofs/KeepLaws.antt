@@ -86,7 +86,7 @@ keeps-empties_places h c = keeps-cache h _ c
 keeps-drops : (h : ℕ) (range : ℕ × ℕ) (c : Core) → Keeps c (drops h range c)
 keeps-drops h range c = keeps-cache h _ c
 
-keeps-hears : (h : ℕ) (c : Core) → Keeps c (hears h c)
+pub keeps-hears : (h : ℕ) (c : Core) → Keeps c (hears h c)
 keeps-hears h c =
     keeps-parts c c.ram c.modules c.gates _ _ refl (length-map (enumerate_from 0 c.harts) _ ∙ length-enumerate_from 0 c.harts) (length-set c.caches h _)
 
@@ -177,7 +177,7 @@ keeps-given_up : (c : Core) (h : ℕ) (hart : Hart) (cause : ℕ) (o : Option Fr
 keeps-given_up c h hart cause None = keeps-hart h _ c
 keeps-given_up c h hart cause (Some frame) = keeps-over_frame c h hart frame _
 
-keeps-killed : (d cause : ℕ) (c : Core) → Keeps c (killed d cause c)
+pub keeps-killed : (d cause : ℕ) (c : Core) → Keeps c (killed d cause c)
 keeps-killed d cause c = elim ((module_at c d).kills && not (cause == 20)) as (λ b. Keeps c (cond b (with_module d (record (module_at c d) { dead = true }) c) c)) [
   | true ↦ keeps-module d _ c
   | false ↦ keeps-refl c
@@ -204,7 +204,7 @@ keeps-enacted : (r : Reads) (c : Core) (h : ℕ) (d : Decided) → Keeps c (enac
 keeps-enacted r c h d =
     keeps-trans c (looked_all r h d.looks c) _ (keeps-looked_all r h d.looks c) (keeps-acted r (looked_all r h d.looks c) h (hart_at c h) d.action)
 
-keeps-heard_first : (c : Core) (h : ℕ) → Keeps c (heard_first c h)
+pub keeps-heard_first : (c : Core) (h : ℕ) → Keeps c (heard_first c h)
 keeps-heard_first c h = elim (is_halted (hart_at c h).status) as (λ b. Keeps c (cond b c (hears h c))) [
   | true ↦ keeps-refl c
   | false ↦ keeps-hears h c

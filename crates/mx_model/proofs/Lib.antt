@@ -13,3 +13,6 @@ pub mod ValidParts
 pub mod DecideLaws
 pub mod ServeLaws
 pub mod TurnLaws
+pub mod ValidCaches
+pub mod ValidFlat
+pub mod ValidExample

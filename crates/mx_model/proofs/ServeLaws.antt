@@ -100,7 +100,8 @@ served-exchange_from r c h call None v p q = served-exchanged r c h call v p
 -- a module with other blocks
 home-blocks : (size harts : ℕ) (m : Module) (blocks : List Area) → IsHome size harts m → length blocks ≤ most_blocks →
     AreApart m.heap.first (m.heap.first + m.heap.count) blocks → IsHome size harts (record m { blocks = blocks })
-home-blocks size harts m blocks p q a = record { heap = p.heap; blocks = a; stack = p.stack; few_blocks = q }
+home-blocks size harts m blocks p q a =
+    record { heap = p.heap; blocks = a; stack = p.stack; few_blocks = q; no_heap = p.no_heap; no_stack = p.no_stack }
 
 -- the heap area of the caller
 abbrev heap_of : Core → Call → Area
@@ -216,7 +217,7 @@ tests-two s t e = let p = test-head s (t ∷ []) e in (p.0, (test-head t [] p.1)
 tests-three : (s t u : Row ℕ) → first_row (s ∷ t ∷ u ∷ []) ≡ None → (s.0 ≡ false) × (t.0 ≡ false) × (u.0 ≡ false)
 tests-three s t u e = let p = test-head s (t ∷ u ∷ []) e in let q = tests-two t u p.1 in (p.0, q.0, q.1)
 
-tests-four : (s t u w : Row ℕ) → first_row (s ∷ t ∷ u ∷ w ∷ []) ≡ None → (s.0 ≡ false) × (t.0 ≡ false) × (u.0 ≡ false) × (w.0 ≡ false)
+pub tests-four : (s t u w : Row ℕ) → first_row (s ∷ t ∷ u ∷ w ∷ []) ≡ None → (s.0 ≡ false) × (t.0 ≡ false) × (u.0 ≡ false) × (w.0 ≡ false)
 tests-four s t u w e = let p = test-head s (t ∷ u ∷ w ∷ []) e in let q = tests-three t u w p.1 in (p.0, q.0, q.1, q.2)
 
 or-left : (x y : Bool) → x || y ≡ false → x ≡ false

@@ -1,5 +1,5 @@
 -- A turn keeps a valid state valid.
-use Rattle.std.proofs.Common.{◌≡◌, ℕ, ◌+◌, ◌-◌, ◌*◌, ◌^◌, ◌<◌, ◌≤◌, Bool, true, false, not, cond, nat_lt, ◌==◌, ◌&&◌, ◌||◌, List, [], ◌∷◌, length, refl, sym, subst, arith, lit<, Option, Some, None, unwrap_or}
+use Rattle.std.proofs.Common.{◌≡◌, ℕ, zero, suc, ◌+◌, ◌-◌, ◌*◌, ◌^◌, ◌<◌, ◌≤◌, Bool, true, false, not, cond, nat_lt, ◌==◌, ◌&&◌, ◌||◌, List, [], ◌∷◌, length, refl, sym, subst, ap, arith, lit<, Option, Some, None, unwrap_or}
 use Rattle.std.specs.Prelude.{IfSome, slice_set, find, reverse}
 use Rattle.std.proofs.Math.Nat.{mul-le-mul_left}
 use Rattle.std.proofs.Math.ListN.{get_or-eq_default}
@@ -21,31 +21,36 @@ use Rattle.mx_model.specs.Valid.{IsModule, IsPc, IsRegisters, IsFrame, IsCall, I
 use Rattle.mx_model.proofs.ListLaws.{all-append, all-reverse, all-take, all-find, all-last, length-put_at, bytes-put_at}
 use Rattle.mx_model.proofs.RegisterLaws.{registers-set, registers-written, registers-restored, saved-count, saved-small, small-plus, pc-next, IsCause}
 use Rattle.mx_model.specs.Serve.{Served, serve}
-use Rattle.mx_words.specs.Hearing.{nobody}
+use Rattle.mx_words.specs.Hearing.{is_in, nobody}
 use Rattle.mx_model.specs.Turn.{Decided, Made, acted, asked, served, done, trapped, given_up, killed, over_frame, halted, crossed, with_regs, enacted, decide, heard_first, counted, turned, is_served_now, by_status, answered, stack_address, saved, restored, fault_answer, call_of}
 use Rattle.mx_model.proofs.DecideLaws.{IsAction, action-decide, call-of}
-use Rattle.mx_model.proofs.KeepLaws.{Keeps, keeps-serve, keeps-looked_all}
+use Rattle.mx_model.proofs.KeepLaws.{Keeps, keeps-killed, keeps-serve, keeps-looked_all}
 use Rattle.mx_model.proofs.ServeLaws.{IsServed, served-serve}
 use Rattle.mx_model.proofs.ValidParts.{valid-turns, valid-hart, valid-module, valid-cache, valid-ram, valid-looked_all, valid-hears, home-at}
 
+-- a hart is as valid in a state with as many modules and harts
+hart-in : (c e : Core) (h : ℕ) (hart : Hart) → Keeps c e → IsHart (length c.modules) (length c.harts) h hart → IsHart (length e.modules) (length e.harts) h hart
+hart-in c e h hart k p =
+    subst (λ (n : ℕ). IsHart (length e.modules) n h hart) (sym k.harts) (subst (λ (n : ℕ). IsHart n (length c.harts) h hart) (sym k.modules) p)
+
 -- a hart with other registers and another pc runs
-hart-regs : (modules h : ℕ) (hart : Hart) (regs : List ℕ) (pc : ℕ) → IsHart modules h hart → IsRegisters regs → IsPc pc →
-    IsHart modules h (record hart { regs = regs; pc = pc; status = Running })
-hart-regs modules h hart regs pc p q s =
+hart-regs : (modules harts h : ℕ) (hart : Hart) (regs : List ℕ) (pc : ℕ) → IsHart modules harts h hart → IsRegisters regs → IsPc pc →
+    IsHart modules harts h (record hart { regs = regs; pc = pc; status = Running })
+hart-regs modules harts h hart regs pc p q s =
     record { regs = q; pc = s; domain = p.domain; few_frames = p.few_frames; frames = p.frames; status = tt }
 
-hart-halted : (modules h : ℕ) (hart : Hart) (o : Option ℕ) → IsHart modules h hart → IsHart modules h (record hart { status = Halted o })
-hart-halted modules h hart o p =
+hart-halted : (modules harts h : ℕ) (hart : Hart) (o : Option ℕ) → IsHart modules harts h hart → IsHart modules harts h (record hart { status = Halted o })
+hart-halted modules harts h hart o p =
     record { regs = p.regs; pc = p.pc; domain = p.domain; few_frames = p.few_frames; frames = p.frames; status = tt }
 
-valid-regs : (c : Core) (h : ℕ) (hart : Hart) (regs : List ℕ) (pc : ℕ) → IsValid c → IsHart (length c.modules) h hart → IsRegisters regs → IsPc pc →
+valid-regs : (c : Core) (h : ℕ) (hart : Hart) (regs : List ℕ) (pc : ℕ) → IsValid c → IsHart (length c.modules) (length c.harts) h hart → IsRegisters regs → IsPc pc →
     IsValid (with_regs h hart regs pc c)
-valid-regs c h hart regs pc v p q s = valid-hart c h _ v (hart-regs (length c.modules) h hart regs pc p q s)
+valid-regs c h hart regs pc v p q s = valid-hart c h _ v (hart-regs (length c.modules) (length c.harts) h hart regs pc p q s)
 
 -- the top frame given up
-hart-over : (modules h : ℕ) (hart : Hart) (frame : Frame) (regs : List ℕ) → IsHart modules h hart → IsFrame modules frame → IsRegisters regs →
-    IsHart modules h (record hart { regs = restored regs frame.kept; pc = frame.back; domain = frame.caller; frames = below_top hart.frames; status = Running })
-hart-over modules h hart frame regs p f r = record {
+hart-over : (modules harts h : ℕ) (hart : Hart) (frame : Frame) (regs : List ℕ) → IsHart modules harts h hart → IsFrame modules frame → IsRegisters regs →
+    IsHart modules harts h (record hart { regs = restored regs frame.kept; pc = frame.back; domain = frame.caller; frames = below_top hart.frames; status = Running })
+hart-over modules harts h hart frame regs p f r = record {
   regs = registers-restored regs frame.kept r f.small;
   pc = f.back;
   domain = f.caller;
@@ -54,13 +59,14 @@ hart-over modules h hart frame regs p f r = record {
   status = tt;
 }
 
-valid-over : (c : Core) (h : ℕ) (hart : Hart) (frame : Frame) (regs : List ℕ) → IsValid c → IsHart (length c.modules) h hart → IsFrame (length c.modules) frame →
+valid-over : (c : Core) (h : ℕ) (hart : Hart) (frame : Frame) (regs : List ℕ) → IsValid c → IsHart (length c.modules) (length c.harts) h hart → IsFrame (length c.modules) frame →
     IsRegisters regs → IsValid (over_frame c h hart frame regs)
-valid-over c h hart frame regs v p f r = valid-cache _ h _ (valid-hart c h _ v (hart-over (length c.modules) h hart frame regs p f r))
+valid-over c h hart frame regs v p f r = valid-cache _ h _ (valid-hart c h _ v (hart-over (length c.modules) (length c.harts) h hart frame regs p f r))
 
 -- a fault
 home-dead : (size harts : ℕ) (m : Module) → IsHome size harts m → IsHome size harts (record m { dead = true })
-home-dead size harts m p = record { heap = p.heap; blocks = p.blocks; stack = p.stack; few_blocks = p.few_blocks }
+home-dead size harts m p =
+    record { heap = p.heap; blocks = p.blocks; stack = p.stack; few_blocks = p.few_blocks; no_heap = p.no_heap; no_stack = p.no_stack }
 
 valid-killed : (d cause : ℕ) (c : Core) → IsValid c → IsValid (killed d cause c)
 valid-killed d cause c v = elim ((module_at c d).kills && not (cause == 20)) as (λ b. IsValid (cond b (with_module d (record (module_at c d) { dead = true }) c) c)) [
@@ -68,29 +74,22 @@ valid-killed d cause c v = elim ((module_at c d).kills && not (cause == 20)) as 
   | false ↦ v
 ]
 
-modules-killed : (d cause : ℕ) (c : Core) → length (killed d cause c).modules ≡ length c.modules
-modules-killed d cause c = elim ((module_at c d).kills && not (cause == 20)) as (λ b. length (cond b (with_module d (record (module_at c d) { dead = true }) c) c).modules ≡ length c.modules) [
-  | true ↦ length-set c.modules (d - 1) _
-  | false ↦ refl
-]
-
-valid-given_up : (c : Core) (h : ℕ) (hart : Hart) (cause : ℕ) (o : Option Frame) → IsValid c → IsHart (length c.modules) h hart → IsCause cause →
+valid-given_up : (c : Core) (h : ℕ) (hart : Hart) (cause : ℕ) (o : Option Frame) → IsValid c → IsHart (length c.modules) (length c.harts) h hart → IsCause cause →
     IfSome o (IsFrame (length c.modules)) → IsValid (given_up c h hart cause o)
-valid-given_up c h hart cause None v p k f = valid-hart c h _ v (hart-halted (length c.modules) h hart None p)
+valid-given_up c h hart cause None v p k f = valid-hart c h _ v (hart-halted (length c.modules) (length c.harts) h hart None p)
 valid-given_up c h hart cause (Some frame) v p k f =
     valid-over c h hart frame (slice_set hart.regs 10 (fault_answer cause)) v p f
     (registers-set hart.regs 10 (fault_answer cause) (lit< tt) p.regs (let q : fault_answer cause < 2 ^ 32 = omega (arith, k) in q))
 
-top-frame : (modules h : ℕ) (hart : Hart) → IsHart modules h hart → IfSome (top hart.frames) (IsFrame modules)
-top-frame modules h hart p = all-last (IsFrame modules) hart.frames None p.frames tt
+top-frame : (modules harts h : ℕ) (hart : Hart) → IsHart modules harts h hart → IfSome (top hart.frames) (IsFrame modules)
+top-frame modules harts h hart p = all-last (IsFrame modules) hart.frames None p.frames tt
 
-valid-trapped : (c : Core) (h : ℕ) (hart : Hart) (cause value : ℕ) → IsValid c → IsHart (length c.modules) h hart → IsCause cause →
+valid-trapped : (c : Core) (h : ℕ) (hart : Hart) (cause value : ℕ) → IsValid c → IsHart (length c.modules) (length c.harts) h hart → IsCause cause →
     IsValid (trapped c h hart cause value).core
 valid-trapped c h hart cause value v p k =
-    let e = modules-killed hart.domain cause c in
-    let q : IsHart (length (killed hart.domain cause c).modules) h hart = subst (λ (n : ℕ). IsHart n h hart) (sym e) p in
+    let q = hart-in c (killed hart.domain cause c) h hart (keeps-killed hart.domain cause c) p in
     valid-given_up (killed hart.domain cause c) h hart cause (top hart.frames) (valid-killed hart.domain cause c v) q k
-    (top-frame (length (killed hart.domain cause c).modules) h hart q)
+    (top-frame (length (killed hart.domain cause c).modules) (length (killed hart.domain cause c).harts) h hart q)
 
 -- a crossing
 stack-small : (c : Core) (d h : ℕ) → IsValid c → h < length c.harts → stack_address c d h < 2 ^ 32
@@ -111,13 +110,13 @@ nearest-small : (modules : ℕ) (o : Option Frame) (n : ℕ) → IfSome o (IsFra
 nearest-small modules None n p q = q
 nearest-small modules (Some f) n p q = p.small 0
 
-stack-after : (c : Core) (h : ℕ) (hart : Hart) (target : ℕ) → IsValid c → IsHart (length c.modules) h hart → h < length c.harts →
+stack-after : (c : Core) (h : ℕ) (hart : Hart) (target : ℕ) → IsValid c → IsHart (length c.modules) (length c.harts) h hart → h < length c.harts →
     unwrap_or (nearest hart.frames target) (stack_address c target h) < 2 ^ 32
 stack-after c h hart target v p l =
     nearest-small (length c.modules) (find (λ (f : Frame). f.caller == target) (reverse hart.frames)) (stack_address c target h)
     (all-find (IsFrame (length c.modules)) (λ f. f.caller == target) (reverse hart.frames) (all-reverse (IsFrame (length c.modules)) hart.frames p.frames)) (stack-small c target h v l)
 
-valid-crossed : (c : Core) (h : ℕ) (hart : Hart) (target : ℕ) → IsValid c → IsHart (length c.modules) h hart → h < length c.harts →
+valid-crossed : (c : Core) (h : ℕ) (hart : Hart) (target : ℕ) → IsValid c → IsHart (length c.modules) (length c.harts) h hart → h < length c.harts →
     IsModule (length c.modules) target → IsPc (reg hart.regs 1) → length hart.frames < most_frames → IsValid (crossed c h hart target)
 valid-crossed c h hart target v p l t x few =
     let frame : Frame = record { back = reg hart.regs 1; caller = hart.domain; kept = saved hart.regs } in
@@ -133,44 +132,49 @@ valid-crossed c h hart target v p l t x few =
     }))
 
 -- a served call
-hart-in : (c e : Core) (h : ℕ) (hart : Hart) → Keeps c e → IsHart (length c.modules) h hart → IsHart (length e.modules) h hart
-hart-in c e h hart k p = subst (λ (n : ℕ). IsHart n h hart) (sym k.modules) p
-
 registers-answered : (hart : Hart) (a0 : ℕ) (a1 : Option ℕ) → IsRegisters hart.regs → a0 < 2 ^ 32 → IfSome a1 (λ n. n < 2 ^ 32) → IsRegisters (answered hart a0 a1)
 registers-answered hart a0 None r p q = registers-set hart.regs 10 a0 (lit< tt) r p
 registers-answered hart a0 (Some n) r p q = registers-set (slice_set hart.regs 10 a0) 11 n (lit< tt) (registers-set hart.regs 10 a0 (lit< tt) r p) q
 
-valid-done : (h : ℕ) (hart : Hart) (s : Served) → IsServed s → IsHart (length s.core.modules) h hart → IsValid (done h hart s).core
+valid-done : (h : ℕ) (hart : Hart) (s : Served) → IsServed s → IsHart (length s.core.modules) (length s.core.harts) h hart → IsValid (done h hart s).core
 valid-done h hart s p q = elim s.stop as (λ b. IsValid (cond b (halted h hart (Some s.a0) s.core) (with_regs h hart (answered hart s.a0 s.a1) (next hart.pc) s.core))) [
-  | true ↦ valid-hart s.core h _ p.core (hart-halted (length s.core.modules) h hart (Some s.a0) q)
+  | true ↦ valid-hart s.core h _ p.core (hart-halted (length s.core.modules) (length s.core.harts) h hart (Some s.a0) q)
   | false ↦ valid-regs s.core h hart (answered hart s.a0 s.a1) (next hart.pc) p.core q (registers-answered hart s.a0 s.a1 q.regs p.a0 p.a1) (pc-next hart.pc q.pc)
 ]
 
-valid-served : (r : Reads) (c : Core) (h : ℕ) (hart : Hart) (call : Call) → IsValid c → IsHart (length c.modules) h hart → IsCall (length c.modules) h call → h < length c.harts →
+valid-served : (r : Reads) (c : Core) (h : ℕ) (hart : Hart) (call : Call) → IsValid c → IsHart (length c.modules) (length c.harts) h hart → IsCall (length c.modules) h call → h < length c.harts →
     IsValid (served r c h hart call).core
 valid-served r c h hart call v p k l =
     valid-done h hart (serve r c call) (served-serve r c h call v k l) (hart-in c (serve r c call).core h hart (keeps-serve r c call) p)
+
+-- nobody has heard a call that was just announced
+nobody-in : (i : ℕ) → is_in nobody i ≡ true → ⊥
+nobody-in zero e = let q : ⊥ = cc in q
+nobody-in (suc zero) e = let q : ⊥ = cc in q
+nobody-in (suc (suc zero)) e = let q : ⊥ = cc in q
+nobody-in (suc (suc (suc zero))) e = let q : ⊥ = cc in q
+nobody-in (suc (suc (suc (suc i)))) e = let q : ⊥ = cc in q
 
 -- a call that isn't served now is announced
 announced-later : (x y : Bool) → not x || y ≡ false → x ≡ true
 announced-later true y e = refl
 announced-later false y e = sym e
 
-valid-asked : (r : Reads) (c : Core) (h : ℕ) (hart : Hart) (call : Call) (b : Bool) → is_served_now c h call ≡ b → IsValid c → IsHart (length c.modules) h hart →
+valid-asked : (r : Reads) (c : Core) (h : ℕ) (hart : Hart) (call : Call) (b : Bool) → is_served_now c h call ≡ b → IsValid c → IsHart (length c.modules) (length c.harts) h hart →
     call ≡ call_of h hart → h < length c.harts → IsValid (asked r c h hart call b).core
 valid-asked r c h hart call true e v p k l =
-    valid-served r c h hart call v p (subst (λ (x : Call). IsCall (length c.modules) h x) (sym k) (call-of (length c.modules) h hart p)) l
+    valid-served r c h hart call v p (subst (λ (x : Call). IsCall (length c.modules) h x) (sym k) (call-of (length c.modules) (length c.harts) h hart p)) l
 valid-asked r c h hart call false e v p k l = valid-hart c h _ v (record {
   regs = p.regs;
   pc = p.pc;
   domain = p.domain;
   few_frames = p.few_frames;
   frames = p.frames;
-  status = record { own = k; announced = announced-later (is_announced call.number) (is_ready c h nobody) e; places = refl };
+  status = record { own = k; announced = announced-later (is_announced call.number) (is_ready c h nobody) e; places = refl; others = λ i n. absurd (nobody-in i n) };
 })
 
 -- an action
-valid-acted : (r : Reads) (c : Core) (h : ℕ) (hart : Hart) (action : Action) → IsValid c → IsHart (length c.modules) h hart → h < length c.harts →
+valid-acted : (r : Reads) (c : Core) (h : ℕ) (hart : Hart) (action : Action) → IsValid c → IsHart (length c.modules) (length c.harts) h hart → h < length c.harts →
     IsAction (length c.modules) h hart action → IsValid (acted r c h hart action).core
 valid-acted r c h hart Rests v p l d = v
 valid-acted r c h hart Waits v p l d = v
@@ -215,8 +219,19 @@ valid-enacted r c h v = elim (nat_lt h (length c.harts)) as (λ b. nat_lt h (len
   | false ↦ λ e. valid-nobody r c h (hart_at c h) (halted-beyond c h (ltb-false h (length c.harts) e)) v
 ] refl
 
+-- a hart that isn't there hears nothing
+not-there : (c : Core) (h : ℕ) → length c.harts ≤ h → is_halted (hart_at c h).status ≡ true
+not-there c h p = ap (λ (x : Hart). is_halted x.status) (halted-beyond c h p)
+
+heard-choice : (h : ℕ) (c : Core) (b : Bool) → is_halted (hart_at c h).status ≡ b → IsValid c → IsValid (cond b c (hears h c))
+heard-choice h c true e v = v
+heard-choice h c false e v = elim (nat_lt h (length c.harts)) as (λ t. nat_lt h (length c.harts) ≡ t → IsValid (hears h c)) [
+  | true ↦ λ t. valid-hears h c (ltb-true h (length c.harts) t) v
+  | false ↦ λ t. absurd (let q = not-there c h (ltb-false h (length c.harts) t) in let r : ⊥ = cc in r)
+] refl
+
 valid-heard_first : (c : Core) (h : ℕ) → IsValid c → IsValid (heard_first c h)
-valid-heard_first c h v = elim (is_halted (hart_at c h).status) as (λ b. IsValid (cond b c (hears h c))) [ true ↦ v | false ↦ valid-hears h c v ]
+valid-heard_first c h v = heard-choice h c (is_halted (hart_at c h).status) refl v
 
 -- a turn
 pub valid-turned : (r : Reads) (c : Core) (h : ℕ) → IsValid c → IsValid (turned r c h).core

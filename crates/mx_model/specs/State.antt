@@ -91,6 +91,10 @@ no_module = record {
 abbrev pub no_hart : Hart
 no_hart = record { regs = replicate 32 0; pc = 0; domain = 0; frames = []; status = Halted None }
 
+-- how many modules there are at most
+abbrev pub most_modules : ℕ
+most_modules = 63
+
 -- module d; modules count from 1, and none is asked for by 0, the supervisor's number
 abbrev pub module_at : Core → ℕ → Module
 module_at c d = slice_index_or c.modules (d - 1) no_module

@@ -6,7 +6,7 @@ mod laws;
 mod values;
 
 pub use events::Events;
-pub use laws::{flat_of_a_turn, run_after_a_run};
+pub use laws::{flat_of_a_turn, run_after_a_run, turns_keep_flat_validity, turns_keep_validity};
 pub use values::{Call, Fault, Frame, Gate, Note, TurnKind};
 
 #[cfg(test)]

@@ -8,9 +8,13 @@ use Rattle.mx_words.specs.Caches.{meets}
 abbrev pub is_in : List Bool → ℕ → Bool
 is_in set h = slice_index_or set h false
 
+-- how many harts there are at most
+abbrev pub most_harts : ℕ
+most_harts = 4
+
 -- nobody has heard a call that was just announced
 abbrev pub nobody : List Bool
-nobody = replicate 4 false
+nobody = replicate most_harts false
 
 -- the set with hart h in it
 abbrev pub with_hearer : ℕ → List Bool → List Bool

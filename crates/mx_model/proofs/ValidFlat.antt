@@ -1,0 +1,190 @@
+-- A turn keeps a valid flat state valid.
+use Rattle.std.proofs.Common.{◌≡◌, ℕ, zero, suc, ◌+◌, ◌-◌, ◌*◌, ◌^◌, ◌<◌, ◌≤◌, Bool, true, false, not, cond, nat_lt, nat_le, ◌==◌, ◌&&◌, ◌||◌, List, [], ◌∷◌, length, get_or, refl, sym, ◌∙◌, ap, subst, arith, Option, Some, None, unwrap_or}
+use Rattle.std.specs.Prelude.{IfSome, slice_index}
+use Rattle.std.specs.List.{AllByRecursion, list_all}
+use Rattle.std.proofs.lemmas.Bool.{ltb-false, leb-true}
+use Rattle.mx_words.specs.declared.perm.Perm.{Perm}
+use Rattle.mx_words.specs.declared.perm.Access.TheVariants as A
+use Rattle.mx_words.specs.Announced.{is_announced}
+use Rattle.mx_words.specs.Bytes.{number_at, put_at}
+use Rattle.mx_words.specs.Changes.{each_from, changed_map}
+use Rattle.mx_words.specs.FirstFit.{without_block}
+use Rattle.mx_words.specs.FirstRow.{first_row, Row}
+use Rattle.mx_words.specs.Newest.{Give, Laid, laid, laid_from}
+use Rattle.mx_words.specs.Ranges.{covers}
+use Rattle.mx_words.specs.Rights.{number, allows}
+use Rattle.mx_words.specs.Runs.{owner_runs, most_owner_runs}
+use Rattle.mx_words.proofs.OverlayLaws.{length-laid}
+use Rattle.mx_model.specs.declared.values.Call.{Call}
+use Rattle.mx_model.specs.declared.values.Frame.{Frame}
+use Rattle.mx_model.specs.Checks.{arg, call_range, drops, looked_all}
+use Rattle.mx_model.specs.Gates.{without_gate}
+use Rattle.mx_model.specs.Reads.{Reads, Change, flat_reads}
+use Rattle.mx_model.specs.Run.{flat_turn, flat_made, maps_after, owners_after}
+use Rattle.mx_model.specs.Serve.{Served, Service, Exit, Write, Grant, RevokeAll, Transfer, Alloc, Free, AddGate, RemoveGate, AddReturnGate, Query, Self, Exchange, Unknown, judged, answers, serve, served_by, service, ended, write_from, exchange_from, alloc_place, alloc_from, write_looks, write_words, may_read, bytes_at, look_of, arg_word, with_blocks, changes, free_change, grant_change, revoke_change, adds, no_range, meets_heap, owns, arg_range, give_of}
+use Rattle.mx_model.specs.State.{Core, Flat, Hart, hart_at, module_at}
+use Rattle.mx_model.specs.Turn.{Action, Rests, Waits, Serves, Asks, Traps, Bounces, Crosses, Returns, Runs, Writes, Decided, acted, asked, served, enacted, decide, heard_first, counted, turned, is_served_now}
+use Rattle.mx_model.specs.Valid.{IsFlat, IsValid}
+use Rattle.mx_model.proofs.KeepLaws.{keeps-looked_all, keeps-heard_first, keeps-turned}
+use Rattle.mx_model.proofs.ServeLaws.{tests-four}
+use Rattle.mx_model.proofs.TurnLaws.{valid-turned}
+use Rattle.mx_model.proofs.ValidCaches.{caches-turned}
+
+-- a give to a domain of so many modules, or to the supervisor, that leaves few runs
+abbrev pub IsGive : Reads → ℕ → Give → Type 0
+IsGive r modules give = (give.value ≤ modules) × (r.few_runs give ≡ true)
+
+-- what a served call gives, if it gives anything
+record Gives (P : Give → Type 0) (s : Served) : Type 0 where
+  each : IfSome s.give P
+
+-- only a transfer gives
+give-judged : (P : Give → Type 0) (c : Core) (o : Option ℕ) (s : Served) → (o ≡ None → Gives P s) → Gives P (judged c o s)
+give-judged P c None s p = p refl
+give-judged P c (Some n) s p = record { each = tt }
+
+give-write_from : (P : Give → Type 0) (r : Reads) (c : Core) (call : Call) (o : Option ℕ) → Gives P (write_from r c call o)
+give-write_from P r c call (Some n) = record { each = tt }
+give-write_from P r c call None =
+    let looked = looked_all r call.hart (write_looks r call) c in
+    give-judged P looked (first_row ((not (list_all (may_read r call.domain) (write_words call)), 12) ∷ []))
+    (record (answers looked (arg call 1)) { console = bytes_at c (arg call 0) (arg call 1) }) (λ e. record { each = tt })
+
+give-exchange_from : (P : Give → Type 0) (r : Reads) (c : Core) (call : Call) (o : Option ℕ) → Gives P (exchange_from r c call o)
+give-exchange_from P r c call (Some n) = record { each = tt }
+give-exchange_from P r c call None =
+    let looked = looked_all r call.hart (look_of call.domain (arg_word call) ∷ []) c in
+    give-judged P looked (first_row ((not (allows (r.perm call.domain (arg_word call)) A.Write), 12) ∷ []))
+    (record (answers (record looked { ram = put_at c.ram (4 * arg_word call) 4 (arg call 1) }) 0) { a1 = Some (number_at c.ram (4 * arg_word call) 4) })
+    (λ e. record { each = tt })
+
+give-alloc_from : (P : Give → Type 0) (c : Core) (call : Call) (first : ℕ) (o : Option ℕ) → Gives P (alloc_from c call first o)
+give-alloc_from P c call first (Some n) = record { each = tt }
+give-alloc_from P c call first None = record { each = tt }
+
+not-not : (b : Bool) → not b ≡ false → b ≡ true
+not-not true e = refl
+not-not false e = sym e
+
+give-transfer : (r : Reads) (c : Core) (call : Call) → Gives (IsGive r (length c.modules)) (served_by Transfer r c call)
+give-transfer r c call =
+    let t1 : Row ℕ = (no_range c call || meets_heap c call, 1) in
+    let t2 : Row ℕ = (nat_lt (length c.modules) (arg call 2), 3) in
+    let t3 : Row ℕ = (not (owns r call (arg_range c call)), 2) in
+    let t4 : Row ℕ = (not (r.few_runs (give_of c call)), 14) in
+    give-judged (IsGive r (length c.modules)) c (first_row (t1 ∷ t2 ∷ t3 ∷ t4 ∷ [])) (record (answers c 0) { give = Some (give_of c call) }) (λ e.
+    let q = tests-four t1 t2 t3 t4 e in
+    record { each = (ltb-false (length c.modules) (arg call 2) q.1, not-not (r.few_runs (give_of c call)) q.3) })
+
+give-served_by : (k : Service) (r : Reads) (c : Core) (call : Call) → Gives (IsGive r (length c.modules)) (served_by k r c call)
+give-served_by Exit r c call = give-judged (IsGive r (length c.modules)) c _ (record (answers c (arg call 0)) { stop = true }) (λ e. record { each = tt })
+give-served_by Write r c call = give-write_from (IsGive r (length c.modules)) r c call _
+give-served_by Grant r c call = give-judged (IsGive r (length c.modules)) c _ (changes c (grant_change c call)) (λ e. record { each = tt })
+give-served_by RevokeAll r c call = give-judged (IsGive r (length c.modules)) c _ (changes c (revoke_change c call)) (λ e. record { each = tt })
+give-served_by Transfer r c call = give-transfer r c call
+give-served_by Alloc r c call = give-alloc_from (IsGive r (length c.modules)) c call (unwrap_or (alloc_place c call) 0) _
+give-served_by Free r c call = give-judged (IsGive r (length c.modules)) c _ (changes (with_blocks call (without_block (arg_word call) (module_at c call.domain).blocks) c) (free_change c call)) (λ e. record { each = tt })
+give-served_by AddGate r c call = give-judged (IsGive r (length c.modules)) c _ (adds c (record { domain = arg call 1; word = arg_word call; target = call.domain })) (λ e. record { each = tt })
+give-served_by RemoveGate r c call = give-judged (IsGive r (length c.modules)) c _ (answers (record c { gates = without_gate (arg call 1) (arg_word call) c.gates }) 0) (λ e. record { each = tt })
+give-served_by AddReturnGate r c call = give-judged (IsGive r (length c.modules)) c _ (adds c (record { domain = call.domain; word = arg_word call; target = call.domain })) (λ e. record { each = tt })
+give-served_by Query r c call = give-judged (IsGive r (length c.modules)) c _ (answers c (number (r.perm (arg call 1) (arg_word call)))) (λ e. record { each = tt })
+give-served_by Self r c call = record { each = tt }
+give-served_by Exchange r c call = give-exchange_from (IsGive r (length c.modules)) r c call _
+give-served_by Unknown r c call = record { each = tt }
+
+give-ended : (P : Give → Type 0) (c : Core) (call : Call) (s : Served) → Gives P s → IfSome (ended c call s).give P
+give-ended P c call s p =
+    elim (is_announced call.number) as (λ b. IfSome (cond b (record s { core = drops call.hart (call_range c call) s.core }) s).give P) [ true ↦ p.each | false ↦ p.each ]
+
+give-serve : (r : Reads) (c : Core) (call : Call) → IfSome (serve r c call).give (IsGive r (length c.modules))
+give-serve r c call =
+    give-ended (IsGive r (length c.modules)) c call (served_by (service call.number) r c call) (give-served_by (service call.number) r c call)
+
+give-asked : (r : Reads) (c : Core) (h : ℕ) (hart : Hart) (call : Call) (b : Bool) → IfSome (asked r c h hart call b).give (IsGive r (length c.modules))
+give-asked r c h hart call true = give-serve r c call
+give-asked r c h hart call false = tt
+
+give-acted : (r : Reads) (c : Core) (h : ℕ) (hart : Hart) (action : Action) → IfSome (acted r c h hart action).give (IsGive r (length c.modules))
+give-acted r c h hart Rests = tt
+give-acted r c h hart Waits = tt
+give-acted r c h hart (Serves call) = give-serve r c call
+give-acted r c h hart (Asks call) = give-asked r c h hart call (is_served_now c h call)
+give-acted r c h hart (Traps cause value) = tt
+give-acted r c h hart Bounces = tt
+give-acted r c h hart (Crosses target) = tt
+give-acted r c h hart (Returns rd frame) = tt
+give-acted r c h hart (Runs regs pc) = tt
+give-acted r c h hart (Writes address size value) = tt
+
+give-enacted : (r : Reads) (c : Core) (h : ℕ) (d : Decided) → IfSome (enacted r c h d).give (IsGive r (length c.modules))
+give-enacted r c h d =
+    subst (λ (n : ℕ). IfSome (enacted r c h d).give (IsGive r n)) (keeps-looked_all r h d.looks c).modules
+    (give-acted r (looked_all r h d.looks c) h (hart_at c h) d.action)
+
+pub give-turned : (r : Reads) (c : Core) (h : ℕ) → IfSome (turned r c h).give (IsGive r (length c.modules))
+give-turned r c h =
+    subst (λ (n : ℕ). IfSome (turned r c h).give (IsGive r n)) (keeps-heard_first (counted c) h).modules
+    (give-enacted r (heard_first (counted c) h) h (decide r (heard_first (counted c) h) h))
+
+-- maps and owners keep their lengths
+length-each_from : {A : Type 0} (step : ℕ → A → A) (d : ℕ) (xs : List A) → length (each_from step d xs) ≡ length xs
+length-each_from step d [] = refl
+length-each_from step d (x ∷ xs) = ap suc (length-each_from step (d + 1) xs)
+
+length-maps_after : (maps : List (List Perm)) (o : Option Change) → length (maps_after maps o) ≡ length maps
+length-maps_after maps None = refl
+length-maps_after maps (Some c) = length-each_from (λ d m. changed_map c.first c.count (c.given d) m) 1 maps
+
+length-changed_map : (first count : ℕ) (o : Option Perm) (m : List Perm) → length (changed_map first count o m) ≡ length m
+length-changed_map first count None m = refl
+length-changed_map first count (Some p) m = length-laid (record { first = first; count = count; value = p }) m
+
+whole-each_from : (size first count d : ℕ) (given : ℕ → Option Perm) (maps : List (List Perm)) → AllByRecursion (λ (m : List Perm). length m ≡ size) maps →
+    AllByRecursion (λ (m : List Perm). length m ≡ size) (each_from (λ d m. changed_map first count (given d) m) d maps)
+whole-each_from size first count d given [] p = tt
+whole-each_from size first count d given (m ∷ ms) p =
+    (length-changed_map first count (given d) m ∙ p.0, whole-each_from size first count (d + 1) given ms p.1)
+
+whole-maps_after : (size : ℕ) (maps : List (List Perm)) (o : Option Change) → AllByRecursion (λ (m : List Perm). length m ≡ size) maps →
+    AllByRecursion (λ (m : List Perm). length m ≡ size) (maps_after maps o)
+whole-maps_after size maps None p = p
+whole-maps_after size maps (Some c) p = whole-each_from size c.first c.count 1 c.given maps p
+
+length-owners_after : (owners : List ℕ) (o : Option Give) → length (owners_after owners o) ≡ length owners
+length-owners_after owners None = refl
+length-owners_after owners (Some g) = length-laid g owners
+
+-- owners of a number at most
+small-laid_from : (most i : ℕ) (e : Laid ℕ) (xs : List ℕ) → ((j : ℕ) → get_or xs j 0 ≤ most) → e.value ≤ most →
+    (j : ℕ) → get_or (laid_from i e xs) j 0 ≤ most
+small-laid_from most i e [] p q j = p j
+small-laid_from most i e (x ∷ xs) p q zero = elim (covers e.first e.count i) as (λ b. cond b e.value x ≤ most) [ true ↦ q | false ↦ p 0 ]
+small-laid_from most i e (x ∷ xs) p q (suc j) = small-laid_from most (i + 1) e xs (λ k. p (suc k)) q j
+
+small-owners_after : (r : Reads) (most : ℕ) (owners : List ℕ) (o : Option Give) → ((i : ℕ) → slice_index owners i ≤ most) → IfSome o (IsGive r most) →
+    (i : ℕ) → slice_index (owners_after owners o) i ≤ most
+small-owners_after r most owners None p q = p
+small-owners_after r most owners (Some g) p q = small-laid_from most 0 g owners p q.0
+
+few-owners_after : (f : Flat) (most : ℕ) (o : Option Give) → owner_runs f.owners ≤ most_owner_runs → IfSome o (IsGive (flat_reads f) most) →
+    owner_runs (owners_after f.owners o) ≤ most_owner_runs
+few-owners_after f most None p q = p
+few-owners_after f most (Some g) p q = leb-true (owner_runs (laid g f.owners)) most_owner_runs q.1
+
+-- a turn of a flat state
+pub flat-turned : (f : Flat) (h : ℕ) → IsFlat f → IsFlat (flat_turn f h)
+flat-turned f h v =
+    let m = flat_made f h in
+    let k = keeps-turned (flat_reads f) f.core h in
+    let g = give-turned (flat_reads f) f.core h in
+    record {
+      valid = valid-turned (flat_reads f) f.core h v.valid;
+      maps = length-maps_after f.maps m.change ∙ v.maps ∙ sym k.modules;
+      whole_maps = subst (λ (n : ℕ). AllByRecursion (λ (x : List Perm). length x ≡ n) (maps_after f.maps m.change)) (sym k.size)
+          (whole-maps_after f.core.size f.maps m.change v.whole_maps);
+      owners = length-owners_after f.owners m.give ∙ v.owners ∙ sym k.size;
+      small_owners = subst (λ (n : ℕ). (i : ℕ) → slice_index (owners_after f.owners m.give) i ≤ n) (sym k.modules)
+          (small-owners_after (flat_reads f) (length f.core.modules) f.owners m.give v.small_owners g);
+      few_runs = few-owners_after f (length f.core.modules) m.give v.few_runs g;
+      caches = (caches-turned (flat_reads f) f.core h (record { each = v.caches })).each;
+    }
