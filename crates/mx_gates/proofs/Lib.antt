@@ -1,4 +1,4 @@
 pub mod Lists
-pub mod Buckets
-pub mod Lookup
+pub mod Order
 pub mod Apart
+pub mod Indexing

@@ -5,16 +5,6 @@ use Rattle.std.specs.List.{prefix_len, position_or_len, list_any, last_or}
 use Rattle.std.proofs.lemmas.Bool.{cases_Bool, false≢true}
 use Rattle.std.proofs.lemmas.List.Filters.{length-filter_both}
 
--- what passes p passes q, so nothing before the first that passes q passes p
-pub find_skip : {X : Type 0} (p q : X → Bool) → ((x : X) → q x ≡ false → p x ≡ false) → (xs : List X) → find p (drop (position_or_len q xs) xs) ≡ find p xs
-find_skip p q none [] = refl
-find_skip p q none (x ∷ xs) =
-    let later = prefix_len (λ y. not (q y)) xs in
-    elim (cases_Bool (q x)) [
-      | inl here ↦ ap (λ b. find p (drop (cond (not b) (1 + later) 0) (x ∷ xs))) here
-      | inr fails ↦ ap (λ b. find p (drop (cond (not b) (1 + later) 0) (x ∷ xs))) fails ∙ ap (λ n. find p (drop n (x ∷ xs))) (let e : 1 + later ≡ suc later = omega arith in e) ∙ find_skip p q none xs ∙ sym (ap (λ b. cond b (Some x) (find p xs)) (none x fails))
-    ]
-
 -- nothing passes, so the filter of what fails keeps all
 pub filter-find_none : {X : Type 0} (p : X → Bool) (xs : List X) → find p xs ≡ None → filter (λ x. not (p x)) xs ≡ xs
 filter-find_none p [] h = refl
@@ -85,3 +75,8 @@ pub last-slice_get : {X : Type 0} (xs : List X) → last_or None xs ≡ slice_ge
 last-slice_get [] = refl
 last-slice_get (x ∷ xs) =
     last_is x xs ∙ ap (slice_get (x ∷ xs)) (let e : length xs ≡ suc (length xs) - 1 = omega arith in e)
+
+-- no element passes, so none is the first
+pub find_none-from : {X : Type 0} (p : X → Bool) (xs : List X) → ((k : ℕ) (d : X) → k < length xs → p (get_or xs k d) ≡ false) → find p xs ≡ None
+find_none-from p [] h = refl
+find_none-from p (x ∷ xs) h = ap (λ b. cond b (Some x) (find p xs)) (h 0 x (omega arith)) ∙ find_none-from p xs (λ k d within. h (suc k) d (omega arith))

@@ -1,11 +1,12 @@
 //! The gates of the machine.
 
-ghost use Rattle.std.specs.Prelude.{◌≡◌, ◌<◌, ◌≤◌, [], ◌∷◌, ◌++◌, None, OnOk, OnErr, is_err, length, slice_get};
-ghost use Rattle.mx_model.specs.Gates.{is_at, gate_at, call_gate, is_return, with_gate, without_gate, has_gate, no_gate_fits};
-ghost use Rattle.mx_gates.specs.Gates.{AreApart};
-ghost use Rattle.mx_gates.specs.Index.{Indexes};
+ghost use Rattle.std.specs.Prelude.{◌≡◌, ◌<◌, ◌≤◌, true, [], ◌∷◌, ◌++◌, None, OnOk, OnErr, is_err, length, slice_get};
+ghost use Rattle.std.specs.Bool.{OnFalse};
+ghost use Rattle.mx_model.specs.Gates.{gate_at, call_gate, is_return, with_gate, without_gate, has_gate, no_gate_fits};
+ghost use Rattle.mx_gates.specs.Gates.{AreApart, target};
 
-use crate::index::{BUCKETS, bucket, index};
+use crate::index::{BUCKETS, bucket, first_place, gate_in, place, sorted_place};
+use arrayvec::ArrayVec;
 use mx_model::Gate;
 use std::marker::Model;
 
@@ -16,27 +17,27 @@ const GATES: usize = 256;
 #[derive(Clone, Copy, PartialEq, Eq, Debug)]
 pub struct GatesFull;
 
-/// At most 256 gates in the order in which they were added, at most one for each domain and word. Beside the list stands an
-/// index, so that a look-up where no gate stands reads one number of it, however many gates stand elsewhere.
+/// At most 256 gates in the order in which they were added, at most one for each domain and word. Beside the list stand the
+/// same gates sorted, and how many of them lie in each bucket: a look-up where no gate stands reads one number, unless gates
+/// elsewhere share its bucket, and any other search takes at most nine steps, whatever gates stand.
 #[derive(Drop)]
 pub struct Gates {
-    gates: [Gate; GATES],
-    len: usize,
-    first: [u16; BUCKETS],
-    next: [u16; GATES],
+    gates: ArrayVec<Gate, GATES>,
+    sorted: ArrayVec<Gate, GATES>,
+    counts: [u16; BUCKETS],
 }
 
 impl Model for Gates {
-    ghost use Rattle.std.specs.Prelude.{◌≡◌, ◌≤◌, List, length, take};
+    ghost use Rattle.std.specs.Prelude.{List};
     ghost use Rattle.mx_model.specs.declared.values.Gate.{Gate};
     ghost use Rattle.mx_gates.specs.Gates.{AreApart};
     ghost use Rattle.mx_gates.specs.Index.{Indexes};
 
     ghost Value = { List Gate };
 
-    ghost view = { λ s. take s.len s.gates };
+    ghost view = { λ s. s.gates.items };
 
-    ghost invariant = { λ s. (length s.gates ≡ 256) × (s.len ≤ 256) × AreApart (take s.len s.gates) × Indexes s.first s.next (take s.len s.gates) 0 };
+    ghost invariant = { λ s. AreApart s.gates.items × Indexes s.gates.items s.sorted.items s.counts };
 }
 
 impl Gates {
@@ -44,16 +45,21 @@ impl Gates {
     pub fn new() -> Gates
         ensures { result ≡ [] }
     {
-        let unused = Gate {
-            domain: 0,
-            word: 0,
-            target: 0,
-        };
         Gates {
-            gates: [unused; GATES],
-            len: 0,
-            first: [0; BUCKETS],
-            next: [0; GATES],
+            gates: ArrayVec::new(),
+            sorted: ArrayVec::new(),
+            counts: [0; BUCKETS],
+        }
+    }
+
+    /// The target of the gate that stands for `domain` at the RAM word `word`, of either sort. `None` exactly where none
+    /// stands there.
+    pub fn target(&self, domain: u32, word: u32) -> Option<u32>
+        ensures { result ≡ target self.now domain word }
+    {
+        match self.gate(domain, word) {
+            Some(gate) => Some(gate.target),
+            None => None,
         }
     }
 
@@ -88,7 +94,7 @@ impl Gates {
         if self.is_full_for(gate.domain, gate.word) {
             return Err(GatesFull);
         }
-        self.take_out(gate.domain, gate.word);
+        self.remove(gate.domain, gate.word);
         self.append(gate);
         Ok(())
     }
@@ -98,6 +104,7 @@ impl Gates {
     pub fn remove(&mut self, domain: u32, word: u32) -> bool
         ensures stood { result ≡ has_gate self.old domain word }
         ensures rest { self.new ≡ without_gate domain word self.old }
+        ensures unchanged { OnFalse result (self.new ≡ self.old) }
     {
         if !self.has_gate(domain, word) {
             return false;
@@ -112,25 +119,18 @@ impl Gates {
         ensures bounded { length self.now ≤ 256 }
         ensures apart { AreApart self.now }
     {
-        if i as usize >= self.len {
-            return None;
-        }
-        Some(self.gates[i as usize])
+        self.gates.as_slice().get(i as usize).copied()
     }
 
     /// The gate that stands for `domain` at `word`.
     fn gate(&self, domain: u32, word: u32) -> Option<Gate>
         ensures { result ≡ gate_at self.now domain word }
     {
-        let mut at = self.first[bucket(domain, word)] as usize;
-        while at < self.len {
-            let gate = self.gates[at];
-            if is_at(&gate, domain, word) {
-                return Some(gate);
-            }
-            at = self.next[at] as usize;
+        if self.counts[bucket(domain, word)] == 0 {
+            return None;
         }
-        None
+        let sorted = self.sorted.as_slice();
+        gate_in(sorted, sorted_place(sorted, domain, word))
     }
 
     /// Whether a gate stands for `domain` at `word`.
@@ -145,23 +145,19 @@ impl Gates {
         ensures full { result ≡ no_gate_fits self.now domain word }
         ensures bounded { length self.now ≤ 256 }
     {
-        self.len == GATES && !self.has_gate(domain, word)
+        self.gates.len() == GATES && !self.has_gate(domain, word)
     }
 
-    /// Removes the gate that stands for `domain` at `word`, if one does.
+    /// Removes the gate that stands for `domain` at `word`.
     fn take_out(&mut self, domain: u32, word: u32)
+        requires stands { has_gate self.old domain word ≡ true }
         ensures { self.new ≡ without_gate domain word self.old }
     {
-        let mut kept = 0;
-        for i in 0..self.len {
-            let gate = self.gates[i];
-            if !is_at(&gate, domain, word) {
-                self.gates[kept] = gate;
-                kept += 1;
-            }
-        }
-        self.len = kept;
-        index(&mut self.first, &mut self.next, &self.gates[..self.len]);
+        let at = sorted_place(self.sorted.as_slice(), domain, word);
+        self.sorted.remove(at);
+        let at = first_place(self.gates.as_slice(), domain, word);
+        self.gates.remove(at);
+        self.counts[bucket(domain, word)] -= 1;
     }
 
     /// Appends a gate where none stands.
@@ -170,17 +166,11 @@ impl Gates {
         requires none { gate_at self.old gate.domain gate.word ≡ None }
         ensures { self.new ≡ self.old ++ gate ∷ [] }
     {
-        self.gates[self.len] = gate;
-        self.len += 1;
-        index(&mut self.first, &mut self.next, &self.gates[..self.len]);
+        let at = place(self.sorted.as_slice(), gate.domain, gate.word);
+        self.sorted.insert(at, gate);
+        self.gates.push(gate);
+        self.counts[bucket(gate.domain, gate.word)] += 1;
     }
-}
-
-/// Whether the gate stands for `domain` at `word`.
-fn is_at(gate: &Gate, domain: u32, word: u32) -> bool
-    ensures { result ≡ is_at domain word gate.now }
-{
-    gate.domain == domain && gate.word == word
 }
 
 #[cfg(test)]

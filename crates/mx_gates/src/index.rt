@@ -1,7 +1,9 @@
-//! Where the gates of a domain and a word stand in the list, found by buckets.
+//! Where the gate of a domain and a word stands among sorted gates, and in which bucket it lies.
 
-ghost use Rattle.std.specs.Prelude.{◌≡◌, ◌+◌, ◌<◌, ◌≤◌, length, replicate};
-ghost use Rattle.mx_gates.specs.Index.{bucket, Indexes};
+ghost use Rattle.std.specs.Prelude.{◌≡◌, ◌+◌, ◌*◌, ◌^◌, ◌<◌, ◌≤◌, length, slice_get, if◌then◌else◌};
+ghost use Rattle.std.specs.List.{position_or_len};
+ghost use Rattle.mx_model.specs.Gates.{is_at};
+ghost use Rattle.mx_gates.specs.Index.{bucket, is_before, AreRising, place_of};
 
 use mx_model::Gate;
 
@@ -17,16 +19,79 @@ pub fn bucket(domain: u32, word: u32) -> usize
     (word as usize + 61 * (word as usize / 1024) + 97 * domain as usize) % BUCKETS
 }
 
-/// Indexes a list of gates anew: `first` gets the place of each bucket's first gate, and `next` for each gate the place of
-/// the next one of its bucket. The list's length stands for none.
-pub fn index(first: &mut [u16; BUCKETS], next: &mut [u16; 256], gates: &[Gate])
-    requires { length gates.now ≤ 256 }
-    ensures { Indexes first.new next.new gates.now 0 }
+/// How many sorted gates come before the domain and word. The steps depend on the number of gates alone.
+pub fn place(sorted: &[Gate], domain: u32, word: u32) -> usize
+    requires { AreRising sorted.now }
+    ensures place { result ≡ place_of domain word sorted.now }
+    ensures within { result ≤ length sorted.now }
 {
-    *first = [gates.len() as u16; BUCKETS];
-    for i in (0..gates.len()).rev() {
-        let b = bucket(gates[i].domain, gates[i].word);
-        next[i] = first[b];
-        first[b] = i as u16;
+    let mut low = 0;
+    let mut width = sorted.len();
+    while width > 0 {
+        let half = width - width / 2;
+        low += step(is_before(&sorted[low + half - 1], domain, word), half);
+        width /= 2;
     }
+    low
+}
+
+/// The place of the gate for the domain at the word among sorted gates; their number where there is none.
+pub fn sorted_place(sorted: &[Gate], domain: u32, word: u32) -> usize
+    requires { AreRising sorted.now }
+    ensures { result ≡ position_or_len (is_at domain word) sorted.now }
+{
+    let i = place(sorted, domain, word);
+    if i < sorted.len() && is_at(&sorted[i], domain, word) {
+        i
+    } else {
+        sorted.len()
+    }
+}
+
+/// The place of the first gate for the domain at the word; the number of gates where there is none.
+pub fn first_place(gates: &[Gate], domain: u32, word: u32) -> usize
+    ensures { result ≡ position_or_len (is_at domain word) gates.now }
+{
+    for i in 0..gates.len() {
+        if is_at(&gates[i], domain, word) {
+            return i;
+        }
+    }
+    gates.len()
+}
+
+/// The gate at a place. `None` where it is past the last.
+pub fn gate_in(gates: &[Gate], at: usize) -> Option<Gate>
+    ensures { result ≡ slice_get gates.now at }
+{
+    gates.get(at).copied()
+}
+
+/// Whether the gate comes before the domain and word in the order of sorted gates.
+#[tactic(auto, unfolding(crate::specs::Index::is_before))]
+fn is_before(gate: &Gate, domain: u32, word: u32) -> bool
+    ensures { result ≡ is_before domain word gate.now }
+{
+    key(gate.domain, gate.word) < key(domain, word)
+}
+
+/// The domain above the word, in one number, so that two places are compared without a branch.
+fn key(domain: u32, word: u32) -> u64
+    ensures { result ≡ domain * 2 ^ 32 + word }
+{
+    (domain as u64) << 32 | word as u64
+}
+
+/// The width, or 0.
+fn step(is_taken: bool, width: usize) -> usize
+    ensures { result ≡ (if is_taken then width else 0) }
+{
+    if is_taken { width } else { 0 }
+}
+
+/// Whether the gate stands for `domain` at `word`.
+fn is_at(gate: &Gate, domain: u32, word: u32) -> bool
+    ensures { result ≡ is_at domain word gate.now }
+{
+    gate.domain == domain && gate.word == word
 }

@@ -21,7 +21,7 @@ pub struct Frame {
 }
 
 /// A gate into `target` for harts of `domain` that reach a word: a call gate where the two differ, else a return gate.
-#[derive(Clone, Copy, PartialEq, Eq, Debug)]
+#[derive(Clone, Copy, PartialEq, Eq, Debug, Default)]
 pub struct Gate {
     /// The domain that may pass the gate.
     pub domain: u32,

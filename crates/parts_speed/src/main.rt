@@ -25,17 +25,35 @@ fn main(rt: HostRuntime) -> io::Result<()> {
     time_heaps(&rt, rt.alloc(), rounds)
 }
 
-/// `call_gate` and `is_return` at words without a gate, with 0 and with 256 gates elsewhere.
+/// `target` at words without a gate, with no gate, with 256 elsewhere, and with 256 in the bucket of the words that are looked
+/// at; at words with a gate; and `add` of the oldest of 256 gates.
 fn time_gates(rt: &(impl Print + Eprint + CpuClock), rounds: u64) -> io::Result<()> {
     for count in [0, 256] {
         let gates = gates::elsewhere(count);
+        let words = gates::first_words();
         let begun = rt.thread_cpu_time()?;
-        let found = gates::looked_up(&gates, rounds);
+        let found = gates::looked_up(&gates, 1, &words, rounds);
         let ended = rt.thread_cpu_time()?;
-        println!(rt; "call_gate with {count} gates elsewhere: {found} found")?;
-        tell(rt, "call_gate and is_return", rounds, begun, ended)?;
+        println!(rt; "target with {count} gates elsewhere: {found} found")?;
+        tell(rt, "target", rounds, begun, ended)?;
     }
-    Ok(())
+    let mut between = [0; 256];
+    let mut gates = gates::in_one_bucket(&mut between);
+    let words = gates::words_of(&gates);
+    let begun = rt.thread_cpu_time()?;
+    let found = gates::looked_up(&gates, 2, &between, rounds);
+    let half = rt.thread_cpu_time()?;
+    let there = gates::looked_up(&gates, 2, &words, rounds);
+    let ended = rt.thread_cpu_time()?;
+    println!(rt; "target with 256 gates in the same bucket: {found} found")?;
+    tell(rt, "target, worst layout", rounds, begun, half)?;
+    println!(rt; "target at 256 gates: {there} found")?;
+    tell(rt, "target at gates", rounds, half, ended)?;
+    let begun = rt.thread_cpu_time()?;
+    let added = gates::added_again(&mut gates, rounds);
+    let ended = rt.thread_cpu_time()?;
+    println!(rt; "add of the oldest of 256 gates: {added} added")?;
+    tell(rt, "add", rounds, begun, ended)
 }
 
 /// `keep` into a lookaside buffer of 8 and of 64 entries.

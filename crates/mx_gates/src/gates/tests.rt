@@ -41,10 +41,17 @@ fn gates_at_their_limit(rt: HostRuntime) -> Result<(), Fail> {
             back,
             "domain {domain}, word {word}"
         );
+        let either = if back { Some(domain) } else { target };
+        assert_eq!(rt;
+            gates.target(domain, word),
+            either,
+            "domain {domain}, word {word}"
+        );
     }
     assert!(rt; gates.remove(1, 7));
     assert!(rt; !gates.remove(1, 7));
-    assert_eq!(rt; gates.call_gate(1, 7), None);
+    assert_eq!(rt; gates.target(1, 7), None);
+    assert_eq!(rt; gates.target(1, 6), Some(1));
     assert_eq!(rt; gates.get(254), Some(gate(1, 255, 2)));
     assert_eq!(rt; gates.get(255), None);
     Ok(())

@@ -1,37 +1,56 @@
-use Rattle.std.proofs.Common.{◌≡◌, ℕ, ◌<◌, not, length, take, filter, sym, ap, subst, ◌∙◌, arith}
-use Rattle.std.proofs.lemmas.List.{get_or_default}
-use Rattle.std.proofs.lemmas.List.Filters.{FiltersInPlace-more_set, FiltersInPlace-more_no}
+use Rattle.std.proofs.Common.{◌≡◌, true, List, get_or, sym, ap, refl, ◌∙◌, arith}
+use Rattle.std.specs.List.{position_or_len}
 use Rattle.mx_model.specs.declared.values.Gate.{Gate}
-use Rattle.mx_model.specs.Gates.{is_at}
-use Rattle.mx_gates.specs.Gates.{AreApart}
-use Rattle.mx_gates.proofs.Apart.{AreApart-without}
+use Rattle.mx_model.specs.Gates.{is_at, has_gate}
+use Rattle.mx_gates.specs.Index.{bucket, lying}
+use Rattle.mx_gates.proofs.Apart.{place_in, removed, AreApart-without}
+use Rattle.mx_gates.proofs.Indexing.{Indexes-has, Indexes-without, lying-some}
 use Rattle.mx_gates.proofs.gates.Gates.take_out.Goals as goal
-use Rattle.mx_gates.proofs.gates.Gates.take_out.Goals.{then-not-is_at, else-not-is_at}
 
-pub loop-i-preserved : goal.loop-i-preserved
-loop-i-preserved c =
-    let l = c.loop-i.invariant in
-    let now = c.loop-i.self-inside.gates in
-    let d : Gate = record { domain = 0; word = 0; target = 0 } in
-    let within : c.loop-i.i < length now =
-    omega (arith, l.filtered.long, c.self.invariant.0, c.self.invariant.1, c.loop-i-test.true) in
-    let read = get_or_default now c.loop-i.i d _ within in
-    elim c.if-not-is_at.branch [
-      | then-not-is_at w ↦ rw (w.self-inside-is, w.kept-is) (record {
-        len = l.len;
-        filtered = FiltersInPlace-more_set l.filtered within (ap not (sym c.is_at.ensures ∙ w.if-not-is_at.true)) read;
-      })
-      | else-not-is_at w ↦ rw (w.self-inside-is, w.kept-is) (record {
-        len = l.len;
-        filtered = FiltersInPlace-more_no l.filtered within (ap not (sym c.is_at.ensures ∙ w.if-not-is_at.false)) read;
-      })
-    ]
+pub remove-requires : goal.remove-requires
+remove-requires c =
+    let s = c.self.inside in
+    let d = c.args.domain in
+    let w = c.args.word in
+    let has : has_gate s.gates.items d w ≡ true = ap (λ (xs : List Gate). has_gate xs d w) c.self.view_is ∙ c.requires.stands in
+    let at = c.sorted_place-at.ensures ∙ ap (position_or_len (is_at d w)) c.as_slice.ensures.value in
+    (omega arith, rw at (place_in d w s.sorted.items (Indexes-has s.gates.items s.sorted.items s.counts c.self.invariant.1 d w has)))
+
+pub remove-requires-2 : goal.remove-requires-2
+remove-requires-2 c =
+    let s = c.self.inside in
+    let d = c.args.domain in
+    let w = c.args.word in
+    let has : has_gate s.gates.items d w ≡ true = ap (λ (xs : List Gate). has_gate xs d w) c.self.view_is ∙ c.requires.stands in
+    let at = c.first_place-at.ensures ∙ ap (position_or_len (is_at d w)) c.as_slice-2.ensures.value in
+    (omega arith, rw at (place_in d w s.gates.items has))
+
+pub overflow_sub-self : goal.overflow_sub-self
+overflow_sub-self c =
+    let s = c.self.inside in
+    let d = c.args.domain in
+    let w = c.args.word in
+    let has : has_gate s.gates.items d w ≡ true = ap (λ (xs : List Gate). has_gate xs d w) c.self.view_is ∙ c.requires.stands in
+    let b = c.bucket.ensures.value in
+    let count : get_or s.counts c.bucket.result 0 ≡ lying (bucket d w) s.gates.items = ap (λ k. get_or s.counts k 0) b ∙ c.self.invariant.1.counted (bucket d w) (rw (sym b) c.bucket.ensures.bounded) in
+    omega (arith, count, lying-some s.gates.items d w has)
 
 pub invariant_of-self : goal.invariant_of-self
 invariant_of-self c =
-    let l = c.loop-i.invariant in
     let s = c.self.inside in
-    let i = c.self.invariant in
-    let all : c.loop-i.i ≡ s.len = omega (arith, c.loop-i-test.false, c.loop-i.auto.i-end) in
-    let kept = l.filtered.front ∙ ap (λ (n : ℕ). filter (λ (g : Gate). not (is_at c.args.domain c.args.word g)) (take n s.gates)) all in
-    (l.filtered.long ∙ i.0, omega (arith, l.filtered.behind, all, i.1), subst AreApart (sym kept) (AreApart-without c.args.domain c.args.word (take s.len s.gates) i.2), c.index.ensures)
+    let d = c.args.domain in
+    let w = c.args.word in
+    let has : has_gate s.gates.items d w ≡ true = ap (λ (xs : List Gate). has_gate xs d w) c.self.view_is ∙ c.requires.stands in
+    let at = c.sorted_place-at.ensures ∙ ap (position_or_len (is_at d w)) c.as_slice.ensures.value in
+    let at2 = c.first_place-at.ensures ∙ ap (position_or_len (is_at d w)) c.as_slice-2.ensures.value in
+    rw (c.remove-2.ensures.items, c.remove.ensures.items, at2, at, c.bucket.ensures.value, removed d w s.gates.items c.self.invariant.0 has)
+    (AreApart-without d w s.gates.items c.self.invariant.0, Indexes-without s.gates.items s.sorted.items s.counts c.self.invariant.1 d w c.self.invariant.0 has)
+
+pub returns : goal.returns
+returns c =
+    let s = c.self.inside in
+    let d = c.args.domain in
+    let w = c.args.word in
+    let has : has_gate s.gates.items d w ≡ true = ap (λ (xs : List Gate). has_gate xs d w) c.self.view_is ∙ c.requires.stands in
+    let at2 = c.first_place-at.ensures ∙ ap (position_or_len (is_at d w)) c.as_slice-2.ensures.value in
+    rw (c.remove-2.ensures.items, at2, removed d w s.gates.items c.self.invariant.0 has, c.self.view_is) refl
