@@ -89,28 +89,34 @@ symbol_section at count = words (0 ∷ 2 ∷ 0 ∷ 0 ∷ at ∷ 16 * count ∷ 2
 abbrev pub string_section : ℕ → ℕ → List ℕ
 string_section at size = words (0 ∷ 3 ∷ 0 ∷ 0 ∷ at ∷ size ∷ 0 ∷ 0 ∷ 0 ∷ 0 ∷ [])
 
--- where the segments' bytes begin, after the headers of so many segments
+-- where the bytes of segments begin, after the headers of so many
 abbrev pub contents_at : ℕ → ℕ
 contents_at count = 52 + 32 * count
 
--- where the symbol table, the strings and the section headers stand
-abbrev pub symbols_at : Program → ℕ
-symbols_at p = contents_at (length (filled p.segments)) + length (contents (filled p.segments))
+-- where the symbol table stands
+abbrev pub symbols_at : List Segment → ℕ
+symbols_at segments = contents_at (length segments) + length (contents segments)
 
-abbrev pub strings_at : Program → ℕ
-strings_at p = symbols_at p + 16 * (length p.labels + 1)
+-- where the strings stand
+abbrev pub strings_at : List Segment → List Label → ℕ
+strings_at segments labels = symbols_at segments + 16 * (length labels + 1)
 
-abbrev pub sections_at : Program → ℕ
-sections_at p = strings_at p + rounded (length (strings p.labels))
+-- where the section headers stand
+abbrev pub sections_at : List Segment → List Label → ℕ
+sections_at segments labels = strings_at segments labels + rounded (length (strings labels))
 
--- the image of a program
-unfoldable pub image_of : Program → List ℕ
-image_of p =
-    file_header p.entry (sections_at p) (length (filled p.segments))
-    ++ program_headers (contents_at (length (filled p.segments))) (filled p.segments)
-    ++ contents (filled p.segments)
-    ++ symbol_table p.labels
-    ++ padded (strings p.labels)
+-- the image of segments that have bytes, and of labels
+unfoldable pub image_with : ℕ → List Segment → List Label → List ℕ
+image_with entry segments labels =
+    file_header entry (sections_at segments labels) (length segments)
+    ++ program_headers (contents_at (length segments)) segments
+    ++ contents segments
+    ++ symbol_table labels
+    ++ padded (strings labels)
     ++ null_section
-    ++ symbol_section (symbols_at p) (length p.labels + 1)
-    ++ string_section (strings_at p) (length (strings p.labels))
+    ++ symbol_section (symbols_at segments) (length labels + 1)
+    ++ string_section (strings_at segments labels) (length (strings labels))
+
+-- the image of a program: segments without bytes are left out
+abbrev pub image_of : Program → List ℕ
+image_of p = image_with p.entry (filled p.segments) p.labels

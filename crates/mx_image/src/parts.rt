@@ -1,10 +1,10 @@
 //! The parts of an image, in their order.
 
-ghost use Rattle.std.specs.Prelude.{◌≡◌, ◌+◌, ◌*◌, ◌≤◌, ◌<◌, ◌^◌, ◌++◌, ℕ, length, map, IfOk, OnOk};
+ghost use Rattle.std.specs.Prelude.{◌≡◌, ◌+◌, ◌*◌, ◌≤◌, ◌<◌, ◌^◌, ◌++◌, [], ℕ, length, map, IfOk, OnOk};
 ghost use Rattle.std.specs.List.{AllByRecursion};
 ghost use Rattle.mx_image.specs.Program.{filled, byte_count};
 ghost use Rattle.mx_image.specs.Labels.{label_of, labels_of};
-ghost use Rattle.mx_image.specs.Image.{rounded, padded, file_header, program_header, program_headers, contents, symbol, symbol_table, symbols_from, names, strings, symbol_section, string_section, null_section, image_of, contents_at, symbols_at, strings_at, sections_at};
+ghost use Rattle.mx_image.specs.Image.{rounded, padded, file_header, program_header, program_headers, contents, symbol, symbol_table, symbols_from, names, strings, symbol_section, string_section, null_section, image_with, image_of, contents_at, symbols_at, strings_at, sections_at};
 ghost use Rattle.mx_image.specs.Lawful.{IsName, IsSized};
 
 use crate::layout::{
@@ -23,28 +23,85 @@ pub fn write(alloc: Global, program: &ProgramBuilder) -> Result<Blob, NoMemory>
     requires { IsSized program.now }
     ensures { IfOk result (λ image. image ≡ image_of program.now) }
 {
-    let segments = program.segments.as_slice();
-    let labels = program.labels.as_slice();
+    let mut out = Blob::new(alloc);
+    put_parts(
+        &mut out,
+        program.entry,
+        program.segments.as_slice(),
+        program.labels.as_slice(),
+    )?;
+    Ok(out)
+}
+
+/// Puts all parts of an image into an empty list.
+fn put_parts(
+    out: &mut Blob,
+    entry: u32,
+    segments: &[Segment],
+    labels: &[NamedAddress],
+) -> Result<(), NoMemory>
+    requires empty { out.old ≡ [] }
+    requires few { length (filled segments.now) ≤ 16 }
+    requires contents { length (contents (filled segments.now)) < 2 ^ 28 }
+    requires labels { length labels.now ≤ 2 ^ 20 }
+    requires names { length (names (labels_of labels.now)) < 2 ^ 28 }
+    ensures { OnOk result (out.new ≡ image_with entry (filled segments.now) (labels_of labels.now)) }
+{
+    let layout = lay_out(segments, labels);
+    put_file_header(out, entry, layout.sections_at, layout.segments)?;
+    put_program_headers(out, segments, layout.contents_at)?;
+    put_contents(out, segments)?;
+    put_symbol_table(out, labels)?;
+    put_strings(out, labels, layout.strings_size)?;
+    put_sections(out, &layout)
+}
+
+/// Where the parts of an image stand, in bytes from its start, and how many things they hold.
+#[derive(Clone, Copy)]
+struct Layout {
+    segments: u32,
+    contents_at: u32,
+    symbols: u32,
+    symbols_at: u32,
+    strings_size: u32,
+    strings_at: u32,
+    sections_at: u32,
+}
+
+/// The layout of an image.
+fn lay_out(segments: &[Segment], labels: &[NamedAddress]) -> Layout
+    requires few { length (filled segments.now) ≤ 16 }
+    requires contents { length (contents (filled segments.now)) < 2 ^ 28 }
+    requires labels { length labels.now ≤ 2 ^ 20 }
+    requires names { length (names (labels_of labels.now)) < 2 ^ 28 }
+    ensures segments { result.segments ≡ length (filled segments.now) }
+    ensures contents_at { result.contents_at ≡ contents_at (length (filled segments.now)) }
+    ensures symbols { result.symbols ≡ length labels.now + 1 }
+    ensures symbols_at { result.symbols_at ≡ symbols_at (filled segments.now) }
+    ensures strings_size { result.strings_size ≡ length (strings (labels_of labels.now)) }
+    ensures strings_at { result.strings_at ≡ strings_at (filled segments.now) (labels_of labels.now) }
+    ensures sections_at { result.sections_at ≡ sections_at (filled segments.now) (labels_of labels.now) }
+{
     let count = filled_count(segments);
     let contents_at = HEADER_SIZE + PROGRAM_HEADER_SIZE * count;
+    let symbols = labels.len() as u32 + 1;
     let symbols_at = contents_at + contents_size(segments);
-    let symbol_count = labels.len() as u32 + 1;
-    let strings_at = symbols_at + SYMBOL_SIZE * symbol_count;
     let strings_size = names_size(labels) + 1;
-    let sections_at = strings_at + rounded(strings_size);
-    let mut out = Blob::new(alloc);
-    put_file_header(&mut out, program.entry, sections_at, count)?;
-    put_program_headers(&mut out, segments, contents_at)?;
-    put_contents(&mut out, segments)?;
-    put_symbol_table(&mut out, labels)?;
-    put_strings(&mut out, labels, strings_size)?;
-    put_sections(&mut out, symbols_at, symbol_count, strings_at, strings_size)?;
-    Ok(out)
+    let strings_at = symbols_at + SYMBOL_SIZE * symbols;
+    Layout {
+        segments: count,
+        contents_at,
+        symbols,
+        symbols_at,
+        strings_size,
+        strings_at,
+        sections_at: strings_at + rounded(strings_size),
+    }
 }
 
 /// The next multiple of 4.
 fn rounded(n: u32) -> u32
-    requires { n < 2 ^ 31 }
+    requires { n ≤ 2 ^ 31 }
     ensures { result ≡ rounded n }
 {
     (n + 3) / 4 * 4
@@ -174,7 +231,7 @@ fn put_symbols(out: &mut Blob, labels: &[NamedAddress]) -> Result<(), NoMemory>
     let mut at = 1;
     'labels: for label in labels {
         put_symbol(out, label, at)?;
-        at += label.name.len() as u32 + 1;
+        at = at + label.name.len() as u32 + 1;
     }
     Ok(())
 }
@@ -213,20 +270,16 @@ fn put_names(out: &mut Blob, labels: &[NamedAddress]) -> Result<(), NoMemory>
     Ok(())
 }
 
-/// Appends the section headers: the null one, that of `count` symbols at `symbols_at`, and that of strings of `size`
-/// bytes at `strings_at`.
-fn put_sections(
-    out: &mut Blob,
-    symbols_at: u32,
-    count: u32,
-    strings_at: u32,
-    size: u32,
-) -> Result<(), NoMemory>
+/// Appends the section headers: the null one, that of the symbols, and that of the strings.
+fn put_sections(out: &mut Blob, layout: &Layout) -> Result<(), NoMemory>
     requires room { length out.old + 120 ≤ 2 ^ 31 }
-    requires few { count < 2 ^ 24 }
-    ensures { OnOk result (out.new ≡ out.old ++ null_section ++ symbol_section symbols_at count ++ string_section strings_at size) }
+    requires few { layout.now.symbols < 2 ^ 24 }
+    ensures { OnOk result (out.new ≡ out.old ++ null_section ++ symbol_section layout.now.symbols_at layout.now.symbols
+        ++ string_section layout.now.strings_at layout.now.strings_size) }
 {
-    let symbols_size = SYMBOL_SIZE * count;
+    let at = layout.symbols_at;
+    let size = SYMBOL_SIZE * layout.symbols;
+    let linked = STRINGS as u32;
     put_words(out, &[0; 10])?;
     put_words(
         out,
@@ -235,13 +288,27 @@ fn put_sections(
             SHT_SYMTAB,
             0,
             0,
-            symbols_at,
-            symbols_size,
-            STRINGS as u32,
-            count,
+            at,
+            size,
+            linked,
+            layout.symbols,
             0,
             SYMBOL_SIZE,
         ],
     )?;
-    put_words(out, &[0, SHT_STRTAB, 0, 0, strings_at, size, 0, 0, 0, 0])
+    put_words(
+        out,
+        &[
+            0,
+            SHT_STRTAB,
+            0,
+            0,
+            layout.strings_at,
+            layout.strings_size,
+            0,
+            0,
+            0,
+            0,
+        ],
+    )
 }

@@ -21,7 +21,7 @@ pub(crate) fn put_zeros(out: &mut Blob, count: u32) -> Result<(), NoMemory>
     requires { length out.old + count ≤ 2 ^ 31 }
     ensures { OnOk result (out.new ≡ out.old ++ replicate count 0) }
 {
-    'zeros: for _ in 0..count {
+    'zeros: for k in 0..count {
         out.push(0)?;
     }
     Ok(())
