@@ -1,0 +1,81 @@
+-- The image of a lawful program, and what the loader reads of it.
+use Rattle.std.proofs.Common.{◌≡◌, ℕ, ◌+◌, ◌*◌, ◌/◌, ◌%◌, ◌^◌, ◌<◌, ◌≤◌, Bool, true, false, List, [], ◌∷◌, ◌++◌, length, take, drop, refl, sym, ap, ◌∙◌, arith, ◌==◌, inl, inr, ⊎_elim}
+use Rattle.std.specs.Prelude.{Ok, map}
+use Rattle.std.specs.List.{AllByRecursion}
+use Rattle.std.proofs.lemmas.List.{length-append}
+use Rattle.std.proofs.lemmas.List.Sums.{sum_by-cons}
+use Rattle.std.proofs.lemmas.Bool.{cond_both}
+use Rattle.std.proofs.lemmas.Bool.Decides.{nat_tests}
+use Rattle.mx_elf.specs.Image.{image_of as image_read}
+use Rattle.mx_image.specs.declared.segment.Segment.{Segment}
+use Rattle.mx_image.specs.Program.{Program, has_bytes, filled, byte_count}
+use Rattle.mx_image.specs.Image.{rounded, padded, file_header, program_headers, contents, symbol_table, strings, null_section, symbol_section, string_section, contents_at, symbols_at, strings_at, sections_at, image_with, image_of}
+use Rattle.mx_image.specs.Lawful.{IsSegment, IsProgram, placed}
+use Rattle.mx_image.proofs.Sizes.{small, program_headers_length}
+use Rattle.mx_image.proofs.Loads.{IsLoadable}
+use Rattle.mx_image.proofs.Reading.{read}
+use Rattle.mx_image.proofs.Splits.{cut-2, cut-3, cut-4, bytes-there}
+
+-- the segments of a lawful program
+loadable-one : (s : Segment) → has_bytes s ≡ true → length s.bytes ≤ 4194304 → IsSegment s → IsLoadable s
+loadable-one s some few h =
+    let more : 0 < length s.bytes = grind (arith, nat_tests) in
+    let flags : s.flags < 2 ^ 32 = ⊎_elim (λ e. omega arith) (λ e. omega arith) h.flags in
+    record { some = more; size = omega (arith, few); address = omega (arith, more, h.ends); flags = flags; aligned = h.aligned }
+
+pub loadable : (segments : List Segment) → byte_count segments ≤ 4194304 → AllByRecursion IsSegment (filled segments) → AllByRecursion IsLoadable (filled segments)
+loadable [] few = λ all. tt
+loadable (s ∷ segments) few =
+    let bytes : byte_count (s ∷ segments) ≡ length s.bytes + byte_count segments = sum_by-cons (λ x. length x.bytes) s segments in
+    let rest = loadable segments (omega (arith, few, bytes)) in
+    cond_both (has_bytes s) (s ∷ filled segments) (filled segments)
+    (λ left. AllByRecursion IsSegment left → AllByRecursion IsLoadable left)
+    (λ some. λ all. (loadable-one s some (omega (arith, few, bytes)) all.0, rest all.1)) (λ _. rest)
+
+-- how many bytes three parts have of a list
+three : (bytes a b c rest : List ℕ) → bytes ≡ (a ++ b ++ c) ++ rest → length a + length b + length c ≤ length bytes
+three bytes a b c rest is = omega (arith, ap length is, length-append (a ++ b ++ c) rest, length-append (a ++ b) c, length-append a b)
+
+-- the loader reads the entry and the segments that have bytes
+pub reads-image : (p : Program) → IsProgram p
+    → image_read (image_of p) ≡ Ok (record { entry = p.entry; segments = placed (contents_at (length (filled p.segments))) (filled p.segments) })
+unfolding image_with
+reads-image p h =
+    let segments = filled p.segments in
+    let sizes = small p h.sized in
+    let at = contents_at (length segments) in
+    let a = file_header p.entry (sections_at segments p.labels) (length segments) in
+    let b = program_headers at segments in
+    let c = contents segments in
+    let d = symbol_table p.labels in
+    let e = padded (strings p.labels) in
+    let f = null_section in
+    let g = symbol_section (symbols_at segments) (length p.labels + 1) in
+    let i = string_section (strings_at segments p.labels) (length (strings p.labels)) in
+    let head : length a ≡ 52 = refl in
+    let long = three (image_of p) a b c _ (cut-4 a b c d e f g i) in
+    let names : length (strings p.labels) ≤ 68157441 = omega (arith, sizes.names) in
+    read (image_of p) p.entry (sections_at segments p.labels) segments _ (cut-2 a b c d e f g i) h.entry
+    (omega (arith, sizes.segments, sizes.contents, sizes.labels, names)) sizes.segments
+    (omega (arith, long, head, program_headers_length at segments)) (omega (arith, sizes.contents))
+    (loadable p.segments h.sized.bytes h.segments)
+
+-- their bytes stand where it reads them
+pub reads-bytes : (p : Program) → IsProgram p
+    → map (λ s. take s.file (drop s.offset (image_of p))) (placed (contents_at (length (filled p.segments))) (filled p.segments))
+    ≡ map (λ s. s.bytes) (filled p.segments)
+unfolding image_with
+reads-bytes p h =
+    let segments = filled p.segments in
+    let at = contents_at (length segments) in
+    let a = file_header p.entry (sections_at segments p.labels) (length segments) in
+    let b = program_headers at segments in
+    let c = contents segments in
+    let d = symbol_table p.labels in
+    let e = padded (strings p.labels) in
+    let f = null_section in
+    let g = symbol_section (symbols_at segments) (length p.labels + 1) in
+    let i = string_section (strings_at segments p.labels) (length (strings p.labels)) in
+    let head : length a ≡ 52 = refl in
+    let start : at ≡ length (a ++ b) = omega (arith, head, length-append a b, program_headers_length at segments) in
+    bytes-there (image_of p) (a ++ b) _ at segments (cut-3 a b c d e f g i) start

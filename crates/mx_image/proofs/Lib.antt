@@ -1,0 +1,9 @@
+pub mod Sizes
+pub mod Steps
+pub mod LastByte
+pub mod Whole
+pub mod Fields
+pub mod Loads
+pub mod Splits
+pub mod Reading
+pub mod Images

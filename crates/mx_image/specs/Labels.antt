@@ -1,0 +1,12 @@
+-- Labels as the code holds them.
+use Rattle.std.specs.Prelude.{List, map}
+use Rattle.mx_image.specs.declared.program.NamedAddress.{NamedAddress}
+use Rattle.mx_image.specs.Program.{Label}
+
+-- the label that a name and its address are
+abbrev pub label_of : NamedAddress → Label
+label_of l = record { name = l.name.now; address = l.address }
+
+-- the labels of a list
+abbrev pub labels_of : List NamedAddress → List Label
+labels_of items = map label_of items

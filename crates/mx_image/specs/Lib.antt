@@ -1,0 +1,4 @@
+pub mod Program
+pub mod Labels
+pub mod Image
+pub mod Lawful

@@ -1,0 +1,86 @@
+//! Programs, piece by piece.
+
+ghost use Rattle.std.specs.Prelude.{◌≡◌, ◌<◌, ◌^◌, length, OnOk};
+ghost use Rattle.mx_image.specs.Program.{byte_count, no_program, with_entry, with_segment, with_byte, with_label};
+
+use crate::segment::Segment;
+use mx_words::NoMemory;
+use std::alloc::Global;
+use std::marker::Model;
+
+/// A label: its name, as it stands in the text, and the address for which it stands.
+#[derive(Clone, Copy)]
+pub(crate) struct NamedAddress<'a> {
+    pub(crate) name: &'a [u8],
+    pub(crate) address: u32,
+}
+
+/// A program as it is put together. Each segment's bytes stand in a list of its own, so that they take at most twice
+/// their number; a label takes 24 bytes, and its name stays where the text has it.
+#[derive(Drop)]
+pub struct ProgramBuilder<'a> {
+    pub(crate) entry: u32,
+    pub(crate) segments: Vec<Segment>,
+    pub(crate) labels: Vec<NamedAddress<'a>>,
+}
+
+impl<'a> Model for ProgramBuilder<'a> {
+    ghost use Rattle.mx_image.specs.Program.{Program};
+
+    ghost Value = { Program };
+
+    ghost use Rattle.mx_image.specs.Labels.{labels_of};
+
+    ghost view = { λ p. record { entry = p.entry; segments = p.segments.items; labels = labels_of p.labels.items } };
+}
+
+impl<'a> ProgramBuilder<'a> {
+    /// The program that begins at 0 and has neither segments nor labels.
+    pub fn new(alloc: Global) -> ProgramBuilder<'a>
+        ensures { result ≡ no_program }
+    {
+        ProgramBuilder {
+            entry: 0,
+            segments: Vec::new(alloc),
+            labels: Vec::new(alloc),
+        }
+    }
+
+    /// Sets the address at which the program begins.
+    pub fn set_entry(&mut self, entry: u32)
+        ensures { self.new ≡ with_entry entry self.old }
+    {
+        self.entry = entry;
+    }
+
+    /// Appends a segment.
+    pub fn add_segment(&mut self, segment: Segment) -> Result<(), NoMemory>
+        ensures { OnOk result (self.new ≡ with_segment segment self.old) }
+    {
+        match self.segments.push(segment) {
+            Ok(()) => Ok(()),
+            Err(_) => Err(NoMemory),
+        }
+    }
+
+    /// Appends a byte to the last segment.
+    pub fn add_byte(&mut self, byte: u8) -> Result<(), NoMemory>
+        requires begun { 0 < length self.old.segments }
+        requires room { byte_count self.old.segments < 2 ^ 31 }
+        ensures { OnOk result (self.new ≡ with_byte byte self.old) }
+    {
+        let last = self.segments.len() - 1;
+        let segment = &mut self.segments[last];
+        segment.bytes.push(byte)
+    }
+
+    /// Appends a label.
+    pub fn add_label(&mut self, name: &'a [u8], address: u32) -> Result<(), NoMemory>
+        ensures { OnOk result (self.new ≡ with_label (record { name = name.now; address = address }) self.old) }
+    {
+        match self.labels.push(NamedAddress { name, address }) {
+            Ok(()) => Ok(()),
+            Err(_) => Err(NoMemory),
+        }
+    }
+}
