@@ -10,7 +10,7 @@ use Rattle.std.proofs.lemmas.List.Quantifiers.{all_pairs_push}
 use Rattle.std.proofs.lemmas.List.Filters.{length-filter_both}
 use Rattle.mx_model.specs.declared.values.Gate.{Gate}
 use Rattle.mx_model.specs.Gates.{is_at, gate_at, without_gate, has_gate, no_gate_fits}
-use Rattle.mx_gates.specs.Gates.{AreApart}
+use Rattle.mx_model.specs.Gates.{AreSingle}
 use Rattle.mx_gates.proofs.Lists.{filter-find_none, find_none-any, find_none-from, length-filter_any, find-filter_not, find_none-at}
 
 -- a gate is apart from another that is_at elsewhere
@@ -26,15 +26,15 @@ apart_back g h out = elim (cases_Bool (is_at h.domain h.word g)) [
 at_both : (domain word : ℕ) (g h : Gate) → is_at domain word g ≡ true → is_at domain word h ≡ true → is_at g.domain g.word h ≡ true
 at_both domain word g h p q = grind arith
 
-pub AreApart-without : (domain word : ℕ) (gates : List Gate) → AreApart gates → AreApart (without_gate domain word gates)
-AreApart-without domain word gates a = AllPairs-filter (λ (g h : Gate). is_at g.domain g.word h ≡ false) _ gates a
+pub AreSingle-without : (domain word : ℕ) (gates : List Gate) → AreSingle gates → AreSingle (without_gate domain word gates)
+AreSingle-without domain word gates a = AllPairs-filter (λ (g h : Gate). is_at g.domain g.word h ≡ false) _ gates a
 
-pub AreApart-push : (gates : List Gate) (g : Gate) → gate_at gates g.domain g.word ≡ None → AreApart gates → AreApart (gates ++ g ∷ [])
-AreApart-push gates g none a =
+pub AreSingle-push : (gates : List Gate) (g : Gate) → gate_at gates g.domain g.word ≡ None → AreSingle gates → AreSingle (gates ++ g ∷ [])
+AreSingle-push gates g none a =
     all_pairs_push (λ (g h : Gate). is_at g.domain g.word h ≡ false) gates g a (λ k d within. apart_back g (get_or gates k d) (find_none-at _ gates k d none within))
 
-AreApart-tail : (g : Gate) (gates : List Gate) → AreApart (g ∷ gates) → AreApart gates
-AreApart-tail g gates a i j d lt within = a (suc i) (suc j) d (omega arith) (omega arith)
+AreSingle-tail : (g : Gate) (gates : List Gate) → AreSingle (g ∷ gates) → AreSingle gates
+AreSingle-tail g gates a i j d lt within = a (suc i) (suc j) d (omega arith) (omega arith)
 
 module _ (domain word : ℕ) where
   -- where none stands, none is removed
@@ -59,7 +59,7 @@ module _ (domain word : ℕ) where
       ]
 
   -- without the gate, the list is the one without its place
-  pub removed : (gates : List Gate) → AreApart gates → has_gate gates domain word ≡ true
+  pub removed : (gates : List Gate) → AreSingle gates → has_gate gates domain word ≡ true
       → remove gates (position_or_len (is_at domain word) gates) ≡ without_gate domain word gates
   removed [] a has = absurd (false≢true has)
   removed (g ∷ gates) a has =
@@ -77,7 +77,7 @@ module _ (domain word : ℕ) where
         | inr there ↦
             ap (λ b. remove (g ∷ gates) (cond (not b) (1 + later) 0)) there
             ∙ ap (remove (g ∷ gates)) (let e : 1 + later ≡ suc later = omega arith in e)
-            ∙ ap (λ xs. g ∷ xs) (removed gates (AreApart-tail g gates a) (sym (ap (λ b. b || list_any (is_at domain word) gates) there) ∙ has))
+            ∙ ap (λ xs. g ∷ xs) (removed gates (AreSingle-tail g gates a) (sym (ap (λ b. b || list_any (is_at domain word) gates) there) ∙ has))
             ∙ sym (ap (λ b. cond (not b) (g ∷ rest) rest) there)
       ]
 

@@ -9,7 +9,7 @@ use Rattle.std.proofs.lemmas.List.Quantifiers.{all_pairs_remove}
 use Rattle.std.proofs.lemmas.List.Sums.{sum_by-append, sum_by-remove, sum_by-cons, passes_at_first, prefix_len-le-length}
 use Rattle.mx_model.specs.declared.values.Gate.{Gate}
 use Rattle.mx_model.specs.Gates.{is_at, gate_at, has_gate, without_gate}
-use Rattle.mx_gates.specs.Gates.{AreApart}
+use Rattle.mx_model.specs.Gates.{AreSingle}
 use Rattle.mx_gates.specs.Index.{bucket, lying, is_before, AreRising, no_gate, place_of, Indexes}
 use Rattle.mx_gates.proofs.Lists.{list_any-find, find_none-at}
 use Rattle.mx_gates.proofs.Apart.{place_in, removed, found-without, found-insert}
@@ -25,7 +25,7 @@ bucket_at domain word g here =
     ap (λ x. bucket x g.word) (eqb-true g.domain domain parts.0) ∙ ap (λ x. bucket domain x) (eqb-true g.word word parts.1)
 
 -- sorted gates are apart
-pub AreRising-apart : (sorted : List Gate) → AreRising sorted → AreApart sorted
+pub AreRising-apart : (sorted : List Gate) → AreRising sorted → AreSingle sorted
 AreRising-apart sorted up i j d lt within = before-apart (get_or sorted i d) (get_or sorted j d) (up i j d lt within)
 
 place-le : (domain word : ℕ) (sorted : List Gate) → place_of domain word sorted ≤ length sorted
@@ -69,7 +69,7 @@ module _ (gates sorted : List Gate) (counts : List ℕ) (x : Indexes gates sorte
   Indexes-has has = list_any-find (is_at domain word) sorted ∙ ap is_some (x.same domain word) ∙ sym (list_any-find (is_at domain word) gates) ∙ has
 
   -- without the gate that stands there
-  pub Indexes-without : AreApart gates → has_gate gates domain word ≡ true
+  pub Indexes-without : AreSingle gates → has_gate gates domain word ≡ true
       → Indexes (without_gate domain word gates) (remove sorted (position_or_len (is_at domain word) sorted)) (set counts (bucket domain word) (get_or counts (bucket domain word) 0 - 1))
   Indexes-without apart has =
       let b = bucket domain word in

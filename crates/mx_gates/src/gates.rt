@@ -2,8 +2,7 @@
 
 ghost use Rattle.std.specs.Prelude.{◌≡◌, ◌<◌, ◌≤◌, true, [], ◌∷◌, ◌++◌, None, OnOk, OnErr, is_err, length, slice_get};
 ghost use Rattle.std.specs.Bool.{OnFalse};
-ghost use Rattle.mx_model.specs.Gates.{gate_at, call_gate, is_return, with_gate, without_gate, has_gate, no_gate_fits};
-ghost use Rattle.mx_gates.specs.Gates.{AreApart, target};
+ghost use Rattle.mx_model.specs.Gates.{AreSingle, gate_at, gate_target, call_gate, is_return, with_gate, without_gate, has_gate, no_gate_fits};
 
 use crate::index::{BUCKETS, bucket, first_place, gate_in, place, sorted_place};
 use arrayvec::ArrayVec;
@@ -30,14 +29,14 @@ pub struct Gates {
 impl Model for Gates {
     ghost use Rattle.std.specs.Prelude.{List};
     ghost use Rattle.mx_model.specs.declared.values.Gate.{Gate};
-    ghost use Rattle.mx_gates.specs.Gates.{AreApart};
+    ghost use Rattle.mx_model.specs.Gates.{AreSingle};
     ghost use Rattle.mx_gates.specs.Index.{Indexes};
 
     ghost Value = { List Gate };
 
     ghost view = { λ s. s.gates.items };
 
-    ghost invariant = { λ s. AreApart s.gates.items × Indexes s.gates.items s.sorted.items s.counts };
+    ghost invariant = { λ s. AreSingle s.gates.items × Indexes s.gates.items s.sorted.items s.counts };
 }
 
 impl Gates {
@@ -55,7 +54,7 @@ impl Gates {
     /// The target of the gate that stands for `domain` at the RAM word `word`, of either sort. `None` exactly where none
     /// stands there.
     pub fn target(&self, domain: u32, word: u32) -> Option<u32>
-        ensures { result ≡ target self.now domain word }
+        ensures { result ≡ gate_target self.now domain word }
     {
         match self.gate(domain, word) {
             Some(gate) => Some(gate.target),
@@ -117,7 +116,7 @@ impl Gates {
     pub fn get(&self, i: u32) -> Option<Gate>
         ensures gate { result ≡ slice_get self.now i }
         ensures bounded { length self.now ≤ 256 }
-        ensures apart { AreApart self.now }
+        ensures apart { AreSingle self.now }
     {
         self.gates.as_slice().get(i as usize).copied()
     }

@@ -1,14 +1,13 @@
 -- What two states share for a hart, and where its turns end to depend on that alone.
 -- The rules: docs/MACHINE.md, "Agreement".
-use Rattle.std.specs.Prelude.{◌≡◌, ℕ, ◌+◌, ◌-◌, ◌*◌, ◌/◌, ◌<◌, Bool, true, false, slice_index, if◌then◌else◌, Option, Some, None, option_map, IsTrue}
+use Rattle.std.specs.Prelude.{◌≡◌, ℕ, ◌+◌, ◌-◌, ◌*◌, ◌/◌, ◌<◌, Bool, true, false, slice_index, if◌then◌else◌, Option, Some, None, IsTrue}
 use Rattle.mx_words.specs.declared.perm.Access.TheVariants as A
 use Rattle.mx_words.specs.Ranges.{ram_base}
 use Rattle.mx_words.specs.Rights.{allows}
 use Rattle.mx_isa.specs.declared.inst.Inst.{Inst}
 use Rattle.mx_isa.specs.Table.{decoded}
-use Rattle.mx_model.specs.declared.values.Gate.{Gate}
 use Rattle.mx_model.specs.Effect.{Effect, Goes, Faults, Loads, Stores, Calls, Jumps, effect, by_target, reg}
-use Rattle.mx_model.specs.Gates.{gate_at}
+use Rattle.mx_model.specs.Gates.{gate_target}
 use Rattle.mx_model.specs.Reads.{Reads, reads, flat_reads}
 use Rattle.mx_model.specs.State.{Core, Hart, Status, Running, Waiting, Halted, State, Flat, module_at, hart_at}
 use Rattle.mx_model.specs.Turn.{call_gate_at, is_return_at, is_denied, load_at}
@@ -26,7 +25,7 @@ standing (Halted code) = Ended
 
 -- the target of the gate for a domain at a word
 abbrev pub target_at : Core → ℕ → ℕ → Option ℕ
-target_at c d word = option_map (λ (g : Gate). g.target) (gate_at c.gates d word)
+target_at c d word = gate_target c.gates d word
 
 -- two states, each with what it answers of rights, agree for hart h: the hart has the same standing, pc, registers and domain d; d has the same
 -- permission on every word; d is dead in both or in neither; the gates of d are the same pairs of word and target; and the bytes of

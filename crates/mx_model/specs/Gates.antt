@@ -1,6 +1,6 @@
 -- Gates as a list with at most one per domain and word, and frames from the bottom of a cross stack to its top.
 -- The rules: docs/MACHINE.md, "Gates".
-use Rattle.std.specs.Prelude.{◌≡◌, ℕ, ◌-◌, Bool, false, not, if◌then◌else◌, ◌==◌, ◌&&◌, nat_le, List, [], ◌∷◌, ◌++◌, length, take, reverse, filter, find, slice_index, Option, Some, None}
+use Rattle.std.specs.Prelude.{◌≡◌, ℕ, ◌-◌, Bool, false, not, if◌then◌else◌, ◌==◌, ◌&&◌, nat_le, List, [], ◌∷◌, ◌++◌, length, take, reverse, filter, find, slice_index, Option, Some, None, option_map}
 use Rattle.std.specs.Option.{option_map_or}
 use Rattle.std.specs.List.{AllPairs, list_any, last_or}
 use Rattle.mx_model.specs.declared.values.Gate.{Gate}
@@ -20,6 +20,10 @@ is_at domain word g = (g.domain == domain) && (g.word == word)
 -- the gate for a domain at a word
 abbrev pub gate_at : List Gate → ℕ → ℕ → Option Gate
 gate_at gates domain word = find (is_at domain word) gates
+
+-- the target of the gate there, of either sort
+abbrev pub gate_target : List Gate → ℕ → ℕ → Option ℕ
+gate_target gates domain word = option_map (λ (g : Gate). g.target) (gate_at gates domain word)
 
 -- the target of the call gate there, which is another domain
 abbrev pub call_target : Gate → Option ℕ
