@@ -19,7 +19,7 @@ use Rattle.mx_words.specs.declared.perm.Perm.TheVariants as P
 use Rattle.mx_check.specs.declared.flight.Flight.{Flight}
 use Rattle.mx_words.specs.Hearing.{is_in}
 use Rattle.mx_check.specs.Harts.{Kept, no_hart, hart_at}
-use Rattle.mx_check.specs.Calls.{lets, ready_with, is_ready}
+use Rattle.mx_check.specs.Calls.{hart_lets_pass, ready_with, is_ready}
 use Rattle.mx_check.specs.Coherence.{EachSpan, is_spared, Agrees, AgreesIn, AreCurrent, HasDropped, Keeps}
 use Rattle.mx_check.specs.Conditions.{IsInside}
 use Rattle.mx_check.proofs.SpanLaws.{each_weaker, outside_range}
@@ -69,8 +69,8 @@ each_both {E} {F} {P} {Q} c a b = record {
 ready-heard : (harts : List Kept) (h i : ℕ) (f : Flight) → (hart_at harts h).flight ≡ Some f → is_ready h harts ≡ true → i < length harts → i ≢ h →
     (hart_at harts i).halted ≡ false → is_in f.heard i ≡ true
 ready-heard harts h i f flying ready lt ne running =
-    let all : all_below (length harts) (lets h f harts) ≡ true = sym (ap (λ (o : Option Flight). ready_with h o harts) flying) ∙ ready in
-    let at : lets h f harts i ≡ true = all_below-at (length harts) i (lets h f harts) all lt in
+    let all : all_below (length harts) (hart_lets_pass h f harts) ≡ true = sym (ap (λ (o : Option Flight). ready_with h o harts) flying) ∙ ready in
+    let at : hart_lets_pass h f harts i ≡ true = all_below-at (length harts) i (hart_lets_pass h f harts) all lt in
     let other : (i == h) ≡ false = ne_eqb i h ne in
     sym (ap (λ b. b || (hart_at harts i).halted || is_in f.heard i) other ∙ ap (λ b. false || b || is_in f.heard i) running) ∙ at
 

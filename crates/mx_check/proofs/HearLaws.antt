@@ -10,7 +10,7 @@ use Rattle.mx_words.specs.Caches.{without_range}
 use Rattle.mx_check.specs.declared.flight.Flight.{Flight}
 use Rattle.mx_words.specs.Hearing.{is_in}
 use Rattle.mx_check.specs.Harts.{Kept, no_hart, hart_at, at_hart, marked, heard_by, drops}
-use Rattle.mx_check.specs.Calls.{news_of, news, hears_news, hears_one, hears_first, hears}
+use Rattle.mx_check.specs.Calls.{unheard_of, unheard, hears_range, hears_one, hears_first, hears}
 use Rattle.mx_check.specs.Flights.{IsSet}
 use Rattle.mx_check.specs.Coherence.{Agrees, IsClear, HasDropped, Keeps}
 use Rattle.mx_check.specs.Conditions.{HasHeardAll, SameButCaches}
@@ -62,53 +62,53 @@ module _ (maps : List (List Perm)) (harts : List Kept) (h i : ℕ) (f : Flight) 
       (λ j running apart. some_has (HasDropped j (hart_at harts j).cache) (option_map (marked h) k.flight) (marked h f) flown (others j running apart (cases_eq j h)))
       (marked-set h k.flight (keeps.sets i))
 
--- what news of a call says of the call
-pub record IsNews (h : ℕ) (o : Option Flight) (r : ℕ × ℕ) : Type 0 where
+-- what an unheard range of a call says of the call
+pub record IsUnheard (h : ℕ) (o : Option Flight) (r : ℕ × ℕ) : Type 0 where
   pub flight : Flight
   pub flying : o ≡ Some flight
   pub first : r.0 ≡ flight.first
   pub count : r.1 ≡ flight.count
 
-news_of-some : (h : ℕ) (o : Option Flight) (r : ℕ × ℕ) → news_of h o ≡ Some r → IsNews h o r
-news_of-some h None r e = cc
-news_of-some h (Some f) r e = by (is_in f.heard h) e
+unheard_of-some : (h : ℕ) (o : Option Flight) (r : ℕ × ℕ) → unheard_of h o ≡ Some r → IsUnheard h o r
+unheard_of-some h None r e = cc
+unheard_of-some h (Some f) r e = by (is_in f.heard h) e
   where
-    by : (b : Bool) → cond {A = Option (ℕ × ℕ)} b None (Some (f.first, f.count)) ≡ Some r → IsNews h (Some f) r
+    by : (b : Bool) → cond {A = Option (ℕ × ℕ)} b None (Some (f.first, f.count)) ≡ Some r → IsUnheard h (Some f) r
     by true e = cc
     by false e = let same : (f.first, f.count) ≡ r = cc in record { flight = f; flying = refl; first = sym (ap (λ p. p.0) same); count = sym (ap (λ p. p.1) same) }
 
-news-some : (h i : ℕ) (harts : List Kept) (r : ℕ × ℕ) → news h i harts ≡ Some r → (i ≢ h) × IsNews h (hart_at harts i).flight r
-news-some h i harts r e = by (i == h) refl e
+unheard-some : (h i : ℕ) (harts : List Kept) (r : ℕ × ℕ) → unheard h i harts ≡ Some r → (i ≢ h) × IsUnheard h (hart_at harts i).flight r
+unheard-some h i harts r e = by (i == h) refl e
   where
-    by : (b : Bool) → (i == h) ≡ b → cond b None (news_of h (hart_at harts i).flight) ≡ Some r → (i ≢ h) × IsNews h (hart_at harts i).flight r
+    by : (b : Bool) → (i == h) ≡ b → cond b None (unheard_of h (hart_at harts i).flight) ≡ Some r → (i ≢ h) × IsUnheard h (hart_at harts i).flight r
     by true same e = cc
-    by false same e = (eqb_false same, news_of-some h (hart_at harts i).flight r e)
+    by false same e = (eqb_false same, unheard_of-some h (hart_at harts i).flight r e)
       where
         eqb_false : (i == h) ≡ false → i ≢ h
         eqb_false miss hit = let clash : true ≡ false = sym (eq-eqb i h hit) ∙ miss in cc
 
-length-hears_news : (h i : ℕ) (o : Option (ℕ × ℕ)) (harts : List Kept) → length (hears_news h i o harts) ≡ length harts
-length-hears_news h i None harts = refl
-length-hears_news h i (Some r) harts =
+length-hears_range : (h i : ℕ) (o : Option (ℕ × ℕ)) (harts : List Kept) → length (hears_range h i o harts) ≡ length harts
+length-hears_range h i None harts = refl
+length-hears_range h i (Some r) harts =
     length-at_hart (at_hart h (drops r.0 r.1) harts) i (heard_by h) ∙ length-at_hart harts h (drops r.0 r.1)
 
 pub length-hears_first : (h n : ℕ) (harts : List Kept) → length (hears_first h n harts) ≡ length harts
 length-hears_first h zero harts = refl
 length-hears_first h (suc n) harts =
-    length-hears_news h n (news h n (hears_first h n harts)) (hears_first h n harts) ∙ length-hears_first h n harts
+    length-hears_range h n (unheard h n (hears_first h n harts)) (hears_first h n harts) ∙ length-hears_first h n harts
 
 -- the hart that hears changes only its caches
 module _ (harts : List Kept) (h i : ℕ) (there : h < length harts) where
-  own_news : (o : Option (ℕ × ℕ)) → news h i harts ≡ o → SameButCaches (hart_at (hears_news h i o harts) h) (hart_at harts h)
-  own_news None e = record { halted = refl; domain = refl; flight = refl }
-  own_news (Some r) e =
-      let apart = (news-some h i harts r e).0 in
-      let now : hart_at (hears_news h i (Some r) harts) h ≡ drops r.0 r.1 (hart_at harts h) =
+  own_unheard : (o : Option (ℕ × ℕ)) → unheard h i harts ≡ o → SameButCaches (hart_at (hears_range h i o harts) h) (hart_at harts h)
+  own_unheard None e = record { halted = refl; domain = refl; flight = refl }
+  own_unheard (Some r) e =
+      let apart = (unheard-some h i harts r e).0 in
+      let now : hart_at (hears_range h i (Some r) harts) h ≡ drops r.0 r.1 (hart_at harts h) =
       hart_at-other (at_hart h (drops r.0 r.1) harts) i (heard_by h) h (λ x. apart (sym x)) ∙ hart_at-same harts h (drops r.0 r.1) there in
       record { halted = ap (λ (k : Kept). k.halted) now; domain = ap (λ (k : Kept). k.domain) now; flight = ap (λ (k : Kept). k.flight) now }
 
   pub own_one : SameButCaches (hart_at (hears_one h i harts) h) (hart_at harts h)
-  own_one = own_news (news h i harts) refl
+  own_one = own_unheard (unheard h i harts) refl
 
 own_joined : (a b c : Kept) → SameButCaches a b → SameButCaches b c → SameButCaches a c
 own_joined a b c x y = record { halted = x.halted ∙ y.halted; domain = x.domain ∙ y.domain; flight = x.flight ∙ y.flight }
@@ -124,10 +124,10 @@ hears_own harts h there = own_first harts h (length harts) there
 
 -- hearing one call keeps both facts
 module _ (maps : List (List Perm)) (harts : List Kept) (h i : ℕ) (keeps : Keeps maps harts) (there : h < length harts) (other : i < length harts) where
-  hears_some : (r : ℕ × ℕ) → news h i harts ≡ Some r → Keeps maps (hears_news h i (Some r) harts)
+  hears_some : (r : ℕ × ℕ) → unheard h i harts ≡ Some r → Keeps maps (hears_range h i (Some r) harts)
   hears_some r e =
-      let apart = (news-some h i harts r e).0 in
-      let n = (news-some h i harts r e).1 in
+      let apart = (unheard-some h i harts r e).0 in
+      let n = (unheard-some h i harts r e).1 in
       let dropped = at_hart h (drops r.0 r.1) harts in
       let k = hart_at harts h in
       let own = hart_at-same harts h (drops r.0 r.1) there in
@@ -138,12 +138,12 @@ module _ (maps : List (List Perm)) (harts : List Kept) (h i : ℕ) (keeps : Keep
       (subst (λ (a : ℕ). IsClear r.0 a (without_range r.0 r.1 k.cache)) n.count (each_clear r.0 r.1 k.cache (keeps.agree h running)))) in
       mark-keeps maps dropped h i n.flight (drop-keeps maps harts h keeps there r.0 r.1) (omega (arith, length-at_hart harts h (drops r.0 r.1))) flying clear
 
-  by_news : (o : Option (ℕ × ℕ)) → news h i harts ≡ o → Keeps maps (hears_news h i o harts)
-  by_news None e = keeps
-  by_news (Some r) e = hears_some r e
+  by_unheard : (o : Option (ℕ × ℕ)) → unheard h i harts ≡ o → Keeps maps (hears_range h i o harts)
+  by_unheard None e = keeps
+  by_unheard (Some r) e = hears_some r e
 
   pub hears_one-keeps : Keeps maps (hears_one h i harts)
-  hears_one-keeps = by_news (news h i harts) refl
+  hears_one-keeps = by_unheard (unheard h i harts) refl
 
 -- and so does hearing several
 pub hears_first-keeps : (maps : List (List Perm)) (harts : List Kept) (h n : ℕ) → Keeps maps harts → h < length harts → n ≤ length harts → Keeps maps (hears_first h n harts)
@@ -167,14 +167,14 @@ step-flight harts h i step there still = by (cases_eq i h)
     by (inr ne) = ap (λ (k : Kept). k.flight) (hart_at-other harts h step i ne)
 
 module _ (harts : List Kept) (h n : ℕ) (there : h < length harts) (other : n < length harts) where
-  pub hears_news-flight : (o : Option (ℕ × ℕ)) (i : ℕ) → i ≢ n → (hart_at (hears_news h n o harts) i).flight ≡ (hart_at harts i).flight
-  hears_news-flight None i ne = refl
-  hears_news-flight (Some r) i ne =
+  pub hears_range-flight : (o : Option (ℕ × ℕ)) (i : ℕ) → i ≢ n → (hart_at (hears_range h n o harts) i).flight ≡ (hart_at harts i).flight
+  hears_range-flight None i ne = refl
+  hears_range-flight (Some r) i ne =
       ap (λ (k : Kept). k.flight) (hart_at-other (at_hart h (drops r.0 r.1) harts) n (heard_by h) i ne)
       ∙ step-flight harts h i (drops r.0 r.1) there (λ k. refl)
 
 -- after a hart has heard a call, it is in the call's set
-heard_after : (h : ℕ) (o : Option Flight) → news_of h o ≡ None → IfSome o (λ f. is_in f.heard h ≡ true)
+heard_after : (h : ℕ) (o : Option Flight) → unheard_of h o ≡ None → IfSome o (λ f. is_in f.heard h ≡ true)
 heard_after h None e = tt
 heard_after h (Some f) e = by (is_in f.heard h) refl e
   where
@@ -187,11 +187,11 @@ heard_marked h None lt p = tt
 heard_marked h (Some f) lt p = marked-same h f (omega (arith, p))
 
 module _ (maps : List (List Perm)) (harts : List Kept) (h n : ℕ) (keeps : Keeps maps harts) (there : h < length harts) (other : n < length harts) (apart : n ≢ h) where
-  heard_news : (o : Option (ℕ × ℕ)) → news h n harts ≡ o → IfSome (hart_at (hears_news h n o harts) n).flight (λ f. is_in f.heard h ≡ true)
-  heard_news None e =
+  heard_unheard : (o : Option (ℕ × ℕ)) → unheard h n harts ≡ o → IfSome (hart_at (hears_range h n o harts) n).flight (λ f. is_in f.heard h ≡ true)
+  heard_unheard None e =
       let miss : (n == h) ≡ false = ne_eqb n h apart in
-      heard_after h (hart_at harts n).flight (sym (ap (λ b. cond b None (news_of h (hart_at harts n).flight)) miss) ∙ e)
-  heard_news (Some r) e =
+      heard_after h (hart_at harts n).flight (sym (ap (λ b. cond b None (unheard_of h (hart_at harts n).flight)) miss) ∙ e)
+  heard_unheard (Some r) e =
       let dropped = at_hart h (drops r.0 r.1) harts in
       let long : n < length dropped = omega (arith, length-at_hart harts h (drops r.0 r.1)) in
       let flights : (hart_at dropped n).flight ≡ (hart_at harts n).flight = step-flight harts h n (drops r.0 r.1) there (λ k. refl) in
@@ -201,7 +201,7 @@ module _ (maps : List (List Perm)) (harts : List Kept) (h n : ℕ) (keeps : Keep
       (heard_marked h (hart_at harts n).flight (omega (arith, keeps.few)) (keeps.sets n))
 
   pub heard_one : IfSome (hart_at (hears_one h n harts) n).flight (λ f. is_in f.heard h ≡ true)
-  heard_one = heard_news (news h n harts) refl
+  heard_one = heard_unheard (unheard h n harts) refl
 
 module _ (maps : List (List Perm)) (harts : List Kept) (h : ℕ) (keeps : Keeps maps harts) (there : h < length harts) where
   heard_first : (n i : ℕ) → n ≤ length harts → i < n → i ≢ h → IfSome (hart_at (hears_first h n harts) i).flight (λ f. is_in f.heard h ≡ true)
@@ -223,7 +223,7 @@ module _ (maps : List (List Perm)) (harts : List Kept) (h : ℕ) (keeps : Keeps 
           (heard_one maps (hears_first h n harts) h n kept (omega (arith, long)) (omega (arith, long)) apart)
       by rest (inr other) =
           subst (λ (o : Option Flight). IfSome o (λ f. is_in f.heard h ≡ true))
-          (sym (hears_news-flight (hears_first h n harts) h n (omega (arith, long)) (omega (arith, long)) (news h n (hears_first h n harts)) i other))
+          (sym (hears_range-flight (hears_first h n harts) h n (omega (arith, long)) (omega (arith, long)) (unheard h n (hears_first h n harts)) i other))
           (rest (omega arith) ne)
 
   heard_there : (i : ℕ) → i ≢ h → (i < length harts) ⊎ (length harts ≤ i) → IfSome (hart_at (hears h harts) i).flight (λ f. is_in f.heard h ≡ true)

@@ -12,20 +12,20 @@ pub record Checks (T : Type 0) : Type 0 where
   pub harts : List Kept
 
 -- the range of a call in flight, where hart h hasn't heard it yet
-abbrev pub news_of : ℕ → Option Flight → Option (ℕ × ℕ)
-news_of h None = None
-news_of h (Some f) = unheard_range h f.heard (f.first, f.count)
+abbrev pub unheard_of : ℕ → Option Flight → Option (ℕ × ℕ)
+unheard_of h None = None
+unheard_of h (Some f) = unheard_range h f.heard (f.first, f.count)
 
 -- hart h hears the call of hart i: it drops its spans that meet the range, and has heard the call
-abbrev pub hears_news : ℕ → ℕ → Option (ℕ × ℕ) → List Kept → List Kept
-hears_news h i None harts = harts
-hears_news h i (Some r) harts = at_hart i (heard_by h) (at_hart h (drops r.0 r.1) harts)
+abbrev pub hears_range : ℕ → ℕ → Option (ℕ × ℕ) → List Kept → List Kept
+hears_range h i None harts = harts
+hears_range h i (Some r) harts = at_hart i (heard_by h) (at_hart h (drops r.0 r.1) harts)
 
-abbrev pub news : ℕ → ℕ → List Kept → Option (ℕ × ℕ)
-news h i harts = if i == h then None else news_of h (hart_at harts i).flight
+abbrev pub unheard : ℕ → ℕ → List Kept → Option (ℕ × ℕ)
+unheard h i harts = if i == h then None else unheard_of h (hart_at harts i).flight
 
 abbrev pub hears_one : ℕ → ℕ → List Kept → List Kept
-hears_one h i harts = hears_news h i (news h i harts) harts
+hears_one h i harts = hears_range h i (unheard h i harts) harts
 
 -- hart h hears the calls of the first n harts, one after another
 abbrev pub hears_first : ℕ → ℕ → List Kept → List Kept
@@ -37,13 +37,13 @@ abbrev pub hears : ℕ → List Kept → List Kept
 hears h harts = hears_first h (length harts) harts
 
 -- whether hart i doesn't hold up a call of hart h
-abbrev pub lets : ℕ → Flight → List Kept → ℕ → Bool
-lets h f harts i = lets_pass h f.heard i (hart_at harts i).halted
+abbrev pub hart_lets_pass : ℕ → Flight → List Kept → ℕ → Bool
+hart_lets_pass h f harts i = lets_pass h f.heard i (hart_at harts i).halted
 
 -- whether the call of hart h may take effect: each other hart that isn't halted has heard it
 abbrev pub ready_with : ℕ → Option Flight → List Kept → Bool
 ready_with h None harts = false
-ready_with h (Some f) harts = all_below (length harts) (lets h f harts)
+ready_with h (Some f) harts = all_below (length harts) (hart_lets_pass h f harts)
 
 abbrev pub is_ready : ℕ → List Kept → Bool
 is_ready h harts = ready_with h (hart_at harts h).flight harts

@@ -4,7 +4,7 @@ ghost use Rattle.std.specs.Option.{option_map};
 ghost use Rattle.mx_check.specs.Flights.{IsSet};
 ghost use Rattle.mx_check.specs.Harts.{hart_at, at_hart, announced, heard_by, drops, finished, leaves_domain, halts, has_heard};
 ghost use Rattle.mx_check.specs.Looks.{found, after_caches, after_walk, with_domain, hart_bars, is_barred};
-ghost use Rattle.mx_check.specs.Calls.{news, hears_one, hears, lets, is_ready, new_harts, waiting_harts};
+ghost use Rattle.mx_check.specs.Calls.{unheard, hears_one, hears, hart_lets_pass, is_ready, new_harts, waiting_harts};
 
 use crate::part::Part;
 use crate::{Counts, Flight, Flights};
@@ -192,16 +192,16 @@ impl<const N: usize> Harts<N> {
     }
 
     /// The range of the call of hart `i`, where the hart hasn't heard it.
-    fn news(&self, hart: u32, i: u32) -> Option<(u32, u32)>
+    fn unheard(&self, hart: u32, i: u32) -> Option<(u32, u32)>
         requires hart { hart < length self.now }
         requires other { i < length self.now }
-        ensures { result ≡ news hart i self.now }
+        ensures { result ≡ unheard hart i self.now }
     {
         if i == hart {
             return None;
         }
         let part = &self.parts[i as usize];
-        part.news(hart)
+        part.unheard(hart)
     }
 
     /// Lets the hart hear the call of hart `i`: it drops its spans that meet the range.
@@ -211,7 +211,7 @@ impl<const N: usize> Harts<N> {
         ensures after { self.new ≡ hears_one hart i self.old }
         ensures same_length { length self.new ≡ length self.old }
     {
-        if let Some((first, count)) = self.news(hart, i) {
+        if let Some((first, count)) = self.unheard(hart, i) {
             self.drop_overlap(hart, first, count);
             self.mark(i, hart);
         }
@@ -252,9 +252,9 @@ impl<const N: usize> Harts<N> {
     }
 
     /// Whether hart `i` is the hart itself, is halted or has heard the call.
-    fn lets(&self, hart: u32, flight: &Flight, i: u32) -> bool
+    fn hart_lets_pass(&self, hart: u32, flight: &Flight, i: u32) -> bool
         requires { i < length self.now }
-        ensures { result ≡ lets hart flight.now self.now i }
+        ensures { result ≡ hart_lets_pass hart flight.now self.now i }
     {
         let part = &self.parts[i as usize];
         i == hart || part.is_halted() || flight.heard[i as usize]
@@ -271,7 +271,7 @@ impl<const N: usize> Harts<N> {
         };
         let mut ready = true;
         for i in 0..self.len() {
-            ready = ready && self.lets(hart, &flight, i);
+            ready = ready && self.hart_lets_pass(hart, &flight, i);
         }
         ready
     }

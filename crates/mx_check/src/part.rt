@@ -4,7 +4,7 @@ ghost use Rattle.std.specs.Option.{option_map};
 ghost use Rattle.mx_words.specs.Caches.{raised, found_kept};
 ghost use Rattle.mx_check.specs.Harts.{new_hart, no_hart, announced, heard_by, drops, finished, leaves_domain, halts, has_heard};
 ghost use Rattle.mx_check.specs.Looks.{found, after_caches, after_list, after_walk, with_domain, flight_bars};
-ghost use Rattle.mx_check.specs.Calls.{news_of};
+ghost use Rattle.mx_check.specs.Calls.{unheard_of};
 
 use crate::Flight;
 use mx_lookaside::Lookaside;
@@ -138,9 +138,9 @@ impl<const N: usize> Part<N> {
     }
 
     /// The range of the call in flight that the hart `by` hasn't heard.
-    pub fn news(&self, by: u32) -> Option<(u32, u32)>
+    pub fn unheard(&self, by: u32) -> Option<(u32, u32)>
         requires { by < 4 }
-        ensures { result ≡ news_of by self.now.flight }
+        ensures { result ≡ unheard_of by self.now.flight }
     {
         match self.flight {
             Some(flight) if !flight.heard[by as usize] => Some((flight.first, flight.count)),
