@@ -1,1 +1,2 @@
 pub mod HighHalf
+pub mod TurnLaws

@@ -1,10 +1,14 @@
 -- One instruction over a bus: what it answers, and what it leaves.
-use Rattle.std.specs.Prelude.{◌≡◌, ℕ, ◌%◌, Bool, true, false, ◌==◌, if◌then◌else◌, List, [], ◌∷◌, Option, Some, None}
+use Rattle.std.specs.Prelude.{◌≡◌, ℕ, ◌%◌, Bool, true, false, ◌==◌, if◌then◌else◌, List, [], ◌∷◌, flat_map, Option, Some, None}
 use Rattle.mx_words.specs.declared.perm.Perm.{Perm}
 use Rattle.mx_words.specs.declared.perm.Access.TheVariants.{Read, Write, Execute}
 use Rattle.mx_isa.specs.declared.inst.Inst.{Inst}
 use Rattle.mx_isa.specs.Table.{decoded}
 use Rattle.mx_model.specs.Effect.{Effect, Goes, Faults, Loads, Stores, Calls, Jumps, effect, by_target, written, next, load_size, loaded}
+use Rattle.mx_model.specs.Checks.{Look, looks_at}
+use Rattle.mx_model.specs.Reads.{Reads}
+use Rattle.mx_model.specs.State.{Core, Hart}
+use Rattle.mx_model.specs.Turn.{Action, Asks, Runs, Traps, at_return, call_of, is_return_at, perm_of}
 use Rattle.mx_core.specs.declared.outcome.Outcome.{Outcome}
 use Rattle.mx_core.specs.declared.outcome.Outcome.TheVariants.{Next, Trap, Call, Back}
 use Rattle.mx_core.specs.Bus.{denied, load_at, store_at, Touch}
@@ -73,3 +77,31 @@ IsAligned (Next pc) = pc % 4 ≡ 0
 IsAligned (Trap fault) = Unit {0}
 IsAligned Call = Unit {0}
 IsAligned (Back rd target) = Unit {0}
+
+-- an instruction of a hart in a state of the machine, by what the state answers of rights: its effect, whether a JAL or JALR is to return, its
+-- answer, and the registers and bytes that it leaves
+abbrev pub effect_in : Reads → Core → Hart → Effect
+effect_in r c hart = fetched (perm_of r c hart.domain) c.ram hart.regs hart.pc
+
+abbrev pub returns_in : Core → Hart → Bool
+returns_in c hart = is_return_at c hart.domain hart.pc
+
+abbrev pub outcome_in : Reads → Core → Hart → Outcome
+outcome_in r c hart = outcome_of (perm_of r c hart.domain) hart.pc (returns_in c hart) (effect_in r c hart)
+
+abbrev pub regs_in : Reads → Core → Hart → List ℕ
+regs_in r c hart = regs_after (perm_of r c hart.domain) c.ram hart.regs hart.pc (returns_in c hart) (effect_in r c hart)
+
+abbrev pub bytes_in : Reads → Core → Hart → List ℕ
+bytes_in r c hart = bytes_after (perm_of r c hart.domain) c.ram (effect_in r c hart)
+
+-- the machine's looks for touches of a bus by a domain
+abbrev pub looks_of : Core → ℕ → List Touch → List Look
+looks_of c d touches = flat_map (λ (t : Touch). looks_at c t.place d t.address) touches
+
+-- what the machine does at an answer that leaves these registers: the hart goes on, traps, makes its call, or is judged at the return gate
+abbrev pub action_of : ℕ → Hart → List ℕ → Outcome → Action
+action_of h hart regs (Next pc) = Runs regs pc
+action_of h hart regs (Trap fault) = Traps fault.cause fault.value
+action_of h hart regs Call = Asks (call_of h hart)
+action_of h hart regs (Back rd target) = at_return hart rd target

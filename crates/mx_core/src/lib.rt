@@ -2,12 +2,14 @@
 #![tactic(auto)]
 
 mod bus;
+mod laws;
 mod outcome;
 mod regs;
 mod results;
 mod step;
 
 pub use bus::{Bus, Denied};
+pub use laws::instructions_are_turns;
 pub use outcome::Outcome;
 pub use regs::Regs;
 pub use step::exec;

@@ -48,31 +48,31 @@ keeps-trans c e f p q = record {
 }
 
 -- parts changed with their lengths kept
-keeps-parts : (c : Core) (ram : List ℕ) (modules : List Module) (gates : List Gate) (harts : List Hart) (caches : List Cache) →
+pub keeps-parts : (c : Core) (ram : List ℕ) (modules : List Module) (gates : List Gate) (harts : List Hart) (caches : List Cache) →
     length modules ≡ length c.modules → length harts ≡ length c.harts → length caches ≡ length c.caches →
     Keeps c (record c { ram = ram; modules = modules; gates = gates; harts = harts; caches = caches })
 keeps-parts c ram modules gates harts caches m h k =
     record { size = refl; kind = refl; limit = refl; buffer = refl; turns = refl; modules = m; harts = h; caches = k }
 
 -- one hart, one hart's caches, or one module changed
-keeps-hart : (h : ℕ) (hart : Hart) (c : Core) → Keeps c (with_hart h hart c)
+pub keeps-hart : (h : ℕ) (hart : Hart) (c : Core) → Keeps c (with_hart h hart c)
 keeps-hart h hart c = keeps-parts c c.ram c.modules c.gates _ c.caches refl (length-set c.harts h hart) refl
 
-keeps-cache : (h : ℕ) (cache : Cache) (c : Core) → Keeps c (with_cache h cache c)
+pub keeps-cache : (h : ℕ) (cache : Cache) (c : Core) → Keeps c (with_cache h cache c)
 keeps-cache h cache c = keeps-parts c c.ram c.modules c.gates c.harts _ refl refl (length-set c.caches h cache)
 
-keeps-module : (d : ℕ) (m : Module) (c : Core) → Keeps c (with_module d m c)
+pub keeps-module : (d : ℕ) (m : Module) (c : Core) → Keeps c (with_module d m c)
 keeps-module d m c = keeps-parts c c.ram _ c.gates c.harts c.caches (length-set c.modules (d - 1) m) refl refl
 
 -- RAM, or the gates changed
-keeps-ram : (ram : List ℕ) (c : Core) → Keeps c (record c { ram = ram })
+pub keeps-ram : (ram : List ℕ) (c : Core) → Keeps c (record c { ram = ram })
 keeps-ram ram c = keeps-parts c ram c.modules c.gates c.harts c.caches refl refl refl
 
-keeps-gates : (gates : List Gate) (c : Core) → Keeps c (record c { gates = gates })
+pub keeps-gates : (gates : List Gate) (c : Core) → Keeps c (record c { gates = gates })
 keeps-gates gates c = keeps-parts c c.ram c.modules gates c.harts c.caches refl refl refl
 
 -- looks change one hart's caches alone
-keeps-looked : (r : Reads) (h : ℕ) (c : Core) (l : Look) → Keeps c (looked r h c l)
+pub keeps-looked : (r : Reads) (h : ℕ) (c : Core) (l : Look) → Keeps c (looked r h c l)
 keeps-looked r h c l = keeps-cache h _ c
 
 pub keeps-looked_all : (r : Reads) (h : ℕ) (looks : List Look) (c : Core) → Keeps c (looked_all r h looks c)
@@ -80,10 +80,10 @@ keeps-looked_all r h [] c = keeps-refl c
 keeps-looked_all r h (l ∷ ls) c =
     keeps-trans c (looked r h c l) (looked_all r h ls (looked r h c l)) (keeps-looked r h c l) (keeps-looked_all r h ls (looked r h c l))
 
-keeps-empties_places : (h : ℕ) (c : Core) → Keeps c (empties_places h c)
+pub keeps-empties_places : (h : ℕ) (c : Core) → Keeps c (empties_places h c)
 keeps-empties_places h c = keeps-cache h _ c
 
-keeps-drops : (h : ℕ) (range : ℕ × ℕ) (c : Core) → Keeps c (drops h range c)
+pub keeps-drops : (h : ℕ) (range : ℕ × ℕ) (c : Core) → Keeps c (drops h range c)
 keeps-drops h range c = keeps-cache h _ c
 
 pub keeps-hears : (h : ℕ) (c : Core) → Keeps c (hears h c)
@@ -91,32 +91,32 @@ keeps-hears h c =
     keeps-parts c c.ram c.modules c.gates _ _ refl (length-map (enumerate_from 0 c.harts) _ ∙ length-enumerate_from 0 c.harts) (length-set c.caches h _)
 
 -- a call that is refused or done
-keeps-judged : (c e : Core) (o : Option ℕ) (s : Served) → Keeps c e → Keeps c s.core → Keeps c (judged e o s).core
+pub keeps-judged : (c e : Core) (o : Option ℕ) (s : Served) → Keeps c e → Keeps c s.core → Keeps c (judged e o s).core
 keeps-judged c e None s p q = q
 keeps-judged c e (Some n) s p q = p
 
-keeps-blocks : (call : Call) (blocks : List Area) (c : Core) → Keeps c (with_blocks call blocks c)
+pub keeps-blocks : (call : Call) (blocks : List Area) (c : Core) → Keeps c (with_blocks call blocks c)
 keeps-blocks call blocks c = keeps-module call.domain _ c
 
-keeps-allocated : (c : Core) (call : Call) (first : ℕ) → Keeps c (allocated c call first).core
+pub keeps-allocated : (c : Core) (call : Call) (first : ℕ) → Keeps c (allocated c call first).core
 keeps-allocated c call first =
     let cleared = record c { ram = cleared_at c.ram (4 * first) (4 * arg call 0) } in
     keeps-trans c cleared _ (keeps-ram _ c) (keeps-module call.domain _ cleared)
 
-keeps-alloc_from : (c : Core) (call : Call) (first : ℕ) (o : Option ℕ) → Keeps c (alloc_from c call first o).core
+pub keeps-alloc_from : (c : Core) (call : Call) (first : ℕ) (o : Option ℕ) → Keeps c (alloc_from c call first o).core
 keeps-alloc_from c call first (Some n) = keeps-refl c
 keeps-alloc_from c call first None = keeps-allocated c call first
 
-keeps-written_out : (r : Reads) (c : Core) (call : Call) → Keeps c (written_out r c call).core
+pub keeps-written_out : (r : Reads) (c : Core) (call : Call) → Keeps c (written_out r c call).core
 keeps-written_out r c call =
     let p = keeps-looked_all r call.hart (write_looks r call) c in
     keeps-judged c (looked_all r call.hart (write_looks r call) c) _ _ p p
 
-keeps-write_from : (r : Reads) (c : Core) (call : Call) (o : Option ℕ) → Keeps c (write_from r c call o).core
+pub keeps-write_from : (r : Reads) (c : Core) (call : Call) (o : Option ℕ) → Keeps c (write_from r c call o).core
 keeps-write_from r c call (Some n) = keeps-refl c
 keeps-write_from r c call None = keeps-written_out r c call
 
-keeps-exchanged : (r : Reads) (c : Core) (call : Call) → Keeps c (exchanged r c call).core
+pub keeps-exchanged : (r : Reads) (c : Core) (call : Call) → Keeps c (exchanged r c call).core
 keeps-exchanged r c call =
     let seen = looked_all r call.hart (look_of call.domain (arg_word call) ∷ []) c in
     let p = keeps-looked_all r call.hart (look_of call.domain (arg_word call) ∷ []) c in
@@ -125,12 +125,12 @@ keeps-exchanged r c call =
     keeps-judged c seen (first_row ((not (allows (r.perm call.domain (arg_word call)) A.Write), 12) ∷ []))
     (record (answers (record seen { ram = ram }) 0) { a1 = Some (number_at c.ram (4 * arg_word call) 4) }) p q
 
-keeps-exchange_from : (r : Reads) (c : Core) (call : Call) (o : Option ℕ) → Keeps c (exchange_from r c call o).core
+pub keeps-exchange_from : (r : Reads) (c : Core) (call : Call) (o : Option ℕ) → Keeps c (exchange_from r c call o).core
 keeps-exchange_from r c call (Some n) = keeps-refl c
 keeps-exchange_from r c call None = keeps-exchanged r c call
 
 -- a call of each kind
-keeps-served_by : (k : Service) (r : Reads) (c : Core) (call : Call) → Keeps c (served_by k r c call).core
+pub keeps-served_by : (k : Service) (r : Reads) (c : Core) (call : Call) → Keeps c (served_by k r c call).core
 keeps-served_by Exit r c call = keeps-judged c c _ _ (keeps-refl c) (keeps-refl c)
 keeps-served_by Write r c call = keeps-write_from r c call _
 keeps-served_by Grant r c call = keeps-judged c c _ _ (keeps-refl c) (keeps-refl c)
@@ -146,7 +146,7 @@ keeps-served_by Self r c call = keeps-refl c
 keeps-served_by Exchange r c call = keeps-exchange_from r c call _
 keeps-served_by Unknown r c call = keeps-refl c
 
-keeps-ended : (c : Core) (call : Call) (s : Served) → Keeps c s.core → Keeps c (ended c call s).core
+pub keeps-ended : (c : Core) (call : Call) (s : Served) → Keeps c s.core → Keeps c (ended c call s).core
 keeps-ended c call s p = elim (is_announced call.number) as (λ b. Keeps c (cond b (record s { core = drops call.hart (call_range c call) s.core }) s).core) [
   | true ↦ keeps-trans c s.core _ p (keeps-drops call.hart (call_range c call) s.core)
   | false ↦ p
@@ -156,24 +156,24 @@ pub keeps-serve : (r : Reads) (c : Core) (call : Call) → Keeps c (serve r c ca
 keeps-serve r c call = keeps-ended c call (served_by (service call.number) r c call) (keeps-served_by (service call.number) r c call)
 
 -- a served call, in its hart
-keeps-done : (c : Core) (h : ℕ) (hart : Hart) (s : Served) → Keeps c s.core → Keeps c (done h hart s).core
+pub keeps-done : (c : Core) (h : ℕ) (hart : Hart) (s : Served) → Keeps c s.core → Keeps c (done h hart s).core
 keeps-done c h hart s p = elim s.stop as (λ b. Keeps c (cond b (halted h hart (Some s.a0) s.core) (with_regs h hart (answered hart s.a0 s.a1) (next hart.pc) s.core))) [
   | true ↦ keeps-trans c s.core _ p (keeps-hart h _ s.core)
   | false ↦ keeps-trans c s.core _ p (keeps-hart h _ s.core)
 ]
 
-keeps-served : (r : Reads) (c : Core) (h : ℕ) (hart : Hart) (call : Call) → Keeps c (served r c h hart call).core
+pub keeps-served : (r : Reads) (c : Core) (h : ℕ) (hart : Hart) (call : Call) → Keeps c (served r c h hart call).core
 keeps-served r c h hart call = keeps-done c h hart (serve r c call) (keeps-serve r c call)
 
-keeps-asked : (r : Reads) (c : Core) (h : ℕ) (hart : Hart) (call : Call) (b : Bool) → Keeps c (asked r c h hart call b).core
+pub keeps-asked : (r : Reads) (c : Core) (h : ℕ) (hart : Hart) (call : Call) (b : Bool) → Keeps c (asked r c h hart call b).core
 keeps-asked r c h hart call true = keeps-served r c h hart call
 keeps-asked r c h hart call false = keeps-hart h _ c
 
 -- a fault
-keeps-over_frame : (c : Core) (h : ℕ) (hart : Hart) (frame : Frame) (regs : List ℕ) → Keeps c (over_frame c h hart frame regs)
+pub keeps-over_frame : (c : Core) (h : ℕ) (hart : Hart) (frame : Frame) (regs : List ℕ) → Keeps c (over_frame c h hart frame regs)
 keeps-over_frame c h hart frame regs = keeps-trans c _ _ (keeps-hart h _ c) (keeps-empties_places h _)
 
-keeps-given_up : (c : Core) (h : ℕ) (hart : Hart) (cause : ℕ) (o : Option Frame) → Keeps c (given_up c h hart cause o)
+pub keeps-given_up : (c : Core) (h : ℕ) (hart : Hart) (cause : ℕ) (o : Option Frame) → Keeps c (given_up c h hart cause o)
 keeps-given_up c h hart cause None = keeps-hart h _ c
 keeps-given_up c h hart cause (Some frame) = keeps-over_frame c h hart frame _
 
@@ -183,12 +183,12 @@ keeps-killed d cause c = elim ((module_at c d).kills && not (cause == 20)) as (�
   | false ↦ keeps-refl c
 ]
 
-keeps-trapped : (c : Core) (h : ℕ) (hart : Hart) (cause value : ℕ) → Keeps c (trapped c h hart cause value).core
+pub keeps-trapped : (c : Core) (h : ℕ) (hart : Hart) (cause value : ℕ) → Keeps c (trapped c h hart cause value).core
 keeps-trapped c h hart cause value =
     keeps-trans c (killed hart.domain cause c) _ (keeps-killed hart.domain cause c) (keeps-given_up (killed hart.domain cause c) h hart cause _)
 
 -- an action
-keeps-acted : (r : Reads) (c : Core) (h : ℕ) (hart : Hart) (action : Action) → Keeps c (acted r c h hart action).core
+pub keeps-acted : (r : Reads) (c : Core) (h : ℕ) (hart : Hart) (action : Action) → Keeps c (acted r c h hart action).core
 keeps-acted r c h hart Rests = keeps-refl c
 keeps-acted r c h hart Waits = keeps-refl c
 keeps-acted r c h hart (Serves call) = keeps-served r c h hart call
@@ -200,7 +200,7 @@ keeps-acted r c h hart (Returns rd frame) = keeps-over_frame c h hart frame _
 keeps-acted r c h hart (Runs regs pc) = keeps-hart h _ c
 keeps-acted r c h hart (Writes address size value) = keeps-parts c _ c.modules c.gates _ c.caches refl (length-set c.harts h _) refl
 
-keeps-enacted : (r : Reads) (c : Core) (h : ℕ) (d : Decided) → Keeps c (enacted r c h d).core
+pub keeps-enacted : (r : Reads) (c : Core) (h : ℕ) (d : Decided) → Keeps c (enacted r c h d).core
 keeps-enacted r c h d =
     keeps-trans c (looked_all r h d.looks c) _ (keeps-looked_all r h d.looks c) (keeps-acted r (looked_all r h d.looks c) h (hart_at c h) d.action)
 

@@ -8,6 +8,8 @@ pub mod FlatLaws
 pub mod RunLaws
 pub mod RegisterLaws
 pub mod ListLaws
+pub mod GatesAt
+pub mod TurnCases
 pub mod ApartLaws
 pub mod ValidParts
 pub mod DecideLaws

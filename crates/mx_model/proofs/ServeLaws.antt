@@ -74,7 +74,7 @@ served-write_from : (r : Reads) (c : Core) (h : ℕ) (call : Call) (o : Option �
 served-write_from r c h call (Some n) v p q = served-answers c (code n) v (code-small n q)
 served-write_from r c h call None v p q = served-written_out r c h call v p
 
-same-ram-looked_all : (r : Reads) (h : ℕ) (looks : List Look) (c : Core) → (looked_all r h looks c).ram ≡ c.ram
+pub same-ram-looked_all : (r : Reads) (h : ℕ) (looks : List Look) (c : Core) → (looked_all r h looks c).ram ≡ c.ram
 same-ram-looked_all r h [] c = refl
 same-ram-looked_all r h (l ∷ ls) c = same-ram-looked_all r h ls (looked r h c l)
 

@@ -29,7 +29,7 @@ use Rattle.mx_model.proofs.ServeLaws.{IsServed, served-serve}
 use Rattle.mx_model.proofs.ValidParts.{valid-turns, valid-hart, valid-module, valid-cache, valid-ram, valid-looked_all, valid-hears, home-at}
 
 -- a hart is as valid in a state with as many modules and harts
-hart-in : (c e : Core) (h : ℕ) (hart : Hart) → Keeps c e → IsHart (length c.modules) (length c.harts) h hart → IsHart (length e.modules) (length e.harts) h hart
+pub hart-in : (c e : Core) (h : ℕ) (hart : Hart) → Keeps c e → IsHart (length c.modules) (length c.harts) h hart → IsHart (length e.modules) (length e.harts) h hart
 hart-in c e h hart k p =
     subst (λ (n : ℕ). IsHart (length e.modules) n h hart) (sym k.harts) (subst (λ (n : ℕ). IsHart n (length c.harts) h hart) (sym k.modules) p)
 
@@ -43,7 +43,7 @@ hart-halted : (modules harts h : ℕ) (hart : Hart) (o : Option ℕ) → IsHart 
 hart-halted modules harts h hart o p =
     record { regs = p.regs; pc = p.pc; domain = p.domain; few_frames = p.few_frames; frames = p.frames; status = tt }
 
-valid-regs : (c : Core) (h : ℕ) (hart : Hart) (regs : List ℕ) (pc : ℕ) → IsValid c → IsHart (length c.modules) (length c.harts) h hart → IsRegisters regs → IsPc pc →
+pub valid-regs : (c : Core) (h : ℕ) (hart : Hart) (regs : List ℕ) (pc : ℕ) → IsValid c → IsHart (length c.modules) (length c.harts) h hart → IsRegisters regs → IsPc pc →
     IsValid (with_regs h hart regs pc c)
 valid-regs c h hart regs pc v p q s = valid-hart c h _ v (hart-regs (length c.modules) (length c.harts) h hart regs pc p q s)
 
@@ -59,7 +59,7 @@ hart-over modules harts h hart frame regs p f r = record {
   status = tt;
 }
 
-valid-over : (c : Core) (h : ℕ) (hart : Hart) (frame : Frame) (regs : List ℕ) → IsValid c → IsHart (length c.modules) (length c.harts) h hart → IsFrame (length c.modules) frame →
+pub valid-over : (c : Core) (h : ℕ) (hart : Hart) (frame : Frame) (regs : List ℕ) → IsValid c → IsHart (length c.modules) (length c.harts) h hart → IsFrame (length c.modules) frame →
     IsRegisters regs → IsValid (over_frame c h hart frame regs)
 valid-over c h hart frame regs v p f r = valid-cache _ h _ (valid-hart c h _ v (hart-over (length c.modules) (length c.harts) h hart frame regs p f r))
 
@@ -68,13 +68,13 @@ home-dead : (size harts : ℕ) (m : Module) → IsHome size harts m → IsHome s
 home-dead size harts m p =
     record { heap = p.heap; blocks = p.blocks; stack = p.stack; few_blocks = p.few_blocks; no_heap = p.no_heap; no_stack = p.no_stack }
 
-valid-killed : (d cause : ℕ) (c : Core) → IsValid c → IsValid (killed d cause c)
+pub valid-killed : (d cause : ℕ) (c : Core) → IsValid c → IsValid (killed d cause c)
 valid-killed d cause c v = elim ((module_at c d).kills && not (cause == 20)) as (λ b. IsValid (cond b (with_module d (record (module_at c d) { dead = true }) c) c)) [
   | true ↦ valid-module c d _ v (home-dead c.size (length c.harts) (module_at c d) (home-at c d v))
   | false ↦ v
 ]
 
-valid-given_up : (c : Core) (h : ℕ) (hart : Hart) (cause : ℕ) (o : Option Frame) → IsValid c → IsHart (length c.modules) (length c.harts) h hart → IsCause cause →
+pub valid-given_up : (c : Core) (h : ℕ) (hart : Hart) (cause : ℕ) (o : Option Frame) → IsValid c → IsHart (length c.modules) (length c.harts) h hart → IsCause cause →
     IfSome o (IsFrame (length c.modules)) → IsValid (given_up c h hart cause o)
 valid-given_up c h hart cause None v p k f = valid-hart c h _ v (hart-halted (length c.modules) (length c.harts) h hart None p)
 valid-given_up c h hart cause (Some frame) v p k f =
@@ -84,7 +84,7 @@ valid-given_up c h hart cause (Some frame) v p k f =
 top-frame : (modules harts h : ℕ) (hart : Hart) → IsHart modules harts h hart → IfSome (top hart.frames) (IsFrame modules)
 top-frame modules harts h hart p = all-last (IsFrame modules) hart.frames None p.frames tt
 
-valid-trapped : (c : Core) (h : ℕ) (hart : Hart) (cause value : ℕ) → IsValid c → IsHart (length c.modules) (length c.harts) h hart → IsCause cause →
+pub valid-trapped : (c : Core) (h : ℕ) (hart : Hart) (cause value : ℕ) → IsValid c → IsHart (length c.modules) (length c.harts) h hart → IsCause cause →
     IsValid (trapped c h hart cause value).core
 valid-trapped c h hart cause value v p k =
     let q = hart-in c (killed hart.domain cause c) h hart (keeps-killed hart.domain cause c) p in
@@ -116,7 +116,7 @@ stack-after c h hart target v p l =
     nearest-small (length c.modules) (find (λ (f : Frame). f.caller == target) (reverse hart.frames)) (stack_address c target h)
     (all-find (IsFrame (length c.modules)) (λ f. f.caller == target) (reverse hart.frames) (all-reverse (IsFrame (length c.modules)) hart.frames p.frames)) (stack-small c target h v l)
 
-valid-crossed : (c : Core) (h : ℕ) (hart : Hart) (target : ℕ) → IsValid c → IsHart (length c.modules) (length c.harts) h hart → h < length c.harts →
+pub valid-crossed : (c : Core) (h : ℕ) (hart : Hart) (target : ℕ) → IsValid c → IsHart (length c.modules) (length c.harts) h hart → h < length c.harts →
     IsModule (length c.modules) target → IsPc (reg hart.regs 1) → length hart.frames < most_frames → IsValid (crossed c h hart target)
 valid-crossed c h hart target v p l t x few =
     let frame : Frame = record { back = reg hart.regs 1; caller = hart.domain; kept = saved hart.regs } in
@@ -136,13 +136,13 @@ registers-answered : (hart : Hart) (a0 : ℕ) (a1 : Option ℕ) → IsRegisters 
 registers-answered hart a0 None r p q = registers-set hart.regs 10 a0 (lit< tt) r p
 registers-answered hart a0 (Some n) r p q = registers-set (slice_set hart.regs 10 a0) 11 n (lit< tt) (registers-set hart.regs 10 a0 (lit< tt) r p) q
 
-valid-done : (h : ℕ) (hart : Hart) (s : Served) → IsServed s → IsHart (length s.core.modules) (length s.core.harts) h hart → IsValid (done h hart s).core
+pub valid-done : (h : ℕ) (hart : Hart) (s : Served) → IsServed s → IsHart (length s.core.modules) (length s.core.harts) h hart → IsValid (done h hart s).core
 valid-done h hart s p q = elim s.stop as (λ b. IsValid (cond b (halted h hart (Some s.a0) s.core) (with_regs h hart (answered hart s.a0 s.a1) (next hart.pc) s.core))) [
   | true ↦ valid-hart s.core h _ p.core (hart-halted (length s.core.modules) (length s.core.harts) h hart (Some s.a0) q)
   | false ↦ valid-regs s.core h hart (answered hart s.a0 s.a1) (next hart.pc) p.core q (registers-answered hart s.a0 s.a1 q.regs p.a0 p.a1) (pc-next hart.pc q.pc)
 ]
 
-valid-served : (r : Reads) (c : Core) (h : ℕ) (hart : Hart) (call : Call) → IsValid c → IsHart (length c.modules) (length c.harts) h hart → IsCall (length c.modules) h call → h < length c.harts →
+pub valid-served : (r : Reads) (c : Core) (h : ℕ) (hart : Hart) (call : Call) → IsValid c → IsHart (length c.modules) (length c.harts) h hart → IsCall (length c.modules) h call → h < length c.harts →
     IsValid (served r c h hart call).core
 valid-served r c h hart call v p k l =
     valid-done h hart (serve r c call) (served-serve r c h call v k l) (hart-in c (serve r c call).core h hart (keeps-serve r c call) p)
@@ -160,7 +160,7 @@ announced-later : (x y : Bool) → not x || y ≡ false → x ≡ true
 announced-later true y e = refl
 announced-later false y e = sym e
 
-valid-asked : (r : Reads) (c : Core) (h : ℕ) (hart : Hart) (call : Call) (b : Bool) → is_served_now c h call ≡ b → IsValid c → IsHart (length c.modules) (length c.harts) h hart →
+pub valid-asked : (r : Reads) (c : Core) (h : ℕ) (hart : Hart) (call : Call) (b : Bool) → is_served_now c h call ≡ b → IsValid c → IsHart (length c.modules) (length c.harts) h hart →
     call ≡ call_of h hart → h < length c.harts → IsValid (asked r c h hart call b).core
 valid-asked r c h hart call true e v p k l =
     valid-served r c h hart call v p (subst (λ (x : Call). IsCall (length c.modules) h x) (sym k) (call-of (length c.modules) (length c.harts) h hart p)) l
@@ -174,7 +174,7 @@ valid-asked r c h hart call false e v p k l = valid-hart c h _ v (record {
 })
 
 -- an action
-valid-acted : (r : Reads) (c : Core) (h : ℕ) (hart : Hart) (action : Action) → IsValid c → IsHart (length c.modules) (length c.harts) h hart → h < length c.harts →
+pub valid-acted : (r : Reads) (c : Core) (h : ℕ) (hart : Hart) (action : Action) → IsValid c → IsHart (length c.modules) (length c.harts) h hart → h < length c.harts →
     IsAction (length c.modules) h hart action → IsValid (acted r c h hart action).core
 valid-acted r c h hart Rests v p l d = v
 valid-acted r c h hart Waits v p l d = v
@@ -201,7 +201,7 @@ enacted_by r c h hart d = acted r (looked_all r h d.looks c) h hart d.action
 halted-beyond : (c : Core) (h : ℕ) → length c.harts ≤ h → hart_at c h ≡ no_hart
 halted-beyond c h p = get_or-eq_default c.harts no_hart p
 
-valid-there : (r : Reads) (c : Core) (h : ℕ) → IsValid c → h < length c.harts → IsValid (enacted r c h (decide r c h)).core
+pub valid-there : (r : Reads) (c : Core) (h : ℕ) → IsValid c → h < length c.harts → IsValid (enacted r c h (decide r c h)).core
 valid-there r c h v l =
     let d = decide r c h in
     let seen = looked_all r h d.looks c in
@@ -209,11 +209,11 @@ valid-there r c h v l =
     valid-acted r seen h (hart_at c h) d.action (valid-looked_all r h d.looks c v) (hart-in c seen h (hart_at c h) k (v.harts h l))
     (subst (λ (n : ℕ). h < n) (sym k.harts) l) (subst (λ (n : ℕ). IsAction n h (hart_at c h) d.action) (sym k.modules) (action-decide r c h v l))
 
-valid-nobody : (r : Reads) (c : Core) (h : ℕ) (hart : Hart) → hart ≡ no_hart → IsValid c →
+pub valid-nobody : (r : Reads) (c : Core) (h : ℕ) (hart : Hart) → hart ≡ no_hart → IsValid c →
     IsValid (enacted_by r c h hart (by_status r c h hart hart.status)).core
 valid-nobody r c h hart e v = subst (λ (x : Hart). IsValid (enacted_by r c h x (by_status r c h x x.status)).core) (sym e) v
 
-valid-enacted : (r : Reads) (c : Core) (h : ℕ) → IsValid c → IsValid (enacted r c h (decide r c h)).core
+pub valid-enacted : (r : Reads) (c : Core) (h : ℕ) → IsValid c → IsValid (enacted r c h (decide r c h)).core
 valid-enacted r c h v = elim (nat_lt h (length c.harts)) as (λ b. nat_lt h (length c.harts) ≡ b → IsValid (enacted r c h (decide r c h)).core) [
   | true ↦ λ e. valid-there r c h v (ltb-true h (length c.harts) e)
   | false ↦ λ e. valid-nobody r c h (hart_at c h) (halted-beyond c h (ltb-false h (length c.harts) e)) v
@@ -230,7 +230,7 @@ heard-choice h c false e v = elim (nat_lt h (length c.harts)) as (λ t. nat_lt h
   | false ↦ λ t. absurd (let q = not-there c h (ltb-false h (length c.harts) t) in let r : ⊥ = cc in r)
 ] refl
 
-valid-heard_first : (c : Core) (h : ℕ) → IsValid c → IsValid (heard_first c h)
+pub valid-heard_first : (c : Core) (h : ℕ) → IsValid c → IsValid (heard_first c h)
 valid-heard_first c h v = heard-choice h c (is_halted (hart_at c h).status) refl v
 
 -- a turn

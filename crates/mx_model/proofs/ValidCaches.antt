@@ -90,20 +90,20 @@ pub record AreCaches (c : Core) : Type 0 where
 pub cache-at : (c : Core) (h : ℕ) → AreCaches c → IsCache c.buffer (cache_at c h)
 cache-at c h v = all-at (IsCache c.buffer) c.caches no_cache v.each (cache-none c.buffer) h
 
-caches-with : (h : ℕ) (cache : Cache) (c : Core) → AreCaches c → IsCache c.buffer cache → AreCaches (with_cache h cache c)
+pub caches-with : (h : ℕ) (cache : Cache) (c : Core) → AreCaches c → IsCache c.buffer cache → AreCaches (with_cache h cache c)
 caches-with h cache c v p = record { each = all-set (IsCache c.buffer) c.caches h cache v.each p }
 
-caches-looked : (r : Reads) (h : ℕ) (l : Look) (c : Core) → AreCaches c → AreCaches (looked r h c l)
+pub caches-looked : (r : Reads) (h : ℕ) (l : Look) (c : Core) → AreCaches c → AreCaches (looked r h c l)
 caches-looked r h l c v = caches-with h _ c v (cache-checked c.buffer l.place l.domain l.word (r.walk l.domain l.word) _ (cache_at c h) (cache-at c h v))
 
-caches-looked_all : (r : Reads) (h : ℕ) (looks : List Look) (c : Core) → AreCaches c → AreCaches (looked_all r h looks c)
+pub caches-looked_all : (r : Reads) (h : ℕ) (looks : List Look) (c : Core) → AreCaches c → AreCaches (looked_all r h looks c)
 caches-looked_all r h [] c v = v
 caches-looked_all r h (l ∷ ls) c v = caches-looked_all r h ls (looked r h c l) (caches-looked r h l c v)
 
-caches-empties_places : (h : ℕ) (c : Core) → AreCaches c → AreCaches (empties_places h c)
+pub caches-empties_places : (h : ℕ) (c : Core) → AreCaches c → AreCaches (empties_places h c)
 caches-empties_places h c v = caches-with h _ c v (cache-left c.buffer (cache_at c h) (cache-at c h v))
 
-caches-drops : (h : ℕ) (range : ℕ × ℕ) (c : Core) → AreCaches c → AreCaches (drops h range c)
+pub caches-drops : (h : ℕ) (range : ℕ × ℕ) (c : Core) → AreCaches c → AreCaches (drops h range c)
 caches-drops h range c v = caches-with h _ c v (cache-without c.buffer range.0 range.1 (cache_at c h) (cache-at c h v))
 
 cache-without-all : (most : ℕ) (ranges : List (ℕ × ℕ)) (c : Cache) → IsCache most c →
@@ -111,25 +111,25 @@ cache-without-all : (most : ℕ) (ranges : List (ℕ × ℕ)) (c : Cache) → Is
 cache-without-all most [] c v = v
 cache-without-all most (r ∷ rs) c v = cache-without-all most rs (without_range r.0 r.1 c) (cache-without most r.0 r.1 c v)
 
-caches-hears : (h : ℕ) (c : Core) → AreCaches c → AreCaches (hears h c)
+pub caches-hears : (h : ℕ) (c : Core) → AreCaches c → AreCaches (hears h c)
 caches-hears h c v = record { each = all-set (IsCache c.buffer) c.caches h _ v.each (cache-without-all c.buffer (unheard_ranges c h) (cache_at c h) (cache-at c h v)) }
 
 -- a call that is refused or done
-caches-judged : (c : Core) (o : Option ℕ) (s : Served) → AreCaches c → AreCaches s.core → AreCaches (judged c o s).core
+pub caches-judged : (c : Core) (o : Option ℕ) (s : Served) → AreCaches c → AreCaches s.core → AreCaches (judged c o s).core
 caches-judged c None s v p = p
 caches-judged c (Some n) s v p = v
 
-caches-alloc_from : (c : Core) (call : Call) (first : ℕ) (o : Option ℕ) → AreCaches c → AreCaches (alloc_from c call first o).core
+pub caches-alloc_from : (c : Core) (call : Call) (first : ℕ) (o : Option ℕ) → AreCaches c → AreCaches (alloc_from c call first o).core
 caches-alloc_from c call first None v = record { each = v.each }
 caches-alloc_from c call first (Some n) v = v
 
-caches-write_from : (r : Reads) (c : Core) (call : Call) (o : Option ℕ) → AreCaches c → AreCaches (write_from r c call o).core
+pub caches-write_from : (r : Reads) (c : Core) (call : Call) (o : Option ℕ) → AreCaches c → AreCaches (write_from r c call o).core
 caches-write_from r c call (Some n) v = v
 caches-write_from r c call None v =
     let p = caches-looked_all r call.hart (write_looks r call) c v in
     caches-judged (looked_all r call.hart (write_looks r call) c) _ _ p p
 
-caches-exchange_from : (r : Reads) (c : Core) (call : Call) (o : Option ℕ) → AreCaches c → AreCaches (exchange_from r c call o).core
+pub caches-exchange_from : (r : Reads) (c : Core) (call : Call) (o : Option ℕ) → AreCaches c → AreCaches (exchange_from r c call o).core
 caches-exchange_from r c call (Some n) v = v
 caches-exchange_from r c call None v =
     let seen = looked_all r call.hart (look_of call.domain (arg_word call) ∷ []) c in
@@ -137,7 +137,7 @@ caches-exchange_from r c call None v =
     caches-judged seen (first_row ((not (allows (r.perm call.domain (arg_word call)) A.Write), 12) ∷ []))
     (record (answers (record seen { ram = put_at c.ram (4 * arg_word call) 4 (arg call 1) }) 0) { a1 = Some (number_at c.ram (4 * arg_word call) 4) }) p (record { each = p.each })
 
-caches-served_by : (k : Service) (r : Reads) (c : Core) (call : Call) → AreCaches c → AreCaches (served_by k r c call).core
+pub caches-served_by : (k : Service) (r : Reads) (c : Core) (call : Call) → AreCaches c → AreCaches (served_by k r c call).core
 caches-served_by Exit r c call v = caches-judged c _ _ v v
 caches-served_by Write r c call v = caches-write_from r c call _ v
 caches-served_by Grant r c call v = caches-judged c _ _ v v
@@ -153,46 +153,46 @@ caches-served_by Self r c call v = v
 caches-served_by Exchange r c call v = caches-exchange_from r c call _ v
 caches-served_by Unknown r c call v = v
 
-caches-ended : (c : Core) (call : Call) (s : Served) → AreCaches s.core → AreCaches (ended c call s).core
+pub caches-ended : (c : Core) (call : Call) (s : Served) → AreCaches s.core → AreCaches (ended c call s).core
 caches-ended c call s v = elim (is_announced call.number) as (λ b. AreCaches (cond b (record s { core = drops call.hart (call_range c call) s.core }) s).core) [
   | true ↦ caches-drops call.hart (call_range c call) s.core v
   | false ↦ v
 ]
 
-caches-serve : (r : Reads) (c : Core) (call : Call) → AreCaches c → AreCaches (serve r c call).core
+pub caches-serve : (r : Reads) (c : Core) (call : Call) → AreCaches c → AreCaches (serve r c call).core
 caches-serve r c call v = caches-ended c call (served_by (service call.number) r c call) (caches-served_by (service call.number) r c call v)
 
 -- a served call, in its hart
-caches-done : (h : ℕ) (hart : Hart) (s : Served) → AreCaches s.core → AreCaches (done h hart s).core
+pub caches-done : (h : ℕ) (hart : Hart) (s : Served) → AreCaches s.core → AreCaches (done h hart s).core
 caches-done h hart s v =
     elim s.stop as (λ b. AreCaches (cond b (halted h hart (Some s.a0) s.core) (with_regs h hart (answered hart s.a0 s.a1) (next hart.pc) s.core))) [ true ↦ record { each = v.each } | false ↦ record { each = v.each } ]
 
-caches-served : (r : Reads) (c : Core) (h : ℕ) (hart : Hart) (call : Call) → AreCaches c → AreCaches (served r c h hart call).core
+pub caches-served : (r : Reads) (c : Core) (h : ℕ) (hart : Hart) (call : Call) → AreCaches c → AreCaches (served r c h hart call).core
 caches-served r c h hart call v = caches-done h hart (serve r c call) (caches-serve r c call v)
 
-caches-asked : (r : Reads) (c : Core) (h : ℕ) (hart : Hart) (call : Call) (b : Bool) → AreCaches c → AreCaches (asked r c h hart call b).core
+pub caches-asked : (r : Reads) (c : Core) (h : ℕ) (hart : Hart) (call : Call) (b : Bool) → AreCaches c → AreCaches (asked r c h hart call b).core
 caches-asked r c h hart call true v = caches-served r c h hart call v
 caches-asked r c h hart call false v = record { each = v.each }
 
 -- a fault
-caches-over_frame : (c : Core) (h : ℕ) (hart : Hart) (frame : Frame) (regs : List ℕ) → AreCaches c → AreCaches (over_frame c h hart frame regs)
+pub caches-over_frame : (c : Core) (h : ℕ) (hart : Hart) (frame : Frame) (regs : List ℕ) → AreCaches c → AreCaches (over_frame c h hart frame regs)
 caches-over_frame c h hart frame regs v =
     let moved = record hart { regs = restored regs frame.kept; pc = frame.back; domain = frame.caller; frames = below_top hart.frames; status = Running } in
     caches-empties_places h (with_hart h moved c) (record { each = v.each })
 
-caches-killed : (d cause : ℕ) (c : Core) → AreCaches c → AreCaches (killed d cause c)
+pub caches-killed : (d cause : ℕ) (c : Core) → AreCaches c → AreCaches (killed d cause c)
 caches-killed d cause c v =
     elim ((module_at c d).kills && not (cause == 20)) as (λ b. AreCaches (cond b (with_module d (record (module_at c d) { dead = true }) c) c)) [ true ↦ record { each = v.each } | false ↦ v ]
 
-caches-given_up : (c : Core) (h : ℕ) (hart : Hart) (cause : ℕ) (o : Option Frame) → AreCaches c → AreCaches (given_up c h hart cause o)
+pub caches-given_up : (c : Core) (h : ℕ) (hart : Hart) (cause : ℕ) (o : Option Frame) → AreCaches c → AreCaches (given_up c h hart cause o)
 caches-given_up c h hart cause None v = record { each = v.each }
 caches-given_up c h hart cause (Some frame) v = caches-over_frame c h hart frame _ v
 
-caches-trapped : (c : Core) (h : ℕ) (hart : Hart) (cause value : ℕ) → AreCaches c → AreCaches (trapped c h hart cause value).core
+pub caches-trapped : (c : Core) (h : ℕ) (hart : Hart) (cause value : ℕ) → AreCaches c → AreCaches (trapped c h hart cause value).core
 caches-trapped c h hart cause value v = caches-given_up (killed hart.domain cause c) h hart cause _ (caches-killed hart.domain cause c v)
 
 -- an action
-caches-acted : (r : Reads) (c : Core) (h : ℕ) (hart : Hart) (action : Action) → AreCaches c → AreCaches (acted r c h hart action).core
+pub caches-acted : (r : Reads) (c : Core) (h : ℕ) (hart : Hart) (action : Action) → AreCaches c → AreCaches (acted r c h hart action).core
 caches-acted r c h hart Rests v = v
 caches-acted r c h hart Waits v = v
 caches-acted r c h hart (Serves call) v = caches-served r c h hart call v
@@ -204,10 +204,10 @@ caches-acted r c h hart (Returns rd frame) v = caches-over_frame c h hart frame 
 caches-acted r c h hart (Runs regs pc) v = record { each = v.each }
 caches-acted r c h hart (Writes address size value) v = record { each = v.each }
 
-caches-enacted : (r : Reads) (c : Core) (h : ℕ) (d : Decided) → AreCaches c → AreCaches (enacted r c h d).core
+pub caches-enacted : (r : Reads) (c : Core) (h : ℕ) (d : Decided) → AreCaches c → AreCaches (enacted r c h d).core
 caches-enacted r c h d v = caches-acted r (looked_all r h d.looks c) h (hart_at c h) d.action (caches-looked_all r h d.looks c v)
 
-caches-heard_first : (c : Core) (h : ℕ) → AreCaches c → AreCaches (heard_first c h)
+pub caches-heard_first : (c : Core) (h : ℕ) → AreCaches c → AreCaches (heard_first c h)
 caches-heard_first c h v = elim (is_halted (hart_at c h).status) as (λ b. AreCaches (cond b c (hears h c))) [ true ↦ v | false ↦ caches-hears h c v ]
 
 -- a turn

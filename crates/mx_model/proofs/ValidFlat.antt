@@ -10,22 +10,23 @@ use Rattle.mx_words.specs.Bytes.{number_at, put_at}
 use Rattle.mx_words.specs.Changes.{each_from, changed_map}
 use Rattle.mx_words.specs.FirstFit.{without_block}
 use Rattle.mx_words.specs.FirstRow.{first_row, Row}
-use Rattle.mx_words.specs.Newest.{Give, Laid, laid, laid_from}
+use Rattle.mx_words.specs.Newest.{Give, Laid, laid, laid_from, map}
 use Rattle.mx_words.specs.Ranges.{covers}
 use Rattle.mx_words.specs.Rights.{number, allows}
 use Rattle.mx_words.specs.Runs.{owner_runs, most_owner_runs}
-use Rattle.mx_words.proofs.OverlayLaws.{length-laid}
+use Rattle.mx_words.proofs.OverlayLaws.{length-laid, length-map_of}
 use Rattle.mx_model.specs.declared.values.Call.{Call}
 use Rattle.mx_model.specs.declared.values.Frame.{Frame}
 use Rattle.mx_model.specs.Checks.{arg, call_range, drops, looked_all}
 use Rattle.mx_model.specs.Gates.{without_gate}
-use Rattle.mx_model.specs.Reads.{Reads, Change, flat_reads}
+use Rattle.mx_model.specs.Reads.{Reads, Change, flat_reads, map_in}
 use Rattle.mx_model.specs.Run.{flat_turn, flat_made, maps_after, owners_after}
 use Rattle.mx_model.specs.Serve.{Served, Service, Exit, Write, Grant, RevokeAll, Transfer, Alloc, Free, AddGate, RemoveGate, AddReturnGate, Query, Self, Exchange, Unknown, judged, answers, serve, served_by, service, ended, write_from, exchange_from, alloc_place, alloc_from, write_looks, write_words, may_read, bytes_at, look_of, arg_word, with_blocks, changes, free_change, grant_change, revoke_change, adds, no_range, meets_heap, owns, arg_range, give_of}
 use Rattle.mx_model.specs.State.{Core, Flat, Hart, hart_at, module_at}
 use Rattle.mx_model.specs.Turn.{Action, Rests, Waits, Serves, Asks, Traps, Bounces, Crosses, Returns, Runs, Writes, Decided, acted, asked, served, enacted, decide, heard_first, counted, turned, is_served_now}
 use Rattle.mx_model.specs.Valid.{IsFlat, IsValid}
 use Rattle.mx_model.proofs.KeepLaws.{keeps-looked_all, keeps-heard_first, keeps-turned}
+use Rattle.mx_model.proofs.ListLaws.{all-at}
 use Rattle.mx_model.proofs.ServeLaws.{tests-four}
 use Rattle.mx_model.proofs.TurnLaws.{valid-turned}
 use Rattle.mx_model.proofs.ValidCaches.{caches-turned}
@@ -170,6 +171,11 @@ few-owners_after : (f : Flat) (most : ℕ) (o : Option Give) → owner_runs f.ow
     owner_runs (owners_after f.owners o) ≤ most_owner_runs
 few-owners_after f most None p q = p
 few-owners_after f most (Some g) p q = leb-true (owner_runs (laid g f.owners)) most_owner_runs q.1
+
+-- the map of each domain, also of one that isn't there, has a permission for each word
+pub length-map_in : (f : Flat) (d : ℕ) → IsFlat f → length (map_in f.core.size f.maps d) ≡ f.core.size
+length-map_in f d v =
+    all-at (λ (m : List Perm). length m ≡ f.core.size) f.maps (map [] f.core.size) v.whole_maps (length-map_of [] f.core.size) (d - 1)
 
 -- a turn of a flat state
 pub flat-turned : (f : Flat) (h : ℕ) → IsFlat f → IsFlat (flat_turn f h)
