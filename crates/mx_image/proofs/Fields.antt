@@ -11,7 +11,7 @@ unfolding number_at
 number-behind part rest k zero = refl
 number-behind part rest k (suc size) =
     let next : number_at (part ++ rest) (length part + k + 1) size ≡ number_at rest (k + 1) size =
-      ap (λ (i : ℕ). number_at (part ++ rest) i size) (add_assoc (length part) k 1) ∙ number-behind part rest (k + 1) size in
+    ap (λ (i : ℕ). number_at (part ++ rest) i size) (add_assoc (length part) k 1) ∙ number-behind part rest (k + 1) size in
     let here : get_or (part ++ rest) (length part + k) 0 ≡ get_or rest k 0 = get_or-append-add part rest k 0 in
     rw (here, next) refl
 

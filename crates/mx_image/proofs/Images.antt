@@ -1,19 +1,22 @@
 -- The image of a lawful program, and what the loader reads of it.
-use Rattle.std.proofs.Common.{◌≡◌, ℕ, ◌+◌, ◌*◌, ◌/◌, ◌%◌, ◌^◌, ◌<◌, ◌≤◌, Bool, true, false, List, [], ◌∷◌, ◌++◌, length, take, drop, refl, sym, ap, ◌∙◌, arith, ◌==◌, inl, inr, ⊎_elim}
-use Rattle.std.specs.Prelude.{Ok, map}
+use Rattle.std.proofs.Common.{◌≡◌, ◌≢◌, ℕ, ◌+◌, ◌*◌, ◌/◌, ◌%◌, ◌^◌, ◌<◌, ◌≤◌, Bool, true, false, List, [], ◌∷◌, ◌++◌, length, take, drop, refl, sym, ap, ◌∙◌, arith, ◌==◌, inl, inr, ⊎_elim}
+use Rattle.std.specs.Prelude.{Ok, Some, None, map}
 use Rattle.std.specs.List.{AllByRecursion}
 use Rattle.std.proofs.lemmas.List.{length-append}
 use Rattle.std.proofs.lemmas.List.Sums.{sum_by-cons}
 use Rattle.std.proofs.lemmas.Bool.{cond_both}
 use Rattle.std.proofs.lemmas.Bool.Decides.{nat_tests}
 use Rattle.mx_elf.specs.Image.{image_of as image_read}
+use Rattle.mx_elf.specs.Symbol.{symbol_of}
 use Rattle.mx_image.specs.declared.segment.Segment.{Segment}
-use Rattle.mx_image.specs.Program.{Program, has_bytes, filled, byte_count}
+use Rattle.mx_image.specs.Program.{Label, Program, has_bytes, filled, byte_count}
 use Rattle.mx_image.specs.Image.{rounded, padded, file_header, program_headers, contents, symbol_table, strings, null_section, symbol_section, string_section, contents_at, symbols_at, strings_at, sections_at, image_with, image_of}
 use Rattle.mx_image.specs.Lawful.{IsSegment, IsProgram, placed}
 use Rattle.mx_image.proofs.Sizes.{small, program_headers_length}
 use Rattle.mx_image.proofs.Loads.{IsLoadable}
-use Rattle.mx_image.proofs.Reading.{read}
+use Rattle.mx_image.proofs.Reading.{header-read, read}
+use Rattle.mx_image.proofs.Symbols.{address_of, value-found, each-found, none-found}
+use Rattle.mx_image.proofs.Sections.{symbol-in-image}
 use Rattle.mx_image.proofs.Splits.{cut-2, cut-3, cut-4, bytes-there}
 
 -- the segments of a lawful program
@@ -79,3 +82,39 @@ reads-bytes p h =
     let head : length a ≡ 52 = refl in
     let start : at ≡ length (a ++ b) = omega (arith, head, length-append a b, program_headers_length at segments) in
     bytes-there (image_of p) (a ++ b) _ at segments (cut-3 a b c d e f g i) start
+
+-- the value of a symbol is the address of the first label with its name
+pub symbol-of-image : (p : Program) → IsProgram p → (name : List ℕ) → symbol_of (image_of p) name ≡ address_of p.labels name
+unfolding image_with
+symbol-of-image p h name =
+    let segments = filled p.segments in
+    let sizes = small p h.sized in
+    let at = contents_at (length segments) in
+    let a = file_header p.entry (sections_at segments p.labels) (length segments) in
+    let b = program_headers at segments in
+    let c = contents segments in
+    let d = symbol_table p.labels in
+    let e = padded (strings p.labels) in
+    let f = null_section in
+    let g = symbol_section (symbols_at segments) (length p.labels + 1) in
+    let i = string_section (strings_at segments p.labels) (length (strings p.labels)) in
+    let head : length a ≡ 52 = refl in
+    let names : length (strings p.labels) ≤ 68157441 = omega (arith, sizes.names) in
+    let start : symbols_at segments ≡ length (a ++ b ++ c) = omega (arith, head, length-append (a ++ b) c, length-append a b, program_headers_length at segments) in
+    let high : sections_at segments p.labels < 2 ^ 32 = omega (arith, sizes.segments, sizes.contents, sizes.labels, names) in
+    let fields = header-read (image_of p) p.entry (sections_at segments p.labels) (length segments) _ (cut-2 a b c d e f g i) h.entry high (omega (arith, sizes.segments)) in
+    symbol-in-image (image_of p) a b c name p.labels p.entry (length segments) (symbols_at segments) refl start (omega arith) high fields
+    ∙ value-found p.labels name (omega (arith, sizes.names)) h.labels
+
+-- each label is found
+each : (p : Program) → IsProgram p → (labels : List Label) → AllByRecursion (λ l. address_of p.labels l.name ≡ Some l.address) labels
+    → AllByRecursion (λ l. symbol_of (image_of p) l.name ≡ Some l.address) labels
+each p h [] all = tt
+each p h (l ∷ labels) all = (symbol-of-image p h l.name ∙ all.0, each p h labels all.1)
+
+pub finds-labels : (p : Program) → IsProgram p → AllByRecursion (λ l. symbol_of (image_of p) l.name ≡ Some l.address) p.labels
+finds-labels p h = each p h p.labels (each-found p.labels h.distinct)
+
+-- and nothing else
+pub finds-no-other : (p : Program) (name : List ℕ) → IsProgram p → AllByRecursion (λ l. l.name ≢ name) p.labels → symbol_of (image_of p) name ≡ None
+finds-no-other p name h apart = symbol-of-image p h name ∙ none-found p.labels name apart

@@ -6,4 +6,6 @@ pub mod Fields
 pub mod Loads
 pub mod Splits
 pub mod Reading
+pub mod Symbols
+pub mod Sections
 pub mod Images

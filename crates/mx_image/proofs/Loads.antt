@@ -80,7 +80,7 @@ segments-read bytes part rest place at (s ∷ segments) is start lt all =
     let next = at + rounded (length s.bytes) in
     let tail = program_headers next segments ++ rest in
     let here : bytes ≡ part ++ (program_header at s ++ tail) =
-      is ∙ ap (λ (xs : List ℕ). part ++ xs) (append_assoc (program_header at s) (program_headers next segments) rest) in
+    is ∙ ap (λ (xs : List ℕ). part ++ xs) (append_assoc (program_header at s) (program_headers next segments) rest) in
     let further : bytes ≡ (part ++ program_header at s) ++ tail = here ∙ sym (append_assoc part (program_header at s) tail) in
     let size = length-contents-cons s segments in
     let r = header-read bytes part tail place at s here start (omega (arith, lt)) all.0 in

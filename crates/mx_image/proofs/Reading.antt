@@ -30,7 +30,7 @@ pub record IsHeader (bytes : List ℕ) (entry sections count : ℕ) : Type 0 whe
   pub section_size : half_at bytes 46 ≡ 40
   pub section_count : half_at bytes 48 ≡ 3
 
-pub header-fields : (entry sections count : ℕ) (rest : List ℕ) → entry < 2 ^ 32 → sections < 2 ^ 32 → count < 2 ^ 16
+header-fields : (entry sections count : ℕ) (rest : List ℕ) → entry < 2 ^ 32 → sections < 2 ^ 32 → count < 2 ^ 16
     → IsHeader (file_header entry sections count ++ rest) entry sections count
 unfolding word_at half_at number_at
 header-fields entry sections count rest e s c = record {
@@ -47,6 +47,10 @@ header-fields entry sections count rest e s c = record {
   section_size = refl;
   section_count = refl;
 }
+
+pub header-read : (bytes : List ℕ) (entry sections count : ℕ) (rest : List ℕ) → bytes ≡ file_header entry sections count ++ rest
+    → entry < 2 ^ 32 → sections < 2 ^ 32 → count < 2 ^ 16 → IsHeader bytes entry sections count
+header-read bytes entry sections count rest is e s c = rw is (header-fields entry sections count rest e s c)
 
 -- it has none of the faults 1 to 6
 header-sound : (bytes : List ℕ) (entry sections count : ℕ) → IsHeader bytes entry sections count → 52 + 32 * count ≤ length bytes
@@ -76,13 +80,13 @@ unfolding image_read
 read bytes entry sections segments rest is e s few long small all =
     let at = contents_at (length segments) in
     let fields : IsHeader bytes entry sections (length segments) =
-      rw is (header-fields entry sections (length segments) (program_headers at segments ++ rest) e s (omega (arith, few))) in
+    header-read bytes entry sections (length segments) (program_headers at segments ++ rest) is e s (omega (arith, few)) in
     let entry_is = fields.entry_is in
     let headers = fields.headers in
     let number = fields.count_is in
     let loaded : segments_of bytes ≡ placed at segments =
-      rw (headers, number) (segments-read bytes (file_header entry sections (length segments)) rest 52 at segments is refl (omega (arith, few, small)) all) in
+    rw (headers, number) (segments-read bytes (file_header entry sections (length segments)) rest 52 at segments is refl (omega (arith, few, small)) all) in
     let sound : first_fault (rows_of bytes) ≡ None =
-      first_fault-append (header_rows bytes) (rows_from (length bytes) 0 (segments_of bytes))
-      ∙ rw (header-sound bytes entry sections (length segments) fields (omega (arith, long)), loaded) (segments-sound (length bytes) 0 at segments (omega (arith, few)) long all) in
+    first_fault-append (header_rows bytes) (rows_from (length bytes) 0 (segments_of bytes))
+    ∙ rw (header-sound bytes entry sections (length segments) fields (omega (arith, long)), loaded) (segments-sound (length bytes) 0 at segments (omega (arith, few)) long all) in
     rw (sound, entry_is, loaded) refl

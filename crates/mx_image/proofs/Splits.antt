@@ -42,8 +42,8 @@ bytes-there bytes part rest at (s ∷ segments) is start =
     let whole : bytes ≡ part ++ (padded s.bytes ++ tail) = is ∙ ap (λ (xs : List ℕ). part ++ xs) (append_assoc (padded s.bytes) (contents segments) rest) in
     let further : bytes ≡ (part ++ padded s.bytes) ++ tail = whole ∙ sym (append_assoc part (padded s.bytes) tail) in
     let longer : at + rounded (length s.bytes) ≡ length (part ++ padded s.bytes) =
-      ap (λ (n : ℕ). n + rounded (length s.bytes)) start ∙ ap (λ (n : ℕ). length part + n) (sym (padded_length s.bytes)) ∙ sym (length-append part (padded s.bytes)) in
+    ap (λ (n : ℕ). n + rounded (length s.bytes)) start ∙ ap (λ (n : ℕ). length part + n) (sym (padded_length s.bytes)) ∙ sym (length-append part (padded s.bytes)) in
     let here : take (length s.bytes) (drop at bytes) ≡ s.bytes =
-      piece bytes part s.bytes (zeros ++ tail) at (length s.bytes) (whole ∙ ap (λ (xs : List ℕ). part ++ xs) (append_assoc s.bytes zeros tail)) start refl in
+    piece bytes part s.bytes (zeros ++ tail) at (length s.bytes) (whole ∙ ap (λ (xs : List ℕ). part ++ xs) (append_assoc s.bytes zeros tail)) start refl in
     let left = bytes-there bytes (part ++ padded s.bytes) rest (at + rounded (length s.bytes)) segments further longer in
     rw (here, left) refl
