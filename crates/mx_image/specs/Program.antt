@@ -7,6 +7,10 @@ pub record Label : Type 0 where
   pub name : List ℕ
   pub address : ℕ
 
+-- the label with a name and an address
+abbrev pub label : List ℕ → ℕ → Label
+label name address = record { name = name; address = address }
+
 -- a program: the address at which it begins, its segments in order, also those without bytes, and its labels in text order
 pub record Program : Type 0 where
   pub entry : ℕ

@@ -5,8 +5,8 @@ use Rattle.mx_image.specs.Program.{Program, with_byte}
 use Rattle.mx_image.proofs.LastByte.{set-last}
 use Rattle.mx_image.proofs.program.ProgramBuilder.add_byte.Goals as goal
 
-pub returns : goal.returns
-returns c =
+pub returns-clause-ok : goal.returns-clause-ok
+returns-clause-ok c =
     let inside = c.self.inside in
     let last : (c.len-last.result - 1) + 1 ≡ length inside.segments.items = search rules in
     on_ok_weaker c.push.result (λ is. rw (← c.self.view_is) (ap (λ ss. record { entry = inside.entry; segments = ss; labels = labels_of inside.labels.items })
