@@ -1,0 +1,4 @@
+pub mod Twins
+pub mod Foreign
+pub mod Crossing
+pub mod Comparison
