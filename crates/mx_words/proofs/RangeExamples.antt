@@ -140,6 +140,10 @@ places-behind = refl
 whole-area : list_map (place area []) (10 ∷ 11 ∷ []) ≡ Some 100 ∷ Nothing ∷ []
 whole-area = refl
 
+between-two : place area (block 102 2 ∷ []) 2 ∷ place area (block 100 2 ∷ block 102 2 ∷ []) 2 ∷ place area (block 100 2 ∷ block 102 2 ∷ []) 7 ∷ []
+    ≡ Some 100 ∷ Some 104 ∷ Nothing ∷ []
+between-two = refl
+
 no-area : place (block 0 0) [] 1 ≡ Nothing
 no-area = refl
 
