@@ -1,4 +1,4 @@
--- What a snapshot keeps of a state: all but exit codes, what the caches keep and count, console bytes and notes.
+-- What a snapshot keeps of a state: all but exit codes, what caches keep and count, console bytes and notes.
 -- The rules: docs/MACHINE.md, "Memory, domains, harts".
 use Rattle.std.specs.Prelude.{◌≡◌, [], None}
 use Rattle.std.specs.Prelude.{map as list_map}
