@@ -1,5 +1,5 @@
 -- The live domains: those in which a hart is, or to which it can come.
--- The rules: docs/MACHINE.md, "Memory, domains, harts" and "Gates".
+-- The rules: docs/MACHINE.md, "Live domains and sealed words".
 use Rattle.std.specs.Prelude.{ℕ, zero, suc, Bool, not, ◌==◌, List, ◌∷◌, ◌++◌, length, filter}
 use Rattle.std.specs.Prelude.{map as list_map}
 use Rattle.std.specs.List.{Contains, list_any, flat_map}

@@ -1,5 +1,5 @@
 -- The sealed words, which no run changes, and what an audit asks of a state.
--- The rules: docs/MACHINE.md, "Memory, domains, harts".
+-- The rules: docs/MACHINE.md, "Live domains and sealed words".
 use Rattle.std.specs.Prelude.{◌≡◌, ◌≢◌, ℕ, ◌<◌, Bool, not, ◌&&◌, nat_lt, length, IsTrue}
 use Rattle.std.specs.List.{list_all}
 use Rattle.mx_words.specs.declared.perm.Perm.TheVariants as P
