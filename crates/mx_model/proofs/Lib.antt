@@ -3,6 +3,11 @@ pub mod ShortExamples
 pub mod GateExamples
 pub mod CallExamples
 pub mod RefusalExamples
+pub mod Smalls
+pub mod CrossingExamples
+pub mod HartsExamples
+pub mod AccessExamples
+pub mod ServeExamples
 pub mod KeepLaws
 pub mod FlatLaws
 pub mod RunLaws
