@@ -1,4 +1,5 @@
 pub mod Boots
+pub mod EffectExamples
 pub mod ShortExamples
 pub mod GateExamples
 pub mod CallExamples
@@ -8,6 +9,8 @@ pub mod CrossingExamples
 pub mod HartsExamples
 pub mod AccessExamples
 pub mod ServeExamples
+pub mod BorderExamples
+pub mod RunExamples
 pub mod KeepLaws
 pub mod FlatLaws
 pub mod RunLaws
