@@ -1,10 +1,10 @@
 -- What the ranges say of each element of a list.
-use Rattle.std.proofs.Common.{◌≡◌, ◌≢◌, ℕ, ◌+◌, ◌<◌, ◌≤◌, suc, zero, Bool, true, false, not, ◌&&◌, ◌||◌, ◌==◌, nat_lt, nat_eq, cond, List, [], ◌∷◌, length, map, position, Option, Some, None, IfSome, slice_get, option_map, unwrap_or, ℤ, pos, negsuc, nat_le, refl, ap, sym, ◌∙◌, subst, arith, if◌then◌else◌}
-use Rattle.std.proofs.lemmas.Bool.{and_parts}
+use Rattle.std.proofs.Common.{◌≡◌, ◌≢◌, ℕ, ◌+◌, ◌<◌, ◌≤◌, suc, zero, Bool, true, false, not, ◌&&◌, ◌||◌, ◌==◌, nat_lt, nat_eq, cond, List, [], ◌∷◌, length, map, take, position, Option, Some, None, IfSome, slice_get, option_map, unwrap_or, ℤ, pos, negsuc, nat_le, refl, ap, sym, ◌∙◌, subst, arith, if◌then◌else◌}
+use Rattle.std.proofs.lemmas.Bool.{and_parts, eq-eqb}
 use Rattle.std.proofs.lemmas.Bool.Decides.{nat_tests}
 use Rattle.std.proofs.lemmas.List.Sums.{prefix_len-le-length}
 use Rattle.std.proofs.lemmas.Option.{same_Some}
-use Rattle.std.specs.List.{list_all, enumerate_from, position_or_len}
+use Rattle.std.specs.List.{list_all, list_any, enumerate_from, position_or_len}
 use Rattle.std.specs.Option.{option_or, option_map_or}
 use Rattle.std.specs.Str.{bytes_eq}
 use Rattle.toml.specs.Data.{Data, string, integer, float, boolean, datetime, array, table, as_str}
@@ -15,7 +15,7 @@ use Rattle.mx_manifest.specs.Reads.{number_of, word}
 use Rattle.mx_manifest.specs.Forms.{is_entry, is_within}
 use Rattle.mx_manifest.specs.InRange.{IsBetween, IsEntry, Each, EachNumbered}
 use Rattle.mx_manifest.specs.Plan.{entry_plan}
-use Rattle.mx_manifest.specs.Faults.{first_of, fault_where, numbered_fault, each_fault, domain_of, is_other}
+use Rattle.mx_manifest.specs.Faults.{first_of, fault_where, numbered_fault, each_fault, domain_of, is_other, module_name}
 use Rattle.mx_manifest.proofs.Clear.{neither, unmapped, within_parts}
 
 -- each element of a list that passes a test
@@ -107,3 +107,26 @@ other_in_range names own name h =
 
 pub home_in_range : (names : List (List ℕ)) (name : List ℕ) → (domain_of names name == 0) ≡ false → IsBetween 1 (length names) (domain_of names name)
 home_in_range names name h = (grind (arith, nat_tests), domain_at_most names name)
+
+or_right : (a b : Bool) → b ≡ true → (a || b) ≡ true
+or_right true b h = refl
+or_right false b h = h
+
+-- an element of a list of values
+pub from_mapped : {A B : Type 0} (f : A → B) (xs : List A) (i : ℕ) (y : B) → slice_get (map f xs) i ≡ Some y → (x : A) × (slice_get xs i ≡ Some x) × (f x ≡ y)
+from_mapped f [] i y e = cc
+from_mapped f (x ∷ xs) zero y e = (x, refl, same_Some _ _ e)
+from_mapped f (x ∷ xs) (suc i) y e = from_mapped f xs i y e
+
+pub bytes_same : (name : List ℕ) → bytes_eq name name ≡ true
+bytes_same [] = refl
+bytes_same (x ∷ name) = rw (eq-eqb x x refl, bytes_same name) refl
+
+-- a name that stands before a place is found before it
+pub found_before : (all : List Data) (name : List ℕ) (i j : ℕ) (d : Data) → slice_get all i ≡ Some d → i < j → module_name d ≡ name → list_any (bytes_eq name) (take j (map module_name all)) ≡ true
+found_before [] name i j d e below same = cc
+found_before (x ∷ all) name i zero d e below same = absurd (omega arith)
+found_before (x ∷ all) name zero (suc j) d e below same =
+    let here : bytes_eq name (module_name x) ≡ true = ap (λ y. bytes_eq name (module_name y)) (same_Some _ _ e) ∙ ap (bytes_eq name) same ∙ bytes_same name in
+    rw here refl
+found_before (x ∷ all) name (suc i) (suc j) d e below same = or_right (bytes_eq name (module_name x)) _ (found_before all name i j d e (omega arith) same)

@@ -1,8 +1,10 @@
 -- What the tests say of the plans of modules, gates and harts.
-use Rattle.std.proofs.Common.{◌≡◌, ◌≢◌, ℕ, ◌+◌, ◌%◌, ◌<◌, ◌≤◌, suc, Bool, true, false, not, ◌&&◌, ◌||◌, ◌==◌, List, [], ◌∷◌, ◌++◌, length, map, Option, Some, None, IfSome, option_map, option_and_then, unwrap_or, refl, ap, sym, ◌∙◌, subst, arith}
+use Rattle.std.proofs.Common.{◌≡◌, ◌≢◌, ℕ, ◌+◌, ◌%◌, ◌<◌, ◌≤◌, suc, Bool, true, false, not, ◌&&◌, ◌||◌, ◌==◌, nat_eq, ◌⊎◌, inl, inr, codes, if◌then◌else◌, List, [], ◌∷◌, ◌++◌, length, map, Option, Some, None, IfSome, option_map, option_and_then, unwrap_or, refl, ap, sym, ◌∙◌, subst, arith}
 use Rattle.std.proofs.lemmas.Bool.{and_parts}
 use Rattle.std.proofs.lemmas.List.{length-map}
-use Rattle.std.specs.List.{list_all}
+use Rattle.std.specs.List.{list_all, starts_with}
+use Rattle.std.specs.Str.{bytes_eq}
+use Rattle.mx_words.specs.declared.perm.Perm.TheVariants as perms
 use Rattle.std.specs.Option.{is_some, option_map_or}
 use Rattle.toml.specs.Data.{Data, get}
 use Rattle.mx_manifest.specs.declared.fault.Key.{Key}
@@ -14,15 +16,15 @@ use Rattle.mx_manifest.specs.declared.row.Asked.{Asked}
 use Rattle.mx_manifest.specs.declared.row.Asked.TheVariants.{Always, Never, With, Without, WithoutAny}
 use Rattle.mx_manifest.specs.declared.row.Form.{Form}
 use Rattle.mx_manifest.specs.declared.row.Form.TheVariants.{Integer, Aligned, Choice, Text, Boolean, Entry, Array}
-use Rattle.mx_manifest.specs.declared.row.TextForm.TheVariants.{ModuleName, FileName, Permission}
+use Rattle.mx_manifest.specs.declared.row.TextForm.TheVariants.{ModuleName, FileName, Permission, ImagePermission}
 use Rattle.mx_manifest.specs.declared.row.ItemForm.{ItemForm}
 use Rattle.mx_manifest.specs.declared.row.ItemForm.TheVariants as each
 use Rattle.mx_manifest.specs.declared.row.Version.{Version}
 use Rattle.mx_manifest.specs.declared.row.Version.TheVariants.{One, Two}
 use Rattle.mx_manifest.specs.Keys.{name_text}
 use Rattle.mx_manifest.specs.Reads.{value_at, has, elements, elements_at, number_at, text_at, text_of}
-use Rattle.mx_manifest.specs.Forms.{is_within, is_text, is_entry, is_item, is_ranged}
-use Rattle.mx_manifest.specs.InRange.{IsBetween, IsAligned, IsEntry, Each, IsGate, IsModule, IsHart}
+use Rattle.mx_manifest.specs.Forms.{is_within, is_name_byte, is_text, is_entry, is_item, is_ranged}
+use Rattle.mx_manifest.specs.InRange.{IsBetween, IsAligned, IsName, IsFileName, IsEntry, Each, IsGate, IsModule, IsHart}
 use Rattle.mx_manifest.specs.Plan.{perm_named, entry_plan, gate_plan, word_list, module_plan, hart_plan}
 use Rattle.mx_manifest.specs.Rows.{most, row, early_rows, late_rows, gate_rows, hart_rows}
 use Rattle.mx_manifest.specs.Faults.{is_asked, row_fault, rows_fault, table_fault, gate_fault, gates_fault, image_fault, module_fault, module_name, domain_of, from_texts, is_other, is_from_others, from_fault, hart_fault}
@@ -132,6 +134,41 @@ words_of (Some v) each = rw (length-map (elements v) _) (within_parts 1 65536 (l
 inline_key : (m : Data) (this : Key) (form : Form) → row_fault m (row this (Without key.Image) form) ≡ None → (has key.Image m && has this m) ≡ false → has this m ≡ not (has key.Image m)
 inline_key m this form h apart = one_of (has key.Image m) (has this m) (has_asked m this (Without key.Image) form h) apart
 
+not_true : (b : Bool) → not b ≡ true → b ≡ false
+not_true true h = cc
+not_true false h = refl
+
+name_in_range : (text : List ℕ) → is_text ModuleName text ≡ true → IsName text
+name_in_range text h =
+    let parts = and_parts (is_within 1 32 (length text)) (list_all is_name_byte text) h in
+    (within_parts 1 32 (length text) parts.0, parts.1)
+
+file_in_range : (text : List ℕ) → is_text FileName text ≡ true → IsFileName text
+file_in_range text h =
+    let parts = and_parts (is_within 1 255 (length text)) (not (starts_with nat_eq text (codes "-"))) h in
+    (within_parts 1 255 (length text) parts.0, not_true _ parts.1)
+
+-- a permission by its name
+perm_there : (a b : Bool) → (if a then perms.ReadWrite else if b then perms.ExecuteRead else perms.Read) ≢ perms.None
+perm_there true b h = cc
+perm_there false true h = cc
+perm_there false false h = cc
+
+image_perm : (a b : Bool) → (a || (b || false)) ≡ true
+    → ((if a then perms.ReadWrite else if b then perms.ExecuteRead else perms.Read) ≡ perms.ReadWrite) ⊎ ((if a then perms.ReadWrite else if b then perms.ExecuteRead else perms.Read) ≡ perms.ExecuteRead)
+image_perm true b h = inl refl
+image_perm false true h = inr refl
+image_perm false false h = cc
+
+if_mapped : {A B : Type 0} (f : A → B) (P : A → Type 0) (Q : B → Type 0) (o : Option A) → ((x : A) → P x → Q (f x)) → IfSome o P → IfSome (option_map f o) Q
+if_mapped f P Q None g h = tt
+if_mapped f P Q (Some x) g h = g x h
+
+with_image : (wx image : Bool) → (wx && not image) ≡ false → wx ≡ true → image ≡ true
+with_image true true h w = refl
+with_image true false h w = cc
+with_image false image h w = cc
+
 aligned_in_range : (o : Option ℕ) → IfSome o (λ n. IsBetween 0 4294967295 n × (n % 4 ≡ 0)) → IfSome o IsAligned
 aligned_in_range o h = if_weaker (λ n. IsBetween 0 4294967295 n × (n % 4 ≡ 0)) IsAligned o (λ n facts. (facts.1, facts.0.1)) h
 
@@ -145,6 +182,7 @@ module_in_range version names own m h from =
     let at = aligned_key m key.At (Without key.Image) 0 4294967295 (omega arith) (rows 2 (omega arith)) in
     let perm = text_key m key.Perm (Without key.Image) Permission (rows 3 (omega arith)) in
     let words_clear : row_fault m (row key.Words (Without key.Image) (Array 1 65536 each.Word)) ≡ None = rows 4 (omega arith) in
+    let wx = text_key m key.Wx Never ImagePermission (rows 5 (omega arith)) in
     let heap = aligned_key m key.Heap (With key.HeapWords) 0 4294967295 (omega arith) (rows 6 (omega arith)) in
     let heap_most = most_at_most version 4194304 16777216 (omega arith) in
     let heap_words = integer_key m key.HeapWords (With key.Heap) 1 (most version 4194304 16777216) (omega arith) (rows 7 (omega arith)) in
@@ -155,10 +193,15 @@ module_in_range version names own m h from =
     let beside = none_beside (has key.Image m) (has key.At m) (has key.Perm m) (has key.Words m) (fails _ _ (neither _ _ clear.image).0) in
     let all_others = holds_not (list_all (is_from_others names own) (elements_at key.Gates m)) _ from in
     record {
-      name = or_any (λ text. IsBetween 1 32 (length text)) (text_at key.Name m) []
-          (if_weaker (λ text. is_text ModuleName text ≡ true) _ (text_at key.Name m) (λ text t. within_parts 1 32 (length text) (and_parts _ _ t).0) name.value)
+      name = or_any IsName (text_at key.Name m) []
+          (if_weaker (λ text. is_text ModuleName text ≡ true) IsName (text_at key.Name m) name_in_range name.value)
           (name.found ∙ has_asked m key.Name Always (Text ModuleName) (rows 0 (omega arith)) refl);
-      image = if_weaker (λ text. is_text FileName text ≡ true) _ (text_at key.Image m) (λ text t. within_parts 1 255 (length text) (and_parts _ _ t).0) image.value;
+      image = if_weaker (λ text. is_text FileName text ≡ true) IsFileName (text_at key.Image m) file_in_range image.value;
+      perm = if_mapped perm_named (λ text. is_text Permission text ≡ true) (λ p. p ≢ perms.None) (text_at key.Perm m) (λ text t. perm_there (bytes_eq text (codes "rw")) (bytes_eq text (codes "rx"))) perm.value;
+      wx = if_mapped perm_named (λ text. is_text ImagePermission text ≡ true) (λ p. (p ≡ perms.ReadWrite) ⊎ (p ≡ perms.ExecuteRead)) (text_at key.Wx m)
+          (λ text t. image_perm (bytes_eq text (codes "rw")) (bytes_eq text (codes "rx")) t) wx.value;
+      wx_of_image = λ there. image.found
+          ∙ with_image (has key.Wx m) (has key.Image m) (fails _ _ (neither _ _ (neither _ _ clear.image).1).0) (sym wx.found ∙ sym (is_some-map perm_named (text_at key.Wx m)) ∙ there);
       at_or_image = at.found ∙ inline_key m key.At (Aligned 0 4294967295) (rows 2 (omega arith)) beside.0 ∙ ap not (sym image.found);
       perm_or_image = is_some-map perm_named (text_at key.Perm m) ∙ perm.found ∙ inline_key m key.Perm (Text Permission) (rows 3 (omega arith)) beside.1 ∙ ap not (sym image.found);
       words_or_image = is_some-map word_list (value_at key.Words m) ∙ inline_key m key.Words (Array 1 65536 each.Word) words_clear beside.2 ∙ ap not (sym image.found);

@@ -1,11 +1,14 @@
 -- What holds of every plan: the ranges of the table of keys, and what the names say.
-use Rattle.std.specs.Prelude.{◌≡◌, ◌≢◌, ◌≤◌, ◌⊎◌, ℕ, ◌+◌, ◌%◌, Bool, not, List, length, slice_get, Option, Some, IfSome}
+use Rattle.std.specs.Prelude.{◌≡◌, ◌≢◌, ◌≤◌, ◌⊎◌, ℕ, ◌+◌, ◌%◌, Bool, true, false, not, nat_eq, List, length, slice_get, codes, Option, Some, IfSome}
+use Rattle.std.specs.List.{list_all, starts_with}
 use Rattle.std.specs.Option.{is_some}
 use Rattle.mx_manifest.specs.declared.parts.EntryPlan.{EntryPlan}
 use Rattle.mx_manifest.specs.declared.parts.EntryPlan.TheVariants.{Symbol, Address}
 use Rattle.mx_manifest.specs.declared.parts.GatePlan.{GatePlan}
 use Rattle.mx_manifest.specs.declared.parts.HartPlan.{HartPlan}
 use Rattle.mx_manifest.specs.declared.parts.ModulePlan.{ModulePlan}
+use Rattle.mx_words.specs.declared.perm.Perm.TheVariants as perms
+use Rattle.mx_manifest.specs.Forms.{is_name_byte}
 use Rattle.mx_manifest.specs.Plan.{Said}
 
 -- a number from low to high
@@ -15,6 +18,13 @@ IsBetween low high n = (low ≤ n) × (n ≤ high)
 -- an aligned address
 abbrev pub IsAligned : ℕ → Type 0
 IsAligned address = (address % 4 ≡ 0) × (address ≤ 4294967295)
+
+-- a module's name, and the name of a file
+abbrev pub IsName : List ℕ → Type 0
+IsName name = IsBetween 1 32 (length name) × (list_all is_name_byte name ≡ true)
+
+abbrev pub IsFileName : List ℕ → Type 0
+IsFileName name = IsBetween 1 255 (length name) × (starts_with nat_eq name (codes "-") ≡ false)
 
 -- a symbol of 1 to 255 bytes, or an address
 abbrev pub IsEntry : EntryPlan → Type 0
@@ -36,13 +46,16 @@ pub record IsGate (count own : ℕ) (gate : GatePlan) : Type 0 where
 
 -- module `own` among `count` modules
 pub record IsModule (count own : ℕ) (plan : ModulePlan) : Type 0 where
-  pub name : IsBetween 1 32 (length plan.name)
-  pub image : IfSome plan.image (λ name. IsBetween 1 255 (length name))
+  pub name : IsName plan.name
+  pub image : IfSome plan.image IsFileName
   pub at_or_image : is_some plan.at ≡ not (is_some plan.image)
   pub perm_or_image : is_some plan.perm ≡ not (is_some plan.image)
   pub words_or_image : is_some plan.words ≡ not (is_some plan.image)
   pub at : IfSome plan.at IsAligned
+  pub perm : IfSome plan.perm (λ perm. perm ≢ perms.None)
   pub words : IfSome plan.words (λ words. IsBetween 1 65536 (length words))
+  pub wx : IfSome plan.wx (λ perm. (perm ≡ perms.ReadWrite) ⊎ (perm ≡ perms.ExecuteRead))
+  pub wx_of_image : is_some plan.wx ≡ true → is_some plan.image ≡ true
   pub heap : IfSome plan.heap IsAligned
   pub heap_words : IfSome plan.heap_words (IsBetween 1 16777216)
   pub heap_whole : is_some plan.heap ≡ is_some plan.heap_words
@@ -53,6 +66,11 @@ pub record IsModule (count own : ℕ) (plan : ModulePlan) : Type 0 where
   pub gates : Each (IsGate count own) plan.gates
   pub return_count : length plan.returns ≤ 256
   pub returns : Each IsEntry plan.returns
+
+-- no two modules have one name
+abbrev pub HasNamesApart : List ModulePlan → Type 0
+HasNamesApart plans =
+    (i j : ℕ) (a b : ModulePlan) → slice_get plans i ≡ Some a → slice_get plans j ≡ Some b → a.name ≡ b.name → i ≡ j
 
 -- a hart among `count` modules
 pub record IsHart (count : ℕ) (plan : HartPlan) : Type 0 where
@@ -71,4 +89,5 @@ pub record IsInRange (plan : Said) : Type 0 where
   pub module_count : IsBetween 1 63 (length plan.modules)
   pub hart_count : IsBetween 1 4 (length plan.harts)
   pub modules : EachNumbered (IsModule (length plan.modules)) plan.modules
+  pub names_apart : HasNamesApart plan.modules
   pub harts : Each (IsHart (length plan.modules)) plan.harts

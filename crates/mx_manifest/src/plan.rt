@@ -1,6 +1,7 @@
 //! The plan of a machine, as its manifest gives it.
 
-ghost use Rattle.std.specs.Prelude.{◌≡◌, ◌<◌, length, slice_get};
+ghost use Rattle.std.specs.Prelude.{◌≡◌, ◌<◌, ◌≤◌, ◌+◌, ◌%◌, ◌⊎◌, length, slice_get};
+ghost use Rattle.mx_manifest.specs.InRange.{IsBetween, IsModule, IsHart, IsInRange};
 ghost use Rattle.mx_manifest.specs.Plan.{Said};
 
 use crate::{HartPlan, ModulePlan};
@@ -38,14 +39,16 @@ impl Model for Plan {
 impl Plan {
     /// The version, 1 or 2.
     pub fn version(&self) -> u32
-        ensures { result ≡ self.now.version }
+        ensures value { result ≡ self.now.version }
+        ensures in_range { IsInRange self.now }
     {
         self.version
     }
 
     /// The size of RAM in KiB: 64 to 65536, a multiple of 4.
     pub fn ram_kib(&self) -> u32
-        ensures { result ≡ self.now.ram_kib }
+        ensures value { result ≡ self.now.ram_kib }
+        ensures range { IsBetween 64 65536 result × (result % 4 ≡ 0) }
     {
         self.ram_kib
     }
@@ -59,49 +62,56 @@ impl Plan {
 
     /// The limit of upper frames, at most 4096.
     pub fn upper(&self) -> u32
-        ensures { result ≡ self.now.upper }
+        ensures value { result ≡ self.now.upper }
+        ensures most { result ≤ 4096 }
     {
         self.upper
     }
 
     /// The limit of leaf frames, at most 262144.
     pub fn leaf(&self) -> u32
-        ensures { result ≡ self.now.leaf }
+        ensures value { result ≡ self.now.leaf }
+        ensures most { result ≤ 262144 }
     {
         self.leaf
     }
 
     /// The limit of spill words, at most 1048576.
     pub fn spill(&self) -> u32
-        ensures { result ≡ self.now.spill }
+        ensures value { result ≡ self.now.spill }
+        ensures most { result ≤ 1048576 }
     {
         self.spill
     }
 
     /// The size of the lookaside buffer: 8, 32 or 64 spans.
     pub fn lookaside(&self) -> u32
-        ensures { result ≡ self.now.lookaside }
+        ensures value { result ≡ self.now.lookaside }
+        ensures sizes { (result ≡ 8) ⊎ (result ≡ 32) ⊎ (result ≡ 64) }
     {
         self.lookaside
     }
 
     /// The turns that a hart has in a row, 1 to 1000000.
     pub fn quantum(&self) -> u32
-        ensures { result ≡ self.now.quantum }
+        ensures value { result ≡ self.now.quantum }
+        ensures range { IsBetween 1 1000000 result }
     {
         self.quantum
     }
 
     /// The number of modules, 1 to 63.
     pub fn modules(&self) -> u32
-        ensures { result ≡ length self.now.modules }
+        ensures value { result ≡ length self.now.modules }
+        ensures range { IsBetween 1 63 result }
     {
         self.modules.len() as u32
     }
 
     /// The number of harts, 1 to 4.
     pub fn harts(&self) -> u32
-        ensures { result ≡ length self.now.harts }
+        ensures value { result ≡ length self.now.harts }
+        ensures range { IsBetween 1 4 result }
     {
         self.harts.len() as u32
     }
@@ -109,7 +119,8 @@ impl Plan {
     /// The module at place `i`, counted from 0 and below `modules`; its domain is `i + 1`.
     pub fn module(&self, i: u32) -> &ModulePlan
         requires { i < length self.now.modules }
-        ensures { slice_get self.now.modules i ≡ Some result.now }
+        ensures value { slice_get self.now.modules i ≡ Some result.now }
+        ensures range { IsModule (length self.now.modules) (i + 1) result.now }
     {
         &self.modules[i as usize]
     }
@@ -117,7 +128,8 @@ impl Plan {
     /// The hart at place `i`, counted from 0 and below `harts`.
     pub fn hart(&self, i: u32) -> &HartPlan
         requires { i < length self.now.harts }
-        ensures { slice_get self.now.harts i ≡ Some result.now }
+        ensures value { slice_get self.now.harts i ≡ Some result.now }
+        ensures range { IsHart (length self.now.modules) result.now }
     {
         &self.harts[i as usize]
     }

@@ -288,8 +288,10 @@ pub(crate) fn tables_fault(version: Version, top: Section) -> Option<BootFault>
     if let Some(fault) = placed(Part::Manifest, 0, fault) {
         return Some(fault);
     }
-    if let Some(fault) = modules_fault(version, top.elements_at(Key::Module)) {
+    let modules = top.elements_at(Key::Module);
+    let harts = top.elements_at(Key::Hart);
+    if let Some(fault) = modules_fault(version, modules) {
         return Some(fault);
     }
-    harts_fault(top.elements_at(Key::Hart))
+    harts_fault(harts)
 }

@@ -13,10 +13,10 @@ pub modules_fault-requires : goal.modules_fault-requires
 modules_fault-requires c =
     let clear : table_fault (top_rows c.args.version) (section_view c.args.top) ≡ None =
     sym c.top_fault-fault.ensures ∙ unmapped _ _ (sym c.placed.ensures ∙ c.in_default.is) in
-    at_most _ _ 63 c.elements_at.ensures (few_modules c.args.version (section_view c.args.top) clear).1
+    at_most _ _ 63 c.elements_at-modules.ensures (few_modules c.args.version (section_view c.args.top) clear).1
 
 pub harts_fault-requires : goal.harts_fault-requires
 harts_fault-requires c =
     let clear : table_fault (top_rows c.args.version) (section_view c.args.top) ≡ None =
     sym c.top_fault-fault.ensures ∙ unmapped _ _ (sym c.placed.ensures ∙ c.in_default.is) in
-    at_most _ _ 4 c.elements_at-2.ensures (few_harts c.args.version (section_view c.args.top) clear).1
+    at_most _ _ 4 c.elements_at-harts.ensures (few_harts c.args.version (section_view c.args.top) clear).1
