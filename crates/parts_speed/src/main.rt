@@ -88,21 +88,32 @@ fn time_sidecars(rt: &(impl Print + Eprint + CpuClock), rounds: u64) -> io::Resu
     )
 }
 
-/// `owner` where all words have one owner, and with 4096 runs of owners.
+/// `owner` and `owns` at words drawn from all of RAM, with 1, 64 and 4096 runs of owners spread over it, and `give` with 4096.
 fn time_owners(
     rt: &(impl Print + Eprint + CpuClock),
     alloc: Global,
     rounds: u64,
 ) -> io::Result<()> {
-    for words in [0, 2048] {
-        let Some(owners) = owners::owned(alloc, words) else {
+    for (runs, run) in [(1, 16777216), (64, 262144), (4096, 4096)] {
+        let Some(mut owners) = owners::spread(alloc, 16777216, run) else {
             return eprintln!(rt; "no memory");
         };
         let begun = rt.thread_cpu_time()?;
         let seen = owners::owners_seen(&owners, rounds);
+        let between = rt.thread_cpu_time()?;
+        let owned = owners::words_owned(&owners, rounds);
         let ended = rt.thread_cpu_time()?;
-        println!(rt; "owner with {words} words of their own: domain 1 seen {seen} times")?;
-        tell(rt, "owner", rounds, begun, ended)?;
+        println!(rt; "owner with {runs} runs: domain 1 seen {seen} times")?;
+        tell(rt, "owner", rounds, begun, between)?;
+        println!(rt; "owns with {runs} runs: {owned} words owned")?;
+        tell(rt, "owns", rounds, between, ended)?;
+        if runs == 4096 {
+            let begun = rt.thread_cpu_time()?;
+            let given = owners::words_given(&mut owners, rounds);
+            let ended = rt.thread_cpu_time()?;
+            println!(rt; "give with 4096 runs: {given} given")?;
+            tell(rt, "give", rounds, begun, ended)?;
+        }
     }
     Ok(())
 }
