@@ -1,7 +1,7 @@
 use Rattle.std.proofs.Common.{sym, ◌∙◌, rules, ◌≡◌, ◌+◌, ◌*◌, false}
 use Rattle.mx_elf.specs.Symbol.{is_defined}
 use Rattle.mx_elf.proofs.Places.{find-later}
-use Rattle.mx_elf.proofs.symbols.find_value.Goals as goal
+use Rattle.mx_elf.proofs.symbols.find_named.Goals as goal
 
 pub symbols-preserved : goal.symbols-preserved
 symbols-preserved c =
