@@ -2,7 +2,7 @@ use Rattle.std.proofs.Common.{◌≡◌, ◌+◌, ◌-◌, ◌*◌, ◌/◌, len
 use Rattle.std.specs.Prelude.{find}
 use Rattle.mx_elf.specs.Field.{places}
 use Rattle.mx_elf.specs.Symbol.{is_defined}
-use Rattle.mx_elf.proofs.symbols.find_value.Given as goal
+use Rattle.mx_elf.proofs.symbols.find_named.Given as goal
 
 abbrev pub invariant-symbols : goal.invariant-symbols
 invariant-symbols l =
