@@ -28,11 +28,11 @@ even-no false e = e
 module _ (kind : Kind) (words : ℕ) (upper leaf spill : Frames) (roots : List ℕ) (d : ℕ) (k : IsTrieKind kind) (tables : IsTables kind words upper leaf spill roots) (domain : d < length roots) where
   -- an even page's table taken away, by the words that were read for it
   pub page-done : (upper' leaf' : Frames) (y root entry vec : ℕ) (m : List Perm) → y < most_pages → has_leaf upper (root_at roots d) y ≡ true →
-      m ≡ map_at kind words upper leaf spill roots d → root ≡ root_at roots d → entry ≡ word_at upper root (y / 1024) → vec ≡ vector page_words m (y * page_words) →
+      m ≡ map_at kind words upper leaf spill roots d → root ≡ root_at roots d → entry ≡ root_word upper root (y / 1024) → vec ≡ vector page_words m (y * page_words) →
       is_broken page_words m y ≡ false → IsPageGone upper leaf upper' leaf' (entry / 4) (y % 1024) vec →
       IsPageClosed kind words upper leaf spill upper' leaf' roots d y
   page-done upper' leaf' y root entry vec m below leafed is at read told whole gone =
-      let e : entry ≡ root_word upper (root_at roots d) (y / 1024) = read ∙ ap (λ (r : ℕ). word_at upper r (y / 1024)) at in
+      let e : entry ≡ root_word upper (root_at roots d) (y / 1024) = read ∙ ap (λ (r : ℕ). root_word upper r (y / 1024)) at in
       let v : vec ≡ vector page_words (map_at kind words upper leaf spill roots d) (y * page_words) = told ∙ ap (λ (n : List Perm). vector page_words n (y * page_words)) is in
       let E : ℕ → Type 0 = λ n. IsPageGone upper leaf upper' leaf' (target n) (y % 1024) vec in
       let V : ℕ → Type 0 = λ n. IsPageGone upper leaf upper' leaf' (target (root_word upper (root_at roots d) (y / 1024))) (y % 1024) n in

@@ -10,6 +10,7 @@ pub mod LinePerms
 pub mod EntryLaws
 -- what a walk finds
 pub mod PresentTables
+pub mod RootPlaces
 pub mod WalkWords
 pub mod WalkLaws
 pub mod FoundSpans

@@ -11,16 +11,16 @@ use Rattle.mx_pool.specs.Frames.{frame_at, IsTaken, word_at, free_in}
 use Rattle.mx_upper.specs.Digits.{digit}
 use Rattle.mx_upper.specs.Filled.{flat_line, flat_vector}
 use Rattle.mx_upper.specs.Leaf.{needs_spill, leaf_entry, spill_number}
-use Rattle.mx_upper.specs.Walk.{Frames, most_regions, most_pages, most_lines, vector_perm, leaf_word, has_mid, has_leaf, IsLine}
+use Rattle.mx_upper.specs.Walk.{Frames, most_regions, most_pages, most_lines, vector_perm, root_word, leaf_word, has_mid, has_leaf, IsLine}
 use Rattle.mx_upper.specs.Forest.{root_at, map_at, IsTables, IsLineKept}
 
--- a mid table in a frame that was free, with the vectors of the pages of a region that had a vector, at place x of a root table
+-- a mid table in a frame that was free, with the vectors of the pages of region x, which had a vector in a root table
 pub record IsRegionMade (upper upper' : Frames) (root x frame : ℕ) : Type 0 where
   pub was_free : frame_at upper frame ≡ None
   pub taken : IsTaken upper' frame
-  pub pages : (k : ℕ) → k < 1024 → word_at upper' frame k ≡ flat_vector (digit (word_at upper root x / 4) (k / 128))
-  pub linked : word_at upper' root x ≡ 4 * frame
-  pub others : (k : ℕ) → k ≢ x → word_at upper' root k ≡ word_at upper root k
+  pub pages : (k : ℕ) → k < 1024 → word_at upper' frame k ≡ flat_vector (digit (root_word upper root x / 4) (k / 128))
+  pub linked : root_word upper' root x ≡ 4 * frame
+  pub others : (k : ℕ) → k ≢ x → root_word upper' root k ≡ root_word upper root k
   pub root_taken : IsTaken upper' root
   pub elsewhere : (g : ℕ) → g ≢ root → g ≢ frame → frame_at upper' g ≡ frame_at upper g
   pub free : free_in upper' + 1 ≡ free_in upper
@@ -56,11 +56,11 @@ pub record IsPageGone (upper leaf upper' leaf' : Frames) (mid place vector : ℕ
 
 -- the mid table of a region given back, and a vector at its place
 pub record IsRegionGone (upper upper' : Frames) (root x vector : ℕ) : Type 0 where
-  pub given : frame_at upper' (word_at upper root x / 4) ≡ None
-  pub written : word_at upper' root x ≡ vector
-  pub others : (k : ℕ) → k ≢ x → word_at upper' root k ≡ word_at upper root k
+  pub given : frame_at upper' (root_word upper root x / 4) ≡ None
+  pub written : root_word upper' root x ≡ vector
+  pub others : (k : ℕ) → k ≢ x → root_word upper' root k ≡ root_word upper root k
   pub root_taken : IsTaken upper' root
-  pub elsewhere : (g : ℕ) → g ≢ root → g ≢ word_at upper root x / 4 → frame_at upper' g ≡ frame_at upper g
+  pub elsewhere : (g : ℕ) → g ≢ root → g ≢ root_word upper root x / 4 → frame_at upper' g ≡ frame_at upper g
   pub free : free_in upper' ≡ free_in upper + 1
   pub total : length upper' ≡ length upper
 

@@ -15,6 +15,7 @@ use crate::changed_view::ChangedView;
 use crate::counts::{lines_crowded, pages_broken, regions_broken};
 use crate::lay::Laying;
 use crate::reach::has_table;
+use crate::root_table::root_entry;
 use crate::table_view::{TableView, map_of};
 use crate::{LeafForm, Roots};
 use mx_pool::Pool;
@@ -32,7 +33,7 @@ fn regions_opened(upper: &Pool<1024>, roots: &Roots, row: u32, from: u32, to: u3
 {
     let mut count = 0;
     for region in from..to {
-        count += u32::from(upper.get(roots.at(row), region) % 4 == 0);
+        count += u32::from(root_entry(upper, roots.at(row), region) % 4 == 0);
     }
     count
 }
@@ -70,7 +71,7 @@ fn is_spilled<L: LeafForm>(
     if !has_table(upper, root, line / 0x40) {
         return false;
     }
-    let mid = upper.get(root, line / 0x1_0000) / 4;
+    let mid = root_entry(upper, root, line / 0x1_0000) / 4;
     let frame = upper.get(mid, line / 0x40 % 0x400) / 4;
     L::spill_of(leaf.get(frame, line % 0x40)).is_some()
 }

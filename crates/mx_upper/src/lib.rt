@@ -14,6 +14,7 @@ mod line;
 mod open;
 mod range;
 mod reach;
+mod root_table;
 mod roots;
 mod row_view;
 mod scan;

@@ -10,6 +10,7 @@ ghost use Rattle.mx_upper.specs.Laying.{part_first, part_end, with_range, spill_
 
 use crate::lay::{Laying, close_page, close_region, lay_line};
 use crate::open::{open_page, open_region};
+use crate::root_table::root_entry;
 use crate::{LeafForm, Roots};
 use mx_pool::Pool;
 
@@ -55,7 +56,7 @@ fn open_way<L: LeafForm>(
 {
     let root = roots.at(row);
     open_region(upper, root, page / 0x400);
-    let mid = upper.get(root, page / 0x400) / 4;
+    let mid = root_entry(upper, root, page / 0x400) / 4;
     open_page::<L>(upper, leaf, mid, page % 0x400);
 }
 

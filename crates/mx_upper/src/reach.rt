@@ -7,6 +7,7 @@ ghost use Rattle.mx_upper.specs.Laying.{IsCanonical, IsDomainLaid, map_in, IsRoo
 
 use crate::lay::Laying;
 use crate::range::lay_range;
+use crate::root_table::root_entry;
 use crate::scan::{left_of, line_perms, right_of};
 use crate::table_view::map_of;
 use crate::view::View;
@@ -61,7 +62,7 @@ fn write_reaches<L: LeafForm>(
     ensures lines { (e z : ℕ) → e < length roots.now → z < most_lines → (e ≢ lay.now.row) ⊎ (z ≢ line) → has_leaf upper.now (root_at roots.now e) (z / 64) ≡ true → IsLineKept L.kind upper.now leaf.old spill.now upper.now leaf.new spill.now (root_at roots.now e) z }
     ensures total { length leaf.new ≡ length leaf.old }
 {
-    let mid = upper.get(roots.at(lay.row), line / 0x1_0000) / 4;
+    let mid = root_entry(upper, roots.at(lay.row), line / 0x1_0000) / 4;
     let frame = upper.get(mid, line / 0x40 % 0x400) / 4;
     let number = L::spill_of(leaf.get(frame, line % 0x40)).unwrap_or(0);
     let map = map_of::<L>(upper, leaf, spill, roots, lay);
@@ -77,7 +78,7 @@ pub(crate) fn has_table(upper: &Pool<1024>, root: u32, page: u32) -> bool
     requires page { page < most_pages }
     ensures { result ≡ has_leaf upper.now root page }
 {
-    let in_root = upper.get(root, page / 0x400);
+    let in_root = root_entry(upper, root, page / 0x400);
     in_root % 4 == 0 && upper.get(in_root / 4, page % 0x400) % 4 == 0
 }
 

@@ -11,6 +11,7 @@ ghost use Rattle.mx_upper.specs.Views.{IsRound, IsSomeLine};
 ghost use Rattle.mx_upper.specs.Laying.{map_in};
 
 use crate::lay::Laying;
+use crate::root_table::root_entry;
 use crate::vector::perm_in;
 use crate::view::View;
 use crate::{LeafForm, Roots};
@@ -31,7 +32,7 @@ fn around_in<L: LeafForm>(
     requires word { word < most_words }
     ensures { (m : List Perm) → IsLoose L.kind upper.now leaf.now spill.now root m → IsRound m word result }
 {
-    let in_root = upper.get(root, word / 0x10_0000);
+    let in_root = root_entry(upper, root, word / 0x10_0000);
     if in_root % 4 != 0 {
         return part_of(in_root, alike_in(in_root, 0x2_0000), word);
     }

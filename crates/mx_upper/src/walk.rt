@@ -10,6 +10,7 @@ ghost use Rattle.mx_upper.specs.Found.{IsFound, IsSomeFound};
 ghost use Rattle.mx_upper.specs.Read.{read_map};
 
 use crate::LeafForm;
+use crate::root_table::root_entry;
 use crate::vector::perm_in;
 use mx_pool::Pool;
 use mx_words::{Level, Shown, Span};
@@ -42,7 +43,7 @@ pub(crate) fn find<L: LeafForm>(
     requires inside { word < words }
     ensures { IsFound L.kind (read_map L.kind upper.now leaf.now spill.now words root) word result }
 {
-    let in_root = upper.get(root, word / 0x10_0000);
+    let in_root = root_entry(upper, root, word / 0x10_0000);
     if in_root % 4 != 0 {
         return Found::Root(in_root);
     }

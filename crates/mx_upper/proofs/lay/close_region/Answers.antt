@@ -6,14 +6,14 @@ use Rattle.mx_upper.specs.Steps.{IsRegionClosed}
 use Rattle.mx_upper.proofs.CloseLaws.{even-yes, even-no, region-done}
 use Rattle.mx_upper.proofs.lay.close_region.Given.{Over}
 use Rattle.mx_upper.proofs.lay.close_region.Goals as goal
-use Rattle.mx_upper.proofs.lay.close_region.Goals.{After-take_region}
+use Rattle.mx_upper.proofs.lay.close_region.Goals.{After-free_mid_table}
 
-closed : (g : Over) (c : After-take_region g) →
-    IsRegionClosed g.L.LeafForm.kind c.args.lay.now.words c.args.upper.now c.args.leaf.now c.args.spill.now c.take_region.new.upper c.args.roots.now c.args.lay.now.row c.args.region
+closed : (g : Over) (c : After-free_mid_table g) →
+    IsRegionClosed g.L.LeafForm.kind c.args.lay.now.words c.args.upper.now c.args.leaf.now c.args.spill.now c.free_mid_table.new.upper c.args.roots.now c.args.lay.now.row c.args.region
 closed g c =
     region-done g.L.LeafForm.kind c.args.lay.now.words c.args.upper.now c.args.leaf.now c.args.spill.now c.args.roots.now c.args.lay.now.row g.met.L.LeafForm.trie c.requires.tables c.requires.row
-    c.take_region.new.upper c.args.region c.at.result c.region_vector-vector.result _ c.requires.region c.requires.opened c.requires.pages
-    c.map_of-map.ensures.map c.at.ensures c.region_vector-vector.ensures (even-yes _ (sym c.if-is_region_even.true ∙ c.is_region_even.ensures)) c.take_region.ensures
+    c.free_mid_table.new.upper c.args.region c.at.result c.region_vector-vector.result _ c.requires.region c.requires.opened c.requires.pages
+    c.map_of-map.ensures.map c.at.ensures c.region_vector-vector.ensures (even-yes _ (sym c.if-is_region_even.true ∙ c.is_region_even.ensures)) c.free_mid_table.ensures
 
 pub returns-then-is_region_even : goal.returns-then-is_region_even
 returns-then-is_region_even g c = record {
