@@ -99,6 +99,11 @@ abbrev pub label_place_fault : Option (List ℕ) → Place → Option ℕ
 label_place_fault label place =
     first_row ((6, is_some label && (place.segments == 0)) ∷ (10, is_some label && nat_le (2 ^ 32) place.here) ∷ [])
 
+-- too many bytes, a segment that passes 2^32, or a label at 2^32
+abbrev pub is_full : Option (List ℕ) → Place → ℕ → Bool
+is_full label place size =
+    nat_lt 4194304 (place.total + size) || nat_lt (2 ^ 32) (place.here + size) || (is_some label && nat_le (2 ^ 32) place.here)
+
 -- 6: before the first segment. 7: not at a multiple of 4. 8: `.at` before the present address. 9: the seventeenth segment.
 -- 10: too many bytes, a segment that passes 2^32, or a label at 2^32
 unfoldable pub place_fault : Option (List ℕ) → Keyword → List (List ℕ) → Place → Option ℕ
@@ -108,9 +113,7 @@ place_fault label keyword operands place =
         ∷ (7, (begins_segment keyword && not (address_of operands % 4 == 0)) || (is_aligned keyword && not (place.here % 4 == 0)))
         ∷ (8, is_at keyword && nat_lt (address_of operands) place.here)
         ∷ (9, begins_segment keyword && nat_le 16 place.segments)
-        ∷ (10, nat_lt 4194304 (place.total + size_of keyword operands place.here)
-            || nat_lt (2 ^ 32) (place.here + size_of keyword operands place.here)
-            || (is_some label && nat_le (2 ^ 32) place.here))
+        ∷ (10, is_full label place (size_of keyword operands place.here))
         ∷ [])
 
 -- the least fault of a line with this number at this place, offsets to labels aside

@@ -4,3 +4,4 @@ pub mod LabelViews
 pub mod Instructions
 pub mod Faults
 pub mod Denoted
+pub mod Ready

@@ -1,6 +1,7 @@
 //! From a source to its image.
 ghost use Rattle.std.specs.Prelude.{◌≡◌, ◌≤◌, ◌^◌, length, None, IfOk, IfErr};
 ghost use Rattle.mx_image.specs.Image.{image_of};
+ghost use Rattle.mx_image.specs.Lawful.{IsSized};
 ghost use Rattle.mx_asm.specs.Denoted.{program_of, first_fault, IsToldOf};
 
 use crate::emission::program;
@@ -39,7 +40,7 @@ pub fn assemble(alloc: Global, text: &str) -> Result<Blob, AsmRefused>
 fn image(alloc: Global, program: &mx_image::ProgramBuilder<'_>) -> Result<Blob, AsmRefused>
     requires { IsSized program.now }
     ensures image { IfOk result (λ blob. blob ≡ image_of program.now) }
-    ensures refusal { IfErr result (λ refused. refused ≡ NoMemory) }
+    ensures refusal { IfErr result (λ refused. refused ≡ AsmRefused.NoMemory) }
 {
     match write(alloc, program) {
         Ok(blob) => Ok(blob),

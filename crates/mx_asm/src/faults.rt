@@ -3,7 +3,7 @@ ghost use Rattle.std.specs.Prelude.{◌≡◌, ◌≤◌, ◌<◌, ◌+◌, ◌^
 ghost use Rattle.std.specs.Option.{option_or};
 ghost use Rattle.mx_source.specs.Operands.{pieces_of};
 ghost use Rattle.mx_source.specs.Numbers.{fits};
-ghost use Rattle.mx_asm.specs.Faults.{at_line, lesser_fault, least_fault, value_fault, word_fault, byte_fault, some_fault, address_fault, fields_fault, operand_fault, label_fault, begins_segment, is_aligned, is_at, label_place_fault, place_fault, line_fault, offset_fits, offset_fault, fault_from, offset_from};
+ghost use Rattle.mx_asm.specs.Faults.{at_line, lesser_fault, least_fault, value_fault, word_fault, byte_fault, some_fault, address_fault, fields_fault, operand_fault, label_fault, begins_segment, is_aligned, is_at, label_place_fault, is_full, place_fault, line_fault, offset_fits, offset_fault, fault_from, offset_from};
 ghost use Rattle.mx_source.specs.FieldViews.{value_view, fields_view};
 ghost use Rattle.mx_asm.specs.LabelViews.{labels_view};
 ghost use Rattle.mx_source.specs.LineViews.{label_view, statement_view, IsShort};
@@ -48,7 +48,7 @@ fn range_fault(range: Range, number: Number) -> Option<u32>
 
 /// 3 for a number out of its range, 4 for a label that isn't defined.
 fn value_fault(labels: &Labels<'_>, range: Range, value: Value<'_>) -> Option<u32>
-    ensures { result ≡ value_fault (labels_view labels.now) range (value_view value) }
+    ensures { result ≡ value_fault (labels_view labels.now) range (value_view value.entry) }
 {
     match value {
         Value::Number(number) => range_fault(range, number),
@@ -80,29 +80,33 @@ fn byte_fault(text: &[u8]) -> Option<u32>
 }
 
 /// The least fault of the values of `.word`.
+#[tactic(auto, using(crate::proofs::FaultLaws::fault_steps))]
 fn words_fault(labels: &Labels<'_>, operands: &[u8]) -> Option<u32>
     ensures { result ≡ some_fault (word_fault (labels_view labels.now)) (pieces_of operands.now) }
 {
+    if operands.is_empty() {
+        return Some(2);
+    }
     let mut fault = None;
-    let mut seen = false;
     'pieces: for piece in Pieces::of(operands) {
         fault = lesser_fault(fault, word_fault(labels, piece));
-        seen = true;
     }
-    if seen { fault } else { Some(2) }
+    fault
 }
 
 /// The least fault of the numbers of `.byte`.
+#[tactic(auto, using(crate::proofs::FaultLaws::fault_steps))]
 fn bytes_fault(operands: &[u8]) -> Option<u32>
     ensures { result ≡ some_fault byte_fault (pieces_of operands.now) }
 {
+    if operands.is_empty() {
+        return Some(2);
+    }
     let mut fault = None;
-    let mut seen = false;
     'pieces: for piece in Pieces::of(operands) {
         fault = lesser_fault(fault, byte_fault(piece));
-        seen = true;
     }
-    if seen { fault } else { Some(2) }
+    fault
 }
 
 /// The fault of an address.
@@ -117,7 +121,7 @@ fn address_fault(operands: &[u8]) -> Option<u32>
 
 /// The fault of fields with a value in a range.
 fn fields_fault(labels: &Labels<'_>, range: Range, found: Option<Fields<'_>>) -> Option<u32>
-    ensures { result ≡ fields_fault (labels_view labels.now) range (option_map fields_view found) }
+    ensures { result ≡ fields_fault (labels_view labels.now) range (option_map fields_view found.entry) }
 {
     match found {
         Some(fields) => value_fault(labels, range, fields.value),
@@ -147,7 +151,7 @@ fn operand_fault(labels: &Labels<'_>, keyword: Keyword, operands: &[u8]) -> Opti
 /// 5 where an earlier line defines the label.
 #[tactic(auto, unfolding(crate::specs::Faults::label_fault))]
 fn label_fault(labels: &Labels<'_>, number: u32, label: Option<&[u8]>) -> Option<u32>
-    ensures { result ≡ label_fault (labels_view labels.now) number (label_view label) }
+    ensures { result ≡ label_fault (labels_view labels.now) number (label_view label.entry) }
 {
     let place = definition(labels, label?)?;
     if place.line == number { None } else { Some(5) }
@@ -185,7 +189,7 @@ fn is_at(keyword: Keyword) -> bool
 
 /// The faults of a label on a line of its own: 6 before the first segment, 10 at 2^32.
 fn label_place_fault(label: Option<&[u8]>, place: Place) -> Option<u32>
-    ensures { result ≡ label_place_fault (label_view label) place }
+    ensures { result ≡ label_place_fault (label_view label.entry) place }
 {
     if label.is_some() && place.segments == 0 {
         return Some(6);
@@ -202,7 +206,7 @@ fn place_fault(label: Option<&[u8]>, keyword: Keyword, operands: &[u8], place: P
     requires short { length operands.now ≤ 2 ^ 20 }
     requires here { place.here < 2 ^ 62 }
     requires total { place.total < 2 ^ 62 }
-    ensures { result ≡ place_fault (label_view label) keyword (pieces_of operands.now) place }
+    ensures { result ≡ place_fault (label_view label.entry) keyword (pieces_of operands.now) place }
 {
     let begins = begins_segment(keyword);
     let address = address(operands);
@@ -219,13 +223,22 @@ fn place_fault(label: Option<&[u8]>, keyword: Keyword, operands: &[u8], place: P
     if begins && MOST_SEGMENTS <= place.segments {
         return Some(9);
     }
-    if MOST_BYTES < place.total + size
-        || ADDRESS_END < place.here + size
-        || label.is_some() && ADDRESS_END <= place.here
-    {
+    if is_full(label, place, size) {
         return Some(10);
     }
     None
+}
+
+/// Whether there are too many bytes, a segment passes 2^32, or a label stands there.
+fn is_full(label: Option<&[u8]>, place: Place, size: u64) -> bool
+    requires size { size ≤ 2 ^ 34 }
+    requires here { place.here < 2 ^ 62 }
+    requires total { place.total < 2 ^ 62 }
+    ensures { result ≡ is_full (label_view label.entry) place size }
+{
+    MOST_BYTES < place.total + size
+        || ADDRESS_END < place.here + size
+        || label.is_some() && ADDRESS_END <= place.here
 }
 
 /// The least fault of a line, offsets to labels aside.
@@ -234,7 +247,7 @@ fn line_fault(labels: &Labels<'_>, number: u32, place: Place, label: Option<&[u8
     requires short { IsShort (2 ^ 20) statement }
     requires here { place.here < 2 ^ 62 }
     requires total { place.total < 2 ^ 62 }
-    ensures { result ≡ line_fault (labels_view labels.now) number place (label_view label) (statement_view statement) }
+    ensures { result ≡ line_fault (labels_view labels.now) number place (label_view label.entry) (statement_view statement.entry) }
 {
     match statement {
         Statement::Absent => first_some(label_fault(labels, number, label), label_place_fault(label, place)),
@@ -272,7 +285,7 @@ fn offset_fits(labels: &Labels<'_>, here: u64, keyword: Keyword, operands: &[u8]
 /// 3 where an offset to a label is out of its range.
 #[tactic(auto, unfolding(crate::specs::Faults::offset_fault))]
 fn offset_fault(labels: &Labels<'_>, place: Place, statement: Statement<'_>) -> Option<u32>
-    ensures { result ≡ offset_fault (labels_view labels.now) place (statement_view statement) }
+    ensures { result ≡ offset_fault (labels_view labels.now) place (statement_view statement.entry) }
 {
     match statement {
         Statement::Listed(keyword, operands) if !offset_fits(labels, place.here, keyword, operands) => Some(3),

@@ -26,7 +26,7 @@ pub(crate) fn label_address(labels: &Labels<'_>, name: &[u8]) -> u64
 
 /// The number that a value is for an instruction at an address.
 pub(crate) fn offset(labels: &Labels<'_>, here: u64, value: Value<'_>) -> Number
-    ensures { result ≡ offset_of (labels_view labels.now) here (value_view value) }
+    ensures { result ≡ offset_of (labels_view labels.now) here (value_view value.entry) }
 {
     match value {
         Value::Number(number) => number,
@@ -36,7 +36,7 @@ pub(crate) fn offset(labels: &Labels<'_>, here: u64, value: Value<'_>) -> Number
 
 /// The 32 bits of a value.
 pub(crate) fn value_bits(labels: &Labels<'_>, value: Value<'_>) -> u32
-    ensures { result ≡ bits_of_value (labels_view labels.now) (value_view value) }
+    ensures { result ≡ bits_of_value (labels_view labels.now) (value_view value.entry) }
 {
     match value {
         Value::Number(number) => number_bits(number),
@@ -47,7 +47,7 @@ pub(crate) fn value_bits(labels: &Labels<'_>, value: Value<'_>) -> u32
 /// The instruction with fields and the 32 bits of its number.
 #[tactic(auto, unfolding(crate::specs::Instructions::inst_of))]
 fn inst(form: Form, fields: Fields<'_>, imm: u32) -> Inst
-    ensures { result ≡ inst_of form (fields_view fields) imm }
+    ensures { result ≡ inst_of form (fields_view fields.entry) imm }
 {
     let Fields { rd, rs1, rs2, .. } = fields;
     match form {
@@ -92,7 +92,7 @@ pub(crate) fn inst_word(labels: &Labels<'_>, here: u64, form: Form, fields: Fiel
     requires registers { AreRegisters (fields_view fields) }
     requires fits { IsTrue
         (fits (range_of form) (offset_of (labels_view labels.now) here (value_view fields.value))) }
-    ensures { result ≡ inst_word (labels_view labels.now) here form (fields_view fields) }
+    ensures { result ≡ inst_word (labels_view labels.now) here form (fields_view fields.entry) }
 {
     encode(&inst(form, fields, number_bits(offset(labels, here, fields.value))))
 }
@@ -100,13 +100,14 @@ pub(crate) fn inst_word(labels: &Labels<'_>, here: u64, form: Form, fields: Fiel
 /// The two words that load a value.
 pub(crate) fn pair_words(labels: &Labels<'_>, fields: Fields<'_>) -> [u32; 2]
     requires { AreRegisters (fields_view fields) }
-    ensures { result ≡ pair_words (labels_view labels.now) (fields_view fields) }
+    ensures { result ≡ pair_words (labels_view labels.now) (fields_view fields.entry) }
 {
     let value = value_bits(labels, fields.value);
     [upper_word(fields.rd, value), low_word(fields.rd, value)]
 }
 
 /// `lui rd, h`.
+#[tactic(auto, unfolding(mx_isa::specs::Ranges::IsValid))]
 fn upper_word(rd: u32, value: u32) -> u32
     requires { rd < 32 }
     ensures { result ≡ encoded (upper_inst rd value) }
@@ -116,6 +117,7 @@ fn upper_word(rd: u32, value: u32) -> u32
 }
 
 /// `addi rd, rd, l`.
+#[tactic(auto, unfolding(mx_isa::specs::Ranges::IsValid))]
 fn low_word(rd: u32, value: u32) -> u32
     requires { rd < 32 }
     ensures { result ≡ encoded (low_inst rd value) }

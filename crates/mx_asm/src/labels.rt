@@ -22,7 +22,6 @@ pub(crate) struct LabelPlace {
 pub(crate) type Labels<'a> = IndexMap<&'a [u8], LabelPlace>;
 
 /// The definition of a name.
-#[tactic(auto, unfolding(crate::specs::Labels::definition_of))]
 pub(crate) fn definition(labels: &Labels<'_>, name: &[u8]) -> Option<LabelPlace>
     ensures { option_map (definition_view name.now) result ≡ definition_of (labels_view labels.now) name.now }
 {
@@ -30,14 +29,15 @@ pub(crate) fn definition(labels: &Labels<'_>, name: &[u8]) -> Option<LabelPlace>
 }
 
 /// Adds the label of a line, if no earlier line defines it.
+#[tactic(auto, unfolding(crate::specs::Labels::with_name))]
 fn define<'a>(labels: &mut Labels<'a>, label: Option<&'a [u8]>, address: u64, line: u32) -> Result<(), NoMemory>
     ensures { OnOk result
-        (labels_view labels.new ≡ with_name (label_view label) address line (labels_view labels.old)) }
+        (labels_view labels.new ≡ with_name (label_view label.entry) address line (labels_view labels.old)) }
 {
     let Some(name) = label else {
         return Ok(());
     };
-    if labels.contains_key(name) {
+    if definition(labels, name).is_some() {
         return Ok(());
     }
     match labels.insert(name, LabelPlace { address, line }) {

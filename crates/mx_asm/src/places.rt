@@ -1,5 +1,5 @@
 //! Where the bytes of each line stand.
-ghost use Rattle.std.specs.Prelude.{◌≡◌, ◌≤◌, ◌+◌, ◌*◌, ◌^◌, length, option_map};
+ghost use Rattle.std.specs.Prelude.{◌≡◌, ◌≤◌, ◌<◌, ◌+◌, ◌*◌, ◌^◌, length, option_map, IfSome};
 ghost use Rattle.mx_source.specs.Operands.{pieces_of};
 ghost use Rattle.mx_asm.specs.Places.{address_number, address_of, ascii_of, size_of, place_listed, place_after, start, at_segment, with_size};
 ghost use Rattle.mx_source.specs.LineViews.{statement_view, IsShort};
@@ -28,7 +28,8 @@ pub(crate) fn start() -> Place
 /// The number that is the one operand.
 #[tactic(auto, unfolding(crate::specs::Places::address_number))]
 pub(crate) fn address_number(operands: &[u8]) -> Option<Number>
-    ensures { result ≡ address_number (pieces_of operands.now) }
+    ensures number { result ≡ address_number (pieces_of operands.now) }
+    ensures bound { IfSome result (λ n. n.magnitude ≤ 2 ^ 33) }
 {
     read_number(single(operands)?)
 }
@@ -36,7 +37,8 @@ pub(crate) fn address_number(operands: &[u8]) -> Option<Number>
 /// The address that it is, 0 where it is none.
 #[tactic(auto, unfolding(crate::specs::Places::address_of))]
 pub(crate) fn address(operands: &[u8]) -> u64
-    ensures { result ≡ address_of (pieces_of operands.now) }
+    ensures address { result ≡ address_of (pieces_of operands.now) }
+    ensures bound { result ≤ 2 ^ 33 }
 {
     match address_number(operands) {
         Some(number) => number.magnitude,
@@ -47,7 +49,8 @@ pub(crate) fn address(operands: &[u8]) -> u64
 /// How many bytes the text has that is the one operand.
 #[tactic(auto, unfolding(crate::specs::Places::ascii_of))]
 pub(crate) fn ascii_size(operands: &[u8]) -> Option<usize>
-    ensures { result ≡ option_map length (ascii_of (pieces_of operands.now)) }
+    ensures size { result ≡ option_map length (ascii_of (pieces_of operands.now)) }
+    ensures bound { IfSome result (λ n. n ≤ length operands.now) }
 {
     text_size(single(operands)?)
 }
@@ -64,7 +67,10 @@ pub(crate) fn size(keyword: Keyword, operands: &[u8], here: u64) -> u64
         Keyword::At => address(operands).saturating_sub(here),
         Keyword::Word => 4 * piece_count(operands) as u64,
         Keyword::Byte => piece_count(operands) as u64,
-        Keyword::Ascii => ascii_size(operands).unwrap_or(0) as u64,
+        Keyword::Ascii => match ascii_size(operands) {
+            Some(size) => size as u64,
+            None => 0,
+        },
         Keyword::Li | Keyword::La => 8,
         Keyword::Inst(_) => 4,
     }
@@ -76,7 +82,7 @@ pub(crate) fn place_after(statement: Statement<'_>, place: Place) -> Place
     requires begun { place.segments < 2 ^ 31 }
     requires here { place.here < 2 ^ 62 }
     requires total { place.total < 2 ^ 62 }
-    ensures after { result ≡ place_after (statement_view statement) place }
+    ensures after { result ≡ place_after (statement_view statement.entry) place }
     ensures begun { result.segments ≤ place.segments + 1 }
     ensures here { result.here ≤ place.here + 2 ^ 34 }
     ensures total { result.total ≤ place.total + 2 ^ 34 }

@@ -1,6 +1,7 @@
 -- One step of each walk through a text.
 use Rattle.std.proofs.Common.{◌≡◌, ◌==◌, ℕ, ◌+◌, ◌-◌, ◌<◌, ◌≤◌, Bool, true, false, cond, List, [], ◌∷◌, ◌++◌, length, get_or, take, drop, reverse, refl, suc, nat_lt, add-one, ap, sym, ◌∙◌, arith, not, map}
-use Rattle.std.proofs.lemmas.List.{at_drop_more, at_drop_all, length-map}
+use Rattle.std.proofs.lemmas.List.{at_drop_more, at_drop_all, length-map, length-reverse, length-take}
+use Rattle.std.proofs.lemmas.Bool.{ne_eqb}
 use Rattle.mx_source.specs.OperandViews.{later_parts}
 use Rattle.mx_source.specs.Operands.{pieces_of}
 use Rattle.std.proofs.lemmas.Bool.Decides.{nat_tests}
@@ -79,6 +80,41 @@ length-pieces operands =
     elim (length operands == 0) as (λ b. length (cond b [] (map trim (parts 44 Outside operands))) ≤ length operands + 1)
     [ true ↦ omega arith | false ↦ rw length-map (length-parts 44 Outside operands) ]
 
+-- a trimmed text isn't longer
+length-trim_start : (text : List ℕ) → length (trim_start text) ≤ length text
+length-trim_start [] = omega arith
+length-trim_start (c ∷ cs) =
+    elim (is_blank c) as (λ b. length (cond b (trim_start cs) (c ∷ cs)) ≤ length (c ∷ cs)) [ true ↦ omega (arith, length-trim_start cs) | false ↦ omega arith ]
+
+pub length-trim : (text : List ℕ) → length (trim text) ≤ length text
+length-trim text =
+    let r = trim_start text in
+    rw (length-reverse (trim_start (reverse r))) (omega (arith, length-trim_start (reverse r), length-reverse r, length-trim_start text))
+
+elim_first : (operands first : List ℕ) (more : List (List ℕ)) → pieces_of operands ≡ first ∷ more → (b : Bool) → (length operands == 0) ≡ b → length first ≤ length operands
+unfolding pieces_of
+elim_first operands first more e true h = cc (rw h at e)
+elim_first operands first more e false h =
+    let same : first ≡ trim (take (mark_place 44 Outside operands) operands) = cc (pieces-some operands h) in
+    rw same (omega (arith, length-trim (take (mark_place 44 Outside operands) operands), length-take (mark_place 44 Outside operands) operands))
+
+-- nor is the first of the operands
+pub length-first : (operands first : List ℕ) (more : List (List ℕ)) → pieces_of operands ≡ first ∷ more → length first ≤ length operands
+length-first operands first more e =
+    elim_first operands first more e (length operands == 0) refl
+
+some_length : (first : List ℕ) (more : List (List ℕ)) → (length (first ∷ more) == 0) ≡ false
+some_length first more = ne_eqb (suc (length more)) 0 (λ e. omega (arith, e))
+
+pieces_at : (operands : List ℕ) → (b : Bool) → (length operands == 0) ≡ b → (length (pieces_of operands) == 0) ≡ b
+unfolding pieces_of
+pieces_at operands true h = rw h refl
+pieces_at operands false h = rw (pieces-some operands h) (some_length (trim (take (mark_place 44 Outside operands) operands)) (map trim (later_parts 44 operands (mark_place 44 Outside operands))))
+
+-- there are operands exactly where there is text
+pub pieces-empty : (operands : List ℕ) → (length (pieces_of operands) == 0) ≡ (length operands == 0)
+pieces-empty operands = pieces_at operands (length operands == 0) refl
+
 pub ruleset mark_steps = (mark_place-drop, mark_place-end)
 
 pub ruleset trim_steps = (trim_start-drop, trim_start-end)
@@ -86,3 +122,5 @@ pub ruleset trim_steps = (trim_start-drop, trim_start-end)
 pub ruleset piece_steps = (pieces-first)
 
 pub ruleset count_steps = (length-pieces)
+
+pub ruleset single_steps = (length-first)

@@ -1,5 +1,5 @@
 //! Numbers as a source writes them.
-ghost use Rattle.std.specs.Prelude.{◌≡◌, ◌≤◌, ◌<◌, ◌^◌, ◌+◌, ◌-◌, ◌%◌, length, fold, nat_lt, if◌then◌else◌};
+ghost use Rattle.std.specs.Prelude.{◌≡◌, ◌≤◌, ◌<◌, ◌^◌, ◌+◌, ◌-◌, ◌%◌, length, fold, IfSome, nat_lt, if◌then◌else◌};
 ghost use Rattle.std.specs.Char.{is_ascii_digit, is_ascii_hexdigit};
 ghost use Rattle.std.specs.List.{list_all};
 ghost use Rattle.mx_source.specs.Numbers.{decimal_step, hexadecimal_step, decimal_of, hexadecimal_of, plain_number, negative_number, number_of, fits, number_bits, difference, number_range, even_range};
@@ -27,6 +27,7 @@ const GREATEST: u64 = 0x2_0000_0000;
 #[tactic(auto, unfolding(crate::specs::Numbers::decimal_of))]
 fn decimal(digits: &[u8]) -> Option<u64>
     ensures value { result ≡ decimal_of digits.now }
+    ensures bound { IfSome result (λ n. n ≤ 2 ^ 33) }
 {
     if digits.is_empty() || !are_decimal(digits) {
         return None;
@@ -56,6 +57,7 @@ fn are_decimal(digits: &[u8]) -> bool
 #[tactic(auto, unfolding(crate::specs::Numbers::hexadecimal_of))]
 fn hexadecimal(digits: &[u8]) -> Option<u64>
     ensures value { result ≡ hexadecimal_of digits.now }
+    ensures bound { IfSome result (λ n. n ≤ 2 ^ 33) }
 {
     if digits.is_empty() || digits.len() > 8 || !are_hexadecimal(digits) {
         return None;
@@ -106,7 +108,8 @@ fn plain_number(magnitude: u64) -> Number
 /// The number that a text is: `-` and decimal digits, `0x` and hexadecimal ones, or decimal ones.
 #[tactic(auto, unfolding(crate::specs::Numbers::number_of))]
 pub fn read_number(text: &[u8]) -> Option<Number>
-    ensures { result ≡ number_of text.now }
+    ensures value { result ≡ number_of text.now }
+    ensures bound { IfSome result (λ n. n.magnitude ≤ 2 ^ 33) }
 {
     if text.starts_with(b"-") {
         let magnitude = decimal(&text[1..])?;

@@ -1,5 +1,5 @@
 //! The operands of a statement, one after the other.
-ghost use Rattle.std.specs.Prelude.{◌≡◌, ◌≤◌, ◌+◌, length, map, option_map};
+ghost use Rattle.std.specs.Prelude.{◌≡◌, ◌≤◌, ◌+◌, length, map, option_map, IfSome};
 ghost use Rattle.std.specs.Iterator.{YieldsFirstRef, item_count};
 ghost use Rattle.mx_source.specs.Characters.{trim};
 ghost use Rattle.mx_source.specs.Operands.{pieces_of, single_of, pair_of, triple_of};
@@ -58,8 +58,10 @@ fn text_after(text: &[u8], place: usize) -> Option<&[u8]>
 }
 
 /// The one operand.
+#[tactic(auto, using(crate::proofs::Steps::single_steps))]
 pub fn single(operands: &[u8]) -> Option<&[u8]>
-    ensures { option_map single_view result ≡ single_of (pieces_of operands.now) }
+    ensures single { option_map single_view result ≡ single_of (pieces_of operands.now) }
+    ensures shorter { IfSome result (λ piece. length piece.now ≤ length operands.now) }
 {
     let mut pieces = Pieces::of(operands);
     let first = pieces.next()?;

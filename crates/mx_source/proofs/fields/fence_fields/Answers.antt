@@ -13,4 +13,4 @@ no_fence operands first more e none = rw e (rw (rw e at none) refl)
 pub returns-in_err-single-clause-fields : goal.returns-in_err-single-clause-fields
 returns-in_err-single-clause-fields c =
     let e = pieces-some c.args.operands.now (sym c.is_empty.ensures ∙ c.if-is_empty.false) in
-    ap (option_map fields_view) c.from_residual.ensures ∙ sym (no_fence _ _ _ e (sym c.in_err-single.ensures))
+    ap (option_map fields_view) c.from_residual.ensures ∙ sym (no_fence _ _ _ e (sym c.in_err-single.ensures.single))

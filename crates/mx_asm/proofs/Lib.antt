@@ -1,0 +1,6 @@
+pub mod FaultLaws
+pub mod LabelLaws
+pub mod InstLaws
+pub mod LineLaws
+pub mod ProgramLaws
+pub mod Walks
