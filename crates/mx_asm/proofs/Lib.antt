@@ -3,4 +3,5 @@ pub mod LabelLaws
 pub mod InstLaws
 pub mod LineLaws
 pub mod ProgramLaws
+pub mod TextLaws
 pub mod Walks

@@ -4,6 +4,7 @@ use Rattle.std.proofs.lemmas.List.Sums.{fold_more}
 use Rattle.std.proofs.lemmas.List.{length-append}
 use Rattle.mx_image.proofs.Building.{length-with_last_byte, byte_count-with_last_byte}
 use Rattle.mx_image.specs.Program.{Program, with_byte, with_last_byte, byte_count}
+use Rattle.mx_image.specs.Image.{words}
 use Rattle.mx_asm.specs.Denoted.{with_bytes}
 use Rattle.mx_asm.specs.Ready.{IsGrown}
 
@@ -54,7 +55,15 @@ module _ (start : Program) (all : List ℕ) (p : Program) (left : List ℕ) (is 
   room_for b rest e = omega (arith, is.bytes, ap length e)
 
 -- one zero less
-pub zeros_less : (n k : ℕ) → k < n → replicate (n - k) 0 ≡ 0 ∷ replicate (n - (k + 1)) 0
-zeros_less n k less = let e : n - k ≡ suc (n - (k + 1)) = omega arith in rw e refl
+pub zeros_less : (n k : ℕ) → k < n → replicate {A = ℕ} (n - k) 0 ≡ 0 ∷ replicate (n - (k + 1)) 0
+zeros_less n k less = let e : n - k ≡ suc (n - (k + 1)) = omega arith in ap (λ m. replicate {A = ℕ} m 0) e
+
+-- words one by one
+pub words-cons : (v : ℕ) (vs : List ℕ) → words (v ∷ vs) ≡ words (v ∷ []) ++ words vs
+words-cons v vs = refl
+
+pub length-words : (vs : List ℕ) → length (words vs) ≡ 4 * length vs
+length-words [] = refl
+length-words (v ∷ vs) = omega (arith, length-words vs)
 
 pub ruleset byte_steps = (length-with_last_byte, byte_count-with_last_byte, fold_more)

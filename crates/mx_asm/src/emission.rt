@@ -128,7 +128,7 @@ fn begin(alloc: Global, program: &mut ProgramBuilder<'_>, flags: u32, address: u
 }
 
 /// Adds the bytes of a statement at an address.
-#[tactic(auto, unfolding(crate::specs::Denoted::bytes_of))]
+#[tactic(auto, unfolding(crate::specs::Denoted::bytes_of, crate::specs::Places::size_of, crate::specs::Faults::operand_fault))]
 fn add_content(
     program: &mut ProgramBuilder<'_>,
     labels: &Labels<'_>,

@@ -39,17 +39,17 @@ escape_byte c =
     if c == 110 then Some 10 else (if c == 48 then Some 0 else (if c == 34 then Some 34 else (if c == 92 then Some 92 else None)))
 
 -- a byte before others, if there are any
-abbrev pub before : ℕ → Option (List ℕ) → Option (List ℕ)
-before byte bytes = option_map (λ bs. byte ∷ bs) bytes
+abbrev pub prepend : ℕ → Option (List ℕ) → Option (List ℕ)
+prepend byte bytes = option_map (λ bs. byte ∷ bs) bytes
 
 -- the bytes of a text after its opening `"`, up to the `"` that closes it, with which it ends; `escape` says whether a `\` stands before
 abbrev pub quoted_bytes : Bool → List ℕ → Option (List ℕ)
 quoted_bytes escape [] = None
-quoted_bytes true (c ∷ cs) = escape_byte c >>= λ byte. before byte (quoted_bytes false cs)
+quoted_bytes true (c ∷ cs) = escape_byte c >>= λ byte. prepend byte (quoted_bytes false cs)
 quoted_bytes false (c ∷ cs) =
     if c == 34 then (if length cs == 0 then Some [] else None)
     else (if c == 92 then quoted_bytes true cs
-    else (if is_printed c then before c (quoted_bytes false cs) else None))
+    else (if is_printed c then prepend c (quoted_bytes false cs) else None))
 
 -- the bytes of a text in quotes
 unfoldable pub text_of : List ℕ → Option (List ℕ)
