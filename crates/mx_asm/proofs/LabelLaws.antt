@@ -36,7 +36,7 @@ unfolding definition_of
 insert-labels k v [] new = refl
 insert-labels k v (e ∷ es) new = new_at k v e es (insert-labels k v es) (bytes_eq k.now e.0.now) new
 
-is_some-map : {A B : Type 0} (f : A → B) (o : Option A) → is_some (option_map f o) ≡ is_some o
+pub is_some-map : {A B : Type 0} (f : A → B) (o : Option A) → is_some (option_map f o) ≡ is_some o
 is_some-map f None = refl
 is_some-map f (Some a) = refl
 

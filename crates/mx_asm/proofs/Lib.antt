@@ -3,5 +3,8 @@ pub mod LabelLaws
 pub mod InstLaws
 pub mod LineLaws
 pub mod ProgramLaws
+pub mod PlaceLaws
+pub mod Placed
+pub mod Sources
 pub mod TextLaws
 pub mod Walks
