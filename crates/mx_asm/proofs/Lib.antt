@@ -4,6 +4,7 @@ pub mod InstLaws
 pub mod LineLaws
 pub mod ProgramLaws
 pub mod PlaceLaws
+pub mod LawfulLaws
 pub mod Placed
 pub mod Sources
 pub mod TextLaws

@@ -1,7 +1,7 @@
 //! From a source to its image.
-ghost use Rattle.std.specs.Prelude.{◌≡◌, ◌≤◌, ◌^◌, length, None, IfOk, IfErr};
+ghost use Rattle.std.specs.Prelude.{◌≡◌, ◌≤◌, ◌^◌, List, ℕ, length, None, IfOk, IfErr};
 ghost use Rattle.mx_image.specs.Image.{image_of};
-ghost use Rattle.mx_image.specs.Lawful.{IsSized};
+ghost use Rattle.mx_image.specs.Lawful.{IsSized, IsProgram};
 ghost use Rattle.mx_asm.specs.Denoted.{program_of, first_fault, IsToldOf};
 
 use crate::emission::program;
@@ -35,6 +35,12 @@ pub fn assemble(alloc: Global, text: &str) -> Result<Blob, AsmRefused>
         Err(NoMemory) => Err(AsmRefused::NoMemory),
     }
 }
+
+/// A source of at most 1048576 bytes without faults denotes a program whose image `read_image` and `symbol` read as the laws
+/// of mx_image say: with the program's entry, segments and labels.
+pub fn program_is_lawful()
+    ensures { (source : List ℕ) → length source ≤ 2 ^ 20 → first_fault source ≡ None → IsProgram (program_of source) }
+{}
 
 /// The image of a program.
 fn image(alloc: Global, program: &mx_image::ProgramBuilder<'_>) -> Result<Blob, AsmRefused>

@@ -12,7 +12,7 @@ mod labels;
 mod places;
 mod refusal;
 
-pub use assembly::assemble;
+pub use assembly::{assemble, program_is_lawful};
 pub use refusal::AsmRefused;
 
 #[cfg(test)]

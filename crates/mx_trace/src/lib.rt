@@ -1,13 +1,9 @@
-// A library with one function.
+//! What a trace shows: the text of an instruction.
 #![tactic(auto)]
 
-ghost use Rattle.std.specs.Prelude.{◌≡◌};
-ghost use Rattle.mx_trace.specs.Echo.{echo_of};
+mod text;
 
-// The `ensures` clause is the contract: what `echo` returns is `echo_of` of its argument, a definition
-// in `specs/Echo.antt`, which a caller's clause can cite too.
-pub fn echo(x: usize) -> usize
-    ensures { result ≡ echo_of x }
-{
-    x
-}
+pub use text::disassemble;
+
+#[cfg(test)]
+mod tests;
