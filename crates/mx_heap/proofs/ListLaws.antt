@@ -8,7 +8,7 @@ use Rattle.mx_words.specs.FirstFit.{Area, AreApart, with_block, without_block}
 use Rattle.mx_heap.specs.declared.block.Block.{Block}
 use Rattle.mx_heap.specs.HeapState.{area_of}
 use Rattle.mx_heap.specs.declared.parts.Part.{Part}
-use Rattle.mx_heap.specs.Places.{listed_at, no_block, AreStored}
+use Rattle.mx_heap.specs.Places.{listed_at, no_block, AreRising, AreStored}
 use Rattle.mx_heap.proofs.FillLaws.{Fill-apart}
 
 -- a block is put before the first that begins behind it
@@ -33,7 +33,7 @@ none_listed word [] h = refl
 none_listed word (x ∷ bs) h = rw (ne_eqb x.first word (h 0 (omega arith))) (ap (λ (areas : List Area). area_of x ∷ areas) (none_listed word bs (λ k lt. h (suc k) (omega arith))))
 
 -- the block that begins at a word is taken out
-pub take_listed : (word : ℕ) (bs : List Block) (i : ℕ) → ((i j : ℕ) → i < j → j < length bs → (listed_at bs i).first < (listed_at bs j).first) → i < length bs → (listed_at bs i).first ≡ word →
+pub take_listed : (word : ℕ) (bs : List Block) (i : ℕ) → AreRising bs → i < length bs → (listed_at bs i).first ≡ word →
     map area_of (remove bs i) ≡ without_block word (map area_of bs)
 take_listed word [] i up lt is = absurd (omega arith)
 take_listed word (x ∷ bs) zero up lt is =
@@ -49,7 +49,7 @@ apart_low low high [] k h lt = absurd (omega arith)
 apart_low low high (x ∷ bs) zero h lt = h.0
 apart_low low high (x ∷ bs) (suc k) h lt = omega (arith, h.0, apart_low (x.first + x.count) high bs k h.2 (omega arith))
 
-pub apart_rising : (low high : ℕ) (bs : List Block) → AreApart low high (map area_of bs) → (i j : ℕ) → i < j → j < length bs → (listed_at bs i).first < (listed_at bs j).first
+pub apart_rising : (low high : ℕ) (bs : List Block) → AreApart low high (map area_of bs) → AreRising bs
 apart_rising low high [] h i j lt within = absurd (omega arith)
 apart_rising low high (x ∷ bs) h zero zero lt within = absurd (omega arith)
 apart_rising low high (x ∷ bs) h zero (suc j) lt within = omega (arith, h.1, apart_low (x.first + x.count) high bs j h.2 (omega arith))
@@ -63,7 +63,7 @@ blocks_to word bs = position_or_len (λ (b : Block). nat_lt word b.first) bs
 pub listed_before : (word : ℕ) (bs : List Block) (k : ℕ) → k < blocks_to word bs → (listed_at bs k).first ≤ word
 listed_before word bs k lt = ltb-false word (listed_at bs k).first (fails_before_first (λ (b : Block). nat_lt word b.first) bs k no_block lt)
 
-pub listed_behind : (word : ℕ) (bs : List Block) → ((i j : ℕ) → i < j → j < length bs → (listed_at bs i).first < (listed_at bs j).first) → (k : ℕ) → blocks_to word bs ≤ k → k < length bs → word < (listed_at bs k).first
+pub listed_behind : (word : ℕ) (bs : List Block) → AreRising bs → (k : ℕ) → blocks_to word bs ≤ k → k < length bs → word < (listed_at bs k).first
 listed_behind word bs up k le lt =
     let n : ℕ = blocks_to word bs in
     let first : word < (listed_at bs n).first = ltb-true word (listed_at bs n).first (passes_at_first (λ (b : Block). nat_lt word b.first) bs no_block (omega arith)) in
@@ -74,7 +74,7 @@ listed_behind word bs up k le lt =
 
 -- the blocks of a heap rise
 pub stored_rising : (first count : ℕ) (ps : List Part) (live capacity : ℕ) (bs : List Block) (room : ℕ) → AreStored first count ps live capacity bs room →
-    (i j : ℕ) → i < j → j < length bs → (listed_at bs i).first < (listed_at bs j).first
+    AreRising bs
 stored_rising first count ps live capacity bs room h =
     apart_rising first (first + count) bs (subst (λ (areas : List Area). AreApart first (first + count) areas) (sym h.listed) (Fill-apart first (first + count) true ps h.are.fill))
 

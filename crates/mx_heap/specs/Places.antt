@@ -100,6 +100,10 @@ no_block = record { first = 0; count = 0 }
 abbrev pub listed_at : List Block → ℕ → Block
 listed_at blocks i = slice_index_or blocks i no_block
 
+-- listed blocks in the order of their addresses
+abbrev pub AreRising : List Block → Type 0
+AreRising blocks = (i j : ℕ) → i < j → j < length blocks → (listed_at blocks i).first < (listed_at blocks j).first
+
 -- the same beside a list of the live blocks alone
 pub record AreStored (first count : ℕ) (parts : List Part) (live capacity : ℕ) (blocks : List Block) (room : ℕ) : Type 0 where
   pub are : AreParts first count parts live capacity

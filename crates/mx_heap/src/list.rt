@@ -1,11 +1,11 @@
 //! The list of a heap's live blocks, in the order of their addresses.
 
-ghost use Rattle.std.specs.Prelude.{◌≡◌, ℕ, ◌<◌, ◌≤◌, length, map, nat_lt, vec_len};
+ghost use Rattle.std.specs.Prelude.{◌≡◌, ◌<◌, ◌≤◌, length, map, nat_lt, vec_len};
 ghost use Rattle.std.specs.List.{position_or_len};
 ghost use Rattle.std.specs.Vec.{vec_capacity};
 ghost use Rattle.mx_words.specs.FirstFit.{most_blocks, with_block, without_block};
 ghost use Rattle.mx_heap.specs.HeapState.{area_of};
-ghost use Rattle.mx_heap.specs.Places.{listed_at};
+ghost use Rattle.mx_heap.specs.Places.{AreRising};
 
 use crate::block::Block;
 use crate::parts::step;
@@ -13,7 +13,7 @@ use crate::parts::step;
 // How many blocks begin at the word or before it, by halves.
 fn blocks_to(blocks: &[Block], word: u32) -> usize
     requires few { length blocks.now ≤ most_blocks }
-    requires rising { (i j : ℕ) → i < j → j < length blocks.now → (listed_at blocks.now i).first < (listed_at blocks.now j).first }
+    requires rising { AreRising blocks.now }
     ensures place { result ≡ position_or_len (λ b. nat_lt word b.first) blocks.now }
     ensures within { result ≤ length blocks.now }
 {
@@ -31,7 +31,7 @@ fn blocks_to(blocks: &[Block], word: u32) -> usize
 pub fn put_block(blocks: &mut Vec<Block>, block: Block)
     requires room { vec_len blocks.old < vec_capacity blocks.old }
     requires few { length blocks.old.items ≤ most_blocks }
-    requires rising { (i j : ℕ) → i < j → j < length blocks.old.items → (listed_at blocks.old.items i).first < (listed_at blocks.old.items j).first }
+    requires rising { AreRising blocks.old.items }
     ensures items { map area_of blocks.new.items ≡ with_block (area_of block) (map area_of blocks.old.items) }
     ensures capacity { vec_capacity blocks.old ≤ vec_capacity blocks.new }
 {
@@ -45,7 +45,7 @@ pub fn put_block(blocks: &mut Vec<Block>, block: Block)
 // Takes the block out that begins at a word, if one does.
 pub fn take_block(blocks: &mut Vec<Block>, word: u32)
     requires few { length blocks.old.items ≤ most_blocks }
-    requires rising { (i j : ℕ) → i < j → j < length blocks.old.items → (listed_at blocks.old.items i).first < (listed_at blocks.old.items j).first }
+    requires rising { AreRising blocks.old.items }
     ensures items { map area_of blocks.new.items ≡ without_block word (map area_of blocks.old.items) }
     ensures capacity { vec_capacity blocks.new ≡ vec_capacity blocks.old }
 {

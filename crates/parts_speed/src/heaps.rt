@@ -46,10 +46,10 @@ pub fn blocks_told(heap: &Heap, rounds: u64) -> (u64, u64) {
     let mut begun = 0u64;
     let mut listed = 0u64;
     for i in 0..rounds {
-        if heap.block(drawn(i)).is_some() {
+        if heap.block(draw(i)).is_some() {
             begun = begun.wrapping_add(1);
         }
-        if heap.nth(drawn(i)).is_some() {
+        if heap.nth(draw(i)).is_some() {
             listed = listed.wrapping_add(1);
         }
     }
@@ -57,6 +57,6 @@ pub fn blocks_told(heap: &Heap, rounds: u64) -> (u64, u64) {
 }
 
 /// A number below 2048 for each round, with no order that the processor could guess.
-fn drawn(i: u64) -> u32 {
+fn draw(i: u64) -> u32 {
     (i.wrapping_mul(0x9E37_79B9_7F4A_7C15) >> 53) as u32
 }

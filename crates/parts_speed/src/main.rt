@@ -34,7 +34,7 @@ fn time_gates(rt: &(impl Print + Eprint + CpuClock), rounds: u64) -> io::Result<
         let gates = gates::elsewhere(count);
         let words = gates::first_words();
         let begun = rt.thread_cpu_time()?;
-        let found = gates::looked_up(&gates, 1, &words, rounds);
+        let found = gates::gates_found(&gates, 1, &words, rounds);
         let ended = rt.thread_cpu_time()?;
         println!(rt; "target with {count} gates elsewhere: {found} found")?;
         tell(rt, "target", rounds, begun, ended)?;
@@ -43,16 +43,16 @@ fn time_gates(rt: &(impl Print + Eprint + CpuClock), rounds: u64) -> io::Result<
     let mut gates = gates::in_one_bucket(&mut between);
     let words = gates::words_of(&gates);
     let begun = rt.thread_cpu_time()?;
-    let found = gates::looked_up(&gates, 2, &between, rounds);
+    let found = gates::gates_found(&gates, 2, &between, rounds);
     let half = rt.thread_cpu_time()?;
-    let there = gates::looked_up(&gates, 2, &words, rounds);
+    let there = gates::gates_found(&gates, 2, &words, rounds);
     let ended = rt.thread_cpu_time()?;
     println!(rt; "target with 256 gates in the same bucket: {found} found")?;
     tell(rt, "target, worst layout", rounds, begun, half)?;
     println!(rt; "target at 256 gates: {there} found")?;
     tell(rt, "target at gates", rounds, half, ended)?;
     let begun = rt.thread_cpu_time()?;
-    let added = gates::added_again(&mut gates, rounds);
+    let added = gates::gates_added(&mut gates, rounds);
     let ended = rt.thread_cpu_time()?;
     println!(rt; "add of the oldest of 256 gates: {added} added")?;
     tell(rt, "add", rounds, begun, ended)

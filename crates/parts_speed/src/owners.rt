@@ -31,7 +31,7 @@ pub fn owners_seen(owners: &Owners, rounds: u64) -> u64
 {
     let mut seen = 0u64;
     for i in 0..rounds {
-        if owners.owner(drawn(i)) == 1 {
+        if owners.owner(draw(i)) == 1 {
             seen = seen.wrapping_add(1);
         }
     }
@@ -44,7 +44,7 @@ pub fn words_owned(owners: &Owners, rounds: u64) -> u64
 {
     let mut owned = 0u64;
     for i in 0..rounds {
-        if owners.owns(1, drawn(i), 1) {
+        if owners.owns(1, draw(i), 1) {
             owned = owned.wrapping_add(1);
         }
     }
@@ -57,7 +57,7 @@ pub fn words_given(owners: &mut Owners, rounds: u64) -> u64
 {
     let mut given = 0u64;
     for i in 0..rounds {
-        if owners.give(2, drawn(i), 1).is_ok() {
+        if owners.give(2, draw(i), 1).is_ok() {
             given = given.wrapping_add(1);
         }
     }
@@ -65,7 +65,7 @@ pub fn words_given(owners: &mut Owners, rounds: u64) -> u64
 }
 
 /// A word of RAM for each round, with no order that the processor could guess.
-fn drawn(i: u64) -> u32
+fn draw(i: u64) -> u32
     ensures { result < 16777216 }
 {
     (i.wrapping_mul(0x9E37_79B9_7F4A_7C15) >> 40) as u32

@@ -1,4 +1,4 @@
-use Rattle.std.proofs.Common.{◌≡◌, ◌+◌, ◌-◌, ◌≤◌, length}
+use Rattle.std.proofs.Common.{◌≡◌, ◌-◌, ◌≤◌, length}
 use Rattle.parts_speed.proofs.owners.spread.Given as goal
 
 abbrev pub invariant-loop-first : goal.invariant-loop-first
