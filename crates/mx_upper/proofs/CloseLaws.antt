@@ -5,7 +5,6 @@ use Rattle.mx_words.specs.declared.tables.Kind.{Kind}
 use Rattle.mx_words.specs.Runs.{page_words, region_words}
 use Rattle.mx_words.specs.Reach.{vector}
 use Rattle.mx_words.specs.Blocks.{is_broken}
-use Rattle.mx_pool.specs.Frames.{word_at}
 use Rattle.mx_upper.specs.Leaf.{IsTrieKind}
 use Rattle.mx_upper.specs.Walk.{Frames, most_regions, most_pages, most_lines, target, root_word, has_mid, has_leaf}
 use Rattle.mx_upper.specs.Forest.{root_at, map_at, IsTables, IsLineKept}

@@ -16,6 +16,7 @@ use crate::counts::{lines_crowded, pages_broken, regions_broken};
 use crate::lay::Laying;
 use crate::reach::has_table;
 use crate::root_table::root_entry;
+use crate::scan::has_perm;
 use crate::table_view::{TableView, map_of};
 use crate::{LeafForm, Roots};
 use mx_pool::Pool;
@@ -124,6 +125,9 @@ fn need_laid<L: LeafForm>(
     ensures spill { let m = map_in L.kind upper.now leaf.now spill.now roots.now lay.now in result.spill + spill_lines L.kind m ≡ need.spill + spill_lines L.kind (with_range lay.now.first lay.now.end lay.now.perm m) }
 {
     let old = map_of::<L>(upper, leaf, spill, roots, lay);
+    if has_perm(&old, lay.first, lay.end, lay.perm) {
+        return need;
+    }
     let new = ChangedView {
         under: &old,
         first: lay.first,

@@ -8,7 +8,7 @@ ghost use Rattle.mx_upper.specs.Laying.{IsCanonical, IsDomainLaid, map_in, IsRoo
 use crate::lay::Laying;
 use crate::range::lay_range;
 use crate::root_table::root_entry;
-use crate::scan::{left_of, line_perms, right_of};
+use crate::scan::{has_perm, left_of, line_perms, right_of};
 use crate::table_view::map_of;
 use crate::view::View;
 use crate::{LeafForm, Roots};
@@ -137,9 +137,8 @@ fn line_behind(lay: &Laying, had_table: bool) -> u32
     }
 }
 
-/// Lays a permission over a range of words of one domain. Afterwards the domain's tables are just those that its map needs, and each
-/// entry has the reaches of the map.
-pub(crate) fn lay_domain<L: LeafForm>(
+/// Lays a permission over a range of words of one domain by its tables, line by line.
+fn rewrite_domain<L: LeafForm>(
     upper: &mut Pool<1024>,
     leaf: &mut Pool<64>,
     spill: &mut Pool<1>,
@@ -162,5 +161,28 @@ pub(crate) fn lay_domain<L: LeafForm>(
         let from = first_line(lay, had_first);
         let to = line_behind(lay, had_last);
         reach_lines::<L>(upper, leaf, spill, roots, lay, from, to);
+    }
+}
+
+/// Lays a permission over a range of words of one domain. Afterwards the domain's tables are just those that its map needs, and each
+/// entry has the reaches of the map. Where the domain has the permission on the whole range already, the tables are only read.
+pub(crate) fn lay_domain<L: LeafForm>(
+    upper: &mut Pool<1024>,
+    leaf: &mut Pool<64>,
+    spill: &mut Pool<1>,
+    roots: &Roots,
+    lay: &Laying,
+)
+    requires tables { IsTables L.kind lay.now.words upper.old leaf.old spill.old roots.now }
+    requires row { lay.now.row < length roots.now }
+    requires some { lay.now.first < lay.now.end }
+    requires inside { lay.now.end ≤ lay.now.words }
+    requires canonical { IsCanonical L.kind lay.now.words upper.old leaf.old spill.old roots.now lay.now.row }
+    requires room { IsRoomyIn L.kind upper.old leaf.old spill.old roots.now lay.now lay.now.first lay.now.end }
+    ensures { IsDomainLaid L.kind lay.now.words upper.old leaf.old spill.old upper.new leaf.new spill.new roots.now lay.now.row lay.now.first lay.now.end lay.now.perm }
+{
+    let map = map_of::<L>(upper, leaf, spill, roots, lay);
+    if !has_perm(&map, lay.first, lay.end, lay.perm) {
+        rewrite_domain::<L>(upper, leaf, spill, roots, lay);
     }
 }

@@ -1,5 +1,6 @@
 //! What is asked of a map that is read span by span.
 ghost use Rattle.std.specs.Prelude.{◌≡◌, ℕ, ◌+◌, ◌*◌, ◌<◌, ◌≤◌, true, not, length};
+ghost use Rattle.mx_words.specs.Rights.{perm_at};
 ghost use Rattle.mx_words.specs.Runs.{line_words, page_words, region_words};
 ghost use Rattle.mx_words.specs.Reach.{vector, line_at, left_reach, right_reach};
 ghost use Rattle.mx_words.specs.Blocks.{is_broken, IsUniform, IsEven};
@@ -28,6 +29,24 @@ fn is_uniform<V: View>(view: &V, first: u32, count: u32) -> bool
             return false;
         }
         at = next.first + next.count;
+    }
+    true
+}
+
+/// Whether the words `first` to `end - 1` have a permission.
+pub(crate) fn has_perm<V: View>(view: &V, first: u32, end: u32, perm: Perm) -> bool
+    requires lawful { V.lawful view.now }
+    requires inside { end ≤ most_words }
+    ensures yes { result ≡ true → (k : ℕ) → first ≤ k → k < end → perm_at (V.map view.now) k ≡ perm }
+    ensures no { ((k : ℕ) → first ≤ k → k < end → perm_at (V.map view.now) k ≡ perm) → result ≡ true }
+{
+    let mut at = first;
+    while at < end {
+        let span = view.around(at);
+        if span.perm.number() != perm.number() {
+            return false;
+        }
+        at = span.first + span.count;
     }
     true
 }

@@ -1,7 +1,26 @@
-use Rattle.std.proofs.Common.{length, ap, ◌∙◌, arith}
+use Rattle.std.proofs.Common.{◌+◌, List, length, sym, ap, ◌∙◌, arith}
+use Rattle.mx_words.specs.declared.perm.Perm.{Perm}
+use Rattle.mx_words.specs.Runs.{page_words, region_words, broken_blocks}
+use Rattle.mx_upper.specs.Laying.{spill_lines}
 use Rattle.mx_upper.proofs.MapsRead.{length-map_at}
 use Rattle.mx_upper.proofs.NeedOfRange.{regions-after, pages-after, lines-after}
+use Rattle.mx_upper.proofs.SkipLaws.{map-already}
 use Rattle.mx_upper.proofs.after.need_laid.Goals as goal
+
+pub returns-then-has_perm-clause-upper : goal.returns-then-has_perm-clause-upper
+returns-then-has_perm-clause-upper g c =
+    ap (λ (m : List Perm). c.args.need.upper + broken_blocks region_words m)
+    (sym (map-already _ _ c.args.lay.now.first c.args.lay.now.end c.args.lay.now.perm c.map_of-old.ensures.map c.requires.some (c.has_perm.ensures.yes c.if-has_perm.true)))
+
+pub returns-then-has_perm-clause-leaf : goal.returns-then-has_perm-clause-leaf
+returns-then-has_perm-clause-leaf g c =
+    ap (λ (m : List Perm). c.args.need.leaf + broken_blocks page_words m)
+    (sym (map-already _ _ c.args.lay.now.first c.args.lay.now.end c.args.lay.now.perm c.map_of-old.ensures.map c.requires.some (c.has_perm.ensures.yes c.if-has_perm.true)))
+
+pub returns-then-has_perm-clause-spill : goal.returns-then-has_perm-clause-spill
+returns-then-has_perm-clause-spill g c =
+    ap (λ (m : List Perm). c.args.need.spill + spill_lines g.L.LeafForm.kind m)
+    (sym (map-already _ _ c.args.lay.now.first c.args.lay.now.end c.args.lay.now.perm c.map_of-old.ensures.map c.requires.some (c.has_perm.ensures.yes c.if-has_perm.true)))
 
 pub regions_broken-requires-clause-lawful : goal.regions_broken-requires-clause-lawful
 regions_broken-requires-clause-lawful g c =
