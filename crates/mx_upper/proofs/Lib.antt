@@ -62,6 +62,7 @@ pub mod ReachesWritten
 pub mod StandingLaws
 pub mod StandingAgain
 pub mod SkipLaws
+pub mod EdgeLaws
 pub mod ChangedRows
 pub mod RootLaws
 pub mod EmptyTables

@@ -3,7 +3,7 @@ use Rattle.mx_words.specs.declared.perm.Perm.{Perm}
 use Rattle.mx_upper.specs.Found.{IsFound}
 use Rattle.mx_upper.proofs.StandingAgain.{standing-again}
 use Rattle.mx_upper.proofs.StandingLaws.{standing-shown, standing-tight, standing-map}
-use Rattle.mx_upper.proofs.trie.Trie.found.Goals as goal
+use Rattle.mx_upper.proofs.trie.Trie.find_word.Goals as goal
 
 pub find-requires-clause-shown : goal.find-requires-clause-shown
 find-requires-clause-shown g c =

@@ -4,7 +4,7 @@ use Rattle.mx_table.proofs.RowLaws.{got}
 use Rattle.mx_table.specs.Tables.{no_span}
 use Rattle.mx_words.specs.declared.perm.Span.{Span}
 use Rattle.mx_upper.proofs.RowSpans.{row-firsts}
-use Rattle.mx_upper.proofs.row_view.begun.Goals as goal
+use Rattle.mx_upper.proofs.row_view.spans_up_to.Goals as goal
 
 pub loop-low-preserved-then-get-word : goal.loop-low-preserved-then-get-word
 loop-low-preserved-then-get-word c =
