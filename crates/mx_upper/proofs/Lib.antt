@@ -61,6 +61,8 @@ pub mod ReachesWritten
 -- all domains
 pub mod StandingLaws
 pub mod StandingAgain
+pub mod SkipLaws
+pub mod EdgeLaws
 pub mod ChangedRows
 pub mod RootLaws
 pub mod EmptyTables

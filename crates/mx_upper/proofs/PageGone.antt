@@ -1,4 +1,4 @@
--- What the taking away of one page's leaf table does to the tables of all domains.
+-- What it does to the tables of all domains that one page's leaf table is freed.
 use Rattle.std.proofs.Common.{◌≡◌, ◌≢◌, ℕ, ◌+◌, ◌*◌, ◌/◌, ◌%◌, ◌<◌, ◌⊎◌, inl, inr, true, false, List, None, length, refl, sym, ap, ◌∙◌, arith, subst}
 use Rattle.std.proofs.lemmas.Bool.{cases_eq}
 use Rattle.mx_words.specs.declared.tables.Kind.{Kind}
@@ -236,7 +236,7 @@ module _ (kind : Kind) (words : ℕ) (upper leaf spill upper' leaf' : Frames) (r
           leaf_total = gone.leaf_total;
         }
 
-  -- a page of even parts has a vector in place of its leaf table, and nothing else is told otherwise
+  -- a page of even parts has a vector in place of its leaf table, and nothing else changes
   pub page-gone : has_leaf upper (root_at roots d) y ≡ true → IsEven (map_at kind words upper leaf spill roots d) (y * page_words) 128 →
       IsPageGone upper leaf upper' leaf' (target (root_word upper (root_at roots d) (y / 1024))) (y % 1024) (vector page_words (map_at kind words upper leaf spill roots d) (y * page_words)) →
       IsPageClosed kind words upper leaf spill upper' leaf' roots d y

@@ -1,4 +1,4 @@
--- What the taking away of one region's mid table does to the tables of all domains.
+-- What it does to the tables of all domains that one region's mid table is freed.
 use Rattle.std.proofs.Common.{◌≡◌, ◌≢◌, ℕ, ◌+◌, ◌*◌, ◌/◌, ◌%◌, ◌<◌, ◌⊎◌, inl, inr, true, false, List, length, refl, sym, ap, ◌∙◌, arith, subst}
 use Rattle.std.proofs.lemmas.Bool.{cases_eq}
 use Rattle.mx_words.specs.declared.tables.Kind.{Kind}
@@ -204,7 +204,7 @@ module _ (kind : Kind) (words : ℕ) (upper leaf spill upper' : Frames) (roots :
           total = gone.total;
         }
 
-  -- a region of even parts with no leaf tables has a vector in place of its mid table, and nothing else is told otherwise
+  -- a region of even parts with no leaf tables has a vector in place of its mid table, and nothing else changes
   pub region-gone : has_mid upper (root_at roots d) x ≡ true → IsEven (map_at kind words upper leaf spill roots d) (x * region_words) 131072 →
       ((y : ℕ) → y < most_pages → y / 1024 ≡ x → has_leaf upper (root_at roots d) y ≡ false) →
       IsRegionGone upper upper' (root_at roots d) x (vector region_words (map_at kind words upper leaf spill roots d) (x * region_words)) →

@@ -9,8 +9,8 @@ use Rattle.mx_segments.proofs.MoveLaws.{keeps_trans}
 use Rattle.mx_segments.proofs.SoundLaws.{few_runs}
 use Rattle.mx_segments.proofs.ChangeLaws.{laid_chain}
 use Rattle.mx_segments.proofs.LaidLaws.{means, means_itself, laid_steps}
-use Rattle.mx_segments.proofs.change.change_row.Goals.{After-trim}
-use Rattle.mx_segments.proofs.change.change_row.Goals as goal
+use Rattle.mx_segments.proofs.change.rewrite_row.Goals.{After-trim}
+use Rattle.mx_segments.proofs.change.rewrite_row.Goals as goal
 
 pub returns-clause-others : goal.returns-clause-others
 returns-clause-others c =

@@ -1,4 +1,4 @@
-use Rattle.std.proofs.Common.{◌≡◌, ◌∙◌, sym, ap, is_some}
+use Rattle.std.proofs.Common.{◌∙◌, sym, ap, is_some}
 use Rattle.mx_pool.specs.Frames.{word_at}
 use Rattle.mx_upper.specs.Walk.{root_place}
 use Rattle.mx_upper.proofs.RootPlaces.{root_place-apart}
