@@ -1,5 +1,6 @@
 pub mod Clear
 pub mod Domains
+pub mod Examples
 pub mod Judging
 pub mod Lists
 pub mod Loops

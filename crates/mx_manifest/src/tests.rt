@@ -1,7 +1,6 @@
 //! What the reader answers, over texts of manifests.
 
-use crate::{BootFault, EntryPlan, Key, ManifestFault, Part, Place, Plan, read_manifest};
-use mx_words::{Kind, Perm};
+use crate::{ManifestFault, Plan, read_manifest};
 use std::alloc::Global;
 use std::test::Fail;
 

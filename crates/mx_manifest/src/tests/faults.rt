@@ -1,749 +1,235 @@
-//! Each fault, at each place where it can stand.
+//! Each fault, at each place where it can stand. A case is a line: the number of the fault, its place and its key,
+//! and then lines of a manifest with semicolons between.
 
-use super::{HART, MODULE, ONE, TWO, joined, judge};
-use crate::{BootFault, Key, ManifestFault, Part, Place};
+use super::{HART, MODULE, ONE, TWO, judge};
+use crate::{BootFault, ManifestFault, Part};
+use std::alloc::Global;
+use std::process::Abort;
 use std::test::Fail;
 
-/// The answer that tells a fault.
-fn fault(number: u32, part: Part, index: u32, key: Key) -> Option<ManifestFault> {
-    Some(ManifestFault::Fault(BootFault {
-        number,
-        place: Place { part, index, key },
-        detail: 0,
-    }))
-}
-
-/// First lines of a manifest, with the fault and the key of the top table.
-const TOPS: [(&str, u32, Key); 32] = [
-    ("version = 1\nram_kib = 64\ncolor = 1\n", 2, Key::NoKey),
-    ("ram_kib = 64\n", 3, Key::Version),
-    ("version = \"1\"\nram_kib = 64\n", 4, Key::Version),
-    ("version = 0\nram_kib = 64\n", 5, Key::Version),
-    ("version = 3\nram_kib = 64\n", 5, Key::Version),
-    ("version = 1\n", 3, Key::RamKib),
-    ("version = 1\nram_kib = true\n", 4, Key::RamKib),
-    ("version = 1\nram_kib = 60\n", 5, Key::RamKib),
-    ("version = 1\nram_kib = 66\n", 5, Key::RamKib),
-    ("version = 1\nram_kib = 16388\n", 5, Key::RamKib),
-    ("version = 2\nram_kib = 65540\n", 5, Key::RamKib),
-    ("version = 1\nram_kib = -64\n", 5, Key::RamKib),
-    ("version = 1\nram_kib = 64\ntables = 1\n", 4, Key::Tables),
-    (
-        "version = 1\nram_kib = 64\ntables = \"plain\"\n",
-        5,
-        Key::Tables,
-    ),
-    ("version = 1\nram_kib = 64\nupper = \"0\"\n", 4, Key::Upper),
-    ("version = 1\nram_kib = 64\nupper = -1\n", 5, Key::Upper),
-    ("version = 1\nram_kib = 64\nupper = 1025\n", 5, Key::Upper),
-    ("version = 2\nram_kib = 64\nupper = 4097\n", 5, Key::Upper),
-    ("version = 1\nram_kib = 64\nleaf = \"0\"\n", 4, Key::Leaf),
-    ("version = 1\nram_kib = 64\nleaf = -1\n", 5, Key::Leaf),
-    ("version = 1\nram_kib = 64\nleaf = 65537\n", 5, Key::Leaf),
-    ("version = 2\nram_kib = 64\nleaf = 262145\n", 5, Key::Leaf),
-    ("version = 1\nram_kib = 64\nspill = \"0\"\n", 4, Key::Spill),
-    ("version = 1\nram_kib = 64\nspill = -1\n", 5, Key::Spill),
-    ("version = 1\nram_kib = 64\nspill = 262145\n", 5, Key::Spill),
-    (
-        "version = 2\nram_kib = 64\nspill = 1048577\n",
-        5,
-        Key::Spill,
-    ),
-    (
-        "version = 1\nram_kib = 64\nlookaside = \"8\"\n",
-        4,
-        Key::Lookaside,
-    ),
-    (
-        "version = 1\nram_kib = 64\nlookaside = 16\n",
-        5,
-        Key::Lookaside,
-    ),
-    (
-        "version = 1\nram_kib = 64\nlookaside = -8\n",
-        5,
-        Key::Lookaside,
-    ),
-    (
-        "version = 1\nram_kib = 64\nquantum = 1.0\n",
-        4,
-        Key::Quantum,
-    ),
-    ("version = 1\nram_kib = 64\nquantum = 0\n", 5, Key::Quantum),
-    (
-        "version = 1\nram_kib = 64\nquantum = 1000001\n",
-        5,
-        Key::Quantum,
-    ),
-];
+/// First lines of a manifest.
+const TOPS: &str = r#"2 manifest - | version = 1; ram_kib = 64; color = 1
+3 manifest version | ram_kib = 64
+4 manifest version | version = "1"; ram_kib = 64
+5 manifest version | version = 0; ram_kib = 64
+5 manifest version | version = 3; ram_kib = 64
+3 manifest ram_kib | version = 1
+4 manifest ram_kib | version = 1; ram_kib = true
+5 manifest ram_kib | version = 1; ram_kib = 60
+5 manifest ram_kib | version = 1; ram_kib = 66
+5 manifest ram_kib | version = 1; ram_kib = 16388
+5 manifest ram_kib | version = 2; ram_kib = 65540
+5 manifest ram_kib | version = 1; ram_kib = -64
+4 manifest tables | version = 1; ram_kib = 64; tables = 1
+5 manifest tables | version = 1; ram_kib = 64; tables = "plain"
+4 manifest upper | version = 1; ram_kib = 64; upper = "0"
+5 manifest upper | version = 1; ram_kib = 64; upper = -1
+5 manifest upper | version = 1; ram_kib = 64; upper = 1025
+5 manifest upper | version = 2; ram_kib = 64; upper = 4097
+4 manifest leaf | version = 1; ram_kib = 64; leaf = "0"
+5 manifest leaf | version = 1; ram_kib = 64; leaf = -1
+5 manifest leaf | version = 1; ram_kib = 64; leaf = 65537
+5 manifest leaf | version = 2; ram_kib = 64; leaf = 262145
+4 manifest spill | version = 1; ram_kib = 64; spill = "0"
+5 manifest spill | version = 1; ram_kib = 64; spill = -1
+5 manifest spill | version = 1; ram_kib = 64; spill = 262145
+5 manifest spill | version = 2; ram_kib = 64; spill = 1048577
+4 manifest lookaside | version = 1; ram_kib = 64; lookaside = "8"
+5 manifest lookaside | version = 1; ram_kib = 64; lookaside = 16
+5 manifest lookaside | version = 1; ram_kib = 64; lookaside = -8
+4 manifest quantum | version = 1; ram_kib = 64; quantum = 1.0
+5 manifest quantum | version = 1; ram_kib = 64; quantum = 0
+5 manifest quantum | version = 1; ram_kib = 64; quantum = 1000001
+"#;
 
 /// Manifests without a module, without a hart, or with too many harts.
-const BARE: [(&str, u32, Key); 9] = [
-    (
-        "version = 1\nram_kib = 64\n[[hart]]\nmodule = \"m\"\n",
-        3,
-        Key::Module,
-    ),
-    (
-        "version = 1\nram_kib = 64\nmodule = 1\n[[hart]]\nmodule = \"m\"\n",
-        4,
-        Key::Module,
-    ),
-    (
-        "version = 1\nram_kib = 64\nmodule = [1]\n[[hart]]\nmodule = \"m\"\n",
-        4,
-        Key::Module,
-    ),
-    (
-        "version = 1\nram_kib = 64\nmodule = []\n[[hart]]\nmodule = \"m\"\n",
-        5,
-        Key::Module,
-    ),
-    (
-        "version = 1\nram_kib = 64\n[[module]]\nname = \"m\"\nat = 0x80000000\nperm = \"rx\"\nwords = [19]\n",
-        3,
-        Key::Hart,
-    ),
-    (
-        "version = 1\nram_kib = 64\nhart = \"m\"\n[[module]]\nname = \"m\"\nat = 0x80000000\nperm = \"rx\"\nwords = [19]\n",
-        4,
-        Key::Hart,
-    ),
-    (
-        "version = 1\nram_kib = 64\nhart = [[]]\n[[module]]\nname = \"m\"\nat = 0x80000000\nperm = \"rx\"\nwords = [19]\n",
-        4,
-        Key::Hart,
-    ),
-    (
-        "version = 1\nram_kib = 64\nhart = []\n[[module]]\nname = \"m\"\nat = 0x80000000\nperm = \"rx\"\nwords = [19]\n",
-        5,
-        Key::Hart,
-    ),
-    (
-        "version = 1\nram_kib = 64\n[[module]]\nname = \"m\"\nat = 0x80000000\nperm = \"rx\"\nwords = [19]\n[[hart]]\nmodule = \"m\"\n[[hart]]\nmodule = \"m\"\n[[hart]]\nmodule = \"m\"\n[[hart]]\nmodule = \"m\"\n[[hart]]\nmodule = \"m\"\n",
-        5,
-        Key::Hart,
-    ),
-];
+const BARE: &str = r#"3 manifest module | version = 1; ram_kib = 64; [[hart]]; module = "m"
+4 manifest module | version = 1; ram_kib = 64; module = 1; [[hart]]; module = "m"
+4 manifest module | version = 1; ram_kib = 64; module = [1]; [[hart]]; module = "m"
+5 manifest module | version = 1; ram_kib = 64; module = []; [[hart]]; module = "m"
+3 manifest hart | version = 1; ram_kib = 64; [[module]]; name = "m"; at = 0x80000000; perm = "rx"; words = [19]
+4 manifest hart | version = 1; ram_kib = 64; hart = "m"; [[module]]; name = "m"; at = 0x80000000; perm = "rx"; words = [19]
+4 manifest hart | version = 1; ram_kib = 64; hart = [[]]; [[module]]; name = "m"; at = 0x80000000; perm = "rx"; words = [19]
+5 manifest hart | version = 1; ram_kib = 64; hart = []; [[module]]; name = "m"; at = 0x80000000; perm = "rx"; words = [19]
+5 manifest hart | version = 1; ram_kib = 64; [[module]]; name = "m"; at = 0x80000000; perm = "rx"; words = [19]; [[hart]]; module = "m"; [[hart]]; module = "m"; [[hart]]; module = "m"; [[hart]]; module = "m"; [[hart]]; module = "m"
+"#;
 
-/// The version's first lines and the lines of the one module, with the fault and the key of that module.
-const MODULES: [(&str, &str, u32, Key); 77] = [
-    (
-        ONE,
-        "name = \"m\"\nat = 0x80000000\nperm = \"rx\"\nwords = [19]\ncolor = 1\n",
-        2,
-        Key::NoKey,
-    ),
-    (
-        ONE,
-        "name = \"m\"\nat = 0x80000000\nperm = \"rx\"\nwords = [19]\non_fault = \"kill\"\n",
-        2,
-        Key::NoKey,
-    ),
-    (
-        ONE,
-        "name = \"m\"\nat = 0x80000000\nperm = \"rx\"\nwords = [19]\nseal = false\n",
-        2,
-        Key::NoKey,
-    ),
-    (
-        ONE,
-        "at = 0x80000000\nperm = \"rx\"\nwords = [19]\n",
-        3,
-        Key::Name,
-    ),
-    (
-        ONE,
-        "name = 1\nat = 0x80000000\nperm = \"rx\"\nwords = [19]\n",
-        4,
-        Key::Name,
-    ),
-    (
-        ONE,
-        "name = \"\"\nat = 0x80000000\nperm = \"rx\"\nwords = [19]\n",
-        5,
-        Key::Name,
-    ),
-    (
-        ONE,
-        "name = \"aaaaaaaaaaaaaaaaaaaaaaaaaaaaaaaaa\"\nat = 0x80000000\nperm = \"rx\"\nwords = [19]\n",
-        5,
-        Key::Name,
-    ),
-    (
-        ONE,
-        "name = \"A\"\nat = 0x80000000\nperm = \"rx\"\nwords = [19]\n",
-        5,
-        Key::Name,
-    ),
-    (
-        ONE,
-        "name = \"a-b\"\nat = 0x80000000\nperm = \"rx\"\nwords = [19]\n",
-        5,
-        Key::Name,
-    ),
-    (ONE, "name = \"m\"\n", 3, Key::Image),
-    (ONE, "name = \"m\"\nimage = 1\n", 4, Key::Image),
-    (ONE, "name = \"m\"\nimage = \"\"\n", 5, Key::Image),
-    (ONE, "name = \"m\"\nimage = \"-x\"\n", 5, Key::Image),
-    (
-        ONE,
-        "name = \"m\"\nimage = \"aaaaaaaaaaaaaaaaaaaaaaaaaaaaaaaaaaaaaaaaaaaaaaaaaaaaaaaaaaaaaaaaaaaaaaaaaaaaaaaaaaaaaaaaaaaaaaaaaaaaaaaaaaaaaaaaaaaaaaaaaaaaaaaaaaaaaaaaaaaaaaaaaaaaaaaaaaaaaaaaaaaaaaaaaaaaaaaaaaaaaaaaaaaaaaaaaaaaaaaaaaaaaaaaaaaaaaaaaaaaaaaaaaaaaaaaaaaaaaaaaaaaaaaaaaaaaaaa\"\n",
-        5,
-        Key::Image,
-    ),
-    (
-        ONE,
-        "name = \"m\"\nperm = \"rx\"\nwords = [19]\n",
-        3,
-        Key::At,
-    ),
-    (
-        ONE,
-        "name = \"m\"\nat = \"a\"\nperm = \"rx\"\nwords = [19]\n",
-        4,
-        Key::At,
-    ),
-    (
-        ONE,
-        "name = \"m\"\nat = 2\nperm = \"rx\"\nwords = [19]\n",
-        5,
-        Key::At,
-    ),
-    (
-        ONE,
-        "name = \"m\"\nat = 4294967296\nperm = \"rx\"\nwords = [19]\n",
-        5,
-        Key::At,
-    ),
-    (
-        ONE,
-        "name = \"m\"\nat = -4\nperm = \"rx\"\nwords = [19]\n",
-        5,
-        Key::At,
-    ),
-    (
-        ONE,
-        "name = \"m\"\nat = 0x80000000\nwords = [19]\n",
-        3,
-        Key::Perm,
-    ),
-    (
-        ONE,
-        "name = \"m\"\nat = 0x80000000\nperm = 3\nwords = [19]\n",
-        4,
-        Key::Perm,
-    ),
-    (
-        ONE,
-        "name = \"m\"\nat = 0x80000000\nperm = \"w\"\nwords = [19]\n",
-        5,
-        Key::Perm,
-    ),
-    (
-        ONE,
-        "name = \"m\"\nat = 0x80000000\nperm = \"x\"\nwords = [19]\n",
-        5,
-        Key::Perm,
-    ),
-    (
-        ONE,
-        "name = \"m\"\nat = 0x80000000\nperm = \"\"\nwords = [19]\n",
-        5,
-        Key::Perm,
-    ),
-    (
-        ONE,
-        "name = \"m\"\nat = 0x80000000\nperm = \"rx\"\n",
-        3,
-        Key::Words,
-    ),
-    (
-        ONE,
-        "name = \"m\"\nat = 0x80000000\nperm = \"rx\"\nwords = 19\n",
-        4,
-        Key::Words,
-    ),
-    (
-        ONE,
-        "name = \"m\"\nat = 0x80000000\nperm = \"rx\"\nwords = [-1, \"a\"]\n",
-        4,
-        Key::Words,
-    ),
-    (
-        ONE,
-        "name = \"m\"\nat = 0x80000000\nperm = \"rx\"\nwords = []\n",
-        5,
-        Key::Words,
-    ),
-    (
-        ONE,
-        "name = \"m\"\nat = 0x80000000\nperm = \"rx\"\nwords = [4294967296]\n",
-        5,
-        Key::Words,
-    ),
-    (
-        ONE,
-        "name = \"m\"\nat = 0x80000000\nperm = \"rx\"\nwords = [-1]\n",
-        5,
-        Key::Words,
-    ),
-    (ONE, "name = \"m\"\nimage = \"m.elf\"\nwx = 1\n", 4, Key::Wx),
-    (
-        ONE,
-        "name = \"m\"\nimage = \"m.elf\"\nwx = \"r\"\n",
-        5,
-        Key::Wx,
-    ),
-    (
-        ONE,
-        "name = \"m\"\nat = 0x80000000\nperm = \"rx\"\nwords = [19]\nheap_words = 1\n",
-        3,
-        Key::Heap,
-    ),
-    (
-        ONE,
-        "name = \"m\"\nat = 0x80000000\nperm = \"rx\"\nwords = [19]\nheap = \"a\"\nheap_words = 1\n",
-        4,
-        Key::Heap,
-    ),
-    (
-        ONE,
-        "name = \"m\"\nat = 0x80000000\nperm = \"rx\"\nwords = [19]\nheap = 6\nheap_words = 1\n",
-        5,
-        Key::Heap,
-    ),
-    (
-        ONE,
-        "name = \"m\"\nat = 0x80000000\nperm = \"rx\"\nwords = [19]\nheap = 4294967296\nheap_words = 1\n",
-        5,
-        Key::Heap,
-    ),
-    (
-        ONE,
-        "name = \"m\"\nat = 0x80000000\nperm = \"rx\"\nwords = [19]\nheap = 0\n",
-        3,
-        Key::HeapWords,
-    ),
-    (
-        ONE,
-        "name = \"m\"\nat = 0x80000000\nperm = \"rx\"\nwords = [19]\nheap = 0\nheap_words = true\n",
-        4,
-        Key::HeapWords,
-    ),
-    (
-        ONE,
-        "name = \"m\"\nat = 0x80000000\nperm = \"rx\"\nwords = [19]\nheap = 0\nheap_words = 0\n",
-        5,
-        Key::HeapWords,
-    ),
-    (
-        ONE,
-        "name = \"m\"\nat = 0x80000000\nperm = \"rx\"\nwords = [19]\nheap = 0\nheap_words = 4194305\n",
-        5,
-        Key::HeapWords,
-    ),
-    (
-        TWO,
-        "name = \"m\"\nat = 0x80000000\nperm = \"rx\"\nwords = [19]\nheap = 0\nheap_words = 16777217\n",
-        5,
-        Key::HeapWords,
-    ),
-    (
-        ONE,
-        "name = \"m\"\nat = 0x80000000\nperm = \"rx\"\nwords = [19]\nstack_words = 1\n",
-        3,
-        Key::Stack,
-    ),
-    (
-        ONE,
-        "name = \"m\"\nat = 0x80000000\nperm = \"rx\"\nwords = [19]\nstack = \"a\"\nstack_words = 1\n",
-        4,
-        Key::Stack,
-    ),
-    (
-        ONE,
-        "name = \"m\"\nat = 0x80000000\nperm = \"rx\"\nwords = [19]\nstack = 6\nstack_words = 1\n",
-        5,
-        Key::Stack,
-    ),
-    (
-        ONE,
-        "name = \"m\"\nat = 0x80000000\nperm = \"rx\"\nwords = [19]\nstack = 4294967296\nstack_words = 1\n",
-        5,
-        Key::Stack,
-    ),
-    (
-        ONE,
-        "name = \"m\"\nat = 0x80000000\nperm = \"rx\"\nwords = [19]\nstack = 0\n",
-        3,
-        Key::StackWords,
-    ),
-    (
-        ONE,
-        "name = \"m\"\nat = 0x80000000\nperm = \"rx\"\nwords = [19]\nstack = 0\nstack_words = true\n",
-        4,
-        Key::StackWords,
-    ),
-    (
-        ONE,
-        "name = \"m\"\nat = 0x80000000\nperm = \"rx\"\nwords = [19]\nstack = 0\nstack_words = 0\n",
-        5,
-        Key::StackWords,
-    ),
-    (
-        ONE,
-        "name = \"m\"\nat = 0x80000000\nperm = \"rx\"\nwords = [19]\nstack = 0\nstack_words = 1048577\n",
-        5,
-        Key::StackWords,
-    ),
-    (
-        TWO,
-        "name = \"m\"\nat = 0x80000000\nperm = \"rx\"\nwords = [19]\nstack = 0\nstack_words = 1048577\n",
-        5,
-        Key::StackWords,
-    ),
-    (
-        ONE,
-        "name = \"m\"\nat = 0x80000000\nperm = \"rx\"\nwords = [19]\ngates = 1\n",
-        4,
-        Key::Gates,
-    ),
-    (
-        ONE,
-        "name = \"m\"\nat = 0x80000000\nperm = \"rx\"\nwords = [19]\ngates = [1]\n",
-        4,
-        Key::Gates,
-    ),
-    (
-        ONE,
-        "name = \"m\"\nat = 0x80000000\nperm = \"rx\"\nwords = [19]\ngates = [{ entry = 0, from = [\"a\"], x = 1 }]\n",
-        2,
-        Key::Gates,
-    ),
-    (
-        ONE,
-        "name = \"m\"\nat = 0x80000000\nperm = \"rx\"\nwords = [19]\ngates = [{ from = [\"a\"] }]\n",
-        3,
-        Key::Gates,
-    ),
-    (
-        ONE,
-        "name = \"m\"\nat = 0x80000000\nperm = \"rx\"\nwords = [19]\ngates = [{ entry = true, from = [\"a\"] }]\n",
-        4,
-        Key::Gates,
-    ),
-    (
-        ONE,
-        "name = \"m\"\nat = 0x80000000\nperm = \"rx\"\nwords = [19]\ngates = [{ entry = \"\", from = [\"a\"] }]\n",
-        5,
-        Key::Gates,
-    ),
-    (
-        ONE,
-        "name = \"m\"\nat = 0x80000000\nperm = \"rx\"\nwords = [19]\ngates = [{ entry = -1, from = [\"a\"] }]\n",
-        5,
-        Key::Gates,
-    ),
-    (
-        ONE,
-        "name = \"m\"\nat = 0x80000000\nperm = \"rx\"\nwords = [19]\ngates = [{ entry = 4294967296, from = [\"a\"] }]\n",
-        5,
-        Key::Gates,
-    ),
-    (
-        ONE,
-        "name = \"m\"\nat = 0x80000000\nperm = \"rx\"\nwords = [19]\ngates = [{ entry = 0 }]\n",
-        3,
-        Key::Gates,
-    ),
-    (
-        ONE,
-        "name = \"m\"\nat = 0x80000000\nperm = \"rx\"\nwords = [19]\ngates = [{ entry = 0, from = \"a\" }]\n",
-        4,
-        Key::Gates,
-    ),
-    (
-        ONE,
-        "name = \"m\"\nat = 0x80000000\nperm = \"rx\"\nwords = [19]\ngates = [{ entry = 0, from = [1] }]\n",
-        4,
-        Key::Gates,
-    ),
-    (
-        ONE,
-        "name = \"m\"\nat = 0x80000000\nperm = \"rx\"\nwords = [19]\ngates = [{ entry = 0, from = [] }]\n",
-        5,
-        Key::Gates,
-    ),
-    (
-        ONE,
-        "name = \"m\"\nat = 0x80000000\nperm = \"rx\"\nwords = [19]\ngates = [{ entry = true, from = [\"m\"] }, {}]\n",
-        4,
-        Key::Gates,
-    ),
-    (
-        ONE,
-        "name = \"m\"\nat = 0x80000000\nperm = \"rx\"\nwords = [19]\nreturns = 1\n",
-        4,
-        Key::Returns,
-    ),
-    (
-        ONE,
-        "name = \"m\"\nat = 0x80000000\nperm = \"rx\"\nwords = [19]\nreturns = [true]\n",
-        4,
-        Key::Returns,
-    ),
-    (
-        ONE,
-        "name = \"m\"\nat = 0x80000000\nperm = \"rx\"\nwords = [19]\nreturns = [\"\"]\n",
-        5,
-        Key::Returns,
-    ),
-    (
-        ONE,
-        "name = \"m\"\nat = 0x80000000\nperm = \"rx\"\nwords = [19]\nreturns = [-1]\n",
-        5,
-        Key::Returns,
-    ),
-    (
-        ONE,
-        "name = \"m\"\nat = 0x80000000\nperm = \"rx\"\nwords = [19]\nreturns = [4294967296]\n",
-        5,
-        Key::Returns,
-    ),
-    (
-        TWO,
-        "name = \"m\"\nat = 0x80000000\nperm = \"rx\"\nwords = [19]\non_fault = 1\n",
-        4,
-        Key::OnFault,
-    ),
-    (
-        TWO,
-        "name = \"m\"\nat = 0x80000000\nperm = \"rx\"\nwords = [19]\non_fault = \"stop\"\n",
-        5,
-        Key::OnFault,
-    ),
-    (
-        TWO,
-        "name = \"m\"\nat = 0x80000000\nperm = \"rx\"\nwords = [19]\nseal = 1\n",
-        4,
-        Key::Seal,
-    ),
-    (
-        ONE,
-        "name = \"m\"\nimage = \"m.elf\"\nat = 0x80000000\n",
-        6,
-        Key::Image,
-    ),
-    (
-        ONE,
-        "name = \"m\"\nimage = \"m.elf\"\nperm = \"rx\"\n",
-        6,
-        Key::Image,
-    ),
-    (
-        ONE,
-        "name = \"m\"\nimage = \"m.elf\"\nwords = [19]\n",
-        6,
-        Key::Image,
-    ),
-    (
-        ONE,
-        "name = \"m\"\nat = 0x80000000\nperm = \"rx\"\nwords = [19]\nwx = \"rw\"\n",
-        6,
-        Key::Wx,
-    ),
-    (
-        ONE,
-        "name = \"m\"\nat = 0x80000000\nperm = \"rx\"\nwords = [19]\ngates = [{ entry = 0, from = [\"x\"] }]\n",
-        8,
-        Key::Gates,
-    ),
-    (
-        ONE,
-        "name = \"m\"\nat = 0x80000000\nperm = \"rx\"\nwords = [19]\ngates = [{ entry = 0, from = [\"m\"] }]\n",
-        8,
-        Key::Gates,
-    ),
-];
+/// Lines of the one module in version 1.
+const MODULES: &str =
+    r#"2 module.1 - | name = "m"; at = 0x80000000; perm = "rx"; words = [19]; color = 1
+2 module.1 - | name = "m"; at = 0x80000000; perm = "rx"; words = [19]; on_fault = "kill"
+2 module.1 - | name = "m"; at = 0x80000000; perm = "rx"; words = [19]; seal = false
+3 module.1 name | at = 0x80000000; perm = "rx"; words = [19]
+4 module.1 name | name = 1; at = 0x80000000; perm = "rx"; words = [19]
+5 module.1 name | name = ""; at = 0x80000000; perm = "rx"; words = [19]
+5 module.1 name | name = "aaaaaaaaaaaaaaaaaaaaaaaaaaaaaaaaa"; at = 0x80000000; perm = "rx"; words = [19]
+5 module.1 name | name = "A"; at = 0x80000000; perm = "rx"; words = [19]
+5 module.1 name | name = "a-b"; at = 0x80000000; perm = "rx"; words = [19]
+3 module.1 image | name = "m"
+4 module.1 image | name = "m"; image = 1
+5 module.1 image | name = "m"; image = ""
+5 module.1 image | name = "m"; image = "-x"
+3 module.1 at | name = "m"; perm = "rx"; words = [19]
+4 module.1 at | name = "m"; at = "a"; perm = "rx"; words = [19]
+5 module.1 at | name = "m"; at = 2; perm = "rx"; words = [19]
+5 module.1 at | name = "m"; at = 4294967296; perm = "rx"; words = [19]
+5 module.1 at | name = "m"; at = -4; perm = "rx"; words = [19]
+3 module.1 perm | name = "m"; at = 0x80000000; words = [19]
+4 module.1 perm | name = "m"; at = 0x80000000; perm = 3; words = [19]
+5 module.1 perm | name = "m"; at = 0x80000000; perm = "w"; words = [19]
+5 module.1 perm | name = "m"; at = 0x80000000; perm = "x"; words = [19]
+5 module.1 perm | name = "m"; at = 0x80000000; perm = ""; words = [19]
+3 module.1 words | name = "m"; at = 0x80000000; perm = "rx"
+4 module.1 words | name = "m"; at = 0x80000000; perm = "rx"; words = 19
+4 module.1 words | name = "m"; at = 0x80000000; perm = "rx"; words = [-1, "a"]
+5 module.1 words | name = "m"; at = 0x80000000; perm = "rx"; words = []
+5 module.1 words | name = "m"; at = 0x80000000; perm = "rx"; words = [4294967296]
+5 module.1 words | name = "m"; at = 0x80000000; perm = "rx"; words = [-1]
+4 module.1 wx | name = "m"; image = "m.elf"; wx = 1
+5 module.1 wx | name = "m"; image = "m.elf"; wx = "r"
+3 module.1 heap | name = "m"; at = 0x80000000; perm = "rx"; words = [19]; heap_words = 1
+4 module.1 heap | name = "m"; at = 0x80000000; perm = "rx"; words = [19]; heap = "a"; heap_words = 1
+5 module.1 heap | name = "m"; at = 0x80000000; perm = "rx"; words = [19]; heap = 6; heap_words = 1
+5 module.1 heap | name = "m"; at = 0x80000000; perm = "rx"; words = [19]; heap = 4294967296; heap_words = 1
+3 module.1 heap_words | name = "m"; at = 0x80000000; perm = "rx"; words = [19]; heap = 0
+4 module.1 heap_words | name = "m"; at = 0x80000000; perm = "rx"; words = [19]; heap = 0; heap_words = true
+5 module.1 heap_words | name = "m"; at = 0x80000000; perm = "rx"; words = [19]; heap = 0; heap_words = 0
+5 module.1 heap_words | name = "m"; at = 0x80000000; perm = "rx"; words = [19]; heap = 0; heap_words = 4194305
+3 module.1 stack | name = "m"; at = 0x80000000; perm = "rx"; words = [19]; stack_words = 1
+4 module.1 stack | name = "m"; at = 0x80000000; perm = "rx"; words = [19]; stack = "a"; stack_words = 1
+5 module.1 stack | name = "m"; at = 0x80000000; perm = "rx"; words = [19]; stack = 6; stack_words = 1
+5 module.1 stack | name = "m"; at = 0x80000000; perm = "rx"; words = [19]; stack = 4294967296; stack_words = 1
+3 module.1 stack_words | name = "m"; at = 0x80000000; perm = "rx"; words = [19]; stack = 0
+4 module.1 stack_words | name = "m"; at = 0x80000000; perm = "rx"; words = [19]; stack = 0; stack_words = true
+5 module.1 stack_words | name = "m"; at = 0x80000000; perm = "rx"; words = [19]; stack = 0; stack_words = 0
+5 module.1 stack_words | name = "m"; at = 0x80000000; perm = "rx"; words = [19]; stack = 0; stack_words = 1048577
+4 module.1 gates | name = "m"; at = 0x80000000; perm = "rx"; words = [19]; gates = 1
+4 module.1 gates | name = "m"; at = 0x80000000; perm = "rx"; words = [19]; gates = [1]
+2 module.1 gates | name = "m"; at = 0x80000000; perm = "rx"; words = [19]; gates = [{ entry = 0, from = ["a"], x = 1 }]
+3 module.1 gates | name = "m"; at = 0x80000000; perm = "rx"; words = [19]; gates = [{ from = ["a"] }]
+4 module.1 gates | name = "m"; at = 0x80000000; perm = "rx"; words = [19]; gates = [{ entry = true, from = ["a"] }]
+5 module.1 gates | name = "m"; at = 0x80000000; perm = "rx"; words = [19]; gates = [{ entry = "", from = ["a"] }]
+5 module.1 gates | name = "m"; at = 0x80000000; perm = "rx"; words = [19]; gates = [{ entry = -1, from = ["a"] }]
+5 module.1 gates | name = "m"; at = 0x80000000; perm = "rx"; words = [19]; gates = [{ entry = 4294967296, from = ["a"] }]
+3 module.1 gates | name = "m"; at = 0x80000000; perm = "rx"; words = [19]; gates = [{ entry = 0 }]
+4 module.1 gates | name = "m"; at = 0x80000000; perm = "rx"; words = [19]; gates = [{ entry = 0, from = "a" }]
+4 module.1 gates | name = "m"; at = 0x80000000; perm = "rx"; words = [19]; gates = [{ entry = 0, from = [1] }]
+5 module.1 gates | name = "m"; at = 0x80000000; perm = "rx"; words = [19]; gates = [{ entry = 0, from = [] }]
+4 module.1 gates | name = "m"; at = 0x80000000; perm = "rx"; words = [19]; gates = [{ entry = true, from = ["m"] }, {}]
+4 module.1 returns | name = "m"; at = 0x80000000; perm = "rx"; words = [19]; returns = 1
+4 module.1 returns | name = "m"; at = 0x80000000; perm = "rx"; words = [19]; returns = [true]
+5 module.1 returns | name = "m"; at = 0x80000000; perm = "rx"; words = [19]; returns = [""]
+5 module.1 returns | name = "m"; at = 0x80000000; perm = "rx"; words = [19]; returns = [-1]
+5 module.1 returns | name = "m"; at = 0x80000000; perm = "rx"; words = [19]; returns = [4294967296]
+6 module.1 image | name = "m"; image = "m.elf"; at = 0x80000000
+6 module.1 image | name = "m"; image = "m.elf"; perm = "rx"
+6 module.1 image | name = "m"; image = "m.elf"; words = [19]
+6 module.1 wx | name = "m"; at = 0x80000000; perm = "rx"; words = [19]; wx = "rw"
+8 module.1 gates | name = "m"; at = 0x80000000; perm = "rx"; words = [19]; gates = [{ entry = 0, from = ["x"] }]
+8 module.1 gates | name = "m"; at = 0x80000000; perm = "rx"; words = [19]; gates = [{ entry = 0, from = ["m"] }]
+"#;
 
-/// Lines of the one hart, with the fault and the key of that hart.
-const HARTS: [(&str, u32, Key); 9] = [
-    ("module = \"m\"\ncolor = 1\n", 2, Key::NoKey),
-    ("", 3, Key::Module),
-    ("module = 1\n", 4, Key::Module),
-    ("module = \"m\"\nentry = true\n", 4, Key::Entry),
-    ("module = \"m\"\nentry = \"\"\n", 5, Key::Entry),
-    ("module = \"m\"\nentry = -1\n", 5, Key::Entry),
-    ("module = \"m\"\nentry = 4294967296\n", 5, Key::Entry),
-    ("module = \"\"\n", 8, Key::Module),
-    ("module = \"n\"\n", 8, Key::Module),
-];
+/// Lines of the one module in version 2.
+const MODULES_OF_TWO: &str =
+    r#"5 module.1 heap_words | name = "m"; at = 0x80000000; perm = "rx"; words = [19]; heap = 0; heap_words = 16777217
+5 module.1 stack_words | name = "m"; at = 0x80000000; perm = "rx"; words = [19]; stack = 0; stack_words = 1048577
+4 module.1 on_fault | name = "m"; at = 0x80000000; perm = "rx"; words = [19]; on_fault = 1
+5 module.1 on_fault | name = "m"; at = 0x80000000; perm = "rx"; words = [19]; on_fault = "stop"
+4 module.1 seal | name = "m"; at = 0x80000000; perm = "rx"; words = [19]; seal = 1
+"#;
 
-/// Manifests with two faults, and the one that comes first.
-const ORDERS: [(&str, u32, Part, u32, Key); 17] = [
-    (
-        "color = 1\n[[module]]\nname = \"m\"\nat = 0x80000000\nperm = \"rx\"\nwords = [19]\n[[hart]]\nmodule = \"m\"\n",
-        2,
-        Part::Manifest,
-        0,
-        Key::NoKey,
-    ),
-    (
-        "version = 3\n[[module]]\nname = \"m\"\nat = 0x80000000\nperm = \"rx\"\nwords = [19]\n[[hart]]\nmodule = \"m\"\n",
-        5,
-        Part::Manifest,
-        0,
-        Key::Version,
-    ),
-    (
-        "version = 1\nram_kib = 2\ntables = 1\n[[module]]\nname = \"m\"\nat = 0x80000000\nperm = \"rx\"\nwords = [19]\n[[hart]]\nmodule = \"m\"\n",
-        5,
-        Part::Manifest,
-        0,
-        Key::RamKib,
-    ),
-    (
-        "version = 1\nram_kib = 64\n[[module]]\ncolor = 1\n",
-        3,
-        Part::Manifest,
-        0,
-        Key::Hart,
-    ),
-    (
-        "version = 1\nram_kib = 64\n[[module]]\ncolor = 1\n[[hart]]\nmodule = \"m\"\n",
-        2,
-        Part::Module,
-        1,
-        Key::NoKey,
-    ),
-    (
-        "version = 1\nram_kib = 64\n[[module]]\nname = \"A\"\nimage = 1\n[[hart]]\nmodule = \"m\"\n",
-        5,
-        Part::Module,
-        1,
-        Key::Name,
-    ),
-    (
-        "version = 1\nram_kib = 64\n[[module]]\nname = \"m\"\nat = 0x80000000\nperm = \"rx\"\nwords = [19]\ngates = [{}]\nreturns = 1\n[[hart]]\nmodule = \"m\"\n",
-        3,
-        Part::Module,
-        1,
-        Key::Gates,
-    ),
-    (
-        "version = 1\nram_kib = 64\n[[module]]\nname = \"m\"\nat = 0x80000000\nperm = \"rx\"\nwords = [19]\ngates = [{ entry = 0, from = [\"m\"] }, { entry = 0 }]\n[[hart]]\nmodule = \"m\"\n",
-        3,
-        Part::Module,
-        1,
-        Key::Gates,
-    ),
-    (
-        "version = 1\nram_kib = 64\n[[module]]\nname = \"m\"\nat = 0x80000000\nperm = \"rx\"\nwords = [19]\nimage = \"m.elf\"\nreturns = 1\n[[hart]]\nmodule = \"m\"\n",
-        4,
-        Part::Module,
-        1,
-        Key::Returns,
-    ),
-    (
-        "version = 1\nram_kib = 64\n[[module]]\nname = \"m\"\nat = 0x80000000\nperm = \"rx\"\nwords = [19]\nimage = \"m.elf\"\nwx = \"rw\"\n[[hart]]\nmodule = \"m\"\n",
-        6,
-        Part::Module,
-        1,
-        Key::Image,
-    ),
-    (
-        "version = 1\nram_kib = 64\n[[module]]\nname = \"m\"\nat = 0x80000000\nperm = \"rx\"\nwords = [19]\nimage = \"m.elf\"\n[[module]]\ncolor = 1\n[[hart]]\nmodule = \"m\"\n",
-        6,
-        Part::Module,
-        1,
-        Key::Image,
-    ),
-    (
-        "version = 1\nram_kib = 64\n[[module]]\nname = \"m\"\nat = 0x80000000\nperm = \"rx\"\nwords = [19]\n[[module]]\ncolor = 1\n[[hart]]\ncolor = 1\n",
-        2,
-        Part::Module,
-        2,
-        Key::NoKey,
-    ),
-    (
-        "version = 1\nram_kib = 64\n[[module]]\nname = \"m\"\nat = 0x80000000\nperm = \"rx\"\nwords = [19]\n[[module]]\nname = \"m\"\nat = 0x80000000\nperm = \"rx\"\nwords = [19]\n[[hart]]\nmodule = \"m\"\n[[hart]]\nentry = 1\n",
-        3,
-        Part::Hart,
-        2,
-        Key::Module,
-    ),
-    (
-        "version = 1\nram_kib = 64\n[[module]]\nname = \"m\"\nat = 0x80000000\nperm = \"rx\"\nwords = [19]\ngates = [{ entry = 0, from = [\"x\"] }]\n[[module]]\nname = \"k\"\nat = 0x80000100\nperm = \"r\"\nwords = [1]\n[[module]]\nname = \"k\"\nat = 0x80000100\nperm = \"r\"\nwords = [1]\n[[hart]]\nmodule = \"m\"\n",
-        7,
-        Part::Module,
-        3,
-        Key::Name,
-    ),
-    (
-        "version = 1\nram_kib = 64\n[[module]]\nname = \"m\"\nat = 0x80000000\nperm = \"rx\"\nwords = [19]\n[[module]]\nname = \"m\"\nat = 0x80000000\nperm = \"rx\"\nwords = [19]\n[[hart]]\nmodule = \"x\"\n",
-        7,
-        Part::Module,
-        2,
-        Key::Name,
-    ),
-    (
-        "version = 1\nram_kib = 64\n[[module]]\nname = \"m\"\nat = 0x80000000\nperm = \"rx\"\nwords = [19]\n[[module]]\nname = \"k\"\nat = 0x80000100\nperm = \"r\"\nwords = [1]\ngates = [{ entry = 0, from = [\"m\", \"k\"] }]\n[[hart]]\nmodule = \"x\"\n",
-        8,
-        Part::Module,
-        2,
-        Key::Gates,
-    ),
-    (
-        "version = 1\nram_kib = 64\n[[module]]\nname = \"m\"\nat = 0x80000000\nperm = \"rx\"\nwords = [19]\n[[module]]\nname = \"k\"\nat = 0x80000100\nperm = \"r\"\nwords = [1]\n[[hart]]\nmodule = \"m\"\n[[hart]]\nmodule = \"k\"\n[[hart]]\nmodule = \"x\"\n",
-        8,
-        Part::Hart,
-        3,
-        Key::Module,
-    ),
-];
+/// Lines of the one hart.
+const HARTS: &str = r#"2 hart.1 - | module = "m"; color = 1
+3 hart.1 module | 
+4 hart.1 module | module = 1
+4 hart.1 entry | module = "m"; entry = true
+5 hart.1 entry | module = "m"; entry = ""
+5 hart.1 entry | module = "m"; entry = -1
+5 hart.1 entry | module = "m"; entry = 4294967296
+8 hart.1 module | module = ""
+8 hart.1 module | module = "n"
+"#;
+
+/// Manifests with two faults: the one that comes first.
+const ORDERS: &str =
+    r#"2 manifest - | color = 1; [[module]]; name = "m"; at = 0x80000000; perm = "rx"; words = [19]; [[hart]]; module = "m"
+5 manifest version | version = 3; [[module]]; name = "m"; at = 0x80000000; perm = "rx"; words = [19]; [[hart]]; module = "m"
+5 manifest ram_kib | version = 1; ram_kib = 2; tables = 1; [[module]]; name = "m"; at = 0x80000000; perm = "rx"; words = [19]; [[hart]]; module = "m"
+3 manifest hart | version = 1; ram_kib = 64; [[module]]; color = 1
+2 module.1 - | version = 1; ram_kib = 64; [[module]]; color = 1; [[hart]]; module = "m"
+5 module.1 name | version = 1; ram_kib = 64; [[module]]; name = "A"; image = 1; [[hart]]; module = "m"
+3 module.1 gates | version = 1; ram_kib = 64; [[module]]; name = "m"; at = 0x80000000; perm = "rx"; words = [19]; gates = [{}]; returns = 1; [[hart]]; module = "m"
+3 module.1 gates | version = 1; ram_kib = 64; [[module]]; name = "m"; at = 0x80000000; perm = "rx"; words = [19]; gates = [{ entry = 0, from = ["m"] }, { entry = 0 }]; [[hart]]; module = "m"
+4 module.1 returns | version = 1; ram_kib = 64; [[module]]; name = "m"; at = 0x80000000; perm = "rx"; words = [19]; image = "m.elf"; returns = 1; [[hart]]; module = "m"
+6 module.1 image | version = 1; ram_kib = 64; [[module]]; name = "m"; at = 0x80000000; perm = "rx"; words = [19]; image = "m.elf"; wx = "rw"; [[hart]]; module = "m"
+6 module.1 image | version = 1; ram_kib = 64; [[module]]; name = "m"; at = 0x80000000; perm = "rx"; words = [19]; image = "m.elf"; [[module]]; color = 1; [[hart]]; module = "m"
+2 module.2 - | version = 1; ram_kib = 64; [[module]]; name = "m"; at = 0x80000000; perm = "rx"; words = [19]; [[module]]; color = 1; [[hart]]; color = 1
+3 hart.2 module | version = 1; ram_kib = 64; [[module]]; name = "m"; at = 0x80000000; perm = "rx"; words = [19]; [[module]]; name = "m"; at = 0x80000000; perm = "rx"; words = [19]; [[hart]]; module = "m"; [[hart]]; entry = 1
+7 module.3 name | version = 1; ram_kib = 64; [[module]]; name = "m"; at = 0x80000000; perm = "rx"; words = [19]; gates = [{ entry = 0, from = ["x"] }]; [[module]]; name = "k"; at = 0x80000100; perm = "r"; words = [1]; [[module]]; name = "k"; at = 0x80000100; perm = "r"; words = [1]; [[hart]]; module = "m"
+7 module.2 name | version = 1; ram_kib = 64; [[module]]; name = "m"; at = 0x80000000; perm = "rx"; words = [19]; [[module]]; name = "m"; at = 0x80000000; perm = "rx"; words = [19]; [[hart]]; module = "x"
+8 module.2 gates | version = 1; ram_kib = 64; [[module]]; name = "m"; at = 0x80000000; perm = "rx"; words = [19]; [[module]]; name = "k"; at = 0x80000100; perm = "r"; words = [1]; gates = [{ entry = 0, from = ["m", "k"] }]; [[hart]]; module = "x"
+8 hart.3 module | version = 1; ram_kib = 64; [[module]]; name = "m"; at = 0x80000000; perm = "rx"; words = [19]; [[module]]; name = "k"; at = 0x80000100; perm = "r"; words = [1]; [[hart]]; module = "m"; [[hart]]; module = "k"; [[hart]]; module = "x"
+"#;
+
+/// A fault as the cases write it.
+fn fault_text(alloc: Global, fault: &BootFault) -> Result<String, Fail> {
+    let (number, index, key) = (fault.number, fault.place.index, fault.place.key.name());
+    Ok(match fault.place.part {
+        Part::Manifest => format!(in alloc; "{number} manifest {key}")?,
+        Part::Module => format!(in alloc; "{number} module.{index} {key}")?,
+        Part::Hart => format!(in alloc; "{number} hart.{index} {key}")?,
+        Part::Schedule => format!(in alloc; "{number} schedule {key}")?,
+    })
+}
+
+/// What a text gives, as the cases write it.
+fn verdict(alloc: Global, text: &str) -> Result<String, Fail> {
+    match judge(alloc, text) {
+        Ok(_) => Ok(String::from_str(alloc, "accepted")?),
+        Err(ManifestFault::NoMemory) => Ok(String::from_str(alloc, "no table")?),
+        Err(ManifestFault::Fault(fault)) => fault_text(alloc, &fault),
+    }
+}
+
+/// The lines of a case, one below the other, between two parts of a manifest.
+fn framed(alloc: Global, before: &str, lines: &str, after: &str) -> Result<String, Fail> {
+    let mut text = String::from_str(alloc, before)?;
+    for line in lines.split(';') {
+        text.push_str(line)?;
+        text.push_str("\n")?;
+    }
+    text.push_str(after)?;
+    Ok(text)
+}
+
+/// Judges each case between two parts of a manifest.
+fn judge_cases(
+    rt: &impl Abort,
+    alloc: Global,
+    before: &str,
+    cases: &str,
+    after: &str,
+) -> Result<(), Fail> {
+    for case in cases.lines() {
+        let (want, lines) = case.split_once('|').ok_or("no case")?;
+        let text = framed(alloc, before, lines, after)?;
+        let got = verdict(alloc, text.as_str())?;
+        assert_eq!(rt; got.as_str(), want.trim(), "{case}");
+    }
+    Ok(())
+}
 
 #[test]
 fn tells_each_fault_at_its_place(rt: HostRuntime) -> Result<(), Fail> {
-    for (top, number, key) in TOPS {
-        let text = joined(rt.alloc(), top, MODULE, HART)?;
-        assert_eq!(rt;
-            judge(rt.alloc(), text.as_str()).err(),
-            fault(number, Part::Manifest, 0, key),
-            "{top}"
-        );
-    }
-    for (text, number, key) in BARE {
-        assert_eq!(rt;
-            judge(rt.alloc(), text).err(),
-            fault(number, Part::Manifest, 0, key),
-            "{text}"
-        );
-    }
-    for (top, lines, number, key) in MODULES {
-        let module = joined(rt.alloc(), "[[module]]\n", lines, "")?;
-        let text = joined(rt.alloc(), top, module.as_str(), HART)?;
-        assert_eq!(rt;
-            judge(rt.alloc(), text.as_str()).err(),
-            fault(number, Part::Module, 1, key),
-            "{lines}"
-        );
-    }
-    for (lines, number, key) in HARTS {
-        let hart = joined(rt.alloc(), "[[hart]]\n", lines, "")?;
-        let text = joined(rt.alloc(), ONE, MODULE, hart.as_str())?;
-        assert_eq!(rt;
-            judge(rt.alloc(), text.as_str()).err(),
-            fault(number, Part::Hart, 1, key),
-            "{lines}"
-        );
-    }
-    for (text, number, part, index, key) in ORDERS {
-        assert_eq!(rt;
-            judge(rt.alloc(), text).err(),
-            fault(number, part, index, key),
-            "{text}"
-        );
-    }
-    Ok(())
+    let alloc = rt.alloc();
+    let rest = format!(in alloc; "{MODULE}{HART}")?;
+    judge_cases(&rt, alloc, "", TOPS, rest.as_str())?;
+    judge_cases(&rt, alloc, "", BARE, "")?;
+    let one = format!(in alloc; "{ONE}[[module]]\n")?;
+    judge_cases(&rt, alloc, one.as_str(), MODULES, HART)?;
+    let two = format!(in alloc; "{TWO}[[module]]\n")?;
+    judge_cases(&rt, alloc, two.as_str(), MODULES_OF_TWO, HART)?;
+    let hart = format!(in alloc; "{ONE}{MODULE}[[hart]]\n")?;
+    judge_cases(&rt, alloc, hart.as_str(), HARTS, "")?;
+    judge_cases(&rt, alloc, "", ORDERS, "")
 }

@@ -1,8 +1,11 @@
 //! Both ends of each range, the defaults, and what a plan tells.
 
 use super::{HART, MODULE, ONE, TWO, joined, judge};
-use crate::{BootFault, EntryPlan, Key, ManifestFault, Part, Place, Plan};
-use mx_words::{Kind, Perm};
+use crate::{
+    BootFault, Entries, EntryPlan, GatePlans, Key, ManifestFault, ModulePlan, Numbers, Part, Place,
+    Plan,
+};
+use mx_words::Kind;
 use std::alloc::Global;
 use std::test::Fail;
 
@@ -182,6 +185,15 @@ fn list(alloc: Global, key: &str, item: &str, count: u32) -> Result<String, Fail
     Ok(text)
 }
 
+/// So many letters.
+fn letters(alloc: Global, count: u32) -> Result<String, Fail> {
+    let mut text = String::new(alloc);
+    for _ in 0..count {
+        text.push_str("a")?;
+    }
+    Ok(text)
+}
+
 /// As many modules as `count` beside the first.
 fn more_modules(alloc: Global, count: u32) -> Result<String, Fail> {
     let mut text = String::from_str(alloc, MODULE)?;
@@ -288,6 +300,28 @@ fn counts_up_to_each_limit(rt: HostRuntime) -> Result<(), Fail> {
     Ok(())
 }
 
+#[test]
+fn measures_names_of_files_and_symbols(rt: HostRuntime) -> Result<(), Fail> {
+    let alloc = rt.alloc();
+    let limits = [
+        (255, None, None),
+        (
+            256,
+            refusal(Part::Module, 1, Key::Image),
+            refusal(Part::Module, 2, Key::Returns),
+        ),
+    ];
+    for (count, image, symbol) in limits {
+        let name = letters(alloc, count)?;
+        let lines = format!(in alloc; "returns = [\"{name}\"]\n")?;
+        assert_eq!(rt; judge_second(alloc, ONE, lines.as_str())?.err(), symbol);
+        let module = format!(in alloc; "[[module]]\nname = \"m\"\nimage = \"{name}\"\n")?;
+        let text = joined(alloc, ONE, module.as_str(), HART)?;
+        assert_eq!(rt; judge(alloc, text.as_str()).err(), image);
+    }
+    Ok(())
+}
+
 /// A manifest in which each key stands.
 const WHOLE: &str = "version = 2
 ram_kib = 1024
@@ -329,53 +363,111 @@ module = \"a\"
 entry = \"idle\"
 ";
 
+/// What a plan says, as text.
+fn plan_text(alloc: Global, plan: &Plan) -> Result<String, Fail> {
+    let (version, ram, tables) = (plan.version(), plan.ram_kib(), plan.tables());
+    let (upper, leaf, spill) = (plan.upper(), plan.leaf(), plan.spill());
+    let (lookaside, quantum) = (plan.lookaside(), plan.quantum());
+    let mut text = format!(in alloc;
+        "{version} {ram} {tables:?} {upper} {leaf} {spill} {lookaside} {quantum}\n"
+    )?;
+    for i in 0..plan.modules() {
+        let module = plan.module(i);
+        text.push_str(module_text(alloc, module)?.as_str())?;
+        text.push_str(areas_text(alloc, module)?.as_str())?;
+        text.push_str(gates_text(alloc, &module.gates)?.as_str())?;
+        text.push_str(returns_text(alloc, &module.returns)?.as_str())?;
+    }
+    for i in 0..plan.harts() {
+        let hart = plan.hart(i);
+        let module = hart.module;
+        let entry = match &hart.entry {
+            Some(entry) => entry_text(alloc, entry)?,
+            None => String::from_str(alloc, "-")?,
+        };
+        text.push_str(format!(in alloc; "hart {module} {entry}\n")?.as_str())?;
+    }
+    Ok(text)
+}
+
+fn module_text(alloc: Global, module: &ModulePlan) -> Result<String, Fail> {
+    let name = module.name.as_str();
+    let image = match &module.image {
+        Some(image) => image.as_str(),
+        None => "-",
+    };
+    let words = match &module.words {
+        Some(words) => numbers_text(alloc, words)?,
+        None => String::from_str(alloc, " -")?,
+    };
+    let (at, perm, wx) = (module.at, module.perm, module.wx);
+    Ok(format!(in alloc; "module {name} {image} {at:?} {perm:?} {wx:?}{words}\n")?)
+}
+
+fn areas_text(alloc: Global, module: &ModulePlan) -> Result<String, Fail> {
+    let (heap, heap_words) = (module.heap, module.heap_words);
+    let (stack, stack_words) = (module.stack, module.stack_words);
+    let (kills, seal) = (module.kills, module.seal);
+    Ok(format!(in alloc; "{heap:?} {heap_words:?} {stack:?} {stack_words:?} {kills} {seal}\n")?)
+}
+
+fn numbers_text(alloc: Global, numbers: &Numbers) -> Result<String, Fail> {
+    let mut text = String::new(alloc);
+    for i in 0..numbers.len() {
+        let number = numbers.get(i);
+        text.push_str(format!(in alloc; " {number}")?.as_str())?;
+    }
+    Ok(text)
+}
+
+fn entry_text(alloc: Global, entry: &EntryPlan) -> Result<String, Fail> {
+    Ok(match entry {
+        EntryPlan::Symbol(name) => String::from_str(alloc, name.as_str())?,
+        EntryPlan::Address(address) => format!(in alloc; "{address}")?,
+    })
+}
+
+fn gates_text(alloc: Global, gates: &GatePlans) -> Result<String, Fail> {
+    let mut text = String::new(alloc);
+    for i in 0..gates.len() {
+        let gate = gates.get(i);
+        let entry = entry_text(alloc, &gate.entry)?;
+        let from = numbers_text(alloc, &gate.from)?;
+        text.push_str(format!(in alloc; "gate {entry} from{from}\n")?.as_str())?;
+    }
+    Ok(text)
+}
+
+fn returns_text(alloc: Global, returns: &Entries) -> Result<String, Fail> {
+    let mut text = String::new(alloc);
+    for i in 0..returns.len() {
+        let entry = entry_text(alloc, returns.get(i))?;
+        text.push_str(format!(in alloc; "return {entry}\n")?.as_str())?;
+    }
+    Ok(text)
+}
+
+/// What `WHOLE` says: domains are numbered from 1, and addresses are decimal.
+const SAID: &str = "2 1024 Segments 1 2 3 8 4
+module a a.elf None None Some(ExecuteRead) -
+Some(2147745792) Some(5) Some(2147811328) Some(6) true true
+gate receive from 2 3
+gate 2147483664 from 3
+return back
+return 8
+module b - Some(2147487744) Some(ReadWrite) None 1 2 3
+None None None None false false
+module c c.elf None None None -
+None None None None false false
+hart 3 -
+hart 1 idle
+";
+
 #[test]
 fn tells_what_each_key_says(rt: HostRuntime) -> Result<(), Fail> {
-    let plan = judge(rt.alloc(), WHOLE).ok().ok_or("refused")?;
-    assert_eq!(rt;
-        (plan.version(), plan.ram_kib(), plan.tables()),
-        (2, 1024, Kind::Segments)
-    );
-    assert_eq!(rt; (plan.upper(), plan.leaf(), plan.spill()), (1, 2, 3));
-    assert_eq!(rt; (plan.lookaside(), plan.quantum()), (8, 4));
-    assert_eq!(rt; (plan.modules(), plan.harts()), (3, 2));
-    let a = plan.module(0);
-    assert_eq!(rt; a.name.as_str(), "a");
-    assert_eq!(rt; a.image.as_ref().map(|t| t.as_str()), Some("a.elf"));
-    assert_eq!(rt; (a.at, a.perm, a.words.is_none()), (None, None, true));
-    assert_eq!(rt; a.wx, Some(Perm::ExecuteRead));
-    assert_eq!(rt; (a.heap, a.heap_words), (Some(0x80040000), Some(5)));
-    assert_eq!(rt; (a.stack, a.stack_words), (Some(0x80050000), Some(6)));
-    assert_eq!(rt; (a.kills, a.seal), (true, true));
-    assert_eq!(rt; (a.gates.len(), a.returns.len()), (2, 2));
-    let gate = a.gates.get(0);
-    assert!(rt; matches!(&gate.entry, EntryPlan::Symbol(text) if text.as_str() == "receive"));
-    assert_eq!(rt;
-        (gate.from.len(), gate.from.get(0), gate.from.get(1)),
-        (2, 2, 3)
-    );
-    let gate = a.gates.get(1);
-    assert!(rt; matches!(&gate.entry, EntryPlan::Address(0x80000010)));
-    assert_eq!(rt; (gate.from.len(), gate.from.get(0)), (1, 3));
-    assert!(rt; matches!(a.returns.get(0), EntryPlan::Symbol(text) if text.as_str() == "back"));
-    assert!(rt; matches!(a.returns.get(1), EntryPlan::Address(8)));
-    let b = plan.module(1);
-    assert_eq!(rt;
-        (b.at, b.perm, b.wx),
-        (Some(0x80001000), Some(Perm::ReadWrite), None)
-    );
-    let words = b.words.as_ref().ok_or("no words")?;
-    assert_eq!(rt; (words.len(), words.get(0), words.get(2)), (3, 1, 3));
-    assert_eq!(rt; (b.image.is_none(), b.heap, b.stack), (true, None, None));
-    assert_eq!(rt;
-        (b.gates.len(), b.returns.len(), b.kills, b.seal),
-        (0, 0, false, false)
-    );
-    assert_eq!(rt; plan.hart(0).module, 3);
-    assert!(rt; plan.hart(0).entry.is_none());
-    assert_eq!(rt; plan.hart(1).module, 1);
-    assert!(rt;
-        matches!(&plan.hart(1).entry, Some(EntryPlan::Symbol(text)) if text.as_str() == "idle")
-    );
+    let alloc = rt.alloc();
+    let plan = judge(alloc, WHOLE).ok().ok_or("refused")?;
+    let text = plan_text(alloc, &plan)?;
+    assert_eq!(rt; text.as_str(), SAID);
     Ok(())
 }
