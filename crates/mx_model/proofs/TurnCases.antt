@@ -109,6 +109,7 @@ pub record IsAlive (c : Core) (h : ℕ) (hart : Hart) (gate : Option ℕ) : Type
   pub running : hart.status ≡ Running
   pub alive : (module_at c hart.domain).dead ≡ false
   pub at : call_gate_at c hart.domain hart.pc ≡ gate
+
 turned-alive : (r : Reads) (c : Core) (h : ℕ) (hart : Hart) (gate : Option ℕ) → IsAlive c h hart gate →
     turned r c h ≡ acts r (ready c h) h hart (runs_at r (ready c h) h hart gate)
 turned-alive r c h hart gate p =

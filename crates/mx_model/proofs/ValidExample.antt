@@ -105,12 +105,15 @@ small-harts (suc zero) l = record {
   pc = record { aligned = refl; small = lit< tt };
   domain = record { first = lit≤ tt; last = lit≤ tt };
   few_frames = lit≤ tt;
-  frames = (record {
-    back = record { aligned = refl; small = lit< tt };
-    caller = record { first = lit≤ tt; last = lit≤ tt };
-    count = refl;
-    small = below-at (2 ^ 32) (replicate 15 7) (lit< tt) refl;
-  }, tt);
+  frames = (
+    record {
+      back = record { aligned = refl; small = lit< tt };
+      caller = record { first = lit≤ tt; last = lit≤ tt };
+      count = refl;
+      small = below-at (2 ^ 32) (replicate 15 7) (lit< tt) refl;
+    },
+    tt,
+  );
   status = tt;
 }
 small-harts (suc (suc h)) l = absurd (let q : ⊥ = omega (arith, l) in q)
@@ -127,35 +130,47 @@ small-core = record {
   ram_bytes = below-at 256 core.ram (lit< tt) refl;
   some_modules = lit≤ tt;
   few_modules = lit≤ tt;
-  modules = (record {
-    heap = lit≤ tt;
-    blocks = (lit≤ tt, lit< tt, lit≤ tt);
-    stack = lit≤ tt;
-    few_blocks = lit≤ tt;
-    no_heap = λ e. absurd (let q : ⊥ = omega (arith, e) in q);
-    no_stack = λ e. absurd (let q : ⊥ = omega (arith, e) in q);
-  }, (record {
-    heap = lit≤ tt;
-    blocks = lit≤ tt;
-    stack = lit≤ tt;
-    few_blocks = lit≤ tt;
-    no_heap = λ e. refl;
-    no_stack = λ e. absurd (let q : ⊥ = omega (arith, e) in q);
-  }, tt));
+  modules = (
+    record {
+      heap = lit≤ tt;
+      blocks = (lit≤ tt, lit< tt, lit≤ tt);
+      stack = lit≤ tt;
+      few_blocks = lit≤ tt;
+      no_heap = λ e. absurd (let q : ⊥ = omega (arith, e) in q);
+      no_stack = λ e. absurd (let q : ⊥ = omega (arith, e) in q);
+    },
+    (
+      record {
+        heap = lit≤ tt;
+        blocks = lit≤ tt;
+        stack = lit≤ tt;
+        few_blocks = lit≤ tt;
+        no_heap = λ e. refl;
+        no_stack = λ e. absurd (let q : ⊥ = omega (arith, e) in q);
+      },
+      tt,
+    ),
+  );
   some_harts = lit≤ tt;
   few_harts = lit≤ tt;
   harts = small-harts;
   caches = refl;
   few_gates = lit≤ tt;
-  gates = (record {
-    domain = record { first = lit≤ tt; last = lit≤ tt };
-    target = record { first = lit≤ tt; last = lit≤ tt };
-    word = lit< tt;
-  }, (record {
-    domain = record { first = lit≤ tt; last = lit≤ tt };
-    target = record { first = lit≤ tt; last = lit≤ tt };
-    word = lit< tt;
-  }, tt));
+  gates = (
+    record {
+      domain = record { first = lit≤ tt; last = lit≤ tt };
+      target = record { first = lit≤ tt; last = lit≤ tt };
+      word = lit< tt;
+    },
+    (
+      record {
+        domain = record { first = lit≤ tt; last = lit≤ tt };
+        target = record { first = lit≤ tt; last = lit≤ tt };
+        word = lit< tt;
+      },
+      tt,
+    ),
+  );
   one_gate = small-gates;
 }
 

@@ -10,7 +10,7 @@ ghost use Rattle.mx_plain.specs.LineRuns.{runs_in, run_number, count_at, IsInLin
 use crate::blocks::{LINE, PAGE, REGION, line_from};
 use crate::maps::{PlainMap, WordMap, same};
 use crate::spans::{block_round, left_reach, level_of, right_reach, span_within};
-use mx_words::{RAM_BASE, Kind, Level, Perm, Shown, Span};
+use mx_words::{Kind, Level, Perm, RAM_BASE, Shown, Span};
 
 /// Up to 16 permissions of two bits each, the first in the lowest bits.
 fn packed(perms: &[Perm]) -> u32
