@@ -10,6 +10,7 @@ use Rattle.mx_model.specs.declared.values.Frame.{Frame}
 use Rattle.mx_model.specs.declared.values.Gate.{Gate}
 use Rattle.mx_model.specs.declared.values.TurnKind.TheVariants as T
 use Rattle.mx_model.specs.Effect.{holds, imm_result, reg_result, loaded, effect}
+use Rattle.mx_model.specs.Gates.{call_gate, is_return}
 use Rattle.mx_model.specs.State.{Module, State, Running, Halted, no_module}
 use Rattle.mx_model.proofs.Boots.{fault, regs_with}
 use Rattle.mx_model.proofs.Smalls.{by, cache, frame, gate, grant, hart_of, kinds, saved_with, small, span_of, stack}
@@ -119,7 +120,7 @@ shared = small ((0, 0x00100293) ∷ (1, 0x00100293) ∷ (2, 0x00100293) ∷ (3, 
     ((grant 0 8 P.ExecuteRead ∷ []) ∷ (grant 0 8 P.ExecuteRead ∷ []) ∷ [])
     []
     (gate 1 2 2 ∷ gate 2 4 2 ∷ [])
-    (hart_of 1 0x80000000 (regs_with ((1, 0x80000018) ∷ [])) [] Running ∷ []) 8
+    (hart_of 1 0x80000000 (regs_with ((1, 0x80000018) ∷ (2, 8) ∷ [])) [] Running ∷ []) 8
 
 places-at-a-crossing-caches : (by (replicate 4 0) shared).core.caches
     ≡ (cache ((0, span_of 0 8 P.ExecuteRead) ∷ []) ((2, span_of 0 8 P.ExecuteRead) ∷ (1, span_of 0 8 P.ExecuteRead) ∷ []) 1 0 2) ∷ []
@@ -129,6 +130,12 @@ places-at-a-crossing-caches = refl
 places-at-a-crossing-kinds : kinds (replicate 4 0) shared ≡ T.Ran ∷ T.Ran ∷ T.Crossed ∷ T.Ran ∷ []
 unfolding decoded effect holds imm_result reg_result loaded number_at put_at cleared_at imm_i imm_s imm_b imm_u imm_j extended
 places-at-a-crossing-kinds = refl
+
+-- a module without a stack area gives x2 the value 0
+no-stack-address : (by (0 ∷ 0 ∷ 0 ∷ []) shared).core.harts
+    ≡ hart_of 2 0x80000008 (regs_with ((1, 0x80000018) ∷ (5, 1) ∷ [])) (frame 0x80000018 1 (saved_with ((0, 8) ∷ [])) ∷ []) Running ∷ []
+unfolding decoded effect holds imm_result reg_result loaded number_at put_at cleared_at imm_i imm_s imm_b imm_u imm_j extended
+no-stack-address = refl
 
 -- and so do a return, and a fault that gives up a frame
 abbrev coming_back : State
@@ -252,6 +259,30 @@ room-for-one-frame-harts : (by (0 ∷ 0 ∷ []) (calling 0x8000000C false (repli
     ≡ hart_of 2 0x80000004 (regs_with ((1, 0x8000000C) ∷ (2, 1) ∷ (5, 1) ∷ (10, 5) ∷ [])) (frame 0x80000024 2 (saved_with ((0, 1) ∷ [])) ∷ frame 0x80000024 2 (saved_with ((0, 1) ∷ [])) ∷ frame 0x80000024 2 (saved_with ((0, 1) ∷ [])) ∷ frame 0x80000024 2 (saved_with ((0, 1) ∷ [])) ∷ frame 0x80000024 2 (saved_with ((0, 1) ∷ [])) ∷ frame 0x80000024 2 (saved_with ((0, 1) ∷ [])) ∷ frame 0x80000024 2 (saved_with ((0, 1) ∷ [])) ∷ frame 0x80000024 2 (saved_with ((0, 1) ∷ [])) ∷ frame 0x80000024 2 (saved_with ((0, 1) ∷ [])) ∷ frame 0x80000024 2 (saved_with ((0, 1) ∷ [])) ∷ frame 0x80000024 2 (saved_with ((0, 1) ∷ [])) ∷ frame 0x80000024 2 (saved_with ((0, 1) ∷ [])) ∷ frame 0x80000024 2 (saved_with ((0, 1) ∷ [])) ∷ frame 0x80000024 2 (saved_with ((0, 1) ∷ [])) ∷ frame 0x80000024 2 (saved_with ((0, 1) ∷ [])) ∷ frame 0x80000024 2 (saved_with ((0, 1) ∷ [])) ∷ frame 0x80000024 2 (saved_with ((0, 1) ∷ [])) ∷ frame 0x80000024 2 (saved_with ((0, 1) ∷ [])) ∷ frame 0x80000024 2 (saved_with ((0, 1) ∷ [])) ∷ frame 0x80000024 2 (saved_with ((0, 1) ∷ [])) ∷ frame 0x80000024 2 (saved_with ((0, 1) ∷ [])) ∷ frame 0x80000024 2 (saved_with ((0, 1) ∷ [])) ∷ frame 0x80000024 2 (saved_with ((0, 1) ∷ [])) ∷ frame 0x80000024 2 (saved_with ((0, 1) ∷ [])) ∷ frame 0x80000024 2 (saved_with ((0, 1) ∷ [])) ∷ frame 0x80000024 2 (saved_with ((0, 1) ∷ [])) ∷ frame 0x80000024 2 (saved_with ((0, 1) ∷ [])) ∷ frame 0x80000024 2 (saved_with ((0, 1) ∷ [])) ∷ frame 0x80000024 2 (saved_with ((0, 1) ∷ [])) ∷ frame 0x80000024 2 (saved_with ((0, 1) ∷ [])) ∷ frame 0x80000024 2 (saved_with ((0, 1) ∷ [])) ∷ frame 0x80000024 2 (saved_with ((0, 1) ∷ [])) ∷ frame 0x80000024 2 (saved_with ((0, 1) ∷ [])) ∷ frame 0x80000024 2 (saved_with ((0, 1) ∷ [])) ∷ frame 0x80000024 2 (saved_with ((0, 1) ∷ [])) ∷ frame 0x80000024 2 (saved_with ((0, 1) ∷ [])) ∷ frame 0x80000024 2 (saved_with ((0, 1) ∷ [])) ∷ frame 0x80000024 2 (saved_with ((0, 1) ∷ [])) ∷ frame 0x80000024 2 (saved_with ((0, 1) ∷ [])) ∷ frame 0x80000024 2 (saved_with ((0, 1) ∷ [])) ∷ frame 0x80000024 2 (saved_with ((0, 1) ∷ [])) ∷ frame 0x80000024 2 (saved_with ((0, 1) ∷ [])) ∷ frame 0x80000024 2 (saved_with ((0, 1) ∷ [])) ∷ frame 0x80000024 2 (saved_with ((0, 1) ∷ [])) ∷ frame 0x80000024 2 (saved_with ((0, 1) ∷ [])) ∷ frame 0x80000024 2 (saved_with ((0, 1) ∷ [])) ∷ frame 0x80000024 2 (saved_with ((0, 1) ∷ [])) ∷ frame 0x80000024 2 (saved_with ((0, 1) ∷ [])) ∷ frame 0x80000024 2 (saved_with ((0, 1) ∷ [])) ∷ frame 0x80000024 2 (saved_with ((0, 1) ∷ [])) ∷ frame 0x80000024 2 (saved_with ((0, 1) ∷ [])) ∷ frame 0x80000024 2 (saved_with ((0, 1) ∷ [])) ∷ frame 0x80000024 2 (saved_with ((0, 1) ∷ [])) ∷ frame 0x80000024 2 (saved_with ((0, 1) ∷ [])) ∷ frame 0x80000024 2 (saved_with ((0, 1) ∷ [])) ∷ frame 0x80000024 2 (saved_with ((0, 1) ∷ [])) ∷ frame 0x80000024 2 (saved_with ((0, 1) ∷ [])) ∷ frame 0x80000024 2 (saved_with ((0, 1) ∷ [])) ∷ frame 0x80000024 2 (saved_with ((0, 1) ∷ [])) ∷ frame 0x80000024 2 (saved_with ((0, 1) ∷ [])) ∷ frame 0x80000024 2 (saved_with ((0, 1) ∷ [])) ∷ frame 0x80000024 2 (saved_with ((0, 1) ∷ [])) ∷ frame 0x80000024 2 (saved_with ((0, 1) ∷ [])) ∷ frame 0x8000000C 1 (saved_with []) ∷ []) Running ∷ []
 unfolding decoded effect holds imm_result reg_result loaded number_at put_at cleared_at imm_i imm_s imm_b imm_u imm_j extended
 room-for-one-frame-harts = refl
+
+-- x2 comes from the frame of the entered domain nearest the top, not from the top itself
+x2-from-under-the-top : (by (0 ∷ 0 ∷ []) (calling 0x8000000C false (frame 0x80000024 2 (saved_with ((0, 5) ∷ [])) ∷ frame 0x80000024 2 (saved_with ((0, 6) ∷ [])) ∷ frame 0x80000024 1 (saved_with ((0, 7) ∷ [])) ∷ []))).core.harts
+    ≡ hart_of 2 0x80000004 (regs_with ((1, 0x8000000C) ∷ (2, 6) ∷ (5, 1) ∷ (10, 5) ∷ [])) (frame 0x80000024 2 (saved_with ((0, 5) ∷ [])) ∷ frame 0x80000024 2 (saved_with ((0, 6) ∷ [])) ∷ frame 0x80000024 1 (saved_with ((0, 7) ∷ [])) ∷ frame 0x8000000C 1 (saved_with []) ∷ []) Running ∷ []
+unfolding decoded effect holds imm_result reg_result loaded number_at put_at cleared_at imm_i imm_s imm_b imm_u imm_j extended
+x2-from-under-the-top = refl
+
+x2-from-no-frame : (by (0 ∷ 0 ∷ []) (calling 0x8000000C false (frame 0x80000024 1 (saved_with ((0, 7) ∷ [])) ∷ []))).core.harts
+    ≡ hart_of 2 0x80000004 (regs_with ((1, 0x8000000C) ∷ (5, 1) ∷ (10, 5) ∷ [])) (frame 0x80000024 1 (saved_with ((0, 7) ∷ [])) ∷ frame 0x8000000C 1 (saved_with []) ∷ []) Running ∷ []
+unfolding decoded effect holds imm_result reg_result loaded number_at put_at cleared_at imm_i imm_s imm_b imm_u imm_j extended
+x2-from-no-frame = refl
+
+-- what stands for a domain at a word
+abbrev gates : List Gate
+gates = gate 1 4 2 ∷ gate 2 4 2 ∷ gate 1 5 1 ∷ []
+
+abbrev asked : List (ℕ × ℕ)
+asked = (1, 4) ∷ (2, 4) ∷ (1, 5) ∷ (2, 5) ∷ []
+
+call-gates : list_map (λ (p : ℕ × ℕ). call_gate gates p.0 p.1) asked ≡ Some 2 ∷ None ∷ None ∷ None ∷ []
+call-gates = refl
+
+return-gates : list_map (λ (p : ℕ × ℕ). is_return gates p.0 p.1) asked ≡ false ∷ true ∷ true ∷ false ∷ []
+return-gates = refl
 
 -- domain d at an instruction, with or without the frame of a call from domain 1; each domain is killing or not, dead or not
 abbrev dying : ℕ → ℕ → List Frame → Module → Module → State

@@ -11,9 +11,10 @@ use Rattle.mx_isa.specs.Fields.{imm_i, imm_s, imm_b, imm_u, imm_j, extended}
 use Rattle.mx_isa.specs.Table.{decoded}
 use Rattle.mx_model.specs.declared.values.Note.TheVariants as N
 use Rattle.mx_model.specs.declared.values.TurnKind.TheVariants as T
-use Rattle.mx_model.specs.Checks.{heard_ranges, unheard_ranges}
+use Rattle.mx_model.specs.Checks.{heard_ranges, looked_all, unheard_ranges}
 use Rattle.mx_model.specs.Effect.{holds, imm_result, reg_result, loaded, effect}
-use Rattle.mx_model.specs.State.{Module, State, Running, Waiting, Halted, no_module}
+use Rattle.mx_model.specs.Reads.{reads}
+use Rattle.mx_model.specs.State.{Module, State, Running, Waiting, Halted, cache_at, no_module}
 use Rattle.mx_model.proofs.Boots.{bytes_of, fault, regs_with}
 use Rattle.mx_model.proofs.Smalls.{area, by, cache, call, frame, gate, give, grant, hart_of, kinds, run_of, saved_with, small, span_of, stack, words_with}
 
@@ -40,6 +41,12 @@ announced-caches = refl
 announced-kinds : kinds (1 ∷ 0 ∷ []) granting ≡ T.Ran ∷ T.Called ∷ []
 unfolding decoded effect holds imm_result reg_result loaded number_at put_at cleared_at imm_i imm_s imm_b imm_u imm_j extended
 announced-kinds = refl
+
+-- a call that a hart hasn't heard keeps it from nothing
+look-before-hearing : cache_at (looked_all (reads (by (0 ∷ []) granting)) 1 (record { place = 5; domain = 2; word = 40 } ∷ []) (by (0 ∷ []) granting).core) 1
+    ≡ cache ((5, span_of 40 4 P.Read) ∷ []) ((2, span_of 40 4 P.Read) ∷ []) 0 0 1
+unfolding decoded effect holds imm_result reg_result loaded number_at put_at cleared_at imm_i imm_s imm_b imm_u imm_j extended
+look-before-hearing = refl
 
 heard-harts : (by (1 ∷ 0 ∷ 0 ∷ 1 ∷ []) granting).core.harts
     ≡ hart_of 1 0x80000000 (regs_with ((10, 0x800000A0) ∷ (11, 16) ∷ (12, 2) ∷ (17, 3) ∷ [])) [] (Waiting (call 3 (0x800000A0 ∷ 16 ∷ 2 ∷ 0 ∷ []) 0 1 false) (false ∷ true ∷ false ∷ false ∷ [])) ∷ hart_of 2 0x80000048 (regs_with ((5, 0x800000A0) ∷ [])) [] Running ∷ []
@@ -113,6 +120,11 @@ halting = small ((0, 115) ∷ (1, 0x00100073) ∷ (16, 0x0002A303) ∷ (17, 0x00
     (give 40 4 1 ∷ [])
     []
     (hart_of 1 0x80000000 (regs_with ((10, 0x800000A0) ∷ (11, 4) ∷ (12, 2) ∷ (13, 3) ∷ (17, 3) ∷ [])) [] Running ∷ hart_of 2 0x80000040 (regs_with ((5, 0x800000A0) ∷ [])) [] Running ∷ hart_of 1 0x80000000 (regs_with []) [] (Halted None) ∷ []) 8
+
+halted-hears-nothing : (by (0 ∷ 2 ∷ []) halting).core.harts
+    ≡ hart_of 1 0x80000000 (regs_with ((10, 0x800000A0) ∷ (11, 4) ∷ (12, 2) ∷ (13, 3) ∷ (17, 3) ∷ [])) [] (Waiting (call 3 (0x800000A0 ∷ 4 ∷ 2 ∷ 3 ∷ []) 0 1 false) (false ∷ false ∷ false ∷ false ∷ [])) ∷ hart_of 2 0x80000040 (regs_with ((5, 0x800000A0) ∷ [])) [] Running ∷ hart_of 1 0x80000000 (regs_with []) [] (Halted None) ∷ []
+unfolding decoded effect holds imm_result reg_result loaded number_at put_at cleared_at imm_i imm_s imm_b imm_u imm_j extended
+halted-hears-nothing = refl
 
 one-halted-harts : (by (0 ∷ 2 ∷ 0 ∷ 1 ∷ 0 ∷ []) halting).core.harts
     ≡ hart_of 1 0x80000004 (regs_with ((11, 4) ∷ (12, 2) ∷ (13, 3) ∷ (17, 3) ∷ [])) [] Running ∷ hart_of 2 0x80000044 (regs_with ((5, 0x800000A0) ∷ [])) [] Running ∷ hart_of 1 0x80000000 (regs_with []) [] (Halted None) ∷ []
