@@ -7,7 +7,7 @@ ghost use Rattle.mx_words.specs.Bytes.{put_at};
 
 use mx_core::{Bus, Denied};
 use mx_memory::Ram;
-use mx_words::{RAM_BASE, Access, NoMemory, Perm};
+use mx_words::{Access, NoMemory, Perm, RAM_BASE};
 use std::alloc::Global;
 use std::marker::Model;
 
