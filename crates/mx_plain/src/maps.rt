@@ -83,7 +83,7 @@ impl PlainMap {
 }
 
 /// The list of a map's permissions.
-pub(crate) fn listed<M: WordMap>(alloc: Global, map: &M) -> Result<PlainMap, NoMemory>
+pub(crate) fn list_of<M: WordMap>(alloc: Global, map: &M) -> Result<PlainMap, NoMemory>
     requires { length (M.list map.now) ≤ most_words }
     ensures { IfOk result (λ m. m ≡ M.list map.now) }
 {

@@ -119,7 +119,7 @@ pub(crate) fn right_reach(map: &PlainMap, line: u32) -> u32
 }
 
 /// A run of a line, lengthened by the reaches where it stands at the line's edges.
-fn reached(map: &PlainMap, line: u32, span: Span) -> Span
+fn lengthen(map: &PlainMap, line: u32, span: Span) -> Span
     requires line { line ≤ span.first }
     requires inside { span.first + span.count ≤ length map.now }
     requires small { length map.now ≤ most_words }
@@ -150,7 +150,7 @@ fn leaf_span(kind: Kind, map: &PlainMap, word: u32) -> Span
 {
     let span = line_span(map, word);
     match kind {
-        Kind::Packed => reached(map, word / LINE * LINE, span),
+        Kind::Packed => lengthen(map, word / LINE * LINE, span),
         _ => span,
     }
 }

@@ -8,7 +8,7 @@ ghost use Rattle.mx_words.specs.Changes.{changed_map};
 ghost use Rattle.mx_table.specs.Change.{given, changed};
 ghost use Rattle.mx_table.specs.Tables.{most_words, most_modules, IsShaped, row_map};
 
-use crate::maps::{PlainMap, Row, WordMap, listed};
+use crate::maps::{PlainMap, Row, WordMap, list_of};
 use crate::needs::{is_within, need_after, need_of_maps, need_of_rows};
 use crate::spans::span_of;
 use crate::stored::stored_of;
@@ -80,13 +80,13 @@ fn one_more(count: u64) -> u64
 }
 
 /// Lists of the rows' maps.
-fn lists(alloc: Global, words: u32, rows: &[Spans]) -> Result<Vec<PlainMap>, NoMemory>
+fn maps_of(alloc: Global, words: u32, rows: &[Spans]) -> Result<Vec<PlainMap>, NoMemory>
     requires { words ≤ most_words }
     ensures { IfOk result (λ v. v.items ≡ list_map (row_map words) rows.now) }
 {
     let mut maps = Vec::new(alloc);
     for spans in rows {
-        let map = listed(alloc, &Row { spans, words })?;
+        let map = list_of(alloc, &Row { spans, words })?;
         if maps.push(map).is_err() {
             return Err(NoMemory);
         }
@@ -132,7 +132,7 @@ impl<K: PlainKind> PermTables for PlainTables<K> {
         if !is_within(need, limit) {
             return Err(BuildRefused::TablesFull { need });
         }
-        match lists(alloc, words, rows) {
+        match maps_of(alloc, words, rows) {
             Ok(maps) => Ok(PlainTables {
                 maps,
                 words,

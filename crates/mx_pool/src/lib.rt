@@ -41,7 +41,7 @@ impl<const WORDS: usize> Pool<WORDS> {
             return Err(NoMemory);
         };
         let words = zeros(alloc, size)?;
-        let taken = unmarked(alloc, number)?;
+        let taken = no_marks(alloc, number)?;
         let free = downwards(alloc, frames)?;
         Ok(Pool {
             words,
@@ -154,7 +154,7 @@ fn zeros(alloc: Global, size: usize) -> Result<Vec<u32>, NoMemory>
 }
 
 // `number` marks, none of them set.
-fn unmarked(alloc: Global, number: usize) -> Result<Vec<bool>, NoMemory>
+fn no_marks(alloc: Global, number: usize) -> Result<Vec<bool>, NoMemory>
     ensures { IfOk result (λ v. v.items ≡ replicate number false) }
 {
     match Vec::from_elem(alloc, false, number) {

@@ -80,7 +80,7 @@ fn read<T: PermTables>(tables: &mut T, domain: u32, word: u32) -> (Perm, Span, S
     (perm, span, tables.shown(domain, word))
 }
 
-fn expected(
+fn expectation(
     perm: Perm,
     span: (u32, u32),
     level: Level,
@@ -114,7 +114,7 @@ fn plain_segments(rt: HostRuntime) -> Result<(), Fail> {
     assert_eq!(rt; tables.used(), need);
     assert_eq!(rt;
         read(&mut tables, 1, 100),
-        expected(
+        expectation(
             Perm::ExecuteRead,
             (0, 128),
             Level::Segment,
@@ -124,7 +124,7 @@ fn plain_segments(rt: HostRuntime) -> Result<(), Fail> {
     );
     assert_eq!(rt;
         read(&mut tables, 1, 1031),
-        expected(
+        expectation(
             Perm::Read,
             (1030, 3),
             Level::Segment,
@@ -134,7 +134,7 @@ fn plain_segments(rt: HostRuntime) -> Result<(), Fail> {
     );
     assert_eq!(rt;
         read(&mut tables, 2, 2999),
-        expected(
+        expectation(
             Perm::None,
             (0, 3000),
             Level::Segment,
@@ -160,23 +160,23 @@ fn plain_multilevel(rt: HostRuntime) -> Result<(), Fail> {
     assert_eq!(rt; tables.used(), need);
     assert_eq!(rt;
         read(&mut tables, 1, 100),
-        expected(Perm::ExecuteRead, (0, 128), Level::Mid, (0, 1024), 13)
+        expectation(Perm::ExecuteRead, (0, 128), Level::Mid, (0, 1024), 13)
     );
     assert_eq!(rt;
         read(&mut tables, 1, 1035),
-        expected(Perm::None, (1033, 7), Level::Leaf, (1024, 16), 86016)
+        expectation(Perm::None, (1033, 7), Level::Leaf, (1024, 16), 86016)
     );
     assert_eq!(rt;
         read(&mut tables, 1, 1057),
-        expected(Perm::Read, (1057, 1), Level::Leaf, (1056, 16), 68)
+        expectation(Perm::Read, (1057, 1), Level::Leaf, (1056, 16), 68)
     );
     assert_eq!(rt;
         read(&mut tables, 1, 2999),
-        expected(Perm::None, (2944, 56), Level::Mid, (2048, 952), 1)
+        expectation(Perm::None, (2944, 56), Level::Mid, (2048, 952), 1)
     );
     assert_eq!(rt;
         read(&mut tables, 2, 2999),
-        expected(Perm::None, (0, 3000), Level::Root, (0, 3000), 1)
+        expectation(Perm::None, (0, 3000), Level::Root, (0, 3000), 1)
     );
     Ok(())
 }
@@ -192,7 +192,7 @@ fn plain_packed(rt: HostRuntime) -> Result<(), Fail> {
     assert_eq!(rt; tables.used(), need);
     assert_eq!(rt;
         read(&mut tables, 1, 1026),
-        expected(
+        expectation(
             Perm::None,
             (993, 37),
             Level::Leaf,
@@ -202,7 +202,7 @@ fn plain_packed(rt: HostRuntime) -> Result<(), Fail> {
     );
     assert_eq!(rt;
         read(&mut tables, 1, 1035),
-        expected(
+        expectation(
             Perm::None,
             (1033, 17),
             Level::Leaf,
@@ -212,7 +212,7 @@ fn plain_packed(rt: HostRuntime) -> Result<(), Fail> {
     );
     assert_eq!(rt;
         read(&mut tables, 1, 1057),
-        expected(Perm::Read, (1057, 1), Level::Spill, (1056, 16), 68)
+        expectation(Perm::Read, (1057, 1), Level::Spill, (1056, 16), 68)
     );
     Ok(())
 }
