@@ -59,9 +59,13 @@ impl<T: PermTables, const N: usize> Supervisor<T, N> {
         ensures some { IfSome result (λ b. 0 < b.1) }
         ensures inside { IfSome result (λ b. LiesIn (heap_at self.now.heaps call.now.domain).area b.0 b.1) }
     {
-        let word = self.arg_word(call)?;
-        let count = self.heaps.block(call.domain, word)?;
-        Some((word, count))
+        let Some(word) = self.arg_word(call) else {
+            return None;
+        };
+        match self.heaps.block(call.domain, word) {
+            Some(count) => Some((word, count)),
+            None => None,
+        }
     }
 
     /// The number of modules.
