@@ -2,11 +2,12 @@
 use Rattle.std.proofs.Common.{◌≡◌, ◌≢◌, ℕ, Bool, true, false, List, [], length, refl, sym, subst, inl, inr, ◌∙◌, ap, Some, None}
 use Rattle.mx_check.specs.Harts.{Kept, hart_at}
 use Rattle.mx_model.specs.declared.values.Call.{Call}
+use Rattle.mx_model.specs.declared.values.Gate.{Gate}
 use Rattle.mx_model.specs.Reads.{Reads, flat_reads}
-use Rattle.mx_model.specs.Serve.{Served, answers}
+use Rattle.mx_model.specs.Serve.{Served, answers, code, adds}
 use Rattle.mx_model.specs.State.{Core}
 use Rattle.mx_supervisor.specs.declared.answer.Answer.{Answer}
-use Rattle.mx_supervisor.specs.Answers.{plain, is_refusal}
+use Rattle.mx_supervisor.specs.Answers.{plain, refusal, is_refusal}
 use Rattle.mx_supervisor.specs.Looks.{KeepsHarts}
 use Rattle.mx_supervisor.specs.Parts.{Parts, core_of, flat_of, IsSound}
 use Rattle.mx_supervisor.specs.Served.{IsServed, ServesAs, IsSpared, KeepsSizes, Meets}
@@ -39,6 +40,16 @@ told row call p n a sound ea es = record {
   sound = sound;
 }
 
+pub refuses : (row : Reads → Core → Call → Served) (call : Call) (p : Parts) (n : ℕ) (a : Answer) → IsSound p → a ≡ refusal n →
+    ((rest : Core) → row_on row call p rest ≡ answers (core_of rest p) (code n)) → Meets row call (hart_at p.harts call.hart).flight p p [] a
+refuses row call p n a sound ea es = told row call p (code n) a sound ea es
+
+-- the same of parts that are those from before
+pub refuses-after : (row : Reads → Core → Call → Served) (call : Call) (p q : Parts) (n : ℕ) (a : Answer) → IsSound p → q ≡ p → a ≡ refusal n →
+    ((rest : Core) → row_on row call p rest ≡ answers (core_of rest p) (code n)) → Meets row call (hart_at p.harts call.hart).flight p q [] a
+refuses-after row call p q n a sound same ea es =
+    subst (λ (q : Parts). Meets row call (hart_at p.harts call.hart).flight p q [] a) (sym same) (refuses row call p n a sound ea es)
+
 -- a call that is done: its answer is no refusal
 pub done : (row : Reads → Core → Call → Served) (call : Call) (p q : Parts) (bytes : List ℕ) (a : Answer) → IsSound q → is_refusal a ≡ false →
     q.harts ≡ p.harts → KeepsSizes p q → ServesAs row call p q bytes a → Meets row call (hart_at p.harts call.hart).flight p q bytes a
@@ -49,3 +60,18 @@ done row call p q bytes a sound e same sizes served = record {
   sizes = sizes;
   sound = sound;
 }
+
+-- other gates, answered by 0
+pub gates-done : (row : Reads → Core → Call → Served) (call : Call) (p q : Parts) (gates : List Gate) (a : Answer) → IsSound p → q ≡ record p { gates = gates } →
+    a ≡ plain 0 → ((rest : Core) → row_on row call p rest ≡ answers (record (core_of rest p) { gates = gates }) 0) →
+    Meets row call (hart_at p.harts call.hart).flight p q [] a
+gates-done row call p q gates a sound eq ea es =
+    let t : Parts = record p { gates = gates } in
+    let sound_t : IsSound t = record {
+      few_words = sound.few_words; few_maps = sound.few_maps; maps = sound.maps; ram = sound.ram; owners = sound.owners; heaps = sound.heaps; areas = sound.areas
+    } in
+    let served : ServesAs row call p t [] (plain 0) = λ rest bars. rw (es rest)
+        (record { core = refl; maps = refl; owners = refl; console = refl; a0 = refl; a1 = refl; stop = refl }) in
+    let m : Meets row call (hart_at p.harts call.hart).flight p t [] (plain 0) =
+        done row call p t [] (plain 0) sound_t refl refl (record { size = refl; limit = refl; modules = refl }) served in
+    rw (eq, ea) m

@@ -6,7 +6,7 @@ use Rattle.mx_model.specs.declared.values.Call.{Call}
 use Rattle.mx_model.specs.Serve.{with_blocks}
 use Rattle.mx_model.specs.State.{Core, Module, no_module, module_at, is_module}
 use Rattle.mx_supervisor.specs.Heaps.{no_heap, heap_at, with_blocks_at}
-use Rattle.mx_supervisor.specs.Parts.{Parts, modules_from, core_of}
+use Rattle.mx_supervisor.specs.Parts.{Parts, with_heap, modules_from, core_of}
 
 pub length-modules : (rest : Core) (d : ℕ) (heaps : List HeapState) → length (modules_from rest d heaps) ≡ length heaps
 length-modules rest d [] = refl
@@ -27,7 +27,7 @@ set-blocks : (rest : Core) (d i : ℕ) (heaps : List HeapState) (blocks : List A
     ≡ set (modules_from rest d heaps) i (record (get_or (modules_from rest d heaps) i no_module) { blocks = blocks })
 set-blocks rest d i [] blocks = refl
 set-blocks rest d zero (x ∷ xs) blocks = refl
-set-blocks rest d (suc i) (x ∷ xs) blocks = ap (λ (ms : List Module). _ ∷ ms) (set-blocks rest (d + 1) i xs blocks)
+set-blocks rest d (suc i) (x ∷ xs) blocks = ap (λ (ms : List Module). with_heap (module_at rest d) x ∷ ms) (set-blocks rest (d + 1) i xs blocks)
 
 -- the same in a state
 pub module-heap : (rest : Core) (p : Parts) (d : ℕ) → (module_at (core_of rest p) d).heap ≡ (heap_at p.heaps d).area
