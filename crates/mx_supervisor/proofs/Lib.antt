@@ -1,3 +1,4 @@
 pub mod Answering
+pub mod Maps
 pub mod Modules
 pub mod OwnedWords
