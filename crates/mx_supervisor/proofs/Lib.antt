@@ -1,4 +1,5 @@
 pub mod Answering
+pub mod Changing
 pub mod Maps
 pub mod Modules
 pub mod OwnedWords
