@@ -1,5 +1,6 @@
 pub mod Answering
 pub mod Changing
 pub mod Maps
+pub mod Looking
 pub mod Modules
 pub mod OwnedWords
