@@ -2,5 +2,6 @@ pub mod Answering
 pub mod Changing
 pub mod Maps
 pub mod Looking
+pub mod Reading
 pub mod Modules
 pub mod OwnedWords
