@@ -3,5 +3,6 @@ pub mod Changing
 pub mod Maps
 pub mod Looking
 pub mod Reading
+pub mod Writing
 pub mod Modules
 pub mod OwnedWords
