@@ -2,6 +2,7 @@ pub mod Answering
 pub mod Changing
 pub mod Maps
 pub mod Looking
+pub mod Numbers
 pub mod Reading
 pub mod Writing
 pub mod Modules
