@@ -1,6 +1,7 @@
 pub mod Answering
 pub mod Changing
 pub mod Maps
+pub mod Ending
 pub mod Looking
 pub mod Numbers
 pub mod Reading
