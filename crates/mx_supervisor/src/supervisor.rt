@@ -1,9 +1,10 @@
 //! The supervisor and its calls by their numbers.
-ghost use Rattle.std.specs.Prelude.{◌≡◌, ℕ, ◌-◌, ◌<◌, ◌≤◌, [], true, false, length, slice_get, All, Option, None, IfSome};
+ghost use Rattle.std.specs.Prelude.{◌≡◌, ℕ, ◌-◌, ◌<◌, ◌≤◌, [], true, false, length, slice_get, Option, None, IfSome};
+ghost use Rattle.std.specs.List.{AllByRecursion};
 ghost use Rattle.std.specs.Option.{option_map};
 ghost use Rattle.mx_words.specs.Announced.{is_announced};
 ghost use Rattle.mx_table.specs.Tables.{IsDomain};
-ghost use Rattle.mx_check.specs.Conditions.{MayLook};
+ghost use Rattle.mx_check.specs.Conditions.{MayLook, IsWithin};
 ghost use Rattle.mx_check.specs.Harts.{hart_at};
 ghost use Rattle.mx_heap.specs.HeapState.{area_of};
 ghost use Rattle.mx_model.specs.Serve.{serve, serve_exit};
@@ -48,7 +49,7 @@ impl<T: PermTables, const N: usize> Supervisor<T, N> {
     /// and each gate is for a word of RAM and between modules.
     pub fn new(checker: Checker<T, N>, ram: Ram, owners: Owners, gates: Gates, heaps: Heaps) -> Supervisor<T, N>
         requires sound { IsSound (parts_of {N = N} T.kind T.maps T.size T.limits N (record { checker = checker; ram = ram; owners = owners; gates = gates; heaps = heaps })) }
-        requires gates { All (IsGate (length (T.maps checker.tables)) (T.size checker.tables)) gates }
+        requires gates { AllByRecursion (IsGate (length (T.maps checker.tables)) (T.size checker.tables)) gates }
         ensures { result ≡ record { checker = checker; ram = ram; owners = owners; gates = gates; heaps = heaps } }
     {
         Supervisor {
@@ -66,7 +67,8 @@ impl<T: PermTables, const N: usize> Supervisor<T, N> {
         requires sound { IsSound (parts_of T.kind T.maps T.size T.limits N self.now) }
         requires announced { is_announced call.now.number ≡ true }
         requires domain { IsDomain (T.maps self.now.checker.tables) call.now.domain }
-        ensures { result ≡ range_of (parts_of T.kind T.maps T.size T.limits N self.now) call.now }
+        ensures range { result ≡ range_of (parts_of T.kind T.maps T.size T.limits N self.now) call.now }
+        ensures within { IsWithin result.0 result.1 (T.size self.now.checker.tables) }
     {
         if names_range(call.number) {
             let [addr, size, _, _] = call.args;
