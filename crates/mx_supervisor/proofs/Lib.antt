@@ -3,3 +3,4 @@ pub mod Changing
 pub mod Maps
 pub mod Modules
 pub mod OwnedWords
+mod Giving
