@@ -4,3 +4,4 @@ pub mod Maps
 pub mod Modules
 pub mod OwnedWords
 mod Giving
+mod Slots
