@@ -1,6 +1,9 @@
 pub mod Answering
 pub mod Changing
 pub mod Maps
+pub mod Looking
+pub mod Reading
+pub mod Writing
 pub mod Modules
 pub mod OwnedWords
 mod Giving
