@@ -8,3 +8,4 @@ pub mod Modules
 pub mod OwnedWords
 mod Giving
 mod Slots
+mod Changes
