@@ -101,3 +101,7 @@ range-heap p call named =
 -- a number that isn't above another
 pub not-above : (m n : ℕ) → (m < n → ⊥) → nat_lt m n ≡ false
 not-above m n out = ⊎_elim (λ (h : m < n). absurd (out h)) (λ (h : n ≤ m). le-ltb m n h) (cases_lt m n)
+
+-- the same, by another name of the number of modules
+pub gives-in : (c : ChangeOf) (first count m n : ℕ) (f : ℕ → Option Perm) → m ≡ n → Gives c first count m f → Gives c first count n f
+gives-in c first count m n f e gives = subst (λ (k : ℕ). Gives c first count k f) e gives
