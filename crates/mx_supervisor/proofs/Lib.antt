@@ -9,3 +9,4 @@ pub mod OwnedWords
 mod Giving
 mod Slots
 mod Changes
+mod Blocks
