@@ -1,11 +1,12 @@
 -- Calls that begin and end blocks.
-use Rattle.std.proofs.Common.{◌≡◌, ℕ, zero, suc, ◌+◌, ◌-◌, ◌*◌, ◌^◌, ◌<◌, ◌≤◌, nat_le, List, [], ◌∷◌, length, get_or, set, refl, sym, ◌∙◌, ap, subst, arith, Bool, true, false, not, ◌&&◌, Option, Some, None}
-use Rattle.std.proofs.lemmas.Bool.{lt-leb}
+use Rattle.std.proofs.Common.{◌≡◌, ℕ, zero, suc, ◌+◌, ◌-◌, ◌*◌, ◌^◌, ◌<◌, ◌≤◌, nat_le, ◌==◌, List, [], ◌∷◌, length, get_or, set, refl, sym, ◌∙◌, ap, subst, arith, Bool, true, false, not, ◌&&◌, ⊎_elim, Option, Some, None}
+use Rattle.std.specs.Prelude.{IsNone, IsSome, is_some}
+use Rattle.std.proofs.lemmas.Bool.{cases_lt, lt-leb}
 use Rattle.std.proofs.lemmas.List.{length-set}
 use Rattle.mx_words.specs.Bytes.{cleared_at}
 use Rattle.mx_words.specs.Changes.{changed_maps}
 use Rattle.mx_words.specs.declared.perm.Perm.{Perm}
-use Rattle.mx_words.specs.FirstFit.{Area, with_block, without_block}
+use Rattle.mx_words.specs.FirstFit.{Area, place, most_blocks, with_block, without_block}
 use Rattle.mx_words.specs.Ranges.{address_of, ram_base}
 use Rattle.mx_words.proofs.ChangeLaws.{length-changed_from}
 use Rattle.mx_heap.specs.HeapState.{HeapState}
@@ -13,7 +14,7 @@ use Rattle.mx_check.specs.Harts.{hart_at}
 use Rattle.mx_model.specs.declared.values.Call.{Call}
 use Rattle.mx_model.specs.Checks.{arg}
 use Rattle.mx_model.specs.Reads.{Reads, Change}
-use Rattle.mx_model.specs.Serve.{Served, answers, changes, code, with_blocks, serve_alloc, serve_free, allocated, alloc_change}
+use Rattle.mx_model.specs.Serve.{Served, answers, changes, code, with_blocks, serve_alloc, serve_free, allocated, alloc_place, alloc_change}
 use Rattle.mx_model.specs.State.{Core, module_at}
 use Rattle.mx_supervisor.specs.declared.answer.Answer.{Answer}
 use Rattle.mx_supervisor.specs.Answers.{plain, is_refusal}
@@ -22,7 +23,7 @@ use Rattle.mx_supervisor.specs.Parts.{Parts, core_of, IsSound}
 use Rattle.mx_supervisor.specs.Served.{ServesAs, Meets}
 use Rattle.mx_supervisor.proofs.Answering.{row_on, done}
 use Rattle.mx_supervisor.proofs.Changes.{sound-changed}
-use Rattle.mx_supervisor.proofs.Modules.{core-blocks, module-blocks}
+use Rattle.mx_supervisor.proofs.Modules.{core-blocks, module-heap, module-blocks}
 
 -- other blocks leave the areas
 area-set : (heaps : List HeapState) (i j : ℕ) (blocks : List Area) →
@@ -93,3 +94,40 @@ alloc-done call p q u first given a sound few long eq eu ea es =
     let whole : u ≡ v = eu ∙ ap (λ (x : Parts). record x { heaps = with_blocks_at call.domain (with_block b (heap_at x.heaps call.domain).blocks) x.heaps;
       ram = cleared_at x.ram (4 * first) (4 * arg call 0) }) eq in
     rw (whole, ea) m
+
+-- what call 6 comes to, test by test
+pub alloc-none : (r : Reads) (c : Core) (call : Call) → (arg call 0 == 0) ≡ false → alloc_place c call ≡ None → serve_alloc r c call ≡ answers c (code 6)
+alloc-none r c call z e = rw (z, e) refl
+
+pub alloc-full : (r : Reads) (c : Core) (call : Call) (first : ℕ) → (arg call 0 == 0) ≡ false → alloc_place c call ≡ Some first →
+    nat_le most_blocks (length (module_at c call.domain).blocks) ≡ true → serve_alloc r c call ≡ answers c (code 7)
+alloc-full r c call first z e f = rw (z, e, f) refl
+
+pub alloc-unfit : (r : Reads) (c : Core) (call : Call) (first : ℕ) → (arg call 0 == 0) ≡ false → alloc_place c call ≡ Some first →
+    nat_le most_blocks (length (module_at c call.domain).blocks) ≡ false → r.fits (alloc_change first call) ≡ false → serve_alloc r c call ≡ answers c (code 5)
+alloc-unfit r c call first z e f k = rw (z, e, f, k) refl
+
+pub alloc-fit : (r : Reads) (c : Core) (call : Call) (first : ℕ) → (arg call 0 == 0) ≡ false → alloc_place c call ≡ Some first →
+    nat_le most_blocks (length (module_at c call.domain).blocks) ≡ false → r.fits (alloc_change first call) ≡ true → serve_alloc r c call ≡ allocated c call first
+alloc-fit r c call first z e f k = rw (z, e, f, k) refl
+
+-- the place and the number of blocks in a state made of parts
+pub place-in : (rest : Core) (p : Parts) (call : Call) →
+    alloc_place (core_of rest p) call ≡ place (heap_at p.heaps call.domain).area (heap_at p.heaps call.domain).blocks (arg call 0)
+place-in rest p call = rw (module-heap rest p call.domain, module-blocks rest p call.domain) refl
+
+pub blocks-in : (rest : Core) (p : Parts) (call : Call) → length (module_at (core_of rest p) call.domain).blocks ≡ length (heap_at p.heaps call.domain).blocks
+blocks-in rest p call = ap length (module-blocks rest p call.domain)
+
+pub none-of : (o : Option ℕ) → IsNone o → o ≡ None
+none-of None h = refl
+none-of (Some x) h = absurd (let q : ⊥ = cc in q)
+
+pub some-of : (o : Option ℕ) → IsSome o → (x : ℕ) × (o ≡ Some x)
+some-of None h = absurd (let q : ⊥ = cc in q)
+some-of (Some x) h = (x, refl)
+
+-- a heap that isn't full, by what its place told
+pub not-full : (o : Option ℕ) (n first : ℕ) → n ≤ most_blocks → o ≡ Some first → (IsSome o × (n ≡ most_blocks) → ⊥) → n < most_blocks
+not-full o n first few e out = ⊎_elim (λ (h : n < most_blocks). h)
+    (λ (h : most_blocks ≤ n). absurd (out (ap is_some e, omega (arith, few, h)))) (cases_lt n most_blocks)
