@@ -1,7 +1,9 @@
 pub mod Answering
 pub mod Changing
 pub mod Maps
+pub mod Ending
 pub mod Looking
+pub mod Numbers
 pub mod Reading
 pub mod Writing
 pub mod Modules
