@@ -1,5 +1,5 @@
 -- One instruction over a bus: what it answers, and what it leaves.
-use Rattle.std.specs.Prelude.{◌≡◌, ℕ, ◌%◌, Bool, true, false, ◌==◌, if◌then◌else◌, List, [], ◌∷◌, flat_map, Option, Some, None}
+use Rattle.std.specs.Prelude.{◌≡◌, ℕ, ◌%◌, ◌<◌, Bool, true, false, ◌==◌, if◌then◌else◌, List, [], ◌∷◌, flat_map, Option, Some, None}
 use Rattle.mx_words.specs.declared.perm.Perm.{Perm}
 use Rattle.mx_words.specs.declared.perm.Access.TheVariants.{Read, Write, Execute}
 use Rattle.mx_isa.specs.declared.inst.Inst.{Inst}
@@ -77,6 +77,13 @@ IsAligned (Next pc) = pc % 4 ≡ 0
 IsAligned (Trap fault) = Unit {0}
 IsAligned Call = Unit {0}
 IsAligned (Back rd target) = Unit {0}
+
+-- the cause of a trap is one of an instruction's
+abbrev pub HasCause : Outcome → Type 0
+HasCause (Next pc) = Unit {0}
+HasCause (Trap fault) = fault.cause < 8
+HasCause Call = Unit {0}
+HasCause (Back rd target) = Unit {0}
 
 -- an instruction of a hart in a state of the machine, by what the state answers of rights: its effect, whether a JAL or JALR is to return, its
 -- answer, and the registers and bytes that it leaves

@@ -27,6 +27,7 @@ impl Regs {
     }
 
     /// The value of register r, 0 to 31.
+    #[inline(always)]
     pub fn get(&self, r: u32) -> u32
         requires { r < 32 }
         ensures value { result ≡ reg self.now r }
@@ -37,6 +38,7 @@ impl Regs {
     }
 
     /// Sets register r, 0 to 31; x0 stays 0.
+    #[inline(always)]
     pub fn set(&mut self, r: u32, value: u32)
         requires { r < 32 }
         ensures values { self.new ≡ written self.old r value }

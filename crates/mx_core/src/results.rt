@@ -7,6 +7,7 @@ use mx_isa::{Cond, ImmOp, LoadWidth, RegOp, StoreWidth};
 
 /// Whether a branch is taken (RV32I 2.5).
 #[tactic(auto, unfolding(mx_model::specs::Effect::holds))]
+#[inline(always)]
 pub fn is_taken(cond: Cond, a: u32, b: u32) -> bool
     ensures { result ≡ holds cond a b }
 {
@@ -22,6 +23,7 @@ pub fn is_taken(cond: Cond, a: u32, b: u32) -> bool
 
 /// The result of an operation with an immediate (RV32I 2.4.1).
 #[tactic(auto, unfolding(mx_model::specs::Effect::imm_result))]
+#[inline(always)]
 pub fn with_immediate(op: ImmOp, a: u32, imm: u32) -> u32
     ensures { result ≡ imm_result op a imm }
 {
@@ -40,6 +42,7 @@ pub fn with_immediate(op: ImmOp, a: u32, imm: u32) -> u32
 
 /// The result of an operation on two registers (RV32I 2.4.2, M 7.1 and 7.2).
 #[tactic(auto, unfolding(mx_model::specs::Effect::reg_result))]
+#[inline(always)]
 pub fn of_registers(op: RegOp, a: u32, b: u32) -> u32
     ensures { result ≡ reg_result op a b }
 {
@@ -66,6 +69,7 @@ pub fn of_registers(op: RegOp, a: u32, b: u32) -> u32
 }
 
 #[tactic(auto, unfolding(mx_model::specs::Effect::reg_result))]
+#[inline(always)]
 fn high_signed(a: u32, b: u32) -> u32
     ensures { result ≡ reg_result RegOp.Mulh a b }
 {
@@ -74,6 +78,7 @@ fn high_signed(a: u32, b: u32) -> u32
 }
 
 #[tactic(auto, unfolding(mx_model::specs::Effect::reg_result))]
+#[inline(always)]
 fn high_mixed(a: u32, b: u32) -> u32
     ensures { result ≡ reg_result RegOp.Mulhsu a b }
 {
@@ -82,6 +87,7 @@ fn high_mixed(a: u32, b: u32) -> u32
 }
 
 #[tactic(auto, unfolding(mx_model::specs::Effect::reg_result))]
+#[inline(always)]
 fn high_unsigned(a: u32, b: u32) -> u32
     ensures { result ≡ reg_result RegOp.Mulhu a b }
 {
@@ -89,6 +95,7 @@ fn high_unsigned(a: u32, b: u32) -> u32
 }
 
 #[tactic(auto, unfolding(mx_model::specs::Effect::reg_result))]
+#[inline(always)]
 fn quotient(a: u32, b: u32) -> u32
     ensures { result ≡ reg_result RegOp.Div a b }
 {
@@ -102,6 +109,7 @@ fn quotient(a: u32, b: u32) -> u32
 }
 
 #[tactic(auto, unfolding(mx_model::specs::Effect::reg_result))]
+#[inline(always)]
 fn quotient_unsigned(a: u32, b: u32) -> u32
     ensures { result ≡ reg_result RegOp.Divu a b }
 {
@@ -109,6 +117,7 @@ fn quotient_unsigned(a: u32, b: u32) -> u32
 }
 
 #[tactic(auto, unfolding(mx_model::specs::Effect::reg_result))]
+#[inline(always)]
 fn remainder(a: u32, b: u32) -> u32
     ensures { result ≡ reg_result RegOp.Rem a b }
 {
@@ -122,6 +131,7 @@ fn remainder(a: u32, b: u32) -> u32
 }
 
 #[tactic(auto, unfolding(mx_model::specs::Effect::reg_result))]
+#[inline(always)]
 fn remainder_unsigned(a: u32, b: u32) -> u32
     ensures { result ≡ reg_result RegOp.Remu a b }
 {
@@ -129,6 +139,7 @@ fn remainder_unsigned(a: u32, b: u32) -> u32
 }
 
 /// How many bytes a load reads.
+#[inline(always)]
 pub fn bytes_of_load(width: LoadWidth) -> u32
     ensures table { result ≡ load_size width }
     ensures size { IsSize result }
@@ -141,6 +152,7 @@ pub fn bytes_of_load(width: LoadWidth) -> u32
 }
 
 /// How many bytes a store writes.
+#[inline(always)]
 pub fn bytes_of_store(width: StoreWidth) -> u32
     ensures table { result ≡ store_size width }
     ensures size { IsSize result }
@@ -154,6 +166,7 @@ pub fn bytes_of_store(width: StoreWidth) -> u32
 
 /// What a load writes, from the number that its bytes hold.
 #[tactic(auto, unfolding(mx_model::specs::Effect::loaded, mx_isa::specs::Fields::extended))]
+#[inline(always)]
 pub fn extended(width: LoadWidth, n: u32) -> u32
     requires { n < 256 ^ load_size width }
     ensures { result ≡ loaded width n }

@@ -3,7 +3,7 @@ ghost use Rattle.std.specs.Prelude.{◌≡◌, ◌%◌, ◌<◌, ◌==◌, ◌�
 ghost use Rattle.mx_isa.specs.Ranges.{IsValid};
 ghost use Rattle.mx_model.specs.Effect.{effect, loads_at, stores_at, store_size, reg, written, next, plus};
 ghost use Rattle.mx_core.specs.Bus.{IsTouched};
-ghost use Rattle.mx_core.specs.Exec.{fetched, outcome_of, regs_after, bytes_after, touches_of, fetch_touch, trap, IsAligned};
+ghost use Rattle.mx_core.specs.Exec.{fetched, outcome_of, regs_after, bytes_after, touches_of, fetch_touch, trap, IsAligned, HasCause};
 
 use crate::bus::{Bus, Denied};
 use crate::outcome::Outcome;
@@ -27,8 +27,10 @@ use mx_model::Fault;
 /// 7. Otherwise `Next` with the next pc; the registers and bytes are the instruction's.
 ///
 /// `Trap`, `Call` and `Back` change no register and no byte. The bus is touched once for the fetch,
-/// with place 0, and once more for a load or store, with the number of its base register.
+/// with place 0, and once more for a load or store, with the number of its base register. The pc of
+/// `Next` is a multiple of 4, and the cause of a `Trap` is below 8.
 #[tactic(auto, unfolding(crate::specs::Exec::fetched, crate::specs::Exec::outcome_of, crate::specs::Exec::regs_after, crate::specs::Exec::bytes_after, crate::specs::Exec::touches_of))]
+#[inline(always)]
 pub fn exec<B: Bus>(bus: &mut B, regs: &mut Regs, pc: u32, returns: bool) -> Outcome
     requires usable { B.usable bus.old }
     requires aligned { pc % 4 ≡ 0 }
@@ -40,6 +42,7 @@ pub fn exec<B: Bus>(bus: &mut B, regs: &mut Regs, pc: u32, returns: bool) -> Out
         ≡ bytes_after (B.perm bus.old) (B.bytes bus.old) (fetched (B.perm bus.old) (B.bytes bus.old) regs.old pc) }
     ensures touches { IsTouched B.touches bus.old (fetch_touch pc ∷ touches_of (fetched (B.perm bus.old) (B.bytes bus.old) regs.old pc)) bus.new }
     ensures aligned { IsAligned result }
+    ensures cause { HasCause result }
     ensures map { B.perm bus.new ≡ B.perm bus.old }
     ensures usable { B.usable bus.new }
 {
@@ -54,6 +57,7 @@ pub fn exec<B: Bus>(bus: &mut B, regs: &mut Regs, pc: u32, returns: bool) -> Out
 
 // Carries out one instruction.
 #[tactic(auto, unfolding(mx_model::specs::Effect::effect, mx_isa::specs::Ranges::IsValid, crate::specs::Exec::outcome_of, crate::specs::Exec::regs_after, crate::specs::Exec::bytes_after, crate::specs::Exec::touches_of))]
+#[inline(always)]
 fn act<B: Bus>(bus: &mut B, regs: &mut Regs, pc: u32, returns: bool, inst: Inst) -> Outcome
     requires usable { B.usable bus.old }
     requires aligned { pc % 4 ≡ 0 }
@@ -65,6 +69,7 @@ fn act<B: Bus>(bus: &mut B, regs: &mut Regs, pc: u32, returns: bool, inst: Inst)
         ≡ bytes_after (B.perm bus.old) (B.bytes bus.old) (effect inst regs.old pc) }
     ensures touches { IsTouched B.touches bus.old (touches_of (effect inst regs.old pc)) bus.new }
     ensures aligned { IsAligned result }
+    ensures cause { HasCause result }
     ensures map { B.perm bus.new ≡ B.perm bus.old }
     ensures usable { B.usable bus.new }
 {
@@ -114,6 +119,7 @@ fn act<B: Bus>(bus: &mut B, regs: &mut Regs, pc: u32, returns: bool, inst: Inst)
     }
 }
 
+#[inline(always)]
 fn trapped(cause: u32, value: u32) -> Outcome
     ensures { result ≡ trap cause value }
 {
@@ -121,11 +127,13 @@ fn trapped(cause: u32, value: u32) -> Outcome
 }
 
 // rd takes a result.
+#[inline(always)]
 fn take(regs: &mut Regs, pc: u32, rd: u32, value: u32) -> Outcome
     requires aligned { pc % 4 ≡ 0 }
     requires rd { rd < 32 }
     ensures outcome { result ≡ Outcome.Next (next pc) }
     ensures aligned { IsAligned result }
+    ensures cause { HasCause result }
     ensures regs { regs.new ≡ written regs.old rd value }
 {
     regs.set(rd, value);
@@ -133,9 +141,11 @@ fn take(regs: &mut Regs, pc: u32, rd: u32, value: u32) -> Outcome
 }
 
 // The hart goes on at a target, unless it is no multiple of 4.
+#[inline(always)]
 fn go_to(target: u32) -> Outcome
     ensures outcome { result ≡ (if target % 4 == 0 then Outcome.Next target else trap 0 target) }
     ensures aligned { IsAligned result }
+    ensures cause { HasCause result }
 {
     if target % 4 == 0 {
         Outcome::Next(target)
@@ -145,6 +155,7 @@ fn go_to(target: u32) -> Outcome
 }
 
 // JAL or JALR to a target.
+#[inline(always)]
 fn jump(regs: &mut Regs, pc: u32, returns: bool, rd: u32, target: u32) -> Outcome
     requires { rd < 32 }
     ensures outcome { result
@@ -152,6 +163,7 @@ fn jump(regs: &mut Regs, pc: u32, returns: bool, rd: u32, target: u32) -> Outcom
     ensures regs { regs.new
         ≡ (if returns then regs.old else (if target % 4 == 0 then written regs.old rd (next pc) else regs.old)) }
     ensures aligned { IsAligned result }
+    ensures cause { HasCause result }
 {
     if returns {
         Outcome::Back { rd, target }
@@ -165,6 +177,7 @@ fn jump(regs: &mut Regs, pc: u32, returns: bool, rd: u32, target: u32) -> Outcom
 
 // rd takes the bytes at rs1 + imm.
 #[tactic(auto, unfolding(crate::specs::Exec::outcome_of, crate::specs::Exec::regs_after, crate::specs::Exec::bytes_after, crate::specs::Exec::touches_of))]
+#[inline(always)]
 fn load<B: Bus>(
     bus: &mut B,
     regs: &mut Regs,
@@ -183,6 +196,7 @@ fn load<B: Bus>(
     ensures bytes { B.bytes bus.new ≡ B.bytes bus.old }
     ensures touches { IsTouched B.touches bus.old (touches_of (loads_at rs1 (plus (reg regs.old rs1) imm) width rd)) bus.new }
     ensures aligned { IsAligned result }
+    ensures cause { HasCause result }
     ensures map { B.perm bus.new ≡ B.perm bus.old }
     ensures usable { B.usable bus.new }
 {
@@ -199,6 +213,7 @@ fn load<B: Bus>(
 
 // The low bytes of rs2 go to rs1 + imm.
 #[tactic(auto, unfolding(crate::specs::Exec::outcome_of, crate::specs::Exec::regs_after, crate::specs::Exec::bytes_after, crate::specs::Exec::touches_of))]
+#[inline(always)]
 fn store<B: Bus>(
     bus: &mut B,
     regs: &mut Regs,
@@ -217,6 +232,7 @@ fn store<B: Bus>(
     ensures bytes { B.bytes bus.new ≡ bytes_after (B.perm bus.old) (B.bytes bus.old) (stores_at rs1 (plus (reg regs.old rs1) imm) (store_size width) (reg regs.old rs2)) }
     ensures touches { IsTouched B.touches bus.old (touches_of (stores_at rs1 (plus (reg regs.old rs1) imm) (store_size width) (reg regs.old rs2))) bus.new }
     ensures aligned { IsAligned result }
+    ensures cause { HasCause result }
     ensures map { B.perm bus.new ≡ B.perm bus.old }
     ensures usable { B.usable bus.new }
 {

@@ -32,6 +32,10 @@ cut-6 a b c d e f g h = simp append_assoc
 pub cut-7 : (a b c d e f g h : List ℕ) → a ++ b ++ c ++ d ++ e ++ f ++ g ++ h ≡ (a ++ b ++ c ++ d ++ e ++ f) ++ (g ++ h)
 cut-7 a b c d e f g h = simp append_assoc
 
+-- six parts, of which the last one has three
+pub eight : (a b c d e f g h : List ℕ) → a ++ b ++ c ++ d ++ e ++ (f ++ g ++ h) ≡ a ++ b ++ c ++ d ++ e ++ f ++ g ++ h
+eight a b c d e f g h = simp append_assoc
+
 -- the bytes of segments where the program headers say that they stand
 pub bytes-there : (bytes part rest : List ℕ) (at : ℕ) (segments : List Segment) → bytes ≡ part ++ (contents segments ++ rest) → at ≡ length part
     → map (λ s. take s.file (drop s.offset bytes)) (placed at segments) ≡ map (λ s. s.bytes) segments

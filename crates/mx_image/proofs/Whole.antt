@@ -1,8 +1,8 @@
 -- The whole image, from its parts one after the other.
-use Rattle.std.proofs.Common.{◌≡◌, ℕ, ◌+◌, List, [], ◌∷◌, ◌++◌, length, refl}
+use Rattle.std.proofs.Common.{◌≡◌, ℕ, ◌+◌, List, [], ◌++◌, length, refl}
 use Rattle.mx_image.specs.declared.segment.Segment.{Segment}
 use Rattle.mx_image.specs.Program.{Label}
-use Rattle.mx_image.specs.Image.{file_header, program_headers, contents, symbol_table, padded, strings, null_section, symbol_section, string_section, contents_at, symbols_at, strings_at, sections_at, image_with}
+use Rattle.mx_image.specs.Image.{file_header, program_headers, contents, symbol_table, padded, strings, section_headers, contents_at, symbols_at, strings_at, sections_at, image_with}
 
 -- a layout, and what was written after each part
 pub record IsWritten (entry : ℕ) (segments : List Segment) (labels : List Label) (count start symbols symbols_place size strings_place sections : ℕ)
@@ -24,7 +24,7 @@ pub record IsWritten (entry : ℕ) (segments : List Segment) (labels : List Labe
 pub whole : (entry : ℕ) (segments : List Segment) (labels : List Label) (count start symbols symbols_place size strings_place sections : ℕ)
     (a b c d e f g : List ℕ)
     → IsWritten entry segments labels count start symbols symbols_place size strings_place sections a b c d e f
-    → g ≡ f ++ null_section ++ symbol_section symbols_place symbols ++ string_section strings_place size
+    → g ≡ f ++ section_headers symbols_place symbols strings_place size
     → g ≡ image_with entry segments labels
 unfolding image_with
 whole entry segments labels count start symbols symbols_place size strings_place sections a b c d e f g w is =

@@ -55,7 +55,7 @@ contents segments = flat_map (λ s. padded s.bytes) segments
 abbrev pub null_symbol : List ℕ
 null_symbol = words (0 ∷ 0 ∷ 0 ∷ 0 ∷ [])
 
--- of a label whose name stands at a place in the strings: st_name, st_value, st_size; st_info and st_other; st_shndx for an address
+-- of a label whose name stands at a place in the strings: st_name, st_value, st_size; st_info, st_other; st_shndx
 abbrev pub symbol : ℕ → Label → List ℕ
 symbol at l = words (at ∷ l.address ∷ 0 ∷ []) ++ 0 ∷ 0 ∷ halves (0xFFF1 ∷ [])
 
@@ -80,14 +80,19 @@ strings labels = 0 ∷ names labels
 abbrev pub null_section : List ℕ
 null_section = words (0 ∷ 0 ∷ 0 ∷ 0 ∷ 0 ∷ 0 ∷ 0 ∷ 0 ∷ 0 ∷ 0 ∷ [])
 
--- of the symbol table, with so many symbols: sh_name, sh_type 2, sh_flags, sh_addr; sh_offset, sh_size; sh_link 2, sh_info for the number
--- of local symbols, which all are; sh_addralign, sh_entsize 16
+-- of so many symbols at a place: sh_name, sh_type 2, sh_flags, sh_addr; sh_offset, sh_size; sh_link 2, sh_info, which counts
+-- the local ones, as all are; sh_addralign, sh_entsize 16
 abbrev pub symbol_section : ℕ → ℕ → List ℕ
 symbol_section at count = words (0 ∷ 2 ∷ 0 ∷ 0 ∷ at ∷ 16 * count ∷ 2 ∷ count ∷ 0 ∷ 16 ∷ [])
 
--- of the strings, with so many bytes: sh_type 3, sh_offset, sh_size
+-- of strings with so many bytes at a place: sh_type 3; sh_offset, sh_size
 abbrev pub string_section : ℕ → ℕ → List ℕ
 string_section at size = words (0 ∷ 3 ∷ 0 ∷ 0 ∷ at ∷ size ∷ 0 ∷ 0 ∷ 0 ∷ 0 ∷ [])
+
+-- the null section header, that of so many symbols at a place, and that of the strings with so many bytes at a place
+abbrev pub section_headers : ℕ → ℕ → ℕ → ℕ → List ℕ
+section_headers symbols_at count strings_at size =
+    null_section ++ symbol_section symbols_at count ++ string_section strings_at size
 
 -- where the bytes of segments begin, after the headers of so many
 abbrev pub contents_at : ℕ → ℕ
@@ -113,9 +118,7 @@ image_with entry segments labels =
     ++ contents segments
     ++ symbol_table labels
     ++ padded (strings labels)
-    ++ null_section
-    ++ symbol_section (symbols_at segments) (length labels + 1)
-    ++ string_section (strings_at segments labels) (length (strings labels))
+    ++ section_headers (symbols_at segments) (length labels + 1) (strings_at segments labels) (length (strings labels))
 
 -- the image of a program: segments without bytes are left out
 abbrev pub image_of : Program → List ℕ

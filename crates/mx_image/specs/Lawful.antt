@@ -1,10 +1,12 @@
 -- Programs that have an image, and how a loader reads it.
-use Rattle.std.specs.Prelude.{◌≡◌, ◌≢◌, ◌⊎◌, ℕ, ◌+◌, ◌^◌, ◌%◌, ◌<◌, ◌≤◌, List, [], ◌∷◌, length, slice_index}
+use Rattle.std.specs.Prelude.{◌≡◌, ◌≢◌, ◌⊎◌, ℕ, ◌+◌, ◌^◌, ◌%◌, ◌<◌, ◌≤◌, List, [], ◌∷◌, length, take, drop, Some}
 use Rattle.std.specs.List.{AllByRecursion}
+use Rattle.mx_elf.specs.declared.image.Image.{Image}
 use Rattle.mx_elf.specs.declared.segment.Seg.{Seg}
+use Rattle.mx_elf.specs.Symbol.{symbol_of}
 use Rattle.mx_image.specs.declared.segment.Segment.{Segment}
 use Rattle.mx_image.specs.Program.{Label, Program, filled, byte_count}
-use Rattle.mx_image.specs.Image.{rounded}
+use Rattle.mx_image.specs.Image.{rounded, contents_at}
 
 -- a name of 1 to 64 bytes
 pub record IsName (name : List ℕ) : Type 0 where
@@ -46,9 +48,28 @@ pub record IsProgram (p : Program) : Type 0 where
   pub labels : AllByRecursion IsLabel p.labels
   pub distinct : AreDistinct p.labels
 
+-- a name that no label of the program has
+abbrev pub IsNoLabel : Program → List ℕ → Type 0
+IsNoLabel p name = AllByRecursion (λ l. l.name ≢ name) p.labels
+
 -- the loaded segments of an image, their bytes standing one after the other at multiples of 4, the first ones at a place
 abbrev pub placed : ℕ → List Segment → List Seg
 placed at [] = []
 placed at (s ∷ segments) =
     record { offset = at; file = length s.bytes; address = s.address; memory = length s.bytes; flags = s.flags }
     ∷ placed (at + rounded (length s.bytes)) segments
+
+-- how a loader reads the image of a program
+abbrev pub read_of : Program → Image
+read_of p = record {
+  entry = p.entry;
+  segments = placed (contents_at (length (filled p.segments))) (filled p.segments);
+}
+
+-- the bytes that a file has of a segment
+abbrev pub file_bytes : List ℕ → Seg → List ℕ
+file_bytes bytes s = take s.file (drop s.offset bytes)
+
+-- whether a file has a label's address by its name
+abbrev pub IsTold : List ℕ → Label → Type 0
+IsTold bytes l = symbol_of bytes l.name ≡ Some l.address

@@ -1,4 +1,5 @@
 pub mod Program
 pub mod Labels
 pub mod Image
+pub mod Layout
 pub mod Lawful

@@ -1,11 +1,11 @@
 //! The parts of an image, in their order.
 
-ghost use Rattle.std.specs.Prelude.{◌≡◌, ◌+◌, ◌*◌, ◌≤◌, ◌<◌, ◌^◌, ◌++◌, [], ℕ, length, map, IfOk, OnOk};
-ghost use Rattle.std.specs.List.{AllByRecursion};
-ghost use Rattle.mx_image.specs.Program.{filled, byte_count};
+ghost use Rattle.std.specs.Prelude.{◌≡◌, ◌+◌, ◌*◌, ◌≤◌, ◌<◌, ◌^◌, ◌++◌, [], length, IfOk, OnOk};
+ghost use Rattle.mx_image.specs.Program.{filled};
 ghost use Rattle.mx_image.specs.Labels.{label_of, labels_of};
-ghost use Rattle.mx_image.specs.Image.{rounded, padded, file_header, program_header, program_headers, contents, symbol, symbol_table, symbols_from, names, strings, symbol_section, string_section, null_section, image_with, image_of, contents_at, symbols_at, strings_at, sections_at};
-ghost use Rattle.mx_image.specs.Lawful.{IsName, IsSized};
+ghost use Rattle.mx_image.specs.Image.{rounded, padded, file_header, program_header, program_headers, contents, symbol, symbol_table, symbols_from, names, strings, section_headers, image_with, image_of};
+ghost use Rattle.mx_image.specs.Layout.{layout_of};
+ghost use Rattle.mx_image.specs.Lawful.{IsSized};
 
 use crate::layout::{
     EM_RISCV, ET_EXEC, HEADER_SIZE, IDENT, PROGRAM_HEADER_SIZE, PT_LOAD, SECTION_HEADER_SIZE,
@@ -45,7 +45,8 @@ fn put_parts(
     requires contents { length (contents (filled segments.now)) < 2 ^ 28 }
     requires labels { length labels.now ≤ 2 ^ 20 }
     requires names { length (names (labels_of labels.now)) < 2 ^ 28 }
-    ensures { OnOk result (out.new ≡ image_with entry (filled segments.now) (labels_of labels.now)) }
+    ensures { let named = labels_of labels.now in
+        OnOk result (out.new ≡ image_with entry (filled segments.now) named) }
 {
     let layout = lay_out(segments, labels);
     put_file_header(out, entry, layout.sections_at, layout.segments)?;
@@ -74,13 +75,7 @@ fn lay_out(segments: &[Segment], labels: &[NamedAddress]) -> Layout
     requires contents { length (contents (filled segments.now)) < 2 ^ 28 }
     requires labels { length labels.now ≤ 2 ^ 20 }
     requires names { length (names (labels_of labels.now)) < 2 ^ 28 }
-    ensures segments { result.segments ≡ length (filled segments.now) }
-    ensures contents_at { result.contents_at ≡ contents_at (length (filled segments.now)) }
-    ensures symbols { result.symbols ≡ length labels.now + 1 }
-    ensures symbols_at { result.symbols_at ≡ symbols_at (filled segments.now) }
-    ensures strings_size { result.strings_size ≡ length (strings (labels_of labels.now)) }
-    ensures strings_at { result.strings_at ≡ strings_at (filled segments.now) (labels_of labels.now) }
-    ensures sections_at { result.sections_at ≡ sections_at (filled segments.now) (labels_of labels.now) }
+    ensures { result ≡ layout_of (filled segments.now) (labels_of labels.now) }
 {
     let count = filled_count(segments);
     let contents_at = HEADER_SIZE + PROGRAM_HEADER_SIZE * count;
@@ -253,9 +248,10 @@ fn put_strings(out: &mut Blob, labels: &[NamedAddress], size: u32) -> Result<(),
     requires room { length out.old + rounded size ≤ 2 ^ 31 }
     ensures { OnOk result (out.new ≡ out.old ++ padded (strings (labels_of labels.now))) }
 {
-    out.push(0)?;
+    let zeros = rounded(size) - size;
+    put_bytes(out, &[0])?;
     put_names(out, labels)?;
-    put_zeros(out, rounded(size) - size)
+    put_zeros(out, zeros)
 }
 
 /// Appends names, each with a zero byte after it.
@@ -274,8 +270,9 @@ fn put_names(out: &mut Blob, labels: &[NamedAddress]) -> Result<(), NoMemory>
 fn put_sections(out: &mut Blob, layout: &Layout) -> Result<(), NoMemory>
     requires room { length out.old + 120 ≤ 2 ^ 31 }
     requires few { layout.now.symbols < 2 ^ 24 }
-    ensures { OnOk result (out.new ≡ out.old ++ null_section ++ symbol_section layout.now.symbols_at layout.now.symbols
-        ++ string_section layout.now.strings_at layout.now.strings_size) }
+    ensures { let l = layout.now in
+        let headers = section_headers l.symbols_at l.symbols l.strings_at l.strings_size in
+        OnOk result (out.new ≡ out.old ++ headers) }
 {
     let at = layout.symbols_at;
     let size = SYMBOL_SIZE * layout.symbols;

@@ -1,7 +1,7 @@
 //! Programs, piece by piece.
 
-ghost use Rattle.std.specs.Prelude.{◌≡◌, ◌<◌, ◌^◌, length, OnOk};
-ghost use Rattle.mx_image.specs.Program.{byte_count, no_program, with_entry, with_segment, with_byte, with_label};
+ghost use Rattle.std.specs.Prelude.{◌≡◌, ◌<◌, ◌^◌, length, OnOk, OnErr};
+ghost use Rattle.mx_image.specs.Program.{label, byte_count, no_program, with_entry, with_segment, with_byte, with_label};
 
 use crate::segment::Segment;
 use mx_words::NoMemory;
@@ -29,9 +29,9 @@ impl<'a> Model for ProgramBuilder<'a> {
 
     ghost Value = { Program };
 
-    ghost use Rattle.mx_image.specs.Labels.{labels_of};
+    ghost use Rattle.mx_image.specs.Labels.{program_of};
 
-    ghost view = { λ p. record { entry = p.entry; segments = p.segments.items; labels = labels_of p.labels.items } };
+    ghost view = { λ p. program_of p.entry p.segments.items p.labels.items };
 }
 
 impl<'a> ProgramBuilder<'a> {
@@ -53,9 +53,10 @@ impl<'a> ProgramBuilder<'a> {
         self.entry = entry;
     }
 
-    /// Appends a segment.
+    /// Appends a segment. Where memory is refused, the program stays as it was.
     pub fn add_segment(&mut self, segment: Segment) -> Result<(), NoMemory>
-        ensures { OnOk result (self.new ≡ with_segment segment self.old) }
+        ensures ok { OnOk result (self.new ≡ with_segment segment self.old) }
+        ensures err { OnErr result (self.new ≡ self.old) }
     {
         match self.segments.push(segment) {
             Ok(()) => Ok(()),
@@ -63,20 +64,23 @@ impl<'a> ProgramBuilder<'a> {
         }
     }
 
-    /// Appends a byte to the last segment.
+    /// Appends a byte to the last segment; all segments together hold fewer than 2^31 bytes. Where memory is refused,
+    /// the program stays as it was.
     pub fn add_byte(&mut self, byte: u8) -> Result<(), NoMemory>
         requires begun { 0 < length self.old.segments }
         requires room { byte_count self.old.segments < 2 ^ 31 }
-        ensures { OnOk result (self.new ≡ with_byte byte self.old) }
+        ensures ok { OnOk result (self.new ≡ with_byte byte self.old) }
+        ensures err { OnErr result (self.new ≡ self.old) }
     {
         let last = self.segments.len() - 1;
         let segment = &mut self.segments[last];
         segment.bytes.push(byte)
     }
 
-    /// Appends a label.
+    /// Appends a label. Where memory is refused, the program stays as it was.
     pub fn add_label(&mut self, name: &'a [u8], address: u32) -> Result<(), NoMemory>
-        ensures { OnOk result (self.new ≡ with_label (record { name = name.now; address = address }) self.old) }
+        ensures ok { OnOk result (self.new ≡ with_label (label name.now address) self.old) }
+        ensures err { OnErr result (self.new ≡ self.old) }
     {
         match self.labels.push(NamedAddress { name, address }) {
             Ok(()) => Ok(()),

@@ -32,8 +32,8 @@ pub(crate) fn put_halves(out: &mut Blob, numbers: &[u16]) -> Result<(), NoMemory
     requires { length out.old + 2 * length numbers.now ≤ 2 ^ 31 }
     ensures { OnOk result (out.new ≡ out.old ++ halves numbers.now) }
 {
-    'numbers: for number in numbers {
-        put_bytes(out, &number.to_le_bytes())?;
+    'numbers: for half in numbers {
+        put_bytes(out, &half.to_le_bytes())?;
     }
     Ok(())
 }
@@ -43,8 +43,8 @@ pub(crate) fn put_words(out: &mut Blob, numbers: &[u32]) -> Result<(), NoMemory>
     requires { length out.old + 4 * length numbers.now ≤ 2 ^ 31 }
     ensures { OnOk result (out.new ≡ out.old ++ words numbers.now) }
 {
-    'numbers: for number in numbers {
-        put_bytes(out, &number.to_le_bytes())?;
+    'numbers: for word in numbers {
+        put_bytes(out, &word.to_le_bytes())?;
     }
     Ok(())
 }

@@ -5,15 +5,14 @@ ghost use Rattle.mx_io.specs.Real.{untold_store};
 
 use crate::faults::count_fault;
 use crate::{Failed, Store};
-use std::fs::OpenFile;
 use std::io::{ErrorKind, Read, Seek, SeekFrom};
 use std::marker::Model;
 use std::rt::Files;
 use std::{fs, io};
 
 /// The files of the current folder, read through the runtime: a store that tells nothing of content. An
-/// absent file has no size. A name that is a folder, or that can't be opened for another cause than
-/// absence, is a fault.
+/// absent file has no size. A name that is no regular file (a folder, a device, a pipe or a socket), or
+/// that can't be looked up or opened for another cause than absence, is a fault at once.
 #[derive(Drop)]
 pub struct FolderStore<R> {
     files: R,
@@ -59,24 +58,31 @@ impl<R: Files> Store for FolderStore<R> {
     }
 }
 
-// The size of a file, None where it is absent. A folder has none, and is an error.
-fn file_size<R: Files>(files: &R, name: &str) -> io::Result<Option<u64>> {
-    let file = match fs::open(files, name) {
-        Ok(file) => file,
-        Err(error) if error.kind() == ErrorKind::NotFound => return Ok(None),
-        Err(error) => return Err(error),
-    };
-    let data = file.metadata()?;
-    if data.is_dir() {
-        return Err(io::Error::from(ErrorKind::IsADirectory));
+// The size of a regular file. Anything else of that name, a folder, a device, a pipe or a socket, is an error; it is seen before
+// anything is opened, so that no call waits for a writer.
+fn regular_size<R: Files>(files: &R, name: &str) -> io::Result<u64> {
+    let data = fs::metadata(files, name)?;
+    if data.is_file() {
+        Ok(data.len())
+    } else {
+        Err(io::Error::from(ErrorKind::InvalidInput))
     }
-    Ok(Some(data.len()))
+}
+
+// The size of a file, None where it is absent.
+fn file_size<R: Files>(files: &R, name: &str) -> io::Result<Option<u64>> {
+    match regular_size(files, name) {
+        Ok(size) => Ok(Some(size)),
+        Err(error) if error.kind() == ErrorKind::NotFound => Ok(None),
+        Err(error) => Err(error),
+    }
 }
 
 // One read from place `at` on.
 fn read_part<R: Files>(files: &R, name: &str, at: u64, into: &mut [u8]) -> io::Result<usize>
     ensures { IfOk result (λ k. k ≤ length into.new) }
 {
+    regular_size(files, name)?;
     let mut file = fs::open(files, name)?;
     file.seek(SeekFrom::Start(at))?;
     file.read(into)

@@ -129,6 +129,10 @@ fn the_folder_is_a_store(rt: HostRuntime) -> Result<(), Fail> {
     fs::remove_dir(&rt, "mx_io_a_folder")?;
     assert_eq!(rt; size, Err(Failed));
     assert_eq!(rt; part, Err(Failed));
+
+    // A device is no regular file, and isn't opened.
+    assert_eq!(rt; store.size("/dev/zero"), Err(Failed));
+    assert_eq!(rt; store.read("/dev/zero", 0, &mut into), Err(Failed));
     Ok(())
 }
 

@@ -8,6 +8,7 @@ use crate::inst::{Cond, ImmOp, Inst, LoadWidth, RegOp, StoreWidth};
 
 /// The instruction of a word. None exactly where no row of the instruction table matches: the word
 /// is an illegal instruction. The answer is valid, and `encode` of it is the word again.
+#[inline(always)]
 pub fn decode(word: u32) -> Option<Inst>
     ensures table { result ≡ decoded word }
     ensures valid { IfSome result IsValid }
@@ -18,6 +19,7 @@ pub fn decode(word: u32) -> Option<Inst>
 
 // The row of the word's opcode.
 #[tactic(auto, unfolding(crate::specs::Table::decoded))]
+#[inline(always)]
 fn by_opcode(word: u32) -> Option<Inst>
     ensures { result ≡ decoded word }
 {

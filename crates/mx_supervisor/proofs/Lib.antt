@@ -9,3 +9,7 @@ pub mod Reading
 pub mod Writing
 pub mod Modules
 pub mod OwnedWords
+mod Giving
+mod Slots
+mod Changes
+mod Blocks

@@ -6,5 +6,5 @@ use Rattle.mx_image.proofs.put.put_halves.Goals as goal
 
 pub put_bytes-requires : goal.put_bytes-requires
 put_bytes-requires c =
-    let taken = take c.numbers.number-index c.args.numbers.now in
-    rw (c.numbers.invariant) (omega (arith, length-append c.args.out.now (halves taken), length-halves taken, length-take c.numbers.number-index c.args.numbers.now))
+    let taken = take c.numbers.half-index c.args.numbers.now in
+    rw (c.numbers.invariant) (omega (arith, length-append c.args.out.now (halves taken), length-halves taken, length-take c.numbers.half-index c.args.numbers.now))

@@ -6,5 +6,5 @@ use Rattle.mx_image.proofs.put.put_words.Goals as goal
 
 pub put_bytes-requires : goal.put_bytes-requires
 put_bytes-requires c =
-    let taken = take c.numbers.number-index c.args.numbers.now in
-    rw (c.numbers.invariant) (omega (arith, length-append c.args.out.now (words taken), length-words taken, length-take c.numbers.number-index c.args.numbers.now))
+    let taken = take c.numbers.word-index c.args.numbers.now in
+    rw (c.numbers.invariant) (omega (arith, length-append c.args.out.now (words taken), length-words taken, length-take c.numbers.word-index c.args.numbers.now))

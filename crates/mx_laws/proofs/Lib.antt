@@ -1,0 +1,11 @@
+pub mod Walk
+pub mod TurnParts
+pub mod ReadLaws
+pub mod TwinLaws
+pub mod AfterLaws
+pub mod CallWalk
+pub mod Lawful
+pub mod ForeignLaws
+pub mod FrameLaws
+pub mod ComparisonLaws
+pub mod Examples

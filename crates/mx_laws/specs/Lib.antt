@@ -1,0 +1,5 @@
+pub mod After
+pub mod Twins
+pub mod Foreign
+pub mod Crossing
+pub mod Comparison

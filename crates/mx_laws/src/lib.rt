@@ -1,0 +1,8 @@
+//! Laws of the abstract machine's turns, each the contract of a function that does nothing: what a module can see and change.
+#![tactic(auto)]
+
+mod comparison;
+mod isolation;
+
+pub use comparison::agreement_is_a_test;
+pub use isolation::{turns_keep_foreign_words, turns_keep_frames, turns_of_twins};
