@@ -1,5 +1,5 @@
 -- Blocks of a map by number: how many are broken, which are eighth-uniform, and which a change leaves alone.
-use Rattle.std.proofs.Common.{◌≡◌, ◌≢◌, ℕ, zero, suc, ◌+◌, ◌*◌, ◌/◌, ◌<◌, ◌≤◌, ◌⊎◌, inl, inr, ◌==◌, ◌&&◌, ◌||◌, Bool, true, false, not, List, [], ◌∷◌, length, drop, refl, sym, ap, ◌∙◌, arith, length-take, length-drop, eq-eqb}
+use Rattle.std.proofs.Common.{◌≡◌, ◌≢◌, ℕ, zero, suc, ◌+◌, ◌*◌, ◌/◌, ◌<◌, ◌≤◌, ◌⊎◌, inl, inr, ◌==◌, ◌||◌, true, false, not, List, [], ◌∷◌, length, drop, refl, sym, ap, ◌∙◌, arith, length-take, length-drop, eq-eqb}
 use Rattle.std.specs.List.{list_all}
 use Rattle.std.proofs.lemmas.Bool.{eqb-true, cases_lt, cases_eq, and_parts, or_cases, or_right}
 use Rattle.std.proofs.lemmas.List.{get_or-take, get_or-drop, ext_get_or, get_or_past}
@@ -34,7 +34,6 @@ block_of-same size m n b long agree =
     (λ i below.
     let inside : i < size = omega (arith, length-take size (drop (b * size) m)) in
     block_of-at size m b i inside ∙ agree i inside ∙ sym (block_of-at size n b i inside))
-
 
 -- a permission that a whole list has
 all_same-at : (p : Perm) (ps : List Perm) (k : ℕ) → list_all (same p) ps ≡ true → k < length ps → p ≡ perm_at ps k

@@ -1,20 +1,20 @@
 -- Worked examples of ranges, rights, grants, changes, bytes, first fit and first rows, computed.
-use Rattle.std.specs.Prelude.{◌≡◌, ℕ, ◌-◌, ◌*◌, ◌/◌, ◌==◌, if◌then◌else◌, Bool, true, false, List, [], ◌∷◌, ◌++◌, length, replicate, refl, Option, Some}
+use Rattle.std.specs.Prelude.{◌≡◌, ℕ, ◌-◌, ◌*◌, ◌/◌, ◌==◌, if◌then◌else◌, Bool, true, false, List, [], ◌∷◌, refl, Option, Some}
 use Rattle.std.specs.Prelude.{map as list_map}
 use Rattle.std.specs.Prelude.{None as Nothing}
 use Rattle.std.specs.List.{range_with_len}
 use Rattle.mx_words.specs.declared.perm.Perm.{Perm}
 use Rattle.mx_words.specs.declared.perm.Perm.TheVariants.{None, Read, ReadWrite, ExecuteRead}
 use Rattle.mx_words.specs.declared.perm.Access.TheVariants as A
-use Rattle.mx_words.specs.Announced.{is_announced, names_range, announced}
+use Rattle.mx_words.specs.Announced.{is_announced, announced}
 use Rattle.mx_words.specs.Bytes.{number_at, put_at, cleared_at}
 use Rattle.mx_words.specs.Changes.{changed_maps, granted_all}
-use Rattle.mx_words.specs.FirstFit.{Area, has_room, place, with_block, without_block, block_words, most_blocks}
+use Rattle.mx_words.specs.FirstFit.{Area, place, with_block, without_block, block_words, most_blocks}
 use Rattle.mx_words.specs.FirstRow.{first_row}
 use Rattle.mx_words.specs.Hearing.{most_harts, is_in, nobody, with_hearer, heard_range, unheard_range, bars, lets_pass}
-use Rattle.mx_words.specs.Newest.{Laid, Grant, at, owner, map, owners, laid}
-use Rattle.mx_words.specs.Ranges.{ram_base, most_words, address_of, covers, overlaps, in_ram, word_of, is_range, word_range, range_words}
-use Rattle.mx_words.specs.Rights.{number, from_number, same, allows, perm_at, perm, denies}
+use Rattle.mx_words.specs.Newest.{Laid, Grant, at, map, owners, laid}
+use Rattle.mx_words.specs.Ranges.{most_words, address_of, covers, overlaps, in_ram, word_of, word_range, range_words}
+use Rattle.mx_words.specs.Rights.{number, from_number, same, allows, perm, denies}
 use Rattle.mx_words.specs.Starts.{is_start, is_owner_start}
 
 -- addresses: RAM of 17 words ends before 0x80000044

@@ -226,7 +226,6 @@ stored-of-region = refl
 span-of-region : span K.Packed eighths_of_region 131072 ≡ span_of 131072 131072 ExecuteRead
 span-of-region = refl
 
-
 -- a need is within a limit where each count is
 withins : list_map (λ n. within n (counts 2 1 3)) (counts 2 1 3 ∷ counts 3 0 0 ∷ counts 0 2 0 ∷ counts 0 0 4 ∷ [])
     ≡ true ∷ false ∷ false ∷ false ∷ []
