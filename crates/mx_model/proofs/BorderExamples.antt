@@ -19,8 +19,8 @@ use Rattle.mx_model.proofs.Smalls.{call, gate, grant, hart_of, small}
 abbrev border_of : ℕ → Perm → Bool → List Gate → Border
 border_of word p dead gates =
     let s = small ((4, word) ∷ []) (record no_module { dead = dead } ∷ no_module ∷ [])
-        ((grant 4 1 p ∷ grant 40 1 P.Read ∷ grant 42 1 P.ReadWrite ∷ []) ∷ [] ∷ []) [] gates
-        (hart_of 1 0x80000010 (regs_with ((1, 0x80000008) ∷ (7, 0x800000A0) ∷ (10, 10) ∷ (11, 11) ∷ (12, 12) ∷ (13, 13) ∷ (17, 9) ∷ [])) [] Running ∷ []) 8 in
+    ((grant 4 1 p ∷ grant 40 1 P.Read ∷ grant 42 1 P.ReadWrite ∷ []) ∷ [] ∷ []) [] gates
+    (hart_of 1 0x80000010 (regs_with ((1, 0x80000008) ∷ (7, 0x800000A0) ∷ (10, 10) ∷ (11, 11) ∷ (12, 12) ∷ (13, 13) ∷ (17, 9) ∷ [])) [] Running ∷ []) 8 in
     border (reads s) s.core 0
 
 -- a dead domain, before all others

@@ -1,9 +1,8 @@
 -- A small flat state that is valid: 17 words; two modules with stack areas, of which the first has a heap area with a live block; a call gate and a
 -- return gate; and two harts, of which the first waits on a grant that the second has heard, and the second is inside a call.
-use Rattle.std.proofs.Common.{◌≡◌, ◌≢◌, ℕ, zero, suc, ◌^◌, ◌<◌, Bool, true, false, nat_lt, cond, ◌&&◌, List, [], ◌∷◌, ◌++◌, length, get_or, replicate, refl, ◌∙◌, sym, arith, lit<, lit≤}
-use Rattle.std.specs.List.{AllByRecursion, list_all}
+use Rattle.std.proofs.Common.{◌≡◌, ◌≢◌, ℕ, zero, suc, ◌^◌, ◌<◌, true, false, nat_lt, ◌&&◌, List, [], ◌∷◌, ◌++◌, get_or, replicate, refl, arith, lit<, lit≤}
+use Rattle.std.specs.List.{list_all}
 use Rattle.std.proofs.lemmas.Bool.{ltb-true}
-use Rattle.mx_words.specs.declared.perm.Perm.{Perm}
 use Rattle.mx_words.specs.declared.perm.Perm.TheVariants as P
 use Rattle.mx_words.specs.declared.tables.Kind.TheVariants as K
 use Rattle.mx_words.specs.Caches.{no_cache}
@@ -11,9 +10,9 @@ use Rattle.mx_words.specs.Hearing.{is_in}
 use Rattle.mx_model.specs.declared.values.Frame.{Frame}
 use Rattle.mx_model.specs.declared.values.Gate.{Gate}
 use Rattle.mx_model.specs.Gates.{AreSingle}
-use Rattle.mx_model.specs.State.{Core, Flat, Hart, Module, Running, Waiting, no_hart, hart_at}
+use Rattle.mx_model.specs.State.{Core, Flat, Hart, Module, Running, Waiting, hart_at}
 use Rattle.mx_model.specs.Turn.{call_of}
-use Rattle.mx_model.specs.Valid.{IsModule, IsPc, IsRegisters, IsFrame, IsHart, IsHome, IsGate, IsValid, IsFlat}
+use Rattle.mx_model.specs.Valid.{IsHart, IsValid, IsFlat}
 use Rattle.mx_model.proofs.ApartLaws.{single-append}
 use Rattle.mx_model.proofs.ValidCaches.{cache-none}
 
@@ -105,12 +104,15 @@ small-harts (suc zero) l = record {
   pc = record { aligned = refl; small = lit< tt };
   domain = record { first = lit≤ tt; last = lit≤ tt };
   few_frames = lit≤ tt;
-  frames = (record {
-    back = record { aligned = refl; small = lit< tt };
-    caller = record { first = lit≤ tt; last = lit≤ tt };
-    count = refl;
-    small = below-at (2 ^ 32) (replicate 15 7) (lit< tt) refl;
-  }, tt);
+  frames = (
+    record {
+      back = record { aligned = refl; small = lit< tt };
+      caller = record { first = lit≤ tt; last = lit≤ tt };
+      count = refl;
+      small = below-at (2 ^ 32) (replicate 15 7) (lit< tt) refl;
+    },
+    tt,
+  );
   status = tt;
 }
 small-harts (suc (suc h)) l = absurd (let q : ⊥ = omega (arith, l) in q)
@@ -127,35 +129,47 @@ small-core = record {
   ram_bytes = below-at 256 core.ram (lit< tt) refl;
   some_modules = lit≤ tt;
   few_modules = lit≤ tt;
-  modules = (record {
-    heap = lit≤ tt;
-    blocks = (lit≤ tt, lit< tt, lit≤ tt);
-    stack = lit≤ tt;
-    few_blocks = lit≤ tt;
-    no_heap = λ e. absurd (let q : ⊥ = omega (arith, e) in q);
-    no_stack = λ e. absurd (let q : ⊥ = omega (arith, e) in q);
-  }, (record {
-    heap = lit≤ tt;
-    blocks = lit≤ tt;
-    stack = lit≤ tt;
-    few_blocks = lit≤ tt;
-    no_heap = λ e. refl;
-    no_stack = λ e. absurd (let q : ⊥ = omega (arith, e) in q);
-  }, tt));
+  modules = (
+    record {
+      heap = lit≤ tt;
+      blocks = (lit≤ tt, lit< tt, lit≤ tt);
+      stack = lit≤ tt;
+      few_blocks = lit≤ tt;
+      no_heap = λ e. absurd (let q : ⊥ = omega (arith, e) in q);
+      no_stack = λ e. absurd (let q : ⊥ = omega (arith, e) in q);
+    },
+    (
+      record {
+        heap = lit≤ tt;
+        blocks = lit≤ tt;
+        stack = lit≤ tt;
+        few_blocks = lit≤ tt;
+        no_heap = λ e. refl;
+        no_stack = λ e. absurd (let q : ⊥ = omega (arith, e) in q);
+      },
+      tt,
+    ),
+  );
   some_harts = lit≤ tt;
   few_harts = lit≤ tt;
   harts = small-harts;
   caches = refl;
   few_gates = lit≤ tt;
-  gates = (record {
-    domain = record { first = lit≤ tt; last = lit≤ tt };
-    target = record { first = lit≤ tt; last = lit≤ tt };
-    word = lit< tt;
-  }, (record {
-    domain = record { first = lit≤ tt; last = lit≤ tt };
-    target = record { first = lit≤ tt; last = lit≤ tt };
-    word = lit< tt;
-  }, tt));
+  gates = (
+    record {
+      domain = record { first = lit≤ tt; last = lit≤ tt };
+      target = record { first = lit≤ tt; last = lit≤ tt };
+      word = lit< tt;
+    },
+    (
+      record {
+        domain = record { first = lit≤ tt; last = lit≤ tt };
+        target = record { first = lit≤ tt; last = lit≤ tt };
+        word = lit< tt;
+      },
+      tt,
+    ),
+  );
   one_gate = small-gates;
 }
 
