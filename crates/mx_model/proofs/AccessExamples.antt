@@ -1,21 +1,15 @@
 -- Worked examples of looks, of loads and stores, and of what a caller drops on small states, computed.
-use Rattle.std.specs.Prelude.{◌≡◌, ℕ, ◌==◌, true, false, List, [], ◌∷◌, flat_map, replicate, refl, Some, None}
-use Rattle.std.specs.Prelude.{map as list_map}
-use Rattle.mx_words.specs.declared.perm.Perm.{Perm}
+use Rattle.std.specs.Prelude.{◌≡◌, ℕ, true, false, [], ◌∷◌, flat_map, replicate, refl, Some, None}
 use Rattle.mx_words.specs.declared.perm.Perm.TheVariants as P
 use Rattle.mx_words.specs.Bytes.{number_at, put_at, cleared_at}
-use Rattle.mx_words.specs.Newest.{map, owners}
-use Rattle.mx_words.specs.Rights.{same}
-use Rattle.mx_words.specs.Runs.{Run, runs_of}
 use Rattle.mx_isa.specs.Fields.{imm_i, imm_s, imm_b, imm_u, imm_j, extended}
 use Rattle.mx_isa.specs.Table.{decoded}
 use Rattle.mx_model.specs.declared.values.Note.TheVariants as N
 use Rattle.mx_model.specs.declared.values.TurnKind.TheVariants as T
-use Rattle.mx_model.specs.Checks.{heard_ranges, unheard_ranges}
 use Rattle.mx_model.specs.Effect.{holds, imm_result, reg_result, loaded, effect}
-use Rattle.mx_model.specs.State.{Module, State, Running, Waiting, Halted, no_module}
+use Rattle.mx_model.specs.State.{State, Running, Waiting, Halted, no_module}
 use Rattle.mx_model.proofs.Boots.{bytes_of, fault, regs_with}
-use Rattle.mx_model.proofs.Smalls.{area, by, cache, call, frame, gate, give, grant, hart_of, kinds, run_of, saved_with, small, span_of, stack, words_with}
+use Rattle.mx_model.proofs.Smalls.{area, by, cache, call, frame, give, grant, hart_of, kinds, saved_with, small, span_of, words_with}
 
 -- the caller drops its own spans on the range at the moment of effect, refused or not
 abbrev refused : State

@@ -1,22 +1,20 @@
 -- Worked examples of turns of several harts and of announced calls on small states, computed.
-use Rattle.std.specs.Prelude.{◌≡◌, ℕ, ◌==◌, true, false, List, [], ◌∷◌, flat_map, replicate, refl, Some, None}
+use Rattle.std.specs.Prelude.{◌≡◌, true, false, [], ◌∷◌, refl, None}
 use Rattle.std.specs.Prelude.{map as list_map}
-use Rattle.mx_words.specs.declared.perm.Perm.{Perm}
 use Rattle.mx_words.specs.declared.perm.Perm.TheVariants as P
 use Rattle.mx_words.specs.Bytes.{number_at, put_at, cleared_at}
-use Rattle.mx_words.specs.Newest.{map, owners}
+use Rattle.mx_words.specs.Newest.{map}
 use Rattle.mx_words.specs.Rights.{same}
-use Rattle.mx_words.specs.Runs.{Run, runs_of}
+use Rattle.mx_words.specs.Runs.{runs_of}
 use Rattle.mx_isa.specs.Fields.{imm_i, imm_s, imm_b, imm_u, imm_j, extended}
 use Rattle.mx_isa.specs.Table.{decoded}
-use Rattle.mx_model.specs.declared.values.Note.TheVariants as N
 use Rattle.mx_model.specs.declared.values.TurnKind.TheVariants as T
 use Rattle.mx_model.specs.Checks.{heard_ranges, looked_all, unheard_ranges}
 use Rattle.mx_model.specs.Effect.{holds, imm_result, reg_result, loaded, effect}
 use Rattle.mx_model.specs.Reads.{reads}
 use Rattle.mx_model.specs.State.{Module, State, Running, Waiting, Halted, cache_at, no_module}
-use Rattle.mx_model.proofs.Boots.{bytes_of, fault, regs_with}
-use Rattle.mx_model.proofs.Smalls.{area, by, cache, call, frame, gate, give, grant, hart_of, kinds, run_of, saved_with, small, span_of, stack, words_with}
+use Rattle.mx_model.proofs.Boots.{fault, regs_with}
+use Rattle.mx_model.proofs.Smalls.{area, by, cache, call, give, grant, hart_of, kinds, run_of, small, span_of}
 
 -- the first hart takes words 40 to 43 from domain 2 by a grant of nothing, while the second, in that domain, loads word 40 again and again: the
 -- grant is announced, heard (the span that meets it is dropped, and the next walk keeps nothing), and served

@@ -1,5 +1,5 @@
 -- What a turn is, by the hart as it is read before it: halted, waiting, in a dead domain, at a call gate, or at an instruction.
-use Rattle.std.proofs.Common.{◌≡◌, ℕ, ◌+◌, ◌<◌, ◌≤◌, Bool, true, false, not, cond, nat_lt, nat_le, ◌==◌, ◌%◌, List, [], ◌∷◌, length, get_or, refl, sym, ◌∙◌, ap, subst, zero-add, arith, if◌then◌else◌, Option, Some, None}
+use Rattle.std.proofs.Common.{◌≡◌, ℕ, ◌<◌, ◌≤◌, Bool, true, false, not, cond, nat_lt, nat_le, ◌==◌, ◌%◌, List, [], ◌∷◌, length, get_or, refl, sym, ◌∙◌, ap, subst, zero-add, if◌then◌else◌, Option, Some, None}
 use Rattle.std.proofs.Common.{map as list_map}
 use Rattle.std.specs.Prelude.{slice_set}
 use Rattle.std.specs.List.{enumerate_from}
@@ -17,7 +17,7 @@ use Rattle.mx_model.specs.Effect.{Effect, Faults, effect, reg}
 use Rattle.mx_model.specs.Gates.{most_frames}
 use Rattle.mx_model.specs.Reads.{Reads}
 use Rattle.mx_model.specs.State.{Core, Hart, Status, Running, Waiting, Halted, no_hart, hart_at, module_at}
-use Rattle.mx_model.specs.Turn.{Decided, Made, Serves, Waits, Bounces, Crosses, acted, after_look, at_gate, by_effect, by_status, by_word, call_gate_at, counted, crossed, fault_answer, fetches, heard_first, is_denied, load_at, made, runs_at, runs_in, served, trapped, traps, turned, with_regs, without_look}
+use Rattle.mx_model.specs.Turn.{Decided, Made, Serves, Waits, Bounces, Crosses, acted, after_look, by_effect, by_status, by_word, call_gate_at, counted, crossed, fault_answer, fetches, heard_first, is_denied, load_at, made, runs_at, runs_in, served, trapped, traps, turned, with_regs, without_look}
 use Rattle.mx_model.proofs.ValidParts.{hearing}
 
 -- looks change caches alone

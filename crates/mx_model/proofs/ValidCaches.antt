@@ -1,5 +1,5 @@
 -- A turn keeps the caches of all harts valid.
-use Rattle.std.proofs.Common.{◌≡◌, ℕ, ◌+◌, ◌-◌, ◌*◌, ◌^◌, ◌<◌, ◌≤◌, Bool, true, false, not, cond, nat_lt, ◌==◌, ◌&&◌, List, [], ◌∷◌, length, fold, take, refl, sym, ◌∙◌, arith, lit<, Option, Some, None, unwrap_or}
+use Rattle.std.proofs.Common.{◌≡◌, ℕ, ◌+◌, ◌-◌, ◌*◌, ◌^◌, ◌<◌, ◌≤◌, Bool, true, false, not, cond, nat_lt, ◌==◌, ◌&&◌, List, [], ◌∷◌, length, fold, refl, ◌∙◌, arith, lit<, Option, Some, None, unwrap_or}
 use Rattle.std.specs.List.{AllByRecursion}
 use Rattle.std.proofs.lemmas.Bool.{ltb-true}
 use Rattle.std.proofs.lemmas.List.{length-set, length-map, length-take}
@@ -17,7 +17,7 @@ use Rattle.mx_model.specs.Checks.{Look, arg, hears, looked, looked_all, empties_
 use Rattle.mx_model.specs.Effect.{next}
 use Rattle.mx_model.specs.Gates.{below_top, without_gate}
 use Rattle.mx_model.specs.Reads.{Reads}
-use Rattle.mx_model.specs.Serve.{Served, Service, Exit, Write, Grant, RevokeAll, Transfer, Alloc, Free, AddGate, RemoveGate, AddReturnGate, Query, Self, Exchange, Unknown, judged, answers, serve, served_by, service, ended, write_from, written_out, write_looks, exchange_from, exchanged, look_of, arg_word, alloc_place, alloc_from, with_blocks, changes, free_change, adds}
+use Rattle.mx_model.specs.Serve.{Served, Service, Exit, Write, Grant, RevokeAll, Transfer, Alloc, Free, AddGate, RemoveGate, AddReturnGate, Query, Self, Exchange, Unknown, judged, answers, serve, served_by, service, ended, write_from, write_looks, exchange_from, look_of, arg_word, alloc_place, alloc_from, with_blocks, changes, free_change, adds}
 use Rattle.mx_model.specs.State.{Core, Hart, Running, hart_at, with_hart, cache_at, with_cache, with_module, module_at}
 use Rattle.mx_model.specs.Turn.{Action, Rests, Waits, Serves, Asks, Traps, Bounces, Crosses, Returns, Runs, Writes, Decided, acted, asked, served, done, trapped, given_up, killed, over_frame, restored, halted, with_regs, enacted, decide, heard_first, counted, turned, is_served_now, answered}
 use Rattle.mx_model.specs.Valid.{IsCache}

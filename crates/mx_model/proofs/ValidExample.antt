@@ -1,9 +1,8 @@
 -- A small flat state that is valid: 17 words; two modules with stack areas, of which the first has a heap area with a live block; a call gate and a
 -- return gate; and two harts, of which the first waits on a grant that the second has heard, and the second is inside a call.
-use Rattle.std.proofs.Common.{◌≡◌, ◌≢◌, ℕ, zero, suc, ◌^◌, ◌<◌, Bool, true, false, nat_lt, cond, ◌&&◌, List, [], ◌∷◌, ◌++◌, length, get_or, replicate, refl, ◌∙◌, sym, arith, lit<, lit≤}
-use Rattle.std.specs.List.{AllByRecursion, list_all}
+use Rattle.std.proofs.Common.{◌≡◌, ◌≢◌, ℕ, zero, suc, ◌^◌, ◌<◌, true, false, nat_lt, ◌&&◌, List, [], ◌∷◌, ◌++◌, get_or, replicate, refl, arith, lit<, lit≤}
+use Rattle.std.specs.List.{list_all}
 use Rattle.std.proofs.lemmas.Bool.{ltb-true}
-use Rattle.mx_words.specs.declared.perm.Perm.{Perm}
 use Rattle.mx_words.specs.declared.perm.Perm.TheVariants as P
 use Rattle.mx_words.specs.declared.tables.Kind.TheVariants as K
 use Rattle.mx_words.specs.Caches.{no_cache}
@@ -11,9 +10,9 @@ use Rattle.mx_words.specs.Hearing.{is_in}
 use Rattle.mx_model.specs.declared.values.Frame.{Frame}
 use Rattle.mx_model.specs.declared.values.Gate.{Gate}
 use Rattle.mx_model.specs.Gates.{AreSingle}
-use Rattle.mx_model.specs.State.{Core, Flat, Hart, Module, Running, Waiting, no_hart, hart_at}
+use Rattle.mx_model.specs.State.{Core, Flat, Hart, Module, Running, Waiting, hart_at}
 use Rattle.mx_model.specs.Turn.{call_of}
-use Rattle.mx_model.specs.Valid.{IsModule, IsPc, IsRegisters, IsFrame, IsHart, IsHome, IsGate, IsValid, IsFlat}
+use Rattle.mx_model.specs.Valid.{IsHart, IsValid, IsFlat}
 use Rattle.mx_model.proofs.ApartLaws.{single-append}
 use Rattle.mx_model.proofs.ValidCaches.{cache-none}
 

@@ -1,5 +1,5 @@
 -- A turn keeps a valid flat state valid.
-use Rattle.std.proofs.Common.{◌≡◌, ℕ, zero, suc, ◌+◌, ◌-◌, ◌*◌, ◌^◌, ◌<◌, ◌≤◌, Bool, true, false, not, cond, nat_lt, nat_le, ◌==◌, ◌&&◌, ◌||◌, List, [], ◌∷◌, length, get_or, refl, sym, ◌∙◌, ap, subst, arith, Option, Some, None, unwrap_or}
+use Rattle.std.proofs.Common.{◌≡◌, ℕ, zero, suc, ◌+◌, ◌-◌, ◌*◌, ◌≤◌, Bool, true, false, not, cond, nat_lt, ◌||◌, List, [], ◌∷◌, length, get_or, refl, sym, ◌∙◌, ap, subst, Option, Some, None, unwrap_or}
 use Rattle.std.specs.Prelude.{IfSome, slice_index}
 use Rattle.std.specs.List.{AllByRecursion, list_all}
 use Rattle.std.proofs.lemmas.Bool.{ltb-false, leb-true}
@@ -16,15 +16,14 @@ use Rattle.mx_words.specs.Rights.{number, allows}
 use Rattle.mx_words.specs.Runs.{owner_runs, most_owner_runs}
 use Rattle.mx_words.proofs.OverlayLaws.{length-laid, length-map_of}
 use Rattle.mx_model.specs.declared.values.Call.{Call}
-use Rattle.mx_model.specs.declared.values.Frame.{Frame}
 use Rattle.mx_model.specs.Checks.{arg, call_range, drops, looked_all}
 use Rattle.mx_model.specs.Gates.{without_gate}
 use Rattle.mx_model.specs.Reads.{Reads, Change, flat_reads, map_in}
 use Rattle.mx_model.specs.Run.{flat_turn, flat_made, maps_after, owners_after}
 use Rattle.mx_model.specs.Serve.{Served, Service, Exit, Write, Grant, RevokeAll, Transfer, Alloc, Free, AddGate, RemoveGate, AddReturnGate, Query, Self, Exchange, Unknown, judged, answers, serve, served_by, service, ended, write_from, exchange_from, alloc_place, alloc_from, write_looks, write_words, may_read, bytes_at, look_of, arg_word, with_blocks, changes, free_change, grant_change, revoke_change, adds, no_range, meets_heap, owns, arg_range, give_of}
 use Rattle.mx_model.specs.State.{Core, Flat, Hart, hart_at, module_at}
-use Rattle.mx_model.specs.Turn.{Action, Rests, Waits, Serves, Asks, Traps, Bounces, Crosses, Returns, Runs, Writes, Decided, acted, asked, served, enacted, decide, heard_first, counted, turned, is_served_now}
-use Rattle.mx_model.specs.Valid.{IsFlat, IsValid}
+use Rattle.mx_model.specs.Turn.{Action, Rests, Waits, Serves, Asks, Traps, Bounces, Crosses, Returns, Runs, Writes, Decided, acted, asked, enacted, decide, heard_first, counted, turned, is_served_now}
+use Rattle.mx_model.specs.Valid.{IsFlat}
 use Rattle.mx_model.proofs.KeepLaws.{keeps-looked_all, keeps-heard_first, keeps-turned}
 use Rattle.mx_model.proofs.ListLaws.{all-at}
 use Rattle.mx_model.proofs.ServeLaws.{tests-four}
