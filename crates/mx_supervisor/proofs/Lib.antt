@@ -8,7 +8,6 @@ pub mod Numbers
 pub mod Reading
 pub mod Writing
 pub mod Modules
-pub mod OwnedWords
 mod Giving
 mod Slots
 mod Changes

@@ -1,5 +1,5 @@
 -- The rows of the table of calls by their numbers.
-use Rattle.std.proofs.Common.{◌≡◌, ℕ, List, sym, subst, Option}
+use Rattle.std.proofs.Common.{◌≡◌, ℕ, List, [], sym, subst, Option}
 use Rattle.mx_check.specs.declared.flight.Flight.{Flight}
 use Rattle.mx_model.specs.declared.values.Call.{Call}
 use Rattle.mx_model.specs.Reads.{flat_reads}
@@ -18,3 +18,8 @@ as-row s call after p q bytes a e m = record {
   sizes = m.sizes;
   sound = m.sound;
 }
+
+-- the same of a call that puts no bytes to the console
+pub as-silent-row : (s : Service) (call : Call) (after : Option Flight) (p q : Parts) (bytes : List ℕ) (a : Answer) → service call.number ≡ s → bytes ≡ [] →
+    Meets (served_by s) call after p q [] a → Meets served_row call after p q bytes a
+as-silent-row s call after p q bytes a e none m = as-row s call after p q bytes a e (subst (λ (b : List ℕ). Meets (served_by s) call after p q b a) (sym none) m)
