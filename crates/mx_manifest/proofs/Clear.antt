@@ -1,26 +1,23 @@
 -- What a table keeps that has no fault.
-use Rattle.std.proofs.Common.{◌≡◌, ℕ, ◌<◌, ◌≤◌, suc, zero, Bool, true, false, not, ◌&&◌, nat_le, cond, List, [], ◌∷◌, length, get_or, map, Option, Some, None, option_map, refl, ap, sym, ◌∙◌, arith, if◌then◌else◌}
+use Rattle.std.proofs.Common.{◌≡◌, ℕ, ◌<◌, ◌≤◌, suc, zero, Bool, true, false, not, nat_le, List, [], ◌∷◌, length, get_or, map, Option, Some, None, option_map, refl, ap, arith, if◌then◌else◌}
 use Rattle.std.proofs.lemmas.Bool.{and_parts}
 use Rattle.std.proofs.lemmas.Bool.Decides.{nat_tests}
-use Rattle.std.specs.Option.{option_or, option_map_or, is_some}
+use Rattle.std.specs.Option.{option_or, option_map_or}
 use Rattle.toml.specs.Data.{Data, get}
 use Rattle.mx_manifest.specs.declared.fault.Key.{Key}
 use Rattle.mx_manifest.specs.declared.fault.Key.TheVariants as key
 use Rattle.mx_manifest.specs.declared.row.Row.{Row}
-use Rattle.mx_manifest.specs.declared.row.Name.TheVariants.{Of}
-use Rattle.mx_manifest.specs.declared.row.Asked.{Asked}
-use Rattle.mx_manifest.specs.declared.row.Asked.TheVariants.{Always, Never}
-use Rattle.mx_manifest.specs.declared.row.Form.{Form}
+use Rattle.mx_manifest.specs.declared.row.Asked.TheVariants.{Always}
 use Rattle.mx_manifest.specs.declared.row.Form.TheVariants.{Array, Boolean}
 use Rattle.mx_manifest.specs.declared.row.ItemForm.{ItemForm}
 use Rattle.mx_manifest.specs.declared.row.ItemForm.TheVariants as each
 use Rattle.mx_manifest.specs.declared.row.Version.{Version}
 use Rattle.mx_manifest.specs.declared.row.Version.TheVariants.{One, Two}
 use Rattle.mx_manifest.specs.Keys.{name_text}
-use Rattle.mx_manifest.specs.Reads.{elements, elements_at, value_at}
+use Rattle.mx_manifest.specs.Reads.{elements, elements_at}
 use Rattle.mx_manifest.specs.Forms.{is_within, is_typed, is_ranged}
 use Rattle.mx_manifest.specs.Rows.{most, row, top_rows}
-use Rattle.mx_manifest.specs.Faults.{first_of, is_asked, value_fault, row_fault, rows_fault, unlisted_fault, table_fault}
+use Rattle.mx_manifest.specs.Faults.{first_of, is_asked, value_fault, row_fault, rows_fault, table_fault}
 
 pub neither : {F : Type 0} (a b : Option F) → option_or a b ≡ None → (a ≡ None) × (b ≡ None)
 neither None b h = (refl, h)

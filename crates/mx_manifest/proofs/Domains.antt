@@ -1,5 +1,5 @@
 -- Names as a set keeps them, beside the list that they stand for.
-use Rattle.std.proofs.Common.{◌≡◌, ℕ, ◌+◌, suc, Bool, not, cond, List, [], ◌∷◌, length, map, position, Option, Some, None, nat_lt, Bor, refl, ap, ◌∙◌, sym}
+use Rattle.std.proofs.Common.{◌≡◌, ℕ, suc, List, [], ◌∷◌, length, map, position, Option, Bor, refl, ap, ◌∙◌}
 use Rattle.std.specs.List.{list_any, position_or_len}
 use Rattle.std.specs.Option.{option_map_or}
 use Rattle.std.specs.Str.{bytes_eq}

@@ -7,4 +7,5 @@ pub mod Loops
 pub mod Modules
 pub mod Plans
 pub mod Ranges
+pub mod Short
 pub mod Values

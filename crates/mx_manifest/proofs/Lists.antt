@@ -1,21 +1,20 @@
 -- What the ranges say of each element of a list.
-use Rattle.std.proofs.Common.{◌≡◌, ◌≢◌, ℕ, ◌+◌, ◌<◌, ◌≤◌, suc, zero, Bool, true, false, not, ◌&&◌, ◌||◌, ◌==◌, nat_lt, nat_eq, cond, List, [], ◌∷◌, length, map, take, position, Option, Some, None, IfSome, slice_get, option_map, unwrap_or, ℤ, pos, negsuc, nat_le, refl, ap, sym, ◌∙◌, subst, arith, if◌then◌else◌}
+use Rattle.std.proofs.Common.{◌≡◌, ◌≢◌, ℕ, ◌+◌, ◌<◌, ◌≤◌, suc, zero, Bool, true, false, not, ◌||◌, ◌==◌, nat_lt, cond, List, [], ◌∷◌, length, map, take, Option, Some, None, slice_get, unwrap_or, ℤ, pos, negsuc, refl, ap, ◌∙◌, subst, arith, if◌then◌else◌}
 use Rattle.std.proofs.lemmas.Bool.{and_parts, eq-eqb}
 use Rattle.std.proofs.lemmas.Bool.Decides.{nat_tests}
 use Rattle.std.proofs.lemmas.List.Sums.{prefix_len-le-length}
 use Rattle.std.proofs.lemmas.Option.{same_Some}
 use Rattle.std.specs.List.{list_all, list_any, enumerate_from, position_or_len}
-use Rattle.std.specs.Option.{option_or, option_map_or}
+use Rattle.std.specs.Option.{option_map_or}
 use Rattle.std.specs.Str.{bytes_eq}
-use Rattle.toml.specs.Data.{Data, string, integer, float, boolean, datetime, array, table, as_str}
+use Rattle.toml.specs.Data.{Data, string, integer, float, boolean, datetime, array, table}
 use Rattle.mx_manifest.specs.declared.fault.Part.{Part}
-use Rattle.mx_manifest.specs.declared.parts.EntryPlan.{EntryPlan}
 use Rattle.mx_manifest.specs.declared.tables.KeyFault.{KeyFault}
-use Rattle.mx_manifest.specs.Reads.{number_of, word}
-use Rattle.mx_manifest.specs.Forms.{is_entry, is_within}
+use Rattle.mx_manifest.specs.Reads.{word}
+use Rattle.mx_manifest.specs.Forms.{is_entry}
 use Rattle.mx_manifest.specs.InRange.{IsBetween, IsEntry, Each, EachNumbered}
 use Rattle.mx_manifest.specs.Plan.{entry_plan}
-use Rattle.mx_manifest.specs.Faults.{first_of, fault_where, numbered_fault, each_fault, domain_of, is_other, module_name}
+use Rattle.mx_manifest.specs.Faults.{first_of, numbered_fault, each_fault, domain_of, is_other, module_name}
 use Rattle.mx_manifest.proofs.Clear.{neither, unmapped, within_parts}
 
 -- each element of a list that passes a test

@@ -1,36 +1,35 @@
 -- What the tests say of the plans of modules, gates and harts.
-use Rattle.std.proofs.Common.{◌≡◌, ◌≢◌, ℕ, ◌+◌, ◌%◌, ◌<◌, ◌≤◌, suc, Bool, true, false, not, ◌&&◌, ◌||◌, ◌==◌, nat_eq, ◌⊎◌, inl, inr, codes, if◌then◌else◌, List, [], ◌∷◌, ◌++◌, length, map, Option, Some, None, IfSome, option_map, option_and_then, unwrap_or, refl, ap, sym, ◌∙◌, subst, arith}
+use Rattle.std.proofs.Common.{◌≡◌, ◌≢◌, ℕ, ◌%◌, ◌<◌, ◌≤◌, Bool, true, false, not, ◌&&◌, ◌||◌, nat_eq, ◌⊎◌, inl, inr, codes, if◌then◌else◌, List, [], length, map, Option, Some, None, IfSome, option_map, unwrap_or, refl, ap, sym, ◌∙◌, subst, arith}
 use Rattle.std.proofs.lemmas.Bool.{and_parts}
 use Rattle.std.proofs.lemmas.List.{length-map}
 use Rattle.std.specs.List.{list_all, starts_with}
 use Rattle.std.specs.Str.{bytes_eq}
 use Rattle.mx_words.specs.declared.perm.Perm.TheVariants as perms
 use Rattle.std.specs.Option.{is_some, option_map_or}
-use Rattle.toml.specs.Data.{Data, get}
+use Rattle.toml.specs.Data.{Data}
 use Rattle.mx_manifest.specs.declared.fault.Key.{Key}
 use Rattle.mx_manifest.specs.declared.fault.Key.TheVariants as key
 use Rattle.mx_manifest.specs.declared.parts.EntryPlan.TheVariants.{Address}
 use Rattle.mx_manifest.specs.declared.row.Row.{Row}
-use Rattle.mx_manifest.specs.declared.row.Name.TheVariants.{Of, From}
+use Rattle.mx_manifest.specs.declared.row.Name.TheVariants.{From}
 use Rattle.mx_manifest.specs.declared.row.Asked.{Asked}
 use Rattle.mx_manifest.specs.declared.row.Asked.TheVariants.{Always, Never, With, Without, WithoutAny}
 use Rattle.mx_manifest.specs.declared.row.Form.{Form}
-use Rattle.mx_manifest.specs.declared.row.Form.TheVariants.{Integer, Aligned, Choice, Text, Boolean, Entry, Array}
+use Rattle.mx_manifest.specs.declared.row.Form.TheVariants.{Integer, Aligned, Text, Entry, Array}
 use Rattle.mx_manifest.specs.declared.row.TextForm.TheVariants.{ModuleName, FileName, Permission, ImagePermission}
 use Rattle.mx_manifest.specs.declared.row.ItemForm.{ItemForm}
 use Rattle.mx_manifest.specs.declared.row.ItemForm.TheVariants as each
 use Rattle.mx_manifest.specs.declared.row.Version.{Version}
 use Rattle.mx_manifest.specs.declared.row.Version.TheVariants.{One, Two}
-use Rattle.mx_manifest.specs.Keys.{name_text}
 use Rattle.mx_manifest.specs.Reads.{value_at, has, elements, elements_at, number_at, text_at, text_of}
-use Rattle.mx_manifest.specs.Forms.{is_within, is_name_byte, is_text, is_entry, is_item, is_ranged}
-use Rattle.mx_manifest.specs.InRange.{IsBetween, IsAligned, IsName, IsFileName, IsEntry, Each, IsGate, IsModule, IsHart}
+use Rattle.mx_manifest.specs.Forms.{is_within, is_name_byte, is_text, is_entry, is_item}
+use Rattle.mx_manifest.specs.InRange.{IsBetween, IsAligned, IsName, IsFileName, IsEntry, IsGate, IsModule, IsHart}
 use Rattle.mx_manifest.specs.Plan.{perm_named, entry_plan, gate_plan, word_list, module_plan, hart_plan}
 use Rattle.mx_manifest.specs.Rows.{most, row, early_rows, late_rows, gate_rows, hart_rows}
-use Rattle.mx_manifest.specs.Faults.{is_asked, row_fault, rows_fault, table_fault, gate_fault, gates_fault, image_fault, module_fault, module_name, domain_of, from_texts, is_other, is_from_others, from_fault, hart_fault}
+use Rattle.mx_manifest.specs.Faults.{is_asked, row_fault, rows_fault, table_fault, gate_fault, gates_fault, image_fault, module_fault, domain_of, from_texts, is_other, is_from_others, from_fault, hart_fault}
 use Rattle.mx_manifest.proofs.Clear.{neither, unmapped, clear_at, value_fits, key_there, within_parts, table_clear, most_at_most, any_row}
 use Rattle.mx_manifest.proofs.Lists.{each_mapped, numbered_mapped, first_clear, all_at, holds_not, fails, entry_in_range, other_in_range, home_in_range}
-use Rattle.mx_manifest.proofs.Ranges.{Reads, integer_key, aligned_key, text_key, or_any, if_weaker}
+use Rattle.mx_manifest.proofs.Ranges.{integer_key, aligned_key, text_key, or_any, if_weaker}
 
 is_some-map : {A B : Type 0} (f : A → B) (o : Option A) → is_some (option_map f o) ≡ is_some o
 is_some-map f None = refl

@@ -1,24 +1,20 @@
 -- What the ranges of the table of keys say of numbers and texts.
-use Rattle.std.proofs.Common.{◌≡◌, ◌≢◌, ℕ, ◌+◌, ◌%◌, ◌<◌, ◌≤◌, suc, zero, ℤ, pos, negsuc, Bool, true, false, not, ◌&&◌, ◌||◌, ◌==◌, nat_le, nat_eq, cond, ◌⊎◌, inl, inr, List, [], ◌∷◌, length, map, Option, Some, None, IfSome, option_map, option_and_then, unwrap_or, refl, ap, sym, ◌∙◌, arith, if◌then◌else◌}
-use Rattle.std.proofs.lemmas.Bool.{and_parts, le-leb, leb-true}
+use Rattle.std.proofs.Common.{◌≡◌, ℕ, ◌%◌, ◌≤◌, ℤ, pos, negsuc, Bool, true, ◌&&◌, ◌||◌, ◌==◌, ◌⊎◌, Option, Some, None, IfSome, option_and_then, unwrap_or, refl, ap, ◌∙◌, arith}
+use Rattle.std.proofs.lemmas.Bool.{and_parts, le-leb}
 use Rattle.std.proofs.lemmas.Bool.Decides.{nat_tests}
-use Rattle.std.specs.Option.{is_some, option_map_or}
-use Rattle.toml.specs.Data.{Data, get, as_str, as_integer}
+use Rattle.std.specs.Option.{is_some}
+use Rattle.toml.specs.Data.{Data, as_str, as_integer}
 use Rattle.mx_manifest.specs.declared.fault.Key.{Key}
-use Rattle.mx_manifest.specs.declared.row.Row.{Row}
-use Rattle.mx_manifest.specs.declared.row.Name.TheVariants.{Of}
 use Rattle.mx_manifest.specs.declared.row.Asked.{Asked}
-use Rattle.mx_manifest.specs.declared.row.Asked.TheVariants.{Always}
 use Rattle.mx_manifest.specs.declared.row.Form.{Form}
 use Rattle.mx_manifest.specs.declared.row.Form.TheVariants.{Integer, Aligned, Choice, Text}
 use Rattle.mx_manifest.specs.declared.row.TextForm.{TextForm}
-use Rattle.mx_manifest.specs.Keys.{name_text}
 use Rattle.mx_manifest.specs.Reads.{value_at, has, word, number_of, number_at, text_at}
-use Rattle.mx_manifest.specs.Forms.{is_within, is_integer, is_aligned, is_choice, is_text, is_ranged, passes}
-use Rattle.mx_manifest.specs.InRange.{IsBetween, IsAligned}
+use Rattle.mx_manifest.specs.Forms.{is_integer, is_aligned, is_choice, is_text, is_ranged, passes}
+use Rattle.mx_manifest.specs.InRange.{IsBetween}
 use Rattle.mx_manifest.specs.Rows.{row}
 use Rattle.mx_manifest.specs.Faults.{row_fault}
-use Rattle.mx_manifest.proofs.Clear.{value_fits, key_there, within_parts}
+use Rattle.mx_manifest.proofs.Clear.{value_fits, within_parts}
 
 -- a test that passes has a value
 pub passed : {T : Type 0} (test : T → Bool) (o : Option T) → passes test o ≡ true → (x : T) × (o ≡ Some x) × (test x ≡ true)

@@ -1,6 +1,6 @@
 -- Values of the code beside the data that they stand for.
 use Rattle.std.proofs.Common.{◌≡◌, ℕ, suc, Bool, true, ◌||◌, ◌&&◌, List, [], ◌∷◌, ◌++◌, length, map, String, Global, string_bytes, refl, ap, ◌∙◌, sym}
-use Rattle.std.specs.List.{list_all, list_any}
+use Rattle.std.specs.List.{list_all}
 use Rattle.std.specs.Map.{keys_of}
 use Rattle.std.proofs.lemmas.List.Folds.{list_all-map, list_any-append}
 use Rattle.std.specs.Option.{is_some}

@@ -1,7 +1,7 @@
 -- The first fault of a manifest, by the order of the tests.
-use Rattle.std.specs.Prelude.{ℕ, suc, ◌-◌, Bool, true, false, not, ◌&&◌, ◌||◌, ◌==◌, if◌then◌else◌, List, [], ◌∷◌, ◌++◌, map, take, position, codes, Option, Some, None, option_map, unwrap_or, pos, nat_eq}
+use Rattle.std.specs.Prelude.{ℕ, suc, ◌-◌, Bool, true, false, not, ◌&&◌, ◌||◌, ◌==◌, if◌then◌else◌, List, [], ◌∷◌, ◌++◌, map, take, position, Option, Some, None, option_map, unwrap_or}
 use Rattle.std.specs.List.{list_all, list_any, enumerate_from}
-use Rattle.std.specs.Option.{is_some, option_or, option_map_or}
+use Rattle.std.specs.Option.{option_or, option_map_or}
 use Rattle.std.specs.Str.{bytes_eq}
 use Rattle.toml.specs.Data.{Data, get}
 use Rattle.mx_manifest.specs.declared.fault.BootFault.{BootFault}
@@ -13,7 +13,6 @@ use Rattle.mx_manifest.specs.declared.row.Row.{Row}
 use Rattle.mx_manifest.specs.declared.row.Name.TheVariants.{From}
 use Rattle.mx_manifest.specs.declared.row.Asked.{Asked}
 use Rattle.mx_manifest.specs.declared.row.Asked.TheVariants.{Always, Never, With, Without, WithoutAny}
-use Rattle.mx_manifest.specs.declared.row.Form.{Form}
 use Rattle.mx_manifest.specs.declared.row.Version.{Version}
 use Rattle.mx_manifest.specs.declared.row.Version.TheVariants.{One, Two}
 use Rattle.mx_manifest.specs.declared.tables.KeyFault.{KeyFault}

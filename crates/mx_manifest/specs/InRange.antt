@@ -1,5 +1,5 @@
 -- What holds of every plan: the ranges of the table of keys, and what the names say.
-use Rattle.std.specs.Prelude.{◌≡◌, ◌≢◌, ◌≤◌, ◌⊎◌, ℕ, ◌+◌, ◌%◌, Bool, true, false, not, nat_eq, List, length, slice_get, codes, Option, Some, IfSome}
+use Rattle.std.specs.Prelude.{◌≡◌, ◌≢◌, ◌≤◌, ◌⊎◌, ℕ, ◌+◌, ◌%◌, true, false, not, nat_eq, List, length, slice_get, codes, Some, IfSome}
 use Rattle.std.specs.List.{list_all, starts_with}
 use Rattle.std.specs.Option.{is_some}
 use Rattle.mx_manifest.specs.declared.parts.EntryPlan.{EntryPlan}

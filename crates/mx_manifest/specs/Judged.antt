@@ -1,6 +1,5 @@
 -- What `read_manifest` answers.
 use Rattle.std.specs.Prelude.{◌≡◌, Option, Some, None, Result, Ok, Err}
-use Rattle.std.specs.Option.{is_some}
 use Rattle.toml.specs.Data.{Members, table}
 use Rattle.mx_manifest.specs.declared.fault.BootFault.{BootFault}
 use Rattle.mx_manifest.specs.declared.reading.ManifestFault.{ManifestFault}

@@ -8,3 +8,4 @@ pub mod Plan
 pub mod Reads
 pub mod Rows
 pub mod Section
+pub mod Short

@@ -1,14 +1,13 @@
 -- The plan of a manifest: the values of its keys, with defaults filled in and names turned into domain numbers.
-use Rattle.std.specs.Prelude.{ℕ, Bool, true, false, if◌then◌else◌, List, [], ◌∷◌, map, codes, Option, Some, None, option_map, option_and_then, unwrap_or}
+use Rattle.std.specs.Prelude.{ℕ, false, if◌then◌else◌, List, map, codes, option_map, option_and_then, unwrap_or}
 use Rattle.std.specs.Option.{option_map_or}
 use Rattle.std.specs.Str.{bytes_eq}
-use Rattle.toml.specs.Data.{Data, get, as_str, as_bool}
+use Rattle.toml.specs.Data.{Data, as_str, as_bool}
 use Rattle.mx_words.specs.declared.perm.Perm.{Perm}
 use Rattle.mx_words.specs.declared.perm.Perm.TheVariants.{Read, ReadWrite, ExecuteRead}
 use Rattle.mx_words.specs.declared.tables.Kind.{Kind}
 use Rattle.mx_words.specs.declared.tables.Kind.TheVariants.{Segments, Multilevel, Packed}
 use Rattle.mx_manifest.specs.declared.fault.Key.TheVariants as key
-use Rattle.mx_manifest.specs.declared.row.Name.TheVariants.{From}
 use Rattle.mx_manifest.specs.declared.row.Version.{Version}
 use Rattle.mx_manifest.specs.declared.row.Version.TheVariants.{One, Two}
 use Rattle.mx_manifest.specs.declared.parts.EntryPlan.{EntryPlan}
@@ -16,8 +15,7 @@ use Rattle.mx_manifest.specs.declared.parts.EntryPlan.TheVariants.{Symbol, Addre
 use Rattle.mx_manifest.specs.declared.parts.GatePlan.{GatePlan}
 use Rattle.mx_manifest.specs.declared.parts.HartPlan.{HartPlan}
 use Rattle.mx_manifest.specs.declared.parts.ModulePlan.{ModulePlan}
-use Rattle.mx_manifest.specs.Keys.{name_text}
-use Rattle.mx_manifest.specs.Reads.{value_at, elements, elements_at, number_of, number_at, text_at, text_of}
+use Rattle.mx_manifest.specs.Reads.{value_at, elements, elements_at, number_of, number_at, text_at}
 use Rattle.mx_manifest.specs.Faults.{modules, harts, version_of, module_name, module_names, domain_of, from_texts, hart_domain}
 
 -- all that a manifest says

@@ -1,6 +1,6 @@
 -- The table of keys: for each key, in listed order, where it is required and what its value may be.
 -- Where a key is neither required nor there, its default is told by specs/Plan.
-use Rattle.std.specs.Prelude.{ℕ, List, [], ◌∷◌, ◌++◌}
+use Rattle.std.specs.Prelude.{ℕ, List, [], ◌∷◌}
 use Rattle.mx_manifest.specs.declared.fault.Key.{Key}
 use Rattle.mx_manifest.specs.declared.fault.Key.TheVariants as key
 use Rattle.mx_manifest.specs.declared.row.Row.{Row}

@@ -1,13 +1,14 @@
 //! The plan of a manifest without a fault.
 
-ghost use Rattle.std.specs.Prelude.{◌≡◌, ◌≤◌, map, length, option_map, option_copied, unwrap_or, option_and_then, codes, false, IfOk};
+ghost use Rattle.std.specs.Prelude.{◌≡◌, ◌≤◌, map, length, option_map, option_copied, unwrap_or, option_and_then, codes, false, IfOk, IfSome};
 ghost use Rattle.std.specs.Option.{option_map_or};
 ghost use Rattle.std.specs.Str.{bytes_eq};
 ghost use Rattle.toml.specs.Data.{as_bool};
 ghost use Rattle.toml.specs.View.{view};
 ghost use Rattle.mx_manifest.specs.Reads.{value_at, number_of, number_at, text_at, text_of};
 ghost use Rattle.mx_manifest.specs.Faults.{domain_of, version_of, module_names};
-ghost use Rattle.mx_manifest.specs.InRange.{IsInRange};
+ghost use Rattle.mx_manifest.specs.InRange.{Each, IsInRange};
+ghost use Rattle.mx_manifest.specs.Short.{HasShortLists};
 ghost use Rattle.mx_manifest.specs.Plan.{kind_named, perm_named, entry_plan, gate_plan, word_list, module_plan, hart_plan, version_number, plan_of};
 ghost use Rattle.mx_manifest.specs.Section.{section_view};
 
@@ -85,6 +86,7 @@ fn entry_plan(alloc: Global, value: &Value) -> Result<EntryPlan, NoMemory>
 }
 
 fn entries(alloc: Global, values: &[Value]) -> Result<Entries, NoMemory>
+    requires { length values.now ≤ 256 }
     ensures { IfOk result (λ entries. entries ≡ map entry_plan (map view values.now)) }
 {
     let mut entries = Vec::new(alloc);
@@ -93,7 +95,7 @@ fn entries(alloc: Global, values: &[Value]) -> Result<Entries, NoMemory>
             return Err(NoMemory);
         }
     }
-    Entries::new(entries)
+    Ok(Entries::new(entries))
 }
 
 fn word(value: &Value) -> u32
@@ -106,6 +108,7 @@ fn word(value: &Value) -> u32
 }
 
 fn words(alloc: Global, section: Section) -> Result<Option<Numbers>, NoMemory>
+    requires { IfSome (option_map word_list (value_at Key.Words (section_view section))) (λ words. length words ≤ 65536) }
     ensures { IfOk result (λ words. words ≡ option_map word_list (value_at Key.Words (section_view section.entry))) }
 {
     match section.value_at(Key::Words) {
@@ -115,16 +118,18 @@ fn words(alloc: Global, section: Section) -> Result<Option<Numbers>, NoMemory>
 }
 
 fn word_list(alloc: Global, values: &[Value]) -> Result<Numbers, NoMemory>
+    requires { length values.now ≤ 65536 }
     ensures { IfOk result (λ words. words ≡ map (λ word. unwrap_or (number_of word) 0) (map view values.now)) }
 {
     match values.iter().map(|value| word(value)).collect(alloc) {
-        Ok(words) => Numbers::new(words),
+        Ok(words) => Ok(Numbers::new(words)),
         Err(_) => Err(NoMemory),
     }
 }
 
 fn domains(alloc: Global, names: &Names, values: &[Value]) -> Result<Numbers, NoMemory>
-    requires { length names.now ≤ 63 }
+    requires names { length names.now ≤ 63 }
+    requires few { length values.now ≤ 65536 }
     ensures { IfOk result (λ domains. domains ≡ map (domain_of names.now) (map text_of (map view values.now))) }
 {
     match values
@@ -132,13 +137,14 @@ fn domains(alloc: Global, names: &Names, values: &[Value]) -> Result<Numbers, No
         .map(|value| names.domain(text_of(value)))
         .collect(alloc)
     {
-        Ok(domains) => Numbers::new(domains),
+        Ok(domains) => Ok(Numbers::new(domains)),
         Err(_) => Err(NoMemory),
     }
 }
 
 fn gate_plan(alloc: Global, names: &Names, gate: Section) -> Result<GatePlan, NoMemory>
-    requires { length names.now ≤ 63 }
+    requires names { length names.now ≤ 63 }
+    requires few { length (gate_plan names.now (section_view gate)).from ≤ 65536 }
     ensures { IfOk result (λ plan. plan ≡ gate_plan names.now (section_view gate.entry)) }
 {
     let entry = match gate.value_at(Key::Entry) {
@@ -150,7 +156,9 @@ fn gate_plan(alloc: Global, names: &Names, gate: Section) -> Result<GatePlan, No
 }
 
 fn gate_plans(alloc: Global, names: &Names, gates: &[Value]) -> Result<GatePlans, NoMemory>
-    requires { length names.now ≤ 63 }
+    requires names { length names.now ≤ 63 }
+    requires few { length gates.now ≤ 256 }
+    requires froms { Each (λ gate. length gate.from ≤ 65536) (map (gate_plan names.now) (map view gates.now)) }
     ensures { IfOk result (λ plans. plans ≡ map (gate_plan names.now) (map view gates.now)) }
 {
     let mut plans = Vec::new(alloc);
@@ -160,7 +168,7 @@ fn gate_plans(alloc: Global, names: &Names, gates: &[Value]) -> Result<GatePlans
             return Err(NoMemory);
         }
     }
-    GatePlans::new(plans)
+    Ok(GatePlans::new(plans))
 }
 
 fn kills(section: Section) -> bool
@@ -185,7 +193,8 @@ fn is_sealed(section: Section) -> bool
 }
 
 fn module_plan(alloc: Global, names: &Names, section: Section) -> Result<ModulePlan, NoMemory>
-    requires { length names.now ≤ 63 }
+    requires names { length names.now ≤ 63 }
+    requires short { HasShortLists (module_plan names.now (section_view section)) }
     ensures { IfOk result (λ plan. plan ≡ module_plan names.now (section_view section.entry)) }
 {
     let name = Text::new(alloc, module_name(section))?;
@@ -216,15 +225,16 @@ fn module_plans(
     names: &Names,
     modules: &[Value],
 ) -> Result<Vec<ModulePlan>, NoMemory>
-    requires { length names.now ≤ 63 }
+    requires names { length names.now ≤ 63 }
+    requires short { Each HasShortLists (map (module_plan names.now) (map view modules.now)) }
     ensures { IfOk result (λ plans. plans.items ≡ map (module_plan names.now) (map view modules.now)) }
 {
     let mut plans = Vec::new(alloc);
     for module in modules {
         let plan = module_plan(alloc, names, Section::Inner(module))?;
-        if plans.push(plan).is_err() {
+        let Ok(()) = plans.push(plan) else {
             return Err(NoMemory);
-        }
+        };
     }
     Ok(plans)
 }

@@ -1,10 +1,9 @@
 //! What a plan says of modules, gates and harts.
 
-ghost use Rattle.std.specs.Prelude.{◌≡◌, ◌<◌, ◌≤◌, ◌^◌, List, length, slice_get, IfOk};
+ghost use Rattle.std.specs.Prelude.{◌≡◌, ◌<◌, ◌≤◌, List, length, slice_get};
 
-use crate::text::LIST_LIMIT;
 use crate::{Numbers, Text};
-use mx_words::{NoMemory, Perm};
+use mx_words::Perm;
 use std::marker::Model;
 
 /// Where a gate stands or a hart begins.
@@ -16,32 +15,29 @@ pub enum EntryPlan {
     Address(u32),
 }
 
-/// A list of entries.
+/// A list of at most 256 entries.
 #[derive(Drop)]
 pub struct Entries {
     items: Vec<EntryPlan>,
 }
 
 impl Model for Entries {
-    ghost use Rattle.std.specs.Prelude.{◌≤◌, ◌^◌, List, length};
+    ghost use Rattle.std.specs.Prelude.{◌≤◌, List, length};
     ghost use Rattle.mx_manifest.specs.declared.parts.EntryPlan.{EntryPlan};
 
     ghost Value = { List EntryPlan };
 
     ghost view = { λ e. e.items.items };
 
-    ghost invariant = { λ e. length e.items.items ≤ 2 ^ 20 };
+    ghost invariant = { λ e. length e.items.items ≤ 256 };
 }
 
 impl Entries {
-    pub(crate) fn new(items: Vec<EntryPlan>) -> Result<Entries, NoMemory>
-        ensures { IfOk result (λ e. e ≡ items.items) }
+    pub(crate) fn new(items: Vec<EntryPlan>) -> Entries
+        requires { length items.items ≤ 256 }
+        ensures { result ≡ items.items }
     {
-        if items.len() <= LIST_LIMIT {
-            Ok(Entries { items })
-        } else {
-            Err(NoMemory)
-        }
+        Entries { items }
     }
 
     /// How many entries there are.
@@ -69,32 +65,29 @@ pub struct GatePlan {
     pub from: Numbers,
 }
 
-/// A list of gates.
+/// A list of at most 256 gates.
 #[derive(Drop)]
 pub struct GatePlans {
     items: Vec<GatePlan>,
 }
 
 impl Model for GatePlans {
-    ghost use Rattle.std.specs.Prelude.{◌≤◌, ◌^◌, List, length};
+    ghost use Rattle.std.specs.Prelude.{◌≤◌, List, length};
     ghost use Rattle.mx_manifest.specs.declared.parts.GatePlan.{GatePlan};
 
     ghost Value = { List GatePlan };
 
     ghost view = { λ g. g.items.items };
 
-    ghost invariant = { λ g. length g.items.items ≤ 2 ^ 20 };
+    ghost invariant = { λ g. length g.items.items ≤ 256 };
 }
 
 impl GatePlans {
-    pub(crate) fn new(items: Vec<GatePlan>) -> Result<GatePlans, NoMemory>
-        ensures { IfOk result (λ g. g ≡ items.items) }
+    pub(crate) fn new(items: Vec<GatePlan>) -> GatePlans
+        requires { length items.items ≤ 256 }
+        ensures { result ≡ items.items }
     {
-        if items.len() <= LIST_LIMIT {
-            Ok(GatePlans { items })
-        } else {
-            Err(NoMemory)
-        }
+        GatePlans { items }
     }
 
     /// How many gates there are.

@@ -1,13 +1,10 @@
 //! Texts and lists of numbers in a plan.
 
-ghost use Rattle.std.specs.Prelude.{◌≡◌, ◌<◌, ◌≤◌, ◌^◌, List, ℕ, length, slice_get, string_bytes, IfOk};
+ghost use Rattle.std.specs.Prelude.{◌≡◌, ◌<◌, ◌≤◌, List, ℕ, length, slice_get, string_bytes, IfOk};
 
 use mx_words::NoMemory;
 use std::alloc::Global;
 use std::marker::Model;
-
-/// The most elements of a list in a plan. Step 1 of the tests allows far fewer.
-pub(crate) const LIST_LIMIT: usize = 1 << 20;
 
 /// A text: the name of a module, a file or a symbol.
 #[derive(Drop)]
@@ -40,7 +37,7 @@ impl Text {
     }
 }
 
-/// A list of numbers: words of RAM, or domains.
+/// A list of at most 65536 numbers: words of RAM, or domains.
 #[derive(Drop)]
 pub struct Numbers {
     items: Vec<u32>,
@@ -51,18 +48,15 @@ impl Model for Numbers {
 
     ghost view = { λ n. n.items.items };
 
-    ghost invariant = { λ n. length n.items.items ≤ 2 ^ 20 };
+    ghost invariant = { λ n. length n.items.items ≤ 65536 };
 }
 
 impl Numbers {
-    pub(crate) fn new(items: Vec<u32>) -> Result<Numbers, NoMemory>
-        ensures { IfOk result (λ n. n ≡ items.items) }
+    pub(crate) fn new(items: Vec<u32>) -> Numbers
+        requires { length items.items ≤ 65536 }
+        ensures { result ≡ items.items }
     {
-        if items.len() <= LIST_LIMIT {
-            Ok(Numbers { items })
-        } else {
-            Err(NoMemory)
-        }
+        Numbers { items }
     }
 
     /// How many numbers there are.

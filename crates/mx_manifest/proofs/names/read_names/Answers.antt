@@ -1,16 +1,14 @@
-use Rattle.std.proofs.Common.{◌≡◌, ℕ, ◌+◌, ◌-◌, ◌<◌, ◌∙◌, Bool, true, false, not, cond, if◌then◌else◌, List, [], ◌∷◌, ◌++◌, length, get_or, map, take, Option, Some, None, refl, ap, sym, arith}
+use Rattle.std.proofs.Common.{◌≡◌, ℕ, ◌+◌, ◌-◌, ◌<◌, ◌∙◌, Bool, true, false, not, if◌then◌else◌, List, [], ◌∷◌, ◌++◌, length, get_or, map, take, Some, None, refl, ap, sym, arith}
 use Rattle.std.proofs.lemmas.List.{take-map, take_more}
 use Rattle.std.specs.List.{list_any}
 use Rattle.std.specs.Str.{bytes_eq}
 use Rattle.toml.specs.declared.value.Value.{Value}
 use Rattle.toml.specs.View.{view}
-use Rattle.mx_manifest.specs.declared.fault.BootFault.{BootFault}
 use Rattle.mx_manifest.specs.declared.fault.Key.TheVariants as key
 use Rattle.mx_manifest.specs.declared.fault.Part.TheVariants as part
-use Rattle.mx_manifest.specs.declared.tables.KeyFault.{KeyFault}
-use Rattle.mx_manifest.specs.Faults.{each_fault, fault_where, module_name, placed, repeat_fault}
+use Rattle.mx_manifest.specs.Faults.{fault_where, module_name, placed, repeat_fault}
 use Rattle.mx_manifest.proofs.Clear.{unmapped}
-use Rattle.mx_manifest.proofs.Loops.{each_from, each_next, each_here}
+use Rattle.mx_manifest.proofs.Loops.{each_next, each_here}
 use Rattle.mx_manifest.proofs.names.read_names.Goals as goal
 
 names_of : List Value → List (List ℕ)

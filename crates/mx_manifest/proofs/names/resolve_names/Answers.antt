@@ -1,8 +1,6 @@
-use Rattle.std.proofs.Common.{◌≡◌, ◌∙◌, ◌≤◌, ap, sym, map, None, Some}
-use Rattle.toml.specs.View.{view}
-use Rattle.mx_manifest.specs.Faults.{module_name, module_names}
-use Rattle.mx_manifest.specs.Section.{section_view}
-use Rattle.mx_manifest.proofs.Judging.{at_most, names_at_most, repeats_in, repeats_are, froms_are, homes_are, tells_repeat, tells_from, tells_home, names_clear}
+use Rattle.std.proofs.Common.{◌∙◌, ap, map}
+use Rattle.mx_manifest.specs.Faults.{module_name}
+use Rattle.mx_manifest.proofs.Judging.{at_most, names_at_most}
 use Rattle.mx_manifest.proofs.names.resolve_names.Goals as goal
 
 pub read_names-requires : goal.read_names-requires

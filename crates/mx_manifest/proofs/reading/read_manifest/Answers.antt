@@ -1,9 +1,9 @@
-use Rattle.std.proofs.Common.{◌≡◌, ◌∙◌, sym, subst}
+use Rattle.std.proofs.Common.{◌∙◌, sym, subst}
 use Rattle.toml.specs.Data.{table}
 use Rattle.toml.specs.View.{table_view}
 use Rattle.mx_manifest.specs.InRange.{IsInRange}
 use Rattle.mx_manifest.specs.Faults.{modules}
-use Rattle.mx_manifest.proofs.Judging.{tables_of, first_tables, tells_names, first_none, names_at_most, modules_at_most, harts_at_most}
+use Rattle.mx_manifest.proofs.Judging.{tables_of, first_tables, first_none, names_at_most, modules_at_most, harts_at_most}
 use Rattle.mx_manifest.proofs.Plans.{in_range}
 use Rattle.mx_manifest.proofs.reading.read_manifest.Goals as goal
 

@@ -1,4 +1,4 @@
-use Rattle.std.proofs.Common.{◌≡◌, ◌∙◌, ◌++◌, [], ap}
+use Rattle.std.proofs.Common.{◌∙◌, ◌++◌, [], ap}
 use Rattle.std.specs.List.{list_all}
 use Rattle.std.specs.Option.{option_map_or}
 use Rattle.mx_manifest.specs.Reads.{member_names}

@@ -1,8 +1,5 @@
-use Rattle.std.proofs.Common.{◌≡◌, ◌∙◌, ℕ, ◌≤◌, length, List, map, Option, None, ap, sym, arith}
-use Rattle.toml.specs.Data.{Data}
-use Rattle.toml.specs.declared.value.Value.{Value}
-use Rattle.toml.specs.View.{view}
-use Rattle.mx_manifest.specs.Faults.{table_fault, placed}
+use Rattle.std.proofs.Common.{◌≡◌, ◌∙◌, None, sym}
+use Rattle.mx_manifest.specs.Faults.{table_fault}
 use Rattle.mx_manifest.specs.Rows.{top_rows}
 use Rattle.mx_manifest.specs.Section.{section_view}
 use Rattle.mx_manifest.proofs.Clear.{unmapped, few_modules, few_harts}

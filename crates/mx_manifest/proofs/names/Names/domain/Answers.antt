@@ -1,4 +1,4 @@
-use Rattle.std.proofs.Common.{◌≡◌, ◌+◌, ◌∙◌, suc, add-one}
+use Rattle.std.proofs.Common.{◌≡◌, suc, add-one}
 use Rattle.mx_manifest.specs.Faults.{domain_of}
 use Rattle.mx_manifest.proofs.Domains.{domain_in}
 use Rattle.mx_manifest.proofs.names.Names.domain.Goals as goal

@@ -1,4 +1,4 @@
-use Rattle.std.proofs.Common.{◌≡◌, Some, get_or, refl, slice_get, subst}
+use Rattle.std.proofs.Common.{◌≡◌, get_or, refl, subst}
 use Rattle.std.proofs.lemmas.Option.{slice_get_read}
 use Rattle.mx_manifest.specs.InRange.{IsInRange}
 use Rattle.mx_manifest.specs.Plan.{Said}
