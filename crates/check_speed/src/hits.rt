@@ -6,7 +6,7 @@ ghost use Rattle.mx_check.specs.Conditions.{MayLook};
 use mx_check::Checker;
 use mx_segments::Segments;
 use mx_table::PermTables;
-use mx_words::{RAM_BASE, Access};
+use mx_words::{Access, RAM_BASE};
 
 /// A checker of one hart over these tables.
 pub fn fresh(tables: Segments) -> Checker<Segments, 8>

@@ -7,7 +7,7 @@ ghost use Rattle.check_speed.specs.Revoke.{called, IsReader};
 
 use mx_check::{Checker, Counts};
 use mx_table::{Change, PermTables};
-use mx_words::{RAM_BASE, Access, Perm};
+use mx_words::{Access, Perm, RAM_BASE};
 
 /// A check of word 0 by hart 0 at place 5 in a domain, which the hart then leaves.
 fn visit<T: PermTables, const N: usize>(
