@@ -14,7 +14,7 @@ pub struct Counted {
 
 impl Counted {
     /// The number of calls of `perm`, `span`, `shown` and `fits`.
-    pub fn asked(&self) -> u64 {
+    pub fn questions(&self) -> u64 {
         self.asked.get()
     }
 
@@ -30,7 +30,7 @@ impl PermTables for Counted {
 
     ghost kind = { K.Segments };
 
-    ghost maps = { λ t. maps_in t.inner.words t.inner.leaf t.inner.chains };
+    ghost maps = { λ t. maps_in t.inner.words t.inner.leaf t.inner.chains.lists };
 
     ghost size = { λ t. t.inner.words };
 
@@ -92,5 +92,5 @@ impl PermTables for Counted {
         self.inner.shown(domain, word)
     }
 
-    ghost shaped = { λ t. shaped_of t.inner.words t.inner.leaf t.inner.chains t.inner.limit t.inner.kept };
+    ghost shaped = { λ t. shaped_of t.inner.words t.inner.leaf t.inner.chains.lists t.inner.chains.room t.inner.limit t.inner.kept };
 }

@@ -48,7 +48,7 @@ fn entries_belong_to_a_domain(rt: HostRuntime) -> Result<(), Fail> {
     let seen = two_domains(&mut checker);
     assert_eq!(rt; seen, TWO_DOMAINS);
     assert_eq!(rt; checker.tables().inner.lookups, 2);
-    assert_eq!(rt; checker.tables().asked(), 0);
+    assert_eq!(rt; checker.tables().questions(), 0);
     Ok(())
 }
 

@@ -1,5 +1,6 @@
 -- How changes of one row follow one another.
-use Rattle.std.proofs.Common.{◌≡◌, ℕ, List, length, refl, ◌∙◌, ap, arith}
+use Rattle.std.proofs.Common.{◌≡◌, ℕ, zero, suc, ◌≤◌, List, [], ◌∷◌, sum_by, length, refl, ◌∙◌, ap, arith}
+use Rattle.std.proofs.lemmas.List.Sums.{sum_by-cons}
 use Rattle.mx_segments.specs.Store.{Frames, frames_in, IsStore, KeepsOthers, IsRewritten}
 
 pub keeps_refl : (fs : Frames) (ls : List (List ℕ)) (row : ℕ) → KeepsOthers fs ls fs ls row
@@ -25,3 +26,9 @@ rewritten_trans fs fs' fs'' ls row a b = record {
   others = keeps_trans fs ls fs' ls fs'' ls row a.others b.others;
   free = b.free ∙ a.free;
 }
+
+-- a list has no more frames than all lists together
+pub list-le : (ls : List (List ℕ)) (row : ℕ) → frames_in ls row ≤ sum_by length ls
+list-le [] row = omega arith
+list-le (l ∷ ls) zero = omega (arith, sum_by-cons length l ls)
+list-le (l ∷ ls) (suc row) = omega (arith, sum_by-cons length l ls, list-le ls row)

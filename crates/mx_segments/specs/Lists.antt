@@ -1,6 +1,6 @@
 -- Lists of frame numbers, one for each domain.
 use Rattle.std.specs.declared.alloc.Global.{Global}
-use Rattle.std.specs.Prelude.{ℕ, ◌-◌, ◌^◌, ◌≤◌, List, [], slice_index_or, Vec, vec_len, vec_capacity}
+use Rattle.std.specs.Prelude.{ℕ, ◌+◌, ◌-◌, ◌/◌, ◌^◌, ◌≤◌, min, List, [], slice_index_or, Vec, vec_len, vec_capacity}
 
 -- the greatest number of frames in one list: as many as the entries of 2^24 words fill
 abbrev pub most_frames : ℕ
@@ -14,7 +14,17 @@ list_at lists row = slice_index_or lists row []
 abbrev pub chain_of : List (List ℕ) → ℕ → List ℕ
 chain_of lists d = list_at lists (d - 1)
 
--- a list has room for all its frames
-pub record IsRoomy (v : Vec ℕ Global) : Type 0 where
-  pub few : vec_len v ≤ most_frames
-  pub room : most_frames ≤ vec_capacity v
+-- the lists of all domains, and how many frame numbers each of them has memory for
+pub record Chained : Type 0 where
+  pub lists : List (List ℕ)
+  pub room : ℕ
+
+-- a list of at most `room` numbers, with memory for that many
+pub record IsRoomy (room : ℕ) (v : Vec ℕ Global) : Type 0 where
+  pub few : vec_len v ≤ room
+  pub memory : room ≤ vec_capacity v
+
+-- lists of a RAM of `words` words with `total` frames have memory for as many numbers as there are frames, or as the entries of all
+-- words fill
+pub record HasRoom (total words room : ℕ) : Type 0 where
+  pub enough : min total ((words + 63) / 64) ≤ room

@@ -58,8 +58,8 @@ within_is leaf limit le =
     ap (λ b. b && nat_le leaf limit.leaf && nat_le 0 limit.spill) low ∙ ap (λ b. true && b && nat_le 0 limit.spill) middle ∙ ap (λ b. true && true && b) high
 
 -- the tables' maps have the shape that the trait promises
-pub shaped_of : (words : ℕ) (fs : Frames) (ls : List (List ℕ)) (limit : Need) → IsKept fs ls words limit → IsShaped K.Segments words limit (maps_in words fs ls)
-shaped_of words fs ls limit kept = record {
+pub shaped_of : (words : ℕ) (fs : Frames) (ls : List (List ℕ)) (memory : ℕ) (limit : Need) → IsKept fs ls memory words limit → IsShaped K.Segments words limit (maps_in words fs ls)
+shaped_of words fs ls memory limit kept = record {
   some_words = kept.some_words;
   few_words = kept.few_words;
   some_maps = (let e = kept.some_rows in omega (arith, length-maps_in words fs ls));

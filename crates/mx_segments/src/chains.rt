@@ -7,34 +7,33 @@ use mx_words::NoMemory;
 use std::alloc::Global;
 use std::marker::Model;
 
-/// The greatest number of frames in one list.
-const MOST_FRAMES: usize = 262144;
-
 /// Lists of frame numbers, one for each domain from 1 on, in which the domain's entries stand one after the other.
 ///
 /// All memory is taken when the lists are made.
 #[derive(Drop)]
 pub struct Chains {
     lists: Vec<Vec<u32>>,
+    /// How many frame numbers each list has memory for.
+    room: u32,
 }
 
 impl Model for Chains {
-    ghost use Rattle.std.specs.Prelude.{List, ℕ, All, map, length, vec_items, ◌≤◌};
-    ghost use Rattle.mx_segments.specs.Lists.{IsRoomy};
+    ghost use Rattle.std.specs.Prelude.{All, map, length, vec_items, ◌≤◌};
+    ghost use Rattle.mx_segments.specs.Lists.{Chained, IsRoomy, most_frames};
 
-    ghost Value = { List (List ℕ) };
+    ghost Value = { Chained };
 
-    ghost view = { λ c. map vec_items c.lists.items };
+    ghost view = { λ c. record { lists = map vec_items c.lists.items; room = c.room } };
 
-    ghost invariant = { λ c. (length c.lists.items ≤ 63) × All IsRoomy c.lists.items };
+    ghost invariant = { λ c. (length c.lists.items ≤ 63) × ((c.room ≤ most_frames) × All (IsRoomy c.room) c.lists.items) };
 }
 
 impl Chains {
     /// The length of a domain's list. Domains count from 1.
     pub fn frames(&self, domain: u32) -> u32
         requires first { 1 ≤ domain }
-        requires last { domain ≤ length self.now }
-        ensures { result ≡ length (chain_of self.now domain) }
+        requires last { domain ≤ length self.now.lists }
+        ensures { result ≡ length (chain_of self.now.lists domain) }
     {
         self.len_at(domain - 1)
     }
@@ -42,62 +41,63 @@ impl Chains {
     /// The frame number at place `i` of a domain's list. Places count from 0 and are below `frames`.
     pub fn get(&self, domain: u32, i: u32) -> u32
         requires first { 1 ≤ domain }
-        requires last { domain ≤ length self.now }
-        requires place { i < length (chain_of self.now domain) }
-        ensures { result ≡ slice_index (chain_of self.now domain) i }
+        requires last { domain ≤ length self.now.lists }
+        requires place { i < length (chain_of self.now.lists domain) }
+        ensures { result ≡ slice_index (chain_of self.now.lists domain) i }
     {
         self.frame_at(domain - 1, i)
     }
 
     // The length of the list at a row, which counts from 0.
     pub(crate) fn len_at(&self, row: u32) -> u32
-        requires { row < length self.now }
-        ensures len { result ≡ length (list_at self.now row) }
-        ensures few { length (list_at self.now row) ≤ most_frames }
+        requires { row < length self.now.lists }
+        ensures len { result ≡ length (list_at self.now.lists row) }
+        ensures few { length (list_at self.now.lists row) ≤ most_frames }
     {
         self.lists[row as usize].len() as u32
     }
 
     // The frame number at a place of the list at a row.
     pub(crate) fn frame_at(&self, row: u32, i: u32) -> u32
-        requires row { row < length self.now }
-        requires place { i < length (list_at self.now row) }
-        ensures { result ≡ slice_index (list_at self.now row) i }
+        requires row { row < length self.now.lists }
+        requires place { i < length (list_at self.now.lists row) }
+        ensures { result ≡ slice_index (list_at self.now.lists row) i }
     {
         self.lists[row as usize][i as usize]
     }
 
     // The number of lists.
     pub(crate) fn count(&self) -> u32
-        ensures count { result ≡ length self.now }
-        ensures few { length self.now ≤ 63 }
+        ensures count { result ≡ length self.now.lists }
+        ensures few { length self.now.lists ≤ 63 }
     {
         self.lists.len() as u32
     }
 
     // Appends a frame number to the list at a row.
     pub(crate) fn push(&mut self, row: u32, frame: u32)
-        requires row { row < length self.old }
-        requires room { length (list_at self.old row) < most_frames }
-        ensures { self.new ≡ slice_set self.old row (list_at self.old row ++ frame ∷ []) }
+        requires row { row < length self.old.lists }
+        requires room { length (list_at self.old.lists row) < self.old.room }
+        ensures lists { self.new.lists ≡ slice_set self.old.lists row (list_at self.old.lists row ++ frame ∷ []) }
+        ensures same_room { self.new.room ≡ self.old.room }
     {
         append(&mut self.lists[row as usize], frame);
     }
 
     // Takes the last frame number from the list at a row.
     pub(crate) fn pop(&mut self, row: u32) -> u32
-        requires row { row < length self.old }
-        requires some { 0 < length (list_at self.old row) }
-        ensures frame { result ≡ slice_index (list_at self.old row) (length (list_at self.old row) - 1) }
-        ensures rest { self.new ≡ slice_set self.old row (take (length (list_at self.old row) - 1) (list_at self.old row)) }
+        requires row { row < length self.old.lists }
+        requires some { 0 < length (list_at self.old.lists row) }
+        ensures frame { result ≡ slice_index (list_at self.old.lists row) (length (list_at self.old.lists row) - 1) }
+        ensures rest { self.new.lists ≡ slice_set self.old.lists row (take (length (list_at self.old.lists row) - 1) (list_at self.old.lists row)) }
+        ensures same_room { self.new.room ≡ self.old.room }
     {
         cut(&mut self.lists[row as usize])
     }
 }
 
 fn append(list: &mut Vec<u32>, frame: u32)
-    requires room { vec_len list.old < most_frames }
-    requires capacity { most_frames ≤ vec_capacity list.old }
+    requires room { vec_len list.old < vec_capacity list.old }
     ensures items { list.new.items ≡ list.old.items ++ frame ∷ [] }
     ensures len { vec_len list.new ≡ vec_len list.old + 1 }
     ensures capacity_stays { vec_capacity list.old ≤ vec_capacity list.new }
@@ -121,19 +121,21 @@ fn cut(list: &mut Vec<u32>) -> u32
     }
 }
 
-/// Empty lists for `rows` domains, with room for all their frames.
-pub(crate) fn empty_chains(alloc: Global, rows: u32) -> Result<Chains, NoMemory>
-    requires { rows ≤ 63 }
-    ensures { IfOk result (λ c. c ≡ replicate rows []) }
+/// Empty lists for `rows` domains, each with memory for `room` frame numbers, at most 2^18.
+pub(crate) fn empty_chains(alloc: Global, rows: u32, room: u32) -> Result<Chains, NoMemory>
+    requires rows { rows ≤ 63 }
+    requires room { room ≤ most_frames }
+    ensures lists { IfOk result (λ c. c.lists ≡ replicate rows []) }
+    ensures room { IfOk result (λ c. c.room ≡ room) }
 {
     let mut lists = Vec::new(alloc);
     for _ in 0..rows {
-        let Ok(list) = Vec::with_capacity(alloc, MOST_FRAMES) else {
+        let Ok(list) = Vec::with_capacity(alloc, room as usize) else {
             return Err(NoMemory);
         };
         let Ok(()) = lists.push(list) else {
             return Err(NoMemory);
         };
     }
-    Ok(Chains { lists })
+    Ok(Chains { lists, room })
 }

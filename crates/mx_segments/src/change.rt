@@ -4,6 +4,7 @@ ghost use Rattle.mx_words.specs.Newest.{laid};
 ghost use Rattle.mx_words.specs.Changes.{grant_of};
 ghost use Rattle.mx_pool.specs.Frames.{free_in};
 ghost use Rattle.mx_table.specs.Tables.{most_words};
+ghost use Rattle.mx_segments.specs.Lists.{HasRoom};
 ghost use Rattle.mx_segments.specs.Store.{frames_in, word_in, IsStore, KeepsOthers, IsRewritten};
 ghost use Rattle.mx_segments.specs.Sound.{map_in, IsSound};
 ghost use Rattle.mx_segments.specs.Plan.{kept, total};
@@ -17,20 +18,20 @@ use mx_words::Perm;
 
 // Moves the entries that only move to their new places, where these are others.
 fn shift(leaf: &mut Pool<64>, chains: &Chains, row: u32, plan: &Plan)
-    requires store { IsStore leaf.old chains.now }
-    requires row { row < length chains.now }
+    requires store { IsStore leaf.old chains.now.lists }
+    requires row { row < length chains.now.lists }
     requires before { plan.now.before ≤ plan.now.behind }
     requires behind { plan.now.behind ≤ plan.now.all }
     requires all { plan.now.all ≤ most_words }
     requires most { total plan.now ≤ most_words }
-    requires room { plan.now.all ≤ 64 * frames_in chains.now row }
-    requires enough { total plan.now ≤ 64 * frames_in chains.now row }
-    ensures rewritten { IsRewritten leaf.old leaf.new chains.now row }
-    ensures moved { (k : ℕ) → plan.now.behind ≤ k → k < plan.now.all → word_in leaf.new chains.now row (k + kept plan.now - plan.now.behind) ≡ word_in leaf.old chains.now row k }
-    ensures same { (k : ℕ) → k < plan.now.before → word_in leaf.new chains.now row k ≡ word_in leaf.old chains.now row k }
-    ensures rest { (k : ℕ) → plan.now.all ≤ k → total plan.now ≤ k → k < 64 * frames_in chains.now row → word_in leaf.new chains.now row k ≡ word_in leaf.old chains.now row k }
+    requires room { plan.now.all ≤ 64 * frames_in chains.now.lists row }
+    requires enough { total plan.now ≤ 64 * frames_in chains.now.lists row }
+    ensures rewritten { IsRewritten leaf.old leaf.new chains.now.lists row }
+    ensures moved { (k : ℕ) → plan.now.behind ≤ k → k < plan.now.all → word_in leaf.new chains.now.lists row (k + kept plan.now - plan.now.behind) ≡ word_in leaf.old chains.now.lists row k }
+    ensures same { (k : ℕ) → k < plan.now.before → word_in leaf.new chains.now.lists row k ≡ word_in leaf.old chains.now.lists row k }
+    ensures rest { (k : ℕ) → plan.now.all ≤ k → total plan.now ≤ k → k < 64 * frames_in chains.now.lists row → word_in leaf.new chains.now.lists row k ≡ word_in leaf.old chains.now.lists row k }
 {
-    let kept = plan.kept();
+    let kept = plan.kept_count();
     if plan.behind < kept {
         move_up(leaf, chains, row, plan.behind, plan.all, kept - plan.behind);
     } else if kept < plan.behind {
@@ -49,18 +50,20 @@ fn rewrite_row(
     count: u32,
     perm: Perm,
 )
-    requires store { IsStore leaf.old chains.old }
-    requires row { row < length chains.old }
+    requires store { IsStore leaf.old chains.old.lists }
+    requires row { row < length chains.old.lists }
     requires small { words ≤ most_words }
-    requires sound { IsSound words leaf.old chains.old row }
+    requires sound { IsSound words leaf.old chains.old.lists row }
     requires some { 0 < count }
     requires inside { first + count ≤ words }
     requires spare { 0 < free_in leaf.old }
-    ensures store { IsStore leaf.new chains.new }
-    ensures others { KeepsOthers leaf.old chains.old leaf.new chains.new row }
-    ensures sound { IsSound words leaf.new chains.new row }
-    ensures changed { map_in words leaf.new chains.new row ≡ laid (grant_of first count perm) (map_in words leaf.old chains.old row) }
+    requires memory { HasRoom (length leaf.old) words chains.old.room }
+    ensures store { IsStore leaf.new chains.new.lists }
+    ensures others { KeepsOthers leaf.old chains.old.lists leaf.new chains.new.lists row }
+    ensures sound { IsSound words leaf.new chains.new.lists row }
+    ensures changed { map_in words leaf.new chains.new.lists row ≡ laid (grant_of first count perm) (map_in words leaf.old chains.old.lists row) }
     ensures free { free_in leaf.old ≤ free_in leaf.new + 1 }
+    ensures same_room { chains.new.room ≡ chains.old.room }
 {
     let plan = plan_of(leaf, chains, row, words, first, count, perm);
     let total = plan.total();
@@ -91,18 +94,20 @@ pub(crate) fn change_row(
     count: u32,
     perm: Perm,
 )
-    requires store { IsStore leaf.old chains.old }
-    requires row { row < length chains.old }
+    requires store { IsStore leaf.old chains.old.lists }
+    requires row { row < length chains.old.lists }
     requires small { words ≤ most_words }
-    requires sound { IsSound words leaf.old chains.old row }
+    requires sound { IsSound words leaf.old chains.old.lists row }
     requires some { 0 < count }
     requires inside { first + count ≤ words }
     requires spare { 0 < free_in leaf.old }
-    ensures store { IsStore leaf.new chains.new }
-    ensures others { KeepsOthers leaf.old chains.old leaf.new chains.new row }
-    ensures sound { IsSound words leaf.new chains.new row }
-    ensures changed { map_in words leaf.new chains.new row ≡ laid (grant_of first count perm) (map_in words leaf.old chains.old row) }
+    requires memory { HasRoom (length leaf.old) words chains.old.room }
+    ensures store { IsStore leaf.new chains.new.lists }
+    ensures others { KeepsOthers leaf.old chains.old.lists leaf.new chains.new.lists row }
+    ensures sound { IsSound words leaf.new chains.new.lists row }
+    ensures changed { map_in words leaf.new chains.new.lists row ≡ laid (grant_of first count perm) (map_in words leaf.old chains.old.lists row) }
     ensures free { free_in leaf.old ≤ free_in leaf.new + 1 }
+    ensures same_room { chains.new.room ≡ chains.old.room }
 {
     if !has_already(leaf, chains, row, words, first, count, perm) {
         rewrite_row(leaf, chains, row, words, first, count, perm);

@@ -41,11 +41,11 @@ pub(crate) fn runs_before(
     words: u32,
     before: u32,
 ) -> u32
-    requires store { IsStore leaf.now chains.now }
-    requires row { row < length chains.now }
+    requires store { IsStore leaf.now chains.now.lists }
+    requires row { row < length chains.now.lists }
     requires small { words ≤ most_words }
-    requires sound { IsSound words leaf.now chains.now row }
-    ensures { result ≡ count_below (min before words) (is_start (map_in words leaf.now chains.now row)) }
+    requires sound { IsSound words leaf.now chains.now.lists row }
+    ensures { result ≡ count_below (min before words) (is_start (map_in words leaf.now chains.now.lists row)) }
 {
     let before = before.min(words);
     let mut low = 0;
@@ -69,11 +69,11 @@ pub(crate) fn entry_at(
     words: u32,
     i: u32,
 ) -> Option<u32>
-    requires store { IsStore leaf.now chains.now }
-    requires row { row < length chains.now }
-    requires sound { IsSound words leaf.now chains.now row }
-    ensures none { IsNone result ↔ (runs (map_in words leaf.now chains.now row) ≤ i) }
-    ensures entry { IfSome result (λ e. e ≡ entry_of (map_in words leaf.now chains.now row) i) }
+    requires store { IsStore leaf.now chains.now.lists }
+    requires row { row < length chains.now.lists }
+    requires sound { IsSound words leaf.now chains.now.lists row }
+    ensures none { IsNone result ↔ (runs (map_in words leaf.now chains.now.lists row) ≤ i) }
+    ensures entry { IfSome result (λ e. e ≡ entry_of (map_in words leaf.now chains.now.lists row) i) }
 {
     if i / 64 >= chains.len_at(row) {
         return None;
@@ -86,10 +86,10 @@ pub(crate) fn entry_at(
 
 /// The word at which run `i` of the map at a row begins, and RAM's end where there is no such run.
 pub(crate) fn start_at(leaf: &Pool<64>, chains: &Chains, row: u32, words: u32, i: u32) -> u32
-    requires store { IsStore leaf.now chains.now }
-    requires row { row < length chains.now }
-    requires sound { IsSound words leaf.now chains.now row }
-    ensures { result ≡ run_start (map_in words leaf.now chains.now row) i }
+    requires store { IsStore leaf.now chains.now.lists }
+    requires row { row < length chains.now.lists }
+    requires sound { IsSound words leaf.now chains.now.lists row }
+    ensures { result ≡ run_start (map_in words leaf.now chains.now.lists row) i }
 {
     match entry_at(leaf, chains, row, words, i) {
         Some(entry) => (entry - RAM_BASE) / 4,
@@ -99,12 +99,12 @@ pub(crate) fn start_at(leaf: &Pool<64>, chains: &Chains, row: u32, words: u32, i
 
 /// The permission of a word in the map at a row.
 pub(crate) fn perm_in(leaf: &Pool<64>, chains: &Chains, row: u32, words: u32, at: u32) -> Perm
-    requires store { IsStore leaf.now chains.now }
-    requires row { row < length chains.now }
+    requires store { IsStore leaf.now chains.now.lists }
+    requires row { row < length chains.now.lists }
     requires small { words ≤ most_words }
-    requires sound { IsSound words leaf.now chains.now row }
+    requires sound { IsSound words leaf.now chains.now.lists row }
     requires word { at < words }
-    ensures { result ≡ perm_at (map_in words leaf.now chains.now row) at }
+    ensures { result ≡ perm_at (map_in words leaf.now chains.now.lists row) at }
 {
     let behind = runs_before(leaf, chains, row, words, at + 1);
     entry_perm(word(leaf, chains, row, behind - 1))
@@ -112,12 +112,12 @@ pub(crate) fn perm_in(leaf: &Pool<64>, chains: &Chains, row: u32, words: u32, at
 
 /// The whole run of a word in the map at a row.
 pub(crate) fn run_in(leaf: &Pool<64>, chains: &Chains, row: u32, words: u32, at: u32) -> Span
-    requires store { IsStore leaf.now chains.now }
-    requires row { row < length chains.now }
+    requires store { IsStore leaf.now chains.now.lists }
+    requires row { row < length chains.now.lists }
     requires small { words ≤ most_words }
-    requires sound { IsSound words leaf.now chains.now row }
+    requires sound { IsSound words leaf.now chains.now.lists row }
     requires word { at < words }
-    ensures { result ≡ span K.Segments (map_in words leaf.now chains.now row) at }
+    ensures { result ≡ span K.Segments (map_in words leaf.now chains.now.lists row) at }
 {
     let behind = runs_before(leaf, chains, row, words, at + 1);
     let first = start_at(leaf, chains, row, words, behind - 1);
@@ -140,13 +140,13 @@ pub(crate) fn has_already(
     count: u32,
     perm: Perm,
 ) -> bool
-    requires store { IsStore leaf.now chains.now }
-    requires row { row < length chains.now }
+    requires store { IsStore leaf.now chains.now.lists }
+    requires row { row < length chains.now.lists }
     requires small { words ≤ most_words }
-    requires sound { IsSound words leaf.now chains.now row }
+    requires sound { IsSound words leaf.now chains.now.lists row }
     requires some { 0 < count }
     requires inside { first + count ≤ words }
-    ensures { result ≡ true → laid (grant_of first count perm) (map_in words leaf.now chains.now row) ≡ map_in words leaf.now chains.now row }
+    ensures { result ≡ true → laid (grant_of first count perm) (map_in words leaf.now chains.now.lists row) ≡ map_in words leaf.now chains.now.lists row }
 {
     let run = run_in(leaf, chains, row, words, first);
     run.perm.number() == perm.number() && first + count <= run.first + run.count
@@ -154,12 +154,12 @@ pub(crate) fn has_already(
 
 /// The stored entry of a word's run in the map at a row, with the run.
 pub(crate) fn shown_in(leaf: &Pool<64>, chains: &Chains, row: u32, words: u32, at: u32) -> Shown
-    requires store { IsStore leaf.now chains.now }
-    requires row { row < length chains.now }
+    requires store { IsStore leaf.now chains.now.lists }
+    requires row { row < length chains.now.lists }
     requires small { words ≤ most_words }
-    requires sound { IsSound words leaf.now chains.now row }
+    requires sound { IsSound words leaf.now chains.now.lists row }
     requires word { at < words }
-    ensures { result ≡ stored K.Segments (map_in words leaf.now chains.now row) at }
+    ensures { result ≡ stored K.Segments (map_in words leaf.now chains.now.lists row) at }
 {
     let behind = runs_before(leaf, chains, row, words, at + 1);
     let first = start_at(leaf, chains, row, words, behind - 1);

@@ -2,6 +2,7 @@
 ghost use Rattle.std.specs.Prelude.{◌≡◌, ◌≢◌, ℕ, ◌+◌, ◌-◌, ◌*◌, ◌%◌, ◌<◌, ◌≤◌, length, true};
 ghost use Rattle.mx_pool.specs.Frames.{free_in};
 ghost use Rattle.mx_table.specs.Tables.{most_words};
+ghost use Rattle.mx_segments.specs.Lists.{HasRoom};
 ghost use Rattle.mx_segments.specs.Store.{frames_in, word_in, IsStore, KeepsOthers, IsRewritten, IsPieceCopied};
 ghost use Rattle.mx_segments.specs.Entries.{entry_word};
 
@@ -15,15 +16,15 @@ const FRAME_WORDS: u32 = 64;
 
 // Copies `count` words from place `from` on to place `to` on. Those that are read lie in one frame, and so do those that are written.
 fn copy_piece(leaf: &mut Pool<64>, chains: &Chains, row: u32, from: u32, to: u32, count: u32)
-    requires store { IsStore leaf.old chains.now }
-    requires row { row < length chains.now }
+    requires store { IsStore leaf.old chains.now.lists }
+    requires row { row < length chains.now.lists }
     requires some { 0 < count }
-    requires from { from + count ≤ 64 * frames_in chains.now row }
-    requires to { to + count ≤ 64 * frames_in chains.now row }
+    requires from { from + count ≤ 64 * frames_in chains.now.lists row }
+    requires to { to + count ≤ 64 * frames_in chains.now.lists row }
     requires one_source { from % 64 + count ≤ 64 }
     requires one_target { to % 64 + count ≤ 64 }
-    ensures rewritten { IsRewritten leaf.old leaf.new chains.now row }
-    ensures piece { IsPieceCopied (word_in leaf.old chains.now row) (word_in leaf.new chains.now row) from to count (64 * frames_in chains.now row) }
+    ensures rewritten { IsRewritten leaf.old leaf.new chains.now.lists row }
+    ensures piece { IsPieceCopied (word_in leaf.old chains.now.lists row) (word_in leaf.new chains.now.lists row) from to count (64 * frames_in chains.now.lists row) }
 {
     let source = chains.frame_at(row, from / FRAME_WORDS);
     let target = chains.frame_at(row, to / FRAME_WORDS);
@@ -61,15 +62,15 @@ fn piece_end(begin: u32, to: u32, by: u32) -> u32
 
 /// Moves the words `from` to `to - 1` up by `by` places, frame by frame, the highest first.
 pub(crate) fn move_up(leaf: &mut Pool<64>, chains: &Chains, row: u32, from: u32, to: u32, by: u32)
-    requires store { IsStore leaf.old chains.now }
-    requires row { row < length chains.now }
+    requires store { IsStore leaf.old chains.now.lists }
+    requires row { row < length chains.now.lists }
     requires range { from ≤ to }
-    requires room { to + by ≤ 64 * frames_in chains.now row }
+    requires room { to + by ≤ 64 * frames_in chains.now.lists row }
     requires most { to + by ≤ most_words }
-    ensures rewritten { IsRewritten leaf.old leaf.new chains.now row }
-    ensures moved { (j : ℕ) → from ≤ j → j < to → word_in leaf.new chains.now row (j + by) ≡ word_in leaf.old chains.now row j }
-    ensures below { (j : ℕ) → j < from + by → word_in leaf.new chains.now row j ≡ word_in leaf.old chains.now row j }
-    ensures behind { (j : ℕ) → to + by ≤ j → j < 64 * frames_in chains.now row → word_in leaf.new chains.now row j ≡ word_in leaf.old chains.now row j }
+    ensures rewritten { IsRewritten leaf.old leaf.new chains.now.lists row }
+    ensures moved { (j : ℕ) → from ≤ j → j < to → word_in leaf.new chains.now.lists row (j + by) ≡ word_in leaf.old chains.now.lists row j }
+    ensures below { (j : ℕ) → j < from + by → word_in leaf.new chains.now.lists row j ≡ word_in leaf.old chains.now.lists row j }
+    ensures behind { (j : ℕ) → to + by ≤ j → j < 64 * frames_in chains.now.lists row → word_in leaf.new chains.now.lists row j ≡ word_in leaf.old chains.now.lists row j }
 {
     let mut end = to;
     while from < end {
@@ -81,16 +82,16 @@ pub(crate) fn move_up(leaf: &mut Pool<64>, chains: &Chains, row: u32, from: u32,
 
 /// Moves the words `from` to `to - 1` down by `by` places, frame by frame, the lowest first.
 pub(crate) fn move_down(leaf: &mut Pool<64>, chains: &Chains, row: u32, from: u32, to: u32, by: u32)
-    requires store { IsStore leaf.old chains.now }
-    requires row { row < length chains.now }
+    requires store { IsStore leaf.old chains.now.lists }
+    requires row { row < length chains.now.lists }
     requires range { from ≤ to }
     requires far { by ≤ from }
-    requires room { to ≤ 64 * frames_in chains.now row }
+    requires room { to ≤ 64 * frames_in chains.now.lists row }
     requires most { to ≤ most_words }
-    ensures rewritten { IsRewritten leaf.old leaf.new chains.now row }
-    ensures moved { (j : ℕ) → from ≤ j → j < to → word_in leaf.new chains.now row (j - by) ≡ word_in leaf.old chains.now row j }
-    ensures below { (j : ℕ) → j < from - by → word_in leaf.new chains.now row j ≡ word_in leaf.old chains.now row j }
-    ensures behind { (j : ℕ) → to ≤ j → j < 64 * frames_in chains.now row → word_in leaf.new chains.now row j ≡ word_in leaf.old chains.now row j }
+    ensures rewritten { IsRewritten leaf.old leaf.new chains.now.lists row }
+    ensures moved { (j : ℕ) → from ≤ j → j < to → word_in leaf.new chains.now.lists row (j - by) ≡ word_in leaf.old chains.now.lists row j }
+    ensures below { (j : ℕ) → j < from - by → word_in leaf.new chains.now.lists row j ≡ word_in leaf.old chains.now.lists row j }
+    ensures behind { (j : ℕ) → to ≤ j → j < 64 * frames_in chains.now.lists row → word_in leaf.new chains.now.lists row j ≡ word_in leaf.old chains.now.lists row j }
 {
     let mut begin = from;
     while begin < to {
@@ -102,13 +103,13 @@ pub(crate) fn move_down(leaf: &mut Pool<64>, chains: &Chains, row: u32, from: u3
 
 /// Makes the words `from` to `to - 1` 0.
 pub(crate) fn clear(leaf: &mut Pool<64>, chains: &Chains, row: u32, from: u32, to: u32)
-    requires store { IsStore leaf.old chains.now }
-    requires row { row < length chains.now }
-    requires room { to ≤ 64 * frames_in chains.now row }
-    ensures rewritten { IsRewritten leaf.old leaf.new chains.now row }
-    ensures zeros { (j : ℕ) → from ≤ j → j < to → word_in leaf.new chains.now row j ≡ 0 }
-    ensures below { (j : ℕ) → j < from → j < 64 * frames_in chains.now row → word_in leaf.new chains.now row j ≡ word_in leaf.old chains.now row j }
-    ensures behind { (j : ℕ) → to ≤ j → j < 64 * frames_in chains.now row → word_in leaf.new chains.now row j ≡ word_in leaf.old chains.now row j }
+    requires store { IsStore leaf.old chains.now.lists }
+    requires row { row < length chains.now.lists }
+    requires room { to ≤ 64 * frames_in chains.now.lists row }
+    ensures rewritten { IsRewritten leaf.old leaf.new chains.now.lists row }
+    ensures zeros { (j : ℕ) → from ≤ j → j < to → word_in leaf.new chains.now.lists row j ≡ 0 }
+    ensures below { (j : ℕ) → j < from → j < 64 * frames_in chains.now.lists row → word_in leaf.new chains.now.lists row j ≡ word_in leaf.old chains.now.lists row j }
+    ensures behind { (j : ℕ) → to ≤ j → j < 64 * frames_in chains.now.lists row → word_in leaf.new chains.now.lists row j ≡ word_in leaf.old chains.now.lists row j }
 {
     for i in from..to {
         put(leaf, chains, row, i, 0);
@@ -125,13 +126,13 @@ pub(crate) fn put_if(
     first: u32,
     perm: Perm,
 )
-    requires store { IsStore leaf.old chains.now }
-    requires row { row < length chains.now }
-    requires place { is_there ≡ true → at < 64 * frames_in chains.now row }
+    requires store { IsStore leaf.old chains.now.lists }
+    requires row { row < length chains.now.lists }
+    requires place { is_there ≡ true → at < 64 * frames_in chains.now.lists row }
     requires word { first ≤ most_words }
-    ensures rewritten { IsRewritten leaf.old leaf.new chains.now row }
-    ensures here { is_there ≡ true → word_in leaf.new chains.now row at ≡ entry_word first perm }
-    ensures elsewhere { (j : ℕ) → (is_there ≡ true → j ≢ at) → j < 64 * frames_in chains.now row → word_in leaf.new chains.now row j ≡ word_in leaf.old chains.now row j }
+    ensures rewritten { IsRewritten leaf.old leaf.new chains.now.lists row }
+    ensures here { is_there ≡ true → word_in leaf.new chains.now.lists row at ≡ entry_word first perm }
+    ensures elsewhere { (j : ℕ) → (is_there ≡ true → j ≢ at) → j < 64 * frames_in chains.now.lists row → word_in leaf.new chains.now.lists row j ≡ word_in leaf.old chains.now.lists row j }
 {
     if is_there {
         put(leaf, chains, row, at, RAM_BASE + 4 * first + perm.number());
@@ -140,18 +141,20 @@ pub(crate) fn put_if(
 
 /// Appends a frame where the list's frames don't hold `needed` words, which is at most one frame more than they hold.
 pub(crate) fn make_room(leaf: &mut Pool<64>, chains: &mut Chains, row: u32, needed: u32)
-    requires store { IsStore leaf.old chains.old }
-    requires row { row < length chains.old }
+    requires store { IsStore leaf.old chains.old.lists }
+    requires row { row < length chains.old.lists }
     requires spare { 0 < free_in leaf.old }
     requires most { needed ≤ most_words }
-    requires near { needed ≤ 64 * frames_in chains.old row + 64 }
-    ensures store { IsStore leaf.new chains.new }
-    ensures others { KeepsOthers leaf.old chains.old leaf.new chains.new row }
-    ensures enough { needed ≤ 64 * frames_in chains.new row }
-    ensures more { frames_in chains.old row ≤ frames_in chains.new row }
-    ensures words { (j : ℕ) → j < 64 * frames_in chains.old row → word_in leaf.new chains.new row j ≡ word_in leaf.old chains.old row j }
-    ensures zeros { (j : ℕ) → 64 * frames_in chains.old row ≤ j → j < 64 * frames_in chains.new row → word_in leaf.new chains.new row j ≡ 0 }
+    requires near { needed ≤ 64 * frames_in chains.old.lists row + 64 }
+    requires memory { HasRoom (length leaf.old) needed chains.old.room }
+    ensures store { IsStore leaf.new chains.new.lists }
+    ensures others { KeepsOthers leaf.old chains.old.lists leaf.new chains.new.lists row }
+    ensures enough { needed ≤ 64 * frames_in chains.new.lists row }
+    ensures more { frames_in chains.old.lists row ≤ frames_in chains.new.lists row }
+    ensures words { (j : ℕ) → j < 64 * frames_in chains.old.lists row → word_in leaf.new chains.new.lists row j ≡ word_in leaf.old chains.old.lists row j }
+    ensures zeros { (j : ℕ) → 64 * frames_in chains.old.lists row ≤ j → j < 64 * frames_in chains.new.lists row → word_in leaf.new chains.new.lists row j ≡ 0 }
     ensures free { free_in leaf.old ≤ free_in leaf.new + 1 }
+    ensures same_room { chains.new.room ≡ chains.old.room }
 {
     if 64 * chains.len_at(row) < needed {
         grow(leaf, chains, row);
@@ -160,14 +163,15 @@ pub(crate) fn make_room(leaf: &mut Pool<64>, chains: &mut Chains, row: u32, need
 
 /// Gives the last frames of the list at a row back, until `frames` are left.
 pub(crate) fn trim(leaf: &mut Pool<64>, chains: &mut Chains, row: u32, frames: u32)
-    requires store { IsStore leaf.old chains.old }
-    requires row { row < length chains.old }
-    requires fewer { frames ≤ frames_in chains.old row }
-    ensures store { IsStore leaf.new chains.new }
-    ensures others { KeepsOthers leaf.old chains.old leaf.new chains.new row }
-    ensures frames { frames_in chains.new row ≡ frames }
-    ensures words { (j : ℕ) → j < 64 * frames → word_in leaf.new chains.new row j ≡ word_in leaf.old chains.old row j }
+    requires store { IsStore leaf.old chains.old.lists }
+    requires row { row < length chains.old.lists }
+    requires fewer { frames ≤ frames_in chains.old.lists row }
+    ensures store { IsStore leaf.new chains.new.lists }
+    ensures others { KeepsOthers leaf.old chains.old.lists leaf.new chains.new.lists row }
+    ensures frames { frames_in chains.new.lists row ≡ frames }
+    ensures words { (j : ℕ) → j < 64 * frames → word_in leaf.new chains.new.lists row j ≡ word_in leaf.old chains.old.lists row j }
     ensures free { free_in leaf.old ≤ free_in leaf.new }
+    ensures same_room { chains.new.room ≡ chains.old.room }
 {
     while frames < chains.len_at(row) {
         shrink(leaf, chains, row);

@@ -35,7 +35,7 @@ pub(crate) struct Plan {
 
 impl Plan {
     // How many runs stand before those that only move.
-    pub(crate) fn kept(&self) -> u32
+    pub(crate) fn kept_count(&self) -> u32
         requires { self.now.before + 2 < 2 ^ 32 }
         ensures { result ≡ kept self.now }
     {
@@ -57,7 +57,7 @@ impl Plan {
         requires all { self.now.all ≤ most_words }
         ensures { result ≡ total self.now }
     {
-        self.all + self.kept() - self.behind
+        self.all + self.kept_count() - self.behind
     }
 }
 
@@ -70,12 +70,12 @@ pub(crate) fn differ(one: Perm, other: Perm) -> bool
 
 // Whether a run begins at a word that gets a permission, behind a word that keeps its own.
 fn starts_at(leaf: &Pool<64>, chains: &Chains, row: u32, words: u32, first: u32, perm: Perm) -> bool
-    requires store { IsStore leaf.now chains.now }
-    requires row { row < length chains.now }
+    requires store { IsStore leaf.now chains.now.lists }
+    requires row { row < length chains.now.lists }
     requires small { words ≤ most_words }
-    requires sound { IsSound words leaf.now chains.now row }
+    requires sound { IsSound words leaf.now chains.now.lists row }
     requires word { first < words }
-    ensures { result ≡ ((first == 0) || not (same (perm_at (map_in words leaf.now chains.now row) (first - 1)) perm)) }
+    ensures { result ≡ ((first == 0) || not (same (perm_at (map_in words leaf.now chains.now.lists row) (first - 1)) perm)) }
 {
     if first == 0 {
         return true;
@@ -85,11 +85,11 @@ fn starts_at(leaf: &Pool<64>, chains: &Chains, row: u32, words: u32, first: u32,
 
 // The permission of a word in the map at a row, none outside RAM.
 fn perm_or_none(leaf: &Pool<64>, chains: &Chains, row: u32, words: u32, at: u32) -> Perm
-    requires store { IsStore leaf.now chains.now }
-    requires row { row < length chains.now }
+    requires store { IsStore leaf.now chains.now.lists }
+    requires row { row < length chains.now.lists }
     requires small { words ≤ most_words }
-    requires sound { IsSound words leaf.now chains.now row }
-    ensures { result ≡ perm_at (map_in words leaf.now chains.now row) at }
+    requires sound { IsSound words leaf.now chains.now.lists row }
+    ensures { result ≡ perm_at (map_in words leaf.now chains.now.lists row) at }
 {
     if at < words {
         perm_in(leaf, chains, row, words, at)
@@ -108,13 +108,13 @@ pub(crate) fn plan_of(
     count: u32,
     perm: Perm,
 ) -> Plan
-    requires store { IsStore leaf.now chains.now }
-    requires row { row < length chains.now }
+    requires store { IsStore leaf.now chains.now.lists }
+    requires row { row < length chains.now.lists }
     requires small { words ≤ most_words }
-    requires sound { IsSound words leaf.now chains.now row }
+    requires sound { IsSound words leaf.now chains.now.lists row }
     requires some { 0 < count }
     requires inside { first + count ≤ words }
-    ensures plan { IsPlan (map_in words leaf.now chains.now row) first count perm result }
+    ensures plan { IsPlan (map_in words leaf.now chains.now.lists row) first count perm result }
     ensures before { result.before ≤ result.behind }
     ensures behind { result.behind ≤ result.all }
     ensures all { result.all ≤ words }
@@ -142,13 +142,13 @@ pub(crate) fn frames_after(
     count: u32,
     perm: Perm,
 ) -> u32
-    requires store { IsStore leaf.now chains.now }
-    requires row { row < length chains.now }
+    requires store { IsStore leaf.now chains.now.lists }
+    requires row { row < length chains.now.lists }
     requires small { words ≤ most_words }
-    requires sound { IsSound words leaf.now chains.now row }
+    requires sound { IsSound words leaf.now chains.now.lists row }
     requires some { 0 < count }
     requires inside { first + count ≤ words }
-    ensures frames { result ≡ (runs (laid (grant_of first count perm) (map_in words leaf.now chains.now row)) + 63) / 64 }
+    ensures frames { result ≡ (runs (laid (grant_of first count perm) (map_in words leaf.now chains.now.lists row)) + 63) / 64 }
     ensures most { result ≤ most_frames }
 {
     if has_already(leaf, chains, row, words, first, count, perm) {

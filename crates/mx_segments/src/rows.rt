@@ -6,7 +6,7 @@ ghost use Rattle.mx_words.specs.Need.{segment_frames};
 ghost use Rattle.mx_pool.specs.Frames.{free_in};
 ghost use Rattle.mx_table.specs.Change.{given};
 ghost use Rattle.mx_table.specs.Tables.{most_words, most_modules};
-ghost use Rattle.mx_segments.specs.Lists.{most_frames};
+ghost use Rattle.mx_segments.specs.Lists.{most_frames, HasRoom};
 ghost use Rattle.mx_segments.specs.Store.{IsStore, KeepsOthers};
 ghost use Rattle.mx_segments.specs.Sound.{map_in, IsSound};
 
@@ -27,19 +27,21 @@ fn given_to(change: &Change, domain: u32) -> Option<Perm>
 
 // Makes a change of the map at a row.
 fn change_one(leaf: &mut Pool<64>, chains: &mut Chains, row: u32, words: u32, change: &Change)
-    requires store { IsStore leaf.old chains.old }
-    requires row { row < length chains.old }
-    requires few { length chains.old ≤ most_modules }
+    requires store { IsStore leaf.old chains.old.lists }
+    requires row { row < length chains.old.lists }
+    requires few { length chains.old.lists ≤ most_modules }
     requires small { words ≤ most_words }
-    requires sound { IsSound words leaf.old chains.old row }
+    requires sound { IsSound words leaf.old chains.old.lists row }
     requires some { 0 < change.now.count }
     requires inside { change.now.first + change.now.count ≤ words }
     requires spare { 0 < free_in leaf.old }
-    ensures store { IsStore leaf.new chains.new }
-    ensures others { KeepsOthers leaf.old chains.old leaf.new chains.new row }
-    ensures sound { IsSound words leaf.new chains.new row }
-    ensures changed { map_in words leaf.new chains.new row ≡ changed_map change.now.first change.now.count (given change.now (row + 1)) (map_in words leaf.old chains.old row) }
+    requires memory { HasRoom (length leaf.old) words chains.old.room }
+    ensures store { IsStore leaf.new chains.new.lists }
+    ensures others { KeepsOthers leaf.old chains.old.lists leaf.new chains.new.lists row }
+    ensures sound { IsSound words leaf.new chains.new.lists row }
+    ensures changed { map_in words leaf.new chains.new.lists row ≡ changed_map change.now.first change.now.count (given change.now (row + 1)) (map_in words leaf.old chains.old.lists row) }
     ensures free { free_in leaf.old ≤ free_in leaf.new + 1 }
+    ensures same_room { chains.new.room ≡ chains.old.room }
 {
     if let Some(perm) = given_to(change, row + 1) {
         change_row(leaf, chains, row, words, change.first, change.count, perm);
@@ -48,18 +50,20 @@ fn change_one(leaf: &mut Pool<64>, chains: &mut Chains, row: u32, words: u32, ch
 
 /// Makes a change of the maps at all rows. Each list gets at most one frame more.
 pub(crate) fn change_all(leaf: &mut Pool<64>, chains: &mut Chains, words: u32, change: &Change)
-    requires store { IsStore leaf.old chains.old }
-    requires few { length chains.old ≤ most_modules }
+    requires store { IsStore leaf.old chains.old.lists }
+    requires few { length chains.old.lists ≤ most_modules }
     requires small { words ≤ most_words }
-    requires sound { (q : ℕ) → q < length chains.old → IsSound words leaf.old chains.old q }
+    requires sound { (q : ℕ) → q < length chains.old.lists → IsSound words leaf.old chains.old.lists q }
     requires some { 0 < change.now.count }
     requires inside { change.now.first + change.now.count ≤ words }
-    requires spare { length chains.old ≤ free_in leaf.old }
-    ensures store { IsStore leaf.new chains.new }
-    ensures rows { length chains.new ≡ length chains.old }
+    requires spare { length chains.old.lists ≤ free_in leaf.old }
+    requires memory { HasRoom (length leaf.old) words chains.old.room }
+    ensures store { IsStore leaf.new chains.new.lists }
+    ensures rows { length chains.new.lists ≡ length chains.old.lists }
     ensures total { length leaf.new ≡ length leaf.old }
-    ensures sound { (q : ℕ) → q < length chains.new → IsSound words leaf.new chains.new q }
-    ensures changed { (q : ℕ) → q < length chains.old → map_in words leaf.new chains.new q ≡ changed_map change.now.first change.now.count (given change.now (q + 1)) (map_in words leaf.old chains.old q) }
+    ensures same_room { chains.new.room ≡ chains.old.room }
+    ensures sound { (q : ℕ) → q < length chains.new.lists → IsSound words leaf.new chains.new.lists q }
+    ensures changed { (q : ℕ) → q < length chains.old.lists → map_in words leaf.new chains.new.lists q ≡ changed_map change.now.first change.now.count (given change.now (q + 1)) (map_in words leaf.old chains.old.lists q) }
 {
     let rows = chains.count();
     for row in 0..rows {
@@ -69,14 +73,14 @@ pub(crate) fn change_all(leaf: &mut Pool<64>, chains: &mut Chains, words: u32, c
 
 // How many frames the map at a row needs after a change.
 fn row_need(leaf: &Pool<64>, chains: &Chains, row: u32, words: u32, change: &Change) -> u32
-    requires store { IsStore leaf.now chains.now }
-    requires row { row < length chains.now }
-    requires few { length chains.now ≤ most_modules }
+    requires store { IsStore leaf.now chains.now.lists }
+    requires row { row < length chains.now.lists }
+    requires few { length chains.now.lists ≤ most_modules }
     requires small { words ≤ most_words }
-    requires sound { IsSound words leaf.now chains.now row }
+    requires sound { IsSound words leaf.now chains.now.lists row }
     requires some { 0 < change.now.count }
     requires inside { change.now.first + change.now.count ≤ words }
-    ensures need { result ≡ segment_frames (changed_map change.now.first change.now.count (given change.now (row + 1)) (map_in words leaf.now chains.now row)) }
+    ensures need { result ≡ segment_frames (changed_map change.now.first change.now.count (given change.now (row + 1)) (map_in words leaf.now chains.now.lists row)) }
     ensures most { result ≤ most_frames }
 {
     match given_to(change, row + 1) {
@@ -87,13 +91,13 @@ fn row_need(leaf: &Pool<64>, chains: &Chains, row: u32, words: u32, change: &Cha
 
 /// How many frames all maps need after a change.
 pub(crate) fn need_after(leaf: &Pool<64>, chains: &Chains, words: u32, change: &Change) -> u32
-    requires store { IsStore leaf.now chains.now }
-    requires few { length chains.now ≤ most_modules }
+    requires store { IsStore leaf.now chains.now.lists }
+    requires few { length chains.now.lists ≤ most_modules }
     requires small { words ≤ most_words }
-    requires sound { (q : ℕ) → q < length chains.now → IsSound words leaf.now chains.now q }
+    requires sound { (q : ℕ) → q < length chains.now.lists → IsSound words leaf.now chains.now.lists q }
     requires some { 0 < change.now.count }
     requires inside { change.now.first + change.now.count ≤ words }
-    ensures { result ≡ sum_below (length chains.now) (λ q. segment_frames (changed_map change.now.first change.now.count (given change.now (q + 1)) (map_in words leaf.now chains.now q))) }
+    ensures { result ≡ sum_below (length chains.now.lists) (λ q. segment_frames (changed_map change.now.first change.now.count (given change.now (q + 1)) (map_in words leaf.now chains.now.lists q))) }
 {
     let mut needed = 0;
     for row in 0..chains.count() {

@@ -30,7 +30,7 @@ pub struct Segments {
     pub limit: Need,
     /// How many lookups were made, up to 2^64 - 1.
     pub lookups: u64,
-    pub ghost kept: { IsKept leaf chains words limit },
+    pub ghost kept: { IsKept leaf chains.lists chains.room words limit },
 }
 
 impl Segments {
@@ -43,9 +43,9 @@ impl Segments {
     /// The stored entry of run `i` of a domain's map, counted from 0: the address of the run's first word, with the run's permission
     /// in bits 1..0. `None` exactly where the map has no run `i`. Domains count from 1.
     pub fn entry(&self, domain: u32, i: u32) -> Option<u32>
-        requires { IsDomain (maps_in self.now.words self.now.leaf self.now.chains) domain }
-        ensures none { IsNone result ↔ (runs (map_of (maps_in self.now.words self.now.leaf self.now.chains) domain) ≤ i) }
-        ensures entry { IfSome result (λ e. e ≡ entry_of (map_of (maps_in self.now.words self.now.leaf self.now.chains) domain) i) }
+        requires { IsDomain (maps_in self.now.words self.now.leaf self.now.chains.lists) domain }
+        ensures none { IsNone result ↔ (runs (map_of (maps_in self.now.words self.now.leaf self.now.chains.lists) domain) ≤ i) }
+        ensures entry { IfSome result (λ e. e ≡ entry_of (map_of (maps_in self.now.words self.now.leaf self.now.chains.lists) domain) i) }
     {
         entry_at(&self.leaf, &self.chains, domain - 1, self.words, i)
     }
@@ -65,7 +65,7 @@ impl PermTables for Segments {
 
     ghost kind = { K.Segments };
 
-    ghost maps = { λ t. maps_in t.words t.leaf t.chains };
+    ghost maps = { λ t. maps_in t.words t.leaf t.chains.lists };
 
     ghost size = { λ t. t.words };
 
@@ -85,10 +85,12 @@ impl PermTables for Segments {
             });
         }
         let count = rows.len() as u32;
-        let Ok(mut leaf) = Pool::new(alloc, limit.leaf + 2 * count) else {
+        let frames = limit.leaf + 2 * count;
+        let Ok(mut leaf) = Pool::new(alloc, frames) else {
             return Err(BuildRefused::NoMemory);
         };
-        let Ok(mut chains) = empty_chains(alloc, count) else {
+        let room = frames.min(words.div_ceil(64));
+        let Ok(mut chains) = empty_chains(alloc, count, room) else {
             return Err(BuildRefused::NoMemory);
         };
         lay_rows(&mut leaf, &mut chains, words, rows);
@@ -148,7 +150,7 @@ impl PermTables for Segments {
         shown_in(&self.leaf, &self.chains, domain - 1, self.words, word)
     }
 
-    ghost shaped = { λ t. shaped_of t.words t.leaf t.chains t.limit t.kept };
+    ghost shaped = { λ t. shaped_of t.words t.leaf t.chains.lists t.chains.room t.limit t.kept };
 }
 
 #[cfg(test)]

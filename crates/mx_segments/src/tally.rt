@@ -84,7 +84,7 @@ fn with_span(tally: &Tally, row: &Spans, n: u32, words: u32) -> Tally
     Tally {
         end: span.first + span.count,
         before: plan.second(),
-        runs: plan.kept(),
+        runs: plan.kept_count(),
         last: span.perm,
     }
 }

@@ -11,7 +11,7 @@ use std::test::Fail;
 fn one_domain(alloc: Global, row: Spans, leaf: u32) -> Result<Segments, BuildRefused>
     requires row { IsRow 16384 row }
     requires leaf { leaf ≤ 1000 }
-    ensures one { IfOk result (λ t. length (maps_in t.words t.leaf t.chains) ≡ 1) }
+    ensures one { IfOk result (λ t. length (maps_in t.words t.leaf t.chains.lists) ≡ 1) }
     ensures words { IfOk result (λ t. t.words ≡ 16384) }
 {
     let limit = Need {
@@ -52,7 +52,7 @@ fn grant(first: u32, count: u32, perm: Perm) -> Change
 
 // The first four entries of domain 1.
 fn entries(tables: &Segments) -> [Option<u32>; 4]
-    requires { length (maps_in tables.now.words tables.now.leaf tables.now.chains) ≡ 1 }
+    requires { length (maps_in tables.now.words tables.now.leaf tables.now.chains.lists) ≡ 1 }
 {
     [
         tables.entry(1, 0),
@@ -64,7 +64,7 @@ fn entries(tables: &Segments) -> [Option<u32>; 4]
 
 // How many frames the entries of domain 1 stand in, and the first two words of the first of them.
 fn first_frame(tables: &Segments) -> Option<(u32, u32, u32)>
-    requires { length (maps_in tables.now.words tables.now.leaf tables.now.chains) ≡ 1 }
+    requires { length (maps_in tables.now.words tables.now.leaf tables.now.chains.lists) ≡ 1 }
 {
     let frames = tables.chains.frames(1);
     if frames == 0 {

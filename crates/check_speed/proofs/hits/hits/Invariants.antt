@@ -8,5 +8,5 @@ abbrev pub invariant-loop-round : goal.invariant-loop-round
 invariant-loop-round l = record {
   few : l.allowed ≤ l.round;
   may : MayLook 0 1 l.checker.harts;
-  domain : IsDomain (maps_in l.checker.tables.words l.checker.tables.leaf l.checker.tables.chains) 1;
+  domain : IsDomain (maps_in l.checker.tables.words l.checker.tables.leaf l.checker.tables.chains.lists) 1;
 }

@@ -6,8 +6,9 @@ use Rattle.mx_segments.proofs.build.lay_row.Given as goal
 
 abbrev pub invariant-loop-n : goal.invariant-loop-n
 invariant-loop-n l = record {
-  store : IsStore l.leaf l.chains;
-  others : KeepsOthers l.fn.leaf l.fn.chains l.leaf l.chains l.row;
-  sound : IsSound l.words l.leaf l.chains l.row;
-  map : map_in l.words l.leaf l.chains l.row ≡ first_spans l.words l.spans l.n;
+  store : IsStore l.leaf l.chains.lists;
+  others : KeepsOthers l.fn.leaf l.fn.chains.lists l.leaf l.chains.lists l.row;
+  same_room : l.chains.room ≡ l.fn.chains.room;
+  sound : IsSound l.words l.leaf l.chains.lists l.row;
+  map : map_in l.words l.leaf l.chains.lists l.row ≡ first_spans l.words l.spans l.n;
 }

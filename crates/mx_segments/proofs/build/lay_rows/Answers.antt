@@ -20,9 +20,9 @@ loop-row-preserved c =
     let inv = c.loop-row.invariant in
     let one = c.lay_row.ensures in
     let fs = c.loop-row.leaf in
-    let ls = c.loop-row.chains in
+    let ls = c.loop-row.chains.lists in
     let fs' = c.lay_row.new.leaf in
-    let ls' = c.lay_row.new.chains in
+    let ls' = c.lay_row.new.chains.lists in
     let within : row < length rows = c.loop-row-test.true in
     let here : c.index-rows-row.result ≡ get_or rows row [] = get_or_read rows row c.index-rows-row.result within c.index-rows-row.is [] in
     record {
@@ -38,6 +38,7 @@ loop-row-preserved c =
             subst M (sym e) (one.map ∙ ap (row_map words) here))
         | inr ne ↦ (kept_map words fs ls fs' ls' row one.others q ne (inv.sound q (omega arith)) ∙ inv.maps q (omega arith))
       ];
+      same_room = one.same_room ∙ inv.same_room;
       empty = λ q from. (let ne : q ≡ row → ⊥ = λ e. omega arith in ap (λ (l : List ℕ). length l) (one.others.chains q ne) ∙ inv.empty q (omega arith));
       free = free_step _ _ _ _ _ _ _ one.free inv.free (sum_by_more (λ (r : List Span). segment_frames (row_map words r)) rows row [] within)
           (ap (λ (r : List Span). segment_frames (row_map words r)) here);

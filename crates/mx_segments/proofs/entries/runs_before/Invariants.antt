@@ -7,9 +7,9 @@ use Rattle.mx_segments.proofs.entries.runs_before.Given as goal
 
 abbrev pub invariant-loop-low : goal.invariant-loop-low
 invariant-loop-low l = record {
-  from : l.low ≤ count_below l.before (is_start (map_in l.words l.leaf l.chains l.row));
-  to : count_below l.before (is_start (map_in l.words l.leaf l.chains l.row)) ≤ l.high;
-  within : l.high ≤ 64 * frames_in l.chains l.row;
+  from : l.low ≤ count_below l.before (is_start (map_in l.words l.leaf l.chains.lists l.row));
+  to : count_below l.before (is_start (map_in l.words l.leaf l.chains.lists l.row)) ≤ l.high;
+  within : l.high ≤ 64 * frames_in l.chains.lists l.row;
 }
 
 abbrev pub decreases-loop-low : goal.decreases-loop-low

@@ -8,7 +8,7 @@ use Rattle.mx_segments.proofs.plan.plan_of.Goals as goal
 
 pub returns-then-behind-words : goal.returns-then-behind-words
 returns-then-behind-words c =
-    let m = map_in c.args.words c.args.leaf.now c.args.chains.now c.args.row in
+    let m = map_in c.args.words c.args.leaf.now c.args.chains.now.lists c.args.row in
     let plan : Plan = record { before = c.runs_before.result; behind = c.runs_before-2.result; all = c.runs_before-3.result; starts = c.starts_at.result; ends = c.differ.result; next = c.perm_or_none-next.result } in
     let is : IsPlan m c.args.first c.args.count c.args.perm plan = plan_is c.args.words m c.requires.sound.length_is c.args.first c.args.count c.args.perm c.requires.some c.requires.inside plan
     c.runs_before.ensures c.runs_before-2.ensures c.runs_before-3.ensures c.starts_at.ensures c.perm_or_none-next.ensures
@@ -18,7 +18,7 @@ returns-then-behind-words c =
 
 pub returns-else-behind-words : goal.returns-else-behind-words
 returns-else-behind-words c =
-    let m = map_in c.args.words c.args.leaf.now c.args.chains.now c.args.row in
+    let m = map_in c.args.words c.args.leaf.now c.args.chains.now.lists c.args.row in
     let plan : Plan = record { before = c.runs_before.result; behind = c.runs_before-2.result; all = c.runs_before-3.result; starts = c.starts_at.result; ends = nat_lt (c.args.first + c.args.count) c.args.words; next = c.perm_or_none-next.result } in
     let is : IsPlan m c.args.first c.args.count c.args.perm plan = plan_is c.args.words m c.requires.sound.length_is c.args.first c.args.count c.args.perm c.requires.some c.requires.inside plan
     c.runs_before.ensures c.runs_before-2.ensures c.runs_before-3.ensures c.starts_at.ensures c.perm_or_none-next.ensures
