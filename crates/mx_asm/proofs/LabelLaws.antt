@@ -48,4 +48,3 @@ unfolding with_name
 with_name-new k v es found told none =
     let new : is_some (definition_of (map entry_view es) k.now) ≡ false = sym (ap is_some told) ∙ is_some-map (definition_view k.now) found ∙ none in
     rw new (insert-labels k v es new)
-

@@ -46,14 +46,14 @@ unfolding with_name
 kept_name None address line labels d name h = h
 kept_name (Some n) address line labels d name h =
     kept_cond (is_some (definition_of labels n)) labels (labels ++ record { name = n; address = address; line = line } ∷ []) d name h
-        (kept_push labels (record { name = n; address = address; line = line }) d name h)
+    (kept_push labels (record { name = n; address = address; line = line }) d name h)
 
 kept_from : (place : Place) (number : ℕ) (labels : List Definition) (texts : List (List ℕ)) (d : Definition) (name : List ℕ) → definition_of labels name ≡ Some d → definition_of (labels_from place number labels texts) name ≡ Some d
 unfolding labels_from
 kept_from place number labels [] d name h = h
 kept_from place number labels (text ∷ rest) d name h =
     kept_from (place_after (line_of text).statement place) (number + 1) (with_name (line_of text).label place.here number labels) rest d name
-        (kept_name (line_of text).label place.here number labels d name h)
+    (kept_name (line_of text).label place.here number labels d name h)
 
 -- a name is defined once it was added
 added_push : (labels : List Definition) (d : Definition) (name : List ℕ) → bytes_eq name d.name ≡ true → IsSome (definition_of (labels ++ d ∷ []) name)
@@ -176,7 +176,7 @@ whole_from labels place number earlier (text ∷ rest) p is faults offsets place
     let head = fault_parts labels place number text rest faults in
     let q = with_line labels place.here line p in
     let more = lawful_label labels number place.here line.label p (named_line text) next.below (label_here labels number place line.label line.statement head.0)
-        (λ name e. rw (← is) at (defined_here place number earlier text rest name e)) lawful in
+    (λ name e. rw (← is) at (defined_here place number earlier text rest name e)) lawful in
     let kept = statement_labels labels place.here line.statement (with_defined line.label place.here p) in
     let count : number + length (text ∷ rest) ≡ number + 1 + length rest = omega arith in
     rw count
@@ -224,4 +224,4 @@ program_lawful source short none =
     let f = first_none source labels refl none in
     let w = whole_from labels start 1 [] (lines source) no_program refl f.0 f.1 start_placed (record { count = omega arith; defined = tt; distinct = tt }) in
     entry_whole labels (1 + length (lines source)) (definition_of labels (codes "start")) (program_from labels start (lines source) no_program)
-        (omega (arith, length-lines source, short)) (definition_below source (codes "start") none) w
+    (omega (arith, length-lines source, short)) (definition_below source (codes "start") none) w

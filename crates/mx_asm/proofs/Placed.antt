@@ -154,8 +154,8 @@ module _ (labels : List Definition) (label : Option (List ℕ)) (operands : List
       let a = rw begins at plain.aligned in
       let s = rw begins at plain.sixteenth in
       begin_placed flags (address_of operands) place p kind below
-          (not_aligned (address_of operands) (or_parts (not (address_of operands % 4 == 0)) (is_aligned keyword && not (place.here % 4 == 0)) a).0)
-          (leb-false 16 place.segments s) is
+      (not_aligned (address_of operands) (or_parts (not (address_of operands % 4 == 0)) (is_aligned keyword && not (place.here % 4 == 0)) a).0)
+      (leb-false 16 place.segments s) is
 
   -- bytes are added
   content_step : (keyword : Keyword) → begins_segment keyword ≡ false → operand_fault labels keyword operands ≡ None → IsPlain label keyword operands place
@@ -164,8 +164,8 @@ module _ (labels : List Definition) (label : Option (List ℕ)) (operands : List
       let size = size_of keyword operands place.here in
       let f = first_of (nat_lt 4194304 (place.total + size)) (nat_lt (2 ^ 32) (place.here + size)) (is_some label && nat_le (2 ^ 32) place.here) plain.room in
       grow_placed (bytes_of labels place.here keyword operands) size place p (length-bytes_of labels place.here keyword operands none)
-          (begun_of keyword begins plain)
-          (ltb-false 4194304 (place.total + size) f.0) (ltb-false (2 ^ 32) (place.here + size) f.1) is
+      (begun_of keyword begins plain)
+      (ltb-false 4194304 (place.total + size) f.0) (ltb-false (2 ^ 32) (place.here + size) f.1) is
 
   content_ready : (keyword : Keyword) → begins_segment keyword ≡ false → operand_fault labels keyword operands ≡ None → offset_fits labels place.here keyword operands ≡ true → IsPlain label keyword operands place
       → IsReadyFor labels place keyword operands p
@@ -243,7 +243,7 @@ label_here labels number place label Absent h = (or_none (label_fault labels num
 label_here labels number place label Unlisted h = cc
 label_here labels number place label (Listed keyword operands) h =
     (or_none (label_fault labels number label) (place_fault label keyword operands place)
-        (or_none (operand_fault labels keyword operands) (option_or (label_fault labels number label) (place_fault label keyword operands place)) h).1).0
+    (or_none (operand_fault labels keyword operands) (option_or (label_fault labels number label) (place_fault label keyword operands place)) h).1).0
 
 -- a label changes neither
 pub label_placed : (place : Place) (label : Option (List ℕ)) (here : ℕ) (p : Program) → IsPlaced place p → IsPlaced place (with_defined label here p)

@@ -106,7 +106,7 @@ below_from all place number labels (text ∷ rest) h b =
     let f = fault_parts all place number text rest h in
     let line = line_of text in
     below_from all (place_after line.statement place) (number + 1) (with_name line.label place.here number labels) rest f.1
-        (below_name line.label place.here number labels (label_below all number place line.label line.statement f.0) b)
+    (below_name line.label place.here number labels (label_below all number place line.label line.statement f.0) b)
 
 found_below : (labels : List Definition) (name : List ℕ) → AreBelow labels → IfSome (definition_of labels name) (λ d. d.address < 2 ^ 32)
 unfolding definition_of

@@ -58,7 +58,7 @@ with_bytes bytes p = fold (λ q b. with_byte b q) p bytes
 abbrev pub with_begun : ℕ → ℕ → Program → Program
 with_begun flags address p =
     with_segment (record { address = address; flags = flags; bytes = [] })
-        (if length p.segments == 0 then with_entry address p else p)
+    (if length p.segments == 0 then with_entry address p else p)
 
 -- with a listed statement at an address
 unfoldable pub with_listed : List Definition → ℕ → Keyword → List (List ℕ) → Program → Program

@@ -109,12 +109,12 @@ is_full label place size =
 unfoldable pub place_fault : Option (List ℕ) → Keyword → List (List ℕ) → Place → Option ℕ
 place_fault label keyword operands place =
     first_row (
-        (6, (place.segments == 0) && (is_some label || not (begins_segment keyword)))
-        ∷ (7, (begins_segment keyword && not (address_of operands % 4 == 0)) || (is_aligned keyword && not (place.here % 4 == 0)))
-        ∷ (8, is_at keyword && nat_lt (address_of operands) place.here)
-        ∷ (9, begins_segment keyword && nat_le 16 place.segments)
-        ∷ (10, is_full label place (size_of keyword operands place.here))
-        ∷ [])
+    (6, (place.segments == 0) && (is_some label || not (begins_segment keyword)))
+    ∷ (7, (begins_segment keyword && not (address_of operands % 4 == 0)) || (is_aligned keyword && not (place.here % 4 == 0)))
+    ∷ (8, is_at keyword && nat_lt (address_of operands) place.here)
+    ∷ (9, begins_segment keyword && nat_le 16 place.segments)
+    ∷ (10, is_full label place (size_of keyword operands place.here))
+    ∷ [])
 
 -- the least fault of a line with this number at this place, offsets to labels aside
 unfoldable pub line_fault : List Definition → ℕ → Place → Option (List ℕ) → Statement → Option ℕ
@@ -122,7 +122,7 @@ line_fault labels number place label Absent = option_or (label_fault labels numb
 line_fault labels number place label Unlisted = Some 1
 line_fault labels number place label (Listed keyword operands) =
     option_or (operand_fault labels keyword operands)
-        (option_or (label_fault labels number label) (place_fault label keyword operands place))
+    (option_or (label_fault labels number label) (place_fault label keyword operands place))
 
 -- whether an instruction's number, or its offset to a label, is in its range
 abbrev pub offset_fits : List Definition → ℕ → Keyword → List (List ℕ) → Bool
@@ -145,7 +145,7 @@ fault_from labels place number [] = None
 fault_from labels place number (text ∷ lines) =
     let line = line_of text in
     option_or (at_line number (line_fault labels number place line.label line.statement))
-        (fault_from labels (place_after line.statement place) (number + 1) lines)
+    (fault_from labels (place_after line.statement place) (number + 1) lines)
 
 -- the first of their offsets to labels out of its range
 unfoldable pub offset_from : List Definition → Place → ℕ → List (List ℕ) → Option SourceFault
@@ -153,4 +153,4 @@ offset_from labels place number [] = None
 offset_from labels place number (text ∷ lines) =
     let line = line_of text in
     option_or (at_line number (offset_fault labels place line.statement))
-        (offset_from labels (place_after line.statement place) (number + 1) lines)
+    (offset_from labels (place_after line.statement place) (number + 1) lines)

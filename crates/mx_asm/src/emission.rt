@@ -18,8 +18,8 @@ use crate::labels::{LabelPlace, Labels, definition};
 use crate::places::{Place, address, place_after, start};
 use mx_image::{ProgramBuilder, Segment};
 use mx_source::{
-    Fields, Form, Keyword, Pieces, Statement, escape_byte, label_fields, number_bits, read_fields, read_line,
-    read_number, read_value, single, value_fields,
+    Fields, Form, Keyword, Pieces, Statement, escape_byte, label_fields, number_bits, read_fields,
+    read_line, read_number, read_value, single, value_fields,
 };
 use mx_words::{Blob, NoMemory};
 use std::alloc::Global;
@@ -30,7 +30,11 @@ const CODE: u32 = 5;
 const DATA: u32 = 6;
 
 /// The program that a source without faults denotes, whose labels these are.
-pub(crate) fn program<'a>(alloc: Global, source: &'a str, labels: &Labels<'a>) -> Result<ProgramBuilder<'a>, NoMemory>
+pub(crate) fn program<'a>(
+    alloc: Global,
+    source: &'a str,
+    labels: &Labels<'a>,
+) -> Result<ProgramBuilder<'a>, NoMemory>
     requires size { length source.now ≤ 2 ^ 20 }
     requires labels { labels_view labels.now ≡ labels_of_source source.now }
     requires faultless { first_fault source.now ≡ None }
@@ -49,7 +53,11 @@ pub(crate) fn program<'a>(alloc: Global, source: &'a str, labels: &Labels<'a>) -
 }
 
 /// Adds the label of a line.
-fn add_label<'a>(program: &mut ProgramBuilder<'a>, label: Option<&'a [u8]>, here: u64) -> Result<(), NoMemory>
+fn add_label<'a>(
+    program: &mut ProgramBuilder<'a>,
+    label: Option<&'a [u8]>,
+    here: u64,
+) -> Result<(), NoMemory>
     requires { IsSome label → here < 2 ^ 32 }
     ensures { OnOk result (program.new ≡ with_defined (label_view label.entry) here program.old) }
 {
@@ -83,7 +91,9 @@ fn add_statement(
         ≡ with_statement (labels_view labels.now) place.here (statement_view statement.entry) program.old) }
 {
     match statement {
-        Statement::Listed(keyword, operands) => add_listed(alloc, program, labels, place, keyword, operands),
+        Statement::Listed(keyword, operands) => add_listed(
+            alloc, program, labels, place, keyword, operands,
+        ),
         _ => Ok(()),
     }
 }
@@ -111,7 +121,13 @@ fn add_listed(
 }
 
 /// Begins a segment, whose address is the entry where it is the first.
-fn begin(alloc: Global, program: &mut ProgramBuilder<'_>, flags: u32, address: u64, begun: u32) -> Result<(), NoMemory>
+fn begin(
+    alloc: Global,
+    program: &mut ProgramBuilder<'_>,
+    flags: u32,
+    address: u64,
+    begun: u32,
+) -> Result<(), NoMemory>
     requires begun { begun ≡ length program.old.segments }
     requires address { address < 2 ^ 32 }
     ensures { OnOk result (program.new ≡ with_begun flags address program.old) }
@@ -193,7 +209,11 @@ fn add_word(program: &mut ProgramBuilder<'_>, word: u32) -> Result<(), NoMemory>
 }
 
 /// Adds the values of `.word`.
-fn add_values(program: &mut ProgramBuilder<'_>, labels: &Labels<'_>, operands: &[u8]) -> Result<(), NoMemory>
+fn add_values(
+    program: &mut ProgramBuilder<'_>,
+    labels: &Labels<'_>,
+    operands: &[u8],
+) -> Result<(), NoMemory>
     requires begun { 0 < length program.old.segments }
     requires room { byte_count program.old.segments + 4 * length (pieces_of operands.now) ≤ 2 ^ 31 }
     ensures { OnOk result (program.new
@@ -289,13 +309,17 @@ fn add_quoted(program: &mut ProgramBuilder<'_>, text: &[u8]) -> Result<(), NoMem
 }
 
 /// Adds the two words that load a value.
-fn add_pair(program: &mut ProgramBuilder<'_>, labels: &Labels<'_>, found: Option<Fields<'_>>) -> Result<(), NoMemory>
+fn add_pair(
+    program: &mut ProgramBuilder<'_>,
+    labels: &Labels<'_>,
+    found: Option<Fields<'_>>,
+) -> Result<(), NoMemory>
     requires begun { 0 < length program.old.segments }
     requires room { byte_count program.old.segments + 8 ≤ 2 ^ 31 }
     requires registers { IfSome found (λ f. AreRegisters (fields_view f)) }
     ensures { OnOk result (program.new
         ≡ with_bytes (option_map_or (λ f. words (pair_words (labels_view labels.now) f)) (option_map fields_view found.entry) [])
-            program.old) }
+        program.old) }
 {
     match found {
         Some(fields) => {
@@ -320,7 +344,7 @@ fn add_inst(
     requires fits { IsTrue (offset_fits (labels_view labels.now) here (Keyword.Inst form) (pieces_of operands.now)) }
     ensures { OnOk result (program.new
         ≡ with_bytes (option_map_or (λ f. words (inst_word (labels_view labels.now) here form f ∷ [])) (fields_of form (pieces_of operands.now)) [])
-            program.old) }
+        program.old) }
 {
     match read_fields(form, operands) {
         Some(fields) => add_word(program, inst_word(labels, here, form, fields)),

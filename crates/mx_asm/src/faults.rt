@@ -9,10 +9,14 @@ ghost use Rattle.mx_asm.specs.LabelViews.{labels_view};
 ghost use Rattle.mx_source.specs.LineViews.{label_view, statement_view, IsShort};
 ghost use Rattle.mx_asm.specs.Denoted.{first_fault, labels_of_source};
 
-use mx_source::{Fields, Keyword, Number, Pieces, Range, Statement, Value, address_range, byte_range, fits, form_range, label_fields, read_fields, read_line, read_number, read_value, value_fields, word_range};
 use crate::instructions::offset;
 use crate::labels::{Labels, definition};
 use crate::places::{Place, address, address_number, ascii_size, place_after, size, start};
+use mx_source::{
+    Fields, Keyword, Number, Pieces, Range, Statement, Value, address_range, byte_range, fits,
+    form_range, label_fields, read_fields, read_line, read_number, read_value, value_fields,
+    word_range,
+};
 
 /// A fault: its line, counted from 1, and its number.
 #[derive(Clone, Copy)]
@@ -243,18 +247,30 @@ fn is_full(label: Option<&[u8]>, place: Place, size: u64) -> bool
 
 /// The least fault of a line, offsets to labels aside.
 #[tactic(auto, unfolding(crate::specs::Faults::line_fault))]
-fn line_fault(labels: &Labels<'_>, number: u32, place: Place, label: Option<&[u8]>, statement: Statement<'_>) -> Option<u32>
+fn line_fault(
+    labels: &Labels<'_>,
+    number: u32,
+    place: Place,
+    label: Option<&[u8]>,
+    statement: Statement<'_>,
+) -> Option<u32>
     requires short { IsShort (2 ^ 20) statement }
     requires here { place.here < 2 ^ 62 }
     requires total { place.total < 2 ^ 62 }
     ensures { result ≡ line_fault (labels_view labels.now) number place (label_view label.entry) (statement_view statement.entry) }
 {
     match statement {
-        Statement::Absent => first_some(label_fault(labels, number, label), label_place_fault(label, place)),
+        Statement::Absent => first_some(
+            label_fault(labels, number, label),
+            label_place_fault(label, place),
+        ),
         Statement::Unlisted => Some(1),
         Statement::Listed(keyword, operands) => first_some(
             operand_fault(labels, keyword, operands),
-            first_some(label_fault(labels, number, label), place_fault(label, keyword, operands, place)),
+            first_some(
+                label_fault(labels, number, label),
+                place_fault(label, keyword, operands, place),
+            ),
         ),
     }
 }
@@ -288,7 +304,8 @@ fn offset_fault(labels: &Labels<'_>, place: Place, statement: Statement<'_>) -> 
     ensures { result ≡ offset_fault (labels_view labels.now) place (statement_view statement.entry) }
 {
     match statement {
-        Statement::Listed(keyword, operands) if !offset_fits(labels, place.here, keyword, operands) => Some(3),
+        Statement::Listed(keyword, operands)
+            if !offset_fits(labels, place.here, keyword, operands) => Some(3),
         _ => None,
     }
 }
@@ -311,7 +328,11 @@ pub(crate) fn first_fault(source: &str, labels: &Labels<'_>) -> Option<SourceFau
                 number,
             });
         }
-        offset = first_offset(offset, line_number, offset_fault(labels, place, line.statement));
+        offset = first_offset(
+            offset,
+            line_number,
+            offset_fault(labels, place, line.statement),
+        );
         place = place_after(line.statement, place);
         line_number += 1;
     }

@@ -10,9 +10,9 @@ ghost use Rattle.mx_asm.specs.Labels.{address_of_label};
 ghost use Rattle.mx_asm.specs.Instructions.{offset_of, bits_of_value, inst_of, upper_part, low_part, upper_inst, low_inst};
 ghost use Rattle.mx_asm.specs.Denoted.{inst_word, pair_words};
 
-use mx_source::{Fields, Form, Number, Value, difference, fits, form_range, number_bits};
 use crate::labels::{Labels, definition};
 use mx_isa::{ImmOp, Inst, encode};
+use mx_source::{Fields, Form, Number, Value, difference, fits, form_range, number_bits};
 
 /// The address for which a label stands, 0 where it isn't defined.
 pub(crate) fn label_address(labels: &Labels<'_>, name: &[u8]) -> u64
@@ -94,7 +94,11 @@ pub(crate) fn inst_word(labels: &Labels<'_>, here: u64, form: Form, fields: Fiel
         (fits (range_of form) (offset_of (labels_view labels.now) here (value_view fields.value))) }
     ensures { result ≡ inst_word (labels_view labels.now) here form (fields_view fields.entry) }
 {
-    encode(&inst(form, fields, number_bits(offset(labels, here, fields.value))))
+    encode(&inst(
+        form,
+        fields,
+        number_bits(offset(labels, here, fields.value)),
+    ))
 }
 
 /// The two words that load a value.

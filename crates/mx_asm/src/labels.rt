@@ -5,9 +5,9 @@ ghost use Rattle.mx_asm.specs.LabelViews.{labels_view, definition_view};
 ghost use Rattle.mx_source.specs.LineViews.{label_view};
 ghost use Rattle.mx_asm.specs.Denoted.{labels_of_source};
 
-use mx_source::{read_line};
 use crate::places::{place_after, start};
 use indexmap::IndexMap;
+use mx_source::read_line;
 use mx_words::NoMemory;
 use std::alloc::Global;
 
@@ -30,7 +30,12 @@ pub(crate) fn definition(labels: &Labels<'_>, name: &[u8]) -> Option<LabelPlace>
 
 /// Adds the label of a line, if no earlier line defines it.
 #[tactic(auto, unfolding(crate::specs::Labels::with_name))]
-fn define<'a>(labels: &mut Labels<'a>, label: Option<&'a [u8]>, address: u64, line: u32) -> Result<(), NoMemory>
+fn define<'a>(
+    labels: &mut Labels<'a>,
+    label: Option<&'a [u8]>,
+    address: u64,
+    line: u32,
+) -> Result<(), NoMemory>
     ensures { OnOk result
         (labels_view labels.new ≡ with_name (label_view label.entry) address line (labels_view labels.old)) }
 {

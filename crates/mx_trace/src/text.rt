@@ -85,7 +85,13 @@ fn put_jump<R: Sink>(sink: &mut R, form: Form, rd: u32, offset: u32) -> Result<(
 
 /// `rs1, rs2, T`, and `rd, rs1, n`.
 #[tactic(auto, unfolding(crate::specs::Text::pair_text))]
-fn put_pair<R: Sink>(sink: &mut R, form: Form, first: u32, second: u32, n: u32) -> Result<(), Failed>
+fn put_pair<R: Sink>(
+    sink: &mut R,
+    form: Form,
+    first: u32,
+    second: u32,
+    n: u32,
+) -> Result<(), Failed>
     ensures { Puts (R.state sink.old) (R.state sink.new) (pair_text form first second n) result }
 {
     put_pieces(
@@ -104,7 +110,13 @@ fn put_pair<R: Sink>(sink: &mut R, form: Form, first: u32, second: u32, n: u32) 
 
 /// `rd, n(rs1)`, and `rs2, n(rs1)`.
 #[tactic(auto, unfolding(crate::specs::Text::indexed_text))]
-fn put_indexed<R: Sink>(sink: &mut R, form: Form, register: u32, n: u32, base: u32) -> Result<(), Failed>
+fn put_indexed<R: Sink>(
+    sink: &mut R,
+    form: Form,
+    register: u32,
+    n: u32,
+    base: u32,
+) -> Result<(), Failed>
     ensures { Puts (R.state sink.old) (R.state sink.new) (indexed_text form register n base) result }
 {
     put_pieces(
@@ -124,7 +136,13 @@ fn put_indexed<R: Sink>(sink: &mut R, form: Form, register: u32, n: u32, base: u
 
 /// `rd, rs1, rs2`.
 #[tactic(auto, unfolding(crate::specs::Text::register_text))]
-fn put_registers<R: Sink>(sink: &mut R, form: Form, rd: u32, rs1: u32, rs2: u32) -> Result<(), Failed>
+fn put_registers<R: Sink>(
+    sink: &mut R,
+    form: Form,
+    rd: u32,
+    rs1: u32,
+    rs2: u32,
+) -> Result<(), Failed>
     ensures { Puts (R.state sink.old) (R.state sink.new) (register_text form rd rs1 rs2) result }
 {
     put_pieces(

@@ -12,14 +12,14 @@ characters-preserved c =
     let p = c.characters.program in
     let i = c.characters.c-index in
     elim c.if-escape.branch [
-      then-escape+in_ok-add_byte w ↦
-        rw (w.program-is, w.escape-is)
-        (step_escape start all p text c.characters.escape i c.characters-test.true c.characters.invariant w.if-escape.true w.add_byte.new.self
-            (rw (w.unwrap_or.ensures, w.escape_byte.ensures) at w.in_ok-add_byte.ensures.ok))
-    | else-escape+else-c-eq34+then-c-eq92 w ↦
-        rw (w.program-is, w.escape-is) (step_mark start all p text c.characters.escape i c.characters-test.true c.characters.invariant w.if-escape.false w.if-c-eq34.false w.if-c-eq92.true)
-    | else-escape+else-c-eq34+else-c-eq92+in_ok-add_byte-2 w ↦
-        rw (w.program-is, w.escape-is, w.if-escape.false)
-        (step_plain start all p text c.characters.escape i c.characters-test.true c.characters.invariant w.if-escape.false w.if-c-eq34.false w.if-c-eq92.false
-            w.add_byte-else-c-eq92.new.self w.in_ok-add_byte-2.ensures.ok)
+      | then-escape+in_ok-add_byte w ↦
+          rw (w.program-is, w.escape-is)
+          (step_escape start all p text c.characters.escape i c.characters-test.true c.characters.invariant w.if-escape.true w.add_byte.new.self
+          (rw (w.unwrap_or.ensures, w.escape_byte.ensures) at w.in_ok-add_byte.ensures.ok))
+      | else-escape+else-c-eq34+then-c-eq92 w ↦
+          rw (w.program-is, w.escape-is) (step_mark start all p text c.characters.escape i c.characters-test.true c.characters.invariant w.if-escape.false w.if-c-eq34.false w.if-c-eq92.true)
+      | else-escape+else-c-eq34+else-c-eq92+in_ok-add_byte-2 w ↦
+          rw (w.program-is, w.escape-is, w.if-escape.false)
+          (step_plain start all p text c.characters.escape i c.characters-test.true c.characters.invariant w.if-escape.false w.if-c-eq34.false w.if-c-eq92.false
+          w.add_byte-else-c-eq92.new.self w.in_ok-add_byte-2.ensures.ok)
     ]

@@ -16,5 +16,5 @@ invariant-lines l =
       program : program_from labels l.place rest l.program ≡ program_from labels start (lines l.source) no_program;
       faults : fault_from labels l.place (length l.yielded + 1) rest ≡ None;
       offsets : offset_from labels l.place (length l.yielded + 1) rest ≡ None;
-      placed : IsPlaced l.place l.program
+      placed : IsPlaced l.place l.program;
     }

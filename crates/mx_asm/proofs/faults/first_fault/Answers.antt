@@ -23,9 +23,9 @@ lines-preserved c =
     let is = c.read_line-line.ensures.line ∙ ap line_of c.as_bytes.ensures.value in
     record {
       faults = rw k (faults_more labels c.lines.place c.lines.line_number c.in-Some.text.now (line_view c.read_line-line.result) (drop (n + 1) (lines source)) is c.place_after-place.result c.place_after-place.ensures.after (sym c.line_fault.ensures ∙ c.in_default.is)
-        ∙ ap (fault_from labels c.lines.place c.lines.line_number) (sym t.next) ∙ c.lines.invariant.faults);
+          ∙ ap (fault_from labels c.lines.place c.lines.line_number) (sym t.next) ∙ c.lines.invariant.faults);
       offsets = rw (c.first_offset-offset.ensures, c.offset_fault.ensures, k) (offsets_more labels c.lines.place c.lines.line_number c.in-Some.text.now (line_view c.read_line-line.result) (drop (n + 1) (lines source)) is c.place_after-place.result c.place_after-place.ensures.after c.lines.offset
-        ∙ ap (λ l. option_or c.lines.offset (offset_from labels c.lines.place c.lines.line_number l)) (sym t.next) ∙ c.lines.invariant.offsets);
+          ∙ ap (λ l. option_or c.lines.offset (offset_from labels c.lines.place c.lines.line_number l)) (sym t.next) ∙ c.lines.invariant.offsets);
       number = omega arith;
       bound = record { segments = omega arith; here = omega arith; total = omega arith };
       few = omega (arith, t.few);

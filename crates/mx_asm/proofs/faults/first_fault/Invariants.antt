@@ -15,5 +15,5 @@ invariant-lines l =
       offsets : option_or l.offset (offset_from (labels_view l.labels) l.place l.line_number (drop (length l.yielded) (lines l.source))) ≡ offset_from (labels_view l.labels) start 1 (lines l.source);
       number : l.line_number ≡ length l.yielded + 1;
       bound : IsPlaceBound (length l.yielded) l.place;
-      few : length l.yielded ≤ length l.source
+      few : length l.yielded ≤ length l.source;
     }

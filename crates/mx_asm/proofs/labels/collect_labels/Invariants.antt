@@ -12,5 +12,5 @@ invariant-lines l =
       labels : labels_from l.place l.number (labels_view l.labels) (drop (length l.yielded) (lines l.source)) ≡ labels_of_source l.source;
       number : l.number ≡ length l.yielded + 1;
       bound : IsPlaceBound (length l.yielded) l.place;
-      few : length l.yielded ≤ length l.source
+      few : length l.yielded ≤ length l.source;
     }

@@ -8,4 +8,4 @@ returns-in-Ok c =
     rw c.in-Some.is
     (ap (map entry_view) c.in-Ok.ensures.entries
     ∙ with_name-new c.in-Some.name (record { address = c.args.address; line = c.args.line }) c.args.labels.now.entries c.definition.result
-        c.definition.ensures (sym c.is_some.ensures ∙ c.if-is_some.false))
+    c.definition.ensures (sym c.is_some.ensures ∙ c.if-is_some.false))
