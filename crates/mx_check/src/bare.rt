@@ -63,9 +63,14 @@ impl<T: PermTables, const N: usize> Bare<T, N> {
         requires hart { hart < length self.old.harts }
         requires place { place < 32 }
         requires domain { IsDomain (T.maps self.old.tables) domain }
-        ensures answer { result ≡ allows (decided T.kind (map_of (T.maps self.old.tables) domain) place domain addr (hart_at self.old.harts hart).cache) access }
-        ensures harts { self.new.harts ≡ looked N T.kind (map_of (T.maps self.old.tables) domain) hart place domain addr self.old.harts }
-        ensures lookups { T.lookups self.new.tables ≡ lookups_after (map_of (T.maps self.old.tables) domain) place domain addr (hart_at self.old.harts hart).cache (T.lookups self.old.tables) }
+        ensures answer { result
+            ≡ allows (decided T.kind (map_of (T.maps self.old.tables) domain) place domain addr
+            (hart_at self.old.harts hart).cache) access }
+        ensures harts { self.new.harts
+            ≡ looked N T.kind (map_of (T.maps self.old.tables) domain) hart place domain addr self.old.harts }
+        ensures lookups { T.lookups self.new.tables
+            ≡ lookups_after (map_of (T.maps self.old.tables) domain) place domain addr
+            (hart_at self.old.harts hart).cache (T.lookups self.old.tables) }
         ensures same_maps { T.maps self.new.tables ≡ T.maps self.old.tables }
         ensures same_size { T.size self.new.tables ≡ T.size self.old.tables }
         ensures same_limit { T.limits self.new.tables ≡ T.limits self.old.tables }
@@ -85,9 +90,14 @@ impl<T: PermTables, const N: usize> Bare<T, N> {
         requires place { place < 32 }
         requires domain { IsDomain (T.maps self.old.tables) domain }
         requires word { word < T.size self.old.tables }
-        ensures answer { result ≡ decided_by (found place domain word (hart_at self.old.harts hart).cache) (span T.kind (map_of (T.maps self.old.tables) domain) word) }
-        ensures harts { let s = span T.kind (map_of (T.maps self.old.tables) domain) word in self.new.harts ≡ at_hart hart (looks N place domain word s (is_barred hart s self.old.harts)) self.old.harts }
-        ensures lookups { T.lookups self.new.tables ≡ lookups_with (found place domain word (hart_at self.old.harts hart).cache) (T.lookups self.old.tables) }
+        ensures answer { result
+            ≡ decided_by (found place domain word (hart_at self.old.harts hart).cache) (span T.kind (map_of
+            (T.maps self.old.tables) domain) word) }
+        ensures harts { let s = span T.kind (map_of (T.maps self.old.tables) domain) word in self.new.harts
+            ≡ at_hart hart (looks N place domain word s (is_barred hart s self.old.harts)) self.old.harts }
+        ensures lookups { T.lookups self.new.tables
+            ≡ lookups_with (found place domain word (hart_at self.old.harts hart).cache)
+            (T.lookups self.old.tables) }
         ensures same_maps { T.maps self.new.tables ≡ T.maps self.old.tables }
         ensures same_size { T.size self.new.tables ≡ T.size self.old.tables }
         ensures same_limit { T.limits self.new.tables ≡ T.limits self.old.tables }
@@ -105,7 +115,8 @@ impl<T: PermTables, const N: usize> Bare<T, N> {
         requires domain { IsDomain (T.maps self.old.tables) domain }
         requires word { word < T.size self.old.tables }
         ensures answer { result ≡ (span T.kind (map_of (T.maps self.old.tables) domain) word).perm }
-        ensures harts { let s = span T.kind (map_of (T.maps self.old.tables) domain) word in self.new.harts ≡ at_hart hart (after_walk N place domain s (is_barred hart s self.old.harts)) self.old.harts }
+        ensures harts { let s = span T.kind (map_of (T.maps self.old.tables) domain) word in self.new.harts
+            ≡ at_hart hart (after_walk N place domain s (is_barred hart s self.old.harts)) self.old.harts }
         ensures lookups { T.lookups self.new.tables ≡ raised (T.lookups self.old.tables) }
         ensures same_maps { T.maps self.new.tables ≡ T.maps self.old.tables }
         ensures same_size { T.size self.new.tables ≡ T.size self.old.tables }
@@ -120,7 +131,10 @@ impl<T: PermTables, const N: usize> Bare<T, N> {
     /// Puts a call of the hart in flight.
     pub fn announce(&mut self, hart: u32, first: u32, count: u32)
         requires { hart < length self.old.harts }
-        ensures { self.new ≡ record self.old { harts = at_hart hart (announced hart first count) self.old.harts } }
+        ensures { self.new ≡ record self.old {
+          harts = at_hart hart
+              (announced hart first count) self.old.harts;
+        } }
     {
         self.harts.announce(hart, first, count);
     }
@@ -152,7 +166,8 @@ impl<T: PermTables, const N: usize> Bare<T, N> {
     /// Makes the change where it fits.
     pub fn change(&mut self, change: &Change) -> Result<(), TablesFull>
         requires { IsLawful change.now (T.size self.old.tables) (length (T.maps self.old.tables)) }
-        ensures full { IsTrue (is_err result) ↔ IsFalse (fits T.kind (T.limits self.old.tables) (changed change.now (T.maps self.old.tables))) }
+        ensures full { IsTrue (is_err result)
+            ↔ IsFalse (fits T.kind (T.limits self.old.tables) (changed change.now (T.maps self.old.tables))) }
         ensures ok { OnOk result (T.maps self.new.tables ≡ changed change.now (T.maps self.old.tables)) }
         ensures err { OnErr result (self.new ≡ self.old) }
         ensures same_harts { self.new.harts ≡ self.old.harts }

@@ -72,8 +72,11 @@ impl<T: PermTables, const N: usize> Checker<T, N> {
         requires place { place < 32 }
         requires domain { IsDomain (T.maps self.old.tables) domain }
         ensures answer { result ≡ not (denies (perm (map_of (T.maps self.old.tables) domain)) addr access) }
-        ensures harts { self.new.harts ≡ looked N T.kind (map_of (T.maps self.old.tables) domain) hart place domain addr self.old.harts }
-        ensures lookups { T.lookups self.new.tables ≡ lookups_after (map_of (T.maps self.old.tables) domain) place domain addr (hart_at self.old.harts hart).cache (T.lookups self.old.tables) }
+        ensures harts { self.new.harts
+            ≡ looked N T.kind (map_of (T.maps self.old.tables) domain) hart place domain addr self.old.harts }
+        ensures lookups { T.lookups self.new.tables
+            ≡ lookups_after (map_of (T.maps self.old.tables) domain) place domain addr
+            (hart_at self.old.harts hart).cache (T.lookups self.old.tables) }
         ensures again { MayLook hart domain self.new.harts }
         ensures same_maps { T.maps self.new.tables ≡ T.maps self.old.tables }
         ensures same_size { T.size self.new.tables ≡ T.size self.old.tables }
@@ -87,7 +90,10 @@ impl<T: PermTables, const N: usize> Checker<T, N> {
     pub fn announce(&mut self, hart: u32, first: u32, count: u32)
         requires may { MayAnnounce hart self.old.harts }
         requires range { IsWithin first count (T.size self.old.tables) }
-        ensures { self.new ≡ record self.old { harts = at_hart hart (announced hart first count) self.old.harts } }
+        ensures { self.new ≡ record self.old {
+          harts = at_hart hart
+              (announced hart first count) self.old.harts;
+        } }
     {
         self.bare.announce(hart, first, count);
     }
@@ -129,7 +135,8 @@ impl<T: PermTables, const N: usize> Checker<T, N> {
     pub fn change(&mut self, hart: u32, change: &Change) -> Result<(), TablesFull>
         requires may { MayChange hart change.now self.old.harts }
         requires lawful { IsLawful change.now (T.size self.old.tables) (length (T.maps self.old.tables)) }
-        ensures full { IsTrue (is_err result) ↔ IsFalse (fits T.kind (T.limits self.old.tables) (changed change.now (T.maps self.old.tables))) }
+        ensures full { IsTrue (is_err result)
+            ↔ IsFalse (fits T.kind (T.limits self.old.tables) (changed change.now (T.maps self.old.tables))) }
         ensures ok { OnOk result (T.maps self.new.tables ≡ changed change.now (T.maps self.old.tables)) }
         ensures err { OnErr result (self.new ≡ self.old) }
         ensures same_harts { self.new.harts ≡ self.old.harts }

@@ -80,7 +80,8 @@ impl<const N: usize> Harts<N> {
     pub fn answer(&mut self, hart: u32, place: u32, domain: u32, word: u32) -> Option<Perm>
         requires hart { hart < length self.old }
         requires place { place < 32 }
-        ensures answer { result ≡ option_map (λ s. s.perm) (found place domain word (hart_at self.old hart).cache) }
+        ensures answer { result
+            ≡ option_map (λ s. s.perm) (found place domain word (hart_at self.old hart).cache) }
         ensures after { self.new ≡ at_hart hart (after_caches place domain word) self.old }
     {
         let part = &mut self.parts[hart as usize];

@@ -167,7 +167,7 @@ pub fn bytes_of_store(width: StoreWidth) -> u32
 /// What a load writes, from the number that its bytes hold.
 #[tactic(auto, unfolding(mx_model::specs::Effect::loaded, mx_isa::specs::Fields::extended))]
 #[inline(always)]
-pub fn extended(width: LoadWidth, n: u32) -> u32
+pub fn extend(width: LoadWidth, n: u32) -> u32
     requires { n < 256 ^ load_size width }
     ensures { result ≡ loaded width n }
 {

@@ -9,7 +9,7 @@ use crate::bus::{Bus, Denied};
 use crate::outcome::Outcome;
 use crate::regs::Regs;
 use crate::results::{
-    bytes_of_load, bytes_of_store, extended, is_taken, of_registers, with_immediate,
+    bytes_of_load, bytes_of_store, extend, is_taken, of_registers, with_immediate,
 };
 use mx_isa::{Inst, LoadWidth, StoreWidth, decode};
 use mx_model::Fault;
@@ -40,16 +40,17 @@ pub fn exec<B: Bus>(bus: &mut B, regs: &mut Regs, pc: u32, returns: bool) -> Out
         ≡ regs_after (B.perm bus.old) (B.bytes bus.old) regs.old pc returns (fetched (B.perm bus.old) (B.bytes bus.old) regs.old pc) }
     ensures bytes { B.bytes bus.new
         ≡ bytes_after (B.perm bus.old) (B.bytes bus.old) (fetched (B.perm bus.old) (B.bytes bus.old) regs.old pc) }
-    ensures touches { IsTouched B.touches bus.old (fetch_touch pc ∷ touches_of (fetched (B.perm bus.old) (B.bytes bus.old) regs.old pc)) bus.new }
+    ensures touches { IsTouched B.touches bus.old (fetch_touch pc
+        ∷ touches_of (fetched (B.perm bus.old) (B.bytes bus.old) regs.old pc)) bus.new }
     ensures aligned { IsAligned result }
     ensures cause { HasCause result }
     ensures map { B.perm bus.new ≡ B.perm bus.old }
     ensures usable { B.usable bus.new }
 {
     match bus.fetch(pc) {
-        Err(Denied) => trapped(1, pc),
+        Err(Denied) => trap_by(1, pc),
         Ok(word) => match decode(word) {
-            None => trapped(2, word),
+            None => trap_by(2, word),
             Some(inst) => act(bus, regs, pc, returns, inst),
         },
     }
@@ -115,12 +116,12 @@ fn act<B: Bus>(bus: &mut B, regs: &mut Regs, pc: u32, returns: bool, inst: Inst)
         }
         Inst::Fence { .. } => Outcome::Next(pc.wrapping_add(4)),
         Inst::Ecall => Outcome::Call,
-        Inst::Ebreak => trapped(3, pc),
+        Inst::Ebreak => trap_by(3, pc),
     }
 }
 
 #[inline(always)]
-fn trapped(cause: u32, value: u32) -> Outcome
+fn trap_by(cause: u32, value: u32) -> Outcome
     ensures { result ≡ trap cause value }
 {
     Outcome::Trap(Fault { cause, value })
@@ -150,7 +151,7 @@ fn go_to(target: u32) -> Outcome
     if target % 4 == 0 {
         Outcome::Next(target)
     } else {
-        trapped(0, target)
+        trap_by(0, target)
     }
 }
 
@@ -171,7 +172,7 @@ fn jump(regs: &mut Regs, pc: u32, returns: bool, rd: u32, target: u32) -> Outcom
         regs.set(rd, pc.wrapping_add(4));
         Outcome::Next(target)
     } else {
-        trapped(0, target)
+        trap_by(0, target)
     }
 }
 
@@ -191,10 +192,14 @@ fn load<B: Bus>(
     requires aligned { pc % 4 ≡ 0 }
     requires rd { rd < 32 }
     requires rs1 { rs1 < 32 }
-    ensures outcome { result ≡ outcome_of (B.perm bus.old) pc false (loads_at rs1 (plus (reg regs.old rs1) imm) width rd) }
-    ensures regs { regs.new ≡ regs_after (B.perm bus.old) (B.bytes bus.old) regs.old pc false (loads_at rs1 (plus (reg regs.old rs1) imm) width rd) }
+    ensures outcome { result
+        ≡ outcome_of (B.perm bus.old) pc false (loads_at rs1 (plus (reg regs.old rs1) imm) width rd) }
+    ensures regs { regs.new
+        ≡ regs_after (B.perm bus.old) (B.bytes bus.old) regs.old pc false (loads_at rs1 (plus
+        (reg regs.old rs1) imm) width rd) }
     ensures bytes { B.bytes bus.new ≡ B.bytes bus.old }
-    ensures touches { IsTouched B.touches bus.old (touches_of (loads_at rs1 (plus (reg regs.old rs1) imm) width rd)) bus.new }
+    ensures touches { IsTouched B.touches bus.old (touches_of (loads_at rs1 (plus
+        (reg regs.old rs1) imm) width rd)) bus.new }
     ensures aligned { IsAligned result }
     ensures cause { HasCause result }
     ensures map { B.perm bus.new ≡ B.perm bus.old }
@@ -203,11 +208,11 @@ fn load<B: Bus>(
     let address = regs.get(rs1).wrapping_add(imm);
     let size = bytes_of_load(width);
     if address % size != 0 {
-        return trapped(4, address);
+        return trap_by(4, address);
     }
     match bus.load(rs1, address, size) {
-        Err(Denied) => trapped(5, address),
-        Ok(n) => take(regs, pc, rd, extended(width, n)),
+        Err(Denied) => trap_by(5, address),
+        Ok(n) => take(regs, pc, rd, extend(width, n)),
     }
 }
 
@@ -227,10 +232,15 @@ fn store<B: Bus>(
     requires aligned { pc % 4 ≡ 0 }
     requires rs1 { rs1 < 32 }
     requires rs2 { rs2 < 32 }
-    ensures outcome { result ≡ outcome_of (B.perm bus.old) pc false (stores_at rs1 (plus (reg regs.old rs1) imm) (store_size width) (reg regs.old rs2)) }
+    ensures outcome { result
+        ≡ outcome_of (B.perm bus.old) pc false (stores_at rs1 (plus (reg regs.old rs1) imm)
+        (store_size width) (reg regs.old rs2)) }
     ensures regs { regs.new ≡ regs.old }
-    ensures bytes { B.bytes bus.new ≡ bytes_after (B.perm bus.old) (B.bytes bus.old) (stores_at rs1 (plus (reg regs.old rs1) imm) (store_size width) (reg regs.old rs2)) }
-    ensures touches { IsTouched B.touches bus.old (touches_of (stores_at rs1 (plus (reg regs.old rs1) imm) (store_size width) (reg regs.old rs2))) bus.new }
+    ensures bytes { B.bytes bus.new
+        ≡ bytes_after (B.perm bus.old) (B.bytes bus.old) (stores_at rs1 (plus (reg regs.old rs1) imm)
+        (store_size width) (reg regs.old rs2)) }
+    ensures touches { IsTouched B.touches bus.old (touches_of (stores_at rs1 (plus
+        (reg regs.old rs1) imm) (store_size width) (reg regs.old rs2))) bus.new }
     ensures aligned { IsAligned result }
     ensures cause { HasCause result }
     ensures map { B.perm bus.new ≡ B.perm bus.old }
@@ -239,10 +249,10 @@ fn store<B: Bus>(
     let address = regs.get(rs1).wrapping_add(imm);
     let size = bytes_of_store(width);
     if address % size != 0 {
-        return trapped(6, address);
+        return trap_by(6, address);
     }
     match bus.store(rs1, address, size, regs.get(rs2)) {
-        Err(Denied) => trapped(7, address),
+        Err(Denied) => trap_by(7, address),
         Ok(()) => Outcome::Next(pc.wrapping_add(4)),
     }
 }

@@ -40,7 +40,8 @@ pub fn read_image(bytes: &[u8]) -> Result<Image, ImageFault>
 fn header_fault(bytes: &[u8]) -> Option<u32>
     ensures exact { result ≡ first_fault (header_rows bytes.now) }
     ensures whole { IfNone result (52 ≤ length bytes.now) }
-    ensures inside { IfNone result (0 < e_phnum bytes.now → e_phoff bytes.now + 32 * e_phnum bytes.now ≤ length bytes.now) }
+    ensures inside { IfNone result (0 < e_phnum bytes.now →
+        e_phoff bytes.now + 32 * e_phnum bytes.now ≤ length bytes.now) }
 {
     if bytes.len() < HEADER_SIZE {
         return Some(1);

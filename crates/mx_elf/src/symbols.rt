@@ -46,7 +46,8 @@ fn has_sections(bytes: &[u8]) -> bool
 fn symbol_table(bytes: &[u8]) -> Option<usize>
     ensures exact { result ≡ symbol_table_of bytes.now }
     ensures whole { IfSome result (λ _. 52 ≤ length bytes.now) }
-    ensures inside { IfSome result (λ _. e_shoff bytes.now + 40 * e_shnum bytes.now ≤ length bytes.now) }
+    ensures inside { IfSome result (λ _. e_shoff bytes.now
+        + 40 * e_shnum bytes.now ≤ length bytes.now) }
     ensures header { IfSome result (λ at. at + 40 ≤ length bytes.now) }
 {
     if !has_sections(bytes) {

@@ -47,7 +47,8 @@ impl Heap {
     /// of no words has no room for any block.
     pub fn new(alloc: Global, first: u32, count: u32) -> Result<Heap, NoMemory>
         requires { first + count ≤ 16777216 }
-        ensures { IfOk result (λ h. h ≡ record { area = record { first = first; count = count }; blocks = [] }) }
+        ensures { IfOk result (λ h. h
+            ≡ record { area = record { first = first; count = count }; blocks = [] }) }
     {
         let mut parts = match Vec::with_capacity(alloc, 2 * MOST_BLOCKS as usize + 1) {
             Ok(parts) => parts,
@@ -78,8 +79,10 @@ impl Heap {
     pub fn place(&self, words: u32) -> Result<u32, HeapError>
         requires { 0 < words }
         ensures ok { IfOk result (λ a. place self.now.area self.now.blocks words ≡ Some a) }
-        ensures no_room { IsErrOf result HeapError.NoRoom ↔ IsNone (place self.now.area self.now.blocks words) }
-        ensures full { IsErrOf result HeapError.BlocksFull ↔ (IsSome (place self.now.area self.now.blocks words) × (length self.now.blocks ≡ most_blocks)) }
+        ensures no_room { IsErrOf result HeapError.NoRoom
+            ↔ IsNone (place self.now.area self.now.blocks words) }
+        ensures full { IsErrOf result HeapError.BlocksFull
+            ↔ (IsSome (place self.now.area self.now.blocks words) × (length self.now.blocks ≡ most_blocks)) }
         ensures inside { IfOk result (λ a. LiesIn self.now.area a words) }
         ensures heap { IsHeap self.now }
     {
@@ -94,13 +97,16 @@ impl Heap {
     pub fn alloc(&mut self, words: u32) -> Result<u32, HeapError>
         requires { 0 < words }
         ensures ok { IfOk result (λ a. place self.old.area self.old.blocks words ≡ Some a) }
-        ensures no_room { IsErrOf result HeapError.NoRoom ↔ IsNone (place self.old.area self.old.blocks words) }
-        ensures full { IsErrOf result HeapError.BlocksFull ↔ (IsSome (place self.old.area self.old.blocks words) × (length self.old.blocks ≡ most_blocks)) }
+        ensures no_room { IsErrOf result HeapError.NoRoom
+            ↔ IsNone (place self.old.area self.old.blocks words) }
+        ensures full { IsErrOf result HeapError.BlocksFull
+            ↔ (IsSome (place self.old.area self.old.blocks words) × (length self.old.blocks ≡ most_blocks)) }
         ensures inside { IfOk result (λ a. LiesIn self.old.area a words) }
         ensures heap { IsHeap self.old }
         ensures still { IsHeap self.new }
 
-        ensures live { IfOk result (λ a. self.new ≡ record self.old { blocks = with_block (record { first = a; count = words }) self.old.blocks }) }
+        ensures live { IfOk result (λ a. self.new
+            ≡ record self.old { blocks = with_block (record { first = a; count = words }) self.old.blocks }) }
         ensures unchanged { OnErr result (self.new ≡ self.old) }
     {
         let i = match fitting_hole(&self.parts, self.live, words) {
@@ -171,7 +177,11 @@ impl Heap {
     /// a live block, or 1024 blocks live.
     pub fn restore(&mut self, first: u32, count: u32) -> bool
         ensures restored { result ≡ may_live self.old (record { first = first; count = count }) }
-        ensures live { OnTrue result (self.new ≡ record self.old { blocks = with_block (record { first = first; count = count }) self.old.blocks }) }
+        ensures live { OnTrue result (self.new
+            ≡ record self.old {
+              blocks = with_block
+                  (record { first = first; count = count }) self.old.blocks;
+            }) }
         ensures unchanged { OnFalse result (self.new ≡ self.old) }
     {
         if count == 0 || self.live == MOST_BLOCKS {

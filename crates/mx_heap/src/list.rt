@@ -32,7 +32,8 @@ pub fn put_block(blocks: &mut Vec<Block>, block: Block)
     requires room { vec_len blocks.old < vec_capacity blocks.old }
     requires few { length blocks.old.items ≤ most_blocks }
     requires rising { AreRising blocks.old.items }
-    ensures items { map area_of blocks.new.items ≡ with_block (area_of block) (map area_of blocks.old.items) }
+    ensures items { map area_of blocks.new.items
+        ≡ with_block (area_of block) (map area_of blocks.old.items) }
     ensures capacity { vec_capacity blocks.old ≤ vec_capacity blocks.new }
 {
     let at = blocks_to(blocks, block.first);

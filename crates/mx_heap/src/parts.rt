@@ -28,7 +28,8 @@ pub fn hole_for(parts: &[Part], words: u32) -> Option<usize>
 // How many parts begin at the word or before it, by halves.
 fn parts_to(parts: &[Part], word: u32) -> usize
     requires few { length parts.now ≤ 2 * most_blocks + 1 }
-    requires rising { (i j : ℕ) → i ≤ j → j < length parts.now → (part_at parts.now i).first ≤ (part_at parts.now j).first }
+    requires rising { (i j : ℕ) → i ≤ j → j < length parts.now →
+        (part_at parts.now i).first ≤ (part_at parts.now j).first }
     ensures place { result ≡ parts_to word parts.now }
     ensures within { result ≤ length parts.now }
 {
@@ -155,7 +156,8 @@ pub fn split_hole(parts: &mut Vec<Part>, i: usize, first: u32, count: u32)
     requires place { i < vec_len parts.old }
     requires room { vec_len parts.old + 2 ≤ vec_capacity parts.old }
     requires begins { (part_at parts.old.items i).first ≤ first }
-    requires ends { first + count ≤ (part_at parts.old.items i).first + (part_at parts.old.items i).count }
+    requires ends { first + count ≤ (part_at parts.old.items i).first
+        + (part_at parts.old.items i).count }
     requires fits { (part_at parts.old.items i).first + (part_at parts.old.items i).count < 2 ^ 32 }
     ensures items { parts.new.items ≡ split parts.old.items i first count }
     ensures capacity { vec_capacity parts.old ≤ vec_capacity parts.new }
@@ -179,7 +181,8 @@ pub fn split_hole(parts: &mut Vec<Part>, i: usize, first: u32, count: u32)
 pub fn join_holes(parts: &mut Vec<Part>, i: usize)
     requires place { i < vec_len parts.old }
     requires low { hole_words parts.old.items (i - 1) ≤ (part_at parts.old.items i).first }
-    requires high { hole_words parts.old.items (i - 1) + (part_at parts.old.items i).count + hole_words parts.old.items (i + 1) < 2 ^ 32 }
+    requires high { hole_words parts.old.items (i - 1) + (part_at parts.old.items i).count
+        + hole_words parts.old.items (i + 1) < 2 ^ 32 }
     ensures items { parts.new.items ≡ joined parts.old.items i }
     ensures capacity { vec_capacity parts.new ≡ vec_capacity parts.old }
 {

@@ -10,7 +10,8 @@ ghost use Rattle.mx_laws.specs.Comparison.{AreFit, IsBounded, agrees};
 /// The test is true exactly where two states of as many words of RAM agree for a hart, if no domain has a right outside RAM. None has in
 /// a state, and none in a valid flat state.
 pub fn agreement_is_a_test()
-    ensures test { (r q : Reads) (c e : Core) (h : ℕ) → AreFit r c q e → Decides (agrees r c q e h) (Agrees r c q e h) }
+    ensures test { (r q : Reads) (c e : Core) (h : ℕ) → AreFit r c q e →
+        Decides (agrees r c q e h) (Agrees r c q e h) }
     ensures state { (s : State) → IsBounded (reads s) s.core }
     ensures flat { (f : Flat) → IsFlat f → IsBounded (flat_reads f) f.core }
 {}

@@ -1,4 +1,5 @@
--- How the owners of all words are stored: as maximal runs of equal owner, each by the word behind it.
+-- Inner: how the owners of all words are stored, as maximal runs of equal owner, each by the word behind it. No contract of another crate cites this
+-- file; what owners mean is a list with one owner a word.
 use Rattle.std.specs.Prelude.{ℕ, ◌≡◌, ◌≢◌, ◌+◌, ◌-◌, ◌<◌, ◌≤◌, Bool, ◌==◌, ◌&&◌, nat_lt, List, [], ◌∷◌, ◌++◌, length, take, drop, slice_index_or, if◌then◌else◌}
 use Rattle.std.specs.List.{position_or_len}
 use Rattle.mx_words.specs.Counting.{list_below}

@@ -60,8 +60,10 @@ impl Owners {
     pub fn owns(&self, domain: u32, first: u32, count: u32) -> bool
         requires some { 0 < count }
         requires in_ram { first + count ≤ length self.now }
-        ensures each { IsTrue result ↔ ((w : ℕ) → first ≤ w → w < first + count → slice_index self.now w ≡ domain) }
-        ensures all { result ≡ list_all (λ w. slice_index self.now w == domain) (range_with_len first count) }
+        ensures each { IsTrue result
+            ↔ ((w : ℕ) → first ≤ w → w < first + count → slice_index self.now w ≡ domain) }
+        ensures all { result ≡ list_all (λ w. slice_index self.now w == domain)
+            (range_with_len first count) }
     {
         self.has_in_a_run(domain, first, count)
     }
@@ -70,7 +72,8 @@ impl Owners {
     fn has_in_a_run(&self, domain: u32, first: u32, count: u32) -> bool
         requires some { 0 < count }
         requires in_ram { first + count ≤ length self.now }
-        ensures { IsTrue result ↔ ((w : ℕ) → first ≤ w → w < first + count → slice_index self.now w ≡ domain) }
+        ensures { IsTrue result
+            ↔ ((w : ℕ) → first ≤ w → w < first + count → slice_index self.now w ≡ domain) }
     {
         let run = self.runs[run_place(&self.runs, first)];
         run.owner == domain && first + count <= run.end
@@ -81,8 +84,11 @@ impl Owners {
     pub fn give(&mut self, domain: u32, first: u32, count: u32) -> Result<(), OwnersFull>
         requires some { 0 < count }
         requires in_ram { first + count ≤ length self.old }
-        ensures ok { OnOk result (self.new ≡ laid (record { first = first; count = count; value = domain }) self.old) }
-        ensures full { IsErr result ↔ (most_owner_runs < owner_runs (laid (record { first = first; count = count; value = domain }) self.old)) }
+        ensures ok { OnOk result (self.new
+            ≡ laid (record { first = first; count = count; value = domain }) self.old) }
+        ensures full { IsErr result
+            ↔ (most_owner_runs < owner_runs (laid
+            (record { first = first; count = count; value = domain }) self.old)) }
         ensures unchanged { OnErr result (self.new ≡ self.old) }
         ensures total { length self.new ≡ length self.old }
     {
@@ -107,7 +113,8 @@ impl Owners {
         requires { word < length self.now }
         ensures behind { word < result }
         ensures within { result ≤ length self.now }
-        ensures same { (w : ℕ) → word ≤ w → w < result → slice_index self.now w ≡ slice_index self.now word }
+        ensures same { (w : ℕ) → word ≤ w → w < result →
+            slice_index self.now w ≡ slice_index self.now word }
         ensures ends { result < length self.now → slice_index self.now result ≢ slice_index self.now word }
     {
         self.runs[run_place(&self.runs, word)].end

@@ -32,7 +32,8 @@ pub fn room(alloc: Global) -> Result<Vec<Run>, NoMemory>
 // The place of a word's run, by halves of the runs that there are.
 pub fn run_place(runs: &[Run], word: u32) -> usize
     requires few { length runs.now ≤ most_owner_runs }
-    requires rising { (i j : ℕ) → i ≤ j → j < length runs.now → (run_at runs.now i).end ≤ (run_at runs.now j).end }
+    requires rising { (i j : ℕ) → i ≤ j → j < length runs.now →
+        (run_at runs.now i).end ≤ (run_at runs.now j).end }
     ensures place { result ≡ place_of runs.now word }
     ensures within { result ≤ length runs.now }
 {
@@ -72,7 +73,8 @@ fn add_runs(next: &mut Vec<Run>, runs: &[Run])
 fn put_before(next: &mut Vec<Run>, runs: &[Run], owner: u32, first: u32)
     requires room { length runs.now + 2 ≤ vec_capacity next.old }
     requires few { length runs.now ≤ most_owner_runs }
-    requires rising { (i j : ℕ) → i ≤ j → j < length runs.now → (run_at runs.now i).end ≤ (run_at runs.now j).end }
+    requires rising { (i j : ℕ) → i ≤ j → j < length runs.now →
+        (run_at runs.now i).end ≤ (run_at runs.now j).end }
     requires within { 0 < first → place_of runs.now (first - 1) < length runs.now }
     ensures items { next.new.items ≡ runs_before runs.now owner first }
     ensures capacity { vec_capacity next.old ≤ vec_capacity next.new }
@@ -96,7 +98,8 @@ fn put_before(next: &mut Vec<Run>, runs: &[Run], owner: u32, first: u32)
 pub fn put_given(next: &mut Vec<Run>, runs: &[Run], owner: u32, first: u32, behind: u32)
     requires room { length runs.now + 2 ≤ vec_capacity next.old }
     requires few { length runs.now ≤ most_owner_runs }
-    requires rising { (i j : ℕ) → i ≤ j → j < length runs.now → (run_at runs.now i).end ≤ (run_at runs.now j).end }
+    requires rising { (i j : ℕ) → i ≤ j → j < length runs.now →
+        (run_at runs.now i).end ≤ (run_at runs.now j).end }
     requires within { 0 < first → place_of runs.now (first - 1) < length runs.now }
     requires fits { length (given runs.now owner first behind) ≤ length runs.now + 2 }
     ensures items { next.new.items ≡ given runs.now owner first behind }
