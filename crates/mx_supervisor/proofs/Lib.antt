@@ -2,6 +2,7 @@ pub mod Announcing
 pub mod Answering
 pub mod Changing
 pub mod Maps
+pub mod ReadyLaws
 pub mod Ending
 pub mod Looking
 pub mod Numbers

@@ -84,12 +84,12 @@ fn own_alone(first: u32, count: u32, caller: u32, modules: u32) -> Change
     none_else(first, count, caller, Some(Perm::ReadWrite), modules)
 }
 
-/// None for all modules.
-fn none_at_all(first: u32, count: u32, modules: u32) -> Change
+/// None for all modules, the caller too.
+fn none_at_all(first: u32, count: u32, caller: u32, modules: u32) -> Change
     requires { modules ≤ 63 }
     ensures { Gives result first count modules none_at_all }
 {
-    none_else(first, count, 0, None, modules)
+    none_else(first, count, caller, Some(Perm::None), modules)
 }
 
 impl<T: PermTables, const N: usize> Supervisor<T, N> {
@@ -192,7 +192,7 @@ impl<T: PermTables, const N: usize> Supervisor<T, N> {
         let Some((first, count)) = self.arg_block(call) else {
             return Answer::refused(Refusal::NotABlock);
         };
-        let change = none_at_all(first, count, self.modules());
+        let change = none_at_all(first, count, call.domain, self.modules());
         if !self.try_change(call, &change) {
             return Answer::refused(Refusal::TablesFull);
         }
