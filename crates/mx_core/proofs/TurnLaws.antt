@@ -1,21 +1,19 @@
 -- One instruction over a bus is a turn of the machine, where no call gate stands.
-use Rattle.std.proofs.Common.{◌≡◌, ℕ, Bool, true, false, cond, ◌==◌, ◌%◌, List, [], ◌∷◌, ◌++◌, refl, sym, ◌∙◌, ap, if◌then◌else◌, Option, Some, None}
-use Rattle.std.specs.Prelude.{flat_map}
+use Rattle.std.proofs.Common.{◌≡◌, ℕ, Bool, true, false, ◌==◌, ◌%◌, List, ◌∷◌, ◌++◌, refl, sym, ◌∙◌, ap, if◌then◌else◌, Option, Some, None}
 use Rattle.std.proofs.lemmas.List.{append-nil}
 use Rattle.mx_isa.specs.declared.inst.Inst.{Inst}
 use Rattle.mx_isa.specs.Table.{decoded}
 use Rattle.mx_words.specs.Caches.{Cache}
 use Rattle.mx_words.specs.declared.perm.Access.TheVariants as A
 use Rattle.mx_model.specs.Checks.{Look, looks_at}
-use Rattle.mx_model.specs.Effect.{Effect, Goes, Faults, Loads, Stores, Calls, Jumps, effect, by_target, written, next, load_size, loaded}
+use Rattle.mx_model.specs.Effect.{Effect, Goes, Faults, Loads, Stores, Calls, Jumps, by_target, written, next, load_size, loaded}
 use Rattle.mx_model.specs.Reads.{Reads}
 use Rattle.mx_model.specs.State.{Core, Hart}
-use Rattle.mx_model.specs.Turn.{Action, Runs, Traps, Writes, acted, after_look, at_return, by_effect, is_denied, is_return_at, jump_action, perm_of, runs_at}
+use Rattle.mx_model.specs.Turn.{Runs, Traps, Writes, acted, after_look, at_return, by_effect, is_denied, is_return_at, jump_action, perm_of, runs_at}
 use Rattle.mx_model.specs.Turn.{load_at as model_load_at}
 use Rattle.mx_model.proofs.TurnCases.{effect_of_fetch, effect_of_word, runs-by_effect}
-use Rattle.mx_core.specs.declared.outcome.Outcome.{Outcome}
-use Rattle.mx_core.specs.declared.outcome.Outcome.TheVariants.{Next, Trap, Call, Back}
-use Rattle.mx_core.specs.Bus.{denied, load_at, store_at, Touch}
+use Rattle.mx_core.specs.declared.outcome.Outcome.TheVariants.{Next, Back}
+use Rattle.mx_core.specs.Bus.{denied, load_at, store_at}
 use Rattle.mx_core.specs.Exec.{action_of, after_fetch, bytes_after, bytes_in, effect_in, effect_of, fetch_touch, fetched, looks_of, outcome_in, outcome_of, regs_after, regs_in, returns_in, touches_of, trap}
 
 -- both crates fetch alike

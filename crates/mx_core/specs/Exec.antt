@@ -1,5 +1,5 @@
 -- One instruction over a bus: what it answers, and what it leaves.
-use Rattle.std.specs.Prelude.{◌≡◌, ℕ, ◌%◌, ◌<◌, Bool, true, false, ◌==◌, if◌then◌else◌, List, [], ◌∷◌, flat_map, Option, Some, None}
+use Rattle.std.specs.Prelude.{◌≡◌, ℕ, ◌%◌, ◌<◌, Bool, true, false, if◌then◌else◌, List, [], ◌∷◌, flat_map, Option, Some, None}
 use Rattle.mx_words.specs.declared.perm.Perm.{Perm}
 use Rattle.mx_words.specs.declared.perm.Access.TheVariants.{Read, Write, Execute}
 use Rattle.mx_isa.specs.declared.inst.Inst.{Inst}
