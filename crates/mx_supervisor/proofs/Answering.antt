@@ -1,5 +1,5 @@
 -- How a row of the table of calls meets the model's: by what it changed, and by its answer.
-use Rattle.std.proofs.Common.{◌≡◌, ◌≢◌, ℕ, Bool, true, false, List, [], length, refl, sym, subst, inl, inr, ◌∙◌, ap, Some, None, ◌≤◌, nat_le, arith}
+use Rattle.std.proofs.Common.{◌≡◌, ℕ, true, false, List, [], length, refl, sym, subst, inl, ◌∙◌, ap, Some, ◌≤◌, nat_le, arith}
 use Rattle.std.proofs.lemmas.Bool.{leb-true}
 use Rattle.mx_check.specs.Harts.{Kept, hart_at}
 use Rattle.mx_model.specs.declared.values.Call.{Call}
@@ -7,7 +7,7 @@ use Rattle.mx_model.specs.declared.values.Gate.{Gate}
 use Rattle.mx_words.specs.Newest.{Give, laid}
 use Rattle.mx_words.proofs.OverlayLaws.{length-laid}
 use Rattle.mx_model.specs.Reads.{Reads, flat_reads}
-use Rattle.mx_model.specs.Serve.{Served, answers, code, adds}
+use Rattle.mx_model.specs.Serve.{Served, answers, code}
 use Rattle.mx_model.specs.State.{Core}
 use Rattle.mx_supervisor.specs.declared.answer.Answer.{Answer}
 use Rattle.mx_supervisor.specs.Answers.{plain, refusal, is_refusal}
@@ -135,12 +135,18 @@ pub gates-done : (row : Reads → Core → Call → Served) (call : Call) (p q :
 gates-done row call p q gates a sound eq ea es =
     let t : Parts = record p { gates = gates } in
     let sound_t : IsSound t = record {
-      few_words = sound.few_words; few_maps = sound.few_maps; maps = sound.maps; ram = sound.ram; owners = sound.owners; heaps = sound.heaps; areas = sound.areas
+      few_words = sound.few_words;
+      few_maps = sound.few_maps;
+      maps = sound.maps;
+      ram = sound.ram;
+      owners = sound.owners;
+      heaps = sound.heaps;
+      areas = sound.areas;
     } in
     let served : ServesAs row call p t [] (plain 0) = λ rest bars. rw (es rest)
-        (record { core = refl; maps = refl; owners = refl; console = refl; a0 = refl; a1 = refl; stop = refl }) in
+    (record { core = refl; maps = refl; owners = refl; console = refl; a0 = refl; a1 = refl; stop = refl }) in
     let m : Meets row call (hart_at p.harts call.hart).flight p t [] (plain 0) =
-        done row call p t [] (plain 0) sound_t refl refl (record { size = refl; limit = refl; modules = refl }) served in
+    done row call p t [] (plain 0) sound_t refl refl (record { size = refl; limit = refl; modules = refl }) served in
     rw (eq, ea) m
 
 -- a give, answered by 0
@@ -150,12 +156,18 @@ pub give-done : (row : Reads → Core → Call → Served) (call : Call) (p q : 
 give-done row call p q give a sound eq ea es =
     let t : Parts = record p { owners = laid give p.owners } in
     let sound_t : IsSound t = record {
-      few_words = sound.few_words; few_maps = sound.few_maps; maps = sound.maps; ram = sound.ram; owners = length-laid give p.owners ∙ sound.owners; heaps = sound.heaps; areas = sound.areas
+      few_words = sound.few_words;
+      few_maps = sound.few_maps;
+      maps = sound.maps;
+      ram = sound.ram;
+      owners = length-laid give p.owners ∙ sound.owners;
+      heaps = sound.heaps;
+      areas = sound.areas;
     } in
     let served : ServesAs row call p t [] (plain 0) = λ rest bars. rw (es rest)
-        (record { core = refl; maps = refl; owners = refl; console = refl; a0 = refl; a1 = refl; stop = refl }) in
+    (record { core = refl; maps = refl; owners = refl; console = refl; a0 = refl; a1 = refl; stop = refl }) in
     let m : Meets row call (hart_at p.harts call.hart).flight p t [] (plain 0) =
-        done row call p t [] (plain 0) sound_t refl refl (record { size = refl; limit = refl; modules = refl }) served in
+    done row call p t [] (plain 0) sound_t refl refl (record { size = refl; limit = refl; modules = refl }) served in
     rw (eq, ea) m
 
 -- bytes of RAM after looks alone, with the answers in a0 and a1

@@ -1,21 +1,20 @@
 -- Calls that change rights, and what changes beside them.
-use Rattle.std.proofs.Common.{◌≡◌, ℕ, ◌+◌, ◌-◌, ◌*◌, ◌<◌, ◌≤◌, List, [], ◌∷◌, ◌++◌, length, get_or, take, drop, replicate, refl, sym, ◌∙◌, ap, subst, arith, Option, Some, None, Bool, true, false, nat_lt, ⊎_elim, if◌then◌else◌}
+use Rattle.std.proofs.Common.{◌≡◌, ℕ, ◌+◌, ◌-◌, ◌<◌, ◌≤◌, List, [], length, refl, sym, ◌∙◌, ap, subst, arith, Option, Some, None, true, false, nat_lt, ⊎_elim, if◌then◌else◌}
 use Rattle.std.proofs.lemmas.Bool.{cases_lt, le-ltb}
-use Rattle.std.specs.Option.{option_map_or}
 use Rattle.mx_words.specs.declared.perm.Perm.{Perm}
 use Rattle.mx_words.specs.Changes.{changed_map, changed_maps, grant_of}
 use Rattle.mx_words.proofs.ChangeLaws.{length-changed_from, changed_from-at}
 use Rattle.mx_words.proofs.OverlayLaws.{length-laid}
-use Rattle.mx_table.specs.Tables.{map_of, IsDomain}
+use Rattle.mx_table.specs.Tables.{map_of}
 use Rattle.mx_check.specs.Harts.{hart_at}
 use Rattle.mx_model.specs.declared.values.Call.{Call}
-use Rattle.mx_model.specs.Reads.{Reads, Change}
-use Rattle.mx_model.specs.Serve.{Served, answers, changes}
+use Rattle.mx_model.specs.Reads.{Reads}
+use Rattle.mx_model.specs.Serve.{Served, changes}
 use Rattle.mx_model.specs.State.{Core}
 use Rattle.mx_supervisor.specs.declared.answer.Answer.{Answer}
 use Rattle.mx_supervisor.specs.Answers.{plain}
 use Rattle.mx_supervisor.specs.Parts.{Parts, core_of, IsSound}
-use Rattle.mx_supervisor.specs.Served.{ServesAs, KeepsSizes, Meets}
+use Rattle.mx_supervisor.specs.Served.{ServesAs, Meets}
 use Rattle.mx_supervisor.proofs.Answering.{row_on, done}
 use Rattle.mx_words.specs.Announced.{names_range}
 use Rattle.mx_words.specs.FirstFit.{Area}
@@ -40,11 +39,11 @@ sound-changed p first count given sound =
       few_words = sound.few_words;
       few_maps = let a = sound.few_maps in omega (arith, many, a);
       maps = λ d there.
-        let a = there.first in let b = there.last in
-        let inside : d - 1 < length p.maps = omega (arith, a, b, many) in
-        ap length (changed_from-at first count given 1 p.maps (d - 1) d [] inside (omega (arith, a)))
-        ∙ length-changed_map first count (given d) (map_of p.maps d)
-        ∙ sound.maps d (record { first = a; last = omega (arith, b, many) });
+          let a = there.first in let b = there.last in
+          let inside : d - 1 < length p.maps = omega (arith, a, b, many) in
+          ap length (changed_from-at first count given 1 p.maps (d - 1) d [] inside (omega (arith, a)))
+          ∙ length-changed_map first count (given d) (map_of p.maps d)
+          ∙ sound.maps d (record { first = a; last = omega (arith, b, many) });
       ram = sound.ram;
       owners = sound.owners;
       heaps = sound.heaps ∙ sym many;
@@ -59,10 +58,10 @@ pub changes-done : (row : Reads → Core → Call → Served) (call : Call) (p q
 changes-done row call p q first count given a sound eq ea es =
     let t : Parts = record p { maps = changed_maps first count given p.maps } in
     let served : ServesAs row call p t [] (plain 0) = λ rest bars. rw (es rest)
-        (record { core = refl; maps = refl; owners = refl; console = refl; a0 = refl; a1 = refl; stop = refl }) in
+    (record { core = refl; maps = refl; owners = refl; console = refl; a0 = refl; a1 = refl; stop = refl }) in
     let m : Meets row call (hart_at p.harts call.hart).flight p t [] (plain 0) =
-        done row call p t [] (plain 0) (sound-changed p first count given sound) refl refl
-        (record { size = refl; limit = refl; modules = length-changed_from first count given 1 p.maps }) served in
+    done row call p t [] (plain 0) (sound-changed p first count given sound) refl refl
+    (record { size = refl; limit = refl; modules = length-changed_from first count given 1 p.maps }) served in
     rw (eq, ea) m
 
 -- a change of a range of RAM that names modules alone is lawful
@@ -83,7 +82,16 @@ in-of c first count modules given range gives low high =
 -- any state to read a range in
 abbrev no_core : Core
 no_core = record {
-  ram = []; modules = []; gates = []; harts = []; caches = []; turns = 0; size = 0; kind = K.Segments; limit = record { upper = 0; leaf = 0; spill = 0 }; buffer = 0
+  ram = [];
+  modules = [];
+  gates = [];
+  harts = [];
+  caches = [];
+  turns = 0;
+  size = 0;
+  kind = K.Segments;
+  limit = record { upper = 0; leaf = 0; spill = 0 };
+  buffer = 0;
 }
 
 -- the range of a call 3 or 4, and of a call 6 or 7

@@ -1,5 +1,5 @@
 -- The end of a call: an announced one is no longer in flight, and its hart drops its own spans on the range.
-use Rattle.std.proofs.Common.{◌≡◌, ◌≢◌, ℕ, ◌<◌, Bool, true, false, List, length, set, if◌then◌else◌, Option, Some, None, inl, inr, refl, sym, ap, subst, ◌∙◌, arith, length-set, get_or-set_same, get_or-set_other}
+use Rattle.std.proofs.Common.{◌≡◌, ℕ, ◌<◌, true, false, List, length, set, Option, Some, None, inl, inr, sym, ap, subst, ◌∙◌, arith, length-set, get_or-set_same, get_or-set_other}
 use Rattle.std.proofs.Common.{map as list_map}
 use Rattle.std.specs.Prelude.{IfSome}
 use Rattle.std.proofs.Math.ListN.{get_or-map}
@@ -13,12 +13,12 @@ use Rattle.mx_check.specs.Harts.{Kept, no_hart, hart_at, at_hart, ended, finishe
 use Rattle.mx_model.specs.declared.values.Call.{Call}
 use Rattle.mx_model.specs.Checks.{arg, call_range, drops}
 use Rattle.mx_model.specs.Reads.{flat_reads}
-use Rattle.mx_model.specs.Serve.{Served, serve}
-use Rattle.mx_model.specs.State.{Core, module_at, cache_at}
+use Rattle.mx_model.specs.Serve.{serve}
+use Rattle.mx_model.specs.State.{Core, cache_at}
 use Rattle.mx_supervisor.specs.declared.answer.Answer.{Answer}
-use Rattle.mx_supervisor.specs.Looks.{BarsAlike, KeepsHarts}
+use Rattle.mx_supervisor.specs.Looks.{KeepsHarts}
 use Rattle.mx_supervisor.specs.Parts.{Parts, core_of, flat_of}
-use Rattle.mx_supervisor.specs.Served.{IsServed, IsSpared, KeepsSizes, HasAnnounced, Meets, range_of, flight_after, served_row}
+use Rattle.mx_supervisor.specs.Served.{IsServed, HasAnnounced, Meets, range_of, flight_after, served_row}
 use Rattle.mx_supervisor.proofs.Answering.{with-harts}
 use Rattle.mx_supervisor.proofs.Modules.{module-heap}
 

@@ -1,5 +1,5 @@
 -- Arrays of what each domain gets, as they are filled from domain 1 on.
-use Rattle.std.proofs.Common.{◌≡◌, ◌≢◌, ℕ, ◌+◌, ◌<◌, ◌≤◌, ◌==◌, true, false, cond, List, length, get_or, set, replicate, refl, sym, ◌∙◌, ap, subst, arith, ◌⊎◌, ⊎_elim, inl, inr, Option, Some, None}
+use Rattle.std.proofs.Common.{◌≡◌, ◌≢◌, ℕ, ◌+◌, ◌<◌, ◌≤◌, ◌==◌, cond, List, length, get_or, set, replicate, refl, sym, ◌∙◌, ap, subst, arith, ◌⊎◌, ⊎_elim, inl, inr, Option, Some, None}
 use Rattle.std.proofs.lemmas.Bool.{cases_eq, cases_lt, ne_eqb, eq-eqb}
 use Rattle.std.proofs.lemmas.List.{get_or_past, length-set, length-replicate, get_or-replicate, get_or-set_same, get_or-set_other}
 use Rattle.mx_words.specs.declared.perm.Perm.{Perm}
@@ -31,13 +31,13 @@ pub filled-next : (perms : List (Option Perm)) (d : ℕ) (o : Option Perm) (f : 
 filled-next perms d o f p l m e = record {
   places = length-set perms d o ∙ p.places;
   rest = λ i h.
-    let ne : i ≢ d = ⊎_elim (λ z q. let r : ⊥ = omega (arith, z, q, l) in r) (λ u q. let r : ⊥ = omega (arith, u, q) in r) h in
-    get_or-set_other perms d i o None ne ∙ p.rest i (⊎_elim (λ z. inl z) (λ u. inr (omega (arith, u))) h);
+      let ne : i ≢ d = ⊎_elim (λ z q. let r : ⊥ = omega (arith, z, q, l) in r) (λ u q. let r : ⊥ = omega (arith, u, q) in r) h in
+      get_or-set_other perms d i o None ne ∙ p.rest i (⊎_elim (λ z. inl z) (λ u. inr (omega (arith, u))) h);
   filled = λ i a b. ⊎_elim
-    (λ same. subst (λ (n : ℕ). get_or (set perms d o) n None ≡ f n) (sym same)
+      (λ same. subst (λ (n : ℕ). get_or (set perms d o) n None ≡ f n) (sym same)
       (get_or-set_same perms d o None (let c = p.places in omega (arith, m, c)) ∙ e))
-    (λ ne. get_or-set_other perms d i o None ne ∙ p.filled i a (below i d b ne))
-    (cases_eq i d);
+      (λ ne. get_or-set_other perms d i o None ne ∙ p.filled i a (below i d b ne))
+      (cases_eq i d);
 }
   where
     below : (i d : ℕ) → i < d + 1 → (i ≡ d → ⊥) → i < d
@@ -59,8 +59,8 @@ one-gives perms first count domain modules p l m n e = record {
   first = refl;
   count = refl;
   named = λ d h.
-    let ne : d ≢ domain = ⊎_elim (λ z q. let r : ⊥ = omega (arith, z, q, l) in r) (λ u q. let r : ⊥ = omega (arith, u, q, n) in r) h in
-    ap (λ (ps : List (Option Perm)). get_or ps d None) e ∙ get_or-set_other (replicate 64 None) domain d (Some p) None ne ∙ get_or-none 64 d;
+      let ne : d ≢ domain = ⊎_elim (λ z q. let r : ⊥ = omega (arith, z, q, l) in r) (λ u q. let r : ⊥ = omega (arith, u, q, n) in r) h in
+      ap (λ (ps : List (Option Perm)). get_or ps d None) e ∙ get_or-set_other (replicate 64 None) domain d (Some p) None ne ∙ get_or-none 64 d;
   given = λ d a b. ap (λ (ps : List (Option Perm)). get_or ps d None) e ∙ at d (cases_eq d domain);
 }
   where

@@ -1,5 +1,5 @@
 -- One look at a word: what the checker keeps afterwards is what the model's look leaves.
-use Rattle.std.proofs.Common.{◌≡◌, ◌≢◌, ℕ, ◌+◌, ◌-◌, ◌*◌, ◌/◌, ◌<◌, ◌≤◌, ◌⊎◌, inl, inr, Bool, true, false, not, ◌==◌, ◌&&◌, nat_lt, nat_le, if◌then◌else◌, List, length, get_or, set, Option, Some, None, refl, sym, ap, subst, ◌∙◌, arith, length-set, get_or-set_same, get_or-set_other, eq-eqb}
+use Rattle.std.proofs.Common.{◌≡◌, ◌≢◌, ℕ, ◌-◌, ◌*◌, ◌/◌, ◌<◌, ◌⊎◌, inl, inr, Bool, true, false, not, ◌==◌, ◌&&◌, nat_lt, nat_le, List, length, set, Option, Some, refl, sym, ap, subst, ◌∙◌, arith, length-set, get_or-set_same, get_or-set_other, eq-eqb}
 use Rattle.std.proofs.Common.{map as list_map}
 use Rattle.std.specs.Prelude.{IfSome}
 use Rattle.std.proofs.Math.ListN.{get_or-map}
@@ -12,7 +12,7 @@ use Rattle.mx_words.specs.Counting.{all_below}
 use Rattle.mx_words.specs.Hearing.{is_in}
 use Rattle.mx_words.specs.declared.perm.Access.{Access}
 use Rattle.mx_words.specs.Rights.{allows, denies, perm, perm_at}
-use Rattle.mx_words.specs.Ranges.{ram_base, address_of, word_of, in_ram}
+use Rattle.mx_words.specs.Ranges.{ram_base, address_of, word_of}
 use Rattle.mx_words.specs.Reach.{span}
 use Rattle.mx_table.specs.Tables.{map_of, IsDomain}
 use Rattle.mx_check.specs.declared.flight.Flight.{Flight}

@@ -1,13 +1,12 @@
 -- Looks at words in order, up to the first that may not be read.
-use Rattle.std.proofs.Common.{◌≡◌, ℕ, suc, ◌+◌, ◌-◌, ◌<◌, ◌≤◌, Bool, true, false, ◌&&◌, List, [], ◌∷◌, take, refl, sym, ap, subst, ◌∙◌, arith}
-use Rattle.std.proofs.Common.{map as list_map}
+use Rattle.std.proofs.Common.{◌≡◌, ℕ, suc, ◌+◌, ◌-◌, ◌<◌, ◌≤◌, Bool, true, false, ◌&&◌, List, [], ◌∷◌, refl, sym, ap, subst, ◌∙◌, arith}
 use Rattle.std.specs.List.{list_all, prefix_len, range_with_len}
 use Rattle.mx_words.specs.declared.perm.Access.TheVariants as A
 use Rattle.mx_words.specs.Rights.{allows, perm_at}
 use Rattle.mx_check.specs.Conditions.{MayLook}
 use Rattle.mx_check.specs.Harts.{Kept, hart_at}
 use Rattle.mx_model.specs.declared.values.Call.{Call}
-use Rattle.mx_model.specs.Checks.{Look, looked, looked_all}
+use Rattle.mx_model.specs.Checks.{looked}
 use Rattle.mx_model.specs.Reads.{Reads, flat_reads, map_in}
 use Rattle.mx_model.specs.Serve.{look_of, may_read}
 use Rattle.mx_model.specs.State.{Core}
@@ -88,17 +87,18 @@ read-stop call w words ws old now next read look bad =
     let l = look-from call w old now next read.same look in
     let was : readable old call.domain w ≡ false = ap (λ (p : Parts). readable p call.domain w) (sym read.same) ∙ bad in
     let core : (rest : Core) → BarsAlike rest old call.hart →
-        core_of rest (record old { harts = next.harts }) ≡ read_through (flat_reads (flat_of rest old)) call.hart call.domain words (core_of rest old) = λ rest bars.
-        l.1.core rest (bars-kept rest old call _ now.harts read.decides.keeps bars)
-        ∙ sym (read.decides.core rest bars
-        ∙ last-look (flat_reads (flat_of rest old)) call.hart call.domain w ws (core_of rest (record old { harts = now.harts })) was) in
+    core_of rest (record old { harts = next.harts }) ≡ read_through (flat_reads (flat_of rest old)) call.hart call.domain words (core_of rest old) = λ rest bars.
+    l.1.core rest (bars-kept rest old call _ now.harts read.decides.keeps bars)
+    ∙ sym (read.decides.core rest bars
+    ∙ last-look (flat_reads (flat_of rest old)) call.hart call.domain w ws (core_of rest (record old { harts = now.harts })) was) in
     let has : HasRead call words old (record old { harts = next.harts }) = record {
       same = refl;
       harts = keeps-both call old.harts now.harts next.harts read.decides.keeps look.harts;
       core = core;
-    } in
-    (subst (λ (q : Parts). HasRead call words old q) (sym l.0) has,
-    read.decides.answer ∙ ap (λ b. b && list_all (readable old call.domain) ws) was)
+    } in (
+      subst (λ (q : Parts). HasRead call words old q) (sym l.0) has,
+      read.decides.answer ∙ ap (λ b. b && list_all (readable old call.domain) ws) was,
+    )
 
 -- none is left
 pub read-over : (call : Call) (words : List ℕ) (old now : Parts) → HasReadTo call words [] old now → HasRead call words old now × (list_all (readable old call.domain) words ≡ true)

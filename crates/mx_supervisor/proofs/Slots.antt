@@ -1,5 +1,5 @@
 -- The heaps in slots, after one slot was written.
-use Rattle.std.proofs.Common.{◌≡◌, ℕ, ◌<◌, ◌≤◌, List, [], ◌++◌, length, get_or, set, take, drop, refl, sym, ◌∙◌, ap, arith, Option, None}
+use Rattle.std.proofs.Common.{◌≡◌, ℕ, ◌<◌, List, ◌++◌, length, get_or, set, take, sym, ◌∙◌, ap, arith, Option, None}
 use Rattle.std.proofs.Common.{map as list_map}
 use Rattle.std.specs.List.{refill}
 use Rattle.std.proofs.lemmas.List.{append-nil, drop_all, get_or_default, get_or-map, length-map, length-set, map-set, take_all}
@@ -19,7 +19,7 @@ pub slot-heap : (slots ws : List (Option HeapState)) (i : ℕ) (d : Option HeapS
 slot-heap slots ws i d heaps view same there =
     let long : length heaps ≡ length slots = sym (ap length view) ∙ length-map slots heap_in in
     let here : get_or ws i d ≡ get_or slots i None =
-        ap (λ (xs : List (Option HeapState)). get_or xs i d) same ∙ get_or_default slots i d None (omega (arith, there, long)) in
+    ap (λ (xs : List (Option HeapState)). get_or xs i d) same ∙ get_or_default slots i d None (omega (arith, there, long)) in
     let at : get_or (list_map heap_in slots) i no_heap ≡ heap_in (get_or slots i None) = get_or-map heap_in slots i None no_heap (omega (arith, there, long)) in
     ap heap_in here ∙ sym at ∙ ap (λ (hs : List HeapState). get_or hs i no_heap) view
 

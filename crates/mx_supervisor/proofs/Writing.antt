@@ -1,8 +1,7 @@
 -- The calls that look: write and exchange, by the outcome of their looks.
-use Rattle.std.proofs.Common.{◌≡◌, ℕ, ◌+◌, ◌-◌, ◌*◌, ◌/◌, ◌<◌, ◌≤◌, Bool, true, false, not, ◌&&◌, ◌||◌, nat_lt, nat_le, List, [], ◌∷◌, length, take, drop, refl, sym, ap, subst, ◌∙◌, arith, Option, Some, None, if◌then◌else◌}
+use Rattle.std.proofs.Common.{◌≡◌, ℕ, ◌+◌, ◌-◌, ◌*◌, ◌/◌, ◌<◌, ◌≤◌, Bool, true, false, ◌||◌, nat_lt, List, refl, arith, Some}
 use Rattle.std.specs.List.{list_all, range_with_len}
 use Rattle.std.proofs.lemmas.Bool.{ltb-false, lt-ltb, le-ltb}
-use Rattle.mx_words.specs.FirstRow.{first_row}
 use Rattle.mx_words.specs.Ranges.{ram_base}
 use Rattle.mx_model.specs.declared.values.Call.{Call}
 use Rattle.mx_words.specs.declared.perm.Access.TheVariants as A
@@ -10,7 +9,7 @@ use Rattle.mx_words.specs.Bytes.{number_at, put_at}
 use Rattle.mx_words.specs.Rights.{allows}
 use Rattle.mx_model.specs.Checks.{arg, looked}
 use Rattle.mx_model.specs.Reads.{Reads}
-use Rattle.mx_model.specs.Serve.{Served, answers, code, may_read, bytes_at, write_words, write_outside, serve_write, is_word, arg_word, look_of, serve_exchange}
+use Rattle.mx_model.specs.Serve.{answers, code, may_read, bytes_at, write_words, write_outside, serve_write, is_word, arg_word, look_of, serve_exchange}
 use Rattle.mx_model.specs.State.{Core}
 use Rattle.mx_supervisor.specs.Looks.{read_through}
 

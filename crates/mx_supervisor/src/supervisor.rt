@@ -47,7 +47,13 @@ pub struct Supervisor<T: PermTables, const N: usize> {
 impl<T: PermTables, const N: usize> Supervisor<T, N> {
     /// Joins the parts. Checker, RAM and owners have the same number of words, there is one heap per module, whose area lies in RAM,
     /// and each gate is for a word of RAM and between modules.
-    pub fn new(checker: Checker<T, N>, ram: Ram, owners: Owners, gates: Gates, heaps: Heaps) -> Supervisor<T, N>
+    pub fn new(
+        checker: Checker<T, N>,
+        ram: Ram,
+        owners: Owners,
+        gates: Gates,
+        heaps: Heaps,
+    ) -> Supervisor<T, N>
         requires sound { IsSound (parts_of {N = N} T.kind T.maps T.size T.limits N (record { checker = checker; ram = ram; owners = owners; gates = gates; heaps = heaps })) }
         requires gates { AllByRecursion (IsGate (length (T.maps checker.tables)) (T.size checker.tables)) gates }
         ensures { result ≡ record { checker = checker; ram = ram; owners = owners; gates = gates; heaps = heaps } }

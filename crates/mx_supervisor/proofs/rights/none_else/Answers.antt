@@ -1,5 +1,5 @@
 use Rattle.mx_supervisor.specs.Rights.{none_else}
-use Rattle.mx_supervisor.proofs.Giving.{filled-start, filled-next, filled-gives}
+use Rattle.mx_supervisor.proofs.Giving.{filled-start}
 use Rattle.mx_supervisor.proofs.rights.none_else.Goals as goal
 
 pub loop-domain-init : goal.loop-domain-init

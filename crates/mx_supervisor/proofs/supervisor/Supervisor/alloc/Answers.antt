@@ -1,4 +1,4 @@
-use Rattle.std.proofs.Common.{◌≡◌, ℕ, ◌+◌, ◌*◌, ◌^◌, ◌<◌, ◌≤◌, ◌==◌, nat_le, true, false, ap, arith, length, refl, ◌∙◌, sym, List, eq-eqb, Result, Err}
+use Rattle.std.proofs.Common.{◌≡◌, ℕ, ◌*◌, ◌<◌, ◌==◌, true, false, ap, arith, length, ◌∙◌, sym, eq-eqb, Result, Err}
 use Rattle.mx_heap.specs.declared.block.HeapError.{HeapError}
 use Rattle.mx_model.specs.Reads.{flat_reads}
 use Rattle.mx_supervisor.specs.Answers.{plain}
@@ -12,7 +12,6 @@ use Rattle.mx_supervisor.specs.Heaps.{heap_at, with_blocks_at}
 use Rattle.mx_supervisor.specs.Parts.{Parts, parts_of, core_of, flat_of}
 use Rattle.mx_supervisor.proofs.Answering.{refuses, refuses-after}
 use Rattle.mx_supervisor.proofs.Blocks.{alloc-done, alloc-none, alloc-full, alloc-unfit, alloc-fit, place-in, blocks-in, none-of, some-of, not-full}
-use Rattle.mx_supervisor.proofs.Modules.{module-heap, module-blocks}
 use Rattle.mx_supervisor.proofs.Changes.{lawful-of, in-of, range-heap, gives-in}
 use Rattle.mx_supervisor.proofs.supervisor.Supervisor.alloc.Goals as goal
 
@@ -45,9 +44,16 @@ try_change-requires g c =
     let gives = gives-in _ _ _ _ _ _ c.modules.ensures c.own_alone-change.ensures in
     let named : names_range c.args.call.now.number ≡ false = ap names_range c.requires.number in
     let range = range-heap p c.args.call.now named in
-    let low = c.in-Ok.ensures.inside.0 in let high = c.in-Ok.ensures.inside.1 in let area = c.requires.sound.areas c.args.call.now.domain in let some = c.if-words-eq0.false in
-    (assumption c, (c.requires.announced, (lawful-of _ _ _ _ _ _ gives (omega (arith, some)) (omega (arith, high, area)),
-    rw range (in-of _ _ _ _ _ ((heap_at p.heaps c.args.call.now.domain).area.first, (heap_at p.heaps c.args.call.now.domain).area.count) gives low high))))
+    let low = c.in-Ok.ensures.inside.0 in let high = c.in-Ok.ensures.inside.1 in let area = c.requires.sound.areas c.args.call.now.domain in let some = c.if-words-eq0.false in (
+      assumption c,
+      (
+        c.requires.announced,
+        (
+          lawful-of _ _ _ _ _ _ gives (omega (arith, some)) (omega (arith, high, area)),
+          rw range (in-of _ _ _ _ _ ((heap_at p.heaps c.args.call.now.domain).area.first, (heap_at p.heaps c.args.call.now.domain).area.count) gives low high),
+        ),
+      ),
+    )
 
 pub returns-then-not-try_change : goal.returns-then-not-try_change
 returns-then-not-try_change g c =
@@ -86,7 +92,9 @@ returns g c =
     (let ram = ap (λ (x : Parts). x.ram) made in sym (ap (λ bs. length (cleared_at bs (4 * c.in-Ok.first) (4 * arg c.args.call.now 0))) ram) ∙ sym (ap length c.clear_words.ensures.bytes) ∙ c.clear_words.ensures.size ∙ ap length ram)
     made
     (ap (λ hs. record q { heaps = hs; ram = c.clear_words.new.self }) (c.alloc.ensures c.in-Ok.first found few) ∙ ap (λ bs. record q {
-      heaps = with_blocks_at c.args.call.now.domain (with_block (record { first = c.in-Ok.first; count = arg c.args.call.now 0 }) (heap_at q.heaps c.args.call.now.domain).blocks) q.heaps; ram = bs }) c.clear_words.ensures.bytes)
+      heaps = with_blocks_at c.args.call.now.domain (with_block (record { first = c.in-Ok.first; count = arg c.args.call.now 0 }) (heap_at q.heaps c.args.call.now.domain).blocks) q.heaps;
+      ram = bs;
+    }) c.clear_words.ensures.bytes)
     (c.done.ensures ∙ ap plain (omega arith))
     (λ rest. alloc-fit (flat_reads (flat_of rest p)) (core_of rest p) c.args.call.now c.in-Ok.first (ne_eqb _ _ c.if-words-eq0.false)
     (place-in rest p c.args.call.now ∙ c.in-Ok.ensures.ok)

@@ -2,7 +2,6 @@ use Rattle.std.proofs.Common.{◌≡◌, ℕ, true, false, sym, subst, ◌∙◌
 use Rattle.mx_words.specs.Announced.{names_range}
 use Rattle.mx_check.specs.Conditions.{IsWithin}
 use Rattle.mx_supervisor.specs.Parts.{parts_of}
-use Rattle.mx_supervisor.specs.Served.{range_of}
 use Rattle.mx_supervisor.proofs.Announcing.{range-within}
 use Rattle.mx_supervisor.proofs.supervisor.Supervisor.announced.Goals as goal
 

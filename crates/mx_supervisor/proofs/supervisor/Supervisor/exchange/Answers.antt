@@ -1,8 +1,8 @@
-use Rattle.std.proofs.Common.{◌≡◌, ℕ, ◌*◌, ◌<◌, List, length, refl, ap, sym, subst, ◌∙◌, Some}
+use Rattle.std.proofs.Common.{◌≡◌, ℕ, ◌*◌, ◌<◌, List, refl, ap, sym, subst, ◌∙◌, Some}
 use Rattle.mx_words.specs.Bytes.{number_at, put_at}
 use Rattle.mx_model.specs.Checks.{arg}
 use Rattle.mx_model.specs.Reads.{flat_reads}
-use Rattle.mx_model.specs.Serve.{Served, serve_exchange, answers, code}
+use Rattle.mx_model.specs.Serve.{serve_exchange, answers, code}
 use Rattle.mx_model.specs.State.{Core}
 use Rattle.mx_model.proofs.ListLaws.{length-put_at}
 use Rattle.mx_supervisor.specs.Parts.{Parts, parts_of, core_of, flat_of, IsSound}

@@ -1,8 +1,4 @@
-use Rattle.std.proofs.Common.{◌≡◌, ◌∙◌, ap, sym, ◌<◌, ◌+◌, ◌*◌, List}
-use Rattle.mx_words.specs.declared.perm.Perm.{Perm}
-use Rattle.mx_words.specs.Rights.{allows, perm_at, perm}
-use Rattle.mx_table.specs.Tables.{map_of}
-use Rattle.mx_model.specs.Reads.{map_in}
+use Rattle.std.proofs.Common.{◌∙◌, sym}
 use Rattle.mx_supervisor.specs.Looks.{HasLooked}
 use Rattle.mx_supervisor.specs.Parts.{parts_of}
 use Rattle.mx_supervisor.proofs.Looking.{has-looked, allowed-word}
@@ -12,7 +8,7 @@ pub returns-clause-looked : goal.returns-clause-looked
 returns-clause-looked g c =
     let p = parts_of g.T.PermTables.kind g.T.PermTables.maps g.T.PermTables.size g.T.PermTables.limits g.row.N c.args.self.now in
     let l : HasLooked c.args.call.now c.args.word p (record p { harts = c.may.new.self.harts }) =
-        has-looked c.args.call.now c.args.word p c.may.new.self.harts c.requires.sound c.requires.domain c.requires.inside c.requires.may c.may.ensures.harts in
+    has-looked c.args.call.now c.args.word p c.may.new.self.harts c.requires.sound c.requires.domain c.requires.inside c.requires.may c.may.ensures.harts in
     rw (c.may.ensures.same_maps, c.may.ensures.same_size, c.may.ensures.same_limit) l
 
 pub returns-clause-answer : goal.returns-clause-answer

@@ -33,6 +33,6 @@ returns g c = told serve_query c.args.call.now _ _ _ c.requires.sound c.done.ens
     let size = g.T.PermTables.size tables in
     let there : IsDomain maps d = c.is_module.ensures.domain.0 c.if-not-is_module.false in
     let same : number (perm_at (map_in size maps d) c.in-Some.word) ≡ c.number.result =
-        ap (λ (m : List Perm). number (perm_at m c.in-Some.word)) (map-in size maps d there) ∙ sym (c.number.ensures ∙ ap number c.perm.ensures) in
+    ap (λ (m : List Perm). number (perm_at m c.in-Some.word)) (map-in size maps d there) ∙ sym (c.number.ensures ∙ ap number c.perm.ensures) in
     rw (c.in-Some.ensures.there rest, c.is_module.ensures.module rest, c.if-not-is_module.false, c.in-Some.ensures.word, c.is_secret.ensures, c.if-is_secret.false)
     (ap (answers (core_of rest (parts_of g.T.PermTables.kind g.T.PermTables.maps g.T.PermTables.size g.T.PermTables.limits g.row.N s))) same))

@@ -19,18 +19,37 @@ try_change-requires g c =
     let p = parts_of g.T.PermTables.kind g.T.PermTables.maps g.T.PermTables.size g.T.PermTables.limits g.row.N c.args.self.now in
     let gives = gives-in _ _ _ _ _ _ c.modules.ensures c.none_but-change.ensures in
     let named : names_range c.args.call.now.number ≡ true = ap names_range c.requires.number in
-    let range = range-named p c.args.call.now (c.in-Some.first, c.in-Some.count) named c.in-Some.ensures.range in
-    (assumption c, (c.requires.announced, (lawful-of _ _ _ _ _ _ gives c.in-Some.ensures.inside.0 c.in-Some.ensures.inside.1,
-    rw range (in-of _ _ _ _ _ (c.in-Some.first, c.in-Some.count) gives (omega arith) (omega arith)))))
+    let range = range-named p c.args.call.now (c.in-Some.first, c.in-Some.count) named c.in-Some.ensures.range in (
+      assumption c,
+      (
+        c.requires.announced,
+        (
+          lawful-of _ _ _ _ _ _ gives c.in-Some.ensures.inside.0 c.in-Some.ensures.inside.1,
+          rw range (in-of _ _ _ _ _ (c.in-Some.first, c.in-Some.count) gives (omega arith) (omega arith)),
+        ),
+      ),
+    )
 
 pub returns-then-not-try_change : goal.returns-then-not-try_change
 returns-then-not-try_change g c =
     refuses-after serve_revoke_all c.args.call.now _ _ 5 _ c.requires.sound (c.try_change.ensures.kept c.if-not-try_change.true) c.refused-then-not-try_change.ensures
-    (λ rest. rw (c.in-Some.ensures.there rest, c.in-Some.ensures.range rest, c.owns.ensures rest, c.if-not-owns.false,
-    c.try_change.ensures.fits _ _ _ (gives-in _ _ _ _ _ _ c.modules.ensures c.none_but-change.ensures), c.if-not-try_change.true))
+    (λ rest. rw (
+      c.in-Some.ensures.there rest,
+      c.in-Some.ensures.range rest,
+      c.owns.ensures rest,
+      c.if-not-owns.false,
+      c.try_change.ensures.fits _ _ _ (gives-in _ _ _ _ _ _ c.modules.ensures c.none_but-change.ensures),
+      c.if-not-try_change.true,
+    ))
 
 pub returns : goal.returns
 returns g c =
     changes-done serve_revoke_all c.args.call.now _ _ _ _ _ _ c.requires.sound (c.try_change.ensures.done _ _ _ (gives-in _ _ _ _ _ _ c.modules.ensures c.none_but-change.ensures) c.if-not-try_change.false) c.done.ensures
-    (λ rest. rw (c.in-Some.ensures.there rest, c.in-Some.ensures.range rest, c.owns.ensures rest, c.if-not-owns.false,
-    c.try_change.ensures.fits _ _ _ (gives-in _ _ _ _ _ _ c.modules.ensures c.none_but-change.ensures), c.if-not-try_change.false))
+    (λ rest. rw (
+      c.in-Some.ensures.there rest,
+      c.in-Some.ensures.range rest,
+      c.owns.ensures rest,
+      c.if-not-owns.false,
+      c.try_change.ensures.fits _ _ _ (gives-in _ _ _ _ _ _ c.modules.ensures c.none_but-change.ensures),
+      c.if-not-try_change.false,
+    ))

@@ -1,9 +1,9 @@
-use Rattle.std.proofs.Common.{◌≡◌, ◌<◌, true, false, List, length, refl, sym, ◌∙◌, arith}
+use Rattle.std.proofs.Common.{◌≡◌, ◌<◌, true, length, refl, sym, ◌∙◌, arith}
 use Rattle.mx_words.specs.Announced.{is_announced}
 use Rattle.mx_check.specs.Calls.{is_ready}
 use Rattle.mx_check.specs.Harts.{at_hart, finished}
 use Rattle.mx_model.specs.Serve.{serve}
-use Rattle.mx_supervisor.specs.Parts.{Parts, parts_of}
+use Rattle.mx_supervisor.specs.Parts.{parts_of}
 use Rattle.mx_supervisor.specs.Served.{HasAnnounced, Meets, flight_after}
 use Rattle.mx_supervisor.proofs.Ending.{ended-meets, row-meets}
 use Rattle.mx_supervisor.proofs.Looking.{may-again}
@@ -28,7 +28,7 @@ returns-then-is_announced-clause-served g c =
     let q = parts_of g.T.PermTables.kind g.T.PermTables.maps g.T.PermTables.size g.T.PermTables.limits g.row.N c.serve_row-answer.new.self in
     let is : is_announced call.number ≡ true = sym c.is_announced.ensures ∙ c.if-is_announced.true in
     let m : Meets serve call (flight_after call p.harts) p (record q { harts = at_hart call.hart finished q.harts }) c.serve_row-answer.new.out.bytes c.serve_row-answer.result =
-        ended-meets call p q _ _ is (c.requires.may.announced is) c.serve_row-answer.ensures.does in
+    ended-meets call p q _ _ is (c.requires.may.announced is) c.serve_row-answer.ensures.does in
     rw c.finish.ensures m.served
 
 pub returns-then-is_announced-clause-refused : goal.returns-then-is_announced-clause-refused
@@ -38,7 +38,7 @@ returns-then-is_announced-clause-refused g c =
     let q = parts_of g.T.PermTables.kind g.T.PermTables.maps g.T.PermTables.size g.T.PermTables.limits g.row.N c.serve_row-answer.new.self in
     let is : is_announced call.number ≡ true = sym c.is_announced.ensures ∙ c.if-is_announced.true in
     let m : Meets serve call (flight_after call p.harts) p (record q { harts = at_hart call.hart finished q.harts }) c.serve_row-answer.new.out.bytes c.serve_row-answer.result =
-        ended-meets call p q _ _ is (c.requires.may.announced is) c.serve_row-answer.ensures.does in
+    ended-meets call p q _ _ is (c.requires.may.announced is) c.serve_row-answer.ensures.does in
     rw c.finish.ensures m.refused
 
 pub returns-then-is_announced-clause-harts : goal.returns-then-is_announced-clause-harts
@@ -48,7 +48,7 @@ returns-then-is_announced-clause-harts g c =
     let q = parts_of g.T.PermTables.kind g.T.PermTables.maps g.T.PermTables.size g.T.PermTables.limits g.row.N c.serve_row-answer.new.self in
     let is : is_announced call.number ≡ true = sym c.is_announced.ensures ∙ c.if-is_announced.true in
     let m : Meets serve call (flight_after call p.harts) p (record q { harts = at_hart call.hart finished q.harts }) c.serve_row-answer.new.out.bytes c.serve_row-answer.result =
-        ended-meets call p q _ _ is (c.requires.may.announced is) c.serve_row-answer.ensures.does in
+    ended-meets call p q _ _ is (c.requires.may.announced is) c.serve_row-answer.ensures.does in
     rw c.finish.ensures m.harts
 
 pub returns-then-is_announced-clause-sound : goal.returns-then-is_announced-clause-sound
@@ -58,7 +58,7 @@ returns-then-is_announced-clause-sound g c =
     let q = parts_of g.T.PermTables.kind g.T.PermTables.maps g.T.PermTables.size g.T.PermTables.limits g.row.N c.serve_row-answer.new.self in
     let is : is_announced call.number ≡ true = sym c.is_announced.ensures ∙ c.if-is_announced.true in
     let m : Meets serve call (flight_after call p.harts) p (record q { harts = at_hart call.hart finished q.harts }) c.serve_row-answer.new.out.bytes c.serve_row-answer.result =
-        ended-meets call p q _ _ is (c.requires.may.announced is) c.serve_row-answer.ensures.does in
+    ended-meets call p q _ _ is (c.requires.may.announced is) c.serve_row-answer.ensures.does in
     rw c.finish.ensures m.sound
 
 pub returns-else-is_announced-clause-served : goal.returns-else-is_announced-clause-served

@@ -1,4 +1,4 @@
-use Rattle.std.proofs.Common.{◌≡◌, ℕ, ◌<◌, ◌≤◌, nat_lt, true, false, length, arith}
+use Rattle.std.proofs.Common.{◌≡◌, nat_lt, true, false, length, arith}
 use Rattle.std.proofs.lemmas.Bool.{lt-ltb, le-ltb}
 use Rattle.mx_model.specs.Checks.{arg}
 use Rattle.mx_supervisor.proofs.Modules.{module-heap, length-modules}

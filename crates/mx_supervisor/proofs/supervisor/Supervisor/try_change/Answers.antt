@@ -1,11 +1,5 @@
-use Rattle.std.proofs.Common.{◌≡◌, ◌∙◌, ap, arith}
-use Rattle.mx_words.specs.declared.perm.Perm.{Perm}
-use Rattle.std.proofs.Common.{List}
-use Rattle.mx_words.specs.Need.{fits}
+use Rattle.std.proofs.Common.{◌≡◌, ◌∙◌, arith}
 use Rattle.mx_words.specs.Changes.{changed_maps}
-use Rattle.mx_check.specs.Calls.{Checks}
-use Rattle.mx_supervisor.specs.Parts.{parts_of}
-use Rattle.mx_supervisor.specs.declared.supervisor.Supervisor.{Supervisor}
 use Rattle.mx_supervisor.proofs.Changing.{may-change, changed-as, fits-as, on-ok, on-err}
 use Rattle.mx_supervisor.proofs.supervisor.Supervisor.try_change.Goals as goal
 
@@ -22,7 +16,7 @@ pub returns-clause-done : goal.returns-clause-done
 returns-clause-done g c = λ first count given gives e.
     let maps = g.T.PermTables.maps c.args.self.now.checker.tables in
     let same : g.T.PermTables.maps c.change.new.self.tables ≡ changed_maps first count given maps =
-        on-ok _ _ c.is_ok.ensures.value e c.change.ensures.ok ∙ changed-as c.args.change.now first count given maps gives in
+    on-ok _ _ c.is_ok.ensures.value e c.change.ensures.ok ∙ changed-as c.args.change.now first count given maps gives in
     rw (same, c.change.ensures.same_size, c.change.ensures.same_limit, c.change.ensures.same_harts)
 
 pub returns-clause-kept : goal.returns-clause-kept
