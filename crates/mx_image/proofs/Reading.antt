@@ -7,7 +7,7 @@ use Rattle.mx_words.specs.Bytes.{number_at}
 use Rattle.mx_elf.specs.Field.{byte_at, half_at, word_at}
 use Rattle.mx_elf.specs.Image.{magic, header_rows, rows_from, rows_of, segments_of, first_fault}
 use Rattle.mx_elf.specs.Image.{image_of as image_read}
-use Rattle.mx_elf.proofs.Loading.{first_fault-append}
+use Rattle.mx_words.proofs.FirstRowLaws.{first_row-append}
 use Rattle.mx_image.specs.declared.segment.Segment.{Segment}
 use Rattle.mx_image.specs.Image.{file_header, program_headers, contents, contents_at}
 use Rattle.mx_image.specs.Lawful.{placed}
@@ -86,6 +86,6 @@ read bytes entry sections segments rest is e s few long small all =
     let loaded : segments_of bytes ≡ placed at segments =
     rw (headers, number) (segments-read bytes (file_header entry sections (length segments)) rest 52 at segments is refl (omega (arith, few, small)) all) in
     let sound : first_fault (rows_of bytes) ≡ None =
-    first_fault-append (header_rows bytes) (rows_from (length bytes) 0 (segments_of bytes))
+    first_row-append (header_rows bytes) (rows_from (length bytes) 0 (segments_of bytes))
     ∙ rw (header-sound bytes entry sections (length segments) fields (omega (arith, long)), loaded) (segments-sound (length bytes) 0 at segments (omega (arith, few)) long all) in
     rw (sound, entry_is, loaded) refl
