@@ -48,9 +48,10 @@ parts-first mark quotes [] = refl
 parts-first mark quotes (c ∷ cs) =
     let n = mark_place mark (quotes_after quotes c) cs in
     elim (is_mark mark quotes c) as (λ b. cond b ([] ∷ parts mark Outside cs) (onto_first c (parts mark (quotes_after quotes c) cs))
-        ≡ take (cond b 0 (n + 1)) (c ∷ cs) ∷ later_parts mark (c ∷ cs) (cond b 0 (n + 1)))
-    [ true ↦ ap (λ l. [] ∷ l) (sym (later-front mark c cs))
-    | false ↦ ap (onto_first c) (parts-first mark (quotes_after quotes c) cs) ∙ sym (ap (λ m. take m (c ∷ cs) ∷ later_parts mark (c ∷ cs) (n + 1)) (add-one n) ∙ ap (λ l. take (suc n) (c ∷ cs) ∷ l) (later-cons mark c cs n)) ]
+    ≡ take (cond b 0 (n + 1)) (c ∷ cs) ∷ later_parts mark (c ∷ cs) (cond b 0 (n + 1))) [
+      | true ↦ ap (λ l. [] ∷ l) (sym (later-front mark c cs))
+      | false ↦ ap (onto_first c) (parts-first mark (quotes_after quotes c) cs) ∙ sym (ap (λ m. take m (c ∷ cs) ∷ later_parts mark (c ∷ cs) (n + 1)) (add-one n) ∙ ap (λ l. take (suc n) (c ∷ cs) ∷ l) (later-cons mark c cs n))
+    ]
 
 -- the first operand of a text, and the later ones
 pub pieces-first : (text : List ℕ)
@@ -70,9 +71,10 @@ length-onto_first c part more = refl
 pub length-parts : (mark : ℕ) (quotes : Quotes) (text : List ℕ) → length (parts mark quotes text) ≤ length text + 1
 length-parts mark quotes [] = omega arith
 length-parts mark quotes (c ∷ cs) =
-    elim (is_mark mark quotes c) as (λ b. length (cond b ([] ∷ parts mark Outside cs) (onto_first c (parts mark (quotes_after quotes c) cs))) ≤ length (c ∷ cs) + 1)
-    [ true ↦ omega (arith, length-parts mark Outside cs)
-    | false ↦ let e = parts-first mark (quotes_after quotes c) cs in rw e (omega (arith, length-parts mark (quotes_after quotes c) cs, ap length e)) ]
+    elim (is_mark mark quotes c) as (λ b. length (cond b ([] ∷ parts mark Outside cs) (onto_first c (parts mark (quotes_after quotes c) cs))) ≤ length (c ∷ cs) + 1) [
+      | true ↦ omega (arith, length-parts mark Outside cs)
+      | false ↦ let e = parts-first mark (quotes_after quotes c) cs in rw e (omega (arith, length-parts mark (quotes_after quotes c) cs, ap length e))
+    ]
 
 pub length-pieces : (operands : List ℕ) → length (pieces_of operands) ≤ length operands + 1
 unfolding pieces_of

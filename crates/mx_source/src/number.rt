@@ -128,7 +128,11 @@ pub fn read_number(text: &[u8]) -> Option<Number>
 pub fn fits(range: Range, number: Number) -> bool
     ensures { result ≡ fits range number }
 {
-    let most = if number.negative { range.low } else { range.high };
+    let most = if number.negative {
+        range.low
+    } else {
+        range.high
+    };
     number.magnitude <= most && (!range.even || number.magnitude % 2 == 0)
 }
 

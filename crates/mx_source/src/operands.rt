@@ -73,5 +73,8 @@ fn name_between(text: &[u8], first: usize, last: usize) -> Option<&[u8]>
 pub fn is_operand(text: &[u8]) -> bool
     ensures { result ≡ is_operand text.now }
 {
-    is_name(text) || read_number(text).is_some() || text_size(text).is_some() || read_indexed(text).is_some()
+    is_name(text)
+        || read_number(text).is_some()
+        || text_size(text).is_some()
+        || read_indexed(text).is_some()
 }

@@ -41,7 +41,11 @@ fn quoted_size(text: &[u8]) -> Option<usize>
             size += 1;
             escape = false;
         } else if *c == b'"' {
-            return if i + 1 == text.len() { Some(size) } else { None };
+            return if i + 1 == text.len() {
+                Some(size)
+            } else {
+                None
+            };
         } else if *c == b'\\' {
             escape = true;
         } else if is_printed(*c) {

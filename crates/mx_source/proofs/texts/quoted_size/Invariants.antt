@@ -1,6 +1,5 @@
 use Rattle.std.proofs.Common.{◌≡◌, ◌+◌, ◌≤◌, length, drop, option_map, false}
 use Rattle.mx_source.specs.Operands.{quoted_bytes}
-
 use Rattle.mx_source.proofs.texts.quoted_size.Given as goal
 
 abbrev pub invariant-characters : goal.invariant-characters
