@@ -32,9 +32,9 @@ fn fault_of(alloc: Global, source: &str) -> (u32, u32) {
 }
 
 /// The byte at a place, 0 past the end.
-fn byte_at(bytes: &[u8], at: usize) -> u32 {
+fn byte_at(bytes: &[u8], at: usize) -> u8 {
     match bytes.get(at) {
-        Some(byte) => *byte as u32,
+        Some(byte) => *byte,
         None => 0,
     }
 }
@@ -44,10 +44,12 @@ fn word_at(bytes: &[u8], at: usize) -> u32 {
     if at > MOST {
         return 0;
     }
-    byte_at(bytes, at)
-        + 0x100 * byte_at(bytes, at + 1)
-        + 0x1_0000 * byte_at(bytes, at + 2)
-        + 0x100_0000 * byte_at(bytes, at + 3)
+    u32::from_le_bytes([
+        byte_at(bytes, at),
+        byte_at(bytes, at + 1),
+        byte_at(bytes, at + 2),
+        byte_at(bytes, at + 3),
+    ])
 }
 
 /// The segments of an image: address, flags, number of bytes.
