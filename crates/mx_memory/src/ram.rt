@@ -16,9 +16,14 @@ pub struct Ram {
 }
 
 impl Model for Ram {
+    ghost use Rattle.std.specs.Prelude.{ℕ, List};
+    ghost use Rattle.mx_memory.specs.Places.{AreBytes};
+
     ghost Value = { List ℕ };
 
     ghost view = { λ ram. ram.bytes.items };
+
+    ghost invariant = { λ ram. AreBytes ram.bytes.items };
 }
 
 impl Ram {
@@ -101,6 +106,13 @@ impl Ram {
         let part = &mut self.bytes[at..at + 4 * count as usize];
         part.fill(0);
     }
+}
+
+/// A law: RAM holds numbers of bytes, each below 256. A machine's state is valid only with such a RAM.
+pub fn bytes_of(ram: &Ram)
+    ensures { (i : ℕ) → slice_index ram.now i < 256 }
+{
+    let _ = &ram.bytes;
 }
 
 #[tactic(auto, unfolding(mx_words::specs::Bytes::put_at))]
