@@ -1,5 +1,5 @@
 -- Places of RAM: its byte 0 has the address 0x80000000.
-use Rattle.std.specs.Prelude.{◌≡◌, ℕ, ◌+◌, ◌-◌, ◌<◌, ◌≤◌, ◌⊎◌, List, length, slice_index}
+use Rattle.std.specs.Prelude.{◌≡◌, ℕ, ◌+◌, ◌-◌, ◌≤◌, ◌⊎◌, List, length}
 use Rattle.mx_words.specs.Ranges.{ram_base}
 
 -- the place of an address
@@ -9,7 +9,3 @@ place_of addr = addr - ram_base
 -- the `size` bytes at an address lie in RAM
 abbrev pub IsInside : List ℕ → ℕ → ℕ → Type 0
 IsInside bytes addr size = (ram_base ≤ addr) × (addr - ram_base + size ≤ length bytes)
-
--- each number is one of a byte
-pub record AreBytes (bytes : List ℕ) : Type 0 where
-  pub each : (i : ℕ) → slice_index bytes i < 256

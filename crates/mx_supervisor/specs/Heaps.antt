@@ -1,7 +1,7 @@
 -- The heaps of all modules, in the modules' order.
-use Rattle.std.specs.Prelude.{◌≡◌, ℕ, ◌-◌, ◌==◌, List, [], slice_index_or, slice_set, if◌then◌else◌, Option, Some, None}
+use Rattle.std.specs.Prelude.{ℕ, ◌-◌, ◌==◌, List, [], slice_index_or, slice_set, if◌then◌else◌, Option, Some, None}
 use Rattle.mx_words.specs.FirstFit.{Area}
-use Rattle.mx_heap.specs.HeapState.{HeapState, IsHeap}
+use Rattle.mx_heap.specs.HeapState.{HeapState}
 
 -- a module with no heap has an area of no words
 abbrev pub no_area : Area
@@ -29,8 +29,3 @@ heap_at heaps d = slice_index_or heaps (d - 1) no_heap
 -- the heaps with other live blocks for domain d
 abbrev pub with_blocks_at : ℕ → List Area → List HeapState → List HeapState
 with_blocks_at d blocks heaps = slice_set heaps (d - 1) (record (heap_at heaps d) { blocks = blocks })
-
--- what is true of a module's heap: its blocks lie apart in its area, they are no more than a heap may have, and an area of no words is (0, 0)
-pub record IsTold (h : HeapState) : Type 0 where
-  pub heap : IsHeap h
-  pub no_words : h.area.count ≡ 0 → h.area.first ≡ 0

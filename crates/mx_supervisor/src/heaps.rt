@@ -3,7 +3,8 @@ ghost use Rattle.std.specs.Prelude.{◌≡◌, ℕ, ◌+◌, ◌<◌, ◌≤◌,
 ghost use Rattle.std.specs.Option.{option_map};
 ghost use Rattle.mx_words.specs.FirstFit.{place, with_block, without_block, block_words, most_blocks};
 ghost use Rattle.mx_heap.specs.HeapState.{LiesIn, area_of};
-ghost use Rattle.mx_supervisor.specs.Heaps.{told_heap, heap_in, heap_at, with_blocks_at, IsTold};
+ghost use Rattle.mx_supervisor.specs.Heaps.{told_heap, heap_in, heap_at, with_blocks_at};
+ghost use Rattle.mx_supervisor.specs.Told.{IsTold};
 
 use arrayvec::ArrayVec;
 use mx_heap::{Block, Heap, HeapError};

@@ -1,5 +1,3 @@
-use Rattle.std.proofs.Common.{subst, sym}
-use Rattle.mx_supervisor.specs.Heaps.{IsTold}
 use Rattle.mx_supervisor.proofs.Told.{told-heap}
 use Rattle.mx_supervisor.proofs.heaps.told_in.Goals as goal
 
