@@ -1,5 +1,5 @@
 -- The text of an instruction: the statement that the assembler takes for it, with registers as x0 to x31 and numbers in decimal.
-use Rattle.std.specs.Prelude.{ℕ, ◌/◌, List, [], ◌∷◌, codes, decimal}
+use Rattle.std.specs.Prelude.{ℕ, ◌/◌, List, [], ◌∷◌, ◌++◌, codes, decimal}
 use Rattle.std.specs.Fmt.{signed_decimal}
 use Rattle.std.specs.Int.{cast_signed, w32}
 use Rattle.std.specs.List.{concat}
@@ -54,3 +54,7 @@ inst_text (Op op rd rs1 rs2) = register_text (forms.Op op) rd rs1 rs2
 inst_text (Fence fields) = fence_text fields
 inst_text Ecall = form_name forms.Ecall
 inst_text Ebreak = form_name forms.Ebreak
+
+-- the source whose second line is that text
+unfoldable pub text_source : Inst → List ℕ
+text_source i = codes ".text 0x80000000" ++ 10 ∷ inst_text i
