@@ -2,6 +2,8 @@
 #![tactic(auto)]
 
 mod action;
+mod assembling;
+mod booting;
 mod keys;
 mod machine;
 mod manifest;
@@ -11,6 +13,7 @@ mod report;
 mod run;
 mod status;
 mod top;
+mod wanted;
 mod words;
 
 pub use status::{FileRole, Status};
