@@ -28,3 +28,7 @@ LeadsOver (suc n) asked files findings outcome =
 -- what is asked leads to this outcome over the files
 abbrev pub IsOutcome : Option Request → FileMap → Outcome → Type 0
 IsOutcome asked files outcome = (n : ℕ) × LeadsOver n asked files [] outcome
+
+-- the same answers lead to one outcome
+abbrev pub AnswersDecide : Type 0
+AnswersDecide = (asked : Option Request) (answers : List Answer) (a b : Outcome) → Leads asked answers a → Leads asked answers b → a ≡ b

@@ -5,6 +5,7 @@ mod action;
 mod assembling;
 mod booting;
 mod keys;
+mod laws;
 mod machine;
 mod manifest;
 mod reading;
@@ -16,6 +17,7 @@ mod top;
 mod wanted;
 mod words;
 
+pub use laws::answers_decide;
 pub use status::{FileRole, Status};
 pub use top::mondrix;
 pub use words::Words;
