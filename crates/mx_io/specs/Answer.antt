@@ -18,9 +18,9 @@ HasSucceeded (Gave name at room None) = ⊥
 HasSucceeded (Gave name at room (Some bytes)) = ⊤
 
 -- bytes of a file from a place on for so much room: none for a slice with room exactly at its end
-pub record IsPart (file : List ℕ) (at room : ℕ) (bytes : List ℕ) : Type 0 where
-  pub bytes : bytes ≡ take (length bytes) (drop at file)
-  pub end : 0 < room → (length bytes ≡ 0) ↔ (length file ≤ at)
+pub record IsPart (file : List ℕ) (at room : ℕ) (part : List ℕ) : Type 0 where
+  pub bytes : part ≡ take (length part) (drop at file)
+  pub end : 0 < room → (length part ≡ 0) ↔ (length file ≤ at)
 
 -- the answer is that of these files, where the call succeeded
 abbrev pub IsOf : FileMap → Answer → Type 0

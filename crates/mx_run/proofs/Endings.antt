@@ -1,5 +1,6 @@
 -- How a call of the program ends.
-use Rattle.std.proofs.Common.{◌≡◌, ℕ, ◌<◌, ◌≤◌, ◌⊎◌, List, [], ◌∷◌, ◌++◌, length, take, flat_map, Option, Some, None, IsSome, Vec, Global, Result, Ok, Err, IsOk, T, refl, sym, ap, subst, ◌∙◌, inl, inr, arith}
+use Rattle.std.proofs.Common.{◌≡◌, ℕ, ◌<◌, ◌≤◌, ◌⊎◌, List, [], ◌∷◌, ◌++◌, length, take, flat_map, Option, Some, None, Result, Ok, Err, IsOk, T, refl, sym, ap, subst, ◌∙◌, inl, inr, arith}
+use Rattle.std.specs.Prelude.{IsSome}
 use Rattle.std.proofs.lemmas.List.{append-nil}
 use Rattle.mx_io.specs.Texts.{appended, AppendsWhole, AppendsPrefix}
 use Rattle.mx_io.specs.Sink.{SinkState, Puts}
@@ -14,7 +15,7 @@ use Rattle.mx_run.specs.Manifest.{Plan}
 use Rattle.mx_run.specs.Machine.{State, booted, run, notes}
 use Rattle.mx_run.specs.Report.{note_line, closing}
 use Rattle.mx_run.specs.Finding.{Finding, Absent, Large, Short, Broken, Whole, Finds}
-use Rattle.mx_run.specs.Outcome.{Outcome, Wanted, Read, End, next, refusal, lack_of, run_text}
+use Rattle.mx_run.specs.Outcome.{Outcome, Wanted, Next, Read, End, unless, next, refusal, lack_of, run_text}
 use Rattle.mx_run.specs.Leads.{Leads}
 use Rattle.mx_run.specs.Reading.{Reads, Refuses}
 use Rattle.mx_run.specs.Top.{Sinks, sinks, Ends, EndsOrWants, Reacts}
@@ -77,6 +78,10 @@ module _ {A E : Type 0} (outcome : Outcome) {before now : SinkState} where
 leads_once : (asked : Option Request) (file : Wanted) (answers : List Answer) (found : Finding) (outcome : Outcome)
     → next asked [] ≡ Read file → next asked (found ∷ []) ≡ End outcome → Finds file.most file.name answers found → Leads asked answers outcome
 leads_once asked file answers found outcome first last finds = (1, (file, answers, [], found, first, sym (append-nil answers), finds, last, refl))
+
+-- a file that isn't whole ends the call
+pub unless_lacking : (file : Wanted) (lack : Option Status) (status : Status) (whole : Next) → lack ≡ Some status → unless file lack whole ≡ End (refusal file.name status)
+unless_lacking file lack status whole is = rw is refl
 
 module _ {S : Type 0} (gives : S → Answer → S → Type 0) {s t : S} (asked : Option Request) (file : Wanted) {b n : Sinks} {result : Status} where
   reacts_ended : (found : Finding) (outcome : Outcome) → next asked [] ≡ Read file → next asked (found ∷ []) ≡ End outcome

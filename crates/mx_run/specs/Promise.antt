@@ -10,8 +10,8 @@ use Rattle.mx_run.specs.Leads.{IsOutcome}
 use Rattle.mx_run.specs.Top.{Sinks, Holds, HasRoom, CountsKept}
 
 -- the counts of faults stay
-pub record CountsStay (store stored : StoreState) (before now : Sinks) : Type 0 where
-  pub store : Stays store.faults stored.faults
+pub record CountsStay (s t : StoreState) (before now : Sinks) : Type 0 where
+  pub store : Stays s.faults t.faults
   pub console : Stays before.console.faults now.console.faults
   pub report : Stays before.report.faults now.report.faults
   pub dump : Stays before.dump.faults now.dump.faults

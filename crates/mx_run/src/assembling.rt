@@ -15,7 +15,7 @@ use crate::wanted::{Wanted, refuse_file};
 use mx_asm::{AsmRefused, assemble};
 use mx_io::{Failed, Sink, Store, put_all};
 use std::alloc::Global;
-use std::str;
+use std::str::from_utf8;
 
 /// The most bytes of a source.
 const SOURCE_LIMIT: u64 = 1048576;
@@ -60,6 +60,7 @@ fn whole_fault() -> Status
 }
 
 /// Assembles a source of these bytes, or refuses it by its first fault.
+#[tactic(auto, using(crate::proofs::Documents::assembled_source, crate::proofs::Documents::assembled_none))]
 fn assemble_bytes<C: Sink, R: Sink>(
     alloc: Global,
     source: &str,
@@ -71,7 +72,7 @@ fn assemble_bytes<C: Sink, R: Sink>(
     ensures { (dump : SinkState) → EndsOrWants (assembled source.now bytes.now)
         (sinks (C.state console.old) (R.state report.old) dump) (sinks (C.state console.new) (R.state report.new) dump) result }
 {
-    match str::from_utf8(bytes) {
+    match from_utf8(bytes) {
         Ok(text) => assemble_text(alloc, source, text, console, report),
         Err(_) => refuse(report, source, whole_fault()),
     }

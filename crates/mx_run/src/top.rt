@@ -1,8 +1,7 @@
 //! The top call.
 
-ghost use Rattle.std.specs.Prelude.{Some, None, ◌<◌, ◌^◌};
 ghost use Rattle.mx_io.specs.Sink.{SinkState};
-ghost use Rattle.mx_run.specs.Words.{meaning, Run, Asm};
+ghost use Rattle.mx_run.specs.Words.{meaning};
 ghost use Rattle.mx_run.specs.Top.{sinks, Answered, Reacts};
 ghost use Rattle.mx_run.specs.Promise.{Headline, Completeness};
 
