@@ -18,7 +18,7 @@ use Rattle.mx_run.specs.Finding.{Finding, Absent, Large, Short, Broken, Whole, F
 use Rattle.mx_run.specs.Outcome.{Outcome, Wanted, Next, Read, End, unless, next, refusal, lack_of, run_text}
 use Rattle.mx_run.specs.Leads.{Leads}
 use Rattle.mx_run.specs.Reading.{Reads, Refuses}
-use Rattle.mx_run.specs.Top.{Sinks, sinks, Ends, EndsOrWants, Reacts}
+use Rattle.mx_run.specs.Top.{Sinks, sinks, Holds, Ends, EndsOrWants, Reacts}
 
 not_ok : (A : Type 0) {E : Type 0} (e : E) → IsOk {T = A} (Err e) → ⊥
 not_ok A e h = subst T (sym h) tt
@@ -40,7 +40,7 @@ module _ {A E : Type 0} (outcome : Outcome) {before now : SinkState} where
   pub ends_reported : {a : A} → outcome.console ≡ [] → outcome.dump ≡ [] → Puts {E = E} before now outcome.report (Ok a) → (console dump : SinkState)
       → Ends outcome (sinks console before dump) (sinks console now dump) outcome.status
   ends_reported no_console no_dump puts console dump =
-      let holds = record { console = nothing console.written outcome.console no_console; report = puts.whole; dump = nothing dump.written outcome.dump no_dump } in
+      let holds : Holds outcome (sinks console before dump) (sinks console now dump) = record { console = nothing console.written outcome.console no_console; report = puts.whole; dump = nothing dump.written outcome.dump no_dump } in
       record { how = inl (refl, holds); sure = λ room. (refl, holds, record { console = refl; report = (puts.sure room.report).1; dump = refl }) }
 
   -- it could not be put whole
@@ -59,7 +59,7 @@ module _ {A E : Type 0} (outcome : Outcome) {before now : SinkState} where
   pub ends_shown : {a : A} → outcome.report ≡ [] → outcome.dump ≡ [] → Puts {E = E} before now outcome.console (Ok a) → (report dump : SinkState)
       → Ends outcome (sinks before report dump) (sinks now report dump) outcome.status
   ends_shown no_report no_dump puts report dump =
-      let holds = record { console = puts.whole; report = nothing report.written outcome.report no_report; dump = nothing dump.written outcome.dump no_dump } in
+      let holds : Holds outcome (sinks before report dump) (sinks now report dump) = record { console = puts.whole; report = nothing report.written outcome.report no_report; dump = nothing dump.written outcome.dump no_dump } in
       record { how = inl (refl, holds); sure = λ room. (refl, holds, record { console = (puts.sure room.console).1; report = refl; dump = refl }) }
 
   -- it could not be put whole
@@ -77,7 +77,7 @@ module _ {A E : Type 0} (outcome : Outcome) {before now : SinkState} where
 -- one file is read, and what is found of it leads to an outcome
 leads_once : (asked : Option Request) (file : Wanted) (answers : List Answer) (found : Finding) (outcome : Outcome)
     → next asked [] ≡ Read file → next asked (found ∷ []) ≡ End outcome → Finds file.most file.name answers found → Leads asked answers outcome
-leads_once asked file answers found outcome first last finds = (1, (file, answers, [], found, first, sym (append-nil answers), finds, last, refl))
+leads_once asked file answers found outcome first last finds = (1, (file, answers, [], found, first, sym (append-nil answers), finds, (last, refl)))
 
 -- a file that isn't whole ends the call
 pub unless_lacking : (file : Wanted) (lack : Option Status) (status : Status) (whole : Next) → lack ≡ Some status → unless file lack whole ≡ End (refusal file.name status)

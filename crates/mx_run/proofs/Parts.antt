@@ -37,8 +37,8 @@ module _ {S : Type 0} (gives : S → Answer → S → Type 0) (name : List ℕ) 
       (
         c.0 ++ a ∷ [],
         talks_more gives s m t c.0 a c.1 step,
-        λ rest found next. subst (λ (as : List Answer). Completes name told [] as found) (sym (append_assoc c.0 (a ∷ []) rest))
-            (c.2 (a ∷ rest) found (short, (Some part, (refl, inl (part, refl, more, next))))),
+        λ rest found next. subst (λ (list : List Answer). Completes name told [] list found) (sym (append_assoc c.0 (a ∷ []) rest))
+            (c.2 (a ∷ rest) found (short, Some part, refl, inl (part, refl, more, next))),
       )
 
   -- the answer of a part, with the room that was missing
@@ -66,7 +66,7 @@ module _ {S : Type 0} (gives : S → Answer → S → Type 0) (name : List ℕ) 
       let n : length (take at old) ≡ at = length-take-le at old (omega (arith, size, short)) in
       let step = answer_of m t at old (Some []) size (omega (arith, short)) part.step in
       more_answers s m t (take at old) (Gave name (length (take at old)) (told - length (take at old)) (Some [])) (Short told at) step
-      (omega (arith, n, short), (Some [], (refl, inr (ap (Short told) (sym n), refl)))) c
+      (omega (arith, n, short), Some [], refl, inr (ap (Short told) (sym n), refl)) c
 
   -- a part whose reading failed
   pub came_failed : {E : Type 0} {e : E} (s m t : S) (at : ℕ) (old now : List ℕ) → length old ≡ told → at < told → TakesPart gives name at m t old now (Err e) → Came s m (take at old) → ComesTo s t Broken
@@ -74,11 +74,11 @@ module _ {S : Type 0} (gives : S → Answer → S → Type 0) (name : List ℕ) 
       let n : length (take at old) ≡ at = length-take-le at old (omega (arith, size, short)) in
       let step = answer_of m t at old None size (omega (arith, short)) part.step in
       more_answers s m t (take at old) (Gave name (length (take at old)) (told - length (take at old)) None) Broken step
-      (omega (arith, n, short), (None, (refl, inr (refl, refl)))) c
+      (omega (arith, n, short), None, refl, inr (refl, refl)) c
 
   -- all of it came
   pub came_all : (s t : S) (bytes : List ℕ) → length bytes ≡ told → Came s t bytes → ComesTo s t (Whole bytes)
-  came_all s t bytes size c = (c.0, c.1, subst (λ (as : List Answer). Completes name told [] as (Whole bytes)) (append-nil c.0) (c.2 [] (Whole bytes) (size, refl)))
+  came_all s t bytes size c = (c.0, c.1, subst (λ (list : List Answer). Completes name told [] list (Whole bytes)) (append-nil c.0) (c.2 [] (Whole bytes) (size, refl)))
 
 -- what stands behind a place after a slice from there on was put back
 behind : (at k n : ℕ) (bytes into : List ℕ) → at ≤ length bytes → k ≤ length into → take k (drop at (put_mid at n bytes into)) ≡ take k into

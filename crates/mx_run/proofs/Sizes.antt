@@ -9,7 +9,7 @@ use Rattle.mx_run.specs.Reading.{Reads, ReadsTold}
 module _ {S : Type 0} (gives : S → Answer → S → Type 0) (most : ℕ) (name : List ℕ) (s m t : S) where
   reads_on : (told : ℕ) (found : Finding) → told ≤ most → gives s (Sized name (Some (Some told))) m → ((answers : List Answer) × Talks gives m answers t × Completes name told [] answers found)
       → (answers : List Answer) × Talks gives s answers t × Finds most name answers found
-  reads_on told found fits step rest = (Sized name (Some (Some told)) ∷ rest.0, (m, step, rest.1), (Some (Some told), (refl, inr (fits, rest.2))))
+  reads_on told found fits step rest = (Sized name (Some (Some told)) ∷ rest.0, (m, step, rest.1), (Some (Some told), refl, inr (fits, rest.2)))
 
   -- a size within the limit, and then what was read
   pub reads_told : (told : ℕ) → told ≤ most → gives s (Sized name (Some (Some told))) m → (result : Result (Vec ℕ Global) ReadFault) → ReadsTold gives told name m t result → Reads gives most name s t result
@@ -22,10 +22,10 @@ module _ {S : Type 0} (gives : S → Answer → S → Type 0) (most : ℕ) (name
 
 module _ {S : Type 0} (gives : S → Answer → S → Type 0) (most : ℕ) (name : List ℕ) (s t : S) where
   pub reads_large : (told : ℕ) → most < told → gives s (Sized name (Some (Some told))) t → Reads gives most name s t (Err fault.Large)
-  reads_large told more step = (Sized name (Some (Some told)) ∷ [], (t, step, refl), (Some (Some told), (refl, inl (more, refl, refl))))
+  reads_large told more step = (Sized name (Some (Some told)) ∷ [], (t, step, refl), (Some (Some told), refl, inl (more, refl, refl)))
 
   pub reads_absent : gives s (Sized name (Some None)) t → Reads gives most name s t (Err fault.Absent)
-  reads_absent step = (Sized name (Some None) ∷ [], (t, step, refl), (Some None, (refl, refl, refl)))
+  reads_absent step = (Sized name (Some None) ∷ [], (t, step, refl), (Some None, refl, (refl, refl)))
 
   pub reads_broken : gives s (Sized name None) t → Reads gives most name s t (Err fault.Broken)
-  reads_broken step = (Sized name None ∷ [], (t, step, refl), (None, (refl, refl, refl)))
+  reads_broken step = (Sized name None ∷ [], (t, step, refl), (None, refl, (refl, refl)))
