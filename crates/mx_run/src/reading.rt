@@ -23,6 +23,7 @@ pub(crate) enum ReadFault {
 
 /// The bytes of a file of at most `most` bytes, just as many as its size told. The size is asked once, then
 /// each call of the store asks for all that is missing and takes at least one byte.
+#[tactic(auto, using(crate::proofs::Sizes::reads_told, crate::proofs::Sizes::reads_large, crate::proofs::Sizes::reads_absent, crate::proofs::Sizes::reads_broken))]
 pub(crate) fn read_file<S: Store>(
     alloc: Global,
     store: &mut S,
@@ -46,6 +47,7 @@ pub(crate) fn read_file<S: Store>(
 }
 
 /// The bytes of a file for which this size was told.
+#[tactic(auto, using(crate::proofs::Parts::came_none, crate::proofs::Parts::came_part, crate::proofs::Parts::came_end, crate::proofs::Parts::came_failed, crate::proofs::Parts::came_all))]
 fn read_told<S: Store>(
     alloc: Global,
     store: &mut S,
