@@ -7,7 +7,7 @@ use Rattle.mx_io.specs.Sink.{SinkState, Puts}
 use Rattle.mx_io.specs.Answer.{Answer, Talks}
 use Rattle.mx_io.proofs.Text.{appended-nil}
 use Rattle.mx_run.specs.declared.status.Status.{Status}
-use Rattle.mx_run.specs.declared.status.Status.TheVariants.{ConsoleFault, ReportFault, WantOfMemory}
+use Rattle.mx_run.specs.declared.status.Status.TheVariants.{Usage, ConsoleFault, ReportFault, WantOfMemory}
 use Rattle.mx_run.specs.declared.reading.ReadFault.{ReadFault}
 use Rattle.mx_run.specs.declared.reading.ReadFault.TheVariants as fault
 use Rattle.mx_run.specs.Words.{Request}
@@ -78,6 +78,10 @@ module _ {A E : Type 0} (outcome : Outcome) {before now : SinkState} where
 leads_once : (asked : Option Request) (file : Wanted) (answers : List Answer) (found : Finding) (outcome : Outcome)
     → next asked [] ≡ Read file → next asked (found ∷ []) ≡ End outcome → Finds file.most file.name answers found → Leads asked answers outcome
 leads_once asked file answers found outcome first last finds = (1, (file, answers, [], found, first, sym (append-nil answers), finds, (last, refl)))
+
+-- words without meaning were refused, and nothing was asked of the store
+pub reacts_none : {S : Type 0} (gives : S → Answer → S → Type 0) {s : S} {b n : Sinks} {result : Status} → Ends (refusal [] Usage) b n result → Reacts None gives s s b n result
+reacts_none gives ends = ([], refl, inl (refusal [] Usage, (0, (refl, refl)), ends))
 
 -- a file that isn't whole ends the call
 pub unless_lacking : (file : Wanted) (lack : Option Status) (status : Status) (whole : Next) → lack ≡ Some status → unless file lack whole ≡ End (refusal file.name status)
