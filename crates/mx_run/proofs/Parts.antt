@@ -3,7 +3,7 @@ use Rattle.std.proofs.Common.{◌≡◌, ℕ, ◌+◌, ◌-◌, ◌<◌, ◌≤�
 use Rattle.std.specs.Result.{result_ok}
 use Rattle.std.proofs.lemmas.List.{length-take-le, append-nil, take-append-le}
 use Rattle.std.proofs.lemmas.Slice.{take-put_mid_below}
-use Rattle.std.proofs.Math.Seq.{take-add, drop-append_seam}
+use Rattle.std.proofs.Math.Seq.{take-add, take-append_seam, drop-append_seam}
 use borrow.Rule.Slice.PartMut.{put_mid, post_of}
 use Rattle.mx_io.specs.Answer.{Answer, Gave, Talks}
 use Rattle.mx_io.proofs.Talks.{talks_more}
@@ -79,6 +79,10 @@ module _ {S : Type 0} (gives : S → Answer → S → Type 0) (name : List ℕ) 
   -- all of it came
   pub came_all : (s t : S) (bytes : List ℕ) → length bytes ≡ told → Came s t bytes → ComesTo s t (Whole bytes)
   came_all s t bytes size c = (c.0, c.1, subst (λ (list : List Answer). Completes name told [] list (Whole bytes)) (append-nil c.0) (c.2 [] (Whole bytes) (size, refl)))
+
+-- what was put back in place of all of a list
+pub written_back : (n : ℕ) (now rest : List ℕ) → n ≡ length now → take n (now ++ rest) ≡ now
+written_back n now rest is = rw is (take-append_seam now rest)
 
 -- what stands behind a place after a slice from there on was put back
 behind : (at k n : ℕ) (bytes into : List ℕ) → at ≤ length bytes → k ≤ length into → take k (drop at (put_mid at n bytes into)) ≡ take k into

@@ -4,7 +4,6 @@ use Rattle.std.specs.Str.{is_utf8}
 use Rattle.mx_manifest.specs.declared.fault.BootFault.{BootFault}
 use Rattle.mx_image.specs.Image.{image_of}
 use Rattle.mx_asm.specs.Denoted.{program_of, first_fault}
-use Rattle.mx_asm.specs.declared.faults.SourceFault.{SourceFault}
 use Rattle.mx_run.specs.declared.status.FileRole.{FileRole}
 use Rattle.mx_run.specs.declared.status.FileRole.TheVariants.{Manifest, Source}
 use Rattle.mx_run.specs.declared.status.Status.{Status}
@@ -48,15 +47,20 @@ source_limit = 1048576
 abbrev pub written_image : List ℕ → Outcome
 written_image image = record { status = Ran; console = image; report = []; dump = [] }
 
+-- the outcome of the first fault where there is one, and the other where there is none
+abbrev pub unless_faulty : {F : Type 0} → Option F → (F → Outcome) → Outcome → Outcome
+unless_faulty None refused faultless = faultless
+unless_faulty (Some fault) refused faultless = refused fault
+
 -- the image of a text goes to the console; a text with a fault is refused by its first one
-abbrev pub assembled_text : List ℕ → List ℕ → Option SourceFault → Outcome
-assembled_text source text None = written_image (image_of (program_of text))
-assembled_text source text (Some fault) = refusal source (AsmFault fault.line fault.number)
+abbrev pub assembled_text : List ℕ → List ℕ → Outcome
+assembled_text source text =
+    unless_faulty (first_fault text) (λ fault. refusal source (AsmFault fault.line fault.number)) (written_image (image_of (program_of text)))
 
 -- bytes that are no text are refused as a whole
 abbrev pub assembled : List ℕ → List ℕ → Outcome
 assembled source bytes =
-    if is_utf8 bytes then assembled_text source bytes (first_fault bytes) else refusal source (AsmFault 0 11)
+    if is_utf8 bytes then assembled_text source bytes else refusal source (AsmFault 0 11)
 
 -- a file that is to be read: its role, its name, the most bytes that it may have, and the status where it has more
 pub record Wanted : Type 0 where

@@ -2,7 +2,6 @@
 
 ghost use Rattle.std.specs.Prelude.{◌≡◌, Some, ◌≤◌, ◌^◌, length};
 ghost use Rattle.mx_io.specs.Sink.{SinkState};
-ghost use Rattle.mx_asm.specs.Denoted.{first_fault};
 ghost use Rattle.mx_run.specs.Words.{Asm};
 ghost use Rattle.mx_run.specs.Outcome.{assembled, assembled_text, written_image, source_file};
 ghost use Rattle.mx_run.specs.Asked.{wanted_of};
@@ -87,7 +86,7 @@ fn assemble_text<C: Sink, R: Sink>(
     report: &mut R,
 ) -> Status
     requires { length text.now ≤ 2 ^ 20 }
-    ensures { (dump : SinkState) → EndsOrWants (assembled_text source.now text.now (first_fault text.now))
+    ensures { (dump : SinkState) → EndsOrWants (assembled_text source.now text.now)
         (sinks (C.state console.old) (R.state report.old) dump) (sinks (C.state console.new) (R.state report.new) dump) result }
 {
     match assemble(alloc, text) {

@@ -23,7 +23,7 @@ pub(crate) enum ReadFault {
 
 /// The bytes of a file of at most `most` bytes, just as many as its size told. The size is asked once, then
 /// each call of the store asks for all that is missing and takes at least one byte.
-#[tactic(auto, using(crate::proofs::Sizes::reads_told, crate::proofs::Sizes::reads_large, crate::proofs::Sizes::reads_absent, crate::proofs::Sizes::reads_broken))]
+#[tactic(auto, using(crate::proofs::Sizes::reads_absent, crate::proofs::Sizes::reads_broken))]
 pub(crate) fn read_file<S: Store>(
     alloc: Global,
     store: &mut S,
@@ -47,7 +47,7 @@ pub(crate) fn read_file<S: Store>(
 }
 
 /// The bytes of a file for which this size was told.
-#[tactic(auto, using(crate::proofs::Parts::came_none, crate::proofs::Parts::came_part, crate::proofs::Parts::came_end, crate::proofs::Parts::came_failed, crate::proofs::Parts::came_all))]
+#[tactic(auto, using(crate::proofs::Parts::came_none))]
 fn read_told<S: Store>(
     alloc: Global,
     store: &mut S,
