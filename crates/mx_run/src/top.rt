@@ -46,7 +46,6 @@ pub fn mondrix<S: Store, C: Sink, R: Sink, D: Sink>(
 }
 
 /// Does what the words ask, with nothing for the dump.
-#[tactic(auto, using(crate::proofs::Endings::reacts_none))]
 fn react<S: Store, C: Sink, R: Sink>(
     alloc: Global,
     words: &Words,
