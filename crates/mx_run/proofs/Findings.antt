@@ -1,5 +1,5 @@
 -- Answers about one file: over a store that tells they come to its file, and the same answers come to one finding.
-use Rattle.std.proofs.Common.{◌≡◌, ℕ, ◌+◌, ◌-◌, ◌<◌, ◌≤◌, ◌⊎◌, true, false, nat_lt, List, [], ◌∷◌, ◌++◌, length, take, drop, Option, Some, None, option_map, unwrap_or, refl, sym, ap, subst, ◌∙◌, inl, inr, arith, length-append}
+use Rattle.std.proofs.Common.{◌≡◌, ℕ, ◌-◌, ◌<◌, ◌≤◌, ◌⊎◌, List, [], ◌∷◌, ◌++◌, length, take, drop, Option, Some, None, option_map, unwrap_or, refl, sym, ap, subst, ◌∙◌, inl, inr, arith, length-append}
 use Rattle.std.proofs.lemmas.Bool.{lt-ltb, le-ltb}
 use Rattle.std.proofs.lemmas.List.{take_all}
 use Rattle.std.proofs.Math.Seq.{take-add}
@@ -7,7 +7,7 @@ use Rattle.std.specs.FinMap.{get}
 use Rattle.mx_io.specs.Store.{FileMap, file_bytes}
 use Rattle.mx_io.specs.Answer.{Answer, Sized, Gave, HasSucceeded, IsOf, IsPart}
 use Rattle.mx_io.proofs.Talks.{Each}
-use Rattle.mx_run.specs.Finding.{Finding, Absent, Large, Short, Broken, Whole, EndsEarly, Completes, FindsSized, Finds, found_file, found_in}
+use Rattle.mx_run.specs.Finding.{Finding, Large, Short, Broken, Whole, EndsEarly, Completes, FindsSized, Finds, found_file, found_in}
 
 none_some : {A : Type 0} {a : A} → None ≡ Some a → ⊥
 none_some e = cc

@@ -1,17 +1,17 @@
 -- What the top call promises, from how it reacts.
-use Rattle.std.proofs.Common.{◌≡◌, ◌≢◌, ℕ, ◌⊎◌, IsTrue, List, Option, Some, None, IfSome, refl, sym, ap, subst, ◌∙◌, inl, inr, []}
-use Rattle.mx_io.specs.Count.{Rose, Stays}
+use Rattle.std.proofs.Common.{◌≡◌, ◌≢◌, ◌⊎◌, IsTrue, Option, Some, None, IfSome, refl, ap, subst, inl, inr, []}
+use Rattle.mx_io.specs.Count.{Stays}
 use Rattle.mx_io.specs.Sink.{SinkState}
-use Rattle.mx_io.specs.Store.{FileMap, StoreState}
-use Rattle.mx_io.specs.Answer.{Answer, HasSucceeded, IsOf, Tells, Talks}
+use Rattle.mx_io.specs.Store.{StoreState}
+use Rattle.mx_io.specs.Answer.{Answer, Tells}
 use Rattle.mx_io.proofs.Text.{Stays-not-Rose}
-use Rattle.mx_io.proofs.Talks.{Each, Told, talks_told, all_succeeded}
+use Rattle.mx_io.proofs.Talks.{talks_told, all_succeeded}
 use Rattle.mx_run.specs.declared.status.Status.{Status}
 use Rattle.mx_run.specs.declared.status.Status.TheVariants.{WantOfMemory}
 use Rattle.mx_run.specs.Words.{Request}
 use Rattle.mx_run.specs.Outcome.{Outcome}
-use Rattle.mx_run.specs.Leads.{Leads, IsOutcome}
-use Rattle.mx_run.specs.Top.{Sinks, HasRoom, CountsKept, IsSinkFault, EndsBy, Ends, Wants, WritesNothing, Answered, Reacts}
+use Rattle.mx_run.specs.Leads.{IsOutcome}
+use Rattle.mx_run.specs.Top.{Sinks, HasRoom, CountsKept, IsSinkFault, EndsBy, Ends, WritesNothing, Answered, Reacts}
 use Rattle.mx_run.specs.Promise.{CountsStay, Gives, Headline, Completeness}
 use Rattle.mx_run.proofs.Leads.{leads_over, one_outcome}
 
