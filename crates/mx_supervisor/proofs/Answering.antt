@@ -1,0 +1,77 @@
+-- How a row of the table of calls meets the model's: by what it changed, and by its answer.
+use Rattle.std.proofs.Common.{◌≡◌, ◌≢◌, ℕ, Bool, true, false, List, [], length, refl, sym, subst, inl, inr, ◌∙◌, ap, Some, None}
+use Rattle.mx_check.specs.Harts.{Kept, hart_at}
+use Rattle.mx_model.specs.declared.values.Call.{Call}
+use Rattle.mx_model.specs.declared.values.Gate.{Gate}
+use Rattle.mx_model.specs.Reads.{Reads, flat_reads}
+use Rattle.mx_model.specs.Serve.{Served, answers, code, adds}
+use Rattle.mx_model.specs.State.{Core}
+use Rattle.mx_supervisor.specs.declared.answer.Answer.{Answer}
+use Rattle.mx_supervisor.specs.Answers.{plain, refusal, is_refusal}
+use Rattle.mx_supervisor.specs.Looks.{KeepsHarts}
+use Rattle.mx_supervisor.specs.Parts.{Parts, core_of, flat_of, IsSound}
+use Rattle.mx_supervisor.specs.Served.{IsServed, ServesAs, IsSpared, KeepsSizes, Meets}
+
+-- the row of a call, on the flat state of the parts
+abbrev pub row_on : (Reads → Core → Call → Served) → Call → Parts → Core → Served
+row_on row call p rest = row (flat_reads (flat_of rest p)) (core_of rest p) call
+
+-- nothing changed
+pub same-harts : (call : Call) (harts : List Kept) → KeepsHarts call (hart_at harts call.hart).flight harts harts
+same-harts call harts = record { count = refl; others = λ i ne. refl; halted = refl; flight = refl; domain = inl refl }
+
+pub same-sizes : (p : Parts) → KeepsSizes p p
+same-sizes p = record { size = refl; limit = refl; modules = refl }
+
+pub same-parts : (p : Parts) → IsSpared p p []
+same-parts p = record { maps = refl; owners = refl; gates = refl; heaps = refl; ram = refl; console = refl }
+
+-- an answer with no effect, as every refusal
+pub told-rest : (rest : Core) (p : Parts) (n : ℕ) (a : Answer) (s : Served) → a ≡ plain n → s ≡ answers (core_of rest p) n → IsServed rest p p [] a s
+told-rest rest p n a s ea es = rw (ea, es) (record { core = refl; maps = refl; owners = refl; console = refl; a0 = refl; a1 = refl; stop = refl })
+
+pub told : (row : Reads → Core → Call → Served) (call : Call) (p : Parts) (n : ℕ) (a : Answer) → IsSound p → a ≡ plain n →
+    ((rest : Core) → row_on row call p rest ≡ answers (core_of rest p) n) → Meets row call (hart_at p.harts call.hart).flight p p [] a
+told row call p n a sound ea es = record {
+  served = λ rest bars. told-rest rest p n a (row_on row call p rest) ea (es rest);
+  refused = λ e. same-parts p;
+  harts = same-harts call p.harts;
+  sizes = same-sizes p;
+  sound = sound;
+}
+
+pub refuses : (row : Reads → Core → Call → Served) (call : Call) (p : Parts) (n : ℕ) (a : Answer) → IsSound p → a ≡ refusal n →
+    ((rest : Core) → row_on row call p rest ≡ answers (core_of rest p) (code n)) → Meets row call (hart_at p.harts call.hart).flight p p [] a
+refuses row call p n a sound ea es = told row call p (code n) a sound ea es
+
+-- the same of parts that are those from before
+pub refuses-after : (row : Reads → Core → Call → Served) (call : Call) (p q : Parts) (n : ℕ) (a : Answer) → IsSound p → q ≡ p → a ≡ refusal n →
+    ((rest : Core) → row_on row call p rest ≡ answers (core_of rest p) (code n)) → Meets row call (hart_at p.harts call.hart).flight p q [] a
+refuses-after row call p q n a sound same ea es =
+    subst (λ (q : Parts). Meets row call (hart_at p.harts call.hart).flight p q [] a) (sym same) (refuses row call p n a sound ea es)
+
+-- a call that is done: its answer is no refusal
+pub done : (row : Reads → Core → Call → Served) (call : Call) (p q : Parts) (bytes : List ℕ) (a : Answer) → IsSound q → is_refusal a ≡ false →
+    q.harts ≡ p.harts → KeepsSizes p q → ServesAs row call p q bytes a → Meets row call (hart_at p.harts call.hart).flight p q bytes a
+done row call p q bytes a sound e same sizes served = record {
+  served = served;
+  refused = λ f. absurd (let q : ⊥ = cc in q);
+  harts = subst (λ (harts : List Kept). KeepsHarts call (hart_at p.harts call.hart).flight p.harts harts) (sym same) (same-harts call p.harts);
+  sizes = sizes;
+  sound = sound;
+}
+
+-- other gates, answered by 0
+pub gates-done : (row : Reads → Core → Call → Served) (call : Call) (p q : Parts) (gates : List Gate) (a : Answer) → IsSound p → q ≡ record p { gates = gates } →
+    a ≡ plain 0 → ((rest : Core) → row_on row call p rest ≡ answers (record (core_of rest p) { gates = gates }) 0) →
+    Meets row call (hart_at p.harts call.hart).flight p q [] a
+gates-done row call p q gates a sound eq ea es =
+    let t : Parts = record p { gates = gates } in
+    let sound_t : IsSound t = record {
+      few_words = sound.few_words; few_maps = sound.few_maps; maps = sound.maps; ram = sound.ram; owners = sound.owners; heaps = sound.heaps; areas = sound.areas
+    } in
+    let served : ServesAs row call p t [] (plain 0) = λ rest bars. rw (es rest)
+        (record { core = refl; maps = refl; owners = refl; console = refl; a0 = refl; a1 = refl; stop = refl }) in
+    let m : Meets row call (hart_at p.harts call.hart).flight p t [] (plain 0) =
+        done row call p t [] (plain 0) sound_t refl refl (record { size = refl; limit = refl; modules = refl }) served in
+    rw (eq, ea) m

@@ -1,0 +1,6 @@
+pub mod Answers
+pub mod Heaps
+pub mod Parts
+pub mod Looks
+pub mod Rights
+pub mod Served

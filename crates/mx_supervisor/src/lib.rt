@@ -1,0 +1,15 @@
+//! The supervisor: it serves the calls by which modules change rights, owners, gates and their heaps, write to the console,
+//! exchange a word and end. It owns the checker, RAM, the owners of words, the gates, and one heap per module.
+#![tactic(auto)]
+
+mod answer;
+mod heaps;
+mod looks;
+mod owned;
+mod rights;
+mod supervisor;
+mod words;
+
+pub use answer::Answer;
+pub use heaps::Heaps;
+pub use supervisor::Supervisor;

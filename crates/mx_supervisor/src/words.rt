@@ -1,0 +1,105 @@
+//! Tests of calls, each as the model's.
+ghost use Rattle.std.specs.Prelude.{◌≡◌, ℕ, ◌+◌, ◌<◌, ◌≤◌, ◌==◌, ◌↔◌, not, ◌&&◌, ◌||◌, IfSome, IsTrue, is_some, length, slice_index};
+ghost use Rattle.std.specs.Option.{option_map};
+ghost use Rattle.mx_words.specs.Ranges.{address_of};
+ghost use Rattle.mx_heap.specs.HeapState.{LiesIn};
+ghost use Rattle.mx_model.specs.Checks.{arg};
+ghost use Rattle.mx_supervisor.specs.Heaps.{heap_at};
+ghost use Rattle.mx_words.specs.Announced.{is_announced};
+ghost use Rattle.mx_table.specs.Tables.{IsDomain};
+ghost use Rattle.mx_model.specs.Serve.{arg_range, no_range, is_word, arg_word, owns, freed_count};
+ghost use Rattle.mx_model.specs.Reads.{flat_reads};
+ghost use Rattle.mx_model.specs.State.{Core, is_module};
+ghost use Rattle.mx_supervisor.specs.Parts.{parts_of, core_of, flat_of, IsSound};
+
+use crate::Supervisor;
+use mx_model::Call;
+use mx_table::PermTables;
+use mx_words::{word_of, word_range};
+
+/// Whether a call is announced before it takes effect.
+pub fn is_announced(number: u32) -> bool
+    ensures { result ≡ is_announced number }
+{
+    number == 3 || number == 4 || number == 6 || number == 7
+}
+
+impl<T: PermTables, const N: usize> Supervisor<T, N> {
+    /// The words of the range of a0 and a1.
+    pub(crate) fn arg_range(&self, call: &Call) -> Option<(u32, u32)>
+        requires { IsSound (parts_of T.kind T.maps T.size T.limits N self.now) }
+        ensures there { (rest : Core) → no_range (core_of rest (parts_of T.kind T.maps T.size T.limits N self.now)) call.now ≡ not (is_some result) }
+        ensures range { IfSome result (λ r. (rest : Core) → arg_range (core_of rest (parts_of T.kind T.maps T.size T.limits N self.now)) call.now ≡ r) }
+        ensures inside { IfSome result (λ r. (0 < r.1) × (r.0 + r.1 ≤ T.size self.now.checker.tables)) }
+    {
+        let [addr, size, _, _] = call.args;
+        word_range(addr, size, self.checker.tables().words())
+    }
+
+    /// The word at a0.
+    pub(crate) fn arg_word(&self, call: &Call) -> Option<u32>
+        requires { IsSound (parts_of T.kind T.maps T.size T.limits N self.now) }
+        ensures there { (rest : Core) → is_word (core_of rest (parts_of T.kind T.maps T.size T.limits N self.now)) (arg call.now 0) ≡ is_some result }
+        ensures word { IfSome result (λ w. arg_word call.now ≡ w) }
+        ensures inside { IfSome result (λ w. (w < T.size self.now.checker.tables) × (arg call.now 0 ≡ address_of w)) }
+    {
+        let [addr, _, _, _] = call.args;
+        if addr % 4 != 0 {
+            return None;
+        }
+        word_of(addr, self.checker.tables().words())
+    }
+
+    /// The first word and the number of words of the caller's live block that begins at a0.
+    pub(crate) fn arg_block(&self, call: &Call) -> Option<(u32, u32)>
+        requires sound { IsSound (parts_of T.kind T.maps T.size T.limits N self.now) }
+        requires domain { IsDomain (T.maps self.now.checker.tables) call.now.domain }
+        ensures there { (rest : Core) → freed_count (core_of rest (parts_of T.kind T.maps T.size T.limits N self.now)) call.now ≡ option_map (λ b. b.1) result }
+        ensures word { IfSome result (λ b. arg_word call.now ≡ b.0) }
+        ensures some { IfSome result (λ b. 0 < b.1) }
+        ensures inside { IfSome result (λ b. LiesIn (heap_at self.now.heaps call.now.domain).area b.0 b.1) }
+    {
+        let Some(word) = self.arg_word(call) else {
+            return None;
+        };
+        match self.heaps.block(call.domain, word) {
+            Some(count) => Some((word, count)),
+            None => None,
+        }
+    }
+
+    /// The number of modules.
+    pub(crate) fn modules(&self) -> u32
+        ensures { result ≡ length (T.maps self.now.checker.tables) }
+    {
+        self.checker.tables().modules()
+    }
+
+    /// Whether a number is a module's.
+    pub(crate) fn is_module(&self, domain: u32) -> bool
+        requires { IsSound (parts_of T.kind T.maps T.size T.limits N self.now) }
+        ensures module { (rest : Core) → is_module (core_of rest (parts_of T.kind T.maps T.size T.limits N self.now)) domain ≡ result }
+        ensures domain { IsTrue result ↔ IsDomain (T.maps self.now.checker.tables) domain }
+    {
+        1 <= domain && domain <= self.modules()
+    }
+
+    /// Whether the caller owns each word of a range.
+    pub(crate) fn owns(&self, call: &Call, first: u32, count: u32) -> bool
+        requires sound { IsSound (parts_of T.kind T.maps T.size T.limits N self.now) }
+        requires some { 0 < count }
+        requires inside { first + count ≤ T.size self.now.checker.tables }
+        ensures { (rest : Core) → owns (flat_reads (flat_of rest (parts_of T.kind T.maps T.size T.limits N self.now))) call.now (first, count) ≡ result }
+    {
+        self.owners.owns(call.domain, first, count)
+    }
+
+    /// Whether the caller doesn't own a word.
+    pub(crate) fn is_foreign(&self, call: &Call, word: u32) -> bool
+        requires sound { IsSound (parts_of T.kind T.maps T.size T.limits N self.now) }
+        requires inside { word < T.size self.now.checker.tables }
+        ensures { not (slice_index self.now.owners word == call.now.domain) ≡ result }
+    {
+        self.owners.owner(word) != call.domain
+    }
+}
