@@ -156,7 +156,7 @@ inside-runs_in L r c h hart true p q = tt
 inside-runs_in L r c h hart false p q =
     inside-runs_at L r c h hart (call_gate_at c hart.domain hart.pc) p (target-at L c.gates hart.domain (word_of hart.pc c.size) p.0 q)
 
-inside-by_status : (L : ℕ → Type 0) (r : Reads) (c : Core) (h : ℕ) (hart : Hart) (s : Status) → IsHome L hart → AllByRecursion (Leads L) c.gates → IsStatus h hart s →
+inside-by_status : (L : ℕ → Type 0) (r : Reads) (c : Core) (h : ℕ) (hart : Hart) (s : Status) → IsHome L hart → AllByRecursion (Leads L) c.gates → IsStatus (length c.harts) h hart s →
     IsInside L r c hart (by_status r c h hart s).action
 inside-by_status L r c h hart Running p q s = inside-runs_in L r c h hart (module_at c hart.domain).dead p q
 inside-by_status L r c h hart (Waiting call heard) p q s =
@@ -165,5 +165,5 @@ inside-by_status L r c h hart (Halted code) p q s = tt
 
 -- what a hart decides
 pub inside-decide : (L : ℕ → Type 0) (r : Reads) (c : Core) (h : ℕ) → IsHome L (hart_at c h) → AllByRecursion (Leads L) c.gates →
-    IsStatus h (hart_at c h) (hart_at c h).status → IsInside L r c (hart_at c h) (decide r c h).action
+    IsStatus (length c.harts) h (hart_at c h) (hart_at c h).status → IsInside L r c (hart_at c h) (decide r c h).action
 inside-decide L r c h p q s = inside-by_status L r c h (hart_at c h) (hart_at c h).status p q s

@@ -24,7 +24,8 @@ use Rattle.mx_model.specs.State.{Core, Hart, Module, no_hart, hart_at, with_hart
 use Rattle.mx_model.specs.Turn.{Action, Rests, Waits, Serves, Asks, Traps, Bounces, Crosses, Returns, Runs, Writes, Decided, Made, is_denied, acted, asked, served, done, trapped, given_up, killed, over_frame, enacted, decide, by_status, counted, turned, is_served_now, fault_answer}
 use Rattle.mx_model.specs.Valid.{IsValid}
 use Rattle.mx_model.proofs.ListLaws.{all-append, all-in, all-last, all-set, all-take}
-use Rattle.mx_model.proofs.ValidParts.{valid-turns, valid-hears, valid-looked_all, hearing}
+use Rattle.mx_model.proofs.TurnLaws.{valid-heard_first}
+use Rattle.mx_model.proofs.ValidParts.{valid-turns, valid-looked_all, hearing}
 use Rattle.mx_audit.proofs.ActionLaws.{IsInside, IsStore, inside-decide}
 use Rattle.mx_audit.proofs.ByteLaws.{put-outside, store-outside}
 use Rattle.mx_audit.proofs.CallLaws.{Stands, IsSpared, Keeps, keeps-core, keeps-serve, looked-is, heap-set, other-word}
@@ -193,9 +194,9 @@ homes-hearing : (L : ℕ → Type 0) (i h : ℕ) (hs : List Hart) → AllByRecur
 homes-hearing L i h [] p = tt
 homes-hearing L i h (x ∷ xs) p = (home-hearing L i h x p.0, homes-hearing L (i + 1) h xs p.1)
 
-stands-hears : (L : ℕ → Type 0) (r : Reads) (h : ℕ) (c : Core) → Stands L r c → Stands L r (hears h c)
-stands-hears L r h c s = record {
-  valid = valid-hears h c s.valid;
+stands-hears : (L : ℕ → Type 0) (r : Reads) (h : ℕ) (c : Core) → Stands L r c → IsValid (hears h c) → Stands L r (hears h c)
+stands-hears L r h c s v = record {
+  valid = v;
   heaps = s.heaps;
   closed = record { harts = homes-hearing L 0 h c.harts s.closed.harts; gates = s.closed.gates };
   modules = s.modules;
@@ -215,7 +216,8 @@ pub keeps-turned : (L : ℕ → Type 0) (w : ℕ) (r : Reads) (c : Core) (h : �
 keeps-turned L w r c h s sp =
     let t = stands-counted L r c s in
     elim (is_halted (hart_at (counted c) h).status) as
-    (λ b. KeepsMade L w c (let ready = (if b then counted c else hears h (counted c)) in enacted r ready h (decide r ready h))) [
-      | true ↦ keeps-enacted L w r (counted c) h t sp
-      | false ↦ keeps-enacted L w r (hears h (counted c)) h (stands-hears L r h (counted c) t) sp
-    ]
+    (λ b. IsValid (if b then counted c else hears h (counted c)) →
+    KeepsMade L w c (let ready = (if b then counted c else hears h (counted c)) in enacted r ready h (decide r ready h))) [
+      | true ↦ λ v. keeps-enacted L w r (counted c) h t sp
+      | false ↦ λ v. keeps-enacted L w r (hears h (counted c)) h (stands-hears L r h (counted c) t v) sp
+    ] (valid-heard_first (counted c) h t.valid)

@@ -5,3 +5,4 @@ pub mod CallLaws
 pub mod AuditTurns
 pub mod AuditRuns
 pub mod AuditExamples
+pub mod AuditedExample

@@ -1,5 +1,5 @@
 -- The live domains: those in which a hart is, or to which it can come.
--- The rules: docs/MACHINE.md, "Memory, domains, harts" and "Gates".
+-- The rules: docs/MACHINE.md, "Live domains and sealed words".
 use Rattle.std.specs.Prelude.{ℕ, zero, suc, Bool, not, ◌==◌, List, ◌∷◌, ◌++◌, length, filter}
 use Rattle.std.specs.Prelude.{map as list_map}
 use Rattle.std.specs.List.{Contains, list_any, flat_map}
@@ -12,7 +12,8 @@ pub data IsLive (c : Core) : ℕ → Type 0 where
   -- the domain of each hart
   HasHart : (hart : Hart) → Contains c.harts hart → IsLive c hart.domain
   -- the caller of each frame
-  HasFrame : (hart : Hart) → Contains c.harts hart → (frame : Frame) → Contains hart.frames frame → IsLive c frame.caller
+  HasFrame : (hart : Hart) → Contains c.harts hart →
+      (frame : Frame) → Contains hart.frames frame → IsLive c frame.caller
   -- and with a domain the target of each of its gates
   IsTarget : (gate : Gate) → Contains c.gates gate → IsLive c gate.domain → IsLive c gate.target
 
@@ -31,11 +32,13 @@ passed live gates = filter (λ (gate : Gate). is_in live gate.domain) gates
 abbrev pub not_passed : List ℕ → List Gate → List Gate
 not_passed live gates = filter (λ (gate : Gate). not (is_in live gate.domain)) gates
 
--- n rounds: each passes the gates of the domains that are live so far, whose targets are then live too, and leaves the others to the next
+-- n rounds: each passes the gates of the domains that are live so far, whose targets are then live too, and leaves the others
+-- to the next
 abbrev pub rounds : ℕ → List Gate → List ℕ → List ℕ
 rounds zero gates live = live
 rounds (suc n) gates live =
-    rounds n (not_passed live gates) (live ++ list_map (λ (gate : Gate). gate.target) (passed live gates))
+    rounds n (not_passed live gates)
+    (live ++ list_map (λ (gate : Gate). gate.target) (passed live gates))
 
 -- the live domains, by as many rounds as there are gates; some may stand there twice
 abbrev pub live : Core → List ℕ

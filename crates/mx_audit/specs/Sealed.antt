@@ -1,5 +1,5 @@
 -- The sealed words, which no run changes, and what an audit asks of a state.
--- The rules: docs/MACHINE.md, "Memory, domains, harts".
+-- The rules: docs/MACHINE.md, "Live domains and sealed words".
 use Rattle.std.specs.Prelude.{◌≡◌, ◌≢◌, ℕ, ◌<◌, Bool, not, ◌&&◌, nat_lt, length, IsTrue}
 use Rattle.std.specs.List.{list_all}
 use Rattle.mx_words.specs.declared.perm.Perm.TheVariants as P
@@ -16,10 +16,15 @@ pub record IsSealed (r : Reads) (c : Core) (word : ℕ) : Type 0 where
   pub owner : IsLive c (r.owner word) → ⊥
   pub rights : (d : ℕ) → IsLive c d → r.perm d word ≢ P.ReadWrite
 
+-- a sealed word of a state
+abbrev pub HasSealed : State → ℕ → Type 0
+HasSealed s word = IsSealed (reads s) s.core word
+
 -- whether a word is sealed
 abbrev pub is_sealed : Reads → Core → ℕ → Bool
 is_sealed r c word =
-    nat_lt word c.size && not (is_live c (r.owner word)) && list_all (λ d. not (same (r.perm d word) P.ReadWrite)) (live c)
+    nat_lt word c.size && not (is_live c (r.owner word))
+    && list_all (λ d. not (same (r.perm d word) P.ReadWrite)) (live c)
 
 -- each heap area belongs to its module
 abbrev pub OwnHeaps : Reads → Core → Type 0

@@ -3,4 +3,6 @@
 
 mod laws;
 
-pub use laws::{live_by_rounds, live_never_grows, sealed_by_rounds, sealed_words_stay};
+pub use laws::{
+    audit_of_a_flat_state, live_by_rounds, live_never_grows, sealed_by_rounds, sealed_words_stay,
+};

@@ -1,7 +1,7 @@
 -- What `find` gives past elements that fail, and beside a filter.
-use Rattle.std.proofs.Common.{◌≡◌, ℕ, zero, suc, ◌+◌, ◌-◌, ◌<◌, Bool, false, not, cond, ◌||◌, List, [], ◌∷◌, length, get_or, slice_get, drop, filter, find, None, Some, inl, inr, refl, sym, ap, ◌∙◌, arith, true}
+use Rattle.std.proofs.Common.{◌≡◌, ℕ, zero, suc, ◌-◌, ◌<◌, Bool, false, not, cond, ◌||◌, List, [], ◌∷◌, length, get_or, slice_get, filter, find, None, Some, inl, inr, refl, sym, ap, ◌∙◌, arith, true}
 use Rattle.std.specs.Option.{is_some}
-use Rattle.std.specs.List.{prefix_len, position_or_len, list_any, last_or}
+use Rattle.std.specs.List.{list_any, last_or}
 use Rattle.std.proofs.lemmas.Bool.{cases_Bool, false≢true}
 use Rattle.std.proofs.lemmas.List.Filters.{length-filter_both}
 

@@ -1,6 +1,6 @@
 //! Where the gate of a domain and a word stands among sorted gates, and in which bucket it lies.
 
-ghost use Rattle.std.specs.Prelude.{◌≡◌, ◌+◌, ◌*◌, ◌^◌, ◌<◌, ◌≤◌, length, slice_get, if◌then◌else◌};
+ghost use Rattle.std.specs.Prelude.{◌≡◌, ◌^◌, ◌<◌, ◌≤◌, length, slice_get, if◌then◌else◌};
 ghost use Rattle.std.specs.List.{position_or_len};
 ghost use Rattle.mx_model.specs.Gates.{is_at};
 ghost use Rattle.mx_gates.specs.Index.{bucket, is_before, AreRising, place_of};
@@ -21,7 +21,8 @@ pub fn bucket(domain: u32, word: u32) -> usize
 
 /// How many sorted gates come before the domain and word. The steps depend on the number of gates alone.
 pub fn place(sorted: &[Gate], domain: u32, word: u32) -> usize
-    requires { AreRising sorted.now }
+    requires rising { AreRising sorted.now }
+    requires few { length sorted.now ≤ 256 }
     ensures place { result ≡ place_of domain word sorted.now }
     ensures within { result ≤ length sorted.now }
 {
@@ -29,7 +30,7 @@ pub fn place(sorted: &[Gate], domain: u32, word: u32) -> usize
     let mut width = sorted.len();
     while width > 0 {
         let half = width - width / 2;
-        low += step(is_before(&sorted[low + half - 1], domain, word), half);
+        low += step(&sorted[low + half - 1], domain, word, half);
         width /= 2;
     }
     low
@@ -37,7 +38,8 @@ pub fn place(sorted: &[Gate], domain: u32, word: u32) -> usize
 
 /// The place of the gate for the domain at the word among sorted gates; their number where there is none.
 pub fn sorted_place(sorted: &[Gate], domain: u32, word: u32) -> usize
-    requires { AreRising sorted.now }
+    requires rising { AreRising sorted.now }
+    requires few { length sorted.now ≤ 256 }
     ensures { result ≡ position_or_len (is_at domain word) sorted.now }
 {
     let i = place(sorted, domain, word);
@@ -67,26 +69,15 @@ pub fn gate_in(gates: &[Gate], at: usize) -> Option<Gate>
     gates.get(at).copied()
 }
 
-/// Whether the gate comes before the domain and word in the order of sorted gates.
-#[tactic(auto, unfolding(crate::specs::Index::is_before))]
-fn is_before(gate: &Gate, domain: u32, word: u32) -> bool
-    ensures { result ≡ is_before domain word gate.now }
+/// The width where the gate comes before the domain and word in the order of sorted gates, else 0. Said by what a subtraction
+/// borrows, since the processor would guess at a choice.
+fn step(gate: &Gate, domain: u32, word: u32, width: usize) -> usize
+    requires { width < 2 ^ 32 }
+    ensures { result ≡ (if is_before domain word gate.now then width else 0) }
 {
-    key(gate.domain, gate.word) < key(domain, word)
-}
-
-/// The domain above the word, in one number, so that two places are compared without a branch.
-fn key(domain: u32, word: u32) -> u64
-    ensures { result ≡ domain * 2 ^ 32 + word }
-{
-    (domain as u64) << 32 | word as u64
-}
-
-/// The width, or 0.
-fn step(is_taken: bool, width: usize) -> usize
-    ensures { result ≡ (if is_taken then width else 0) }
-{
-    if is_taken { width } else { 0 }
+    let borrowed = (gate.word as u64).wrapping_sub(word as u64) >> 63;
+    let mask = (gate.domain as u64).wrapping_sub(domain as u64 + borrowed) >> 32;
+    width & mask as usize
 }
 
 /// Whether the gate stands for `domain` at `word`.

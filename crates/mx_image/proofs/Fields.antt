@@ -1,6 +1,5 @@
 -- Reading numbers from a list of bytes that is put together from parts.
-use Rattle.std.proofs.Common.{◌≡◌, ℕ, zero, suc, ◌+◌, ◌*◌, ◌/◌, ◌%◌, ◌^◌, ◌<◌, List, [], ◌∷◌, ◌++◌, length, get_or, refl, sym, ap, ◌∙◌, arith, add_assoc}
-use Rattle.std.specs.Prelude.{slice_index}
+use Rattle.std.proofs.Common.{◌≡◌, ℕ, zero, suc, ◌+◌, ◌*◌, ◌/◌, ◌%◌, ◌^◌, ◌<◌, List, ◌++◌, length, get_or, refl, ap, ◌∙◌, arith, add_assoc}
 use Rattle.std.proofs.lemmas.List.{get_or-append-add}
 use Rattle.mx_words.specs.Bytes.{number_at}
 use Rattle.mx_elf.specs.Field.{half_at, word_at}

@@ -9,3 +9,5 @@ pub mod Reading
 pub mod Symbols
 pub mod Sections
 pub mod Images
+pub mod Building
+pub mod Examples

@@ -1,19 +1,19 @@
 -- Program headers are read as they were written.
-use Rattle.std.proofs.Common.{◌≡◌, ℕ, zero, suc, ◌+◌, ◌-◌, ◌*◌, ◌/◌, ◌%◌, ◌^◌, ◌<◌, ◌≤◌, Bool, true, false, List, [], ◌∷◌, ◌++◌, length, get_or, take, drop, refl, sym, ap, ◌∙◌, arith, add_assoc, append_assoc, ◌==◌, nat_lt}
-use Rattle.std.specs.Prelude.{map, filter, ◌&&◌, None}
+use Rattle.std.proofs.Common.{◌≡◌, ℕ, ◌+◌, ◌%◌, ◌^◌, ◌<◌, ◌≤◌, true, List, [], ◌∷◌, ◌++◌, length, refl, sym, ap, ◌∙◌, arith, append_assoc}
+use Rattle.std.specs.Prelude.{None}
 use Rattle.std.specs.List.{AllByRecursion}
 use Rattle.std.specs.Option.{option_or}
 use Rattle.std.proofs.lemmas.List.{length-append}
 use Rattle.std.proofs.lemmas.Bool.Decides.{nat_tests}
 use Rattle.mx_words.specs.Bytes.{number_at}
 use Rattle.mx_elf.specs.declared.segment.Seg.{Seg}
-use Rattle.mx_elf.specs.Field.{half_at, word_at, places}
+use Rattle.mx_elf.specs.Field.{word_at, places}
 use Rattle.mx_elf.specs.Image.{is_loaded, segment_at, segments_at, segment_rows, rows_from, first_fault}
 use Rattle.mx_elf.proofs.Loading.{faults-here}
 use Rattle.mx_image.specs.declared.segment.Segment.{Segment}
-use Rattle.mx_image.specs.Image.{rounded, padded, program_header, program_headers, contents}
+use Rattle.mx_image.specs.Image.{rounded, program_header, program_headers, contents}
 use Rattle.mx_image.specs.Lawful.{placed}
-use Rattle.mx_image.proofs.Sizes.{padded_length, length-contents-cons}
+use Rattle.mx_image.proofs.Sizes.{length-contents-cons}
 use Rattle.mx_image.proofs.Fields.{word-behind, word-begins, four-bytes}
 
 -- a segment with bytes whose numbers have 32 bits

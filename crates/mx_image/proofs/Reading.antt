@@ -1,12 +1,11 @@
 -- The image is read without fault.
-use Rattle.std.proofs.Common.{◌≡◌, ℕ, zero, suc, ◌+◌, ◌-◌, ◌*◌, ◌/◌, ◌%◌, ◌^◌, ◌<◌, ◌≤◌, Bool, true, false, List, [], ◌∷◌, ◌++◌, length, get_or, take, drop, refl, sym, ap, ◌∙◌, arith, ◌==◌, nat_lt}
-use Rattle.std.specs.Prelude.{Ok, None, not, nat_eq, ◌&&◌, ◌||◌}
+use Rattle.std.proofs.Common.{◌≡◌, ℕ, ◌+◌, ◌*◌, ◌^◌, ◌<◌, ◌≤◌, Bool, true, false, List, ◌++◌, length, refl, ◌∙◌, arith, ◌==◌, nat_lt}
+use Rattle.std.specs.Prelude.{Ok, None, not, nat_eq, ◌&&◌}
 use Rattle.std.specs.List.{AllByRecursion, starts_with}
-use Rattle.std.specs.Option.{option_or}
 use Rattle.std.proofs.lemmas.Bool.Decides.{nat_tests}
 use Rattle.mx_words.specs.Bytes.{number_at}
-use Rattle.mx_elf.specs.Field.{byte_at, half_at, word_at, places}
-use Rattle.mx_elf.specs.Image.{magic, header_rows, rows_from, rows_of, segments_of, first_fault, unless}
+use Rattle.mx_elf.specs.Field.{byte_at, half_at, word_at}
+use Rattle.mx_elf.specs.Image.{magic, header_rows, rows_from, rows_of, segments_of, first_fault}
 use Rattle.mx_elf.specs.Image.{image_of as image_read}
 use Rattle.mx_elf.proofs.Loading.{first_fault-append}
 use Rattle.mx_image.specs.declared.segment.Segment.{Segment}

@@ -1,12 +1,11 @@
 -- The section headers lead to the symbols and their names.
-use Rattle.std.proofs.Common.{◌≡◌, ◌≢◌, ℕ, zero, suc, ◌+◌, ◌-◌, ◌*◌, ◌/◌, ◌%◌, ◌^◌, ◌<◌, ◌≤◌, Bool, true, false, List, [], ◌∷◌, ◌++◌, length, take, drop, refl, sym, ap, ◌∙◌, arith, append_assoc, ◌==◌, nat_lt, nat_le}
-use Rattle.std.specs.Prelude.{Option, Some, None, not, ◌&&◌, find, replicate}
-use Rattle.std.proofs.lemmas.List.{length-append, append-nil}
+use Rattle.std.proofs.Common.{◌≡◌, ℕ, ◌+◌, ◌-◌, ◌*◌, ◌^◌, ◌<◌, ◌≤◌, true, List, ◌++◌, length, take, drop, refl, ap, ◌∙◌, arith, append_assoc, nat_le}
+use Rattle.std.specs.Prelude.{Some, replicate}
+use Rattle.std.proofs.lemmas.List.{length-append}
 use Rattle.std.proofs.lemmas.Bool.Decides.{nat_tests}
 use Rattle.mx_words.specs.Bytes.{number_at}
-use Rattle.mx_elf.specs.Field.{half_at, word_at, places}
-use Rattle.mx_elf.specs.Header.{sh_type}
-use Rattle.mx_elf.specs.Symbol.{has_sections, symbol_table_of, section_place, section_bytes, value_of, symbol_of}
+use Rattle.mx_elf.specs.Field.{half_at, word_at}
+use Rattle.mx_elf.specs.Symbol.{symbol_table_of, section_place, section_bytes, value_of, symbol_of}
 use Rattle.mx_image.specs.Program.{Label}
 use Rattle.mx_image.specs.Image.{rounded, padded, symbol_table, strings, null_section, symbol_section, string_section}
 use Rattle.mx_image.proofs.Sizes.{padded_length, symbol_table_length}

@@ -1,12 +1,11 @@
 -- One more header or symbol at the end of what is written.
-use Rattle.std.proofs.Common.{◌≡◌, ℕ, ◌+◌, ◌*◌, ◌≤◌, ◌<◌, Bool, true, false, cond, List, [], ◌∷◌, ◌++◌, length, drop, get_or, refl, sym, ap, ◌∙◌, append_assoc, arith, ◌==◌}
-use Rattle.std.specs.Prelude.{not}
+use Rattle.std.proofs.Common.{◌≡◌, ℕ, ◌+◌, ◌<◌, true, List, ◌∷◌, ◌++◌, length, drop, get_or, refl, sym, ap, ◌∙◌, append_assoc}
 use Rattle.std.proofs.lemmas.List.{at_drop_more}
 use Rattle.mx_image.specs.declared.program.NamedAddress.{NamedAddress}
 use Rattle.mx_image.specs.declared.segment.Segment.{Segment}
 use Rattle.mx_image.specs.Program.{filled, has_bytes}
 use Rattle.mx_image.specs.Labels.{label_of, labels_of}
-use Rattle.mx_image.specs.Image.{rounded, program_header, program_headers, contents, symbol, symbols_from}
+use Rattle.mx_image.specs.Image.{rounded, program_header, program_headers, symbol, symbols_from}
 
 -- the symbol of a label, and the rest
 pub symbols-step : (out new total : List ℕ) (at : ℕ) (labels : List NamedAddress) (i : ℕ) (d : NamedAddress) → i < length labels

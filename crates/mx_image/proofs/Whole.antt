@@ -1,5 +1,5 @@
 -- The whole image, from its parts one after the other.
-use Rattle.std.proofs.Common.{◌≡◌, ℕ, ◌+◌, List, [], ◌∷◌, ◌++◌, length, refl}
+use Rattle.std.proofs.Common.{◌≡◌, ℕ, ◌+◌, List, [], ◌++◌, length, refl}
 use Rattle.mx_image.specs.declared.segment.Segment.{Segment}
 use Rattle.mx_image.specs.Program.{Label}
 use Rattle.mx_image.specs.Image.{file_header, program_headers, contents, symbol_table, padded, strings, section_headers, contents_at, symbols_at, strings_at, sections_at, image_with}

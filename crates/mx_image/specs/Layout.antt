@@ -1,5 +1,5 @@
 -- The layout of an image as the code holds it.
-use Rattle.std.specs.Prelude.{ℕ, ◌+◌, List, length}
+use Rattle.std.specs.Prelude.{◌+◌, List, length}
 use Rattle.mx_image.specs.declared.segment.Segment.{Segment}
 use Rattle.mx_image.specs.declared.parts.Layout.{Layout}
 use Rattle.mx_image.specs.Program.{Label}

@@ -22,5 +22,6 @@ pub fn image_is_read()
 /// In the image of a program each label is found with its address, and no other name is.
 pub fn labels_are_found()
     ensures found { (p : Program) → IsProgram p → AllByRecursion (IsTold (image_of p)) p.labels }
-    ensures missing { (p : Program) (name : List ℕ) → IsProgram p → IsNoLabel p name → symbol_of (image_of p) name ≡ None }
+    ensures missing { (p : Program) (name : List ℕ) → IsProgram p → IsNoLabel p name →
+        symbol_of (image_of p) name ≡ None }
 {}

@@ -1,13 +1,13 @@
 -- Twins agree after a turn without a border, for each hart for which they agreed before.
-use Rattle.std.proofs.Common.{◌≡◌, ◌≢◌, ℕ, zero, suc, ◌+◌, ◌-◌, ◌*◌, ◌/◌, ◌%◌, ◌<◌, ◌≤◌, Bool, true, false, ◌==◌, nat_lt, List, [], ◌∷◌, length, get_or, set, refl, sym, ◌∙◌, ap, subst, arith, eqb-true, if◌then◌else◌, Option, Some, None}
+use Rattle.std.proofs.Common.{◌≡◌, ℕ, zero, suc, ◌+◌, ◌-◌, ◌*◌, ◌/◌, ◌%◌, Bool, true, false, ◌==◌, nat_lt, List, [], ◌∷◌, length, get_or, set, refl, sym, ◌∙◌, ap, subst, arith, eqb-true, if◌then◌else◌, Option, None}
 use Rattle.std.proofs.lemmas.Bool.{eqb-false}
 use Rattle.std.proofs.lemmas.List.{length-set}
-use Rattle.std.specs.Prelude.{IsTrue, slice_index, option_map}
+use Rattle.std.specs.Prelude.{IsTrue, option_map}
 use Rattle.mx_words.specs.declared.perm.Perm.{Perm}
 use Rattle.mx_words.specs.declared.perm.Perm.TheVariants as P
 use Rattle.mx_words.specs.declared.perm.Access.TheVariants as A
 use Rattle.mx_words.specs.Bytes.{put_at}
-use Rattle.mx_words.specs.Newest.{Give, at}
+use Rattle.mx_words.specs.Newest.{at}
 use Rattle.mx_words.specs.Rights.{allows, perm_at}
 use Rattle.mx_model.specs.declared.values.Gate.{Gate}
 use Rattle.mx_model.specs.Agreement.{Agrees, agree, flat_agree, standing, target_at}
@@ -16,11 +16,11 @@ use Rattle.mx_model.specs.Gates.{gate_at}
 use Rattle.mx_model.specs.Reads.{Reads, Change, reads, flat_reads, grants_of, map_in}
 use Rattle.mx_model.specs.Run.{turn, flat_turn, made_of, flat_made, after, flat_after, grants_after, maps_after}
 use Rattle.mx_model.specs.State.{Core, Hart, Module, State, Flat, hart_at, module_at, no_module}
-use Rattle.mx_model.specs.Turn.{Action, Runs, Writes, Made, turned}
+use Rattle.mx_model.specs.Turn.{Action, Runs, Made, turned}
 use Rattle.mx_model.proofs.KeepLaws.{size-turned}
-use Rattle.mx_laws.specs.Twins.{AreTwins, AreFreeTwins, Store, stored, free_twins, flat_free_twins}
+use Rattle.mx_laws.specs.Twins.{AreFreeTwins, free_twins, flat_free_twins}
 use Rattle.mx_laws.proofs.TurnParts.{IsAlike}
-use Rattle.mx_laws.proofs.TwinLaws.{IsLeftFree, action_in, store_of, hart_after, pc_of, regs_of, left-twin, left-other}
+use Rattle.mx_laws.proofs.TwinLaws.{IsLeftFree, action_in, store_of, hart_then, pc_of, regs_of, left-twin, left-other}
 
 -- a byte that is the same in two lists of one length is the same after one store in both
 set-same : (xs ys : List ℕ) (k v j : ℕ) → length xs ≡ length ys → get_or xs j 0 ≡ get_or ys j 0 → get_or (set xs k v) j 0 ≡ get_or (set ys k v) j 0
@@ -66,7 +66,7 @@ pc-after : (x y : Hart) (a : Action) → x.pc ≡ y.pc → pc_of x a ≡ pc_of y
 pc-after x y (Runs regs pc) e = refl
 pc-after x y action e = ap next e
 
-harts-after : (x y : Hart) (a : Action) → SameHarts x y → SameHarts (hart_after x a) (hart_after y a)
+harts-after : (x y : Hart) (a : Action) → SameHarts x y → SameHarts (hart_then x a) (hart_then y a)
 harts-after x y a s = record { standing = refl; pc = pc-after x y a s.pc; regs = regs-after x y a s.regs; domain = s.domain }
 
 -- a module, and the target of a gate, by the list in which they stand
@@ -106,7 +106,7 @@ module _ (r : Reads) (c : Core) (q : Reads) (e : Core) (h g : ℕ) (t : AreFreeT
   same-harts true n =
       let same : g ≡ h = eqb-true g h n in
       subst (λ (i : ℕ). SameHarts (hart_at first i) (hart_at second i)) (sym same)
-      (subst (λ (y : Hart). SameHarts (hart_at first h) y) (sym right.own) (subst (λ (x : Hart). SameHarts x (hart_after (hart_at e h) action)) (sym left.own)
+      (subst (λ (y : Hart). SameHarts (hart_at first h) y) (sym right.own) (subst (λ (x : Hart). SameHarts x (hart_then (hart_at e h) action)) (sym left.own)
       (harts-after (hart_at c h) (hart_at e h) action (harts-agree r c q e h t.twins.agreement))))
   same-harts false n =
       harts-alike (hart_at c g) (hart_at e g) (hart_at first g) (hart_at second g) (harts-agree r c q e g a)

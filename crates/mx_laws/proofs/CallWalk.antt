@@ -1,7 +1,8 @@
 -- What a served call leaves of a state: one walk over the calls, with a predicate on the state after.
-use Rattle.std.proofs.Common.{◌≡◌, ℕ, ◌+◌, ◌*◌, ◌<◌, Bool, true, false, not, cond, ◌==◌, nat_le, List, [], ◌∷◌, length, refl, sym, ◌∙◌, ap, if◌then◌else◌, Option, Some, None, unwrap_or, is_none}
+use Rattle.std.proofs.Common.{◌≡◌, ℕ, ◌*◌, true, false, not, cond, ◌==◌, nat_le, List, [], ◌∷◌, length, refl, if◌then◌else◌, Option, Some, None, unwrap_or, is_none}
 use Rattle.std.specs.Prelude.{IfSome}
 use Rattle.std.specs.List.{range_with_len}
+use Rattle.std.proofs.lemmas.Bool.{not-false}
 use Rattle.mx_words.specs.declared.perm.Access.TheVariants as A
 use Rattle.mx_words.specs.Announced.{is_announced}
 use Rattle.mx_words.specs.Bytes.{number_at, put_at}
@@ -34,10 +35,6 @@ first-passes t ts e = elim t.0 as (λ b. (if b then Some t.1 else first_row ts) 
   | true ↦ λ f. absurd (let q : ⊥ = cc in q)
   | false ↦ λ f. (refl, f)
 ] e
-
-not-false : (b : Bool) → not b ≡ false → b ≡ true
-not-false true e = refl
-not-false false e = sym e
 
 module _ (r : Reads) (c : Core) (call : Call) (Q : Core → Type 0) (k : CallLeaves r c call Q) where
   judged-leaf : (e : Core) (o : Option ℕ) (s : Served) → Q e → (o ≡ None → Q s.core) → Q (judged e o s).core

@@ -1,24 +1,27 @@
 -- The test of agreement is true exactly where two states agree.
-use Rattle.std.proofs.Common.{◌≡◌, ℕ, zero, suc, ◌+◌, ◌*◌, ◌<◌, ◌≤◌, Bool, true, false, not, cond, ◌==◌, ◌&&◌, ◌||◌, nat_lt, nat_eq, List, [], ◌∷◌, ◌++◌, refl, sym, ◌∙◌, ap, subst, arith, lit<, eq-eqb, eqb-true, Option, Some, None}
-use Rattle.std.specs.Prelude.{IfSome, IsTrue, find, option_map, slice_index}
+use Rattle.std.proofs.Common.{◌≡◌, ℕ, zero, suc, ◌+◌, ◌-◌, ◌*◌, ◌<◌, ◌≤◌, Bool, true, false, not, ◌==◌, ◌||◌, nat_lt, nat_eq, List, [], ◌∷◌, ◌++◌, length, if◌then◌else◌, refl, sym, ◌∙◌, ap, subst, arith, lit<, eq-eqb, eqb-true, Option, Some, None}
+use Rattle.std.specs.Prelude.{IfSome, IsTrue, option_map, slice_index}
 use Rattle.std.specs.Bool.{Decides}
-use Rattle.std.specs.Cmp.Lexicographic.{pointwise, pointwise_decides}
+use Rattle.std.specs.Cmp.Lexicographic.{pointwise_decides}
 use Rattle.std.specs.List.{AllByRecursion, list_all, range_with_len}
 use Rattle.std.specs.Option.{option_eq}
-use Rattle.std.proofs.lemmas.Bool.{eqb-false, ltb-true, ltb-false}
+use Rattle.std.proofs.Math.ListN.{get_or-eq_default}
+use Rattle.std.proofs.lemmas.Bool.{and_from, and_parts, eqb-false, le-ltb, ltb-true, ltb-false}
 use Rattle.std.proofs.lemmas.Bool.Decides.{Decides-and, Decides-eqb, Decides-like}
 use Rattle.mx_words.specs.declared.perm.Perm.{Perm}
 use Rattle.mx_words.specs.declared.perm.Perm.TheVariants as P
 use Rattle.mx_words.specs.declared.perm.Access.TheVariants as A
 use Rattle.mx_words.specs.Rights.{allows, number, same}
+use Rattle.mx_words.specs.Newest.{at, map}
+use Rattle.mx_words.proofs.OverlayLaws.{length-map_of}
 use Rattle.mx_words.proofs.RunLaws.{same_eq}
 use Rattle.mx_model.specs.declared.values.Gate.{Gate}
 use Rattle.mx_model.specs.Agreement.{Agrees, Standing, Runs, Waits, Ended, standing, target_at}
 use Rattle.mx_model.specs.Gates.{gate_at, is_at}
-use Rattle.mx_model.specs.Reads.{Reads}
-use Rattle.mx_model.specs.State.{Core, Hart, hart_at, module_at}
-use Rattle.mx_model.proofs.ListLaws.{all-find, found-passes}
-use Rattle.mx_laws.specs.Comparison.{AreAlike, agrees, same_flag, same_if_read, same_right, same_standing, same_target, same_word}
+use Rattle.mx_model.specs.Reads.{Reads, reads, flat_reads, grants_of, map_in}
+use Rattle.mx_model.specs.State.{Core, State, Flat, hart_at, module_at}
+use Rattle.mx_model.proofs.ListLaws.{all-at, all-find, found-passes}
+use Rattle.mx_laws.specs.Comparison.{AreFit, HasWholeMaps, IsBounded, agrees, same_flag, same_if_read, same_right, same_standing, same_target, same_word}
 
 -- tests on standings, flags, permissions and targets
 decides-standing : (a b : Standing) → Decides (same_standing a b) (a ≡ b)
@@ -48,22 +51,13 @@ decides-target (Some x) None = (λ e. absurd (let q : ⊥ = cc in q), λ p. absu
 decides-target (Some x) (Some y) = Decides-like (nat_eq x y) (λ e. ap (λ (n : ℕ). Some n) e) (λ e. let q : x ≡ y = cc in q) (Decides-eqb x y)
 
 -- a test of all elements
-and-both : (x y : Bool) → x && y ≡ true → (x ≡ true) × (y ≡ true)
-and-both true true e = (refl, refl)
-and-both true false e = (refl, e)
-and-both false y e = absurd (let q : ⊥ = cc in q)
-
-both-and : (x y : Bool) → x ≡ true → y ≡ true → x && y ≡ true
-both-and true y p q = q
-both-and false y p q = p
-
 all-of : (p : Gate → Bool) (xs : List Gate) → list_all p xs ≡ true → AllByRecursion (λ x. p x ≡ true) xs
 all-of p [] e = tt
-all-of p (x ∷ xs) e = let both = and-both (p x) (list_all p xs) e in (both.0, all-of p xs both.1)
+all-of p (x ∷ xs) e = let both = and_parts (p x) (list_all p xs) e in (both.0, all-of p xs both.1)
 
 all-from : (p : Gate → Bool) (xs : List Gate) → ((x : Gate) → p x ≡ true) → list_all p xs ≡ true
 all-from p [] k = refl
-all-from p (x ∷ xs) k = both-and (p x) (list_all p xs) (k x) (all-from p xs k)
+all-from p (x ∷ xs) k = and_from (p x) (list_all p xs) (k x) (all-from p xs k)
 
 all-first : (P : Gate → Type 0) (xs ys : List Gate) → AllByRecursion P (xs ++ ys) → AllByRecursion P xs
 all-first P [] ys p = tt
@@ -77,7 +71,7 @@ all-second P (x ∷ xs) ys p = all-second P xs ys p.1
 range-at : (p : ℕ → Bool) (count a i : ℕ) → list_all p (range_with_len a count) ≡ true → a ≤ i → i < a + count → p i ≡ true
 range-at p zero a i e l m = absurd (let q : ⊥ = omega (arith, l, m) in q)
 range-at p (suc count) a i e l m =
-    let both = and-both (p a) (list_all p (range_with_len (a + 1) count)) e in
+    let both = and_parts (p a) (list_all p (range_with_len (a + 1) count)) e in
     elim (a == i) as (λ b. (a == i) ≡ b → p i ≡ true) [
       | true ↦ λ t. subst (λ (n : ℕ). p n ≡ true) (eqb-true a i t) both.0
       | false ↦ λ t. let n = eqb-false a i t in range-at p count (a + 1) i both.1 (omega (arith, l, n)) (omega (arith, m))
@@ -85,7 +79,7 @@ range-at p (suc count) a i e l m =
 
 range-from : (p : ℕ → Bool) (count a : ℕ) → ((i : ℕ) → p i ≡ true) → list_all p (range_with_len a count) ≡ true
 range-from p zero a k = refl
-range-from p (suc count) a k = both-and (p a) (list_all p (range_with_len (a + 1) count)) (k a) (range-from p count (a + 1) k)
+range-from p (suc count) a k = and_from (p a) (list_all p (range_with_len (a + 1) count)) (k a) (range-from p count (a + 1) k)
 
 -- a fact of the words of RAM that holds outside RAM anyway
 decides-words : (p : ℕ → Bool) (size : ℕ) (W : ℕ → Type 0) → ((i : ℕ) → Decides (p i) (W i)) → ((i : ℕ) → size ≤ i → W i) →
@@ -95,20 +89,23 @@ decides-words p size W d out = (
     | true ↦ λ t. let l = ltb-true i size t in (d i).0 (range-at p size 0 i e (omega arith) (omega (arith, l)))
     | false ↦ λ t. out i (ltb-false i size t)
   ] refl,
-  λ k. range-from p size 0 (λ i. (d i).1 (k i))
-  )
+  λ k. range-from p size 0 (λ i. (d i).1 (k i)),
+)
 
 -- four tests, and a test that is asked where another holds
 decides-four : (p : ℕ → Bool) (W : ℕ → Type 0) → ((k : ℕ) → Decides (p k) (W k)) → Decides (list_all p (0 ∷ 1 ∷ 2 ∷ 3 ∷ [])) ((k : ℕ) → k < 4 → W k)
-decides-four p W d = (each, λ f.
-  both-and (p 0) _ ((d 0).1 (f 0 (lit< tt))) (both-and (p 1) _ ((d 1).1 (f 1 (lit< tt)))
-  (both-and (p 2) _ ((d 2).1 (f 2 (lit< tt))) (both-and (p 3) true ((d 3).1 (f 3 (lit< tt))) refl))))
+decides-four p W d = (
+  each,
+  λ f.
+      and_from (p 0) _ ((d 0).1 (f 0 (lit< tt))) (and_from (p 1) _ ((d 1).1 (f 1 (lit< tt)))
+      (and_from (p 2) _ ((d 2).1 (f 2 (lit< tt))) (and_from (p 3) true ((d 3).1 (f 3 (lit< tt))) refl))),
+)
   where
     each : list_all p (0 ∷ 1 ∷ 2 ∷ 3 ∷ []) ≡ true → (k : ℕ) → k < 4 → W k
-    each e zero l = (d 0).0 (and-both (p 0) _ e).0
-    each e (suc zero) l = (d 1).0 (and-both (p 1) _ (and-both (p 0) _ e).1).0
-    each e (suc (suc zero)) l = (d 2).0 (and-both (p 2) _ (and-both (p 1) _ (and-both (p 0) _ e).1).1).0
-    each e (suc (suc (suc zero))) l = (d 3).0 (and-both (p 3) _ (and-both (p 2) _ (and-both (p 1) _ (and-both (p 0) _ e).1).1).1).0
+    each e zero l = (d 0).0 (and_parts (p 0) _ e).0
+    each e (suc zero) l = (d 1).0 (and_parts (p 1) _ (and_parts (p 0) _ e).1).0
+    each e (suc (suc zero)) l = (d 2).0 (and_parts (p 2) _ (and_parts (p 1) _ (and_parts (p 0) _ e).1).1).0
+    each e (suc (suc (suc zero))) l = (d 3).0 (and_parts (p 3) _ (and_parts (p 2) _ (and_parts (p 1) _ (and_parts (p 0) _ e).1).1).1).0
     each e (suc (suc (suc (suc k)))) l = absurd (let q : ⊥ = omega (arith, l) in q)
 
 decides-where : (b x : Bool) (W : Type 0) → Decides x W → Decides (not b || x) (IsTrue b → W)
@@ -131,7 +128,7 @@ module _ (c e : Core) (d : ℕ) where
   same_at g = same_target c e d g.word
 
   word-of : (i : ℕ) (g : Gate) → is_at d i g ≡ true → g.word ≡ i
-  word-of i g t = eqb-true g.word i (and-both (g.domain == d) (g.word == i) t).1
+  word-of i g t = eqb-true g.word i (and_parts (g.domain == d) (g.word == i) t).1
 
   target-tested : (i : ℕ) (g : Gate) → same_at g ≡ true → is_at d i g ≡ true → target_at c d i ≡ target_at e d i
   target-tested i g t s =
@@ -157,10 +154,10 @@ module _ (c e : Core) (d : ℕ) where
   decides-gates = (targets-same, λ k. all-from same_at (c.gates ++ e.gates) (λ g. (decides-target (target_at c d g.word) (target_at e d g.word)).1 (k g.word)))
 
 -- a right outside RAM
-out-of-ram : (r : Reads) (c : Core) (q : Reads) (e : Core) → AreAlike r c q e → (d i : ℕ) → c.size ≤ i → r.perm d i ≡ q.perm d i
+out-of-ram : (r : Reads) (c : Core) (q : Reads) (e : Core) → AreFit r c q e → (d i : ℕ) → c.size ≤ i → r.perm d i ≡ q.perm d i
 out-of-ram r c q e a d i l = a.first.outside d i l ∙ sym (a.second.outside d i (subst (λ (n : ℕ). n ≤ i) a.words l))
 
-unread-outside : (r : Reads) (c : Core) (q : Reads) (e : Core) → AreAlike r c q e → (d i : ℕ) → c.size ≤ i →
+unread-outside : (r : Reads) (c : Core) (q : Reads) (e : Core) → AreFit r c q e → (d i : ℕ) → c.size ≤ i →
     IsTrue (allows (r.perm d i) A.Read) → SameBytes c e i
 unread-outside r c q e a d i l p =
     let n : allows P.None A.Read ≡ true = subst (λ (x : Perm). allows x A.Read ≡ true) (a.first.outside d i l) p in
@@ -171,7 +168,7 @@ decides-none : Decides true (Unit {0})
 decides-none = (λ n. tt, λ n. refl)
 
 -- the test
-pub agrees-decides : (r q : Reads) (c e : Core) (h : ℕ) → AreAlike r c q e → Decides (agrees r c q e h) (Agrees r c q e h)
+pub agrees-decides : (r q : Reads) (c e : Core) (h : ℕ) → AreFit r c q e → Decides (agrees r c q e h) (Agrees r c q e h)
 agrees-decides r q c e h a =
     let x = hart_at c h in
     let y = hart_at e h in
@@ -197,3 +194,17 @@ agrees-decides r q c e h a =
     (Decides-and _ _ (decides-gates c e d)
     (Decides-and _ _ (decides-words (same_if_read r c e d) c.size (λ i. IsTrue (allows (r.perm d i) A.Read) → SameBytes c e i) (decides-bytes r c e d) (unread-outside r c q e a d))
     decides-none))))))))
+
+-- no right outside RAM
+pub bounded-state : (s : State) → IsBounded (reads s) s.core
+bounded-state s = record {
+  outside = λ d word l. ap (λ (b : Bool). if b then at (grants_of s.grants d) word else P.None) (le-ltb word s.core.size l);
+}
+
+pub bounded-flat : (f : Flat) → HasWholeMaps f → IsBounded (flat_reads f) f.core
+bounded-flat f p = record {
+  outside = λ d word l.
+      let size = f.core.size in
+      let count : length (map_in size f.maps d) ≡ size = all-at (λ (m : List Perm). length m ≡ size) f.maps (map [] size) p (length-map_of [] size) (d - 1) in
+      get_or-eq_default (map_in size f.maps d) P.None (subst (λ (n : ℕ). n ≤ word) (sym count) l);
+}

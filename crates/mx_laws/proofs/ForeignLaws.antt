@@ -1,33 +1,34 @@
 -- A turn leaves each word that its hart's domain may not write, but for the block of an alloc.
-use Rattle.std.proofs.Common.{◌≡◌, ◌≢◌, ℕ, zero, suc, ◌+◌, ◌-◌, ◌*◌, ◌/◌, ◌%◌, ◌<◌, ◌≤◌, ◌⊎◌, Bool, true, false, not, cond, ◌==◌, ◌&&◌, nat_lt, nat_le, List, [], ◌∷◌, ◌++◌, length, get_or, set, take, drop, replicate, refl, sym, ◌∙◌, ap, subst, arith, if◌then◌else◌, Option, Some, None, ⊎_elim, inl, inr}
-use Rattle.std.proofs.lemmas.Bool.{ltb-true, ltb-false, leb-true, leb-false}
-use Rattle.std.proofs.lemmas.List.{length-set, get_or-set_same, get_or-set_other}
+use Rattle.std.proofs.Common.{◌≡◌, ◌≢◌, ℕ, zero, suc, ◌+◌, ◌-◌, ◌*◌, ◌/◌, ◌%◌, ◌<◌, ◌≤◌, ◌⊎◌, Bool, true, false, not, cond, ◌==◌, ◌&&◌, nat_lt, nat_le, List, length, get_or, set, refl, sym, ◌∙◌, ap, subst, arith, Option, Some, None, ⊎_elim, inl, inr}
+use Rattle.std.proofs.lemmas.Bool.{and_parts, ltb-true, ltb-false, leb-true, leb-false}
+use Rattle.std.proofs.lemmas.List.{get_or-set_same, get_or-set_other}
 use Rattle.std.proofs.lemmas.Grind.{common_steps}
 use Rattle.mx_words.specs.declared.perm.Access.TheVariants as A
 use Rattle.mx_words.specs.Bytes.{put_at, cleared_at, IsSize}
 use Rattle.mx_words.specs.Caches.{Cache}
-use Rattle.mx_words.specs.FirstFit.{Area, has_room, with_block}
+use Rattle.mx_words.specs.FirstFit.{Area, has_room}
 use Rattle.mx_words.specs.Ranges.{covers, ram_base}
 use Rattle.mx_words.specs.Rights.{allows}
 use Rattle.mx_model.specs.declared.values.Call.{Call}
 use Rattle.mx_model.specs.declared.values.Frame.{Frame}
 use Rattle.mx_model.specs.declared.values.TurnKind.TheVariants as T
 use Rattle.mx_model.specs.Agreement.{Ended, standing}
-use Rattle.mx_model.specs.Checks.{arg, is_halted}
+use Rattle.mx_model.specs.Checks.{arg}
 use Rattle.mx_model.specs.Effect.{next}
 use Rattle.mx_model.specs.Gates.{top}
 use Rattle.mx_model.specs.Reads.{Reads}
 use Rattle.mx_model.specs.Serve.{Served, Alloc, service, serve, allocated, arg_word, with_blocks}
-use Rattle.mx_model.specs.State.{Core, Hart, Module, Status, Running, Waiting, Halted, hart_at, module_at, with_module, no_module}
+use Rattle.mx_model.specs.State.{Core, Hart, Module, hart_at, module_at, with_module, no_module}
 use Rattle.mx_model.specs.Turn.{Action, Rests, Waits, Serves, Asks, Traps, Bounces, Crosses, Returns, Runs, Writes, Made, acted, answered, asked, by_status, call_of, done, given_up, halted, is_denied, is_served_now, killed, served, trapped, turned, with_regs}
 use Rattle.mx_model.specs.Valid.{IsValid}
 use Rattle.mx_model.proofs.ValidParts.{home-at}
-use Rattle.mx_laws.specs.Foreign.{domain_of, heap_of, IsForeign, IsKept, IsZero, TakesBlock, ForeignAfter, Stay, AllButBlock}
+use Rattle.mx_laws.specs.After.{domain_at}
+use Rattle.mx_laws.specs.Foreign.{heap_of, IsForeign, ForeignAfter, AllKept, AllButBlock}
 use Rattle.mx_laws.proofs.ReadLaws.{allowed-if, inside-word}
 use Rattle.mx_laws.proofs.CallWalk.{CallLeaves, served-walk}
 use Rattle.mx_laws.proofs.Lawful.{IsLawful, OwnCall, lawful-turn, present}
 use Rattle.mx_laws.proofs.TurnParts.{apart, by-action}
-use Rattle.mx_laws.proofs.TwinLaws.{kind-asked}
+use Rattle.mx_laws.proofs.TwinLaws.{ended-rests, kind-asked}
 
 -- a byte beside a store
 put-beside : (size : ℕ) (xs : List ℕ) (k n j : ℕ) → (j < k) ⊎ (k + size ≤ j) → get_or (put_at xs k size n) j 0 ≡ get_or xs j 0
@@ -47,14 +48,9 @@ unfolding cleared_at
 cleared-inside xs k n j p a b = grind (arith, common_steps)
 
 -- a word covered by an area, and one beside it
-and-both : (x y : Bool) → x && y ≡ true → (x ≡ true) × (y ≡ true)
-and-both true true e = (refl, refl)
-and-both true false e = (refl, e)
-and-both false y e = absurd (let q : ⊥ = cc in q)
-
 covered : (first count w : ℕ) → covers first count w ≡ true → (first ≤ w) × (w < first + count)
 covered first count w e =
-    let both = and-both (nat_le first w) (nat_lt (w - first) count) e in
+    let both = and_parts (nat_le first w) (nat_lt (w - first) count) e in
     let a = leb-true first w both.0 in
     let b = ltb-true (w - first) count both.1 in
     (a, omega (arith, a, b))
@@ -67,11 +63,12 @@ uncovered first count w e = elim (nat_le first w) as (λ b. nat_le first w ≡ b
 
 -- a state with the same RAM and modules
 foreign-moved : (r : Reads) (c : Core) (h : ℕ) (e f : Core) → f.ram ≡ e.ram → f.modules ≡ e.modules → ForeignAfter r c h e → ForeignAfter r c h f
-foreign-moved r c h e f n m (Stay p) = Stay (λ w g k l. ap (λ (xs : List ℕ). get_or xs (4 * w + k) 0) n ∙ p w g k l)
+foreign-moved r c h e f n m (AllKept p) = AllKept (λ w g k l. ap (λ (xs : List ℕ). get_or xs (4 * w + k) 0) n ∙ p w g k l)
 foreign-moved r c h e f n m (AllButBlock p) = AllButBlock (record {
   call = p.call;
   block = p.block;
-  taken = ap (λ (ms : List Module). (get_or ms (domain_of c h - 1) no_module).blocks) m ∙ p.taken;
+  count = p.count;
+  taken = ap (λ (ms : List Module). (get_or ms (domain_at c h - 1) no_module).blocks) m ∙ p.taken;
   low = p.low;
   high = p.high;
   zero = λ w g k l. ap (λ (xs : List ℕ). get_or xs (4 * w + k) 0) n ∙ p.zero w g k l;
@@ -79,18 +76,18 @@ foreign-moved r c h e f n m (AllButBlock p) = AllButBlock (record {
 })
 
 foreign-ram : (r : Reads) (c : Core) (h : ℕ) (e : Core) → e.ram ≡ c.ram → ForeignAfter r c h e
-foreign-ram r c h e n = Stay (λ w g k l. ap (λ (xs : List ℕ). get_or xs (4 * w + k) 0) n)
+foreign-ram r c h e n = AllKept (λ w g k l. ap (λ (xs : List ℕ). get_or xs (4 * w + k) 0) n)
 
 -- a store to a word that the domain may write
 module _ (r : Reads) (c : Core) (h : ℕ) where
-  other-word : (w v : ℕ) → IsForeign r c h w → allows (r.perm (domain_of c h) v) A.Write ≡ true → w ≢ v
+  other-word : (w v : ℕ) → IsForeign r c h w → allows (r.perm (domain_at c h) v) A.Write ≡ true → w ≢ v
   other-word w v f a e =
-      let k : true ≡ false = sym a ∙ sym (ap (λ (i : ℕ). allows (r.perm (domain_of c h) i) A.Write) e) ∙ f in
+      let k : true ≡ false = sym a ∙ sym (ap (λ (i : ℕ). allows (r.perm (domain_at c h) i) A.Write) e) ∙ f in
       let q : ⊥ = cc in q
 
-  kept-store : (e : Core) (v offset size n : ℕ) → offset + size ≤ 4 → allows (r.perm (domain_of c h) v) A.Write ≡ true →
+  kept-store : (e : Core) (v offset size n : ℕ) → offset + size ≤ 4 → allows (r.perm (domain_at c h) v) A.Write ≡ true →
       e.ram ≡ put_at c.ram (4 * v + offset) size n → ForeignAfter r c h e
-  kept-store e v offset size n s a i = Stay (λ w f k l.
+  kept-store e v offset size n s a i = AllKept (λ w f k l.
       let apart : w ≢ v = other-word w v f a in
       ap (λ (xs : List ℕ). get_or xs (4 * w + k) 0) i ∙ put-beside size c.ram (4 * v + offset) n (4 * w + k) (beside w v k offset size s l apart))
     where
@@ -100,10 +97,10 @@ module _ (r : Reads) (c : Core) (h : ℕ) where
         | false ↦ λ t. let q = ltb-false w v t in let d : v < w = omega (arith, q, n) in inr (omega (arith, d, s))
       ] refl
 
-  kept-write : (e : Core) (address size value : ℕ) → IsSize size → address % size ≡ 0 → is_denied r c (domain_of c h) address A.Write ≡ false →
+  kept-write : (e : Core) (address size value : ℕ) → IsSize size → address % size ≡ 0 → is_denied r c (domain_at c h) address A.Write ≡ false →
       e.ram ≡ put_at c.ram (address - ram_base) size value → ForeignAfter r c h e
   kept-write e address size value s a n i =
-      let may = allowed-if r c (domain_of c h) address A.Write n in
+      let may = allowed-if r c (domain_at c h) address A.Write n in
       let offset = (address - ram_base) % 4 in
       let place : 4 * ((address - ram_base) / 4) + offset ≡ address - ram_base = omega arith in
       kept-store e ((address - ram_base) / 4) offset size value (inside-word address size may.low s a) may.right
@@ -116,8 +113,8 @@ record HasRoom (area : Area) (n first : ℕ) : Type 0 where
 
 room-is : (area : Area) (blocks : List Area) (n first : ℕ) → has_room area blocks n first ≡ true → HasRoom area n first
 room-is area blocks n first e =
-    let outer = and-both (nat_le area.first first && nat_le (first + n) (area.first + area.count)) _ e in
-    let inner = and-both (nat_le area.first first) (nat_le (first + n) (area.first + area.count)) outer.0 in
+    let outer = and_parts (nat_le area.first first && nat_le (first + n) (area.first + area.count)) _ e in
+    let inner = and_parts (nat_le area.first first) (nat_le (first + n) (area.first + area.count)) outer.0 in
     record { low = leb-true area.first first inner.0; high = leb-true (first + n) (area.first + area.count) inner.1 }
 
 -- a call of hart h, served in a state with other harts and caches
@@ -129,7 +126,7 @@ module _ (r : Reads) (c : Core) (h : ℕ) (v : IsValid c) (l : h < length c.hart
   call = call_of h (hart_at c h)
 
   abbrev domain : ℕ
-  domain = domain_of c h
+  domain = domain_at c h
 
   blocks-after : (cleared : Core) (blocks : List Area) → cleared.modules ≡ c.modules →
       (module_at (with_blocks call blocks cleared) domain).blocks ≡ blocks
@@ -151,6 +148,7 @@ module _ (r : Reads) (c : Core) (h : ℕ) (v : IsValid c) (l : h < length c.hart
       AllButBlock (record {
         call = s;
         block = record { first = first; count = n };
+        count = refl;
         taken = blocks-after (record seen { ram = cleared_at c.ram (4 * first) (4 * n) }) _ refl;
         low = room.low;
         high = room.high;
@@ -239,12 +237,7 @@ ram-halted r c h e =
     let x = hart_at c h in
     let before = apart c t.turns t.harts t.before in
     ap (λ (m : Made). m.core.ram) t.is
-    ∙ ap (λ (a : Action). (acted r (apart c t.turns t.harts t.after) h x a).core.ram) (rests r before h x x.status e)
-  where
-    rests : (r : Reads) (c : Core) (h : ℕ) (x : Hart) (s : Status) → standing s ≡ Ended → (by_status r c h x s).action ≡ Rests
-    rests r c h x Running e = absurd (let q : ⊥ = cc in q)
-    rests r c h x (Waiting call heard) e = absurd (let q : ⊥ = cc in q)
-    rests r c h x (Halted code) e = refl
+    ∙ ap (λ (a : Action). (acted r (apart c t.turns t.harts t.after) h x a).core.ram) (ended-rests r before h x x.status e)
 
 ram-waited : (r : Reads) (c : Core) (h : ℕ) (x : Hart) (a : Action) → (acted r c h x a).kind ≡ T.Waited → (acted r c h x a).core.ram ≡ c.ram
 ram-waited r c h x Rests e = refl

@@ -1,5 +1,5 @@
 -- A turn keeps its hart's frames, pushes one, or gives up the top one and goes on as that one holds; other harts' frames stay.
-use Rattle.std.proofs.Common.{◌≡◌, ◌≢◌, ℕ, zero, suc, ◌-◌, ◌<◌, Bool, true, false, not, cond, ◌==◌, ◌&&◌, ◌||◌, List, [], ◌∷◌, ◌++◌, length, get_or, set, take, fold, refl, sym, ◌∙◌, ap, subst, arith, eq-eqb, Option, Some, None, unwrap_or, ⊎_elim, rules}
+use Rattle.std.proofs.Common.{◌≡◌, ◌≢◌, ℕ, ◌-◌, ◌<◌, Bool, true, false, not, cond, ◌==◌, ◌&&◌, ◌||◌, List, [], ◌∷◌, ◌++◌, length, get_or, set, take, fold, refl, sym, ◌∙◌, ap, subst, arith, eq-eqb, Option, Some, None, unwrap_or, ⊎_elim, rules}
 use Rattle.std.proofs.Common.{map as list_map}
 use Rattle.std.specs.Prelude.{IfSome, slice_set, zip}
 use Rattle.std.specs.List.{AllByRecursion, list_any, last_or}
@@ -7,19 +7,18 @@ use Rattle.std.proofs.lemmas.List.{length-set, get_or-set_same, get_or-set_other
 use Rattle.mx_words.specs.Hearing.{nobody}
 use Rattle.mx_model.specs.declared.values.Call.{Call}
 use Rattle.mx_model.specs.declared.values.Frame.{Frame}
-use Rattle.mx_model.specs.declared.values.Gate.{Gate}
 use Rattle.mx_model.specs.Effect.{next, reg, written}
 use Rattle.mx_model.specs.Gates.{top, below_top, nearest}
 use Rattle.mx_model.specs.Reads.{Reads}
 use Rattle.mx_model.specs.Serve.{Served, serve}
-use Rattle.mx_model.specs.State.{Core, Hart, Module, Running, Waiting, Halted, no_hart, hart_at, module_at, with_module}
-use Rattle.mx_model.specs.Turn.{Action, Rests, Waits, Serves, Asks, Traps, Bounces, Crosses, Returns, Runs, Writes, Made, acted, answered, asked, by_status, done, fault_answer, given_up, halted, is_served_now, killed, over_frame, restored, saved, saved_registers, served, stack_address, trapped, turned, with_regs}
-use Rattle.mx_model.specs.Valid.{IsFrame, IsHart, IsValid}
+use Rattle.mx_model.specs.State.{Core, Hart, Running, Waiting, Halted, no_hart, hart_at, module_at, with_module}
+use Rattle.mx_model.specs.Turn.{Action, Rests, Waits, Serves, Asks, Traps, Bounces, Crosses, Returns, Runs, Writes, Made, acted, answered, asked, by_status, done, fault_answer, given_up, halted, is_served_now, killed, restored, saved, saved_registers, stack_address, turned, with_regs}
+use Rattle.mx_model.specs.Valid.{IsFrame, IsValid}
 use Rattle.mx_model.proofs.ListLaws.{all-last}
-use Rattle.mx_laws.specs.Crossing.{frame_of, IsBack, FramesAfter, Stay, OneMore, OneLess}
+use Rattle.mx_laws.specs.Crossing.{frame_of, FramesAfter, Stay, OneMore, OneLess}
 use Rattle.mx_laws.proofs.CallWalk.{CallLeaves, served-walk}
 use Rattle.mx_laws.proofs.Lawful.{IsLawful, AnyCall, OwnCall, lawful-any, lawful-turn, present}
-use Rattle.mx_laws.proofs.TurnParts.{HaveHeard, apart, by-action}
+use Rattle.mx_laws.proofs.TurnParts.{apart, by-action}
 
 -- the list with its last element behind it
 last-split : (x f : Frame) (xs : List Frame) → last_or (Some x) xs ≡ Some f → (x ∷ xs) ≡ take (length xs) (x ∷ xs) ++ f ∷ []

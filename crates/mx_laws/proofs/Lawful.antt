@@ -1,10 +1,9 @@
 -- What each action of a hart stands on, in a valid state.
-use Rattle.std.proofs.Common.{◌≡◌, ℕ, ◌%◌, ◌<◌, Bool, true, false, List, length, refl, sym, ◌∙◌, ap, subst, if◌then◌else◌, Option, Some, ◌⊎◌, inl, inr}
+use Rattle.std.proofs.Common.{◌≡◌, ℕ, ◌%◌, ◌<◌, Bool, true, false, List, length, refl, if◌then◌else◌, Some, ◌⊎◌, inl, inr}
 use Rattle.mx_words.specs.declared.perm.Access.TheVariants as A
 use Rattle.mx_words.specs.Bytes.{IsSize}
 use Rattle.mx_words.specs.Caches.{Cache}
 use Rattle.mx_model.specs.declared.values.Call.{Call}
-use Rattle.mx_model.specs.declared.values.Frame.{Frame}
 use Rattle.mx_model.specs.Agreement.{Border}
 use Rattle.mx_model.specs.Checks.{is_halted, is_ready}
 use Rattle.mx_model.specs.Gates.{top}
@@ -12,7 +11,7 @@ use Rattle.mx_model.specs.Reads.{Reads}
 use Rattle.mx_model.specs.State.{Core, Hart, Status, Running, Waiting, Halted, hart_at}
 use Rattle.mx_model.specs.Turn.{Action, Rests, Waits, Serves, Asks, Traps, Bounces, Crosses, Returns, Runs, Writes, call_of, is_denied, by_status}
 use Rattle.mx_model.specs.Valid.{IsStatus, IsValid}
-use Rattle.mx_laws.proofs.Walk.{Leaves, IsPassing, IsReturning, same-self, walk}
+use Rattle.mx_laws.proofs.Walk.{Leaves, IsPassing, Stopped, SentBack, Passed, IsReturning, Refused, Returned, same-self, walk}
 use Rattle.mx_laws.proofs.TurnParts.{apart, there}
 
 -- a store is aligned and allowed; a call is that of the hart; a return is over the top frame; and a call that a hart waited on is as told
@@ -29,30 +28,14 @@ WaitsOn V Running = Unit {0}
 WaitsOn V (Waiting call heard) = V call
 WaitsOn V (Halted code) = Unit {0}
 
-
 lawful-passing : (V : Call → Type 0) (r : Reads) (c : Core) (h : ℕ) (x : Hart) (a : Action) → IsPassing a → IsLawful V r c h x a
-lawful-passing V r c h x (Traps cause value) p = tt
-lawful-passing V r c h x Bounces p = tt
-lawful-passing V r c h x (Crosses target) p = tt
-lawful-passing V r c h x Rests p = absurd p
-lawful-passing V r c h x Waits p = absurd p
-lawful-passing V r c h x (Serves call) p = absurd p
-lawful-passing V r c h x (Asks call) p = absurd p
-lawful-passing V r c h x (Returns rd frame) p = absurd p
-lawful-passing V r c h x (Runs regs pc) p = absurd p
-lawful-passing V r c h x (Writes address size value) p = absurd p
+lawful-passing V r c h x a (Stopped cause value) = tt
+lawful-passing V r c h x a SentBack = tt
+lawful-passing V r c h x a (Passed target) = tt
 
 lawful-returning : (V : Call → Type 0) (r : Reads) (c : Core) (h : ℕ) (x : Hart) (a : Action) → IsReturning x a → IsLawful V r c h x a
-lawful-returning V r c h x (Traps cause value) p = tt
-lawful-returning V r c h x (Returns rd frame) p = p
-lawful-returning V r c h x Bounces p = absurd p
-lawful-returning V r c h x (Crosses target) p = absurd p
-lawful-returning V r c h x Rests p = absurd p
-lawful-returning V r c h x Waits p = absurd p
-lawful-returning V r c h x (Serves call) p = absurd p
-lawful-returning V r c h x (Asks call) p = absurd p
-lawful-returning V r c h x (Runs regs pc) p = absurd p
-lawful-returning V r c h x (Writes address size value) p = absurd p
+lawful-returning V r c h x a (Refused cause value) = tt
+lawful-returning V r c h x a (Returned rd frame p) = p
 
 lawful-leaves : (V : Call → Type 0) (r : Reads) (c : Core) (h : ℕ) (x : Hart) → Leaves r c h x x.frames x.status (λ (k : Border) (a : Action) (l : Border) (b : Action). IsLawful V r c h x a)
 lawful-leaves V r c h x = record {

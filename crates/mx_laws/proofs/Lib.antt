@@ -8,3 +8,4 @@ pub mod Lawful
 pub mod ForeignLaws
 pub mod FrameLaws
 pub mod ComparisonLaws
+pub mod Examples

@@ -1,8 +1,8 @@
 -- Where two states agree for a hart, its turn reads the same in both.
-use Rattle.std.proofs.Common.{◌≡◌, ℕ, zero, suc, ◌+◌, ◌-◌, ◌*◌, ◌/◌, ◌%◌, ◌<◌, ◌≤◌, Bool, true, false, not, cond, ◌==◌, ◌&&◌, nat_le, nat_lt, List, [], ◌∷◌, length, get_or, refl, sym, ◌∙◌, ap, subst, arith, eqb-true, if◌then◌else◌, Option, Some, None, ⊎_elim, inl, inr}
-use Rattle.std.specs.Prelude.{IfSome, IsTrue, find, option_map, slice_index}
+use Rattle.std.proofs.Common.{◌≡◌, ℕ, zero, suc, ◌+◌, ◌-◌, ◌*◌, ◌/◌, ◌%◌, ◌<◌, ◌≤◌, Bool, true, false, not, ◌==◌, nat_le, nat_lt, List, get_or, refl, sym, ◌∙◌, ap, subst, arith, eqb-true, if◌then◌else◌, Option, Some, None, ⊎_elim, inl, inr}
+use Rattle.std.specs.Prelude.{IfSome, option_map}
 use Rattle.std.specs.Option.{option_map_or}
-use Rattle.std.proofs.lemmas.Bool.{leb-true, ltb-true}
+use Rattle.std.proofs.lemmas.Bool.{and_parts, leb-true, ltb-true, not-false}
 use Rattle.mx_words.specs.declared.perm.Perm.{Perm}
 use Rattle.mx_words.specs.declared.perm.Perm.TheVariants as P
 use Rattle.mx_words.specs.declared.perm.Access.{Access}
@@ -14,7 +14,7 @@ use Rattle.mx_isa.specs.declared.inst.LoadWidth.{LoadWidth}
 use Rattle.mx_isa.specs.declared.inst.LoadWidth.TheVariants.{Lb, Lh, Lw, Lbu, Lhu}
 use Rattle.mx_model.specs.declared.values.Gate.{Gate}
 use Rattle.mx_model.specs.declared.values.Frame.{Frame}
-use Rattle.mx_model.specs.Agreement.{Agrees, target_at}
+use Rattle.mx_model.specs.Agreement.{target_at}
 use Rattle.mx_model.specs.Effect.{load_size}
 use Rattle.mx_model.specs.Gates.{call_gate, call_target, is_return, gate_at, is_at}
 use Rattle.mx_model.specs.Reads.{Reads}
@@ -36,11 +36,7 @@ perm-same r c q e d address n m =
 
 -- gates by their targets
 for-domain : (d w : ℕ) (g : Gate) → is_at d w g ≡ true → g.domain ≡ d
-for-domain d w g e = eqb-true g.domain d (and-left (g.domain == d) (g.word == w) e)
-  where
-    and-left : (x y : Bool) → x && y ≡ true → x ≡ true
-    and-left true y e = refl
-    and-left false y e = e
+for-domain d w g e = eqb-true g.domain d (and_parts (g.domain == d) (g.word == w) e).0
 
 abbrev passes : ℕ → ℕ → Option ℕ
 passes d target = if target == d then None else Some target
@@ -88,19 +84,10 @@ pub record IsAllowed (r : Reads) (c : Core) (d address : ℕ) (access : Access) 
   pub high : address - ram_base < 4 * c.size
   pub right : allows (r.perm d ((address - ram_base) / 4)) access ≡ true
 
-not-false : (b : Bool) → not b ≡ false → b ≡ true
-not-false true e = refl
-not-false false e = sym e
-
-and-both : (x y : Bool) → x && y ≡ true → (x ≡ true) × (y ≡ true)
-and-both true true e = (refl, refl)
-and-both true false e = (refl, e)
-and-both false y e = absurd (let q : ⊥ = cc in q)
-
 allowed-word : (r : Reads) (c : Core) (d address : ℕ) (access : Access) (b : Bool) → in_ram address c.size ≡ b →
     not (allows (option_map_or (r.perm d) (if b then Some ((address - ram_base) / 4) else None) P.None) access) ≡ false → IsAllowed r c d address access
 allowed-word r c d address access true t e =
-    let both = and-both (nat_le ram_base address) (nat_lt (address - ram_base) (4 * c.size)) t in
+    let both = and_parts (nat_le ram_base address) (nat_lt (address - ram_base) (4 * c.size)) t in
     record { low = leb-true ram_base address both.0; high = ltb-true (address - ram_base) (4 * c.size) both.1; right = not-false _ e }
 allowed-word r c d address access false t e = absurd (let q : ⊥ = cc in q)
 
@@ -120,8 +107,10 @@ inside-word address size l s a = ⊎_elim (λ e. one e a) (⊎_elim (λ e. two e
   where
     one : size ≡ 1 → address % size ≡ 0 → (address - ram_base) % 4 + size ≤ 4
     one e a = omega (arith, e)
+
     two : size ≡ 2 → address % size ≡ 0 → (address - ram_base) % 4 + size ≤ 4
     two e a = let b : address % 2 ≡ 0 = subst (λ (n : ℕ). address % n ≡ 0) e a in omega (arith, e, b, l)
+
     four : size ≡ 4 → address % size ≡ 0 → (address - ram_base) % 4 + size ≤ 4
     four e a = let b : address % 4 ≡ 0 = subst (λ (n : ℕ). address % n ≡ 0) e a in omega (arith, e, b, l)
 

@@ -1,20 +1,18 @@
 -- A turn of hart h is one action, done in a state that differs from the one before in the number of turns, in caches and in what the other harts'
 -- calls have been heard by.
-use Rattle.std.proofs.Common.{◌≡◌, ◌≢◌, ℕ, zero, suc, ◌+◌, ◌<◌, ◌≤◌, Bool, true, false, cond, ◌==◌, nat_lt, List, [], ◌∷◌, length, get_or, set, refl, sym, ◌∙◌, ap, subst, arith, eqb-true, zero-add, if◌then◌else◌, Option}
+use Rattle.std.proofs.Common.{◌≡◌, ℕ, ◌+◌, ◌<◌, ◌≤◌, Bool, true, false, cond, ◌==◌, nat_lt, List, [], ◌∷◌, length, get_or, refl, sym, ◌∙◌, ap, subst, zero-add, if◌then◌else◌}
 use Rattle.std.proofs.Common.{map as list_map}
 use Rattle.std.specs.List.{enumerate_from}
 use Rattle.std.proofs.Math.ListN.{get_or-eq_default}
 use Rattle.std.proofs.lemmas.Bool.{ltb-true, ltb-false, eqb-false}
-use Rattle.std.proofs.lemmas.List.{length-set, length-map, get_or-set_same, get_or-set_other, get_or-map}
+use Rattle.std.proofs.lemmas.List.{length-map, get_or-map}
 use Rattle.std.proofs.lemmas.List.FromFn.{length-enumerate_from, get_or-enumerate_from}
 use Rattle.mx_words.specs.Caches.{Cache}
-use Rattle.mx_model.specs.declared.values.Call.{Call}
-use Rattle.mx_model.specs.declared.values.Frame.{Frame}
 use Rattle.mx_model.specs.Agreement.{standing}
 use Rattle.mx_model.specs.Checks.{Look, hears, heard_by, looked, looked_all, is_halted}
 use Rattle.mx_model.specs.Reads.{Reads}
 use Rattle.mx_model.specs.State.{Core, Hart, Status, Running, Waiting, Halted, no_hart, hart_at}
-use Rattle.mx_model.specs.Turn.{Action, Decided, Made, acted, enacted, decide, heard_first, counted, turned, by_status}
+use Rattle.mx_model.specs.Turn.{Decided, acted, enacted, decide, heard_first, counted, turned, by_status}
 use Rattle.mx_model.proofs.ValidParts.{hearing}
 
 -- a hart that another one hears has what it had but for the set of those who have heard its call

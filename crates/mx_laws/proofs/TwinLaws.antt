@@ -1,30 +1,21 @@
 -- Twin turns: one border, one store, and agreement afterwards.
-use Rattle.std.proofs.Common.{◌≡◌, ◌≢◌, ◌↔◌, ℕ, zero, suc, ◌+◌, ◌-◌, ◌/◌, ◌%◌, ◌<◌, ◌≤◌, Bool, true, false, cond, ◌==◌, nat_lt, List, [], ◌∷◌, length, get_or, set, refl, sym, ◌∙◌, ap, subst, arith, lit≤, eqb-true, if◌then◌else◌, Option, Some, None, ⊎_elim, inl, inr}
-use Rattle.std.proofs.lemmas.Bool.{eqb-false}
-use Rattle.std.proofs.lemmas.List.{length-set, get_or-set_same, get_or-set_other}
-use Rattle.mx_words.specs.declared.perm.Perm.{Perm}
-use Rattle.mx_words.specs.declared.perm.Perm.TheVariants as P
-use Rattle.mx_words.specs.declared.perm.Access.TheVariants as A
+use Rattle.std.proofs.Common.{◌≡◌, ◌≢◌, ◌↔◌, ℕ, ◌-◌, ◌<◌, ◌≤◌, Bool, true, false, List, length, get_or, set, refl, sym, ◌∙◌, ap, subst, arith, lit≤, if◌then◌else◌, None, ⊎_elim}
+use Rattle.std.proofs.lemmas.List.{get_or-set_same, get_or-set_other}
 use Rattle.mx_words.specs.Bytes.{put_at, IsSize}
 use Rattle.mx_words.specs.Caches.{Cache}
-use Rattle.mx_words.specs.Newest.{Give, at}
 use Rattle.mx_words.specs.Ranges.{ram_base}
-use Rattle.mx_words.specs.Rights.{allows, perm_at}
 use Rattle.mx_model.specs.declared.values.Call.{Call}
 use Rattle.mx_model.specs.declared.values.Frame.{Frame}
-use Rattle.mx_model.specs.declared.values.TurnKind.{TurnKind}
 use Rattle.mx_model.specs.declared.values.TurnKind.TheVariants as T
-use Rattle.mx_model.specs.Agreement.{Agrees, Border, Nothing, agree, border, border_in, flat_agree, standing, target_at}
-use Rattle.mx_model.specs.Checks.{is_halted}
+use Rattle.mx_model.specs.Agreement.{Border, Ended, Nothing, border, border_in, standing}
+use Rattle.mx_model.specs.Checks.{is_halted, is_ready}
 use Rattle.mx_model.specs.Effect.{next}
-use Rattle.mx_model.specs.Reads.{Reads, Change, reads, flat_reads, grants_of, map_in}
-use Rattle.mx_model.specs.Run.{turn, flat_turn, made_of, flat_made, after, flat_after, grants_after, maps_after}
-use Rattle.mx_model.specs.State.{Core, Hart, Status, Running, Waiting, Halted, State, Flat, no_hart, hart_at, module_at}
+use Rattle.mx_model.specs.Reads.{Reads}
+use Rattle.mx_model.specs.State.{Core, Hart, Status, Running, Waiting, Halted, no_hart, hart_at, module_at}
 use Rattle.mx_model.specs.Turn.{Action, Rests, Waits, Serves, Asks, Traps, Bounces, Crosses, Returns, Runs, Writes, Made, acted, asked, by_status, is_served_now, runs_in, turned}
-use Rattle.mx_model.proofs.KeepLaws.{size-turned}
-use Rattle.mx_laws.specs.Twins.{IsRunning, AreTwins, AreFreeTwins, Store, stored, MakeOneStore, free_twins, flat_free_twins}
-use Rattle.mx_laws.proofs.Walk.{SameReadings, same-self, Leaves, IsPassing, IsReturning, other, walk}
-use Rattle.mx_laws.proofs.TurnParts.{IsAlike, HaveHeard, TurnsBy, apart, by-action, there}
+use Rattle.mx_laws.specs.Twins.{IsRunning, AreTwins, AreFreeTwins, Store, stored, MakeOneStore}
+use Rattle.mx_laws.proofs.Walk.{same-self, Leaves, IsPassing, Stopped, SentBack, Passed, IsReturning, Refused, Returned, walk}
+use Rattle.mx_laws.proofs.TurnParts.{IsAlike, TurnsBy, apart, by-action, there}
 use Rattle.mx_laws.proofs.ReadLaws.{same-readings, other-hart}
 
 -- an action that an instruction makes without a border, and the store that it makes
@@ -46,28 +37,13 @@ record AreOne (k : Border) (a : Action) (l : Border) (b : Action) : Type 0 where
   few : k ≡ Nothing → (store_of a).size ≤ 4
 
 passing-stops : (a : Action) → IsPassing a → IsRun a → ⊥
-passing-stops (Traps cause value) p q = q
-passing-stops Bounces p q = q
-passing-stops (Crosses target) p q = q
-passing-stops Rests p q = p
-passing-stops Waits p q = p
-passing-stops (Serves call) p q = p
-passing-stops (Asks call) p q = p
-passing-stops (Returns rd frame) p q = p
-passing-stops (Runs regs pc) p q = p
-passing-stops (Writes address size value) p q = p
+passing-stops a (Stopped cause value) q = q
+passing-stops a SentBack q = q
+passing-stops a (Passed target) q = q
 
 returning-stops : (x : Hart) (a : Action) → IsReturning x a → IsRun a → ⊥
-returning-stops x (Traps cause value) p q = q
-returning-stops x (Returns rd frame) p q = q
-returning-stops x Bounces p q = p
-returning-stops x (Crosses target) p q = p
-returning-stops x Rests p q = p
-returning-stops x Waits p q = p
-returning-stops x (Serves call) p q = p
-returning-stops x (Asks call) p q = p
-returning-stops x (Runs regs pc) p q = p
-returning-stops x (Writes address size value) p q = p
+returning-stops x a (Refused cause value) q = q
+returning-stops x a (Returned rd frame p) q = q
 
 size-few : (size : ℕ) → IsSize size → size ≤ 4
 size-few size s = ⊎_elim (λ e. let q : size ≤ 4 = omega (arith, e) in q) (⊎_elim (λ e. let q : size ≤ 4 = omega (arith, e) in q) (λ e. let q : size ≤ 4 = omega (arith, e) in q)) s
@@ -143,6 +119,64 @@ ran-free r c h e =
     let is = ap (λ (m : Made). m.kind) (turned-running r c h t e) in
     (λ k. sym one.border ∙ one.only (kind.0 (sym is ∙ k)), λ k. is ∙ kind.1 (one.runs (one.border ∙ k)))
 
+-- a turn is idle exactly where its hart rests
+idle-acted : (r : Reads) (c : Core) (h : ℕ) (x : Hart) (a : Action) → (acted r c h x a).kind ≡ T.Idle → a ≡ Rests
+idle-acted r c h x Rests e = refl
+idle-acted r c h x Waits e = absurd (let q : ⊥ = cc in q)
+idle-acted r c h x (Serves call) e = absurd (let q : ⊥ = cc in q)
+idle-acted r c h x (Asks call) e = absurd (let k = kind-asked r c h x call (is_served_now c h call) in let q : ⊥ = cc in q)
+idle-acted r c h x (Traps cause value) e = absurd (let q : ⊥ = cc in q)
+idle-acted r c h x Bounces e = absurd (let q : ⊥ = cc in q)
+idle-acted r c h x (Crosses target) e = absurd (let q : ⊥ = cc in q)
+idle-acted r c h x (Returns rd frame) e = absurd (let q : ⊥ = cc in q)
+idle-acted r c h x (Runs regs pc) e = absurd (let q : ⊥ = cc in q)
+idle-acted r c h x (Writes address size value) e = absurd (let q : ⊥ = cc in q)
+
+-- a hart that isn't halted does something
+passing-busy : (a : Action) → IsPassing a → a ≡ Rests → ⊥
+passing-busy a (Stopped cause value) e = let q : ⊥ = cc in q
+passing-busy a SentBack e = let q : ⊥ = cc in q
+passing-busy a (Passed target) e = let q : ⊥ = cc in q
+
+returning-busy : (x : Hart) (a : Action) → IsReturning x a → a ≡ Rests → ⊥
+returning-busy x a (Refused cause value) e = let q : ⊥ = cc in q
+returning-busy x a (Returned rd frame p) e = let q : ⊥ = cc in q
+
+busy-leaves : (r : Reads) (c : Core) (h : ℕ) (x : Hart) → Leaves r c h x x.frames x.status (λ (k : Border) (a : Action) (l : Border) (b : Action). a ≡ Rests → ⊥)
+busy-leaves r c h x = record {
+  trap = λ cause value e. let q : ⊥ = cc in q;
+  gate = λ word target x1 a b p q. passing-busy a p;
+  back = λ target a b p q. returning-busy x a p;
+  call = λ e. let q : ⊥ = cc in q;
+  run = λ regs pc e. let q : ⊥ = cc in q;
+  write = λ address size value s a n e. let q : ⊥ = cc in q;
+}
+
+busy-waiting : (call : Call) (b : Bool) → (if b then Serves call else Waits) ≡ Rests → ⊥
+busy-waiting call true e = let q : ⊥ = cc in q
+busy-waiting call false e = let q : ⊥ = cc in q
+
+rests-ended : (r : Reads) (c : Core) (h : ℕ) (x : Hart) (s : Status) → (by_status r c h x s).action ≡ Rests → standing s ≡ Ended
+rests-ended r c h x Running e = absurd (walk r c r c h x x.frames x.status (λ k a l b. a ≡ Rests → ⊥) (same-self r c x) (busy-leaves r c h x) e)
+rests-ended r c h x (Waiting call heard) e = absurd (busy-waiting call (is_ready c h heard) e)
+rests-ended r c h x (Halted code) e = refl
+
+pub ended-rests : (r : Reads) (c : Core) (h : ℕ) (x : Hart) (s : Status) → standing s ≡ Ended → (by_status r c h x s).action ≡ Rests
+ended-rests r c h x Running e = absurd (let q : ⊥ = cc in q)
+ended-rests r c h x (Waiting call heard) e = absurd (let q : ⊥ = cc in q)
+ended-rests r c h x (Halted code) e = refl
+
+pub idle-ended : (r : Reads) (c : Core) (h : ℕ) → ((turned r c h).kind ≡ T.Idle) ↔ (standing (hart_at c h).status ≡ Ended)
+idle-ended r c h =
+    let t = by-action r c h in
+    let x = hart_at c h in
+    let before = apart c t.turns t.harts t.before in
+    let after = apart c t.turns t.harts t.after in
+    let is = ap (λ (m : Made). m.kind) t.is in (
+      λ e. rests-ended r before h x x.status (idle-acted r after h x (by_status r before h x x.status).action (sym is ∙ e)),
+      λ e. is ∙ ap (λ (a : Action). (acted r after h x a).kind) (ended-rests r before h x x.status e),
+    )
+
 -- a running hart's turn without a border is the action that the state before decides
 turned-free : (r : Reads) (c : Core) (h : ℕ) (t : TurnsBy r c h) → IsRunning c h → border r c h ≡ Nothing →
     turned r c h ≡ acted r (apart c t.turns t.harts t.after) h (hart_at c h) (action_in r c h (hart_at c h))
@@ -160,15 +194,15 @@ abbrev pub pc_of : Hart → Action → ℕ
 pc_of x (Runs regs pc) = pc
 pc_of x action = next x.pc
 
-abbrev pub hart_after : Hart → Action → Hart
-hart_after x a = record x { regs = regs_of x a; pc = pc_of x a; status = Running }
+abbrev pub hart_then : Hart → Action → Hart
+hart_then x a = record x { regs = regs_of x a; pc = pc_of x a; status = Running }
 
 -- what an action that runs leaves
 record IsLeft (c : Core) (h : ℕ) (x : Hart) (a : Action) (m : Made) : Type 0 where
   ram : m.core.ram ≡ stored c.ram (store_of a)
   modules : m.core.modules ≡ c.modules
   gates : m.core.gates ≡ c.gates
-  harts : m.core.harts ≡ set c.harts h (hart_after x a)
+  harts : m.core.harts ≡ set c.harts h (hart_then x a)
   change : m.change ≡ None
 
 left-acted : (r : Reads) (c : Core) (h : ℕ) (x : Hart) (a : Action) → IsRun a → IsLeft c h x a (acted r c h x a)
@@ -190,7 +224,7 @@ pub record IsLeftFree (r : Reads) (c : Core) (h : ℕ) (a : Action) : Type 0 whe
   pub modules : (turned r c h).core.modules ≡ c.modules
   pub gates : (turned r c h).core.gates ≡ c.gates
   pub change : (turned r c h).change ≡ None
-  pub own : hart_at (turned r c h).core h ≡ hart_after (hart_at c h) a
+  pub own : hart_at (turned r c h).core h ≡ hart_then (hart_at c h) a
   pub others : (g : ℕ) → g ≢ h → IsAlike (hart_at c g) (hart_at (turned r c h).core g)
 
 left-free : (r : Reads) (c : Core) (h : ℕ) → IsRunning c h → border r c h ≡ Nothing → IsRun (action_in r c h (hart_at c h)) →
@@ -210,9 +244,9 @@ left-free r c h e k p =
       gates = ap (λ (n : Made). n.core.gates) is ∙ left.gates;
       change = ap (λ (n : Made). n.change) is ∙ left.change;
       own = ap (λ (hs : List Hart). get_or hs h no_hart) harts
-          ∙ get_or-set_same t.harts h (hart_after x a) no_hart (subst (λ (n : ℕ). h < n) (sym t.heard.count) l);
+          ∙ get_or-set_same t.harts h (hart_then x a) no_hart (subst (λ (n : ℕ). h < n) (sym t.heard.count) l);
       others = λ g n. subst (IsAlike (hart_at c g))
-          (sym (ap (λ (hs : List Hart). get_or hs g no_hart) harts ∙ get_or-set_other t.harts h g (hart_after x a) no_hart n)) (t.heard.others g);
+          (sym (ap (λ (hs : List Hart). get_or hs g no_hart) harts ∙ get_or-set_other t.harts h g (hart_then x a) no_hart n)) (t.heard.others g);
     }
 
 -- twins whose hart meets no border

@@ -1,6 +1,6 @@
 -- What a running hart meets and does, by the cases of its turn: one walk over border and action, in two states at once whose readings are the
 -- same. With one state twice it is a walk over one.
-use Rattle.std.proofs.Common.{◌≡◌, ℕ, zero, suc, ◌-◌, ◌/◌, ◌%◌, ◌<◌, Bool, true, false, not, cond, ◌==◌, nat_le, List, length, refl, sym, subst, eqb-true, if◌then◌else◌, Option, Some, None, inl, inr}
+use Rattle.std.proofs.Common.{◌≡◌, ℕ, ◌-◌, ◌/◌, ◌%◌, Bool, true, false, not, cond, ◌==◌, nat_le, List, length, refl, subst, eqb-true, if◌then◌else◌, Option, Some, None, inl, inr}
 use Rattle.mx_words.specs.declared.perm.Access.{Access}
 use Rattle.mx_words.specs.declared.perm.Access.TheVariants as A
 use Rattle.mx_words.specs.Bytes.{IsSize}
@@ -17,7 +17,7 @@ use Rattle.mx_model.specs.Effect.{Effect, Goes, Faults, Loads, Stores, Calls, Ju
 use Rattle.mx_model.specs.Gates.{top, most_frames}
 use Rattle.mx_model.specs.Reads.{Reads}
 use Rattle.mx_model.specs.State.{Core, Hart, Status, module_at}
-use Rattle.mx_model.specs.Turn.{Action, Rests, Waits, Serves, Asks, Traps, Bounces, Crosses, Returns, Runs, Writes, Decided, without_look, traps, is_denied, call_gate_at, is_return_at, load_at, at_gate, returned_over, at_return, call_of, jump_action, by_effect, by_word, fetches, runs_at, runs_in}
+use Rattle.mx_model.specs.Turn.{Action, Asks, Traps, Bounces, Crosses, Returns, Runs, Writes, Decided, without_look, traps, is_denied, call_gate_at, is_return_at, load_at, at_gate, returned_over, at_return, call_of, jump_action, by_effect, by_word, fetches, runs_at, runs_in}
 use Rattle.std.specs.Option.{option_map_or}
 
 -- hart x with other frames and another status
@@ -85,16 +85,14 @@ aligned-effect Ecall regs pc = tt
 aligned-effect Ebreak regs pc = tt
 
 -- what a hart does at a call gate, and at a return gate
-abbrev pub IsPassing : Action → Type 0
-IsPassing (Traps cause value) = Unit {0}
-IsPassing Bounces = Unit {0}
-IsPassing (Crosses target) = Unit {0}
-IsPassing action = ⊥
+pub data IsPassing : Action → Type 0 where
+  Stopped : (cause value : ℕ) → IsPassing (Traps cause value)
+  SentBack : IsPassing Bounces
+  Passed : (target : ℕ) → IsPassing (Crosses target)
 
-abbrev pub IsReturning : Hart → Action → Type 0
-IsReturning x (Traps cause value) = Unit {0}
-IsReturning x (Returns rd frame) = top x.frames ≡ Some frame
-IsReturning x action = ⊥
+pub data IsReturning (x : Hart) : Action → Type 0 where
+  Refused : (cause value : ℕ) → IsReturning x (Traps cause value)
+  Returned : (rd : ℕ) (frame : Frame) → top x.frames ≡ Some frame → IsReturning x (Returns rd frame)
 
 passing-choice : (b : Bool) (d e : Decided) → IsPassing d.action → IsPassing e.action → IsPassing (if b then d else e).action
 passing-choice true d e p q = p
@@ -103,15 +101,18 @@ passing-choice false d e p q = q
 passing-at_gate : (c : Core) (x : Hart) (target : ℕ) → IsPassing (at_gate c x target).action
 passing-at_gate c x target =
     let x1 = reg x.regs 1 in
-    passing-choice (not (x1 % 4 == 0)) (traps 19 x1) _ tt (
-    passing-choice (module_at c target).dead (without_look Bounces) _ tt (
-    passing-choice (nat_le most_frames (length x.frames)) (traps 16 x.pc) (without_look (Crosses target)) tt tt))
+    passing-choice (not (x1 % 4 == 0)) (traps 19 x1) _ (Stopped 19 x1) (
+    passing-choice (module_at c target).dead (without_look Bounces) _ SentBack (
+    passing-choice (nat_le most_frames (length x.frames)) (traps 16 x.pc) (without_look (Crosses target)) (Stopped 16 x.pc) (Passed target)))
 
 returning-over : (x : Hart) (rd target : ℕ) (frame : Frame) → top x.frames ≡ Some frame → IsReturning x (returned_over rd target frame)
-returning-over x rd target frame p = elim (frame.back == target) as (λ b. IsReturning x (cond b (Returns rd frame) (Traps 17 target))) [ true ↦ p | false ↦ tt ]
+returning-over x rd target frame p = elim (frame.back == target) as (λ b. IsReturning x (cond b (Returns rd frame) (Traps 17 target))) [
+  | true ↦ Returned rd frame p
+  | false ↦ Refused 17 target
+]
 
 returning-top : (x : Hart) (rd target : ℕ) (o : Option Frame) → top x.frames ≡ o → IsReturning x (option_map_or (returned_over rd target) o (Traps 18 target))
-returning-top x rd target None p = tt
+returning-top x rd target None p = Refused 18 target
 returning-top x rd target (Some frame) p = returning-over x rd target frame p
 
 returning-at_return : (x : Hart) (rd target : ℕ) → IsReturning x (at_return x rd target)
@@ -131,7 +132,6 @@ pub record Leaves (r : Reads) (c : Core) (h : ℕ) (x : Hart) (fs : List Frame) 
 
 module _ (r : Reads) (c : Core) (q : Reads) (e : Core) (h : ℕ) (x : Hart) (fs : List Frame) (st : Status)
     (P : Border → Action → Border → Action → Type 0) (s : SameReadings r c q e x) (k : Leaves r c h x fs st P) where
-
   walk-load : (address : ℕ) (width : LoadWidth) (rd : ℕ) → address % load_size width ≡ 0 → (b : Bool) → is_denied r c x.domain address A.Read ≡ b →
       P (if b then Trap 5 address else Nothing)
       (if b then Traps 5 address else Runs (written x.regs rd (loaded width (load_at c address (load_size width)))) (next x.pc))

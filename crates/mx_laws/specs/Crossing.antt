@@ -1,6 +1,6 @@
 -- What a turn makes of its hart's frames.
 -- The rules: docs/MACHINE.md, "Gates".
-use Rattle.std.specs.Prelude.{◌≡◌, List, [], ◌∷◌, ◌++◌}
+use Rattle.std.specs.Prelude.{◌≡◌, [], ◌∷◌, ◌++◌}
 use Rattle.mx_model.specs.declared.values.Frame.{Frame}
 use Rattle.mx_model.specs.Effect.{reg}
 use Rattle.mx_model.specs.State.{Hart}

@@ -1,3 +1,4 @@
+pub mod After
 pub mod Twins
 pub mod Foreign
 pub mod Crossing

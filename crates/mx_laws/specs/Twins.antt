@@ -2,10 +2,11 @@
 -- The rules: docs/MACHINE.md, "Agreement".
 use Rattle.std.specs.Prelude.{◌≡◌, ℕ, ◌%◌, ◌≤◌, List, length}
 use Rattle.mx_words.specs.Bytes.{put_at}
-use Rattle.mx_model.specs.Agreement.{Agrees, border, Nothing}
+use Rattle.mx_model.specs.Agreement.{Agrees, Nothing, agree, border, flat_agree}
 use Rattle.mx_model.specs.Reads.{Reads, reads, flat_reads}
+use Rattle.mx_model.specs.Run.{turn, flat_turn}
 use Rattle.mx_model.specs.State.{Core, Running, State, Flat, hart_at}
-use Rattle.mx_model.specs.Turn.{turned}
+use Rattle.mx_laws.specs.After.{core_after}
 
 -- hart h runs
 abbrev pub IsRunning : Core → ℕ → Type 0
@@ -38,12 +39,18 @@ stored ram s = put_at ram s.place s.size s.value
 pub record MakeOneStore (r : Reads) (c : Core) (q : Reads) (e : Core) (h : ℕ) : Type 0 where
   pub store : Store
   pub few : store.size ≤ 4
-  pub first : (turned r c h).core.ram ≡ stored c.ram store
-  pub second : (turned q e h).core.ram ≡ stored e.ram store
+  pub first : (core_after r c h).ram ≡ stored c.ram store
+  pub second : (core_after q e h).ram ≡ stored e.ram store
 
--- of two states, and of two flat states
+-- such twins of states and of flat states, and agreement after a turn of hart h in both
 abbrev pub free_twins : State → State → ℕ → Type 0
 free_twins s t h = AreFreeTwins (reads s) s.core (reads t) t.core h
 
 abbrev pub flat_free_twins : Flat → Flat → ℕ → Type 0
 flat_free_twins s t h = AreFreeTwins (flat_reads s) s.core (flat_reads t) t.core h
+
+abbrev pub agree_after : State → State → ℕ → ℕ → Type 0
+agree_after s t h g = agree (turn s h) (turn t h) g
+
+abbrev pub flat_agree_after : Flat → Flat → ℕ → ℕ → Type 0
+flat_agree_after s t h g = flat_agree (flat_turn s h) (flat_turn t h) g

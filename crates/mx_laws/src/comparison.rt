@@ -2,11 +2,14 @@
 ghost use Rattle.std.specs.Prelude.{ℕ};
 ghost use Rattle.std.specs.Bool.{Decides};
 ghost use Rattle.mx_model.specs.Agreement.{Agrees};
-ghost use Rattle.mx_model.specs.Reads.{Reads};
-ghost use Rattle.mx_model.specs.State.{Core};
-ghost use Rattle.mx_laws.specs.Comparison.{AreAlike, agrees};
+ghost use Rattle.mx_model.specs.Reads.{Reads, reads, flat_reads};
+ghost use Rattle.mx_model.specs.State.{Core, State, Flat};
+ghost use Rattle.mx_laws.specs.Comparison.{AreFit, HasWholeMaps, IsBounded, agrees};
 
-/// The test is true exactly where two states of as many words of RAM agree for a hart, where no domain has a right outside RAM.
+/// The test is true exactly where two states of as many words of RAM agree for a hart, if no domain has a right outside RAM. None has in
+/// a state, and none in a flat state whose maps are as long as RAM.
 pub fn agreement_is_a_test()
-    ensures { (r q : Reads) (c e : Core) (h : ℕ) → AreAlike r c q e → Decides (agrees r c q e h) (Agrees r c q e h) }
+    ensures test { (r q : Reads) (c e : Core) (h : ℕ) → AreFit r c q e → Decides (agrees r c q e h) (Agrees r c q e h) }
+    ensures state { (s : State) → IsBounded (reads s) s.core }
+    ensures flat { (f : Flat) → HasWholeMaps f → IsBounded (flat_reads f) f.core }
 {}

@@ -62,7 +62,7 @@ call_gate_2 = record { domain = 2; word = 0; target = 1 }
 abbrev return_gate_1 : Gate
 return_gate_1 = record { domain = 1; word = 3; target = 1 }
 
-abbrev core : Core
+abbrev pub core : Core
 core = record {
   ram = 0x13 ∷ replicate 66 0 ++ 255 ∷ [];
   modules = first ∷ second ∷ [];
@@ -76,7 +76,7 @@ core = record {
   buffer = 8;
 }
 
-abbrev small : Flat
+abbrev pub small : Flat
 small = record {
   core = core;
   maps = (replicate 4 P.ExecuteRead ++ replicate 1 P.None ++ replicate 2 P.ReadWrite ++ replicate 1 P.None ++ replicate 4 P.ReadWrite ++ replicate 5 P.None)
@@ -119,7 +119,7 @@ small-gates : AreSingle (call_gate_2 ∷ return_gate_1 ∷ [])
 small-gates =
     single-append return_gate_1 (call_gate_2 ∷ []) (refl, tt) (single-append call_gate_2 [] tt (λ i j d l m. absurd (let q : ⊥ = omega (arith, m) in q)))
 
-small-core : IsValid core
+pub small-core : IsValid core
 small-core = record {
   some_words = lit≤ tt;
   few_words = lit≤ tt;

@@ -1,2 +1,3 @@
 pub mod BareLaws
 pub mod SameLaws
+pub mod SameExamples

@@ -1,5 +1,5 @@
--- What a snapshot keeps of a state: all but exit codes, what the caches keep and count, console bytes and notes.
--- The rules: docs/MACHINE.md, "Memory, domains, harts".
+-- What a snapshot keeps of a state: all but exit codes, what caches keep and count, console bytes and notes.
+-- The rules: docs/MACHINE.md, "States that are the same".
 use Rattle.std.specs.Prelude.{◌≡◌, [], None}
 use Rattle.std.specs.Prelude.{map as list_map}
 use Rattle.mx_model.specs.State.{Core, Hart, Status, Running, Waiting, Halted, State, Flat, flat}

@@ -9,25 +9,33 @@ ghost use Rattle.mx_snapshot.specs.Same.{AreSame, TakesUp, silent};
 pub fn same_after_a_turn()
     ensures flat { (f g : Flat) (h : ℕ) → AreSame f g → AreSame (flat_turn f h) (flat_turn g h) }
     ensures flat_kind { (f g : Flat) (h : ℕ) → AreSame f g → flat_kind f h ≡ flat_kind g h }
-    ensures flat_bytes { (f g : Flat) (h : ℕ) → AreSame f g → (flat_made f h).console ≡ (flat_made g h).console }
-    ensures flat_note { (f g : Flat) (h : ℕ) → AreSame f g → (flat_made f h).note ≡ (flat_made g h).note }
-    ensures state { (s t : State) (h : ℕ) → AreSame (flat s) (flat t) → AreSame (flat (turn s h)) (flat (turn t h)) }
+    ensures flat_bytes { (f g : Flat) (h : ℕ) → AreSame f g →
+        (flat_made f h).console ≡ (flat_made g h).console }
+    ensures flat_note { (f g : Flat) (h : ℕ) → AreSame f g →
+        (flat_made f h).note ≡ (flat_made g h).note }
+    ensures state { (s t : State) (h : ℕ) → AreSame (flat s) (flat t) →
+        AreSame (flat (turn s h)) (flat (turn t h)) }
     ensures kind { (s t : State) (h : ℕ) → AreSame (flat s) (flat t) → kind s h ≡ kind t h }
-    ensures bytes { (s t : State) (h : ℕ) → AreSame (flat s) (flat t) → (made_of s h).console ≡ (made_of t h).console }
-    ensures note { (s t : State) (h : ℕ) → AreSame (flat s) (flat t) → (made_of s h).note ≡ (made_of t h).note }
+    ensures bytes { (s t : State) (h : ℕ) → AreSame (flat s) (flat t) →
+        (made_of s h).console ≡ (made_of t h).console }
+    ensures note { (s t : State) (h : ℕ) → AreSame (flat s) (flat t) →
+        (made_of s h).note ≡ (made_of t h).note }
 {}
 
 /// What a run adds to console and notes is what it gives from the same state with neither, and it leaves the same flat state.
 pub fn run_from_silence()
     ensures flat { (p : Schedule) (n : ℕ) (s : State) → flat (run p n s) ≡ flat (run p n (silent s)) }
-    ensures console { (p : Schedule) (n : ℕ) (s : State) → (run p n s).console ≡ s.console ++ (run p n (silent s)).console }
-    ensures notes { (p : Schedule) (n : ℕ) (s : State) → (run p n s).notes ≡ s.notes ++ (run p n (silent s)).notes }
+    ensures console { (p : Schedule) (n : ℕ) (s : State) →
+        (run p n s).console ≡ s.console ++ (run p n (silent s)).console }
+    ensures notes { (p : Schedule) (n : ℕ) (s : State) →
+        (run p n s).notes ≡ s.notes ++ (run p n (silent s)).notes }
 {}
 
 /// Runs of n turns by one schedule from two states that are the same leave them the same, and add the same console bytes and the
 /// same notes to both.
 pub fn same_after_a_run()
-    ensures same { (p : Schedule) (n : ℕ) (s t : State) → AreSame (flat s) (flat t) → AreSame (flat (run p n s)) (flat (run p n t)) }
+    ensures same { (p : Schedule) (n : ℕ) (s t : State) → AreSame (flat s) (flat t) →
+        AreSame (flat (run p n s)) (flat (run p n t)) }
     ensures console { (p : Schedule) (n : ℕ) (s t : State) → AreSame (flat s) (flat t) →
         (run p n (silent s)).console ≡ (run p n (silent t)).console }
     ensures notes { (p : Schedule) (n : ℕ) (s t : State) → AreSame (flat s) (flat t) →

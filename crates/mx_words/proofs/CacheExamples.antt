@@ -1,13 +1,13 @@
--- Worked examples of the caches, of first fit and of announced ranges, computed.
-use Rattle.std.specs.Prelude.{◌≡◌, ℕ, List, [], ◌∷◌, Bool, true, false, refl, Some, None}
+-- Worked examples of the caches, computed.
+use Rattle.std.specs.Prelude.{◌≡◌, ℕ, List, [], ◌∷◌, Bool, true, false, fold, replicate, slice_set, refl, Some, None}
+use Rattle.std.specs.Prelude.{map as list_map}
 use Rattle.mx_words.specs.declared.perm.Perm.{Perm}
 use Rattle.mx_words.specs.declared.perm.Perm.TheVariants as P
 use Rattle.mx_words.specs.declared.perm.Span.{Span}
 use Rattle.mx_words.specs.declared.tables.Kind.TheVariants as K
 use Rattle.mx_words.specs.Newest.{map}
 use Rattle.mx_words.specs.Reach.{span}
-use Rattle.mx_words.specs.Caches.{Cache, no_cache, checked, left_domain, without_range, meets}
-use Rattle.mx_words.specs.FirstFit.{Area, place}
+use Rattle.mx_words.specs.Caches.{Cache, Entry, no_cache, raised, checked, left_domain, without_range, meets}
 
 record Counts : Type 0 where
   sidecar : ℕ
@@ -63,21 +63,75 @@ third-look = refl
 last-looks : counts_of (seen after false (seen after false (seen before true (seen before true (heard (seen before false no_cache)))))) ≡ counts 1 0 4
 last-looks = refl
 
--- first fit in words 100 to 109: below two blocks, between two, and nowhere
-abbrev area : Area
-area = record { first = 100; count = 10 }
+-- counts end at 2^64 - 1
+counts-raised : list_map raised (0 ∷ 0xFFFFFFFFFFFFFFFE ∷ 0xFFFFFFFFFFFFFFFF ∷ []) ≡ 1 ∷ 0xFFFFFFFFFFFFFFFF ∷ 0xFFFFFFFFFFFFFFFF ∷ []
+counts-raised = refl
 
-abbrev block : ℕ → Area
-block first = record { first = first; count = 2 }
+-- spans of words 0 to 3, 2 to 5, 4 to 7 and 4 to 5; caches with the spans of some places, a list of two at most and counts 10, 20 and 30
+abbrev span_of : ℕ → ℕ → Perm → Span
+span_of first count p = record { first = first; count = count; perm = p }
 
-fits-first : place area [] 2 ≡ Some 100
-fits-first = refl
+abbrev low : Span
+low = span_of 0 4 P.Read
 
-fits-third : place area (block 100 ∷ block 102 ∷ []) 2 ≡ Some 104
-fits-third = refl
+abbrev middle : Span
+middle = span_of 2 4 P.ReadWrite
 
-fits-lowest : place area (block 102 ∷ []) 2 ≡ Some 100
-fits-lowest = refl
+abbrev high : Span
+high = span_of 4 4 P.ExecuteRead
 
-fits-nowhere : place area (block 100 ∷ block 102 ∷ []) 7 ≡ None
-fits-nowhere = refl
+abbrev short : Span
+short = span_of 4 2 P.ReadWrite
+
+abbrev cache : List (ℕ × Span) → List Entry → ℕ → ℕ → ℕ → Cache
+cache places kept sidecar lookaside walks = record {
+  places = fold (λ ps (p : ℕ × Span). slice_set ps p.0 (Some p.1)) (replicate 32 None) places;
+  kept = kept;
+  sidecar = sidecar;
+  lookaside = lookaside;
+  walks = walks;
+}
+
+no-cache : no_cache ≡ cache [] [] 0 0 0
+no-cache = refl
+
+-- a look of domain 1 at a word at place 5, where a walk answers the span of words 4 to 5
+abbrev look_at : ℕ → Bool → Cache → Cache
+look_at word barred c = checked 2 5 1 word short barred c
+
+-- the place comes first, whoever put its span there
+place-answers : look_at 5 false (cache ((5, high) ∷ []) ((1, middle) ∷ []) 10 20 30) ≡ cache ((5, high) ∷ []) ((1, middle) ∷ []) 11 20 30
+place-answers = refl
+
+-- then the newest kept span of the domain that covers the word; it goes into the place, and the list stays
+list-answers : look_at 5 false (cache ((4, high) ∷ (5, low) ∷ []) ((1, low) ∷ (2, high) ∷ (1, middle) ∷ (1, high) ∷ []) 10 20 30)
+    ≡ cache ((4, high) ∷ (5, middle) ∷ []) ((1, low) ∷ (2, high) ∷ (1, middle) ∷ (1, high) ∷ []) 10 21 30
+list-answers = refl
+
+-- then the tables: their span goes into the place and to the front of the list, and a full list loses its oldest
+tables-answer : look_at 5 false (cache ((6, high) ∷ []) ((2, high) ∷ (1, low) ∷ []) 10 20 30)
+    ≡ cache ((5, short) ∷ (6, high) ∷ []) ((1, short) ∷ (2, high) ∷ []) 10 20 31
+tables-answer = refl
+
+list-not-full : look_at 5 false (cache [] ((1, low) ∷ []) 10 20 30) ≡ cache ((5, short) ∷ []) ((1, short) ∷ (1, low) ∷ []) 10 20 31
+list-not-full = refl
+
+-- nothing is kept of a barred walk
+barred-walk : look_at 5 true (cache ((5, low) ∷ []) ((1, low) ∷ []) 10 20 30) ≡ cache ((5, low) ∷ []) ((1, low) ∷ []) 10 20 31
+barred-walk = refl
+
+-- but a place or the list answers also where a walk would be barred
+barred-place : look_at 5 true (cache ((5, high) ∷ []) [] 10 20 30) ≡ cache ((5, high) ∷ []) [] 11 20 30
+barred-place = refl
+
+-- the places are emptied, and the list and the counts stay
+emptied : left_domain (cache ((0, low) ∷ (31, high) ∷ []) ((1, low) ∷ []) 10 20 30) ≡ cache [] ((1, low) ∷ []) 10 20 30
+emptied = refl
+
+-- the spans that meet words 5 to 6 are dropped, in the places and in the list, of each domain
+dropped : without_range 5 2 (cache ((0, low) ∷ (3, middle) ∷ (31, high) ∷ []) ((1, low) ∷ (2, short) ∷ (1, high) ∷ (2, low) ∷ []) 10 20 30)
+    ≡ cache ((0, low) ∷ []) ((1, low) ∷ (2, low) ∷ []) 10 20 30
+dropped = refl
+
+nothing-dropped : without_range 5 0 (cache ((3, middle) ∷ []) ((1, high) ∷ []) 10 20 30) ≡ cache ((3, middle) ∷ []) ((1, high) ∷ []) 10 20 30
+nothing-dropped = refl

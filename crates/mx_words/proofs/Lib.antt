@@ -1,5 +1,7 @@
 pub mod Examples
 pub mod CacheExamples
+pub mod RangeExamples
+pub mod TableExamples
 pub mod CountingLaws
 pub mod OverlayLaws
 pub mod ChangeLaws

@@ -2,7 +2,7 @@ use Rattle.std.proofs.Common.{◌≡◌, ◌∷◌, ◌+◌, drop, length, true,
 use Rattle.std.proofs.lemmas.List.{length-append}
 use Rattle.std.proofs.lemmas.Grind.{common_steps}
 use Rattle.mx_image.specs.Program.{filled, has_bytes}
-use Rattle.mx_image.specs.Image.{program_header, program_headers, contents, rounded}
+use Rattle.mx_image.specs.Image.{program_header, contents, rounded}
 use Rattle.mx_image.proofs.Sizes.{length-contents-cons}
 use Rattle.mx_image.proofs.Steps.{filled-here, headers-step}
 use Rattle.mx_image.proofs.parts.put_program_headers.Goals as goal

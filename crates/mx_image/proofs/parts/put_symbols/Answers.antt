@@ -1,4 +1,4 @@
-use Rattle.std.proofs.Common.{rules, arith}
+use Rattle.std.proofs.Common.{arith}
 use Rattle.std.proofs.lemmas.Grind.{common_steps}
 use Rattle.mx_image.proofs.Steps.{symbols-step}
 use Rattle.mx_image.proofs.parts.put_symbols.Goals as goal

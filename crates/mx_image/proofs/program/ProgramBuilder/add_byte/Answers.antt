@@ -1,7 +1,6 @@
-use Rattle.std.proofs.Common.{◌≡◌, ◌+◌, ◌-◌, ap, length, rules, arith}
+use Rattle.std.proofs.Common.{◌≡◌, ◌+◌, ◌-◌, ap, length, rules}
 use Rattle.std.proofs.lemmas.Result.{on_ok_weaker}
 use Rattle.mx_image.specs.Labels.{labels_of}
-use Rattle.mx_image.specs.Program.{Program, with_byte}
 use Rattle.mx_image.proofs.LastByte.{set-last}
 use Rattle.mx_image.proofs.program.ProgramBuilder.add_byte.Goals as goal
 
