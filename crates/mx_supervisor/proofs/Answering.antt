@@ -3,6 +3,8 @@ use Rattle.std.proofs.Common.{◌≡◌, ◌≢◌, ℕ, Bool, true, false, List
 use Rattle.mx_check.specs.Harts.{Kept, hart_at}
 use Rattle.mx_model.specs.declared.values.Call.{Call}
 use Rattle.mx_model.specs.declared.values.Gate.{Gate}
+use Rattle.mx_words.specs.Newest.{Give, laid}
+use Rattle.mx_words.proofs.OverlayLaws.{length-laid}
 use Rattle.mx_model.specs.Reads.{Reads, flat_reads}
 use Rattle.mx_model.specs.Serve.{Served, answers, code, adds}
 use Rattle.mx_model.specs.State.{Core}
@@ -69,6 +71,21 @@ gates-done row call p q gates a sound eq ea es =
     let t : Parts = record p { gates = gates } in
     let sound_t : IsSound t = record {
       few_words = sound.few_words; few_maps = sound.few_maps; maps = sound.maps; ram = sound.ram; owners = sound.owners; heaps = sound.heaps; areas = sound.areas
+    } in
+    let served : ServesAs row call p t [] (plain 0) = λ rest bars. rw (es rest)
+        (record { core = refl; maps = refl; owners = refl; console = refl; a0 = refl; a1 = refl; stop = refl }) in
+    let m : Meets row call (hart_at p.harts call.hart).flight p t [] (plain 0) =
+        done row call p t [] (plain 0) sound_t refl refl (record { size = refl; limit = refl; modules = refl }) served in
+    rw (eq, ea) m
+
+-- a give, answered by 0
+pub give-done : (row : Reads → Core → Call → Served) (call : Call) (p q : Parts) (give : Give) (a : Answer) → IsSound p → q ≡ record p { owners = laid give p.owners } →
+    a ≡ plain 0 → ((rest : Core) → row_on row call p rest ≡ record (answers (core_of rest p) 0) { give = Some give }) →
+    Meets row call (hart_at p.harts call.hart).flight p q [] a
+give-done row call p q give a sound eq ea es =
+    let t : Parts = record p { owners = laid give p.owners } in
+    let sound_t : IsSound t = record {
+      few_words = sound.few_words; few_maps = sound.few_maps; maps = sound.maps; ram = sound.ram; owners = length-laid give p.owners ∙ sound.owners; heaps = sound.heaps; areas = sound.areas
     } in
     let served : ServesAs row call p t [] (plain 0) = λ rest bars. rw (es rest)
         (record { core = refl; maps = refl; owners = refl; console = refl; a0 = refl; a1 = refl; stop = refl }) in
