@@ -1,14 +1,19 @@
 -- A small state that an audit takes, with a call in flight, a heap area with a live block, and two sealed words.
-use Rattle.std.proofs.Common.{◌≡◌, ℕ, zero, suc, ◌+◌, ◌-◌, ◌<◌, ◌≤◌, [], ◌∷◌, refl, ap, arith}
+use Rattle.std.proofs.Common.{◌≡◌, ℕ, zero, suc, ◌+◌, ◌-◌, ◌<◌, ◌≤◌, true, [], ◌∷◌, refl, ap, arith}
 use Rattle.std.specs.List.{range_with_len}
 use Rattle.std.specs.Prelude.{filter}
 use Rattle.mx_words.specs.declared.perm.Perm.{Perm}
 use Rattle.mx_words.specs.declared.perm.Perm.TheVariants as P
+use Rattle.mx_words.specs.Bytes.{number_at}
 use Rattle.mx_words.specs.Newest.{Grant, Give}
 use Rattle.mx_words.proofs.OverlayLaws.{covers_from}
+use Rattle.mx_isa.specs.Table.{decoded}
+use Rattle.mx_model.specs.Effect.{effect}
 use Rattle.mx_model.specs.Reads.{reads}
-use Rattle.mx_model.specs.State.{State, flat}
+use Rattle.mx_model.specs.Run.{ByBytes, run}
+use Rattle.mx_model.specs.State.{State, flat, hart_at}
 use Rattle.mx_model.proofs.ValidExample.{core, small, small-core}
+use Rattle.mx_audit.specs.Live.{is_live}
 use Rattle.mx_audit.specs.Sealed.{is_sealed, OwnHeaps, IsAudited}
 
 abbrev grant : ℕ → ℕ → Perm → Grant
@@ -52,3 +57,14 @@ small-audited = record { valid = small-core; heaps = small-heaps }
 -- words 14 and 15 are the supervisor's
 small-sealed : filter (is_sealed (reads small_state) core) (range_with_len 0 17) ≡ 14 ∷ 15 ∷ []
 small-sealed = refl
+
+-- domain 2 is live there by a frame alone: the second hart's next turn faults, and it goes on in domain 2
+small-live : is_live core 2 ≡ true
+small-live = refl
+
+small-domain : (hart_at core 1).domain ≡ 1
+small-domain = refl
+
+small-faults : (hart_at (run (ByBytes (1 ∷ [])) 1 small_state).core 1).domain ≡ 2
+unfolding decoded effect number_at
+small-faults = refl

@@ -2,12 +2,20 @@
 use Rattle.std.proofs.Common.{ℕ, ◌≡◌, ◌+◌, ◌*◌, ◌-◌, ◌≤◌, true, List, length, arith}
 use Rattle.mx_words.specs.FirstFit.{most_blocks}
 use Rattle.mx_heap.specs.declared.parts.Part.{Part}
+use Rattle.mx_heap.specs.HeapState.{HeapState, IsHeap}
 use Rattle.mx_heap.specs.Places.{blocks_of, split, joined, AreParts}
-use Rattle.mx_heap.proofs.FillLaws.{length-parts}
+use Rattle.mx_heap.proofs.FillLaws.{Fill-apart, length-parts}
 use Rattle.mx_heap.proofs.EditLaws.{AfterSplit}
 use Rattle.mx_heap.proofs.JoinLaws.{AfterJoin}
 
 module _ (first count : ℕ) (ps : List Part) (live capacity : ℕ) (h : AreParts first count ps live capacity) where
+  -- its blocks are a heap's
+  pub is_heap : IsHeap (record { area = record { first = first; count = count }; blocks = blocks_of ps })
+  is_heap = record {
+    apart = Fill-apart first (first + count) true ps h.fill;
+    few = omega (arith, h.counted, h.few);
+  }
+
   -- there is room for two parts more while a block may become live
   pub two_more : (live ≡ most_blocks → ⊥) → length ps + 2 ≤ capacity
   two_more less =

@@ -1,6 +1,6 @@
 -- How a heap stores its area: as parts in the order of their addresses, live blocks and the holes between them.
 use Rattle.std.specs.Prelude.{ℕ, ◌≡◌, ◌+◌, ◌-◌, ◌*◌, ◌<◌, ◌≤◌, Bool, true, false, not, ◌&&◌, ◌==◌, nat_lt, nat_le, List, [], ◌∷◌, length, slice_index_or, slice_set, if◌then◌else◌, Option, Some, None, Result, Ok, Err}
-use Rattle.std.specs.List.{insert, remove}
+use Rattle.std.specs.List.{insert, remove, position_or_len}
 use Rattle.mx_words.specs.FirstFit.{Area, most_blocks}
 use Rattle.mx_heap.specs.declared.block.HeapError.{HeapError}
 use Rattle.mx_heap.specs.declared.block.HeapError.TheVariants.{NoRoom, BlocksFull}
@@ -72,6 +72,16 @@ abbrev pub Fill : ℕ → ℕ → Bool → List Part → Type 0
 Fill low high after_live [] = low ≡ high
 Fill low high after_live (p ∷ ps) =
     (p.first ≡ low) × (0 < p.count) × (after_live ≡ false → p.live ≡ true) × Fill (low + p.count) high p.live ps
+
+-- parts of at least one word, in the order of their addresses and apart, of which a heap has at most 2049
+pub record AreInOrder (parts : List Part) : Type 0 where
+  pub few : length parts ≤ 2 * most_blocks + 1
+  pub some : (i : ℕ) → i < length parts → 0 < (part_at parts i).count
+  pub apart : (i j : ℕ) → i < j → j < length parts → (part_at parts i).first + (part_at parts i).count ≤ (part_at parts j).first
+
+-- how many parts begin at a word or before it, where they are in order
+abbrev pub parts_to : ℕ → List Part → ℕ
+parts_to word parts = position_or_len (λ (p : Part). nat_lt word p.first) parts
 
 -- what stays true of a heap's fields
 pub record AreParts (first count : ℕ) (parts : List Part) (live capacity : ℕ) : Type 0 where

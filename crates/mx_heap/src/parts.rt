@@ -1,10 +1,11 @@
 //! The parts of a heap area: live blocks and holes, in the order of their addresses.
 
-ghost use Rattle.std.specs.Prelude.{◌≡◌, ℕ, ◌+◌, ◌-◌, ◌<◌, ◌≤◌, ◌^◌, vec_len, position, slice_get};
+ghost use Rattle.std.specs.Prelude.{◌≡◌, ℕ, ◌+◌, ◌-◌, ◌*◌, ◌<◌, ◌≤◌, ◌^◌, length, nat_le, if◌then◌else◌, vec_len, position, slice_get};
 ghost use Rattle.std.specs.Vec.{vec_capacity};
 ghost use Rattle.std.specs.Option.{option_map};
+ghost use Rattle.mx_words.specs.FirstFit.{most_blocks};
 ghost use Rattle.mx_heap.specs.HeapState.{area_of};
-ghost use Rattle.mx_heap.specs.Places.{blocks_of, fitting, is_hole_for, is_hole_around, is_block_at, part_at, hole_words, with_hole, without_hole, split, joined};
+ghost use Rattle.mx_heap.specs.Places.{blocks_of, fitting, is_hole_for, is_hole_around, is_block_at, part_at, hole_words, with_hole, without_hole, split, joined, parts_to, AreInOrder};
 
 use crate::block::{Block, HeapError};
 
@@ -26,20 +27,73 @@ pub fn hole_for(parts: &[Part], words: u32) -> Option<usize>
     parts.iter().position(|p| !p.live && words <= p.count)
 }
 
-// The place of the hole that holds all words of a block.
+// How many parts begin at the word or before it, by halves.
+fn parts_to(parts: &[Part], word: u32) -> usize
+    requires few { length parts.now ≤ 2 * most_blocks + 1 }
+    requires rising { (i j : ℕ) → i ≤ j → j < length parts.now → (part_at parts.now i).first ≤ (part_at parts.now j).first }
+    ensures place { result ≡ parts_to word parts.now }
+    ensures within { result ≤ length parts.now }
+{
+    let mut low = 0;
+    let mut width = parts.len();
+    while width > 0 {
+        let half = width - width / 2;
+        low += step(parts[low + half - 1].first, word, half);
+        width /= 2;
+    }
+    low
+}
+
+// The width where `first` is the word or lies before it, else 0. Said by what a subtraction borrows, since the processor would
+// guess at a choice.
+fn step(first: u32, word: u32, width: usize) -> usize
+    requires { width < 2 ^ 32 }
+    ensures { result ≡ (if nat_le first word then width else 0) }
+{
+    let mask = (first as u64).wrapping_sub(word as u64 + 1) >> 32;
+    width & mask as usize
+}
+
+// The place of the hole that holds all words of a block, which has at least one.
 pub fn hole_around(parts: &[Part], first: u32, count: u32) -> Option<usize>
+    requires order { AreInOrder parts.now }
+    requires some { 0 < count }
     ensures { result ≡ position (is_hole_around first count) parts.now }
 {
+    let behind = parts_to(parts, first);
+    if behind > 0 && is_hole_around(&parts[behind - 1], first, count) {
+        Some(behind - 1)
+    } else {
+        None
+    }
+}
+
+// Whether the part is a hole that holds all words of a block.
+fn is_hole_around(part: &Part, first: u32, count: u32) -> bool
+    ensures { result ≡ is_hole_around first count part.now }
+{
     let end = first as u64 + count as u64;
-    parts.iter().position(|p| !p.live
-        && (p.first <= first && end <= p.first as u64 + p.count as u64))
+    !part.live && (part.first <= first && end <= part.first as u64 + part.count as u64)
 }
 
 // The place of the live block that begins at a word.
 pub fn block_place(parts: &[Part], first: u32) -> Option<usize>
+    requires { AreInOrder parts.now }
     ensures { result ≡ position (is_block_at first) parts.now }
 {
-    parts.iter().position(|p| p.live && p.first == first)
+    let behind = parts_to(parts, first);
+    if behind > 0 && is_block_at(&parts[behind - 1], first) {
+        Some(behind - 1)
+    } else {
+        None
+    }
+}
+
+// Whether the part is the live block that begins at a word.
+fn is_block_at(part: &Part, first: u32) -> bool
+    ensures { result ≡ is_block_at first part.now }
+{
+    part.live && part.first == first
 }
 
 // The place of the lowest hole for a block, where no more than 1023 blocks live.

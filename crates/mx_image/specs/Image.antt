@@ -91,7 +91,8 @@ string_section at size = words (0 ∷ 3 ∷ 0 ∷ 0 ∷ at ∷ size ∷ 0 ∷ 0 
 
 -- the null section header, that of so many symbols at a place, and that of the strings with so many bytes at a place
 abbrev pub section_headers : ℕ → ℕ → ℕ → ℕ → List ℕ
-section_headers symbols_at count strings_at size = null_section ++ symbol_section symbols_at count ++ string_section strings_at size
+section_headers symbols_at count strings_at size =
+    null_section ++ symbol_section symbols_at count ++ string_section strings_at size
 
 -- where the bytes of segments begin, after the headers of so many
 abbrev pub contents_at : ℕ → ℕ

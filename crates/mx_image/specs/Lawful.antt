@@ -61,7 +61,10 @@ placed at (s ∷ segments) =
 
 -- how a loader reads the image of a program
 abbrev pub read_of : Program → Image
-read_of p = record { entry = p.entry; segments = placed (contents_at (length (filled p.segments))) (filled p.segments) }
+read_of p = record {
+  entry = p.entry;
+  segments = placed (contents_at (length (filled p.segments))) (filled p.segments);
+}
 
 -- the bytes that a file has of a segment
 abbrev pub file_bytes : List ℕ → Seg → List ℕ

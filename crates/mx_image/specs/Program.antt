@@ -1,5 +1,5 @@
 -- A program: what the text of a source denotes.
-use Rattle.std.specs.Prelude.{ℕ, ◌==◌, Bool, not, List, [], ◌∷◌, ◌++◌, length, filter, sum_by}
+use Rattle.std.specs.Prelude.{ℕ, ◌==◌, Bool, not, List, [], ◌∷◌, ◌++◌, length, map, filter, sum_by}
 use Rattle.mx_image.specs.declared.segment.Segment.{Segment}
 
 -- a label: the bytes of its name, and the address for which it stands
@@ -11,7 +11,7 @@ pub record Label : Type 0 where
 abbrev pub label : List ℕ → ℕ → Label
 label name address = record { name = name; address = address }
 
--- a program: the address at which it begins, its segments in order, also those without bytes, and its labels in text order
+-- a program: the address at which it begins, its segments in order, those without bytes too, and its labels in text order
 pub record Program : Type 0 where
   pub entry : ℕ
   pub segments : List Segment
@@ -24,6 +24,10 @@ has_bytes s = not (length s.bytes == 0)
 -- the segments that have bytes, in order
 abbrev pub filled : List Segment → List Segment
 filled segments = filter has_bytes segments
+
+-- the bytes of each of a program's segments that has some
+abbrev pub filled_bytes : Program → List (List ℕ)
+filled_bytes p = map (λ s. s.bytes) (filled p.segments)
 
 -- how many bytes segments have together
 abbrev pub byte_count : List Segment → ℕ

@@ -5,7 +5,7 @@ ghost use Rattle.std.specs.List.{AllByRecursion};
 ghost use Rattle.mx_elf.specs.Image.{image_of as image_read};
 ghost use Rattle.mx_elf.specs.Segment.{memory_bytes};
 ghost use Rattle.mx_elf.specs.Symbol.{symbol_of};
-ghost use Rattle.mx_image.specs.Program.{Program, filled};
+ghost use Rattle.mx_image.specs.Program.{Program, filled_bytes};
 ghost use Rattle.mx_image.specs.Image.{image_of};
 ghost use Rattle.mx_image.specs.Lawful.{IsProgram, IsNoLabel, IsTold, read_of, file_bytes};
 
@@ -14,9 +14,9 @@ ghost use Rattle.mx_image.specs.Lawful.{IsProgram, IsNoLabel, IsTold, read_of, f
 pub fn image_is_read()
     ensures read { (p : Program) → IsProgram p → image_read (image_of p) ≡ Ok (read_of p) }
     ensures file { (p : Program) → IsProgram p →
-        map (file_bytes (image_of p)) (read_of p).segments ≡ map (λ s. s.bytes) (filled p.segments) }
+        map (file_bytes (image_of p)) (read_of p).segments ≡ filled_bytes p }
     ensures memory { (p : Program) → IsProgram p →
-        map (memory_bytes (image_of p)) (read_of p).segments ≡ map (λ s. s.bytes) (filled p.segments) }
+        map (memory_bytes (image_of p)) (read_of p).segments ≡ filled_bytes p }
 {}
 
 /// In the image of a program each label is found with its address, and no other name is.

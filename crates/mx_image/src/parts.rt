@@ -45,7 +45,8 @@ fn put_parts(
     requires contents { length (contents (filled segments.now)) < 2 ^ 28 }
     requires labels { length labels.now ≤ 2 ^ 20 }
     requires names { length (names (labels_of labels.now)) < 2 ^ 28 }
-    ensures { OnOk result (out.new ≡ image_with entry (filled segments.now) (labels_of labels.now)) }
+    ensures { let named = labels_of labels.now in
+        OnOk result (out.new ≡ image_with entry (filled segments.now) named) }
 {
     let layout = lay_out(segments, labels);
     put_file_header(out, entry, layout.sections_at, layout.segments)?;

@@ -29,9 +29,9 @@ impl<'a> Model for ProgramBuilder<'a> {
 
     ghost Value = { Program };
 
-    ghost use Rattle.mx_image.specs.Labels.{labels_of};
+    ghost use Rattle.mx_image.specs.Labels.{program_of};
 
-    ghost view = { λ p. record { entry = p.entry; segments = p.segments.items; labels = labels_of p.labels.items } };
+    ghost view = { λ p. program_of p.entry p.segments.items p.labels.items };
 }
 
 impl<'a> ProgramBuilder<'a> {

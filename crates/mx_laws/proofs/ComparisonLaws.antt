@@ -20,8 +20,9 @@ use Rattle.mx_model.specs.Agreement.{Agrees, Standing, Runs, Waits, Ended, stand
 use Rattle.mx_model.specs.Gates.{gate_at, is_at}
 use Rattle.mx_model.specs.Reads.{Reads, reads, flat_reads, grants_of, map_in}
 use Rattle.mx_model.specs.State.{Core, State, Flat, hart_at, module_at}
+use Rattle.mx_model.specs.Valid.{IsFlat}
 use Rattle.mx_model.proofs.ListLaws.{all-at, all-find, found-passes}
-use Rattle.mx_laws.specs.Comparison.{AreFit, HasWholeMaps, IsBounded, agrees, same_flag, same_if_read, same_right, same_standing, same_target, same_word}
+use Rattle.mx_laws.specs.Comparison.{AreFit, IsBounded, agrees, same_flag, same_if_read, same_right, same_standing, same_target, same_word}
 
 -- tests on standings, flags, permissions and targets
 decides-standing : (a b : Standing) → Decides (same_standing a b) (a ≡ b)
@@ -201,10 +202,10 @@ bounded-state s = record {
   outside = λ d word l. ap (λ (b : Bool). if b then at (grants_of s.grants d) word else P.None) (le-ltb word s.core.size l);
 }
 
-pub bounded-flat : (f : Flat) → HasWholeMaps f → IsBounded (flat_reads f) f.core
+pub bounded-flat : (f : Flat) → IsFlat f → IsBounded (flat_reads f) f.core
 bounded-flat f p = record {
   outside = λ d word l.
       let size = f.core.size in
-      let count : length (map_in size f.maps d) ≡ size = all-at (λ (m : List Perm). length m ≡ size) f.maps (map [] size) p (length-map_of [] size) (d - 1) in
+      let count : length (map_in size f.maps d) ≡ size = all-at (λ (m : List Perm). length m ≡ size) f.maps (map [] size) p.whole_maps (length-map_of [] size) (d - 1) in
       get_or-eq_default (map_in size f.maps d) P.None (subst (λ (n : ℕ). n ≤ word) (sym count) l);
 }

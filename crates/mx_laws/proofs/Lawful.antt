@@ -96,16 +96,16 @@ lawful-any r c h turns harts caches = lawful-decided AnyCall r c h turns harts c
 abbrev pub OwnCall : ℕ → Hart → Call → Type 0
 OwnCall h x call = call ≡ call_of h x
 
-waits-on-own : (h : ℕ) (x : Hart) (s : Status) → (is_halted s ≡ false → IsStatus h x s) → WaitsOn (OwnCall h x) s
-waits-on-own h x Running p = tt
-waits-on-own h x (Waiting call heard) p = (p refl).own
-waits-on-own h x (Halted code) p = tt
+waits-on-own : (harts h : ℕ) (x : Hart) (s : Status) → (is_halted s ≡ false → IsStatus harts h x s) → WaitsOn (OwnCall h x) s
+waits-on-own harts h x Running p = tt
+waits-on-own harts h x (Waiting call heard) p = (p refl).own
+waits-on-own harts h x (Halted code) p = tt
 
 pub lawful-turn : (r : Reads) (c : Core) (h turns : ℕ) (harts : List Hart) (caches : List Cache) → IsValid c →
     IsLawful (OwnCall h (hart_at c h)) r c h (hart_at c h) (by_status r (apart c turns harts caches) h (hart_at c h) (hart_at c h).status).action
 lawful-turn r c h turns harts caches v =
     lawful-decided (OwnCall h (hart_at c h)) r c h turns harts caches
-    (waits-on-own h (hart_at c h) (hart_at c h).status (λ e. (v.harts h (there c h e)).status))
+    (waits-on-own (length c.harts) h (hart_at c h) (hart_at c h).status (λ e. (v.harts h (there c h e)).status))
 
 -- a hart rests, or it is there
 present-status : (r : Reads) (c : Core) (h count : ℕ) (x : Hart) (s : Status) → (is_halted s ≡ false → h < count) →

@@ -1,6 +1,5 @@
 -- Where two states agree for a hart, its turn reads the same in both.
-use Rattle.std.proofs.Common.{◌≡◌, ℕ, zero, suc, ◌+◌, ◌-◌, ◌*◌, ◌/◌, ◌%◌, ◌<◌, ◌≤◌, Bool, true, false, not, ◌==◌, nat_le, nat_lt, List, get_or, refl, sym, ◌∙◌, ap, subst, arith, eqb-true, if◌then◌else◌, Option, Some, None, ⊎_elim, inl, inr}
-use Rattle.std.specs.Prelude.{IfSome, option_map}
+use Rattle.std.proofs.Common.{◌≡◌, ℕ, zero, suc, ◌+◌, ◌-◌, ◌*◌, ◌/◌, ◌%◌, ◌<◌, ◌≤◌, Bool, true, false, not, nat_le, nat_lt, List, get_or, refl, sym, ◌∙◌, ap, subst, arith, if◌then◌else◌, Option, Some, None, ⊎_elim, inl, inr}
 use Rattle.std.specs.Option.{option_map_or}
 use Rattle.std.proofs.lemmas.Bool.{and_parts, leb-true, ltb-true, not-false}
 use Rattle.mx_words.specs.declared.perm.Perm.{Perm}
@@ -12,15 +11,13 @@ use Rattle.mx_words.specs.Ranges.{ram_base, word_of, in_ram}
 use Rattle.mx_words.specs.Rights.{allows}
 use Rattle.mx_isa.specs.declared.inst.LoadWidth.{LoadWidth}
 use Rattle.mx_isa.specs.declared.inst.LoadWidth.TheVariants.{Lb, Lh, Lw, Lbu, Lhu}
-use Rattle.mx_model.specs.declared.values.Gate.{Gate}
 use Rattle.mx_model.specs.declared.values.Frame.{Frame}
 use Rattle.mx_model.specs.Agreement.{target_at}
 use Rattle.mx_model.specs.Effect.{load_size}
-use Rattle.mx_model.specs.Gates.{call_gate, call_target, is_return, gate_at, is_at}
 use Rattle.mx_model.specs.Reads.{Reads}
 use Rattle.mx_model.specs.State.{Core, Hart, Status, hart_at}
 use Rattle.mx_model.specs.Turn.{perm_of, is_denied, call_gate_at, is_return_at, load_at}
-use Rattle.mx_model.proofs.ListLaws.{found-passes}
+use Rattle.mx_model.proofs.GatesAt.{called_domain, call-gate-at, is_own, return-gate-at, target_from}
 use Rattle.mx_laws.specs.Twins.{AreTwins}
 use Rattle.mx_laws.proofs.Walk.{SameReadings, other}
 
@@ -34,49 +31,21 @@ perm-same : (r : Reads) (c : Core) (q : Reads) (e : Core) (d address : ℕ) → 
 perm-same r c q e d address n m =
     ap (λ (size : ℕ). option_map_or (r.perm d) (word_of address size) P.None) n ∙ perm-in r q d (word_of address e.size) m
 
--- gates by their targets
-for-domain : (d w : ℕ) (g : Gate) → is_at d w g ≡ true → g.domain ≡ d
-for-domain d w g e = eqb-true g.domain d (and_parts (g.domain == d) (g.word == w) e).0
+-- gates by address
+targets-in : (c e : Core) (d : ℕ) (o : Option ℕ) → ((i : ℕ) → target_at c d i ≡ target_at e d i) →
+    option_map_or (target_at c d) o None ≡ option_map_or (target_at e d) o None
+targets-in c e d None m = refl
+targets-in c e d (Some word) m = m word
 
-abbrev passes : ℕ → ℕ → Option ℕ
-passes d target = if target == d then None else Some target
+module _ (c e : Core) (d address : ℕ) (n : c.size ≡ e.size) (m : (i : ℕ) → target_at c d i ≡ target_at e d i) where
+  target-same : target_from c d address ≡ target_from e d address
+  target-same = ap (λ (size : ℕ). option_map_or (target_at c d) (word_of address size) None) n ∙ targets-in c e d (word_of address e.size) m
 
-call-by-target : (d w : ℕ) (o : Option Gate) → IfSome o (λ g. is_at d w g ≡ true) →
-    option_map_or call_target o None ≡ option_map_or (passes d) (option_map (λ (g : Gate). g.target) o) None
-call-by-target d w None p = refl
-call-by-target d w (Some g) p = ap (λ (n : ℕ). passes n g.target) (for-domain d w g p)
+  pub call_gate-same : call_gate_at c d address ≡ call_gate_at e d address
+  call_gate-same = call-gate-at c d address ∙ ap (called_domain d) target-same ∙ sym (call-gate-at e d address)
 
-return-by-target : (d w : ℕ) (o : Option Gate) → IfSome o (λ g. is_at d w g ≡ true) →
-    option_map_or (λ (g : Gate). g.target == g.domain) o false ≡ option_map_or (λ target. target == d) (option_map (λ (g : Gate). g.target) o) false
-return-by-target d w None p = refl
-return-by-target d w (Some g) p = ap (λ (n : ℕ). g.target == n) (for-domain d w g p)
-
-module _ (c e : Core) (d : ℕ) (n : c.size ≡ e.size) (m : (i : ℕ) → target_at c d i ≡ target_at e d i) where
-  call-same : (w : ℕ) → call_gate c.gates d w ≡ call_gate e.gates d w
-  call-same w =
-      call-by-target d w (gate_at c.gates d w) (found-passes (is_at d w) c.gates)
-      ∙ ap (λ (o : Option ℕ). option_map_or (passes d) o None) (m w)
-      ∙ sym (call-by-target d w (gate_at e.gates d w) (found-passes (is_at d w) e.gates))
-
-  call-in : (o : Option ℕ) → option_map_or (call_gate c.gates d) o None ≡ option_map_or (call_gate e.gates d) o None
-  call-in None = refl
-  call-in (Some w) = call-same w
-
-  pub call_gate-same : (address : ℕ) → call_gate_at c d address ≡ call_gate_at e d address
-  call_gate-same address = ap (λ (size : ℕ). option_map_or (call_gate c.gates d) (word_of address size) None) n ∙ call-in (word_of address e.size)
-
-  return-same : (w : ℕ) → is_return c.gates d w ≡ is_return e.gates d w
-  return-same w =
-      return-by-target d w (gate_at c.gates d w) (found-passes (is_at d w) c.gates)
-      ∙ ap (λ (o : Option ℕ). option_map_or (λ target. target == d) o false) (m w)
-      ∙ sym (return-by-target d w (gate_at e.gates d w) (found-passes (is_at d w) e.gates))
-
-  return-in : (o : Option ℕ) → option_map_or (is_return c.gates d) o false ≡ option_map_or (is_return e.gates d) o false
-  return-in None = refl
-  return-in (Some w) = return-same w
-
-  pub is_return-same : (address : ℕ) → is_return_at c d address ≡ is_return_at e d address
-  is_return-same address = ap (λ (size : ℕ). option_map_or (is_return c.gates d) (word_of address size) false) n ∙ return-in (word_of address e.size)
+  pub is_return-same : is_return_at c d address ≡ is_return_at e d address
+  is_return-same = return-gate-at c d address ∙ ap (is_own d) target-same ∙ sym (return-gate-at e d address)
 
 -- an access that isn't denied lies in RAM, in a word on which it is allowed
 pub record IsAllowed (r : Reads) (c : Core) (d address : ℕ) (access : Access) : Type 0 where
@@ -161,8 +130,8 @@ module _ (r : Reads) (c : Core) (q : Reads) (e : Core) (h : ℕ) (t : AreTwins r
   pub same-readings : SameReadings r c q e (hart_at c h)
   same-readings = record {
     dead = t.agreement.same_death;
-    gate = call_gate-same c e (hart_at c h).domain t.words t.agreement.same_gates (hart_at c h).pc;
-    back = is_return-same c e (hart_at c h).domain t.words t.agreement.same_gates (hart_at c h).pc;
+    gate = call_gate-same c e (hart_at c h).domain (hart_at c h).pc t.words t.agreement.same_gates;
+    back = is_return-same c e (hart_at c h).domain (hart_at c h).pc t.words t.agreement.same_gates;
     denied = λ address access. ap (λ (p : Perm). not (allows p access)) (perm-same r c q e (hart_at c h).domain address t.words t.agreement.same_map);
     fetch = λ n. load-same (hart_at c h).pc 4 A.Execute (inr (inr refl)) t.aligned n;
     load = λ address width a n. load-same address (load_size width) A.Read (width-size width) a n;

@@ -1,6 +1,6 @@
 -- A turn of hart h is one action, done in a state that differs from the one before in the number of turns, in caches and in what the other harts'
 -- calls have been heard by.
-use Rattle.std.proofs.Common.{◌≡◌, ℕ, ◌+◌, ◌<◌, ◌≤◌, Bool, true, false, cond, ◌==◌, nat_lt, List, [], ◌∷◌, length, get_or, refl, sym, ◌∙◌, ap, subst, zero-add, if◌then◌else◌}
+use Rattle.std.proofs.Common.{◌≡◌, ℕ, ◌+◌, ◌<◌, ◌≤◌, Bool, true, false, cond, ◌==◌, nat_lt, List, length, get_or, refl, sym, ◌∙◌, ap, subst, zero-add, if◌then◌else◌}
 use Rattle.std.proofs.Common.{map as list_map}
 use Rattle.std.specs.List.{enumerate_from}
 use Rattle.std.proofs.Math.ListN.{get_or-eq_default}
@@ -9,10 +9,11 @@ use Rattle.std.proofs.lemmas.List.{length-map, get_or-map}
 use Rattle.std.proofs.lemmas.List.FromFn.{length-enumerate_from, get_or-enumerate_from}
 use Rattle.mx_words.specs.Caches.{Cache}
 use Rattle.mx_model.specs.Agreement.{standing}
-use Rattle.mx_model.specs.Checks.{Look, hears, heard_by, looked, looked_all, is_halted}
+use Rattle.mx_model.specs.Checks.{hears, heard_by, looked_all, is_halted}
 use Rattle.mx_model.specs.Reads.{Reads}
 use Rattle.mx_model.specs.State.{Core, Hart, Status, Running, Waiting, Halted, no_hart, hart_at}
 use Rattle.mx_model.specs.Turn.{Decided, acted, enacted, decide, heard_first, counted, turned, by_status}
+use Rattle.mx_model.proofs.TurnCases.{looked_all-caches}
 use Rattle.mx_model.proofs.ValidParts.{hearing}
 
 -- a hart that another one hears has what it had but for the set of those who have heard its call
@@ -89,11 +90,6 @@ heard-hearing h harts = record {
 abbrev pub apart : Core → ℕ → List Hart → List Cache → Core
 apart c turns harts caches = record c { turns = turns; harts = harts; caches = caches }
 
--- looks change caches alone
-looked-apart : (r : Reads) (h : ℕ) (looks : List Look) (c : Core) → looked_all r h looks c ≡ record c { caches = (looked_all r h looks c).caches }
-looked-apart r h [] c = refl
-looked-apart r h (l ∷ ls) c = looked-apart r h ls (looked r h c l)
-
 -- a turn of hart h by its parts
 pub record TurnsBy (r : Reads) (c : Core) (h : ℕ) : Type 0 where
   pub turns : ℕ
@@ -123,7 +119,7 @@ by-parts r c h turns harts caches k e =
           ap (λ (f : Core). enacted r f h (decide r f h)) e
           ∙ ap (λ (m : Decided). enacted r ready h m) decided
           ∙ ap (λ (y : Hart). acted r (looked_all r h d.looks ready) h y d.action) own
-          ∙ ap (λ (f : Core). acted r f h x d.action) (looked-apart r h d.looks ready);
+          ∙ ap (λ (f : Core). acted r f h x d.action) (looked_all-caches r h d.looks ready);
     }
 
 by-hearing : (r : Reads) (c : Core) (h : ℕ) (b : Bool) → is_halted (hart_at c h).status ≡ b → TurnsBy r c h

@@ -1,8 +1,8 @@
 -- Agreement as a test that computes: over the words of RAM and the gates that stand.
 -- The rules: docs/MACHINE.md, "Agreement".
-use Rattle.std.specs.Prelude.{◌≡◌, ℕ, ◌+◌, ◌*◌, ◌≤◌, Bool, not, ◌==◌, nat_eq, ◌||◌, [], ◌∷◌, ◌++◌, length, slice_index, if◌then◌else◌}
+use Rattle.std.specs.Prelude.{◌≡◌, ℕ, ◌+◌, ◌*◌, ◌≤◌, Bool, not, ◌==◌, nat_eq, ◌||◌, [], ◌∷◌, ◌++◌, slice_index, if◌then◌else◌}
 use Rattle.std.specs.Cmp.Lexicographic.{pointwise}
-use Rattle.std.specs.List.{AllByRecursion, list_all, range_with_len}
+use Rattle.std.specs.List.{list_all, range_with_len}
 use Rattle.std.specs.Option.{option_eq}
 use Rattle.mx_words.specs.declared.perm.Perm.TheVariants as P
 use Rattle.mx_words.specs.declared.perm.Access.TheVariants as A
@@ -10,7 +10,7 @@ use Rattle.mx_words.specs.Rights.{allows, same}
 use Rattle.mx_model.specs.declared.values.Gate.{Gate}
 use Rattle.mx_model.specs.Agreement.{Standing, Runs, Waits, Ended, standing, target_at}
 use Rattle.mx_model.specs.Reads.{Reads}
-use Rattle.mx_model.specs.State.{Core, Flat, hart_at, module_at}
+use Rattle.mx_model.specs.State.{Core, hart_at, module_at}
 
 -- the number of a standing
 abbrev pub standing_number : Standing → ℕ
@@ -60,10 +60,6 @@ agrees r c q e h =
 -- no domain has a right outside RAM
 pub record IsBounded (r : Reads) (c : Core) : Type 0 where
   pub outside : (d word : ℕ) → c.size ≤ word → r.perm d word ≡ P.None
-
--- each map of a flat state has one permission for each word of RAM
-abbrev pub HasWholeMaps : Flat → Type 0
-HasWholeMaps f = AllByRecursion (λ m. length m ≡ f.core.size) f.maps
 
 -- two states that the test fits: of as many words of RAM, outside which no domain has a right
 pub record AreFit (r : Reads) (c : Core) (q : Reads) (e : Core) : Type 0 where

@@ -1,8 +1,16 @@
 pub mod Boots
+pub mod EffectExamples
 pub mod ShortExamples
 pub mod GateExamples
 pub mod CallExamples
 pub mod RefusalExamples
+pub mod Smalls
+pub mod CrossingExamples
+pub mod HartsExamples
+pub mod AccessExamples
+pub mod ServeExamples
+pub mod BorderExamples
+pub mod RunExamples
 pub mod KeepLaws
 pub mod FlatLaws
 pub mod RunLaws

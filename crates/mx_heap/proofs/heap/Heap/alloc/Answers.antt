@@ -8,7 +8,7 @@ use Rattle.mx_heap.specs.HeapState.{HeapState}
 use Rattle.mx_heap.specs.Places.{fitting, is_hole_for, part_at, wall, blocks_of}
 use Rattle.mx_heap.proofs.Answering.{Answers, Found, answers_ok, answers_err, found}
 use Rattle.mx_heap.proofs.EditLaws.{AfterSplit, after_split}
-use Rattle.mx_heap.proofs.KeptParts.{two_more, kept_split}
+use Rattle.mx_heap.proofs.KeptParts.{is_heap, two_more, kept_split}
 use Rattle.mx_heap.proofs.heap.Heap.alloc.Goals.{In-Err, After-index}
 use Rattle.mx_heap.proofs.heap.Heap.alloc.Goals as goal
 
@@ -48,6 +48,12 @@ returns-in-Err-clause-no_room c = rw (← c.self.view_is) (refused (goal.at.retu
 pub returns-in-Err-clause-full : goal.returns-in-Err-clause-full
 returns-in-Err-clause-full c = rw (← c.self.view_is) (refused (goal.at.returns-in-Err-clause-full c).In-Err).full
 
+pub returns-in-Err-clause-heap : goal.returns-in-Err-clause-heap
+returns-in-Err-clause-heap c = rw (← c.self.view_is) (is_heap _ _ _ _ _ c.self.invariant)
+
+pub returns-in-Err-clause-still : goal.returns-in-Err-clause-still
+returns-in-Err-clause-still c = rw (← c.self.view_is) (is_heap _ _ _ _ _ c.self.invariant)
+
 pub split_hole-requires : goal.split_hole-requires
 split_hole-requires c =
     let d : After-index = (goal.at.split_hole-requires c).After-index in
@@ -77,11 +83,14 @@ returns c =
     let high : d.index.result.now.first + d.args.words ≤ d.self.inside.first + d.self.inside.count = rw part (omega (arith, at.long, at.high)) in
     let new : blocks_of c.split_hole.new.parts.items ≡ with_block (record { first = d.index.result.now.first; count = d.args.words }) (blocks_of d.self.inside.parts.items) =
     ap (λ (ps : List Part). blocks_of ps) c.split_hole.ensures.items ∙ (split_is d).blocks in
+    let kept = kept_split _ _ _ _ _ d.self.invariant d.in-Ok.i d.index.result.now.first d.args.words _ _ at.less (split_is d) c.split_hole.ensures.items c.split_hole.ensures.capacity in
     rw (← c.self.view_is) (record {
       ok = a.ok;
       no_room = a.no_room;
       full = a.full;
       inside = (low, high);
+      heap = is_heap _ _ _ _ _ d.self.invariant;
+      still = is_heap _ _ _ _ _ kept;
       live = ap (λ (bs : List Area). heap_of d.self.inside.first d.self.inside.count bs) new;
       unchanged = tt;
     })

@@ -3,7 +3,11 @@ use Rattle.std.specs.List.{position}
 use Rattle.std.proofs.lemmas.List.{get_or_read}
 use Rattle.mx_heap.specs.Places.{is_block_at, part_at, wall}
 use Rattle.mx_heap.proofs.JoinLaws.{Standing, AfterJoin, after_join, standing, no_block}
+use Rattle.mx_heap.proofs.OrderLaws.{in_order}
 use Rattle.mx_heap.proofs.heap.Heap.block.Goals as goal
+
+pub block_place-requires : goal.block_place-requires
+block_place-requires c = rw c.deref.ensures.value (in_order _ _ _ _ _ c.self.invariant)
 
 pub returns-in-Some : goal.returns-in-Some
 returns-in-Some c =

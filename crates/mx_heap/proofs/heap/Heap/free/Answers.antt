@@ -8,7 +8,11 @@ use Rattle.mx_heap.specs.Places.{is_block_at, part_at, wall, blocks_of}
 use Rattle.mx_heap.proofs.JoinLaws.{Standing, AfterJoin, after_join, standing, no_block}
 use Rattle.mx_heap.proofs.KeptParts.{kept_joined}
 use Rattle.mx_heap.proofs.heap.Heap.free.Goals.{In-None, After-index}
+use Rattle.mx_heap.proofs.OrderLaws.{in_order}
 use Rattle.mx_heap.proofs.heap.Heap.free.Goals as goal
+
+pub block_place-requires : goal.block_place-requires
+block_place-requires c = rw c.deref.ensures.value (in_order _ _ _ _ _ c.self.invariant)
 
 -- a heap with this area and these blocks
 abbrev heap_of : ℕ → ℕ → List Area → HeapState

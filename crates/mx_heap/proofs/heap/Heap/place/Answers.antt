@@ -5,6 +5,7 @@ use Rattle.mx_words.specs.FirstFit.{Area, place}
 use Rattle.mx_heap.specs.declared.block.HeapError.{HeapError}
 use Rattle.mx_heap.specs.Places.{fitting, is_hole_for, part_at, wall, blocks_of}
 use Rattle.mx_heap.proofs.Answering.{Answers, Found, answers_ok, answers_err, found}
+use Rattle.mx_heap.proofs.KeptParts.{is_heap}
 use Rattle.mx_heap.proofs.heap.Heap.place.Goals as goal
 
 pub returns-in-Ok : goal.returns-in-Ok
@@ -17,7 +18,7 @@ returns-in-Ok c =
     let part : c.index.result.now ≡ part_at c.self.inside.parts.items c.in-Ok.i = get_or_read c.self.inside.parts.items c.in-Ok.i c.index.result.now at.within c.index.ensures wall in
     let a : Answers (place area (blocks_of c.self.inside.parts.items) c.args.words) (length (blocks_of c.self.inside.parts.items)) (Ok (part_at c.self.inside.parts.items c.in-Ok.i).first) =
     answers_ok area _ c.self.invariant.fill c.self.inside.live c.self.invariant.counted c.args.words c.requires c.in-Ok.i e in
-    rw (← c.self.view_is, part) (record { ok = a.ok; no_room = a.no_room; full = a.full; inside = (at.low, omega (arith, at.long, at.high)) })
+    rw (← c.self.view_is, part) (record { ok = a.ok; no_room = a.no_room; full = a.full; inside = (at.low, omega (arith, at.long, at.high)); heap = is_heap _ _ _ _ _ c.self.invariant })
 
 pub returns-in-Err : goal.returns-in-Err
 returns-in-Err c =
@@ -26,4 +27,4 @@ returns-in-Err c =
     let e : fitting (position (is_hole_for c.args.words) c.self.inside.parts.items) c.self.inside.live ≡ Err c.in-Err.refusal = sym (rw c.deref.ensures.value at told) in
     let a : Answers (place area (blocks_of c.self.inside.parts.items) c.args.words) (length (blocks_of c.self.inside.parts.items)) (Err c.in-Err.refusal) =
     answers_err area _ c.self.invariant.fill c.self.inside.live c.self.invariant.counted c.args.words c.requires c.in-Err.refusal e in
-    rw (← c.self.view_is) (record { ok = tt; no_room = a.no_room; full = a.full; inside = tt })
+    rw (← c.self.view_is) (record { ok = tt; no_room = a.no_room; full = a.full; inside = tt; heap = is_heap _ _ _ _ _ c.self.invariant })

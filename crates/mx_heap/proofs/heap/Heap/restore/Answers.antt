@@ -11,7 +11,11 @@ use Rattle.mx_heap.proofs.RoomLaws.{part_bounds, position_none, room_in_hole, no
 use Rattle.mx_heap.proofs.EditLaws.{AfterSplit, after_split}
 use Rattle.mx_heap.proofs.KeptParts.{two_more, kept_split}
 use Rattle.mx_heap.proofs.heap.Heap.restore.Goals.{In-Some}
+use Rattle.mx_heap.proofs.OrderLaws.{in_order}
 use Rattle.mx_heap.proofs.heap.Heap.restore.Goals as goal
+
+pub hole_around-requires-clause-order : goal.hole_around-requires-clause-order
+hole_around-requires-clause-order c = rw c.deref.ensures.value (in_order _ _ _ _ _ c.self.invariant)
 
 -- a heap with this area and these blocks
 abbrev heap_of : ℕ → ℕ → List Area → HeapState
