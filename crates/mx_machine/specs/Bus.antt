@@ -32,16 +32,16 @@ pub record IsUsable {T : Type 0} {N : ℕ} (maps : T → List (List Perm)) (size
 -- what one touch changes beside RAM: the checker and the tables' count of lookups, as by one check of the address
 pub record IsTouch {T : Type 0} {N : ℕ} (kind : Kind) (maps : T → List (List Perm)) (size : T → ℕ) (limit : T → Need) (lookups : T → ℕ) (most : ℕ)
     (old : HartBus T N) (place address : ℕ) (new : HartBus T N) : Type 0 where
-  pub hart : new.hart ≡ old.hart
-  pub domain : new.domain ≡ old.domain
-  pub maps : maps new.supervisor.checker.tables ≡ maps old.supervisor.checker.tables
-  pub size : size new.supervisor.checker.tables ≡ size old.supervisor.checker.tables
-  pub limit : limit new.supervisor.checker.tables ≡ limit old.supervisor.checker.tables
-  pub owners : new.supervisor.owners ≡ old.supervisor.owners
-  pub gates : new.supervisor.gates ≡ old.supervisor.gates
-  pub heaps : new.supervisor.heaps ≡ old.supervisor.heaps
-  pub harts : new.supervisor.checker.harts
+  pub same_hart : new.hart ≡ old.hart
+  pub same_domain : new.domain ≡ old.domain
+  pub same_maps : maps new.supervisor.checker.tables ≡ maps old.supervisor.checker.tables
+  pub same_size : size new.supervisor.checker.tables ≡ size old.supervisor.checker.tables
+  pub same_limit : limit new.supervisor.checker.tables ≡ limit old.supervisor.checker.tables
+  pub same_owners : new.supervisor.owners ≡ old.supervisor.owners
+  pub same_gates : new.supervisor.gates ≡ old.supervisor.gates
+  pub same_heaps : new.supervisor.heaps ≡ old.supervisor.heaps
+  pub harts_after : new.supervisor.checker.harts
       ≡ looked most kind (map_of (maps old.supervisor.checker.tables) old.domain) old.hart place old.domain address old.supervisor.checker.harts
-  pub lookups : lookups new.supervisor.checker.tables
+  pub counted : lookups new.supervisor.checker.tables
       ≡ lookups_after (map_of (maps old.supervisor.checker.tables) old.domain) place old.domain address
       (hart_at old.supervisor.checker.harts old.hart).cache (lookups old.supervisor.checker.tables)

@@ -9,13 +9,13 @@ use Rattle.mx_model.specs.Turn.{Action, Made, acted, decide, enacted, runs_at}
 use Rattle.mx_machine.specs.Held.{Held, meaning}
 
 -- the machine, the events and the answer are what is made
-pub record IsMade (old new : Held) (events : Events) (kind : TurnKind) (m : Made) : Type 0 where
+pub record IsMade (old new : Held) (events : Events) (answer : TurnKind) (m : Made) : Type 0 where
   pub core : (meaning new).core ≡ m.core
   pub maps : new.parts.maps ≡ maps_after old.parts.maps m.change
   pub owners : new.parts.owners ≡ owners_after old.parts.owners m.give
   pub console : events.bytes ≡ m.console
   pub note : events.note ≡ m.note
-  pub kind : kind ≡ m.kind
+  pub kind : answer ≡ m.kind
 
 -- what a machine answers of rights, its state, and a hart of it
 abbrev pub reads_of : Held → Reads

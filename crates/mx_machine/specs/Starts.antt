@@ -74,9 +74,9 @@ pub record IsStart (p : Parts) (s : HartStart) : Type 0 where
 pub record MayStart (p : Parts) (starts : List HartStart) (stacks : List StackArea) : Type 0 where
   pub some_harts : 1 ≤ length starts
   pub new : p.harts ≡ new_harts (length starts)
-  pub starts : AllByRecursion (IsStart p) starts
+  pub each : AllByRecursion (IsStart p) starts
   pub count : length stacks ≡ length p.maps
-  pub stacks : AllByRecursion (IsStack p.size (length starts)) stacks
+  pub areas : AllByRecursion (IsStack p.size (length starts)) stacks
 
 -- what a hart resumes with: module and pc as at a start, x0 zero, and frames that lead back to a module at a multiple of 4
 pub record IsBackPlace (p : Parts) (f : Frame) : Type 0 where
@@ -116,10 +116,10 @@ no_state = record { status = V.Halted; domain = 0; pc = 0; regs = replicate 32 0
 -- a machine may resume with these
 pub record MayResume (p : Parts) (states : List HartState) (stacks : List StackArea) (dead : List Bool) (steps : ℕ) : Type 0 where
   pub some_harts : 1 ≤ length states
-  pub harts : length p.harts ≡ length states
-  pub states : AllByRecursion (IsHartState p) states
+  pub same_harts : length p.harts ≡ length states
+  pub each : AllByRecursion (IsHartState p) states
   pub unused : (h : ℕ) → h < length states → IsUnused p (length states) h (slice_index_or states h no_state) (hart_at p.harts h)
   pub count : length stacks ≡ length p.maps
-  pub stacks : AllByRecursion (IsStack p.size (length states)) stacks
-  pub dead : (d : ℕ) → slice_index_or dead d false ≡ true → IsDomain p.maps d
+  pub areas : AllByRecursion (IsStack p.size (length states)) stacks
+  pub dead_modules : (d : ℕ) → slice_index_or dead d false ≡ true → IsDomain p.maps d
   pub few_steps : steps ≤ 2 ^ 63 - 1

@@ -22,11 +22,11 @@ regs_left perm bytes returns x bus = regs_after (perm bus) (bytes bus) x.regs x.
 
 -- the instruction at its pc answers, and leaves the bus
 pub record Instructs {B : Type 0} (perm : B → ℕ → Perm) (bytes : B → List ℕ) (touches : B → ℕ → ℕ → Access → B → Type 0) (returns : Bool) (x : Hart) (old : B)
-    (outcome : Outcome) (new : B) : Type 0 where
-  pub outcome : outcome ≡ outcome_of (perm old) x.pc returns (fetched (perm old) (bytes old) x.regs x.pc)
-  pub bytes : bytes new ≡ bytes_after (perm old) (bytes old) (fetched (perm old) (bytes old) x.regs x.pc)
-  pub touches : IsTouched touches old (fetch_touch x.pc ∷ touches_of (fetched (perm old) (bytes old) x.regs x.pc)) new
-  pub cause : HasCause outcome
+    (answer : Outcome) (new : B) : Type 0 where
+  pub answered : answer ≡ outcome_of (perm old) x.pc returns (fetched (perm old) (bytes old) x.regs x.pc)
+  pub left : bytes new ≡ bytes_after (perm old) (bytes old) (fetched (perm old) (bytes old) x.regs x.pc)
+  pub touched : IsTouched touches old (fetch_touch x.pc ∷ touches_of (fetched (perm old) (bytes old) x.regs x.pc)) new
+  pub caused : HasCause answer
 
 -- an instruction leaves it these registers, and where it goes on another pc
 abbrev pub pc_after : Outcome → ℕ → ℕ

@@ -1,0 +1,2 @@
+pub mod HartsAt
+pub mod HearLaws
