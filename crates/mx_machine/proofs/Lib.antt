@@ -1,2 +1,13 @@
 pub mod HartsAt
 pub mod HearLaws
+pub mod BusLaws
+pub mod HartList
+pub mod RangeLaws
+pub mod TouchLaws
+pub mod HomeLaws
+pub mod CoreLaws
+pub mod FitLaws
+pub mod DeedLaws
+pub mod LookLaws
+pub mod InstructLaws
+pub mod ServeLaws

@@ -1,5 +1,5 @@
 -- The steps of one hart.
-use Rattle.std.specs.Prelude.{◌≡◌, ℕ, zero, suc, ◌<◌, Bool, List, [], ◌∷◌, ◌++◌, slice_index, slice_set, Option, Some, None}
+use Rattle.std.specs.Prelude.{◌≡◌, ℕ, Bool, List, [], ◌∷◌, ◌++◌, slice_set, Option, Some, None}
 use Rattle.mx_words.specs.declared.perm.Perm.{Perm}
 use Rattle.mx_words.specs.declared.perm.Access.{Access}
 use Rattle.mx_core.specs.Bus.{IsTouched}
@@ -10,7 +10,7 @@ use Rattle.mx_model.specs.declared.values.Frame.{Frame}
 use Rattle.mx_model.specs.Effect.{next, written}
 use Rattle.mx_model.specs.Gates.{below_top, top}
 use Rattle.mx_model.specs.State.{Running}
-use Rattle.mx_model.specs.Turn.{answered, fault_answer, restored, saved, saved_registers}
+use Rattle.mx_model.specs.Turn.{answered, fault_answer, restored}
 use Rattle.mx_laws.specs.Crossing.{frame_of}
 use Rattle.mx_machine.specs.declared.hart.Hart.{Hart}
 use Rattle.mx_machine.specs.declared.hart.Progress.TheVariants as G
@@ -88,8 +88,3 @@ returns_by rd x (Some frame) = leaves (written x.regs rd (next x.pc)) frame (bel
 
 abbrev pub returns_over : ℕ → Hart → Hart
 returns_over rd x = returns_by rd x (top x.frames)
-
--- the registers after the first n of the fifteen are restored
-abbrev pub restored_first : ℕ → List ℕ → List ℕ → List ℕ
-restored_first zero regs kept = regs
-restored_first (suc n) regs kept = slice_set (restored_first n regs kept) (slice_index saved_registers n) (slice_index kept n)

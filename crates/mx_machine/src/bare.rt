@@ -172,10 +172,9 @@ impl<T: PermTables, const N: usize> Bare<T, N> {
         ensures after { self.new ≡ with_kept hart (announced hart (range_of self.old.parts call.now).0 (range_of self.old.parts call.now).1) self.old }
         ensures ready { result ≡ is_ready hart self.new.parts.harts }
     {
-        let supervisor = &mut self.bus.supervisor;
-        let (first, count) = supervisor.announced(call);
-        supervisor.checker.announce(hart, first, count);
-        supervisor.checker.ready(hart)
+        let (first, count) = self.bus.supervisor.announced(call);
+        self.bus.supervisor.checker.announce(hart, first, count);
+        self.bus.supervisor.checker.ready(hart)
     }
 
     /// The note of a fault of the hart.
