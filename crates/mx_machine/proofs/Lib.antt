@@ -1,2 +1,4 @@
 pub mod HartsAt
+pub mod Hearing
+pub mod EachHart
 pub mod HearLaws
