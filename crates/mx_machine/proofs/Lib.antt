@@ -1,4 +1,6 @@
 pub mod HartsAt
+pub mod Hearing
+pub mod EachHart
 pub mod HearLaws
 pub mod BusLaws
 pub mod HartList
