@@ -15,10 +15,11 @@ use Rattle.mx_core.specs.Bus.{denied, load_at, store_at, Touch}
 use Rattle.mx_core.specs.Exec.{action_of, bytes_after, bytes_in, effect_in, fetch_touch, fetched, looks_of, outcome_in, outcome_of, regs_after, regs_in, returns_in, touches_of, trap}
 use Rattle.mx_core.proofs.TurnLaws.{actions-alike, looks-alike}
 use Rattle.mx_model.specs.declared.values.Fault.{Fault}
+use Rattle.mx_model.specs.declared.values.TurnKind.{TurnKind}
 use Rattle.mx_model.specs.declared.values.TurnKind.TheVariants as T
 use Rattle.mx_model.specs.Checks.{Look, looked_all}
 use Rattle.mx_model.specs.Effect.{Effect, Goes, Faults, Loads, Stores, Calls, Jumps, load_size, loaded, next, written}
-use Rattle.mx_model.specs.Events.{no_events}
+use Rattle.mx_model.specs.Events.{Events, no_events}
 use Rattle.mx_model.specs.Reads.{Reads}
 use Rattle.mx_model.specs.State.{Core, Running, Status, with_hart}
 use Rattle.mx_model.specs.State.{hart_at as hart_at_seen}
@@ -148,7 +149,7 @@ module _ (m : Held) (h : ℕ) (returns : Bool) (r : MayRun m h) where
 
 -- the state after an instruction, by what the model says of it
 module _ (m : Held) (h : ℕ) (returns : Bool) (r : MayRun m h) (whole : length (map_of m.parts.maps (hart_of m.harts h).domain) ≡ m.parts.size)
-    (at : returns ≡ is_return_at (core_in m) (hart_in m h).domain (hart_in m h).pc) where
+    (turns_back : returns ≡ is_return_at (core_in m) (hart_in m h).domain (hart_in m h).pc) where
   abbrev pub running_hart : Seen
   running_hart = seen_with Running (hart_of m.harts h)
 
@@ -163,7 +164,7 @@ module _ (m : Held) (h : ℕ) (returns : Bool) (r : MayRun m h) (whole : length 
   regs_now = regs_after (perm_for m (hart_of m.harts h)) m.parts.ram (hart_of m.harts h).regs (hart_of m.harts h).pc returns (effect_for m (hart_of m.harts h))
 
   at-running : is_return_at (core_in m) running_hart.domain running_hart.pc ≡ returns
-  at-running = sym (at ∙ ap (λ (s : Seen). is_return_at (core_in m) s.domain s.pc) (seen-running m h r))
+  at-running = sym (turns_back ∙ ap (λ (s : Seen). is_return_at (core_in m) s.domain s.pc) (seen-running m h r))
 
   -- what the instruction makes is what its answer makes behind the looks
   pub made-behind : instruction m h ≡ acted (reads_of m) behind_looks h running_hart (action_of h running_hart regs_now (outcome_for m h returns))
@@ -229,3 +230,13 @@ module _ (m : Held) (h : ℕ) (returns : Bool) (r : MayRun m h) (whole : length 
       ∙ ap (λ (a : Action). acted (reads_of m) behind_looks h running_hart a) (action-still h running_hart regs_now regs o st)
       ∙ sym (ap (λ (c : Core). acted (reads_of m) c h (hart_in n h) (action_of h (hart_in n h) regs o)) core
       ∙ ap (λ (y : Seen). acted (reads_of m) behind_looks h y (action_of h y regs o)) own)
+
+  -- what is made after it stopped is what the instruction makes
+  pub from-instruction : (new : Held) (events : Events) (answer : TurnKind) (o : Outcome) → outcome_for m h returns ≡ o → Stops o →
+      IsMade (after_instruction h returns m) new events answer (deed (after_instruction h returns m) h (action_of h (hart_in (after_instruction h returns m) h) [] o)) →
+      IsMade m new events answer (instruction m h)
+  from-instruction new events answer o e st i =
+      let n = after_instruction h returns m in
+      let is = made-stopped [] (subst (λ (p : Outcome). Stops p) (sym e) st) ∙ ap (λ (p : Outcome). deed n h (action_of h (hart_in n h) [] p)) e in
+      subst (λ d. IsMade m new events answer d) (sym is)
+      (record { core = i.core; maps = i.maps; owners = i.owners; console = i.console; note = i.note; kind = i.kind })

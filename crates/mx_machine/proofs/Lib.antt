@@ -4,6 +4,7 @@ pub mod EachHart
 pub mod HearLaws
 pub mod BusLaws
 pub mod HartList
+pub mod RegLaws
 pub mod RangeLaws
 pub mod TouchLaws
 pub mod HomeLaws
@@ -13,3 +14,8 @@ pub mod DeedLaws
 pub mod LookLaws
 pub mod InstructLaws
 pub mod ServeLaws
+pub mod AskLaws
+pub mod CaseLaws
+pub mod ReturnLaws
+pub mod WaitLaws
+pub mod StepLaws

@@ -29,17 +29,17 @@ use Rattle.mx_machine.proofs.FitLaws.{count-step, others-step, own-step}
 
 module _ (rest : Core) (p : Parts) (h d : ℕ) (dom : IsDomain p.maps d) (whole : length (map_of p.maps d) ≡ p.size) where
   -- the state with these parts, where the checker keeps this of the harts
-  abbrev keeping : List Kept → Core
+  abbrev pub keeping : List Kept → Core
   keeping kept = core_of rest (record p { harts = kept })
 
-  abbrev answers : Reads
+  abbrev pub answers : Reads
   answers = flat_reads (flat_of rest p)
 
-  abbrev Bars : List Kept → Type 0
+  abbrev pub Bars : List Kept → Type 0
   Bars kept = (s : Span) → list_any (λ (r : ℕ × ℕ). meets s r.0 r.1) (heard_ranges (core_of rest p) h) ≡ is_barred h s kept
 
   -- one check of an address
-  abbrev checks : ℕ → ℕ → List Kept → List Kept
+  abbrev pub checks : ℕ → ℕ → List Kept → List Kept
   checks place address kept = looked_kept p.buffer p.kind (map_of p.maps d) h place d address kept
 
   at-word : (kept : List Kept) (place : ℕ) (o : Option ℕ) → Bars kept →

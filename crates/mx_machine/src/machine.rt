@@ -15,7 +15,7 @@ use crate::bare::Bare;
 use crate::bus::HartBus;
 use crate::harts::Harts;
 use crate::{HartStates, Stacks, Starts};
-use mx_laws::{turns_keep_foreign_words, turns_keep_frames};
+use mx_laws::{turns_keep_foreign_words, turns_keep_frames, turns_of_twins};
 use mx_model::{Events, TurnKind, flat_of_a_turn, turns_keep_validity};
 use mx_supervisor::Supervisor;
 use mx_table::PermTables;
@@ -118,6 +118,7 @@ impl<T: PermTables, const N: usize> Machine<T, N> {
         turns_keep_validity();
         turns_keep_foreign_words();
         turns_keep_frames();
+        turns_of_twins();
         self.bare.step(hart, out)
     }
 }

@@ -51,6 +51,7 @@ impl<T: PermTables, const N: usize> Bare<T, N> {
 
     /// A waiting hart: its call is served once the others have heard it.
     fn wait_on(&mut self, hart: u32, out: &mut Events) -> TurnKind
+        requires valid { IsValid (meaning self.old).core }
         requires act { MayAct self.old hart }
         requires waits { (hart_of self.old.harts hart).progress ≡ G.Waiting }
         requires empty { out.old ≡ no_events }

@@ -1,14 +1,18 @@
-use Rattle.std.proofs.Common.{◌≡◌, ℕ, [], Some, ap, ◌∙◌}
+use Rattle.std.proofs.Common.{◌≡◌, ℕ, [], Some, ap, arith, ◌∙◌}
 use Rattle.mx_model.specs.declared.values.Note.{Note}
 use Rattle.mx_model.specs.declared.values.Note.TheVariants as N
 use Rattle.mx_model.specs.Events.{Events}
 use Rattle.mx_machine.specs.Deeds.{fallen, killed}
 use Rattle.mx_machine.specs.Harts.{hart_of}
 use Rattle.mx_machine.specs.Held.{Held}
-use Rattle.mx_machine.proofs.DeedLaws.{made-trap, fits-trap}
-use Rattle.mx_machine.proofs.InstructLaws.{made-next}
-use Rattle.mx_machine.proofs.ServeLaws.{range-served}
+use Rattle.mx_machine.proofs.DeedLaws.{fits-trap, kept-there, made-trap, running-free}
 use Rattle.mx_machine.proofs.bare.Bare.trap.Goals as goal
+
+pub fall-requires : goal.fall-requires
+fall-requires g c =
+    let m = c.args.self.now in
+    let r = c.requires.run in
+    (omega arith, (rw c.kill.ensures r.act.there, (rw c.kill.ensures (kept-there m c.args.hart r.act), (rw c.kill.ensures (running-free m c.args.hart r), c.requires.cause))))
 
 pub returns : goal.returns
 returns g c =
