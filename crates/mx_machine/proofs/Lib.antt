@@ -13,3 +13,4 @@ pub mod DeedLaws
 pub mod LookLaws
 pub mod InstructLaws
 pub mod ServeLaws
+pub mod RegLaws
