@@ -14,3 +14,6 @@ pub mod LookLaws
 pub mod InstructLaws
 pub mod ServeLaws
 pub mod RegLaws
+pub mod StartLaws
+pub mod StartFits
+pub mod FrameLaws
