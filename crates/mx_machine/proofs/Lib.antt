@@ -19,3 +19,6 @@ pub mod CaseLaws
 pub mod ReturnLaws
 pub mod WaitLaws
 pub mod StepLaws
+pub mod StartLaws
+pub mod StartFits
+pub mod FrameLaws

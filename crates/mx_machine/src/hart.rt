@@ -219,9 +219,12 @@ impl Hart {
         requires { rd < 32 }
         ensures { self.new ≡ returns_over rd self.old }
     {
-        if let Some(frame) = self.frames.pop() {
-            self.regs.set(rd, self.pc.wrapping_add(4));
-            self.leave(&frame);
+        match self.frames.pop() {
+            Some(frame) => {
+                self.regs.set(rd, self.pc.wrapping_add(4));
+                self.leave(&frame);
+            }
+            None => {}
         }
     }
 
@@ -310,9 +313,12 @@ fn frames_of(frames: &CrossStack) -> CrossStack
 {
     let mut copy = CrossStack::new();
     for i in 0..frames.depth() {
-        if let Some(frame) = frames.frame(i) {
-            // There is room.
-            let _ = copy.push(frame);
+        match frames.frame(i) {
+            Some(frame) => {
+                // There is room.
+                let _ = copy.push(frame);
+            }
+            None => {}
         }
     }
     copy
