@@ -2,3 +2,4 @@ pub mod Places
 pub mod Loading
 pub mod Sound
 pub mod Examples
+pub mod Names

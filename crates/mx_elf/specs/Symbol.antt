@@ -1,5 +1,6 @@
 -- The value of a symbol.
-use Rattle.std.specs.Prelude.{ℕ, ◌+◌, ◌*◌, ◌/◌, ◌==◌, nat_lt, nat_le, Bool, false, not, ◌&&◌, if◌then◌else◌, List, [], ◌∷◌, length, take, drop, find, Option, Some, None, option_and_then, option_map}
+use Rattle.std.specs.Prelude.{◌≡◌, ℕ, ◌+◌, ◌*◌, ◌/◌, ◌==◌, nat_lt, nat_le, Bool, false, not, ◌&&◌, if◌then◌else◌, List, [], ◌∷◌, length, take, drop, find, Option, Some, None, option_and_then, option_map}
+use Rattle.std.specs.List.{list_any}
 use Rattle.std.specs.Option.{option_map_or}
 use Rattle.std.specs.Str.{bytes_eq}
 use Rattle.mx_elf.specs.Field.{places}
@@ -38,6 +39,10 @@ name_of (b ∷ strings) = if b == 0 then Some [] else option_map (λ name. b ∷
 -- whether these strings begin with this name
 abbrev pub begins_with_name : List ℕ → List ℕ → Bool
 begins_with_name strings name = option_map_or (λ found. bytes_eq found name) (name_of strings) false
+
+-- no byte of a name is zero
+abbrev pub HasNoZero : List ℕ → Type 0
+HasNoZero name = list_any (λ b. b == 0) name ≡ false
 
 -- whether the symbol at a place is defined and has this name
 abbrev pub is_defined : List ℕ → List ℕ → List ℕ → ℕ → Bool

@@ -3,7 +3,7 @@
 ghost use Rattle.std.specs.Prelude.{◌≡◌, ◌+◌, ◌*◌, ◌/◌, ◌<◌, ◌≤◌, length, drop, find, ◌==◌, IfSome, option_map};
 ghost use Rattle.mx_elf.specs.Field.{places};
 ghost use Rattle.mx_elf.specs.Header.{e_shoff, e_shnum, sh_type};
-ghost use Rattle.mx_elf.specs.Symbol.{has_sections, symbol_table_of, section_place, section_bytes, begins_with_name, is_defined, value_of, symbol_of};
+ghost use Rattle.mx_elf.specs.Symbol.{has_sections, symbol_table_of, section_place, section_bytes, HasNoZero, begins_with_name, is_defined, value_of, symbol_of};
 
 use crate::field::{half_at, word_at};
 use crate::layout::{
@@ -99,9 +99,20 @@ fn section(bytes: &[u8], at: usize) -> Option<&[u8]>
     Some(&bytes[start..end])
 }
 
-/// The value of the first symbol that is defined and has this name.
-#[tactic(auto, unfolding(crate::specs::Symbol::value_of))]
+/// The value of the first symbol that is defined and has this name. A name with a zero byte in it is no symbol's.
 fn find_value(symbols: &[u8], strings: &[u8], name: &[u8]) -> Option<u32>
+    ensures { result ≡ value_of symbols.now strings.now name.now }
+{
+    if name.contains(&0) {
+        return None;
+    }
+    find_named(symbols, strings, name)
+}
+
+/// The value of the first symbol that is defined and has this name, in which no byte is zero.
+#[tactic(auto, unfolding(crate::specs::Symbol::value_of))]
+fn find_named(symbols: &[u8], strings: &[u8], name: &[u8]) -> Option<u32>
+    requires { HasNoZero name.now }
     ensures { result ≡ value_of symbols.now strings.now name.now }
 {
     let count = symbols.len() / SYMBOL_SIZE;
@@ -116,28 +127,33 @@ fn find_value(symbols: &[u8], strings: &[u8], name: &[u8]) -> Option<u32>
 
 /// Whether the symbol at `at` is defined and has this name.
 fn is_defined(symbols: &[u8], strings: &[u8], name: &[u8], at: usize) -> bool
-    requires { at + 16 ≤ length symbols.now }
+    requires inside { at + 16 ≤ length symbols.now }
+    requires name { HasNoZero name.now }
     ensures { result ≡ is_defined symbols.now strings.now name.now at }
 {
     half_at(symbols, at + ST_SHNDX) != 0 && has_name(strings, word_at(symbols, at), name)
 }
 
-/// Whether the string at place `at` is this name.
+/// Whether the string at place `at` is this name, in which no byte is zero.
 fn has_name(strings: &[u8], at: u32, name: &[u8]) -> bool
+    requires { HasNoZero name.now }
     ensures { result ≡ begins_with_name (drop at strings.now) name.now }
 {
     let at = at as usize;
     at <= strings.len() && begins_with_name(&strings[at..], name)
 }
 
-/// Whether these strings begin with this name and a zero byte.
+/// Whether these strings begin with this name, in which no byte is zero, and a zero byte. That byte is looked at first: few
+/// strings of a file end just there.
 fn begins_with_name(strings: &[u8], name: &[u8]) -> bool
+    requires { HasNoZero name.now }
     ensures { result ≡ begins_with_name strings.now name.now }
 {
-    'letters: for (i, b) in name.iter().enumerate() {
-        if i >= strings.len() || strings[i] == 0 || strings[i] != *b {
-            return false;
-        }
+    if name.len() >= strings.len() {
+        return false;
     }
-    name.len() < strings.len() && strings[name.len()] == 0
+    if strings[name.len()] != 0 {
+        return false;
+    }
+    &strings[..name.len()] == name
 }

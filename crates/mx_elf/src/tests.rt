@@ -36,6 +36,7 @@ fn reads_the_image_of_a_linker(rt: HostRuntime) -> Result<(), Fail> {
         ("scratch", Some(0x8000_011C)),
         ("sums", None),
         ("su", None),
+        ("sum\0", None),
     ];
     for (name, want) in symbols {
         assert_eq!(rt; symbol(SUMS, name), want, "{name}");

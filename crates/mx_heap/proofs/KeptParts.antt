@@ -2,7 +2,7 @@
 use Rattle.std.proofs.Common.{ℕ, ◌≡◌, ◌+◌, ◌*◌, ◌-◌, ◌≤◌, true, List, length, arith}
 use Rattle.mx_words.specs.FirstFit.{most_blocks}
 use Rattle.mx_heap.specs.declared.parts.Part.{Part}
-use Rattle.mx_heap.specs.HeapState.{HeapState, IsHeap}
+use Rattle.mx_heap.specs.HeapState.{IsHeap}
 use Rattle.mx_heap.specs.Places.{blocks_of, split, joined, AreParts}
 use Rattle.mx_heap.proofs.FillLaws.{Fill-apart, length-parts}
 use Rattle.mx_heap.proofs.EditLaws.{AfterSplit}

@@ -7,3 +7,4 @@ pub mod JoinLaws
 pub mod KeptParts
 pub mod Borrow
 pub mod OrderLaws
+pub mod ListLaws

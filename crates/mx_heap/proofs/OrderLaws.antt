@@ -1,10 +1,9 @@
 -- Parts in the order of their addresses: which of them holds a word.
-use Rattle.std.proofs.Common.{ℕ, zero, suc, ◌≡◌, ◌+◌, ◌*◌, ◌-◌, ◌<◌, ◌≤◌, ⊎_elim, Bool, true, false, not, List, [], ◌∷◌, length, Option, Some, None, refl, sym, ◌∙◌, ap, arith}
+use Rattle.std.proofs.Common.{ℕ, zero, suc, ◌≡◌, ◌+◌, ◌*◌, ◌-◌, ◌<◌, ◌≤◌, ⊎_elim, Bool, true, false, not, List, [], ◌∷◌, length, Some, None, refl, sym, arith}
 use Rattle.std.specs.Prelude.{nat_lt, nat_le, ◌==◌, ◌&&◌}
 use Rattle.std.specs.List.{position, position_or_len}
 use Rattle.std.proofs.lemmas.Bool.{cases_lt, lt-ltb, le-ltb, ltb-true, ltb-false, lt-leb, ne_eqb, and_left, and_right}
 use Rattle.std.proofs.lemmas.List.Sums.{position_or_len_is, fails_before_first, passes_at_first}
-use Rattle.mx_words.specs.FirstFit.{most_blocks}
 use Rattle.mx_heap.specs.declared.parts.Part.{Part}
 use Rattle.mx_heap.specs.Places.{Fill, blocks_of, part_at, wall, is_block_at, is_hole_around, parts_to, AreParts, AreInOrder}
 use Rattle.mx_heap.proofs.FillLaws.{length-parts}

@@ -1,5 +1,5 @@
 -- The meaning of a heap, and what its calls answer.
-use Rattle.std.specs.Prelude.{ℕ, ◌+◌, ◌<◌, ◌≤◌, Bool, ◌&&◌, nat_lt, List, [], ◌∷◌, length}
+use Rattle.std.specs.Prelude.{ℕ, ◌+◌, ◌≤◌, Bool, ◌&&◌, nat_lt, List, length}
 use Rattle.mx_words.specs.FirstFit.{Area, AreApart, has_room, most_blocks}
 use Rattle.mx_heap.specs.declared.block.Block.{Block}
 

@@ -1,10 +1,12 @@
 -- How a heap stores its area: as parts in the order of their addresses, live blocks and the holes between them.
-use Rattle.std.specs.Prelude.{ℕ, ◌≡◌, ◌+◌, ◌-◌, ◌*◌, ◌<◌, ◌≤◌, Bool, true, false, not, ◌&&◌, ◌==◌, nat_lt, nat_le, List, [], ◌∷◌, length, slice_index_or, slice_set, if◌then◌else◌, Option, Some, None, Result, Ok, Err}
+use Rattle.std.specs.Prelude.{ℕ, ◌≡◌, ◌+◌, ◌-◌, ◌*◌, ◌<◌, ◌≤◌, Bool, true, false, not, ◌&&◌, ◌==◌, nat_lt, nat_le, List, [], ◌∷◌, length, map, slice_index_or, slice_set, if◌then◌else◌, Option, Some, None, Result, Ok, Err}
 use Rattle.std.specs.List.{insert, remove, position_or_len}
 use Rattle.mx_words.specs.FirstFit.{Area, most_blocks}
+use Rattle.mx_heap.specs.declared.block.Block.{Block}
 use Rattle.mx_heap.specs.declared.block.HeapError.{HeapError}
 use Rattle.mx_heap.specs.declared.block.HeapError.TheVariants.{NoRoom, BlocksFull}
 use Rattle.mx_heap.specs.declared.parts.Part.{Part}
+use Rattle.mx_heap.specs.HeapState.{area_of}
 
 -- what a part's place shows beyond the last part: nothing that a hole could be merged with
 abbrev pub wall : Part
@@ -90,3 +92,20 @@ pub record AreParts (first count : ℕ) (parts : List Part) (live capacity : ℕ
   pub counted : live ≡ length (blocks_of parts)
   pub few : live ≤ most_blocks
   pub room : 2 * most_blocks + 1 ≤ capacity
+
+-- what stands beyond the last block of a list
+abbrev pub no_block : Block
+no_block = record { first = 0; count = 0 }
+
+abbrev pub listed_at : List Block → ℕ → Block
+listed_at blocks i = slice_index_or blocks i no_block
+
+-- listed blocks in the order of their addresses
+abbrev pub AreRising : List Block → Type 0
+AreRising blocks = (i j : ℕ) → i < j → j < length blocks → (listed_at blocks i).first < (listed_at blocks j).first
+
+-- the same beside a list of the live blocks alone
+pub record AreStored (first count : ℕ) (parts : List Part) (live capacity : ℕ) (blocks : List Block) (room : ℕ) : Type 0 where
+  pub are : AreParts first count parts live capacity
+  pub listed : map area_of blocks ≡ blocks_of parts
+  pub room_is : most_blocks ≤ room

@@ -5,8 +5,9 @@ ghost use Rattle.std.specs.Option.{option_map};
 ghost use Rattle.std.specs.Bool.{OnTrue, OnFalse};
 
 use crate::block::{Block, HeapError};
+use crate::list::{put_block, take_block};
 use crate::parts::{
-    MOST_BLOCKS, Part, block_place, fitting_hole, hole_around, join_holes, nth_block, split_hole,
+    MOST_BLOCKS, Part, block_place, fitting_hole, hole_around, join_holes, split_hole,
 };
 use mx_words::NoMemory;
 use std::alloc::Global;
@@ -21,6 +22,8 @@ pub struct Heap {
     count: u32,
     parts: Vec<Part>,
     live: u32,
+    // The live parts alone.
+    blocks: Vec<Block>,
 }
 
 impl Model for Heap {
@@ -29,11 +32,11 @@ impl Model for Heap {
 
     ghost Value = { HeapState };
 
-    ghost use Rattle.mx_heap.specs.Places.{blocks_of, AreParts};
+    ghost use Rattle.mx_heap.specs.Places.{blocks_of, AreStored};
 
     ghost view = { λ h. record { area = record { first = h.first; count = h.count }; blocks = blocks_of h.parts.items } };
 
-    ghost invariant = { λ h. AreParts h.first h.count h.parts.items h.live (vec_capacity h.parts) };
+    ghost invariant = { λ h. AreStored h.first h.count h.parts.items h.live (vec_capacity h.parts) h.blocks.items (vec_capacity h.blocks) };
 }
 
 impl Heap {
@@ -50,6 +53,10 @@ impl Heap {
             Ok(parts) => parts,
             Err(_) => return Err(NoMemory),
         };
+        let blocks = match Vec::with_capacity(alloc, MOST_BLOCKS as usize) {
+            Ok(blocks) => blocks,
+            Err(_) => return Err(NoMemory),
+        };
         if count > 0 {
             parts.push_reserved(Part {
                 first,
@@ -62,6 +69,7 @@ impl Heap {
             count,
             parts,
             live: 0,
+            blocks,
         })
     }
 
@@ -101,6 +109,13 @@ impl Heap {
         };
         let first = self.parts[i].first;
         split_hole(&mut self.parts, i, first, words);
+        put_block(
+            &mut self.blocks,
+            Block {
+                first,
+                count: words,
+            },
+        );
         self.live += 1;
         Ok(first)
     }
@@ -119,6 +134,7 @@ impl Heap {
         };
         let count = self.parts[i].count;
         join_holes(&mut self.parts, i);
+        take_block(&mut self.blocks, first);
         self.live -= 1;
         Some(count)
     }
@@ -148,7 +164,7 @@ impl Heap {
         ensures block { option_map area_of result ≡ slice_get self.now.blocks i }
         ensures heap { IsHeap self.now }
     {
-        nth_block(&self.parts, i)
+        self.blocks.get(i as usize).copied()
     }
 
     /// Makes this block live. False, with nothing changed, exactly where it has no word, isn't wholly in the area, meets
@@ -166,6 +182,7 @@ impl Heap {
             None => return false,
         };
         split_hole(&mut self.parts, i, first, count);
+        put_block(&mut self.blocks, Block { first, count });
         self.live += 1;
         true
     }

@@ -3,6 +3,7 @@
 
 mod block;
 mod heap;
+mod list;
 mod parts;
 
 pub use block::{Block, HeapError};

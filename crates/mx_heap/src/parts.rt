@@ -1,13 +1,11 @@
 //! The parts of a heap area: live blocks and holes, in the order of their addresses.
 
-ghost use Rattle.std.specs.Prelude.{◌≡◌, ℕ, ◌+◌, ◌-◌, ◌*◌, ◌<◌, ◌≤◌, ◌^◌, length, nat_le, if◌then◌else◌, vec_len, position, slice_get};
+ghost use Rattle.std.specs.Prelude.{◌≡◌, ℕ, ◌+◌, ◌-◌, ◌*◌, ◌<◌, ◌≤◌, ◌^◌, length, nat_le, if◌then◌else◌, vec_len, position};
 ghost use Rattle.std.specs.Vec.{vec_capacity};
-ghost use Rattle.std.specs.Option.{option_map};
 ghost use Rattle.mx_words.specs.FirstFit.{most_blocks};
-ghost use Rattle.mx_heap.specs.HeapState.{area_of};
-ghost use Rattle.mx_heap.specs.Places.{blocks_of, fitting, is_hole_for, is_hole_around, is_block_at, part_at, hole_words, with_hole, without_hole, split, joined, parts_to, AreInOrder};
+ghost use Rattle.mx_heap.specs.Places.{fitting, is_hole_for, is_hole_around, is_block_at, part_at, hole_words, with_hole, without_hole, split, joined, parts_to, AreInOrder};
 
-use crate::block::{Block, HeapError};
+use crate::block::HeapError;
 
 // The most blocks that live in one heap.
 pub const MOST_BLOCKS: u32 = 1024;
@@ -46,7 +44,7 @@ fn parts_to(parts: &[Part], word: u32) -> usize
 
 // The width where `first` is the word or lies before it, else 0. Said by what a subtraction borrows, since the processor would
 // guess at a choice.
-fn step(first: u32, word: u32, width: usize) -> usize
+pub fn step(first: u32, word: u32, width: usize) -> usize
     requires { width < 2 ^ 32 }
     ensures { result ≡ (if nat_le first word then width else 0) }
 {
@@ -105,25 +103,6 @@ pub fn fitting_hole(parts: &[Part], live: u32, words: u32) -> Result<usize, Heap
         Some(_) if live == MOST_BLOCKS => Err(HeapError::BlocksFull),
         Some(i) => Ok(i),
     }
-}
-
-// The live block at place `i` among the live ones.
-pub fn nth_block(parts: &[Part], i: u32) -> Option<Block>
-    ensures { option_map area_of result ≡ slice_get (blocks_of parts.now) i }
-{
-    let mut left = i;
-    for p in parts {
-        if p.live {
-            if left == 0 {
-                return Some(Block {
-                    first: p.first,
-                    count: p.count,
-                });
-            }
-            left -= 1;
-        }
-    }
-    None
 }
 
 // The words of part `i` where it is a hole, else 0.

@@ -112,20 +112,24 @@ telling = small ((0, 115) ∷ (40, 0x44332211) ∷ (41, 0x88776655) ∷ [])
     ((grant 0 4 P.ExecuteRead ∷ grant 40 1 P.Read ∷ grant 41 1 P.ReadWrite ∷ grant 43 1 P.Read ∷ grant 44 4 P.ReadWrite ∷ []) ∷ (grant 40 8 P.ExecuteRead ∷ []) ∷ [])
     (give 40 8 1 ∷ [])
     []
-    (hart_of 1 0x80000000 (regs_with ((10, 0x800000A3) ∷ (11, 5) ∷ (17, 2) ∷ [])) [] Running ∷ []) 8
+    (hart_of 1 0x80000000 (regs_with ((10, 0x800000A3) ∷ (11, 3) ∷ (17, 2) ∷ [])) [] Running ∷ []) 8
 
 write-allowed-caches : (by (0 ∷ []) telling).core.caches
     ≡ (cache ((0, span_of 0 4 P.ExecuteRead) ∷ (10, span_of 41 1 P.ReadWrite) ∷ []) ((1, span_of 41 1 P.ReadWrite) ∷ (1, span_of 40 1 P.Read) ∷ (1, span_of 0 4 P.ExecuteRead) ∷ []) 0 0 3) ∷ []
 unfolding decoded effect holds imm_result reg_result loaded number_at put_at cleared_at imm_i imm_s imm_b imm_u imm_j extended
 write-allowed-caches = refl
 
-write-allowed-harts : (by (0 ∷ []) telling).core.harts ≡ hart_of 1 0x80000004 (regs_with ((10, 5) ∷ (11, 5) ∷ (17, 2) ∷ [])) [] Running ∷ []
+write-allowed-harts : (by (0 ∷ []) telling).core.harts ≡ hart_of 1 0x80000004 (regs_with ((10, 3) ∷ (11, 3) ∷ (17, 2) ∷ [])) [] Running ∷ []
 unfolding decoded effect holds imm_result reg_result loaded number_at put_at cleared_at imm_i imm_s imm_b imm_u imm_j extended
 write-allowed-harts = refl
 
-write-allowed-console : (by (0 ∷ []) telling).console ≡ 68 ∷ 85 ∷ 102 ∷ 119 ∷ 136 ∷ []
+write-allowed-console : (by (0 ∷ []) telling).console ≡ 68 ∷ 85 ∷ 102 ∷ []
 unfolding decoded effect holds imm_result reg_result loaded number_at put_at cleared_at imm_i imm_s imm_b imm_u imm_j extended
 write-allowed-console = refl
+
+console-goes-on : (by (0 ∷ []) (record telling { console = 1 ∷ 2 ∷ [] })).console ≡ 1 ∷ 2 ∷ 68 ∷ 85 ∷ 102 ∷ []
+unfolding decoded effect holds imm_result reg_result loaded number_at put_at cleared_at imm_i imm_s imm_b imm_u imm_j extended
+console-goes-on = refl
 
 -- call 13 looks at its word at place 10; the old word goes to a1
 abbrev exchanging : State
@@ -368,6 +372,37 @@ buffer-of-two : (by (replicate 4 0) full_buffer).core.caches
     ≡ (cache ((0, span_of 0 4 P.ExecuteRead) ∷ (5, span_of 16 1 P.Read) ∷ []) ((1, span_of 16 1 P.Read) ∷ (1, span_of 48 1 P.Read) ∷ []) 3 0 5) ∷ []
 unfolding decoded effect holds imm_result reg_result loaded number_at put_at cleared_at imm_i imm_s imm_b imm_u imm_j extended
 buffer-of-two = refl
+
+-- inside a call an exit is refused; a waiting call tells that it is nested
+abbrev staying : State
+staying = small ((0, 115) ∷ (1, 0x00128293) ∷ (2, 0x00100073) ∷ [])
+    (record no_module { heap = area 32 4 } ∷ no_module ∷ [])
+    ((grant 0 4 P.ExecuteRead ∷ []) ∷ [] ∷ [])
+    (give 0 2 1 ∷ [])
+    []
+    (hart_of 1 0x80000000 (regs_with ((10, 6) ∷ (17, 1) ∷ [])) (frame 0x80000024 2 (saved_with []) ∷ []) Running ∷ hart_of 2 0x80000020 (regs_with []) [] Running ∷ []) 8
+
+no-exit-harts : (by (0 ∷ []) staying).core.harts
+    ≡ hart_of 1 0x80000004 (regs_with ((10, 0xFFFFFFF6) ∷ (17, 1) ∷ [])) (frame 0x80000024 2 (saved_with []) ∷ []) Running ∷ hart_of 2 0x80000020 (regs_with []) [] Running ∷ []
+unfolding decoded effect holds imm_result reg_result loaded number_at put_at cleared_at imm_i imm_s imm_b imm_u imm_j extended
+no-exit-harts = refl
+
+no-exit-notes : (by (0 ∷ []) staying).notes ≡ []
+unfolding decoded effect holds imm_result reg_result loaded number_at put_at cleared_at imm_i imm_s imm_b imm_u imm_j extended
+no-exit-notes = refl
+
+abbrev nesting : State
+nesting = small ((0, 115) ∷ (1, 0x00128293) ∷ (2, 0x00100073) ∷ [])
+    (record no_module { heap = area 32 4 } ∷ no_module ∷ [])
+    ((grant 0 4 P.ExecuteRead ∷ []) ∷ [] ∷ [])
+    (give 0 2 1 ∷ [])
+    []
+    (hart_of 1 0x80000000 (regs_with ((10, 1) ∷ (17, 6) ∷ [])) (frame 0x80000024 2 (saved_with []) ∷ []) Running ∷ hart_of 2 0x80000020 (regs_with []) [] Running ∷ []) 8
+
+nested-alloc : (by (0 ∷ []) nesting).core.harts
+    ≡ hart_of 1 0x80000000 (regs_with ((10, 1) ∷ (17, 6) ∷ [])) (frame 0x80000024 2 (saved_with []) ∷ []) (Waiting (call 6 (1 ∷ 0 ∷ 0 ∷ 0 ∷ []) 0 1 true) (false ∷ false ∷ false ∷ false ∷ [])) ∷ hart_of 2 0x80000020 (regs_with []) [] Running ∷ []
+unfolding decoded effect holds imm_result reg_result loaded number_at put_at cleared_at imm_i imm_s imm_b imm_u imm_j extended
+nested-alloc = refl
 
 -- an exit halts the hart with its code; a0 and pc stay, and its next turn is idle
 abbrev leaving : State

@@ -196,8 +196,8 @@ unfolding decoded effect holds imm_result reg_result loaded number_at put_at cle
 bounds-of-a-revoke = refl
 
 -- 5 transfer
-bounds-of-a-transfer : answers ((5 ∷ 0x8000007C ∷ 4 ∷ 9 ∷ []) ∷ (5 ∷ 0x80000078 ∷ 8 ∷ 9 ∷ []) ∷ (5 ∷ 0x80000070 ∷ 4 ∷ 4 ∷ []) ∷ (5 ∷ 0x80000070 ∷ 4 ∷ 3 ∷ []) ∷ (5 ∷ 0x80000040 ∷ 4 ∷ 3 ∷ []) ∷ (5 ∷ 0x8000009C ∷ 4 ∷ 2 ∷ []) ∷ (5 ∷ 0x800000A0 ∷ 4 ∷ 2 ∷ []) ∷ [])
-    ≡ 0xFFFFFFFD ∷ 0xFFFFFFFD ∷ 0xFFFFFFFD ∷ 0xFFFFFFFE ∷ 0 ∷ 0xFFFFFFFF ∷ 0xFFFFFFFE ∷ []
+bounds-of-a-transfer : answers ((5 ∷ 0x8000009C ∷ 4 ∷ 9 ∷ []) ∷ (5 ∷ 0x80000072 ∷ 4 ∷ 9 ∷ []) ∷ (5 ∷ 0x80000070 ∷ 4 ∷ 4 ∷ []) ∷ (5 ∷ 0x80000070 ∷ 4 ∷ 3 ∷ []) ∷ (5 ∷ 0x80000040 ∷ 4 ∷ 3 ∷ []) ∷ (5 ∷ 0x8000009C ∷ 4 ∷ 2 ∷ []) ∷ (5 ∷ 0x800000A0 ∷ 4 ∷ 2 ∷ []) ∷ [])
+    ≡ 0xFFFFFFFF ∷ 0xFFFFFFFF ∷ 0xFFFFFFFD ∷ 0xFFFFFFFE ∷ 0 ∷ 0xFFFFFFFF ∷ 0xFFFFFFFE ∷ []
 unfolding decoded effect holds imm_result reg_result loaded number_at put_at cleared_at imm_i imm_s imm_b imm_u imm_j extended
 bounds-of-a-transfer = refl
 
@@ -267,7 +267,7 @@ abbrev tight_with_blocks : ℕ → List ℕ → ℕ
 tight_with_blocks count args =
     reg (hart_at (by (0 ∷ []) (tight (serving_with [] (list_map (λ i. area (1000 + i) 1) (range_with_len 0 count)) args))).core 0).regs 10
 
-gates-at-most : with_gates 255 (8 ∷ 0x8000004C ∷ 2 ∷ []) ∷ with_gates 256 (8 ∷ 0x8000004C ∷ 2 ∷ []) ∷ with_gates 256 (8 ∷ 0x80000050 ∷ 2 ∷ []) ∷ with_gates 256 (8 ∷ 0x80000070 ∷ 2 ∷ []) ∷ with_gates 255 (10 ∷ 0x8000004C ∷ []) ∷ with_gates 256 (10 ∷ 0x8000004C ∷ []) ∷ with_gates 256 (10 ∷ 0x80000070 ∷ []) ∷ []
+gates-at-most : with_gates 255 (8 ∷ 0x8000004C ∷ 2 ∷ []) ∷ with_gates 256 (8 ∷ 0x8000004C ∷ 2 ∷ []) ∷ with_gates 256 (8 ∷ 0x80000050 ∷ 2 ∷ []) ∷ with_gates 256 (8 ∷ 0x80000020 ∷ 2 ∷ []) ∷ with_gates 255 (10 ∷ 0x8000004C ∷ []) ∷ with_gates 256 (10 ∷ 0x8000004C ∷ []) ∷ with_gates 256 (10 ∷ 0x80000070 ∷ []) ∷ []
     ≡ 0 ∷ 0xFFFFFFF7 ∷ 0 ∷ 0xFFFFFFFE ∷ 0 ∷ 0xFFFFFFF7 ∷ 0xFFFFFFFE ∷ []
 unfolding decoded effect holds imm_result reg_result loaded number_at put_at cleared_at imm_i imm_s imm_b imm_u imm_j extended
 gates-at-most = refl
@@ -281,18 +281,18 @@ blocks-before-tables : tight_with_blocks 1024 (6 ∷ 1 ∷ []) ∷ tight_with_bl
 unfolding decoded effect holds imm_result reg_result loaded number_at put_at cleared_at imm_i imm_s imm_b imm_u imm_j extended
 blocks-before-tables = refl
 
--- owners in so many runs: the supervisor and module 1 in turn, and three words of module 1 at the end
-abbrev alternating : ℕ → Flat
-alternating count = record {
-  core = record (serving []).core { size = count + 3; modules = no_module ∷ no_module ∷ [] };
+-- the owners of words 0 to 4093, the supervisor and module 1 in turn, and then three words of module 1 and three of the supervisor: 4095 runs
+abbrev alternating : Flat
+alternating = record {
+  core = record (serving []).core { size = 4100; modules = no_module ∷ no_module ∷ [] };
   maps = [] ∷ [] ∷ [];
-  owners = list_map (λ i. i % 2) (range_with_len 0 count) ++ 1 ∷ 1 ∷ 1 ∷ [];
+  owners = list_map (λ i. i % 2) (range_with_len 0 4094) ++ 1 ∷ 1 ∷ 1 ∷ 0 ∷ 0 ∷ 0 ∷ [];
 }
 
-abbrev transferred : ℕ → List ℕ → ℕ
-transferred count args = let f = alternating count in (serve (flat_reads f) f.core (call 5 args 0 1 false)).a0
+abbrev transferred : List ℕ → ℕ
+transferred args = (serve (flat_reads alternating) alternating.core (call 5 args 0 1 false)).a0
 
-owner-runs-at-most : transferred 4094 (0x80003FFC ∷ 4 ∷ 2 ∷ 0 ∷ []) ∷ transferred 4095 (0x80004004 ∷ 4 ∷ 2 ∷ 0 ∷ []) ∷ transferred 4095 (0x80004004 ∷ 4 ∷ 3 ∷ 0 ∷ []) ∷ transferred 4095 (0x80003FF8 ∷ 4 ∷ 2 ∷ 0 ∷ []) ∷ []
+owner-runs-at-most : transferred (0x80004000 ∷ 4 ∷ 2 ∷ 0 ∷ []) ∷ transferred (0x80003FFC ∷ 4 ∷ 2 ∷ 0 ∷ []) ∷ transferred (0x80003FFC ∷ 4 ∷ 3 ∷ 0 ∷ []) ∷ transferred (0x80004008 ∷ 4 ∷ 2 ∷ 0 ∷ []) ∷ []
     ≡ 0 ∷ 0xFFFFFFF2 ∷ 0xFFFFFFFD ∷ 0xFFFFFFFE ∷ []
 unfolding decoded effect holds imm_result reg_result loaded number_at put_at cleared_at imm_i imm_s imm_b imm_u imm_j extended
 owner-runs-at-most = refl

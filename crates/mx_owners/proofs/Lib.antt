@@ -2,3 +2,5 @@ pub mod FillLaws
 pub mod PlaceLaws
 pub mod CountLaws
 pub mod GiveLaws
+pub mod Ranges
+pub mod Borrow

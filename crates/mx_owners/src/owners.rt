@@ -1,6 +1,7 @@
 //! The owner of each word of RAM, as runs.
 
-ghost use Rattle.std.specs.Prelude.{◌≡◌, ◌≢◌, ℕ, ◌+◌, ◌<◌, ◌≤◌, ◌↔◌, length, replicate, slice_index, IsTrue, IfOk, OnOk, OnErr, IsErr};
+ghost use Rattle.std.specs.List.{list_all, range_with_len};
+ghost use Rattle.std.specs.Prelude.{◌≡◌, ◌≢◌, ℕ, ◌+◌, ◌<◌, ◌≤◌, ◌↔◌, ◌==◌, length, replicate, slice_index, IsTrue, IfOk, OnOk, OnErr, IsErr};
 
 use crate::runs::{MOST_RUNS, Run, put_given, room, run_place};
 use mx_words::NoMemory;
@@ -57,6 +58,16 @@ impl Owners {
 
     /// Whether this domain owns each word of a range that isn't empty and lies in RAM.
     pub fn owns(&self, domain: u32, first: u32, count: u32) -> bool
+        requires some { 0 < count }
+        requires in_ram { first + count ≤ length self.now }
+        ensures each { IsTrue result ↔ ((w : ℕ) → first ≤ w → w < first + count → slice_index self.now w ≡ domain) }
+        ensures all { result ≡ list_all (λ w. slice_index self.now w == domain) (range_with_len first count) }
+    {
+        self.has_in_a_run(domain, first, count)
+    }
+
+    /// Whether this domain owns the run of the range's first word, and the range lies in that run.
+    fn has_in_a_run(&self, domain: u32, first: u32, count: u32) -> bool
         requires some { 0 < count }
         requires in_ram { first + count ≤ length self.now }
         ensures { IsTrue result ↔ ((w : ℕ) → first ≤ w → w < first + count → slice_index self.now w ≡ domain) }

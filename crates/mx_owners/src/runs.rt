@@ -1,6 +1,6 @@
 //! Maximal runs of words with one owner, in the order of their addresses.
 
-ghost use Rattle.std.specs.Prelude.{◌≡◌, ℕ, ◌+◌, ◌-◌, ◌<◌, ◌≤◌, ◌++◌, length, drop, [], vec_len, IfOk};
+ghost use Rattle.std.specs.Prelude.{◌≡◌, ℕ, ◌+◌, ◌-◌, ◌^◌, ◌<◌, ◌≤◌, ◌++◌, length, drop, [], vec_len, nat_le, if◌then◌else◌, IfOk};
 ghost use Rattle.std.specs.Vec.{vec_capacity};
 ghost use Rattle.mx_words.specs.Runs.{most_owner_runs};
 ghost use Rattle.mx_owners.specs.OwnerRuns.{run_at, place_of, runs_before, goes_on, end_behind, place_behind, given};
@@ -29,7 +29,7 @@ pub fn room(alloc: Global) -> Result<Vec<Run>, NoMemory>
     }
 }
 
-// The place of a word's run. The width starts at the most runs that there may be, so that each look-up takes the same steps.
+// The place of a word's run, by halves of the runs that there are.
 pub fn run_place(runs: &[Run], word: u32) -> usize
     requires few { length runs.now ≤ most_owner_runs }
     requires rising { (i j : ℕ) → i ≤ j → j < length runs.now → (run_at runs.now i).end ≤ (run_at runs.now j).end }
@@ -37,18 +37,23 @@ pub fn run_place(runs: &[Run], word: u32) -> usize
     ensures within { result ≤ length runs.now }
 {
     let mut low = 0;
-    let mut width = MOST_RUNS;
+    let mut width = runs.len();
     while width > 0 {
-        let half = width / 2;
-        let middle = low + half;
-        if middle < runs.len() && runs[middle].end <= word {
-            low = middle + 1;
-            width -= half + 1;
-        } else {
-            width = half;
-        }
+        let half = width - width / 2;
+        low += step(runs[low + half - 1].end, word, half);
+        width /= 2;
     }
     low
+}
+
+// The width where a run that ends at `end` ends at the word or before, else 0. Said by what a subtraction borrows, since the
+// processor would guess at a choice.
+fn step(end: u32, word: u32, width: usize) -> usize
+    requires { width < 2 ^ 32 }
+    ensures { result ≡ (if nat_le end word then width else 0) }
+{
+    let mask = (end as u64).wrapping_sub(word as u64 + 1) >> 32;
+    width & mask as usize
 }
 
 // Adds these runs to the others.

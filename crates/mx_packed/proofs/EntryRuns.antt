@@ -1,4 +1,4 @@
--- The run of a word of a packed entry, by the plain entry of the same line.
+-- The run of a word of a packed entry.
 use Rattle.std.proofs.Common.{◌≡◌, ◌≢◌, ℕ, ◌+◌, ◌-◌, ◌/◌, ◌%◌, ◌^◌, ◌<◌, ◌≤◌, ◌==◌, ◌⊎◌, inl, inr, Bool, true, false, nat_lt, List, length, drop, if◌then◌else◌, refl, sym, ap, ◌∙◌, arith, length-take, eq-eqb, min}
 use Rattle.std.specs.List.{prefix_len, suffix_len, slice_range}
 use Rattle.std.proofs.lemmas.Bool.{ltb-false, ne_eqb}
@@ -103,40 +103,10 @@ shift-last line a b = cases (eqb_tells (a + b) line_words)
     cases (inl h) = eq-eqb (line + a + b) (line + line_words) (omega arith) ∙ sym h.0
     cases (inr h) = ne_eqb (line + a + b) (line + line_words) (λ e. h.1 (omega arith)) ∙ sym h.0
 
--- a line's plain entry
-plain-stored : (line plain : ℕ) (perms : List Perm) → length perms ≡ line_words → line + line_words ≤ 2 ^ 24 → plain ≡ packed perms →
-    IsStored K.Multilevel perms 0 0 0 line plain 0
-plain-stored line plain perms whole room e = record {
-  whole = whole;
-  left_most = omega arith;
-  right_most = omega arith;
-  before = omega arith;
-  behind = omega arith;
-  numbered = omega arith;
-  entry_is = e;
-  spilled_is = refl;
-}
-
 -- a packed entry without a spill word
 module _ (line entry spilled : ℕ) (e : IsEntry K.Packed line entry spilled) (tag : entry % 4 ≢ 3) where
   pub read-made : IsMade e.perms e.left e.right entry
   read-made = (stored-mini e.perms e.left e.right e.spill line entry spilled e.stored tag).1
-
-  pub read-entry : (plain : ℕ) → plain ≡ packed e.perms → IsEntry K.Multilevel line plain 0
-  read-entry plain is = record {
-    perms = e.perms;
-    left = 0;
-    right = 0;
-    spill = 0;
-    stored = plain-stored line plain e.perms e.stored.whole (omega (arith, e.stored.behind)) is;
-  }
-
-  pub read-run : (plain word : ℕ) (run : Span) → plain ≡ packed e.perms →
-      ((ps : List Perm) (l r n : ℕ) → IsStored K.Multilevel ps l r n line plain 0 → run ≡ entry_run K.Multilevel ps l r line word) →
-      run ≡ placed line (line_run e.perms (word - line))
-  read-run plain word run is found =
-      found e.perms 0 0 0 (plain-stored line plain e.perms e.stored.whole (omega (arith, e.stored.behind)) is)
-      ∙ plain-placed e.perms line word
 
 -- what lengthening a run needs
 pub record CanLengthen (line left right : ℕ) (run : Span) : Type 0 where
@@ -175,12 +145,3 @@ mini-run perms left right spill line entry spilled word run s tag is =
     ∙ ap (λ (b : Bool). lengthened (if b then left else 0) (if line + t.first + t.count == line + line_words then right else 0) (placed line t)) (shift-first line t.first)
     ∙ ap (λ (b : Bool). lengthened (if t.first == 0 then left else 0) (if b then right else 0) (placed line t)) (shift-last line t.first t.count)
     ∙ sym (ap (λ (b : Bool). lengthened (left_of_run b t left) (right_of_run b t right) (placed line t)) both.0)
-
--- the run of a word of a line without a spill word
-pub mini-run-any : (perms : List Perm) (left right spill line entry spilled word : ℕ) (run : Span) (e : IsEntry K.Packed line entry spilled) →
-    IsStored K.Packed perms left right spill line entry spilled → entry % 4 ≢ 3 → e.perms ≡ perms →
-    run ≡ placed line (line_run e.perms (word - line)) →
-    lengthened (if run.first == line then entry / 134217728 else 0) (if run.first + run.count == line + line_words then entry / 4194304 % 32 else 0) run
-    ≡ entry_run K.Packed perms left right line word
-mini-run-any perms left right spill line entry spilled word run e s tag same is =
-    mini-run perms left right spill line entry spilled word run s tag (is ∙ ap (λ ps. placed line (line_run ps (word - line))) same)

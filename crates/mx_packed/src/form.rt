@@ -5,7 +5,7 @@ ghost use Rattle.mx_words.specs.declared.tables.Kind.TheVariants as K;
 ghost use Rattle.mx_words.specs.Runs.{line_words};
 ghost use Rattle.mx_upper.specs.Leaf.{lengthened};
 
-use crate::mini::{line_of, pack, run_count};
+use crate::mini::{pack, run_count, run_of};
 use mx_upper::{LeafForm, Vector};
 use mx_words::{Perm, Span};
 
@@ -69,8 +69,7 @@ impl LeafForm for Packed {
         if entry % 4 == 3 {
             return Vector::run(spilled, 0, line, word);
         }
-        let perms = line_of(entry / 4 % 0x100, entry / 0x400 % 0x1000);
-        let run = Vector::run(Vector::entry(&perms, 0, 0, 0), 0, line, word);
+        let run = run_of(entry / 4 % 0x100, entry / 0x400 % 0x1000, line, word);
         lengthen(run, line, entry / 0x800_0000, entry / 0x40_0000 % 0x20)
     }
 }

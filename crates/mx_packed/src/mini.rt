@@ -3,11 +3,11 @@ ghost use Rattle.std.specs.Prelude.{◌≡◌, ◌≢◌, ℕ, ◌+◌, ◌-◌,
 ghost use Rattle.mx_words.specs.declared.perm.Perm.{Perm};
 ghost use Rattle.mx_words.specs.Rights.{number};
 ghost use Rattle.mx_words.specs.Runs.{runs, line_words};
-ghost use Rattle.mx_upper.specs.Leaf.{form_reach};
-ghost use Rattle.mx_packed.specs.Pack.{pack_of};
+ghost use Rattle.mx_upper.specs.Leaf.{form_reach, placed, line_run};
+ghost use Rattle.mx_packed.specs.Pack.{pack_of, IsCoded};
 ghost use Rattle.mx_upper.specs.Codes.{value_code, start_code};
 
-use mx_words::Perm;
+use mx_words::{Perm, Span};
 
 /// What a packed entry says of a line: its 16 permissions, and how many words right before and right behind the line have the
 /// permission of its first and of its last word, 0 to 31 each.
@@ -99,6 +99,33 @@ pub(crate) fn line_of(values: u32, starts: u32) -> [Perm; 16]
         }
     }
     line
+}
+
+/// The run of a word in its line, which begins at the word `line`, from the permissions of the line's runs and from their starts. The
+/// starts rise, and a start of 0 stands behind the last one.
+pub(crate) fn run_of(values: u32, starts: u32, line: u32, word: u32) -> Span
+    requires coded { IsCoded values starts }
+    requires from { line ≤ word }
+    requires below { word < line + line_words }
+    requires room { line + line_words ≤ 2 ^ 24 }
+    ensures { (perms : List Perm) → length perms ≡ line_words → values ≡ value_code perms → starts ≡ start_code 0 perms → result ≡ placed line (line_run perms (word - line)) }
+{
+    let place = word - line;
+    let mut first = 0;
+    let mut values_left = values;
+    let mut starts_left = starts;
+    while starts_left % 16 != 0 && starts_left % 16 <= place {
+        first = starts_left % 16;
+        values_left /= 4;
+        starts_left /= 16;
+    }
+    let next = starts_left % 16;
+    let end = if next == 0 { 16 } else { next };
+    Span {
+        first: line + first,
+        count: end - first,
+        perm: perm_of(values_left % 4),
+    }
 }
 
 /// The arguments for which `pack` gives an entry. `None` exactly where it gives it for none.

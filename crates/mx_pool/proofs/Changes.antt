@@ -2,8 +2,15 @@
 use Rattle.std.proofs.Common.{ℕ, ◌≡◌, ◌≢◌, ◌+◌, ◌*◌, ◌-◌, ◌<◌, ◌≤◌, Bool, true, false, not, List, [], Option, None, Some, IsSome, is_none, unwrap_or, length, take, drop, set, replicate, get_or, refl, sym, ◌∙◌, ap, arith, length-take, length-drop, get_or-set_other, get_or-set_same}
 use Rattle.std.specs.List.{count_by}
 use Rattle.mx_pool.specs.Stored.{IsPool, frames_of}
-use Rattle.mx_pool.proofs.StoredFrames.{SameOutside, set_inside, is_marked, marked_below, marked_shows, unmarked_shows, shown_elsewhere, zeroed_shows, length-frames_of, free_in-frames_of, count-mark, count-unmark, frame_fits}
+use Rattle.mx_pool.proofs.StoredFrames.{SameOutside, set_inside, word_shown, is_marked, marked_below, marked_shows, unmarked_shows, shown_elsewhere, zeroed_shows, length-frames_of, free_in-frames_of, count-mark, count-unmark, frame_fits}
 use Rattle.mx_pool.proofs.FreeList.{frame_room, top_within, top_unmarked}
+
+-- two stores, of which the second has words of one frame copied into another, place by place
+pub record IsCopied (size : ℕ) (ws us : List ℕ) (source from target to count : ℕ) : Type 0 where
+  pub total : length us ≡ length ws
+  pub copied : (k : ℕ) → k < count → get_or us (target * size + to + k) 0 ≡ get_or ws (source * size + from + k) 0
+  pub below : (k : ℕ) → k < target * size + to → get_or us k 0 ≡ get_or ws k 0
+  pub behind : (k : ℕ) → target * size + to + count ≤ k → get_or us k 0 ≡ get_or ws k 0
 
 module _ (size : ℕ) (ws : List ℕ) (ts : List Bool) (free : List ℕ) (spare : ℕ) (pool : IsPool size ws ts free spare)
     (frames : List (Option (List ℕ))) (view : frames_of size ws ts ≡ frames) where
@@ -79,3 +86,33 @@ module _ (size : ℕ) (ws : List ℕ) (ts : List Bool) (free : List ℕ) (spare 
 
   pub taken_within : (f : ℕ) → f ≡ get_or free (spare - 1) 0 → 0 < spare → f < length frames
   taken_within f e some = rw (← view, length-frames_of) (top_within size ws ts free spare pool f e some)
+
+  -- words are copied into a taken frame: what the frames show afterwards
+  module _ (us : List ℕ) (source from target to count : ℕ) (of_source : IsSome (get_or frames source None)) (of_target : IsSome (get_or frames target None))
+      (from_room : from + count ≤ size) (to_room : to + count ≤ size) (c : IsCopied size ws us source from target to count) where
+    pub copied_taken : IsSome (get_or (frames_of size us ts) target None)
+    copied_taken = rw (marked_shows size us ts target (is_marked size ws ts frames view target of_target)) refl
+
+    pub copied_outside : SameOutside size target ws us
+    copied_outside = record { total = c.total; below = λ i h. c.below i (omega arith); behind = λ i h. c.behind i (omega arith) }
+
+    pub copied_here : (k : ℕ) → k < count →
+        get_or (unwrap_or (get_or (frames_of size us ts) target None) []) (to + k) 0 ≡ get_or (unwrap_or (get_or frames source None) []) (from + k) 0
+    copied_here k h =
+        let there : target * size + (to + k) ≡ target * size + to + k = omega arith in
+        let here : source * size + from + k ≡ source * size + (from + k) = omega arith in
+        word_shown size us ts (frames_of size us ts) refl target (to + k) copied_taken (omega arith)
+        ∙ ap (λ n. get_or us n 0) there ∙ c.copied k h ∙ ap (λ n. get_or ws n 0) here
+        ∙ sym (word_shown size ws ts frames view source (from + k) of_source (omega arith))
+
+    stays : (k : ℕ) → k < size → get_or us (target * size + k) 0 ≡ get_or ws (target * size + k) 0 →
+        get_or (unwrap_or (get_or (frames_of size us ts) target None) []) k 0 ≡ get_or (unwrap_or (get_or frames target None) []) k 0
+    stays k h same =
+        word_shown size us ts (frames_of size us ts) refl target k copied_taken h ∙ same ∙ sym (word_shown size ws ts frames view target k of_target h)
+
+    pub copied_below : (k : ℕ) → k < to → get_or (unwrap_or (get_or (frames_of size us ts) target None) []) k 0 ≡ get_or (unwrap_or (get_or frames target None) []) k 0
+    copied_below k h = stays k (omega arith) (c.below (target * size + k) (omega arith))
+
+    pub copied_behind : (k : ℕ) → to + count ≤ k → k < size →
+        get_or (unwrap_or (get_or (frames_of size us ts) target None) []) k 0 ≡ get_or (unwrap_or (get_or frames target None) []) k 0
+    copied_behind k h lt = stays k lt (c.behind (target * size + k) (omega arith))

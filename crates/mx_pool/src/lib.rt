@@ -112,6 +112,29 @@ impl<const WORDS: usize> Pool<WORDS> {
         self.words[frame as usize * WORDS + at as usize] = value;
     }
 
+    /// Copies `count` words from place `from` on of a taken frame to place `to` on of a taken frame. The frames may be the same, and the
+    /// places may overlap.
+    pub fn copy(&mut self, source: u32, from: u32, target: u32, to: u32, count: u32)
+        requires source { IsTaken self.old source }
+        requires target { IsTaken self.old target }
+        requires from { from + count ≤ WORDS }
+        requires to { to + count ≤ WORDS }
+        ensures copied { (k : ℕ) → k < count → word_at self.new target (to + k) ≡ word_at self.old source (from + k) }
+        ensures below { (k : ℕ) → k < to → word_at self.new target k ≡ word_at self.old target k }
+        ensures behind { (k : ℕ) → to + count ≤ k → k < WORDS → word_at self.new target k ≡ word_at self.old target k }
+        ensures taken { IsTaken self.new target }
+        ensures elsewhere { (g : ℕ) → g ≢ target → frame_at self.new g ≡ frame_at self.old g }
+        ensures free { free_in self.new ≡ free_in self.old }
+        ensures total { length self.new ≡ length self.old }
+    {
+        copy_words(
+            &mut self.words,
+            source as usize * WORDS + from as usize,
+            target as usize * WORDS + to as usize,
+            count as usize,
+        );
+    }
+
     /// The number of free frames.
     pub fn free_frames(&self) -> u32
         ensures { result ≡ free_in self.now }
@@ -163,6 +186,18 @@ fn clear(words: &mut [u32], first: usize, count: usize)
     for i in first..first + count {
         words[i] = 0;
     }
+}
+
+// Copies `count` words from `first` on to `place` on.
+fn copy_words(words: &mut [u32], first: usize, place: usize, count: usize)
+    requires from { first + count ≤ length words.old }
+    requires to { place + count ≤ length words.old }
+    ensures total { length words.new ≡ length words.old }
+    ensures copied { (i : ℕ) → i < count → slice_index words.new (place + i) ≡ slice_index words.old (first + i) }
+    ensures below { (i : ℕ) → i < place → slice_index words.new i ≡ slice_index words.old i }
+    ensures behind { (i : ℕ) → place + count ≤ i → slice_index words.new i ≡ slice_index words.old i }
+{
+    words.copy_within(first..first + count, place);
 }
 
 #[cfg(test)]

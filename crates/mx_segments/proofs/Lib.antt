@@ -4,10 +4,12 @@ mod EntryLaws
 mod SoundLaws
 mod ChangeLaws
 mod MoveLaws
+mod PieceMoves
 mod PlanLaws
 mod LaidLaws
 mod KeptLaws
 mod SpanLaws
 mod TallyLaws
 mod BuildLaws
+mod SkipLaws
 mod TestLaws

@@ -1,5 +1,5 @@
 -- The words of the lists' frames. A list's words are those of its frames, 64 in each, one frame after the other.
-use Rattle.std.specs.Prelude.{ℕ, ◌≡◌, ◌≢◌, ◌+◌, ◌*◌, ◌/◌, ◌%◌, ◌<◌, List, Option, length, slice_index, sum_by}
+use Rattle.std.specs.Prelude.{ℕ, ◌≡◌, ◌≢◌, ◌+◌, ◌*◌, ◌/◌, ◌%◌, ◌<◌, ◌≤◌, List, Option, length, slice_index, sum_by}
 use Rattle.mx_pool.specs.Frames.{IsTaken, word_at, free_in}
 use Rattle.mx_segments.specs.Lists.{list_at}
 
@@ -38,3 +38,9 @@ pub record IsRewritten (frames frames' : Frames) (lists : List (List ℕ)) (row 
   pub store : IsStore frames' lists
   pub others : KeepsOthers frames lists frames' lists row
   pub free : free_in frames' ≡ free_in frames
+
+-- of a list's words, those from `from` on are copied to the places from `to` on, `count` of them, and the others stay
+pub record IsPieceCopied (old new : ℕ → ℕ) (from to count size : ℕ) : Type 0 where
+  pub copied : (k : ℕ) → k < count → new (to + k) ≡ old (from + k)
+  pub below : (j : ℕ) → j < to → j < size → new j ≡ old j
+  pub behind : (j : ℕ) → to + count ≤ j → j < size → new j ≡ old j

@@ -9,12 +9,13 @@ ghost use Rattle.mx_segments.specs.Sound.{map_in, IsSound};
 ghost use Rattle.mx_segments.specs.Plan.{kept, total};
 
 use crate::Chains;
+use crate::entries::has_already;
 use crate::moves::{clear, make_room, move_down, move_up, put_if, trim};
 use crate::plan::{Plan, plan_of};
 use mx_pool::Pool;
 use mx_words::Perm;
 
-// Moves the entries that only move to their new places.
+// Moves the entries that only move to their new places, where these are others.
 fn shift(leaf: &mut Pool<64>, chains: &Chains, row: u32, plan: &Plan)
     requires store { IsStore leaf.old chains.now }
     requires row { row < length chains.now }
@@ -32,14 +33,14 @@ fn shift(leaf: &mut Pool<64>, chains: &Chains, row: u32, plan: &Plan)
     let kept = plan.kept();
     if plan.behind < kept {
         move_up(leaf, chains, row, plan.behind, plan.all, kept - plan.behind);
-    } else {
+    } else if kept < plan.behind {
         move_down(leaf, chains, row, plan.behind, plan.all, plan.behind - kept);
     }
 }
 
-/// Lays a permission over the words `first` to `first + count - 1` of the map at a row, and no other map changes. The list gets at
-/// most one frame more, and afterwards has just as many as the entries fill.
-pub(crate) fn change_row(
+// Lays a permission over the words `first` to `first + count - 1` of the map at a row by its entries, and no other map changes. The list
+// gets at most one frame more, and afterwards has just as many as the entries fill.
+fn rewrite_row(
     leaf: &mut Pool<64>,
     chains: &mut Chains,
     row: u32,
@@ -77,4 +78,33 @@ pub(crate) fn change_row(
     );
     clear(leaf, chains, row, total, plan.all);
     trim(leaf, chains, row, total.div_ceil(64));
+}
+
+/// Lays a permission over the words `first` to `first + count - 1` of the map at a row, and no other map changes. The list gets at
+/// most one frame more, and afterwards has just as many as the entries fill.
+pub(crate) fn change_row(
+    leaf: &mut Pool<64>,
+    chains: &mut Chains,
+    row: u32,
+    words: u32,
+    first: u32,
+    count: u32,
+    perm: Perm,
+)
+    requires store { IsStore leaf.old chains.old }
+    requires row { row < length chains.old }
+    requires small { words ≤ most_words }
+    requires sound { IsSound words leaf.old chains.old row }
+    requires some { 0 < count }
+    requires inside { first + count ≤ words }
+    requires spare { 0 < free_in leaf.old }
+    ensures store { IsStore leaf.new chains.new }
+    ensures others { KeepsOthers leaf.old chains.old leaf.new chains.new row }
+    ensures sound { IsSound words leaf.new chains.new row }
+    ensures changed { map_in words leaf.new chains.new row ≡ laid (grant_of first count perm) (map_in words leaf.old chains.old row) }
+    ensures free { free_in leaf.old ≤ free_in leaf.new + 1 }
+{
+    if !has_already(leaf, chains, row, words, first, count, perm) {
+        rewrite_row(leaf, chains, row, words, first, count, perm);
+    }
 }

@@ -1,8 +1,10 @@
 //! The entries of a domain's runs: found by halves, and read.
-ghost use Rattle.std.specs.Prelude.{◌≡◌, ◌+◌, ◌*◌, ◌<◌, ◌≤◌, ◌^◌, ◌↔◌, length, min, IsNone, IfSome};
+ghost use Rattle.std.specs.Prelude.{◌≡◌, ◌+◌, ◌*◌, ◌<◌, ◌≤◌, ◌^◌, ◌↔◌, length, min, true, IsNone, IfSome};
 ghost use Rattle.mx_words.specs.declared.tables.Kind.TheVariants as K;
 ghost use Rattle.mx_words.specs.Rights.{perm_at};
 ghost use Rattle.mx_words.specs.Counting.{count_below};
+ghost use Rattle.mx_words.specs.Newest.{laid};
+ghost use Rattle.mx_words.specs.Changes.{grant_of};
 ghost use Rattle.mx_words.specs.Runs.{runs};
 ghost use Rattle.mx_words.specs.Reach.{span, stored};
 ghost use Rattle.mx_words.specs.Starts.{is_start};
@@ -126,6 +128,28 @@ pub(crate) fn run_in(leaf: &Pool<64>, chains: &Chains, row: u32, words: u32, at:
         count: next - first,
         perm,
     }
+}
+
+/// Whether the words `first` to `first + count - 1` of the map at a row have a permission already: they lie in one run then.
+pub(crate) fn has_already(
+    leaf: &Pool<64>,
+    chains: &Chains,
+    row: u32,
+    words: u32,
+    first: u32,
+    count: u32,
+    perm: Perm,
+) -> bool
+    requires store { IsStore leaf.now chains.now }
+    requires row { row < length chains.now }
+    requires small { words ≤ most_words }
+    requires sound { IsSound words leaf.now chains.now row }
+    requires some { 0 < count }
+    requires inside { first + count ≤ words }
+    ensures { result ≡ true → laid (grant_of first count perm) (map_in words leaf.now chains.now row) ≡ map_in words leaf.now chains.now row }
+{
+    let run = run_in(leaf, chains, row, words, first);
+    run.perm.number() == perm.number() && first + count <= run.first + run.count
 }
 
 /// The stored entry of a word's run in the map at a row, with the run.

@@ -1,30 +1,65 @@
 //! Words of a domain's list moved up and down, cleared, and frames that are no longer needed given back.
-ghost use Rattle.std.specs.Prelude.{◌≡◌, ◌≢◌, ℕ, ◌+◌, ◌-◌, ◌*◌, ◌<◌, ◌≤◌, length, true};
+ghost use Rattle.std.specs.Prelude.{◌≡◌, ◌≢◌, ℕ, ◌+◌, ◌-◌, ◌*◌, ◌%◌, ◌<◌, ◌≤◌, length, true};
 ghost use Rattle.mx_pool.specs.Frames.{free_in};
 ghost use Rattle.mx_table.specs.Tables.{most_words};
-ghost use Rattle.mx_segments.specs.Store.{frames_in, word_in, IsStore, KeepsOthers, IsRewritten};
+ghost use Rattle.mx_segments.specs.Store.{frames_in, word_in, IsStore, KeepsOthers, IsRewritten, IsPieceCopied};
 ghost use Rattle.mx_segments.specs.Entries.{entry_word};
 
 use crate::Chains;
-use crate::store::{grow, put, shrink, word};
+use crate::store::{grow, put, shrink};
 use mx_pool::Pool;
 use mx_words::{Perm, RAM_BASE};
 
-// Writes word `from` at place `to` too.
-fn copy_word(leaf: &mut Pool<64>, chains: &Chains, row: u32, from: u32, to: u32)
+/// The number of words in a frame.
+const FRAME_WORDS: u32 = 64;
+
+// Copies `count` words from place `from` on to place `to` on. Those that are read lie in one frame, and so do those that are written.
+fn copy_piece(leaf: &mut Pool<64>, chains: &Chains, row: u32, from: u32, to: u32, count: u32)
     requires store { IsStore leaf.old chains.now }
     requires row { row < length chains.now }
-    requires from { from < 64 * frames_in chains.now row }
-    requires to { to < 64 * frames_in chains.now row }
+    requires some { 0 < count }
+    requires from { from + count ≤ 64 * frames_in chains.now row }
+    requires to { to + count ≤ 64 * frames_in chains.now row }
+    requires one_source { from % 64 + count ≤ 64 }
+    requires one_target { to % 64 + count ≤ 64 }
     ensures rewritten { IsRewritten leaf.old leaf.new chains.now row }
-    ensures here { word_in leaf.new chains.now row to ≡ word_in leaf.old chains.now row from }
-    ensures elsewhere { (j : ℕ) → j < 64 * frames_in chains.now row → j ≢ to → word_in leaf.new chains.now row j ≡ word_in leaf.old chains.now row j }
+    ensures piece { IsPieceCopied (word_in leaf.old chains.now row) (word_in leaf.new chains.now row) from to count (64 * frames_in chains.now row) }
 {
-    let value = word(leaf, chains, row, from);
-    put(leaf, chains, row, to, value);
+    let source = chains.frame_at(row, from / FRAME_WORDS);
+    let target = chains.frame_at(row, to / FRAME_WORDS);
+    leaf.copy(source, from % FRAME_WORDS, target, to % FRAME_WORDS, count);
 }
 
-/// Moves the words `from` to `to - 1` up by `by` places, the highest first.
+// The first of the last words before place `end`, from place `from` on, that lie in one frame and still do `by` places higher.
+fn piece_begin(from: u32, end: u32, by: u32) -> u32
+    requires some { from < end }
+    requires most { end + by ≤ most_words }
+    ensures least { from ≤ result }
+    ensures less { result < end }
+    ensures one_source { result % 64 + (end - result) ≤ 64 }
+    ensures one_target { (result + by) % 64 + (end - result) ≤ 64 }
+{
+    let source = (end - 1) / FRAME_WORDS * FRAME_WORDS;
+    let target = (end - 1 + by) / FRAME_WORDS * FRAME_WORDS;
+    from.max(source).max(target.saturating_sub(by))
+}
+
+// The place behind the first words from place `begin` on, before place `to`, that lie in one frame and still do `by` places lower.
+fn piece_end(begin: u32, to: u32, by: u32) -> u32
+    requires some { begin < to }
+    requires far { by ≤ begin }
+    requires most { to ≤ most_words }
+    ensures more { begin < result }
+    ensures most { result ≤ to }
+    ensures one_source { begin % 64 + (result - begin) ≤ 64 }
+    ensures one_target { (begin - by) % 64 + (result - begin) ≤ 64 }
+{
+    let source = begin / FRAME_WORDS * FRAME_WORDS + FRAME_WORDS;
+    let target = (begin - by) / FRAME_WORDS * FRAME_WORDS + FRAME_WORDS + by;
+    to.min(source).min(target)
+}
+
+/// Moves the words `from` to `to - 1` up by `by` places, frame by frame, the highest first.
 pub(crate) fn move_up(leaf: &mut Pool<64>, chains: &Chains, row: u32, from: u32, to: u32, by: u32)
     requires store { IsStore leaf.old chains.now }
     requires row { row < length chains.now }
@@ -36,27 +71,32 @@ pub(crate) fn move_up(leaf: &mut Pool<64>, chains: &Chains, row: u32, from: u32,
     ensures below { (j : ℕ) → j < from + by → word_in leaf.new chains.now row j ≡ word_in leaf.old chains.now row j }
     ensures behind { (j : ℕ) → to + by ≤ j → j < 64 * frames_in chains.now row → word_in leaf.new chains.now row j ≡ word_in leaf.old chains.now row j }
 {
-    let mut i = to;
-    while from < i {
-        i -= 1;
-        copy_word(leaf, chains, row, i, i + by);
+    let mut end = to;
+    while from < end {
+        let begin = piece_begin(from, end, by);
+        copy_piece(leaf, chains, row, begin, begin + by, end - begin);
+        end = begin;
     }
 }
 
-/// Moves the words `from` to `to - 1` down by `by` places, the lowest first.
+/// Moves the words `from` to `to - 1` down by `by` places, frame by frame, the lowest first.
 pub(crate) fn move_down(leaf: &mut Pool<64>, chains: &Chains, row: u32, from: u32, to: u32, by: u32)
     requires store { IsStore leaf.old chains.now }
     requires row { row < length chains.now }
     requires range { from ≤ to }
     requires far { by ≤ from }
     requires room { to ≤ 64 * frames_in chains.now row }
+    requires most { to ≤ most_words }
     ensures rewritten { IsRewritten leaf.old leaf.new chains.now row }
     ensures moved { (j : ℕ) → from ≤ j → j < to → word_in leaf.new chains.now row (j - by) ≡ word_in leaf.old chains.now row j }
     ensures below { (j : ℕ) → j < from - by → word_in leaf.new chains.now row j ≡ word_in leaf.old chains.now row j }
     ensures behind { (j : ℕ) → to ≤ j → j < 64 * frames_in chains.now row → word_in leaf.new chains.now row j ≡ word_in leaf.old chains.now row j }
 {
-    for i in from..to {
-        copy_word(leaf, chains, row, i, i - by);
+    let mut begin = from;
+    while begin < to {
+        let end = piece_end(begin, to, by);
+        copy_piece(leaf, chains, row, begin, begin - by, end - begin);
+        begin = end;
     }
 }
 

@@ -12,7 +12,7 @@ ghost use Rattle.mx_segments.specs.Sound.{map_in, IsSound};
 ghost use Rattle.mx_segments.specs.Plan.{IsPlan, kept, total};
 
 use crate::Chains;
-use crate::entries::{perm_in, runs_before};
+use crate::entries::{has_already, perm_in, runs_before};
 use mx_pool::Pool;
 use mx_words::Perm;
 
@@ -151,6 +151,9 @@ pub(crate) fn frames_after(
     ensures frames { result ≡ (runs (laid (grant_of first count perm) (map_in words leaf.now chains.now row)) + 63) / 64 }
     ensures most { result ≤ most_frames }
 {
+    if has_already(leaf, chains, row, words, first, count, perm) {
+        return chains.len_at(row);
+    }
     let plan = plan_of(leaf, chains, row, words, first, count, perm);
     plan.total().div_ceil(64)
 }

@@ -1,6 +1,6 @@
 -- The codes by which calls are refused.
 -- The rules: docs/MACHINE.md, "Supervisor calls".
-use Rattle.std.specs.Prelude.{ℕ, Bool, true, false, not, ◌&&◌, nat_le, Option, None}
+use Rattle.std.specs.Prelude.{ℕ, Bool, false, not, ◌&&◌, nat_le, None}
 use Rattle.mx_model.specs.Serve.{code}
 use Rattle.mx_supervisor.specs.declared.answer.Answer.{Answer}
 use Rattle.mx_supervisor.specs.declared.answer.Refusal.{Refusal}

@@ -4,3 +4,4 @@ pub mod Parts
 pub mod Looks
 pub mod Rights
 pub mod Served
+pub mod Services

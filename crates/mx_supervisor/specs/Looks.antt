@@ -1,5 +1,5 @@
 -- Looks at words by a hart whose calls in flight the checker keeps.
-use Rattle.std.specs.Prelude.{◌≡◌, ◌≢◌, ℕ, ◌-◌, ◌+◌, ◌⊎◌, List, length, take, Option, Some}
+use Rattle.std.specs.Prelude.{◌≡◌, ◌≢◌, ℕ, ◌+◌, ◌⊎◌, List, length, take, Option, Some}
 use Rattle.std.specs.Prelude.{map as list_map}
 use Rattle.std.specs.List.{list_any, prefix_len}
 use Rattle.mx_words.specs.declared.perm.Span.{Span}

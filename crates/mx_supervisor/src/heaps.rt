@@ -78,12 +78,12 @@ impl Heaps {
     /// Makes the block that `place` found live; where it found none, nothing changes.
     pub(crate) fn alloc(&mut self, domain: u32, words: u32)
         requires domain { 1 ≤ domain }
+        requires there { domain ≤ length self.old }
         requires words { 0 < words }
         ensures { (a : ℕ) → place (heap_at self.old domain).area (heap_at self.old domain).blocks words ≡ Some a → length (heap_at self.old domain).blocks < most_blocks → self.new ≡ with_blocks_at domain (with_block (record { first = a; count = words }) (heap_at self.old domain).blocks) self.old }
     {
-        if let Some(slot) = self.slots.get_mut(domain as usize - 1) {
-            alloc_in(slot, words);
-        }
+        let slot = &mut self.slots.as_mut_slice()[domain as usize - 1];
+        alloc_in(slot, words);
     }
 
     /// The number of words of a domain's live block that begins at a word.
@@ -100,12 +100,12 @@ impl Heaps {
 
     /// Ends a domain's live block that begins at a word, if there is one.
     pub(crate) fn free(&mut self, domain: u32, first: u32)
-        requires { 1 ≤ domain }
+        requires domain { 1 ≤ domain }
+        requires there { domain ≤ length self.old }
         ensures { self.new ≡ with_blocks_at domain (without_block first (heap_at self.old domain).blocks) self.old }
     {
-        if let Some(slot) = self.slots.get_mut(domain as usize - 1) {
-            free_in(slot, first);
-        }
+        let slot = &mut self.slots.as_mut_slice()[domain as usize - 1];
+        free_in(slot, first);
     }
 
     /// The live block of a domain at place `i`, in the order of their addresses.

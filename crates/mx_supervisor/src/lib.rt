@@ -7,6 +7,7 @@ mod heaps;
 mod looks;
 mod owned;
 mod rights;
+mod service;
 mod supervisor;
 mod words;
 

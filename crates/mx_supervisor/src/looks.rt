@@ -135,7 +135,8 @@ impl<T: PermTables, const N: usize> Supervisor<T, N> {
 
     /// Puts a number into a word, and tells the one that was there.
     fn put(&mut self, word: u32, value: u32) -> u32
-        requires { 4 * word + 4 ≤ length self.old.ram }
+        requires sound { IsSound (parts_of T.kind T.maps T.size T.limits N self.old) }
+        requires inside { word < T.size self.old.checker.tables }
         ensures old { result ≡ number_at self.old.ram (4 * word) 4 }
         ensures put { parts_of T.kind T.maps T.size T.limits N self.new ≡ record (parts_of T.kind T.maps T.size T.limits N self.old) { ram = put_at self.old.ram (4 * word) 4 value } }
     {

@@ -64,7 +64,11 @@ impl<T: PermTables, const N: usize> Supervisor<T, N> {
             return Answer::refused(Refusal::NotOwner);
         }
         let target = call.domain;
-        if !self.try_gate(Gate { domain, word, target }) {
+        if !self.try_gate(Gate {
+            domain,
+            word,
+            target,
+        }) {
             return Answer::refused(Refusal::GatesFull);
         }
         Answer::done(0)
@@ -107,7 +111,11 @@ impl<T: PermTables, const N: usize> Supervisor<T, N> {
             return Answer::refused(Refusal::NotOwner);
         }
         let (domain, target) = (call.domain, call.domain);
-        if !self.try_gate(Gate { domain, word, target }) {
+        if !self.try_gate(Gate {
+            domain,
+            word,
+            target,
+        }) {
             return Answer::refused(Refusal::GatesFull);
         }
         Answer::done(0)

@@ -1,5 +1,5 @@
 //! The calls that change rights: grant, revoke_all, alloc and free.
-ghost use Rattle.std.specs.Prelude.{◌≡◌, ℕ, ◌+◌, ◌-◌, ◌<◌, ◌≤◌, [], true, false, length, Option, Some, None};
+ghost use Rattle.std.specs.Prelude.{◌≡◌, ℕ, ◌+◌, ◌-◌, ◌<◌, ◌≤◌, [], true, false, length, slice_set, Option, Some, None};
 ghost use Rattle.mx_words.specs.declared.perm.Perm.{Perm};
 ghost use Rattle.mx_words.specs.declared.perm.Perm.TheVariants as P;
 ghost use Rattle.mx_words.specs.Changes.{changed_maps};
@@ -18,6 +18,14 @@ use mx_model::Call;
 use mx_table::{Change, PermTables};
 use mx_words::{Perm, RAM_BASE};
 
+/// Puts what a domain gets into the array of a change.
+fn put_right(perms: &mut [Option<Perm>; 64], domain: u32, right: Option<Perm>)
+    requires { domain < 64 }
+    ensures { perms.new ≡ slice_set perms.old domain right }
+{
+    perms[domain as usize] = right;
+}
+
 /// A permission for one domain on a range.
 fn to_one(first: u32, count: u32, domain: u32, perm: Perm) -> Change
     requires some { 1 ≤ domain }
@@ -25,7 +33,7 @@ fn to_one(first: u32, count: u32, domain: u32, perm: Perm) -> Change
     ensures { (modules : ℕ) → domain ≤ modules → Gives result first count modules (to_one domain perm) }
 {
     let mut perms = [None; 64];
-    perms[domain as usize] = Some(perm);
+    put_right(&mut perms, domain, Some(perm));
     Change {
         first,
         count,
@@ -40,7 +48,7 @@ fn none_else(first: u32, count: u32, caller: u32, own: Option<Perm>, modules: u3
 {
     let mut perms = [None; 64];
     for domain in 1..modules + 1 {
-        perms[domain as usize] = right_for(domain, caller, own);
+        put_right(&mut perms, domain, right_for(domain, caller, own));
     }
     Change {
         first,
@@ -76,12 +84,12 @@ fn own_alone(first: u32, count: u32, caller: u32, modules: u32) -> Change
     none_else(first, count, caller, Some(Perm::ReadWrite), modules)
 }
 
-/// None for all modules.
-fn none_at_all(first: u32, count: u32, modules: u32) -> Change
+/// None for all modules, the caller too.
+fn none_at_all(first: u32, count: u32, caller: u32, modules: u32) -> Change
     requires { modules ≤ 63 }
     ensures { Gives result first count modules none_at_all }
 {
-    none_else(first, count, 0, None, modules)
+    none_else(first, count, caller, Some(Perm::None), modules)
 }
 
 impl<T: PermTables, const N: usize> Supervisor<T, N> {
@@ -184,7 +192,7 @@ impl<T: PermTables, const N: usize> Supervisor<T, N> {
         let Some((first, count)) = self.arg_block(call) else {
             return Answer::refused(Refusal::NotABlock);
         };
-        let change = none_at_all(first, count, self.modules());
+        let change = none_at_all(first, count, call.domain, self.modules());
         if !self.try_change(call, &change) {
             return Answer::refused(Refusal::TablesFull);
         }

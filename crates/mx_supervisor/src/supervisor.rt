@@ -1,9 +1,10 @@
 //! The supervisor and its calls by their numbers.
-ghost use Rattle.std.specs.Prelude.{◌≡◌, ℕ, ◌-◌, ◌<◌, ◌≤◌, [], true, false, length, slice_get, All, Option, None, IfSome};
+ghost use Rattle.std.specs.Prelude.{◌≡◌, ℕ, ◌-◌, ◌<◌, ◌≤◌, [], true, false, length, slice_get, Option, None, IfSome};
+ghost use Rattle.std.specs.List.{AllByRecursion};
 ghost use Rattle.std.specs.Option.{option_map};
 ghost use Rattle.mx_words.specs.Announced.{is_announced};
 ghost use Rattle.mx_table.specs.Tables.{IsDomain};
-ghost use Rattle.mx_check.specs.Conditions.{MayLook};
+ghost use Rattle.mx_check.specs.Conditions.{MayLook, IsWithin};
 ghost use Rattle.mx_check.specs.Harts.{hart_at};
 ghost use Rattle.mx_heap.specs.HeapState.{area_of};
 ghost use Rattle.mx_model.specs.Serve.{serve, serve_exit};
@@ -15,7 +16,8 @@ ghost use Rattle.mx_supervisor.specs.Served.{range_of, MayServe, ServesAs, IsSpa
 ghost use Rattle.mx_supervisor.specs.Answers.{is_refusal};
 
 use crate::answer::Refusal;
-use crate::words::is_announced;
+use crate::service::Service;
+use crate::words::{is_announced, names_range};
 use crate::{Answer, Heaps};
 use mx_check::Checker;
 use mx_gates::Gates;
@@ -45,9 +47,15 @@ pub struct Supervisor<T: PermTables, const N: usize> {
 impl<T: PermTables, const N: usize> Supervisor<T, N> {
     /// Joins the parts. Checker, RAM and owners have the same number of words, there is one heap per module, whose area lies in RAM,
     /// and each gate is for a word of RAM and between modules.
-    pub fn new(checker: Checker<T, N>, ram: Ram, owners: Owners, gates: Gates, heaps: Heaps) -> Supervisor<T, N>
+    pub fn new(
+        checker: Checker<T, N>,
+        ram: Ram,
+        owners: Owners,
+        gates: Gates,
+        heaps: Heaps,
+    ) -> Supervisor<T, N>
         requires sound { IsSound (parts_of {N = N} T.kind T.maps T.size T.limits N (record { checker = checker; ram = ram; owners = owners; gates = gates; heaps = heaps })) }
-        requires gates { All (IsGate (length (T.maps checker.tables)) (T.size checker.tables)) gates }
+        requires gates { AllByRecursion (IsGate (length (T.maps checker.tables)) (T.size checker.tables)) gates }
         ensures { result ≡ record { checker = checker; ram = ram; owners = owners; gates = gates; heaps = heaps } }
     {
         Supervisor {
@@ -65,9 +73,10 @@ impl<T: PermTables, const N: usize> Supervisor<T, N> {
         requires sound { IsSound (parts_of T.kind T.maps T.size T.limits N self.now) }
         requires announced { is_announced call.now.number ≡ true }
         requires domain { IsDomain (T.maps self.now.checker.tables) call.now.domain }
-        ensures { result ≡ range_of (parts_of T.kind T.maps T.size T.limits N self.now) call.now }
+        ensures range { result ≡ range_of (parts_of T.kind T.maps T.size T.limits N self.now) call.now }
+        ensures within { IsWithin result.0 result.1 (T.size self.now.checker.tables) }
     {
-        if call.number == 3 || call.number == 4 {
+        if names_range(call.number) {
             let [addr, size, _, _] = call.args;
             word_range(addr, size, self.checker.tables().words()).unwrap_or((0, 0))
         } else {
@@ -82,6 +91,7 @@ impl<T: PermTables, const N: usize> Supervisor<T, N> {
     pub fn serve(&mut self, call: &Call, out: &mut Events) -> Answer
         requires sound { IsSound (parts_of T.kind T.maps T.size T.limits N self.old) }
         requires domain { IsDomain (T.maps self.old.checker.tables) call.now.domain }
+        requires few { length self.old.checker.harts ≤ 4 }
         requires may { MayServe (parts_of T.kind T.maps T.size T.limits N self.old) call.now }
         requires empty { out.old.bytes ≡ [] }
         ensures served { ServesAs serve call.now (parts_of T.kind T.maps T.size T.limits N self.old) (parts_of T.kind T.maps T.size T.limits N self.new) out.new.bytes result }
@@ -92,52 +102,38 @@ impl<T: PermTables, const N: usize> Supervisor<T, N> {
         ensures sizes { KeepsSizes (parts_of T.kind T.maps T.size T.limits N self.old) (parts_of T.kind T.maps T.size T.limits N self.new) }
         ensures sound { IsSound (parts_of T.kind T.maps T.size T.limits N self.new) }
     {
+        let answer = self.serve_row(call, out);
         if is_announced(call.number) {
-            let answer = self.serve_announced(call);
             self.checker.finish(call.hart);
-            answer
-        } else {
-            self.serve_now(call, out)
         }
+        answer
     }
 
-    /// A call that changes rights, by its number; it stays in flight.
-    fn serve_announced(&mut self, call: &Call) -> Answer
+    /// A call by its number. One that was announced stays in flight.
+    fn serve_row(&mut self, call: &Call, out: &mut Events) -> Answer
         requires sound { IsSound (parts_of T.kind T.maps T.size T.limits N self.old) }
         requires domain { IsDomain (T.maps self.old.checker.tables) call.now.domain }
-        requires announced { HasAnnounced (parts_of T.kind T.maps T.size T.limits N self.old) call.now }
-        requires number { is_announced call.now.number ≡ true }
-        ensures { Does T.kind T.maps T.size T.limits N self.old self.new served_row call.now [] result }
-    {
-        match call.number {
-            3 => self.grant(call),
-            4 => self.revoke_all(call),
-            6 => self.alloc(call),
-            _ => self.free(call),
-        }
-    }
-
-    /// A call that changes no rights, by its number.
-    fn serve_now(&mut self, call: &Call, out: &mut Events) -> Answer
-        requires sound { IsSound (parts_of T.kind T.maps T.size T.limits N self.old) }
-        requires domain { IsDomain (T.maps self.old.checker.tables) call.now.domain }
-        requires may { MayLook call.now.hart call.now.domain self.old.checker.harts }
-        requires number { is_announced call.now.number ≡ false }
+        requires few { length self.old.checker.harts ≤ 4 }
+        requires may { MayServe (parts_of T.kind T.maps T.size T.limits N self.old) call.now }
         requires empty { out.old.bytes ≡ [] }
         ensures does { Does T.kind T.maps T.size T.limits N self.old self.new served_row call.now out.new.bytes result }
         ensures note { out.new.note ≡ out.old.note }
     {
-        match call.number {
-            1 => exit(call),
-            2 => self.write(call, out),
-            5 => self.transfer(call),
-            8 => self.add_gate(call),
-            9 => self.remove_gate(call),
-            10 => self.add_return_gate(call),
-            11 => self.query(call),
-            12 => Answer::done(256 * call.hart + call.domain),
-            13 => self.exchange(call),
-            _ => Answer::refused(Refusal::BadCall),
+        match Service::of(call.number) {
+            Service::Exit => exit(call),
+            Service::Write => self.write(call, out),
+            Service::Grant => self.grant(call),
+            Service::RevokeAll => self.revoke_all(call),
+            Service::Transfer => self.transfer(call),
+            Service::Alloc => self.alloc(call),
+            Service::Free => self.free(call),
+            Service::AddGate => self.add_gate(call),
+            Service::RemoveGate => self.remove_gate(call),
+            Service::AddReturnGate => self.add_return_gate(call),
+            Service::Query => self.query(call),
+            Service::Identify => Answer::done(256 * call.hart + call.domain),
+            Service::Exchange => self.exchange(call),
+            Service::Unknown => Answer::refused(Refusal::BadCall),
         }
     }
 

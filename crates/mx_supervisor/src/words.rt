@@ -5,7 +5,7 @@ ghost use Rattle.mx_words.specs.Ranges.{address_of};
 ghost use Rattle.mx_heap.specs.HeapState.{LiesIn};
 ghost use Rattle.mx_model.specs.Checks.{arg};
 ghost use Rattle.mx_supervisor.specs.Heaps.{heap_at};
-ghost use Rattle.mx_words.specs.Announced.{is_announced};
+ghost use Rattle.mx_words.specs.Announced.{is_announced, names_range};
 ghost use Rattle.mx_table.specs.Tables.{IsDomain};
 ghost use Rattle.mx_model.specs.Serve.{arg_range, no_range, is_word, arg_word, owns, freed_count};
 ghost use Rattle.mx_model.specs.Reads.{flat_reads};
@@ -22,6 +22,13 @@ pub fn is_announced(number: u32) -> bool
     ensures { result ≡ is_announced number }
 {
     number == 3 || number == 4 || number == 6 || number == 7
+}
+
+/// Whether an announced call names the range that it may change.
+pub fn names_range(number: u32) -> bool
+    ensures { result ≡ names_range number }
+{
+    number == 3 || number == 4
 }
 
 impl<T: PermTables, const N: usize> Supervisor<T, N> {

@@ -5,7 +5,6 @@ use Rattle.mx_words.specs.declared.tables.Kind.{Kind}
 use Rattle.mx_words.specs.Runs.{page_words, region_words}
 use Rattle.mx_words.specs.Reach.{vector}
 use Rattle.mx_words.specs.Blocks.{is_broken}
-use Rattle.mx_pool.specs.Frames.{word_at}
 use Rattle.mx_upper.specs.Leaf.{IsTrieKind}
 use Rattle.mx_upper.specs.Walk.{Frames, most_regions, most_pages, most_lines, target, root_word, has_mid, has_leaf}
 use Rattle.mx_upper.specs.Forest.{root_at, map_at, IsTables, IsLineKept}
@@ -26,13 +25,13 @@ even-no true e = refl
 even-no false e = e
 
 module _ (kind : Kind) (words : ℕ) (upper leaf spill : Frames) (roots : List ℕ) (d : ℕ) (k : IsTrieKind kind) (tables : IsTables kind words upper leaf spill roots) (domain : d < length roots) where
-  -- an even page's table taken away, by the words that were read for it
+  -- an even page's table freed, by the words that were read for it
   pub page-done : (upper' leaf' : Frames) (y root entry vec : ℕ) (m : List Perm) → y < most_pages → has_leaf upper (root_at roots d) y ≡ true →
-      m ≡ map_at kind words upper leaf spill roots d → root ≡ root_at roots d → entry ≡ word_at upper root (y / 1024) → vec ≡ vector page_words m (y * page_words) →
+      m ≡ map_at kind words upper leaf spill roots d → root ≡ root_at roots d → entry ≡ root_word upper root (y / 1024) → vec ≡ vector page_words m (y * page_words) →
       is_broken page_words m y ≡ false → IsPageGone upper leaf upper' leaf' (entry / 4) (y % 1024) vec →
       IsPageClosed kind words upper leaf spill upper' leaf' roots d y
   page-done upper' leaf' y root entry vec m below leafed is at read told whole gone =
-      let e : entry ≡ root_word upper (root_at roots d) (y / 1024) = read ∙ ap (λ (r : ℕ). word_at upper r (y / 1024)) at in
+      let e : entry ≡ root_word upper (root_at roots d) (y / 1024) = read ∙ ap (λ (r : ℕ). root_word upper r (y / 1024)) at in
       let v : vec ≡ vector page_words (map_at kind words upper leaf spill roots d) (y * page_words) = told ∙ ap (λ (n : List Perm). vector page_words n (y * page_words)) is in
       let E : ℕ → Type 0 = λ n. IsPageGone upper leaf upper' leaf' (target n) (y % 1024) vec in
       let V : ℕ → Type 0 = λ n. IsPageGone upper leaf upper' leaf' (target (root_word upper (root_at roots d) (y / 1024))) (y % 1024) n in
@@ -51,7 +50,7 @@ module _ (kind : Kind) (words : ℕ) (upper leaf spill : Frames) (roots : List �
           absurd (let clash : true ≡ false = sym has ∙ ap (λ (i : ℕ). has_leaf upper' (root_at roots i) (z / 64)) h.0 ∙ ap (has_leaf upper' (root_at roots d)) h.1 ∙ closed.here in cc)
       cases (inr h) = closed.lines e z below inside h had
 
-  -- an even region's table taken away
+  -- an even region's table freed
   pub region-done : (upper' : Frames) (x root vec : ℕ) (m : List Perm) → x < most_regions → has_mid upper (root_at roots d) x ≡ true →
       ArePagesTight upper (root_at roots d) (map_at kind words upper leaf spill roots d) →
       m ≡ map_at kind words upper leaf spill roots d → root ≡ root_at roots d → vec ≡ vector region_words m (x * region_words) →

@@ -14,7 +14,7 @@ use Rattle.mx_upper.proofs.TightLaws.{broken-out}
 use Rattle.mx_upper.proofs.LineEntries.{line-stands}
 use Rattle.mx_upper.proofs.CanonicalLaws.{line-kept, reached-kept, canonical-kept}
 
--- the lines from `from` up to `to` of domain d that have entries have the reaches of the map, and nothing else is told otherwise
+-- the lines from `from` up to `to` of domain d that have entries have the reaches of the map, and nothing else changes
 pub record AreLinesReached (kind : Kind) (words : ℕ) (upper leaf spill leaf' : Frames) (roots : List ℕ) (d from to : ℕ) : Type 0 where
   pub tables : IsTables kind words upper leaf' spill roots
   pub maps : (e : ℕ) → e < length roots → map_at kind words upper leaf' spill roots e ≡ map_at kind words upper leaf spill roots e

@@ -75,7 +75,7 @@ place-is (r ∷ rs) (suc d) apart below =
     let next : d + 1 ≡ suc d = omega arith in
     ap (λ (b : Bool). if b then 0 else place_in rs (root_at rs d) + 1) other ∙ ap (λ n. n + 1) rest ∙ next
 
--- a sum of nothings
+-- a sum of zeros
 sum-none : (n : ℕ) (f : ℕ → ℕ) → ((i : ℕ) → i < n → f i ≡ 0) → sum_below n f ≡ 0
 sum-none zero f each = sum_below-zero f
 sum-none (suc n) f each =

@@ -10,6 +10,7 @@ pub mod LinePerms
 pub mod EntryLaws
 -- what a walk finds
 pub mod PresentTables
+pub mod RootPlaces
 pub mod WalkWords
 pub mod WalkLaws
 pub mod FoundSpans
@@ -60,6 +61,8 @@ pub mod ReachesWritten
 -- all domains
 pub mod StandingLaws
 pub mod StandingAgain
+pub mod SkipLaws
+pub mod EdgeLaws
 pub mod ChangedRows
 pub mod RootLaws
 pub mod EmptyTables

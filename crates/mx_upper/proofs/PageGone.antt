@@ -1,4 +1,4 @@
--- What the taking away of one page's leaf table does to the tables of all domains.
+-- What it does to the tables of all domains that one page's leaf table is freed.
 use Rattle.std.proofs.Common.{◌≡◌, ◌≢◌, ℕ, ◌+◌, ◌*◌, ◌/◌, ◌%◌, ◌<◌, ◌⊎◌, inl, inr, true, false, List, None, length, refl, sym, ap, ◌∙◌, arith, subst}
 use Rattle.std.proofs.lemmas.Bool.{cases_eq}
 use Rattle.mx_words.specs.declared.tables.Kind.{Kind}
@@ -8,7 +8,7 @@ use Rattle.mx_words.specs.Reach.{vector, line_at}
 use Rattle.mx_words.specs.Blocks.{IsEven}
 use Rattle.mx_pool.specs.Frames.{frame_at, IsTaken, word_at}
 use Rattle.mx_upper.specs.Leaf.{IsTrieKind, spill_number}
-use Rattle.mx_upper.specs.Walk.{Frames, most_regions, most_pages, most_lines, is_pointer, target, root_word, mid_word, leaf_word, spilled_word, line_number, has_mid, has_leaf}
+use Rattle.mx_upper.specs.Walk.{Frames, most_regions, most_pages, most_lines, is_pointer, target, root_place, root_word, mid_word, leaf_word, spilled_word, line_number, has_mid, has_leaf}
 use Rattle.mx_upper.specs.Forest.{has_spill, root_at, map_at, IsForest, IsLoose, IsTables, AreSame}
 use Rattle.mx_upper.specs.Steps.{IsPageGone, IsPageClosed}
 use Rattle.mx_upper.proofs.EvenLaws.{even-line, none-named}
@@ -38,7 +38,7 @@ module _ (kind : Kind) (words : ℕ) (upper leaf spill upper' leaf' : Frames) (r
         (λ h. mid-root-apart kind upper leaf spill roots tables.forest d e (y / 1024) domain inside (omega arith) region (sym h))
 
     root-same : (e x : ℕ) → e < length roots → root_word upper' (root_at roots e) x ≡ root_word upper (root_at roots e) x
-    root-same e x inside = word-kept upper upper' (root_at roots e) x (root-frame e inside)
+    root-same e x inside = word-kept upper upper' (root_at roots e) (root_place x) (root-frame e inside)
 
     mids-same : (e x : ℕ) → e < length roots → has_mid upper' (root_at roots e) x ≡ has_mid upper (root_at roots e) x
     mids-same e x inside = ap is_pointer (root-same e x inside)
@@ -236,7 +236,7 @@ module _ (kind : Kind) (words : ℕ) (upper leaf spill upper' leaf' : Frames) (r
           leaf_total = gone.leaf_total;
         }
 
-  -- a page of even parts has a vector in place of its leaf table, and nothing else is told otherwise
+  -- a page of even parts has a vector in place of its leaf table, and nothing else changes
   pub page-gone : has_leaf upper (root_at roots d) y ≡ true → IsEven (map_at kind words upper leaf spill roots d) (y * page_words) 128 →
       IsPageGone upper leaf upper' leaf' (target (root_word upper (root_at roots d) (y / 1024))) (y % 1024) (vector page_words (map_at kind words upper leaf spill roots d) (y * page_words)) →
       IsPageClosed kind words upper leaf spill upper' leaf' roots d y

@@ -7,7 +7,7 @@ use Rattle.mx_words.specs.Counting.{count_below, sum_below}
 use Rattle.mx_pool.specs.Frames.{frame_at, IsTaken, word_at}
 use Rattle.mx_upper.specs.Filled.{flat_line}
 use Rattle.mx_upper.specs.Leaf.{IsTrieKind, leaf_entry, spill_number}
-use Rattle.mx_upper.specs.Walk.{Frames, most_regions, most_pages, most_lines, is_pointer, target, vector_perm, root_word, mid_word, leaf_word, line_number, has_mid, has_leaf, IsLine, IsShown}
+use Rattle.mx_upper.specs.Walk.{Frames, most_regions, most_pages, most_lines, is_pointer, target, vector_perm, root_place, root_word, mid_word, leaf_word, line_number, has_mid, has_leaf, IsLine, IsShown}
 use Rattle.mx_upper.specs.Forest.{has_spill, root_at, map_at, IsForest, IsLoose, IsTables}
 use Rattle.mx_upper.specs.Steps.{IsPageMade, IsPageOpened}
 use Rattle.mx_upper.proofs.ForestLaws.{shown-stays}
@@ -27,7 +27,7 @@ module _ (kind : Kind) (words : ℕ) (upper leaf spill upper' leaf' : Frames) (r
     root-stays e inside = made.upper_elsewhere (root_at roots e) (λ same. mid-root-apart kind upper leaf spill roots tables.forest d e (y / 1024) domain inside (omega arith) opened (sym same))
 
     root-same : (e x : ℕ) → e < length roots → root_word upper' (root_at roots e) x ≡ root_word upper (root_at roots e) x
-    root-same e x inside = word-kept upper upper' (root_at roots e) x (root-stays e inside)
+    root-same e x inside = word-kept upper upper' (root_at roots e) (root_place x) (root-stays e inside)
 
     mids-same : (e x : ℕ) → e < length roots → has_mid upper' (root_at roots e) x ≡ has_mid upper (root_at roots e) x
     mids-same e x inside = ap is_pointer (root-same e x inside)

@@ -19,11 +19,11 @@ use Rattle.mx_upper.proofs.MapsRead.{length-map_at}
 use Rattle.mx_upper.proofs.PresentTables.{spill-none}
 
 -- the entry of a line's page, by the words that were read for it
-pub page-entry : (upper : Frames) (roots : List ℕ) (d z root mid entry : ℕ) → root ≡ root_at roots d → mid ≡ word_at upper root (z / 65536) →
+pub page-entry : (upper : Frames) (roots : List ℕ) (d z root mid entry : ℕ) → root ≡ root_at roots d → mid ≡ root_word upper root (z / 65536) →
     entry ≡ word_at upper (mid / 4) (z / 64 % 1024) → entry ≡ mid_word upper (root_at roots d) (z / 64)
 page-entry upper roots d z root mid entry at first second =
     let place : z / 65536 ≡ z / 64 / 1024 = omega arith in
-    let e : mid ≡ root_word upper (root_at roots d) (z / 64 / 1024) = first ∙ ap (λ (r : ℕ). word_at upper r (z / 65536)) at ∙ ap (word_at upper (root_at roots d)) place in
+    let e : mid ≡ root_word upper (root_at roots d) (z / 64 / 1024) = first ∙ ap (λ (r : ℕ). root_word upper r (z / 65536)) at ∙ ap (root_word upper (root_at roots d)) place in
     second ∙ ap (λ (n : ℕ). word_at upper (n / 4) (z / 64 % 1024)) e
 
 module _ (kind : Kind) (words : ℕ) (upper leaf spill : Frames) (roots : List ℕ) (d z : ℕ) (k : IsTrieKind kind) (tables : IsTables kind words upper leaf spill roots) (domain : d < length roots)

@@ -1,4 +1,4 @@
--- What the taking away of one region's mid table does to the tables of all domains.
+-- What it does to the tables of all domains that one region's mid table is freed.
 use Rattle.std.proofs.Common.{◌≡◌, ◌≢◌, ℕ, ◌+◌, ◌*◌, ◌/◌, ◌%◌, ◌<◌, ◌⊎◌, inl, inr, true, false, List, length, refl, sym, ap, ◌∙◌, arith, subst}
 use Rattle.std.proofs.lemmas.Bool.{cases_eq}
 use Rattle.mx_words.specs.declared.tables.Kind.{Kind}
@@ -8,7 +8,7 @@ use Rattle.mx_words.specs.Reach.{vector}
 use Rattle.mx_words.specs.Blocks.{IsEven}
 use Rattle.mx_pool.specs.Frames.{frame_at, word_at}
 use Rattle.mx_upper.specs.Leaf.{IsTrieKind}
-use Rattle.mx_upper.specs.Walk.{Frames, most_regions, most_pages, most_lines, is_pointer, target, root_word, mid_word, leaf_word, line_number, has_mid, has_leaf}
+use Rattle.mx_upper.specs.Walk.{Frames, most_regions, most_pages, most_lines, is_pointer, target, root_place, root_word, mid_word, leaf_word, line_number, has_mid, has_leaf}
 use Rattle.mx_upper.specs.Forest.{has_spill, root_at, map_at, IsForest, IsLoose, IsTables, AreSame}
 use Rattle.mx_upper.specs.Steps.{IsRegionGone, IsRegionClosed}
 use Rattle.mx_upper.proofs.ForestLaws.{shown-stays}
@@ -30,12 +30,12 @@ module _ (kind : Kind) (words : ℕ) (upper leaf spill upper' : Frames) (roots :
         (λ h. mid-root-apart kind upper leaf spill roots tables.forest d e x domain inside below opened (sym h))
 
     root-same : (e j : ℕ) → e < length roots → (e ≢ d) ⊎ (j ≢ x) → root_word upper' (root_at roots e) j ≡ root_word upper (root_at roots e) j
-    root-same e j inside (inl ne) = word-kept upper upper' (root_at roots e) j (root-frame e inside ne)
+    root-same e j inside (inl ne) = word-kept upper upper' (root_at roots e) (root_place j) (root-frame e inside ne)
     root-same e j inside (inr ne) = cases (cases_eq e d)
       where
         cases : (e ≡ d) ⊎ (e ≢ d) → root_word upper' (root_at roots e) j ≡ root_word upper (root_at roots e) j
         cases (inl h) = ap (λ n. root_word upper' (root_at roots n) j) h ∙ gone.others j ne ∙ ap (λ n. root_word upper (root_at roots n) j) (sym h)
-        cases (inr other) = word-kept upper upper' (root_at roots e) j (root-frame e inside other)
+        cases (inr other) = word-kept upper upper' (root_at roots e) (root_place j) (root-frame e inside other)
 
     mids-same : (e j : ℕ) → e < length roots → (e ≢ d) ⊎ (j ≢ x) → has_mid upper' (root_at roots e) j ≡ has_mid upper (root_at roots e) j
     mids-same e j inside ne = ap is_pointer (root-same e j inside ne)
@@ -204,7 +204,7 @@ module _ (kind : Kind) (words : ℕ) (upper leaf spill upper' : Frames) (roots :
           total = gone.total;
         }
 
-  -- a region of even parts with no leaf tables has a vector in place of its mid table, and nothing else is told otherwise
+  -- a region of even parts with no leaf tables has a vector in place of its mid table, and nothing else changes
   pub region-gone : has_mid upper (root_at roots d) x ≡ true → IsEven (map_at kind words upper leaf spill roots d) (x * region_words) 131072 →
       ((y : ℕ) → y < most_pages → y / 1024 ≡ x → has_leaf upper (root_at roots d) y ≡ false) →
       IsRegionGone upper upper' (root_at roots d) x (vector region_words (map_at kind words upper leaf spill roots d) (x * region_words)) →

@@ -8,7 +8,7 @@ use Rattle.mx_pool.specs.Frames.{frame_at, IsTaken, word_at}
 use Rattle.mx_upper.specs.Digits.{digit}
 use Rattle.mx_upper.specs.Filled.{flat_vector}
 use Rattle.mx_upper.specs.Leaf.{IsTrieKind, spill_number}
-use Rattle.mx_upper.specs.Walk.{Frames, most_regions, most_pages, most_lines, is_pointer, target, root_word, mid_word, leaf_word, line_number, has_mid, has_leaf, IsShown}
+use Rattle.mx_upper.specs.Walk.{Frames, most_regions, most_pages, most_lines, is_pointer, target, root_place, root_word, mid_word, leaf_word, line_number, has_mid, has_leaf, IsShown}
 use Rattle.mx_upper.specs.Forest.{has_spill, root_at, map_at, IsForest, IsLoose, IsTables}
 use Rattle.mx_upper.specs.Steps.{IsRegionMade, IsRegionOpened}
 use Rattle.mx_upper.proofs.ForestLaws.{shown-stays}
@@ -43,7 +43,7 @@ module _ (kind : Kind) (words : ℕ) (upper leaf spill upper' : Frames) (roots :
             let S : ℕ → Type 0 = λ a. root_word upper' (root_at roots a) n ≡ root_word upper (root_at roots a) n in
             subst S (sym h) (made.others n (elim ne [ inl f ↦ absurd (f h) | inr f ↦ f ]))
         cases (inr apart) =
-            word-kept upper upper' (root_at roots e) n (made.elsewhere (root_at roots e) (root-apart kind upper leaf spill roots tables.forest e d inside domain apart) (root-fresh e inside))
+            word-kept upper upper' (root_at roots e) (root_place n) (made.elsewhere (root_at roots e) (root-apart kind upper leaf spill roots tables.forest e d inside domain apart) (root-fresh e inside))
 
     mids-same : (e n : ℕ) → e < length roots → n < most_regions → (e ≢ d) ⊎ (n ≢ x) → has_mid upper' (root_at roots e) n ≡ has_mid upper (root_at roots e) n
     mids-same e n inside at ne = ap is_pointer (root-same e n inside ne)

@@ -4,7 +4,7 @@ use Rattle.std.proofs.lemmas.Bool.{cases_lt}
 use Rattle.std.proofs.lemmas.List.{get_or_append_left, get_or_push, length-replicate}
 use Rattle.std.proofs.lemmas.List.Folds.{sum_by-replicate}
 use Rattle.mx_pool.specs.Frames.{frame_at, IsTaken, free_in}
-use Rattle.mx_upper.specs.Walk.{Frames, most_regions, root_word}
+use Rattle.mx_upper.specs.Walk.{Frames, most_regions, root_place, root_word}
 use Rattle.mx_upper.specs.Forest.{root_at}
 use Rattle.mx_upper.specs.Roots.{IsRootMade, AreRoots}
 use Rattle.mx_upper.proofs.OwnerLaws.{taken-differs, word-kept, taken-kept}
@@ -42,7 +42,7 @@ module _ (upper upper' : Frames) (roots : List ℕ) (frame : ℕ) (are : AreRoot
       let stays : frame_at upper' (root_at roots d) ≡ frame_at upper (root_at roots d) = made.elsewhere (root_at roots d) (apart-from d below) in
       record {
         taken = taken-kept upper upper' (root_at roots d) stays (are.taken d below);
-        vectors = λ x inside. word-kept upper upper' (root_at roots d) x stays ∙ are.vectors d x below inside;
+        vectors = λ x inside. word-kept upper upper' (root_at roots d) (root_place x) stays ∙ are.vectors d x below inside;
       }
 
   each-root : (d : ℕ) → (d < length roots) ⊎ (length roots ≤ d) → d < length roots + 1 → IsRoot d (root_at (roots ++ frame ∷ []) d)

@@ -110,7 +110,7 @@ line-cut kind spill m left right word entry spilled run line e made =
 -- the words on the way of a walk
 module _ (kind : Kind) (lefts rights : ℕ → ℕ) (upper leaf spill : Frames) (root : ℕ) (m : List Perm) (i : ℕ) (k : IsTrieKind kind) (shown : IsShown kind lefts rights upper leaf spill root m) (below : i < 2 ^ 24) where
   -- the part of a region that has a vector
-  part-root : (a : ℕ) (s : Span) → a ≡ word_at upper root (i / 1048576) → a % 4 ≢ 0 →
+  part-root : (a : ℕ) (s : Span) → a ≡ root_word upper root (i / 1048576) → a % 4 ≢ 0 →
       s.first ≡ i / 131072 * 131072 → s.count ≡ 131072 → number s.perm ≡ digit (a / 4) (i / 131072 % 8) → IsRound m i s
   part-root a s e miss first count perm = record {
     from = omega arith;
@@ -128,7 +128,7 @@ module _ (kind : Kind) (lefts rights : ℕ → ℕ) (upper leaf spill : Frames) 
   }
 
   -- a region whose vector has one permission
-  whole-root : (a : ℕ) (s : Span) → a ≡ word_at upper root (i / 1048576) → a % 4 ≢ 0 → ((e : ℕ) → e < 8 → digit (a / 4) e ≡ a / 4 % 4) →
+  whole-root : (a : ℕ) (s : Span) → a ≡ root_word upper root (i / 1048576) → a % 4 ≢ 0 → ((e : ℕ) → e < 8 → digit (a / 4) e ≡ a / 4 % 4) →
       s.first ≡ i / 1048576 * 1048576 → s.count ≡ 1048576 → number s.perm ≡ digit (a / 4) (i / 1048576 % 8) → IsRound m i s
   whole-root a s e miss flat first count perm = record {
     from = omega arith;
@@ -143,7 +143,7 @@ module _ (kind : Kind) (lefts rights : ℕ → ℕ) (upper leaf spill : Frames) 
         ∙ ap numbered (flat (j / 131072 % 8) (omega arith) ∙ sym (flat (i / 1048576 % 8) (omega arith)) ∙ sym perm) ∙ numbered-number s.perm;
   }
 
-  pub around-root : (a size : ℕ) (s : Span) → a ≡ word_at upper root (i / 1048576) → a % 4 ≢ 0 →
+  pub around-root : (a size : ℕ) (s : Span) → a ≡ root_word upper root (i / 1048576) → a % 4 ≢ 0 →
       (size ≡ 131072) ⊎ ((size ≡ 8 * 131072) × ((e : ℕ) → e < 8 → digit (a / 4) e ≡ a / 4 % 4)) →
       s.first ≡ i / size * size → s.count ≡ size → number s.perm ≡ digit (a / 4) (i / size % 8) → IsRound m i s
   around-root a size s e miss (inl h) first count perm =
@@ -152,7 +152,7 @@ module _ (kind : Kind) (lefts rights : ℕ → ℕ) (upper leaf spill : Frames) 
       whole-root a s e miss h.1 (first ∙ ap (λ n. i / n * n) h.0) (count ∙ h.0) (perm ∙ ap (λ n. digit (a / 4) (i / n % 8)) h.0)
 
   -- the part of a page that has a vector
-  part-mid : (a b : ℕ) (s : Span) → a ≡ word_at upper root (i / 1048576) → a % 4 ≡ 0 → b ≡ word_at upper (a / 4) (i / 1024 % 1024) → b % 4 ≢ 0 →
+  part-mid : (a b : ℕ) (s : Span) → a ≡ root_word upper root (i / 1048576) → a % 4 ≡ 0 → b ≡ word_at upper (a / 4) (i / 1024 % 1024) → b % 4 ≢ 0 →
       s.first ≡ i / 128 * 128 → s.count ≡ 128 → number s.perm ≡ digit (b / 4) (i / 128 % 8) → IsRound m i s
   part-mid a b s e hit f miss first count perm = record {
     from = omega arith;
@@ -173,7 +173,7 @@ module _ (kind : Kind) (lefts rights : ℕ → ℕ) (upper leaf spill : Frames) 
   }
 
   -- a page whose vector has one permission
-  whole-mid : (a b : ℕ) (s : Span) → a ≡ word_at upper root (i / 1048576) → a % 4 ≡ 0 → b ≡ word_at upper (a / 4) (i / 1024 % 1024) → b % 4 ≢ 0 →
+  whole-mid : (a b : ℕ) (s : Span) → a ≡ root_word upper root (i / 1048576) → a % 4 ≡ 0 → b ≡ word_at upper (a / 4) (i / 1024 % 1024) → b % 4 ≢ 0 →
       ((e : ℕ) → e < 8 → digit (b / 4) e ≡ b / 4 % 4) →
       s.first ≡ i / 1024 * 1024 → s.count ≡ 1024 → number s.perm ≡ digit (b / 4) (i / 1024 % 8) → IsRound m i s
   whole-mid a b s e hit f miss flat first count perm = record {
@@ -192,7 +192,7 @@ module _ (kind : Kind) (lefts rights : ℕ → ℕ) (upper leaf spill : Frames) 
         ∙ ap numbered (flat (j / 128 % 8) (omega arith) ∙ sym (flat (i / 1024 % 8) (omega arith)) ∙ sym perm) ∙ numbered-number s.perm;
   }
 
-  pub around-mid : (a b size : ℕ) (s : Span) → a ≡ word_at upper root (i / 1048576) → a % 4 ≡ 0 → b ≡ word_at upper (a / 4) (i / 1024 % 1024) → b % 4 ≢ 0 →
+  pub around-mid : (a b size : ℕ) (s : Span) → a ≡ root_word upper root (i / 1048576) → a % 4 ≡ 0 → b ≡ word_at upper (a / 4) (i / 1024 % 1024) → b % 4 ≢ 0 →
       (size ≡ 128) ⊎ ((size ≡ 8 * 128) × ((e : ℕ) → e < 8 → digit (b / 4) e ≡ b / 4 % 4)) →
       s.first ≡ i / size * size → s.count ≡ size → number s.perm ≡ digit (b / 4) (i / size % 8) → IsRound m i s
   around-mid a b size s e hit f miss (inl h) first count perm =

@@ -12,7 +12,7 @@ use Rattle.mx_words.specs.Reach.{level, trie_level, line_level, line_at, first_i
 use Rattle.mx_pool.specs.Frames.{word_at}
 use Rattle.mx_words.specs.Blocks.{block_of, is_broken}
 use Rattle.mx_upper.specs.Leaf.{IsTrieKind, needs_spill, spill_number, IsStored}
-use Rattle.mx_upper.specs.Walk.{form_left, form_right, Frames, most_regions, most_pages, is_pointer, mid_word, spilled_word, has_mid, has_leaf, map_left, map_right, line_number, IsLine, IsShown, IsTight}
+use Rattle.mx_upper.specs.Walk.{form_left, form_right, Frames, most_regions, most_pages, is_pointer, root_word, mid_word, spilled_word, has_mid, has_leaf, map_left, map_right, line_number, IsLine, IsShown, IsTight}
 use Rattle.mx_upper.specs.Found.{IsVector, IsLeaf}
 use Rattle.mx_upper.proofs.PresentTables.{leaf-from, leaf-closed}
 use Rattle.mx_upper.proofs.WalkWords.{region-closed, region-opened, mid-is, page-closed, page-opened}
@@ -94,7 +94,7 @@ map_right-in kind m z inside = ap (λ (b : Bool). if b then form_right kind m (z
 -- the words on the way
 module _ (kind : Kind) (upper leaf spill : Frames) (root : ℕ) (m : List Perm) (i : ℕ) (k : IsTrieKind kind) (shown : IsShown kind (map_left kind m) (map_right kind m) upper leaf spill root m)
     (tight : IsTight upper root m) (below : i < 2 ^ 24) where
-  pub walk-root : (a : ℕ) → a ≡ word_at upper root (i / 1048576) → a % 4 ≢ 0 → (level kind m i ≡ L.Root) × IsVector region_words 131072 m i a
+  pub walk-root : (a : ℕ) → a ≡ root_word upper root (i / 1048576) → a % 4 ≢ 0 → (level kind m i ≡ L.Root) × IsVector region_words 131072 m i a
   walk-root a e miss =
       let x : i / 1048576 < most_regions = omega arith in
       let closed = region-closed upper root i a e miss in (
@@ -102,13 +102,13 @@ module _ (kind : Kind) (upper leaf spill : Frames) (root : ℕ) (m : List Perm) 
         record { even = shown.region_even (i / 1048576) x closed; entry_is = e ∙ shown.region_vector (i / 1048576) x closed },
       )
 
-  region-broken : (a : ℕ) → a ≡ word_at upper root (i / 1048576) → a % 4 ≡ 0 → is_broken region_words m (i / 1048576) ≡ true
+  region-broken : (a : ℕ) → a ≡ root_word upper root (i / 1048576) → a % 4 ≡ 0 → is_broken region_words m (i / 1048576) ≡ true
   region-broken a e hit =
       let x : i / 1048576 < most_regions = omega arith in
       let at : i / 1048576 ≡ i / 1024 / 1024 = omega arith in
       sym (tight.mids (i / 1048576) x) ∙ ap (has_mid upper root) at ∙ region-opened upper root i a e hit
 
-  pub walk-mid : (a b : ℕ) → a ≡ word_at upper root (i / 1048576) → a % 4 ≡ 0 → b ≡ word_at upper (a / 4) (i / 1024 % 1024) → b % 4 ≢ 0 →
+  pub walk-mid : (a b : ℕ) → a ≡ root_word upper root (i / 1048576) → a % 4 ≡ 0 → b ≡ word_at upper (a / 4) (i / 1024 % 1024) → b % 4 ≢ 0 →
       (level kind m i ≡ L.Mid) × IsVector page_words 128 m i b
   walk-mid a b e hit f miss =
       let y : i / 1024 < most_pages = omega arith in
@@ -120,7 +120,7 @@ module _ (kind : Kind) (upper leaf spill : Frames) (root : ℕ) (m : List Perm) 
         record { even = shown.page_even (i / 1024) y opened closed; entry_is = is ∙ shown.page_vector (i / 1024) y opened closed },
       )
 
-  page-broken : (a b : ℕ) → a ≡ word_at upper root (i / 1048576) → a % 4 ≡ 0 → b ≡ word_at upper (a / 4) (i / 1024 % 1024) → b % 4 ≡ 0 →
+  page-broken : (a b : ℕ) → a ≡ root_word upper root (i / 1048576) → a % 4 ≡ 0 → b ≡ word_at upper (a / 4) (i / 1024 % 1024) → b % 4 ≡ 0 →
       is_broken page_words m (i / 1024) ≡ true
   page-broken a b e hit f also =
       let y : i / 1024 < most_pages = omega arith in
@@ -130,7 +130,7 @@ module _ (kind : Kind) (upper leaf spill : Frames) (root : ℕ) (m : List Perm) 
       sym (tight.leaves (i / 1024) y) ∙ whole
 
   -- the line's entry has no spill word, or has one
-  pub walk-leaf : (a b l : ℕ) → a ≡ word_at upper root (i / 1048576) → a % 4 ≡ 0 → b ≡ word_at upper (a / 4) (i / 1024 % 1024) → b % 4 ≡ 0 →
+  pub walk-leaf : (a b l : ℕ) → a ≡ root_word upper root (i / 1048576) → a % 4 ≡ 0 → b ≡ word_at upper (a / 4) (i / 1024 % 1024) → b % 4 ≡ 0 →
       i < length m → (line : IsLine kind spill m (i / 16) (map_left kind m (i / 16)) (map_right kind m (i / 16)) l) → spill_number kind l ≡ None → needs_spill kind (line_at m (first_in line_words i)) ≡ false →
       (level kind m i ≡ L.Leaf) × IsLeaf kind false m i l 0
   walk-leaf a b l e hit f also inside line none miss =
@@ -141,7 +141,7 @@ module _ (kind : Kind) (upper leaf spill : Frames) (root : ℕ) (m : List Perm) 
         record { crowded_is = miss; left = map_left kind m (i / 16); right = map_right kind m (i / 16); number = line_number kind l; left_is = map_left-in kind m (i / 16) z; right_is = map_right-in kind m (i / 16) z; stored = subst T zero_word line.stored },
       )
 
-  pub walk-spill : (a b l n s : ℕ) → a ≡ word_at upper root (i / 1048576) → a % 4 ≡ 0 → b ≡ word_at upper (a / 4) (i / 1024 % 1024) → b % 4 ≡ 0 →
+  pub walk-spill : (a b l n s : ℕ) → a ≡ root_word upper root (i / 1048576) → a % 4 ≡ 0 → b ≡ word_at upper (a / 4) (i / 1024 % 1024) → b % 4 ≡ 0 →
       i < length m → (line : IsLine kind spill m (i / 16) (map_left kind m (i / 16)) (map_right kind m (i / 16)) l) → spill_number kind l ≡ Some n → s ≡ word_at spill n 0 → needs_spill kind (line_at m (first_in line_words i)) ≡ true →
       (level kind m i ≡ L.Spill) × IsLeaf kind true m i l s
   walk-spill a b l n s e hit f also inside line some is crowded =

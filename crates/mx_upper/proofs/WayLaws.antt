@@ -13,8 +13,8 @@ use Rattle.mx_upper.proofs.StepLaws.{way-opened}
 
 -- what was made of a region's place of a root table, and of a page's place of a mid table, where it held no pointer
 record IsRegionWay (upper upper' : Frames) (root x : ℕ) : Type 0 where
-  same : is_pointer (word_at upper root x) ≡ true → upper' ≡ upper
-  made : is_pointer (word_at upper root x) ≡ false → IsRegionMade upper upper' root x (target (word_at upper' root x))
+  same : is_pointer (root_word upper root x) ≡ true → upper' ≡ upper
+  made : is_pointer (root_word upper root x) ≡ false → IsRegionMade upper upper' root x (target (root_word upper' root x))
 
 record IsPageWay (kind : Kind) (upper leaf upper' leaf' : Frames) (mid place : ℕ) : Type 0 where
   same_upper : is_pointer (word_at upper mid place) ≡ true → upper' ≡ upper
@@ -32,9 +32,9 @@ module _ (kind : Kind) (words : ℕ) (upper leaf spill upper' upper'' leaf'' : F
       page-opened kind words upper' leaf spill upper'' leaf'' roots d y k once.tables domain below once.here page.same_upper page.same_leaf page.made in
       way-opened kind words upper leaf spill upper' upper'' leaf'' roots d y below once then
 
-  pub way-done : (root mid : ℕ) → root ≡ root_at roots d → mid ≡ word_at upper' root (y / 1024) →
-      (is_pointer (word_at upper root (y / 1024)) ≡ true → upper' ≡ upper) →
-      (is_pointer (word_at upper root (y / 1024)) ≡ false → IsRegionMade upper upper' root (y / 1024) (target (word_at upper' root (y / 1024)))) →
+  pub way-done : (root mid : ℕ) → root ≡ root_at roots d → mid ≡ root_word upper' root (y / 1024) →
+      (is_pointer (root_word upper root (y / 1024)) ≡ true → upper' ≡ upper) →
+      (is_pointer (root_word upper root (y / 1024)) ≡ false → IsRegionMade upper upper' root (y / 1024) (target (root_word upper' root (y / 1024)))) →
       (is_pointer (word_at upper' (mid / 4) (y % 1024)) ≡ true → upper'' ≡ upper') →
       (is_pointer (word_at upper' (mid / 4) (y % 1024)) ≡ true → leaf'' ≡ leaf) →
       (is_pointer (word_at upper' (mid / 4) (y % 1024)) ≡ false → IsPageMade kind upper' leaf upper'' leaf'' (mid / 4) (y % 1024) (target (word_at upper'' (mid / 4) (y % 1024)))) →
@@ -43,4 +43,4 @@ module _ (kind : Kind) (words : ℕ) (upper leaf spill upper' upper'' leaf'' : F
       let R : ℕ → Type 0 = λ r. IsRegionWay upper upper' r (y / 1024) in
       let M : ℕ → Type 0 = λ n. IsPageWay kind upper' leaf upper'' leaf'' (target n) (y % 1024) in
       way-made (subst R at (record { same = same; made = made }))
-      (subst M (read ∙ ap (λ (r : ℕ). word_at upper' r (y / 1024)) at) (record { same_upper = same_upper; same_leaf = same_leaf; made = page }))
+      (subst M (read ∙ ap (λ (r : ℕ). root_word upper' r (y / 1024)) at) (record { same_upper = same_upper; same_leaf = same_leaf; made = page }))

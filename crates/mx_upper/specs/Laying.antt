@@ -39,7 +39,7 @@ pub record IsRangeLaid (kind : Kind) (words : ℕ) (upper leaf spill upper' leaf
   pub leaf_total : length leaf' ≡ length leaf
   pub spill_total : length spill' ≡ length spill
 
--- page y of domain d has a leaf table, and its region a mid table, and nothing else is told otherwise
+-- page y of domain d has a leaf table, and its region a mid table, and nothing else changes
 pub record IsWayOpened (kind : Kind) (words : ℕ) (upper leaf spill upper' leaf' : Frames) (roots : List ℕ) (d y : ℕ) : Type 0 where
   pub tables : IsTables kind words upper' leaf' spill roots
   pub maps : (e : ℕ) → e < length roots → map_at kind words upper' leaf' spill roots e ≡ map_at kind words upper leaf spill roots e

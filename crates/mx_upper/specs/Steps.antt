@@ -11,16 +11,16 @@ use Rattle.mx_pool.specs.Frames.{frame_at, IsTaken, word_at, free_in}
 use Rattle.mx_upper.specs.Digits.{digit}
 use Rattle.mx_upper.specs.Filled.{flat_line, flat_vector}
 use Rattle.mx_upper.specs.Leaf.{needs_spill, leaf_entry, spill_number}
-use Rattle.mx_upper.specs.Walk.{Frames, most_regions, most_pages, most_lines, vector_perm, leaf_word, has_mid, has_leaf, IsLine}
+use Rattle.mx_upper.specs.Walk.{Frames, most_regions, most_pages, most_lines, vector_perm, root_word, leaf_word, has_mid, has_leaf, IsLine}
 use Rattle.mx_upper.specs.Forest.{root_at, map_at, IsTables, IsLineKept}
 
--- a mid table in a frame that was free, with the vectors of the pages of a region that had a vector, at place x of a root table
+-- a mid table in a frame that was free, with the vectors of the pages of region x, which had a vector in a root table
 pub record IsRegionMade (upper upper' : Frames) (root x frame : ℕ) : Type 0 where
   pub was_free : frame_at upper frame ≡ None
   pub taken : IsTaken upper' frame
-  pub pages : (k : ℕ) → k < 1024 → word_at upper' frame k ≡ flat_vector (digit (word_at upper root x / 4) (k / 128))
-  pub linked : word_at upper' root x ≡ 4 * frame
-  pub others : (k : ℕ) → k ≢ x → word_at upper' root k ≡ word_at upper root k
+  pub pages : (k : ℕ) → k < 1024 → word_at upper' frame k ≡ flat_vector (digit (root_word upper root x / 4) (k / 128))
+  pub linked : root_word upper' root x ≡ 4 * frame
+  pub others : (k : ℕ) → k ≢ x → root_word upper' root k ≡ root_word upper root k
   pub root_taken : IsTaken upper' root
   pub elsewhere : (g : ℕ) → g ≢ root → g ≢ frame → frame_at upper' g ≡ frame_at upper g
   pub free : free_in upper' + 1 ≡ free_in upper
@@ -56,11 +56,11 @@ pub record IsPageGone (upper leaf upper' leaf' : Frames) (mid place vector : ℕ
 
 -- the mid table of a region given back, and a vector at its place
 pub record IsRegionGone (upper upper' : Frames) (root x vector : ℕ) : Type 0 where
-  pub given : frame_at upper' (word_at upper root x / 4) ≡ None
-  pub written : word_at upper' root x ≡ vector
-  pub others : (k : ℕ) → k ≢ x → word_at upper' root k ≡ word_at upper root k
+  pub given : frame_at upper' (root_word upper root x / 4) ≡ None
+  pub written : root_word upper' root x ≡ vector
+  pub others : (k : ℕ) → k ≢ x → root_word upper' root k ≡ root_word upper root k
   pub root_taken : IsTaken upper' root
-  pub elsewhere : (g : ℕ) → g ≢ root → g ≢ word_at upper root x / 4 → frame_at upper' g ≡ frame_at upper g
+  pub elsewhere : (g : ℕ) → g ≢ root → g ≢ root_word upper root x / 4 → frame_at upper' g ≡ frame_at upper g
   pub free : free_in upper' ≡ free_in upper + 1
   pub total : length upper' ≡ length upper
 
@@ -91,7 +91,7 @@ pub record IsEntryWritten (leaf leaf' : Frames) (frame place entry : ℕ) : Type
   pub free : free_in leaf' ≡ free_in leaf
   pub total : length leaf' ≡ length leaf
 
--- region x of domain d has a mid table, and nothing else is told otherwise
+-- region x of domain d has a mid table, and nothing else changes
 pub record IsRegionOpened (kind : Kind) (words : ℕ) (upper leaf spill upper' : Frames) (roots : List ℕ) (d x : ℕ) : Type 0 where
   pub tables : IsTables kind words upper' leaf spill roots
   pub maps : (e : ℕ) → e < length roots → map_at kind words upper' leaf spill roots e ≡ map_at kind words upper leaf spill roots e
@@ -101,7 +101,7 @@ pub record IsRegionOpened (kind : Kind) (words : ℕ) (upper leaf spill upper' :
   pub lines : (e z : ℕ) → e < length roots → z < most_lines → has_leaf upper (root_at roots e) (z / 64) ≡ true → IsLineKept kind upper leaf spill upper' leaf spill (root_at roots e) z
   pub total : length upper' ≡ length upper
 
--- page y of domain d has a leaf table, and nothing else is told otherwise
+-- page y of domain d has a leaf table, and nothing else changes
 pub record IsPageOpened (kind : Kind) (words : ℕ) (upper leaf spill upper' leaf' : Frames) (roots : List ℕ) (d y : ℕ) : Type 0 where
   pub tables : IsTables kind words upper' leaf' spill roots
   pub maps : (e : ℕ) → e < length roots → map_at kind words upper' leaf' spill roots e ≡ map_at kind words upper leaf spill roots e
@@ -112,7 +112,7 @@ pub record IsPageOpened (kind : Kind) (words : ℕ) (upper leaf spill upper' lea
   pub upper_total : length upper' ≡ length upper
   pub leaf_total : length leaf' ≡ length leaf
 
--- page y of domain d has a vector, and nothing else is told otherwise
+-- page y of domain d has a vector, and nothing else changes
 pub record IsPageClosed (kind : Kind) (words : ℕ) (upper leaf spill upper' leaf' : Frames) (roots : List ℕ) (d y : ℕ) : Type 0 where
   pub tables : IsTables kind words upper' leaf' spill roots
   pub maps : (e : ℕ) → e < length roots → map_at kind words upper' leaf' spill roots e ≡ map_at kind words upper leaf spill roots e
@@ -124,7 +124,7 @@ pub record IsPageClosed (kind : Kind) (words : ℕ) (upper leaf spill upper' lea
   pub upper_total : length upper' ≡ length upper
   pub leaf_total : length leaf' ≡ length leaf
 
--- region x of domain d has a vector, and nothing else is told otherwise
+-- region x of domain d has a vector, and nothing else changes
 pub record IsRegionClosed (kind : Kind) (words : ℕ) (upper leaf spill upper' : Frames) (roots : List ℕ) (d x : ℕ) : Type 0 where
   pub tables : IsTables kind words upper' leaf spill roots
   pub maps : (e : ℕ) → e < length roots → map_at kind words upper' leaf spill roots e ≡ map_at kind words upper leaf spill roots e
@@ -141,7 +141,7 @@ pub record IsLaidOver (old new : List Perm) (from to : ℕ) (p : Perm) : Type 0 
   pub before : (k : ℕ) → k < from → k < 16 → perm_at new k ≡ perm_at old k
   pub behind : (k : ℕ) → to ≤ k → k < 16 → perm_at new k ≡ perm_at old k
 
--- line z of domain d has a permission on the places from `from` up to `to`, and nothing else is told otherwise
+-- line z of domain d has a permission on the places from `from` up to `to`, and nothing else changes
 pub record IsLineLaid (kind : Kind) (words : ℕ) (upper leaf spill leaf' spill' : Frames) (roots : List ℕ) (d z from to : ℕ) (p : Perm) : Type 0 where
   pub tables : IsTables kind words upper leaf' spill' roots
   pub map : map_at kind words upper leaf' spill' roots d ≡ laid (grant_of (z * 16 + from) (to - from) p) (map_at kind words upper leaf spill roots d)
@@ -151,7 +151,7 @@ pub record IsLineLaid (kind : Kind) (words : ℕ) (upper leaf spill leaf' spill'
   pub leaf_total : length leaf' ≡ length leaf
   pub spill_total : length spill' ≡ length spill
 
--- line z of domain d has an entry with these reaches, and nothing else is told otherwise
+-- line z of domain d has an entry with these reaches, and nothing else changes
 pub record IsLineReached (kind : Kind) (words : ℕ) (upper leaf spill leaf' : Frames) (roots : List ℕ) (d z left right : ℕ) : Type 0 where
   pub tables : IsTables kind words upper leaf' spill roots
   pub maps : (e : ℕ) → e < length roots → map_at kind words upper leaf' spill roots e ≡ map_at kind words upper leaf spill roots e

@@ -4,6 +4,7 @@ use Rattle.std.specs.Option.{option_map_or}
 use Rattle.mx_words.specs.declared.perm.Perm.{Perm}
 use Rattle.mx_words.specs.declared.tables.Kind.{Kind}
 use Rattle.mx_words.specs.declared.tables.Kind.TheVariants as K
+use Rattle.mx_words.specs.Ranges.{address_of}
 use Rattle.mx_words.specs.Runs.{line_words, page_words, region_words}
 use Rattle.mx_words.specs.Reach.{vector, line_at, left_reach, right_reach}
 use Rattle.mx_pool.specs.Frames.{IsTaken, word_at}
@@ -32,9 +33,13 @@ is_pointer entry = entry % 4 == 0
 abbrev pub target : ℕ → ℕ
 target entry = entry / 4
 
+-- the place of region x in a root table: an entry there maps 4 MiB of the address space, and RAM doesn't begin at address 0
+unfoldable pub root_place : ℕ → ℕ
+root_place x = address_of (x * region_words) / (4 * region_words)
+
 -- the entry of region x in a root table, of page y in the mid table of its region, and of line z in the leaf table of its page
 abbrev pub root_word : Frames → ℕ → ℕ → ℕ
-root_word upper root x = word_at upper root x
+root_word upper root x = word_at upper root (root_place x)
 
 abbrev pub mid_word : Frames → ℕ → ℕ → ℕ
 mid_word upper root y = word_at upper (target (root_word upper root (y / 1024))) (y % 1024)

@@ -12,9 +12,13 @@ ghost use Rattle.mx_upper.specs.Laying.{with_range, spill_lines, IsCanonical, ma
 
 use crate::change::laying_of;
 use crate::changed_view::ChangedView;
-use crate::counts::{lines_crowded, pages_broken, regions_broken};
+use crate::counts::lines_crowded;
+use crate::edges::{pages_broken_after, regions_broken_after};
 use crate::lay::Laying;
 use crate::reach::has_table;
+use crate::root_table::root_entry;
+use crate::scan::has_perm;
+use crate::sizes::{LINE_WORDS, PAGE_LINES, PAGE_WORDS, REGION_LINES, REGION_PAGES, REGION_WORDS};
 use crate::table_view::{TableView, map_of};
 use crate::{LeafForm, Roots};
 use mx_pool::Pool;
@@ -32,7 +36,7 @@ fn regions_opened(upper: &Pool<1024>, roots: &Roots, row: u32, from: u32, to: u3
 {
     let mut count = 0;
     for region in from..to {
-        count += u32::from(upper.get(roots.at(row), region) % 4 == 0);
+        count += u32::from(root_entry(upper, roots.at(row), region) % 4 == 0);
     }
     count
 }
@@ -67,12 +71,12 @@ fn is_spilled<L: LeafForm>(
     ensures { result ≡ has_spill L.kind upper.now leaf.now (root_at roots.now row) line }
 {
     let root = roots.at(row);
-    if !has_table(upper, root, line / 0x40) {
+    if !has_table(upper, root, line / PAGE_LINES) {
         return false;
     }
-    let mid = upper.get(root, line / 0x1_0000) / 4;
-    let frame = upper.get(mid, line / 0x40 % 0x400) / 4;
-    L::spill_of(leaf.get(frame, line % 0x40)).is_some()
+    let mid = root_entry(upper, root, line / REGION_LINES) / 4;
+    let frame = upper.get(mid, line / PAGE_LINES % REGION_PAGES) / 4;
+    L::spill_of(leaf.get(frame, line % PAGE_LINES)).is_some()
 }
 
 /// How many of the lines `from` to `to - 1` of a domain have spill words.
@@ -123,6 +127,9 @@ fn need_laid<L: LeafForm>(
     ensures spill { let m = map_in L.kind upper.now leaf.now spill.now roots.now lay.now in result.spill + spill_lines L.kind m ≡ need.spill + spill_lines L.kind (with_range lay.now.first lay.now.end lay.now.perm m) }
 {
     let old = map_of::<L>(upper, leaf, spill, roots, lay);
+    if has_perm(&old, lay.first, lay.end, lay.perm) {
+        return need;
+    }
     let new = ChangedView {
         under: &old,
         first: lay.first,
@@ -130,13 +137,16 @@ fn need_laid<L: LeafForm>(
         perm: lay.perm,
     };
     let last = lay.end - 1;
-    let regions = (lay.first / 0x10_0000, last / 0x10_0000 + 1);
-    let pages = (lay.first / 0x400, last / 0x400 + 1);
-    let lines = (lay.first / 0x10, last / 0x10 + 1);
+    let regions = (lay.first / REGION_WORDS, last / REGION_WORDS + 1);
+    let pages = (lay.first / PAGE_WORDS, last / PAGE_WORDS + 1);
+    let lines = (lay.first / LINE_WORDS, last / LINE_WORDS + 1);
     Need {
-        upper: need.upper + regions_broken(&new, regions.0, regions.1)
+        upper: need.upper
+            + regions_broken_after(
+                upper, roots, lay.row, &new, lay.first, lay.end, regions.0, regions.1,
+            )
             - regions_opened(upper, roots, lay.row, regions.0, regions.1),
-        leaf: need.leaf + pages_broken(&new, pages.0, pages.1)
+        leaf: need.leaf + pages_broken_after(&new, lay.first, lay.end, pages.0, pages.1)
             - pages_opened(upper, roots, lay.row, pages.0, pages.1),
         spill: need.spill + lines_crowded::<L, ChangedView<TableView<L>>>(&new, lines.0, lines.1)
             - lines_spilled::<L>(upper, leaf, roots, lay.row, lines.0, lines.1),

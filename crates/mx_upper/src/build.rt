@@ -13,6 +13,7 @@ ghost use Rattle.mx_upper.specs.Roots.{IsRootMade, AreRoots};
 use crate::counts::need_of;
 use crate::lay::Laying;
 use crate::reach::lay_domain;
+use crate::root_table::set_root_entry;
 use crate::row_view::RowView;
 use crate::{LeafForm, Roots};
 use mx_pool::Pool;
@@ -54,7 +55,7 @@ fn make_root(upper: &mut Pool<1024>) -> u32
         None => unreachable!(),
     };
     for region in 0..16 {
-        upper.set(frame, region, 1);
+        set_root_entry(upper, frame, region, 1);
     }
     frame
 }

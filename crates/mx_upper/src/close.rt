@@ -1,13 +1,14 @@
-//! Tables below an upper entry, taken away where a vector tells their block.
+//! Tables below an upper entry, freed where a vector tells their block.
 ghost use Rattle.std.specs.Prelude.{◌≡◌, ◌≢◌, ◌/◌, ◌<◌, ◌^◌};
 ghost use Rattle.mx_pool.specs.Frames.{IsTaken, word_at};
-ghost use Rattle.mx_upper.specs.Walk.{target};
+ghost use Rattle.mx_upper.specs.Walk.{most_regions, target, root_word};
 ghost use Rattle.mx_upper.specs.Steps.{IsPageGone, IsRegionGone};
 
+use crate::root_table::{root_entry, set_root_entry};
 use mx_pool::Pool;
 
-/// Takes the leaf table of a page away, and puts the page's vector at its place of a mid table.
-pub(crate) fn take_page(
+/// Frees the leaf table of a page, and puts the page's vector at its place of a mid table.
+pub(crate) fn free_leaf_table(
     upper: &mut Pool<1024>,
     leaf: &mut Pool<64>,
     mid: u32,
@@ -24,15 +25,15 @@ pub(crate) fn take_page(
     upper.set(mid, place, vector);
 }
 
-/// Takes the mid table of a region away, and puts the region's vector at its place of a root table.
-pub(crate) fn take_region(upper: &mut Pool<1024>, root: u32, place: u32, vector: u32)
+/// Frees the mid table of a region, and puts the region's vector into the root table.
+pub(crate) fn free_mid_table(upper: &mut Pool<1024>, root: u32, region: u32, vector: u32)
     requires root { IsTaken upper.old root }
-    requires place { place < 1024 }
-    requires table { IsTaken upper.old (target (word_at upper.old root place)) }
-    requires other { target (word_at upper.old root place) ≢ root }
-    ensures { IsRegionGone upper.old upper.new root place vector }
+    requires region { region < most_regions }
+    requires table { IsTaken upper.old (target (root_word upper.old root region)) }
+    requires other { target (root_word upper.old root region) ≢ root }
+    ensures { IsRegionGone upper.old upper.new root region vector }
 {
-    let frame = upper.get(root, place) / 4;
+    let frame = root_entry(upper, root, region) / 4;
     upper.give(frame);
-    upper.set(root, place, vector);
+    set_root_entry(upper, root, region, vector);
 }

@@ -11,6 +11,7 @@ ghost use Rattle.mx_upper.specs.Laying.{spill_lines};
 
 use crate::LeafForm;
 use crate::scan::{is_page_even, is_region_even, line_perms};
+use crate::sizes::{PAGE_LINES, PAGE_WORDS, REGION_WORDS};
 use crate::view::View;
 use mx_words::Need;
 
@@ -69,7 +70,7 @@ fn page_crowded<L: LeafForm, V: View>(view: &V, page: u32) -> u32
     if is_page_even(view, page) {
         0
     } else {
-        lines_crowded::<L, V>(view, page * 0x40, page * 0x40 + 0x40)
+        lines_crowded::<L, V>(view, page * PAGE_LINES, page * PAGE_LINES + PAGE_LINES)
     }
 }
 
@@ -99,9 +100,9 @@ pub(crate) fn need_of<L: LeafForm, V: View>(view: &V, words: u32) -> Need
     ensures few_leaf { result.leaf ≤ most_pages }
     ensures few_spill { result.spill ≤ most_lines }
 {
-    let pages = words.div_ceil(0x400);
+    let pages = words.div_ceil(PAGE_WORDS);
     Need {
-        upper: 1 + regions_broken(view, 0, words.div_ceil(0x10_0000)),
+        upper: 1 + regions_broken(view, 0, words.div_ceil(REGION_WORDS)),
         leaf: pages_broken(view, 0, pages),
         spill: pages_crowded::<L, V>(view, pages),
     }

@@ -9,9 +9,12 @@ ghost use Rattle.mx_upper.specs.Walk.{most_regions, most_pages, most_lines, has_
 ghost use Rattle.mx_upper.specs.Forest.{has_spill, root_at, map_at, IsTables, IsLineKept};
 ghost use Rattle.mx_upper.specs.Laying.{part_first, part_end, with_range, ArePagesTight, map_in, IsLaidIn};
 
-use crate::close::{take_page, take_region};
-use crate::line::{laid_over, set_line};
-use crate::scan::{is_page_even, is_region_even, line_perms, page_vector, region_vector};
+use crate::close::{free_leaf_table, free_mid_table};
+use crate::edges::{is_page_even_after, is_region_even_after};
+use crate::line::{lay_over, set_line};
+use crate::root_table::root_entry;
+use crate::scan::{line_perms, page_vector, region_vector};
+use crate::sizes::{LINE_WORDS, PAGE_LINES, REGION_LINES, REGION_PAGES};
 use crate::table_view::map_of;
 use crate::{LeafForm, Roots};
 use mx_pool::Pool;
@@ -47,18 +50,18 @@ pub(crate) fn lay_line<L: LeafForm>(
     requires room { needs_spill L.kind (line_at (with_range (part_first lay.now.first line_words line) (part_end lay.now.end line_words line) lay.now.perm (map_in L.kind upper.now leaf.old spill.old roots.now lay.now)) (line * line_words)) ≡ true → has_spill L.kind upper.now leaf.old (root_at roots.now lay.now.row) line ≡ false → 0 < free_in spill.old }
     ensures { IsLaidIn L.kind upper.now leaf.old spill.old upper.now leaf.new spill.new roots.now lay.now (part_first lay.now.first line_words line) (part_end lay.now.end line_words line) }
 {
-    let mid = upper.get(roots.at(lay.row), line / 0x1_0000) / 4;
-    let frame = upper.get(mid, line / 0x40 % 0x400) / 4;
+    let mid = root_entry(upper, roots.at(lay.row), line / REGION_LINES) / 4;
+    let frame = upper.get(mid, line / PAGE_LINES % REGION_PAGES) / 4;
     let old = line_perms(&map_of::<L>(upper, leaf, spill, roots, lay), line);
-    let begin = line * 16;
+    let begin = line * LINE_WORDS;
     let from = lay.first.max(begin) - begin;
-    let to = lay.end.min(begin + 16) - begin;
+    let to = lay.end.min(begin + LINE_WORDS) - begin;
     set_line::<L>(
         leaf,
         spill,
         frame,
-        line % 0x40,
-        &laid_over(&old, from, to, lay.perm),
+        line % PAGE_LINES,
+        &lay_over(&old, from, to, lay.perm),
     );
 }
 
@@ -85,10 +88,10 @@ pub(crate) fn close_page<L: LeafForm>(
     ensures leaf_total { length leaf.new ≡ length leaf.old }
 {
     let map = map_of::<L>(upper, leaf, spill, roots, lay);
-    if is_page_even(&map, page) {
+    if is_page_even_after(&map, lay.first, lay.end, page) {
         let vector = page_vector(&map, page);
-        let mid = upper.get(roots.at(lay.row), page / 0x400) / 4;
-        take_page(upper, leaf, mid, page % 0x400, vector);
+        let mid = root_entry(upper, roots.at(lay.row), page / REGION_PAGES) / 4;
+        free_leaf_table(upper, leaf, mid, page % REGION_PAGES, vector);
     }
 }
 
@@ -115,8 +118,8 @@ pub(crate) fn close_region<L: LeafForm>(
     ensures total { length upper.new ≡ length upper.old }
 {
     let map = map_of::<L>(upper, leaf, spill, roots, lay);
-    if is_region_even(&map, region) {
+    if is_region_even_after(upper, roots, lay.row, &map, lay.first, lay.end, region) {
         let vector = region_vector(&map, region);
-        take_region(upper, roots.at(lay.row), region, vector);
+        free_mid_table(upper, roots.at(lay.row), region, vector);
     }
 }

@@ -74,7 +74,7 @@ pub(crate) fn set_line<L: LeafForm>(
 }
 
 /// A line's permissions with one of them on the places `from` to `to - 1`.
-pub(crate) fn laid_over(old: &[Perm; 16], from: u32, to: u32, perm: Perm) -> [Perm; 16]
+pub(crate) fn lay_over(old: &[Perm; 16], from: u32, to: u32, perm: Perm) -> [Perm; 16]
     requires from { from ≤ to }
     requires to { to ≤ 16 }
     ensures { IsLaidOver old.now result from to perm }

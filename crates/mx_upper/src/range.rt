@@ -10,6 +10,8 @@ ghost use Rattle.mx_upper.specs.Laying.{part_first, part_end, with_range, spill_
 
 use crate::lay::{Laying, close_page, close_region, lay_line};
 use crate::open::{open_page, open_region};
+use crate::root_table::root_entry;
+use crate::sizes::{LINE_WORDS, PAGE_WORDS, REGION_PAGES, REGION_WORDS};
 use crate::{LeafForm, Roots};
 use mx_pool::Pool;
 
@@ -31,9 +33,9 @@ fn lay_lines<L: LeafForm>(
     requires room { (c : ℕ) → part_first lay.now.first page_words page ≤ c → c ≤ part_end lay.now.end page_words page → spill_lines L.kind (with_range (part_first lay.now.first page_words page) c lay.now.perm (map_in L.kind upper.now leaf.old spill.old roots.now lay.now)) ≤ count_below most_lines (has_spill L.kind upper.now leaf.old (root_at roots.now lay.now.row)) + free_in spill.old }
     ensures { IsLaidIn L.kind upper.now leaf.old spill.old upper.now leaf.new spill.new roots.now lay.now (part_first lay.now.first page_words page) (part_end lay.now.end page_words page) }
 {
-    let first = lay.first.max(page * 0x400);
-    let end = lay.end.min(page * 0x400 + 0x400);
-    for line in first / 16..(end - 1) / 16 + 1 {
+    let first = lay.first.max(page * PAGE_WORDS);
+    let end = lay.end.min(page * PAGE_WORDS + PAGE_WORDS);
+    for line in first / LINE_WORDS..(end - 1) / LINE_WORDS + 1 {
         lay_line::<L>(upper, leaf, spill, roots, lay, line);
     }
 }
@@ -54,9 +56,9 @@ fn open_way<L: LeafForm>(
     ensures { (words : ℕ) (spill : Frames) → IsTables L.kind words upper.old leaf.old spill roots.now → IsWayOpened L.kind words upper.old leaf.old spill upper.new leaf.new roots.now row page }
 {
     let root = roots.at(row);
-    open_region(upper, root, page / 0x400);
-    let mid = upper.get(root, page / 0x400) / 4;
-    open_page::<L>(upper, leaf, mid, page % 0x400);
+    open_region(upper, root, page / REGION_PAGES);
+    let mid = root_entry(upper, root, page / REGION_PAGES) / 4;
+    open_page::<L>(upper, leaf, mid, page % REGION_PAGES);
 }
 
 /// Lays the permission over that part of the range that lies in a page.
@@ -105,9 +107,9 @@ fn lay_region<L: LeafForm>(
     ensures laid { IsLaidIn L.kind upper.old leaf.old spill.old upper.new leaf.new spill.new roots.now lay.now (part_first lay.now.first region_words region) (part_end lay.now.end region_words region) }
     ensures tight { IsTightIn L.kind upper.new leaf.new spill.new roots.now lay.now }
 {
-    let first = lay.first.max(region * 0x10_0000);
-    let end = lay.end.min(region * 0x10_0000 + 0x10_0000);
-    for page in first / 0x400..(end - 1) / 0x400 + 1 {
+    let first = lay.first.max(region * REGION_WORDS);
+    let end = lay.end.min(region * REGION_WORDS + REGION_WORDS);
+    for page in first / PAGE_WORDS..(end - 1) / PAGE_WORDS + 1 {
         lay_page::<L>(upper, leaf, spill, roots, lay, page);
     }
     close_region::<L>(upper, leaf, spill, roots, lay, region);
@@ -130,7 +132,7 @@ pub(crate) fn lay_range<L: LeafForm>(
     ensures laid { IsLaidIn L.kind upper.old leaf.old spill.old upper.new leaf.new spill.new roots.now lay.now lay.now.first lay.now.end }
     ensures tight { IsTightIn L.kind upper.new leaf.new spill.new roots.now lay.now }
 {
-    for region in lay.first / 0x10_0000..(lay.end - 1) / 0x10_0000 + 1 {
+    for region in lay.first / REGION_WORDS..(lay.end - 1) / REGION_WORDS + 1 {
         lay_region::<L>(upper, leaf, spill, roots, lay, region);
     }
 }

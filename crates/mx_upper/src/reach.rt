@@ -7,7 +7,9 @@ ghost use Rattle.mx_upper.specs.Laying.{IsCanonical, IsDomainLaid, map_in, IsRoo
 
 use crate::lay::Laying;
 use crate::range::lay_range;
-use crate::scan::{left_of, line_perms, right_of};
+use crate::root_table::root_entry;
+use crate::scan::{has_perm, left_of, line_perms, right_of};
+use crate::sizes::{LINE_WORDS, MOST_LINES, PAGE_LINES, PAGE_WORDS, REGION_LINES, REGION_PAGES};
 use crate::table_view::map_of;
 use crate::view::View;
 use crate::{LeafForm, Roots};
@@ -20,7 +22,7 @@ fn left_in<L: LeafForm, V: View>(view: &V, words: u32, line: u32) -> u32
     requires words { words ≡ length (V.map view.now) }
     ensures { result ≡ map_left L.kind (V.map view.now) line }
 {
-    if line * 16 < words {
+    if line * LINE_WORDS < words {
         left_of(view, line).min(L::REACH)
     } else {
         0
@@ -35,7 +37,7 @@ fn right_in<L: LeafForm, V: View>(view: &V, words: u32, line: u32) -> u32
     requires few { words ≤ most_words }
     ensures { result ≡ map_right L.kind (V.map view.now) line }
 {
-    if line * 16 < words {
+    if line * LINE_WORDS < words {
         right_of(view, words, line).min(L::REACH)
     } else {
         0
@@ -61,14 +63,18 @@ fn write_reaches<L: LeafForm>(
     ensures lines { (e z : ℕ) → e < length roots.now → z < most_lines → (e ≢ lay.now.row) ⊎ (z ≢ line) → has_leaf upper.now (root_at roots.now e) (z / 64) ≡ true → IsLineKept L.kind upper.now leaf.old spill.now upper.now leaf.new spill.now (root_at roots.now e) z }
     ensures total { length leaf.new ≡ length leaf.old }
 {
-    let mid = upper.get(roots.at(lay.row), line / 0x1_0000) / 4;
-    let frame = upper.get(mid, line / 0x40 % 0x400) / 4;
-    let number = L::spill_of(leaf.get(frame, line % 0x40)).unwrap_or(0);
+    let mid = root_entry(upper, roots.at(lay.row), line / REGION_LINES) / 4;
+    let frame = upper.get(mid, line / PAGE_LINES % REGION_PAGES) / 4;
+    let number = L::spill_of(leaf.get(frame, line % PAGE_LINES)).unwrap_or(0);
     let map = map_of::<L>(upper, leaf, spill, roots, lay);
     let perms = line_perms(&map, line);
     let left = left_in::<L, _>(&map, lay.words, line);
     let right = right_in::<L, _>(&map, lay.words, line);
-    leaf.set(frame, line % 0x40, L::entry(&perms, left, right, number));
+    leaf.set(
+        frame,
+        line % PAGE_LINES,
+        L::entry(&perms, left, right, number),
+    );
 }
 
 /// Whether a page of a domain has a leaf table.
@@ -77,8 +83,8 @@ pub(crate) fn has_table(upper: &Pool<1024>, root: u32, page: u32) -> bool
     requires page { page < most_pages }
     ensures { result ≡ has_leaf upper.now root page }
 {
-    let in_root = upper.get(root, page / 0x400);
-    in_root % 4 == 0 && upper.get(in_root / 4, page % 0x400) % 4 == 0
+    let in_root = root_entry(upper, root, page / REGION_PAGES);
+    in_root % 4 == 0 && upper.get(in_root / 4, page % REGION_PAGES) % 4 == 0
 }
 
 /// Writes the entries of the lines `from` to `to - 1` with the reaches of the map. Lines that have no entry are passed over.
@@ -101,7 +107,7 @@ fn reach_lines<L: LeafForm>(
     ensures total { length leaf.new ≡ length leaf.old }
 {
     for line in from..to {
-        if has_table(upper, roots.at(lay.row), line / 0x40) {
+        if has_table(upper, roots.at(lay.row), line / PAGE_LINES) {
             write_reaches::<L>(upper, leaf, spill, roots, lay, line);
         }
     }
@@ -112,11 +118,11 @@ fn first_line(lay: &Laying, had_table: bool) -> u32
     ensures near { (z : ℕ) → z < result → z * 16 + 47 ≤ lay.now.first }
     ensures page { had_table ≡ false → (z : ℕ) → z < result → z / 64 < lay.now.first / 1024 }
 {
-    let near = (lay.first / 16).saturating_sub(2);
+    let near = (lay.first / LINE_WORDS).saturating_sub(2);
     if had_table {
         near
     } else {
-        near.min(lay.first / 0x400 * 0x40)
+        near.min(lay.first / PAGE_WORDS * PAGE_LINES)
     }
 }
 
@@ -128,17 +134,16 @@ fn line_behind(lay: &Laying, had_table: bool) -> u32
     ensures near { (z : ℕ) → result ≤ z → z < most_lines → lay.now.end + 31 ≤ z * 16 }
     ensures page { had_table ≡ false → (z : ℕ) → result ≤ z → z < most_lines → (lay.now.end - 1) / 1024 < z / 64 }
 {
-    let near = ((lay.end - 1) / 16 + 3).min(0x10_0000);
+    let near = ((lay.end - 1) / LINE_WORDS + 3).min(MOST_LINES);
     if had_table {
         near
     } else {
-        near.max((lay.end - 1) / 0x400 * 0x40 + 0x40)
+        near.max((lay.end - 1) / PAGE_WORDS * PAGE_LINES + PAGE_LINES)
     }
 }
 
-/// Lays a permission over a range of words of one domain. Afterwards the domain's tables are just those that its map needs, and each
-/// entry has the reaches of the map.
-pub(crate) fn lay_domain<L: LeafForm>(
+/// Lays a permission over a range of words of one domain by its tables, line by line.
+fn rewrite_domain<L: LeafForm>(
     upper: &mut Pool<1024>,
     leaf: &mut Pool<64>,
     spill: &mut Pool<1>,
@@ -154,12 +159,35 @@ pub(crate) fn lay_domain<L: LeafForm>(
     ensures { IsDomainLaid L.kind lay.now.words upper.old leaf.old spill.old upper.new leaf.new spill.new roots.now lay.now.row lay.now.first lay.now.end lay.now.perm }
 {
     let root = roots.at(lay.row);
-    let had_first = has_table(upper, root, lay.first / 0x400);
-    let had_last = has_table(upper, root, (lay.end - 1) / 0x400);
+    let had_first = has_table(upper, root, lay.first / PAGE_WORDS);
+    let had_last = has_table(upper, root, (lay.end - 1) / PAGE_WORDS);
     lay_range::<L>(upper, leaf, spill, roots, lay);
     if 0 < L::REACH {
         let from = first_line(lay, had_first);
         let to = line_behind(lay, had_last);
         reach_lines::<L>(upper, leaf, spill, roots, lay, from, to);
+    }
+}
+
+/// Lays a permission over a range of words of one domain. Afterwards the domain's tables are just those that its map needs, and each
+/// entry has the reaches of the map. Where the domain has the permission on the whole range already, the tables are only read.
+pub(crate) fn lay_domain<L: LeafForm>(
+    upper: &mut Pool<1024>,
+    leaf: &mut Pool<64>,
+    spill: &mut Pool<1>,
+    roots: &Roots,
+    lay: &Laying,
+)
+    requires tables { IsTables L.kind lay.now.words upper.old leaf.old spill.old roots.now }
+    requires row { lay.now.row < length roots.now }
+    requires some { lay.now.first < lay.now.end }
+    requires inside { lay.now.end ≤ lay.now.words }
+    requires canonical { IsCanonical L.kind lay.now.words upper.old leaf.old spill.old roots.now lay.now.row }
+    requires room { IsRoomyIn L.kind upper.old leaf.old spill.old roots.now lay.now lay.now.first lay.now.end }
+    ensures { IsDomainLaid L.kind lay.now.words upper.old leaf.old spill.old upper.new leaf.new spill.new roots.now lay.now.row lay.now.first lay.now.end lay.now.perm }
+{
+    let map = map_of::<L>(upper, leaf, spill, roots, lay);
+    if !has_perm(&map, lay.first, lay.end, lay.perm) {
+        rewrite_domain::<L>(upper, leaf, spill, roots, lay);
     }
 }

@@ -15,7 +15,7 @@ pub(crate) struct RowView<'a> {
 }
 
 /// How many spans of a row begin at a word or before it.
-fn begun(row: &Spans, word: u32) -> u32
+fn spans_up_to(row: &Spans, word: u32) -> u32
     requires { (words : ℕ) × IsRow words row.now }
     ensures { IsBegun row.now word result }
 {
@@ -49,7 +49,7 @@ impl View for RowView<'_> {
     ghost lawful = { λ v. IsRow v.words v.row.now × (v.words ≤ most_words) };
 
     fn around(&self, word: u32) -> Span {
-        let next = begun(self.row, word);
+        let next = spans_up_to(self.row, word);
         let end = begin_of(self.row, next);
         if next == 0 {
             return Span {

@@ -1,11 +1,13 @@
 //! What is asked of a map that is read span by span.
 ghost use Rattle.std.specs.Prelude.{◌≡◌, ℕ, ◌+◌, ◌*◌, ◌<◌, ◌≤◌, true, not, length};
+ghost use Rattle.mx_words.specs.Rights.{perm_at};
 ghost use Rattle.mx_words.specs.Runs.{line_words, page_words, region_words};
 ghost use Rattle.mx_words.specs.Reach.{vector, line_at, left_reach, right_reach};
 ghost use Rattle.mx_words.specs.Blocks.{is_broken, IsUniform, IsEven};
 ghost use Rattle.mx_table.specs.Tables.{most_words};
 ghost use Rattle.mx_upper.specs.Walk.{most_regions, most_pages, most_lines};
 
+use crate::sizes::{LINE_WORDS, PAGE_EIGHTH, PAGE_WORDS, REGION_EIGHTH, REGION_WORDS};
 use crate::view::View;
 use mx_words::Perm;
 
@@ -32,6 +34,24 @@ fn is_uniform<V: View>(view: &V, first: u32, count: u32) -> bool
     true
 }
 
+/// Whether the words `first` to `end - 1` have a permission.
+pub(crate) fn has_perm<V: View>(view: &V, first: u32, end: u32, perm: Perm) -> bool
+    requires lawful { V.lawful view.now }
+    requires inside { end ≤ most_words }
+    ensures yes { result ≡ true → (k : ℕ) → first ≤ k → k < end → perm_at (V.map view.now) k ≡ perm }
+    ensures no { ((k : ℕ) → first ≤ k → k < end → perm_at (V.map view.now) k ≡ perm) → result ≡ true }
+{
+    let mut at = first;
+    while at < end {
+        let span = view.around(at);
+        if span.perm.number() != perm.number() {
+            return false;
+        }
+        at = span.first + span.count;
+    }
+    true
+}
+
 /// Whether each of the eight parts of `part` words from `first` on has one permission.
 fn is_even<V: View>(view: &V, first: u32, part: u32) -> bool
     requires lawful { V.lawful view.now }
@@ -54,7 +74,7 @@ pub(crate) fn is_page_even<V: View>(view: &V, page: u32) -> bool
     requires page { page < most_pages }
     ensures { result ≡ not (is_broken page_words (V.map view.now) page) }
 {
-    is_even(view, page * 0x400, 0x80)
+    is_even(view, page * PAGE_WORDS, PAGE_EIGHTH)
 }
 
 /// Whether a region is eighth-uniform.
@@ -63,7 +83,7 @@ pub(crate) fn is_region_even<V: View>(view: &V, region: u32) -> bool
     requires region { region < most_regions }
     ensures { result ≡ not (is_broken region_words (V.map view.now) region) }
 {
-    is_even(view, region * 0x10_0000, 0x2_0000)
+    is_even(view, region * REGION_WORDS, REGION_EIGHTH)
 }
 
 /// The permissions of the first words of the eight parts of `part` words from `first` on, two bits each, the first part's in the
@@ -87,7 +107,7 @@ pub(crate) fn page_vector<V: View>(view: &V, page: u32) -> u32
     requires page { page < most_pages }
     ensures { result ≡ vector page_words (V.map view.now) (page * page_words) }
 {
-    vector_of(view, page * 0x400, 0x80)
+    vector_of(view, page * PAGE_WORDS, PAGE_EIGHTH)
 }
 
 /// The vector of a region.
@@ -96,7 +116,7 @@ pub(crate) fn region_vector<V: View>(view: &V, region: u32) -> u32
     requires region { region < most_regions }
     ensures { result ≡ vector region_words (V.map view.now) (region * region_words) }
 {
-    vector_of(view, region * 0x10_0000, 0x2_0000)
+    vector_of(view, region * REGION_WORDS, REGION_EIGHTH)
 }
 
 /// The permissions of a line.
@@ -106,9 +126,9 @@ pub(crate) fn line_perms<V: View>(view: &V, line: u32) -> [Perm; 16]
     ensures { result ≡ line_at (V.map view.now) (line * line_words) }
 {
     let mut perms = [Perm::None; 16];
-    let mut span = view.around(line * 16);
+    let mut span = view.around(line * LINE_WORDS);
     for place in 0..16u32 {
-        let word = line * 16 + place;
+        let word = line * LINE_WORDS + place;
         if span.first + span.count <= word {
             span = view.around(word);
         }
@@ -124,7 +144,7 @@ pub(crate) fn left_of<V: View>(view: &V, line: u32) -> u32
     requires inside { line * line_words < length (V.map view.now) }
     ensures { result ≡ left_reach (V.map view.now) (line * line_words) }
 {
-    let first = line * 16;
+    let first = line * LINE_WORDS;
     let span = view.around(first);
     let mut begin = span.first;
     while 0 < begin && first - begin < MOST_REACH {
@@ -145,7 +165,7 @@ pub(crate) fn right_of<V: View>(view: &V, words: u32, line: u32) -> u32
     requires few { words ≤ most_words }
     ensures { result ≡ right_reach (V.map view.now) (line * line_words) }
 {
-    let behind = line * 16 + 16;
+    let behind = line * LINE_WORDS + LINE_WORDS;
     let span = view.around(behind - 1);
     let mut end = span.first + span.count;
     while end < words && end - behind < MOST_REACH {

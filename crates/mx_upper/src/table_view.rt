@@ -11,6 +11,10 @@ ghost use Rattle.mx_upper.specs.Views.{IsRound, IsSomeLine};
 ghost use Rattle.mx_upper.specs.Laying.{map_in};
 
 use crate::lay::Laying;
+use crate::root_table::root_entry;
+use crate::sizes::{
+    LINE_WORDS, PAGE_EIGHTH, PAGE_LINES, PAGE_WORDS, REGION_EIGHTH, REGION_PAGES, REGION_WORDS,
+};
 use crate::vector::perm_in;
 use crate::view::View;
 use crate::{LeafForm, Roots};
@@ -31,15 +35,19 @@ fn around_in<L: LeafForm>(
     requires word { word < most_words }
     ensures { (m : List Perm) → IsLoose L.kind upper.now leaf.now spill.now root m → IsRound m word result }
 {
-    let in_root = upper.get(root, word / 0x10_0000);
+    let in_root = root_entry(upper, root, word / REGION_WORDS);
     if in_root % 4 != 0 {
-        return part_of(in_root, alike_in(in_root, 0x2_0000), word);
+        return part_of(in_root, alike_in(in_root, REGION_EIGHTH), word);
     }
-    let in_mid = upper.get(in_root / 4, word / 0x400 % 0x400);
+    let in_mid = upper.get(in_root / 4, word / PAGE_WORDS % REGION_PAGES);
     if in_mid % 4 != 0 {
-        return part_of(in_mid, alike_in(in_mid, 0x80), word);
+        return part_of(in_mid, alike_in(in_mid, PAGE_EIGHTH), word);
     }
-    around_line::<L>(spill, leaf.get(in_mid / 4, word / 0x10 % 0x40), word)
+    around_line::<L>(
+        spill,
+        leaf.get(in_mid / 4, word / LINE_WORDS % PAGE_LINES),
+        word,
+    )
 }
 
 /// How many words, aligned in blocks of their number, have one permission by a vector of parts of `part` words: those of a part, or
@@ -80,7 +88,10 @@ fn around_line<L: LeafForm>(spill: &Pool<1>, entry: u32, word: u32) -> Span
         Some(number) => spill.get(number, 0),
         None => 0,
     };
-    in_line(L::run(entry, spilled, word / 0x10 * 0x10, word), word)
+    in_line(
+        L::run(entry, spilled, word / LINE_WORDS * LINE_WORDS, word),
+        word,
+    )
 }
 
 /// A span round a word, cut to the word's line.
@@ -93,9 +104,9 @@ fn in_line(run: Span, word: u32) -> Span
     ensures end { result.first + result.count ≡ min (run.first + run.count) (word / 16 * 16 + 16) }
     ensures perm { result.perm ≡ run.perm }
 {
-    let line = word / 0x10 * 0x10;
+    let line = word / LINE_WORDS * LINE_WORDS;
     let first = run.first.max(line);
-    let end = (run.first + run.count).min(line + 0x10);
+    let end = (run.first + run.count).min(line + LINE_WORDS);
     Span {
         first,
         count: end - first,

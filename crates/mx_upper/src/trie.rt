@@ -44,7 +44,7 @@ pub struct Trie<L: LeafForm> {
 
 impl<L: LeafForm> Trie<L> {
     /// Where the walk for a domain's word ends.
-    fn found(&self, domain: u32, word: u32) -> Found
+    fn find_word(&self, domain: u32, word: u32) -> Found
         requires first { 1 ≤ domain }
         requires last { domain ≤ length self.now.roots }
         requires inside { word < self.now.words }
@@ -117,7 +117,7 @@ impl<L: LeafForm> PermTables for Trie<L> {
     }
 
     fn span(&self, domain: u32, word: u32) -> Span {
-        found_span::<L>(self.found(domain, word), word, self.words)
+        found_span::<L>(self.find_word(domain, word), word, self.words)
     }
 
     fn perm(&self, domain: u32, word: u32) -> Perm {
@@ -170,7 +170,7 @@ impl<L: LeafForm> PermTables for Trie<L> {
     }
 
     fn shown(&self, domain: u32, word: u32) -> Shown {
-        found_item::<L>(self.found(domain, word), word, self.words)
+        found_item::<L>(self.find_word(domain, word), word, self.words)
     }
 
     ghost shaped = { λ t. shaped_of L.kind t.upper t.leaf t.spill t.roots t.words t.limit t.stands };

@@ -23,7 +23,7 @@ fn digit(entry: u32, i: u32) -> u32
 }
 
 /// The plain entry of a line.
-fn packed(perms: &[Perm; 16]) -> u32
+fn pack_line(perms: &[Perm; 16]) -> u32
     ensures { result ≡ packed perms.now }
 {
     let mut word = 0;
@@ -91,7 +91,7 @@ impl LeafForm for Vector {
     }
 
     fn entry(perms: &[Perm; 16], _left: u32, _right: u32, _spill: u32) -> u32 {
-        packed(perms)
+        pack_line(perms)
     }
 
     fn spill_of(_entry: u32) -> Option<u32> {

@@ -10,6 +10,10 @@ ghost use Rattle.mx_upper.specs.Found.{IsFound, IsSomeFound};
 ghost use Rattle.mx_upper.specs.Read.{read_map};
 
 use crate::LeafForm;
+use crate::root_table::root_entry;
+use crate::sizes::{
+    LINE_WORDS, PAGE_EIGHTH, PAGE_LINES, PAGE_WORDS, REGION_EIGHTH, REGION_PAGES, REGION_WORDS,
+};
 use crate::vector::perm_in;
 use mx_pool::Pool;
 use mx_words::{Level, Shown, Span};
@@ -42,15 +46,15 @@ pub(crate) fn find<L: LeafForm>(
     requires inside { word < words }
     ensures { IsFound L.kind (read_map L.kind upper.now leaf.now spill.now words root) word result }
 {
-    let in_root = upper.get(root, word / 0x10_0000);
+    let in_root = root_entry(upper, root, word / REGION_WORDS);
     if in_root % 4 != 0 {
         return Found::Root(in_root);
     }
-    let in_mid = upper.get(in_root / 4, word / 0x400 % 0x400);
+    let in_mid = upper.get(in_root / 4, word / PAGE_WORDS % REGION_PAGES);
     if in_mid % 4 != 0 {
         return Found::Mid(in_mid);
     }
-    let in_leaf = leaf.get(in_mid / 4, word / 0x10 % 0x40);
+    let in_leaf = leaf.get(in_mid / 4, word / LINE_WORDS % PAGE_LINES);
     match L::spill_of(in_leaf) {
         None => Found::Leaf(in_leaf),
         Some(number) => Found::Spill(in_leaf, spill.get(number, 0)),
@@ -90,10 +94,10 @@ pub(crate) fn found_span<L: LeafForm>(found: Found, word: u32, words: u32) -> Sp
     requires inside { word < words }
     ensures { (map : List Perm) → IsFound L.kind map word found → length map ≡ words → result ≡ span L.kind map word }
 {
-    let line = word / 0x10 * 0x10;
+    let line = word / LINE_WORDS * LINE_WORDS;
     match found {
-        Found::Root(entry) => part_span(entry, 0x2_0000, word, words),
-        Found::Mid(entry) => part_span(entry, 0x80, word, words),
+        Found::Root(entry) => part_span(entry, REGION_EIGHTH, word, words),
+        Found::Mid(entry) => part_span(entry, PAGE_EIGHTH, word, words),
         Found::Leaf(entry) => cut(L::run(entry, 0, line, word), words),
         Found::Spill(entry, spilled) => cut(L::run(entry, spilled, line, word), words),
     }
@@ -120,9 +124,9 @@ pub(crate) fn found_item<L: LeafForm>(found: Found, word: u32, words: u32) -> Sh
     ensures { (map : List Perm) → IsFound L.kind map word found → length map ≡ words → result ≡ stored L.kind map word }
 {
     match found {
-        Found::Root(entry) => block_item(Level::Root, 0x10_0000, word, words, entry),
-        Found::Mid(entry) => block_item(Level::Mid, 0x400, word, words, entry),
-        Found::Leaf(entry) => block_item(Level::Leaf, 0x10, word, words, entry),
-        Found::Spill(_, spilled) => block_item(Level::Spill, 0x10, word, words, spilled),
+        Found::Root(entry) => block_item(Level::Root, REGION_WORDS, word, words, entry),
+        Found::Mid(entry) => block_item(Level::Mid, PAGE_WORDS, word, words, entry),
+        Found::Leaf(entry) => block_item(Level::Leaf, LINE_WORDS, word, words, entry),
+        Found::Spill(_, spilled) => block_item(Level::Spill, LINE_WORDS, word, words, spilled),
     }
 }

@@ -2,6 +2,7 @@
 
 ghost use Rattle.std.specs.Prelude.{◌≤◌};
 
+use arrayvec::ArrayVec;
 use mx_lookaside::Lookaside;
 use mx_sidecar::Sidecars;
 use mx_words::{Perm, Span};
@@ -31,6 +32,42 @@ pub fn entries_kept<const N: usize>(rounds: u64) -> u64
         }
     }
     kept
+}
+
+/// Keeps so many spans in a vector of 64, where the oldest is taken out first, and counts those of the last 100 that stand in
+/// it. A lookaside buffer would be so without its ring.
+pub fn entries_in_vector(rounds: u64) -> u64 {
+    let mut entries: ArrayVec<Kept, 64> = ArrayVec::new();
+    for i in 0..rounds {
+        if entries.is_full() {
+            entries.remove(0);
+        }
+        entries.push(Kept {
+            domain: 1,
+            first: line(i).first,
+            count: 16,
+        });
+    }
+    let mut kept = 0u64;
+    for back in 1..101 {
+        let last = line(rounds.saturating_sub(back));
+        if entries
+            .as_slice()
+            .iter()
+            .any(|entry| entry.first == last.first)
+        {
+            kept = kept.wrapping_add(1);
+        }
+    }
+    kept
+}
+
+/// An entry of as many bytes as one of a lookaside buffer.
+#[derive(Clone, Copy, Default)]
+struct Kept {
+    domain: u32,
+    first: u32,
+    count: u32,
 }
 
 /// Looks so often for a word that its place has, at each place in turn, and counts the hits.

@@ -65,10 +65,10 @@ pub fn first_words() -> [u32; 256] {
 }
 
 /// How often a gate of this domain was found at words drawn from these.
-pub fn looked_up(gates: &Gates, domain: u32, words: &[u32; 256], rounds: u64) -> u64 {
+pub fn gates_found(gates: &Gates, domain: u32, words: &[u32; 256], rounds: u64) -> u64 {
     let mut found = 0u64;
     for i in 0..rounds {
-        if gates.target(domain, words[drawn(i)]).is_some() {
+        if gates.target(domain, words[draw(i)]).is_some() {
             found = found.wrapping_add(1);
         }
     }
@@ -76,7 +76,7 @@ pub fn looked_up(gates: &Gates, domain: u32, words: &[u32; 256], rounds: u64) ->
 }
 
 /// How often the list's oldest gate could be added again, which takes it from the list's front to its end.
-pub fn added_again(gates: &mut Gates, rounds: u64) -> u64 {
+pub fn gates_added(gates: &mut Gates, rounds: u64) -> u64 {
     let mut added = 0u64;
     for _ in 0..rounds {
         let Some(gate) = gates.get(0) else {
@@ -90,7 +90,7 @@ pub fn added_again(gates: &mut Gates, rounds: u64) -> u64 {
 }
 
 /// A number below 256 for each round, with no order that the processor could guess.
-fn drawn(i: u64) -> usize
+fn draw(i: u64) -> usize
     ensures { result < 256 }
 {
     (i.wrapping_mul(0x9E37_79B9_7F4A_7C15) >> 56) as usize

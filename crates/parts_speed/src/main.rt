@@ -5,6 +5,7 @@
 mod caches;
 mod gates;
 mod heaps;
+mod images;
 mod owners;
 
 use std::alloc::Global;
@@ -22,7 +23,8 @@ fn main(rt: HostRuntime) -> io::Result<()> {
     time_lookasides(&rt, rounds)?;
     time_sidecars(&rt, rounds)?;
     time_owners(&rt, rt.alloc(), rounds)?;
-    time_heaps(&rt, rt.alloc(), rounds)
+    time_heaps(&rt, rt.alloc(), rounds)?;
+    time_symbols(&rt, rt.alloc())
 }
 
 /// `target` at words without a gate, with no gate, with 256 elsewhere, and with 256 in the bucket of the words that are looked
@@ -32,7 +34,7 @@ fn time_gates(rt: &(impl Print + Eprint + CpuClock), rounds: u64) -> io::Result<
         let gates = gates::elsewhere(count);
         let words = gates::first_words();
         let begun = rt.thread_cpu_time()?;
-        let found = gates::looked_up(&gates, 1, &words, rounds);
+        let found = gates::gates_found(&gates, 1, &words, rounds);
         let ended = rt.thread_cpu_time()?;
         println!(rt; "target with {count} gates elsewhere: {found} found")?;
         tell(rt, "target", rounds, begun, ended)?;
@@ -41,16 +43,16 @@ fn time_gates(rt: &(impl Print + Eprint + CpuClock), rounds: u64) -> io::Result<
     let mut gates = gates::in_one_bucket(&mut between);
     let words = gates::words_of(&gates);
     let begun = rt.thread_cpu_time()?;
-    let found = gates::looked_up(&gates, 2, &between, rounds);
+    let found = gates::gates_found(&gates, 2, &between, rounds);
     let half = rt.thread_cpu_time()?;
-    let there = gates::looked_up(&gates, 2, &words, rounds);
+    let there = gates::gates_found(&gates, 2, &words, rounds);
     let ended = rt.thread_cpu_time()?;
     println!(rt; "target with 256 gates in the same bucket: {found} found")?;
     tell(rt, "target, worst layout", rounds, begun, half)?;
     println!(rt; "target at 256 gates: {there} found")?;
     tell(rt, "target at gates", rounds, half, ended)?;
     let begun = rt.thread_cpu_time()?;
-    let added = gates::added_again(&mut gates, rounds);
+    let added = gates::gates_added(&mut gates, rounds);
     let ended = rt.thread_cpu_time()?;
     println!(rt; "add of the oldest of 256 gates: {added} added")?;
     tell(rt, "add", rounds, begun, ended)
@@ -66,7 +68,12 @@ fn time_lookasides(rt: &(impl Print + Eprint + CpuClock), rounds: u64) -> io::Re
     println!(rt; "keep with N of 8: {small} entries")?;
     tell(rt, "keep with N of 8", rounds, begun, between)?;
     println!(rt; "keep with N of 64: {large} entries")?;
-    tell(rt, "keep with N of 64", rounds, between, ended)
+    tell(rt, "keep with N of 64", rounds, between, ended)?;
+    let begun = rt.thread_cpu_time()?;
+    let moved = caches::entries_in_vector(rounds);
+    let ended = rt.thread_cpu_time()?;
+    println!(rt; "the same in a vector: {moved} entries")?;
+    tell(rt, "the same in a vector", rounds, begun, ended)
 }
 
 /// A hit in a sidecar, and the emptying of all its places.
@@ -88,36 +95,76 @@ fn time_sidecars(rt: &(impl Print + Eprint + CpuClock), rounds: u64) -> io::Resu
     )
 }
 
-/// `owner` where all words have one owner, and with 4096 runs of owners.
+/// `owner` and `owns` at words drawn from all of RAM, with 1, 64 and 4096 runs of owners spread over it, and `give` with 4096.
 fn time_owners(
     rt: &(impl Print + Eprint + CpuClock),
     alloc: Global,
     rounds: u64,
 ) -> io::Result<()> {
-    for words in [0, 2048] {
-        let Some(owners) = owners::owned(alloc, words) else {
+    for (runs, run) in [(1, 16777216), (64, 262144), (4096, 4096)] {
+        let Some(mut owners) = owners::spread(alloc, 16777216, run) else {
             return eprintln!(rt; "no memory");
         };
         let begun = rt.thread_cpu_time()?;
         let seen = owners::owners_seen(&owners, rounds);
+        let between = rt.thread_cpu_time()?;
+        let owned = owners::words_owned(&owners, rounds);
         let ended = rt.thread_cpu_time()?;
-        println!(rt; "owner with {words} words of their own: domain 1 seen {seen} times")?;
-        tell(rt, "owner", rounds, begun, ended)?;
+        println!(rt; "owner with {runs} runs: domain 1 seen {seen} times")?;
+        tell(rt, "owner", rounds, begun, between)?;
+        println!(rt; "owns with {runs} runs: {owned} words owned")?;
+        tell(rt, "owns", rounds, between, ended)?;
+        if runs == 4096 {
+            let begun = rt.thread_cpu_time()?;
+            let given = owners::words_given(&mut owners, rounds);
+            let ended = rt.thread_cpu_time()?;
+            println!(rt; "give with 4096 runs: {given} given")?;
+            tell(rt, "give", rounds, begun, ended)?;
+        }
     }
     Ok(())
 }
 
-/// `alloc` and `free` of a heap with no other block, and with 1023 others.
+/// `place`, `alloc` and `free`, `block` and `nth` of a heap with no block, and with 1023 and a hole of one word behind each.
 fn time_heaps(rt: &(impl Print + Eprint + CpuClock), alloc: Global, rounds: u64) -> io::Result<()> {
     for blocks in [0, 1023] {
-        let Some(mut heap) = heaps::filled(alloc, blocks) else {
+        let Some(mut heap) = heaps::with_holes(alloc, blocks) else {
             return eprintln!(rt; "no memory");
         };
         let begun = rt.thread_cpu_time()?;
-        let ended_blocks = heaps::blocks_ended(&mut heap, rounds);
+        let places = heaps::places_found(&heap, rounds);
+        let placed = rt.thread_cpu_time()?;
+        let ends = heaps::blocks_ended(&mut heap, rounds);
+        let made = rt.thread_cpu_time()?;
+        let (begin, listed) = heaps::blocks_told(&heap, rounds);
         let ended = rt.thread_cpu_time()?;
-        println!(rt; "alloc and free beside {blocks} blocks: {ended_blocks} ended")?;
-        tell(rt, "alloc and free", rounds, begun, ended)?;
+        println!(rt; "place beside {blocks} blocks: {places} found")?;
+        tell(rt, "place", rounds, begun, placed)?;
+        println!(rt; "alloc and free beside {blocks} blocks: {ends} ended")?;
+        tell(rt, "alloc and free", rounds, placed, made)?;
+        println!(rt; "block and nth beside {blocks} blocks: {begin} begun, {listed} listed")?;
+        tell(rt, "block and nth", rounds, made, ended)?;
+    }
+    Ok(())
+}
+
+/// `symbol` over 65535 symbols whose names differ from the one that is looked for in the last letter.
+fn time_symbols(rt: &(impl Print + Eprint + CpuClock), alloc: Global) -> io::Result<()> {
+    for letters in [16, 4000] {
+        let (Some(bytes), Some(name)) = (
+            images::image(alloc, 65535, letters),
+            images::name(alloc, letters),
+        ) else {
+            return eprintln!(rt; "no memory");
+        };
+        let begun = rt.thread_cpu_time()?;
+        let found = images::symbols_found(&bytes, &name, 4);
+        let ended = rt.thread_cpu_time()?;
+        println!(rt;
+            "symbol with a name of {} letters: {found} found",
+            name.len()
+        )?;
+        tell(rt, "symbol, 65535 symbols", 4, begun, ended)?;
     }
     Ok(())
 }

@@ -62,6 +62,20 @@ fn entries(tables: &Segments) -> [Option<u32>; 4]
     ]
 }
 
+// How many frames the entries of domain 1 stand in, and the first two words of the first of them.
+fn first_frame(tables: &Segments) -> Option<(u32, u32, u32)>
+    requires { length (maps_in tables.now.words tables.now.leaf tables.now.chains) ≡ 1 }
+{
+    let frames = tables.chains.frames(1);
+    if frames == 0 {
+        return None;
+    }
+    let frame = tables.chains.get(1, 0);
+    let first = tables.leaf.get(frame, 0);
+    let second = tables.leaf.get(frame, 1);
+    Some((frames, first, second))
+}
+
 // What the trait's readers tell of tables of one domain, and of a word of them.
 fn readings<T: PermTables>(tables: &T, word: u32) -> (u32, u32, Need, Need, Shown)
     requires domain { length (T.maps tables.now) ≡ 1 }
@@ -120,6 +134,12 @@ fn looked_up(alloc: Global) -> Option<(Perm, Perm, Span, (u32, u64))> {
     Some((inside, behind, span, counts(&tables)))
 }
 
+// The frames of domain 1.
+fn frames_of_four_words(alloc: Global) -> Option<(u32, u32, u32)> {
+    let row = four_words(alloc).ok()?;
+    first_frame(&one_domain(alloc, row, 1).ok()?)
+}
+
 // What refuses tables without a leaf frame.
 fn without_frames(alloc: Global) -> Option<BuildRefused> {
     let row = four_words(alloc).ok()?;
@@ -155,6 +175,13 @@ fn segment_entries(rt: HostRuntime) -> Result<(), Fail> {
         stored: 0x8000_1002,
     };
     assert_eq!(rt; readings, (16384, 1, need, need, shown));
+    Ok(())
+}
+
+#[test]
+fn entries_stand_in_a_domain_s_frames(rt: HostRuntime) -> Result<(), Fail> {
+    let seen = frames_of_four_words(rt.alloc()).ok_or("memory")?;
+    assert_eq!(rt; seen, (1, 0x8000_0000, 0x8000_1002));
     Ok(())
 }
 

@@ -1,7 +1,7 @@
-use Rattle.std.proofs.Common.{◌≡◌, ℕ, ◌+◌, ◌-◌, ◌<◌, ◌≤◌, false, List, length, sym, ◌∙◌, arith}
+use Rattle.std.proofs.Common.{◌≡◌, ℕ, ◌-◌, ◌≤◌, false, List, length, sym, ◌∙◌, arith}
 use Rattle.std.proofs.lemmas.List.{get_or_default}
 use Rattle.mx_heap.specs.declared.parts.Part.{Part}
-use Rattle.mx_heap.specs.Places.{part_at, wall, parts_to, is_block_at, AreInOrder}
+use Rattle.mx_heap.specs.Places.{wall, parts_to, is_block_at}
 use Rattle.mx_heap.proofs.OrderLaws.{firsts, place_only, place_nowhere, block_before, block_behind}
 use Rattle.mx_heap.proofs.parts.block_place.Goals as goal
 use Rattle.mx_heap.proofs.parts.block_place.Goals.{else-behind-gt0-via-then-behind-gt0+else-is_block_at, else-behind-gt0-via-else-behind-gt0}

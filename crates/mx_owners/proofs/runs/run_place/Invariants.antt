@@ -4,8 +4,7 @@ use Rattle.mx_owners.proofs.runs.run_place.Given as goal
 
 abbrev pub invariant-loop-width : goal.invariant-loop-width
 invariant-loop-width l = record {
-  within : l.low ≤ length l.runs;
-  narrow : l.low + l.width ≤ 4096;
+  within : l.low + l.width ≤ length l.runs;
   before : (k : ℕ) → k < l.low → (run_at l.runs k).end ≤ l.word;
   behind : (k : ℕ) → l.low + l.width ≤ k → k < length l.runs → l.word < (run_at l.runs k).end;
 }

@@ -1,11 +1,13 @@
-use Rattle.std.proofs.Common.{ℕ, ◌≡◌, ◌*◌, ◌-◌, ◌<◌, ◌≤◌}
+use Rattle.std.proofs.Common.{◌-◌, ◌*◌}
 use Rattle.mx_segments.specs.Store.{frames_in, word_in, IsRewritten}
+use Rattle.mx_segments.proofs.PieceMoves.{IsMovedDown}
 use Rattle.mx_segments.proofs.moves.move_down.Given as goal
 
-abbrev pub invariant-loop-i : goal.invariant-loop-i
-invariant-loop-i l = record {
+abbrev pub invariant-loop-begin : goal.invariant-loop-begin
+invariant-loop-begin l = record {
   rewritten : IsRewritten l.fn.leaf l.leaf l.chains l.row;
-  moved : (j : ℕ) → l.from ≤ j → j < l.i → word_in l.leaf l.chains l.row (j - l.by) ≡ word_in l.fn.leaf l.chains l.row j;
-  below : (j : ℕ) → j < l.from - l.by → word_in l.leaf l.chains l.row j ≡ word_in l.fn.leaf l.chains l.row j;
-  behind : (j : ℕ) → l.i - l.by ≤ j → j < 64 * frames_in l.chains l.row → word_in l.leaf l.chains l.row j ≡ word_in l.fn.leaf l.chains l.row j;
+  down : IsMovedDown (word_in l.fn.leaf l.chains l.row) (word_in l.leaf l.chains l.row) l.from l.to l.by l.begin (64 * frames_in l.chains l.row);
 }
+
+abbrev pub decreases-loop-begin : goal.decreases-loop-begin
+decreases-loop-begin l = l.to - l.begin

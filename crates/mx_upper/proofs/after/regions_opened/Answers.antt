@@ -1,15 +1,14 @@
 use Rattle.std.proofs.Common.{ℕ, ◌≡◌, ◌+◌, ◌-◌, ◌%◌, ◌==◌, Bool, arith, ap, ◌∙◌}
 use Rattle.mx_words.proofs.CountingLaws.{bit-le}
 use Rattle.mx_words.specs.Counting.{count_below}
-use Rattle.mx_pool.specs.Frames.{word_at}
-use Rattle.mx_upper.specs.Walk.{has_mid}
+use Rattle.mx_upper.specs.Walk.{root_word, has_mid}
 use Rattle.mx_upper.specs.Forest.{root_at}
 use Rattle.mx_upper.proofs.BlockCounts.{count-none, count-more, byte-bit}
 use Rattle.mx_upper.proofs.after.regions_opened.Goals as goal
 use Rattle.mx_upper.proofs.after.regions_opened.Goals.{After-from-count}
 
 abbrev told : After-from-count → Bool
-told c = c.get.result % 4 == 0
+told c = c.root_entry.result % 4 == 0
 
 pub loop-region-init : goal.loop-region-init
 loop-region-init c = record {
@@ -22,7 +21,7 @@ loop-region-init c = record {
 pub loop-region-preserved : goal.loop-region-preserved
 loop-region-preserved c =
     let more = count-more c.args.from c.loop-region.region c.loop-region.count (λ x. has_mid c.args.upper.now (root_at c.args.roots.now c.args.row) x) (told c) c.loop-region.invariant.begun c.loop-region.invariant.count_is
-    (ap (λ (n : ℕ). (n % 4) == 0) (c.get.ensures ∙ ap (λ (r : ℕ). word_at c.args.upper.now r c.loop-region.region) c.at.ensures)) in
+    (ap (λ (n : ℕ). (n % 4) == 0) (c.root_entry.ensures ∙ ap (λ (r : ℕ). root_word c.args.upper.now r c.loop-region.region) c.at.ensures)) in
     let byte = byte-bit (told c) in
     record {
       begun = omega (arith, c.loop-region.invariant.begun);

@@ -19,7 +19,7 @@ set-requires g c = (
   omega arith,
   (
     part-table g.L.LeafForm.kind c.args.lay.now.words c.args.upper.now c.args.leaf.now c.args.spill.now c.args.roots.now c.args.lay.now.row c.args.line g.met.L.LeafForm.trie c.requires.tables c.requires.row c.requires.line
-        c.requires.leafed c.get-frame.result (page-entry c.args.upper.now c.args.roots.now c.args.lay.now.row c.args.line c.at.result c.get-mid.result c.get-frame.result c.at.ensures c.get-mid.ensures c.get-frame.ensures),
+        c.requires.leafed c.get-frame.result (page-entry c.args.upper.now c.args.roots.now c.args.lay.now.row c.args.line c.at.result c.root_entry-mid.result c.get-frame.result c.at.ensures c.root_entry-mid.ensures c.get-frame.ensures),
     omega arith,
   ),
 )
@@ -27,7 +27,7 @@ set-requires g c = (
 pub returns : goal.returns
 returns g c =
     let r = reach-written g.L.LeafForm.kind c.args.lay.now.words c.args.upper.now c.args.leaf.now c.args.spill.now c.set.new.self c.args.roots.now c.args.lay.now.row c.args.line g.met.L.LeafForm.trie c.requires.tables c.requires.row
-    c.requires.line c.requires.leafed c.get-frame.result (page-entry c.args.upper.now c.args.roots.now c.args.lay.now.row c.args.line c.at.result c.get-mid.result c.get-frame.result c.at.ensures c.get-mid.ensures c.get-frame.ensures)
+    c.requires.line c.requires.leafed c.get-frame.result (page-entry c.args.upper.now c.args.roots.now c.args.lay.now.row c.args.line c.at.result c.root_entry-mid.result c.get-frame.result c.at.ensures c.root_entry-mid.ensures c.get-frame.ensures)
     _ c.line_perms-perms.result c.left_in-left.result c.right_in-right.result c.unwrap_or-number.result c.entry.result c.map_of-map.ensures.map c.line_perms-perms.ensures c.left_in-left.ensures c.right_in-right.ensures
     (c.unwrap_or-number.ensures ∙ ap (λ (o : Option ℕ). unwrap_or o 0) c.spill_of.ensures.value ∙ ap (line_number g.L.LeafForm.kind) c.get.ensures) c.entry.ensures
     (record {

@@ -1,5 +1,11 @@
-use Rattle.std.proofs.Common.{◌≡◌, length}
-use Rattle.parts_speed.proofs.owners.owned.Given as goal
+use Rattle.std.proofs.Common.{◌≡◌, ◌-◌, ◌≤◌, length}
+use Rattle.parts_speed.proofs.owners.spread.Given as goal
 
-abbrev pub invariant-loop-i : goal.invariant-loop-i
-invariant-loop-i l = length l.owners ≡ 16384
+abbrev pub invariant-loop-first : goal.invariant-loop-first
+invariant-loop-first l = record {
+  all : length l.owners ≡ l.words;
+  most : l.first ≤ 50331648;
+}
+
+abbrev pub decreases-loop-first : goal.decreases-loop-first
+decreases-loop-first l = 50331648 - l.first

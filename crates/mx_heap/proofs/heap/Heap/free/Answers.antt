@@ -9,10 +9,14 @@ use Rattle.mx_heap.proofs.JoinLaws.{Standing, AfterJoin, after_join, standing, n
 use Rattle.mx_heap.proofs.KeptParts.{kept_joined}
 use Rattle.mx_heap.proofs.heap.Heap.free.Goals.{In-None, After-index}
 use Rattle.mx_heap.proofs.OrderLaws.{in_order}
+use Rattle.mx_heap.proofs.ListLaws.{stored_rising}
 use Rattle.mx_heap.proofs.heap.Heap.free.Goals as goal
 
+pub take_block-requires-clause-rising : goal.take_block-requires-clause-rising
+take_block-requires-clause-rising c = stored_rising _ _ _ _ _ _ _ c.self.invariant
+
 pub block_place-requires : goal.block_place-requires
-block_place-requires c = rw c.deref.ensures.value (in_order _ _ _ _ _ c.self.invariant)
+block_place-requires c = rw c.deref.ensures.value (in_order _ _ _ _ _ c.self.invariant.are)
 
 -- a heap with this area and these blocks
 abbrev heap_of : ℕ → ℕ → List Area → HeapState
@@ -23,10 +27,10 @@ block_is : (c : After-index) → Standing c.self.inside.first (c.self.inside.fir
 block_is c =
     let told : ◌≡◌ {A = Option ℕ} (Some c.in-Some.i) (position (is_block_at c.args.first) c.deref.result.now) = c.in-Some.ensures in
     let e : position (is_block_at c.args.first) c.self.inside.parts.items ≡ Some c.in-Some.i = sym (rw c.deref.ensures.value at told) in
-    standing _ _ _ c.args.first c.in-Some.i c.self.invariant.fill e
+    standing _ _ _ c.args.first c.in-Some.i c.self.invariant.are.fill e
 
 joined_is : (c : After-index) → AfterJoin c.self.inside.first (c.self.inside.first + c.self.inside.count) c.self.inside.parts.items c.in-Some.i
-joined_is c = after_join _ _ _ c.in-Some.i c.self.invariant.fill (block_is c).within (block_is c).live
+joined_is c = after_join _ _ _ c.in-Some.i c.self.invariant.are.fill (block_is c).within (block_is c).live
 
 none_is : (c : In-None) → position (is_block_at c.args.first) c.self.inside.parts.items ≡ None
 none_is c =
@@ -47,14 +51,22 @@ join_holes-requires c =
     record {
       place = omega (arith, (block_is d).within);
       low = (joined_is d).before;
-      high = omega (arith, (joined_is d).words, c.self.invariant.in_ram);
+      high = omega (arith, (joined_is d).words, c.self.invariant.are.in_ram);
     }
 
 pub overflow_sub-self : goal.overflow_sub-self
-overflow_sub-self c = omega (arith, (joined_is (goal.at.overflow_sub-self c).After-index).fewer, c.self.invariant.counted)
+overflow_sub-self c = omega (arith, (joined_is (goal.at.overflow_sub-self c).After-index).fewer, c.self.invariant.are.counted)
 
 pub invariant_of-self : goal.invariant_of-self
-invariant_of-self c = kept_joined _ _ _ _ _ c.self.invariant c.in-Some.i _ _ (joined_is (goal.at.invariant_of-self c).After-index) c.join_holes.ensures.items c.join_holes.ensures.capacity
+invariant_of-self c =
+    let d : After-index = (goal.at.invariant_of-self c).After-index in
+    let s : Standing c.self.inside.first (c.self.inside.first + c.self.inside.count) c.self.inside.parts.items c.args.first c.in-Some.i = block_is d in
+    record {
+      are = kept_joined _ _ _ _ _ c.self.invariant.are c.in-Some.i _ _ (joined_is d) c.join_holes.ensures.items c.join_holes.ensures.capacity;
+      listed = c.take_block.ensures.items ∙ ap (λ (bs : List Area). without_block c.args.first bs) c.self.invariant.listed
+          ∙ ap (λ (n : ℕ). without_block n (blocks_of c.self.inside.parts.items)) (sym s.begins) ∙ sym (ap (λ (ps : List Part). blocks_of ps) c.join_holes.ensures.items ∙ (joined_is d).blocks);
+      room_is = omega (arith, c.self.invariant.room_is, c.take_block.ensures.capacity);
+    }
 
 pub returns : goal.returns
 returns c =

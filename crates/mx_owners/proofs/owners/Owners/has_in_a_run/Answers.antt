@@ -5,8 +5,8 @@ use Rattle.mx_owners.specs.declared.runs.Run.{Run}
 use Rattle.mx_owners.specs.OwnerRuns.{run_at, no_run, place_of, owners_in}
 use Rattle.mx_owners.proofs.FillLaws.{rising}
 use Rattle.mx_owners.proofs.PlaceLaws.{IsRound, is_round, length-owners_in}
-use Rattle.mx_owners.proofs.owners.Owners.owns.Goals.{After-run_place, After-index-run}
-use Rattle.mx_owners.proofs.owners.Owners.owns.Goals as goal
+use Rattle.mx_owners.proofs.owners.Owners.has_in_a_run.Goals.{After-run_place, After-index-run}
+use Rattle.mx_owners.proofs.owners.Owners.has_in_a_run.Goals as goal
 
 pub run_place-requires-clause-rising : goal.run_place-requires-clause-rising
 run_place-requires-clause-rising c = rw c.deref.ensures.value (λ i j le lt. rising 0 _ 0 c.self.inside.runs.items i j c.self.invariant.are.fill le lt)

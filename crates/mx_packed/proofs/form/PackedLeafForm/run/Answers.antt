@@ -1,9 +1,8 @@
-use Rattle.std.proofs.Common.{◌≡◌, ◌-◌, ◌/◌, ◌%◌, sym, ap, ◌∙◌}
-use Rattle.mx_words.specs.Reach.{packed}
+use Rattle.std.proofs.Common.{◌≡◌, ◌-◌, ◌/◌, ◌%◌, ◌∙◌, arith}
 use Rattle.mx_upper.specs.Leaf.{placed, line_run}
-use Rattle.mx_packed.proofs.EntryRuns.{spill-entry, spill-run, stored-mini, read-made, read-entry, read-run, can-lengthen, CanLengthen, mini-run-any}
+use Rattle.mx_packed.proofs.EntryRuns.{spill-entry, spill-run, stored-mini, read-made, can-lengthen, CanLengthen, mini-run}
 use Rattle.mx_packed.proofs.form.PackedLeafForm.run.Goals as goal
-use Rattle.mx_packed.proofs.form.PackedLeafForm.run.Goals.{After-entry, After-run-run}
+use Rattle.mx_packed.proofs.form.PackedLeafForm.run.Goals.{After-run_of-run}
 
 pub run-requires-clause-entry : goal.run-requires-clause-entry
 run-requires-clause-entry c = spill-entry c.args.line c.args.entry c.args.spilled c.requires.entry c.if-entry-eq3.true
@@ -12,22 +11,22 @@ pub returns-then-entry-eq3 : goal.returns-then-entry-eq3
 returns-then-entry-eq3 c perms left right spill stored =
     spill-run perms left right spill c.args.line c.args.entry c.args.spilled c.args.word c.run.result stored c.if-entry-eq3.true c.run.ensures
 
-pub run-run-requires-clause-entry : goal.run-run-requires-clause-entry
-run-run-requires-clause-entry c =
+pub run_of-run-requires-clause-coded : goal.run_of-run-requires-clause-coded
+run_of-run-requires-clause-coded c =
     let made = read-made c.args.line c.args.entry c.args.spilled c.requires.entry c.if-entry-eq3.false in
-    let line = c.line_of-perms.ensures c.requires.entry.perms c.requires.entry.stored.whole made.values made.starts in
-    read-entry c.args.line c.args.entry c.args.spilled c.requires.entry c.if-entry-eq3.false c.entry.result (c.entry.ensures ∙ ap packed line)
+    record { perms = c.requires.entry.perms; whole = c.requires.entry.stored.whole; values_are = made.values; starts_are = made.starts }
 
-run-is : (c : After-run-run) → c.run-run.result ≡ placed c.args.line (line_run c.requires.entry.perms (c.args.word - c.args.line))
+pub run_of-run-requires-clause-room : goal.run_of-run-requires-clause-room
+run_of-run-requires-clause-room c = omega (arith, c.requires.entry.stored.behind)
+
+run-is : (c : After-run_of-run) → c.run_of-run.result ≡ placed c.args.line (line_run c.requires.entry.perms (c.args.word - c.args.line))
 run-is c =
     let made = read-made c.args.line c.args.entry c.args.spilled c.requires.entry c.if-entry-eq3.false in
-    let line = c.line_of-perms.ensures c.requires.entry.perms c.requires.entry.stored.whole made.values made.starts in
-    read-run c.args.line c.args.entry c.args.spilled c.requires.entry c.if-entry-eq3.false c.entry.result c.args.word c.run-run.result
-    (c.entry.ensures ∙ ap packed line) c.run-run.ensures
+    c.run_of-run.ensures c.requires.entry.perms c.requires.entry.stored.whole made.values made.starts
 
-can : (c : After-run-run) → CanLengthen c.args.line (c.args.entry / 134217728) (c.args.entry / 4194304 % 32) c.run-run.result
+can : (c : After-run_of-run) → CanLengthen c.args.line (c.args.entry / 134217728) (c.args.entry / 4194304 % 32) c.run_of-run.result
 can c =
-    can-lengthen c.args.line c.args.entry c.args.spilled c.args.word c.run-run.result c.requires.entry c.if-entry-eq3.false c.requires.from c.requires.below (run-is c)
+    can-lengthen c.args.line c.args.entry c.args.spilled c.args.word c.run_of-run.result c.requires.entry c.if-entry-eq3.false c.requires.from c.requires.below (run-is c)
 
 pub lengthen-requires-clause-at : goal.lengthen-requires-clause-at
 lengthen-requires-clause-at c = (can c).at
@@ -43,12 +42,7 @@ lengthen-requires-clause-room c = (can c).room
 
 pub returns : goal.returns
 returns c perms left right spill stored =
-    let made = read-made c.args.line c.args.entry c.args.spilled c.requires.entry c.if-entry-eq3.false in
-    let line = c.line_of-perms.ensures c.requires.entry.perms c.requires.entry.stored.whole made.values made.starts in
-    let made_here = (stored-mini perms left right spill c.args.line c.args.entry c.args.spilled stored c.if-entry-eq3.false).1 in
-    let line_here = c.line_of-perms.ensures perms stored.whole made_here.values made_here.starts in
+    let made = (stored-mini perms left right spill c.args.line c.args.entry c.args.spilled stored c.if-entry-eq3.false).1 in
     c.lengthen.ensures
-    ∙ mini-run-any perms left right spill c.args.line c.args.entry c.args.spilled c.args.word c.run-run.result c.requires.entry stored c.if-entry-eq3.false
-    (sym line ∙ line_here)
-    (read-run c.args.line c.args.entry c.args.spilled c.requires.entry c.if-entry-eq3.false c.entry.result c.args.word c.run-run.result
-    (c.entry.ensures ∙ ap packed line) c.run-run.ensures)
+    ∙ mini-run perms left right spill c.args.line c.args.entry c.args.spilled c.args.word c.run_of-run.result stored c.if-entry-eq3.false
+    (c.run_of-run.ensures perms stored.whole made.values made.starts)

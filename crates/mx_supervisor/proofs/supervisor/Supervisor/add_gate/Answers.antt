@@ -15,10 +15,26 @@ returns-then-is_foreign g c = refuses serve_gate c.args.call.now _ 2 _ c.require
 
 pub returns-then-not-try_gate : goal.returns-then-not-try_gate
 returns-then-not-try_gate g c = refuses-after serve_gate c.args.call.now _ _ 9 _ c.requires.sound (c.try_gate.ensures.kept c.if-not-try_gate.true) c.refused-then-not-try_gate.ensures
-    (λ rest. rw (c.in-Some.ensures.there rest, c.is_other.ensures rest, c.if-not-is_other.false, c.in-Some.ensures.word, c.is_foreign.ensures, c.if-is_foreign.false,
-    c.try_gate.ensures.fits, c.if-not-try_gate.true))
+    (λ rest. rw (
+      c.in-Some.ensures.there rest,
+      c.is_other.ensures rest,
+      c.if-not-is_other.false,
+      c.in-Some.ensures.word,
+      c.is_foreign.ensures,
+      c.if-is_foreign.false,
+      c.try_gate.ensures.fits,
+      c.if-not-try_gate.true,
+    ))
 
 pub returns : goal.returns
 returns g c = gates-done serve_gate c.args.call.now _ _ _ _ c.requires.sound (c.try_gate.ensures.done c.if-not-try_gate.false) c.done.ensures
-    (λ rest. rw (c.in-Some.ensures.there rest, c.is_other.ensures rest, c.if-not-is_other.false, c.in-Some.ensures.word, c.is_foreign.ensures, c.if-is_foreign.false,
-    c.try_gate.ensures.fits, c.if-not-try_gate.false))
+    (λ rest. rw (
+      c.in-Some.ensures.there rest,
+      c.is_other.ensures rest,
+      c.if-not-is_other.false,
+      c.in-Some.ensures.word,
+      c.is_foreign.ensures,
+      c.if-is_foreign.false,
+      c.try_gate.ensures.fits,
+      c.if-not-try_gate.false,
+    ))

@@ -1,5 +1,5 @@
-use Rattle.mx_supervisor.proofs.OwnedWords.{owned-all}
+use Rattle.std.proofs.Common.{sym}
 use Rattle.mx_supervisor.proofs.supervisor.Supervisor.owns.Goals as goal
 
 pub returns : goal.returns
-returns g c = λ rest. owned-all _ _ _ _ _ c.owns.ensures
+returns g c = λ rest. sym c.owns.ensures.all

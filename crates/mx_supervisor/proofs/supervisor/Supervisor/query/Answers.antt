@@ -1,3 +1,12 @@
+use Rattle.std.proofs.Common.{◌≡◌, List, ap, sym, ◌∙◌}
+use Rattle.mx_words.specs.declared.perm.Perm.{Perm}
+use Rattle.mx_words.specs.Rights.{number, perm_at}
+use Rattle.mx_table.specs.Tables.{IsDomain}
+use Rattle.mx_model.specs.Checks.{arg}
+use Rattle.mx_model.specs.Reads.{map_in}
+use Rattle.mx_model.specs.Serve.{answers}
+use Rattle.mx_supervisor.specs.Parts.{parts_of, core_of}
+use Rattle.mx_supervisor.proofs.Maps.{map-in}
 use Rattle.mx_model.specs.Serve.{serve_query}
 use Rattle.mx_supervisor.proofs.Answering.{told, refuses}
 use Rattle.mx_supervisor.proofs.supervisor.Supervisor.query.Goals as goal
@@ -16,4 +25,14 @@ returns-then-is_secret g c = refuses serve_query c.args.call.now _ 2 _ c.require
 
 pub returns : goal.returns
 returns g c = told serve_query c.args.call.now _ _ _ c.requires.sound c.done.ensures
-    (λ rest. rw (c.in-Some.ensures.there rest, c.is_module.ensures.module rest, c.if-not-is_module.false, c.in-Some.ensures.word, c.is_secret.ensures, c.if-is_secret.false, c.number.ensures, c.perm.ensures))
+    (λ rest.
+    let s = c.args.self.now in
+    let d = arg c.args.call.now 1 in
+    let tables = s.checker.tables in
+    let maps = g.T.PermTables.maps tables in
+    let size = g.T.PermTables.size tables in
+    let there : IsDomain maps d = c.is_module.ensures.domain.0 c.if-not-is_module.false in
+    let same : number (perm_at (map_in size maps d) c.in-Some.word) ≡ c.number.result =
+    ap (λ (m : List Perm). number (perm_at m c.in-Some.word)) (map-in size maps d there) ∙ sym (c.number.ensures ∙ ap number c.perm.ensures) in
+    rw (c.in-Some.ensures.there rest, c.is_module.ensures.module rest, c.if-not-is_module.false, c.in-Some.ensures.word, c.is_secret.ensures, c.if-is_secret.false)
+    (ap (answers (core_of rest (parts_of g.T.PermTables.kind g.T.PermTables.maps g.T.PermTables.size g.T.PermTables.limits g.row.N s))) same))

@@ -1,0 +1,11 @@
+pub mod FaultLaws
+pub mod LabelLaws
+pub mod InstLaws
+pub mod LineLaws
+pub mod ProgramLaws
+pub mod PlaceLaws
+pub mod LawfulLaws
+pub mod Placed
+pub mod Sources
+pub mod TextLaws
+pub mod Walks

@@ -1,0 +1,9 @@
+pub mod Clear
+pub mod Domains
+pub mod Judging
+pub mod Lists
+pub mod Loops
+pub mod Modules
+pub mod Plans
+pub mod Ranges
+pub mod Values

@@ -1,0 +1,10 @@
+pub mod Characters
+pub mod Options
+pub mod Numbers
+pub mod Operands
+pub mod OperandViews
+pub mod Mnemonics
+pub mod Lines
+pub mod LineViews
+pub mod Fields
+pub mod FieldViews

@@ -1,0 +1,35 @@
+-- The heaps in slots, after one slot was written.
+use Rattle.std.proofs.Common.{◌≡◌, ℕ, ◌<◌, List, ◌++◌, length, get_or, set, take, sym, ◌∙◌, ap, arith, Option, None}
+use Rattle.std.proofs.Common.{map as list_map}
+use Rattle.std.specs.List.{refill}
+use Rattle.std.proofs.lemmas.List.{append-nil, drop_all, get_or_default, get_or-map, length-map, length-set, map-set, take_all}
+use Rattle.mx_words.specs.FirstFit.{Area}
+use Rattle.mx_heap.specs.HeapState.{HeapState}
+use Rattle.mx_supervisor.specs.Heaps.{heap_in, no_heap}
+
+-- slots that were all written back are those that were written
+refilled : (xs ws : List (Option HeapState)) → length ws ≡ length xs → refill (length xs) xs ws ≡ ws
+refilled xs ws e =
+    ap (λ (ys : List (Option HeapState)). take (length xs) (ws ++ ys)) (drop_all (length ws) xs (omega (arith, e)))
+    ∙ ap (take (length xs)) (append-nil ws) ∙ take_all (length xs) ws (omega (arith, e))
+
+-- the heap in a slot that is there
+pub slot-heap : (slots ws : List (Option HeapState)) (i : ℕ) (d : Option HeapState) (heaps : List HeapState) →
+    list_map heap_in slots ≡ heaps → ws ≡ slots → i < length heaps → heap_in (get_or ws i d) ≡ get_or heaps i no_heap
+slot-heap slots ws i d heaps view same there =
+    let long : length heaps ≡ length slots = sym (ap length view) ∙ length-map slots heap_in in
+    let here : get_or ws i d ≡ get_or slots i None =
+    ap (λ (xs : List (Option HeapState)). get_or xs i d) same ∙ get_or_default slots i d None (omega (arith, there, long)) in
+    let at : get_or (list_map heap_in slots) i no_heap ≡ heap_in (get_or slots i None) = get_or-map heap_in slots i None no_heap (omega (arith, there, long)) in
+    ap heap_in here ∙ sym at ∙ ap (λ (hs : List HeapState). get_or hs i no_heap) view
+
+-- the blocks of one heap changed
+pub slots-written : (slots ws : List (Option HeapState)) (i : ℕ) (o d : Option HeapState) (heaps : List HeapState) (step : List Area → List Area) →
+    list_map heap_in slots ≡ heaps → ws ≡ slots → i < length heaps →
+    heap_in o ≡ record (heap_in (get_or ws i d)) { blocks = step (heap_in (get_or ws i d)).blocks } →
+    list_map heap_in (refill (length slots) slots (set ws i o)) ≡ set heaps i (record (get_or heaps i no_heap) { blocks = step (get_or heaps i no_heap).blocks })
+slots-written slots ws i o d heaps step view same there eq =
+    ap (list_map heap_in) (ap (λ (xs : List (Option HeapState)). refill (length slots) slots (set xs i o)) same ∙ refilled slots (set slots i o) (length-set slots i o))
+    ∙ map-set heap_in slots i o
+    ∙ ap (λ (hs : List HeapState). set hs i (heap_in o)) view
+    ∙ ap (set heaps i) (eq ∙ ap (λ (h : HeapState). record h { blocks = step h.blocks }) (slot-heap slots ws i d heaps view same there))

@@ -1,0 +1,70 @@
+use Rattle.std.proofs.Common.{◌≡◌, ◌<◌, true, length, refl, sym, ◌∙◌, arith}
+use Rattle.mx_words.specs.Announced.{is_announced}
+use Rattle.mx_check.specs.Calls.{is_ready}
+use Rattle.mx_check.specs.Harts.{at_hart, finished}
+use Rattle.mx_model.specs.Serve.{serve}
+use Rattle.mx_supervisor.specs.Parts.{parts_of}
+use Rattle.mx_supervisor.specs.Served.{HasAnnounced, Meets, flight_after}
+use Rattle.mx_supervisor.proofs.Ending.{ended-meets, row-meets}
+use Rattle.mx_supervisor.proofs.Looking.{may-again}
+use Rattle.mx_supervisor.proofs.ReadyLaws.{ready-kept}
+use Rattle.mx_supervisor.proofs.supervisor.Supervisor.serve.Goals as goal
+
+pub finish-requires : goal.finish-requires
+finish-requires g c =
+    let call = c.args.call.now in
+    let was : HasAnnounced (parts_of g.T.PermTables.kind g.T.PermTables.maps g.T.PermTables.size g.T.PermTables.limits g.row.N c.args.self.now) call = c.requires.may.announced (sym c.is_announced.ensures ∙ c.if-is_announced.true) in
+    let keeps = c.serve_row-answer.ensures.does.harts in
+    let old = c.args.self.now.checker.harts in
+    let now = c.serve_row-answer.new.self.checker.harts in
+    let hart : call.hart < length now = let e = keeps.count in let h = was.hart in omega (arith, e, h) in
+    let ready : is_ready call.hart now ≡ true = ready-kept call old now keeps ∙ was.ready in
+    (omega arith, (hart, ready))
+
+pub returns-then-is_announced-clause-served : goal.returns-then-is_announced-clause-served
+returns-then-is_announced-clause-served g c =
+    let call = c.args.call.now in
+    let p = parts_of g.T.PermTables.kind g.T.PermTables.maps g.T.PermTables.size g.T.PermTables.limits g.row.N c.args.self.now in
+    let q = parts_of g.T.PermTables.kind g.T.PermTables.maps g.T.PermTables.size g.T.PermTables.limits g.row.N c.serve_row-answer.new.self in
+    let is : is_announced call.number ≡ true = sym c.is_announced.ensures ∙ c.if-is_announced.true in
+    let m : Meets serve call (flight_after call p.harts) p (record q { harts = at_hart call.hart finished q.harts }) c.serve_row-answer.new.out.bytes c.serve_row-answer.result =
+    ended-meets call p q _ _ is (c.requires.may.announced is) c.serve_row-answer.ensures.does in
+    rw c.finish.ensures m.served
+
+pub returns-then-is_announced-clause-refused : goal.returns-then-is_announced-clause-refused
+returns-then-is_announced-clause-refused g c =
+    let call = c.args.call.now in
+    let p = parts_of g.T.PermTables.kind g.T.PermTables.maps g.T.PermTables.size g.T.PermTables.limits g.row.N c.args.self.now in
+    let q = parts_of g.T.PermTables.kind g.T.PermTables.maps g.T.PermTables.size g.T.PermTables.limits g.row.N c.serve_row-answer.new.self in
+    let is : is_announced call.number ≡ true = sym c.is_announced.ensures ∙ c.if-is_announced.true in
+    let m : Meets serve call (flight_after call p.harts) p (record q { harts = at_hart call.hart finished q.harts }) c.serve_row-answer.new.out.bytes c.serve_row-answer.result =
+    ended-meets call p q _ _ is (c.requires.may.announced is) c.serve_row-answer.ensures.does in
+    rw c.finish.ensures m.refused
+
+pub returns-then-is_announced-clause-harts : goal.returns-then-is_announced-clause-harts
+returns-then-is_announced-clause-harts g c =
+    let call = c.args.call.now in
+    let p = parts_of g.T.PermTables.kind g.T.PermTables.maps g.T.PermTables.size g.T.PermTables.limits g.row.N c.args.self.now in
+    let q = parts_of g.T.PermTables.kind g.T.PermTables.maps g.T.PermTables.size g.T.PermTables.limits g.row.N c.serve_row-answer.new.self in
+    let is : is_announced call.number ≡ true = sym c.is_announced.ensures ∙ c.if-is_announced.true in
+    let m : Meets serve call (flight_after call p.harts) p (record q { harts = at_hart call.hart finished q.harts }) c.serve_row-answer.new.out.bytes c.serve_row-answer.result =
+    ended-meets call p q _ _ is (c.requires.may.announced is) c.serve_row-answer.ensures.does in
+    rw c.finish.ensures m.harts
+
+pub returns-then-is_announced-clause-sound : goal.returns-then-is_announced-clause-sound
+returns-then-is_announced-clause-sound g c =
+    let call = c.args.call.now in
+    let p = parts_of g.T.PermTables.kind g.T.PermTables.maps g.T.PermTables.size g.T.PermTables.limits g.row.N c.args.self.now in
+    let q = parts_of g.T.PermTables.kind g.T.PermTables.maps g.T.PermTables.size g.T.PermTables.limits g.row.N c.serve_row-answer.new.self in
+    let is : is_announced call.number ≡ true = sym c.is_announced.ensures ∙ c.if-is_announced.true in
+    let m : Meets serve call (flight_after call p.harts) p (record q { harts = at_hart call.hart finished q.harts }) c.serve_row-answer.new.out.bytes c.serve_row-answer.result =
+    ended-meets call p q _ _ is (c.requires.may.announced is) c.serve_row-answer.ensures.does in
+    rw c.finish.ensures m.sound
+
+pub returns-else-is_announced-clause-served : goal.returns-else-is_announced-clause-served
+returns-else-is_announced-clause-served g c =
+    (row-meets c.args.call.now _ _ _ _ (sym c.is_announced.ensures ∙ c.if-is_announced.false) c.serve_row-answer.ensures.does).served
+
+pub returns-else-is_announced-clause-again : goal.returns-else-is_announced-clause-again
+returns-else-is_announced-clause-again g c = λ may.
+    may-again c.args.call.now _ c.args.self.now.checker.harts c.serve_row-answer.new.self.checker.harts refl c.serve_row-answer.ensures.does.harts may

@@ -1,0 +1,9 @@
+//! What a trace shows: the text of an instruction.
+#![tactic(auto)]
+
+mod text;
+
+pub use text::disassemble;
+
+#[cfg(test)]
+mod tests;

@@ -1,0 +1,10 @@
+use Rattle.mx_upper.proofs.EdgeLaws.{edge-region}
+use Rattle.mx_upper.proofs.edges.is_region_even_after.Goals as goal
+
+pub returns-then-is_edge : goal.returns-then-is_edge
+returns-then-is_edge g c =
+    edge-region (g.V.View.map c.args.view.now) c.args.region c.args.first c.if-first-region.true (c.is_edge.ensures c.if-is_edge.true)
+
+pub returns-then-is_edge-2 : goal.returns-then-is_edge-2
+returns-then-is_edge-2 g c =
+    edge-region (g.V.View.map c.args.view.now) c.args.region c.args.end c.if-end-region.true (c.is_edge-then-end-region.ensures c.if-is_edge-2.true)
