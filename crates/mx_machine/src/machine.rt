@@ -1,5 +1,6 @@
 //! The machine.
-ghost use Rattle.std.specs.Prelude.{◌≡◌, ◌≢◌, ℕ, ◌-◌, ◌^◌, ◌<◌, length, All};
+ghost use Rattle.std.specs.Prelude.{◌≡◌, ◌≢◌, ℕ, ◌-◌, ◌^◌, ◌<◌, length};
+ghost use Rattle.std.specs.List.{AllByRecursion};
 ghost use Rattle.mx_model.specs.Reads.{flat_reads};
 ghost use Rattle.mx_model.specs.Run.{flat_kind, flat_made, flat_turn};
 ghost use Rattle.mx_model.specs.State.{State, flat, hart_at};
@@ -50,7 +51,7 @@ impl<T: PermTables, const N: usize> Machine<T, N> {
     /// one start for each hart of the checker, which has done nothing yet, and one stack area for each module.
     pub fn new(parts: Supervisor<T, N>, starts: &Starts, stacks: &Stacks) -> Machine<T, N>
         requires sound { IsSound (parts_of T.kind T.maps T.size T.limits N parts) }
-        requires gates { All (IsGate (length (T.maps parts.checker.tables)) (T.size parts.checker.tables)) parts.gates }
+        requires gates { AllByRecursion (IsGate (length (T.maps parts.checker.tables)) (T.size parts.checker.tables)) parts.gates }
         requires may { MayStart (parts_of T.kind T.maps T.size T.limits N parts) starts.now stacks.now }
         ensures { result ≡ started (parts_of T.kind T.maps T.size T.limits N parts) starts.now stacks.now }
     {
@@ -75,7 +76,7 @@ impl<T: PermTables, const N: usize> Machine<T, N> {
     /// of their registers. `dead` is true for modules alone, and at most 2^63 - 1 turns were made.
     pub fn resume(parts: Supervisor<T, N>, harts: &HartStates, stacks: &Stacks, dead: &[bool; 64], steps: u64) -> Machine<T, N>
         requires sound { IsSound (parts_of T.kind T.maps T.size T.limits N parts) }
-        requires gates { All (IsGate (length (T.maps parts.checker.tables)) (T.size parts.checker.tables)) parts.gates }
+        requires gates { AllByRecursion (IsGate (length (T.maps parts.checker.tables)) (T.size parts.checker.tables)) parts.gates }
         requires may { MayResume (parts_of T.kind T.maps T.size T.limits N parts) harts.now stacks.now dead.now steps }
         ensures { result ≡ resumed (parts_of T.kind T.maps T.size T.limits N parts) harts.now stacks.now dead.now steps }
     {
