@@ -1,5 +1,5 @@
 //! RAM as a list of bytes.
-ghost use Rattle.std.specs.Prelude.{◌≡◌, ℕ, ◌+◌, ◌*◌, ◌%◌, ◌^◌, ◌<◌, ◌≤◌, List, length, replicate, slice_index, IfOk};
+ghost use Rattle.std.specs.Prelude.{◌≡◌, ℕ, ◌+◌, ◌*◌, ◌%◌, ◌^◌, ◌<◌, ◌≤◌, List, length, replicate, slice_index, slice_range, IfOk};
 ghost use Rattle.mx_words.specs.Bytes.{number_at, put_at, cleared_at};
 ghost use Rattle.mx_memory.specs.Places.{place_of, IsInside};
 ghost use Rattle.mx_words.specs.Bytes.{IsSize};
@@ -88,6 +88,15 @@ impl Ram {
         ensures { result ≡ slice_index self.now at }
     {
         self.bytes[at as usize]
+    }
+
+    /// The `count` bytes from place `first` on. They end in RAM.
+    pub fn bytes(&self, first: u32, count: u32) -> &[u8]
+        requires { first + count ≤ length self.now }
+        ensures { result.now ≡ slice_range self.now first (first + count) }
+    {
+        let first = first as usize;
+        &self.bytes[first..first + count as usize]
     }
 
     /// Makes so many words zero, from word `first` on. They lie in RAM.

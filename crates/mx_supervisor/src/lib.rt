@@ -14,3 +14,4 @@ mod words;
 pub use answer::Answer;
 pub use heaps::Heaps;
 pub use supervisor::Supervisor;
+pub use words::is_announced;
