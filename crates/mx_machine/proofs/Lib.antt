@@ -18,6 +18,7 @@ pub mod AskLaws
 pub mod CaseLaws
 pub mod ReturnLaws
 pub mod WaitLaws
+pub mod MayLaws
 pub mod StepLaws
 pub mod StartLaws
 pub mod StartFits
