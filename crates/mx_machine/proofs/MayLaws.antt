@@ -68,6 +68,14 @@ module _ (m : Held) (h : ℕ) (w : IsWhole m) (p : Progress) (at : (hart_of m.ha
   pub kept-alive : (kept_at m.parts.harts h).halted ≡ false
   kept-alive = (w.fits.ties h).halted ∙ ap is_halted at ∙ alive
 
+  -- it may hear them
+  pub may-hear : (n : Held) → n ≡ m →
+      (h < length n.parts.harts) × (((kept_at n.parts.harts h).halted ≡ false) × (n.waiting ≡ false → (i : ℕ) → (kept_at n.parts.harts i).flight ≡ None))
+  may-hear n is =
+      let there : h < length m.parts.harts = let l = hart-there in omega (arith, l, w.fits.count) in
+      subst (λ (n : Held). (h < length n.parts.harts) × (((kept_at n.parts.harts h).halted ≡ false) × (n.waiting ≡ false → (i : ℕ) → (kept_at n.parts.harts i).flight ≡ None)))
+      (sym is) (there, (kept-alive, none-flies m w.fits))
+
   acts-heard : HasHeardAll h (heard h (counted m)).parts.harts → MayAct (heard h (counted m)) h
   acts-heard all = record {
     fits = fits-heard (counted m) h (fits-counted m w.fits) hart-there;
