@@ -22,3 +22,5 @@ pub mod StepLaws
 pub mod StartLaws
 pub mod StartFits
 pub mod FrameLaws
+pub mod SmallLaws
+pub mod StartValid
