@@ -23,3 +23,5 @@ pub mod StepLaws
 pub mod StartLaws
 pub mod StartFits
 pub mod FrameLaws
+pub mod SmallLaws
+pub mod StartValid
