@@ -1,0 +1,4 @@
+pub mod Areas
+pub mod Entries
+pub mod Faults
+pub mod Boot
