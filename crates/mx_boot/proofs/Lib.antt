@@ -1,1 +1,5 @@
-pub mod Examples
+pub mod Asked
+pub mod Behind
+pub mod Homes
+pub mod Rows
+pub mod Started

@@ -17,8 +17,9 @@ use Rattle.mx_manifest.specs.declared.parts.HartPlan.{HartPlan}
 use Rattle.mx_manifest.specs.declared.parts.ModulePlan.{ModulePlan}
 use Rattle.mx_manifest.specs.Plan.{Said}
 use Rattle.mx_boot.specs.declared.area.Area as area
+use Rattle.mx_boot.specs.declared.gates.Request.{Request}
 use Rattle.mx_boot.specs.Areas.{Home, homes, Content, contents, pieces, heaps, stacks, heap_words, stack_words}
-use Rattle.mx_boot.specs.Entries.{Request, requests, hart_start, word_at}
+use Rattle.mx_boot.specs.Entries.{requests, hart_start, word_at}
 use Rattle.mx_boot.specs.Faults.{first_fault, ram_words}
 
 -- RAM with bytes put into it

@@ -4,7 +4,6 @@ use Rattle.std.specs.Prelude.{ℕ, ◌-◌, ◌/◌, ◌++◌, if◌then◌else�
 use Rattle.std.specs.List.{flat_map}
 use Rattle.std.specs.Option.{option_map_or}
 use Rattle.mx_words.specs.Ranges.{ram_base}
-use Rattle.mx_model.specs.declared.values.Gate.{Gate}
 use Rattle.mx_elf.specs.Symbol.{symbol_of}
 use Rattle.mx_manifest.specs.declared.fault.Key.{Key}
 use Rattle.mx_manifest.specs.declared.fault.Key.TheVariants as key
@@ -13,6 +12,7 @@ use Rattle.mx_manifest.specs.declared.parts.EntryPlan.TheVariants.{Symbol, Addre
 use Rattle.mx_manifest.specs.declared.parts.GatePlan.{GatePlan}
 use Rattle.mx_manifest.specs.declared.parts.HartPlan.{HartPlan}
 use Rattle.mx_manifest.specs.Plan.{Said}
+use Rattle.mx_boot.specs.declared.gates.Request.{Request}
 use Rattle.mx_boot.specs.Areas.{Home, homes, has_image, image, inline_address}
 
 -- the address that an entry means in a module's image; nothing where the image has no such symbol
@@ -23,12 +23,6 @@ entry_address bytes (Address address) = Some address
 -- the word of RAM that holds an address
 abbrev pub word_at : ℕ → ℕ
 word_at address = (address - ram_base) / 4
-
--- a gate that is asked for: the key that asks, the address that its entry means, and the gate
-pub record Request : Type 0 where
-  pub key : Key
-  pub address : Option ℕ
-  pub gate : Gate
 
 -- a gate into a module at one of its entries, for a domain
 abbrev pub request : Home → Key → EntryPlan → ℕ → Request

@@ -1,6 +1,6 @@
 -- The faults of a plan with its images, 10 to 17: all rows in the order in which they are tested, of which the first that applies decides.
 -- The rules: docs/MANIFEST.md, "Faults".
-use Rattle.std.specs.Prelude.{ℕ, ◌+◌, ◌*◌, ◌/◌, ◌%◌, ◌==◌, Bool, not, ◌&&◌, nat_le, if◌then◌else◌, List, [], ◌∷◌, ◌++◌, length, map, find, Option, Some, None, unwrap_or, Result, Ok, Err}
+use Rattle.std.specs.Prelude.{ℕ, ◌+◌, ◌*◌, ◌/◌, ◌%◌, ◌==◌, Bool, true, false, not, ◌&&◌, nat_le, if◌then◌else◌, List, [], ◌∷◌, ◌++◌, length, find, Option, Some, None, unwrap_or, Result, Ok, Err}
 use Rattle.std.specs.List.{enumerate_from, flat_map, list_any}
 use Rattle.std.specs.Option.{is_some, option_map_or}
 use Rattle.mx_words.specs.FirstRow.{Row, first_row}
@@ -13,7 +13,7 @@ use Rattle.mx_elf.specs.declared.segment.Seg.{Seg}
 use Rattle.mx_elf.specs.Image.{image_of}
 use Rattle.mx_elf.specs.Segment.{is_writable, is_executable}
 use Rattle.mx_manifest.specs.declared.fault.BootFault.{BootFault}
-use Rattle.mx_manifest.specs.declared.fault.Part.{Part}
+use Rattle.mx_manifest.specs.declared.fault.Place.{Place}
 use Rattle.mx_manifest.specs.declared.fault.Part.TheVariants as part
 use Rattle.mx_manifest.specs.declared.fault.Key.{Key}
 use Rattle.mx_manifest.specs.declared.fault.Key.TheVariants as key
@@ -21,33 +21,29 @@ use Rattle.mx_manifest.specs.declared.parts.HartPlan.{HartPlan}
 use Rattle.mx_manifest.specs.Plan.{Said}
 use Rattle.mx_boot.specs.declared.area.Area.{Area}
 use Rattle.mx_boot.specs.Areas.{Home, homes, image, has_image, areas}
-use Rattle.mx_boot.specs.Entries.{Request, requests, hart_start}
+use Rattle.mx_boot.specs.declared.gates.Request.{Request}
+use Rattle.mx_boot.specs.Entries.{requests, hart_start}
 
 -- a row: whether it applies, and the fault that it then tells
 abbrev pub Fault : Type 0
 Fault = Row BootFault
 
--- a table of the manifest and a key in it
-pub record At : Type 0 where
-  pub sort : Part
-  pub index : ℕ
-  pub key : Key
+-- a key of a module, and the entry of a hart
+abbrev pub at_module : ℕ → Key → Place
+at_module domain key = record { part = part.Module; index = domain; key = key }
 
-abbrev pub at_module : ℕ → Key → At
-at_module domain key = record { sort = part.Module; index = domain; key = key }
-
-abbrev pub at_hart : ℕ → At
-at_hart number = record { sort = part.Hart; index = number; key = key.Entry }
+abbrev pub at_hart : ℕ → Place
+at_hart number = record { part = part.Hart; index = number; key = key.Entry }
 
 -- a fault there
-abbrev pub fault : ℕ → At → ℕ → BootFault
-fault number at detail = record {
-  number = number;
-  place = record { part = at.sort; index = at.index; key = at.key };
-  detail = detail;
-}
+abbrev pub fault : ℕ → Place → ℕ → BootFault
+fault number place detail = record { number = number; place = place; detail = detail }
 
--- the number of the fault that a file has, 0 for none
+-- whether a file has a fault, and its number
+abbrev pub is_err : Result Image ImageFault → Bool
+is_err (Ok image) = false
+is_err (Err fault) = true
+
 abbrev pub fault_number : Result Image ImageFault → ℕ
 fault_number (Ok image) = 0
 fault_number (Err fault) = fault.number
@@ -55,17 +51,17 @@ fault_number (Err fault) = fault.number
 -- step 5, of a module with an image. Fault 10: the file has a fault of its own; fault 11: a segment is writable and executable, and
 -- there is no `wx`
 abbrev pub image_row : Home → Fault
-image_row h = let number = fault_number (image_of h.bytes) in (not (number == 0), fault 10 (at_module h.domain key.Image) number)
+image_row h = let file = image_of h.bytes in (is_err file, fault 10 (at_module h.domain key.Image) (fault_number file))
 
-abbrev pub flags_row : Home → ℕ × Seg → Fault
-flags_row h placed = (
-  is_writable placed.1.flags && is_executable placed.1.flags && not (is_some h.plan.wx),
-  fault 11 (at_module h.domain key.Image) placed.0,
-)
+abbrev pub flags_rows : Home → ℕ × Seg → List Fault
+flags_rows h placed =
+    (is_writable placed.1.flags && is_executable placed.1.flags && not (is_some h.plan.wx),
+    fault 11 (at_module h.domain key.Image) placed.0)
+    ∷ []
 
 abbrev pub image_rows : Home → List Fault
 image_rows h =
-    if has_image h then image_row h ∷ map (flags_row h) (enumerate_from 0 (image h).segments) else []
+    if has_image h then image_row h ∷ flat_map (flags_rows h) (enumerate_from 0 (image h).segments) else []
 
 -- the rows of each element in turn, judged behind what is kept of the earlier ones
 abbrev pub each_behind : {A B : Type 0} → (A → B) → (List B → A → List Fault) → List B → List A → List Fault
@@ -101,7 +97,7 @@ abbrev pub is_entry : List Area → ℕ → ℕ → Bool
 is_entry areas domain address = (address % 4 == 0) && list_any (holds_entry domain address) areas
 
 -- fault 14 of an entry: it is a symbol that the module doesn't have; fault 15: it isn't aligned, or isn't in an area of its module
-abbrev pub entry_rows : List Area → At → ℕ → Option ℕ → List Fault
+abbrev pub entry_rows : List Area → Place → ℕ → Option ℕ → List Fault
 entry_rows areas at domain address =
     (not (is_some address), fault 14 at 0)
     ∷ (not (is_entry areas domain (unwrap_or address 0)), fault 15 at 0)
@@ -124,6 +120,9 @@ abbrev pub hart_rows : Said → List (List ℕ) → ℕ × HartPlan → List Fau
 hart_rows plan images placed =
     entry_rows (areas plan images) (at_hart placed.0) placed.1.module (hart_start plan images placed.1)
 
+abbrev pub harts_rows : Said → List (List ℕ) → List Fault
+harts_rows plan images = flat_map (hart_rows plan images) (enumerate_from 1 plan.harts)
+
 -- the number of words of RAM
 abbrev pub ram_words : Said → ℕ
 ram_words plan = 256 * plan.ram_kib
@@ -134,7 +133,7 @@ rows plan images =
     flat_map image_rows (homes plan images)
     ++ areas_rows (ram_words plan) [] (areas plan images)
     ++ gates_rows (areas plan images) [] (requests plan images)
-    ++ flat_map (hart_rows plan images) (enumerate_from 1 plan.harts)
+    ++ harts_rows plan images
 
 unfoldable pub first_fault : Said → List (List ℕ) → Option BootFault
 first_fault plan images = first_row (rows plan images)
