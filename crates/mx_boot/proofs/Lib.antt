@@ -3,3 +3,4 @@ pub mod Behind
 pub mod Homes
 pub mod Rows
 pub mod Started
+pub mod Steps
