@@ -88,3 +88,19 @@ module _ (plan : Said) (images : List (List ℕ)) where
   pub harts_tell : (refused : LayoutRefused) → Tells (first_row (harts_rows plan images)) refused → Tells harts_found refused
   unfolding harts_found
   harts_tell refused e = e
+
+none_of_two : (a b : Option BootFault) → option_or a b ≡ None → (a ≡ None) × (b ≡ None)
+none_of_two None b h = (refl, h)
+none_of_two (Some x) b h = absurd cc
+
+-- a plan without a fault has none at each step
+pub parts_clear : (plan : Said) (images : List (List ℕ)) → first_fault plan images ≡ None
+    → (first_row (areas_rows (ram_words plan) [] (areas plan images)) ≡ None)
+    × (first_row (gates_rows (areas plan images) [] (requests plan images)) ≡ None)
+    × (first_row (harts_rows plan images) ≡ None)
+unfolding images_found areas_found gates_found harts_found
+parts_clear plan images e =
+    let last = none_of_two (option_or (option_or (images_found plan images) (areas_found plan images)) (gates_found plan images)) (harts_found plan images) (sym (first_is plan images) ∙ e) in
+    let next = none_of_two (option_or (images_found plan images) (areas_found plan images)) (gates_found plan images) last.0 in
+    let first = none_of_two (images_found plan images) (areas_found plan images) next.0 in
+    (first.1, next.1, last.1)
