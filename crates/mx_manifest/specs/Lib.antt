@@ -1,0 +1,11 @@
+pub mod Faults
+pub mod Forms
+pub mod InRange
+pub mod Inside
+pub mod Judged
+pub mod Keys
+pub mod Plan
+pub mod Reads
+pub mod Rows
+pub mod Section
+pub mod Short

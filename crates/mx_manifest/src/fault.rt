@@ -1,5 +1,8 @@
 //! Why a boot is refused, and where in the manifest the cause stands.
 
+ghost use Rattle.std.specs.Prelude.{◌≡◌};
+ghost use Rattle.mx_manifest.specs.Keys.{key_text};
+
 /// Why a boot is refused: the number of the fault, the place of its cause, and what the fault adds.
 #[derive(Clone, Copy, PartialEq, Eq, Debug)]
 pub struct BootFault {
@@ -90,4 +93,40 @@ pub enum Key {
     Entry,
     /// No key.
     NoKey,
+}
+
+impl Key {
+    /// The key's name as a manifest has it, `-` for no key.
+    pub fn name(self) -> &'static str
+        ensures { result.now ≡ key_text self }
+    {
+        match self {
+            Key::Version => "version",
+            Key::RamKib => "ram_kib",
+            Key::Tables => "tables",
+            Key::Upper => "upper",
+            Key::Leaf => "leaf",
+            Key::Spill => "spill",
+            Key::Lookaside => "lookaside",
+            Key::Quantum => "quantum",
+            Key::Module => "module",
+            Key::Hart => "hart",
+            Key::Name => "name",
+            Key::Image => "image",
+            Key::At => "at",
+            Key::Perm => "perm",
+            Key::Words => "words",
+            Key::Wx => "wx",
+            Key::Heap => "heap",
+            Key::HeapWords => "heap_words",
+            Key::Stack => "stack",
+            Key::StackWords => "stack_words",
+            Key::Gates => "gates",
+            Key::Returns => "returns",
+            Key::OnFault => "on_fault",
+            Key::Seal => "seal",
+            Key::Entry => "entry",
+            Key::NoKey => "-",
+        }
+    }
 }

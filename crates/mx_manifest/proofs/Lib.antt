@@ -1,0 +1,11 @@
+pub mod Clear
+pub mod Domains
+pub mod Examples
+pub mod Judging
+pub mod Lists
+pub mod Loops
+pub mod Modules
+pub mod Plans
+pub mod Ranges
+pub mod Short
+pub mod Values

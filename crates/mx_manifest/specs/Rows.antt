@@ -1,0 +1,77 @@
+-- The table of keys: for each key, in listed order, where it is required and what its value may be.
+-- Where a key is neither required nor there, its default is told by specs/Plan.
+use Rattle.std.specs.Prelude.{ℕ, List, [], ◌∷◌}
+use Rattle.mx_manifest.specs.declared.fault.Key.{Key}
+use Rattle.mx_manifest.specs.declared.fault.Key.TheVariants as key
+use Rattle.mx_manifest.specs.declared.row.Row.{Row}
+use Rattle.mx_manifest.specs.declared.row.Name.TheVariants.{Of, From}
+use Rattle.mx_manifest.specs.declared.row.Asked.{Asked}
+use Rattle.mx_manifest.specs.declared.row.Asked.TheVariants.{Always, Never, With, Without, WithoutAny}
+use Rattle.mx_manifest.specs.declared.row.Form.{Form}
+use Rattle.mx_manifest.specs.declared.row.Form.TheVariants.{Integer, Aligned, Choice, Text, Boolean, Entry, Array}
+use Rattle.mx_manifest.specs.declared.row.TextForm.TheVariants.{Any, Tables, ModuleName, FileName, Permission, ImagePermission, OnFault}
+use Rattle.mx_manifest.specs.declared.row.ItemForm.TheVariants as each
+use Rattle.mx_manifest.specs.declared.row.Version.{Version}
+use Rattle.mx_manifest.specs.declared.row.Version.TheVariants.{One, Two}
+
+-- the greatest number that version 1 allows, and that version 2 allows
+abbrev pub most : Version → ℕ → ℕ → ℕ
+most One one two = one
+most Two one two = two
+
+abbrev pub row : Key → Asked → Form → Row
+row key asked form = record { name = Of key; asked = asked; form = form }
+
+-- the top table
+abbrev pub top_rows : Version → List Row
+top_rows version =
+    row key.Version Always (Integer 1 2)
+    ∷ row key.RamKib Always (Aligned 64 (most version 16384 65536))
+    ∷ row key.Tables Never (Text Tables)
+    ∷ row key.Upper Never (Integer 0 (most version 1024 4096))
+    ∷ row key.Leaf Never (Integer 0 (most version 65536 262144))
+    ∷ row key.Spill Never (Integer 0 (most version 262144 1048576))
+    ∷ row key.Lookaside Never (Choice 8 32 64)
+    ∷ row key.Quantum Never (Integer 1 1000000)
+    ∷ row key.Module Always (Array 1 (most version 15 63) each.Table)
+    ∷ row key.Hart Always (Array 1 4 each.Table)
+    ∷ []
+
+-- a module, up to its gates
+abbrev pub early_rows : Version → List Row
+early_rows version =
+    row key.Name Always (Text ModuleName)
+    ∷ row key.Image (WithoutAny key.At key.Perm key.Words) (Text FileName)
+    ∷ row key.At (Without key.Image) (Aligned 0 4294967295)
+    ∷ row key.Perm (Without key.Image) (Text Permission)
+    ∷ row key.Words (Without key.Image) (Array 1 65536 each.Word)
+    ∷ row key.Wx Never (Text ImagePermission)
+    ∷ row key.Heap (With key.HeapWords) (Aligned 0 4294967295)
+    ∷ row key.HeapWords (With key.Heap) (Integer 1 (most version 4194304 16777216))
+    ∷ row key.Stack (With key.StackWords) (Aligned 0 4294967295)
+    ∷ row key.StackWords (With key.Stack) (Integer 1 1048576)
+    ∷ row key.Gates Never (Array 0 256 each.Table)
+    ∷ []
+
+-- a module, after its gates
+abbrev pub late_rows : Version → List Row
+late_rows One = row key.Returns Never (Array 0 256 each.Entry) ∷ []
+late_rows Two =
+    row key.Returns Never (Array 0 256 each.Entry)
+    ∷ row key.OnFault Never (Text OnFault)
+    ∷ row key.Seal Never Boolean
+    ∷ []
+
+-- a gate of a module
+abbrev pub gate_rows : Version → List Row
+gate_rows version =
+    row key.Entry Always Entry
+    ∷ record { name = From; asked = Always; form = Array 1 (most version 15 63) each.Text }
+    ∷ []
+
+-- a hart
+abbrev pub hart_rows : List Row
+hart_rows =
+    row key.Module Always (Text Any)
+    ∷ row key.Entry Never Entry
+    ∷ []

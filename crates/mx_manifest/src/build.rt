@@ -1,0 +1,313 @@
+//! The plan of a manifest without a fault.
+
+ghost use Rattle.std.specs.Prelude.{◌≡◌, ◌≤◌, map, length, option_map, option_copied, unwrap_or, option_and_then, codes, false, IfOk, IfSome};
+ghost use Rattle.std.specs.Option.{option_map_or};
+ghost use Rattle.std.specs.Str.{bytes_eq};
+ghost use Rattle.toml.specs.Data.{as_bool};
+ghost use Rattle.toml.specs.View.{view};
+ghost use Rattle.mx_manifest.specs.Reads.{value_at, number_of, number_at, text_at, text_of};
+ghost use Rattle.mx_manifest.specs.Faults.{domain_of, version_of, module_names};
+ghost use Rattle.mx_manifest.specs.InRange.{Each, IsInRange};
+ghost use Rattle.mx_manifest.specs.Short.{HasShortLists};
+ghost use Rattle.mx_manifest.specs.Plan.{kind_named, perm_named, entry_plan, gate_plan, word_list, module_plan, hart_plan, version_number, plan_of};
+ghost use Rattle.mx_manifest.specs.Section.{section_view};
+
+use crate::names::{Names, from_values, hart_domain, module_name, text_of};
+use crate::row::Version;
+use crate::section::{Section, elements, number_of};
+use crate::{
+    Entries, EntryPlan, GatePlan, GatePlans, HartPlan, Key, ModulePlan, Numbers, Plan, Text,
+};
+use mx_words::{Kind, NoMemory, Perm};
+use std::alloc::Global;
+use toml::Value;
+
+fn kind_named(text: &str) -> Kind
+    ensures { result ≡ kind_named text.now }
+{
+    if text == "segments" {
+        Kind::Segments
+    } else if text == "multilevel" {
+        Kind::Multilevel
+    } else {
+        Kind::Packed
+    }
+}
+
+fn perm_named(text: &str) -> Perm
+    ensures { result ≡ perm_named text.now }
+{
+    if text == "rw" {
+        Perm::ReadWrite
+    } else if text == "rx" {
+        Perm::ExecuteRead
+    } else {
+        Perm::Read
+    }
+}
+
+fn perm_at(table: Section, key: Key) -> Option<Perm>
+    ensures { result ≡ option_map perm_named (text_at key (section_view table.entry)) }
+{
+    match table.text_at(key) {
+        Some(text) => Some(perm_named(text)),
+        None => None,
+    }
+}
+
+fn number_or(table: Section, key: Key, default: u32) -> u32
+    ensures { result ≡ unwrap_or (number_at key (section_view table.entry)) default }
+{
+    match table.number_at(key) {
+        Some(number) => number,
+        None => default,
+    }
+}
+
+fn copy_text(alloc: Global, table: Section, key: Key) -> Result<Option<Text>, NoMemory>
+    ensures { IfOk result (λ text. text ≡ text_at key (section_view table.entry)) }
+{
+    match table.text_at(key) {
+        Some(text) => Ok(Some(Text::new(alloc, text)?)),
+        None => Ok(None),
+    }
+}
+
+fn entry_plan(alloc: Global, value: &Value) -> Result<EntryPlan, NoMemory>
+    ensures { IfOk result (λ entry. entry ≡ entry_plan (view value.now)) }
+{
+    match value.as_str() {
+        Some(text) => Ok(EntryPlan::Symbol(Text::new(alloc, text)?)),
+        None => match number_of(value) {
+            Some(address) => Ok(EntryPlan::Address(address)),
+            None => Ok(EntryPlan::Address(0)),
+        },
+    }
+}
+
+fn entries(alloc: Global, values: &[Value]) -> Result<Entries, NoMemory>
+    requires { length values.now ≤ 256 }
+    ensures { IfOk result (λ entries. entries ≡ map entry_plan (map view values.now)) }
+{
+    let mut entries = Vec::new(alloc);
+    for value in values {
+        if entries.push(entry_plan(alloc, value)?).is_err() {
+            return Err(NoMemory);
+        }
+    }
+    Ok(Entries::new(entries))
+}
+
+fn word(value: &Value) -> u32
+    ensures { result ≡ unwrap_or (number_of (view value.now)) 0 }
+{
+    match number_of(value) {
+        Some(word) => word,
+        None => 0,
+    }
+}
+
+fn words(alloc: Global, section: Section) -> Result<Option<Numbers>, NoMemory>
+    requires { IfSome (option_map word_list (value_at Key.Words (section_view section))) (λ words. length words ≤ 65536) }
+    ensures { IfOk result (λ words. words ≡ option_map word_list (value_at Key.Words (section_view section.entry))) }
+{
+    match section.value_at(Key::Words) {
+        Some(value) => Ok(Some(word_list(alloc, elements(value))?)),
+        None => Ok(None),
+    }
+}
+
+fn word_list(alloc: Global, values: &[Value]) -> Result<Numbers, NoMemory>
+    requires { length values.now ≤ 65536 }
+    ensures { IfOk result (λ words. words ≡ map (λ word. unwrap_or (number_of word) 0) (map view values.now)) }
+{
+    match values.iter().map(|value| word(value)).collect(alloc) {
+        Ok(words) => Ok(Numbers::new(words)),
+        Err(_) => Err(NoMemory),
+    }
+}
+
+fn domains(alloc: Global, names: &Names, values: &[Value]) -> Result<Numbers, NoMemory>
+    requires names { length names.now ≤ 63 }
+    requires few { length values.now ≤ 65536 }
+    ensures { IfOk result (λ domains. domains ≡ map (domain_of names.now) (map text_of (map view values.now))) }
+{
+    match values
+        .iter()
+        .map(|value| names.domain(text_of(value)))
+        .collect(alloc)
+    {
+        Ok(domains) => Ok(Numbers::new(domains)),
+        Err(_) => Err(NoMemory),
+    }
+}
+
+fn gate_plan(alloc: Global, names: &Names, gate: Section) -> Result<GatePlan, NoMemory>
+    requires names { length names.now ≤ 63 }
+    requires few { length (gate_plan names.now (section_view gate)).from ≤ 65536 }
+    ensures { IfOk result (λ plan. plan ≡ gate_plan names.now (section_view gate.entry)) }
+{
+    let entry = match gate.value_at(Key::Entry) {
+        Some(value) => entry_plan(alloc, value)?,
+        None => EntryPlan::Address(0),
+    };
+    let from = domains(alloc, names, from_values(gate))?;
+    Ok(GatePlan { entry, from })
+}
+
+fn gate_plans(alloc: Global, names: &Names, gates: &[Value]) -> Result<GatePlans, NoMemory>
+    requires names { length names.now ≤ 63 }
+    requires few { length gates.now ≤ 256 }
+    requires froms { Each (λ gate. length gate.from ≤ 65536) (map (gate_plan names.now) (map view gates.now)) }
+    ensures { IfOk result (λ plans. plans ≡ map (gate_plan names.now) (map view gates.now)) }
+{
+    let mut plans = Vec::new(alloc);
+    for gate in gates {
+        let plan = gate_plan(alloc, names, Section::Inner(gate))?;
+        if plans.push(plan).is_err() {
+            return Err(NoMemory);
+        }
+    }
+    Ok(GatePlans::new(plans))
+}
+
+fn kills(section: Section) -> bool
+    ensures { result ≡ option_map_or (bytes_eq (codes "kill")) (text_at Key.OnFault (section_view section.entry)) false }
+{
+    match section.text_at(Key::OnFault) {
+        Some(text) => text == "kill",
+        None => false,
+    }
+}
+
+fn is_sealed(section: Section) -> bool
+    ensures { result ≡ unwrap_or (option_and_then as_bool (value_at Key.Seal (section_view section.entry))) false }
+{
+    match section.value_at(Key::Seal) {
+        Some(value) => match value.as_bool() {
+            Some(seal) => seal,
+            None => false,
+        },
+        None => false,
+    }
+}
+
+fn module_plan(alloc: Global, names: &Names, section: Section) -> Result<ModulePlan, NoMemory>
+    requires names { length names.now ≤ 63 }
+    requires short { HasShortLists (module_plan names.now (section_view section)) }
+    ensures { IfOk result (λ plan. plan ≡ module_plan names.now (section_view section.entry)) }
+{
+    let name = Text::new(alloc, module_name(section))?;
+    let image = copy_text(alloc, section, Key::Image)?;
+    let words = words(alloc, section)?;
+    let gates = gate_plans(alloc, names, section.elements_at(Key::Gates))?;
+    let returns = entries(alloc, section.elements_at(Key::Returns))?;
+    Ok(ModulePlan {
+        name,
+        image,
+        at: section.number_at(Key::At),
+        perm: perm_at(section, Key::Perm),
+        words,
+        wx: perm_at(section, Key::Wx),
+        heap: section.number_at(Key::Heap),
+        heap_words: section.number_at(Key::HeapWords),
+        stack: section.number_at(Key::Stack),
+        stack_words: section.number_at(Key::StackWords),
+        gates,
+        returns,
+        kills: kills(section),
+        seal: is_sealed(section),
+    })
+}
+
+fn module_plans(
+    alloc: Global,
+    names: &Names,
+    modules: &[Value],
+) -> Result<Vec<ModulePlan>, NoMemory>
+    requires names { length names.now ≤ 63 }
+    requires short { Each HasShortLists (map (module_plan names.now) (map view modules.now)) }
+    ensures { IfOk result (λ plans. plans.items ≡ map (module_plan names.now) (map view modules.now)) }
+{
+    let mut plans = Vec::new(alloc);
+    for module in modules {
+        let plan = module_plan(alloc, names, Section::Inner(module))?;
+        let Ok(()) = plans.push(plan) else {
+            return Err(NoMemory);
+        };
+    }
+    Ok(plans)
+}
+
+fn hart_plan(alloc: Global, names: &Names, hart: Section) -> Result<HartPlan, NoMemory>
+    requires { length names.now ≤ 63 }
+    ensures { IfOk result (λ plan. plan ≡ hart_plan names.now (section_view hart.entry)) }
+{
+    let entry = match hart.value_at(Key::Entry) {
+        Some(value) => Some(entry_plan(alloc, value)?),
+        None => None,
+    };
+    let module = hart_domain(names, hart);
+    Ok(HartPlan { module, entry })
+}
+
+fn hart_plans(alloc: Global, names: &Names, harts: &[Value]) -> Result<Vec<HartPlan>, NoMemory>
+    requires { length names.now ≤ 63 }
+    ensures { IfOk result (λ plans. plans.items ≡ map (hart_plan names.now) (map view harts.now)) }
+{
+    let mut plans = Vec::new(alloc);
+    for hart in harts {
+        let plan = hart_plan(alloc, names, Section::Inner(hart))?;
+        if plans.push(plan).is_err() {
+            return Err(NoMemory);
+        }
+    }
+    Ok(plans)
+}
+
+fn version_number(version: Version) -> u32
+    ensures { result ≡ version_number version }
+{
+    match version {
+        Version::One => 1,
+        Version::Two => 2,
+    }
+}
+
+fn kind_at(top: Section) -> Kind
+    ensures { result ≡ option_map_or kind_named (text_at Key.Tables (section_view top.entry)) Kind.Packed }
+{
+    match top.text_at(Key::Tables) {
+        Some(text) => kind_named(text),
+        None => Kind::Packed,
+    }
+}
+
+/// The plan of a manifest whose version and names are known.
+pub(crate) fn plan_of(
+    alloc: Global,
+    version: Version,
+    names: &Names,
+    top: Section,
+) -> Result<Plan, NoMemory>
+    requires version { version ≡ version_of (section_view top) }
+    requires names { names.now ≡ module_names (section_view top) }
+    requires few { length names.now ≤ 63 }
+    requires in_range { IsInRange (plan_of (section_view top)) }
+    ensures { IfOk result (λ plan. plan ≡ plan_of (section_view top.entry)) }
+{
+    let modules = module_plans(alloc, names, top.elements_at(Key::Module))?;
+    let harts = hart_plans(alloc, names, top.elements_at(Key::Hart))?;
+    Ok(Plan {
+        version: version_number(version),
+        ram_kib: number_or(top, Key::RamKib, 64),
+        tables: kind_at(top),
+        upper: number_or(top, Key::Upper, 128),
+        leaf: number_or(top, Key::Leaf, 4096),
+        spill: number_or(top, Key::Spill, 4096),
+        lookaside: number_or(top, Key::Lookaside, 32),
+        quantum: number_or(top, Key::Quantum, 1),
+        modules,
+        harts,
+    })
+}

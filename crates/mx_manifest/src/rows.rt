@@ -1,0 +1,135 @@
+//! The table of keys, in listed order.
+
+ghost use Rattle.std.specs.Prelude.{◌≡◌};
+ghost use Rattle.mx_manifest.specs.Rows.{most, row, top_rows, early_rows, late_rows, gate_rows, hart_rows};
+
+use crate::Key;
+use crate::row::{Asked, Form, ItemForm, Name, Row, TextForm, Version};
+
+/// What version 1 allows at most, or version 2.
+fn most(version: Version, one: u32, two: u32) -> u32
+    ensures { result ≡ most version one two }
+{
+    match version {
+        Version::One => one,
+        Version::Two => two,
+    }
+}
+
+fn row(key: Key, asked: Asked, form: Form) -> Row
+    ensures { result ≡ row key asked form }
+{
+    Row {
+        name: Name::Of(key),
+        asked,
+        form,
+    }
+}
+
+/// The top table.
+pub(crate) fn top_rows(version: Version) -> [Row; 10]
+    ensures { result ≡ top_rows version }
+{
+    let ram = Form::Aligned(64, most(version, 16384, 65536));
+    let upper = Form::Integer(0, most(version, 1024, 4096));
+    let leaf = Form::Integer(0, most(version, 65536, 262144));
+    let spill = Form::Integer(0, most(version, 262144, 1048576));
+    let modules = Form::Array(1, most(version, 15, 63), ItemForm::Table);
+    [
+        row(Key::Version, Asked::Always, Form::Integer(1, 2)),
+        row(Key::RamKib, Asked::Always, ram),
+        row(Key::Tables, Asked::Never, Form::Text(TextForm::Tables)),
+        row(Key::Upper, Asked::Never, upper),
+        row(Key::Leaf, Asked::Never, leaf),
+        row(Key::Spill, Asked::Never, spill),
+        row(Key::Lookaside, Asked::Never, Form::Choice(8, 32, 64)),
+        row(Key::Quantum, Asked::Never, Form::Integer(1, 1000000)),
+        row(Key::Module, Asked::Always, modules),
+        row(Key::Hart, Asked::Always, Form::Array(1, 4, ItemForm::Table)),
+    ]
+}
+
+/// A module, up to its gates.
+pub(crate) fn early_rows(version: Version) -> [Row; 11]
+    ensures { result ≡ early_rows version }
+{
+    let inline = Asked::Without(Key::Image);
+    let address = Form::Aligned(0, u32::MAX);
+    let heap_words = Form::Integer(1, most(version, 4194304, 16777216));
+    [
+        row(Key::Name, Asked::Always, Form::Text(TextForm::ModuleName)),
+        row(
+            Key::Image,
+            Asked::WithoutAny(Key::At, Key::Perm, Key::Words),
+            Form::Text(TextForm::FileName),
+        ),
+        row(Key::At, inline, address),
+        row(Key::Perm, inline, Form::Text(TextForm::Permission)),
+        row(Key::Words, inline, Form::Array(1, 65536, ItemForm::Word)),
+        row(Key::Wx, Asked::Never, Form::Text(TextForm::ImagePermission)),
+        row(Key::Heap, Asked::With(Key::HeapWords), address),
+        row(Key::HeapWords, Asked::With(Key::Heap), heap_words),
+        row(Key::Stack, Asked::With(Key::StackWords), address),
+        row(
+            Key::StackWords,
+            Asked::With(Key::Stack),
+            Form::Integer(1, 1048576),
+        ),
+        row(
+            Key::Gates,
+            Asked::Never,
+            Form::Array(0, 256, ItemForm::Table),
+        ),
+    ]
+}
+
+/// `returns` of a module.
+pub(crate) fn returns_row() -> Row
+    ensures { result ≡ row Key.Returns Asked.Never (Form.Array 0 256 ItemForm.Entry) }
+{
+    row(
+        Key::Returns,
+        Asked::Never,
+        Form::Array(0, 256, ItemForm::Entry),
+    )
+}
+
+/// A module of version 1, after its gates.
+pub(crate) fn late_rows_one() -> [Row; 1]
+    ensures { result ≡ late_rows Version.One }
+{
+    [returns_row()]
+}
+
+/// A module of version 2, after its gates.
+pub(crate) fn late_rows_two() -> [Row; 3]
+    ensures { result ≡ late_rows Version.Two }
+{
+    [
+        returns_row(),
+        row(Key::OnFault, Asked::Never, Form::Text(TextForm::OnFault)),
+        row(Key::Seal, Asked::Never, Form::Boolean),
+    ]
+}
+
+/// A gate of a module.
+pub(crate) fn gate_rows(version: Version) -> [Row; 2]
+    ensures { result ≡ gate_rows version }
+{
+    let from = Row {
+        name: Name::From,
+        asked: Asked::Always,
+        form: Form::Array(1, most(version, 15, 63), ItemForm::Text),
+    };
+    [row(Key::Entry, Asked::Always, Form::Entry), from]
+}
+
+/// A hart.
+pub(crate) fn hart_rows() -> [Row; 2]
+    ensures { result ≡ hart_rows }
+{
+    [
+        row(Key::Module, Asked::Always, Form::Text(TextForm::Any)),
+        row(Key::Entry, Asked::Never, Form::Entry),
+    ]
+}
