@@ -20,14 +20,12 @@ home_is plan images i m e =
 pub length-homes : (plan : Said) (images : List (List ℕ)) → length (homes plan images) ≡ length plan.modules
 length-homes plan images = length-map (enumerate_from 0 plan.modules) (home images) ∙ length-enumerate_from 0 plan.modules
 
-few_words : (plan : ModulePlan) → IfSome plan.stack_words (IsBetween 1 1048576) → IfSome plan.stack_words (λ words. words ≤ 1048576)
+-- how many words of a stack area each hart has
+pub few_words : (plan : ModulePlan) → IfSome plan.stack_words (IsBetween 1 1048576) → IfSome plan.stack_words (λ words. words ≤ 1048576)
 few_words plan h = elim plan.stack_words as (λ o. IfSome o (IsBetween 1 1048576) → IfSome o (λ words. words ≤ 1048576)) [
     | None ↦ λ k. tt
     | Some words ↦ λ k. k.1
   ] h
-
-pub few_stack_words : (plan : Said) (i : ℕ) (m : ModulePlan) → IsInRange plan → slice_get plan.modules i ≡ Some m → IfSome m.stack_words (λ words. words ≤ 1048576)
-few_stack_words plan i m in_range at = few_words m (in_range.modules i m at).stack_words
 
 -- the domain of a hart is a module's
 pub hart_domain : (plan : Said) (h : ℕ) (hart : HartPlan) → IsInRange plan → slice_get plan.harts h ≡ Some hart → IsBetween 1 (length plan.modules) hart.module

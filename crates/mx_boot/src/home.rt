@@ -1,7 +1,6 @@
 //! A module with its domain and its image.
 
-ghost use Rattle.std.specs.Prelude.{◌≡◌, ◌<◌, ◌≤◌, [], length, slice_get, slice_index_or, IfSome};
-ghost use Rattle.mx_manifest.specs.InRange.{IsInRange};
+ghost use Rattle.std.specs.Prelude.{◌≡◌, ◌-◌, ◌^◌, ◌<◌, ◌≤◌, [], length, slice_get, slice_index_or, IfSome};
 ghost use Rattle.mx_boot.specs.Areas.{homes};
 ghost use Rattle.mx_boot.specs.Seen.{seen};
 
@@ -29,7 +28,7 @@ fn bytes_at(images: &[Blob], i: u32) -> &[u8]
 /// The module at a place, which counts from 0.
 pub(crate) fn home_at<'a>(plan: &'a Plan, images: &'a [Blob], i: u32) -> Home<'a>
     requires below { i < length plan.now.modules }
-    requires in_range { IsInRange plan.now }
+    requires small { i < 2 ^ 32 - 1 }
     ensures home { slice_get (homes plan.now images.now) i ≡ Some (seen result) }
     ensures few { IfSome (seen result).plan.stack_words (λ words. words ≤ 1048576) }
 {

@@ -1,7 +1,6 @@
 use Rattle.std.proofs.Common.{◌≡◌, ◌+◌, ◌≤◌, ◌∙◌, ap, sym, subst, refl, length, Ok, Err, arith}
 use Rattle.mx_boot.specs.Laid.{Tells}
 use Rattle.mx_boot.specs.Seen.{seen}
-use Rattle.mx_boot.proofs.Homes.{hart_domain}
 use Rattle.mx_boot.proofs.Started.{hart_rows_are, pc_is, harts_next, harts_stop, harts_end}
 use Rattle.mx_boot.proofs.starts.add_starts.Goals as goal
 
@@ -10,14 +9,14 @@ harts-preserved c =
     let p = c.args.plan.now in
     let at = c.home_at-home.ensures.home in
     let none = sym (hart_rows_are p c.args.images.now c.hart-hart.result.now (seen c.home_at-home.result) at c.args.all.now (c.harts.h + 1) c.requires) ∙ c.in-Ok.ensures.0 in
-    harts_next p c.args.images.now c.harts.h c.hart-hart.result.now c.hart-hart.ensures c.args.starts.now.items c.harts.starts.items c.add_start.new.starts.items _
+    harts_next p c.args.images.now c.harts.h c.hart-hart.result.now c.hart-hart.ensures.value c.args.starts.now.items c.harts.starts.items c.add_start.new.starts.items _
     none (pc_is p c.args.images.now c.hart-hart.result.now (seen c.home_at-home.result) at) c.in-Ok.ensures.1 c.harts.invariant
 
 pub returns-in-Err : goal.returns-in-Err
 returns-in-Err c =
     let p = c.args.plan.now in
     let rows = hart_rows_are p c.args.images.now c.hart-hart.result.now (seen c.home_at-home.result) c.home_at-home.ensures.home c.args.all.now (c.harts.h + 1) c.requires in
-    harts_stop p c.args.images.now c.harts.h c.hart-hart.result.now c.hart-hart.ensures c.args.starts.now.items c.harts.starts.items c.in-Err.refused
+    harts_stop p c.args.images.now c.harts.h c.hart-hart.result.now c.hart-hart.ensures.value c.args.starts.now.items c.harts.starts.items c.in-Err.refused
     (subst (λ o. Tells o c.in-Err.refused) rows c.in-Err.ensures) c.harts.invariant
 
 pub returns : goal.returns
@@ -26,9 +25,9 @@ returns c =
     harts_end c.args.plan.now c.args.images.now c.harts.h c.args.starts.now.items c.harts.starts.items past c.harts.invariant
 
 pub overflow_sub-hart : goal.overflow_sub-hart
-overflow_sub-hart c = (hart_domain c.args.plan.now c.harts.h c.hart-hart.result.now c.harts-h-end.ensures.in_range c.hart-hart.ensures).0
+overflow_sub-hart c = c.hart-hart.ensures.range.domain.0
 
 pub home_at-home-requires-clause-below : goal.home_at-home-requires-clause-below
 home_at-home-requires-clause-below c =
-    let r = hart_domain c.args.plan.now c.harts.h c.hart-hart.result.now c.harts-h-end.ensures.in_range c.hart-hart.ensures in
+    let r = c.hart-hart.ensures.range.domain in
     omega (arith, r.0, r.1)
