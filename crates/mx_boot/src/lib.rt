@@ -1,0 +1,18 @@
+//! The loader: what a plan and its images give at boot, or the first of the faults 10 to 17.
+#![tactic(auto)]
+
+mod area;
+mod areas;
+mod entries;
+mod files;
+mod gates;
+mod home;
+mod laws;
+mod layout;
+mod refused;
+mod starts;
+
+pub use area::Area;
+pub use laws::boots_are_valid;
+pub use layout::{Layout, lay_out};
+pub use refused::LayoutRefused;
