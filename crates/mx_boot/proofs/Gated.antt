@@ -73,7 +73,7 @@ pub few_gates : (all : List Area) (rs : List Request) → AreClear all [] rs →
 few_gates all rs h = let few = few_from all [] rs (omega arith) h in omega (arith, few)
 
 -- of which no two have one domain and word
-flipped : (d w e v : ℕ) → ((e == d) && (v == w)) ≡ false → ((d == e) && (w == v)) ≡ false
+pub flipped : (d w e v : ℕ) → ((e == d) && (v == w)) ≡ false → ((d == e) && (w == v)) ≡ false
 flipped d w e v h = grind (arith, nat_tests)
 
 single_from : (all : List Area) (earlier : List Gate) (rs : List Request) → AreSingle earlier → AreClear all earlier rs → AreSingle (earlier ++ map gate_of rs)

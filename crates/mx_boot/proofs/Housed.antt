@@ -37,7 +37,7 @@ home_inside plan images words i m all at =
     (all_parts (areas_of (length plan.harts)) (λ a. is_in_ram words a ≡ true) (homes plan images) all) (home_is plan images i m at)
 
 -- an area that is there has words
-has_words : (place words : Option ℕ) (most address : ℕ) → is_some place ≡ is_some words → IfSome words (IsBetween 1 most) → place ≡ Some address → 1 ≤ unwrap_or words 0
+pub has_words : (place words : Option ℕ) (most address : ℕ) → is_some place ≡ is_some words → IfSome words (IsBetween 1 most) → place ≡ Some address → 1 ≤ unwrap_or words 0
 has_words place None most address whole h e = absurd (let f : is_some place ≡ true = ap is_some e in cc)
 has_words place (Some words) most address whole h e = h.0
 

@@ -102,7 +102,7 @@ fn add_segments(areas: &mut Vec<Area>, home: Home, segments: &Segs) -> Result<()
 }
 
 /// Adds the areas of a module's loaded segments, or that of its inline words.
-fn add_pieces(areas: &mut Vec<Area>, home: Home) -> Result<(), NoMemory>
+pub(crate) fn add_pieces(areas: &mut Vec<Area>, home: Home) -> Result<(), NoMemory>
     ensures { OnOk result (areas.new.items ≡ areas.old.items ++ pieces (seen home.entry)) }
 {
     if home.plan.image.is_none() {
@@ -115,7 +115,7 @@ fn add_pieces(areas: &mut Vec<Area>, home: Home) -> Result<(), NoMemory>
 }
 
 /// Adds a module's heap area, if it has one.
-fn add_heap(areas: &mut Vec<Area>, home: Home) -> Result<(), NoMemory>
+pub(crate) fn add_heap(areas: &mut Vec<Area>, home: Home) -> Result<(), NoMemory>
     ensures { OnOk result (areas.new.items ≡ areas.old.items ++ heaps (seen home.entry)) }
 {
     match home.plan.heap {
@@ -137,7 +137,7 @@ fn add_heap(areas: &mut Vec<Area>, home: Home) -> Result<(), NoMemory>
 }
 
 /// Adds a module's stack area with words for each hart, if it has one.
-fn add_stack(areas: &mut Vec<Area>, home: Home, harts: u32) -> Result<(), NoMemory>
+pub(crate) fn add_stack(areas: &mut Vec<Area>, home: Home, harts: u32) -> Result<(), NoMemory>
     requires few { IfSome (seen home).plan.stack_words (λ words. words ≤ 1048576) }
     requires harts { harts ≤ 4 }
     ensures { OnOk result (areas.new.items ≡ areas.old.items ++ stacks harts (seen home.entry)) }

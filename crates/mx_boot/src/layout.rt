@@ -27,7 +27,7 @@ pub struct Layout {
 }
 
 /// The number of words of RAM.
-fn ram_words(plan: &Plan) -> u32
+pub(crate) fn ram_words(plan: &Plan) -> u32
     ensures { result ≡ ram_words plan.now }
 {
     256 * plan.ram_kib()

@@ -4,12 +4,29 @@ ghost use Rattle.std.specs.Prelude.{◌≡◌};
 ghost use Rattle.mx_boot.specs.Faults.{at_hart, at_module, fault};
 
 use mx_manifest::{BootFault, Key, Part, Place};
+use mx_words::Need;
 
 /// Why a plan is not laid out.
 #[derive(Clone, Copy, PartialEq, Eq, Debug)]
 pub enum LayoutRefused {
     /// It has this first fault, of number 10 to 17.
     Fault(BootFault),
+    /// An allocation was refused.
+    NoMemory,
+}
+
+/// Why a plan doesn't boot.
+#[derive(Clone, Copy, PartialEq, Eq, Debug)]
+pub enum BootRefused {
+    /// It has this first fault, of number 10 to 17.
+    Fault(BootFault),
+    /// The maps of its modules need more than the tables may take.
+    TablesFull {
+        /// What they need.
+        need: Need,
+        /// What the tables may take.
+        limit: Need,
+    },
     /// An allocation was refused.
     NoMemory,
 }
