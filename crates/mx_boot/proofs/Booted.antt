@@ -60,7 +60,7 @@ pub record IsFaultless (plan : Said) (images : List (List ℕ)) : Type 0 where
   pub asked : gated.AreClear (areas plan images) [] (requests plan images)
   pub started : first_row (harts_rows plan images) ≡ None
 
-faultless : (plan : Said) (images : List (List ℕ)) → first_fault plan images ≡ None → IsFaultless plan images
+pub faultless : (plan : Said) (images : List (List ℕ)) → first_fault plan images ≡ None → IsFaultless plan images
 faultless plan images e =
     let parts = parts_clear plan images e in
     record {

@@ -23,11 +23,10 @@ use Rattle.mx_manifest.specs.InRange.{IsInRange}
 use Rattle.mx_manifest.specs.Plan.{Said}
 use Rattle.mx_boot.specs.Areas.{homes, areas}
 use Rattle.mx_boot.specs.Boot.{boot_state, boot_ram, grants_of, heap_of, module_of}
-use Rattle.mx_boot.specs.Booted.{boot_parts}
 use Rattle.mx_boot.specs.Entries.{requests}
 use Rattle.mx_boot.specs.Faults.{ram_words, first_fault}
 use Rattle.mx_boot.specs.Laid.{gate_of}
-use Rattle.mx_boot.specs.Placed.{heap_state}
+use Rattle.mx_boot.specs.Joined.{boot_parts, heap_state}
 use Rattle.mx_boot.proofs.Apart.{all_inside}
 use Rattle.mx_boot.proofs.Booted.{IsFaultless, faultless}
 use Rattle.mx_boot.proofs.Gated.{few_gates, gates_valid, requests_asked, single_gates}

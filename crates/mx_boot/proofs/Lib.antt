@@ -5,6 +5,7 @@ pub mod Booted
 pub mod Entered
 pub mod Examples
 pub mod FewRuns
+pub mod Fitting
 pub mod Gated
 pub mod Gating
 pub mod Giving

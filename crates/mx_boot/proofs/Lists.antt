@@ -125,3 +125,8 @@ pub there : {X : Type 0} (xs : List X) (i : ℕ) → i < length xs → (x : X) �
 there [] i lt = absurd (let q : ⊥ = omega (arith, lt) in q)
 there (x ∷ xs) zero lt = (x, refl)
 there (x ∷ xs) (suc i) lt = there xs i (omega (arith, lt))
+
+pub all_get : {X : Type 0} (P : X → Type 0) (xs : List X) (i : ℕ) (d : X) → AllByRecursion P xs → i < length xs → P (get_or xs i d)
+all_get P [] i d h lt = absurd (let q : ⊥ = omega (arith, lt) in q)
+all_get P (x ∷ xs) zero d h lt = h.0
+all_get P (x ∷ xs) (suc i) d h lt = all_get P xs i d h.1 (omega (arith, lt))

@@ -17,12 +17,13 @@ use Rattle.mx_manifest.specs.Plan.{Said}
 use Rattle.mx_boot.specs.declared.area.Area.{Area}
 use Rattle.mx_boot.specs.Areas.{Home, Content, home, homes, has_image, image, read_as, pieces, segment_area, inline_area, inline_words, inline_address, word_bytes, heap_words, stack_words, heap_area, stack_area, heaps, stacks, areas_of, areas, contents, segment_content, inline_content}
 use Rattle.mx_boot.specs.Boot.{owned_pieces}
-use Rattle.mx_boot.specs.Faults.{is_in_ram, shares_word, ram_words}
+use Rattle.mx_boot.specs.Faults.{first_fault, is_in_ram, shares_word, ram_words}
 use Rattle.mx_boot.specs.Placed.{ArePlaced, HasRoom, IsApart, IsPlaced, granted_areas, owned_areas}
 use Rattle.mx_boot.proofs.Apart.{AreClear, all_inside, apart_at, in_ram}
+use Rattle.mx_boot.proofs.Booted.{faultless}
 use Rattle.mx_boot.proofs.Homes.{home_is}
 use Rattle.mx_boot.proofs.Housed.{has_words}
-use Rattle.mx_boot.proofs.Lists.{all_at, all_both, all_from, all_join, all_left, all_mapped, all_numbered, all_parts, all_right, all_unmapped, all_weaken}
+use Rattle.mx_boot.proofs.Lists.{all_at, all_both, all_flat, all_from, all_join, all_left, all_mapped, all_numbered, all_parts, all_right, all_unmapped, all_weaken}
 
 -- what holds of all areas holds of those of a module, of those with rights and of its own
 pub home_all : (P : Area → Type 0) (plan : Said) (images : List (List ℕ)) (i : ℕ) (m : ModulePlan) → AllByRecursion P (areas plan images) → slice_get plan.modules i ≡ Some m
@@ -178,3 +179,21 @@ module _ (plan : Said) (images : List (List ℕ)) (in_range : IsInRange plan) (c
   homes_ready = all_mapped (home images) (IsReady (ram_words plan) (length plan.harts)) (enumerate_from 0 plan.modules)
       (all_numbered (λ (p : ℕ × ModulePlan). IsReady (ram_words plan) (length plan.harts) (home images p)) 0 plan.modules
       (λ i m at. let same : i ≡ 0 + i = omega arith in subst (λ k. IsReady (ram_words plan) (length plan.harts) (home images (k, m))) same (module_ready i m at)))
+
+pub ready : (plan : Said) (images : List (List ℕ)) → IsInRange plan → first_fault plan images ≡ None → (i : ℕ) (h : Home) → slice_get (homes plan images) i ≡ Some h → IsReady (ram_words plan) (length plan.harts) h
+ready plan images in_range none i h at =
+    all_at (IsReady (ram_words plan) (length plan.harts)) (homes plan images) i h (homes_ready plan images in_range (faultless plan images none).placed) at
+
+-- RAM has some words, and no more than may be
+pub some_words : (plan : Said) → IsInRange plan → 0 < ram_words plan
+some_words plan in_range = let r = in_range.ram_kib in omega (arith, r.0)
+
+pub few_words : (plan : Said) → IsInRange plan → ram_words plan ≤ 16777216
+few_words plan in_range = let r = in_range.ram_kib in omega (arith, r.1)
+
+-- what all modules own lies in RAM
+pub owned_placed : (plan : Said) (images : List (List ℕ)) → IsInRange plan → first_fault plan images ≡ None → AllByRecursion (IsPlaced (ram_words plan)) (flat_map (owned_areas (length plan.harts)) (homes plan images))
+owned_placed plan images in_range none =
+    all_flat (owned_areas (length plan.harts)) (IsPlaced (ram_words plan)) (homes plan images)
+    (all_weaken (IsReady (ram_words plan) (length plan.harts)) (λ h. AllByRecursion (IsPlaced (ram_words plan)) (owned_areas (length plan.harts) h)) (homes plan images) (λ h is. is.owned)
+    (homes_ready plan images in_range (faultless plan images none).placed))

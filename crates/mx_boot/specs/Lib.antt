@@ -4,6 +4,7 @@ pub mod Booted
 pub mod Entries
 pub mod Faults
 pub mod Images
+pub mod Joined
 pub mod Laid
 pub mod Placed
 pub mod Seen

@@ -1,13 +1,11 @@
--- Areas that lie apart in RAM, and what a machine is joined from at boot.
+-- Areas that lie apart in RAM, and bytes that lie there.
 -- The rules: docs/MACHINE.md, "Memory, domains, harts".
 use Rattle.std.specs.Prelude.{◌≡◌, ◌⊎◌, ℕ, ◌+◌, ◌-◌, ◌*◌, ◌<◌, ◌≤◌, true, false, nat_lt, nat_le, if◌then◌else◌, List, [], ◌++◌, length, fold, Option, Some, None}
 use Rattle.std.specs.List.{AllByRecursion, flat_map}
 use Rattle.mx_words.specs.Ranges.{ram_base}
-use Rattle.mx_heap.specs.HeapState.{HeapState}
-use Rattle.mx_manifest.specs.declared.parts.ModulePlan.{ModulePlan}
 use Rattle.mx_boot.specs.declared.area.Area.{Area}
 use Rattle.mx_boot.specs.Areas.{Home, Content, pieces, heaps, stacks, word_bytes}
-use Rattle.mx_boot.specs.Boot.{owned_pieces, heap_of}
+use Rattle.mx_boot.specs.Boot.{owned_pieces}
 use Rattle.mx_boot.specs.Entries.{word_at}
 use Rattle.mx_boot.specs.Faults.{is_in_ram, shares_word}
 
@@ -52,7 +50,3 @@ pub record HasRoom (size : ℕ) (c : Content) : Type 0 where
 -- the bytes of words, from an address on
 abbrev pub words_content : ℕ → List ℕ → Content
 words_content address words = record { address = address; bytes = flat_map word_bytes words }
-
--- a module's heap at boot
-abbrev pub heap_state : ModulePlan → HeapState
-heap_state plan = record { area = heap_of plan; blocks = [] }

@@ -4,9 +4,10 @@ ghost use Rattle.std.specs.Prelude.{◌≡◌, ◌+◌, ◌≤◌, None, map, If
 ghost use Rattle.mx_boot.specs.Boot.{heap_of};
 ghost use Rattle.mx_boot.specs.Entries.{word_at};
 ghost use Rattle.mx_boot.specs.Faults.{first_fault};
-ghost use Rattle.mx_boot.specs.Placed.{heap_state};
+ghost use Rattle.mx_boot.specs.Joined.{heap_state};
 
 use crate::entries::word_at;
+use crate::home::in_range;
 use mx_heap::Heap;
 use mx_manifest::{ModulePlan, Plan};
 use mx_supervisor::Heaps;
@@ -35,6 +36,7 @@ pub(crate) fn heaps(alloc: Global, plan: &Plan, images: &[Blob]) -> Result<Heaps
     requires { first_fault plan.now images.now ≡ None }
     ensures { IfOk result (λ heaps. heaps ≡ map heap_state plan.now.modules) }
 {
+    in_range(plan);
     let mut heaps = Heaps::new();
     'modules: for i in 0..plan.modules() {
         heaps.push(heap(alloc, plan.module(i))?);

@@ -4,12 +4,14 @@ ghost use Rattle.std.specs.Prelude.{◌≡◌, ◌≤◌, None, Ok, length, IfOk
 ghost use Rattle.mx_model.specs.Gates.{AreSingle};
 ghost use Rattle.mx_supervisor.specs.Parts.{parts_of};
 ghost use Rattle.mx_boot.specs.Boot.{boot_of, boot_state};
-ghost use Rattle.mx_boot.specs.Booted.{IsRefusedBy, boot_parts};
+ghost use Rattle.mx_boot.specs.Booted.{IsRefusedBy};
+ghost use Rattle.mx_boot.specs.Joined.{boot_parts};
 ghost use Rattle.mx_boot.specs.Laid.{IsLayout};
 
 use crate::heaps::heaps;
+use crate::home::in_range;
 use crate::layout::Layout;
-use crate::owning::owners;
+use crate::owners::owners;
 use crate::ram::ram;
 use crate::refused::BootRefused;
 use crate::tables::tables;
@@ -52,10 +54,7 @@ pub(crate) fn join<T: PermTables, const N: usize>(
     ensures parts { IfOk result (λ s. parts_of T.kind T.maps T.size T.limits N s ≡ boot_parts plan.now images.now) }
     ensures refused { IfErr result (IsRefusedBy (boot_of plan.now images.now)) }
 {
-    let tables: T = match tables(alloc, plan, images) {
-        Ok(tables) => tables,
-        Err(refused) => return Err(refused),
-    };
+    in_range(plan);
     let Ok(ram) = ram(alloc, plan, images) else {
         return Err(BootRefused::NoMemory);
     };
@@ -65,7 +64,12 @@ pub(crate) fn join<T: PermTables, const N: usize>(
     let Ok(heaps) = heaps(alloc, plan, images) else {
         return Err(BootRefused::NoMemory);
     };
-    let checker = Checker::new(tables, plan.harts());
     let gates = gates(layout.gates.as_slice());
-    Ok(Supervisor::new(checker, ram, owners, gates, heaps))
+    match tables(alloc, plan, images) {
+        Ok(tables) => {
+            let checker = Checker::new(tables, plan.harts());
+            Ok(Supervisor::new(checker, ram, owners, gates, heaps))
+        }
+        Err(refused) => Err(refused),
+    }
 }

@@ -6,15 +6,15 @@ mod areas;
 mod entries;
 mod files;
 mod gates;
+mod granted;
 mod heaps;
 mod home;
 mod joined;
 mod laws;
 mod layout;
-mod owning;
+mod owners;
 mod ram;
 mod refused;
-mod rows;
 mod starts;
 mod tables;
 

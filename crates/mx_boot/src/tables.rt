@@ -1,6 +1,7 @@
 //! The permission tables at boot.
 
 ghost use Rattle.std.specs.Prelude.{◌≡◌, None, Ok, IfOk, IfErr};
+ghost use Rattle.mx_table.specs.Tables.{IsLimit};
 ghost use Rattle.mx_model.specs.State.{flat};
 ghost use Rattle.mx_boot.specs.Boot.{boot_of, boot_state, limit_of};
 ghost use Rattle.mx_boot.specs.Booted.{IsRefusedBy};
@@ -8,7 +9,8 @@ ghost use Rattle.mx_boot.specs.Faults.{first_fault, ram_words};
 
 use crate::layout::ram_words;
 use crate::refused::BootRefused;
-use crate::rows::rows;
+use crate::granted::rows;
+use crate::home::in_range;
 use mx_manifest::Plan;
 use mx_table::{BuildRefused, PermTables};
 use mx_words::{Blob, Need};
@@ -16,7 +18,8 @@ use std::alloc::Global;
 
 /// The limit of a plan's tables.
 fn limit(plan: &Plan) -> Need
-    ensures { result ≡ limit_of plan.now }
+    ensures limit { result ≡ limit_of plan.now }
+    ensures most { IsLimit result }
 {
     Need {
         upper: plan.upper(),
@@ -39,6 +42,7 @@ pub(crate) fn tables<T: PermTables>(
     ensures limit { IfOk result (λ t. T.limits t ≡ limit_of plan.now) }
     ensures refused { IfErr result (IsRefusedBy (boot_of plan.now images.now)) }
 {
+    in_range(plan);
     let Ok(rows) = rows(alloc, plan, images) else {
         return Err(BootRefused::NoMemory);
     };

@@ -1,5 +1,5 @@
 use Rattle.std.proofs.Common.{◌≡◌, take, map}
-use Rattle.mx_boot.specs.Placed.{heap_state}
+use Rattle.mx_boot.specs.Joined.{heap_state}
 use Rattle.mx_boot.proofs.heaps.heaps.Given as goal
 
 abbrev pub invariant-modules : goal.invariant-modules

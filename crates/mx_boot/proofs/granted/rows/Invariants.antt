@@ -1,5 +1,5 @@
 use Rattle.mx_boot.proofs.Rowing.{AreRowsTo}
-use Rattle.mx_boot.proofs.rows.rows.Given as goal
+use Rattle.mx_boot.proofs.granted.rows.Given as goal
 
 abbrev pub invariant-modules : goal.invariant-modules
 invariant-modules l = AreRowsTo l.plan l.images l.i l.all.items

@@ -1,13 +1,11 @@
 //! The rows of the permission tables at boot.
 
-ghost use Rattle.std.specs.Prelude.{◌≡◌, ◌≤◌, ◌++◌, None, length, map, IfOk, IfErr, IfSome};
+ghost use Rattle.std.specs.Prelude.{◌≡◌, ◌≤◌, ◌++◌, None, [], ◌∷◌, map, IfOk, IfSome, OnOk};
 ghost use Rattle.std.specs.List.{AllByRecursion};
 ghost use Rattle.mx_table.specs.Tables.{IsRow, most_words, row_map};
 ghost use Rattle.mx_words.specs.Newest.{map as map_of};
 ghost use Rattle.mx_model.specs.State.{flat};
-ghost use Rattle.mx_boot.specs.Boot.{boot_of, boot_state, grant, limit_of};
-ghost use Rattle.mx_boot.specs.Booted.{IsRefusedBy};
-ghost use Rattle.mx_boot.specs.Entries.{word_at};
+ghost use Rattle.mx_boot.specs.Boot.{boot_state, grant, grants_of};
 ghost use Rattle.mx_boot.specs.Faults.{first_fault, ram_words};
 ghost use Rattle.mx_boot.specs.Placed.{ArePlaced, granted_areas, nearer, next_area};
 ghost use Rattle.mx_boot.specs.Seen.{seen};
@@ -15,12 +13,10 @@ ghost use Rattle.mx_boot.specs.Seen.{seen};
 use crate::area::Area;
 use crate::areas::{add_pieces, add_stack};
 use crate::entries::word_at;
-use crate::home::{Home, home_at};
+use crate::home::{Home, home_at, in_range};
 use crate::layout::ram_words;
-use crate::refused::BootRefused;
 use mx_manifest::Plan;
-use mx_table::{BuildRefused, PermTables};
-use mx_words::{Blob, Need, NoMemory, Span, Spans};
+use mx_words::{Blob, NoMemory, Span, Spans};
 use std::alloc::Global;
 
 /// The areas on which a module has rights.
@@ -111,6 +107,7 @@ pub(crate) fn rows(alloc: Global, plan: &Plan, images: &[Blob]) -> Result<Vec<Sp
     ensures maps { IfOk result (λ rows. map (row_map (ram_words plan.now)) rows.items
         ≡ (flat (boot_state plan.now images.now)).maps) }
 {
+    in_range(plan);
     let words = ram_words(plan);
     let mut all = Vec::new(alloc);
     'modules: for i in 0..plan.modules() {
