@@ -1,7 +1,7 @@
 -- Areas of a plan without a fault: they lie in RAM and share no word.
-use Rattle.std.proofs.Common.{◌≡◌, ◌⊎◌, inl, inr, ℕ, zero, suc, ◌+◌, ◌-◌, ◌*◌, ◌/◌, ◌%◌, ◌<◌, ◌≤◌, Bool, true, false, not, cond, nat_le, nat_lt, ◌==◌, ◌&&◌, List, [], ◌∷◌, ◌++◌, length, map, find, slice_get, Option, Some, None, refl, ap, ◌∙◌, sym, subst, arith}
+use Rattle.std.proofs.Common.{◌≡◌, ◌⊎◌, inl, inr, ℕ, zero, suc, ◌+◌, ◌/◌, ◌≤◌, Bool, true, false, not, cond, nat_le, ◌&&◌, List, [], ◌∷◌, ◌++◌, length, find, slice_get, Option, Some, None, refl, ◌∙◌, sym, arith}
 use Rattle.std.specs.List.{AllByRecursion}
-use Rattle.std.specs.Option.{option_or, is_some}
+use Rattle.std.specs.Option.{is_some}
 use Rattle.std.proofs.lemmas.Bool.Decides.{nat_tests}
 use Rattle.std.proofs.lemmas.Option.{same_Some}
 use Rattle.mx_words.specs.FirstRow.{first_row}
@@ -10,8 +10,8 @@ use Rattle.mx_words.proofs.FirstRowLaws.{first_row-append}
 use Rattle.mx_manifest.specs.declared.fault.BootFault.{BootFault}
 use Rattle.mx_boot.specs.declared.area.Area.{Area}
 use Rattle.mx_boot.specs.Entries.{word_at}
-use Rattle.mx_boot.specs.Faults.{Fault, is_in_ram, shares_word, area_rows, areas_rows}
-use Rattle.mx_boot.proofs.Lists.{all_left, all_right, all_weaken, all_both, all_at, find_none, neither}
+use Rattle.mx_boot.specs.Faults.{is_in_ram, shares_word, area_rows, areas_rows}
+use Rattle.mx_boot.proofs.Lists.{all_weaken, all_at, find_none, neither}
 
 -- a row that doesn't apply, and the rows behind it
 pub row_fails : (test : Bool) (fault : BootFault) (rest : Option BootFault) → cond test (Some fault) rest ≡ None → (test ≡ false) × (rest ≡ None)

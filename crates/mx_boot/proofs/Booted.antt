@@ -1,31 +1,29 @@
 -- States at boot are valid.
-use Rattle.std.proofs.Common.{◌≡◌, ℕ, zero, suc, ◌+◌, ◌-◌, ◌*◌, ◌^◌, ◌<◌, ◌≤◌, Bool, true, false, cond, List, [], ◌∷◌, ◌++◌, length, map, get_or, replicate, slice_get, Option, Some, None, Result, Ok, Err, refl, ap, ◌∙◌, sym, subst, arith, inl, inr}
-use Rattle.std.specs.List.{AllByRecursion, enumerate_from, flat_map}
-use Rattle.std.specs.Option.{option_or}
+use Rattle.std.proofs.Common.{◌≡◌, ℕ, zero, suc, ◌<◌, ◌≤◌, Bool, true, false, cond, List, [], length, get_or, replicate, Option, Some, None, Result, Ok, Err, refl, ◌∙◌, sym, subst, arith, inl, inr}
+use Rattle.std.specs.List.{AllByRecursion, enumerate_from}
 use Rattle.std.proofs.lemmas.Bool.{cases_lt}
 use Rattle.std.proofs.lemmas.List.{length-map, length-replicate, get_or_past}
 use Rattle.std.proofs.lemmas.List.FromFn.{length-enumerate_from}
 use Rattle.std.proofs.lemmas.Option.{get_or_from_slice_get}
 use Rattle.mx_words.specs.declared.perm.Perm.{Perm}
-use Rattle.mx_words.specs.Caches.{Cache, no_cache}
+use Rattle.mx_words.specs.Caches.{no_cache}
 use Rattle.mx_words.specs.FirstRow.{first_row}
 use Rattle.mx_words.specs.Need.{within}
-use Rattle.mx_words.specs.Newest.{Grant, Give, owner, owners}
+use Rattle.mx_words.specs.Newest.{owners}
 use Rattle.mx_words.specs.Newest.{map as map_of}
 use Rattle.mx_words.proofs.OverlayLaws.{length-map_of, length-owners, owners-at}
 use Rattle.mx_model.specs.Reads.{reads}
 use Rattle.mx_model.specs.State.{Core, Hart, State, flat, hart_at, no_hart}
-use Rattle.mx_model.specs.Valid.{IsCache, IsFlat, IsGate, IsHart, IsHome, IsModule, IsValid}
+use Rattle.mx_model.specs.Valid.{IsCache, IsFlat, IsGate, IsHart, IsHome, IsValid}
 use Rattle.mx_model.proofs.ValidCaches.{cache-none}
 use Rattle.mx_audit.specs.Sealed.{OwnHeaps}
 use Rattle.mx_manifest.specs.declared.fault.BootFault.{BootFault}
-use Rattle.mx_manifest.specs.declared.parts.HartPlan.{HartPlan}
 use Rattle.mx_manifest.specs.InRange.{IsInRange}
 use Rattle.mx_manifest.specs.Plan.{Said}
-use Rattle.mx_boot.specs.Areas.{Home, homes, areas}
-use Rattle.mx_boot.specs.Boot.{Refusal, Faulty, TooFull, boot_need, boot_ram, boot_state, boot_of, gives_of, grants_of, hart_of, limited, module_of, unless}
+use Rattle.mx_boot.specs.Areas.{homes, areas}
+use Rattle.mx_boot.specs.Boot.{Refusal, TooFull, boot_need, boot_state, boot_of, grants_of, hart_of, limited, module_of, unless}
 use Rattle.mx_boot.specs.Entries.{requests}
-use Rattle.mx_boot.specs.Faults.{areas_rows, gates_rows, harts_rows, ram_words, first_fault}
+use Rattle.mx_boot.specs.Faults.{harts_rows, ram_words, first_fault}
 use Rattle.mx_boot.specs.Images.{AreImages}
 use Rattle.mx_boot.specs.Laid.{gate_of}
 use Rattle.mx_boot.proofs.Apart.{AreClear, all_inside, areas_clear}
@@ -35,7 +33,7 @@ use Rattle.mx_boot.proofs.Gated as gated
 use Rattle.mx_boot.proofs.Harted.{hart_valid}
 use Rattle.mx_boot.proofs.Homes.{length-homes}
 use Rattle.mx_boot.proofs.Housed.{Inside, few_gives_all, modules_valid, owners_small}
-use Rattle.mx_boot.proofs.Lists.{all_each, all_at, all_mapped, neither, there}
+use Rattle.mx_boot.proofs.Lists.{all_each, all_mapped, there}
 use Rattle.mx_boot.proofs.OwnHeaps.{heaps_own}
 use Rattle.mx_boot.proofs.RamBytes.{length-boot_ram, small-boot_ram}
 use Rattle.mx_boot.proofs.Rows.{at_counted, at_mapped}

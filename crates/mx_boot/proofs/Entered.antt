@@ -1,7 +1,7 @@
 -- Entries of a plan without a fault: they are aligned and lie in RAM.
-use Rattle.std.proofs.Common.{◌≡◌, ℕ, zero, suc, ◌+◌, ◌-◌, ◌*◌, ◌/◌, ◌%◌, ◌^◌, ◌<◌, ◌≤◌, Bool, true, false, not, cond, nat_eq, nat_le, nat_lt, ◌==◌, ◌&&◌, List, [], ◌∷◌, ◌++◌, length, slice_get, Option, Some, None, unwrap_or, refl, ap, ◌∙◌, sym, subst, arith}
+use Rattle.std.proofs.Common.{◌≡◌, ℕ, ◌+◌, ◌/◌, ◌%◌, ◌<◌, ◌≤◌, true, not, ◌==◌, List, Option, None, unwrap_or, arith}
 use Rattle.std.specs.List.{AllByRecursion, list_any}
-use Rattle.std.specs.Option.{is_some, option_or}
+use Rattle.std.specs.Option.{is_some}
 use Rattle.std.proofs.lemmas.Bool.{and_parts}
 use Rattle.std.proofs.lemmas.Bool.Decides.{nat_tests}
 use Rattle.mx_words.specs.FirstRow.{first_row}
@@ -10,7 +10,7 @@ use Rattle.mx_manifest.specs.declared.fault.Place.{Place}
 use Rattle.mx_boot.specs.declared.area.Area.{Area}
 use Rattle.mx_boot.specs.Entries.{word_at}
 use Rattle.mx_boot.specs.Faults.{is_in_ram, holds_entry, is_entry, entry_rows}
-use Rattle.mx_boot.proofs.Apart.{IsInRam, in_ram, row_fails, not_false}
+use Rattle.mx_boot.proofs.Apart.{in_ram, row_fails, not_false}
 use Rattle.mx_boot.proofs.Lists.{all_at, any_some}
 
 -- an aligned address in RAM

@@ -1,10 +1,10 @@
 -- Each give adds at most two runs of owners: a run begins only where one begins or ends.
-use Rattle.std.proofs.Common.{◌≡◌, ℕ, zero, suc, ◌+◌, ◌-◌, ◌*◌, ◌<◌, ◌≤◌, Bool, true, false, not, cond, nat_eq, nat_le, nat_lt, ◌==◌, ◌&&◌, ◌||◌, List, [], ◌∷◌, ◌++◌, length, get_or, map, refl, ap, ◌∙◌, sym, subst, arith}
-use Rattle.std.specs.List.{AllByRecursion, flat_map, list_any}
+use Rattle.std.proofs.Common.{◌≡◌, ℕ, zero, suc, ◌+◌, ◌-◌, ◌*◌, ◌<◌, ◌≤◌, Bool, true, false, not, cond, ◌==◌, ◌||◌, List, [], ◌∷◌, length, get_or, refl, ap, ◌∙◌, sym, arith}
+use Rattle.std.specs.List.{flat_map, list_any}
 use Rattle.std.proofs.lemmas.Bool.{eq-eqb}
 use Rattle.std.proofs.lemmas.Bool.Decides.{nat_tests}
 use Rattle.mx_words.specs.Counting.{bit, count_below}
-use Rattle.mx_words.specs.Newest.{Give, Laid, laid_at, newest, owner, owners}
+use Rattle.mx_words.specs.Newest.{Give, laid_at, newest, owner, owners}
 use Rattle.mx_words.specs.Ranges.{covers}
 use Rattle.mx_words.specs.Runs.{owner_runs}
 use Rattle.mx_words.specs.Starts.{is_owner_start}
@@ -12,7 +12,6 @@ use Rattle.mx_words.proofs.CountingLaws.{count_below_none}
 use Rattle.mx_words.proofs.OverlayLaws.{length-owners, owners-at}
 use Rattle.mx_words.proofs.RunLaws.{owner_runs-count}
 use Rattle.mx_boot.proofs.Lists.{none_or, length-flat_at_most, all_each}
-use Rattle.mx_boot.proofs.Owning.{is_over}
 
 -- counting
 bit-le-bit : (a b : Bool) → (a ≡ true → b ≡ true) → bit a ≤ bit b

@@ -1,5 +1,5 @@
 -- The tables of a plan without a fault decide whether it boots.
-use Rattle.std.proofs.Common.{◌≡◌, ℕ, Bool, true, false, cond, List, None, Ok, Err, length, map, refl, ap, ◌∙◌, sym}
+use Rattle.std.proofs.Common.{◌≡◌, ℕ, true, false, cond, List, None, Ok, Err, length, map, ap, ◌∙◌, sym}
 use Rattle.std.proofs.lemmas.List.{length-map}
 use Rattle.mx_words.specs.declared.perm.Perm.{Perm}
 use Rattle.mx_words.specs.declared.perm.Span.{Span}
@@ -11,7 +11,7 @@ use Rattle.mx_model.specs.State.{flat}
 use Rattle.mx_table.specs.Tables.{row_map}
 use Rattle.mx_manifest.specs.Plan.{Said}
 use Rattle.mx_boot.specs.Areas.{homes}
-use Rattle.mx_boot.specs.Boot.{Faulty, TooFull, boot_need, boot_of, boot_state, grants_of, limit_of, limited, unless}
+use Rattle.mx_boot.specs.Boot.{TooFull, boot_need, boot_of, boot_state, grants_of, limit_of, limited, unless}
 use Rattle.mx_boot.specs.Faults.{first_fault, ram_words}
 use Rattle.mx_boot.proofs.Homes.{length-homes}
 

@@ -1,7 +1,6 @@
 -- Gates of a plan without a fault.
-use Rattle.std.proofs.Common.{◌≡◌, ℕ, zero, suc, ◌+◌, ◌<◌, ◌≤◌, Bool, true, false, not, cond, nat_eq, ◌==◌, ◌&&◌, List, [], ◌∷◌, ◌++◌, length, map, slice_get, Option, Some, None, unwrap_or, refl, ap, ◌∙◌, sym, subst, arith, append_assoc}
-use Rattle.std.specs.List.{AllByRecursion, enumerate_from, flat_map, list_any}
-use Rattle.std.specs.Option.{option_or}
+use Rattle.std.proofs.Common.{◌≡◌, ℕ, ◌+◌, ◌<◌, ◌≤◌, true, false, ◌==◌, ◌&&◌, List, [], ◌∷◌, ◌++◌, length, map, None, unwrap_or, refl, ◌∙◌, sym, subst, arith, append_assoc}
+use Rattle.std.specs.List.{AllByRecursion, enumerate_from, flat_map}
 use Rattle.std.proofs.lemmas.Bool.Decides.{nat_tests}
 use Rattle.std.proofs.lemmas.List.{length-append, append-nil}
 use Rattle.std.proofs.lemmas.Option.{slice_get_within}
@@ -26,7 +25,7 @@ use Rattle.mx_boot.specs.Entries.{word_at, request, call_requests, return_reques
 use Rattle.mx_boot.specs.Faults.{Fault, is_in_ram, at_module, fault, entry_rows, gate_rows, gates_rows}
 use Rattle.mx_boot.specs.Laid.{gate_of}
 use Rattle.mx_boot.proofs.Apart.{row_fails}
-use Rattle.mx_boot.proofs.Entered.{IsEntered, IsInside, entry_inside, entry_clear}
+use Rattle.mx_boot.proofs.Entered.{IsEntered, entry_inside, entry_clear}
 use Rattle.mx_boot.proofs.Lists.{all_join, all_weaken, all_both, all_each, all_mapped, all_flat, all_from, all_numbered, any_none, neither}
 
 -- a gate behind earlier ones

@@ -1,12 +1,11 @@
 -- Gates added one after another.
-use Rattle.std.proofs.Common.{◌≡◌, ℕ, zero, suc, ◌+◌, ◌<◌, ◌≤◌, Bool, true, false, not, cond, nat_le, ◌&&◌, ◌||◌, List, [], ◌∷◌, ◌++◌, length, get_or, map, take, refl, ap, ◌∙◌, sym, subst, arith}
+use Rattle.std.proofs.Common.{◌≡◌, ℕ, zero, suc, ◌+◌, ◌<◌, ◌≤◌, Bool, false, not, cond, nat_le, ◌&&◌, ◌||◌, List, [], ◌∷◌, ◌++◌, length, get_or, take, refl, ap, ◌∙◌, sym, arith}
 use Rattle.std.specs.List.{AllByRecursion, list_any}
 use Rattle.std.proofs.lemmas.Bool.Decides.{nat_tests}
 use Rattle.std.proofs.lemmas.List.{take_more, length-take-le}
 use Rattle.mx_model.specs.declared.values.Gate.{Gate}
 use Rattle.mx_model.specs.Gates.{AreSingle, has_gate, is_at, no_gate_fits, with_gate, without_gate}
 use Rattle.mx_boot.proofs.Gated.{flipped}
-use Rattle.mx_boot.proofs.Lists.{all_weaken}
 
 all_taken : {X : Type 0} (P : X → Type 0) (xs : List X) (i : ℕ) (d : X) → ((j : ℕ) → j < i → j < length xs → P (get_or xs j d)) → AllByRecursion P (take i xs)
 all_taken P [] zero d f = tt
@@ -25,7 +24,7 @@ none_left_out domain word (g ∷ gs) h = ap (λ b. cond (not b) (g ∷ without_g
 module _ (all : List Gate) (single : AreSingle all) (i : ℕ) (d : Gate) (lt : i < length all) where
   fresh : AllByRecursion (λ g. is_at (get_or all i d).domain (get_or all i d).word g ≡ false) (take i all)
   fresh = all_taken (λ g. is_at (get_or all i d).domain (get_or all i d).word g ≡ false) all i d
-      (λ j before below. let a = get_or all j d in let b = get_or all i d in flipped b.domain b.word a.domain a.word (single j i d before lt))
+      (λ j before below. let a = get_or all j d in let b = get_or all i d in flipped a.domain a.word b.domain b.word (single j i d before lt))
 
   pub gate-next : with_gate (get_or all i d) (take i all) ≡ take (i + 1) all
   gate-next = ap (λ gs. gs ++ get_or all i d ∷ []) (none_left_out (get_or all i d).domain (get_or all i d).word (take i all) fresh) ∙ sym (take_more all i d lt)

@@ -1,15 +1,15 @@
 -- Words given one area after another.
-use Rattle.std.proofs.Common.{◌≡◌, ℕ, zero, suc, ◌+◌, ◌*◌, ◌<◌, ◌≤◌, List, [], ◌∷◌, ◌++◌, length, get_or, map, take, replicate, refl, ap, ◌∙◌, sym, subst, arith}
-use Rattle.std.specs.List.{AllByRecursion, flat_map, range_with_len}
+use Rattle.std.proofs.Common.{◌≡◌, ℕ, zero, suc, ◌+◌, ◌<◌, ◌≤◌, List, [], ◌∷◌, ◌++◌, length, get_or, map, take, replicate, refl, ap, ◌∙◌, sym, arith}
+use Rattle.std.specs.List.{flat_map, range_with_len}
 use Rattle.std.proofs.lemmas.List.{length-map, map-append, take_more}
-use Rattle.mx_words.specs.Newest.{Give, laid, owner, owners}
+use Rattle.mx_words.specs.Newest.{laid, owner, owners}
 use Rattle.mx_words.specs.Runs.{owner_runs}
 use Rattle.mx_words.proofs.OverlayLaws.{owners-append}
 use Rattle.mx_manifest.specs.Plan.{Said}
 use Rattle.mx_boot.specs.declared.area.Area.{Area}
 use Rattle.mx_boot.specs.Areas.{Home, homes}
 use Rattle.mx_boot.specs.Boot.{give, gives_of}
-use Rattle.mx_boot.specs.Placed.{IsPlaced, owned_areas}
+use Rattle.mx_boot.specs.Placed.{owned_areas}
 use Rattle.mx_boot.proofs.FewRuns.{runs-at-most}
 use Rattle.mx_boot.proofs.Housed.{few_gives_all}
 

@@ -1,27 +1,25 @@
 -- Harts of a plan without a fault.
-use Rattle.std.proofs.Common.{◌≡◌, ℕ, zero, suc, ◌+◌, ◌-◌, ◌*◌, ◌/◌, ◌%◌, ◌^◌, ◌<◌, ◌≤◌, Bool, true, false, List, [], ◌∷◌, ◌++◌, length, map, get_or, set, replicate, slice_get, Option, Some, None, unwrap_or, refl, ap, ◌∙◌, sym, subst, arith, mul-le-mul_left, mul_assoc}
+use Rattle.std.proofs.Common.{◌≡◌, ℕ, zero, suc, ◌+◌, ◌-◌, ◌*◌, ◌^◌, ◌<◌, ◌≤◌, true, List, [], ◌∷◌, ◌++◌, length, get_or, set, replicate, slice_get, Option, Some, None, unwrap_or, refl, ap, ◌∙◌, sym, arith, mul-le-mul_left, mul_assoc}
 use Rattle.std.proofs.lemmas.Option.{same_Some, slice_get_within}
-use Rattle.std.specs.List.{AllByRecursion, enumerate_from, flat_map}
-use Rattle.std.specs.Option.{is_some, option_map_or, option_or}
+use Rattle.std.specs.List.{enumerate_from, flat_map}
+use Rattle.std.specs.Option.{option_map_or}
 use Rattle.std.proofs.lemmas.List.{length-set, length-replicate}
-use Rattle.mx_words.specs.FirstRow.{first_row, Row}
+use Rattle.mx_words.specs.FirstRow.{first_row}
 use Rattle.mx_words.proofs.FirstRowLaws.{first_row-append}
-use Rattle.mx_model.specs.State.{Hart}
-use Rattle.mx_model.specs.Valid.{IsModule, IsPc, IsRegisters, IsHart}
+use Rattle.mx_model.specs.Valid.{IsRegisters, IsHart}
 use Rattle.mx_manifest.specs.declared.parts.HartPlan.{HartPlan}
 use Rattle.mx_manifest.specs.declared.parts.ModulePlan.{ModulePlan}
 use Rattle.mx_manifest.specs.InRange.{IsInRange}
 use Rattle.mx_manifest.specs.Plan.{Said}
-use Rattle.mx_boot.specs.declared.area.Area as area
-use Rattle.mx_boot.specs.Areas.{Home, home, homes, pieces, heaps, stacks, stack_words, stack_area, areas_of, areas}
+use Rattle.mx_boot.specs.Areas.{Home, home, pieces, heaps, stacks, stack_words, stack_area, areas}
 use Rattle.mx_boot.specs.Boot.{stack_address, hart_of}
-use Rattle.mx_boot.specs.Entries.{word_at, hart_start}
+use Rattle.mx_boot.specs.Entries.{hart_start}
 use Rattle.mx_boot.specs.Faults.{Fault, is_in_ram, at_hart, hart_rows, harts_rows}
 use Rattle.mx_boot.proofs.Apart.{in_ram}
-use Rattle.mx_boot.proofs.Entered.{IsEntered, IsInside, entry_inside, entry_clear}
+use Rattle.mx_boot.proofs.Entered.{IsInside, entry_inside, entry_clear}
 use Rattle.mx_boot.proofs.Homes.{hart_domain}
 use Rattle.mx_boot.proofs.Housed.{Inside, home_inside}
-use Rattle.mx_boot.proofs.Lists.{all_right, all_at, neither, there}
+use Rattle.mx_boot.proofs.Lists.{all_right, neither, there}
 use Rattle.mx_boot.proofs.Rows.{at_numbered}
 
 -- where none of the rows of elements applies, none of those of each applies

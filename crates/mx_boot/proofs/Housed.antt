@@ -1,5 +1,5 @@
 -- Modules of a plan without a fault: their areas lie in RAM.
-use Rattle.std.proofs.Common.{◌≡◌, ℕ, zero, suc, ◌+◌, ◌-◌, ◌*◌, ◌/◌, ◌<◌, ◌≤◌, Bool, true, false, cond, List, [], ◌∷◌, ◌++◌, length, map, slice_get, Option, Some, None, IfSome, unwrap_or, Result, Ok, Err, refl, ap, ◌∙◌, sym, subst, arith}
+use Rattle.std.proofs.Common.{◌≡◌, ℕ, ◌+◌, ◌*◌, ◌≤◌, true, false, cond, List, [], ◌∷◌, ◌++◌, length, map, slice_get, Option, Some, None, IfSome, unwrap_or, Result, Ok, Err, refl, ap, arith}
 use Rattle.std.specs.List.{AllByRecursion, enumerate_from, flat_map}
 use Rattle.std.specs.Option.{is_some, option_map_or}
 use Rattle.std.proofs.lemmas.List.{length-append, length-map}
@@ -11,7 +11,7 @@ use Rattle.mx_elf.proofs.Sound.{sound-image}
 use Rattle.mx_words.specs.FirstFit.{Area}
 use Rattle.mx_words.specs.Newest.{Give, laid_at, newest, owner}
 use Rattle.mx_words.specs.Ranges.{covers}
-use Rattle.mx_model.specs.State.{Module, Stack}
+use Rattle.mx_model.specs.State.{Stack}
 use Rattle.mx_model.specs.Valid.{IsHome}
 use Rattle.mx_manifest.specs.declared.parts.ModulePlan.{ModulePlan}
 use Rattle.mx_manifest.specs.InRange.{IsBetween, IsInRange}
@@ -19,7 +19,7 @@ use Rattle.mx_manifest.specs.InRange as range
 use Rattle.mx_manifest.specs.Plan.{Said}
 use Rattle.mx_boot.specs.declared.area.Area as area
 use Rattle.mx_boot.specs.Areas.{Home, home, homes, has_image, image, read_as, pieces, segment_area, inline_area, heap_words, stack_words, heap_area, stack_area, heaps, stacks, areas_of, areas}
-use Rattle.mx_boot.specs.Boot.{heap_of, stack_of, module_of, owned_pieces, gives_of, give}
+use Rattle.mx_boot.specs.Boot.{module_of, owned_pieces, gives_of, give}
 use Rattle.mx_boot.specs.Entries.{word_at}
 use Rattle.mx_boot.specs.Faults.{is_in_ram}
 use Rattle.mx_boot.proofs.Apart.{in_ram, end_is}

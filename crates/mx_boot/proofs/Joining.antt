@@ -1,28 +1,32 @@
 -- The parts of a plan without a fault belong together.
-use Rattle.std.proofs.Common.{◌≡◌, ◌⊎◌, inl, inr, ℕ, zero, suc, ◌+◌, ◌-◌, ◌*◌, ◌<◌, ◌≤◌, Bool, true, false, cond, nat_eq, ◌==◌, List, [], ◌∷◌, ◌++◌, length, get_or, map, take, replicate, slice_get, Option, Some, None, Ok, Err, refl, ap, ◌∙◌, sym, subst, arith}
+use Rattle.std.proofs.Common.{◌≡◌, inl, inr, ℕ, ◌+◌, ◌-◌, ◌≤◌, true, false, cond, ◌==◌, List, [], length, map, slice_get, Some, None, refl, ap, ◌∙◌, sym, subst, arith}
 use Rattle.std.specs.List.{AllByRecursion}
 use Rattle.std.proofs.lemmas.Bool.{cases_lt}
 use Rattle.std.proofs.lemmas.Bool.Decides.{nat_tests}
 use Rattle.std.proofs.lemmas.List.{length-map, get_or_past}
 use Rattle.std.proofs.lemmas.Option.{get_or_from_slice_get}
 use Rattle.mx_words.specs.declared.perm.Perm.{Perm}
+use Rattle.mx_words.specs.declared.tables.Kind.{Kind}
+use Rattle.mx_words.specs.declared.tables.Need.{Need}
 use Rattle.mx_words.specs.FirstFit.{Area}
-use Rattle.mx_words.specs.Newest.{Grant, owners}
+use Rattle.mx_words.specs.Newest.{owners}
 use Rattle.mx_words.specs.Newest.{map as map_of}
 use Rattle.mx_words.proofs.OverlayLaws.{length-map_of, length-owners}
+use Rattle.mx_check.specs.Calls.{new_harts}
+use Rattle.mx_check.specs.Harts.{Kept}
 use Rattle.mx_heap.specs.HeapState.{HeapState}
+use Rattle.mx_model.specs.declared.values.Gate.{Gate}
 use Rattle.mx_model.specs.Gates.{AreSingle}
-use Rattle.mx_model.specs.State.{flat}
 use Rattle.mx_model.specs.Valid.{IsGate, IsHome}
 use Rattle.mx_table.specs.Tables.{IsDomain}
 use Rattle.mx_table.specs.Tables as tables
 use Rattle.mx_supervisor.specs.Heaps.{heap_at, no_heap, told_area, told_heap}
-use Rattle.mx_supervisor.specs.Parts.{IsSound}
+use Rattle.mx_supervisor.specs.Parts.{IsSound, Parts}
 use Rattle.mx_manifest.specs.declared.parts.ModulePlan.{ModulePlan}
 use Rattle.mx_manifest.specs.InRange.{IsInRange}
 use Rattle.mx_manifest.specs.Plan.{Said}
 use Rattle.mx_boot.specs.Areas.{homes, areas}
-use Rattle.mx_boot.specs.Boot.{boot_state, boot_ram, grants_of, heap_of, module_of}
+use Rattle.mx_boot.specs.Boot.{boot_state, boot_ram, grants_of, heap_of, limit_of, module_of}
 use Rattle.mx_boot.specs.Entries.{requests}
 use Rattle.mx_boot.specs.Faults.{ram_words, first_fault}
 use Rattle.mx_boot.specs.Laid.{gate_of}
@@ -39,15 +43,13 @@ use Rattle.mx_boot.proofs.Rows.{at_mapped}
 -- an area of no words that begins at word 0 is told as it is
 told : (a : Area) → (a.count ≡ 0 → a.first ≡ 0) → told_area a ≡ a
 told a none = elim (a.count == 0) as (λ b. (a.count == 0) ≡ b → cond b (record { first = 0; count = 0 }) a ≡ a) [
-  | true ↦ λ e. let zero_ : a.count ≡ 0 = is_zero a.count e in ap (λ (p : ℕ × ℕ). (let x : Area = record { first = p.0; count = p.1 } in x)) (both (none zero_) zero_)
+  | true ↦ λ e. let zero_ : a.count ≡ 0 = is_zero a.count e in
+      ap (λ n. (let x : Area = record { first = n; count = 0 } in x)) (sym (none zero_)) ∙ ap (λ n. (let x : Area = record { first = a.first; count = n } in x)) (sym zero_)
   | false ↦ λ e. refl
 ] refl
   where
     is_zero : (n : ℕ) → (n == 0) ≡ true → n ≡ 0
     is_zero n e = grind (arith, nat_tests)
-
-    both : a.first ≡ 0 → a.count ≡ 0 → (0, 0) ≡ (a.first, a.count)
-    both e f = cc
 
 module _ (plan : Said) (images : List (List ℕ)) (in_range : IsInRange plan) (none : first_fault plan images ≡ None) where
   clear : IsFaultless plan images
@@ -119,3 +121,15 @@ module _ (plan : Said) (images : List (List ℕ)) (in_range : IsInRange plan) (n
 
   pub gates-few : length (map gate_of (requests plan images)) ≤ 256
   gates-few = let few = few_gates (areas plan images) (requests plan images) clear.asked in omega (arith, length-map (requests plan images) gate_of, few)
+
+-- parts one by one
+pub parts-are : (plan : Said) (images : List (List ℕ)) (kind : Kind) (maps : List (List Perm)) (size : ℕ) (limit : Need) (buffer : ℕ) (harts : List Kept) (ram owners : List ℕ) (gates : List Gate) (heaps : List HeapState)
+    → kind ≡ plan.tables → maps ≡ (boot_parts plan images).maps → size ≡ ram_words plan → limit ≡ limit_of plan → buffer ≡ plan.lookaside → harts ≡ new_harts (length plan.harts)
+    → ram ≡ boot_ram plan images → owners ≡ (boot_parts plan images).owners → gates ≡ map gate_of (requests plan images) → heaps ≡ map heap_state plan.modules
+    → (let p : Parts = record { kind = kind; maps = maps; size = size; limit = limit; buffer = buffer; harts = harts; ram = ram; owners = owners; gates = gates; heaps = heaps } in p) ≡ boot_parts plan images
+parts-are plan images kind maps size limit buffer harts ram owners gates heaps a b c d e f g h i j = rw (a, b, c, d, e, f, g, h, i, j) refl
+
+-- gates that are the plan's, among maps and words that are its own
+pub gates-hold : (plan : Said) (images : List (List ℕ)) (maps : List (List Perm)) (size : ℕ) (gates : List Gate) → IsInRange plan → first_fault plan images ≡ None → maps ≡ (boot_parts plan images).maps
+    → size ≡ ram_words plan → gates ≡ map gate_of (requests plan images) → AllByRecursion (IsGate (length maps) size) gates
+gates-hold plan images maps size gates in_range none a b c = rw (a, b, c) (parts-gates plan images in_range none)

@@ -1,5 +1,5 @@
 -- Owners at boot.
-use Rattle.std.proofs.Common.{◌≡◌, ◌⊎◌, inl, inr, ℕ, zero, suc, ◌+◌, ◌<◌, ◌≤◌, Bool, true, false, cond, ◌||◌, List, [], ◌∷◌, ◌++◌, length, map, refl, ap, ◌∙◌, sym, subst, arith}
+use Rattle.std.proofs.Common.{◌≡◌, ◌⊎◌, inl, inr, ℕ, Bool, true, false, cond, ◌||◌, List, [], ◌∷◌, refl}
 use Rattle.std.specs.List.{AllByRecursion, list_any}
 use Rattle.mx_words.specs.Newest.{Laid, laid_at, newest}
 use Rattle.mx_words.specs.Ranges.{covers}

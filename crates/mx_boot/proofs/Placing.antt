@@ -1,9 +1,7 @@
 -- What the modules of a plan without a fault bring: areas apart in RAM, each of some words, and bytes that lie there.
-use Rattle.std.proofs.Common.{◌≡◌, ◌⊎◌, inl, inr, ℕ, zero, suc, ◌+◌, ◌-◌, ◌*◌, ◌/◌, ◌%◌, ◌<◌, ◌≤◌, Bool, true, false, not, cond, List, [], ◌∷◌, ◌++◌, length, map, take, drop, slice_get, Option, Some, None, IfSome, unwrap_or, Result, Ok, Err, refl, ap, ◌∙◌, sym, subst, arith, mul-le-mul_left}
+use Rattle.std.proofs.Common.{◌≡◌, ◌⊎◌, ℕ, zero, suc, ◌+◌, ◌-◌, ◌*◌, ◌/◌, ◌%◌, ◌<◌, ◌≤◌, true, false, not, cond, List, [], ◌∷◌, ◌++◌, length, map, take, drop, slice_get, Option, Some, None, IfSome, unwrap_or, Result, Ok, Err, refl, ap, ◌∙◌, subst, arith, mul-le-mul_left}
 use Rattle.std.specs.List.{AllByRecursion, enumerate_from, flat_map}
 use Rattle.std.specs.Option.{is_some, option_map_or}
-use Rattle.std.proofs.lemmas.List.{length-append}
-use Rattle.std.proofs.lemmas.Option.{slice_get_within}
 use Rattle.mx_elf.specs.declared.image.Image.{Image}
 use Rattle.mx_elf.specs.declared.image.ImageFault.{ImageFault}
 use Rattle.mx_elf.specs.declared.segment.Seg.{Seg}
@@ -15,7 +13,7 @@ use Rattle.mx_manifest.specs.InRange.{IsAligned, IsBetween, IsInRange}
 use Rattle.mx_manifest.specs.InRange as range
 use Rattle.mx_manifest.specs.Plan.{Said}
 use Rattle.mx_boot.specs.declared.area.Area.{Area}
-use Rattle.mx_boot.specs.Areas.{Home, Content, home, homes, has_image, image, read_as, pieces, segment_area, inline_area, inline_words, inline_address, word_bytes, heap_words, stack_words, heap_area, stack_area, heaps, stacks, areas_of, areas, contents, segment_content, inline_content}
+use Rattle.mx_boot.specs.Areas.{Home, home, homes, has_image, image, read_as, pieces, segment_area, inline_area, inline_words, inline_address, word_bytes, stack_words, heap_area, stack_area, heaps, stacks, areas_of, areas, contents, segment_content, inline_content}
 use Rattle.mx_boot.specs.Boot.{owned_pieces}
 use Rattle.mx_boot.specs.Faults.{first_fault, is_in_ram, shares_word, ram_words}
 use Rattle.mx_boot.specs.Placed.{ArePlaced, HasRoom, IsApart, IsPlaced, granted_areas, owned_areas}

@@ -1,12 +1,11 @@
 -- The spans of areas in the order of their addresses have the map of the areas' grants.
-use Rattle.std.proofs.Common.{◌≡◌, ◌⊎◌, inl, inr, ℕ, zero, suc, ◌+◌, ◌-◌, ◌<◌, ◌≤◌, Bool, true, false, List, [], ◌∷◌, ◌++◌, length, get_or, map, slice_get, Option, Some, None, refl, ap, ◌∙◌, sym, subst, arith}
+use Rattle.std.proofs.Common.{◌≡◌, ◌⊎◌, inl, inr, ℕ, ◌+◌, ◌<◌, ◌≤◌, true, false, List, [], ◌∷◌, ◌++◌, length, get_or, map, Some, None, refl, ap, ◌∙◌, sym, subst, arith}
 use Rattle.std.specs.List.{AllByRecursion, list_any, range_with_len}
 use Rattle.std.proofs.lemmas.Bool.{cases_lt}
 use Rattle.std.proofs.lemmas.List.{length-append, get_or_append_left, get_or-append-add, map-append}
-use Rattle.mx_words.specs.declared.perm.Perm.{Perm}
 use Rattle.mx_words.specs.declared.perm.Perm.TheVariants as P
 use Rattle.mx_words.specs.declared.perm.Span.{Span}
-use Rattle.mx_words.specs.Newest.{Grant, laid_at, newest, at}
+use Rattle.mx_words.specs.Newest.{Grant, laid_at, at}
 use Rattle.mx_words.specs.Newest.{map as map_of}
 use Rattle.mx_words.specs.Ranges.{covers}
 use Rattle.mx_words.proofs.OverlayLaws.{covers_from, covers_in, laid_at_in, laid_at_below, laid_at_behind, newest-append}

@@ -1,5 +1,5 @@
 -- The first fault of a plan, step by step.
-use Rattle.std.proofs.Common.{◌≡◌, ℕ, List, [], ◌∷◌, ◌++◌, Option, Some, None, Result, refl, ap, ◌∙◌, sym, subst}
+use Rattle.std.proofs.Common.{◌≡◌, ℕ, List, [], ◌++◌, Option, Some, None, Result, refl, ap, ◌∙◌, sym, subst}
 use Rattle.std.specs.List.{flat_map}
 use Rattle.std.specs.Option.{option_or}
 use Rattle.mx_words.specs.FirstRow.{first_row}
@@ -13,7 +13,7 @@ use Rattle.mx_boot.specs.declared.refused.LayoutRefused.TheVariants.{Fault, NoMe
 use Rattle.mx_boot.specs.Areas.{homes, areas}
 use Rattle.mx_boot.specs.Entries.{requests}
 use Rattle.mx_boot.specs.Faults.{image_rows, areas_rows, gates_rows, harts_rows, ram_words, first_fault}
-use Rattle.mx_boot.specs.Laid.{Tells, AreAsked, AreStarted}
+use Rattle.mx_boot.specs.Laid.{Tells, AreAsked}
 
 module _ (plan : Said) (images : List (List ℕ)) where
   pub images_found : Option BootFault

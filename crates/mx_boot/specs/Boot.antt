@@ -1,17 +1,15 @@
 -- The state at boot: what a plan and its images give if they have no fault and their maps fit.
 -- The rules: docs/MACHINE.md, "Memory, domains, harts".
-use Rattle.std.specs.Prelude.{ℕ, ◌+◌, ◌-◌, ◌*◌, false, if◌then◌else◌, List, [], ◌∷◌, ◌++◌, length, replicate, slice_set, slice_get, fold, map, Option, Some, None, unwrap_or, Result, Ok, Err}
+use Rattle.std.specs.Prelude.{ℕ, ◌+◌, ◌-◌, ◌*◌, false, if◌then◌else◌, List, [], ◌++◌, length, replicate, slice_set, slice_get, fold, map, Option, Some, None, unwrap_or, Result, Ok, Err}
 use Rattle.std.specs.List.{enumerate_from, flat_map}
 use Rattle.std.specs.Option.{option_map_or}
-use Rattle.mx_words.specs.declared.perm.Perm.{Perm}
 use Rattle.mx_words.specs.declared.tables.Need.{Need}
 use Rattle.mx_words.specs.Caches.{no_cache}
 use Rattle.mx_words.specs.FirstFit.{Area}
 use Rattle.mx_words.specs.Need.{need, within}
 use Rattle.mx_words.specs.Newest.{Grant, Give}
 use Rattle.mx_words.specs.Ranges.{ram_base}
-use Rattle.mx_model.specs.declared.values.Gate.{Gate}
-use Rattle.mx_model.specs.State.{Core, Hart, Module, Stack, State, Running, flat}
+use Rattle.mx_model.specs.State.{Hart, Module, Stack, State, Running, flat}
 use Rattle.mx_manifest.specs.declared.fault.BootFault.{BootFault}
 use Rattle.mx_manifest.specs.declared.parts.HartPlan.{HartPlan}
 use Rattle.mx_manifest.specs.declared.parts.ModulePlan.{ModulePlan}

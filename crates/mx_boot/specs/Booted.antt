@@ -1,5 +1,5 @@
 -- What a boot comes to.
-use Rattle.std.specs.Prelude.{◌≡◌, Result, Ok, Err}
+use Rattle.std.specs.Prelude.{◌≡◌, Result, Err}
 use Rattle.mx_model.specs.State.{State}
 use Rattle.mx_boot.specs.Boot.{Refusal, Faulty, TooFull}
 use Rattle.mx_boot.specs.declared.refused.BootRefused.{BootRefused}

@@ -1,6 +1,6 @@
 -- The gates that modules ask for, and where harts begin: an entry is a symbol of a module's image, or an address.
 -- The rules: docs/MACHINE.md, "Gates".
-use Rattle.std.specs.Prelude.{ℕ, ◌-◌, ◌/◌, ◌++◌, if◌then◌else◌, List, map, slice_get, Option, Some, None, option_and_then, unwrap_or}
+use Rattle.std.specs.Prelude.{ℕ, ◌-◌, ◌/◌, ◌++◌, if◌then◌else◌, List, map, slice_get, Option, Some, option_and_then, unwrap_or}
 use Rattle.std.specs.List.{flat_map}
 use Rattle.std.specs.Option.{option_map_or}
 use Rattle.mx_words.specs.Ranges.{ram_base}

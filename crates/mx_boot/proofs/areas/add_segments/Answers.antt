@@ -1,4 +1,3 @@
-use Rattle.std.proofs.Common.{◌≡◌, ◌∙◌, ap, sym, refl}
 use Rattle.mx_boot.specs.Areas.{segment_area}
 use Rattle.mx_boot.specs.Seen.{seen}
 use Rattle.mx_boot.proofs.Rows.{grown_by_one}

@@ -1,6 +1,6 @@
-use Rattle.std.proofs.Common.{◌≡◌, ◌∙◌, ◌+◌, ◌<◌, ◌≤◌, List, [], ◌∷◌, ◌++◌, ap, sym, subst, arith}
+use Rattle.std.proofs.Common.{◌∙◌, ◌+◌, [], ◌∷◌, ◌++◌, ap, sym, subst, arith}
 use Rattle.mx_words.specs.declared.perm.Span.{Span}
-use Rattle.mx_boot.proofs.Rowed.{IsRowTo, span_of, end_of, row-step, row-onward, row-end}
+use Rattle.mx_boot.proofs.Rowed.{IsRowTo, end_of, row-step, row-onward, row-end}
 use Rattle.mx_boot.proofs.granted.row.Goals as goal
 
 pub overflow_add-end : goal.overflow_add-end

@@ -1,4 +1,4 @@
-use Rattle.std.proofs.Common.{◌≡◌, ◌∙◌, ◌+◌, ◌≤◌, ap, sym, subst, length, arith}
+use Rattle.std.proofs.Common.{◌≡◌, ◌+◌, ◌≤◌, sym, subst, length, arith}
 use Rattle.mx_words.specs.Newest.{map as map_of}
 use Rattle.mx_table.specs.Tables.{IsRow, row_map}
 use Rattle.mx_boot.specs.Areas.{homes}

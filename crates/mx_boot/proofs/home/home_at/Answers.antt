@@ -1,4 +1,4 @@
-use Rattle.std.proofs.Common.{◌≡◌, ◌∙◌, ℕ, ◌+◌, List, ap, sym, Some}
+use Rattle.std.proofs.Common.{◌∙◌, ℕ, ◌+◌, List, ap, sym, Some}
 use Rattle.mx_boot.specs.Areas.{Home}
 use Rattle.mx_boot.proofs.Homes.{home_is, few_words}
 use Rattle.mx_boot.proofs.home.home_at.Goals as goal

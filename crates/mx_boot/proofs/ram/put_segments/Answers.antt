@@ -1,4 +1,4 @@
-use Rattle.std.proofs.Common.{◌≡◌, ◌∙◌, ap, sym, subst, length, map}
+use Rattle.std.proofs.Common.{◌∙◌, ap, sym, subst, length, map}
 use Rattle.mx_boot.specs.Areas.{Content, segment_content}
 use Rattle.mx_boot.specs.Boot.{with_content}
 use Rattle.mx_boot.specs.Placed.{HasRoom}

@@ -1,4 +1,4 @@
-use Rattle.std.proofs.Common.{◌≡◌, ◌∙◌, ◌*◌, ◌≤◌, ap, sym, subst, length, replicate, fold, arith}
+use Rattle.std.proofs.Common.{◌∙◌, ◌*◌, ◌≤◌, ap, sym, subst, length, replicate, fold, arith}
 use Rattle.std.specs.List.{AllByRecursion, flat_map}
 use Rattle.mx_boot.specs.Areas.{contents, homes}
 use Rattle.mx_boot.specs.Boot.{with_content}
@@ -6,7 +6,7 @@ use Rattle.mx_boot.specs.Faults.{ram_words}
 use Rattle.mx_boot.specs.Placed.{HasRoom}
 use Rattle.mx_boot.specs.Seen.{seen}
 use Rattle.mx_boot.proofs.Homes.{length-homes}
-use Rattle.mx_boot.proofs.Placing.{few_words, ready}
+use Rattle.mx_boot.proofs.Placing.{ready}
 use Rattle.mx_boot.proofs.Puts.{next-contents}
 use Rattle.mx_boot.proofs.Rows.{take_past}
 use Rattle.mx_boot.proofs.ram.ram.Goals as goal

@@ -1,4 +1,4 @@
-use Rattle.std.proofs.Common.{◌≡◌, ◌∙◌, ◌≤◌, ap, sym, subst, length, map, Err, arith}
+use Rattle.std.proofs.Common.{◌∙◌, ap, sym, length, map, Err, arith}
 use Rattle.mx_words.specs.Need.{within}
 use Rattle.mx_table.specs.Tables.{row_map}
 use Rattle.mx_boot.specs.Boot.{TooFull, limit_of}
