@@ -19,6 +19,7 @@ pub mod CaseLaws
 pub mod ReturnLaws
 pub mod WaitLaws
 pub mod MayLaws
+pub mod SizeLaws
 pub mod StepLaws
 pub mod StartLaws
 pub mod StartFits
