@@ -24,3 +24,6 @@ pub mod StepLaws
 pub mod StartLaws
 pub mod StartFits
 pub mod FrameLaws
+pub mod AnyLaws
+pub mod HaltLaws
+pub mod AskedLaws

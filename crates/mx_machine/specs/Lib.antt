@@ -9,3 +9,4 @@ pub mod Serving
 pub mod Starts
 pub mod Readings
 pub mod Turning
+pub mod Halting
