@@ -27,3 +27,5 @@ pub mod FrameLaws
 pub mod AnyLaws
 pub mod HaltLaws
 pub mod AskedLaws
+pub mod SmallLaws
+pub mod StartValid
