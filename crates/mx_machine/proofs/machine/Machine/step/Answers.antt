@@ -1,4 +1,4 @@
-use Rattle.std.proofs.Common.{◌≡◌, ℕ, sym, subst, ◌∙◌, ap}
+use Rattle.std.proofs.Common.{◌≡◌, ℕ, ◌<◌, ◌-◌, ◌^◌, sym, subst, ◌∙◌, ap}
 use Rattle.mx_model.specs.Reads.{flat_reads}
 use Rattle.mx_model.specs.Run.{flat_kind, flat_made, flat_turn}
 use Rattle.mx_model.specs.State.{Core, Flat, State, flat, hart_at}
@@ -7,8 +7,14 @@ use Rattle.mx_laws.specs.Crossing.{FramesAfter}
 use Rattle.mx_laws.specs.Foreign.{ForeignAfter}
 use Rattle.mx_machine.specs.Held.{meaning}
 use Rattle.mx_machine.specs.Turning.{IsTold, IsTurn, KeepsBytes}
+use Rattle.mx_machine.proofs.SizeLaws.{fits-inside}
 use Rattle.mx_machine.proofs.StepLaws.{bytes-is, is-turn, told-is, turn-is, whole-is}
 use Rattle.mx_machine.proofs.machine.Machine.step.Goals as goal
+
+pub step-requires : goal.step-requires
+step-requires g c =
+    (search fits-inside, (record { valid = c.self.invariant.valid; fits = c.self.invariant.fits },
+    subst (λ (f : Flat). f.core.turns < 2 ^ 64 - 1) (sym c.self.view_is) c.requires))
 
 pub invariant_of-self : goal.invariant_of-self
 invariant_of-self g c =
