@@ -25,3 +25,4 @@ pub mod FrameLaws
 pub mod AnyLaws
 pub mod HaltLaws
 pub mod AskedLaws
+pub mod PassLaws
