@@ -112,6 +112,18 @@ impl Ram {
     }
 }
 
+/// A law: RAM holds numbers of bytes, each below 256. A machine's state is valid only with such a RAM.
+pub fn bytes_of(ram: &Ram)
+    ensures { (i : ℕ) → slice_index ram.now i < 256 }
+{
+    are_small(ram.bytes.as_slice());
+}
+
+/// What the type of bytes says of them.
+fn are_small(bytes: &[u8])
+    ensures { (i : ℕ) → slice_index bytes.now i < 256 }
+{}
+
 #[tactic(auto, unfolding(mx_words::specs::Bytes::put_at))]
 fn put_byte(bytes: &mut [u8], at: usize, value: u32)
     requires { at + 1 ≤ length bytes.old }
