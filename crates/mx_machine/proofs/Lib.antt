@@ -18,6 +18,8 @@ pub mod AskLaws
 pub mod CaseLaws
 pub mod ReturnLaws
 pub mod WaitLaws
+pub mod MayLaws
+pub mod SizeLaws
 pub mod StepLaws
 pub mod StartLaws
 pub mod StartFits
@@ -26,3 +28,5 @@ pub mod AnyLaws
 pub mod HaltLaws
 pub mod AskedLaws
 pub mod PassLaws
+pub mod SmallLaws
+pub mod StartValid

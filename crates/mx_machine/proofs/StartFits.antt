@@ -43,11 +43,11 @@ abbrev pub held_started : Parts → List HartStart → List StackArea → Held
 held_started p starts stacks =
     record { parts = p; harts = started_from stacks 0 starts; stacks = stacks; dead = none_dead; steps = 0; waiting = false }
 
-no_start : HartStart
+pub no_start : HartStart
 no_start = record { domain = 0; pc = 0 }
 
 module _ (p : Parts) (starts : List HartStart) (stacks : List StackArea) (sound : IsSound p) (may : MayStart p starts stacks) (few : length starts ≤ 4) where
-  hart-there : (h : ℕ) → h < length starts → hart_of (started_from stacks 0 starts) h ≡ started_hart stacks h (get_or starts h no_start)
+  pub hart-there : (h : ℕ) → h < length starts → hart_of (started_from stacks 0 starts) h ≡ started_hart stacks h (get_or starts h no_start)
   hart-there h lt =
       started-at stacks h starts ∙ ap (λ (o : Option HartStart). option_map_or (started_hart stacks h) o no_hart) (slice_get-get_or starts h no_start lt)
 

@@ -10,3 +10,4 @@ pub mod Starts
 pub mod Readings
 pub mod Turning
 pub mod Halting
+pub mod Smalls

@@ -15,11 +15,14 @@ ghost use Rattle.mx_machine.specs.Turning.{IsTold, IsTurn, KeepsBytes};
 use crate::bare::Bare;
 use crate::bus::HartBus;
 use crate::harts::Harts;
+use crate::starts::{starts_of, states_of};
 use crate::{HartStates, Stacks, Starts};
+use mx_check::flights_of;
 use mx_laws::{turns_keep_foreign_words, turns_keep_frames, turns_of_twins};
+use mx_memory::bytes_of;
 use mx_model::{Events, TurnKind, flat_of_a_turn, turns_keep_validity};
-use mx_supervisor::Supervisor;
-use mx_table::PermTables;
+use mx_supervisor::{Supervisor, heaps_of};
+use mx_table::{PermTables, shape_of};
 use std::marker::Model;
 
 /// A machine of 1 to 4 harts over a supervisor. What it means is a flat state of the abstract machine (docs/MACHINE.md): RAM's bytes,
@@ -55,6 +58,11 @@ impl<T: PermTables, const N: usize> Machine<T, N> {
         requires may { MayStart (parts_of T.kind T.maps T.size T.limits N parts) starts.now stacks.now }
         ensures { result ≡ started (parts_of T.kind T.maps T.size T.limits N parts) starts.now stacks.now }
     {
+        shape_of(parts.checker.tables());
+        bytes_of(&parts.ram);
+        heaps_of(&parts.heaps);
+        let _few_gates = parts.gates.get(0);
+        starts_of(starts);
         Machine {
             bare: Bare {
                 harts: Harts::start(starts, stacks),
@@ -80,6 +88,12 @@ impl<T: PermTables, const N: usize> Machine<T, N> {
         requires may { MayResume (parts_of T.kind T.maps T.size T.limits N parts) harts.now stacks.now dead.now steps }
         ensures { result ≡ resumed (parts_of T.kind T.maps T.size T.limits N parts) harts.now stacks.now dead.now steps }
     {
+        shape_of(parts.checker.tables());
+        flights_of(&parts.checker);
+        bytes_of(&parts.ram);
+        heaps_of(&parts.heaps);
+        let _few_gates = parts.gates.get(0);
+        states_of(harts);
         let left = Harts::resume(harts);
         let waiting = left.any_waits();
         let mut bare = Bare {

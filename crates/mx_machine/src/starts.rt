@@ -4,6 +4,7 @@ ghost use Rattle.std.specs.List.{AllByRecursion};
 ghost use Rattle.std.specs.Prelude.{map as list_map};
 ghost use Rattle.mx_machine.specs.Harts.{hart_of};
 ghost use Rattle.mx_machine.specs.Starts.{resumed_hart};
+ghost use Rattle.mx_machine.specs.Smalls.{AreSmall, AreSmallFrames, IsSmallFrame, IsSmallStart, IsSmallState};
 ghost use Rattle.mx_machine.specs.Held.{area_of, behind};
 ghost use Rattle.mx_words.specs.Ranges.{most_words};
 
@@ -11,6 +12,7 @@ use crate::HartStatus;
 use crate::hart::Hart;
 use arrayvec::ArrayVec;
 use mx_gates::CrossStack;
+use mx_model::Frame;
 use mx_words::RAM_BASE;
 use std::marker::Model;
 
@@ -239,4 +241,74 @@ impl HartStates {
             None => Hart::none(),
         }
     }
+}
+
+/// A law: there are at most 4 starts, and each pc is a number of 32 bits.
+pub(crate) fn starts_of(starts: &Starts)
+    ensures few { length starts.now ≤ 4 }
+    ensures small { AllByRecursion IsSmallStart starts.now }
+{
+    for hart in 0..starts.len() {
+        match starts.get(hart) {
+            Some(start) => start_of(&start),
+            None => {}
+        }
+    }
+}
+
+fn start_of(start: &HartStart)
+    ensures { IsSmallStart start.now }
+{
+    let _pc = start.pc;
+}
+
+/// A law: there are at most 4 states, each with at most 64 frames, and what they hold are numbers of 32 bits.
+pub(crate) fn states_of(states: &HartStates)
+    ensures few { length states.now ≤ 4 }
+    ensures small { AllByRecursion IsSmallState states.now }
+{
+    for hart in 0..states.len() {
+        match states.items.as_slice().get(hart as usize) {
+            Some(state) => state_of(state),
+            None => {}
+        }
+    }
+}
+
+fn state_of(state: &HartState)
+    ensures { IsSmallState state.now }
+{
+    let _pc = state.pc;
+    registers_of(&state.regs);
+    frames_of(&state.frames);
+}
+
+fn registers_of(regs: &[u32; 32])
+    ensures { AreSmall 32 regs.now }
+{
+    let _first = regs[0];
+}
+
+fn frames_of(frames: &CrossStack)
+    ensures { AreSmallFrames frames.now }
+{
+    for i in 0..frames.depth() {
+        match frames.frame(i) {
+            Some(frame) => frame_of(&frame),
+            None => {}
+        }
+    }
+}
+
+fn frame_of(frame: &Frame)
+    ensures { IsSmallFrame frame.now }
+{
+    let _back = frame.back;
+    kept_of(&frame.kept);
+}
+
+fn kept_of(kept: &[u32; 15])
+    ensures { AreSmall 15 kept.now }
+{
+    let _first = kept[0];
 }

@@ -1,4 +1,5 @@
-use Rattle.std.proofs.Common.{◌≡◌, ap, get_or, set, ◌∙◌}
+use Rattle.std.proofs.Common.{ap, get_or, ◌∙◌}
+use Rattle.std.specs.Prelude.{slice_set}
 use Rattle.mx_machine.specs.declared.hart.Hart.{Hart}
 use Rattle.mx_machine.specs.Harts.{hart_of}
 use Rattle.mx_machine.specs.Steps.{goes}
@@ -8,8 +9,7 @@ use Rattle.mx_machine.proofs.harts.Harts.go_with.Goals as goal
 pub returns : goal.returns
 returns c =
     let part = c.index-self-hart.result in
-    let h = c.args.hart in
-    let read = hart_read c.self.inside.len c.self.inside.items c.args.self.now h part c.self.view_is c.requires in
-    hart_written c.self.inside.len c.self.inside.items c.args.self.now h part c.self.view_is c.requires
-    (goes (set (hart_of c.args.self.now h).regs 10 c.args.value) c.args.pc) _
-    (c.go_with.ensures ∙ ap (λ (x : Hart). goes (set x.regs 10 c.args.value) c.args.pc (get_or c.self.inside.items h part)) read)
+    let read = hart_read c.self.inside.len c.self.inside.items c.args.self.now c.args.hart part c.self.view_is c.requires in
+    hart_written c.self.inside.len c.self.inside.items c.args.self.now c.args.hart part c.self.view_is c.requires
+    (goes (slice_set (hart_of c.args.self.now c.args.hart).regs 10 c.args.value) c.args.pc) _
+    (c.go_with.ensures ∙ ap (λ (x : Hart). goes (slice_set x.regs 10 c.args.value) c.args.pc (get_or c.self.inside.items c.args.hart part)) read)
