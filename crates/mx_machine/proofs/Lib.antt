@@ -27,5 +27,6 @@ pub mod FrameLaws
 pub mod AnyLaws
 pub mod HaltLaws
 pub mod AskedLaws
+pub mod PassLaws
 pub mod SmallLaws
 pub mod StartValid
