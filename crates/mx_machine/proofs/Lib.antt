@@ -18,9 +18,15 @@ pub mod AskLaws
 pub mod CaseLaws
 pub mod ReturnLaws
 pub mod WaitLaws
+pub mod MayLaws
+pub mod SizeLaws
 pub mod StepLaws
 pub mod StartLaws
 pub mod StartFits
 pub mod FrameLaws
+pub mod AnyLaws
+pub mod HaltLaws
+pub mod AskedLaws
+pub mod PassLaws
 pub mod SmallLaws
 pub mod StartValid

@@ -22,10 +22,11 @@ use Rattle.mx_model.specs.declared.values.Note.{Note}
 use Rattle.mx_model.specs.declared.values.Note.TheVariants as N
 use Rattle.mx_model.specs.declared.values.TurnKind.TheVariants as T
 use Rattle.mx_model.specs.Effect.{next}
+use Rattle.mx_model.specs.Events.{Events}
 use Rattle.mx_model.specs.Turn.{answered, halted, served, with_regs}
 use Rattle.mx_supervisor.specs.declared.answer.Answer.{Answer}
 use Rattle.mx_supervisor.specs.Heaps.{heap_at}
-use Rattle.mx_supervisor.specs.Looks.{KeepsHarts}
+use Rattle.mx_supervisor.specs.Looks.{BarsAlike, KeepsHarts}
 use Rattle.mx_supervisor.specs.Parts.{Parts, IsSound, core_of}
 use Rattle.mx_supervisor.specs.Served.{HasAnnounced, IsServed, KeepsSizes, MayServe, flight_after, range_of}
 use Rattle.mx_machine.specs.declared.hart.Hart.{Hart}
@@ -122,6 +123,18 @@ range-served rest p q e call size core same =
     ap (λ n. announced call.number (arg call 0) (arg call 1) n ((heap_at q.heaps call.domain).area.first, (heap_at q.heaps call.domain).area.count)) size
     ∙ ap (λ (a : Area). announced call.number (arg call 0) (arg call 1) p.size (a.first, a.count)) area
 
+-- the same of the call's own hart
+pub serving-bars : (m : Held) (h : ℕ) (call : Call) → IsServing m h call → BarsAlike (rest_of m) m.parts call.hart
+serving-bars m h call v = subst (λ i. BarsAlike (rest_of m) m.parts i) (sym (ap (λ (c : Call). c.hart) v.own)) v.bars
+
+-- what is made of equal machines with equal events
+pub served-moved : (m m' n n' : Held) (e e' : Events) (h : ℕ) (call : Call) → m ≡ m' → n ≡ n' → e ≡ e' →
+    IsMade m n e T.Called (served (reads_of m) (core_in m) h (hart_in m h) call) → IsMade m' n' e' T.Called (served (reads_of m') (core_in m') h (hart_in m' h) call)
+served-moved m m' n n' e e' h call p q r i =
+    subst (λ (x : Held). IsMade x n' e' T.Called (served (reads_of x) (core_in x) h (hart_in x h) call)) p
+    (subst (λ (x : Held). IsMade m x e' T.Called (served (reads_of m) (core_in m) h (hart_in m h) call)) q
+    (subst (λ (x : Events). IsMade m n x T.Called (served (reads_of m) (core_in m) h (hart_in m h) call)) r i))
+
 -- a machine whose supervisor served a call of hart h, with this answer
 module _ (m : Held) (h : ℕ) (call : Call) (q : Parts) (bytes : List ℕ) (a : Answer) (v : IsServing m h call)
     (d : IsServed (rest_of m) m.parts q bytes a (serve (reads_of m) (core_in m) call))
@@ -151,7 +164,7 @@ module _ (m : Held) (h : ℕ) (call : Call) (q : Parts) (bytes : List ℕ) (a : 
   flight-ended true e = refl
   flight-ended false e = (v.may.other e).free
 
-  own-flight : (hart_at q.harts h).flight ≡ None
+  pub own-flight : (hart_at q.harts h).flight ≡ None
   own-flight = ap (λ i. (hart_at q.harts i).flight) (sym hart-is) ∙ k.flight ∙ flight-ended (is_announced call.number) refl
 
   own-domain : IfSome (hart_at q.harts h).domain (λ e. e ≡ x.domain)

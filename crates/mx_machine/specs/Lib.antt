@@ -9,4 +9,5 @@ pub mod Serving
 pub mod Starts
 pub mod Readings
 pub mod Turning
+pub mod Halting
 pub mod Smalls

@@ -13,12 +13,12 @@ ghost use Rattle.mx_model.specs.Gates.{gate_target};
 ghost use Rattle.mx_supervisor.specs.Parts.{IsSound};
 ghost use Rattle.mx_supervisor.specs.Served.{range_of};
 ghost use Rattle.mx_machine.specs.Deeds.{after_instruction, crossed, halted_first, fallen, heard, killed, outcome_for, returned, with_kept, with_step};
+ghost use Rattle.mx_machine.specs.Halting.{halted_at};
 ghost use Rattle.mx_machine.specs.Harts.{hart_of, is_halted};
 ghost use Rattle.mx_machine.specs.Held.{area_of};
 
 use crate::bus::HartBus;
 use crate::Stacks;
-use crate::hart::Progress;
 use crate::harts::Harts;
 use mx_core::Outcome;
 use mx_model::{Call, Fault, Note};
@@ -198,9 +198,18 @@ impl<T: PermTables, const N: usize> Bare<T, N> {
         ensures { self.new ≡ record self.old { parts = record self.old.parts { harts = halted_first (length self.old.harts) self.old.harts self.old.parts.harts } } }
     {
         for hart in 0..self.harts.len() {
-            if let Progress::Halted(_) = self.harts.progress(hart) {
-                self.bus.supervisor.checker.halt(hart);
-            }
+            self.halt_one(hart);
+        }
+    }
+
+    /// Counts a hart as halted in the checker where it is halted here.
+    fn halt_one(&mut self, hart: u32)
+        requires kept { hart < length self.old.parts.harts }
+        requires free { is_halted (hart_of self.old.harts hart).progress ≡ true → (hart_at self.old.parts.harts hart).flight ≡ None }
+        ensures { self.new ≡ record self.old { parts = record self.old.parts { harts = halted_at hart self.old.harts self.old.parts.harts } } }
+    {
+        if self.harts.is_halted(hart) {
+            self.bus.supervisor.checker.halt(hart);
         }
     }
 }

@@ -87,26 +87,50 @@ impl Harts {
         part.progress
     }
 
+    /// Whether a hart waits.
+    pub fn waits(&self, hart: u32) -> bool
+        ensures { result ≡ is_waiting (hart_of self.now hart).progress }
+    {
+        match self.progress(hart) {
+            Progress::Running => false,
+            Progress::Waiting => true,
+            Progress::Halted(_) => false,
+        }
+    }
+
+    /// Whether a hart is halted, or isn't there.
+    pub fn is_halted(&self, hart: u32) -> bool
+        ensures { result ≡ is_halted (hart_of self.now hart).progress }
+    {
+        match self.progress(hart) {
+            Progress::Running => false,
+            Progress::Waiting => false,
+            Progress::Halted(_) => true,
+        }
+    }
+
     /// Whether any hart waits.
     pub fn any_waits(&self) -> bool
         ensures { result ≡ list_any (λ x. is_waiting x.progress) self.now }
     {
-        let mut waits = false;
         for hart in 0..self.len {
-            waits = waits || self.progress(hart) == Progress::Waiting;
+            if self.waits(hart) {
+                return true;
+            }
         }
-        waits
+        false
     }
 
     /// Whether all harts are halted.
     pub fn all_halted(&self) -> bool
         ensures { result ≡ list_all (λ x. is_halted x.progress) self.now }
     {
-        let mut halted = true;
         for hart in 0..self.len {
-            halted = halted && matches!(self.progress(hart), Progress::Halted(_));
+            if !self.is_halted(hart) {
+                return false;
+            }
         }
-        halted
+        true
     }
 
     /// The pc of a hart.

@@ -12,7 +12,7 @@ pub fall-requires : goal.fall-requires
 fall-requires g c =
     let m = c.args.self.now in
     let r = c.requires.run in
-    (omega arith, (rw c.kill.ensures r.act.there, (rw c.kill.ensures (kept-there m c.args.hart r.act), (rw c.kill.ensures (running-free m c.args.hart r), c.requires.cause))))
+    (assumption c, (rw c.kill.ensures r.act.there, (rw c.kill.ensures (kept-there m c.args.hart r.act), (rw c.kill.ensures (running-free m c.args.hart r), c.requires.cause))))
 
 pub returns : goal.returns
 returns g c =
