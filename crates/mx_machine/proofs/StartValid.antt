@@ -3,8 +3,8 @@ use Rattle.std.proofs.Common.{◌≡◌, ◌≢◌, ℕ, zero, suc, ◌+◌, ◌
 use Rattle.std.proofs.Common.{map as list_map}
 use Rattle.std.specs.Prelude.{slice_get, slice_index, IfSome}
 use Rattle.std.specs.List.{AllByRecursion}
-use Rattle.std.proofs.lemmas.Bool.{cases_eq, ne_eqb}
-use Rattle.std.proofs.lemmas.List.{get_or-map, length-map, length-set}
+use Rattle.std.proofs.lemmas.Bool.{cases_eq, cases_lt, ne_eqb}
+use Rattle.std.proofs.lemmas.List.{get_or-map, get_or_past, length-map, length-set}
 use Rattle.std.proofs.lemmas.Option.{get_or_from_slice_get}
 use Rattle.mx_words.specs.Caches.{Cache}
 use Rattle.mx_words.specs.Ranges.{address_of, most_words}
@@ -12,6 +12,7 @@ use Rattle.mx_table.specs.Tables.{IsDomain}
 use Rattle.mx_check.specs.declared.flight.Flight.{Flight}
 use Rattle.mx_check.specs.Flights.{IsSet}
 use Rattle.mx_check.specs.Harts.{Kept, hart_at}
+use Rattle.mx_check.specs.Harts.{no_hart as nothing_kept}
 use Rattle.mx_heap.specs.HeapState.{HeapState}
 use Rattle.mx_model.specs.declared.values.Frame.{Frame}
 use Rattle.mx_model.specs.declared.values.Gate.{Gate}
@@ -31,7 +32,7 @@ use Rattle.mx_machine.specs.declared.starts.StackArea.{StackArea}
 use Rattle.mx_machine.specs.declared.views.HartStatus.{HartStatus}
 use Rattle.mx_machine.specs.declared.views.HartStatus.TheVariants as V
 use Rattle.mx_machine.specs.Deeds.{halted_first}
-use Rattle.mx_machine.specs.Harts.{hart_of, no_hart, own_call, seen, seen_with, status_by}
+use Rattle.mx_machine.specs.Harts.{hart_of, is_halted, no_hart, own_call, seen, seen_with, status_by}
 use Rattle.mx_machine.specs.Held.{Held, area_of, behind, beside, home, meaning, no_area, rest_of}
 use Rattle.mx_machine.specs.Made.{core_in}
 use Rattle.mx_machine.specs.Smalls.{IsSmallFrame, IsSmallStart, IsSmallState}
@@ -233,6 +234,10 @@ pub record AreTyped (p : Parts) : Type 0 where
   pub gates : AllByRecursion (IsGate (length p.maps) p.size) p.gates
   pub one_gate : AreSingle p.gates
 
+-- what the checker keeps after the harts that resume halted count as halted
+abbrev kept_resumed : Parts → List HartState → List Kept
+kept_resumed p states = halted_first (length (list_map resumed_hart states)) (list_map resumed_hart states) p.harts
+
 -- a machine that starts
 module _ (p : Parts) (starts : List HartStart) (stacks : List StackArea) (sound : IsSound p) (may : MayStart p starts stacks) (few : length starts ≤ 4)
     (small : AllByRecursion IsSmallStart starts) (typed : AreTyped p) where
@@ -265,26 +270,51 @@ module _ (p : Parts) (starts : List HartStart) (stacks : List StackArea) (sound 
       let fits = fits-started p starts stacks sound may few in
       record { valid = valid-parts (held_started p starts stacks) fits started-parts; fits = fits }
 
+-- a machine that resumes, without what its types say
+module _ (p : Parts) (states : List HartState) (stacks : List StackArea) (dead : List Bool) (steps : ℕ) (may : MayResume p states stacks dead steps) where
+  pub as-many : length (list_map resumed_hart states) ≡ length p.harts
+  as-many = length-map states resumed_hart ∙ sym may.same_harts
+
+  same-flight : (h : ℕ) → (hart_at (kept_resumed p states) h).flight ≡ (hart_at p.harts h).flight
+  same-flight h = flight-halted (list_map resumed_hart states) p.harts (length (list_map resumed_hart states)) h (omega (arith, as-many))
+
+  pub meaning-resumed : meaning (held_resumed p states stacks dead steps) ≡ resumed p states stacks dead steps
+  meaning-resumed =
+      let harts = list_map resumed_hart states in
+      let caches = list_map (λ (k : Kept). k.cache) (kept_resumed p states) in
+      ap (λ (hs : List Seen). record (flat_of (beside hs stacks dead steps) p) { core = record (core_of (beside hs stacks dead steps) p) { caches = caches } })
+      (seen-same 0 harts (kept_resumed p states) p.harts (λ i le. same-flight i))
+      ∙ ap (λ (cs : List Cache). record (resumed p states stacks dead steps) { core = record (resumed p states stacks dead steps).core { caches = cs } })
+      (caches-halted harts p.harts (length harts))
+
+  -- a hart that resumes halted has no call in flight
+  flies-not : (n h : ℕ) (s : HartState) (v : HartStatus) (o : Option Flight) → FliesIfWaiting p n h s v o → is_halted (progress_of v) ≡ true → o ≡ None
+  flies-not n h s V.Running o t e = t
+  flies-not n h s V.Waiting o t e = cc
+  flies-not n h s V.Halted o t e = t
+
+  free-at : (h : ℕ) → (h < length states) ⊎ (length states ≤ h) → is_halted (hart_of (list_map resumed_hart states) h).progress ≡ true → (hart_at p.harts h).flight ≡ None
+  free-at h (inl lt) e =
+      let s = get_or states h no_state in
+      let x : hart_of (list_map resumed_hart states) h ≡ resumed_hart s = get_or-map resumed_hart states h no_state no_hart lt in
+      flies-not (length states) h s s.status (hart_at p.harts h).flight (may.unused h lt).flight (sym (ap (λ (y : Hart). is_halted y.progress) x) ∙ e)
+  free-at h (inr le) e = ap (λ (k : Kept). k.flight) (get_or_past p.harts h nothing_kept (omega (arith, le, may.same_harts)))
+
+  pub free-resumed : (h : ℕ) → is_halted (hart_of (list_map resumed_hart states) h).progress ≡ true → (hart_at p.harts h).flight ≡ None
+  free-resumed h = free-at h (cases_lt h (length states))
+
 -- a machine that resumes
 module _ (p : Parts) (states : List HartState) (stacks : List StackArea) (dead : List Bool) (steps : ℕ) (sound : IsSound p)
     (may : MayResume p states stacks dead steps) (few : length states ≤ 4) (places : length dead ≡ 64) (small : AllByRecursion IsSmallState states) (typed : AreTyped p)
     (sets : (h : ℕ) → IfSome (hart_at p.harts h).flight IsSet) where
-  abbrev kept-left : List Kept
-  kept-left = halted_first (length (list_map resumed_hart states)) (list_map resumed_hart states) p.harts
-
-  as-left : length (list_map resumed_hart states) ≡ length p.harts
-  as-left = length-map states resumed_hart ∙ sym may.same_harts
-
-  same-flight : (h : ℕ) → (hart_at kept-left h).flight ≡ (hart_at p.harts h).flight
-  same-flight h = flight-halted (list_map resumed_hart states) p.harts (length (list_map resumed_hart states)) h (omega (arith, as-left))
-
-  each-left : (h : ℕ) → h < length states → IsHart (length p.maps) (length states) h (seen h (hart_of (list_map resumed_hart states) h) (hart_at kept-left h))
+  each-left : (h : ℕ) → h < length states → IsHart (length p.maps) (length states) h (seen h (hart_of (list_map resumed_hart states) h) (hart_at (kept_resumed p states) h))
   each-left h lt =
       let s = get_or states h no_state in
-      subst (λ (x : Hart). IsHart (length p.maps) (length states) h (seen h x (hart_at kept-left h))) (sym (get_or-map resumed_hart states h no_state no_hart lt))
-      (hart-resumes p (length states) h s (all-in (IsHartState p) states no_state h may.each lt) (all-in IsSmallState states no_state h small lt) (hart_at kept-left h)
-      (subst (λ (o : Option Flight). FliesIfWaiting p (length states) h s s.status o) (sym (same-flight h)) (may.unused h lt).flight)
-      (subst (λ (o : Option Flight). IfSome o IsSet) (sym (same-flight h)) (sets h)))
+      let k = hart_at (kept_resumed p states) h in
+      subst (λ (x : Hart). IsHart (length p.maps) (length states) h (seen h x k)) (sym (get_or-map resumed_hart states h no_state no_hart lt))
+      (hart-resumes p (length states) h s (all-in (IsHartState p) states no_state h may.each lt) (all-in IsSmallState states no_state h small lt) k
+      (subst (λ (o : Option Flight). FliesIfWaiting p (length states) h s s.status o) (sym (same-flight p states stacks dead steps may h)) (may.unused h lt).flight)
+      (subst (λ (o : Option Flight). IfSome o IsSet) (sym (same-flight p states stacks dead steps may h)) (sets h)))
 
   resumed-parts : HasValidParts (held_resumed p states stacks dead steps)
   resumed-parts = record {
@@ -297,20 +327,11 @@ module _ (p : Parts) (states : List HartState) (stacks : List StackArea) (dead :
     one_gate = typed.one_gate;
     some_harts = omega (arith, may.some_harts, length-map states resumed_hart);
     stacks = subst (λ n. AllByRecursion (IsStack p.size n) stacks) (sym (length-map states resumed_hart)) may.areas;
-    harts = λ h lt. subst (λ n. IsHart (length p.maps) n h (seen h (hart_of (list_map resumed_hart states) h) (hart_at kept-left h))) (sym (length-map states resumed_hart))
-        (each-left h (omega (arith, lt, length-map states resumed_hart)));
+    harts = λ h lt. subst (λ n. IsHart (length p.maps) n h (seen h (hart_of (list_map resumed_hart states) h) (hart_at (kept_resumed p states) h)))
+        (sym (length-map states resumed_hart)) (each-left h (omega (arith, lt, length-map states resumed_hart)));
   }
 
   pub whole-resumed : IsWhole (held_resumed p states stacks dead steps)
   whole-resumed =
       let fits = fits-resumed p states stacks dead steps sound may few places in
       record { valid = valid-parts (held_resumed p states stacks dead steps) fits resumed-parts; fits = fits }
-
-  pub meaning-resumed : meaning (held_resumed p states stacks dead steps) ≡ resumed p states stacks dead steps
-  meaning-resumed =
-      let harts = list_map resumed_hart states in
-      let caches = list_map (λ (k : Kept). k.cache) kept-left in
-      ap (λ (hs : List Seen). record (flat_of (beside hs stacks dead steps) p) { core = record (core_of (beside hs stacks dead steps) p) { caches = caches } })
-      (seen-same 0 harts kept-left p.harts (λ i le. same-flight i))
-      ∙ ap (λ (cs : List Cache). record (resumed p states stacks dead steps) { core = record (resumed p states stacks dead steps).core { caches = cs } })
-      (caches-halted harts p.harts (length harts))
