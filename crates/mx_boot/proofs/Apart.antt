@@ -61,9 +61,9 @@ apart_from : (words : ℕ) (earlier all : List Area) → AreClear words earlier 
     → AllByRecursion (λ a. shares_word a b ≡ false) all
 apart_from words earlier [] h b i at = tt
 apart_from words earlier (a ∷ rest) h b i at = (
-    all_at (λ c. shares_word a c ≡ false) earlier i b h.0.apart at,
-    apart_from words (earlier ++ a ∷ []) rest h.1 b i (get_left earlier (a ∷ []) i b at),
-  )
+  all_at (λ c. shares_word a c ≡ false) earlier i b h.0.apart at,
+  apart_from words (earlier ++ a ∷ []) rest h.1 b i (get_left earlier (a ∷ []) i b at),
+)
   where
     get_left : (xs ys : List Area) (i : ℕ) (x : Area) → slice_get xs i ≡ Some x → slice_get (xs ++ ys) i ≡ Some x
     get_left [] ys i x e = absurd cc

@@ -15,7 +15,7 @@ use Rattle.mx_boot.specs.declared.refused.LayoutRefused.TheVariants.{Fault, NoMe
 use Rattle.mx_boot.specs.Faults.{gate_rows, gates_rows}
 use Rattle.mx_boot.specs.Laid.{Tells, gate_of, AreAsked}
 use Rattle.mx_boot.proofs.Behind.{first_behind}
-use Rattle.mx_boot.proofs.Rows.{take_at, take_past, drop_at}
+use Rattle.mx_boot.proofs.Rows.{take_at, take_past}
 
 abbrev Done : Type 0
 Done = Result (Unit {0}) LayoutRefused
@@ -39,10 +39,10 @@ tells_same first other refused same h = subst (λ o. Tells o refused) same h
 pub asked-then : (areas : List Area) (earlier : List Gate) (xs ys : List Request) (between later : List Gate) (result : Done)
     → AreAsked areas earlier xs between (Ok tt) → AreAsked areas between ys later result → AreAsked areas earlier (xs ++ ys) later result
 asked-then areas earlier xs ys between later (Ok done) a b = (
-    first_behind gate_of (gate_rows areas) earlier xs ys ∙ ap (λ o. option_or o (first_row (gates_rows areas (earlier ++ map gate_of xs) ys))) a.0
-    ∙ ap (λ e. first_row (gates_rows areas e ys)) (sym a.1) ∙ b.0,
-    b.1 ∙ ap (λ e. e ++ map gate_of ys) a.1 ∙ append_assoc earlier (map gate_of xs) (map gate_of ys) ∙ ap (λ g. earlier ++ g) (sym (map-append gate_of xs ys)),
-  )
+  first_behind gate_of (gate_rows areas) earlier xs ys ∙ ap (λ o. option_or o (first_row (gates_rows areas (earlier ++ map gate_of xs) ys))) a.0
+      ∙ ap (λ e. first_row (gates_rows areas e ys)) (sym a.1) ∙ b.0,
+  b.1 ∙ ap (λ e. e ++ map gate_of ys) a.1 ∙ append_assoc earlier (map gate_of xs) (map gate_of ys) ∙ ap (λ g. earlier ++ g) (sym (map-append gate_of xs ys)),
+)
 asked-then areas earlier xs ys between later (Err refused) a b =
     tells_same _ _ refused (sym (first_behind gate_of (gate_rows areas) earlier xs ys))
     (tells_rest (first_row (gates_rows areas earlier xs)) (first_row (gates_rows areas (earlier ++ map gate_of xs) ys)) refused a.0

@@ -88,10 +88,10 @@ starts gives words (suc j) lt h =
     elim (list_any (λ b. b == suc j) (flat_map bounds gives)) as (λ t. list_any (λ b. b == suc j) (flat_map bounds gives) ≡ t → ((0 == suc j) || t) ≡ true) [
       | true ↦ λ e. or_true (0 == suc j)
       | false ↦ λ e.
-      let before : get_or (owners gives words) j 0 ≡ owner gives j = owners-at gives words j 0 (omega arith) in
-      let here : get_or (owners gives words) (suc j) 0 ≡ owner gives (suc j) = owners-at gives words (suc j) 0 lt in
-      let same : get_or (owners gives words) j 0 ≡ get_or (owners gives words) (suc j) 0 = before ∙ newest-next 0 0 gives j refl e ∙ sym here in
-      absurd (differs j (owners gives words) same h)
+          let before : get_or (owners gives words) j 0 ≡ owner gives j = owners-at gives words j 0 (omega arith) in
+          let here : get_or (owners gives words) (suc j) 0 ≡ owner gives (suc j) = owners-at gives words (suc j) 0 lt in
+          let same : get_or (owners gives words) j 0 ≡ get_or (owners gives words) (suc j) 0 = before ∙ newest-next 0 0 gives j refl e ∙ sym here in
+          absurd (differs j (owners gives words) same h)
     ] refl
   where
     differs : (j : ℕ) (os : List ℕ) → get_or os j 0 ≡ get_or os (suc j) 0 → is_owner_start os (suc j) ≡ true → ⊥

@@ -1,5 +1,5 @@
 -- The tables of a plan without a fault decide whether it boots.
-use Rattle.std.proofs.Common.{◌≡◌, ℕ, true, false, cond, List, None, Ok, Err, length, map, ap, ◌∙◌, sym}
+use Rattle.std.proofs.Common.{◌≡◌, ℕ, true, false, cond, List, Some, None, Ok, Err, length, map, ap, ◌∙◌, sym}
 use Rattle.std.proofs.lemmas.List.{length-map}
 use Rattle.mx_words.specs.declared.perm.Perm.{Perm}
 use Rattle.mx_words.specs.declared.perm.Span.{Span}
@@ -9,9 +9,10 @@ use Rattle.mx_words.specs.Need.{need, within}
 use Rattle.mx_words.specs.Newest.{map as map_of}
 use Rattle.mx_model.specs.State.{flat}
 use Rattle.mx_table.specs.Tables.{row_map}
+use Rattle.mx_manifest.specs.declared.fault.BootFault.{BootFault}
 use Rattle.mx_manifest.specs.Plan.{Said}
 use Rattle.mx_boot.specs.Areas.{homes}
-use Rattle.mx_boot.specs.Boot.{TooFull, boot_need, boot_of, boot_state, grants_of, limit_of, limited, unless}
+use Rattle.mx_boot.specs.Boot.{Faulty, TooFull, boot_need, boot_of, boot_state, grants_of, limit_of, limited, unless}
 use Rattle.mx_boot.specs.Faults.{first_fault, ram_words}
 use Rattle.mx_boot.proofs.Homes.{length-homes}
 
@@ -39,3 +40,8 @@ fits-are plan images kind limit maps a b c =
 
 pub need-is : (plan : Said) (images : List (List ℕ)) (kind : Kind) (maps : List (List Perm)) → kind ≡ plan.tables → maps ≡ (flat (boot_state plan images)).maps → need kind maps ≡ boot_need (boot_state plan images)
 need-is plan images kind maps a c = ap (λ k. need k maps) a ∙ ap (need plan.tables) c
+
+-- a plan with a fault doesn't boot
+pub boot-faulty : (plan : Said) (images : List (List ℕ)) (fault : BootFault) → first_fault plan images ≡ Some fault → boot_of plan images ≡ Err (Faulty fault)
+unfolding boot_of
+boot-faulty plan images fault e = ap (λ o. unless o (limited (boot_state plan images))) e

@@ -77,12 +77,12 @@ module _ (plan : Said) (images : List (List ℕ)) (in_range : IsInRange plan) (n
   heap_within : (d : ℕ) → (heap_at (map heap_state plan.modules) d).area.first + (heap_at (map heap_state plan.modules) d).area.count ≤ ram_words plan
   heap_within d = elim (cases_lt (d - 1) (length plan.modules)) [
     | inl lt ↦ (
-      let found = there plan.modules (d - 1) lt in
-      let at = get_or_from_slice_get (map heap_state plan.modules) (d - 1) (heap_state found.0) no_heap (at_mapped heap_state plan.modules (d - 1) found.0 found.1) in
-      subst (λ (h : HeapState). h.area.first + h.area.count ≤ ram_words plan) (sym at) (heap-fits (d - 1) found.0 found.1))
+        let found = there plan.modules (d - 1) lt in
+        let at = get_or_from_slice_get (map heap_state plan.modules) (d - 1) (heap_state found.0) no_heap (at_mapped heap_state plan.modules (d - 1) found.0 found.1) in
+        subst (λ (h : HeapState). h.area.first + h.area.count ≤ ram_words plan) (sym at) (heap-fits (d - 1) found.0 found.1))
     | inr past ↦ (
-      let long : length (map heap_state plan.modules) ≤ d - 1 = omega (arith, length-map plan.modules heap_state, past) in
-      subst (λ (h : HeapState). h.area.first + h.area.count ≤ ram_words plan) (sym (get_or_past (map heap_state plan.modules) (d - 1) no_heap long)) (omega arith))
+        let long : length (map heap_state plan.modules) ≤ d - 1 = omega (arith, length-map plan.modules heap_state, past) in
+        subst (λ (h : HeapState). h.area.first + h.area.count ≤ ram_words plan) (sym (get_or_past (map heap_state plan.modules) (d - 1) no_heap long)) (omega arith))
   ]
 
   pub length-maps : length (boot_parts plan images).maps ≡ length plan.modules

@@ -57,20 +57,23 @@ IsBefore word a b = word ≤ word_at b.address → word_at a.address ≤ word_at
 
 before : (word : ℕ) (found : Option Area) (a b : Area) → IfSome (nearer word found b) (λ c. word_at a.address ≤ word_at c.address)
     → IsBefore word a b × IfSome found (λ c. word_at a.address ≤ word_at c.address)
-before word None a b h = (elim (nat_lt (word_at b.address) word) as (λ t. nat_lt (word_at b.address) word ≡ t → IfSome (cond t None (Some b)) (λ (c : Area). word_at a.address ≤ word_at c.address) → IsBefore word a b) [
-  | true ↦ λ e k ge. absurd (let lt = below (word_at b.address) word e in let q : ⊥ = omega (arith, lt, ge) in q)
-  | false ↦ λ e k ge. k
-] refl h, tt)
+before word None a b h = (
+  elim (nat_lt (word_at b.address) word) as (λ t. nat_lt (word_at b.address) word ≡ t → IfSome (cond t None (Some b)) (λ (c : Area). word_at a.address ≤ word_at c.address) → IsBefore word a b) [
+    | true ↦ λ e k ge. absurd (let lt = below (word_at b.address) word e in let q : ⊥ = omega (arith, lt, ge) in q)
+    | false ↦ λ e k ge. k
+  ] refl h,
+  tt,
+)
 before word (Some c) a b h =
     elim (nat_lt (word_at b.address) word) as (λ t. nat_lt (word_at b.address) word ≡ t
-        → IfSome (cond t (Some c) (cond (nat_le (word_at c.address) (word_at b.address)) (Some c) (Some b))) (λ (x : Area). word_at a.address ≤ word_at x.address)
-        → IsBefore word a b × (word_at a.address ≤ word_at c.address)) [
+    → IfSome (cond t (Some c) (cond (nat_le (word_at c.address) (word_at b.address)) (Some c) (Some b))) (λ (x : Area). word_at a.address ≤ word_at x.address)
+    → IsBefore word a b × (word_at a.address ≤ word_at c.address)) [
       | true ↦ λ e k. (λ ge. absurd (let lt = below (word_at b.address) word e in let q : ⊥ = omega (arith, lt, ge) in q), k)
       | false ↦ λ e. elim (nat_le (word_at c.address) (word_at b.address)) as (λ t. nat_le (word_at c.address) (word_at b.address) ≡ t
-        → IfSome (cond t (Some c) (Some b)) (λ (x : Area). word_at a.address ≤ word_at x.address) → IsBefore word a b × (word_at a.address ≤ word_at c.address)) [
-          | true ↦ λ f k. (λ ge. let le = at_most (word_at c.address) (word_at b.address) f in omega (arith, le, k), k)
-          | false ↦ λ f k. (λ ge. k, let le = over (word_at c.address) (word_at b.address) f in omega (arith, le, k))
-        ] refl
+          → IfSome (cond t (Some c) (Some b)) (λ (x : Area). word_at a.address ≤ word_at x.address) → IsBefore word a b × (word_at a.address ≤ word_at c.address)) [
+            | true ↦ λ f k. (λ ge. let le = at_most (word_at c.address) (word_at b.address) f in omega (arith, le, k), k)
+            | false ↦ λ f k. (λ ge. k, let le = over (word_at c.address) (word_at b.address) f in omega (arith, le, k))
+          ] refl
     ] refl h
 
 least : (word : ℕ) (found : Option Area) (areas : List Area) (a : Area) → fold (nearer word) found areas ≡ Some a
@@ -88,11 +91,16 @@ next-least word areas a e = (least word None areas a e).0
 nowhere : (word : ℕ) (found : Option Area) (areas : List Area) → fold (nearer word) found areas ≡ None → (found ≡ None) × AllByRecursion (λ b. word_at b.address < word) areas
 nowhere word found [] e = (e, tt)
 nowhere word None (b ∷ rest) e =
-    let later = nowhere word (nearer word None b) rest e in
-    (refl, (elim (nat_lt (word_at b.address) word) as (λ t. nat_lt (word_at b.address) word ≡ t → cond t None (Some b) ≡ None → word_at b.address < word) [
-      | true ↦ λ f k. below (word_at b.address) word f
-      | false ↦ λ f k. absurd (let q : ⊥ = cc in q)
-    ] refl later.0, later.1))
+    let later = nowhere word (nearer word None b) rest e in (
+      refl,
+      (
+        elim (nat_lt (word_at b.address) word) as (λ t. nat_lt (word_at b.address) word ≡ t → cond t None (Some b) ≡ None → word_at b.address < word) [
+          | true ↦ λ f k. below (word_at b.address) word f
+          | false ↦ λ f k. absurd (let q : ⊥ = cc in q)
+        ] refl later.0,
+        later.1,
+      ),
+    )
 nowhere word (Some c) (b ∷ rest) e =
     let later = nowhere word (nearer word (Some c) b) rest e in
     absurd (elim (nat_lt (word_at b.address) word) as (λ t. cond t (Some c) (cond (nat_le (word_at c.address) (word_at b.address)) (Some c) (Some b)) ≡ None → ⊥) [

@@ -119,13 +119,13 @@ inline_room words h aligned inside =
 contents_room : (words : ℕ) (h : Home) → inline_address h.plan % 4 ≡ 0 → AllByRecursion (λ a. is_in_ram words a ≡ true) (pieces h) → AllByRecursion (HasRoom (4 * words)) (contents h)
 contents_room words h aligned all = elim (has_image h) as (λ b. AllByRecursion (λ a. is_in_ram words a ≡ true) (cond b (map (segment_area h) (image h).segments) (inline_area h ∷ []))
     → AllByRecursion (HasRoom (4 * words)) (cond b (map (segment_content h.bytes) (image h).segments) (inline_content h.plan ∷ []))) [
-  | true ↦ λ k. all_mapped (segment_content h.bytes) (HasRoom (4 * words)) (image h).segments
-      (all_weaken (λ s. IsSound (length h.bytes) s × (is_in_ram words (segment_area h s) ≡ true)) (λ s. HasRoom (4 * words) (segment_content h.bytes s)) (image h).segments
-      (λ s both. segment_room words h s both.0 both.1)
-      (all_both (IsSound (length h.bytes)) (λ s. is_in_ram words (segment_area h s) ≡ true) (image h).segments (segments_sound h)
-      (all_unmapped (segment_area h) (λ a. is_in_ram words a ≡ true) (image h).segments k)))
-  | false ↦ λ k. (inline_room words h aligned k.0, tt)
-] all
+      | true ↦ λ k. all_mapped (segment_content h.bytes) (HasRoom (4 * words)) (image h).segments
+          (all_weaken (λ s. IsSound (length h.bytes) s × (is_in_ram words (segment_area h s) ≡ true)) (λ s. HasRoom (4 * words) (segment_content h.bytes s)) (image h).segments
+          (λ s both. segment_room words h s both.0 both.1)
+          (all_both (IsSound (length h.bytes)) (λ s. is_in_ram words (segment_area h s) ≡ true) (image h).segments (segments_sound h)
+          (all_unmapped (segment_area h) (λ a. is_in_ram words a ≡ true) (image h).segments k)))
+      | false ↦ λ k. (inline_room words h aligned k.0, tt)
+    ] all
 
 inline_aligned : (o : Option ℕ) → IfSome o IsAligned → unwrap_or o 0 % 4 ≡ 0
 inline_aligned None h = refl

@@ -59,10 +59,10 @@ grown : (P : ℕ → Span → Type 0) (row : List Span) (s : Span) → ((i : ℕ
 grown P row s h p i lt = elim (cases_lt i (length row)) [
   | inl before ↦ subst (P i) (sym (get_or_append_left row (s ∷ []) no_span i before)) (h i before)
   | inr past ↦ (
-    let long : length (row ++ s ∷ []) ≡ length row + 1 = length-append row (s ∷ []) in
-    let here : length row + 0 ≡ i = omega (arith, long, lt, past) in
-    let last : get_or (row ++ s ∷ []) (length row + 0) no_span ≡ s = get_or-append-add row (s ∷ []) 0 no_span in
-    subst (λ k. P k (get_or (row ++ s ∷ []) k no_span)) here (subst (P (length row + 0)) (sym last) (subst (λ k. P k s) (let same : length row ≡ length row + 0 = omega arith in same) p)))
+      let long : length (row ++ s ∷ []) ≡ length row + 1 = length-append row (s ∷ []) in
+      let here : length row + 0 ≡ i = omega (arith, long, lt, past) in
+      let last : get_or (row ++ s ∷ []) (length row + 0) no_span ≡ s = get_or-append-add row (s ∷ []) 0 no_span in
+      subst (λ k. P k (get_or (row ++ s ∷ []) k no_span)) here (subst (P (length row + 0)) (sym last) (subst (λ k. P k s) (let same : length row ≡ length row + 0 = omega arith in same) p)))
 ]
 
 -- no area covers a word
@@ -143,11 +143,11 @@ module _ (words to : ℕ) (areas : List Area) (row : List Span) (a : Area) (plac
       (λ b h lt. let f = from in elim (cases_lt (word_at b.address) to) [
         | inl before ↦ (let e = h.0.0 before in omega (arith, e, f))
         | inr behind ↦ (
-          let some = h.1.0.some in
-          let cb = covers_in (word_at b.address) b.count (word_at b.address) (omega arith) (omega (arith, some)) in
-          let ca = covers_in (word_at a.address) a.count (word_at b.address) (h.0.1 behind) lt in
-          let is = same b (word_at b.address) h.1.0 h.1.1 cb ca in
-          subst (λ (x : Area). end_of x ≤ end_of a) (sym is) (let le : end_of a ≤ end_of a = omega arith in le))
+            let some = h.1.0.some in
+            let cb = covers_in (word_at b.address) b.count (word_at b.address) (omega arith) (omega (arith, some)) in
+            let ca = covers_in (word_at a.address) a.count (word_at b.address) (h.0.1 behind) lt in
+            let is = same b (word_at b.address) h.1.0 h.1.1 cb ca in
+            subst (λ (x : Area). end_of x ≤ end_of a) (sym is) (let le : end_of a ≤ end_of a = omega arith in le))
       ])
       (all_both (λ b. (word_at b.address < to → end_of b ≤ to) × (to ≤ word_at b.address → word_at a.address ≤ word_at b.address)) (λ b. IsPlaced words b × ((shares_word b a ≡ false) ⊎ (b ≡ a))) areas
       (all_both (λ (b : Area). word_at b.address < to → end_of b ≤ to) (λ (b : Area). to ≤ word_at b.address → word_at a.address ≤ word_at b.address) areas so_far.apart (next-least to areas a next)) others)
@@ -194,7 +194,7 @@ pub row-end : (words to : ℕ) (areas : List Area) (row : List Span) → IsRowTo
 row-end words to areas row so_far none = map_same (at (map granted row)) (at (map grant areas)) (range_with_len 0 words) (λ w. elim (cases_lt w to) [
   | inl before ↦ so_far.done w before
   | inr ge ↦ so_far.rest w ge ∙ sym (no_area areas w
-    (all_weaken (λ b. (word_at b.address < to → end_of b ≤ to) × (word_at b.address < to)) (λ (b : Area). covers (word_at b.address) b.count w ≡ true → ⊥) areas
-    (λ b h c. let r = covers_from (word_at b.address) b.count w c in let e = h.0 h.1 in let q : ⊥ = omega (arith, e, r.1, ge) in q)
-    (all_both (λ (b : Area). word_at b.address < to → end_of b ≤ to) (λ (b : Area). word_at b.address < to) areas so_far.apart (next-none to areas none))))
+      (all_weaken (λ b. (word_at b.address < to → end_of b ≤ to) × (word_at b.address < to)) (λ (b : Area). covers (word_at b.address) b.count w ≡ true → ⊥) areas
+      (λ b h c. let r = covers_from (word_at b.address) b.count w c in let e = h.0 h.1 in let q : ⊥ = omega (arith, e, r.1, ge) in q)
+      (all_both (λ (b : Area). word_at b.address < to → end_of b ≤ to) (λ (b : Area). word_at b.address < to) areas so_far.apart (next-none to areas none))))
 ])

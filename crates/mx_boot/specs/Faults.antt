@@ -54,9 +54,10 @@ abbrev pub image_row : Home → Fault
 image_row h = let file = image_of h.bytes in (is_err file, fault 10 (at_module h.domain key.Image) (fault_number file))
 
 abbrev pub flags_rows : Home → ℕ × Seg → List Fault
-flags_rows h placed =
-    (is_writable placed.1.flags && is_executable placed.1.flags && not (is_some h.plan.wx),
-    fault 11 (at_module h.domain key.Image) placed.0)
+flags_rows h placed = (
+  is_writable placed.1.flags && is_executable placed.1.flags && not (is_some h.plan.wx),
+  fault 11 (at_module h.domain key.Image) placed.0,
+)
     ∷ []
 
 abbrev pub image_rows : Home → List Fault

@@ -42,9 +42,7 @@ fn holds_entry(domain: u32, address: u32, area: Area) -> bool
 fn is_held(areas: &[Area], domain: u32, address: u32) -> bool
     ensures { result ≡ list_any (holds_entry domain address) areas.now }
 {
-    areas
-        .iter()
-        .any(|area| holds_entry(domain, address, *area))
+    areas.iter().any(|area| holds_entry(domain, address, *area))
 }
 
 /// Whether an address is aligned and in an area of the module.

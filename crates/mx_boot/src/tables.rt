@@ -7,10 +7,10 @@ ghost use Rattle.mx_boot.specs.Boot.{boot_of, boot_state, limit_of};
 ghost use Rattle.mx_boot.specs.Booted.{IsRefusedBy};
 ghost use Rattle.mx_boot.specs.Faults.{first_fault, ram_words};
 
-use crate::layout::ram_words;
-use crate::refused::BootRefused;
 use crate::granted::rows;
 use crate::home::in_range;
+use crate::layout::ram_words;
+use crate::refused::BootRefused;
 use mx_manifest::Plan;
 use mx_table::{BuildRefused, PermTables};
 use mx_words::{Blob, Need};

@@ -1,4 +1,4 @@
-use Rattle.std.proofs.Common.{◌≡◌, ◌∙◌, ◌≤◌, ◌++◌, ap, sym, refl, length, take, arith}
+use Rattle.std.proofs.Common.{◌∙◌, ◌≤◌, ◌++◌, ap, length, arith}
 use Rattle.std.specs.List.{flat_map}
 use Rattle.mx_boot.specs.Areas.{areas_of, homes}
 use Rattle.mx_boot.specs.Seen.{seen}

@@ -1,7 +1,6 @@
-use Rattle.std.proofs.Common.{◌≡◌, ◌∙◌, ap, sym, true, false, Some, None, arith, length, ◌≤◌}
+use Rattle.std.proofs.Common.{◌∙◌, ap, sym, Some, arith, length, ◌≤◌}
 use Rattle.std.specs.List.{enumerate_from}
 use Rattle.std.proofs.lemmas.List.FromFn.{length-enumerate_from}
-use Rattle.mx_elf.specs.declared.segment.Seg.{Seg}
 use Rattle.mx_boot.specs.Seen.{seen}
 use Rattle.mx_boot.specs.Faults.{flags_rows, fault}
 use Rattle.mx_boot.proofs.Rows.{at_counted, first_here, first_next, first_end, one_applies, one_fails}

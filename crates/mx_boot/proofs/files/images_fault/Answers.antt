@@ -1,4 +1,4 @@
-use Rattle.std.proofs.Common.{◌≡◌, ◌∙◌, ◌≤◌, ap, sym, Some, None, arith, length}
+use Rattle.std.proofs.Common.{◌∙◌, ◌≤◌, sym, arith, length}
 use Rattle.mx_boot.specs.Areas.{homes}
 use Rattle.mx_boot.specs.Seen.{seen}
 use Rattle.mx_boot.specs.Faults.{image_rows}

@@ -1,5 +1,4 @@
-use Rattle.std.proofs.Common.{◌≡◌, ◌≤◌, ◌∙◌, ap, sym, subst, refl, ◌∷◌, [], length, Ok, Err, arith}
-use Rattle.mx_boot.specs.Laid.{AreAsked}
+use Rattle.std.proofs.Common.{◌≤◌, length, Ok, arith}
 use Rattle.mx_boot.specs.Seen.{seen}
 use Rattle.mx_boot.proofs.Asked.{each-next, each-stops, each-ends}
 use Rattle.mx_boot.specs.Areas.{homes}

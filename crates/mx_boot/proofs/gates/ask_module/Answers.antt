@@ -1,4 +1,4 @@
-use Rattle.std.proofs.Common.{◌≡◌, map, Ok, Err}
+use Rattle.std.proofs.Common.{map}
 use Rattle.std.specs.List.{flat_map}
 use Rattle.mx_boot.specs.Entries.{call_requests, return_request}
 use Rattle.mx_boot.specs.Seen.{seen}

@@ -24,8 +24,13 @@ new-requires g c =
     let gates = c.gates-gates.ensures ∙ c.as_slice.ensures.value ∙ c.requires.layout.gates in
     let parts = parts-are plan images t.kind (t.maps c.new-checker.result.tables) (t.size c.new-checker.result.tables) (t.limits c.new-checker.result.tables) _ c.new-checker.result.harts c.in-Ok.ram c.in-Ok-owners.owners c.gates-gates.result c.in-Ok-heaps.heaps
     c.requires.kind maps size (ap t.limits tables ∙ c.in-Ok-tables.ensures.limit) c.requires.buffer (ap (λ k. k.harts) c.new-checker.ensures ∙ ap new_harts c.harts.ensures.value)
-    c.in-Ok.ensures c.in-Ok-owners.ensures gates c.in-Ok-heaps.ensures in
-    (search rules, (search rules, (
-      subst IsSound (sym parts) (parts-sound plan images c.in_range.ensures c.requires.layout.faultless),
-      gates-hold plan images (t.maps c.new-checker.result.tables) (t.size c.new-checker.result.tables) c.gates-gates.result c.in_range.ensures c.requires.layout.faultless maps size gates,
-    )))
+    c.in-Ok.ensures c.in-Ok-owners.ensures gates c.in-Ok-heaps.ensures in (
+      search rules,
+      (
+        search rules,
+        (
+          subst IsSound (sym parts) (parts-sound plan images c.in_range.ensures c.requires.layout.faultless),
+          gates-hold plan images (t.maps c.new-checker.result.tables) (t.size c.new-checker.result.tables) c.gates-gates.result c.in_range.ensures c.requires.layout.faultless maps size gates,
+        ),
+      ),
+    )

@@ -1,4 +1,4 @@
-use Rattle.std.proofs.Common.{◌≡◌, ◌∙◌, ap, sym, refl, None, Ok, Err, ◌++◌, map}
+use Rattle.std.proofs.Common.{◌∙◌, ap, None, Ok, Err, ◌++◌, map}
 use Rattle.mx_boot.specs.Laid.{start_of}
 use Rattle.mx_boot.proofs.Steps.{at_images, at_areas, at_gates, at_harts, nowhere, images_are, areas_are, asked_are, gates_are, gates_tell, harts_are, harts_tell}
 use Rattle.mx_boot.proofs.layout.lay_out.Goals as goal

@@ -20,6 +20,6 @@ segments-preserved c =
     let f = segment_content c.args.bytes.now in
     let s = c.get-segment.result in (
       next-content f c.args.segments.now c.segments.k s c.args.ram.now c.segments.ram c.put_bytes.new.ram c.get-segment.ensures c.segments.invariant.0
-      (c.put_bytes.ensures.bytes ∙ ap (λ bytes. (let content : Content = record { address = s.address; bytes = bytes } in with_content c.segments.ram content)) c.held.ensures),
+          (c.put_bytes.ensures.bytes ∙ ap (λ bytes. (let content : Content = record { address = s.address; bytes = bytes } in with_content c.segments.ram content)) c.held.ensures),
       c.put_bytes.ensures.size ∙ c.segments.invariant.1,
     )

@@ -23,7 +23,7 @@ put_home-requires-clause-aligned c = (ready c.args.plan.now c.args.images.now c.
 pub modules-preserved : goal.modules-preserved
 modules-preserved c = (
   next-contents contents (homes c.args.plan.now c.args.images.now) c.modules.i (seen c.home_at.result) (replicate (4 * ram_words c.args.plan.now) 0) c.modules.ram c.put_home.new.ram
-  c.home_at.ensures.home c.modules.invariant.0 c.put_home.ensures.bytes,
+      c.home_at.ensures.home c.modules.invariant.0 c.put_home.ensures.bytes,
   c.put_home.ensures.size ∙ c.modules.invariant.1,
 )
 

@@ -1,4 +1,4 @@
-use Rattle.std.proofs.Common.{◌≡◌, ◌+◌, ◌≤◌, ◌∙◌, ap, sym, subst, refl, length, Ok, Err, arith}
+use Rattle.std.proofs.Common.{◌+◌, ◌≤◌, ◌∙◌, sym, subst, length, arith}
 use Rattle.mx_boot.specs.Laid.{Tells}
 use Rattle.mx_boot.specs.Seen.{seen}
 use Rattle.mx_boot.proofs.Started.{hart_rows_are, pc_is, harts_next, harts_stop, harts_end}
