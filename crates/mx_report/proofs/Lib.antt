@@ -1,0 +1,7 @@
+pub mod TailLaws
+pub mod PassLaws
+pub mod RunTexts
+pub mod MapLaws
+pub mod ItemLaws
+pub mod RangeTexts
+pub mod Views

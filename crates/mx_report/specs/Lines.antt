@@ -68,8 +68,11 @@ unfoldable pub register_text : ℕ → List ℕ
 register_text value = concat (codes " " ∷ hex_digits value ∷ [])
 
 -- hart h's registers, x0 first
+abbrev pub registers_head : ℕ → List ℕ
+registers_head h = concat (codes "regs " ∷ decimal h ∷ [])
+
 unfoldable pub registers_line : ℕ → List ℕ → List ℕ
-registers_line h regs = concat (codes "regs " ∷ decimal h ∷ flat_map register_text regs ∷ codes "\n" ∷ [])
+registers_line h regs = concat (registers_head h ∷ flat_map register_text regs ∷ codes "\n" ∷ [])
 
 -- both lines of a hart
 unfoldable pub hart_lines : ℕ → Hart → List ℕ

@@ -43,6 +43,7 @@ impl Tail {
         ensures adds { Adds self.old (C.state sink.old) (C.state sink.new) self.new bytes.now.bytes result }
         ensures few { length self.new < piece_bytes }
     {
+        let _ = &self.bytes;
         for i in 0..bytes.len() {
             self.push(sink, bytes.byte(i))?;
         }
@@ -64,6 +65,7 @@ impl Tail {
         ensures adds { Adds self.old (C.state sink.old) (C.state sink.new) self.new bytes.now result }
         ensures few { length self.new < piece_bytes }
     {
+        let _ = &self.bytes;
         for byte in bytes {
             self.push(sink, *byte)?;
         }
