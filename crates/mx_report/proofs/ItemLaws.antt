@@ -1,5 +1,5 @@
 -- The stored items of a map: each word lies in the item that decides it, which decides each of its words.
-use Rattle.std.proofs.Common.{◌≡◌, ◌≢◌, ℕ, zero, suc, ◌+◌, ◌-◌, ◌*◌, ◌/◌, ◌<◌, ◌≤◌, ◌⊎◌, inl, inr, ◌==◌, Bool, true, false, cond, not, if◌then◌else◌, List, [], ◌∷◌, ◌++◌, length, get_or, take, drop, reverse, slice_range, min, flat_map, refl, sym, ap, ◌∙◌, arith, length-take, length-drop, get_or-take, get_or-drop}
+use Rattle.std.proofs.Common.{◌≡◌, ◌≢◌, ℕ, zero, suc, ◌+◌, ◌-◌, ◌*◌, ◌/◌, ◌<◌, ◌≤◌, ◌⊎◌, inl, inr, ◌==◌, Bool, true, false, cond, not, if◌then◌else◌, List, [], ◌∷◌, ◌++◌, length, get_or, take, drop, reverse, slice_range, min, flat_map, refl, sym, ap, ◌∙◌, subst, arith, length-take, length-drop, get_or-take, get_or-drop}
 use Rattle.std.specs.List.{prefix_len, suffix_len, range_with_len, list_any}
 use Rattle.std.proofs.lemmas.Bool.{eqb-true, cases_lt}
 use Rattle.std.proofs.lemmas.List.{get_or-reverse, length-reverse}
@@ -15,6 +15,11 @@ use Rattle.mx_words.specs.declared.tables.Shown.{Shown}
 use Rattle.mx_words.specs.Rights.{same, perm_at}
 use Rattle.mx_words.specs.Runs.{is_eighth_uniform, block_at, is_crowded, line_words, page_words, region_words}
 use Rattle.mx_words.specs.Reach.{span_within, line_level, stored, stored_at, shown_run, vector, line_entry, packed, line_at}
+use Rattle.mx_model.specs.Reads.{map_in}
+use Rattle.mx_model.specs.State.{Flat}
+use Rattle.mx_report.specs.Lines.{shown_line}
+use Rattle.mx_report.specs.Texts.{has_rights, item_text, shown_text}
+use Rattle.mx_report.proofs.RangeTexts.{range_blank}
 use Rattle.mx_words.proofs.RunLaws.{IsRound, slice-at, length-slice, span_within_is}
 use Rattle.mx_words.proofs.ReachLaws.{IsUniformRound, within_round, within_low, within_high}
 
@@ -198,3 +203,61 @@ pub stored_round : (kind : Kind) (m : List Perm) (i : ℕ) → i < length m → 
 stored_round K.Segments m i lt = segment_round m i lt
 stored_round K.Multilevel m i lt = multilevel_round m i lt (region_test m i) (page_test m i) (line_test m i) refl refl refl
 stored_round K.Packed m i lt = packed_round m i lt (region_test m i) (page_test m i) (line_test m i) refl refl refl
+
+-- the lines of the items from the first word of one on: its own, and those of the items behind it
+module _ (domain : ℕ) (kind : Kind) (m : List Perm) (w : ℕ) (lt : w < length m) (at : (stored kind m w).first ≡ w) where
+  abbrev item : Shown
+  abbrev next : ℕ
+  abbrev texts : ℕ → ℕ → List ℕ
+  item = stored kind m w
+  next = item.first + item.count
+  texts a n = flat_map (item_text domain kind m) (range_with_len a n)
+
+  own : item_text domain kind m w ≡ shown_text domain m item
+  own = let e : (item.first == w) ≡ true = grind (arith, at) in ap (λ b. if b then shown_text domain m item else []) e
+
+  blank : (j : ℕ) → w + 1 ≤ j → j < next → item_text domain kind m j ≡ []
+  blank j lo hi =
+      let same_item : stored kind m j ≡ item = (stored_round kind m w lt).alike j (omega (arith, at)) hi in
+      let apart : (item.first == j) ≡ false = not_at j lo in
+      ap (λ (x : Shown). if x.first == j then shown_text domain m x else []) same_item ∙ ap (λ b. if b then shown_text domain m item else []) apart
+    where
+      not_at : (j : ℕ) → w + 1 ≤ j → (item.first == j) ≡ false
+      not_at j lo = grind (arith, at)
+
+  pub items_from : flat_map (item_text domain kind m) (range_with_len w (length m - w)) ≡ shown_text domain m item ++ flat_map (item_text domain kind m) (range_with_len next (length m - next))
+  items_from =
+      let r = stored_round kind m w lt in
+      let right = r.right in
+      let inside = r.inside in
+      let k : ℕ = next - w - 1 in
+      let long : length m - w ≡ suc (k + (length m - next)) = omega arith in
+      let behind : w + 1 + k ≡ next = omega arith in
+      ap (texts w) long ∙ ap (λ xs. xs ++ texts (w + 1) (k + (length m - next))) own
+      ∙ ap (λ xs. shown_text domain m item ++ xs)
+      (range_blank (item_text domain kind m) (w + 1) k (length m - next) (λ j lo hi. blank j lo (omega arith)) ∙ ap (λ a. texts a (length m - next)) behind)
+
+  -- an item begins behind an item
+  pub next_begins : next < length m → (stored kind m next).first ≡ next
+  next_begins more = by (cases_lt (stored kind m next).first next)
+    where
+      by : ((stored kind m next).first < next) ⊎ (next ≤ (stored kind m next).first) → (stored kind m next).first ≡ next
+      by (inl before) =
+          let r = stored_round kind m w lt in
+          let q = stored_round kind m next more in
+          let right = r.right in
+          let end = q.right in
+          let mine : stored kind m (next - 1) ≡ item = r.alike (next - 1) (omega arith) (omega arith) in
+          let its : stored kind m (next - 1) ≡ stored kind m next = q.alike (next - 1) (omega arith) (omega arith) in
+          let alike : next ≡ (stored kind m next).first + (stored kind m next).count = ap (λ (x : Shown). x.first + x.count) (sym mine ∙ its) in
+          absurd (omega arith)
+      by (inr le) = let left = (stored_round kind m next more).left in omega arith
+
+-- an item without a permission has no line
+pub shown_none : (domain : ℕ) (m : List Perm) (item : Shown) → has_rights m item.first item.count ≡ false → [] ≡ shown_text domain m item
+shown_none domain m item e = sym (ap (λ b. if b then shown_line domain item else []) e)
+
+-- what is shown in a flat state
+pub shown_round : (f : Flat) (d i : ℕ) (s : Shown) → s ≡ stored f.core.kind (map_in f.core.size f.maps d) i → length (map_in f.core.size f.maps d) ≡ f.core.size → i < f.core.size → IsItemRound f.core.kind (map_in f.core.size f.maps d) i s
+shown_round f d i s e whole lt =
+    subst (λ (x : Shown). IsItemRound f.core.kind (map_in f.core.size f.maps d) i x) (sym e) (stored_round f.core.kind (map_in f.core.size f.maps d) i (omega arith))

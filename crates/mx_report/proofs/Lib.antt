@@ -5,3 +5,4 @@ pub mod MapLaws
 pub mod ItemLaws
 pub mod RangeTexts
 pub mod Views
+pub mod CountsLine

@@ -1,6 +1,7 @@
 -- Texts put on a sink through a buffer, one after another.
-use Rattle.std.proofs.Common.{◌≡◌, ℕ, ◌+◌, ◌<◌, ◌≤◌, List, [], ◌∷◌, ◌++◌, length, get_or, drop, flat_map, refl, sym, ap, ◌∙◌, subst, append_assoc, Result, Ok, Err}
+use Rattle.std.proofs.Common.{◌≡◌, ℕ, suc, ◌+◌, ◌<◌, ◌≤◌, List, [], ◌∷◌, ◌++◌, length, get_or, drop, flat_map, refl, sym, ap, ◌∙◌, subst, append_assoc, Result, Ok, Err}
 use Rattle.std.proofs.lemmas.List.{append-nil, drop_all}
+use Rattle.std.specs.List.{range_with_len}
 use Rattle.mx_io.specs.Sink.{SinkState, Puts}
 use Rattle.mx_io.specs.declared.Failed.{Failed}
 use Rattle.mx_io.proofs.Text.{flat_map-drop}
@@ -83,3 +84,21 @@ coming_item_stop f xs i d h l p = coming_stop (flat_map f (drop (i + 1) xs)) (co
 
 pub coming_items : {X : Type 0} {b c : List ℕ} {s t : SinkState} {all : List ℕ} (f : X → List ℕ) (xs : List X) (i : ℕ) → length xs ≤ i → Coming b s all c t (flat_map f (drop i xs)) → Passes {A = Unit {0}} {E = Failed} b s t c all (Ok (tt {0}))
 coming_items f xs i h l = coming_none (coming_same (ap (flat_map f) (drop_all i xs h)) l)
+
+-- a loop over the numbers of a range: nothing was put yet, the text of the next number was put, putting it failed, and the loop is at its end
+pub coming_range : (b : List ℕ) (s : SinkState) (f : ℕ → List ℕ) (a n k : ℕ) → n ≡ k → Coming b s (flat_map f (range_with_len a n)) b s (flat_map f (range_with_len a k))
+coming_range b s f a n k e = coming_same (ap (λ i. flat_map f (range_with_len a i)) e) (coming_all b s (flat_map f (range_with_len a n)))
+
+range_next : (f : ℕ → List ℕ) (j k l : ℕ) → k ≡ suc l → flat_map f (range_with_len j k) ≡ f j ++ flat_map f (range_with_len (j + 1) l)
+range_next f j k l e = ap (λ i. flat_map f (range_with_len j i)) e
+
+pub coming_number : {b c d : List ℕ} {s t u : SinkState} {all : List ℕ} {a : Unit {0}} (f : ℕ → List ℕ) (j k l : ℕ) → k ≡ suc l
+    → Coming b s all c t (flat_map f (range_with_len j k)) → Passes {E = Failed} c t u d (f j) (Ok a) → Coming b s all d u (flat_map f (range_with_len (j + 1) l))
+coming_number f j k l e p q = coming_next (coming_same (range_next f j k l e) p) q
+
+pub coming_number_stop : {b c d : List ℕ} {s t u : SinkState} {all : List ℕ} {e : Failed} (f : ℕ → List ℕ) (j k l : ℕ) → k ≡ suc l
+    → Coming b s all c t (flat_map f (range_with_len j k)) → Passes {A = Unit {0}} c t u d (f j) (Err e) → Passes {A = Unit {0}} b s u d all (Err e)
+coming_number_stop f j k l e p q = coming_stop (flat_map f (range_with_len (j + 1) l)) (coming_same (range_next f j k l e) p) q
+
+pub coming_numbers : {b c : List ℕ} {s t : SinkState} {all : List ℕ} (f : ℕ → List ℕ) (j k : ℕ) → k ≡ 0 → Coming b s all c t (flat_map f (range_with_len j k)) → Passes {A = Unit {0}} {E = Failed} b s t c all (Ok (tt {0}))
+coming_numbers f j k e p = coming_none (coming_same (ap (λ i. flat_map f (range_with_len j i)) e) p)

@@ -87,3 +87,9 @@ eqb_refl n = grind arith
 pub owners_from : (text : ℕ → ℕ → ℕ → List ℕ) (m : List ℕ) (a b : ℕ) → a < b → b ≤ length m → ((w : ℕ) → a ≤ w → w < b → get_or m w 0 ≡ get_or m a 0) → (b < length m → get_or m b 0 ≢ get_or m a 0) →
     run_texts text a (runs_of (λ x y. x == y) (drop a m)) ≡ text a b (get_or m a 0) ++ run_texts text b (runs_of (λ x y. x == y) (drop b m))
 owners_from = texts_from (λ x y. x == y) eqb-true eqb_refl 0
+
+pub map_behind : (text : ℕ → ℕ → Perm → List ℕ) (m : List Perm) (a : ℕ) → length m ≤ a → run_texts text a (runs_of same (drop a m)) ≡ []
+map_behind = texts_behind same same_eq same_refl P.None
+
+pub owners_behind : (text : ℕ → ℕ → ℕ → List ℕ) (m : List ℕ) (a : ℕ) → length m ≤ a → run_texts text a (runs_of (λ x y. x == y) (drop a m)) ≡ []
+owners_behind = texts_behind (λ x y. x == y) eqb-true eqb_refl 0

@@ -1,7 +1,8 @@
 //! Lines of a domain and of its map.
-ghost use Rattle.std.specs.Prelude.{◌≡◌, ◌≢◌, ◌<◌, ◌≤◌, ◌+◌, length};
+ghost use Rattle.std.specs.Prelude.{◌≡◌, ◌<◌, ◌≤◌, ◌+◌, not, length};
 ghost use Rattle.mx_io.specs.Sink.{Puts};
 ghost use Rattle.mx_words.specs.Ranges.{most_words};
+ghost use Rattle.mx_words.specs.Rights.{same};
 ghost use Rattle.mx_model.specs.Reads.{map_in};
 ghost use Rattle.mx_model.specs.State.{module_at};
 ghost use Rattle.mx_model.specs.Valid.{IsModule};
@@ -104,12 +105,19 @@ fn run_end<M: Read>(machine: &M, domain: u32, word: u32) -> u32
     let mut end = span.first + span.count;
     'spans: while end < machine.words() {
         let next = machine.span(domain, end);
-        if next.perm != span.perm {
+        if differ(next.perm, span.perm) {
             return end;
         }
         end = next.first + next.count;
     }
     end
+}
+
+/// Whether two permissions are different ones.
+pub(crate) fn differ(p: Perm, q: Perm) -> bool
+    ensures { result ≡ not (same p q) }
+{
+    p.number() != q.number()
 }
 
 fn permission_name(perm: Perm) -> &'static str

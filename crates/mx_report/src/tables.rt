@@ -10,6 +10,7 @@ ghost use Rattle.mx_report.specs.Lines.{kind_name, tables_line, level_name, show
 ghost use Rattle.mx_report.specs.Texts.{all_items, flat_told, has_rights, shown_text, shown_lines, table_lines, counts_lines};
 
 use crate::gathered::{address, put_pieces};
+use crate::maps::differ;
 use crate::{Counts, Read, Tail};
 use mx_io::{Failed, Piece, Sink};
 use mx_words::{Kind, Level, Need, Perm, Shown};
@@ -154,7 +155,7 @@ fn has_rights<M: Read>(machine: &M, domain: u32, first: u32, count: u32) -> bool
     let mut word = first;
     'spans: while word < end {
         let span = machine.span(domain, word);
-        if span.perm != Perm::None {
+        if differ(span.perm, Perm::None) {
             return true;
         }
         word = span.first + span.count;

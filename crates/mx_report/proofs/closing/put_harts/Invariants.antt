@@ -10,4 +10,4 @@ abbrev pub invariant-loop-hart : goal.invariant-loop-hart
 invariant-loop-hart g l =
     let f = g.M.Read.meaning l.machine in
     Coming l.initial.tail (g.R.Sink.state l.initial.sink) (all_harts f.core) l.tail (g.R.Sink.state l.sink)
-    (flat_map (λ h. hart_lines h (hart_at f.core h)) (range_with_len (0 + l.hart) (length f.core.harts - l.hart)))
+    (flat_map (λ h. hart_lines h (hart_at f.core h)) (range_with_len l.hart (length f.core.harts - l.hart)))

@@ -9,4 +9,4 @@ abbrev pub invariant-loop-i : goal.invariant-loop-i
 invariant-loop-i g l =
     let f = g.M.Read.meaning l.machine in
     Coming l.initial.tail (g.R.Sink.state l.initial.sink) (all_items f.core (flat_told f)) l.tail (g.R.Sink.state l.sink)
-    (flat_map (λ d. shown_lines d f.core.kind (map_in f.core.size f.maps d)) (range_with_len (1 + l.i) (length f.core.modules - l.i)))
+    (flat_map (λ d. shown_lines d f.core.kind (map_in f.core.size f.maps d)) (range_with_len (l.i + 1) (length f.core.modules - l.i)))
