@@ -207,10 +207,12 @@ stored_round K.Packed m i lt = packed_round m i lt (region_test m i) (page_test 
 -- the lines of the items from the first word of one on: its own, and those of the items behind it
 module _ (domain : ℕ) (kind : Kind) (m : List Perm) (w : ℕ) (lt : w < length m) (at : (stored kind m w).first ≡ w) where
   abbrev item : Shown
-  abbrev next : ℕ
-  abbrev texts : ℕ → ℕ → List ℕ
   item = stored kind m w
+
+  abbrev next : ℕ
   next = item.first + item.count
+
+  abbrev texts : ℕ → ℕ → List ℕ
   texts a n = flat_map (item_text domain kind m) (range_with_len a n)
 
   own : item_text domain kind m w ≡ shown_text domain m item

@@ -1,5 +1,6 @@
 -- Texts of the numbers of a range, one after another.
-use Rattle.std.proofs.Common.{◌≡◌, ℕ, zero, suc, ◌+◌, ◌-◌, ◌<◌, ◌≤◌, List, [], ◌∷◌, ◌++◌, flat_map, refl, sym, ap, ◌∙◌, arith, append_assoc}
+use Rattle.std.proofs.Common.{◌≡◌, ℕ, zero, suc, ◌+◌, ◌-◌, ◌<◌, ◌≤◌, List, [], ◌∷◌, ◌++◌, map, get_or, flat_map, refl, sym, ap, ◌∙◌, arith, append_assoc}
+use Rattle.std.proofs.Math.ListN.{get_or-map}
 use Rattle.std.specs.List.{range_with_len}
 
 -- the first of a range, and the others
@@ -31,3 +32,9 @@ range_agree f g a zero h = refl
 range_agree f g a (suc n) h =
     ap (λ xs. xs ++ flat_map f (range_with_len (a + 1) n)) (h a (omega arith) (omega arith))
     ∙ ap (λ xs. g a ++ xs) (range_agree f g (a + 1) n (λ j lo hi. h j (omega arith) (omega arith)))
+
+-- what is said of place i of a list, at the number i + 1
+pub at_number : {X : Type 0} (f : X → List ℕ) (xs : List X) (i : ℕ) (d : X) → f d ≡ [] → f (get_or xs i d) ≡ get_or (map f xs) (i + 1 - 1) []
+at_number f xs i d e =
+    let back : i ≡ i + 1 - 1 = omega arith in
+    sym (get_or-map f xs i d) ∙ ap (get_or (map f xs) i) e ∙ ap (λ j. get_or (map f xs) j []) back
