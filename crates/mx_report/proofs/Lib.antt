@@ -6,3 +6,4 @@ pub mod ItemLaws
 pub mod RangeTexts
 pub mod Views
 pub mod CountsLine
+pub mod Examples
