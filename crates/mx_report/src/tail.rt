@@ -55,9 +55,9 @@ impl Tail {
         ensures puts { Puts (C.state sink.old) (C.state sink.new) self.old result }
         ensures empty { self.new ≡ [] }
     {
-        let result = put_all(sink, self.bytes.as_slice());
+        let ended = put_all(sink, self.bytes.as_slice());
         self.bytes.clear();
-        result
+        ended
     }
 
     /// Adds bytes, as `add`.
