@@ -98,9 +98,13 @@ told s = record {
   owners = owners s.gives s.core.size;
 }
 
+-- a domain's map in a flat state
+abbrev pub domain_map : Flat → ℕ → List Perm
+domain_map f d = map_in f.core.size f.maps d
+
 -- what a flat state tells
 abbrev pub flat_told : Flat → Told
-flat_told f = record { map_of = λ d. map_in f.core.size f.maps d; maps = f.maps; owners = f.owners }
+flat_told f = record { map_of = domain_map f; maps = f.maps; owners = f.owners }
 
 -- the closing lines of a state
 abbrev pub closing : List (List ℕ) → EndState → Options → State → List ℕ

@@ -38,7 +38,8 @@ pub fn put_closing<R: Sink, M: Read>(
     requires names { length names.now ≡ length (M.meaning machine.now).core.modules }
     requires kind { kind ≡ (M.meaning machine.now).core.kind }
     requires limit { limit ≡ (M.meaning machine.now).core.limit }
-    ensures { Passes tail.old (R.state sink.old) (R.state sink.new) tail.new (flat_closing (map (λ name. name.now) names.now) end options (M.meaning machine.now)) result }
+    ensures { Passes tail.old (R.state sink.old) (R.state sink.new) tail.new
+        (flat_closing (map (λ name. name.now) names.now) end options (M.meaning machine.now)) result }
 {
     put_end(tail, sink, machine.steps(), end)?;
     put_harts(tail, sink, machine)?;
@@ -50,7 +51,8 @@ pub fn put_closing<R: Sink, M: Read>(
 
 // Puts the lines of each hart.
 fn put_harts<R: Sink, M: Read>(tail: &mut Tail, sink: &mut R, machine: &M) -> Result<(), Failed>
-    ensures { Passes tail.old (R.state sink.old) (R.state sink.new) tail.new (all_harts (M.meaning machine.now).core) result }
+    ensures { Passes tail.old (R.state sink.old) (R.state sink.new) tail.new
+        (all_harts (M.meaning machine.now).core) result }
 {
     for hart in 0..machine.harts() {
         put_hart(tail, sink, hart, &machine.hart(hart))?;
@@ -66,7 +68,9 @@ fn put_domains<R: Sink, M: Read>(
     names: &[&str],
 ) -> Result<(), Failed>
     requires { length names.now ≡ length (M.meaning machine.now).core.modules }
-    ensures { Passes tail.old (R.state sink.old) (R.state sink.new) tail.new (all_domains (map (λ name. name.now) names.now) (M.meaning machine.now).core (flat_told (M.meaning machine.now))) result }
+    ensures { Passes tail.old (R.state sink.old) (R.state sink.new) tail.new
+        (all_domains (map (λ name. name.now) names.now) (M.meaning machine.now).core
+        (flat_told (M.meaning machine.now))) result }
 {
     for i in 0..machine.modules() {
         put_domain(tail, sink, machine, i + 1, names[i as usize])?;
@@ -82,7 +86,8 @@ fn put_asked_tables<R: Sink, M: Read>(
     limit: Need,
     options: Options,
 ) -> Result<(), Failed>
-    ensures { Passes tail.old (R.state sink.old) (R.state sink.new) tail.new (tables_asked options kind limit (M.meaning machine.now).core (flat_told (M.meaning machine.now))) result }
+    ensures { Passes tail.old (R.state sink.old) (R.state sink.new) tail.new
+        (tables_asked options kind limit (M.meaning machine.now).core (flat_told (M.meaning machine.now))) result }
 {
     if options.tables {
         put_tables(tail, sink, machine, kind, limit)
@@ -97,7 +102,8 @@ fn put_asked_counts<R: Sink, M: Read>(
     machine: &M,
     options: Options,
 ) -> Result<(), Failed>
-    ensures { Passes tail.old (R.state sink.old) (R.state sink.new) tail.new (counts_asked options (M.meaning machine.now).core) result }
+    ensures { Passes tail.old (R.state sink.old) (R.state sink.new) tail.new
+        (counts_asked options (M.meaning machine.now).core) result }
 {
     if options.counts {
         put_counts(tail, sink, machine)
@@ -108,5 +114,6 @@ fn put_asked_counts<R: Sink, M: Read>(
 
 /// A law: the closing lines of a state, by its lists of grants and gives, are those of its flat state, by its maps and owners.
 pub fn closing_of_a_flat_state()
-    ensures { (names : List (List ℕ)) (end : End) (options : Asked) (s : State) → closing names end options s ≡ flat_closing names end options (flat s) }
+    ensures { (names : List (List ℕ)) (end : End) (options : Asked) (s : State) →
+        closing names end options s ≡ flat_closing names end options (flat s) }
 {}

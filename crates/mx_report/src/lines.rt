@@ -31,7 +31,8 @@ pub fn fault_line<R: Sink>(
     pc: u32,
     fault: &Fault,
 ) -> Result<(), Failed>
-    ensures { Puts (R.state sink.old) (R.state sink.new) (fault_line step hart domain pc fault.now) result }
+    ensures { Puts (R.state sink.old) (R.state sink.new)
+        (fault_line step hart domain pc fault.now) result }
 {
     let mut tail = Tail::new();
     put_fault(&mut tail, sink, step, hart, domain, pc, fault)?;
@@ -73,7 +74,9 @@ pub fn end_line<R: Sink>(sink: &mut R, steps: u64, state: EndState) -> Result<()
 
 /// Puts the two lines of a hart.
 pub fn hart_lines<R: Sink>(sink: &mut R, hart: u32, view: &HartView) -> Result<(), Failed>
-    ensures { (x : Hart) → IsViewOf x view.now → Puts (R.state sink.old) (R.state sink.new) (hart_lines hart x) result }
+    ensures { (x : Hart) → IsViewOf x view.now →
+        Puts (R.state sink.old) (R.state sink.new)
+        (hart_lines hart x) result }
 {
     let mut tail = Tail::new();
     put_hart(&mut tail, sink, hart, view)?;
@@ -82,13 +85,23 @@ pub fn hart_lines<R: Sink>(sink: &mut R, hart: u32, view: &HartView) -> Result<(
 
 /// Puts the line of a note through a buffer.
 pub fn put_note<R: Sink>(tail: &mut Tail, sink: &mut R, note: &Note) -> Result<(), Failed>
-    ensures { Passes tail.old (R.state sink.old) (R.state sink.new) tail.new (note_line note.now) result }
+    ensures { Passes tail.old (R.state sink.old) (R.state sink.new) tail.new
+        (note_line note.now) result }
 {
     match *note {
-        Note::Fault { step, hart, domain, pc, fault } => {
-            put_fault(tail, sink, step, hart, domain, pc, &fault)
-        }
-        Note::Exit { step, hart, domain, code } => put_exit(tail, sink, step, hart, domain, code),
+        Note::Fault {
+            step,
+            hart,
+            domain,
+            pc,
+            fault,
+        } => { put_fault(tail, sink, step, hart, domain, pc, &fault) }
+        Note::Exit {
+            step,
+            hart,
+            domain,
+            code,
+        } => put_exit(tail, sink, step, hart, domain, code),
     }
 }
 
@@ -102,7 +115,8 @@ fn put_fault<R: Sink>(
     pc: u32,
     fault: &Fault,
 ) -> Result<(), Failed>
-    ensures { Passes tail.old (R.state sink.old) (R.state sink.new) tail.new (fault_line step hart domain pc fault.now) result }
+    ensures { Passes tail.old (R.state sink.old) (R.state sink.new) tail.new
+        (fault_line step hart domain pc fault.now) result }
 {
     put_pieces(
         tail,
@@ -134,7 +148,8 @@ fn put_exit<R: Sink>(
     domain: u32,
     code: u32,
 ) -> Result<(), Failed>
-    ensures { Passes tail.old (R.state sink.old) (R.state sink.new) tail.new (exit_line step hart domain code) result }
+    ensures { Passes tail.old (R.state sink.old) (R.state sink.new) tail.new
+        (exit_line step hart domain code) result }
 {
     put_pieces(
         tail,
@@ -170,7 +185,8 @@ pub(crate) fn put_end<R: Sink>(
     steps: u64,
     state: EndState,
 ) -> Result<(), Failed>
-    ensures { Passes tail.old (R.state sink.old) (R.state sink.new) tail.new (end_line steps state) result }
+    ensures { Passes tail.old (R.state sink.old) (R.state sink.new) tail.new
+        (end_line steps state) result }
 {
     put_pieces(
         tail,
@@ -191,7 +207,9 @@ pub(crate) fn put_hart<R: Sink>(
     hart: u32,
     view: &HartView,
 ) -> Result<(), Failed>
-    ensures { (x : Hart) → IsViewOf x view.now → Passes tail.old (R.state sink.old) (R.state sink.new) tail.new (hart_lines hart x) result }
+    ensures { (x : Hart) → IsViewOf x view.now →
+        Passes tail.old (R.state sink.old) (R.state sink.new) tail.new
+        (hart_lines hart x) result }
 {
     put_state(tail, sink, hart, view)?;
     put_registers(tail, sink, hart, &view.regs)
@@ -214,7 +232,8 @@ fn put_state<R: Sink>(
     hart: u32,
     view: &HartView,
 ) -> Result<(), Failed>
-    ensures { Passes tail.old (R.state sink.old) (R.state sink.new) tail.new (hart_text hart view.now.status view.now.domain view.now.pc view.now.frames) result }
+    ensures { Passes tail.old (R.state sink.old) (R.state sink.new) tail.new
+        (hart_text hart view.now.status view.now.domain view.now.pc view.now.frames) result }
 {
     put_pieces(
         tail,
@@ -241,7 +260,8 @@ fn put_registers<R: Sink>(
     hart: u32,
     regs: &[u32],
 ) -> Result<(), Failed>
-    ensures { Passes tail.old (R.state sink.old) (R.state sink.new) tail.new (registers_line hart regs.now) result }
+    ensures { Passes tail.old (R.state sink.old) (R.state sink.new) tail.new
+        (registers_line hart regs.now) result }
 {
     put_pieces(
         tail,
@@ -253,7 +273,8 @@ fn put_registers<R: Sink>(
 }
 
 fn put_values<R: Sink>(tail: &mut Tail, sink: &mut R, values: &[u32]) -> Result<(), Failed>
-    ensures { Passes tail.old (R.state sink.old) (R.state sink.new) tail.new (flat_map register_text values.now) result }
+    ensures { Passes tail.old (R.state sink.old) (R.state sink.new) tail.new
+        (flat_map register_text values.now) result }
 {
     for value in values {
         put_value(tail, sink, *value)?;
@@ -263,7 +284,8 @@ fn put_values<R: Sink>(tail: &mut Tail, sink: &mut R, values: &[u32]) -> Result<
 
 #[tactic(auto, unfolding(crate::specs::Lines::register_text))]
 fn put_value<R: Sink>(tail: &mut Tail, sink: &mut R, value: u32) -> Result<(), Failed>
-    ensures { Passes tail.old (R.state sink.old) (R.state sink.new) tail.new (register_text value) result }
+    ensures { Passes tail.old (R.state sink.old) (R.state sink.new) tail.new
+        (register_text value) result }
 {
     put_pieces(tail, sink, &[Piece::Text(" "), Piece::Digits(value)])
 }

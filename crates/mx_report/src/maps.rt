@@ -3,13 +3,12 @@ ghost use Rattle.std.specs.Prelude.{◌≡◌, ◌<◌, ◌≤◌, ◌+◌, not,
 ghost use Rattle.mx_io.specs.Sink.{Puts};
 ghost use Rattle.mx_words.specs.Ranges.{most_words};
 ghost use Rattle.mx_words.specs.Rights.{same};
-ghost use Rattle.mx_model.specs.Reads.{map_in};
 ghost use Rattle.mx_model.specs.State.{module_at};
 ghost use Rattle.mx_model.specs.Valid.{IsModule};
 ghost use Rattle.mx_report.specs.Tail.{Passes};
 ghost use Rattle.mx_report.specs.Lines.{dead_text, domain_head, permission_name, map_line, map_text};
 ghost use Rattle.mx_report.specs.Runs.{IsRun};
-ghost use Rattle.mx_report.specs.Texts.{domain_lines, map_lines};
+ghost use Rattle.mx_report.specs.Texts.{domain_lines, domain_map, map_lines};
 
 use crate::gathered::{address, put_pieces};
 use crate::{Read, Tail};
@@ -24,7 +23,9 @@ pub fn domain_lines<R: Sink, M: Read>(
     name: &str,
 ) -> Result<(), Failed>
     requires { IsModule (length (M.meaning machine.now).core.modules) domain }
-    ensures { Puts (R.state sink.old) (R.state sink.new) (domain_lines domain name.now (module_at (M.meaning machine.now).core domain).dead (map_in (M.meaning machine.now).core.size (M.meaning machine.now).maps domain)) result }
+    ensures { Puts (R.state sink.old) (R.state sink.new)
+        (domain_lines domain name.now (module_at (M.meaning machine.now).core domain).dead
+        (domain_map (M.meaning machine.now) domain)) result }
 {
     let mut tail = Tail::new();
     put_domain(&mut tail, sink, machine, domain, name)?;
@@ -40,7 +41,9 @@ pub(crate) fn put_domain<R: Sink, M: Read>(
     name: &str,
 ) -> Result<(), Failed>
     requires { IsModule (length (M.meaning machine.now).core.modules) domain }
-    ensures { Passes tail.old (R.state sink.old) (R.state sink.new) tail.new (domain_lines domain name.now (module_at (M.meaning machine.now).core domain).dead (map_in (M.meaning machine.now).core.size (M.meaning machine.now).maps domain)) result }
+    ensures { Passes tail.old (R.state sink.old) (R.state sink.new) tail.new
+        (domain_lines domain name.now (module_at (M.meaning machine.now).core domain).dead
+        (domain_map (M.meaning machine.now) domain)) result }
 {
     put_head(tail, sink, domain, name, machine.dead(domain))?;
     put_maps(tail, sink, machine, domain)
@@ -60,7 +63,8 @@ fn put_head<R: Sink>(
     name: &str,
     dead: bool,
 ) -> Result<(), Failed>
-    ensures { Passes tail.old (R.state sink.old) (R.state sink.new) tail.new (domain_head domain name.now dead) result }
+    ensures { Passes tail.old (R.state sink.old) (R.state sink.new) tail.new
+        (domain_head domain name.now dead) result }
 {
     put_pieces(
         tail,
@@ -82,7 +86,8 @@ fn put_maps<R: Sink, M: Read>(
     domain: u32,
 ) -> Result<(), Failed>
     requires { IsModule (length (M.meaning machine.now).core.modules) domain }
-    ensures { Passes tail.old (R.state sink.old) (R.state sink.new) tail.new (map_lines domain (map_in (M.meaning machine.now).core.size (M.meaning machine.now).maps domain)) result }
+    ensures { Passes tail.old (R.state sink.old) (R.state sink.new) tail.new
+        (map_lines domain (domain_map (M.meaning machine.now) domain)) result }
 {
     machine.machine_is_valid();
     let mut word = 0;
@@ -98,7 +103,7 @@ fn put_maps<R: Sink, M: Read>(
 fn run_end<M: Read>(machine: &M, domain: u32, word: u32) -> u32
     requires domain { IsModule (length (M.meaning machine.now).core.modules) domain }
     requires word { word < (M.meaning machine.now).core.size }
-    ensures { IsRun (map_in (M.meaning machine.now).core.size (M.meaning machine.now).maps domain) word result }
+    ensures { IsRun (domain_map (M.meaning machine.now) domain) word result }
 {
     machine.machine_is_valid();
     let span = machine.span(domain, word);
@@ -142,7 +147,8 @@ fn put_map<R: Sink>(
 ) -> Result<(), Failed>
     requires first { first ≤ most_words }
     requires end { end ≤ most_words }
-    ensures { Passes tail.old (R.state sink.old) (R.state sink.new) tail.new (map_text domain first end perm) result }
+    ensures { Passes tail.old (R.state sink.old) (R.state sink.new) tail.new
+        (map_text domain first end perm) result }
 {
     match perm {
         Perm::None => Ok(()),
@@ -163,7 +169,8 @@ fn put_map_line<R: Sink>(
 ) -> Result<(), Failed>
     requires first { first ≤ most_words }
     requires end { end ≤ most_words }
-    ensures { Passes tail.old (R.state sink.old) (R.state sink.new) tail.new (map_line domain first end perm) result }
+    ensures { Passes tail.old (R.state sink.old) (R.state sink.new) tail.new
+        (map_line domain first end perm) result }
 {
     put_pieces(
         tail,

@@ -24,7 +24,8 @@ pub(crate) fn put_owners<R: Sink, M: Read>(
     sink: &mut R,
     machine: &M,
 ) -> Result<(), Failed>
-    ensures { Passes tail.old (R.state sink.old) (R.state sink.new) tail.new (owner_lines (M.meaning machine.now).owners) result }
+    ensures { Passes tail.old (R.state sink.old) (R.state sink.new) tail.new
+        (owner_lines (M.meaning machine.now).owners) result }
 {
     machine.machine_is_valid();
     let mut word = 0;
@@ -46,7 +47,8 @@ fn put_owner<R: Sink>(
 ) -> Result<(), Failed>
     requires first { first ≤ most_words }
     requires end { end ≤ most_words }
-    ensures { Passes tail.old (R.state sink.old) (R.state sink.new) tail.new (owner_text first end owner) result }
+    ensures { Passes tail.old (R.state sink.old) (R.state sink.new) tail.new
+        (owner_text first end owner) result }
 {
     if owner == 0 {
         Ok(())
@@ -65,7 +67,8 @@ fn put_owner_line<R: Sink>(
 ) -> Result<(), Failed>
     requires first { first ≤ most_words }
     requires end { end ≤ most_words }
-    ensures { Passes tail.old (R.state sink.old) (R.state sink.new) tail.new (owner_line first end owner) result }
+    ensures { Passes tail.old (R.state sink.old) (R.state sink.new) tail.new
+        (owner_line first end owner) result }
 {
     put_pieces(
         tail,

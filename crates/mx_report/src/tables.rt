@@ -3,11 +3,10 @@ ghost use Rattle.std.specs.Prelude.{◌≡◌, ◌+◌, ◌<◌, ◌≤◌, leng
 ghost use Rattle.mx_io.specs.Sink.{Puts};
 ghost use Rattle.mx_words.specs.Caches.{Cache};
 ghost use Rattle.mx_words.specs.Ranges.{most_words};
-ghost use Rattle.mx_model.specs.Reads.{map_in};
 ghost use Rattle.mx_model.specs.Valid.{IsModule};
 ghost use Rattle.mx_report.specs.Tail.{Passes};
 ghost use Rattle.mx_report.specs.Lines.{kind_name, tables_line, level_name, shown_line, counts_text};
-ghost use Rattle.mx_report.specs.Texts.{all_items, flat_told, has_rights, shown_text, shown_lines, table_lines, counts_lines};
+ghost use Rattle.mx_report.specs.Texts.{all_items, counts_lines, domain_map, flat_told, has_rights, shown_lines, shown_text, table_lines};
 
 use crate::gathered::{address, put_pieces};
 use crate::maps::differ;
@@ -23,7 +22,8 @@ pub fn table_lines<R: Sink, M: Read>(
     kind: Kind,
     limit: Need,
 ) -> Result<(), Failed>
-    ensures { Puts (R.state sink.old) (R.state sink.new) (table_lines kind limit (M.meaning machine.now).core (flat_told (M.meaning machine.now))) result }
+    ensures { Puts (R.state sink.old) (R.state sink.new)
+        (table_lines kind limit (M.meaning machine.now).core (flat_told (M.meaning machine.now))) result }
 {
     let mut tail = Tail::new();
     put_tables(&mut tail, sink, machine, kind, limit)?;
@@ -46,7 +46,8 @@ pub(crate) fn put_tables<R: Sink, M: Read>(
     kind: Kind,
     limit: Need,
 ) -> Result<(), Failed>
-    ensures { Passes tail.old (R.state sink.old) (R.state sink.new) tail.new (table_lines kind limit (M.meaning machine.now).core (flat_told (M.meaning machine.now))) result }
+    ensures { Passes tail.old (R.state sink.old) (R.state sink.new) tail.new
+        (table_lines kind limit (M.meaning machine.now).core (flat_told (M.meaning machine.now))) result }
 {
     put_used(tail, sink, kind, &machine.used(), &limit)?;
     put_items(tail, sink, machine)
@@ -70,7 +71,8 @@ fn put_used<R: Sink>(
     used: &Need,
     limit: &Need,
 ) -> Result<(), Failed>
-    ensures { Passes tail.old (R.state sink.old) (R.state sink.new) tail.new (tables_line kind used.now limit.now) result }
+    ensures { Passes tail.old (R.state sink.old) (R.state sink.new) tail.new
+        (tables_line kind used.now limit.now) result }
 {
     put_pieces(
         tail,
@@ -97,7 +99,8 @@ fn put_used<R: Sink>(
 
 // Puts the lines of all domains' items.
 fn put_items<R: Sink, M: Read>(tail: &mut Tail, sink: &mut R, machine: &M) -> Result<(), Failed>
-    ensures { Passes tail.old (R.state sink.old) (R.state sink.new) tail.new (all_items (M.meaning machine.now).core (flat_told (M.meaning machine.now))) result }
+    ensures { Passes tail.old (R.state sink.old) (R.state sink.new) tail.new
+        (all_items (M.meaning machine.now).core (flat_told (M.meaning machine.now))) result }
 {
     for i in 0..machine.modules() {
         put_domain_items(tail, sink, machine, i + 1)?;
@@ -112,7 +115,8 @@ fn put_domain_items<R: Sink, M: Read>(
     domain: u32,
 ) -> Result<(), Failed>
     requires { IsModule (length (M.meaning machine.now).core.modules) domain }
-    ensures { Passes tail.old (R.state sink.old) (R.state sink.new) tail.new (shown_lines domain (M.meaning machine.now).core.kind (map_in (M.meaning machine.now).core.size (M.meaning machine.now).maps domain)) result }
+    ensures { Passes tail.old (R.state sink.old) (R.state sink.new) tail.new
+        (shown_lines domain (M.meaning machine.now).core.kind (domain_map (M.meaning machine.now) domain)) result }
 {
     machine.machine_is_valid();
     let mut word = 0;
@@ -134,7 +138,8 @@ fn put_item<R: Sink, M: Read>(
 ) -> Result<(), Failed>
     requires domain { IsModule (length (M.meaning machine.now).core.modules) domain }
     requires inside { item.now.first + item.now.count ≤ (M.meaning machine.now).core.size }
-    ensures { Passes tail.old (R.state sink.old) (R.state sink.new) tail.new (shown_text domain (map_in (M.meaning machine.now).core.size (M.meaning machine.now).maps domain) item.now) result }
+    ensures { Passes tail.old (R.state sink.old) (R.state sink.new) tail.new
+        (shown_text domain (domain_map (M.meaning machine.now) domain) item.now) result }
 {
     machine.machine_is_valid();
     if has_rights(machine, domain, item.first, item.count) {
@@ -148,7 +153,7 @@ fn put_item<R: Sink, M: Read>(
 fn has_rights<M: Read>(machine: &M, domain: u32, first: u32, count: u32) -> bool
     requires domain { IsModule (length (M.meaning machine.now).core.modules) domain }
     requires inside { first + count ≤ (M.meaning machine.now).core.size }
-    ensures { result ≡ has_rights (map_in (M.meaning machine.now).core.size (M.meaning machine.now).maps domain) first count }
+    ensures { result ≡ has_rights (domain_map (M.meaning machine.now) domain) first count }
 {
     machine.machine_is_valid();
     let end = first + count;
@@ -183,7 +188,8 @@ fn put_shown<R: Sink>(
     item: &Shown,
 ) -> Result<(), Failed>
     requires { item.now.first ≤ most_words }
-    ensures { Passes tail.old (R.state sink.old) (R.state sink.new) tail.new (shown_line domain item.now) result }
+    ensures { Passes tail.old (R.state sink.old) (R.state sink.new) tail.new
+        (shown_line domain item.now) result }
 {
     put_pieces(
         tail,
@@ -207,7 +213,8 @@ pub(crate) fn put_counts<R: Sink, M: Read>(
     sink: &mut R,
     machine: &M,
 ) -> Result<(), Failed>
-    ensures { Passes tail.old (R.state sink.old) (R.state sink.new) tail.new (counts_lines (M.meaning machine.now).core) result }
+    ensures { Passes tail.old (R.state sink.old) (R.state sink.new) tail.new
+        (counts_lines (M.meaning machine.now).core) result }
 {
     for hart in 0..machine.harts() {
         put_hart_counts(tail, sink, hart, &machine.counts(hart))?;
@@ -222,7 +229,8 @@ fn put_hart_counts<R: Sink>(
     hart: u32,
     counts: &Counts,
 ) -> Result<(), Failed>
-    ensures { Passes tail.old (R.state sink.old) (R.state sink.new) tail.new (counts_text hart counts.now.sidecar counts.now.lookaside counts.now.walks) result }
+    ensures { Passes tail.old (R.state sink.old) (R.state sink.new) tail.new
+        (counts_text hart counts.now.sidecar counts.now.lookaside counts.now.walks) result }
 {
     put_pieces(
         tail,

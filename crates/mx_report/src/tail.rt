@@ -40,7 +40,8 @@ impl Tail {
 
     /// Adds the console bytes of a turn. Pieces of 4096 bytes leave for the sink, and what is behind them is held.
     pub fn add<C: Sink>(&mut self, sink: &mut C, bytes: &Events) -> Result<(), Failed>
-        ensures adds { Adds self.old (C.state sink.old) (C.state sink.new) self.new bytes.now.bytes result }
+        ensures adds { Adds self.old (C.state sink.old) (C.state sink.new) self.new
+            bytes.now.bytes result }
         ensures few { length self.new < piece_bytes }
     {
         let _ = &self.bytes;
@@ -62,7 +63,8 @@ impl Tail {
 
     /// Adds bytes, as `add`.
     pub fn put<C: Sink>(&mut self, sink: &mut C, bytes: &[u8]) -> Result<(), Failed>
-        ensures adds { Adds self.old (C.state sink.old) (C.state sink.new) self.new bytes.now result }
+        ensures adds { Adds self.old (C.state sink.old) (C.state sink.new) self.new
+            bytes.now result }
         ensures few { length self.new < piece_bytes }
     {
         let _ = &self.bytes;
@@ -73,7 +75,8 @@ impl Tail {
     }
 
     fn push<C: Sink>(&mut self, sink: &mut C, byte: u8) -> Result<(), Failed>
-        ensures adds { Adds self.old (C.state sink.old) (C.state sink.new) self.new (byte ∷ []) result }
+        ensures adds { Adds self.old (C.state sink.old) (C.state sink.new) self.new
+            (byte ∷ []) result }
         ensures few { length self.new < piece_bytes }
     {
         self.bytes.push(byte);
