@@ -2,11 +2,15 @@
 #![tactic(auto)]
 
 #[cfg(test)]
+mod assembling;
+#[cfg(test)]
 mod layouts;
 #[cfg(test)]
 mod manifests;
 #[cfg(test)]
 mod outside;
+#[cfg(test)]
+mod packets;
 #[cfg(test)]
 mod runs;
 #[cfg(test)]
