@@ -2,9 +2,13 @@
 #![tactic(auto)]
 
 #[cfg(test)]
+mod assembling;
+#[cfg(test)]
 mod manifests;
 #[cfg(test)]
 mod outside;
+#[cfg(test)]
+mod packets;
 #[cfg(test)]
 mod runs;
 #[cfg(test)]
