@@ -1,6 +1,8 @@
 -- What is read of a machine is what its state says.
-use Rattle.std.proofs.Common.{◌≡◌, ℕ, ◌+◌, ◌<◌, ◌≤◌, ◌==◌, ◌&&◌, cond, List, [], ◌∷◌, length, get_or, refl, sym, ap, subst, ◌∙◌, arith, Option, Some, None}
+use Rattle.std.proofs.Common.{◌≡◌, ℕ, ◌+◌, ◌<◌, ◌≤◌, ◌==◌, ◌&&◌, Bool, true, false, cond, eq-eqb, List, [], ◌∷◌, length, get_or, refl, sym, ap, subst, ◌∙◌, arith, Option, Some, None}
 use Rattle.std.specs.List.{list_all}
+use Rattle.std.proofs.lemmas.Bool.{ne_eqb}
+use Rattle.mx_words.specs.declared.perm.Perm.{Perm}
 use Rattle.mx_table.specs.Tables.{IsDomain, map_of}
 use Rattle.mx_check.specs.declared.flight.Flight.{Flight}
 use Rattle.mx_check.specs.Harts.{Kept, hart_at, has_heard}
@@ -52,6 +54,26 @@ module _ (m : Held) (f : Fits m) where
         words = ap (λ (x : StackArea). x.words) e ∙ sym (ap (λ (x : Module). x.stack.words) is);
         kills = ap (λ (x : StackArea). x.kills) e ∙ sym (ap (λ (x : Module). x.kills) is);
       }
+
+  pub area-none : (d : ℕ) (a : StackArea) → IsModule (length (core_in m).modules) d → a ≡ area_of m.stacks d → a.words ≡ 0 →
+      IsAreaOf (module_at (core_in m) d) (record a { first = 0 })
+  area-none d a i e none =
+      let b = area_of m.stacks d in
+      let empty : (b.words == 0) ≡ true = eq-eqb b.words 0 (sym (ap (λ (x : StackArea). x.words) e) ∙ none) in
+      area-told d (record a { first = 0 }) i
+      (ap (λ (x : StackArea). record x { first = 0 }) e ∙ ap (λ (t : Bool). record b { first = cond t 0 b.first }) (sym empty))
+
+  pub area-some : (d : ℕ) (a : StackArea) → IsModule (length (core_in m).modules) d → a ≡ area_of m.stacks d → (a.words ≡ 0 → ⊥) →
+      IsAreaOf (module_at (core_in m) d) a
+  area-some d a i e some =
+      let b = area_of m.stacks d in
+      let full : (b.words == 0) ≡ false = ne_eqb b.words 0 (λ none. some (ap (λ (x : StackArea). x.words) e ∙ none)) in
+      area-told d a i (e ∙ ap (λ (t : Bool). record b { first = cond t 0 b.first }) (sym full))
+
+  -- maps are as long as RAM
+  pub map-long : (d : ℕ) → IsModule (length (core_in m).modules) d → length (map_in m.parts.size m.parts.maps d) ≡ m.parts.size
+  map-long d i =
+      ap (λ (p : List Perm). length p) (map-in m.parts.size m.parts.maps d (domain-in d i)) ∙ f.sound.maps d (domain-in d i)
 
 status-seen : (call : Call) (flight : Option Flight) (g : Progress) → status_by_progress g ≡ status_told (status_by call flight g)
 status-seen call flight G.Running = refl
