@@ -94,3 +94,7 @@ all-halted n [] kept = refl
 all-halted n (x ∷ xs) kept =
     ap (λ b. b && list_all (λ (y : Seen). stands_halted y.status) (seen_from (n + 1) xs kept)) (halted-seen (own_call n x) (hart_at kept n).flight x.progress)
     ∙ ap (λ b. is_halted x.progress && b) (all-halted (n + 1) xs kept)
+
+-- a hart of the state is one that the checker keeps
+pub kept-there : (m : Held) (h : ℕ) → Fits m → h < length (core_in m).harts → h < length m.parts.harts
+kept-there m h f lt = omega (arith, lt, harts-in m f, f.count)
