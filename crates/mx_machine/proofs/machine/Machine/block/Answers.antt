@@ -14,11 +14,12 @@ use Rattle.mx_machine.proofs.SizeLaws.{fits-supervisor}
 use Rattle.mx_machine.proofs.machine.Machine.block.Goals as goal
 
 pub block-requires : goal.block-requires
-block-requires g c =
-    (search fits-supervisor,
-    subst (λ x. IsDomain x.bare.parts.maps c.args.domain) (sym c.self-inside.view_is)
-    (domain-in c.self.inside.bare c.self.invariant.fits c.args.domain
-    (subst (λ (f : Flat). IsModule (length f.core.modules) c.args.domain) (sym c.self.view_is) c.requires)))
+block-requires g c = (
+  search fits-supervisor,
+  subst (λ x. IsDomain x.bare.parts.maps c.args.domain) (sym c.self-inside.view_is)
+      (domain-in c.self.inside.bare c.self.invariant.fits c.args.domain
+      (subst (λ (f : Flat). IsModule (length f.core.modules) c.args.domain) (sym c.self.view_is) c.requires)),
+)
 
 pub returns : goal.returns
 returns g c =

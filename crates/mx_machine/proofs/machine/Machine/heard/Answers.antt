@@ -10,12 +10,15 @@ use Rattle.mx_machine.proofs.machine.Machine.heard.Goals as goal
 pub heard-requires : goal.heard-requires
 heard-requires g c =
     let m = c.self.inside.bare in
-    let fits = c.self.invariant.fits in
-    (search fits-checker,
-    (subst (λ x. c.args.hart < length x.bare.parts.harts) (sym c.self-inside.view_is)
-    (kept-there m c.args.hart fits (subst (λ (f : Flat). c.args.hart < length f.core.harts) (sym c.self.view_is) c.requires.hart)),
-    subst (λ x. c.args.by < length x.bare.parts.harts) (sym c.self-inside.view_is)
-    (kept-there m c.args.by fits (subst (λ (f : Flat). c.args.by < length f.core.harts) (sym c.self.view_is) c.requires.by))))
+    let fits = c.self.invariant.fits in (
+      search fits-checker,
+      (
+        subst (λ x. c.args.hart < length x.bare.parts.harts) (sym c.self-inside.view_is)
+            (kept-there m c.args.hart fits (subst (λ (f : Flat). c.args.hart < length f.core.harts) (sym c.self.view_is) c.requires.hart)),
+        subst (λ x. c.args.by < length x.bare.parts.harts) (sym c.self-inside.view_is)
+            (kept-there m c.args.by fits (subst (λ (f : Flat). c.args.by < length f.core.harts) (sym c.self.view_is) c.requires.by)),
+      ),
+    )
 
 pub returns : goal.returns
 returns g c =

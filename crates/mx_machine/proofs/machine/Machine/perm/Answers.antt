@@ -12,11 +12,14 @@ use Rattle.mx_machine.proofs.machine.Machine.perm.Goals as goal
 pub perm-requires : goal.perm-requires
 perm-requires g c =
     let m = c.self.inside.bare in
-    let fits = c.self.invariant.fits in
-    (search fits-checker,
-    (subst (λ x. IsDomain x.bare.parts.maps c.args.domain) (sym c.self-inside.view_is)
-    (domain-in m fits c.args.domain (subst (λ (f : Flat). IsModule (length f.core.modules) c.args.domain) (sym c.self.view_is) c.requires.domain)),
-    subst (λ x. c.args.word < x.bare.parts.size) (sym c.self-inside.view_is) (subst (λ (f : Flat). c.args.word < f.core.size) (sym c.self.view_is) c.requires.word)))
+    let fits = c.self.invariant.fits in (
+      search fits-checker,
+      (
+        subst (λ x. IsDomain x.bare.parts.maps c.args.domain) (sym c.self-inside.view_is)
+            (domain-in m fits c.args.domain (subst (λ (f : Flat). IsModule (length f.core.modules) c.args.domain) (sym c.self.view_is) c.requires.domain)),
+        subst (λ x. c.args.word < x.bare.parts.size) (sym c.self-inside.view_is) (subst (λ (f : Flat). c.args.word < f.core.size) (sym c.self.view_is) c.requires.word),
+      ),
+    )
 
 pub returns : goal.returns
 returns g c =
