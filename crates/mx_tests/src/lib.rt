@@ -1,4 +1,4 @@
-//! Tests that cross crates: the top call over files and sinks in memory, and tables of each kind.
+//! Tests that cross crates: the top call over files and sinks in memory, tables of each kind, and machines made by hand.
 #![tactic(auto)]
 
 #[cfg(test)]
@@ -7,5 +7,6 @@ mod manifests;
 mod outside;
 #[cfg(test)]
 mod runs;
+pub mod small;
 #[cfg(test)]
 mod tables;
