@@ -1,4 +1,4 @@
-//! Tests that cross crates: the top call over files and sinks in memory, layouts of plans, and tables of each kind.
+//! Tests that cross crates: the top call over files and sinks in memory, layouts of plans, machines, and tables of each kind.
 #![tactic(auto)]
 
 #[cfg(test)]
@@ -13,5 +13,7 @@ mod outside;
 mod packets;
 #[cfg(test)]
 mod runs;
+#[cfg(test)]
+mod small;
 #[cfg(test)]
 mod tables;
