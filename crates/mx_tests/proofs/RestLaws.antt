@@ -78,7 +78,7 @@ pub rest-again : (call : Call) (p q t : Parts) (r : ℕ × ℕ) → IsAtRest cal
     length q.maps ≡ length p.maps → KeepsHarts call None q.harts t.harts → KeepsSizes q t → IsSound t → IsAtRest call.hart call.domain t
 rest-again call p q t r rest harts modules keeps sizes sound =
     let own : hart_at q.harts call.hart ≡ announced call.hart r.0 r.1 (hart_at p.harts call.hart) =
-        ap (λ (hs : List Kept). hart_at hs call.hart) harts ∙ own-part call.hart r p.harts rest.may.hart in
+    ap (λ (hs : List Kept). hart_at hs call.hart) harts ∙ own-part call.hart r p.harts rest.may.hart in
     let count : length t.harts ≡ 1 = keeps.count ∙ ap length harts ∙ count-announces call.hart r p.harts ∙ rest.alone in
     let last : length t.maps ≡ length p.maps = sizes.modules ∙ modules in
     let there : call.hart < length t.harts = let h = rest.may.hart in let e = rest.alone in omega (arith, h, e, count) in

@@ -2,8 +2,6 @@
 #![tactic(auto)]
 
 pub mod calls;
-pub mod worlds;
-
 #[cfg(test)]
 mod manifests;
 #[cfg(test)]
@@ -15,4 +13,7 @@ mod runs;
 #[cfg(test)]
 mod served;
 #[cfg(test)]
+mod steps;
+#[cfg(test)]
 mod tables;
+pub mod worlds;

@@ -1,4 +1,4 @@
-//! Runs of supervisors of two modules over 64 KiB of RAM, for any tables.
+//! Supervisors of two modules over 64 KiB of RAM, for any tables, and what a hart in domain 1 asks and finds.
 ghost use Rattle.std.specs.Prelude.{◌≡◌, ◌+◌, ◌<◌, ◌≤◌, length, IfSome};
 ghost use Rattle.std.specs.List.{AllByRecursion};
 ghost use Rattle.mx_model.specs.Valid.{IsGate};
@@ -151,7 +151,7 @@ pub fn crowded<T: PermTables + Drop, const N: usize>(
 }
 
 /// What a call of the hart in domain 1 is answered.
-fn ask<T: PermTables, const N: usize>(
+pub fn ask<T: PermTables, const N: usize>(
     machine: &mut Supervisor<T, N>,
     number: u32,
     args: [u32; 4],
@@ -164,7 +164,7 @@ fn ask<T: PermTables, const N: usize>(
 }
 
 /// What a call of the hart in domain 1 is answered where it has a frame on its cross stack.
-fn ask_inside<T: PermTables, const N: usize>(
+pub fn ask_inside<T: PermTables, const N: usize>(
     machine: &mut Supervisor<T, N>,
     number: u32,
     args: [u32; 4],
@@ -183,30 +183,12 @@ fn ask_inside<T: PermTables, const N: usize>(
     play(machine, &call, out)
 }
 
-/// A call's number, its arguments, and what a0 takes.
-pub type Case = (u32, [u32; 4], u32);
-
-/// The first of the calls that is answered otherwise, by its place and what a0 takes. Each is made in the state that those before
-/// it left.
-pub fn other_answer<T: PermTables, const N: usize>(
-    machine: &mut Supervisor<T, N>,
-    cases: &[Case],
-) -> Option<(usize, u32)>
-    requires { IsReady (parts_of T.kind T.maps T.size T.limits N machine.old) }
-    ensures { IsReady (parts_of T.kind T.maps T.size T.limits N machine.new) }
-{
-    let mut out = Events::new();
-    for (i, case) in cases.iter().enumerate() {
-        let answer = ask(machine, case.0, case.1, &mut out);
-        if answer.a0 != case.2 {
-            return Some((i, answer.a0));
-        }
-    }
-    None
-}
-
 /// The permission of a word in a domain's map.
-fn right<T: PermTables, const N: usize>(machine: &Supervisor<T, N>, domain: u32, word: u32) -> Perm
+pub fn right<T: PermTables, const N: usize>(
+    machine: &Supervisor<T, N>,
+    domain: u32,
+    word: u32,
+) -> Perm
     requires ready { IsReady (parts_of T.kind T.maps T.size T.limits N machine.now) }
     requires first { 1 ≤ domain }
     requires last { domain ≤ 2 }
@@ -216,7 +198,11 @@ fn right<T: PermTables, const N: usize>(machine: &Supervisor<T, N>, domain: u32,
 }
 
 /// Makes a store of the hart in domain 1 to a word through base register x5. The answer is whether it may.
-fn store<T: PermTables, const N: usize>(machine: &mut Supervisor<T, N>, word: u32, value: u32) -> bool
+pub fn store<T: PermTables, const N: usize>(
+    machine: &mut Supervisor<T, N>,
+    word: u32,
+    value: u32,
+) -> bool
     requires ready { IsReady (parts_of T.kind T.maps T.size T.limits N machine.old) }
     requires word { word < 16384 }
     ensures { IsReady (parts_of T.kind T.maps T.size T.limits N machine.new) }
@@ -229,120 +215,27 @@ fn store<T: PermTables, const N: usize>(machine: &mut Supervisor<T, N>, word: u3
     true
 }
 
-/// Calls of domain 1, and domain 2's permission on words 1024 and 1025 afterwards: the first call that is answered otherwise, and
-/// these two.
-pub fn grants<T: PermTables, const N: usize>(
-    machine: &mut Supervisor<T, N>,
-    cases: &[Case],
-) -> (Option<(usize, u32)>, [Perm; 2])
-    requires { IsReady (parts_of T.kind T.maps T.size T.limits N machine.old) }
-{
-    let first = other_answer(machine, cases);
-    (first, [right(machine, 2, 1024), right(machine, 2, 1025)])
-}
-
-/// A grant of read on word 0 by domain 1 to domain 2: the answer, and then domain 1's permission on words 0, 6 and 7, and domain
-/// 2's on words 0, 1, 2048 and 2049.
-pub fn grant_with_one_hart<T: PermTables, const N: usize>(
-    machine: &mut Supervisor<T, N>,
-) -> (Answer, [Perm; 3], [Perm; 4])
-    requires { IsReady (parts_of T.kind T.maps T.size T.limits N machine.old) }
-{
-    let answer = ask(machine, 3, [0x8000_0000, 4, 2, 1], &mut Events::new());
-    let own = [
-        right(machine, 1, 0),
-        right(machine, 1, 6),
-        right(machine, 1, 7),
-    ];
-    let other = [
-        right(machine, 2, 0),
-        right(machine, 2, 1),
-        right(machine, 2, 2048),
-        right(machine, 2, 2049),
-    ];
-    (answer, own, other)
-}
-
-/// An exit of the hart in domain 1 with a frame on its cross stack, and one without: the first gate, and both answers.
-pub fn exit_inside_a_call<T: PermTables, const N: usize>(
-    machine: &mut Supervisor<T, N>,
-) -> (Option<Gate>, [Answer; 2])
-    requires { IsReady (parts_of T.kind T.maps T.size T.limits N machine.old) }
-{
-    let mut out = Events::new();
-    let args = [0x8000_0000, 4, 2, 0];
-    let first = ask_inside(machine, 1, args, &mut out);
-    let second = ask(machine, 1, args, &mut out);
-    (first_gate(machine), [first, second])
-}
-
-/// What `alloc_store_free` finds.
-#[derive(Clone, Copy, PartialEq, Eq, Debug)]
-pub struct AllocStoreFree {
-    /// The answers of the two calls.
-    pub answers: [Answer; 2],
-    /// Whether the stores to the block's first word may be made, before the block is ended and after it.
-    pub stores: [bool; 2],
-    /// The live block before it is ended and after it.
-    pub blocks: [Option<Block>; 2],
-    /// The heap area.
-    pub area: Block,
-    /// What the block's first word holds at the end.
-    pub word: u32,
-    /// Domain 1's permission on its first word, and on the first of the heap area, at the end.
-    pub rights: [Perm; 2],
-    /// The owners of the first word of the heap area, of the last, and of the next.
-    pub owners: [u32; 3],
-}
-
-/// An alloc of two words, a store to word 1024, the end of the block that begins there, and another store.
-pub fn alloc_store_free<T: PermTables, const N: usize>(
-    machine: &mut Supervisor<T, N>,
-) -> AllocStoreFree
-    requires { IsReady (parts_of T.kind T.maps T.size T.limits N machine.old) }
-{
-    let mut out = Events::new();
-    let first = ask(machine, 6, [2, 0, 0, 0], &mut out);
-    let live = first_block(machine);
-    let before = store(machine, 1024, 6);
-    let second = ask(machine, 7, [0x8000_1000, 0, 0, 0], &mut out);
-    let after = store(machine, 1024, 7);
-    AllocStoreFree {
-        answers: [first, second],
-        stores: [before, after],
-        blocks: [live, first_block(machine)],
-        area: area_of(machine),
-        word: word_at(machine, 1024),
-        rights: [right(machine, 1, 0), right(machine, 1, 1024)],
-        owners: [
-            owner_of(machine, 1024),
-            owner_of(machine, 1031),
-            owner_of(machine, 1032),
-        ],
-    }
-}
-
 /// The first live block of domain 1.
-fn first_block<T: PermTables, const N: usize>(machine: &Supervisor<T, N>) -> Option<Block>
+pub fn first_block<T: PermTables, const N: usize>(machine: &Supervisor<T, N>) -> Option<Block>
     requires { IsReady (parts_of T.kind T.maps T.size T.limits N machine.now) }
 {
     machine.block(1, 0)
 }
 
 /// The heap area of domain 1.
-fn area_of<T: PermTables, const N: usize>(machine: &Supervisor<T, N>) -> Block
+pub fn area_of<T: PermTables, const N: usize>(machine: &Supervisor<T, N>) -> Block
     requires { IsReady (parts_of T.kind T.maps T.size T.limits N machine.now) }
 {
     machine.heap_area(1)
 }
 
 /// The first gate.
-fn first_gate<T: PermTables, const N: usize>(machine: &Supervisor<T, N>) -> Option<Gate> {
+pub fn first_gate<T: PermTables, const N: usize>(machine: &Supervisor<T, N>) -> Option<Gate> {
     machine.gate(0)
 }
 
 /// What a word of RAM holds.
-fn word_at<T: PermTables, const N: usize>(machine: &Supervisor<T, N>, word: u32) -> u32
+pub fn word_at<T: PermTables, const N: usize>(machine: &Supervisor<T, N>, word: u32) -> u32
     requires ready { IsReady (parts_of T.kind T.maps T.size T.limits N machine.now) }
     requires word { word < 16384 }
 {
@@ -350,31 +243,9 @@ fn word_at<T: PermTables, const N: usize>(machine: &Supervisor<T, N>, word: u32)
 }
 
 /// Who owns a word.
-fn owner_of<T: PermTables, const N: usize>(machine: &Supervisor<T, N>, word: u32) -> u32
+pub fn owner_of<T: PermTables, const N: usize>(machine: &Supervisor<T, N>, word: u32) -> u32
     requires ready { IsReady (parts_of T.kind T.maps T.size T.limits N machine.now) }
     requires word { word < 16384 }
 {
     machine.owners.owner(word)
-}
-
-/// Two exchanges of word 1025 for the same number, and a write of three of its bytes: the answers, and the console bytes.
-pub fn exchange_and_write<T: PermTables, const N: usize>(
-    machine: &mut Supervisor<T, N>,
-) -> ([Answer; 3], Option<[u8; 3]>)
-    requires { IsReady (parts_of T.kind T.maps T.size T.limits N machine.old) }
-{
-    let mut out = Events::new();
-    let args = [0x8000_1004, 0x0A69_6800, 0, 0];
-    let first = ask(machine, 13, args, &mut out);
-    let second = ask(machine, 13, args, &mut out);
-    let third = ask(machine, 2, [0x8000_1005, 3, 0, 0], &mut out);
-    ([first, second, third], three_bytes(&out))
-}
-
-/// The console bytes, where they are three.
-fn three_bytes(out: &Events) -> Option<[u8; 3]> {
-    if out.len() != 3 {
-        return None;
-    }
-    Some([out.byte(0), out.byte(1), out.byte(2)])
 }

@@ -33,12 +33,7 @@ fn filled_heap(alloc: Global, area: Block, blocks: u32) -> Option<Heap>
 /// The heaps of so many modules: domain 1 has one in this area, with live blocks of one word from its beginning on, as many as
 /// `blocks` or as have room; the other modules have none. `None` where there is no memory.
 #[tactic(auto, using(crate::proofs::WorldLaws::pushed_ends))]
-pub fn one_heap(
-    alloc: Global,
-    modules: u32,
-    area: Block,
-    blocks: u32,
-) -> Option<Heaps>
+pub fn one_heap(alloc: Global, modules: u32, area: Block, blocks: u32) -> Option<Heaps>
     requires some { 1 ≤ modules }
     requires few { modules ≤ 63 }
     requires inside { area.first + area.count ≤ 16777216 }
@@ -79,11 +74,5 @@ pub fn machine<T: PermTables + Drop, const N: usize>(
     let Ok(ram) = Ram::new(alloc, tables.words()) else {
         return None;
     };
-    Some(Supervisor::new(
-        Checker::new(tables, 1),
-        ram,
-        owners,
-        gates,
-        heaps,
-    ))
+    Some(Supervisor::new(Checker::new(tables, 1), ram, owners, gates, heaps))
 }

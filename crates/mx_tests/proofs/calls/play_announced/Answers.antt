@@ -25,8 +25,19 @@ serve-requires g c =
     let e = c.requires.rest.alone in
     let count : length (announces call.hart r p.harts) ≡ length p.harts = count-announces call.hart r p.harts in
     let few : length (announces call.hart r p.harts) ≤ 4 = omega (arith, count, e) in
-    rw c.announce.ensures (assumption c, (with-harts p (announces call.hart r p.harts) c.requires.rest.sound, (c.requires.rest.domain, (few,
-    (may-ready _ call c.requires.announced (has-announced p call r c.requires.rest c.announced-first.ensures.range), c.requires.empty)))))
+    rw c.announce.ensures (
+      assumption c,
+      (
+        with-harts p (announces call.hart r p.harts) c.requires.rest.sound,
+        (
+          c.requires.rest.domain,
+          (
+            few,
+            (may-ready _ call c.requires.announced (has-announced p call r c.requires.rest c.announced-first.ensures.range), c.requires.empty),
+          ),
+        ),
+      ),
+    )
 
 pub returns-clause-rest : goal.returns-clause-rest
 returns-clause-rest g c =
