@@ -1,5 +1,5 @@
 -- A hart alone: its announced call is ready at once, and it is at rest again when the call was served.
-use Rattle.std.proofs.Common.{◌≡◌, ◌≢◌, ℕ, ◌<◌, ◌≤◌, ◌⊎◌, inl, inr, Bool, true, false, List, length, set, Option, Some, None, refl, sym, ap, subst, ◌∙◌, arith, length-set, get_or-set_same}
+use Rattle.std.proofs.Common.{◌≡◌, ◌≢◌, ℕ, ◌<◌, ◌≤◌, ◌⊎◌, inl, inr, true, false, List, length, Option, Some, None, refl, sym, ap, subst, ◌∙◌, arith, length-set, get_or-set_same}
 use Rattle.std.specs.Prelude.{IfSome}
 use Rattle.std.proofs.lemmas.List.{get_or_past}
 use Rattle.mx_words.specs.declared.perm.Perm.{Perm}
@@ -10,7 +10,7 @@ use Rattle.mx_words.specs.Hearing.{is_in, nobody}
 use Rattle.mx_words.specs.Ranges.{word_of}
 use Rattle.mx_words.specs.Reach.{span}
 use Rattle.mx_check.specs.declared.flight.Flight.{Flight}
-use Rattle.mx_check.specs.Calls.{is_ready, ready_with, hart_lets_pass}
+use Rattle.mx_check.specs.Calls.{ready_with, hart_lets_pass}
 use Rattle.mx_check.specs.Conditions.{MayLook, MayAnnounce}
 use Rattle.mx_check.specs.Harts.{Kept, no_hart, hart_at, at_hart, announced}
 use Rattle.mx_check.specs.Looks.{looked, looked_at, looks, with_domain, is_barred}

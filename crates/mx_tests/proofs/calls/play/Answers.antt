@@ -1,6 +1,6 @@
-use Rattle.std.proofs.Common.{◌≡◌, arith, refl, sym, ◌∙◌}
+use Rattle.std.proofs.Common.{refl, sym, ◌∙◌}
 use Rattle.mx_supervisor.specs.Parts.{parts_of}
-use Rattle.mx_tests.proofs.RestLaws.{few-harts, may-other, rest-after}
+use Rattle.mx_tests.proofs.RestLaws.{few-harts, may-other}
 use Rattle.mx_tests.proofs.calls.play.Goals as goal
 
 pub serve-requires : goal.serve-requires

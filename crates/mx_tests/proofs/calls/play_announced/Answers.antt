@@ -1,10 +1,7 @@
-use Rattle.std.proofs.Common.{◌≡◌, ℕ, ◌≤◌, true, false, List, None, length, ap, arith, ◌∙◌}
-use Rattle.mx_words.specs.Announced.{is_announced}
+use Rattle.std.proofs.Common.{◌≡◌, ◌≤◌, None, length, ap, arith}
 use Rattle.mx_check.specs.Calls.{Checks}
-use Rattle.mx_check.specs.Harts.{Kept}
 use Rattle.mx_supervisor.specs.Parts.{parts_of}
 use Rattle.mx_supervisor.specs.Looks.{KeepsHarts}
-use Rattle.mx_supervisor.specs.Served.{range_of, flight_after}
 use Rattle.mx_supervisor.proofs.Answering.{with-harts}
 use Rattle.mx_tests.proofs.RestLaws.{may-announce, announces, count-announces, has-announced, may-ready, rest-again}
 use Rattle.mx_tests.proofs.calls.play_announced.Goals as goal
