@@ -1,2 +1,0 @@
-pub mod SmallLaws
-pub mod ResumeLaws
