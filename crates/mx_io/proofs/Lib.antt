@@ -1,4 +1,5 @@
 pub mod CallLaws
 pub mod Lookup
 pub mod SinkLaws
+pub mod Talks
 pub mod Text

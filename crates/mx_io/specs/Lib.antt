@@ -1,6 +1,7 @@
 pub mod Count
 pub mod Texts
 pub mod Store
+pub mod Answer
 pub mod Sink
 pub mod Piece
 pub mod Calls

@@ -1,8 +1,10 @@
 //! Files in memory.
-ghost use Rattle.std.specs.Prelude.{◌≡◌, ◌↔◌, IsErr, IsTrue, OnOk, OnErr, IfOk, Some};
+ghost use Rattle.std.specs.Prelude.{◌≡◌, ◌≤◌, ◌↔◌, IsErr, IsTrue, OnOk, OnErr, IfOk, Some, length, take};
 ghost use Rattle.std.specs.Option.{option_map};
+ghost use Rattle.std.specs.Result.{result_ok};
 ghost use Rattle.std.specs.FinMap as map;
-ghost use Rattle.mx_io.specs.Store.{file_bytes, Asks, TellsSize, GivesBytes, CopiesPart};
+ghost use Rattle.mx_io.specs.Store.{file_bytes, Asks, CopiesPart};
+ghost use Rattle.mx_io.specs.Answer.{Sized, Gave, tells_by};
 ghost use Rattle.mx_io.specs.Files.{no_files, with_file, with_failing, after_ask, files_store};
 ghost use Rattle.mx_io.specs.Calls.{fails_next};
 
@@ -98,10 +100,11 @@ impl Files {
 impl Store for Files {
     ghost state = { files_store };
 
+    ghost gives = { tells_by files_store };
+
     /// Fails exactly where the call is listed, and then counts one fault.
     fn size(&mut self, name: &str) -> Result<Option<u64>, Failed>
-        ensures asks { Asks (files_store self.old) (files_store self.new) result }
-        ensures size { TellsSize (Some self.old.files) name.now result }
+        ensures gives { tells_by files_store self.old (Sized name.now (result_ok result)) self.new }
         ensures after { self.new ≡ after_ask self.old }
         ensures fails { IsErr result ↔ IsTrue (fails_next self.old.calls) }
     {
@@ -115,8 +118,8 @@ impl Store for Files {
     /// Fails exactly where the call is listed, and then counts one fault and puts nothing. Else puts as
     /// many bytes as stand there and fit.
     fn read(&mut self, name: &str, at: u64, into: &mut [u8]) -> Result<usize, Failed>
-        ensures asks { Asks (files_store self.old) (files_store self.new) result }
-        ensures bytes { IfOk result (GivesBytes (Some self.old.files) name.now at into.new) }
+        ensures gives { tells_by files_store self.old (Gave name.now at (length into.new) (option_map (λ k. take k into.new) (result_ok result))) self.new }
+        ensures bound { IfOk result (λ k. k ≤ length into.new) }
         ensures part { IfOk result (CopiesPart (file_bytes self.old.files name.now) at into.old into.new) }
         ensures nothing { OnErr result (into.new ≡ into.old) }
         ensures after { self.new ≡ after_ask self.old }
@@ -128,4 +131,6 @@ impl Store for Files {
             None => Ok(0),
         }
     }
+
+    ghost tells = { λ s answer t step. step };
 }

@@ -1,6 +1,6 @@
 //! The files of the current folder.
-ghost use Rattle.std.specs.Prelude.{◌≡◌, ◌≤◌, IfOk, None, length};
-ghost use Rattle.mx_io.specs.Store.{Asks, TellsSize, GivesBytes};
+ghost use Rattle.std.specs.Prelude.{◌≡◌, ◌≤◌, IfOk, length};
+ghost use Rattle.mx_io.specs.Answer.{tells_by};
 ghost use Rattle.mx_io.specs.Real.{untold_store};
 
 use crate::faults::count_fault;
@@ -41,6 +41,8 @@ impl<R: Files> FolderStore<R> {
 impl<R: Files> Store for FolderStore<R> {
     ghost state = { untold_store };
 
+    ghost gives = { tells_by untold_store };
+
     /// The size of the file; None where it is absent.
     fn size(&mut self, name: &str) -> Result<Option<u64>, Failed> {
         match file_size(&self.files, name) {
@@ -56,6 +58,8 @@ impl<R: Files> Store for FolderStore<R> {
             Err(_) => Err(count_fault(&mut self.faults)),
         }
     }
+
+    ghost tells = { λ s answer t step. step };
 }
 
 // The size of a regular file. Anything else of that name, a folder, a device, a pipe or a socket, is an error; it is seen before

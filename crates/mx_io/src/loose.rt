@@ -1,9 +1,11 @@
 //! Files in memory with sizes of their own.
-ghost use Rattle.std.specs.Prelude.{◌≡◌, Ok, OnOk, OnErr, IfOk, None, IsOk};
+ghost use Rattle.std.specs.Prelude.{◌≡◌, ◌≤◌, Ok, OnOk, OnErr, IfOk, IsOk, length, take};
 ghost use Rattle.std.specs.Option.{option_map};
+ghost use Rattle.std.specs.Result.{result_ok};
 ghost use Rattle.std.specs.FinMap as map;
-ghost use Rattle.mx_io.specs.Store.{Asks, TellsSize, GivesBytes, CopiesPart};
-ghost use Rattle.mx_io.specs.Loose.{loose_size, loose_bytes, with_loose, loose_store};
+ghost use Rattle.mx_io.specs.Store.{CopiesPart};
+ghost use Rattle.mx_io.specs.Answer.{Sized, Gave};
+ghost use Rattle.mx_io.specs.Loose.{loose_size, loose_bytes, with_loose, loose_store, loose_gives, loose_tells};
 
 use crate::named::{Named, add, find};
 use crate::part::copy_part;
@@ -74,10 +76,11 @@ impl Loose {
 impl Store for Loose {
     ghost state = { loose_store };
 
+    ghost gives = { loose_gives };
+
     /// Tells the size that was given with the file. Never fails.
     fn size(&mut self, name: &str) -> Result<Option<u64>, Failed>
-        ensures asks { Asks (loose_store self.old) (loose_store self.new) result }
-        ensures size { TellsSize None name.now result }
+        ensures gives { loose_gives self.old (Sized name.now (result_ok result)) self.new }
         ensures told { result ≡ Ok (loose_size self.old name.now) }
         ensures stays { self.new ≡ self.old }
     {
@@ -89,8 +92,8 @@ impl Store for Loose {
 
     /// Puts as many bytes as stand there and fit. Never fails.
     fn read(&mut self, name: &str, at: u64, into: &mut [u8]) -> Result<usize, Failed>
-        ensures asks { Asks (loose_store self.old) (loose_store self.new) result }
-        ensures bytes { IfOk result (GivesBytes None name.now at into.new) }
+        ensures gives { loose_gives self.old (Gave name.now at (length into.new) (option_map (λ k. take k into.new) (result_ok result))) self.new }
+        ensures bound { IfOk result (λ k. k ≤ length into.new) }
         ensures ok { IsOk result }
         ensures part { IfOk result (CopiesPart (loose_bytes self.old name.now) at into.old into.new) }
         ensures stays { self.new ≡ self.old }
@@ -100,4 +103,6 @@ impl Store for Loose {
             None => Ok(0),
         }
     }
+
+    ghost tells = { loose_tells };
 }

@@ -1,5 +1,7 @@
 pub mod Asked
+pub mod Finding
 pub mod Judged
+pub mod Leads
 pub mod Machine
 pub mod Manifest
 pub mod Outcome

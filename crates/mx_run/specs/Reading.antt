@@ -1,51 +1,45 @@
 -- What the reading of a whole file answers.
-use Rattle.std.specs.Prelude.{◌≡◌, ◌≢◌, ℕ, ◌+◌, ◌<◌, ◌≤◌, ◌↔◌, IsTrue, List, length, take, Option, Some, None, IfSome, Result, Ok, Err, IfErr, Vec, ⊤}
-use Rattle.std.specs.FinMap.{get}
+use Rattle.std.specs.Prelude.{◌≡◌, ℕ, ◌+◌, ◌-◌, ◌≤◌, List, [], length, take, drop, Result, Ok, Err, IfOk, Vec, option_map, ⊤}
+use Rattle.std.specs.Result.{result_ok}
 use Rattle.std.specs.declared.alloc.Global.{Global}
-use Rattle.mx_io.specs.Count.{Rose}
-use Rattle.mx_io.specs.Store.{StoreState}
+use Rattle.mx_io.specs.Answer.{Answer, Gave, Talks}
 use Rattle.mx_run.specs.declared.reading.ReadFault.{ReadFault}
-use Rattle.mx_run.specs.declared.reading.ReadFault.TheVariants.{Absent, Large, Short, Broken, NoMemory}
+use Rattle.mx_run.specs.declared.reading.ReadFault.TheVariants as fault
+use Rattle.mx_run.specs.Finding.{Finding, Absent, Large, Short, Broken, Whole, Completes, Finds}
+use Rattle.mx_run.specs.Outcome.{Wanted, refusal}
+use Rattle.mx_run.specs.declared.status.Status.{Status}
+use Rattle.mx_run.specs.declared.status.Status.TheVariants.{WantOfMemory, StoreFault, NoFile, ShortFile}
+use Rattle.mx_run.specs.Top.{Sinks, WritesNothing, Ends}
 
--- a store over any number of calls: its files stay, its count never falls, and stays where every call is sure to succeed
-pub record Kept (before now : StoreState) : Type 0 where
-  pub files : now.told ≡ before.told
-  pub later : before.faults ≤ now.faults
-  pub sure : IsTrue before.sure → (now.faults ≡ before.faults) × IsTrue now.sure
+-- a fact of what was found, where memory was not wanting
+abbrev pub OfFinding : (Finding → Type 0) → Result (Vec ℕ Global) ReadFault → Type 0
+OfFinding P (Ok bytes) = P (Whole bytes.items)
+OfFinding P (Err fault.Absent) = P Absent
+OfFinding P (Err fault.Large) = P Large
+OfFinding P (Err (fault.Short told got)) = P (Short told got)
+OfFinding P (Err fault.Broken) = P Broken
+OfFinding P (Err fault.NoMemory) = ⊤
 
--- the answer for a file with a limit, where the store tells its files
-abbrev pub IsRead : ℕ → Option (List ℕ) → Result (Vec ℕ Global) ReadFault → Type 0
-IsRead most file (Ok bytes) = (file ≡ Some bytes.items) × (length bytes.items ≤ most)
-IsRead most file (Err Absent) = file ≡ None
-IsRead most file (Err Large) = (bytes : List ℕ) × (file ≡ Some bytes) × (most < length bytes)
-IsRead most file (Err (Short told got)) = ⊥
-IsRead most file (Err Broken) = ⊤
-IsRead most file (Err NoMemory) = ⊤
+-- a file was read: the answers that the store gave in this call say what is found of it
+abbrev pub Reads : {S : Type 0} → (S → Answer → S → Type 0) → ℕ → List ℕ → S → S → Result (Vec ℕ Global) ReadFault → Type 0
+Reads gives most name store stored result =
+    (answers : List Answer) × Talks gives store answers stored × OfFinding (λ found. Finds most name answers found) result
 
--- a file that came short ended before the size told
-abbrev pub IsCaused : ℕ → ℕ → ReadFault → Type 0
-IsCaused before now Absent = ⊤
-IsCaused before now Large = ⊤
-IsCaused before now (Short told got) = got < told
-IsCaused before now Broken = Rose before now
-IsCaused before now NoMemory = ⊤
+-- a file for which a size was told was read
+abbrev pub ReadsTold : {S : Type 0} → (S → Answer → S → Type 0) → ℕ → List ℕ → S → S → Result (Vec ℕ Global) ReadFault → Type 0
+ReadsTold gives told name store stored result =
+    (answers : List Answer) × Talks gives store answers stored × OfFinding (λ found. Completes name told [] answers found) result
 
--- a file was read, or not for one of five causes
-pub record Reads (most : ℕ) (name : List ℕ) (before now : StoreState) (result : Result (Vec ℕ Global) ReadFault) : Type 0 where
-  pub kept : Kept before now
-  pub found : IfSome before.told (λ files. IsRead most (get files name) result)
-  pub caused : IfErr result (IsCaused before.faults now.faults)
-  pub sure : IsTrue before.sure → result ≢ Err Broken
+-- one part of a file was put at a place of the bytes, as the answer of the store says; those before it stay
+pub record TakesPart {S E : Type 0} (gives : S → Answer → S → Type 0) (name : List ℕ) (at : ℕ) (store stored : S) (old now : List ℕ) (result : Result ℕ E) : Type 0 where
+  pub step : gives store (Gave name at (length old - at) (option_map (λ k. take k (drop at now)) (result_ok result))) stored
+  pub bound : IfOk result (λ k. at + k ≤ length old)
+  pub front : take at now ≡ take at old
 
--- one part of a file was put at a place of the bytes: those before stay, and k more are the file's; none exactly at its end
-pub record TakesPart (told : Option (List ℕ)) (at : ℕ) (before now : List ℕ) (k : ℕ) : Type 0 where
-  pub bound : at + k ≤ length before
-  pub front : IfSome told (λ file. take at before ≡ take at file → take (at + k) now ≡ take (at + k) file)
-  pub end : IfSome told (λ file. at < length before → (k ≡ 0) ↔ (length file ≤ at))
-
--- a file was read for which a size was told, which is its length where the store tells its files
-pub record ReadsTold (told : ℕ) (name : List ℕ) (before now : StoreState) (result : Result (Vec ℕ Global) ReadFault) : Type 0 where
-  pub kept : Kept before now
-  pub found : IfSome before.told (λ files. IfSome (get files name) (λ file. length file ≡ told → IsRead told (Some file) result))
-  pub caused : IfErr result (IsCaused before.faults now.faults)
-  pub sure : IsTrue before.sure → result ≢ Err Broken
+-- a file that isn't whole ends the call with its line; where memory was wanting nothing is written
+abbrev pub Refuses : Wanted → ReadFault → Sinks → Sinks → Status → Type 0
+Refuses file fault.Absent before now result = Ends (refusal file.name (NoFile file.role)) before now result
+Refuses file fault.Large before now result = Ends (refusal file.name file.large) before now result
+Refuses file (fault.Short told got) before now result = Ends (refusal file.name (ShortFile file.role told got)) before now result
+Refuses file fault.Broken before now result = Ends (refusal file.name StoreFault) before now result
+Refuses file fault.NoMemory before now result = (result ≡ WantOfMemory) × WritesNothing before now

@@ -76,6 +76,11 @@ short_file_line name told got =
 unfoldable pub no_file_line : List ℕ → List ℕ
 no_file_line name = concat (codes "no file " ∷ name ∷ codes "\n" ∷ [])
 
+-- a source has this first fault
+unfoldable pub asm_fault_line : ℕ → ℕ → List ℕ
+asm_fault_line line number =
+    concat (codes "asm line=" ∷ decimal line ∷ codes " fault=" ∷ decimal number ∷ codes "\n" ∷ [])
+
 -- the line of a status, where it is one that this path gives and that has a line
 abbrev pub line_of : List ℕ → Status → Option (List ℕ)
 line_of name Usage = Some usage_line
@@ -83,13 +88,13 @@ line_of name (Refused fault) = Some (refused_line fault)
 line_of name StoreFault = Some store_fault_line
 line_of name (ShortFile role told got) = Some (short_file_line name told got)
 line_of name (NoFile role) = Some (no_file_line name)
+line_of name (AsmFault line number) = Some (asm_fault_line line number)
 line_of name Ran = None
 line_of name (TablesFull need limit) = None
 line_of name ConsoleFault = None
 line_of name ReportFault = None
 line_of name DumpFault = None
 line_of name WantOfMemory = None
-line_of name (AsmFault line number) = None
 line_of name (Unlike key) = None
 line_of name NoDomain = None
 line_of name (SecondRefused fault) = None

@@ -1,47 +1,94 @@
 -- How a call of the program ends.
-use Rattle.std.specs.Prelude.{◌≡◌, ℕ, ◌<◌, ◌≤◌, ◌⊎◌, IsTrue, List, [], length, Option, Some, None, IfSome, Result, Ok, Err}
+use Rattle.std.specs.Prelude.{◌≡◌, ℕ, ◌<◌, ◌≤◌, ◌⊎◌, List, length, Option, IsSome}
 use Rattle.mx_io.specs.Count.{Rose}
 use Rattle.mx_io.specs.Texts.{AppendsWhole, AppendsPrefix}
 use Rattle.mx_io.specs.Sink.{SinkState}
-use Rattle.mx_io.specs.Store.{StoreState}
+use Rattle.mx_io.specs.Answer.{Answer, Talks}
 use Rattle.mx_run.specs.declared.status.Status.{Status}
-use Rattle.mx_run.specs.declared.status.Status.TheVariants.{Usage, ReportFault, WantOfMemory}
+use Rattle.mx_run.specs.declared.status.Status.TheVariants.{ConsoleFault, ReportFault, DumpFault, WantOfMemory}
 use Rattle.mx_run.specs.Words.{Request}
-use Rattle.mx_run.specs.Reading.{Kept}
-use Rattle.mx_run.specs.Outcome.{Outcome, Found, Absent, Large, Short, Broken, Whole, answer, refusal, found_in}
+use Rattle.mx_run.specs.Outcome.{Outcome}
+use Rattle.mx_run.specs.Leads.{Leads}
 
--- the status of a call whose last text was put, or could not be put
-abbrev pub finished : {A E : Type 0} → Result A E → Status → Status
-finished (Ok a) status = status
-finished (Err e) status = ReportFault
+-- the three sinks at a moment
+pub record Sinks : Type 0 where
+  pub console : SinkState
+  pub report : SinkState
+  pub dump : SinkState
 
--- the outcome's report was written whole under its status, or the report failed after a prefix of it
-pub record Ends (outcome : Outcome) (before now : SinkState) (result : Status) : Type 0 where
-  pub later : before.faults ≤ now.faults
-  pub how : ((result ≡ outcome.status) × AppendsWhole before.written now.written outcome.report)
-      ⊎ ((result ≡ ReportFault) × Rose before.faults now.faults × AppendsPrefix before.written now.written outcome.report)
-  pub sure : length outcome.report ≤ before.room
-      → (result ≡ outcome.status) × AppendsWhole before.written now.written outcome.report × (now.faults ≡ before.faults)
+-- the three together
+abbrev pub sinks : SinkState → SinkState → SinkState → Sinks
+sinks console report dump = record { console = console; report = report; dump = dump }
+
+-- each sink that tells holds what it held, followed by its text
+pub record Holds (outcome : Outcome) (before now : Sinks) : Type 0 where
+  pub console : AppendsWhole before.console.written now.console.written outcome.console
+  pub report : AppendsWhole before.report.written now.report.written outcome.report
+  pub dump : AppendsWhole before.dump.written now.dump.written outcome.dump
+
+-- each sink that tells holds what it held, followed by a prefix of its text
+pub record HoldsPrefix (outcome : Outcome) (before now : Sinks) : Type 0 where
+  pub console : AppendsPrefix before.console.written now.console.written outcome.console
+  pub report : AppendsPrefix before.report.written now.report.written outcome.report
+  pub dump : AppendsPrefix before.dump.written now.dump.written outcome.dump
+
+-- nothing was written
+pub record WritesNothing (before now : Sinks) : Type 0 where
+  pub console : now.console ≡ before.console
+  pub report : now.report ≡ before.report
+  pub dump : now.dump ≡ before.dump
+
+-- a sink for which there is a text failed
+abbrev pub Fails : List ℕ → SinkState → SinkState → Type 0
+Fails text before now = (0 < length text) × Rose before.faults now.faults
+
+-- the status is the fault of a sink that failed
+abbrev pub IsSinkFault : Outcome → Sinks → Sinks → Status → Type 0
+IsSinkFault outcome before now result =
+    ((result ≡ ConsoleFault) × Fails outcome.console before.console now.console)
+    ⊎ ((result ≡ ReportFault) × Fails outcome.report before.report now.report)
+    ⊎ ((result ≡ DumpFault) × Fails outcome.dump before.dump now.dump)
+
+-- status and texts are the outcome's, or a sink failed and each sink holds a prefix
+abbrev pub EndsBy : Outcome → Sinks → Sinks → Status → Type 0
+EndsBy outcome before now result =
+    ((result ≡ outcome.status) × Holds outcome before now)
+    ⊎ (IsSinkFault outcome before now result × HoldsPrefix outcome before now)
+
+-- memory was wanting, the words have a meaning, and nothing was written
+abbrev pub Wants : Option Request → Sinks → Sinks → Status → Type 0
+Wants asked before now result = (result ≡ WantOfMemory) × IsSome asked × WritesNothing before now
+
+-- over every store: there are answers, just those that it gave in this call, one after another; they lead to an outcome, by
+-- which the call ended, or memory was wanting
+abbrev pub Answered : {S : Type 0} → Option Request → (S → Answer → S → Type 0) → S → S → Sinks → Sinks → Status → Type 0
+Answered asked gives store stored before now result =
+    (answers : List Answer) × Talks gives store answers stored
+    × (((outcome : Outcome) × Leads asked answers outcome × EndsBy outcome before now result) ⊎ Wants asked before now result)
+
+-- each sink has room for its text
+pub record HasRoom (outcome : Outcome) (before : Sinks) : Type 0 where
+  pub console : length outcome.console ≤ before.console.room
+  pub report : length outcome.report ≤ before.report.room
+  pub dump : length outcome.dump ≤ before.dump.room
+
+-- the counts of faults of the sinks are the same
+pub record CountsKept (before now : Sinks) : Type 0 where
+  pub console : now.console.faults ≡ before.console.faults
+  pub report : now.report.faults ≡ before.report.faults
+  pub dump : now.dump.faults ≡ before.dump.faults
+
+-- a call ended by an outcome, surely with its status and its texts where the sinks have room for these
+pub record Ends (outcome : Outcome) (before now : Sinks) (result : Status) : Type 0 where
+  pub how : EndsBy outcome before now result
+  pub sure : HasRoom outcome before → (result ≡ outcome.status) × Holds outcome before now × CountsKept before now
 
 -- the same, or memory was wanting and nothing was written
-abbrev pub Answers : Outcome → SinkState → SinkState → Status → Type 0
-Answers outcome before now result = ((result ≡ WantOfMemory) × (now ≡ before)) ⊎ Ends outcome before now result
+abbrev pub EndsOrWants : Outcome → Sinks → Sinks → Status → Type 0
+EndsOrWants outcome before now result = Ends outcome before now result ⊎ ((result ≡ WantOfMemory) × WritesNothing before now)
 
--- what was found is what the store tells, and a failing store's count rose
-abbrev pub IsFound : StoreState → StoreState → List ℕ → Found → Type 0
-IsFound before now name Absent = IfSome before.told (λ files. Absent ≡ found_in files name)
-IsFound before now name Large = IfSome before.told (λ files. Large ≡ found_in files name)
-IsFound before now name (Short told got) = (got < told) × IfSome before.told (λ files. ⊥)
-IsFound before now name Broken = Rose before.faults now.faults × (IsTrue before.sure → ⊥)
-IsFound before now name (Whole bytes) = IfSome before.told (λ files. Whole bytes ≡ found_in files name)
-
--- a request was answered by what was found of its manifest file
-pub record Responds (request : Request) (store stored : StoreState) (before now : SinkState) (result : Status) : Type 0 where
-  pub kept : Kept store stored
-  pub how : ((result ≡ WantOfMemory) × (now ≡ before))
-      ⊎ ((found : Found) × IsFound store stored request.manifest found × Answers (answer request found) before now result)
-
--- words without meaning are refused at once; a request is answered
-abbrev pub Reacts : Option Request → StoreState → StoreState → SinkState → SinkState → Status → Type 0
-Reacts None store stored before now result = Ends (refusal [] Usage) before now result × (stored ≡ store)
-Reacts (Some request) store stored before now result = Responds request store stored before now result
+-- what was asked was answered by what the store gave
+abbrev pub Reacts : {S : Type 0} → Option Request → (S → Answer → S → Type 0) → S → S → Sinks → Sinks → Status → Type 0
+Reacts asked gives store stored before now result =
+    (answers : List Answer) × Talks gives store answers stored
+    × (((outcome : Outcome) × Leads asked answers outcome × Ends outcome before now result) ⊎ Wants asked before now result)

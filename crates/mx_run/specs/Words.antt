@@ -5,10 +5,10 @@ use Rattle.std.specs.List.{list_all}
 use Rattle.std.specs.Str.{bytes_eq}
 use Rattle.std.specs.Str.Parse.{digits_value}
 
--- what `run` is asked: a manifest's name, and the most steps to make
-pub record Request : Type 0 where
-  pub manifest : List ℕ
-  pub steps : ℕ
+-- what the words ask: to run a manifest by its name, for at most so many steps; or to assemble a source by its name
+pub data Request : Type 0 where
+  Run : List ℕ → ℕ → Request
+  Asm : List ℕ → Request
 
 -- a name has 1 to 255 bytes and doesn't begin with `-`
 abbrev pub is_name : List ℕ → Bool
@@ -18,17 +18,22 @@ is_name word = nat_lt 0 (length word) && nat_le (length word) 255 && not (slice_
 abbrev pub is_number : List ℕ → Bool
 is_number word = nat_lt 0 (length word) && nat_le (length word) 10 && list_all is_ascii_digit word
 
+-- `asm` and a source's name
+abbrev pub asm_request : List ℕ → List ℕ → Option Request
+asm_request command source =
+    if bytes_eq command (codes "asm") && is_name source then Some (Asm source) else None
+
 -- `run`, a manifest's name, and a number of steps
 abbrev pub run_request : List ℕ → List ℕ → List ℕ → Option Request
 run_request command manifest steps =
     if bytes_eq command (codes "run") && is_name manifest && is_number steps
-    then Some (record { manifest = manifest; steps = digits_value 10 steps })
+    then Some (Run manifest (digits_value 10 steps))
     else None
 
 -- what the words ask, or nothing where they have no meaning
 abbrev pub meaning : List (List ℕ) → Option Request
 meaning [] = None
 meaning (a ∷ []) = None
-meaning (a ∷ b ∷ []) = None
+meaning (a ∷ b ∷ []) = asm_request a b
 meaning (a ∷ b ∷ c ∷ []) = run_request a b c
 meaning (a ∷ b ∷ c ∷ d ∷ more) = None

@@ -2,7 +2,10 @@
 #![tactic(auto)]
 
 mod action;
+mod assembling;
+mod booting;
 mod keys;
+mod laws;
 mod machine;
 mod manifest;
 mod reading;
@@ -11,8 +14,10 @@ mod report;
 mod run;
 mod status;
 mod top;
+mod wanted;
 mod words;
 
+pub use laws::answers_decide;
 pub use status::{FileRole, Status};
 pub use top::mondrix;
 pub use words::Words;

@@ -1,8 +1,7 @@
 //! The reading of a whole file from a store.
 
-ghost use Rattle.std.specs.Prelude.{◌≡◌, ◌≤◌, length, IfOk, option_map, vec_len};
-ghost use Rattle.mx_io.specs.Store.{Asks, file_bytes};
-ghost use Rattle.mx_run.specs.Reading.{Kept, Reads, ReadsTold, TakesPart};
+ghost use Rattle.std.specs.Prelude.{◌≡◌, ◌≤◌, length, IfOk, vec_len};
+ghost use Rattle.mx_run.specs.Reading.{Reads, ReadsTold, TakesPart};
 
 use mx_io::{Failed, Store};
 use std::alloc::Global;
@@ -22,15 +21,17 @@ pub(crate) enum ReadFault {
     NoMemory,
 }
 
-/// The bytes of a file of at most `most` bytes. Each call of the store after the first takes at least one
-/// byte, and together they take at most the size told.
+/// The bytes of a file of at most `most` bytes, just as many as its size told. The size is asked once, then
+/// each call of the store asks for all that is missing and takes at least one byte.
+#[tactic(auto, using(crate::proofs::Sizes::reads_absent, crate::proofs::Sizes::reads_broken))]
 pub(crate) fn read_file<S: Store>(
     alloc: Global,
     store: &mut S,
     name: &str,
     most: u64,
 ) -> Result<Vec<u8>, ReadFault>
-    ensures { Reads most name.now (S.state store.old) (S.state store.new) result }
+    ensures found { Reads S.gives most name.now store.old store.new result }
+    ensures fits { IfOk result (λ bytes. vec_len bytes ≤ most) }
 {
     match store.size(name) {
         Ok(Some(told)) => {
@@ -46,13 +47,15 @@ pub(crate) fn read_file<S: Store>(
 }
 
 /// The bytes of a file for which this size was told.
+#[tactic(auto, using(crate::proofs::Parts::came_none))]
 fn read_told<S: Store>(
     alloc: Global,
     store: &mut S,
     name: &str,
     told: u64,
 ) -> Result<Vec<u8>, ReadFault>
-    ensures { ReadsTold told name.now (S.state store.old) (S.state store.new) result }
+    ensures found { ReadsTold S.gives told name.now store.old store.new result }
+    ensures size { IfOk result (λ bytes. vec_len bytes ≡ told) }
 {
     let size = told as usize;
     let Ok(mut bytes) = vec![in alloc; 0; size] else {
@@ -77,8 +80,7 @@ fn read_part<S: Store>(
     at: usize,
 ) -> Result<usize, Failed>
     requires { at ≤ length bytes.old }
-    ensures asks { Asks (S.state store.old) (S.state store.new) result }
-    ensures part { IfOk result (TakesPart (option_map (λ files. file_bytes files name.now) (S.state store.old).told) at bytes.old bytes.new) }
+    ensures { TakesPart S.gives name.now at store.old store.new bytes.old bytes.new result }
 {
     store.read(name, at as u64, &mut bytes[at..])
 }

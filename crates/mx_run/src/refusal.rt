@@ -1,27 +1,22 @@
 //! The lines of refusals, each a whole report. No call takes memory.
 
 ghost use Rattle.std.specs.Prelude.{◌≡◌, [], unwrap_or};
-ghost use Rattle.mx_io.specs.Sink.{Puts};
-ghost use Rattle.mx_run.specs.Refusal.{line_of, refused_line, fault_text, place_text, detail_text, key_name, short_file_line, no_file_line, usage_line, store_fault_line};
+ghost use Rattle.mx_io.specs.Sink.{SinkState, Puts};
+ghost use Rattle.mx_run.specs.Refusal.{line_of, refused_line, fault_text, place_text, detail_text, key_name, short_file_line, no_file_line, usage_line, store_fault_line, asm_fault_line};
 ghost use Rattle.mx_run.specs.Outcome.{refusal};
-ghost use Rattle.mx_run.specs.Top.{Ends, finished};
+ghost use Rattle.mx_run.specs.Top.{sinks, Ends};
 
 use crate::status::Status;
 use mx_io::{Failed, Piece, Sink, put_all, put_pieces};
 use mx_manifest::{BootFault, Key, Part};
 
-/// Ends a call that refuses: its line is the whole report, or the report's fault is the status.
+/// Ends a call that refuses: its line is the whole report, or the report's fault is the status. The other
+/// two sinks get nothing.
 pub(crate) fn refuse<R: Sink>(report: &mut R, name: &str, status: Status) -> Status
-    ensures { Ends (refusal name.now status) (R.state report.old) (R.state report.new) result }
+    ensures { (console dump : SinkState) → Ends (refusal name.now status)
+        (sinks console (R.state report.old) dump) (sinks console (R.state report.new) dump) result }
 {
-    finish(put_line(report, name, &status), status)
-}
-
-/// The status of a call whose last text was put, or could not be put.
-pub(crate) fn finish(put: Result<(), Failed>, status: Status) -> Status
-    ensures { result ≡ finished put status }
-{
-    match put {
+    match put_line(report, name, &status) {
         Ok(()) => status,
         Err(Failed) => Status::ReportFault,
     }
@@ -37,6 +32,7 @@ fn put_line<R: Sink>(report: &mut R, name: &str, status: &Status) -> Result<(), 
         Status::StoreFault => put_store_fault(report),
         Status::ShortFile { told, got, .. } => put_short_file(report, name, told, got),
         Status::NoFile(_) => put_no_file(report, name),
+        Status::AsmFault { line, number } => put_asm_fault(report, line, number),
         _ => put_all(report, b""),
     }
 }
@@ -82,6 +78,22 @@ fn put_no_file<R: Sink>(report: &mut R, name: &str) -> Result<(), Failed>
         &[
             Piece::Text("no file "),
             Piece::Text(name),
+            Piece::Text("\n"),
+        ],
+    )
+}
+
+#[tactic(auto, unfolding(crate::specs::Refusal::asm_fault_line))]
+fn put_asm_fault<R: Sink>(report: &mut R, line: u32, number: u32) -> Result<(), Failed>
+    ensures { Puts (R.state report.old) (R.state report.new) (asm_fault_line line number) result }
+{
+    put_pieces(
+        report,
+        &[
+            Piece::Text("asm line="),
+            Piece::Number(line as u64),
+            Piece::Text(" fault="),
+            Piece::Number(number as u64),
             Piece::Text("\n"),
         ],
     )

@@ -4,8 +4,8 @@ ghost use Rattle.std.specs.Prelude.{◌≡◌, ℕ, ◌^◌, ◌<◌, ◌≤◌,
 ghost use Rattle.std.specs.Char.{is_ascii_digit};
 ghost use Rattle.std.specs.List.{list_all};
 ghost use Rattle.std.specs.Str.Parse.{digits_value};
-ghost use Rattle.mx_run.specs.Asked.{request_of};
-ghost use Rattle.mx_run.specs.Words.{Request, is_name, is_number, run_request, meaning};
+ghost use Rattle.mx_run.specs.Asked.{request_of, HasFewSteps};
+ghost use Rattle.mx_run.specs.Words.{Request, is_name, is_number, asm_request, run_request, meaning};
 
 use mx_words::NoMemory;
 use std::alloc::Global;
@@ -26,13 +26,13 @@ impl Model for Words {
     ghost view = { λ words. map string_bytes words.list.items };
 }
 
-/// What `run` is asked.
+/// What the words ask. A name has 1 to 255 bytes.
 #[derive(Clone, Copy)]
-pub(crate) struct RunWords<'a> {
-    /// The name of the manifest file, 1 to 255 bytes.
-    pub manifest: &'a str,
-    /// The most steps to make, at most 9999999999.
-    pub steps: u64,
+pub(crate) enum Asked<'a> {
+    /// To run the manifest of this name, for at most so many steps, at most 9999999999.
+    Run(&'a str, u64),
+    /// To assemble the source of this name.
+    Asm(&'a str),
 }
 
 impl Words {
@@ -61,30 +61,39 @@ impl Words {
     }
 
     /// What the words ask, or nothing exactly where they have no meaning. Takes no memory.
-    pub(crate) fn asked(&self) -> Option<RunWords<'_>>
+    pub(crate) fn asked(&self) -> Option<Asked<'_>>
         ensures meaning { option_map request_of result ≡ meaning self.now }
-        ensures steps { IfSome result (λ a. a.steps < 10 ^ 10) }
+        ensures steps { IfSome result HasFewSteps }
     {
-        if self.list.len() != 3 {
-            return None;
+        match self.list.len() {
+            2 => asm_words(self.list[0].as_str(), self.list[1].as_str()),
+            3 => run_words(
+                self.list[0].as_str(),
+                self.list[1].as_str(),
+                self.list[2].as_str(),
+            ),
+            _ => None,
         }
-        run_words(
-            self.list[0].as_str(),
-            self.list[1].as_str(),
-            self.list[2].as_str(),
-        )
     }
 }
 
-fn run_words<'a>(command: &str, manifest: &'a str, steps: &str) -> Option<RunWords<'a>>
+fn asm_words<'a>(command: &str, source: &'a str) -> Option<Asked<'a>>
+    ensures meaning { option_map request_of result ≡ asm_request command.now source.now }
+    ensures steps { IfSome result HasFewSteps }
+{
+    if command == "asm" && is_name(source) {
+        Some(Asked::Asm(source))
+    } else {
+        None
+    }
+}
+
+fn run_words<'a>(command: &str, manifest: &'a str, steps: &str) -> Option<Asked<'a>>
     ensures meaning { option_map request_of result ≡ run_request command.now manifest.now steps.now }
-    ensures steps { IfSome result (λ a. a.steps < 10 ^ 10) }
+    ensures steps { IfSome result HasFewSteps }
 {
     if command == "run" && is_name(manifest) && is_number(steps) {
-        Some(RunWords {
-            manifest,
-            steps: number(steps.as_bytes()),
-        })
+        Some(Asked::Run(manifest, number(steps.as_bytes())))
     } else {
         None
     }

@@ -15,6 +15,27 @@ pub fn manifest(alloc: Global, at: &str, perm: &str, words: &str) -> Result<Stri
     )
 }
 
+/// The program's answer to these words; the dump gets nothing.
+pub fn call<S: Store, C: Sink, R: Sink>(
+    alloc: Global,
+    words: &[&str],
+    store: &mut S,
+    console: &mut C,
+    report: &mut R,
+) -> Result<Status, Fail> {
+    let mut list = Words::new(alloc);
+    for word in words {
+        list.push(word)?;
+    }
+    let mut dump = Bytes::new(alloc, 8)?;
+    let status = mondrix(alloc, &list, store, console, report, &mut dump);
+    if dump.as_slice().is_empty() {
+        Ok(status)
+    } else {
+        Err("the dump got bytes")?
+    }
+}
+
 /// The program's answer to these words; the console and the dump get nothing.
 pub fn answer<S: Store, R: Sink>(
     alloc: Global,
@@ -22,16 +43,11 @@ pub fn answer<S: Store, R: Sink>(
     store: &mut S,
     report: &mut R,
 ) -> Result<Status, Fail> {
-    let mut list = Words::new(alloc);
-    for word in words {
-        list.push(word)?;
-    }
     let mut console = Bytes::new(alloc, 8)?;
-    let mut dump = Bytes::new(alloc, 8)?;
-    let status = mondrix(alloc, &list, store, &mut console, report, &mut dump);
-    if console.as_slice().is_empty() && dump.as_slice().is_empty() {
+    let status = call(alloc, words, store, &mut console, report)?;
+    if console.as_slice().is_empty() {
         Ok(status)
     } else {
-        Err("the console or the dump got bytes")?
+        Err("the console got bytes")?
     }
 }

@@ -12,8 +12,11 @@ const USAGE: &str = "mondrix: these words have no meaning\n";
 #[test]
 fn words_without_meaning(rt: HostRuntime) -> Result<(), Fail> {
     let long = "1234567890123456";
-    let cases: [&[&str]; 12] = [
+    let cases: [&[&str]; 15] = [
         &[],
+        &["asm"],
+        &["asm", "-first.s"],
+        &["asm", "first.s", "1"],
         &["run"],
         &["run", "first.toml"],
         &["run", "first.toml", "99999999999"],

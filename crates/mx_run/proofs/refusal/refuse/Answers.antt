@@ -1,6 +1,10 @@
+use Rattle.std.proofs.Common.{refl}
 use Rattle.mx_run.specs.Outcome.{refusal}
-use Rattle.mx_run.proofs.Endings.{ends_finished}
+use Rattle.mx_run.proofs.Endings.{ends_reported, ends_unreported}
 use Rattle.mx_run.proofs.refusal.refuse.Goals as goal
 
-pub returns : goal.returns
-returns g c = rw c.finish.ensures (ends_finished (refusal c.args.name.now c.args.status) c.put_line.result c.put_line.ensures)
+pub returns-in-Ok : goal.returns-in-Ok
+returns-in-Ok g c = ends_reported (refusal c.args.name.now c.args.status) refl refl c.in-Ok.ensures
+
+pub returns-in-Err : goal.returns-in-Err
+returns-in-Err g c = ends_unreported (refusal c.args.name.now c.args.status) c.in-Err.ensures

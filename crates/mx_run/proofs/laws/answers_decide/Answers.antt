@@ -1,0 +1,5 @@
+use Rattle.mx_run.proofs.Leads.{leads_decided}
+use Rattle.mx_run.proofs.laws.answers_decide.Goals as goal
+
+pub returns : goal.returns
+returns c = leads_decided
