@@ -24,7 +24,6 @@ use Rattle.mx_model.specs.Valid.{IsGate, IsModule, IsValid}
 use Rattle.mx_model.proofs.GatesAt.{at-call-gate, at-no-gate, at-return-gate, target_from}
 use Rattle.mx_model.proofs.ListLaws.{all-find}
 use Rattle.mx_model.proofs.TurnCases.{turned-halted}
-
 use Rattle.mx_model.proofs.ValidParts.{valid-hears, valid-turns}
 use Rattle.mx_supervisor.proofs.Modules.{length-modules}
 use Rattle.mx_machine.specs.declared.hart.Hart.{Hart}
@@ -89,26 +88,30 @@ target-domain m d pc t v f e =
 pub doing-plain : (m : Held) (h d pc : ℕ) → MayRun m h → d ≡ (hart_of m.harts h).domain → pc ≡ (hart_of m.harts h).pc → get_or m.dead d false ≡ false → gate_here m d pc ≡ None →
     (doing m h ≡ instruction m h) × (false ≡ is_return_at (core_in m) (hart_in m h).domain (hart_in m h).pc)
 doing-plain m h d pc r ed ep alive e =
-    let g = at-no-gate (core_in m) (hart_in m h).domain (hart_in m h).pc (gate-is m h d pc None r ed ep e) in
-    (runs-as m h false r (ap (λ n. get_or m.dead n false) (sym ed) ∙ alive)
-    ∙ ap (λ (o : Option ℕ). enacted (reads_of m) (core_in m) h (runs_at (reads_of m) (core_in m) h (hart_in m h) o)) g.0, sym g.1)
+    let g = at-no-gate (core_in m) (hart_in m h).domain (hart_in m h).pc (gate-is m h d pc None r ed ep e) in (
+      runs-as m h false r (ap (λ n. get_or m.dead n false) (sym ed) ∙ alive)
+          ∙ ap (λ (o : Option ℕ). enacted (reads_of m) (core_in m) h (runs_at (reads_of m) (core_in m) h (hart_in m h) o)) g.0,
+      sym g.1,
+    )
 
 pub doing-return : (m : Held) (h d pc t : ℕ) → MayRun m h → d ≡ (hart_of m.harts h).domain → pc ≡ (hart_of m.harts h).pc → get_or m.dead d false ≡ false → gate_here m d pc ≡ Some t → t ≡ d →
     (doing m h ≡ instruction m h) × (true ≡ is_return_at (core_in m) (hart_in m h).domain (hart_in m h).pc)
 doing-return m h d pc t r ed ep alive e own =
     let own' : t ≡ (hart_in m h).domain = own ∙ ed ∙ sym (ap (λ (y : Seen). y.domain) (seen-running m h r)) in
-    let g = at-return-gate (core_in m) (hart_in m h).domain (hart_in m h).pc t (gate-is m h d pc (Some t) r ed ep e) own' in
-    (runs-as m h false r (ap (λ n. get_or m.dead n false) (sym ed) ∙ alive)
-    ∙ ap (λ (o : Option ℕ). enacted (reads_of m) (core_in m) h (runs_at (reads_of m) (core_in m) h (hart_in m h) o)) g.0, sym g.1)
+    let g = at-return-gate (core_in m) (hart_in m h).domain (hart_in m h).pc t (gate-is m h d pc (Some t) r ed ep e) own' in (
+      runs-as m h false r (ap (λ n. get_or m.dead n false) (sym ed) ∙ alive)
+          ∙ ap (λ (o : Option ℕ). enacted (reads_of m) (core_in m) h (runs_at (reads_of m) (core_in m) h (hart_in m h) o)) g.0,
+      sym g.1,
+    )
 
 -- a call gate
 at-gate-looks : (c : Core) (s : Seen) (t : ℕ) → (at_gate c s t).looks ≡ []
 at-gate-looks c s t =
     elim (reg s.regs 1 % 4 == 0) as (λ a. (cond (not a) (traps 19 (reg s.regs 1)) (cond (module_at c t).dead (without_look Bounces) (cond (nat_le most_frames (length s.frames)) (traps 16 s.pc) (without_look (Crosses t))))).looks ≡ []) [
       | true ↦ elim (module_at c t).dead as (λ b. (cond b (without_look Bounces) (cond (nat_le most_frames (length s.frames)) (traps 16 s.pc) (without_look (Crosses t)))).looks ≡ []) [
-          | true ↦ refl
-          | false ↦ elim (nat_le most_frames (length s.frames)) as (λ f. (cond f (traps 16 s.pc) (without_look (Crosses t))).looks ≡ []) [ true ↦ refl | false ↦ refl ]
-        ]
+        | true ↦ refl
+        | false ↦ elim (nat_le most_frames (length s.frames)) as (λ f. (cond f (traps 16 s.pc) (without_look (Crosses t))).looks ≡ []) [ true ↦ refl | false ↦ refl ]
+      ]
       | false ↦ refl
     ]
 

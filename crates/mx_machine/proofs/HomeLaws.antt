@@ -80,7 +80,6 @@ stack-behind m d h f p =
 
 -- a domain that is made dead
 module _ (m : Held) (d : ℕ) (f : Fits m) (p : IsHere m d) where
-
   dead-place : (i : ℕ) → i < length m.parts.heaps → (i ≡ d - 1) ⊎ (i ≢ d - 1) →
       get_or (modules_from (beside (rest_of m).harts m.stacks (set m.dead d true) m.steps) 1 m.parts.heaps) i no_module
       ≡ get_or (set (modules_from (rest_of m) 1 m.parts.heaps) (d - 1) (record (get_or (modules_from (rest_of m) 1 m.parts.heaps) (d - 1) no_module) { dead = true })) i no_module

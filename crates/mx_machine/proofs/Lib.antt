@@ -30,3 +30,4 @@ pub mod AskedLaws
 pub mod PassLaws
 pub mod SmallLaws
 pub mod StartValid
+pub mod ReadLaws

@@ -70,12 +70,14 @@ pub agree-written : (regs values : List ℕ) (r : ℕ) → r < length regs → g
 agree-written regs values r there zero_value zero_reg a = by (cases_eq r 0)
   where
     by : (r ≡ 0) ⊎ (r ≢ 0) → AgreeFirst (r + 1) (written regs r (get_or values r 0)) values
-    by (inl e) = record { at = λ j lt.
-        let first : j ≡ 0 = omega (arith, lt, e) in
-        let same : (r == 0) ≡ true = eq-eqb r 0 e in
-        ap (λ k. get_or (written regs r (get_or values r 0)) k 0) first
-        ∙ ap (λ b. get_or (cond b regs (set regs r (get_or values r 0))) 0 0) same
-        ∙ zero_reg ∙ sym zero_value ∙ ap (λ k. get_or values k 0) (sym first) }
+    by (inl e) = record {
+      at = λ j lt.
+          let first : j ≡ 0 = omega (arith, lt, e) in
+          let same : (r == 0) ≡ true = eq-eqb r 0 e in
+          ap (λ k. get_or (written regs r (get_or values r 0)) k 0) first
+          ∙ ap (λ b. get_or (cond b regs (set regs r (get_or values r 0))) 0 0) same
+          ∙ zero_reg ∙ sym zero_value ∙ ap (λ k. get_or values k 0) (sym first);
+    }
     by (inr ne) =
         let whole : written regs r (get_or values r 0) ≡ set regs r (get_or values r 0) =
         ap (λ b. cond b regs (set regs r (get_or values r 0))) (ne_eqb r 0 ne) in

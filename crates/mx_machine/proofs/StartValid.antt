@@ -163,12 +163,15 @@ hart-starts p stacks n h s k is small a = record {
 -- frames that lead back
 frames-are : (p : Parts) (fs : List Frame) → AllByRecursion (IsBackPlace p) fs → AllByRecursion IsSmallFrame fs → AllByRecursion (IsFrame (length p.maps)) fs
 frames-are p [] b s = tt
-frames-are p (f ∷ fs) b s = (record {
-  back = record { aligned = b.0.back; small = s.0.back };
-  caller = module-of p f.caller b.0.caller;
-  count = s.0.kept.count;
-  small = s.0.kept.small;
-}, frames-are p fs b.1 s.1)
+frames-are p (f ∷ fs) b s = (
+  record {
+    back = record { aligned = b.0.back; small = s.0.back };
+    caller = module-of p f.caller b.0.caller;
+    count = s.0.kept.count;
+    small = s.0.kept.small;
+  },
+  frames-are p fs b.1 s.1,
+)
 
 -- a hart that resumes, with such a call in flight
 module _ (p : Parts) (n h : ℕ) (s : HartState) (is : IsHartState p s) (small : IsSmallState s) where
@@ -183,18 +186,29 @@ module _ (p : Parts) (n h : ℕ) (s : HartState) (is : IsHartState p s) (small :
 
   resumes-as : (v : HartStatus) (o : Option Flight) → FliesIfWaiting p n h s v o → IfSome o IsSet → IsHart (length p.maps) n h (seen-as v o)
   resumes-as V.Running o t q = record {
-    regs = registers; pc = pc-is; domain = module-of p s.domain is.domain; few_frames = small.frames.few;
-    frames = frames-are p s.frames is.frames small.frames.each; status = tt;
+    regs = registers;
+    pc = pc-is;
+    domain = module-of p s.domain is.domain;
+    few_frames = small.frames.few;
+    frames = frames-are p s.frames is.frames small.frames.each;
+    status = tt;
   }
   resumes-as V.Waiting None t q = absurd t
   resumes-as V.Waiting (Some f) t q = record {
-    regs = registers; pc = pc-is; domain = module-of p s.domain is.domain; few_frames = small.frames.few;
+    regs = registers;
+    pc = pc-is;
+    domain = module-of p s.domain is.domain;
+    few_frames = small.frames.few;
     frames = frames-are p s.frames is.frames small.frames.each;
     status = record { own = refl; announced = t.announced; places = q; others = t.heard };
   }
   resumes-as V.Halted o t q = record {
-    regs = registers; pc = pc-is; domain = module-of p s.domain is.domain; few_frames = small.frames.few;
-    frames = frames-are p s.frames is.frames small.frames.each; status = tt;
+    regs = registers;
+    pc = pc-is;
+    domain = module-of p s.domain is.domain;
+    few_frames = small.frames.few;
+    frames = frames-are p s.frames is.frames small.frames.each;
+    status = tt;
   }
 
   pub hart-resumes : (k : Kept) → FliesIfWaiting p n h s s.status k.flight → IfSome k.flight IsSet → IsHart (length p.maps) n h (seen h (resumed_hart s) k)

@@ -17,8 +17,8 @@ ghost use Rattle.mx_machine.specs.Halting.{halted_at};
 ghost use Rattle.mx_machine.specs.Harts.{hart_of, is_halted};
 ghost use Rattle.mx_machine.specs.Held.{area_of};
 
-use crate::bus::HartBus;
 use crate::Stacks;
+use crate::bus::HartBus;
 use crate::harts::Harts;
 use mx_core::Outcome;
 use mx_model::{Call, Fault, Note};

@@ -63,7 +63,12 @@ impl Harts {
         ensures { result ≡ list_map resumed_hart states.now }
     {
         Harts {
-            items: [states.hart(0), states.hart(1), states.hart(2), states.hart(3)],
+            items: [
+                states.hart(0),
+                states.hart(1),
+                states.hart(2),
+                states.hart(3),
+            ],
             len: states.len(),
         }
     }

@@ -82,7 +82,13 @@ impl<T: PermTables, const N: usize> Machine<T, N> {
     /// A machine that goes on as it was left. The supervisor's parts and gates are as for `new`. There is one hart state for each hart
     /// of the checker, in which the caches are empty, no hart is halted, and a call is in flight for exactly the harts that wait: that
     /// of their registers. `dead` is true for modules alone, and at most 2^63 - 1 turns were made.
-    pub fn resume(parts: Supervisor<T, N>, harts: &HartStates, stacks: &Stacks, dead: &[bool; 64], steps: u64) -> Machine<T, N>
+    pub fn resume(
+        parts: Supervisor<T, N>,
+        harts: &HartStates,
+        stacks: &Stacks,
+        dead: &[bool; 64],
+        steps: u64,
+    ) -> Machine<T, N>
         requires sound { IsSound (parts_of T.kind T.maps T.size T.limits N parts) }
         requires gates { AllByRecursion (IsGate (length (T.maps parts.checker.tables)) (T.size parts.checker.tables)) parts.gates }
         requires may { MayResume (parts_of T.kind T.maps T.size T.limits N parts) harts.now stacks.now dead.now steps }

@@ -77,12 +77,7 @@ impl<T: PermTables, const N: usize> Machine<T, N> {
         requires word { word < self.now.core.size }
         ensures { result ≡ (flat_reads self.now).walk domain word }
     {
-        self.bare
-            .bus
-            .supervisor
-            .checker
-            .tables()
-            .span(domain, word)
+        self.bare.bus.supervisor.checker.tables().span(domain, word)
     }
 
     /// The owner of a word, 0 for the supervisor.

@@ -21,9 +21,16 @@ announce-requires g c =
     let m = c.args.self.now in
     let h = c.args.hart in
     let r = c.requires.run in
-    let own : c.call-call.result ≡ own_call h (hart_of m.harts h) = c.call-call.ensures ∙ ap (λ (n : Held). own_call h (hart_of n.harts h)) c.self.view_is in
-    (search rules, (r.act.fits.sound, (sym c.is_announced.ensures ∙ c.if-is_announced.true,
-    (subst (λ (k : Call). IsDomain m.parts.maps k.domain) (sym own) r.act.domain, may-announce m h r))))
+    let own : c.call-call.result ≡ own_call h (hart_of m.harts h) = c.call-call.ensures ∙ ap (λ (n : Held). own_call h (hart_of n.harts h)) c.self.view_is in (
+      search rules,
+      (
+        r.act.fits.sound,
+        (
+          sym c.is_announced.ensures ∙ c.if-is_announced.true,
+          (subst (λ (k : Call). IsDomain m.parts.maps k.domain) (sym own) r.act.domain, may-announce m h r),
+        ),
+      ),
+    )
 
 pub wait-requires : goal.wait-requires
 wait-requires g c =
@@ -54,20 +61,25 @@ returns-then-not-announce-clause-fits g c =
     (fits-waiting m h r)
 
 pub serve-requires : goal.serve-requires
-serve-requires g c = (search rules, (
+serve-requires g c = (
+  search rules,
+  (
     let m = c.args.self.now in
-    let h = c.args.hart in
-    let r = c.requires.run in
-    let call = c.call-call.result in
-    let own : call ≡ own_call h (hart_of m.harts h) = c.call-call.ensures ∙ ap (λ (n : Held). own_call h (hart_of n.harts h)) c.self.view_is in
-    elim c.else-is_announced.branch [
-      | else-is_announced-via-then-is_announced+else-not-announce w ↦
-          asked-serving m c.else-is_announced.self h call r own (w.self-is ∙ w.announce.ensures.after ∙ announced-call m h call r own)
-          (sym c.is_announced.ensures ∙ w.if-is_announced.true)
-          (ap (λ (n : Held). is_ready h n.parts.harts) w.self-is ∙ sym w.announce.ensures.ready ∙ w.if-not-announce.false)
-      | else-is_announced-via-else-is_announced w ↦
-          plain-serving m c.else-is_announced.self h call r own w.self-is (sym c.is_announced.ensures ∙ w.if-is_announced.false)
-    ], c.requires.empty))
+        let h = c.args.hart in
+        let r = c.requires.run in
+        let call = c.call-call.result in
+        let own : call ≡ own_call h (hart_of m.harts h) = c.call-call.ensures ∙ ap (λ (n : Held). own_call h (hart_of n.harts h)) c.self.view_is in
+        elim c.else-is_announced.branch [
+          | else-is_announced-via-then-is_announced+else-not-announce w ↦
+              asked-serving m c.else-is_announced.self h call r own (w.self-is ∙ w.announce.ensures.after ∙ announced-call m h call r own)
+              (sym c.is_announced.ensures ∙ w.if-is_announced.true)
+              (ap (λ (n : Held). is_ready h n.parts.harts) w.self-is ∙ sym w.announce.ensures.ready ∙ w.if-not-announce.false)
+          | else-is_announced-via-else-is_announced w ↦
+              plain-serving m c.else-is_announced.self h call r own w.self-is (sym c.is_announced.ensures ∙ w.if-is_announced.false)
+        ],
+    c.requires.empty,
+  ),
+)
 
 pub returns-clause-made : goal.returns-clause-made
 returns-clause-made g c =

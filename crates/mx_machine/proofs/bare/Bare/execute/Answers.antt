@@ -29,9 +29,13 @@ ask-requires g c =
 
 pub go_back-requires : goal.go_back-requires
 go_back-requires g c =
-    let m = c.args.self.now in
-    (assumption c, (rw c.instruct.ensures.after (runs-instruction m c.args.hart c.args.returns c.requires.run),
-    (subst (λ (o : Outcome). HasCause o) c.in-Back.is c.instruct.ensures.cause, c.requires.empty)))
+    let m = c.args.self.now in (
+      assumption c,
+      (
+        rw c.instruct.ensures.after (runs-instruction m c.args.hart c.args.returns c.requires.run),
+        (subst (λ (o : Outcome). HasCause o) c.in-Back.is c.instruct.ensures.cause, c.requires.empty),
+      ),
+    )
 
 pub returns-in-Next : goal.returns-in-Next
 returns-in-Next g c =

@@ -12,10 +12,14 @@ halt_one-requires g c =
     let m = c.args.self.now in
     let i = c.loop-hart.hart in
     let now : c.loop-hart.self ≡ record m { parts = record m.parts { harts = halted_first i m.harts m.parts.harts } } = c.loop-hart.invariant in
-    let count = c.len-hart-end.ensures.number ∙ ap (λ (n : Held). length n.harts) c.self.view_is ∙ c.requires.count ∙ sym (halted-count i m.harts m.parts.harts) in
-    (search rules, (subst (λ (n : Held). i < length n.parts.harts) (sym now) (subst (λ k. i < k) count c.loop-hart-test.true),
-    λ halted. ap (λ (n : Held). (hart_at n.parts.harts i).flight) now ∙ halted-flight i m.harts m.parts.harts i
-    ∙ c.requires.free i (ap (λ (n : Held). is_halted (hart_of n.harts i).progress) (sym now) ∙ halted)))
+    let count = c.len-hart-end.ensures.number ∙ ap (λ (n : Held). length n.harts) c.self.view_is ∙ c.requires.count ∙ sym (halted-count i m.harts m.parts.harts) in (
+      search rules,
+      (
+        subst (λ (n : Held). i < length n.parts.harts) (sym now) (subst (λ k. i < k) count c.loop-hart-test.true),
+        λ halted. ap (λ (n : Held). (hart_at n.parts.harts i).flight) now ∙ halted-flight i m.harts m.parts.harts i
+            ∙ c.requires.free i (ap (λ (n : Held). is_halted (hart_of n.harts i).progress) (sym now) ∙ halted),
+      ),
+    )
 
 pub loop-hart-preserved : goal.loop-hart-preserved
 loop-hart-preserved g c =

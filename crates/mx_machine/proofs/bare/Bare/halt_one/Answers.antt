@@ -9,9 +9,13 @@ pub halt-requires : goal.halt-requires
 halt-requires g c =
     let h = c.args.hart in
     let halted : is_halted (hart_of c.args.self.now.harts h).progress ≡ true =
-    ap (λ (n : Held). is_halted (hart_of n.harts h).progress) (sym c.self.view_is) ∙ sym c.is_halted.ensures ∙ c.if-is_halted.true in
-    (search rules, (subst (λ (n : Held). h < length n.parts.harts) (sym c.self.view_is) c.requires.kept,
-    subst (λ (n : Held). (hart_at n.parts.harts h).flight ≡ None) (sym c.self.view_is) (c.requires.free halted)))
+    ap (λ (n : Held). is_halted (hart_of n.harts h).progress) (sym c.self.view_is) ∙ sym c.is_halted.ensures ∙ c.if-is_halted.true in (
+      search rules,
+      (
+        subst (λ (n : Held). h < length n.parts.harts) (sym c.self.view_is) c.requires.kept,
+        subst (λ (n : Held). (hart_at n.parts.harts h).flight ≡ None) (sym c.self.view_is) (c.requires.free halted),
+      ),
+    )
 
 pub returns-then-is_halted : goal.returns-then-is_halted
 returns-then-is_halted g c =

@@ -17,5 +17,16 @@ returns-clause-after g c =
     let ts : List Touch = fetch_touch x.pc ∷ touches_of (fetched (perm_from (p.size t) (p.maps t) c.domain-self-inside.result) old.ram x.regs x.pc) in
     let s : AreTouched {T = g.row.T.Denot} {N = g.row.N} p.kind p.maps p.size p.limits p.lookups g.row.N a ts c.instruct.new.bus =
     are-touched {T = g.row.T.Denot} {N = g.row.N} p.kind p.maps p.size p.limits p.lookups g.row.N ts a c.instruct.new.bus c.instruct.ensures.ran.touched.each in
-    rw (← c.self.view_is) (rw (s.maps_same, s.size_same, s.limit_same, s.owners, s.gates, s.heaps, s.harts, c.instruct.ensures.ran.left,
-    c.instruct.ensures.after, c.instruct.ensures.ran.answered, c.domain-self-inside.ensures) refl)
+    rw (← c.self.view_is) (rw (
+      s.maps_same,
+      s.size_same,
+      s.limit_same,
+      s.owners,
+      s.gates,
+      s.heaps,
+      s.harts,
+      c.instruct.ensures.ran.left,
+      c.instruct.ensures.after,
+      c.instruct.ensures.ran.answered,
+      c.domain-self-inside.ensures,
+    ) refl)

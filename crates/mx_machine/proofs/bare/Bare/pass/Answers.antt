@@ -91,13 +91,26 @@ pub returns-then-depth-ge-FRAMES-clause-fits : goal.returns-then-depth-ge-FRAMES
 returns-then-depth-ge-FRAMES-clause-fits g c = c.trap-then-depth-ge-FRAMES.ensures.fits
 
 pub enter-requires : goal.enter-requires
-enter-requires g c = (search rules, (
-    let m = c.args.self.now in
-    let h = c.args.hart in
-    let a = c.requires.run.act in
-    let depth : c.depth.result ≡ length (hart_of m.harts h).frames = c.depth.ensures ∙ ap (λ (n : Held). length (hart_of n.harts h).frames) c.self.view_is in
-    (a.there, (kept-there m h a, (subst (λ n. n < 64) depth c.if-depth-ge-FRAMES.false, (c.requires.target.first,
-    area-inside m c.args.target h c.requires.valid a.fits (here m c.args.target a.fits c.requires.target) a.there))))))
+enter-requires g c = (
+  search rules,
+  (
+      let m = c.args.self.now in
+      let h = c.args.hart in
+      let a = c.requires.run.act in
+      let depth : c.depth.result ≡ length (hart_of m.harts h).frames = c.depth.ensures ∙ ap (λ (n : Held). length (hart_of n.harts h).frames) c.self.view_is in (
+        a.there,
+        (
+          kept-there m h a,
+          (
+            subst (λ n. n < 64) depth c.if-depth-ge-FRAMES.false,
+            (
+              c.requires.target.first,
+              area-inside m c.args.target h c.requires.valid a.fits (here m c.args.target a.fits c.requires.target) a.there,
+            ),
+          ),
+        ),
+      )),
+)
 
 pub returns-clause-made : goal.returns-clause-made
 returns-clause-made g c =

@@ -72,9 +72,16 @@ returns-then-target-domain g c =
 
 pub pass-requires : goal.pass-requires
 pass-requires g c =
-    let m = c.args.self.now in
-    (assumption c, (c.requires.valid, (c.requires.run,
-    (target-domain m c.domain-domain.result c.pc-pc.result c.in-Some.target c.requires.valid c.requires.run.act.fits (sym c.in-Some.ensures), c.requires.empty))))
+    let m = c.args.self.now in (
+      assumption c,
+      (
+        c.requires.valid,
+        (
+          c.requires.run,
+          (target-domain m c.domain-domain.result c.pc-pc.result c.in-Some.target c.requires.valid c.requires.run.act.fits (sym c.in-Some.ensures), c.requires.empty),
+        ),
+      ),
+    )
 
 pub returns-else-target-domain : goal.returns-else-target-domain
 returns-else-target-domain g c =

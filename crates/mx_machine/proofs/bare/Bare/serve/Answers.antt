@@ -11,9 +11,12 @@ use Rattle.mx_machine.proofs.ServeLaws.{fits-answered, fits-ended, made-answered
 use Rattle.mx_machine.proofs.bare.Bare.serve.Goals as goal
 
 pub serve-answer-requires : goal.serve-answer-requires
-serve-answer-requires g c = (search rules, (
-    let v = rw (← c.self.view_is) at c.requires.serving in
-    (v.sound, (v.domain, (subst (λ n. n ≤ 4) v.count v.few, (v.may, ap (λ (e : Events). e.bytes) c.requires.empty))))))
+serve-answer-requires g c = (
+  search rules,
+  (
+      let v = rw (← c.self.view_is) at c.requires.serving in
+      (v.sound, (v.domain, (subst (λ n. n ≤ 4) v.count v.few, (v.may, ap (λ (e : Events). e.bytes) c.requires.empty))))),
+)
 
 pub halt-requires : goal.halt-requires
 halt-requires g c =
@@ -21,25 +24,28 @@ halt-requires g c =
     v.there
 
 pub halt-requires-then-answer : goal.halt-requires-then-answer
-halt-requires-then-answer g c = (search rules, (
-    let p = g.T.PermTables in
-    let m : Held = record {
-      parts = parts_of p.kind p.maps p.size p.limits g.row.N c.self.inside.bus.supervisor;
-      harts = c.self.inside.harts;
-      stacks = c.self.inside.stacks;
-      dead = c.self.inside.dead;
-      steps = c.self.inside.steps;
-      waiting = c.self.inside.waiting;
-    } in
-    let q : Parts = parts_of p.kind p.maps p.size p.limits g.row.N c.serve-answer.new.self in
-    let h = c.args.hart in
-    let call = c.args.call.now in
-    let v : IsServing m h call = rw (← c.self.view_is) at c.requires.serving in
-    let s = c.serve-answer.ensures in
-    let a = c.serve-answer.result in
-    let bytes = c.serve-answer.new.out.bytes in
-    let served = s.served (rest_of m) (serving-bars m h call v) in
-    (subst (λ n. h < n) (v.count ∙ sym s.harts.count) v.there, own-flight m h call q bytes a v served s.harts s.sizes s.sound)))
+halt-requires-then-answer g c = (
+  search rules,
+  (
+      let p = g.T.PermTables in
+      let m : Held = record {
+        parts = parts_of p.kind p.maps p.size p.limits g.row.N c.self.inside.bus.supervisor;
+        harts = c.self.inside.harts;
+        stacks = c.self.inside.stacks;
+        dead = c.self.inside.dead;
+        steps = c.self.inside.steps;
+        waiting = c.self.inside.waiting;
+      } in
+      let q : Parts = parts_of p.kind p.maps p.size p.limits g.row.N c.serve-answer.new.self in
+      let h = c.args.hart in
+      let call = c.args.call.now in
+      let v : IsServing m h call = rw (← c.self.view_is) at c.requires.serving in
+      let s = c.serve-answer.ensures in
+      let a = c.serve-answer.result in
+      let bytes = c.serve-answer.new.out.bytes in
+      let served = s.served (rest_of m) (serving-bars m h call v) in
+      (subst (λ n. h < n) (v.count ∙ sym s.harts.count) v.there, own-flight m h call q bytes a v served s.harts s.sizes s.sound)),
+)
 
 pub set_note-requires : goal.set_note-requires
 set_note-requires g c = tt

@@ -36,9 +36,16 @@ wait_on-requires g c =
     let h = c.args.hart in
     let w = c.requires.whole in
     let at = sym (ap (λ (n : Held). (hart_of n.harts h).progress) c.self.view_is) ∙ sym c.progress.ensures ∙ c.in-Waiting.is in
-    let is = c.hear.ensures.after ∙ ap (λ (n : Held). heard h (counted n)) c.self.view_is in
-    (assumption c, (valid-now m h w G.Waiting at refl c.hear.new.self is, (acts-now m h w G.Waiting at refl c.hear.new.self is c.hear.ensures.all,
-    (stands-now m h w G.Waiting at refl c.hear.new.self is, c.clear.ensures))))
+    let is = c.hear.ensures.after ∙ ap (λ (n : Held). heard h (counted n)) c.self.view_is in (
+      assumption c,
+      (
+        valid-now m h w G.Waiting at refl c.hear.new.self is,
+        (
+          acts-now m h w G.Waiting at refl c.hear.new.self is c.hear.ensures.all,
+          (stands-now m h w G.Waiting at refl c.hear.new.self is, c.clear.ensures),
+        ),
+      ),
+    )
 
 pub returns-in-Waiting : goal.returns-in-Waiting
 returns-in-Waiting g c =
@@ -67,9 +74,13 @@ run-requires g c =
     let w = c.requires.whole in
     let hears = c.hear-in-Running in
     let at = sym (ap (λ (n : Held). (hart_of n.harts h).progress) c.self.view_is) ∙ sym c.progress.ensures ∙ c.in-Running.is in
-    let is = hears.ensures.after ∙ ap (λ (n : Held). heard h (counted n)) c.self.view_is in
-    (assumption c, (valid-now m h w G.Running at refl hears.new.self is,
-    (record { act = acts-now m h w G.Running at refl hears.new.self is hears.ensures.all; runs = stands-now m h w G.Running at refl hears.new.self is }, c.clear.ensures)))
+    let is = hears.ensures.after ∙ ap (λ (n : Held). heard h (counted n)) c.self.view_is in (
+      assumption c,
+      (
+        valid-now m h w G.Running at refl hears.new.self is,
+        (record { act = acts-now m h w G.Running at refl hears.new.self is hears.ensures.all; runs = stands-now m h w G.Running at refl hears.new.self is }, c.clear.ensures),
+      ),
+    )
 
 pub returns-in-Running : goal.returns-in-Running
 returns-in-Running g c =

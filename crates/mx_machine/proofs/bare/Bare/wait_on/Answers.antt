@@ -36,15 +36,20 @@ pub call-call-requires : goal.call-call-requires
 call-call-requires g c = subst (λ (n : Held). c.args.hart < length n.harts) (sym c.self.view_is) c.requires.act.there
 
 pub serve-requires : goal.serve-requires
-serve-requires g c = (search rules, (
+serve-requires g c = (
+  search rules,
+  (
     let m = c.args.self.now in
-    let h = c.args.hart in
-    let a = c.requires.act in
-    let own : c.call-call.result ≡ own_call h (hart_of m.harts h) = c.call-call.ensures ∙ ap (λ (n : Held). own_call h (hart_of n.harts h)) c.self.view_is in
-    let ready : is_ready h m.parts.harts ≡ true =
-    ap (λ (n : Held). is_ready h n.parts.harts) (sym c.self.view_is) ∙ sym c.ready.ensures.ready ∙ c.if-not-ready.false in
-    subst (λ (k : Call). IsServing m h k) (sym own)
-    (serving-waiting m h a c.requires.waits (waiting-announced m h c.requires.valid a.there c.requires.waits) ready), c.requires.empty))
+        let h = c.args.hart in
+        let a = c.requires.act in
+        let own : c.call-call.result ≡ own_call h (hart_of m.harts h) = c.call-call.ensures ∙ ap (λ (n : Held). own_call h (hart_of n.harts h)) c.self.view_is in
+        let ready : is_ready h m.parts.harts ≡ true =
+        ap (λ (n : Held). is_ready h n.parts.harts) (sym c.self.view_is) ∙ sym c.ready.ensures.ready ∙ c.if-not-ready.false in
+        subst (λ (k : Call). IsServing m h k) (sym own)
+        (serving-waiting m h a c.requires.waits (waiting-announced m h c.requires.valid a.there c.requires.waits) ready),
+    c.requires.empty,
+  ),
+)
 
 pub any_waits-self-inside-requires : goal.any_waits-self-inside-requires
 any_waits-self-inside-requires g c = tt

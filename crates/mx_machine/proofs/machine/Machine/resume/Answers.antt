@@ -16,11 +16,14 @@ resume-left-requires g c = zero-registers _ c.args.harts.now c.requires.may.each
 pub halt_left-requires : goal.halt_left-requires
 halt_left-requires g c =
     let T = g.T.PermTables in
-    let p : Parts = parts_of {N = g.row.N} T.kind T.maps T.size T.limits g.row.N c.args.parts in
-    (search fits-inside,
-    (rw c.resume-left.ensures (as-many p c.args.harts.now c.args.stacks.now c.args.dead.now c.args.steps c.requires.may),
-    subst (λ (xs : List Hart). (h : ℕ) → is_halted (hart_of xs h).progress ≡ true → (hart_at p.harts h).flight ≡ None) (sym c.resume-left.ensures)
-    (free-resumed p c.args.harts.now c.args.stacks.now c.args.dead.now c.args.steps c.requires.may)))
+    let p : Parts = parts_of {N = g.row.N} T.kind T.maps T.size T.limits g.row.N c.args.parts in (
+      search fits-inside,
+      (
+        rw c.resume-left.ensures (as-many p c.args.harts.now c.args.stacks.now c.args.dead.now c.args.steps c.requires.may),
+        subst (λ (xs : List Hart). (h : ℕ) → is_halted (hart_of xs h).progress ≡ true → (hart_at p.harts h).flight ≡ None) (sym c.resume-left.ensures)
+            (free-resumed p c.args.harts.now c.args.stacks.now c.args.dead.now c.args.steps c.requires.may),
+      ),
+    )
 
 pub invariant_of-result : goal.invariant_of-result
 invariant_of-result g c =

@@ -12,9 +12,13 @@ use Rattle.mx_machine.proofs.StepLaws.{bytes-is, is-turn, told-is, turn-is, whol
 use Rattle.mx_machine.proofs.machine.Machine.step.Goals as goal
 
 pub step-requires : goal.step-requires
-step-requires g c =
-    (search fits-inside, (record { valid = c.self.invariant.valid; fits = c.self.invariant.fits },
-    subst (λ (f : Flat). f.core.turns < 2 ^ 64 - 1) (sym c.self.view_is) c.requires))
+step-requires g c = (
+  search fits-inside,
+  (
+    record { valid = c.self.invariant.valid; fits = c.self.invariant.fits },
+    subst (λ (f : Flat). f.core.turns < 2 ^ 64 - 1) (sym c.self.view_is) c.requires,
+  ),
+)
 
 pub invariant_of-self : goal.invariant_of-self
 invariant_of-self g c =
