@@ -1,6 +1,6 @@
 -- The closing lines of a run's report, over a state with its lists of grants and gives, and over a flat state.
 -- The rules: docs/COMMANDS.md, "The report".
-use Rattle.std.specs.Prelude.{ℕ, ◌-◌, Bool, not, ◌==◌, ◌&&◌, List, [], ◌∷◌, length, take, drop, slice_index_or, if◌then◌else◌, flat_map}
+use Rattle.std.specs.Prelude.{ℕ, ◌-◌, Bool, not, ◌==◌, List, [], ◌∷◌, length, take, drop, slice_index_or, if◌then◌else◌, flat_map}
 use Rattle.std.specs.Prelude.{map as list_map}
 use Rattle.std.specs.List.{concat, list_any, range_with_len}
 use Rattle.mx_words.specs.declared.perm.Perm.{Perm}
