@@ -1,15 +1,13 @@
 -- The stored items of a map: each word lies in the item that decides it, which decides each of its words.
-use Rattle.std.proofs.Common.{◌≡◌, ◌≢◌, ℕ, zero, suc, ◌+◌, ◌-◌, ◌*◌, ◌/◌, ◌<◌, ◌≤◌, ◌⊎◌, inl, inr, ◌==◌, Bool, true, false, cond, not, if◌then◌else◌, List, [], ◌∷◌, ◌++◌, length, get_or, take, drop, reverse, slice_range, min, flat_map, refl, sym, ap, ◌∙◌, subst, arith, length-take, length-drop, get_or-take, get_or-drop}
-use Rattle.std.specs.List.{prefix_len, suffix_len, range_with_len, list_any}
-use Rattle.std.proofs.lemmas.Bool.{eqb-true, cases_lt}
+use Rattle.std.proofs.Common.{◌≡◌, ℕ, suc, ◌+◌, ◌-◌, ◌*◌, ◌/◌, ◌<◌, ◌≤◌, ◌⊎◌, inl, inr, ◌==◌, Bool, true, false, cond, if◌then◌else◌, List, [], ◌++◌, length, get_or, take, drop, reverse, slice_range, min, flat_map, refl, sym, ap, ◌∙◌, subst, arith}
+use Rattle.std.specs.List.{prefix_len, suffix_len, range_with_len}
+use Rattle.std.proofs.lemmas.Bool.{cases_lt}
 use Rattle.std.proofs.lemmas.List.{get_or-reverse, length-reverse}
-use Rattle.std.proofs.lemmas.List.Sums.{prefix_len_stops, suffix_len-le-length, prefix_len-le-length}
+use Rattle.std.proofs.lemmas.List.Sums.{prefix_len_stops, suffix_len-le-length}
 use Rattle.mx_words.specs.declared.perm.Perm.{Perm}
 use Rattle.mx_words.specs.declared.perm.Perm.TheVariants as P
-use Rattle.mx_words.specs.declared.perm.Span.{Span}
 use Rattle.mx_words.specs.declared.tables.Kind.{Kind}
 use Rattle.mx_words.specs.declared.tables.Kind.TheVariants as K
-use Rattle.mx_words.specs.declared.tables.Level.{Level}
 use Rattle.mx_words.specs.declared.tables.Level.TheVariants as L
 use Rattle.mx_words.specs.declared.tables.Shown.{Shown}
 use Rattle.mx_words.specs.Rights.{same, perm_at}
@@ -21,7 +19,7 @@ use Rattle.mx_report.specs.Lines.{shown_line}
 use Rattle.mx_report.specs.Texts.{has_rights, item_text, shown_text}
 use Rattle.mx_report.proofs.RangeTexts.{range_blank}
 use Rattle.mx_words.proofs.RunLaws.{IsRound, slice-at, length-slice, span_within_is}
-use Rattle.mx_words.proofs.ReachLaws.{IsUniformRound, within_round, within_low, within_high}
+use Rattle.mx_words.proofs.ReachLaws.{IsUniformRound, within_round}
 
 -- an item with word i in it, in the list, that decides each of its words
 pub record IsItemRound (kind : Kind) (m : List Perm) (i : ℕ) (s : Shown) : Type 0 where

@@ -1,17 +1,7 @@
 -- Texts of the numbers of a range, one after another.
-use Rattle.std.proofs.Common.{◌≡◌, ℕ, zero, suc, ◌+◌, ◌-◌, ◌<◌, ◌≤◌, List, [], ◌∷◌, ◌++◌, map, get_or, flat_map, refl, sym, ap, ◌∙◌, arith, append_assoc}
+use Rattle.std.proofs.Common.{◌≡◌, ℕ, zero, suc, ◌+◌, ◌-◌, ◌<◌, ◌≤◌, List, [], ◌++◌, map, get_or, flat_map, refl, sym, ap, ◌∙◌, arith}
 use Rattle.std.proofs.Math.ListN.{get_or-map}
 use Rattle.std.specs.List.{range_with_len}
-
--- the first of a range, and the others
-pub range_first : (f : ℕ → List ℕ) (a i n : ℕ) → i < n → flat_map f (range_with_len (a + i) (n - i)) ≡ f (a + i) ++ flat_map f (range_with_len (a + (i + 1)) (n - (i + 1)))
-range_first f a i n lt =
-    let long : n - i ≡ suc (n - (i + 1)) = omega arith in
-    let next : a + i + 1 ≡ a + (i + 1) = omega arith in
-    ap (λ k. flat_map f (range_with_len (a + i) k)) long ∙ ap (λ j. f (a + i) ++ flat_map f (range_with_len j (n - (i + 1)))) next
-
-pub range_none : (f : ℕ → List ℕ) (a i n : ℕ) → n ≤ i → flat_map f (range_with_len (a + i) (n - i)) ≡ []
-range_none f a i n le = let none : n - i ≡ 0 = omega arith in ap (λ k. flat_map f (range_with_len (a + i) k)) none
 
 -- numbers without a text
 pub range_blank : (f : ℕ → List ℕ) (a k n : ℕ) → ((j : ℕ) → a ≤ j → j < a + k → f j ≡ []) → flat_map f (range_with_len a (k + n)) ≡ flat_map f (range_with_len (a + k) n)
@@ -25,13 +15,6 @@ range_blank f a (suc k) n blank =
     ap (λ j. flat_map f (range_with_len a j)) more
     ∙ ap (λ xs. xs ++ flat_map f (range_with_len (a + 1) (k + n))) (blank a (omega arith) (omega arith))
     ∙ range_blank f (a + 1) k n (λ j lo hi. blank j (omega arith) (omega arith)) ∙ ap (λ j. flat_map f (range_with_len j n)) e
-
--- texts of functions that agree on the range
-pub range_agree : (f g : ℕ → List ℕ) (a n : ℕ) → ((j : ℕ) → a ≤ j → j < a + n → f j ≡ g j) → flat_map f (range_with_len a n) ≡ flat_map g (range_with_len a n)
-range_agree f g a zero h = refl
-range_agree f g a (suc n) h =
-    ap (λ xs. xs ++ flat_map f (range_with_len (a + 1) n)) (h a (omega arith) (omega arith))
-    ∙ ap (λ xs. g a ++ xs) (range_agree f g (a + 1) n (λ j lo hi. h j (omega arith) (omega arith)))
 
 -- what is said of place i of a list, at the number i + 1
 pub at_number : {X : Type 0} (f : X → List ℕ) (xs : List X) (i : ℕ) (d : X) → f d ≡ [] → f (get_or xs i d) ≡ get_or (map f xs) (i + 1 - 1) []

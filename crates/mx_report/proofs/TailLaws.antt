@@ -87,6 +87,13 @@ pub adds_stop : {A E : Type 0} {b c : List ℕ} (d : List ℕ) {s t : SinkState}
 adds_stop {b = b} d {first = first} second p =
     record { left = puts_same (sent_twice b first second (held (b ++ first)) refl) (puts_stop (sent (held (b ++ first) ++ second)) p.left); kept = tt }
 
+-- bytes were added to an empty buffer and what is held was put on the sink, or adding them failed
+pub adds_end : {A E B F : Type 0} {c : List ℕ} {s t u : SinkState} {all : List ℕ} {a : A} {r : Result B F} → Adds {A = A} {E = E} [] s t c all (Ok a) → Puts t u c r → Puts s u all r
+adds_end {all = all} p q = puts_same (ap (λ xs. sent all ++ xs) p.kept ∙ sent_held all) (puts_next p.left q)
+
+pub adds_failed : {A E : Type 0} {c : List ℕ} {s t : SinkState} {all : List ℕ} {e : E} → Adds {A = A} [] s t c all (Err e) → Puts {A = A} s t all (Err e)
+adds_failed {all = all} p = puts_same (sent_held all) (puts_stop (held all) p.left)
+
 -- one byte was added, and is held
 pub push_held : {A E : Type 0} (b : List ℕ) (x : ℕ) (c : List ℕ) (s : SinkState) {a : A} → c ≡ b ++ x ∷ [] → length c < 4096 → Adds {A = A} {E = E} b s s c (x ∷ []) (Ok a)
 push_held b x c s e h =

@@ -1,6 +1,6 @@
 -- The closing lines of a run's report, over a state with its lists of grants and gives, and over a flat state.
 -- The rules: docs/COMMANDS.md, "The report".
-use Rattle.std.specs.Prelude.{ℕ, ◌-◌, Bool, not, ◌==◌, ◌&&◌, List, [], ◌∷◌, length, take, drop, slice_index_or, if◌then◌else◌, flat_map}
+use Rattle.std.specs.Prelude.{ℕ, ◌-◌, Bool, not, ◌==◌, List, [], ◌∷◌, length, take, drop, slice_index_or, if◌then◌else◌, flat_map}
 use Rattle.std.specs.Prelude.{map as list_map}
 use Rattle.std.specs.List.{concat, list_any, range_with_len}
 use Rattle.mx_words.specs.declared.perm.Perm.{Perm}
@@ -75,6 +75,10 @@ tables_asked options kind limit c t = if options.tables then table_lines kind li
 abbrev pub counts_asked : Options → Core → List ℕ
 counts_asked options c = if options.counts then counts_lines c else []
 
+-- both, where they are asked
+unfoldable pub asked_lines : Options → Kind → Need → Core → Told → List ℕ
+asked_lines options kind limit c t = concat (tables_asked options kind limit c t ∷ counts_asked options c ∷ [])
+
 -- the lines of each hart
 unfoldable pub all_harts : Core → List ℕ
 all_harts c = flat_map (λ h. hart_lines h (hart_at c h)) (range_with_len 0 (length c.harts))
@@ -88,7 +92,7 @@ all_domains names c t =
 unfoldable pub closing_of : List (List ℕ) → EndState → Options → Core → Told → List ℕ
 closing_of names end options c t =
     concat (end_line c.turns end ∷ all_harts c ∷ all_domains names c t ∷ owner_lines t.owners
-    ∷ tables_asked options c.kind c.limit c t ∷ counts_asked options c ∷ [])
+    ∷ asked_lines options c.kind c.limit c t ∷ [])
 
 -- what a state tells: the maps by its lists of grants, the owners by its list of gives
 abbrev pub told : State → Told

@@ -1,14 +1,13 @@
 //! Lines of notes, of the end and of harts.
-ghost use Rattle.std.specs.Prelude.{◌≡◌, ℕ, flat_map};
+ghost use Rattle.std.specs.Prelude.{◌≡◌, flat_map};
 ghost use Rattle.mx_io.specs.Sink.{Puts};
-ghost use Rattle.mx_model.specs.State.{Hart};
-ghost use Rattle.mx_report.specs.Readings.{IsViewOf};
 ghost use Rattle.mx_report.specs.Tail.{Passes};
-ghost use Rattle.mx_report.specs.Lines.{fault_line, exit_line, note_line, end_name, end_line, status_name, hart_text, register_text, registers_line, hart_lines};
+ghost use Rattle.mx_report.specs.Lines.{fault_line, exit_line, note_line, end_name, end_line, status_name, hart_text, register_text, registers_line, view_lines};
 
+use crate::Tail;
 use crate::gathered::put_pieces;
-use crate::{HartStatus, HartView, Tail};
 use mx_io::{Failed, Piece, Sink};
+use mx_machine::{HartStatus, HartView};
 use mx_model::{Fault, Note};
 
 /// Why a run ended.
@@ -74,9 +73,7 @@ pub fn end_line<R: Sink>(sink: &mut R, steps: u64, state: EndState) -> Result<()
 
 /// Puts the two lines of a hart.
 pub fn hart_lines<R: Sink>(sink: &mut R, hart: u32, view: &HartView) -> Result<(), Failed>
-    ensures { (x : Hart) → IsViewOf x view.now →
-        Puts (R.state sink.old) (R.state sink.new)
-        (hart_lines hart x) result }
+    ensures { Puts (R.state sink.old) (R.state sink.new) (view_lines hart view.now) result }
 {
     let mut tail = Tail::new();
     put_hart(&mut tail, sink, hart, view)?;
@@ -207,9 +204,8 @@ pub(crate) fn put_hart<R: Sink>(
     hart: u32,
     view: &HartView,
 ) -> Result<(), Failed>
-    ensures { (x : Hart) → IsViewOf x view.now →
-        Passes tail.old (R.state sink.old) (R.state sink.new) tail.new
-        (hart_lines hart x) result }
+    ensures { Passes tail.old (R.state sink.old) (R.state sink.new) tail.new
+        (view_lines hart view.now) result }
 {
     put_state(tail, sink, hart, view)?;
     put_registers(tail, sink, hart, &view.regs)

@@ -10,22 +10,24 @@ ghost use Rattle.mx_report.specs.Lines.{dead_text, domain_head, permission_name,
 ghost use Rattle.mx_report.specs.Runs.{IsRun};
 ghost use Rattle.mx_report.specs.Texts.{domain_lines, domain_map, map_lines};
 
+use crate::Tail;
 use crate::gathered::{address, put_pieces};
-use crate::{Read, Tail};
 use mx_io::{Failed, Piece, Sink};
+use mx_machine::{Machine, machine_is_valid};
+use mx_table::PermTables;
 use mx_words::Perm;
 
 /// Puts the lines of a domain, a module's number: its name, and the runs of its map.
-pub fn domain_lines<R: Sink, M: Read>(
+pub fn domain_lines<R: Sink, T: PermTables, const N: usize>(
     sink: &mut R,
-    machine: &M,
+    machine: &Machine<T, N>,
     domain: u32,
     name: &str,
 ) -> Result<(), Failed>
-    requires { IsModule (length (M.meaning machine.now).core.modules) domain }
+    requires { IsModule (length machine.now.core.modules) domain }
     ensures { Puts (R.state sink.old) (R.state sink.new)
-        (domain_lines domain name.now (module_at (M.meaning machine.now).core domain).dead
-        (domain_map (M.meaning machine.now) domain)) result }
+        (domain_lines domain name.now (module_at machine.now.core domain).dead
+        (domain_map machine.now domain)) result }
 {
     let mut tail = Tail::new();
     put_domain(&mut tail, sink, machine, domain, name)?;
@@ -33,17 +35,17 @@ pub fn domain_lines<R: Sink, M: Read>(
 }
 
 #[tactic(auto, unfolding(crate::specs::Texts::domain_lines))]
-pub(crate) fn put_domain<R: Sink, M: Read>(
+pub(crate) fn put_domain<R: Sink, T: PermTables, const N: usize>(
     tail: &mut Tail,
     sink: &mut R,
-    machine: &M,
+    machine: &Machine<T, N>,
     domain: u32,
     name: &str,
 ) -> Result<(), Failed>
-    requires { IsModule (length (M.meaning machine.now).core.modules) domain }
+    requires { IsModule (length machine.now.core.modules) domain }
     ensures { Passes tail.old (R.state sink.old) (R.state sink.new) tail.new
-        (domain_lines domain name.now (module_at (M.meaning machine.now).core domain).dead
-        (domain_map (M.meaning machine.now) domain)) result }
+        (domain_lines domain name.now (module_at machine.now.core domain).dead
+        (domain_map machine.now domain)) result }
 {
     put_head(tail, sink, domain, name, machine.dead(domain))?;
     put_maps(tail, sink, machine, domain)
@@ -79,17 +81,17 @@ fn put_head<R: Sink>(
     )
 }
 
-fn put_maps<R: Sink, M: Read>(
+fn put_maps<R: Sink, T: PermTables, const N: usize>(
     tail: &mut Tail,
     sink: &mut R,
-    machine: &M,
+    machine: &Machine<T, N>,
     domain: u32,
 ) -> Result<(), Failed>
-    requires { IsModule (length (M.meaning machine.now).core.modules) domain }
+    requires { IsModule (length machine.now.core.modules) domain }
     ensures { Passes tail.old (R.state sink.old) (R.state sink.new) tail.new
-        (map_lines domain (domain_map (M.meaning machine.now) domain)) result }
+        (map_lines domain (domain_map machine.now domain)) result }
 {
-    machine.machine_is_valid();
+    machine_is_valid(machine);
     let mut word = 0;
     'runs: while word < machine.words() {
         let end = run_end(machine, domain, word);
@@ -100,12 +102,12 @@ fn put_maps<R: Sink, M: Read>(
 }
 
 // The first word behind a domain's run of one permission, of which `word` is the first one or a later one. It goes from span to span.
-fn run_end<M: Read>(machine: &M, domain: u32, word: u32) -> u32
-    requires domain { IsModule (length (M.meaning machine.now).core.modules) domain }
-    requires word { word < (M.meaning machine.now).core.size }
-    ensures { IsRun (domain_map (M.meaning machine.now) domain) word result }
+fn run_end<T: PermTables, const N: usize>(machine: &Machine<T, N>, domain: u32, word: u32) -> u32
+    requires domain { IsModule (length machine.now.core.modules) domain }
+    requires word { word < machine.now.core.size }
+    ensures { IsRun (domain_map machine.now domain) word result }
 {
-    machine.machine_is_valid();
+    machine_is_valid(machine);
     let span = machine.span(domain, word);
     let mut end = span.first + span.count;
     'spans: while end < machine.words() {

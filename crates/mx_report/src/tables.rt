@@ -8,22 +8,25 @@ ghost use Rattle.mx_report.specs.Tail.{Passes};
 ghost use Rattle.mx_report.specs.Lines.{kind_name, tables_line, level_name, shown_line, counts_text};
 ghost use Rattle.mx_report.specs.Texts.{all_items, counts_lines, domain_map, flat_told, has_rights, shown_lines, shown_text, table_lines};
 
+use crate::Tail;
 use crate::gathered::{address, put_pieces};
 use crate::maps::differ;
-use crate::{Counts, Read, Tail};
+use mx_check::Counts;
 use mx_io::{Failed, Piece, Sink};
+use mx_machine::{Machine, machine_is_valid};
+use mx_table::PermTables;
 use mx_words::{Kind, Level, Need, Perm, Shown};
 
 /// Puts the line of what the tables take, with the name of their kind and their limit, and a line for each of their stored items
 /// that has a word of RAM with a permission.
-pub fn table_lines<R: Sink, M: Read>(
+pub fn table_lines<R: Sink, T: PermTables, const N: usize>(
     sink: &mut R,
-    machine: &M,
+    machine: &Machine<T, N>,
     kind: Kind,
     limit: Need,
 ) -> Result<(), Failed>
     ensures { Puts (R.state sink.old) (R.state sink.new)
-        (table_lines kind limit (M.meaning machine.now).core (flat_told (M.meaning machine.now))) result }
+        (table_lines kind limit machine.now.core (flat_told machine.now)) result }
 {
     let mut tail = Tail::new();
     put_tables(&mut tail, sink, machine, kind, limit)?;
@@ -31,23 +34,26 @@ pub fn table_lines<R: Sink, M: Read>(
 }
 
 /// Puts a line with the counts of each hart.
-pub fn counts_lines<R: Sink, M: Read>(sink: &mut R, machine: &M) -> Result<(), Failed>
-    ensures { Puts (R.state sink.old) (R.state sink.new) (counts_lines (M.meaning machine.now).core) result }
+pub fn counts_lines<R: Sink, T: PermTables, const N: usize>(
+    sink: &mut R,
+    machine: &Machine<T, N>,
+) -> Result<(), Failed>
+    ensures { Puts (R.state sink.old) (R.state sink.new) (counts_lines machine.now.core) result }
 {
     let mut tail = Tail::new();
     put_counts(&mut tail, sink, machine)?;
     tail.end(sink)
 }
 
-pub(crate) fn put_tables<R: Sink, M: Read>(
+pub(crate) fn put_tables<R: Sink, T: PermTables, const N: usize>(
     tail: &mut Tail,
     sink: &mut R,
-    machine: &M,
+    machine: &Machine<T, N>,
     kind: Kind,
     limit: Need,
 ) -> Result<(), Failed>
     ensures { Passes tail.old (R.state sink.old) (R.state sink.new) tail.new
-        (table_lines kind limit (M.meaning machine.now).core (flat_told (M.meaning machine.now))) result }
+        (table_lines kind limit machine.now.core (flat_told machine.now)) result }
 {
     put_used(tail, sink, kind, &machine.used(), &limit)?;
     put_items(tail, sink, machine)
@@ -98,9 +104,13 @@ fn put_used<R: Sink>(
 }
 
 // Puts the lines of all domains' items.
-fn put_items<R: Sink, M: Read>(tail: &mut Tail, sink: &mut R, machine: &M) -> Result<(), Failed>
+fn put_items<R: Sink, T: PermTables, const N: usize>(
+    tail: &mut Tail,
+    sink: &mut R,
+    machine: &Machine<T, N>,
+) -> Result<(), Failed>
     ensures { Passes tail.old (R.state sink.old) (R.state sink.new) tail.new
-        (all_items (M.meaning machine.now).core (flat_told (M.meaning machine.now))) result }
+        (all_items machine.now.core (flat_told machine.now)) result }
 {
     for i in 0..machine.modules() {
         put_domain_items(tail, sink, machine, i + 1)?;
@@ -108,17 +118,17 @@ fn put_items<R: Sink, M: Read>(tail: &mut Tail, sink: &mut R, machine: &M) -> Re
     Ok(())
 }
 
-fn put_domain_items<R: Sink, M: Read>(
+fn put_domain_items<R: Sink, T: PermTables, const N: usize>(
     tail: &mut Tail,
     sink: &mut R,
-    machine: &M,
+    machine: &Machine<T, N>,
     domain: u32,
 ) -> Result<(), Failed>
-    requires { IsModule (length (M.meaning machine.now).core.modules) domain }
+    requires { IsModule (length machine.now.core.modules) domain }
     ensures { Passes tail.old (R.state sink.old) (R.state sink.new) tail.new
-        (shown_lines domain (M.meaning machine.now).core.kind (domain_map (M.meaning machine.now) domain)) result }
+        (shown_lines domain machine.now.core.kind (domain_map machine.now domain)) result }
 {
-    machine.machine_is_valid();
+    machine_is_valid(machine);
     let mut word = 0;
     'items: while word < machine.words() {
         let item = machine.shown(domain, word);
@@ -129,19 +139,19 @@ fn put_domain_items<R: Sink, M: Read>(
 }
 
 // Puts the line of an item. One of no permission has none.
-fn put_item<R: Sink, M: Read>(
+fn put_item<R: Sink, T: PermTables, const N: usize>(
     tail: &mut Tail,
     sink: &mut R,
-    machine: &M,
+    machine: &Machine<T, N>,
     domain: u32,
     item: &Shown,
 ) -> Result<(), Failed>
-    requires domain { IsModule (length (M.meaning machine.now).core.modules) domain }
-    requires inside { item.now.first + item.now.count ≤ (M.meaning machine.now).core.size }
+    requires domain { IsModule (length machine.now.core.modules) domain }
+    requires inside { item.now.first + item.now.count ≤ machine.now.core.size }
     ensures { Passes tail.old (R.state sink.old) (R.state sink.new) tail.new
-        (shown_text domain (domain_map (M.meaning machine.now) domain) item.now) result }
+        (shown_text domain (domain_map machine.now domain) item.now) result }
 {
-    machine.machine_is_valid();
+    machine_is_valid(machine);
     if has_rights(machine, domain, item.first, item.count) {
         put_shown(tail, sink, domain, item)
     } else {
@@ -150,12 +160,17 @@ fn put_item<R: Sink, M: Read>(
 }
 
 // Whether a domain has a right on some of `count` words from `first` on. It goes from span to span.
-fn has_rights<M: Read>(machine: &M, domain: u32, first: u32, count: u32) -> bool
-    requires domain { IsModule (length (M.meaning machine.now).core.modules) domain }
-    requires inside { first + count ≤ (M.meaning machine.now).core.size }
-    ensures { result ≡ has_rights (domain_map (M.meaning machine.now) domain) first count }
+fn has_rights<T: PermTables, const N: usize>(
+    machine: &Machine<T, N>,
+    domain: u32,
+    first: u32,
+    count: u32,
+) -> bool
+    requires domain { IsModule (length machine.now.core.modules) domain }
+    requires inside { first + count ≤ machine.now.core.size }
+    ensures { result ≡ has_rights (domain_map machine.now domain) first count }
 {
-    machine.machine_is_valid();
+    machine_is_valid(machine);
     let end = first + count;
     let mut word = first;
     'spans: while word < end {
@@ -208,13 +223,13 @@ fn put_shown<R: Sink>(
     )
 }
 
-pub(crate) fn put_counts<R: Sink, M: Read>(
+pub(crate) fn put_counts<R: Sink, T: PermTables, const N: usize>(
     tail: &mut Tail,
     sink: &mut R,
-    machine: &M,
+    machine: &Machine<T, N>,
 ) -> Result<(), Failed>
     ensures { Passes tail.old (R.state sink.old) (R.state sink.new) tail.new
-        (counts_lines (M.meaning machine.now).core) result }
+        (counts_lines machine.now.core) result }
 {
     for hart in 0..machine.harts() {
         put_hart_counts(tail, sink, hart, &machine.counts(hart))?;

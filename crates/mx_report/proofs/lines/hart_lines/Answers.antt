@@ -2,4 +2,4 @@ use Rattle.mx_report.proofs.PassLaws.{whole_end}
 use Rattle.mx_report.proofs.lines.hart_lines.Goals as goal
 
 pub returns : goal.returns
-returns g c = λ x v. whole_end c.new-tail.ensures (c.in_ok-put_hart.ensures x v) c.end.ensures.puts
+returns g c = whole_end c.new-tail.ensures c.in_ok-put_hart.ensures c.end.ensures.puts

@@ -1,4 +1,4 @@
-use Rattle.std.proofs.Common.{◌≡◌, ◌≤◌, length, drop, ap, arith}
+use Rattle.std.proofs.Common.{drop, ap, arith}
 use Rattle.std.proofs.lemmas.Result.{err_from_is_err_and}
 use Rattle.mx_words.specs.Rights.{same}
 use Rattle.mx_words.specs.Runs.{runs_of}
@@ -16,7 +16,7 @@ runs-init g c = record { within = omega arith; coming = coming_all _ _ _ }
 
 pub returns-in_err-put_map : goal.returns-in_err-put_map
 returns-in_err-put_map g c =
-    let f = g.M.Read.meaning c.args.machine.now in
+    let f = c.args.machine.now in
     let m = map_in f.core.size f.maps c.args.domain in
     let text = map_text c.args.domain in
     let end = c.run_end-end.result in
@@ -27,7 +27,7 @@ returns-in_err-put_map g c =
 
 pub runs-preserved : goal.runs-preserved
 runs-preserved g c =
-    let f = g.M.Read.meaning c.args.machine.now in
+    let f = c.args.machine.now in
     let m = map_in f.core.size f.maps c.args.domain in
     let text = map_text c.args.domain in
     let end = c.run_end-end.result in
@@ -40,6 +40,6 @@ runs-preserved g c =
 
 pub returns : goal.returns
 returns g c =
-    let f = g.M.Read.meaning c.args.machine.now in
+    let f = c.args.machine.now in
     let m = map_in f.core.size f.maps c.args.domain in
     coming_none (coming_same (map_behind (map_text c.args.domain) m c.runs.word (omega (arith, c.runs-test.false, c.words.ensures, c.machine_is_valid.ensures.whole c.args.domain c.requires))) c.runs.invariant.coming)

@@ -10,7 +10,7 @@ use Rattle.mx_report.proofs.maps.put_maps.Given as goal
 
 abbrev pub invariant-runs : goal.invariant-runs
 invariant-runs g l =
-    let f = g.M.Read.meaning l.machine in
+    let f = l.machine in
     let m = map_in f.core.size f.maps l.domain in
     record {
       within : l.word ≤ f.core.size;
@@ -18,4 +18,4 @@ invariant-runs g l =
     }
 
 abbrev pub decreases-runs : goal.decreases-runs
-decreases-runs g l = (g.M.Read.meaning l.machine).core.size - l.word
+decreases-runs g l = l.machine.core.size - l.word

@@ -1,12 +1,11 @@
-use Rattle.std.proofs.Common.{◌≡◌, ◌<◌, ◌≤◌, ◌+◌, length, sym, ◌∙◌, arith}
-use Rattle.mx_words.specs.Rights.{perm_at}
+use Rattle.std.proofs.Common.{◌<◌, sym, ◌∙◌, arith}
 use Rattle.mx_model.specs.Reads.{map_in}
 use Rattle.mx_report.proofs.MapLaws.{differ_ne, differ_eq, round_perm, alike_span, alike_more, alike_stop, alike_end, walk_round}
 use Rattle.mx_report.proofs.maps.run_end.Goals as goal
 
 pub overflow_add-end : goal.overflow_add-end
 overflow_add-end g c =
-    let f = g.M.Read.meaning c.args.machine.now in
+    let f = c.args.machine.now in
     let m = map_in f.core.size f.maps c.args.domain in
     let whole = c.machine_is_valid.ensures.whole c.args.domain c.requires.domain in
     let few = c.machine_is_valid.ensures.valid.few_words in
@@ -17,7 +16,7 @@ overflow_add-end g c =
 
 pub spans-init : goal.spans-init
 spans-init g c =
-    let f = g.M.Read.meaning c.args.machine.now in
+    let f = c.args.machine.now in
     let m = map_in f.core.size f.maps c.args.domain in
     let whole = c.machine_is_valid.ensures.whole c.args.domain c.requires.domain in
     let few = c.machine_is_valid.ensures.valid.few_words in
@@ -27,7 +26,7 @@ spans-init g c =
 
 pub returns-then-differ : goal.returns-then-differ
 returns-then-differ g c =
-    let f = g.M.Read.meaning c.args.machine.now in
+    let f = c.args.machine.now in
     let m = map_in f.core.size f.maps c.args.domain in
     let whole = c.machine_is_valid.ensures.whole c.args.domain c.requires.domain in
     let few = c.machine_is_valid.ensures.valid.few_words in
@@ -39,7 +38,7 @@ returns-then-differ g c =
 
 pub overflow_add-end-in-spans : goal.overflow_add-end-in-spans
 overflow_add-end-in-spans g c =
-    let f = g.M.Read.meaning c.args.machine.now in
+    let f = c.args.machine.now in
     let m = map_in f.core.size f.maps c.args.domain in
     let whole = c.machine_is_valid.ensures.whole c.args.domain c.requires.domain in
     let few = c.machine_is_valid.ensures.valid.few_words in
@@ -50,7 +49,7 @@ overflow_add-end-in-spans g c =
 
 pub spans-smaller : goal.spans-smaller
 spans-smaller g c =
-    let f = g.M.Read.meaning c.args.machine.now in
+    let f = c.args.machine.now in
     let m = map_in f.core.size f.maps c.args.domain in
     let whole = c.machine_is_valid.ensures.whole c.args.domain c.requires.domain in
     let few = c.machine_is_valid.ensures.valid.few_words in
@@ -61,7 +60,7 @@ spans-smaller g c =
 
 pub spans-preserved : goal.spans-preserved
 spans-preserved g c =
-    let f = g.M.Read.meaning c.args.machine.now in
+    let f = c.args.machine.now in
     let m = map_in f.core.size f.maps c.args.domain in
     let whole = c.machine_is_valid.ensures.whole c.args.domain c.requires.domain in
     let few = c.machine_is_valid.ensures.valid.few_words in
@@ -73,7 +72,7 @@ spans-preserved g c =
 
 pub returns : goal.returns
 returns g c =
-    let f = g.M.Read.meaning c.args.machine.now in
+    let f = c.args.machine.now in
     let m = map_in f.core.size f.maps c.args.domain in
     let whole = c.machine_is_valid.ensures.whole c.args.domain c.requires.domain in
     alike_end m c.args.word c.spans.end c.spans.invariant (omega (arith, whole, c.spans-test.false, c.words.ensures))

@@ -1,4 +1,4 @@
-use Rattle.std.proofs.Common.{◌≡◌, ◌≢◌, ◌==◌, ◌<◌, ◌≤◌, length, drop, ap, arith}
+use Rattle.std.proofs.Common.{◌==◌, drop, ap, arith}
 use Rattle.std.proofs.lemmas.Result.{err_from_is_err_and}
 use Rattle.mx_words.specs.Runs.{runs_of}
 use Rattle.mx_report.specs.Lines.{owner_text}
@@ -14,7 +14,7 @@ runs-init g c = record { within = omega arith; coming = coming_all _ _ _ }
 
 pub returns-in_err-put_owner : goal.returns-in_err-put_owner
 returns-in_err-put_owner g c =
-    let os = (g.M.Read.meaning c.args.machine.now).owners in
+    let os = c.args.machine.now.owners in
     let end = c.owner_end-end.result in
     let run = c.owner_end-end.ensures in
     let whole = c.machine_is_valid.ensures.owners in
@@ -26,7 +26,7 @@ returns-in_err-put_owner g c =
 
 pub runs-preserved : goal.runs-preserved
 runs-preserved g c =
-    let os = (g.M.Read.meaning c.args.machine.now).owners in
+    let os = c.args.machine.now.owners in
     let end = c.owner_end-end.result in
     let run = c.owner_end-end.ensures in
     let whole = c.machine_is_valid.ensures.owners in
@@ -39,5 +39,5 @@ runs-preserved g c =
 
 pub returns : goal.returns
 returns g c =
-    let os = (g.M.Read.meaning c.args.machine.now).owners in
+    let os = c.args.machine.now.owners in
     coming_none (coming_same (owners_behind owner_text os c.runs.word (omega (arith, c.runs-test.false, c.words.ensures, c.machine_is_valid.ensures.owners))) c.runs.invariant.coming)

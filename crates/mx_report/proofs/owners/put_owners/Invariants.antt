@@ -8,11 +8,11 @@ use Rattle.mx_report.proofs.owners.put_owners.Given as goal
 
 abbrev pub invariant-runs : goal.invariant-runs
 invariant-runs g l =
-    let os = (g.M.Read.meaning l.machine).owners in
+    let os = l.machine.owners in
     record {
-      within : l.word ≤ (g.M.Read.meaning l.machine).core.size;
+      within : l.word ≤ l.machine.core.size;
       coming : Coming l.initial.tail (g.R.Sink.state l.initial.sink) (owner_lines os) l.tail (g.R.Sink.state l.sink) (run_texts owner_text l.word (runs_of (λ a b. a == b) (drop l.word os)));
     }
 
 abbrev pub decreases-runs : goal.decreases-runs
-decreases-runs g l = (g.M.Read.meaning l.machine).core.size - l.word
+decreases-runs g l = l.machine.core.size - l.word

@@ -1,5 +1,4 @@
-use Rattle.std.proofs.Common.{◌≡◌, ◌<◌, ◌≤◌, ◌+◌, length, sym, ◌∙◌, arith}
-use Rattle.mx_words.specs.Rights.{perm_at}
+use Rattle.std.proofs.Common.{◌<◌, sym, ◌∙◌, arith}
 use Rattle.mx_model.specs.Reads.{map_in}
 use Rattle.mx_words.specs.declared.perm.Perm.TheVariants as P
 use Rattle.mx_report.proofs.MapLaws.{differ_ne, differ_eq, round_perm, walk_round, some_right, no_right, none_more}
@@ -7,7 +6,7 @@ use Rattle.mx_report.proofs.tables.has_rights.Goals as goal
 
 pub returns-then-differ : goal.returns-then-differ
 returns-then-differ g c =
-    let f = g.M.Read.meaning c.args.machine.now in
+    let f = c.args.machine.now in
     let m = map_in f.core.size f.maps c.args.domain in
     let whole = c.machine_is_valid.ensures.whole c.args.domain c.requires.domain in
     let few = c.machine_is_valid.ensures.valid.few_words in
@@ -19,7 +18,7 @@ returns-then-differ g c =
 
 pub overflow_add-word : goal.overflow_add-word
 overflow_add-word g c =
-    let f = g.M.Read.meaning c.args.machine.now in
+    let f = c.args.machine.now in
     let m = map_in f.core.size f.maps c.args.domain in
     let whole = c.machine_is_valid.ensures.whole c.args.domain c.requires.domain in
     let few = c.machine_is_valid.ensures.valid.few_words in
@@ -30,7 +29,7 @@ overflow_add-word g c =
 
 pub spans-smaller : goal.spans-smaller
 spans-smaller g c =
-    let f = g.M.Read.meaning c.args.machine.now in
+    let f = c.args.machine.now in
     let m = map_in f.core.size f.maps c.args.domain in
     let whole = c.machine_is_valid.ensures.whole c.args.domain c.requires.domain in
     let few = c.machine_is_valid.ensures.valid.few_words in
@@ -41,7 +40,7 @@ spans-smaller g c =
 
 pub spans-preserved : goal.spans-preserved
 spans-preserved g c =
-    let f = g.M.Read.meaning c.args.machine.now in
+    let f = c.args.machine.now in
     let m = map_in f.core.size f.maps c.args.domain in
     let whole = c.machine_is_valid.ensures.whole c.args.domain c.requires.domain in
     let few = c.machine_is_valid.ensures.valid.few_words in
@@ -56,6 +55,6 @@ spans-preserved g c =
 
 pub returns : goal.returns
 returns g c =
-    let f = g.M.Read.meaning c.args.machine.now in
+    let f = c.args.machine.now in
     let m = map_in f.core.size f.maps c.args.domain in
     sym (no_right m c.args.first c.args.count (λ w lo hi. c.spans.invariant.none w lo (omega (arith, c.spans-test.false))))

@@ -7,7 +7,7 @@ use Rattle.mx_report.proofs.tables.has_rights.Given as goal
 -- none of the words so far has a permission
 abbrev pub invariant-spans : goal.invariant-spans
 invariant-spans g l =
-    let f = g.M.Read.meaning l.machine in
+    let f = l.machine in
     record {
       low : l.first ≤ l.word;
       none : (w : ℕ) → l.first ≤ w → w < l.word → perm_at (map_in f.core.size f.maps l.domain) w ≡ P.None;

@@ -1,18 +1,18 @@
-use Rattle.std.proofs.Common.{◌≡◌, ◌+◌, ◌-◌, ◌<◌, ◌≤◌, length, flat_map, sym, ap, ◌∙◌, arith}
+use Rattle.std.proofs.Common.{rules, ◌≡◌, ◌+◌, ◌-◌, ◌<◌, ◌≤◌, length, flat_map, sym, ap, ◌∙◌, arith}
 use Rattle.std.specs.List.{range_with_len}
 use Rattle.std.proofs.lemmas.Result.{err_from_is_err_and}
 use Rattle.mx_words.specs.declared.tables.Shown.{Shown}
 use Rattle.mx_words.specs.Reach.{stored}
 use Rattle.mx_model.specs.Reads.{map_in}
 use Rattle.mx_report.specs.Texts.{item_text, shown_text, shown_lines}
-use Rattle.mx_report.proofs.PassLaws.{passes_same, coming_all, coming_same, coming_next, coming_stop, coming_numbers, coming_range}
+use Rattle.mx_report.proofs.PassLaws.{passes_same, coming_same, coming_next, coming_stop, coming_numbers, coming_range}
 use Rattle.mx_report.proofs.ItemLaws.{items_from, next_begins, stored_round, shown_round}
 use Rattle.mx_report.proofs.tables.put_domain_items.Goals as goal
 
 pub items-init : goal.items-init
 unfolding shown_lines
 items-init g c =
-    let f = g.M.Read.meaning c.args.machine.now in
+    let f = c.args.machine.now in
     let m = map_in f.core.size f.maps c.args.domain in
     record {
       within = omega arith;
@@ -20,17 +20,19 @@ items-init g c =
       coming = coming_range _ _ (item_text c.args.domain f.core.kind m) 0 (length m) (length m - 0) (omega arith);
     }
 
-pub put_item-requires-clause-inside : goal.put_item-requires-clause-inside
-put_item-requires-clause-inside g c =
-    let f = g.M.Read.meaning c.args.machine.now in
+pub put_item-requires : goal.put_item-requires
+put_item-requires g c =
+    let f = c.args.machine.now in
     let whole = c.machine_is_valid.ensures.whole c.args.domain c.requires in
     let lt : c.items.word < f.core.size = omega (arith, c.items-test.true, c.words.ensures) in
     let inside = (shown_round f c.args.domain c.items.word c.shown-item.result c.shown-item.ensures whole lt).inside in
-    omega (arith, whole, inside)
+    let fits : c.shown-item.result.first + c.shown-item.result.count ≤ f.core.size = omega (arith, whole, inside) in
+    let valid = c.requires in
+    search rules
 
 pub returns-in_err-put_item : goal.returns-in_err-put_item
 returns-in_err-put_item g c =
-    let f = g.M.Read.meaning c.args.machine.now in
+    let f = c.args.machine.now in
     let m = map_in f.core.size f.maps c.args.domain in
     let whole = c.machine_is_valid.ensures.whole c.args.domain c.requires in
     let lt : c.items.word < length m = omega (arith, c.items-test.true, c.words.ensures, whole) in
@@ -43,7 +45,7 @@ returns-in_err-put_item g c =
 
 pub overflow_add-word : goal.overflow_add-word
 overflow_add-word g c =
-    let f = g.M.Read.meaning c.args.machine.now in
+    let f = c.args.machine.now in
     let whole = c.machine_is_valid.ensures.whole c.args.domain c.requires in
     let lt : c.items.word < f.core.size = omega (arith, c.items-test.true, c.words.ensures) in
     let inside = (shown_round f c.args.domain c.items.word c.shown-item.result c.shown-item.ensures whole lt).inside in
@@ -52,7 +54,7 @@ overflow_add-word g c =
 
 pub items-smaller : goal.items-smaller
 items-smaller g c =
-    let f = g.M.Read.meaning c.args.machine.now in
+    let f = c.args.machine.now in
     let whole = c.machine_is_valid.ensures.whole c.args.domain c.requires in
     let lt : c.items.word < f.core.size = omega (arith, c.items-test.true, c.words.ensures) in
     let right = (shown_round f c.args.domain c.items.word c.shown-item.result c.shown-item.ensures whole lt).right in
@@ -60,7 +62,7 @@ items-smaller g c =
 
 pub items-preserved : goal.items-preserved
 items-preserved g c =
-    let f = g.M.Read.meaning c.args.machine.now in
+    let f = c.args.machine.now in
     let m = map_in f.core.size f.maps c.args.domain in
     let whole = c.machine_is_valid.ensures.whole c.args.domain c.requires in
     let small : c.items.word < f.core.size = omega (arith, c.items-test.true, c.words.ensures) in
@@ -79,7 +81,7 @@ items-preserved g c =
 
 pub returns : goal.returns
 returns g c =
-    let f = g.M.Read.meaning c.args.machine.now in
+    let f = c.args.machine.now in
     let m = map_in f.core.size f.maps c.args.domain in
     let whole = c.machine_is_valid.ensures.whole c.args.domain c.requires in
     coming_numbers (item_text c.args.domain f.core.kind m) c.items.word (length m - c.items.word) (omega (arith, c.items-test.false, c.words.ensures, whole)) c.items.invariant.coming

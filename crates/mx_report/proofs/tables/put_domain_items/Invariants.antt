@@ -9,7 +9,7 @@ use Rattle.mx_report.proofs.tables.put_domain_items.Given as goal
 -- an item begins at the word
 abbrev pub invariant-items : goal.invariant-items
 invariant-items g l =
-    let f = g.M.Read.meaning l.machine in
+    let f = l.machine in
     let m = map_in f.core.size f.maps l.domain in
     record {
       within : l.word ≤ f.core.size;
@@ -19,4 +19,4 @@ invariant-items g l =
     }
 
 abbrev pub decreases-items : goal.decreases-items
-decreases-items g l = (g.M.Read.meaning l.machine).core.size - l.word
+decreases-items g l = l.machine.core.size - l.word

@@ -7,6 +7,6 @@ use Rattle.mx_report.proofs.tables.put_items.Given as goal
 
 abbrev pub invariant-loop-i : goal.invariant-loop-i
 invariant-loop-i g l =
-    let f = g.M.Read.meaning l.machine in
+    let f = l.machine in
     Coming l.initial.tail (g.R.Sink.state l.initial.sink) (all_items f.core (flat_told f)) l.tail (g.R.Sink.state l.sink)
     (flat_map (λ d. shown_lines d f.core.kind (map_in f.core.size f.maps d)) (range_with_len (l.i + 1) (length f.core.modules - l.i)))

@@ -1,4 +1,4 @@
-use Rattle.std.proofs.Common.{◌≡◌, ◌<◌, ◌+◌, length, drop, arith, refl}
+use Rattle.std.proofs.Common.{◌+◌, drop, refl}
 use Rattle.std.proofs.lemmas.List.{drop_all}
 use Rattle.std.proofs.lemmas.Result.{err_from_is_err_and}
 use Rattle.mx_report.proofs.TailLaws.{adding_all, adding_same, adding_next, adding_stop, adding_none, one_more}
