@@ -24,4 +24,5 @@ pub mod Rowed
 pub mod Rowing
 pub mod Rows
 pub mod Started
+pub mod Starting
 pub mod Steps

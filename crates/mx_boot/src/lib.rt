@@ -2,7 +2,9 @@
 #![tactic(auto)]
 
 mod area;
+mod any;
 mod areas;
+mod booting;
 mod entries;
 mod files;
 mod gates;
@@ -12,13 +14,17 @@ mod home;
 mod joined;
 mod laws;
 mod layout;
+mod machine;
 mod owners;
 mod ram;
 mod refused;
 mod starts;
 mod tables;
 
+pub use any::{AnyMachine, any_machine_is_valid};
 pub use area::Area;
+pub use booting::boot;
 pub use laws::boots_are_valid;
 pub use layout::{Layout, lay_out};
 pub use refused::{BootRefused, LayoutRefused};
+

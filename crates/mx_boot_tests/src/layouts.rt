@@ -6,7 +6,7 @@ use mx_words::{Blob, NoMemory};
 use std::alloc::Global;
 use std::test::Fail;
 
-mod accepted;
+pub(crate) mod accepted;
 mod faults;
 mod image;
 
@@ -17,6 +17,8 @@ pub(crate) enum File {
     None,
     /// So many zero bytes.
     Zeros(u32),
+    /// The front of an image, whose two program headers pass its end.
+    Headers,
     /// The image of `image::IMAGE`.
     Image,
     /// The image with another byte at a place.
@@ -54,16 +56,25 @@ fn changed(alloc: Global, at: u32, byte: u8) -> Result<Blob, NoMemory> {
     blob(alloc, &bytes)
 }
 
+/// The first 100 bytes of the image, whose header tells two program headers at 52.
+fn headers(alloc: Global) -> Result<Blob, NoMemory> {
+    let mut bytes = image::IMAGE;
+    bytes[44] = 2;
+    blob(alloc, &bytes[..100])
+}
+
 fn blob_of(alloc: Global, file: File) -> Result<Blob, NoMemory> {
     match file {
         File::None => Ok(Blob::new(alloc)),
         File::Zeros(count) => zeros(alloc, count),
+        File::Headers => headers(alloc),
         File::Image => blob(alloc, &image::IMAGE),
         File::Changed(at, byte) => changed(alloc, at, byte),
     }
 }
 
-fn files(alloc: Global, files: &[File]) -> Result<Vec<Blob>, NoMemory> {
+/// The files of modules.
+pub(crate) fn blobs_of(alloc: Global, files: &[File]) -> Result<Vec<Blob>, NoMemory> {
     let mut blobs = Vec::new(alloc);
     for each in files {
         let blob = blob_of(alloc, *each)?;
@@ -82,7 +93,7 @@ pub(crate) fn judge(alloc: Global, text: &str, images: &[File]) -> Result<Layout
     let Ok(plan) = read_manifest(alloc, &table) else {
         return Err(LayoutRefused::NoMemory);
     };
-    match files(alloc, images) {
+    match blobs_of(alloc, images) {
         Ok(blobs) => lay_out(alloc, &plan, blobs.as_slice()),
         Err(_) => Err(LayoutRefused::NoMemory),
     }

@@ -10,7 +10,7 @@ use std::test::Fail;
 
 /// A module with an image, whose .data is writable and executable by one byte of the file, with a heap area, and a stack area of three
 /// words for each hart; and one with inline words right behind the last word of .bss.
-const MODULES: &str = "[[module]]
+pub(crate) const MODULES: &str = "[[module]]
 name = \"a\"
 image = \"a.elf\"
 wx = \"rx\"
@@ -29,7 +29,8 @@ gates = [{ entry = 0x80001020, from = [\"a\"] }]
 returns = [0x80001020]
 ";
 
-const HARTS: &str = "[[hart]]
+/// Four harts, of which two begin where the manifest says it.
+pub(crate) const HARTS: &str = "[[hart]]
 module = \"a\"
 [[hart]]
 module = \"a\"
