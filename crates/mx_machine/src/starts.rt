@@ -243,7 +243,7 @@ impl HartStates {
     }
 }
 
-/// A law: there are at most 4 starts, and each pc is a number of 32 bits. A machine that starts is valid only with such.
+/// A law: there are at most 4 starts, and each pc is a number of 32 bits.
 pub(crate) fn starts_of(starts: &Starts)
     ensures few { length starts.now ≤ 4 }
     ensures small { AllByRecursion IsSmallStart starts.now }
@@ -256,15 +256,13 @@ pub(crate) fn starts_of(starts: &Starts)
     }
 }
 
-/// The same of one start.
 fn start_of(start: &HartStart)
     ensures { IsSmallStart start.now }
 {
     let _pc = start.pc;
 }
 
-/// A law: there are at most 4 states, each with at most 64 frames, and what they hold are numbers of 32 bits. A machine that resumes
-/// is valid only with such.
+/// A law: there are at most 4 states, each with at most 64 frames, and what they hold are numbers of 32 bits.
 pub(crate) fn states_of(states: &HartStates)
     ensures few { length states.now ≤ 4 }
     ensures small { AllByRecursion IsSmallState states.now }
@@ -277,7 +275,6 @@ pub(crate) fn states_of(states: &HartStates)
     }
 }
 
-/// The same of one state.
 fn state_of(state: &HartState)
     ensures { IsSmallState state.now }
 {
@@ -286,14 +283,12 @@ fn state_of(state: &HartState)
     frames_of(&state.frames);
 }
 
-/// The same of registers.
 fn registers_of(regs: &[u32; 32])
     ensures { AreSmall 32 regs.now }
 {
     let _first = regs[0];
 }
 
-/// The same of frames.
 fn frames_of(frames: &CrossStack)
     ensures { AreSmallFrames frames.now }
 {
@@ -305,7 +300,6 @@ fn frames_of(frames: &CrossStack)
     }
 }
 
-/// The same of one frame.
 fn frame_of(frame: &Frame)
     ensures { IsSmallFrame frame.now }
 {
@@ -313,7 +307,6 @@ fn frame_of(frame: &Frame)
     kept_of(&frame.kept);
 }
 
-/// The same of saved registers.
 fn kept_of(kept: &[u32; 15])
     ensures { AreSmall 15 kept.now }
 {
