@@ -26,3 +26,4 @@ pub mod Rows
 pub mod Started
 pub mod Starting
 pub mod Steps
+pub mod Ready

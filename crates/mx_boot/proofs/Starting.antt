@@ -1,30 +1,24 @@
 -- The machine that starts with the parts of a plan without a fault is the flat state at boot.
-use Rattle.std.proofs.Common.{◌≡◌, ◌⊎◌, inl, inr, ℕ, zero, suc, ◌+◌, ◌-◌, ◌*◌, ◌/◌, ◌%◌, ◌<◌, ◌≤◌, Bool, true, false, cond, nat_eq, ◌==◌, List, [], ◌∷◌, ◌++◌, length, get_or, set, map, replicate, slice_get, Option, Some, None, IfSome, unwrap_or, option_map, refl, ap, ◌∙◌, sym, subst, arith, mul_assoc}
-use Rattle.std.specs.List.{AllByRecursion, enumerate_from, flat_map}
+use Rattle.std.proofs.Common.{◌≡◌, inl, inr, ℕ, zero, suc, ◌+◌, ◌-◌, ◌*◌, ◌/◌, ◌%◌, ◌≤◌, true, false, cond, ◌==◌, List, [], ◌∷◌, ◌++◌, length, get_or, set, map, replicate, slice_get, Option, Some, None, IfSome, option_map, refl, ap, ◌∙◌, sym, subst, arith, mul_assoc}
+use Rattle.std.specs.List.{AllByRecursion, enumerate_from}
 use Rattle.std.specs.Option.{is_some, option_map_or}
 use Rattle.std.proofs.lemmas.Bool.Decides.{nat_tests}
 use Rattle.std.proofs.lemmas.List.{length-map}
-use Rattle.std.proofs.lemmas.Option.{get_or_from_slice_get, slice_get_within}
+use Rattle.std.proofs.lemmas.Option.{get_or_from_slice_get}
 use Rattle.mx_words.specs.Caches.{Cache, no_cache}
-use Rattle.mx_words.specs.FirstRow.{first_row}
 use Rattle.mx_words.specs.Ranges.{address_of}
 use Rattle.mx_check.specs.Calls.{new_harts}
 use Rattle.mx_check.specs.Harts.{Kept, new_hart}
-use Rattle.mx_check.specs.Harts as check
-use Rattle.mx_model.specs.State.{Core, Flat, Hart, Module, Stack, State, Running, flat, module_at, no_module}
-use Rattle.mx_model.specs.Valid.{IsHart, IsHome}
-use Rattle.mx_supervisor.specs.Parts.{Parts, modules_from}
-use Rattle.mx_table.specs.Tables.{IsDomain}
+use Rattle.mx_model.specs.State.{Core, Flat, Hart, Module, Stack, Running, flat, module_at, no_module}
+use Rattle.mx_model.specs.Valid.{IsHome}
+use Rattle.mx_supervisor.specs.Parts.{modules_from}
 use Rattle.mx_machine.specs.Harts.{seen_from}
-use Rattle.mx_machine.specs.Held.{area_of, behind, beside, homes_from, home, no_area, state_of, told}
-use Rattle.mx_machine.specs.Held as held
-use Rattle.mx_machine.specs.Starts.{IsStack, IsStart, MayStart, none_dead, started, started_from, started_hart}
-use Rattle.mx_machine.specs.declared.starts.HartStart.{HartStart}
+use Rattle.mx_machine.specs.Held.{area_of, behind, beside, homes_from, home, no_area, told}
+use Rattle.mx_machine.specs.Starts.{IsStack, IsStart, MayStart, none_dead, started, started_from}
 use Rattle.mx_machine.specs.declared.starts.StackArea.{StackArea}
 use Rattle.mx_manifest.specs.declared.parts.HartPlan.{HartPlan}
 use Rattle.mx_manifest.specs.declared.parts.ModulePlan.{ModulePlan}
 use Rattle.mx_manifest.specs.InRange.{IsAligned, IsBetween, IsInRange}
-use Rattle.mx_manifest.specs.InRange as range
 use Rattle.mx_manifest.specs.Plan.{Said}
 use Rattle.mx_boot.specs.Areas.{stack_words, stack_area, stacks, pieces, heaps, areas}
 use Rattle.mx_boot.specs.Areas as areas_spec

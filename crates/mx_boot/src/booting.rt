@@ -5,8 +5,9 @@ ghost use Rattle.mx_boot.specs.Laid.{IsLayout};
 ghost use Rattle.mx_boot.specs.Machines.{IsBooted};
 
 use crate::any::AnyMachine;
+use crate::joined::join;
 use crate::layout::{Layout, lay_out};
-use crate::machine::machine;
+use crate::machine::machine_of;
 use crate::refused::{BootRefused, LayoutRefused};
 use mx_manifest::Plan;
 use mx_packed::Packed;
@@ -16,9 +17,9 @@ use mx_words::{Blob, Kind};
 use std::alloc::Global;
 
 macro_rules! made {
-    ($variant:ident, $call:expr) => {
-        match $call {
-            Ok(machine) => Ok(AnyMachine::$variant(machine)),
+    ($variant:ident, $plan:ident, $images:ident, $layout:ident, $parts:expr) => {
+        match $parts {
+            Ok(parts) => Ok(AnyMachine::$variant(machine_of($plan, $images, $layout, parts))),
             Err(refused) => Err(refused),
         }
     };
@@ -36,9 +37,27 @@ fn with_segments(
     ensures { IsBooted plan.now images.now result }
 {
     match plan.lookaside() {
-        8 => made!(Segments8, machine::<Segments, 8>(alloc, plan, images, layout)),
-        32 => made!(Segments32, machine::<Segments, 32>(alloc, plan, images, layout)),
-        _ => made!(Segments64, machine::<Segments, 64>(alloc, plan, images, layout)),
+        8 => made!(
+            Segments8,
+            plan,
+            images,
+            layout,
+            join::<Segments, 8>(alloc, plan, images, layout)
+        ),
+        32 => made!(
+            Segments32,
+            plan,
+            images,
+            layout,
+            join::<Segments, 32>(alloc, plan, images, layout)
+        ),
+        _ => made!(
+            Segments64,
+            plan,
+            images,
+            layout,
+            join::<Segments, 64>(alloc, plan, images, layout)
+        ),
     }
 }
 
@@ -54,9 +73,27 @@ fn with_multilevel(
     ensures { IsBooted plan.now images.now result }
 {
     match plan.lookaside() {
-        8 => made!(Multilevel8, machine::<Trie<Vector>, 8>(alloc, plan, images, layout)),
-        32 => made!(Multilevel32, machine::<Trie<Vector>, 32>(alloc, plan, images, layout)),
-        _ => made!(Multilevel64, machine::<Trie<Vector>, 64>(alloc, plan, images, layout)),
+        8 => made!(
+            Multilevel8,
+            plan,
+            images,
+            layout,
+            join::<Trie<Vector>, 8>(alloc, plan, images, layout)
+        ),
+        32 => made!(
+            Multilevel32,
+            plan,
+            images,
+            layout,
+            join::<Trie<Vector>, 32>(alloc, plan, images, layout)
+        ),
+        _ => made!(
+            Multilevel64,
+            plan,
+            images,
+            layout,
+            join::<Trie<Vector>, 64>(alloc, plan, images, layout)
+        ),
     }
 }
 
@@ -72,9 +109,27 @@ fn with_packed(
     ensures { IsBooted plan.now images.now result }
 {
     match plan.lookaside() {
-        8 => made!(Packed8, machine::<Trie<Packed>, 8>(alloc, plan, images, layout)),
-        32 => made!(Packed32, machine::<Trie<Packed>, 32>(alloc, plan, images, layout)),
-        _ => made!(Packed64, machine::<Trie<Packed>, 64>(alloc, plan, images, layout)),
+        8 => made!(
+            Packed8,
+            plan,
+            images,
+            layout,
+            join::<Trie<Packed>, 8>(alloc, plan, images, layout)
+        ),
+        32 => made!(
+            Packed32,
+            plan,
+            images,
+            layout,
+            join::<Trie<Packed>, 32>(alloc, plan, images, layout)
+        ),
+        _ => made!(
+            Packed64,
+            plan,
+            images,
+            layout,
+            join::<Trie<Packed>, 64>(alloc, plan, images, layout)
+        ),
     }
 }
 

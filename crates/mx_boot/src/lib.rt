@@ -1,8 +1,8 @@
 //! The loader: what a plan and its images give at boot, or the first of the faults 10 to 17.
 #![tactic(auto)]
 
-mod area;
 mod any;
+mod area;
 mod areas;
 mod booting;
 mod entries;
@@ -27,4 +27,3 @@ pub use booting::boot;
 pub use laws::boots_are_valid;
 pub use layout::{Layout, lay_out};
 pub use refused::{BootRefused, LayoutRefused};
-

@@ -1,23 +1,22 @@
 //! The machine at boot.
 
-ghost use Rattle.std.specs.Prelude.{◌≡◌, ℕ, ◌≤◌, Ok, length, map, IfOk, IfErr};
+ghost use Rattle.std.specs.Prelude.{◌≡◌, ℕ, ◌≤◌, length, map};
 ghost use Rattle.mx_manifest.specs.declared.parts.HartPlan.{HartPlan};
 ghost use Rattle.mx_model.specs.State.{flat};
-ghost use Rattle.mx_boot.specs.Boot.{boot_of, boot_state};
-ghost use Rattle.mx_boot.specs.Booted.{IsRefusedBy};
+ghost use Rattle.mx_supervisor.specs.Parts.{parts_of};
+ghost use Rattle.mx_boot.specs.Boot.{boot_state};
+ghost use Rattle.mx_boot.specs.Joined.{boot_parts};
 ghost use Rattle.mx_boot.specs.Laid.{IsLayout};
 ghost use Rattle.mx_boot.specs.Starting.{hart_start_of, stack_area_of, stack_areas};
 
 use crate::entries::word_at;
 use crate::home::in_range;
-use crate::joined::join;
 use crate::layout::Layout;
-use crate::refused::BootRefused;
 use mx_machine::{HartStart, Machine, StackArea, Stacks, Starts};
 use mx_manifest::{ModulePlan, Plan};
+use mx_supervisor::Supervisor;
 use mx_table::PermTables;
 use mx_words::Blob;
-use std::alloc::Global;
 
 /// The stack area of a module.
 fn stack_area(plan: &ModulePlan) -> StackArea
@@ -67,26 +66,19 @@ fn starts(plan: &Plan, pcs: &[u32]) -> Starts
     starts
 }
 
-/// The machine of a plan that is laid out; or what its tables need, where that exceeds the limit.
-pub(crate) fn machine<T: PermTables, const N: usize>(
-    alloc: Global,
+/// The machine of a plan that is laid out, over its parts.
+pub(crate) fn machine_of<T: PermTables, const N: usize>(
     plan: &Plan,
     images: &[Blob],
     layout: &Layout,
-) -> Result<Machine<T, N>, BootRefused>
+    parts: Supervisor<T, N>,
+) -> Machine<T, N>
     requires layout { IsLayout plan.now images.now layout.now }
-    requires kind { T.kind ≡ plan.now.tables }
-    requires buffer { N ≡ plan.now.lookaside }
-    ensures boot { IfOk result (λ m. boot_of plan.now images.now ≡ Ok (boot_state plan.now images.now)) }
-    ensures machine { IfOk result (λ m. m ≡ flat (boot_state plan.now images.now)) }
-    ensures refused { IfErr result (IsRefusedBy (boot_of plan.now images.now)) }
+    requires parts { parts_of T.kind T.maps T.size T.limits N parts ≡ boot_parts plan.now images.now }
+    ensures { result ≡ flat (boot_state plan.now images.now) }
 {
     in_range(plan);
-    let parts = match join::<T, N>(alloc, plan, images, layout) {
-        Ok(parts) => parts,
-        Err(refused) => return Err(refused),
-    };
     let starts = starts(plan, layout.starts.as_slice());
     let stacks = stacks(plan);
-    Ok(Machine::new(parts, &starts, &stacks))
+    Machine::new(parts, &starts, &stacks)
 }

@@ -1,7 +1,5 @@
-//! Tests of the loader: layouts of plans with their images, the first fault of each, and machines at boot.
+//! Tests of the loader: layouts of plans with their images, and the first fault of each.
 #![tactic(auto)]
 
-#[cfg(test)]
-mod boots;
 #[cfg(test)]
 mod layouts;
