@@ -3,7 +3,6 @@
 ghost use Rattle.std.specs.Prelude.{◌≡◌, ◌+◌, ◌<◌, ◌≤◌, All, length, vec_len, IfOk, IfSome};
 ghost use Rattle.mx_table.specs.Change.{IsLawful};
 ghost use Rattle.mx_table.specs.Tables.{most_modules, IsRow};
-ghost use Rattle.tables_speed.specs.Names.{NamesUpTo};
 
 use crate::calls::Range;
 use mx_plain::{row, try_change};
