@@ -141,7 +141,10 @@ fn a_store_into_code_faults_and_changes_no_byte(rt: HostRuntime) -> Result<(), F
         played.notes.as_slice(),
         [fault(2, 0, 1, 0x8000_0004, 7, 0x8000_0000)].as_slice()
     );
-    assert_eq!(rt; hart(&played.machine, 0), halted(0x8000_0004, &[(1, 0x8000_0000)]));
+    assert_eq!(rt;
+        hart(&played.machine, 0),
+        halted(0x8000_0004, &[(1, 0x8000_0000)])
+    );
     let mut bytes = [0; 8];
     for i in 0..8 {
         if i < 4 * played.machine.words() {
@@ -180,7 +183,10 @@ fn a_misaligned_load_faults_before_protection(rt: HostRuntime) -> Result<(), Fai
         &[start(1, 0x8000_0000)],
         5,
     )?;
-    assert_eq!(rt; played.notes.as_slice(), [fault(1, 0, 1, 0x8000_0000, 4, 1)].as_slice());
+    assert_eq!(rt;
+        played.notes.as_slice(),
+        [fault(1, 0, 1, 0x8000_0000, 4, 1)].as_slice()
+    );
     assert_eq!(rt; hart(&played.machine, 0), halted(0x8000_0000, &[]));
     Ok(())
 }
@@ -253,13 +259,7 @@ fn a_call_into_a_dead_module_is_sent_back(rt: HostRuntime) -> Result<(), Fail> {
         word: 1024,
         target: 2,
     };
-    let played = play(
-        rt.alloc(),
-        &modules,
-        &[gate],
-        &[start(1, 0x8000_0000)],
-        20,
-    )?;
+    let played = play(rt.alloc(), &modules, &[gate], &[start(1, 0x8000_0000)], 20)?;
     let notes = [
         fault(4, 0, 2, 0x8000_1000, 3, 0x8000_1000),
         fault(7, 0, 1, 0x8000_000C, 3, 0x8000_000C),
