@@ -156,6 +156,41 @@ fn a_store_into_code_faults_and_changes_no_byte(rt: HostRuntime) -> Result<(), F
 }
 
 #[test]
+fn divisions_at_their_corners_fault_nowhere(rt: HostRuntime) -> Result<(), Fail> {
+    let words = [
+        0x8000_02B7,
+        0xFFF0_0313,
+        0x0262_C3B3,
+        0x0202_CE33,
+        0x0202_EEB3,
+    ];
+    let played = play(
+        rt.alloc(),
+        &[code(0, &words)],
+        &[],
+        &[start(1, 0x8000_0000)],
+        5,
+    )?;
+    assert_eq!(rt; played.notes.as_slice(), [].as_slice());
+    let values = [
+        (5, 0x8000_0000),
+        (6, 0xFFFF_FFFF),
+        (7, 0x8000_0000),
+        (28, 0xFFFF_FFFF),
+        (29, 0x8000_0000),
+    ];
+    let want = HartView {
+        status: HartStatus::Running,
+        domain: 1,
+        pc: 0x8000_0014,
+        frames: 0,
+        regs: regs(&values),
+    };
+    assert_eq!(rt; hart(&played.machine, 0), Some(want));
+    Ok(())
+}
+
+#[test]
 fn a_branch_faults_at_a_target_that_is_no_multiple_of_4(rt: HostRuntime) -> Result<(), Fail> {
     let words = [0x0002_9363, 0x0012_8293, 0xFF9F_F06F];
     let played = play(
