@@ -226,6 +226,45 @@ fn a_misaligned_load_faults_before_protection(rt: HostRuntime) -> Result<(), Fai
     Ok(())
 }
 
+#[test]
+fn gates_in_a_circle_end_at_the_last_frame(rt: HostRuntime) -> Result<(), Fail> {
+    let a = [0x8000_12B7, 0x0002_80E7, 0x0010_0073];
+    let b = [0x8000_02B7, 0x0002_80E7, 0x0010_0073];
+    let gates = [
+        Gate {
+            domain: 2,
+            word: 0,
+            target: 1,
+        },
+        Gate {
+            domain: 1,
+            word: 1024,
+            target: 2,
+        },
+    ];
+    let played = play(
+        rt.alloc(),
+        &[code(0, &a), code(1024, &b)],
+        &gates,
+        &[start(1, 0x8000_0000)],
+        195,
+    )?;
+    assert_eq!(rt;
+        played.notes.as_slice(),
+        [fault(195, 0, 1, 0x8000_1000, 16, 0x8000_1000)].as_slice()
+    );
+    let values = [(1, 0x8000_0008), (5, 0x8000_1000), (10, 0xFFFF_FF10)];
+    let want = HartView {
+        status: HartStatus::Running,
+        domain: 2,
+        pc: 0x8000_1008,
+        frames: 63,
+        regs: regs(&values),
+    };
+    assert_eq!(rt; hart(&played.machine, 0), Some(want));
+    Ok(())
+}
+
 /// Module `a` calls module `b`, which loads x2 and x8 and returns by this word.
 fn called_and_left_by(alloc: Global, word: u32) -> Result<Played, Fail> {
     let a = [0x8000_12B7, 0x0002_80E7, 0x0010_0073, 0x0010_0073];
