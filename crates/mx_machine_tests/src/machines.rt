@@ -365,3 +365,37 @@ fn a_second_hart_in_a_dead_domain_faults(rt: HostRuntime) -> Result<(), Fail> {
     assert_eq!(rt; played.machine.all_halted(), true);
     Ok(())
 }
+
+#[test]
+fn hi_stands_on_the_console(rt: HostRuntime) -> Result<(), Fail> {
+    let words = [
+        0x8000_0537,
+        0x01C5_0513,
+        0x0030_0593,
+        0x0020_0893,
+        0x0000_0073,
+        0x0010_0893,
+        0x0000_0073,
+        0x000A_6968,
+    ];
+    let played = play(
+        rt.alloc(),
+        &[code(0, &words)],
+        &[],
+        &[start(1, 0x8000_0000)],
+        9,
+    )?;
+    assert_eq!(rt; played.console.as_slice(), b"hi\n".as_slice());
+    let exit = Note::Exit {
+        step: 7,
+        hart: 0,
+        domain: 1,
+        code: 3,
+    };
+    assert_eq!(rt; played.notes.as_slice(), [exit].as_slice());
+    if 0 < played.machine.harts() {
+        let counts = played.machine.counts(0);
+        assert_eq!(rt; (counts.sidecar, counts.lookaside, counts.walks), (6, 1, 1));
+    }
+    Ok(())
+}
