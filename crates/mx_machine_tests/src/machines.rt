@@ -313,6 +313,97 @@ fn a_return_to_the_address_behind_the_call_goes_on(rt: HostRuntime) -> Result<()
     Ok(())
 }
 
+/// Hart 0 grants the first word of its stack area, and while that grant waits hart 1 transfers the word.
+fn granted_and_transferred(alloc: Global) -> Result<Played, Fail> {
+    let a = [
+        0x8000_1537,
+        0x0040_0593,
+        0x0020_0613,
+        0x0010_0693,
+        0x0030_0893,
+        0x0000_0073,
+        0x0010_0073,
+        0x8000_1537,
+        0x0040_0593,
+        0x0020_0613,
+        0x0050_0893,
+        0x0000_0013,
+        0x0000_0073,
+        0x0010_0073,
+    ];
+    let stack = StackArea {
+        first: 1024,
+        words: 4,
+        kills: false,
+    };
+    let modules = [
+        Module {
+            stack,
+            ..code(0, &a)
+        },
+        Module {
+            perm: Perm::Read,
+            ..code(2048, &[0])
+        },
+    ];
+    let starts = [start(1, 0x8000_0000), start(1, 0x8000_001C)];
+    play(alloc, &modules, &[], &starts, 20)
+}
+
+#[test]
+fn a_waiting_grant_of_a_word_that_is_transferred_is_refused(rt: HostRuntime) -> Result<(), Fail> {
+    let played = granted_and_transferred(rt.alloc())?;
+    let notes = [
+        fault(14, 1, 1, 0x8000_0034, 3, 0x8000_0034),
+        fault(15, 0, 1, 0x8000_0018, 3, 0x8000_0018),
+    ];
+    assert_eq!(rt; played.notes.as_slice(), notes.as_slice());
+    let granted = [
+        (2, 0x8000_1010),
+        (10, 0xFFFF_FFFE),
+        (11, 4),
+        (12, 2),
+        (13, 1),
+        (17, 3),
+    ];
+    assert_eq!(rt; hart(&played.machine, 0), halted(0x8000_0018, &granted));
+    let transferred = [(2, 0x8000_1020), (11, 4), (12, 2), (17, 5)];
+    assert_eq!(rt; hart(&played.machine, 1), halted(0x8000_0034, &transferred));
+    Ok(())
+}
+
+/// The owner of a word, and the word behind those round it that have its owner, where there is the word.
+fn run_from(machine: &Small, word: u32) -> Option<(u32, u32)> {
+    if word < machine.words() {
+        Some((machine.owner(word), machine.owner_end(word)))
+    } else {
+        None
+    }
+}
+
+/// The first runs of words with one owner: where each begins, and its owner.
+fn runs(machine: &Small) -> [(u32, u32); 6] {
+    let mut all = [(0, 0); 6];
+    let mut word = 0;
+    for i in 0..6 {
+        if let Some((owner, end)) = run_from(machine, word) {
+            all[i] = (word, owner);
+            word = end;
+        }
+    }
+    all
+}
+
+#[test]
+fn a_transferred_word_changes_its_owner(rt: HostRuntime) -> Result<(), Fail> {
+    let played = granted_and_transferred(rt.alloc())?;
+    assert_eq!(rt;
+        runs(&played.machine),
+        [(0, 1), (14, 0), (1024, 2), (1025, 1), (1032, 0), (2048, 2)]
+    );
+    Ok(())
+}
+
 #[test]
 fn a_call_into_a_dead_module_is_sent_back(rt: HostRuntime) -> Result<(), Fail> {
     let a = [0x8000_12B7, 0x0002_80E7, 0x0002_80E7, 0x0010_0073];
