@@ -1,24 +1,20 @@
 -- A small machine of three harts that goes on: the first waits on a grant that no other has heard, the second is halted, the third runs.
-use Rattle.std.proofs.Common.{◌≡◌, ◌≢◌, ℕ, zero, suc, ◌+◌, ◌<◌, ◌≤◌, ◌⊎◌, inl, inr, Bool, true, false, List, [], ◌∷◌, length, get_or, replicate, Option, Some, None, unwrap_or, refl, sym, ap, subst, ◌∙◌, arith}
+use Rattle.std.proofs.Common.{◌≡◌, ℕ, zero, suc, ◌+◌, ◌<◌, ◌≤◌, inr, true, false, List, [], ◌∷◌, length, get_or, replicate, Option, Some, unwrap_or, refl, sym, ap, subst, ◌∙◌, arith}
 use Rattle.std.specs.Prelude.{All, slice_index}
 use Rattle.std.specs.List.{AllByRecursion}
 use Rattle.std.proofs.lemmas.List.Elements.{All-cons, All-nil}
 use Rattle.mx_words.specs.declared.perm.Span.{Span}
 use Rattle.mx_words.specs.Announced.{announced, is_announced}
 use Rattle.mx_words.specs.Counting.{list_below}
-use Rattle.mx_words.specs.Hearing.{is_in}
 use Rattle.mx_words.specs.Ranges.{range_words, word_range}
 use Rattle.mx_check.specs.declared.flight.Flight.{Flight}
 use Rattle.mx_check.specs.Calls.{waiting_hart, waiting_harts}
 use Rattle.mx_check.specs.Conditions.{IsResumable}
 use Rattle.mx_check.specs.Harts.{Kept, hart_at}
 use Rattle.mx_model.specs.declared.values.Call.{Call}
-use Rattle.mx_model.specs.Checks.{arg}
 use Rattle.mx_supervisor.specs.Heaps.{heap_at}
 use Rattle.mx_supervisor.specs.Parts.{Parts}
 use Rattle.mx_supervisor.specs.Served.{range_of}
-use Rattle.mx_table.specs.Tables.{IsDomain}
-use Rattle.mx_machine.specs.declared.starts.HartState.{HartState}
 use Rattle.mx_machine.specs.declared.starts.StackArea.{StackArea}
 use Rattle.mx_machine.specs.declared.views.HartStatus.{HartStatus}
 use Rattle.mx_machine.specs.declared.views.HartStatus.TheVariants as V

@@ -1,5 +1,5 @@
 -- Small machines made by hand over 64 KiB of RAM.
-use Rattle.std.specs.Prelude.{◌≡◌, ℕ, ◌+◌, ◌*◌, ◌%◌, ◌<◌, ◌≤◌, false, List, [], ◌∷◌, length, All, replicate, slice_index}
+use Rattle.std.specs.Prelude.{◌≡◌, ℕ, ◌+◌, ◌*◌, ◌%◌, ◌≤◌, false, List, [], ◌∷◌, length, All, replicate, slice_index}
 use Rattle.std.specs.List.{AllByRecursion}
 use Rattle.mx_words.specs.declared.perm.Span.{Span}
 use Rattle.mx_check.specs.declared.flight.Flight.{Flight}

@@ -141,7 +141,10 @@ fn a_store_into_code_faults_and_changes_no_byte(rt: HostRuntime) -> Result<(), F
         played.notes.as_slice(),
         [fault(2, 0, 1, 0x8000_0004, 7, 0x8000_0000)].as_slice()
     );
-    assert_eq!(rt; hart(&played.machine, 0), halted(0x8000_0004, &[(1, 0x8000_0000)]));
+    assert_eq!(rt;
+        hart(&played.machine, 0),
+        halted(0x8000_0004, &[(1, 0x8000_0000)])
+    );
     let mut bytes = [0; 8];
     for i in 0..8 {
         if i < 4 * played.machine.words() {
@@ -149,6 +152,41 @@ fn a_store_into_code_faults_and_changes_no_byte(rt: HostRuntime) -> Result<(), F
         }
     }
     assert_eq!(rt; bytes, [0x97, 0, 0, 0, 0x23, 0xA0, 0, 0]);
+    Ok(())
+}
+
+#[test]
+fn divisions_at_their_corners_fault_nowhere(rt: HostRuntime) -> Result<(), Fail> {
+    let words = [
+        0x8000_02B7,
+        0xFFF0_0313,
+        0x0262_C3B3,
+        0x0202_CE33,
+        0x0202_EEB3,
+    ];
+    let played = play(
+        rt.alloc(),
+        &[code(0, &words)],
+        &[],
+        &[start(1, 0x8000_0000)],
+        5,
+    )?;
+    assert_eq!(rt; played.notes.as_slice(), [].as_slice());
+    let values = [
+        (5, 0x8000_0000),
+        (6, 0xFFFF_FFFF),
+        (7, 0x8000_0000),
+        (28, 0xFFFF_FFFF),
+        (29, 0x8000_0000),
+    ];
+    let want = HartView {
+        status: HartStatus::Running,
+        domain: 1,
+        pc: 0x8000_0014,
+        frames: 0,
+        regs: regs(&values),
+    };
+    assert_eq!(rt; hart(&played.machine, 0), Some(want));
     Ok(())
 }
 
@@ -180,8 +218,50 @@ fn a_misaligned_load_faults_before_protection(rt: HostRuntime) -> Result<(), Fai
         &[start(1, 0x8000_0000)],
         5,
     )?;
-    assert_eq!(rt; played.notes.as_slice(), [fault(1, 0, 1, 0x8000_0000, 4, 1)].as_slice());
+    assert_eq!(rt;
+        played.notes.as_slice(),
+        [fault(1, 0, 1, 0x8000_0000, 4, 1)].as_slice()
+    );
     assert_eq!(rt; hart(&played.machine, 0), halted(0x8000_0000, &[]));
+    Ok(())
+}
+
+#[test]
+fn gates_in_a_circle_end_at_the_last_frame(rt: HostRuntime) -> Result<(), Fail> {
+    let a = [0x8000_12B7, 0x0002_80E7, 0x0010_0073];
+    let b = [0x8000_02B7, 0x0002_80E7, 0x0010_0073];
+    let gates = [
+        Gate {
+            domain: 2,
+            word: 0,
+            target: 1,
+        },
+        Gate {
+            domain: 1,
+            word: 1024,
+            target: 2,
+        },
+    ];
+    let played = play(
+        rt.alloc(),
+        &[code(0, &a), code(1024, &b)],
+        &gates,
+        &[start(1, 0x8000_0000)],
+        195,
+    )?;
+    assert_eq!(rt;
+        played.notes.as_slice(),
+        [fault(195, 0, 1, 0x8000_1000, 16, 0x8000_1000)].as_slice()
+    );
+    let values = [(1, 0x8000_0008), (5, 0x8000_1000), (10, 0xFFFF_FF10)];
+    let want = HartView {
+        status: HartStatus::Running,
+        domain: 2,
+        pc: 0x8000_1008,
+        frames: 63,
+        regs: regs(&values),
+    };
+    assert_eq!(rt; hart(&played.machine, 0), Some(want));
     Ok(())
 }
 
@@ -233,6 +313,97 @@ fn a_return_to_the_address_behind_the_call_goes_on(rt: HostRuntime) -> Result<()
     Ok(())
 }
 
+/// Hart 0 grants the first word of its stack area, and while that grant waits hart 1 transfers the word.
+fn granted_and_transferred(alloc: Global) -> Result<Played, Fail> {
+    let a = [
+        0x8000_1537,
+        0x0040_0593,
+        0x0020_0613,
+        0x0010_0693,
+        0x0030_0893,
+        0x0000_0073,
+        0x0010_0073,
+        0x8000_1537,
+        0x0040_0593,
+        0x0020_0613,
+        0x0050_0893,
+        0x0000_0013,
+        0x0000_0073,
+        0x0010_0073,
+    ];
+    let stack = StackArea {
+        first: 1024,
+        words: 4,
+        kills: false,
+    };
+    let modules = [
+        Module {
+            stack,
+            ..code(0, &a)
+        },
+        Module {
+            perm: Perm::Read,
+            ..code(2048, &[0])
+        },
+    ];
+    let starts = [start(1, 0x8000_0000), start(1, 0x8000_001C)];
+    play(alloc, &modules, &[], &starts, 20)
+}
+
+#[test]
+fn a_waiting_grant_of_a_word_that_is_transferred_is_refused(rt: HostRuntime) -> Result<(), Fail> {
+    let played = granted_and_transferred(rt.alloc())?;
+    let notes = [
+        fault(14, 1, 1, 0x8000_0034, 3, 0x8000_0034),
+        fault(15, 0, 1, 0x8000_0018, 3, 0x8000_0018),
+    ];
+    assert_eq!(rt; played.notes.as_slice(), notes.as_slice());
+    let granted = [
+        (2, 0x8000_1010),
+        (10, 0xFFFF_FFFE),
+        (11, 4),
+        (12, 2),
+        (13, 1),
+        (17, 3),
+    ];
+    assert_eq!(rt; hart(&played.machine, 0), halted(0x8000_0018, &granted));
+    let transferred = [(2, 0x8000_1020), (11, 4), (12, 2), (17, 5)];
+    assert_eq!(rt; hart(&played.machine, 1), halted(0x8000_0034, &transferred));
+    Ok(())
+}
+
+/// The owner of a word, and the word behind those round it that have its owner, where there is the word.
+fn run_from(machine: &Small, word: u32) -> Option<(u32, u32)> {
+    if word < machine.words() {
+        Some((machine.owner(word), machine.owner_end(word)))
+    } else {
+        None
+    }
+}
+
+/// The first runs of words with one owner: where each begins, and its owner.
+fn runs(machine: &Small) -> [(u32, u32); 6] {
+    let mut all = [(0, 0); 6];
+    let mut word = 0;
+    for i in 0..6 {
+        if let Some((owner, end)) = run_from(machine, word) {
+            all[i] = (word, owner);
+            word = end;
+        }
+    }
+    all
+}
+
+#[test]
+fn a_transferred_word_changes_its_owner(rt: HostRuntime) -> Result<(), Fail> {
+    let played = granted_and_transferred(rt.alloc())?;
+    assert_eq!(rt;
+        runs(&played.machine),
+        [(0, 1), (14, 0), (1024, 2), (1025, 1), (1032, 0), (2048, 2)]
+    );
+    Ok(())
+}
+
 #[test]
 fn a_call_into_a_dead_module_is_sent_back(rt: HostRuntime) -> Result<(), Fail> {
     let a = [0x8000_12B7, 0x0002_80E7, 0x0002_80E7, 0x0010_0073];
@@ -253,13 +424,7 @@ fn a_call_into_a_dead_module_is_sent_back(rt: HostRuntime) -> Result<(), Fail> {
         word: 1024,
         target: 2,
     };
-    let played = play(
-        rt.alloc(),
-        &modules,
-        &[gate],
-        &[start(1, 0x8000_0000)],
-        20,
-    )?;
+    let played = play(rt.alloc(), &modules, &[gate], &[start(1, 0x8000_0000)], 20)?;
     let notes = [
         fault(4, 0, 2, 0x8000_1000, 3, 0x8000_1000),
         fault(7, 0, 1, 0x8000_000C, 3, 0x8000_000C),
@@ -289,5 +454,39 @@ fn a_second_hart_in_a_dead_domain_faults(rt: HostRuntime) -> Result<(), Fail> {
     ];
     assert_eq!(rt; played.notes.as_slice(), notes.as_slice());
     assert_eq!(rt; played.machine.all_halted(), true);
+    Ok(())
+}
+
+#[test]
+fn hi_stands_on_the_console(rt: HostRuntime) -> Result<(), Fail> {
+    let words = [
+        0x8000_0537,
+        0x01C5_0513,
+        0x0030_0593,
+        0x0020_0893,
+        0x0000_0073,
+        0x0010_0893,
+        0x0000_0073,
+        0x000A_6968,
+    ];
+    let played = play(
+        rt.alloc(),
+        &[code(0, &words)],
+        &[],
+        &[start(1, 0x8000_0000)],
+        9,
+    )?;
+    assert_eq!(rt; played.console.as_slice(), b"hi\n".as_slice());
+    let exit = Note::Exit {
+        step: 7,
+        hart: 0,
+        domain: 1,
+        code: 3,
+    };
+    assert_eq!(rt; played.notes.as_slice(), [exit].as_slice());
+    if 0 < played.machine.harts() {
+        let counts = played.machine.counts(0);
+        assert_eq!(rt; (counts.sidecar, counts.lookaside, counts.walks), (6, 1, 1));
+    }
     Ok(())
 }

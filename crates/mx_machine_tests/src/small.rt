@@ -15,8 +15,8 @@ use mx_machine::{
 use mx_memory::Ram;
 use mx_model::Gate;
 use mx_owners::Owners;
-use mx_supervisor::{Heaps, Supervisor};
 use mx_packed::Packed;
+use mx_supervisor::{Heaps, Supervisor};
 use mx_table::{PermTables, shape_of};
 use mx_upper::Trie;
 use mx_words::{Need, NoMemory, Perm, RAM_BASE, Span, Spans, word_range};
@@ -389,11 +389,5 @@ pub fn resumed(
         layout.heaps,
     );
     let dead = [false; 64];
-    Some(Machine::resume(
-        supervisor,
-        &states,
-        &layout.stacks,
-        &dead,
-        steps,
-    ))
+    Some(Machine::resume(supervisor, &states, &layout.stacks, &dead, steps))
 }

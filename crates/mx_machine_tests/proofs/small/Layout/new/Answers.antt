@@ -1,4 +1,4 @@
-use Rattle.std.proofs.Common.{rules, ◌≡◌, ℕ, List, [], length, refl, ap, ◌∙◌}
+use Rattle.std.proofs.Common.{rules, ℕ, List, length, refl, ap, ◌∙◌}
 use Rattle.std.proofs.lemmas.List.{length-replicate}
 use Rattle.mx_machine_tests.proofs.small.Layout.new.Goals as goal
 
