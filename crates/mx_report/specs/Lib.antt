@@ -1,0 +1,4 @@
+pub mod Tail
+pub mod Lines
+pub mod Runs
+pub mod Texts
