@@ -15,10 +15,7 @@ use crate::home::{Home, home_at};
 use crate::refused::{LayoutRefused, at_module, fault};
 use mx_manifest::{BootFault, EntryPlan, GatePlan, Key, Plan};
 use mx_model::Gate;
-use mx_words::Blob;
-
-/// How many gates stand at most.
-const GATES: usize = 256;
+use mx_words::{Blob, MOST_GATES};
 
 /// A gate that is asked for.
 #[derive(Clone, Copy)]
@@ -72,7 +69,7 @@ fn gate_fault(areas: &[Area], earlier: &[Gate], request: Request) -> Option<Boot
     if has_gate(earlier, gate.domain, gate.word) {
         return Some(fault(16, place, 0));
     }
-    if earlier.len() == GATES {
+    if earlier.len() == MOST_GATES {
         return Some(fault(17, place, 0));
     }
     None

@@ -1,14 +1,12 @@
 //! The frames of one hart.
 
 ghost use Rattle.std.specs.Prelude.{◌≡◌, ◌≤◌, ◌==◌, [], ◌∷◌, ◌++◌, OnOk, OnErr, is_err, length, slice_get};
-ghost use Rattle.mx_model.specs.Gates.{top, below_top, nearest};
+ghost use Rattle.mx_model.specs.Gates.{most_frames, top, below_top, nearest};
 
 use arrayvec::ArrayVec;
 use mx_model::Frame;
+use mx_words::MOST_FRAMES;
 use std::marker::Model;
-
-/// How many frames a stack holds.
-const FRAMES: usize = 64;
 
 /// A frame was pushed onto a stack of 64.
 #[derive(Clone, Copy, PartialEq, Eq, Debug)]
@@ -17,7 +15,7 @@ pub struct Full;
 /// At most 64 frames of one hart, one for each gate through which it went and hasn't come back.
 #[derive(Drop)]
 pub struct CrossStack {
-    frames: ArrayVec<Frame, FRAMES>,
+    frames: ArrayVec<Frame, MOST_FRAMES>,
 }
 
 impl Model for CrossStack {
@@ -42,7 +40,7 @@ impl CrossStack {
     /// Makes the frame the top one. `Full` exactly where 64 frames are held; then nothing has changed.
     pub fn push(&mut self, frame: Frame) -> Result<(), Full>
         ensures ok { OnOk result (self.new ≡ self.old ++ frame ∷ []) }
-        ensures full { is_err result ≡ (length self.old == 64) }
+        ensures full { is_err result ≡ (length self.old == most_frames) }
         ensures err { OnErr result (self.new ≡ self.old) }
     {
         if self.frames.is_full() {
@@ -83,7 +81,7 @@ impl CrossStack {
     /// The number of frames, 0 to 64.
     pub fn depth(&self) -> u32
         ensures number { result ≡ length self.now }
-        ensures bounded { result ≤ 64 }
+        ensures bounded { result ≤ most_frames }
     {
         self.frames.len() as u32
     }

@@ -2,15 +2,13 @@
 
 ghost use Rattle.std.specs.Prelude.{◌≡◌, ◌<◌, ◌≤◌, true, [], ◌∷◌, ◌++◌, None, OnOk, OnErr, is_err, length, slice_get};
 ghost use Rattle.std.specs.Bool.{OnFalse};
-ghost use Rattle.mx_model.specs.Gates.{AreSingle, gate_at, gate_target, call_gate, is_return, with_gate, without_gate, has_gate, no_gate_fits};
+ghost use Rattle.mx_model.specs.Gates.{most_gates, AreSingle, gate_at, gate_target, call_gate, is_return, with_gate, without_gate, has_gate, no_gate_fits};
 
 use crate::index::{BUCKETS, bucket, first_place, gate_in, place, sorted_place};
 use arrayvec::ArrayVec;
 use mx_model::Gate;
+use mx_words::MOST_GATES;
 use std::marker::Model;
-
-/// How many gates stand at once at most.
-const GATES: usize = 256;
 
 /// A gate was added to 256 others.
 #[derive(Clone, Copy, PartialEq, Eq, Debug)]
@@ -21,8 +19,8 @@ pub struct GatesFull;
 /// elsewhere share its bucket, and any other search takes at most nine steps, whatever gates stand.
 #[derive(Drop)]
 pub struct Gates {
-    gates: ArrayVec<Gate, GATES>,
-    sorted: ArrayVec<Gate, GATES>,
+    gates: ArrayVec<Gate, MOST_GATES>,
+    sorted: ArrayVec<Gate, MOST_GATES>,
     counts: [u16; BUCKETS],
 }
 
@@ -115,7 +113,7 @@ impl Gates {
     /// The gate at place `i` of the list, counted from 0. `None` exactly where `i` isn't below the number of gates.
     pub fn get(&self, i: u32) -> Option<Gate>
         ensures gate { result ≡ slice_get self.now i }
-        ensures bounded { length self.now ≤ 256 }
+        ensures bounded { length self.now ≤ most_gates }
         ensures apart { AreSingle self.now }
     {
         self.gates.as_slice().get(i as usize).copied()
@@ -142,9 +140,9 @@ impl Gates {
     /// Whether no gate for `domain` at `word` can be added.
     fn is_full_for(&self, domain: u32, word: u32) -> bool
         ensures full { result ≡ no_gate_fits self.now domain word }
-        ensures bounded { length self.now ≤ 256 }
+        ensures bounded { length self.now ≤ most_gates }
     {
-        self.gates.len() == GATES && !self.has_gate(domain, word)
+        self.gates.len() == MOST_GATES && !self.has_gate(domain, word)
     }
 
     /// Removes the gate that stands for `domain` at `word`.
@@ -161,7 +159,7 @@ impl Gates {
 
     /// Appends a gate where none stands.
     fn append(&mut self, gate: Gate)
-        requires room { length self.old < 256 }
+        requires room { length self.old < most_gates }
         requires none { gate_at self.old gate.domain gate.word ≡ None }
         ensures { self.new ≡ self.old ++ gate ∷ [] }
     {

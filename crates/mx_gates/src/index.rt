@@ -2,7 +2,7 @@
 
 ghost use Rattle.std.specs.Prelude.{◌≡◌, ◌^◌, ◌<◌, ◌≤◌, length, slice_get, if◌then◌else◌};
 ghost use Rattle.std.specs.List.{position_or_len};
-ghost use Rattle.mx_model.specs.Gates.{is_at};
+ghost use Rattle.mx_model.specs.Gates.{is_at, most_gates};
 ghost use Rattle.mx_gates.specs.Index.{bucket, is_before, AreRising, place_of};
 
 use mx_model::Gate;
@@ -22,7 +22,7 @@ pub fn bucket(domain: u32, word: u32) -> usize
 /// How many sorted gates come before the domain and word. The steps depend on the number of gates alone.
 pub fn place(sorted: &[Gate], domain: u32, word: u32) -> usize
     requires rising { AreRising sorted.now }
-    requires few { length sorted.now ≤ 256 }
+    requires few { length sorted.now ≤ most_gates }
     ensures place { result ≡ place_of domain word sorted.now }
     ensures within { result ≤ length sorted.now }
 {
@@ -39,7 +39,7 @@ pub fn place(sorted: &[Gate], domain: u32, word: u32) -> usize
 /// The place of the gate for the domain at the word among sorted gates; their number where there is none.
 pub fn sorted_place(sorted: &[Gate], domain: u32, word: u32) -> usize
     requires rising { AreRising sorted.now }
-    requires few { length sorted.now ≤ 256 }
+    requires few { length sorted.now ≤ most_gates }
     ensures { result ≡ position_or_len (is_at domain word) sorted.now }
 {
     let i = place(sorted, domain, word);

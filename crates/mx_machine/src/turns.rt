@@ -19,9 +19,10 @@ use mx_core::Outcome;
 use mx_model::{Call, Events, Fault, Note, TurnKind};
 use mx_supervisor::is_announced;
 use mx_table::PermTables;
+use mx_words::MOST_FRAMES;
 
 /// How many frames a cross stack holds.
-const FRAMES: u32 = 64;
+const FRAMES: u32 = MOST_FRAMES as u32;
 
 /// x10 after a dead target sent a hart back.
 const SENT_BACK: u32 = 0xFFFF_FF14;

@@ -2,7 +2,6 @@
 ghost use Rattle.std.specs.Prelude.{◌≡◌, ◌+◌, ◌-◌, ◌<◌, ◌≤◌, [], ◌∷◌, ◌++◌, length, take, replicate, slice_index, slice_set, vec_len, vec_capacity, IfOk};
 ghost use Rattle.mx_segments.specs.Lists.{list_at, chain_of, most_frames};
 
-use mx_table::MODULES;
 use mx_words::NoMemory;
 use std::alloc::Global;
 use std::marker::Model;

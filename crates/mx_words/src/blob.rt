@@ -1,5 +1,5 @@
 //! A list of bytes.
-ghost use Rattle.std.specs.Prelude.{◌≡◌, ◌<◌, ◌≤◌, ◌^◌, ◌++◌, [], ◌∷◌, List, length, OnOk, OnErr, slice_index, ℕ};
+ghost use Rattle.std.specs.Prelude.{◌≡◌, ◌+◌, ◌<◌, ◌≤◌, ◌^◌, ◌++◌, [], ◌∷◌, List, length, IfOk, OnOk, OnErr, slice_index, ℕ};
 
 use crate::NoMemory;
 use std::alloc::Global;
@@ -29,6 +29,16 @@ impl Blob {
         }
     }
 
+    /// An empty list with memory for `count` bytes.
+    pub fn with_capacity(alloc: Global, count: u32) -> Result<Blob, NoMemory>
+        ensures { IfOk result (λ blob. blob ≡ []) }
+    {
+        match Vec::with_capacity(alloc, count as usize) {
+            Ok(items) => Ok(Blob { items }),
+            Err(_) => Err(NoMemory),
+        }
+    }
+
     /// Appends a byte. The list holds fewer than 2^31 bytes. Where memory is refused, it stays as it was.
     pub fn push(&mut self, item: u8) -> Result<(), NoMemory>
         requires { length self.old < 2 ^ 31 }
@@ -36,6 +46,18 @@ impl Blob {
         ensures err { OnErr result (self.new ≡ self.old) }
     {
         match self.items.push(item) {
+            Ok(()) => Ok(()),
+            Err(_) => Err(NoMemory),
+        }
+    }
+
+    /// Appends bytes in one piece. The list then holds at most 2^31 bytes. Where memory is refused, it stays as it was.
+    pub fn extend_from_slice(&mut self, items: &[u8]) -> Result<(), NoMemory>
+        requires { length self.old + length items.now ≤ 2 ^ 31 }
+        ensures ok { OnOk result (self.new ≡ self.old ++ items.now) }
+        ensures err { OnErr result (self.new ≡ self.old) }
+    {
+        match self.items.extend_from_slice(items) {
             Ok(()) => Ok(()),
             Err(_) => Err(NoMemory),
         }

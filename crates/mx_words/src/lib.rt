@@ -3,12 +3,14 @@
 #![tactic(auto)]
 
 mod blob;
+mod limits;
 mod perm;
 mod ranges;
 mod spans;
 mod tables;
 
 pub use blob::Blob;
+pub use limits::{MOST_FRAMES, MOST_GATES, MOST_MODULES};
 pub use perm::{Access, Perm, Span};
 pub use ranges::{MOST_WORDS, RAM_BASE, word_of, word_range};
 pub use spans::Spans;
