@@ -1,6 +1,6 @@
 pub mod Sizes
 pub mod Steps
-pub mod LastByte
+pub mod LastBytes
 pub mod Whole
 pub mod Fields
 pub mod Loads

@@ -15,4 +15,5 @@ layout_of segments labels = record {
   strings_size = length (strings labels);
   strings_at = strings_at segments labels;
   sections_at = sections_at segments labels;
+  size = sections_at segments labels + 120;
 }

@@ -1,5 +1,5 @@
 -- A program: what the text of a source denotes.
-use Rattle.std.specs.Prelude.{ℕ, ◌==◌, Bool, not, List, [], ◌∷◌, ◌++◌, length, map, filter, sum_by}
+use Rattle.std.specs.Prelude.{ℕ, ◌==◌, Bool, not, List, [], ◌∷◌, ◌++◌, length, map, filter, sum_by, fold}
 use Rattle.mx_image.specs.declared.segment.Segment.{Segment}
 
 -- a label: the bytes of its name, and the address for which it stands
@@ -58,3 +58,7 @@ with_last_byte b (s ∷ t ∷ segments) = s ∷ with_last_byte b (t ∷ segments
 -- a program with one more byte in its last segment
 abbrev pub with_byte : ℕ → Program → Program
 with_byte b p = record p { segments = with_last_byte b p.segments }
+
+-- with bytes, one after the other, in its last segment
+abbrev pub with_bytes : List ℕ → Program → Program
+with_bytes bytes p = fold (λ q b. with_byte b q) p bytes

@@ -12,7 +12,7 @@ use crate::layout::{
     SECTIONS, SHN_ABS, SHT_STRTAB, SHT_SYMTAB, STRINGS, SYMBOL_SIZE,
 };
 use crate::program::{NamedAddress, ProgramBuilder};
-use crate::put::{put_bytes, put_halves, put_words, put_zeros};
+use crate::put::{put_halves, put_words, put_zeros};
 use crate::segment::Segment;
 use mx_words::{Blob, NoMemory};
 use std::alloc::Global;
@@ -23,13 +23,11 @@ pub fn write(alloc: Global, program: &ProgramBuilder) -> Result<Blob, NoMemory>
     requires { IsSized program.now }
     ensures { IfOk result (λ image. image ≡ image_of program.now) }
 {
-    let mut out = Blob::new(alloc);
-    put_parts(
-        &mut out,
-        program.entry,
-        program.segments.as_slice(),
-        program.labels.as_slice(),
-    )?;
+    let segments = program.segments.as_slice();
+    let labels = program.labels.as_slice();
+    let layout = lay_out(segments, labels);
+    let mut out = Blob::with_capacity(alloc, layout.size)?;
+    put_parts(&mut out, program.entry, segments, labels, &layout)?;
     Ok(out)
 }
 
@@ -39,7 +37,9 @@ fn put_parts(
     entry: u32,
     segments: &[Segment],
     labels: &[NamedAddress],
+    layout: &Layout,
 ) -> Result<(), NoMemory>
+    requires layout { layout.now ≡ layout_of (filled segments.now) (labels_of labels.now) }
     requires empty { out.old ≡ [] }
     requires few { length (filled segments.now) ≤ 16 }
     requires contents { length (contents (filled segments.now)) < 2 ^ 28 }
@@ -48,16 +48,15 @@ fn put_parts(
     ensures { let named = labels_of labels.now in
         OnOk result (out.new ≡ image_with entry (filled segments.now) named) }
 {
-    let layout = lay_out(segments, labels);
     put_file_header(out, entry, layout.sections_at, layout.segments)?;
     put_program_headers(out, segments, layout.contents_at)?;
     put_contents(out, segments)?;
     put_symbol_table(out, labels)?;
     put_strings(out, labels, layout.strings_size)?;
-    put_sections(out, &layout)
+    put_sections(out, layout)
 }
 
-/// Where the parts of an image stand, in bytes from its start, and how many things they hold.
+/// Where the parts of an image stand, in bytes from its start, how many things they hold, and how many bytes it takes.
 #[derive(Clone, Copy)]
 struct Layout {
     segments: u32,
@@ -67,6 +66,7 @@ struct Layout {
     strings_size: u32,
     strings_at: u32,
     sections_at: u32,
+    size: u32,
 }
 
 /// The layout of an image.
@@ -83,6 +83,7 @@ fn lay_out(segments: &[Segment], labels: &[NamedAddress]) -> Layout
     let symbols_at = contents_at + contents_size(segments);
     let strings_size = names_size(labels) + 1;
     let strings_at = symbols_at + SYMBOL_SIZE * symbols;
+    let sections_at = strings_at + rounded(strings_size);
     Layout {
         segments: count,
         contents_at,
@@ -90,7 +91,8 @@ fn lay_out(segments: &[Segment], labels: &[NamedAddress]) -> Layout
         symbols_at,
         strings_size,
         strings_at,
-        sections_at: strings_at + rounded(strings_size),
+        sections_at,
+        size: sections_at + SECTION_HEADER_SIZE * SECTIONS as u32,
     }
 }
 
@@ -149,7 +151,7 @@ fn put_file_header(out: &mut Blob, entry: u32, sections_at: u32, count: u32) -> 
     let header = HEADER_SIZE as u16;
     let program_header = PROGRAM_HEADER_SIZE as u16;
     let section_header = SECTION_HEADER_SIZE as u16;
-    put_bytes(out, &IDENT)?;
+    out.extend_from_slice(&IDENT)?;
     put_halves(out, &[ET_EXEC, EM_RISCV])?;
     put_words(out, &[1, entry, HEADER_SIZE, sections_at, 0])?;
     put_halves(
@@ -201,7 +203,7 @@ fn put_contents(out: &mut Blob, segments: &[Segment]) -> Result<(), NoMemory>
 {
     'segments: for segment in segments {
         let size = segment.bytes.len();
-        put_bytes(out, segment.bytes.as_slice())?;
+        out.extend_from_slice(segment.bytes.as_slice())?;
         put_zeros(out, rounded(size) - size)?;
     }
     Ok(())
@@ -237,7 +239,7 @@ fn put_symbol(out: &mut Blob, label: &NamedAddress, at: u32) -> Result<(), NoMem
     ensures { OnOk result (out.new ≡ out.old ++ symbol at (label_of label.now)) }
 {
     put_words(out, &[at, label.address, 0])?;
-    put_bytes(out, &[0, 0])?;
+    out.extend_from_slice(&[0, 0])?;
     put_halves(out, &[SHN_ABS])
 }
 
@@ -249,7 +251,7 @@ fn put_strings(out: &mut Blob, labels: &[NamedAddress], size: u32) -> Result<(),
     ensures { OnOk result (out.new ≡ out.old ++ padded (strings (labels_of labels.now))) }
 {
     let zeros = rounded(size) - size;
-    put_bytes(out, &[0])?;
+    out.extend_from_slice(&[0])?;
     put_names(out, labels)?;
     put_zeros(out, zeros)
 }
@@ -260,7 +262,7 @@ fn put_names(out: &mut Blob, labels: &[NamedAddress]) -> Result<(), NoMemory>
     ensures { OnOk result (out.new ≡ out.old ++ names (labels_of labels.now)) }
 {
     'labels: for label in labels {
-        put_bytes(out, label.name)?;
+        out.extend_from_slice(label.name)?;
         out.push(0)?;
     }
     Ok(())

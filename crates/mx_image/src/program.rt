@@ -1,7 +1,7 @@
 //! Programs, piece by piece.
 
-ghost use Rattle.std.specs.Prelude.{◌≡◌, ◌<◌, ◌^◌, length, OnOk, OnErr};
-ghost use Rattle.mx_image.specs.Program.{label, byte_count, no_program, with_entry, with_segment, with_byte, with_label};
+ghost use Rattle.std.specs.Prelude.{◌≡◌, ◌+◌, ◌<◌, ◌≤◌, ◌^◌, length, OnOk, OnErr};
+ghost use Rattle.mx_image.specs.Program.{label, byte_count, no_program, with_entry, with_segment, with_byte, with_bytes, with_label};
 
 use crate::segment::Segment;
 use mx_words::NoMemory;
@@ -75,6 +75,19 @@ impl<'a> ProgramBuilder<'a> {
         let last = self.segments.len() - 1;
         let segment = &mut self.segments[last];
         segment.bytes.push(byte)
+    }
+
+    /// Appends bytes to the last segment in one piece; all segments together then hold at most 2^31 bytes. Where memory
+    /// is refused, the program stays as it was.
+    pub fn add_bytes(&mut self, bytes: &[u8]) -> Result<(), NoMemory>
+        requires begun { 0 < length self.old.segments }
+        requires room { byte_count self.old.segments + length bytes.now ≤ 2 ^ 31 }
+        ensures ok { OnOk result (self.new ≡ with_bytes bytes.now self.old) }
+        ensures err { OnErr result (self.new ≡ self.old) }
+    {
+        let last = self.segments.len() - 1;
+        let segment = &mut self.segments[last];
+        segment.bytes.extend_from_slice(bytes)
     }
 
     /// Appends a label. Where memory is refused, the program stays as it was.

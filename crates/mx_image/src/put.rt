@@ -1,20 +1,9 @@
-//! Bytes and numbers at the end of a list of bytes, each number little-endian (System V gABI, "Data Representation").
+//! Zero bytes and numbers at the end of a list of bytes, each number little-endian (System V gABI, "Data Representation").
 
 ghost use Rattle.std.specs.Prelude.{◌≡◌, ◌+◌, ◌*◌, ◌≤◌, ◌^◌, ◌++◌, length, replicate, OnOk};
 ghost use Rattle.mx_image.specs.Image.{halves, words};
 
 use mx_words::{Blob, NoMemory};
-
-/// Appends bytes.
-pub(crate) fn put_bytes(out: &mut Blob, bytes: &[u8]) -> Result<(), NoMemory>
-    requires { length out.old + length bytes.now ≤ 2 ^ 31 }
-    ensures { OnOk result (out.new ≡ out.old ++ bytes.now) }
-{
-    'bytes: for byte in bytes {
-        out.push(*byte)?;
-    }
-    Ok(())
-}
 
 /// Appends zero bytes.
 pub(crate) fn put_zeros(out: &mut Blob, count: u32) -> Result<(), NoMemory>
@@ -33,7 +22,7 @@ pub(crate) fn put_halves(out: &mut Blob, numbers: &[u16]) -> Result<(), NoMemory
     ensures { OnOk result (out.new ≡ out.old ++ halves numbers.now) }
 {
     'numbers: for half in numbers {
-        put_bytes(out, &half.to_le_bytes())?;
+        out.extend_from_slice(&half.to_le_bytes())?;
     }
     Ok(())
 }
@@ -44,7 +33,7 @@ pub(crate) fn put_words(out: &mut Blob, numbers: &[u32]) -> Result<(), NoMemory>
     ensures { OnOk result (out.new ≡ out.old ++ words numbers.now) }
 {
     'numbers: for word in numbers {
-        put_bytes(out, &word.to_le_bytes())?;
+        out.extend_from_slice(&word.to_le_bytes())?;
     }
     Ok(())
 }

@@ -1,6 +1,5 @@
 ghost use Rattle.std.specs.Prelude.{◌≡◌, ◌≤◌, length, IfOk};
 
-use crate::put::put_bytes;
 use crate::{ProgramBuilder, Segment, write};
 use mx_elf::{Seg, read_image, symbol};
 use mx_words::{Blob, NoMemory};
@@ -40,7 +39,7 @@ fn segment(alloc: Global, address: u32, flags: u32, content: &[u8]) -> Result<Se
     ensures { IfOk result (λ s. s.bytes ≡ content.now) }
 {
     let mut bytes = Blob::new(alloc);
-    put_bytes(&mut bytes, content)?;
+    bytes.extend_from_slice(content)?;
     Ok(Segment {
         address,
         flags,
@@ -54,7 +53,7 @@ fn two_segments<'a>(alloc: Global) -> Result<Blob, NoMemory> {
     program.add_segment(segment(alloc, 0x8000_0000, 5, &[0x6F, 0, 0, 0])?)?;
     program.add_segment(segment(alloc, 0x8000_0800, 5, &[])?)?;
     program.add_segment(segment(alloc, 0x8000_1000, 6, &[])?)?;
-    program.add_byte(1)?;
+    program.add_bytes(&[1])?;
     program.add_label(b"start", 0x8000_0000)?;
     program.add_label(b"k", 0x8000_1000)?;
     write(alloc, &program)

@@ -27,7 +27,7 @@ pub put_strings-requires-clause-room : goal.put_strings-requires-clause-room
 put_strings-requires-clause-room c =
     let none = ap length c.requires.empty in
     let count = length-map c.args.labels.now label_of in
-    let size = ap (λ l. l.strings_size) c.lay_out-layout.ensures in
+    let size = ap (λ l. l.strings_size) c.requires.layout in
     let header = put_length c.put_file_header.new.out c.args.out.now _ 52 c.in_ok-put_file_header.ensures refl in
     let headers = put_length c.put_program_headers.new.out c.put_file_header.new.out _ _ c.in_ok-put_program_headers.ensures (program_headers_length _ _) in
     let filling = put_length c.put_contents.new.out c.put_program_headers.new.out _ _ c.in_ok-put_contents.ensures refl in
@@ -38,7 +38,7 @@ pub put_sections-requires-clause-room : goal.put_sections-requires-clause-room
 put_sections-requires-clause-room c =
     let none = ap length c.requires.empty in
     let count = length-map c.args.labels.now label_of in
-    let size = ap (λ l. l.strings_size) c.lay_out-layout.ensures in
+    let size = ap (λ l. l.strings_size) c.requires.layout in
     let header = put_length c.put_file_header.new.out c.args.out.now _ 52 c.in_ok-put_file_header.ensures refl in
     let headers = put_length c.put_program_headers.new.out c.put_file_header.new.out _ _ c.in_ok-put_program_headers.ensures (program_headers_length _ _) in
     let filling = put_length c.put_contents.new.out c.put_program_headers.new.out _ _ c.in_ok-put_contents.ensures refl in
@@ -48,7 +48,7 @@ put_sections-requires-clause-room c =
 
 pub returns : goal.returns
 returns c =
-    let layout = c.lay_out-layout.ensures in
+    let layout = c.requires.layout in
     on_ok_weaker c.put_sections.result (whole c.args.entry (filled c.args.segments.now) (labels_of c.args.labels.now) _ _ _ _ _ _ _ _ _ _ _ _ _ _ record {
       count_is = ap (λ l. l.segments) layout;
       start_is = ap (λ l. l.contents_at) layout;

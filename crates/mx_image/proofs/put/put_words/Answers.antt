@@ -4,7 +4,7 @@ use Rattle.mx_image.specs.Image.{words}
 use Rattle.mx_image.proofs.Sizes.{length-words}
 use Rattle.mx_image.proofs.put.put_words.Goals as goal
 
-pub put_bytes-requires : goal.put_bytes-requires
-put_bytes-requires c =
+pub extend_from_slice-requires : goal.extend_from_slice-requires
+extend_from_slice-requires c =
     let taken = take c.numbers.word-index c.args.numbers.now in
     rw (c.numbers.invariant) (omega (arith, length-append c.args.out.now (words taken), length-words taken, length-take c.numbers.word-index c.args.numbers.now))
