@@ -5,7 +5,7 @@ use Rattle.std.specs.Option.{option_or, option_map_or}
 use Rattle.std.proofs.lemmas.Bool.{leb-true, ltb-false, leb-false, eqb-true, eqb-false, and_parts, or_parts, both_ways, lt-ltb, le-leb, eq-eqb}
 use Rattle.std.proofs.lemmas.List.{length-append, length-map, length-replicate}
 use Rattle.mx_image.specs.declared.segment.Segment.{Segment}
-use Rattle.mx_image.specs.Program.{Program, Label, byte_count, with_entry, with_segment, with_byte, with_last_byte}
+use Rattle.mx_image.specs.Program.{Program, Label, byte_count, with_entry, with_segment, with_byte, with_last_byte, with_bytes}
 use Rattle.mx_image.specs.Image.{words}
 use Rattle.mx_image.specs.Lawful.{IsSegment}
 use Rattle.mx_image.proofs.Building.{byte_count-append}
@@ -19,7 +19,7 @@ use Rattle.mx_asm.specs.declared.places.Place.{Place}
 use Rattle.mx_asm.specs.Places.{address_number, address_of, ascii_of, size_of, place_listed, place_after}
 use Rattle.mx_asm.specs.Labels.{Definition}
 use Rattle.mx_asm.specs.Faults.{kind_fault, value_fault, address_fault, operand_fault, begins_segment, is_aligned, is_at, is_full, first_row, place_fault, label_fault, label_place_fault, line_fault, offset_fault, offset_fits}
-use Rattle.mx_asm.specs.Denoted.{bytes_of, with_bytes, with_begun, with_listed, with_statement, pair_words, inst_word, word_of_value, byte_of_number}
+use Rattle.mx_asm.specs.Denoted.{bytes_of, with_begun, with_listed, with_statement, pair_words, inst_word, word_of_value, byte_of_number}
 use Rattle.mx_asm.specs.Ready.{IsReady, IsReadyFor, IsGrown}
 use Rattle.mx_asm.proofs.FaultLaws.{kind_some}
 use Rattle.mx_asm.proofs.ProgramLaws.{grown, length-words}
