@@ -1,8 +1,8 @@
 -- Laws of programs with more bytes.
-use Rattle.std.proofs.Common.{◌≡◌, ℕ, suc, ◌+◌, ◌-◌, ◌*◌, ◌<◌, ◌≤◌, ◌^◌, List, [], ◌∷◌, ◌++◌, length, fold, refl, ap, sym, ◌∙◌, arith, add_assoc, take, drop, get_or, replicate}
+use Rattle.std.proofs.Common.{◌≡◌, ℕ, ◌+◌, ◌*◌, ◌<◌, List, [], ◌∷◌, ◌++◌, length, refl, ap, sym, ◌∙◌, arith, replicate}
 use Rattle.std.proofs.lemmas.List.{length-append, replicate-append-replicate}
 use Rattle.mx_image.proofs.Building.{length-with_last_byte, byte_count-with_last_byte}
-use Rattle.mx_image.specs.Program.{Program, with_byte, with_bytes, with_last_byte, byte_count}
+use Rattle.mx_image.specs.Program.{Program, with_byte, with_bytes, byte_count}
 use Rattle.mx_image.specs.Image.{words}
 use Rattle.mx_asm.specs.Ready.{IsGrown}
 

@@ -1,4 +1,4 @@
-use Rattle.std.proofs.Common.{◌≡◌, ◌≤◌, ◌-◌, ◌∙◌, ap, replicate, ℕ, arith}
+use Rattle.std.proofs.Common.{◌≤◌, ◌-◌, ◌∙◌, ap, replicate, ℕ, arith}
 use Rattle.std.proofs.lemmas.List.{take-replicate}
 use Rattle.mx_image.specs.Program.{with_bytes}
 use Rattle.mx_asm.proofs.ProgramLaws.{left_bytes, zeros_split}
