@@ -1,6 +1,5 @@
 -- Laws of fault numbers.
-use Rattle.std.proofs.Common.{◌≡◌, ◌==◌, ℕ, List, length, Option, None, Some, IsSome, min, refl, ap, arith}
-use Rattle.mx_source.specs.Operands.{pieces_of}
+use Rattle.std.proofs.Common.{◌≡◌, ℕ, Option, None, Some, IsSome, refl, ap, arith}
 use Rattle.mx_source.proofs.Steps.{pieces-empty}
 use Rattle.mx_asm.specs.Faults.{lesser_fault, kind_fault}
 

@@ -5,7 +5,7 @@ use Rattle.std.specs.Map.{lookup}
 use Rattle.std.proofs.lemmas.Slice.Eq.{bytes_eq-Decides}
 use Rattle.indexmap.specs.IndexMap.{insert_entry}
 use Rattle.mx_asm.specs.declared.labels.LabelPlace.{LabelPlace}
-use Rattle.mx_asm.specs.Labels.{Definition, definition_of, with_name}
+use Rattle.mx_asm.specs.Labels.{definition_of, with_name}
 use Rattle.mx_asm.specs.LabelViews.{definition_view, entry_view}
 
 -- what the map finds is the first definition of the name

@@ -1,30 +1,29 @@
 -- The program of a source without faults is one that an image can hold and a loader can read.
-use Rattle.std.proofs.Common.{◌≡◌, ◌≢◌, ◌==◌, ℕ, ◌+◌, ◌<◌, ◌≤◌, ◌^◌, Bool, true, false, cond, List, [], ◌∷◌, ◌++◌, length, find, filter, codes, add-zero, refl, ap, sym, ◌∙◌, arith, Option, None, Some, IsSome, IfSome, is_some, nat_eq}
+use Rattle.std.proofs.Common.{◌≡◌, ◌≢◌, ◌==◌, ℕ, ◌+◌, ◌<◌, ◌≤◌, ◌^◌, Bool, true, false, cond, List, [], ◌∷◌, ◌++◌, length, codes, add-zero, refl, ap, arith, Option, None, Some, IsSome, IfSome, is_some}
 use Rattle.std.specs.List.{AllByRecursion}
 use Rattle.std.specs.Option.{option_map_or}
 use Rattle.std.specs.Str.{bytes_eq}
 use Rattle.std.specs.Str.Lines.{lines}
-use Rattle.std.proofs.lemmas.Bool.{eqb-true, cond_both}
+use Rattle.std.proofs.lemmas.Bool.{eqb-true}
 use Rattle.std.proofs.lemmas.List.{length-append}
 use Rattle.std.proofs.lemmas.Slice.Eq.{bytes_eq-Decides}
 use Rattle.mx_image.specs.declared.segment.Segment.{Segment}
-use Rattle.mx_image.specs.Program.{Program, Label, has_bytes, filled, label, no_program, with_entry, with_label}
-use Rattle.mx_image.specs.Lawful.{IsName, IsSized, IsSegment, IsLabel, AreDistinct, IsProgram}
+use Rattle.mx_image.specs.Program.{Program, Label, has_bytes, filled, label, no_program, with_entry}
+use Rattle.mx_image.specs.Lawful.{IsName, IsSegment, IsLabel, AreDistinct, IsProgram}
 use Rattle.mx_image.proofs.Building.{filled-most}
 use Rattle.mx_source.specs.declared.mnemonics.Keyword.{Keyword}
 use Rattle.mx_source.specs.declared.mnemonics.Keyword.TheVariants.{Text, Data, At, Word, Byte, Ascii, Li, La, Inst}
-use Rattle.mx_source.specs.Operands.{is_name}
-use Rattle.mx_source.specs.Lines.{Line, Statement, Absent, Unlisted, Listed, line_of}
+use Rattle.mx_source.specs.Lines.{Statement, Absent, Unlisted, Listed, line_of}
 use Rattle.mx_source.proofs.Names.{IsNamed, named_line, length-name, no_zero-name}
 use Rattle.mx_asm.specs.declared.places.Place.{Place}
 use Rattle.mx_asm.specs.Places.{start, place_after, address_of}
 use Rattle.mx_asm.specs.Labels.{Definition, definition_of, with_name, labels_from}
-use Rattle.mx_asm.specs.Faults.{label_fault, line_fault, fault_from, offset_from}
-use Rattle.mx_asm.specs.Denoted.{bytes_of, with_listed, with_statement, with_defined, with_line, with_start, program_from, program_of, first_fault, labels_of_source}
+use Rattle.mx_asm.specs.Faults.{label_fault, fault_from, offset_from}
+use Rattle.mx_asm.specs.Denoted.{bytes_of, with_listed, with_statement, with_defined, with_line, program_from, program_of, first_fault, labels_of_source}
 use Rattle.mx_asm.proofs.PlaceLaws.{no_fault}
 use Rattle.mx_asm.proofs.LineLaws.{length-lines}
-use Rattle.mx_asm.proofs.Placed.{IsPlaced, begun_labels, bytes_labels, laid_all, label_below, label_here, start_placed}
-use Rattle.mx_asm.proofs.Sources.{line_next, fault_parts, program_more, first_none, definition_below}
+use Rattle.mx_asm.proofs.Placed.{IsPlaced, begun_labels, bytes_labels, laid_all, label_here, start_placed}
+use Rattle.mx_asm.proofs.Sources.{line_next, fault_parts, first_none, definition_below}
 
 -- what a name is defined as stays so when a label is added
 kept_at : (b : Bool) (f d : Definition) (found later : Option Definition) → (found ≡ Some d → later ≡ Some d) → cond b (Some f) found ≡ Some d → cond b (Some f) later ≡ Some d

@@ -1,28 +1,21 @@
 -- What a line without faults keeps: the segments of the program so far, and the place after them.
-use Rattle.std.proofs.Common.{◌≡◌, ◌≢◌, ◌⊎◌, inl, inr, ◌==◌, ℕ, suc, ◌+◌, ◌-◌, ◌*◌, ◌%◌, ◌^◌, ◌<◌, ◌≤◌, Bool, true, false, cond, not, ◌&&◌, ◌||◌, List, [], ◌∷◌, ◌++◌, length, map, replicate, refl, ap, sym, ◌∙◌, arith, Option, None, Some, IsSome, is_some, unwrap_or, nat_lt, nat_le, IsTrue}
-use Rattle.std.specs.List.{AllByRecursion}
+use Rattle.std.proofs.Common.{◌≡◌, ◌==◌, ℕ, ◌-◌, ◌%◌, ◌^◌, ◌<◌, ◌≤◌, Bool, true, false, cond, not, ◌&&◌, ◌||◌, List, [], ◌∷◌, length, map, refl, arith, Option, None, Some, IsSome, is_some, nat_le}
 use Rattle.std.specs.Option.{option_or, option_map_or}
-use Rattle.std.proofs.lemmas.Bool.{leb-true, ltb-false, leb-false, eqb-true, eqb-false, and_parts, or_parts, both_ways, lt-ltb, le-leb, eq-eqb}
-use Rattle.std.proofs.lemmas.List.{length-append, length-map, length-replicate}
-use Rattle.mx_image.specs.declared.segment.Segment.{Segment}
-use Rattle.mx_image.specs.Program.{Program, Label, byte_count, with_entry, with_segment, with_byte, with_last_byte}
+use Rattle.std.proofs.lemmas.Bool.{leb-true, and_parts}
+use Rattle.std.proofs.lemmas.List.{length-map, length-replicate}
 use Rattle.mx_image.specs.Image.{words}
-use Rattle.mx_image.specs.Lawful.{IsSegment}
-use Rattle.mx_image.proofs.Building.{byte_count-append}
 use Rattle.mx_source.specs.declared.mnemonics.Keyword.{Keyword}
 use Rattle.mx_source.specs.declared.mnemonics.Keyword.TheVariants.{Text, Data, At, Word, Byte, Ascii, Li, La, Inst}
 use Rattle.mx_source.specs.declared.number.Number.{Number}
 use Rattle.mx_source.specs.Numbers.{fits}
-use Rattle.mx_source.specs.Lines.{Statement, Absent, Unlisted, Listed}
-use Rattle.mx_source.specs.Fields.{Fields, value_fields, label_fields, fields_of, range_of, address_range, word_range}
+use Rattle.mx_source.specs.Fields.{Fields, value_fields, label_fields, fields_of, address_range}
 use Rattle.mx_asm.specs.declared.places.Place.{Place}
-use Rattle.mx_asm.specs.Places.{address_number, address_of, ascii_of, size_of, place_listed, place_after}
+use Rattle.mx_asm.specs.Places.{address_number, address_of, size_of}
 use Rattle.mx_asm.specs.Labels.{Definition}
-use Rattle.mx_asm.specs.Faults.{kind_fault, value_fault, address_fault, operand_fault, begins_segment, is_aligned, is_at, is_full, first_row, place_fault, label_fault, label_place_fault, line_fault, offset_fault, offset_fits}
-use Rattle.mx_asm.specs.Denoted.{bytes_of, with_bytes, with_begun, with_listed, with_statement, pair_words, inst_word, word_of_value, byte_of_number}
-use Rattle.mx_asm.specs.Ready.{IsReady, IsReadyFor, IsGrown}
+use Rattle.mx_asm.specs.Faults.{kind_fault, address_fault, operand_fault, begins_segment, is_aligned, is_full, place_fault}
+use Rattle.mx_asm.specs.Denoted.{bytes_of, pair_words, inst_word, word_of_value, byte_of_number}
 use Rattle.mx_asm.proofs.FaultLaws.{kind_some}
-use Rattle.mx_asm.proofs.ProgramLaws.{grown, length-words}
+use Rattle.mx_asm.proofs.ProgramLaws.{length-words}
 
 -- of two faults there is neither
 pub or_none : {A : Type 0} (a b : Option A) → option_or a b ≡ None → (a ≡ None) × (b ≡ None)

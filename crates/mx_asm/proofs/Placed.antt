@@ -1,11 +1,11 @@
 -- Lines without faults keep a program within its limits.
-use Rattle.std.proofs.Common.{◌≡◌, ◌≢◌, ◌⊎◌, inl, inr, ◌==◌, ℕ, suc, ◌+◌, ◌-◌, ◌*◌, ◌%◌, ◌^◌, ◌<◌, ◌≤◌, Bool, true, false, cond, not, ◌&&◌, ◌||◌, List, [], ◌∷◌, ◌++◌, length, refl, ap, sym, ◌∙◌, arith, add-zero, Option, None, Some, IsSome, is_some, nat_lt, nat_le, IsTrue, filter}
+use Rattle.std.proofs.Common.{◌≡◌, ◌⊎◌, inl, inr, ◌==◌, ℕ, ◌+◌, ◌%◌, ◌^◌, ◌<◌, ◌≤◌, Bool, true, false, cond, not, ◌&&◌, ◌||◌, List, [], ◌∷◌, ◌++◌, length, refl, ap, sym, arith, add-zero, Option, None, Some, IsSome, is_some, nat_lt, nat_le}
 use Rattle.std.specs.List.{AllByRecursion}
 use Rattle.std.specs.Option.{option_or}
-use Rattle.std.proofs.lemmas.Bool.{leb-true, ltb-false, leb-false, eqb-true, eqb-false, and_parts, or_parts, cond_both}
+use Rattle.std.proofs.lemmas.Bool.{ltb-false, leb-false, eqb-true, eqb-false, or_parts}
 use Rattle.std.proofs.lemmas.List.{length-append}
 use Rattle.mx_image.specs.declared.segment.Segment.{Segment}
-use Rattle.mx_image.specs.Program.{Program, Label, byte_count, with_entry, with_segment, with_byte, with_last_byte, no_program}
+use Rattle.mx_image.specs.Program.{Program, byte_count, with_entry, with_byte, with_last_byte, no_program, with_bytes}
 use Rattle.mx_image.specs.Lawful.{IsSegment}
 use Rattle.mx_image.proofs.Building.{byte_count-append}
 use Rattle.mx_source.specs.declared.mnemonics.Keyword.{Keyword}
@@ -14,9 +14,9 @@ use Rattle.mx_source.specs.Lines.{Statement, Absent, Unlisted, Listed}
 use Rattle.mx_asm.specs.declared.places.Place.{Place}
 use Rattle.mx_asm.specs.Places.{start, address_of, size_of, at_segment, with_size, place_listed, place_after}
 use Rattle.mx_asm.specs.Labels.{Definition}
-use Rattle.mx_asm.specs.Faults.{operand_fault, begins_segment, is_aligned, is_full, place_fault, label_fault, label_place_fault, line_fault, offset_fault, offset_fits}
-use Rattle.mx_asm.specs.Denoted.{bytes_of, with_bytes, with_begun, with_listed, with_statement, with_defined}
-use Rattle.mx_asm.specs.Ready.{IsReady, IsReadyFor, IsGrown}
+use Rattle.mx_asm.specs.Faults.{operand_fault, begins_segment, is_aligned, place_fault, label_fault, label_place_fault, line_fault, offset_fault, offset_fits}
+use Rattle.mx_asm.specs.Denoted.{bytes_of, with_begun, with_listed, with_statement, with_defined}
+use Rattle.mx_asm.specs.Ready.{IsReady, IsReadyFor}
 use Rattle.mx_asm.proofs.ProgramLaws.{grown}
 use Rattle.mx_asm.proofs.PlaceLaws.{or_none, row_none, no_fault, IsPlain, place_plain, address_below, length-bytes_of}
 

@@ -1,11 +1,9 @@
 -- Laws of programs with more bytes.
-use Rattle.std.proofs.Common.{◌≡◌, ℕ, suc, ◌+◌, ◌-◌, ◌*◌, ◌<◌, ◌≤◌, ◌^◌, List, [], ◌∷◌, ◌++◌, length, fold, refl, ap, sym, ◌∙◌, arith, add_assoc, take, drop, get_or, replicate}
-use Rattle.std.proofs.lemmas.List.Sums.{fold_more}
-use Rattle.std.proofs.lemmas.List.{length-append}
+use Rattle.std.proofs.Common.{◌≡◌, ℕ, ◌+◌, ◌*◌, ◌<◌, List, [], ◌∷◌, ◌++◌, length, refl, ap, sym, ◌∙◌, arith, replicate}
+use Rattle.std.proofs.lemmas.List.{length-append, replicate-append-replicate}
 use Rattle.mx_image.proofs.Building.{length-with_last_byte, byte_count-with_last_byte}
-use Rattle.mx_image.specs.Program.{Program, with_byte, with_last_byte, byte_count}
+use Rattle.mx_image.specs.Program.{Program, with_byte, with_bytes, byte_count}
 use Rattle.mx_image.specs.Image.{words}
-use Rattle.mx_asm.specs.Denoted.{with_bytes}
 use Rattle.mx_asm.specs.Ready.{IsGrown}
 
 pub grown : (bytes : List ℕ) (p : Program) → 0 < length p.segments → IsGrown p (length bytes) (with_bytes bytes p)
@@ -54,9 +52,9 @@ module _ (start : Program) (all : List ℕ) (p : Program) (left : List ℕ) (is 
   pub room_for : (b : ℕ) (rest : List ℕ) → left ≡ b ∷ rest → byte_count p.segments < byte_count start.segments + length all
   room_for b rest e = omega (arith, is.bytes, ap length e)
 
--- one zero less
-pub zeros_less : (n k : ℕ) → k < n → replicate {A = ℕ} (n - k) 0 ≡ 0 ∷ replicate (n - (k + 1)) 0
-zeros_less n k less = let e : n - k ≡ suc (n - (k + 1)) = omega arith in ap (λ m. replicate {A = ℕ} m 0) e
+-- zeros in two pieces
+pub zeros_split : (n k m : ℕ) → k + m ≡ n → replicate {A = ℕ} n 0 ≡ replicate k 0 ++ replicate m 0
+zeros_split n k m e = ap (λ i. replicate {A = ℕ} i 0) (sym e) ∙ sym (replicate-append-replicate k m 0)
 
 -- words one by one
 pub words-cons : (v : ℕ) (vs : List ℕ) → words (v ∷ vs) ≡ words (v ∷ []) ++ words vs
@@ -65,5 +63,3 @@ words-cons v vs = refl
 pub length-words : (vs : List ℕ) → length (words vs) ≡ 4 * length vs
 length-words [] = refl
 length-words (v ∷ vs) = omega (arith, length-words vs)
-
-pub ruleset byte_steps = (length-with_last_byte, byte_count-with_last_byte, fold_more)

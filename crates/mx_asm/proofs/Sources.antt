@@ -1,22 +1,21 @@
 -- Walks through the lines of a source without faults.
-use Rattle.std.proofs.Common.{◌≡◌, ◌==◌, ℕ, ◌+◌, ◌<◌, ◌≤◌, ◌^◌, Bool, true, false, cond, List, [], ◌∷◌, ◌++◌, length, codes, drop, find, refl, ap, sym, ◌∙◌, arith, Option, None, Some, IsSome, IfSome, is_some, option_map}
+use Rattle.std.proofs.Common.{◌≡◌, ℕ, ◌+◌, ◌<◌, ◌^◌, true, false, cond, List, [], ◌∷◌, ◌++◌, codes, drop, refl, ap, ◌∙◌, Option, None, Some, IsSome, IfSome, is_some, option_map}
 use Rattle.std.specs.List.{AllByRecursion}
-use Rattle.std.specs.Option.{option_or, option_map_or}
+use Rattle.std.specs.Option.{option_map_or}
 use Rattle.std.specs.Str.{bytes_eq}
 use Rattle.std.specs.Str.Lines.{lines}
 use Rattle.mx_image.specs.Program.{Program, no_program, with_entry}
-use Rattle.mx_source.specs.Lines.{Line, Statement, line_of}
+use Rattle.mx_source.specs.Lines.{Line, line_of}
 use Rattle.mx_asm.specs.declared.places.Place.{Place}
-use Rattle.mx_asm.specs.declared.faults.SourceFault.{SourceFault}
 use Rattle.mx_asm.specs.declared.labels.LabelPlace.{LabelPlace}
 use Rattle.mx_asm.specs.Places.{start, place_after}
 use Rattle.mx_asm.specs.Labels.{Definition, definition_of, with_name, labels_from}
 use Rattle.mx_asm.specs.LabelViews.{definition_view}
 use Rattle.mx_asm.specs.Faults.{at_line, line_fault, offset_fault, fault_from, offset_from}
-use Rattle.mx_asm.specs.Denoted.{with_line, with_defined, with_statement, with_start, program_from, program_of, first_fault, labels_of_source}
+use Rattle.mx_asm.specs.Denoted.{with_line, with_defined, with_start, program_from, program_of, first_fault, labels_of_source}
 use Rattle.mx_asm.proofs.LineLaws.{IsLineAt}
 use Rattle.mx_asm.proofs.PlaceLaws.{or_none}
-use Rattle.mx_asm.proofs.Placed.{IsPlaced, IsStep, statement_step, label_below, label_placed, start_placed}
+use Rattle.mx_asm.proofs.Placed.{IsPlaced, IsStep, statement_step, label_below, label_placed}
 
 line_none : (number : ℕ) (fault : Option ℕ) → at_line number fault ≡ None → fault ≡ None
 line_none number None h = refl

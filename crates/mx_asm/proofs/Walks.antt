@@ -1,5 +1,5 @@
 -- One step of each walk through the lines.
-use Rattle.std.proofs.Common.{◌≡◌, ℕ, ◌+◌, List, [], ◌∷◌, ◌++◌, refl, ap, sym, ◌∙◌, Option, None, Some, option_map}
+use Rattle.std.proofs.Common.{◌≡◌, ℕ, ◌+◌, List, ◌∷◌, refl, Option, None, Some}
 use Rattle.std.specs.Option.{option_or}
 use Rattle.mx_source.specs.Lines.{Line, line_of}
 use Rattle.mx_asm.specs.declared.places.Place.{Place}

@@ -1,12 +1,10 @@
 -- What a source denotes: a program, or its first fault.
-use Rattle.std.specs.Prelude.{◌≡◌, ℕ, ◌+◌, ◌-◌, ◌*◌, ◌/◌, ◌%◌, ◌^◌, ◌==◌, List, [], ◌∷◌, ◌++◌, map, replicate, length, fold, Option, Some, None, is_some, unwrap_or, codes, if◌then◌else◌}
-use Rattle.std.specs.List.{flat_map}
+use Rattle.std.specs.Prelude.{◌≡◌, ℕ, ◌-◌, ◌%◌, ◌==◌, List, [], ◌∷◌, map, replicate, length, Option, Some, None, unwrap_or, codes, if◌then◌else◌}
 use Rattle.std.specs.Option.{option_map_or, option_or}
 use Rattle.std.specs.Str.Lines.{lines}
 use Rattle.mx_isa.specs.Table.{encoded}
-use Rattle.mx_image.specs.declared.segment.Segment.{Segment}
-use Rattle.mx_image.specs.Program.{Program, no_program, with_entry, with_segment, with_label, with_byte}
-use Rattle.mx_image.specs.Image.{little_endian, words}
+use Rattle.mx_image.specs.Program.{Program, no_program, with_entry, with_segment, with_label, with_bytes}
+use Rattle.mx_image.specs.Image.{words}
 use Rattle.mx_asm.specs.declared.places.Place.{Place}
 use Rattle.mx_source.specs.declared.mnemonics.Form.{Form}
 use Rattle.mx_source.specs.declared.mnemonics.Keyword.{Keyword}
@@ -16,7 +14,7 @@ use Rattle.mx_asm.specs.declared.refusal.AsmRefused.{AsmRefused}
 use Rattle.mx_asm.specs.declared.refusal.AsmRefused.TheVariants.{Fault, NoMemory}
 use Rattle.mx_source.specs.Numbers.{number_of, number_bits}
 use Rattle.mx_source.specs.Lines.{Statement, Absent, Unlisted, Listed, Line, line_of}
-use Rattle.mx_source.specs.Fields.{Fields, Value, Given, value_of, value_fields, label_fields, fields_of, no_value, fields}
+use Rattle.mx_source.specs.Fields.{Fields, value_of, value_fields, label_fields, fields_of}
 use Rattle.mx_asm.specs.Places.{address_of, ascii_of, start, place_after}
 use Rattle.mx_asm.specs.Labels.{Definition, definition_of, labels_from}
 use Rattle.mx_asm.specs.Instructions.{offset_of, bits_of_value, inst_of, upper_inst, low_inst}
@@ -49,10 +47,6 @@ bytes_of labels here Ascii operands = unwrap_or (ascii_of operands) []
 bytes_of labels here Li operands = option_map_or (λ f. words (pair_words labels f)) (value_fields operands) []
 bytes_of labels here La operands = option_map_or (λ f. words (pair_words labels f)) (label_fields operands) []
 bytes_of labels here (Inst form) operands = option_map_or (λ f. words (inst_word labels here form f ∷ [])) (fields_of form operands) []
-
--- a program with bytes at the end of its last segment
-abbrev pub with_bytes : List ℕ → Program → Program
-with_bytes bytes p = fold (λ q b. with_byte b q) p bytes
 
 -- with a segment of these flags begun at an address, which is the entry where it is the first
 abbrev pub with_begun : ℕ → ℕ → Program → Program

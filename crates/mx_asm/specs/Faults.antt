@@ -1,5 +1,5 @@
 -- The faults of a source by line and number.
-use Rattle.std.specs.Prelude.{ℕ, ◌+◌, ◌%◌, ◌^◌, ◌==◌, nat_lt, nat_le, min, Bool, true, false, not, ◌&&◌, ◌||◌, List, [], ◌∷◌, length, Option, Some, None, is_some, is_none, option_map, if◌then◌else◌}
+use Rattle.std.specs.Prelude.{ℕ, ◌+◌, ◌%◌, ◌^◌, ◌==◌, nat_lt, nat_le, min, Bool, true, false, not, ◌&&◌, ◌||◌, List, [], ◌∷◌, length, Option, Some, None, is_some, option_map, if◌then◌else◌}
 use Rattle.std.specs.Option.{option_map_or, option_or}
 use Rattle.mx_asm.specs.declared.places.Place.{Place}
 use Rattle.mx_source.specs.declared.number.Range.{Range}
@@ -7,7 +7,7 @@ use Rattle.mx_source.specs.declared.mnemonics.Keyword.{Keyword}
 use Rattle.mx_source.specs.declared.mnemonics.Keyword.TheVariants.{Text, Data, At, Word, Byte, Ascii, Li, La, Inst}
 use Rattle.mx_asm.specs.declared.faults.SourceFault.{SourceFault}
 use Rattle.mx_source.specs.Numbers.{number_of, fits}
-use Rattle.mx_source.specs.Lines.{Statement, Absent, Unlisted, Listed, Line, line_of}
+use Rattle.mx_source.specs.Lines.{Statement, Absent, Unlisted, Listed, line_of}
 use Rattle.mx_source.specs.Fields.{Value, Given, Label, Fields, value_of, value_fields, label_fields, fields_of, range_of, word_range, byte_range, address_range}
 use Rattle.mx_asm.specs.Places.{address_number, address_of, ascii_of, size_of, place_after}
 use Rattle.mx_asm.specs.Labels.{Definition, definition_of}

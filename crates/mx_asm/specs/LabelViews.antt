@@ -1,9 +1,8 @@
 -- What the code's labels mean.
 use Rattle.std.specs.Prelude.{ℕ, List, map}
 use Rattle.std.specs.Borrow.{Bor}
-use Rattle.std.specs.declared.hash.FoldHasher.{FoldHasher}
-use Rattle.std.specs.declared.hash.BuildHasherDefault.{BuildHasherDefault}
 use Rattle.indexmap.specs.IndexMap.{IndexMap}
+use Rattle.mx_asm.specs.declared.hashing.LabelHashing.{LabelHashing}
 use Rattle.mx_asm.specs.declared.labels.LabelPlace.{LabelPlace}
 use Rattle.mx_asm.specs.Labels.{Definition}
 
@@ -16,7 +15,7 @@ abbrev pub entry_view : Bor (List ℕ) × LabelPlace → Definition
 entry_view e = definition_view e.0.now e.1
 
 abbrev pub Labels : Type 0
-Labels = IndexMap (Bor (List ℕ)) LabelPlace (BuildHasherDefault FoldHasher)
+Labels = IndexMap (Bor (List ℕ)) LabelPlace LabelHashing
 
 -- the labels of the map, in its order
 abbrev pub labels_view : Labels → List Definition

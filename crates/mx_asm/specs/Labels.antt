@@ -3,7 +3,7 @@ use Rattle.std.specs.Prelude.{ℕ, ◌+◌, List, [], ◌∷◌, ◌++◌, find,
 use Rattle.std.specs.Option.{option_map_or}
 use Rattle.std.specs.Str.{bytes_eq}
 use Rattle.mx_asm.specs.declared.places.Place.{Place}
-use Rattle.mx_source.specs.Lines.{Line, line_of}
+use Rattle.mx_source.specs.Lines.{line_of}
 use Rattle.mx_asm.specs.Places.{place_after}
 
 -- a label, the address for which it stands, and the line that defines it first

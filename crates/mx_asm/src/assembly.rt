@@ -39,7 +39,8 @@ pub fn assemble(alloc: Global, text: &str) -> Result<Blob, AsmRefused>
 /// A source of at most 1048576 bytes without faults denotes a program whose image `read_image` and `symbol` read as the laws
 /// of mx_image say: with the program's entry, segments and labels.
 pub fn program_is_lawful()
-    ensures { (source : List ℕ) → length source ≤ 2 ^ 20 → first_fault source ≡ None → IsProgram (program_of source) }
+    ensures { (source : List ℕ) → length source ≤ 2 ^ 20 → first_fault source ≡ None
+        → IsProgram (program_of source) }
 {}
 
 /// The image of a program.

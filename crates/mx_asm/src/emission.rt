@@ -1,7 +1,7 @@
 //! The bytes of a program.
 ghost use Rattle.std.specs.Prelude.{◌≡◌, ◌≤◌, ◌<◌, ◌+◌, ◌^◌, ◌*◌, ◌∷◌, [], false, length, None, OnOk, IfOk, IsSome, IsTrue, IfSome, map, option_map, replicate, unwrap_or};
 ghost use Rattle.std.specs.Option.{option_map_or};
-ghost use Rattle.mx_image.specs.Program.{byte_count, with_entry};
+ghost use Rattle.mx_image.specs.Program.{byte_count, with_bytes, with_entry};
 ghost use Rattle.mx_image.specs.Image.{words};
 ghost use Rattle.mx_source.specs.Operands.{pieces_of, quoted_bytes, text_of};
 ghost use Rattle.mx_source.specs.Fields.{fields_of};
@@ -11,7 +11,7 @@ ghost use Rattle.mx_asm.specs.Places.{size_of, ascii_of};
 ghost use Rattle.mx_asm.specs.Faults.{operand_fault, offset_fits};
 ghost use Rattle.mx_asm.specs.Ready.{IsReady, IsReadyFor, IsGrown};
 ghost use Rattle.mx_asm.specs.LabelViews.{labels_view};
-ghost use Rattle.mx_asm.specs.Denoted.{word_of_value, byte_of_number, pair_words, inst_word, bytes_of, with_defined, with_statement, with_bytes, with_begun, with_listed, program_of, first_fault, labels_of_source};
+ghost use Rattle.mx_asm.specs.Denoted.{word_of_value, byte_of_number, pair_words, inst_word, bytes_of, with_defined, with_statement, with_begun, with_listed, program_of, first_fault, labels_of_source};
 
 use crate::instructions::{inst_word, pair_words, value_bits};
 use crate::labels::{LabelPlace, Labels, definition};
@@ -28,6 +28,10 @@ use std::alloc::Global;
 const CODE: u32 = 5;
 /// The flags of `.data`: readable and writable.
 const DATA: u32 = 6;
+/// A piece of zero bytes.
+const ZEROS: [u8; 256] = [0; 256];
+/// How many they are.
+const ZEROS_SIZE: u64 = 256;
 
 /// The program that a source without faults denotes, whose labels these are.
 pub(crate) fn program<'a>(
@@ -70,7 +74,8 @@ fn add_label<'a>(
 /// Makes the label `start`, if there is one, the address at which the program begins.
 fn set_start(program: &mut ProgramBuilder<'_>, start: Option<LabelPlace>)
     requires { IfSome start (λ place. place.address < 2 ^ 32) }
-    ensures { program.new ≡ option_map_or (λ place. with_entry place.address program.old) start program.old }
+    ensures { program.new
+        ≡ option_map_or (λ place. with_entry place.address program.old) start program.old }
 {
     if let Some(place) = start {
         program.set_entry(place.address as u32);
@@ -88,7 +93,8 @@ fn add_statement(
     requires segments { place.segments ≡ length program.old.segments }
     requires ready { IsReady (labels_view labels.now) place (statement_view statement) program.old }
     ensures { OnOk result (program.new
-        ≡ with_statement (labels_view labels.now) place.here (statement_view statement.entry) program.old) }
+        ≡ with_statement (labels_view labels.now) place.here
+        (statement_view statement.entry) program.old) }
 {
     match statement {
         Statement::Listed(keyword, operands) => add_listed(
@@ -109,9 +115,11 @@ fn add_listed(
     operands: &[u8],
 ) -> Result<(), NoMemory>
     requires segments { place.segments ≡ length program.old.segments }
-    requires ready { IsReadyFor (labels_view labels.now) place keyword (pieces_of operands.now) program.old }
+    requires ready { IsReadyFor (labels_view labels.now) place keyword
+        (pieces_of operands.now) program.old }
     ensures { OnOk result (program.new
-        ≡ with_listed (labels_view labels.now) place.here keyword (pieces_of operands.now) program.old) }
+        ≡ with_listed (labels_view labels.now) place.here keyword
+        (pieces_of operands.now) program.old) }
 {
     match keyword {
         Keyword::Text => begin(alloc, program, CODE, address(operands), place.segments),
@@ -155,9 +163,11 @@ fn add_content(
     requires begun { 0 < length program.old.segments }
     requires faultless { operand_fault (labels_view labels.now) keyword (pieces_of operands.now) ≡ None }
     requires fits { IsTrue (offset_fits (labels_view labels.now) here keyword (pieces_of operands.now)) }
-    requires room { byte_count program.old.segments + size_of keyword (pieces_of operands.now) here ≤ 2 ^ 23 }
+    requires room { byte_count program.old.segments
+        + size_of keyword (pieces_of operands.now) here ≤ 2 ^ 23 }
     ensures { OnOk result (program.new
-        ≡ with_bytes (bytes_of (labels_view labels.now) here keyword (pieces_of operands.now)) program.old) }
+        ≡ with_bytes (bytes_of (labels_view labels.now) here keyword (pieces_of operands.now))
+        program.old) }
 {
     match keyword {
         Keyword::Text | Keyword::Data => Ok(()),
@@ -171,29 +181,17 @@ fn add_content(
     }
 }
 
-/// Adds bytes.
-#[tactic(auto, using(crate::proofs::ProgramLaws::byte_steps))]
-fn add_bytes(program: &mut ProgramBuilder<'_>, bytes: &[u8]) -> Result<(), NoMemory>
-    requires begun { 0 < length program.old.segments }
-    requires room { byte_count program.old.segments + length bytes.now ≤ 2 ^ 31 }
-    ensures bytes { OnOk result (program.new ≡ with_bytes bytes.now program.old) }
-    ensures grown { OnOk result (IsGrown program.old (length bytes.now) program.new) }
-{
-    'bytes: for byte in bytes {
-        program.add_byte(*byte)?;
-    }
-    Ok(())
-}
-
-/// Adds zero bytes.
-#[tactic(auto, using(crate::proofs::ProgramLaws::byte_steps))]
+/// Adds zero bytes, piece by piece.
 fn add_zeros(program: &mut ProgramBuilder<'_>, count: u64) -> Result<(), NoMemory>
     requires begun { 0 < length program.old.segments }
     requires room { byte_count program.old.segments + count ≤ 2 ^ 31 }
     ensures { OnOk result (program.new ≡ with_bytes (replicate count 0) program.old) }
 {
-    'zeros: for _place in 0..count {
-        program.add_byte(0)?;
+    let mut left = count;
+    'pieces: while left > 0 {
+        let piece = left.min(ZEROS_SIZE);
+        program.add_bytes(&ZEROS[..piece as usize])?;
+        left -= piece;
     }
     Ok(())
 }
@@ -205,7 +203,7 @@ fn add_word(program: &mut ProgramBuilder<'_>, word: u32) -> Result<(), NoMemory>
     ensures bytes { OnOk result (program.new ≡ with_bytes (words (word ∷ [])) program.old) }
     ensures grown { OnOk result (IsGrown program.old 4 program.new) }
 {
-    add_bytes(program, &word.to_le_bytes())
+    program.add_bytes(&word.to_le_bytes())
 }
 
 /// Adds the values of `.word`.
@@ -217,7 +215,8 @@ fn add_values(
     requires begun { 0 < length program.old.segments }
     requires room { byte_count program.old.segments + 4 * length (pieces_of operands.now) ≤ 2 ^ 31 }
     ensures { OnOk result (program.new
-        ≡ with_bytes (words (map (word_of_value (labels_view labels.now)) (pieces_of operands.now))) program.old) }
+        ≡ with_bytes (words (map (word_of_value (labels_view labels.now)) (pieces_of operands.now)))
+        program.old) }
 {
     'pieces: for piece in Pieces::of(operands) {
         add_word(program, value_word(labels, piece))?;
@@ -239,7 +238,8 @@ fn value_word(labels: &Labels<'_>, piece: &[u8]) -> u32
 fn add_numbers(program: &mut ProgramBuilder<'_>, operands: &[u8]) -> Result<(), NoMemory>
     requires begun { 0 < length program.old.segments }
     requires room { byte_count program.old.segments + length (pieces_of operands.now) ≤ 2 ^ 31 }
-    ensures { OnOk result (program.new ≡ with_bytes (map byte_of_number (pieces_of operands.now)) program.old) }
+    ensures { OnOk result (program.new
+        ≡ with_bytes (map byte_of_number (pieces_of operands.now)) program.old) }
 {
     'pieces: for piece in Pieces::of(operands) {
         program.add_byte(number_byte(piece))?;
@@ -262,8 +262,10 @@ fn number_byte(piece: &[u8]) -> u8
 fn add_ascii(program: &mut ProgramBuilder<'_>, operands: &[u8]) -> Result<(), NoMemory>
     requires begun { 0 < length program.old.segments }
     requires text { IsSome (ascii_of (pieces_of operands.now)) }
-    requires room { byte_count program.old.segments + length (unwrap_or (ascii_of (pieces_of operands.now)) []) ≤ 2 ^ 31 }
-    ensures { OnOk result (program.new ≡ with_bytes (unwrap_or (ascii_of (pieces_of operands.now)) []) program.old) }
+    requires room { byte_count program.old.segments
+        + length (unwrap_or (ascii_of (pieces_of operands.now)) []) ≤ 2 ^ 31 }
+    ensures { OnOk result (program.new
+        ≡ with_bytes (unwrap_or (ascii_of (pieces_of operands.now)) []) program.old) }
 {
     match single(operands) {
         Some(text) => add_text(program, text),
@@ -276,8 +278,10 @@ fn add_ascii(program: &mut ProgramBuilder<'_>, operands: &[u8]) -> Result<(), No
 fn add_text(program: &mut ProgramBuilder<'_>, text: &[u8]) -> Result<(), NoMemory>
     requires begun { 0 < length program.old.segments }
     requires text { IsSome (text_of text.now) }
-    requires room { byte_count program.old.segments + length (unwrap_or (text_of text.now) []) ≤ 2 ^ 31 }
-    ensures { OnOk result (program.new ≡ with_bytes (unwrap_or (text_of text.now) []) program.old) }
+    requires room { byte_count program.old.segments
+        + length (unwrap_or (text_of text.now) []) ≤ 2 ^ 31 }
+    ensures { OnOk result (program.new
+        ≡ with_bytes (unwrap_or (text_of text.now) []) program.old) }
 {
     if text.is_empty() {
         return Ok(());
@@ -289,8 +293,10 @@ fn add_text(program: &mut ProgramBuilder<'_>, text: &[u8]) -> Result<(), NoMemor
 fn add_quoted(program: &mut ProgramBuilder<'_>, text: &[u8]) -> Result<(), NoMemory>
     requires begun { 0 < length program.old.segments }
     requires text { IsSome (quoted_bytes false text.now) }
-    requires room { byte_count program.old.segments + length (unwrap_or (quoted_bytes false text.now) []) ≤ 2 ^ 31 }
-    ensures { OnOk result (program.new ≡ with_bytes (unwrap_or (quoted_bytes false text.now) []) program.old) }
+    requires room { byte_count program.old.segments
+        + length (unwrap_or (quoted_bytes false text.now) []) ≤ 2 ^ 31 }
+    ensures { OnOk result (program.new
+        ≡ with_bytes (unwrap_or (quoted_bytes false text.now) []) program.old) }
 {
     let mut escape = false;
     'characters: for c in text {
@@ -318,8 +324,8 @@ fn add_pair(
     requires room { byte_count program.old.segments + 8 ≤ 2 ^ 31 }
     requires registers { IfSome found (λ f. AreRegisters (fields_view f)) }
     ensures { OnOk result (program.new
-        ≡ with_bytes (option_map_or (λ f. words (pair_words (labels_view labels.now) f)) (option_map fields_view found.entry) [])
-        program.old) }
+        ≡ with_bytes (option_map_or (λ f. words (pair_words (labels_view labels.now) f))
+        (option_map fields_view found.entry) []) program.old) }
 {
     match found {
         Some(fields) => {
@@ -341,10 +347,12 @@ fn add_inst(
 ) -> Result<(), NoMemory>
     requires begun { 0 < length program.old.segments }
     requires room { byte_count program.old.segments + 4 ≤ 2 ^ 31 }
-    requires fits { IsTrue (offset_fits (labels_view labels.now) here (Keyword.Inst form) (pieces_of operands.now)) }
+    requires fits { IsTrue (offset_fits (labels_view labels.now) here
+        (Keyword.Inst form) (pieces_of operands.now)) }
     ensures { OnOk result (program.new
-        ≡ with_bytes (option_map_or (λ f. words (inst_word (labels_view labels.now) here form f ∷ [])) (fields_of form (pieces_of operands.now)) [])
-        program.old) }
+        ≡ with_bytes
+        (option_map_or (λ f. words (inst_word (labels_view labels.now) here form f ∷ []))
+        (fields_of form (pieces_of operands.now)) []) program.old) }
 {
     match read_fields(form, operands) {
         Some(fields) => add_word(program, inst_word(labels, here, form, fields)),

@@ -125,7 +125,8 @@ fn address_fault(operands: &[u8]) -> Option<u32>
 
 /// The fault of fields with a value in a range.
 fn fields_fault(labels: &Labels<'_>, range: Range, found: Option<Fields<'_>>) -> Option<u32>
-    ensures { result ≡ fields_fault (labels_view labels.now) range (option_map fields_view found.entry) }
+    ensures { result
+        ≡ fields_fault (labels_view labels.now) range (option_map fields_view found.entry) }
 {
     match found {
         Some(fields) => value_fault(labels, range, fields.value),
@@ -257,7 +258,8 @@ fn line_fault(
     requires short { IsShort (2 ^ 20) statement }
     requires here { place.here < 2 ^ 62 }
     requires total { place.total < 2 ^ 62 }
-    ensures { result ≡ line_fault (labels_view labels.now) number place (label_view label.entry) (statement_view statement.entry) }
+    ensures { result ≡ line_fault (labels_view labels.now) number place
+        (label_view label.entry) (statement_view statement.entry) }
 {
     match statement {
         Statement::Absent => first_some(
@@ -301,7 +303,8 @@ fn offset_fits(labels: &Labels<'_>, here: u64, keyword: Keyword, operands: &[u8]
 /// 3 where an offset to a label is out of its range.
 #[tactic(auto, unfolding(crate::specs::Faults::offset_fault))]
 fn offset_fault(labels: &Labels<'_>, place: Place, statement: Statement<'_>) -> Option<u32>
-    ensures { result ≡ offset_fault (labels_view labels.now) place (statement_view statement.entry) }
+    ensures { result
+        ≡ offset_fault (labels_view labels.now) place (statement_view statement.entry) }
 {
     match statement {
         Statement::Listed(keyword, operands)

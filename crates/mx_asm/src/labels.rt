@@ -5,6 +5,7 @@ ghost use Rattle.mx_asm.specs.LabelViews.{labels_view, definition_view};
 ghost use Rattle.mx_source.specs.LineViews.{label_view};
 ghost use Rattle.mx_asm.specs.Denoted.{labels_of_source};
 
+use crate::hashing::LabelHashing;
 use crate::places::{place_after, start};
 use indexmap::IndexMap;
 use mx_source::read_line;
@@ -19,11 +20,12 @@ pub(crate) struct LabelPlace {
 }
 
 /// The labels by their names, in the order of their definitions.
-pub(crate) type Labels<'a> = IndexMap<&'a [u8], LabelPlace>;
+pub(crate) type Labels<'a> = IndexMap<&'a [u8], LabelPlace, LabelHashing>;
 
 /// The definition of a name.
 pub(crate) fn definition(labels: &Labels<'_>, name: &[u8]) -> Option<LabelPlace>
-    ensures { option_map (definition_view name.now) result ≡ definition_of (labels_view labels.now) name.now }
+    ensures { option_map (definition_view name.now) result
+        ≡ definition_of (labels_view labels.now) name.now }
 {
     labels.get(name).copied()
 }
@@ -36,8 +38,8 @@ fn define<'a>(
     address: u64,
     line: u32,
 ) -> Result<(), NoMemory>
-    ensures { OnOk result
-        (labels_view labels.new ≡ with_name (label_view label.entry) address line (labels_view labels.old)) }
+    ensures { OnOk result (labels_view labels.new
+        ≡ with_name (label_view label.entry) address line (labels_view labels.old)) }
 {
     let Some(name) = label else {
         return Ok(());
@@ -56,7 +58,7 @@ pub(crate) fn collect_labels(alloc: Global, source: &str) -> Result<Labels<'_>, 
     requires { length source.now ≤ 2 ^ 20 }
     ensures { IfOk result (λ labels. labels_view labels ≡ labels_of_source source.now) }
 {
-    let mut labels = IndexMap::new(alloc);
+    let mut labels = IndexMap::with_hasher(alloc, LabelHashing::of(source));
     let mut place = start();
     let mut number = 1;
     'lines: for text in source.lines() {

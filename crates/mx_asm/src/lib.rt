@@ -7,6 +7,7 @@
 mod assembly;
 mod emission;
 mod faults;
+mod hashing;
 mod instructions;
 mod labels;
 mod places;

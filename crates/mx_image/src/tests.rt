@@ -50,10 +50,11 @@ fn segment(alloc: Global, address: u32, flags: u32, content: &[u8]) -> Result<Se
 fn two_segments<'a>(alloc: Global) -> Result<Blob, NoMemory> {
     let mut program = ProgramBuilder::new(alloc);
     program.set_entry(0x8000_0000);
-    program.add_segment(segment(alloc, 0x8000_0000, 5, &[0x6F, 0, 0, 0])?)?;
+    program.add_segment(segment(alloc, 0x8000_0000, 5, &[])?)?;
+    program.add_bytes(&[0x6F, 0, 0, 0])?;
     program.add_segment(segment(alloc, 0x8000_0800, 5, &[])?)?;
     program.add_segment(segment(alloc, 0x8000_1000, 6, &[])?)?;
-    program.add_bytes(&[1])?;
+    program.add_byte(1)?;
     program.add_label(b"start", 0x8000_0000)?;
     program.add_label(b"k", 0x8000_1000)?;
     write(alloc, &program)

@@ -4,7 +4,7 @@ use Rattle.std.specs.List.{list_all, take_while, AllByRecursion}
 use Rattle.std.proofs.lemmas.Bool.{leb-true, and_parts}
 use Rattle.mx_source.specs.Characters.{begins_name, is_in_name, is_in_word, trim, trim_start, without_comment}
 use Rattle.mx_source.specs.Operands.{is_name, is_operand, pieces_of}
-use Rattle.mx_source.specs.Lines.{Line, Statement, Absent, no_line, is_word, statement_of, line_with_word, line_with_label, line_with_name, line_by_colon, trimmed_line, line_of}
+use Rattle.mx_source.specs.Lines.{Absent, no_line, is_word, statement_of, line_with_word, line_with_label, line_with_name, line_by_colon, trimmed_line, line_of}
 
 -- a label is a name, where there is one
 abbrev pub IsNamed : Option (List ℕ) → Type 0

@@ -1,14 +1,14 @@
 -- One step of each walk through a text.
-use Rattle.std.proofs.Common.{◌≡◌, ◌==◌, ℕ, ◌+◌, ◌-◌, ◌<◌, ◌≤◌, Bool, true, false, cond, List, [], ◌∷◌, ◌++◌, length, get_or, take, drop, reverse, refl, suc, nat_lt, add-one, ap, sym, ◌∙◌, arith, not, map}
+use Rattle.std.proofs.Common.{◌≡◌, ◌==◌, ℕ, ◌+◌, ◌<◌, ◌≤◌, Bool, true, false, cond, List, [], ◌∷◌, length, get_or, take, drop, reverse, refl, suc, nat_lt, add-one, ap, sym, ◌∙◌, arith, map}
 use Rattle.std.proofs.lemmas.List.{at_drop_more, at_drop_all, length-map, length-reverse, length-take}
 use Rattle.std.proofs.lemmas.Bool.{ne_eqb}
 use Rattle.mx_source.specs.OperandViews.{later_parts}
 use Rattle.mx_source.specs.Operands.{pieces_of}
 use Rattle.std.proofs.lemmas.Bool.Decides.{nat_tests}
-use Rattle.std.specs.List.{list_all, onto_first}
+use Rattle.std.specs.List.{onto_first}
 use Rattle.mx_source.specs.declared.characters.Quotes.{Quotes}
-use Rattle.mx_source.specs.declared.characters.Quotes.TheVariants.{Outside, Inside, Escape}
-use Rattle.mx_source.specs.Characters.{is_blank, trim_start, trim_end, trim, quotes_after, is_mark, mark_place, parts}
+use Rattle.mx_source.specs.declared.characters.Quotes.TheVariants.{Outside}
+use Rattle.mx_source.specs.Characters.{is_blank, trim_start, trim, quotes_after, is_mark, mark_place, parts}
 
 -- what stands before the first mark in the rest of a text
 pub mark_place-drop : (mark : ℕ) (quotes : Quotes) (text : List ℕ) (i : ℕ) → i < length text

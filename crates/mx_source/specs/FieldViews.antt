@@ -1,6 +1,5 @@
 -- What the code's fields mean.
-use Rattle.std.specs.Prelude.{◌≡◌, ℕ, ◌<◌, List, map, Option, option_map}
-use Rattle.std.specs.Borrow.{Bor}
+use Rattle.std.specs.Prelude.{◌<◌}
 use Rattle.mx_source.specs.declared.fields.Value.{Value as CodeValue}
 use Rattle.mx_source.specs.declared.fields.Value.TheVariants as code
 use Rattle.mx_source.specs.declared.fields.Fields.{Fields as CodeFields}

@@ -1,5 +1,5 @@
 -- What the code's values mean that hold parts of a source.
-use Rattle.std.specs.Prelude.{ℕ, ◌+◌, nat_lt, List, [], length, drop, if◌then◌else◌, map, Option, None, Some, option_map}
+use Rattle.std.specs.Prelude.{ℕ, ◌+◌, nat_lt, List, [], length, drop, if◌then◌else◌, map, Option, None, Some}
 use Rattle.std.specs.Borrow.{Bor}
 use Rattle.mx_source.specs.declared.characters.Quotes.TheVariants.{Outside}
 use Rattle.mx_source.specs.declared.operands.Indexed.{Indexed as CodeIndexed}

@@ -122,7 +122,8 @@ fn line_with_label<'a>(label: Option<&'a [u8]>, text: &'a [u8]) -> Line<'a>
 /// The line with a label and a word, whose operands are this text.
 #[tactic(auto, unfolding(crate::specs::Lines::line_with_word))]
 fn line_with_word<'a>(label: Option<&'a [u8]>, word: &'a [u8], operands: &'a [u8]) -> Line<'a>
-    ensures line { line_view result ≡ line_with_word (label_view label.entry) word.now operands.now }
+    ensures line { line_view result
+        ≡ line_with_word (label_view label.entry) word.now operands.now }
     ensures short { AreShort (length operands.now) result }
 {
     if !is_word(word) || !are_operands(operands) {

@@ -13,7 +13,8 @@ pub fn text_is_assembled()
     ensures faultless { (i : Inst) → IsValid i → first_fault (text_source i) ≡ None }
     ensures word { (i : Inst) → IsValid i → program_of (text_source i) ≡ record {
       entry = 0x80000000;
-      segments = record { address = 0x80000000; flags = 5; bytes = little_endian 4 (encoded i) } ∷ [];
+      segments =
+          record { address = 0x80000000; flags = 5; bytes = little_endian 4 (encoded i) } ∷ [];
       labels = [];
     } }
 {}

@@ -117,7 +117,8 @@ fn put_indexed<R: Sink>(
     n: u32,
     base: u32,
 ) -> Result<(), Failed>
-    ensures { Puts (R.state sink.old) (R.state sink.new) (indexed_text form register n base) result }
+    ensures { Puts (R.state sink.old) (R.state sink.new)
+        (indexed_text form register n base) result }
 {
     put_pieces(
         sink,

@@ -1,7 +1,6 @@
 use Rattle.mx_source.specs.Operands.{pieces_of}
 use Rattle.mx_asm.specs.Places.{ascii_of}
 use Rattle.mx_asm.specs.Faults.{operand_fault}
-use Rattle.mx_asm.specs.LabelViews.{labels_view}
 use Rattle.mx_asm.proofs.FaultLaws.{kind_some}
 use Rattle.mx_asm.proofs.emission.add_content.Goals as goal
 

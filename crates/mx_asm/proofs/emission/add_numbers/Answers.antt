@@ -1,4 +1,4 @@
-use Rattle.std.proofs.Common.{map, ap, ◌∙◌, ◌∷◌, sym}
+use Rattle.std.proofs.Common.{map, ap}
 use Rattle.mx_source.specs.Operands.{pieces_of}
 use Rattle.mx_source.specs.OperandViews.{pieces_left}
 use Rattle.mx_asm.specs.Denoted.{byte_of_number}

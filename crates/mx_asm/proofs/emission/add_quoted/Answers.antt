@@ -1,4 +1,4 @@
-use Rattle.std.proofs.Common.{ap, ◌∙◌, false, unwrap_or, []}
+use Rattle.std.proofs.Common.{false, unwrap_or, []}
 use Rattle.mx_source.specs.Operands.{quoted_bytes}
 use Rattle.mx_asm.proofs.TextLaws.{step_escape, step_mark, step_plain}
 use Rattle.mx_asm.proofs.emission.add_quoted.Goals as goal

@@ -1,5 +1,5 @@
-use Rattle.std.proofs.Common.{◌≡◌, map, ap, ◌∙◌, ◌∷◌, ◌++◌, [], sym, arith, length}
-use Rattle.std.proofs.lemmas.List.{length-append, length-map}
+use Rattle.std.proofs.Common.{◌≡◌, map, ap, ◌∙◌, ◌∷◌, [], arith, length}
+use Rattle.std.proofs.lemmas.List.{length-map}
 use Rattle.mx_image.specs.Image.{words}
 use Rattle.mx_source.specs.Operands.{pieces_of}
 use Rattle.mx_source.specs.OperandViews.{pieces_left}

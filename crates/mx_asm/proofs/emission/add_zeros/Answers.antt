@@ -1,8 +1,17 @@
-use Rattle.std.proofs.Common.{replicate, ℕ, ◌-◌, ◌+◌}
-use Rattle.mx_asm.proofs.ProgramLaws.{left_byte, zeros_less}
+use Rattle.std.proofs.Common.{◌≤◌, ◌-◌, ◌∙◌, ap, replicate, ℕ, arith}
+use Rattle.std.proofs.lemmas.List.{take-replicate}
+use Rattle.mx_image.specs.Program.{with_bytes}
+use Rattle.mx_asm.proofs.ProgramLaws.{left_bytes, zeros_split}
 use Rattle.mx_asm.proofs.emission.add_zeros.Goals as goal
 
-pub zeros-preserved : goal.zeros-preserved
-zeros-preserved c =
-    left_byte c.args.program.now (replicate {A = ℕ} c.args.count 0) c.zeros.program (replicate {A = ℕ} (c.args.count - c.zeros._place) 0) c.zeros.invariant
-    0 (replicate {A = ℕ} (c.args.count - (c.zeros._place + 1)) 0) c.add_byte.new.self (zeros_less c.args.count c.zeros._place c.zeros-test.true) c.in_ok-add_byte.ensures.ok
+pub pieces-preserved : goal.pieces-preserved
+pieces-preserved c =
+    let p = c.pieces.program in
+    let left = c.pieces.left in
+    let piece = c.min-piece.result in
+    let most : piece ≤ 256 = omega (arith, c.min-piece.ensures) in
+    let less : piece ≤ left = omega (arith, c.min-piece.ensures) in
+    left_bytes c.args.program.now (replicate {A = ℕ} c.args.count 0) p (replicate {A = ℕ} left 0) c.pieces.invariant
+    (replicate {A = ℕ} piece 0) (replicate {A = ℕ} (left - piece) 0) c.add_bytes.new.self
+    (zeros_split left piece (left - piece) (omega (arith, less)))
+    (c.in_ok-add_bytes.ensures.ok ∙ ap (λ bytes. with_bytes bytes p) (take-replicate piece 256 0 most))

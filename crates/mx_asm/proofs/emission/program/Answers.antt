@@ -1,17 +1,15 @@
-use Rattle.std.proofs.Common.{◌≡◌, ◌+◌, ◌∙◌, ap, sym, subst, length, drop, arith, ◌++◌, ◌∷◌, [], None, refl, codes, ℕ, List}
+use Rattle.std.proofs.Common.{◌≡◌, ◌+◌, ◌∙◌, ap, sym, length, arith, ◌++◌, ◌∷◌, [], refl, codes}
 use Rattle.std.proofs.lemmas.Iterator.Consumers.{YieldsList-turn, YieldsList-end}
 use Rattle.std.proofs.lemmas.Iterator.Splits.{YieldsList-from_lines}
 use Rattle.std.proofs.lemmas.List.{length_push, at_drop_all}
 use Rattle.std.specs.Str.Lines.{lines}
-use Rattle.mx_image.specs.Program.{no_program}
-use Rattle.mx_source.specs.Lines.{Line, line_of}
+use Rattle.mx_source.specs.Lines.{line_of}
 use Rattle.mx_source.specs.LineViews.{line_view}
-use Rattle.mx_asm.specs.Faults.{fault_from, offset_from}
-use Rattle.mx_asm.specs.Denoted.{program_from, program_of, with_start}
+use Rattle.mx_asm.specs.Denoted.{program_from}
 use Rattle.mx_asm.specs.LabelViews.{labels_view}
 use Rattle.mx_asm.proofs.LabelLaws.{is_some-map}
 use Rattle.mx_asm.proofs.LineLaws.{line_at}
-use Rattle.mx_asm.proofs.Placed.{IsPlaced, start_placed}
+use Rattle.mx_asm.proofs.Placed.{start_placed}
 use Rattle.mx_asm.proofs.Sources.{next_at, program_at, first_none, definition_below, found_place, program_done}
 use Rattle.mx_asm.proofs.emission.program.Goals as goal
 

@@ -1,4 +1,4 @@
-use Rattle.std.proofs.Common.{◌≡◌, ◌+◌, ◌≤◌, length, drop, None}
+use Rattle.std.proofs.Common.{◌≡◌, ◌+◌, length, drop, None}
 use Rattle.std.specs.Str.Lines.{lines}
 use Rattle.mx_image.specs.Program.{no_program}
 use Rattle.mx_asm.specs.Places.{start}

@@ -7,7 +7,6 @@ use Rattle.std.specs.Str.Lines.{lines}
 use Rattle.mx_source.specs.Lines.{line_of}
 use Rattle.mx_source.specs.LineViews.{line_view}
 use Rattle.mx_asm.specs.Faults.{fault_from, offset_from}
-use Rattle.mx_asm.specs.Places.{start}
 use Rattle.mx_asm.specs.LabelViews.{labels_view}
 use Rattle.mx_asm.proofs.LineLaws.{line_at}
 use Rattle.mx_asm.proofs.Walks.{faults_more, offsets_more, fault_here, first_told, offset_told, option_or-none}

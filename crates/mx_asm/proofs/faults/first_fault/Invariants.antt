@@ -1,10 +1,9 @@
-use Rattle.std.proofs.Common.{◌≡◌, ◌+◌, ◌*◌, ◌^◌, ◌≤◌, length, drop}
+use Rattle.std.proofs.Common.{◌≡◌, ◌+◌, ◌≤◌, length, drop}
 use Rattle.std.specs.Option.{option_or}
 use Rattle.std.specs.Str.Lines.{lines}
 use Rattle.mx_asm.specs.Faults.{fault_from, offset_from}
 use Rattle.mx_asm.specs.Places.{start}
 use Rattle.mx_asm.specs.LabelViews.{labels_view}
-use Rattle.mx_asm.specs.Denoted.{labels_of_source}
 use Rattle.mx_asm.proofs.LineLaws.{IsPlaceBound}
 use Rattle.mx_asm.proofs.faults.first_fault.Given as goal
 

@@ -1,4 +1,4 @@
-use Rattle.std.proofs.Common.{◌≡◌, ◌+◌, ◌*◌, ◌^◌, ◌≤◌, length, drop}
+use Rattle.std.proofs.Common.{◌≡◌, ◌+◌, ◌≤◌, length, drop}
 use Rattle.std.specs.Str.Lines.{lines}
 use Rattle.mx_asm.specs.Labels.{labels_from}
 use Rattle.mx_asm.specs.LabelViews.{labels_view}
