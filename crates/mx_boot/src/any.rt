@@ -22,6 +22,7 @@ use mx_machine::{HartView, Machine, StackArea, machine_is_valid};
 use mx_model::{Events, Frame, Gate, TurnKind};
 use mx_packed::Packed;
 use mx_segments::Segments;
+use mx_table::PermTables;
 use mx_upper::{Trie, Vector};
 use mx_words::{Need, Perm, Shown, Span};
 
@@ -63,6 +64,9 @@ macro_rules! each {
         }
     };
 }
+
+/// Lets a machine go.
+fn end<T: PermTables + Drop, const N: usize>(_machine: Machine<T, N>) {}
 
 impl AnyMachine {
     /// One turn of the hart of that number, which may be none (docs/MACHINE.md, "One turn"). What stood in `out` is dropped; the
@@ -269,6 +273,12 @@ impl AnyMachine {
         ensures { IsAreaOf (module_at (meaning self.now).core domain) result }
     {
         each!(self, machine => machine.stack_area(domain))
+    }
+
+    /// Lets the machine go, with the memory that it holds. A caller whose value goes out of scope does the same; this call keeps the
+    /// drop of nine kinds of machines out of the caller's proof.
+    pub fn end(self) {
+        each!(self, machine => end(machine))
     }
 }
 
