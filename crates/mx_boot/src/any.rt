@@ -66,9 +66,7 @@ macro_rules! each {
 }
 
 /// Lets a machine go.
-fn end<T: PermTables + Drop, const N: usize>(machine: Machine<T, N>) {
-    drop(machine);
-}
+fn end<T: PermTables + Drop, const N: usize>(_machine: Machine<T, N>) {}
 
 impl AnyMachine {
     /// One turn of the hart of that number, which may be none (docs/MACHINE.md, "One turn"). What stood in `out` is dropped; the

@@ -3,12 +3,13 @@
 ghost use Rattle.std.specs.Prelude.{◌≡◌};
 ghost use Rattle.std.specs.List.{list_any};
 ghost use Rattle.mx_words.specs.FirstRow.{first_row};
+ghost use Rattle.mx_elf.specs.Known.{HoldsIn};
 ghost use Rattle.mx_boot.specs.Entries.{entry_address, word_at};
 ghost use Rattle.mx_boot.specs.Faults.{entry_rows, holds_entry, is_entry};
 
 use crate::area::Area;
 use crate::refused::fault;
-use mx_elf::symbol;
+use mx_elf::{Symbols, symbol};
 use mx_manifest::{BootFault, EntryPlan, Place};
 use mx_words::RAM_BASE;
 
@@ -18,6 +19,17 @@ pub(crate) fn entry_address(bytes: &[u8], entry: &EntryPlan) -> Option<u32>
 {
     match entry {
         EntryPlan::Symbol(name) => symbol(bytes, name.as_str()),
+        EntryPlan::Address(address) => Some(*address),
+    }
+}
+
+/// The same, by symbols of the image that may be known already.
+pub(crate) fn known_address(bytes: &[u8], symbols: &Symbols, entry: &EntryPlan) -> Option<u32>
+    requires { HoldsIn bytes.now symbols.now }
+    ensures { result ≡ entry_address bytes.now entry.now }
+{
+    match entry {
+        EntryPlan::Symbol(name) => symbols.value(bytes, name.as_str()),
         EntryPlan::Address(address) => Some(*address),
     }
 }

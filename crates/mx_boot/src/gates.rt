@@ -4,18 +4,23 @@ ghost use Rattle.std.specs.Prelude.{◌≡◌, [], ◌∷◌, map};
 ghost use Rattle.std.specs.List.{flat_map};
 ghost use Rattle.mx_words.specs.FirstRow.{first_row};
 ghost use Rattle.mx_model.specs.Gates.{has_gate};
-ghost use Rattle.mx_boot.specs.Entries.{call_requests, request, requests, requests_of, return_request};
+ghost use Rattle.mx_elf.specs.Known.{HoldsIn};
+ghost use Rattle.mx_manifest.specs.declared.parts.EntryPlan.{EntryPlan};
+ghost use Rattle.mx_boot.specs.Entries.{entry_address, call_requests, request, requests, requests_of, return_request};
 ghost use Rattle.mx_boot.specs.Faults.{gate_rows};
 ghost use Rattle.mx_boot.specs.Laid.{AreAsked};
 ghost use Rattle.mx_boot.specs.Seen.{seen};
 
 use crate::area::Area;
-use crate::entries::{entry_address, entry_fault, word_at};
+use crate::entries::{entry_fault, known_address, word_at};
 use crate::home::{Home, home_at};
+use crate::named::gate_symbols;
 use crate::refused::{LayoutRefused, at_module, fault};
-use mx_manifest::{BootFault, EntryPlan, GatePlan, Key, Plan};
+use mx_elf::Symbols;
+use mx_manifest::{BootFault, GatePlan, Key, Plan};
 use mx_model::Gate;
 use mx_words::{Blob, MOST_GATES};
+use std::alloc::Global;
 
 /// A gate that is asked for.
 #[derive(Clone, Copy)]
@@ -28,11 +33,11 @@ pub(crate) struct Request {
     pub gate: Gate,
 }
 
-/// A gate into a module at one of its entries, for a domain.
-fn request_for(home: Home, key: Key, entry: &EntryPlan, domain: u32) -> Request
-    ensures { result ≡ request (seen home.entry) key entry.now domain }
+/// A gate into a module at the address that one of its entries means, for a domain.
+fn request_for(home: Home, key: Key, address: Option<u32>, domain: u32) -> Request
+    ensures { (entry : EntryPlan) → address ≡ entry_address (seen home.entry).bytes entry →
+        result ≡ request (seen home.entry) key entry domain }
 {
-    let address = entry_address(home.bytes, entry);
     let at = match address {
         Some(address) => address,
         None => 0,
@@ -93,12 +98,15 @@ fn ask_call(
     areas: &[Area],
     gates: &mut Vec<Gate>,
     home: Home,
+    symbols: &Symbols,
     gate: &GatePlan,
 ) -> Result<(), LayoutRefused>
+    requires { HoldsIn (seen home).bytes symbols.now }
     ensures { AreAsked areas.now gates.old.items (call_requests (seen home.entry) gate.now) gates.new.items result }
 {
+    let address = known_address(home.bytes, symbols, &gate.entry);
     'names: for k in 0..gate.from.len() {
-        let request = request_for(home, Key::Gates, &gate.entry, gate.from.get(k));
+        let request = request_for(home, Key::Gates, address, gate.from.get(k));
         match ask(areas, gates, request) {
             Ok(()) => {}
             Err(refused) => return Err(refused),
@@ -108,12 +116,18 @@ fn ask_call(
 }
 
 /// Adds the call gates of a module.
-fn ask_calls(areas: &[Area], gates: &mut Vec<Gate>, home: Home) -> Result<(), LayoutRefused>
+fn ask_calls(
+    areas: &[Area],
+    gates: &mut Vec<Gate>,
+    home: Home,
+    symbols: &Symbols,
+) -> Result<(), LayoutRefused>
+    requires { HoldsIn (seen home).bytes symbols.now }
     ensures { let h = seen home.entry in
         AreAsked areas.now gates.old.items (flat_map (call_requests h) h.plan.gates) gates.new.items result }
 {
     'gates: for k in 0..home.plan.gates.len() {
-        match ask_call(areas, gates, home, home.plan.gates.get(k)) {
+        match ask_call(areas, gates, home, symbols, home.plan.gates.get(k)) {
             Ok(()) => {}
             Err(refused) => return Err(refused),
         }
@@ -122,12 +136,19 @@ fn ask_calls(areas: &[Area], gates: &mut Vec<Gate>, home: Home) -> Result<(), La
 }
 
 /// Adds the return gates of a module.
-fn ask_returns(areas: &[Area], gates: &mut Vec<Gate>, home: Home) -> Result<(), LayoutRefused>
+fn ask_returns(
+    areas: &[Area],
+    gates: &mut Vec<Gate>,
+    home: Home,
+    symbols: &Symbols,
+) -> Result<(), LayoutRefused>
+    requires { HoldsIn (seen home).bytes symbols.now }
     ensures { let h = seen home.entry in
         AreAsked areas.now gates.old.items (map (return_request h) h.plan.returns) gates.new.items result }
 {
     'returns: for k in 0..home.plan.returns.len() {
-        let request = request_for(home, Key::Returns, home.plan.returns.get(k), home.domain);
+        let address = known_address(home.bytes, symbols, home.plan.returns.get(k));
+        let request = request_for(home, Key::Returns, address, home.domain);
         match ask(areas, gates, request) {
             Ok(()) => {}
             Err(refused) => return Err(refused),
@@ -136,18 +157,40 @@ fn ask_returns(areas: &[Area], gates: &mut Vec<Gate>, home: Home) -> Result<(), 
     Ok(())
 }
 
-/// Adds the gates of a module.
-fn ask_module(areas: &[Area], gates: &mut Vec<Gate>, home: Home) -> Result<(), LayoutRefused>
+/// Adds the gates of a module, whose symbols may be known already.
+fn ask_both(
+    areas: &[Area],
+    gates: &mut Vec<Gate>,
+    home: Home,
+    symbols: &Symbols,
+) -> Result<(), LayoutRefused>
+    requires { HoldsIn (seen home).bytes symbols.now }
     ensures { AreAsked areas.now gates.old.items (requests_of (seen home.entry)) gates.new.items result }
 {
-    match ask_calls(areas, gates, home) {
-        Ok(()) => ask_returns(areas, gates, home),
+    match ask_calls(areas, gates, home, symbols) {
+        Ok(()) => ask_returns(areas, gates, home, symbols),
         Err(refused) => Err(refused),
+    }
+}
+
+/// Adds the gates of a module.
+fn ask_module(
+    alloc: Global,
+    areas: &[Area],
+    gates: &mut Vec<Gate>,
+    home: Home,
+) -> Result<(), LayoutRefused>
+    ensures { AreAsked areas.now gates.old.items (requests_of (seen home.entry)) gates.new.items result }
+{
+    match gate_symbols(alloc, home) {
+        Ok(symbols) => ask_both(areas, gates, home, &symbols),
+        Err(_) => Err(LayoutRefused::NoMemory),
     }
 }
 
 /// Adds the gates of all modules, in the order in which they are judged; or the first of their faults.
 pub(crate) fn ask_gates(
+    alloc: Global,
     areas: &[Area],
     gates: &mut Vec<Gate>,
     plan: &Plan,
@@ -156,7 +199,7 @@ pub(crate) fn ask_gates(
     ensures { AreAsked areas.now gates.old.items (requests plan.now images.now) gates.new.items result }
 {
     'modules: for i in 0..plan.modules() {
-        match ask_module(areas, gates, home_at(plan, images, i)) {
+        match ask_module(alloc, areas, gates, home_at(plan, images, i)) {
             Ok(()) => {}
             Err(refused) => return Err(refused),
         }

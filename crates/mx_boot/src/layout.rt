@@ -49,7 +49,7 @@ pub fn lay_out(alloc: Global, plan: &Plan, images: &[Blob]) -> Result<Layout, La
         return Err(LayoutRefused::Fault(fault));
     }
     let mut gates = Vec::new(alloc);
-    if let Err(refused) = ask_gates(areas.as_slice(), &mut gates, plan, images) {
+    if let Err(refused) = ask_gates(alloc, areas.as_slice(), &mut gates, plan, images) {
         return Err(refused);
     }
     let mut starts = Vec::new(alloc);

@@ -15,6 +15,7 @@ mod joined;
 mod laws;
 mod layout;
 mod machine;
+mod named;
 mod owners;
 mod ram;
 mod refused;

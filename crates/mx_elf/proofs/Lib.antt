@@ -3,3 +3,4 @@ pub mod Loading
 pub mod Sound
 pub mod Examples
 pub mod Names
+pub mod Several

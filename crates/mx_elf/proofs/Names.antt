@@ -14,12 +14,12 @@ lt-suc a b = ⊎_elim
     (cases_lt a b)
 
 -- a name of one byte or more is not the empty one
-longer : (b : ℕ) (o : Option (List ℕ)) → option_map_or (λ found. bytes_eq found []) (option_map (λ name. b ∷ name) o) false ≡ false
+pub longer : (b : ℕ) (o : Option (List ℕ)) → option_map_or (λ found. bytes_eq found []) (option_map (λ name. b ∷ name) o) false ≡ false
 longer b None = refl
 longer b (Some n) = refl
 
 -- its first byte tells
-further : (b c : ℕ) (name : List ℕ) (o : Option (List ℕ)) →
+pub further : (b c : ℕ) (name : List ℕ) (o : Option (List ℕ)) →
     option_map_or (λ found. bytes_eq found (c ∷ name)) (option_map (λ n. b ∷ n) o) false ≡ ((b == c) && option_map_or (λ found. bytes_eq found name) o false)
 further b c name None = by (b == c)
   where

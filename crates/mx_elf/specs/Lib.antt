@@ -3,3 +3,4 @@ pub mod Header
 pub mod Segment
 pub mod Image
 pub mod Symbol
+pub mod Known

@@ -1,6 +1,6 @@
 //! The values of symbols.
 
-ghost use Rattle.std.specs.Prelude.{◌≡◌, ◌+◌, ◌*◌, ◌/◌, ◌<◌, ◌≤◌, length, drop, find, ◌==◌, IfSome, option_map};
+ghost use Rattle.std.specs.Prelude.{◌≡◌, ◌+◌, ◌*◌, ◌/◌, ◌<◌, ◌≤◌, ℕ, List, length, drop, find, ◌==◌, IfSome, option_map, option_and_then};
 ghost use Rattle.mx_elf.specs.Field.{places};
 ghost use Rattle.mx_elf.specs.Header.{e_shoff, e_shnum, sh_type};
 ghost use Rattle.mx_elf.specs.Symbol.{has_sections, symbol_table_of, section_place, section_bytes, HasNoZero, begins_with_name, is_defined, value_of, symbol_of};
@@ -21,11 +21,20 @@ use crate::layout::{
 pub fn symbol(bytes: &[u8], name: &str) -> Option<u32>
     ensures { result ≡ symbol_of bytes.now name.now }
 {
+    let (symbols, strings) = sections(bytes)?;
+    find_value(symbols, strings, name.as_bytes())
+}
+
+/// The symbols of the file and the strings that hold their names.
+#[tactic(auto, unfolding(crate::specs::Symbol::symbol_of))]
+pub(crate) fn sections(bytes: &[u8]) -> Option<(&[u8], &[u8])>
+    ensures { (name : List ℕ) → symbol_of bytes.now name ≡ option_and_then (λ s. value_of s.0.now s.1.now name) result }
+{
     let table = symbol_table(bytes)?;
     let symbols = section(bytes, table)?;
     let strings_at = section_header(bytes, word_at(bytes, table + SH_LINK))?;
     let strings = section(bytes, strings_at)?;
-    find_value(symbols, strings, name.as_bytes())
+    Some((symbols, strings))
 }
 
 /// Whether the file has section headers, of the usual size and all inside it.

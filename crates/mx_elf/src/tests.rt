@@ -1,4 +1,4 @@
-use crate::{Seg, read_image, symbol};
+use crate::{Seg, Symbols, read_image, symbol};
 use std::test::Fail;
 
 mod sums;
@@ -40,6 +40,15 @@ fn reads_the_image_of_a_linker(rt: HostRuntime) -> Result<(), Fail> {
     ];
     for (name, want) in symbols {
         assert_eq!(rt; symbol(SUMS, name), want, "{name}");
+    }
+    let asked = ["sum", "su", "sum\0", "greeting", "sum", "start", "sums"];
+    let together = Symbols::find(rt.alloc(), SUMS, &asked)
+        .ok()
+        .ok_or("no memory")?;
+    let none = Symbols::none(rt.alloc());
+    for (name, want) in symbols {
+        assert_eq!(rt; together.value(SUMS, name), want, "{name}");
+        assert_eq!(rt; none.value(SUMS, name), want, "{name}");
     }
     Ok(())
 }

@@ -3,7 +3,7 @@ use Rattle.std.specs.List.{flat_map}
 use Rattle.mx_boot.specs.Entries.{call_requests, return_request}
 use Rattle.mx_boot.specs.Seen.{seen}
 use Rattle.mx_boot.proofs.Asked.{asked-then, asked-stops}
-use Rattle.mx_boot.proofs.gates.ask_module.Goals as goal
+use Rattle.mx_boot.proofs.gates.ask_both.Goals as goal
 
 pub returns-in-Ok : goal.returns-in-Ok
 returns-in-Ok c =
