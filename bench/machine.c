@@ -344,10 +344,10 @@ int main(int argc, char **argv) {
         if (!load(m, argv[2])) return 2;
     } else {
         memset(m->perms[1], EXECUTE_READ, 7);
-        memset(m->perms[1] + 1024, READ_WRITE, 1024);
-        memset(m->perms[2] + 12288, EXECUTE_READ, 3);
+        memset(m->perms[1] + 1024, READ_WRITE, 64);
+        memset(m->perms[2] + 12288, EXECUTE_READ, 2);
         memcpy(m->ram, code, sizeof code);
-        m->x[2] = BASE + 8192;
+        m->x[2] = BASE + 4352;
     }
     struct timespec begun, ended;
     clock_gettime(CLOCK_THREAD_CPUTIME_ID, &begun);
