@@ -4,10 +4,8 @@ use mx_model::Events;
 
 /// Makes so many turns, fewer where 2^64 - 1 were made.
 pub fn make(machine: &mut Small, turns: u64, events: &mut Events) {
-    for _ in 0..turns {
-        if machine.steps() == u64::MAX {
-            break;
-        }
+    let turns = turns.min(u64::MAX - machine.steps());
+    for _i in 0..turns {
         machine.step(0, events);
     }
 }
