@@ -59,6 +59,7 @@ impl<T: PermTables, const N: usize> Bare<T, N> {
     }
 
     /// Whether the tables or the caches allow an access. The check is counted, and what was walked is kept.
+    #[inline(always)]
     pub fn may(&mut self, hart: u32, place: u32, domain: u32, addr: u32, access: Access) -> bool
         requires hart { hart < length self.old.harts }
         requires place { place < 32 }
@@ -85,6 +86,7 @@ impl<T: PermTables, const N: usize> Bare<T, N> {
     }
 
     /// The permission that the caches or the tables give for a word.
+    #[inline(always)]
     fn look(&mut self, hart: u32, place: u32, domain: u32, word: u32) -> Perm
         requires hart { hart < length self.old.harts }
         requires place { place < 32 }
@@ -109,6 +111,7 @@ impl<T: PermTables, const N: usize> Bare<T, N> {
     }
 
     /// The permission that the tables give for a word. What the walk found is kept, unless a heard call bars it.
+    #[inline(never)]
     fn walk(&mut self, hart: u32, place: u32, domain: u32, word: u32) -> Perm
         requires hart { hart < length self.old.harts }
         requires place { place < 32 }

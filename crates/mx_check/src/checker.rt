@@ -68,6 +68,7 @@ impl<T: PermTables, const N: usize> Checker<T, N> {
     /// outside RAM. The hart looks at place `place`, below 32, then in its buffer, then walks the tables: the answer is counted where
     /// it is found, and the tables' count of lookups rises where they are walked, once. The hart isn't halted, has no call in
     /// flight and has heard every other, and no other domain is kept for it.
+    #[inline(always)]
     pub fn may(&mut self, hart: u32, place: u32, domain: u32, addr: u32, access: Access) -> bool
         requires may { MayLook hart domain self.old.harts }
         requires place { place < 32 }
@@ -101,6 +102,7 @@ impl<T: PermTables, const N: usize> Checker<T, N> {
 
     /// Lets the hart hear every call in flight of another hart. For each that it hears for the first time, it drops its spans that
     /// meet the call's range. The hart isn't halted.
+    #[inline(never)]
     pub fn hear(&mut self, hart: u32)
         requires hart { hart < length self.old.harts }
         requires running { (hart_at self.old.harts hart).halted ≡ false }

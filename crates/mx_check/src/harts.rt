@@ -77,6 +77,7 @@ impl<const N: usize> Harts<N> {
     }
 
     /// As `Part::answer`, for one hart.
+    #[inline(always)]
     pub fn answer(&mut self, hart: u32, place: u32, domain: u32, word: u32) -> Option<Perm>
         requires hart { hart < length self.old }
         requires place { place < 32 }

@@ -75,6 +75,7 @@ impl<const N: usize> Part<N> {
     }
 
     /// The permission with which a place or the list answers for a word. It is counted, and the domain is kept.
+    #[inline(always)]
     pub fn answer(&mut self, place: u32, domain: u32, word: u32) -> Option<Perm>
         requires { place < 32 }
         ensures answer { result ≡ option_map (λ s. s.perm) (found place domain word self.old.cache) }
@@ -91,6 +92,7 @@ impl<const N: usize> Part<N> {
     }
 
     /// The permission with which the list answers for a word, which goes into the place. It is counted.
+    #[inline(always)]
     fn list_answer(&mut self, place: u32, domain: u32, word: u32) -> Option<Perm>
         requires { place < 32 }
         ensures answer { result ≡ option_map (λ s. s.perm) (found_kept self.old.cache.kept domain word) }

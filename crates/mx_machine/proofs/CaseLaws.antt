@@ -1,16 +1,18 @@
 -- A turn by its cases: what the hart's status, its domain and the gate at its pc decide.
-use Rattle.std.proofs.Common.{◌≡◌, ◌≢◌, ℕ, ◌+◌, ◌<◌, ◌%◌, Bool, true, false, not, cond, ◌==◌, nat_le, List, [], length, get_or, refl, sym, ap, subst, ◌∙◌, arith, if◌then◌else◌, Option, Some, None}
-use Rattle.std.specs.Prelude.{IfSome, option_map}
+use Rattle.std.proofs.Common.{◌≡◌, ◌≢◌, ℕ, ◌+◌, ◌<◌, ◌%◌, Bool, true, false, not, cond, ◌==◌, nat_le, List, [], ◌∷◌, length, get_or, refl, sym, ap, subst, ◌∙◌, arith, if◌then◌else◌, Option, Some, None}
+use Rattle.std.specs.Prelude.{IfSome, option_map, is_some}
 use Rattle.std.specs.Option.{option_map_or}
 use Rattle.mx_words.specs.Ranges.{word_of}
 use Rattle.mx_table.specs.Tables.{IsDomain}
 use Rattle.mx_check.specs.Harts.{hart_at as kept_at}
 use Rattle.mx_model.specs.declared.values.Call.{Call}
 use Rattle.mx_model.specs.declared.values.Gate.{Gate}
+use Rattle.mx_model.specs.declared.values.Note.{Note}
 use Rattle.mx_model.specs.declared.values.TurnKind.TheVariants as T
 use Rattle.mx_model.specs.Checks.{Look, hears, is_ready, looked_all}
 use Rattle.mx_model.specs.Checks.{is_halted as is_halted_in}
 use Rattle.mx_model.specs.Effect.{reg}
+use Rattle.mx_model.specs.Events.{Events, no_events}
 use Rattle.mx_model.specs.Gates.{gate_at, gate_target, is_at, most_frames}
 use Rattle.mx_model.specs.Reads.{Reads}
 use Rattle.mx_model.specs.Run.{flat_made}
@@ -220,3 +222,12 @@ turn-halted m h code w =
     let x = hart_of m.harts h in
     turned-halted (reads_of m) (core_in m) h (hart_in m h) code refl
     (ap (λ (s : Seen). s.status) (hart-in m h) ∙ ap (λ (p : Progress). status_by (own_call h x) (kept_at m.parts.harts h).flight p) w)
+
+-- what a turn that adds nothing leaves
+none-by : (bytes : List ℕ) (note : Option Note) → length bytes ≡ 0 → is_some note ≡ false → ◌≡◌ {A = Events} (record { bytes = bytes; note = note }) no_events
+none-by [] None few none = refl
+none-by [] (Some n) few none = absurd (cc)
+none-by (b ∷ bytes) told few none = absurd (omega arith)
+
+pub none-told : (e : Events) → length e.bytes ≡ 0 → is_some e.note ≡ false → e ≡ no_events
+none-told e few none = none-by e.bytes e.note few none

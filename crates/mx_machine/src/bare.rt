@@ -82,6 +82,7 @@ impl<T: PermTables, const N: usize> Bare<T, N> {
     }
 
     /// Lets the hart hear the others' calls. Where no hart waits there is none.
+    #[inline(always)]
     pub fn hear(&mut self, hart: u32)
         requires hart { hart < length self.old.parts.harts }
         requires running { (hart_at self.old.parts.harts hart).halted ≡ false }

@@ -27,6 +27,17 @@ const FRAMES: u32 = MOST_FRAMES as u32;
 /// x10 after a dead target sent a hart back.
 const SENT_BACK: u32 = 0xFFFF_FF14;
 
+/// Empties what a turn adds to. A turn mostly adds nothing, and then nothing is written.
+#[inline(always)]
+fn clear(out: &mut Events)
+    ensures { out.new ≡ no_events }
+{
+    if out.len() == 0 && out.note().is_none() {
+        return;
+    }
+    out.clear();
+}
+
 impl<T: PermTables, const N: usize> Bare<T, N> {
     /// One turn of the hart of that number, which may be none.
     pub fn step(&mut self, hart: u32, out: &mut Events) -> TurnKind
@@ -35,7 +46,7 @@ impl<T: PermTables, const N: usize> Bare<T, N> {
         ensures made { IsMade self.old self.new out.new result (flat_made (meaning self.old) hart) }
         ensures fits { Fits self.new }
     {
-        out.clear();
+        clear(out);
         self.steps += 1;
         match self.harts.progress(hart) {
             Progress::Halted(_) => TurnKind::Idle,

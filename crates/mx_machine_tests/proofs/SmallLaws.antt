@@ -1,5 +1,5 @@
 -- Small machines made by hand: their parts belong together, and they may start.
-use Rattle.std.proofs.Common.{◌≡◌, ℕ, zero, suc, ◌+◌, ◌-◌, ◌<◌, ◌≤◌, ◌≢◌, ◌⊎◌, inl, inr, List, [], ◌∷◌, ◌++◌, length, get_or, replicate, rules, Ok, Err, if◌then◌else◌, false, refl, sym, ap, subst, ◌∙◌, arith}
+use Rattle.std.proofs.Common.{◌≡◌, ℕ, zero, suc, ◌+◌, ◌-◌, ◌<◌, ◌≤◌, ◌≢◌, ◌⊎◌, ◌==◌, inl, inr, Bool, true, cond, List, [], ◌∷◌, ◌++◌, length, get_or, replicate, rules, Ok, Err, if◌then◌else◌, false, refl, sym, ap, subst, ◌∙◌, arith}
 use Rattle.std.specs.Prelude.{All, OnErr, OnOk, is_err, is_ok}
 use Rattle.std.specs.declared.result.Result.{Result}
 use Rattle.std.specs.List.{AllByRecursion}
@@ -14,14 +14,14 @@ use Rattle.mx_heap.specs.HeapState.{HeapState}
 use Rattle.mx_model.specs.declared.values.Gate.{Gate}
 use Rattle.mx_model.specs.Gates.{with_gate, without_gate}
 use Rattle.mx_model.specs.Valid.{IsGate}
-use Rattle.mx_model.proofs.ListLaws.{all-append, all-filter}
-use Rattle.mx_supervisor.specs.Heaps.{heap_at, no_heap, told_heap}
+use Rattle.mx_model.proofs.ListLaws.{all-append, all-at, all-filter}
+use Rattle.mx_supervisor.specs.Heaps.{heap_at, no_area, no_heap, told_heap}
 use Rattle.mx_supervisor.specs.Parts.{Parts, IsSound}
 use Rattle.mx_table.specs.Tables.{IsDomain, IsRow, map_of, no_span}
 use Rattle.mx_machine.specs.declared.starts.HartStart.{HartStart}
 use Rattle.mx_machine.specs.declared.starts.StackArea.{StackArea}
 use Rattle.mx_machine.specs.Starts.{IsStack, IsStart, MayStart}
-use Rattle.mx_machine_tests.specs.Small.{AreLaid, IsBegin, IsPlaced}
+use Rattle.mx_machine_tests.specs.Small.{AreLaid, HasArea, IsBegin, IsPlaced}
 
 -- a row of one span, and of two
 pub row-one : (s : Span) → 0 < s.count → s.first + s.count ≤ 16384 → IsRow 16384 (s ∷ [])
@@ -52,16 +52,12 @@ row-two s t some more apart inside = record { some = λ i l. count i l; sorted =
     end (suc zero) l = inside
     end (suc (suc i)) l = absurd (omega (arith, l))
 
--- no heap has an area
-no-heap-at : (n d : ℕ) → heap_at (replicate n no_heap) d ≡ no_heap
-no-heap-at n d = by (cases_lt (d - 1) n)
-  where
-    by : (d - 1 < n) ⊎ (n ≤ d - 1) → heap_at (replicate n no_heap) d ≡ no_heap
-    by (inl l) = get_or-replicate n (d - 1) no_heap no_heap l
-    by (inr l) = get_or-eq_default (replicate n no_heap) no_heap (subst (λ k. k ≤ d - 1) (sym (length-replicate n no_heap)) l)
-
-pub no-heap-more : (n : ℕ) → replicate n no_heap ++ no_heap ∷ [] ≡ replicate (n + 1) no_heap
-no-heap-more n = replicate-append-replicate n 1 no_heap
+-- a heap that is told lies where it lies
+told-area : (heap : HeapState) → HasArea heap → HasArea (told_heap heap)
+told-area heap inside = elim (heap.area.count == 0) as (λ (b : Bool). (cond b no_area heap.area).first + (cond b no_area heap.area).count ≤ 16384) [
+  | true ↦ omega arith
+  | false ↦ inside
+]
 
 -- what holds of all of a list, where it follows from what holds of all
 pub all-weaker : {X : Type 0} (P Q : X → Type 0) (xs : List X) → ((x : X) → P x → Q x) → AllByRecursion P xs → AllByRecursion Q xs
@@ -82,8 +78,8 @@ module _ (p : Parts) (count harts : ℕ) (rows : List (List Span)) (stacks : Lis
     maps = whole;
     ram = omega (arith, size, laid.bytes);
     owners = laid.words ∙ sym size;
-    heaps = ap (λ (hs : List HeapState). length hs) laid.no_heaps ∙ length-replicate count no_heap ∙ sym maps;
-    areas = λ d. subst (λ (h : HeapState). h.area.first + h.area.count ≤ p.size) (sym (ap (λ (hs : List HeapState). heap_at hs d) laid.no_heaps ∙ no-heap-at count d)) (omega (arith, size));
+    heaps = laid.one_heap ∙ sym maps;
+    areas = λ d. subst (λ n. (heap_at p.heaps d).area.first + (heap_at p.heaps d).area.count ≤ n) (sym size) (all-at HasArea p.heaps no_heap laid.heap_areas (omega arith) (d - 1));
   }
 
   pub small-starts : (starts : List HartStart) → 1 ≤ harts → length starts ≡ harts → p.harts ≡ new_harts harts → AllByRecursion (IsBegin count) starts → MayStart p starts stacks
@@ -103,14 +99,15 @@ pushed (Err a) new old x e p = absurd (let q : ⊥ = cc in q)
 -- a module more is laid out
 pub laid-more : (count harts : ℕ) (rows more : List (List Span)) (ram owners ram' owners' : List ℕ) (heaps heaps' : List HeapState) (stacks stacks' : List StackArea)
     (row : List Span) (heap : HeapState) (stack : StackArea) (first code : ℕ) → AreLaid count harts rows ram owners heaps stacks → IsPlaced first code stack.first stack.words → harts ≤ 4 →
-    IsRow 16384 row → more ≡ rows ++ row ∷ [] → length ram' ≡ 65536 → length owners' ≡ 16384 → heap ≡ record { area = record { first = 0; count = 0 }; blocks = [] } →
+    IsRow 16384 row → more ≡ rows ++ row ∷ [] → length ram' ≡ 65536 → length owners' ≡ 16384 → HasArea heap →
     heaps' ≡ heaps ++ told_heap heap ∷ [] → stacks' ≡ stacks ++ stack ∷ [] → AreLaid (count + 1) harts more ram' owners' heaps' stacks'
-laid-more count harts rows more ram owners ram' owners' heaps heaps' stacks stacks' row heap stack first code laid placed few is_row pushed bytes own empty hs ss = record {
+laid-more count harts rows more ram owners ram' owners' heaps heaps' stacks stacks' row heap stack first code laid placed few is_row pushed bytes own area hs ss = record {
   one_each = ap (λ (xs : List (List Span)). length xs) pushed ∙ length-append rows (row ∷ []) ∙ ap (λ k. k + 1) laid.one_each;
   are_rows = subst (λ (xs : List (List Span)). All (IsRow 16384) xs) (sym pushed) (All-append (IsRow 16384) rows (row ∷ []) laid.are_rows (search (rules, is_row)));
   bytes = bytes;
   words = own;
-  no_heaps = hs ∙ ap (λ (h : HeapState). heaps ++ told_heap h ∷ []) empty ∙ ap (λ (xs : List HeapState). xs ++ no_heap ∷ []) laid.no_heaps ∙ no-heap-more count;
+  one_heap = ap (λ (xs : List HeapState). length xs) hs ∙ length-append heaps (told_heap heap ∷ []) ∙ ap (λ k. k + 1) laid.one_heap;
+  heap_areas = subst (λ (xs : List HeapState). AllByRecursion HasArea xs) (sym hs) (all-append HasArea heaps (told_heap heap) laid.heap_areas (told-area heap area));
   one_area = ap (λ (xs : List StackArea). length xs) ss ∙ length-append stacks (stack ∷ []) ∙ ap (λ k. k + 1) laid.one_area;
   areas = subst (λ (xs : List StackArea). AllByRecursion (IsStack 16384 harts) xs) (sym ss)
       (all-append (IsStack 16384 harts) stacks stack laid.areas (inr (omega (arith, placed.within, mul-le-mul_left {m = harts} {n = 4} stack.words few))));

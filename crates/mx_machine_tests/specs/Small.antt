@@ -4,7 +4,6 @@ use Rattle.std.specs.List.{AllByRecursion}
 use Rattle.mx_words.specs.declared.perm.Span.{Span}
 use Rattle.mx_check.specs.declared.flight.Flight.{Flight}
 use Rattle.mx_heap.specs.HeapState.{HeapState}
-use Rattle.mx_supervisor.specs.Heaps.{no_heap}
 use Rattle.mx_table.specs.Tables.{IsRow}
 use Rattle.mx_machine.specs.declared.starts.HartStart.{HartStart}
 use Rattle.mx_machine.specs.declared.starts.HartState.{HartState}
@@ -20,13 +19,18 @@ pub record IsPlaced (first code stack words : ℕ) : Type 0 where
   pub behind : 1 ≤ words → first + code ≤ stack
   pub within : stack + words * 4 ≤ 16384
 
--- so many modules are laid out for so many harts: a row of permissions, no heap and a stack area for each
+-- a heap's area lies in RAM
+abbrev pub HasArea : HeapState → Type 0
+HasArea heap = heap.area.first + heap.area.count ≤ 16384
+
+-- so many modules are laid out for so many harts: a row of permissions, a heap and a stack area for each
 pub record AreLaid (count harts : ℕ) (rows : List (List Span)) (ram owners : List ℕ) (heaps : List HeapState) (stacks : List StackArea) : Type 0 where
   pub one_each : length rows ≡ count
   pub are_rows : All (IsRow 16384) rows
   pub bytes : length ram ≡ 65536
   pub words : length owners ≡ 16384
-  pub no_heaps : heaps ≡ replicate count no_heap
+  pub one_heap : length heaps ≡ count
+  pub heap_areas : AllByRecursion HasArea heaps
   pub one_area : length stacks ≡ count
   pub areas : AllByRecursion (IsStack 16384 harts) stacks
 

@@ -1,6 +1,6 @@
 //! Worked examples of turns, on machines made by hand.
 
-use crate::small::{Module, Small, machine};
+use crate::small::{Module, NO_HEAP, Small, machine};
 use mx_machine::{HartStart, HartStatus, HartView, StackArea};
 use mx_model::{Events, Fault, Gate, Note, TurnKind};
 use mx_words::Perm;
@@ -77,6 +77,7 @@ pub fn code(first: u32, words: &[u32]) -> Module {
         words,
         perm: Perm::ExecuteRead,
         stack: StackArea::default(),
+        heap: NO_HEAP,
     }
 }
 

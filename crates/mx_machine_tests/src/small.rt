@@ -8,7 +8,7 @@ ghost use Rattle.mx_words.specs.Ranges.{word_range};
 
 use mx_check::{Checker, Flight, Flights};
 use mx_gates::{CrossStack, Gates};
-use mx_heap::Heap;
+use mx_heap::{Block, Heap};
 use mx_machine::{
     HartStart, HartState, HartStates, HartStatus, Machine, StackArea, Stacks, Starts,
 };
@@ -35,13 +35,18 @@ pub const AMPLE: Need = Need {
     spill: 4096,
 };
 
-/// A module: the first word of its code, the code's words and their permission, and its stack area and whether it is killing.
+/// The heap area of a module that has none.
+pub const NO_HEAP: Block = Block { first: 0, count: 0 };
+
+/// A module: the first word of its code, the code's words and their permission, its stack area and whether it is killing, and its heap
+/// area.
 #[derive(Clone, Copy)]
 pub struct Module<'a> {
     pub first: u32,
     pub words: &'a [u32],
     pub perm: Perm,
     pub stack: StackArea,
+    pub heap: Block,
 }
 
 /// Whether a module's code and stack area lie in RAM.
@@ -57,6 +62,13 @@ fn is_placed(part: &Module) -> bool
         return stack.first <= 16384;
     }
     stack.words <= 64 && stack.first <= 16000 && part.first + count as u32 <= stack.first
+}
+
+/// Whether a heap area lies in RAM.
+fn is_area(heap: Block) -> bool
+    ensures { result ≡ true → heap.first + heap.count ≤ 16384 }
+{
+    heap.count <= WORDS && heap.first <= WORDS - heap.count
 }
 
 /// The permissions of a module for so many harts: those of its code, and read and write on its stack area.
@@ -99,6 +111,7 @@ fn fill(ram: &mut Ram, part: &Module)
 fn own(owners: &mut Owners, part: &Module, domain: u32, harts: u32)
     requires words { length owners.old ≡ 16384 }
     requires placed { IsPlaced part.now.first (length part.now.words.now) part.now.stack.first part.now.stack.words }
+    requires heap { part.now.heap.first + part.now.heap.count ≤ 16384 }
     requires some { 1 ≤ harts }
     requires few { harts ≤ 4 }
     ensures { length owners.new ≡ 16384 }
@@ -106,6 +119,9 @@ fn own(owners: &mut Owners, part: &Module, domain: u32, harts: u32)
     let _ = owners.give(domain, part.first, part.words.len() as u32);
     if part.stack.words > 0 {
         let _ = owners.give(domain, part.stack.first, part.stack.words * harts);
+    }
+    if part.heap.count > 0 {
+        let _ = owners.give(domain, part.heap.first, part.heap.count);
     }
 }
 
@@ -138,12 +154,13 @@ impl Layout {
         requires laid { AreLaid count harts self.old.rows.items self.old.ram self.old.owners self.old.heaps self.old.stacks }
         requires room { count < 63 }
         requires placed { IsPlaced part.now.first (length part.now.words.now) part.now.stack.first part.now.stack.words }
+        requires heap { part.now.heap.first + part.now.heap.count ≤ 16384 }
         requires some { 1 ≤ harts }
         requires few { harts ≤ 4 }
         ensures { OnOk result (AreLaid (count + 1) harts self.new.rows.items self.new.ram self.new.owners self.new.heaps self.new.stacks) }
     {
         let row = row(alloc, part, harts)?;
-        let heap = Heap::new(alloc, 0, 0)?;
+        let heap = Heap::new(alloc, part.heap.first, part.heap.count)?;
         if self.rows.push(row).is_err() {
             return Err(NoMemory);
         }
@@ -168,6 +185,9 @@ fn lay_out(alloc: Global, modules: &[Module], harts: u32) -> Option<Layout>
     for i in 0..modules.len() {
         let part = &modules[i];
         if !is_placed(part) {
+            return None;
+        }
+        if !is_area(part.heap) {
             return None;
         }
         if layout.add(alloc, part, i as u32, harts).is_err() {

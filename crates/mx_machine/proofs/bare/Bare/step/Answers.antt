@@ -18,7 +18,7 @@ returns-in-Halted g c =
     let h = c.args.hart in
     let at = sym (ap (λ (n : Held). (hart_of n.harts h).progress) c.self.view_is) ∙ sym c.progress.ensures ∙ c.in-Halted.is in
     record {
-      made = subst (λ (n : Held). IsMade m (counted n) c.clear.new.self T.Idle (flat_made (meaning m) h)) (sym c.self.view_is)
+      made = subst (λ (n : Held). IsMade m (counted n) c.clear.new.out T.Idle (flat_made (meaning m) h)) (sym c.self.view_is)
           (subst (λ (e : Events). IsMade m (counted m) e T.Idle (flat_made (meaning m) h)) (sym c.clear.ensures) (made-idle m h c.in-Halted.field-0 at));
       fits = subst (λ (n : Held). Fits (counted n)) (sym c.self.view_is) (fits-counted m c.requires.whole.fits);
     }

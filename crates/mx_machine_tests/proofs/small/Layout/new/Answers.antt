@@ -8,7 +8,8 @@ returns c = record {
   are_rows = rw c.new.ensures.items (search rules);
   bytes = ap (λ (xs : List ℕ). length xs) c.in_ok-new.ensures ∙ length-replicate {A = ℕ} 65536 0;
   words = ap (λ (xs : List ℕ). length xs) c.in_ok-new-2.ensures ∙ length-replicate {A = ℕ} 16384 0;
-  no_heaps = c.new-4.ensures;
+  one_heap = rw c.new-4.ensures refl;
+  heap_areas = rw c.new-4.ensures tt;
   one_area = rw c.new-5.ensures refl;
   areas = rw c.new-5.ensures tt;
 }
