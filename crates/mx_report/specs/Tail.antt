@@ -1,0 +1,25 @@
+-- A buffer of 4096 bytes before a sink: what has left for the sink, and what is held.
+use Rattle.std.specs.Prelude.{◌≡◌, ℕ, ◌*◌, ◌/◌, List, ◌++◌, length, take, drop, Result, OnOk, Ok, Err}
+use Rattle.mx_io.specs.Sink.{SinkState, Puts}
+
+-- how many bytes leave at once
+abbrev pub piece_bytes : ℕ
+piece_bytes = 4096
+
+-- of bytes that were added one after another: those of the whole pieces, which have left, and those behind them, which are held
+unfoldable pub sent : List ℕ → List ℕ
+sent all = take (length all / piece_bytes * piece_bytes) all
+
+unfoldable pub held : List ℕ → List ℕ
+held all = drop (length all / piece_bytes * piece_bytes) all
+
+-- bytes were added to those held: the whole pieces of all of them were put on the sink, and the rest is held
+pub record Adds {A E : Type 0} (before : List ℕ) (old new : SinkState) (after bytes : List ℕ) (result : Result A E) : Type 0 where
+  pub left : Puts old new (sent (before ++ bytes)) result
+  pub kept : OnOk result (after ≡ held (before ++ bytes))
+
+-- a text was put on a sink through a buffer: what was held and then the text are what was put on the sink and then what is held;
+-- where it failed, what was put on the sink is a prefix of what was held and then the text
+abbrev pub Passes : {A E : Type 0} → List ℕ → SinkState → SinkState → List ℕ → List ℕ → Result A E → Type 0
+Passes {A} {E} before old new after text (Ok a) = (gone : List ℕ) × (before ++ text ≡ gone ++ after) × Puts {A = A} {E = E} old new gone (Ok a)
+Passes {A} {E} before old new after text (Err e) = Puts {A = A} {E = E} old new (before ++ text) (Err e)

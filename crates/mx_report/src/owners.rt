@@ -1,0 +1,83 @@
+//! Lines of owners.
+ghost use Rattle.std.specs.Prelude.{◌≡◌, ◌≤◌};
+ghost use Rattle.mx_io.specs.Sink.{Puts};
+ghost use Rattle.mx_words.specs.Ranges.{most_words};
+ghost use Rattle.mx_report.specs.Tail.{Passes};
+ghost use Rattle.mx_report.specs.Lines.{owner_line, owner_text};
+ghost use Rattle.mx_report.specs.Texts.{owner_lines};
+
+use crate::gathered::{address, put_pieces};
+use crate::{Read, Tail};
+use mx_io::{Failed, Piece, Sink};
+
+/// Puts a line for each run of words that have one owner, a module.
+pub fn owner_lines<R: Sink, M: Read>(sink: &mut R, machine: &M) -> Result<(), Failed>
+    ensures { Puts (R.state sink.old) (R.state sink.new) (owner_lines (M.meaning machine.now).owners) result }
+{
+    let mut tail = Tail::new();
+    put_owners(&mut tail, sink, machine)?;
+    tail.end(sink)
+}
+
+pub(crate) fn put_owners<R: Sink, M: Read>(
+    tail: &mut Tail,
+    sink: &mut R,
+    machine: &M,
+) -> Result<(), Failed>
+    ensures { Passes tail.old (R.state sink.old) (R.state sink.new) tail.new (owner_lines (M.meaning machine.now).owners) result }
+{
+    machine.machine_is_valid();
+    let mut word = 0;
+    'runs: while word < machine.words() {
+        let end = machine.owner_end(word);
+        put_owner(tail, sink, word, end, machine.owner(word))?;
+        word = end;
+    }
+    Ok(())
+}
+
+// Puts the line of a run. One of the supervisor has none.
+fn put_owner<R: Sink>(
+    tail: &mut Tail,
+    sink: &mut R,
+    first: u32,
+    end: u32,
+    owner: u32,
+) -> Result<(), Failed>
+    requires first { first ≤ most_words }
+    requires end { end ≤ most_words }
+    ensures { Passes tail.old (R.state sink.old) (R.state sink.new) tail.new (owner_text first end owner) result }
+{
+    if owner == 0 {
+        Ok(())
+    } else {
+        put_owner_line(tail, sink, first, end, owner)
+    }
+}
+
+#[tactic(auto, unfolding(crate::specs::Lines::owner_line))]
+fn put_owner_line<R: Sink>(
+    tail: &mut Tail,
+    sink: &mut R,
+    first: u32,
+    end: u32,
+    owner: u32,
+) -> Result<(), Failed>
+    requires first { first ≤ most_words }
+    requires end { end ≤ most_words }
+    ensures { Passes tail.old (R.state sink.old) (R.state sink.new) tail.new (owner_line first end owner) result }
+{
+    put_pieces(
+        tail,
+        sink,
+        &[
+            Piece::Text("owner "),
+            Piece::Hex(address(first)),
+            Piece::Text(" "),
+            Piece::Hex(address(end)),
+            Piece::Text(" "),
+            Piece::Number(owner as u64),
+            Piece::Text("\n"),
+        ],
+    )
+}
