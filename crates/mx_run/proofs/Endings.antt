@@ -1,20 +1,20 @@
 -- How a call of the program ends.
-use Rattle.std.proofs.Common.{◌≡◌, ℕ, ◌<◌, ◌≤◌, ◌⊎◌, List, [], ◌∷◌, ◌++◌, length, take, flat_map, Option, Some, None, Result, Ok, Err, IsOk, T, refl, sym, ap, subst, ◌∙◌, inl, inr, arith}
+use Rattle.std.proofs.Common.{◌≡◌, ℕ, ◌<◌, ◌≤◌, List, [], ◌∷◌, ◌++◌, length, flat_map, Option, Some, None, Ok, Err, IsOk, T, refl, sym, subst, inl, inr, arith}
 use Rattle.std.specs.Prelude.{IsSome}
 use Rattle.std.proofs.lemmas.List.{append-nil}
-use Rattle.mx_io.specs.Texts.{appended, AppendsWhole, AppendsPrefix}
+use Rattle.mx_io.specs.Texts.{AppendsWhole, AppendsPrefix}
 use Rattle.mx_io.specs.Sink.{SinkState, Puts}
 use Rattle.mx_io.specs.Answer.{Answer, Talks}
 use Rattle.mx_io.proofs.Text.{appended-nil}
 use Rattle.mx_run.specs.declared.status.Status.{Status}
-use Rattle.mx_run.specs.declared.status.Status.TheVariants.{Usage, ConsoleFault, ReportFault, WantOfMemory}
+use Rattle.mx_run.specs.declared.status.Status.TheVariants.{Usage, ConsoleFault, ReportFault}
 use Rattle.mx_run.specs.declared.reading.ReadFault.{ReadFault}
 use Rattle.mx_run.specs.declared.reading.ReadFault.TheVariants as fault
 use Rattle.mx_run.specs.Words.{Request}
 use Rattle.mx_run.specs.Manifest.{Plan}
 use Rattle.mx_run.specs.Machine.{State, booted, run, notes}
 use Rattle.mx_run.specs.Report.{note_line, closing}
-use Rattle.mx_run.specs.Finding.{Finding, Absent, Large, Short, Broken, Whole, Finds}
+use Rattle.mx_run.specs.Finding.{Finding, Absent, Large, Short, Broken, Finds}
 use Rattle.mx_run.specs.Outcome.{Outcome, Wanted, Next, Read, End, unless, next, refusal, lack_of, run_text}
 use Rattle.mx_run.specs.Leads.{Leads}
 use Rattle.mx_run.specs.Reading.{Reads, Refuses}

@@ -43,14 +43,44 @@ next_large = refl
 
 -- a file of three bytes in two parts, and one that ended after two of them
 finds_whole : Finds 9 (codes "f") (Sized (codes "f") (Some (Some 3)) ∷ Gave (codes "f") 0 3 (Some (7 ∷ 8 ∷ [])) ∷ Gave (codes "f") 2 1 (Some (9 ∷ [])) ∷ []) (Whole (7 ∷ 8 ∷ 9 ∷ []))
-finds_whole =
-    (Some (Some 3), refl, inr (omega arith, (omega arith, Some (7 ∷ 8 ∷ []), refl, inl (7 ∷ 8 ∷ [], refl, omega arith,
-    (omega arith, Some (9 ∷ []), refl, inl (9 ∷ [], refl, omega arith, (refl, refl)))))))
+finds_whole = (
+  Some (Some 3),
+  refl,
+  inr (
+    omega arith,
+    (
+      omega arith,
+      Some (7 ∷ 8 ∷ []),
+      refl,
+      inl (
+        7 ∷ 8 ∷ [],
+        refl,
+        omega arith,
+        (omega arith, Some (9 ∷ []), refl, inl (9 ∷ [], refl, omega arith, (refl, refl))),
+      ),
+    ),
+  ),
+)
 
 finds_short : Finds 9 (codes "f") (Sized (codes "f") (Some (Some 3)) ∷ Gave (codes "f") 0 3 (Some (7 ∷ 8 ∷ [])) ∷ Gave (codes "f") 2 1 (Some []) ∷ []) (Short 3 2)
-finds_short =
-    (Some (Some 3), refl, inr (omega arith, (omega arith, Some (7 ∷ 8 ∷ []), refl, inl (7 ∷ 8 ∷ [], refl, omega arith,
-    (omega arith, Some [], refl, inr (refl, refl))))))
+finds_short = (
+  Some (Some 3),
+  refl,
+  inr (
+    omega arith,
+    (
+      omega arith,
+      Some (7 ∷ 8 ∷ []),
+      refl,
+      inl (
+        7 ∷ 8 ∷ [],
+        refl,
+        omega arith,
+        (omega arith, Some [], refl, inr (refl, refl)),
+      ),
+    ),
+  ),
+)
 
 -- the fields of ADDI x10, x10, 1, and a negative immediate
 addi_fields : is_addi 0x00150013 ≡ true

@@ -1,5 +1,5 @@
 -- Answers about one file: over a store that tells they come to its file, and the same answers come to one finding.
-use Rattle.std.proofs.Common.{◌≡◌, ℕ, ◌+◌, ◌-◌, ◌<◌, ◌≤◌, ◌⊎◌, true, false, nat_lt, List, [], ◌∷◌, ◌++◌, length, take, drop, Option, Some, None, option_map, unwrap_or, refl, sym, ap, subst, ◌∙◌, inl, inr, arith, length-append}
+use Rattle.std.proofs.Common.{◌≡◌, ℕ, ◌-◌, ◌<◌, ◌≤◌, ◌⊎◌, List, [], ◌∷◌, ◌++◌, length, take, drop, Option, Some, None, option_map, unwrap_or, refl, sym, ap, subst, ◌∙◌, inl, inr, arith, length-append}
 use Rattle.std.proofs.lemmas.Bool.{lt-ltb, le-ltb}
 use Rattle.std.proofs.lemmas.List.{take_all}
 use Rattle.std.proofs.Math.Seq.{take-add}
@@ -7,7 +7,7 @@ use Rattle.std.specs.FinMap.{get}
 use Rattle.mx_io.specs.Store.{FileMap, file_bytes}
 use Rattle.mx_io.specs.Answer.{Answer, Sized, Gave, HasSucceeded, IsOf, IsPart}
 use Rattle.mx_io.proofs.Talks.{Each}
-use Rattle.mx_run.specs.Finding.{Finding, Absent, Large, Short, Broken, Whole, EndsEarly, Completes, FindsSized, Finds, found_file, found_in}
+use Rattle.mx_run.specs.Finding.{Finding, Large, Short, Broken, Whole, EndsEarly, Completes, FindsSized, Finds, found_file, found_in}
 
 none_some : {A : Type 0} {a : A} → None ≡ Some a → ⊥
 none_some e = cc
@@ -19,7 +19,7 @@ some_same e = cc
 grown : (file got bytes : List ℕ) → got ≡ take (length got) file → bytes ≡ take (length bytes) (drop (length got) file) → (got ++ bytes) ≡ take (length (got ++ bytes)) file
 grown file got bytes front part =
     sym (ap (λ n. take n file) (length-append got bytes) ∙ take-add (length got) (length bytes) file
-        ∙ ap (λ xs. xs ++ take (length bytes) (drop (length got) file)) (sym front) ∙ ap (λ ys. got ++ ys) (sym part))
+    ∙ ap (λ xs. xs ++ take (length bytes) (drop (length got) file)) (sym front) ∙ ap (λ ys. got ++ ys) (sym part))
 
 -- no file ends early where calls succeed
 not_early : (files : FileMap) (name : List ℕ) (told at room : ℕ) (found : Finding) (part : Option (List ℕ)) → HasSucceeded (Gave name at room part) → IsOf files (Gave name at room part)
@@ -41,10 +41,10 @@ completes_over files name told size got (a ∷ more) found front ok of c =
     let given = subst (IsOf files) c.2 of.0 in
     let done = subst HasSucceeded c.2 ok.0 in
     elim c.3 [
-      inl h ↦
+      | inl h ↦
           completes_over files name told size (got ++ h.0) more found
           (grown (file_bytes files name) got h.0 front (part_given files name (length got) (told - length got) c.1 h.0 h.1 given).bytes) ok.1 of.1 h.3
-    | inr h ↦
+      | inr h ↦
           absurd (not_early files name told (length got) (told - length got) found c.1 done given (omega (arith, c.0)) (omega (arith, size, c.0)) h.0)
     ]
 
@@ -71,8 +71,8 @@ sized_over files name most (Some (Some told)) more found ok of oks ofs f =
     let bytes : file_bytes files name ≡ p.0 = ap (λ o. unwrap_or o []) p.1 in
     let size : length (file_bytes files name) ≡ told = ap length bytes ∙ p.2 in
     elim f [
-      inl h ↦ h.1 ∙ sym (ap (found_file most) p.1 ∙ found_large most p.0 (omega (arith, h.0, p.2)))
-    | inr h ↦
+      | inl h ↦ h.1 ∙ sym (ap (found_file most) p.1 ∙ found_large most p.0 (omega (arith, h.0, p.2)))
+      | inr h ↦
           completes_over files name told size [] more found refl oks ofs h.1 ∙ ap Whole bytes
           ∙ sym (ap (found_file most) p.1 ∙ found_small most p.0 (omega (arith, h.0, p.2)))
     ]
@@ -139,7 +139,7 @@ completes_decided name told got (a ∷ xs) (b ∷ ys) after other f g e c d =
     let heads : a ≡ b = head_same e in
     let parts = gave_same (sym c.2 ∙ heads ∙ d.2) in
     let p = after_decided name told got xs ys f g (λ bytes. completes_decided name told (got ++ bytes) xs ys after other f g (tail_same e)) d.1
-        (subst (λ (part : Option (List ℕ)). After name told got part xs f) parts c.3) d.3 in
+    (subst (λ (part : Option (List ℕ)). After name told got part xs f) parts c.3) d.3 in
     (p.0, cons_same heads p.1)
 
 sized_decided : (most : ℕ) (name : List ℕ) (size : Option (Option ℕ)) (xs ys after other : List Answer) (f g : Finding)
@@ -148,8 +148,8 @@ sized_decided most name None xs ys after other f g e c d = (c.0 ∙ sym d.0, c.1
 sized_decided most name (Some None) xs ys after other f g e c d = (c.0 ∙ sym d.0, c.1 ∙ sym d.1)
 sized_decided most name (Some (Some told)) xs ys after other f g e c d =
     elim c [
-      inl p ↦ elim d [ inl q ↦ (p.1 ∙ sym q.1, p.2 ∙ sym q.2) | inr q ↦ absurd (omega (arith, p.0, q.0)) ]
-    | inr p ↦ elim d [ inl q ↦ absurd (omega (arith, p.0, q.0)) | inr q ↦ completes_decided name told [] xs ys after other f g e p.1 q.1 ]
+      | inl p ↦ elim d [ inl q ↦ (p.1 ∙ sym q.1, p.2 ∙ sym q.2) | inr q ↦ absurd (omega (arith, p.0, q.0)) ]
+      | inr p ↦ elim d [ inl q ↦ absurd (omega (arith, p.0, q.0)) | inr q ↦ completes_decided name told [] xs ys after other f g e p.1 q.1 ]
     ]
 
 -- the same answers come to one finding, and no more and no fewer of them are about the file

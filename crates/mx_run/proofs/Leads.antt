@@ -1,12 +1,12 @@
 -- From answers to the outcome: over a store that tells it is that of the files, and the same answers lead to one.
-use Rattle.std.proofs.Common.{◌≡◌, ℕ, zero, suc, List, [], ◌∷◌, ◌++◌, Option, refl, sym, ap, subst, ◌∙◌}
+use Rattle.std.proofs.Common.{◌≡◌, ℕ, zero, suc, List, [], ◌∷◌, ◌++◌, Option, refl, sym, subst, ◌∙◌}
 use Rattle.std.proofs.lemmas.List.{append_cancel_left}
 use Rattle.mx_io.specs.Store.{FileMap}
 use Rattle.mx_io.specs.Answer.{Answer, HasSucceeded, IsOf}
 use Rattle.mx_io.proofs.Talks.{Each, each-front, each-rest}
 use Rattle.mx_run.specs.Words.{Request}
 use Rattle.mx_run.specs.Finding.{Finding, found_in, Finds}
-use Rattle.mx_run.specs.Outcome.{Outcome, Wanted, Next, Read, End, next}
+use Rattle.mx_run.specs.Outcome.{Outcome, Wanted, Read, End}
 use Rattle.mx_run.specs.Leads.{LeadsOn, Leads, LeadsOver, IsOutcome}
 use Rattle.mx_run.proofs.Findings.{finds_over, finds_decided}
 

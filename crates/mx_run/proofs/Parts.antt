@@ -1,5 +1,5 @@
 -- Parts of a file, put one after another at the place of the next.
-use Rattle.std.proofs.Common.{◌≡◌, ℕ, ◌+◌, ◌-◌, ◌<◌, ◌≤◌, List, [], ◌∷◌, ◌++◌, length, take, drop, min, Option, Some, None, option_map, IfOk, Result, Ok, Err, refl, sym, ap, subst, ◌∙◌, inl, inr, append_assoc, length-take, length-drop, arith}
+use Rattle.std.proofs.Common.{◌≡◌, ℕ, ◌+◌, ◌-◌, ◌<◌, ◌≤◌, List, [], ◌∷◌, ◌++◌, length, take, drop, Option, Some, None, option_map, IfOk, Result, Ok, Err, refl, sym, ap, subst, ◌∙◌, inl, inr, append_assoc, length-take, length-drop, arith}
 use Rattle.std.specs.Result.{result_ok}
 use Rattle.std.proofs.lemmas.List.{length-take-le, append-nil, take-append-le}
 use Rattle.std.proofs.lemmas.Slice.{take-put_mid_below}
@@ -33,8 +33,7 @@ module _ {S : Type 0} (gives : S → Answer → S → Type 0) (name : List ℕ) 
   -- one more part with bytes
   came_step : (s m t : S) (got part : List ℕ) → length got < told → 0 < length part → gives m (Gave name (length got) (told - length got) (Some part)) t → Came s m got → Came s t (got ++ part)
   came_step s m t got part short more step c =
-      let a = Gave name (length got) (told - length got) (Some part) in
-      (
+      let a = Gave name (length got) (told - length got) (Some part) in (
         c.0 ++ a ∷ [],
         talks_more gives s m t c.0 a c.1 step,
         λ rest found next. subst (λ (list : List Answer). Completes name told [] list found) (sym (append_assoc c.0 (a ∷ []) rest))

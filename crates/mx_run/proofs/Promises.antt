@@ -1,17 +1,17 @@
 -- What the top call promises, from how it reacts.
-use Rattle.std.proofs.Common.{◌≡◌, ◌≢◌, ℕ, ◌⊎◌, IsTrue, List, Option, Some, None, IfSome, refl, sym, ap, subst, ◌∙◌, inl, inr, []}
-use Rattle.mx_io.specs.Count.{Rose, Stays}
+use Rattle.std.proofs.Common.{◌≡◌, ◌≢◌, ◌⊎◌, IsTrue, Option, Some, None, IfSome, refl, ap, subst, inl, inr, []}
+use Rattle.mx_io.specs.Count.{Stays}
 use Rattle.mx_io.specs.Sink.{SinkState}
-use Rattle.mx_io.specs.Store.{FileMap, StoreState}
-use Rattle.mx_io.specs.Answer.{Answer, HasSucceeded, IsOf, Tells, Talks}
+use Rattle.mx_io.specs.Store.{StoreState}
+use Rattle.mx_io.specs.Answer.{Answer, Tells}
 use Rattle.mx_io.proofs.Text.{Stays-not-Rose}
-use Rattle.mx_io.proofs.Talks.{Each, Told, talks_told, all_succeeded}
+use Rattle.mx_io.proofs.Talks.{talks_told, all_succeeded}
 use Rattle.mx_run.specs.declared.status.Status.{Status}
 use Rattle.mx_run.specs.declared.status.Status.TheVariants.{WantOfMemory}
 use Rattle.mx_run.specs.Words.{Request}
 use Rattle.mx_run.specs.Outcome.{Outcome}
-use Rattle.mx_run.specs.Leads.{Leads, IsOutcome}
-use Rattle.mx_run.specs.Top.{Sinks, HasRoom, CountsKept, IsSinkFault, EndsBy, Ends, Wants, WritesNothing, Answered, Reacts}
+use Rattle.mx_run.specs.Leads.{IsOutcome}
+use Rattle.mx_run.specs.Top.{Sinks, HasRoom, CountsKept, IsSinkFault, EndsBy, Ends, WritesNothing, Answered, Reacts}
 use Rattle.mx_run.specs.Promise.{CountsStay, Gives, Headline, Completeness}
 use Rattle.mx_run.proofs.Leads.{leads_over, one_outcome}
 
@@ -24,10 +24,10 @@ no_fault : (outcome : Outcome) (b n : Sinks) (result : Status) → Stays b.conso
     → IsSinkFault outcome b n result → ⊥
 no_fault outcome b n result console report dump fault =
     elim fault [
-      inl h ↦ Stays-not-Rose b.console.faults n.console.faults console h.1.1
-    | inr h ↦ elim h [
-        inl k ↦ Stays-not-Rose b.report.faults n.report.faults report k.1.1
-      | inr k ↦ Stays-not-Rose b.dump.faults n.dump.faults dump k.1.1
+      | inl h ↦ Stays-not-Rose b.console.faults n.console.faults console h.1.1
+      | inr h ↦ elim h [
+        | inl k ↦ Stays-not-Rose b.report.faults n.report.faults report k.1.1
+        | inr k ↦ Stays-not-Rose b.dump.faults n.dump.faults dump k.1.1
       ]
     ]
 
@@ -54,27 +54,27 @@ module _ {S : Type 0} (state : S → StoreState) (gives : S → Answer → S →
       let said = talks_told state gives law s t r.0 r.1 in
       let ok = all_succeeded (state s).faults (state t).faults (Stays-not-Rose (state s).faults (state t).faults stays.store) r.0 said.failed in
       elim r.2 [
-        inl h ↦ (
+        | inl h ↦ (
           h.0,
           (h.1.0, leads_over h.1.0 asked files [] r.0 h.0 ok (said.told files told) h.1.1),
           gives_from h.0 b n result (no_fault h.0 b n result stays.console stays.report stays.dump) h.2.how,
         )
-      | inr w ↦ absurd (enough w.0)
+        | inr w ↦ absurd (enough w.0)
       ])
 
   pub complete_for : Reacts asked gives s t b n result → Completeness asked (state s) (state t) b n result
   complete_for r =
       if_some (state s).told
       (λ files. (outcome : Outcome) → IsOutcome asked files outcome → IsTrue (state s).sure → HasRoom outcome b
-          → ((state t).faults ≡ (state s).faults) × CountsKept b n × ((result ≡ WantOfMemory) ⊎ Gives outcome b n result))
+      → ((state t).faults ≡ (state s).faults) × CountsKept b n × ((result ≡ WantOfMemory) ⊎ Gives outcome b n result))
       (λ files told outcome is sure room.
       let said = talks_told state gives law s t r.0 r.1 in
       let ok = said.sure sure in
       elim r.2 [
-        inl h ↦
+        | inl h ↦
             let same : h.0 ≡ outcome = one_outcome asked files h.0 outcome (h.1.0, leads_over h.1.0 asked files [] r.0 h.0 ok.0 (said.told files told) h.1.1) is in
             let ends = subst (λ (o : Outcome). Ends o b n result) same h.2 in
             let e = ends.sure room in
             (ok.1, e.2, inr (e.0, e.1))
-      | inr w ↦ (ok.1, kept_nothing b n w.2, inl w.0)
+        | inr w ↦ (ok.1, kept_nothing b n w.2, inl w.0)
       ])

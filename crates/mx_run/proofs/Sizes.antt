@@ -1,5 +1,5 @@
 -- The reading of a file from the answer about its size on.
-use Rattle.std.proofs.Common.{◌≡◌, ℕ, ◌<◌, ◌≤◌, List, [], ◌∷◌, Some, None, Vec, Global, Result, Ok, Err, refl, inl, inr}
+use Rattle.std.proofs.Common.{ℕ, ◌<◌, ◌≤◌, List, [], ◌∷◌, Some, None, Vec, Global, Result, Ok, Err, refl, inl, inr}
 use Rattle.mx_io.specs.Answer.{Answer, Sized, Talks}
 use Rattle.mx_run.specs.declared.reading.ReadFault.{ReadFault}
 use Rattle.mx_run.specs.declared.reading.ReadFault.TheVariants as fault

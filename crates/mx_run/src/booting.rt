@@ -52,13 +52,7 @@ fn manifest_file(name: &str) -> Wanted<'_>
 }
 
 /// Runs the manifest with these bytes, or refuses it by its first fault.
-fn judge<R: Sink>(
-    alloc: Global,
-    manifest: &str,
-    steps: u64,
-    bytes: &[u8],
-    report: &mut R,
-) -> Status
+fn judge<R: Sink>(alloc: Global, manifest: &str, steps: u64, bytes: &[u8], report: &mut R) -> Status
     requires { steps < 10 ^ 10 }
     ensures { (console dump : SinkState) → EndsOrWants (judgement manifest.now steps (judged bytes.now))
         (sinks console (R.state report.old) dump) (sinks console (R.state report.new) dump) result }

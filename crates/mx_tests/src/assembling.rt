@@ -1,7 +1,8 @@
 //! The command `asm`: images, and sources, files and sinks that have none.
 
 use crate::manifests::{answer, call};
-use mx_elf::read_image;
+use crate::packets::{CONSOLE, DRIVER, PROTO};
+use mx_elf::{read_image, symbol};
 use mx_io::{Bytes, Files, Loose};
 use mx_run::Status;
 use std::alloc::{AllocError, Global};
@@ -33,6 +34,75 @@ fn an_image_goes_to_the_console(rt: HostRuntime) -> Result<(), Fail> {
     let words = b"\xb7\x08\x00\x00\x93\x88\x18\x00\x73\x00\x00\x00";
     assert!(rt; bytes.len() > 96);
     assert_eq!(rt; &bytes[84..96], words.as_slice());
+    Ok(())
+}
+
+/// Labels of a module with their addresses.
+type Labels = [(&'static str, u32); 3];
+
+/// The modules: the source, where its code begins and how many bytes it has, where its data begin, and labels.
+const MODULES: [(&str, u32, u32, u32, Labels); 3] = [
+    (
+        DRIVER,
+        0x8000_0000,
+        120,
+        0x8000_1000,
+        [
+            ("start", 0x8000_0000),
+            ("idle", 0x8000_0074),
+            ("table", 0x8000_1000),
+        ],
+    ),
+    (
+        PROTO,
+        0x8001_0000,
+        72,
+        0x8001_1000,
+        [
+            ("receive", 0x8001_0000),
+            ("receive_back", 0x8001_0040),
+            ("idle", 0x8001_0044),
+        ],
+    ),
+    (
+        CONSOLE,
+        0x8002_0000,
+        28,
+        0x8002_1000,
+        [
+            ("print", 0x8002_0000),
+            ("print_back", 0x8002_0014),
+            ("line", 0x8002_1000),
+        ],
+    ),
+];
+
+#[test]
+fn three_modules_of_fifteen_kib(rt: HostRuntime) -> Result<(), Fail> {
+    for (source, at, code, data, labels) in MODULES {
+        let mut files = Files::new(rt.alloc());
+        files.add("module.s", source.as_bytes())?;
+        let mut console = Bytes::new(rt.alloc(), 10000)?;
+        let mut report = Bytes::new(rt.alloc(), 100)?;
+        let words = ["asm", "module.s"];
+        let status = call(rt.alloc(), &words, &mut files, &mut console, &mut report)?;
+        assert_eq!(rt; status, Status::Ran);
+        let bytes = console.as_slice();
+        assert_eq!(rt; bytes.len(), 5120);
+        let image = read_image(bytes).ok().ok_or("the image is refused")?;
+        assert_eq!(rt; (image.entry, image.segments.len()), (at, 2));
+        for segment in 0..image.segments.len() {
+            let segment = image.segments.get(segment);
+            if segment.flags == 5 {
+                assert_eq!(rt; (segment.address, segment.file), (at, code));
+            } else {
+                assert_eq!(rt; (segment.address, segment.flags), (data, 6));
+            }
+        }
+        for (name, address) in labels {
+            assert_eq!(rt; symbol(bytes, name), Some(address), "{name}");
+        }
+    }
     Ok(())
 }
 

@@ -8,6 +8,8 @@ mod manifests;
 #[cfg(test)]
 mod outside;
 #[cfg(test)]
+mod packets;
+#[cfg(test)]
 mod runs;
 #[cfg(test)]
 mod tables;
