@@ -12,7 +12,7 @@ use Rattle.mx_run.specs.declared.reading.ReadFault.{ReadFault}
 use Rattle.mx_run.specs.declared.reading.ReadFault.TheVariants as fault
 use Rattle.mx_run.specs.Words.{Request}
 use Rattle.mx_run.specs.Finding.{Finding, Absent, Large, Short, Broken, Finds}
-use Rattle.mx_run.specs.Outcome.{Outcome, Wanted, Next, Read, End, unless, next, refusal, lack_of, run_text}
+use Rattle.mx_run.specs.Outcome.{Outcome, Wanted, Next, Read, End, refusal}
 use Rattle.mx_run.specs.Leads.{Leads}
 use Rattle.mx_run.specs.Reading.{Reads, Refuses}
 use Rattle.mx_run.specs.Top.{Sinks, sinks, Holds, Ends, EndsOrWants, Reacts}

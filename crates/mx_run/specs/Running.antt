@@ -49,12 +49,12 @@ HasTurns (code.Quantum quantum) = 1 ≤ quantum
 HasTurns (code.Bytes bytes) = Unit {0}
 
 -- the harts take their quanta in order: the hart whose turn is next, and how many turns of its quantum are left
-pub record IsRound (quantum : ℕ) (c : Core) (whole last hart left : ℕ) : Type 0 where
+pub record IsRound (quantum : ℕ) (c : Core) (whole last next rest : ℕ) : Type 0 where
   pub some : 1 ≤ quantum
-  pub whole : whole ≡ quantum
-  pub last : last + 1 ≡ length c.harts
-  pub hart : hart ≡ c.turns / quantum % length c.harts
-  pub left : left + c.turns % quantum ≡ quantum
+  pub same : whole ≡ quantum
+  pub harts : last + 1 ≡ length c.harts
+  pub turn : next ≡ c.turns / quantum % length c.harts
+  pub left : rest + c.turns % quantum ≡ quantum
 
 -- a schedule where so many turns were made
 abbrev pub IsPace : Schedule → Core → Pace → Type 0

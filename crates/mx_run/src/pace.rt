@@ -27,7 +27,7 @@ pub(crate) enum Pace<'a> {
 pub(crate) fn begin(schedule: Schedule<'_>, harts: u32) -> Pace<'_>
     requires harts { 1 ≤ harts }
     requires quantum { HasTurns schedule }
-    ensures { (c : Core) → c.turns ≡ 0 → length c.harts ≡ harts → IsPace (schedule_of schedule) c result }
+    ensures { (c : Core) → c.turns ≡ 0 → length c.harts ≡ harts → IsPace (schedule_of schedule.entry) c result }
 {
     match schedule {
         Schedule::Quantum(quantum) => Pace::Quantum(quantum, harts - 1, 0, quantum),

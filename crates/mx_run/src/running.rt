@@ -86,7 +86,7 @@ fn run_any<C: Sink, R: Sink, D: Sink>(
     requires names { map (λ name. name.now) names.now ≡ names_of plan.now }
     requires quantum { HasTurns schedule }
     requires fresh { IsFresh plan.now (meaning machine) }
-    ensures { (s : State) → IsNew s → meaning machine ≡ flat s → Ends (ran (order_of order.now) plan.now s (schedule_of schedule))
+    ensures { (s : State) → IsNew s → meaning machine ≡ flat s → Ends (ran (order_of order.now) plan.now s (schedule_of schedule.entry))
         (sinks (C.state console.old) (R.state report.old) (D.state dump.old))
         (sinks (C.state console.new) (R.state report.new) (D.state dump.new)) result }
 {
@@ -136,7 +136,7 @@ fn run_machine<T: PermTables, const N: usize, C: Sink, R: Sink, D: Sink>(
     requires names { map (λ name. name.now) names.now ≡ names_of plan.now }
     requires quantum { HasTurns schedule }
     requires fresh { IsFresh plan.now machine.old }
-    ensures { (s : State) → IsNew s → machine.old ≡ flat s → Ends (ran (order_of order.now) plan.now s (schedule_of schedule))
+    ensures { (s : State) → IsNew s → machine.old ≡ flat s → Ends (ran (order_of order.now) plan.now s (schedule_of schedule.entry))
         (sinks (C.state console.old) (R.state report.old) (D.state dump.old))
         (sinks (C.state console.new) (R.state report.new) (D.state dump.new)) result }
 {

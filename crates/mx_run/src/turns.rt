@@ -30,7 +30,7 @@ pub(crate) fn make_turns<T: PermTables, const N: usize, C: Sink, R: Sink>(
     requires quantum { HasTurns schedule }
     ensures keeps { KeepsShape machine.old machine.new }
     ensures runs { (s : State) → Begins s machine.old (places (C.state console.old) shown.old (R.state report.old) told.old)
-        → RunsOrStops (run (schedule_of schedule) steps s) machine.new (places (C.state console.old) shown.old (R.state report.old) told.old)
+        → RunsOrStops (run (schedule_of schedule.entry) steps s) machine.new (places (C.state console.old) shown.old (R.state report.old) told.old)
             (places (C.state console.new) shown.new (R.state report.new) told.new) result }
 {
     machine_is_valid(machine);

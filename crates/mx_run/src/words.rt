@@ -145,7 +145,7 @@ fn plain_order(manifest: &str, steps: u64) -> Order<'_>
 
 fn asked_by(parse: Parse<'_>) -> Option<Asked<'_>>
     requires { ParsesFewSteps parse }
-    ensures meaning { option_map request_of result ≡ asked_by (parsed_of parse) }
+    ensures meaning { option_map request_of result ≡ asked_by (parsed_of parse.entry) }
     ensures steps { IfSome result HasFewSteps }
 {
     match parse {
@@ -158,7 +158,7 @@ fn asked_by(parse: Parse<'_>) -> Option<Asked<'_>>
 /// The order with options.
 fn with_options<'a>(order: Order<'a>, options: &'a [String]) -> Parse<'a>
     requires { order.steps < 10 ^ 10 }
-    ensures parsed { parsed_of result ≡ fold with_word (Stands (order_of order)) (map string_bytes options.now) }
+    ensures parsed { parsed_of result ≡ fold with_word (Stands (order_of order.entry)) (map string_bytes options.now) }
     ensures steps { ParsesFewSteps result }
 {
     let mut parse = Parse::Stands(order);
@@ -171,7 +171,7 @@ fn with_options<'a>(order: Order<'a>, options: &'a [String]) -> Parse<'a>
 /// One word more.
 fn with_word<'a>(parse: Parse<'a>, word: &'a str) -> Parse<'a>
     requires { ParsesFewSteps parse }
-    ensures parsed { parsed_of result ≡ with_word (parsed_of parse) word.now }
+    ensures parsed { parsed_of result ≡ with_word (parsed_of parse.entry) word.now }
     ensures steps { ParsesFewSteps result }
 {
     match parse {
@@ -193,7 +193,7 @@ fn with_word<'a>(parse: Parse<'a>, word: &'a str) -> Parse<'a>
 /// The order with one option more, each of which stands at most once.
 fn with_option<'a>(order: Order<'a>, word: &str) -> Parse<'a>
     requires { order.steps < 10 ^ 10 }
-    ensures parsed { parsed_of result ≡ with_option (order_of order) word.now }
+    ensures parsed { parsed_of result ≡ with_option (order_of order.entry) word.now }
     ensures steps { ParsesFewSteps result }
 {
     match word {
@@ -219,7 +219,7 @@ fn with_option<'a>(order: Order<'a>, word: &str) -> Parse<'a>
 
 fn once(given: bool, parse: Parse<'_>) -> Parse<'_>
     requires { ParsesFewSteps parse }
-    ensures parsed { parsed_of result ≡ once given (parsed_of parse) }
+    ensures parsed { parsed_of result ≡ once given (parsed_of parse.entry) }
     ensures steps { ParsesFewSteps result }
 {
     if given { Parse::Meaningless } else { parse }
