@@ -1,5 +1,5 @@
 -- A run whose texts leave through buffers: what holds between two turns, and what holds where a sink failed.
-use Rattle.std.specs.Prelude.{◌≡◌, ℕ, Bool, ◌==◌, ◌+◌, ◌/◌, ◌%◌, ◌<◌, ◌≤◌, ◌⊎◌, List, [], ◌++◌, length, flat_map, option_to_list, Option, Some, None, Result, Ok, Err, if◌then◌else◌}
+use Rattle.std.specs.Prelude.{◌≡◌, ℕ, Bool, ◌==◌, ◌+◌, ◌/◌, ◌%◌, ◌<◌, ◌≤◌, ◌⊎◌, List, [], ◌++◌, length, drop, flat_map, option_to_list, Option, Some, None, Result, Ok, Err, if◌then◌else◌}
 use Rattle.mx_io.specs.Count.{Rose}
 use Rattle.mx_io.specs.Texts.{AppendsWhole, AppendsPrefix}
 use Rattle.mx_io.specs.Sink.{SinkState}
@@ -59,9 +59,9 @@ pub record IsRound (quantum : ℕ) (c : Core) (whole last next rest : ℕ) : Typ
 -- a schedule where so many turns were made
 abbrev pub IsPace : Schedule → Core → Pace → Type 0
 IsPace (ByQuantum quantum) c (pace.Quantum whole last hart left) = IsRound quantum c whole last hart left
-IsPace (ByQuantum quantum) c (pace.Bytes bytes place) = ⊥
+IsPace (ByQuantum quantum) c (pace.Bytes bytes) = ⊥
 IsPace (ByBytes names) c (pace.Quantum whole last hart left) = ⊥
-IsPace (ByBytes names) c (pace.Bytes bytes place) = (bytes.now ≡ names) × (place ≡ c.turns)
+IsPace (ByBytes names) c (pace.Bytes bytes) = bytes.now ≡ drop c.turns names
 
 -- the hart that makes the next turn, or none where the schedule is at its end
 abbrev pub named : Schedule → Core → Option ℕ
@@ -101,11 +101,13 @@ pub record Makes (s : State) (hart : ℕ) (machine : Flat) (before now : Places)
   pub console : Moves before.shown before.console now.console now.shown (made_of s hart).console
   pub report : Moves before.told before.report now.report now.told (note_text (made_of s hart).note)
 
--- a call that makes a turn
+-- a call that makes a turn; where a sink failed nothing was put behind that
 abbrev pub MakesOrStops : {A : Type 0} → State → ℕ → Flat → Places → Places → Result A Status → Type 0
 MakesOrStops s hart machine before now (Ok a) = Makes s hart machine before now
 MakesOrStops s hart machine before now (Err status) =
-    Stops before.console now.console (before.shown ++ (made_of s hart).console) before.report now.report (before.told ++ note_text (made_of s hart).note) status
+    ((status ≡ ConsoleFault) × Breaks before.console now.console (before.shown ++ (made_of s hart).console) × (now.report ≡ before.report))
+    ⊎ ((status ≡ ReportFault) × Moves before.shown before.console now.console now.shown (made_of s hart).console
+    × Breaks before.report now.report (before.told ++ note_text (made_of s hart).note))
 
 -- turns were made from a state without texts, and the texts so far were put through the buffers
 pub record HasRun (s : State) (machine : Flat) (before now : Places) : Type 0 where

@@ -1,13 +1,11 @@
 //! The command `run`: from the name of a manifest to the boot of its machine.
 
-ghost use Rattle.std.specs.Prelude.{◌≡◌, ℕ, ◌+◌, ◌<◌, ◌≤◌, ◌^◌, List, [], ◌∷◌, Ok, Some, length, slice_get, drop, IfOk};
+ghost use Rattle.std.specs.Prelude.{◌≡◌, ◌<◌, ◌≤◌, ◌^◌, Ok, Some, length, IfOk, IfErr};
 ghost use Rattle.mx_boot.specs.Boot.{boot_of};
 ghost use Rattle.mx_boot.specs.Booted.{IsBooted};
-ghost use Rattle.mx_manifest.specs.declared.parts.ModulePlan.{ModulePlan as Module};
 ghost use Rattle.mx_run.specs.Words.{Run};
 ghost use Rattle.mx_run.specs.Manifest.{judged};
-ghost use Rattle.mx_run.specs.Finding.{Finding};
-ghost use Rattle.mx_run.specs.Outcome.{Next, next, planned, booted};
+ghost use Rattle.mx_run.specs.Outcome.{next, planned, booted};
 ghost use Rattle.mx_run.specs.Asked.{order_of};
 ghost use Rattle.mx_run.specs.Images.{TakesImage};
 ghost use Rattle.mx_run.specs.Top.{sinks, Continues};
@@ -109,20 +107,29 @@ fn take_image<S: Store, R: Sink>(
     ensures fits { IfOk result (λ image. length image ≤ 2 ^ 24) }
 {
     match &home.image {
-        Some(name) => {
-            let bytes = take_file(alloc, &image_file(number, name.as_str()), store, report)?;
-            match blob_of(alloc, bytes.as_slice()) {
-                Ok(image) => Ok(image),
-                Err(NoMemory) => Err(Status::WantOfMemory),
-            }
-        }
+        Some(name) => match take_file(alloc, &image_file(number, name.as_str()), store, report) {
+            Ok(bytes) => image_of(alloc, bytes.as_slice()),
+            Err(status) => Err(status),
+        },
         None => Ok(Blob::new(alloc)),
+    }
+}
+
+// The bytes as an image.
+fn image_of(alloc: Global, bytes: &[u8]) -> Result<Blob, Status>
+    requires { length bytes.now ≤ 2 ^ 24 }
+    ensures ok { IfOk result (λ image. image ≡ bytes.now) }
+    ensures wanting { IfErr result (λ status. status ≡ Status.WantOfMemory) }
+{
+    match blob_of(alloc, bytes) {
+        Ok(image) => Ok(image),
+        Err(NoMemory) => Err(Status::WantOfMemory),
     }
 }
 
 // The bytes as a blob.
 fn blob_of(alloc: Global, bytes: &[u8]) -> Result<Blob, NoMemory>
-    requires { length bytes.now ≤ 2 ^ 31 }
+    requires { length bytes.now ≤ 2 ^ 24 }
     ensures { IfOk result (λ blob. blob ≡ bytes.now) }
 {
     let mut blob = Blob::new(alloc);

@@ -39,15 +39,15 @@ pub(crate) fn end_run<T: PermTables, const N: usize, C: Sink, R: Sink, D: Sink>(
         (sinks (C.state console.old) (R.state report.old) (D.state dump.old))
         (sinks (C.state console.new) (R.state report.new) (D.state dump.new)) result }
 {
-    if let Err(Failed) = shown.end(console) {
-        return Status::ConsoleFault;
-    }
-    if let Err(Failed) = put_closing_lines(order, plan, names, machine, told, report) {
-        return Status::ReportFault;
-    }
-    match put_ram(order.dump, machine, dump) {
-        Ok(()) => Status::Ran,
-        Err(Failed) => Status::DumpFault,
+    match shown.end(console) {
+        Ok(()) => match put_closing_lines(order, plan, names, machine, told, report) {
+            Ok(()) => match put_ram(order.dump, machine, dump) {
+                Ok(()) => Status::Ran,
+                Err(Failed) => Status::DumpFault,
+            },
+            Err(Failed) => Status::ReportFault,
+        },
+        Err(Failed) => Status::ConsoleFault,
     }
 }
 

@@ -19,8 +19,8 @@ pub(crate) enum Schedule<'a> {
 pub(crate) enum Pace<'a> {
     /// The quantum, the number of the last hart, the hart whose turn is next, and how many turns of its quantum are left.
     Quantum(u32, u32, u32, u32),
-    /// The bytes, and how many turns were made.
-    Bytes(&'a [u8], usize),
+    /// The bytes of the turns to come.
+    Bytes(&'a [u8]),
 }
 
 /// A schedule before the first turn of so many harts.
@@ -31,7 +31,7 @@ pub(crate) fn begin(schedule: Schedule<'_>, harts: u32) -> Pace<'_>
 {
     match schedule {
         Schedule::Quantum(quantum) => Pace::Quantum(quantum, harts - 1, 0, quantum),
-        Schedule::Bytes(bytes) => Pace::Bytes(bytes, 0),
+        Schedule::Bytes(bytes) => Pace::Bytes(bytes),
     }
 }
 
@@ -45,13 +45,10 @@ pub(crate) fn next_hart(pace: &mut Pace<'_>) -> Option<u32>
             *pace = later(quantum, last, hart, left);
             Some(hart)
         }
-        Pace::Bytes(bytes, place) => {
-            if place < bytes.len() {
-                *pace = Pace::Bytes(bytes, place + 1);
-                Some(u32::from(bytes[place]))
-            } else {
-                None
-            }
+        Pace::Bytes(bytes) => {
+            let (hart, rest) = bytes.split_first()?;
+            *pace = Pace::Bytes(rest);
+            Some(u32::from(*hart))
         }
     }
 }

@@ -36,7 +36,7 @@ pub(crate) fn make_turns<T: PermTables, const N: usize, C: Sink, R: Sink>(
     machine_is_valid(machine);
     let mut events = Events::new();
     let mut pace = begin(schedule, machine.harts());
-    for _step in 0..steps {
+    'turns: for _step in 0..steps {
         if machine.all_halted() {
             return Ok(());
         }
@@ -65,12 +65,12 @@ fn make_turn<T: PermTables, const N: usize, C: Sink, R: Sink>(
             (places (C.state console.new) shown.new (R.state report.new) told.new) result }
 {
     machine.step(hart, events);
-    if let Err(Failed) = shown.add(console, events) {
-        return Err(Status::ConsoleFault);
-    }
-    match put_told(told, report, events.note()) {
-        Ok(()) => Ok(()),
-        Err(Failed) => Err(Status::ReportFault),
+    match shown.add(console, events) {
+        Ok(()) => match put_told(told, report, events.note()) {
+            Ok(()) => Ok(()),
+            Err(Failed) => Err(Status::ReportFault),
+        },
+        Err(Failed) => Err(Status::ConsoleFault),
     }
 }
 
