@@ -84,11 +84,10 @@ fn with_plan<S: Store, C: Sink, R: Sink, D: Sink>(
     let mut images = Vec::new(alloc);
     'modules: for i in 0..plan.modules() {
         match take_image(alloc, i + 1, plan.module(i), store, report) {
-            Ok(image) => {
-                if images.push(image).is_err() {
-                    return Status::WantOfMemory;
-                }
-            }
+            Ok(image) => match images.push(image) {
+                Ok(()) => {}
+                Err(_) => return Status::WantOfMemory,
+            },
             Err(status) => return status,
         }
     }

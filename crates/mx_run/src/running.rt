@@ -19,7 +19,7 @@ use mx_boot::AnyMachine;
 use mx_io::{Sink, Store};
 use mx_machine::Machine;
 use mx_manifest::Plan;
-use mx_report::Tail;
+use mx_report::{Tail, closing_of_a_flat_state};
 use mx_table::PermTables;
 use mx_words::NoMemory;
 use std::alloc::Global;
@@ -64,8 +64,9 @@ fn names(alloc: Global, plan: &Plan) -> Result<Vec<&str>, NoMemory>
 {
     let mut names = Vec::new(alloc);
     'modules: for i in 0..plan.modules() {
-        if names.push(plan.module(i).name.as_str()).is_err() {
-            return Err(NoMemory);
+        match names.push(plan.module(i).name.as_str()) {
+            Ok(()) => {}
+            Err(_) => return Err(NoMemory),
         }
     }
     Ok(names)
@@ -140,6 +141,7 @@ fn run_machine<T: PermTables, const N: usize, C: Sink, R: Sink, D: Sink>(
         (sinks (C.state console.old) (R.state report.old) (D.state dump.old))
         (sinks (C.state console.new) (R.state report.new) (D.state dump.new)) result }
 {
+    closing_of_a_flat_state();
     let mut shown = Tail::new();
     let mut told = Tail::new();
     match make_turns(
