@@ -1,9 +1,10 @@
 //! The checker, whose caches are coherent at every moment between its calls.
-ghost use Rattle.std.specs.Prelude.{◌≡◌, ◌<◌, ◌≤◌, ◌↔◌, None, true, false, not, length, is_err, IsTrue, IsFalse, OnOk, OnErr, All};
+ghost use Rattle.std.specs.Prelude.{◌≡◌, ℕ, ◌<◌, ◌≤◌, ◌↔◌, None, true, false, not, length, is_err, IfSome, IsTrue, IsFalse, OnOk, OnErr, All};
 ghost use Rattle.mx_words.specs.Need.{fits};
 ghost use Rattle.mx_words.specs.Rights.{perm_at, perm, denies};
 ghost use Rattle.mx_table.specs.Change.{IsLawful, changed};
 ghost use Rattle.mx_table.specs.Tables.{IsDomain, map_of};
+ghost use Rattle.mx_check.specs.Flights.{IsSet};
 ghost use Rattle.mx_check.specs.Harts.{hart_at, at_hart, announced, finished, leaves_domain, halts, has_heard};
 ghost use Rattle.mx_check.specs.Looks.{lookups_after, looked};
 ghost use Rattle.mx_check.specs.Calls.{hears, is_ready, new_harts, waiting_harts};
@@ -199,4 +200,12 @@ impl<T: PermTables, const N: usize> Checker<T, N> {
     {
         self.bare.heard(hart, by)
     }
+}
+
+/// A law: the set of harts that have heard a call in flight has a place for each of the four. A machine's state is valid only with
+/// such sets.
+pub fn flights_of<T: PermTables, const N: usize>(checker: &Checker<T, N>)
+    ensures { (h : ℕ) → IfSome (hart_at checker.now.harts h).flight IsSet }
+{
+    let _ = &checker.bare;
 }

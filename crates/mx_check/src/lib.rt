@@ -9,7 +9,7 @@ mod flight;
 mod harts;
 mod part;
 
-pub use checker::Checker;
+pub use checker::{Checker, flights_of};
 pub use flight::{Flight, Flights};
 pub use part::Counts;
 

@@ -78,12 +78,12 @@ IsAligned (Trap fault) = Unit {0}
 IsAligned Call = Unit {0}
 IsAligned (Back rd target) = Unit {0}
 
--- the cause of a trap is one of an instruction's
+-- the cause of a trap is one of an instruction's, and what a return writes is a register
 abbrev pub HasCause : Outcome → Type 0
 HasCause (Next pc) = Unit {0}
 HasCause (Trap fault) = fault.cause < 8
 HasCause Call = Unit {0}
-HasCause (Back rd target) = Unit {0}
+HasCause (Back rd target) = rd < 32
 
 -- an instruction of a hart in a state of the machine, by what the state answers of rights: its effect, whether a JAL or JALR is to return, its
 -- answer, and the registers and bytes that it leaves

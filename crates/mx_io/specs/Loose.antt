@@ -1,5 +1,5 @@
 -- Files in memory that tell nothing, each with a size of its own, as values.
-use Rattle.std.specs.Prelude.{◌≡◌, ℕ, ◌-◌, ◌<◌, ◌^◌, List, [], true, Option, None, Some, map, option_map, unwrap_or, length, min, take, drop, refl}
+use Rattle.std.specs.Prelude.{◌≡◌, ℕ, List, [], true, Option, None, Some, map, option_map, unwrap_or, take, drop, refl}
 use Rattle.std.proofs.Common.{arith}
 use Rattle.std.specs.Coded.{Coded, coded×, coded_ℕ, coded_list}
 use Rattle.std.specs.Ordering.{nat_cmp}

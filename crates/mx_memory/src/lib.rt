@@ -3,4 +3,4 @@
 
 mod ram;
 
-pub use ram::Ram;
+pub use ram::{Ram, bytes_of};

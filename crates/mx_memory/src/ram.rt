@@ -1,5 +1,5 @@
 //! RAM as a list of bytes.
-ghost use Rattle.std.specs.Prelude.{◌≡◌, ℕ, ◌+◌, ◌*◌, ◌%◌, ◌^◌, ◌<◌, ◌≤◌, List, length, replicate, slice_index, IfOk};
+ghost use Rattle.std.specs.Prelude.{◌≡◌, ℕ, ◌+◌, ◌*◌, ◌%◌, ◌^◌, ◌<◌, ◌≤◌, List, length, replicate, slice_index, slice_range, IfOk};
 ghost use Rattle.mx_words.specs.Bytes.{number_at, put_at, cleared_at};
 ghost use Rattle.mx_memory.specs.Places.{place_of, IsInside};
 ghost use Rattle.mx_words.specs.Bytes.{IsSize};
@@ -90,6 +90,15 @@ impl Ram {
         self.bytes[at as usize]
     }
 
+    /// The `count` bytes from place `first` on. They end in RAM.
+    pub fn bytes(&self, first: u32, count: u32) -> &[u8]
+        requires { first + count ≤ length self.now }
+        ensures { result.now ≡ slice_range self.now first (first + count) }
+    {
+        let first = first as usize;
+        &self.bytes[first..first + count as usize]
+    }
+
     /// Makes so many words zero, from word `first` on. They lie in RAM.
     #[tactic(auto, unfolding(mx_words::specs::Bytes::cleared_at))]
     pub fn clear_words(&mut self, first: u32, count: u32)
@@ -102,6 +111,18 @@ impl Ram {
         part.fill(0);
     }
 }
+
+/// A law: RAM holds numbers of bytes, each below 256. A machine's state is valid only with such a RAM.
+pub fn bytes_of(ram: &Ram)
+    ensures { (i : ℕ) → slice_index ram.now i < 256 }
+{
+    are_small(ram.bytes.as_slice());
+}
+
+/// What the type of bytes says of them.
+fn are_small(bytes: &[u8])
+    ensures { (i : ℕ) → slice_index bytes.now i < 256 }
+{}
 
 #[tactic(auto, unfolding(mx_words::specs::Bytes::put_at))]
 fn put_byte(bytes: &mut [u8], at: usize, value: u32)

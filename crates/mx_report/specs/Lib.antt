@@ -1,5 +1,4 @@
 pub mod Tail
-pub mod Readings
 pub mod Lines
 pub mod Runs
 pub mod Texts

@@ -16,9 +16,10 @@ use Rattle.mx_model.specs.declared.values.Fault.{Fault}
 use Rattle.mx_model.specs.declared.values.Note.{Note}
 use Rattle.mx_model.specs.declared.values.Note.TheVariants as N
 use Rattle.mx_model.specs.State.{Hart}
-use Rattle.mx_report.specs.declared.scratch.HartStatus.{HartStatus}
-use Rattle.mx_report.specs.declared.scratch.HartStatus.TheVariants as V
-use Rattle.mx_report.specs.Readings.{status_told}
+use Rattle.mx_machine.specs.declared.views.HartStatus.{HartStatus}
+use Rattle.mx_machine.specs.declared.views.HartStatus.TheVariants as V
+use Rattle.mx_machine.specs.declared.views.HartView.{HartView}
+use Rattle.mx_machine.specs.Readings.{status_told}
 use Rattle.mx_report.specs.declared.lines.EndState.{EndState}
 use Rattle.mx_report.specs.declared.lines.EndState.TheVariants as E
 
@@ -60,20 +61,29 @@ hart_text h status domain pc frames =
     concat (codes "hart " ∷ decimal h ∷ codes " status=" ∷ status_name status ∷ codes " domain=" ∷ decimal domain
     ∷ codes " pc=" ∷ hex_number pc ∷ codes " frames=" ∷ decimal frames ∷ codes "\n" ∷ [])
 
-abbrev pub hart_line : ℕ → Hart → List ℕ
-hart_line h hart = hart_text h (status_told hart.status) hart.domain hart.pc (length hart.frames)
-
 -- one register
 unfoldable pub register_text : ℕ → List ℕ
 register_text value = concat (codes " " ∷ hex_digits value ∷ [])
 
 -- hart h's registers, x0 first
+abbrev pub registers_head : ℕ → List ℕ
+registers_head h = concat (codes "regs " ∷ decimal h ∷ [])
+
 unfoldable pub registers_line : ℕ → List ℕ → List ℕ
-registers_line h regs = concat (codes "regs " ∷ decimal h ∷ flat_map register_text regs ∷ codes "\n" ∷ [])
+registers_line h regs = concat (registers_head h ∷ flat_map register_text regs ∷ codes "\n" ∷ [])
+
+-- both lines of a hart, by what is told of it
+unfoldable pub view_lines : ℕ → HartView → List ℕ
+view_lines h v = concat (hart_text h v.status v.domain v.pc v.frames ∷ registers_line h v.regs ∷ [])
+
+-- what is told of a hart
+abbrev pub view_of : Hart → HartView
+view_of hart =
+    record { status = status_told hart.status; domain = hart.domain; pc = hart.pc; frames = length hart.frames; regs = hart.regs }
 
 -- both lines of a hart
-unfoldable pub hart_lines : ℕ → Hart → List ℕ
-hart_lines h hart = concat (hart_line h hart ∷ registers_line h hart.regs ∷ [])
+abbrev pub hart_lines : ℕ → Hart → List ℕ
+hart_lines h hart = view_lines h (view_of hart)
 
 -- how the line of a domain ends, where it is dead and where it isn't
 abbrev pub dead_text : Bool → List ℕ

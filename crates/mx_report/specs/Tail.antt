@@ -1,5 +1,5 @@
 -- A buffer of 4096 bytes before a sink: what has left for the sink, and what is held.
-use Rattle.std.specs.Prelude.{◌≡◌, ℕ, ◌*◌, ◌/◌, List, ◌++◌, length, take, drop, Result, OnOk, Ok, Err}
+use Rattle.std.specs.Prelude.{◌≡◌, ℕ, ◌*◌, ◌/◌, List, ◌++◌, length, take, drop, Result, OnOk, OnErr}
 use Rattle.mx_io.specs.Sink.{SinkState, Puts}
 
 -- how many bytes leave at once
@@ -20,6 +20,6 @@ pub record Adds {A E : Type 0} (before : List ℕ) (old new : SinkState) (after 
 
 -- a text was put on a sink through a buffer: what was held and then the text are what was put on the sink and then what is held;
 -- where it failed, what was put on the sink is a prefix of what was held and then the text
-abbrev pub Passes : {A E : Type 0} → List ℕ → SinkState → SinkState → List ℕ → List ℕ → Result A E → Type 0
-Passes {A} {E} before old new after text (Ok a) = (gone : List ℕ) × (before ++ text ≡ gone ++ after) × Puts {A = A} {E = E} old new gone (Ok a)
-Passes {A} {E} before old new after text (Err e) = Puts {A = A} {E = E} old new (before ++ text) (Err e)
+pub record Passes {A E : Type 0} (before : List ℕ) (old new : SinkState) (after text : List ℕ) (result : Result A E) : Type 0 where
+  pub whole : OnOk result ((gone : List ℕ) × (before ++ text ≡ gone ++ after) × Puts old new gone result)
+  pub stopped : OnErr result (Puts old new (before ++ text) result)

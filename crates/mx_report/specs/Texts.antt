@@ -1,6 +1,6 @@
 -- The closing lines of a run's report, over a state with its lists of grants and gives, and over a flat state.
 -- The rules: docs/COMMANDS.md, "The report".
-use Rattle.std.specs.Prelude.{ℕ, ◌-◌, Bool, not, ◌==◌, ◌&&◌, List, [], ◌∷◌, length, take, drop, slice_index_or, if◌then◌else◌, flat_map}
+use Rattle.std.specs.Prelude.{ℕ, ◌-◌, Bool, not, ◌==◌, List, [], ◌∷◌, length, take, drop, slice_index_or, if◌then◌else◌, flat_map}
 use Rattle.std.specs.Prelude.{map as list_map}
 use Rattle.std.specs.List.{concat, list_any, range_with_len}
 use Rattle.mx_words.specs.declared.perm.Perm.{Perm}
@@ -98,9 +98,13 @@ told s = record {
   owners = owners s.gives s.core.size;
 }
 
+-- a domain's map in a flat state
+abbrev pub domain_map : Flat → ℕ → List Perm
+domain_map f d = map_in f.core.size f.maps d
+
 -- what a flat state tells
 abbrev pub flat_told : Flat → Told
-flat_told f = record { map_of = λ d. map_in f.core.size f.maps d; maps = f.maps; owners = f.owners }
+flat_told f = record { map_of = domain_map f; maps = f.maps; owners = f.owners }
 
 -- the closing lines of a state
 abbrev pub closing : List (List ℕ) → EndState → Options → State → List ℕ

@@ -10,8 +10,10 @@ use crate::lines::{put_end, put_hart};
 use crate::maps::put_domain;
 use crate::owners::put_owners;
 use crate::tables::{put_counts, put_tables};
-use crate::{EndState, Read, Tail};
+use crate::{EndState, Tail};
 use mx_io::{Failed, Sink};
+use mx_machine::Machine;
+use mx_table::PermTables;
 use mx_words::{Kind, Need};
 
 /// What the report shows beside the lines that each run has.
@@ -25,20 +27,21 @@ pub struct Options {
 
 /// Puts the closing lines of a run's report through a buffer. The names are those of the modules in order. The kind is that of the
 /// tables, and the limit theirs.
-pub fn put_closing<R: Sink, M: Read>(
+pub fn put_closing<R: Sink, T: PermTables, const N: usize>(
     tail: &mut Tail,
     sink: &mut R,
-    machine: &M,
+    machine: &Machine<T, N>,
     names: &[&str],
     end: EndState,
     kind: Kind,
     limit: Need,
     options: Options,
 ) -> Result<(), Failed>
-    requires names { length names.now ≡ length (M.meaning machine.now).core.modules }
-    requires kind { kind ≡ (M.meaning machine.now).core.kind }
-    requires limit { limit ≡ (M.meaning machine.now).core.limit }
-    ensures { Passes tail.old (R.state sink.old) (R.state sink.new) tail.new (flat_closing (map (λ name. name.now) names.now) end options (M.meaning machine.now)) result }
+    requires names { length names.now ≡ length machine.now.core.modules }
+    requires kind { kind ≡ machine.now.core.kind }
+    requires limit { limit ≡ machine.now.core.limit }
+    ensures { Passes tail.old (R.state sink.old) (R.state sink.new) tail.new
+        (flat_closing (map (λ name. name.now) names.now) end options machine.now) result }
 {
     put_end(tail, sink, machine.steps(), end)?;
     put_harts(tail, sink, machine)?;
@@ -49,8 +52,13 @@ pub fn put_closing<R: Sink, M: Read>(
 }
 
 // Puts the lines of each hart.
-fn put_harts<R: Sink, M: Read>(tail: &mut Tail, sink: &mut R, machine: &M) -> Result<(), Failed>
-    ensures { Passes tail.old (R.state sink.old) (R.state sink.new) tail.new (all_harts (M.meaning machine.now).core) result }
+fn put_harts<R: Sink, T: PermTables, const N: usize>(
+    tail: &mut Tail,
+    sink: &mut R,
+    machine: &Machine<T, N>,
+) -> Result<(), Failed>
+    ensures { Passes tail.old (R.state sink.old) (R.state sink.new) tail.new
+        (all_harts machine.now.core) result }
 {
     for hart in 0..machine.harts() {
         put_hart(tail, sink, hart, &machine.hart(hart))?;
@@ -59,14 +67,16 @@ fn put_harts<R: Sink, M: Read>(tail: &mut Tail, sink: &mut R, machine: &M) -> Re
 }
 
 // Puts the lines of each domain.
-fn put_domains<R: Sink, M: Read>(
+fn put_domains<R: Sink, T: PermTables, const N: usize>(
     tail: &mut Tail,
     sink: &mut R,
-    machine: &M,
+    machine: &Machine<T, N>,
     names: &[&str],
 ) -> Result<(), Failed>
-    requires { length names.now ≡ length (M.meaning machine.now).core.modules }
-    ensures { Passes tail.old (R.state sink.old) (R.state sink.new) tail.new (all_domains (map (λ name. name.now) names.now) (M.meaning machine.now).core (flat_told (M.meaning machine.now))) result }
+    requires { length names.now ≡ length machine.now.core.modules }
+    ensures { Passes tail.old (R.state sink.old) (R.state sink.new) tail.new
+        (all_domains (map (λ name. name.now) names.now) machine.now.core
+        (flat_told machine.now)) result }
 {
     for i in 0..machine.modules() {
         put_domain(tail, sink, machine, i + 1, names[i as usize])?;
@@ -74,15 +84,16 @@ fn put_domains<R: Sink, M: Read>(
     Ok(())
 }
 
-fn put_asked_tables<R: Sink, M: Read>(
+fn put_asked_tables<R: Sink, T: PermTables, const N: usize>(
     tail: &mut Tail,
     sink: &mut R,
-    machine: &M,
+    machine: &Machine<T, N>,
     kind: Kind,
     limit: Need,
     options: Options,
 ) -> Result<(), Failed>
-    ensures { Passes tail.old (R.state sink.old) (R.state sink.new) tail.new (tables_asked options kind limit (M.meaning machine.now).core (flat_told (M.meaning machine.now))) result }
+    ensures { Passes tail.old (R.state sink.old) (R.state sink.new) tail.new
+        (tables_asked options kind limit machine.now.core (flat_told machine.now)) result }
 {
     if options.tables {
         put_tables(tail, sink, machine, kind, limit)
@@ -91,13 +102,14 @@ fn put_asked_tables<R: Sink, M: Read>(
     }
 }
 
-fn put_asked_counts<R: Sink, M: Read>(
+fn put_asked_counts<R: Sink, T: PermTables, const N: usize>(
     tail: &mut Tail,
     sink: &mut R,
-    machine: &M,
+    machine: &Machine<T, N>,
     options: Options,
 ) -> Result<(), Failed>
-    ensures { Passes tail.old (R.state sink.old) (R.state sink.new) tail.new (counts_asked options (M.meaning machine.now).core) result }
+    ensures { Passes tail.old (R.state sink.old) (R.state sink.new) tail.new
+        (counts_asked options machine.now.core) result }
 {
     if options.counts {
         put_counts(tail, sink, machine)
@@ -108,5 +120,6 @@ fn put_asked_counts<R: Sink, M: Read>(
 
 /// A law: the closing lines of a state, by its lists of grants and gives, are those of its flat state, by its maps and owners.
 pub fn closing_of_a_flat_state()
-    ensures { (names : List (List ℕ)) (end : End) (options : Asked) (s : State) → closing names end options s ≡ flat_closing names end options (flat s) }
+    ensures { (names : List (List ℕ)) (end : End) (options : Asked) (s : State) →
+        closing names end options s ≡ flat_closing names end options (flat s) }
 {}

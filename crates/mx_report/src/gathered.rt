@@ -15,7 +15,8 @@ pub(crate) fn put_pieces<R: Sink>(
     sink: &mut R,
     pieces: &[Piece<'_>],
 ) -> Result<(), Failed>
-    ensures { Passes tail.old (R.state sink.old) (R.state sink.new) tail.new (pieces_text pieces.now) result }
+    ensures { Passes tail.old (R.state sink.old) (R.state sink.new) tail.new
+        (pieces_text pieces.now) result }
 {
     for piece in pieces {
         put_piece(tail, sink, piece)?;
@@ -24,7 +25,8 @@ pub(crate) fn put_pieces<R: Sink>(
 }
 
 fn put_piece<R: Sink>(tail: &mut Tail, sink: &mut R, piece: &Piece<'_>) -> Result<(), Failed>
-    ensures { Passes tail.old (R.state sink.old) (R.state sink.new) tail.new (piece_text piece.now) result }
+    ensures { Passes tail.old (R.state sink.old) (R.state sink.new) tail.new
+        (piece_text piece.now) result }
 {
     match *piece {
         Piece::Text(text) => put_bytes(tail, sink, text.as_bytes()),

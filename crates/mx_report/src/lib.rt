@@ -6,7 +6,6 @@ mod gathered;
 mod lines;
 mod maps;
 mod owners;
-mod scratch;
 mod tables;
 mod tail;
 
@@ -14,6 +13,5 @@ pub use closing::{Options, closing_of_a_flat_state, put_closing};
 pub use lines::{EndState, end_line, exit_line, fault_line, hart_lines, note_line, put_note};
 pub use maps::domain_lines;
 pub use owners::owner_lines;
-pub use scratch::{Counts, HartStatus, HartView, Read};
 pub use tables::{counts_lines, table_lines};
 pub use tail::Tail;

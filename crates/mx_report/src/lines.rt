@@ -1,14 +1,13 @@
 //! Lines of notes, of the end and of harts.
-ghost use Rattle.std.specs.Prelude.{◌≡◌, ℕ, flat_map};
+ghost use Rattle.std.specs.Prelude.{◌≡◌, flat_map};
 ghost use Rattle.mx_io.specs.Sink.{Puts};
-ghost use Rattle.mx_model.specs.State.{Hart};
-ghost use Rattle.mx_report.specs.Readings.{IsViewOf};
 ghost use Rattle.mx_report.specs.Tail.{Passes};
-ghost use Rattle.mx_report.specs.Lines.{fault_line, exit_line, note_line, end_name, end_line, status_name, hart_text, register_text, registers_line, hart_lines};
+ghost use Rattle.mx_report.specs.Lines.{fault_line, exit_line, note_line, end_name, end_line, status_name, hart_text, register_text, registers_line, view_lines};
 
+use crate::Tail;
 use crate::gathered::put_pieces;
-use crate::{HartStatus, HartView, Tail};
 use mx_io::{Failed, Piece, Sink};
+use mx_machine::{HartStatus, HartView};
 use mx_model::{Fault, Note};
 
 /// Why a run ended.
@@ -31,7 +30,8 @@ pub fn fault_line<R: Sink>(
     pc: u32,
     fault: &Fault,
 ) -> Result<(), Failed>
-    ensures { Puts (R.state sink.old) (R.state sink.new) (fault_line step hart domain pc fault.now) result }
+    ensures { Puts (R.state sink.old) (R.state sink.new)
+        (fault_line step hart domain pc fault.now) result }
 {
     let mut tail = Tail::new();
     put_fault(&mut tail, sink, step, hart, domain, pc, fault)?;
@@ -73,7 +73,7 @@ pub fn end_line<R: Sink>(sink: &mut R, steps: u64, state: EndState) -> Result<()
 
 /// Puts the two lines of a hart.
 pub fn hart_lines<R: Sink>(sink: &mut R, hart: u32, view: &HartView) -> Result<(), Failed>
-    ensures { (x : Hart) → IsViewOf x view.now → Puts (R.state sink.old) (R.state sink.new) (hart_lines hart x) result }
+    ensures { Puts (R.state sink.old) (R.state sink.new) (view_lines hart view.now) result }
 {
     let mut tail = Tail::new();
     put_hart(&mut tail, sink, hart, view)?;
@@ -82,13 +82,23 @@ pub fn hart_lines<R: Sink>(sink: &mut R, hart: u32, view: &HartView) -> Result<(
 
 /// Puts the line of a note through a buffer.
 pub fn put_note<R: Sink>(tail: &mut Tail, sink: &mut R, note: &Note) -> Result<(), Failed>
-    ensures { Passes tail.old (R.state sink.old) (R.state sink.new) tail.new (note_line note.now) result }
+    ensures { Passes tail.old (R.state sink.old) (R.state sink.new) tail.new
+        (note_line note.now) result }
 {
     match *note {
-        Note::Fault { step, hart, domain, pc, fault } => {
-            put_fault(tail, sink, step, hart, domain, pc, &fault)
-        }
-        Note::Exit { step, hart, domain, code } => put_exit(tail, sink, step, hart, domain, code),
+        Note::Fault {
+            step,
+            hart,
+            domain,
+            pc,
+            fault,
+        } => { put_fault(tail, sink, step, hart, domain, pc, &fault) }
+        Note::Exit {
+            step,
+            hart,
+            domain,
+            code,
+        } => put_exit(tail, sink, step, hart, domain, code),
     }
 }
 
@@ -102,7 +112,8 @@ fn put_fault<R: Sink>(
     pc: u32,
     fault: &Fault,
 ) -> Result<(), Failed>
-    ensures { Passes tail.old (R.state sink.old) (R.state sink.new) tail.new (fault_line step hart domain pc fault.now) result }
+    ensures { Passes tail.old (R.state sink.old) (R.state sink.new) tail.new
+        (fault_line step hart domain pc fault.now) result }
 {
     put_pieces(
         tail,
@@ -134,7 +145,8 @@ fn put_exit<R: Sink>(
     domain: u32,
     code: u32,
 ) -> Result<(), Failed>
-    ensures { Passes tail.old (R.state sink.old) (R.state sink.new) tail.new (exit_line step hart domain code) result }
+    ensures { Passes tail.old (R.state sink.old) (R.state sink.new) tail.new
+        (exit_line step hart domain code) result }
 {
     put_pieces(
         tail,
@@ -170,7 +182,8 @@ pub(crate) fn put_end<R: Sink>(
     steps: u64,
     state: EndState,
 ) -> Result<(), Failed>
-    ensures { Passes tail.old (R.state sink.old) (R.state sink.new) tail.new (end_line steps state) result }
+    ensures { Passes tail.old (R.state sink.old) (R.state sink.new) tail.new
+        (end_line steps state) result }
 {
     put_pieces(
         tail,
@@ -191,7 +204,8 @@ pub(crate) fn put_hart<R: Sink>(
     hart: u32,
     view: &HartView,
 ) -> Result<(), Failed>
-    ensures { (x : Hart) → IsViewOf x view.now → Passes tail.old (R.state sink.old) (R.state sink.new) tail.new (hart_lines hart x) result }
+    ensures { Passes tail.old (R.state sink.old) (R.state sink.new) tail.new
+        (view_lines hart view.now) result }
 {
     put_state(tail, sink, hart, view)?;
     put_registers(tail, sink, hart, &view.regs)
@@ -214,7 +228,8 @@ fn put_state<R: Sink>(
     hart: u32,
     view: &HartView,
 ) -> Result<(), Failed>
-    ensures { Passes tail.old (R.state sink.old) (R.state sink.new) tail.new (hart_text hart view.now.status view.now.domain view.now.pc view.now.frames) result }
+    ensures { Passes tail.old (R.state sink.old) (R.state sink.new) tail.new
+        (hart_text hart view.now.status view.now.domain view.now.pc view.now.frames) result }
 {
     put_pieces(
         tail,
@@ -241,7 +256,8 @@ fn put_registers<R: Sink>(
     hart: u32,
     regs: &[u32],
 ) -> Result<(), Failed>
-    ensures { Passes tail.old (R.state sink.old) (R.state sink.new) tail.new (registers_line hart regs.now) result }
+    ensures { Passes tail.old (R.state sink.old) (R.state sink.new) tail.new
+        (registers_line hart regs.now) result }
 {
     put_pieces(
         tail,
@@ -253,7 +269,8 @@ fn put_registers<R: Sink>(
 }
 
 fn put_values<R: Sink>(tail: &mut Tail, sink: &mut R, values: &[u32]) -> Result<(), Failed>
-    ensures { Passes tail.old (R.state sink.old) (R.state sink.new) tail.new (flat_map register_text values.now) result }
+    ensures { Passes tail.old (R.state sink.old) (R.state sink.new) tail.new
+        (flat_map register_text values.now) result }
 {
     for value in values {
         put_value(tail, sink, *value)?;
@@ -263,7 +280,8 @@ fn put_values<R: Sink>(tail: &mut Tail, sink: &mut R, values: &[u32]) -> Result<
 
 #[tactic(auto, unfolding(crate::specs::Lines::register_text))]
 fn put_value<R: Sink>(tail: &mut Tail, sink: &mut R, value: u32) -> Result<(), Failed>
-    ensures { Passes tail.old (R.state sink.old) (R.state sink.new) tail.new (register_text value) result }
+    ensures { Passes tail.old (R.state sink.old) (R.state sink.new) tail.new
+        (register_text value) result }
 {
     put_pieces(tail, sink, &[Piece::Text(" "), Piece::Digits(value)])
 }

@@ -1,29 +1,33 @@
 //! Lines of a domain and of its map.
-ghost use Rattle.std.specs.Prelude.{◌≡◌, ◌≢◌, ◌<◌, ◌≤◌, ◌+◌, length};
+ghost use Rattle.std.specs.Prelude.{◌≡◌, ◌<◌, ◌≤◌, ◌+◌, not, length};
 ghost use Rattle.mx_io.specs.Sink.{Puts};
 ghost use Rattle.mx_words.specs.Ranges.{most_words};
-ghost use Rattle.mx_model.specs.Reads.{map_in};
+ghost use Rattle.mx_words.specs.Rights.{same};
 ghost use Rattle.mx_model.specs.State.{module_at};
 ghost use Rattle.mx_model.specs.Valid.{IsModule};
 ghost use Rattle.mx_report.specs.Tail.{Passes};
 ghost use Rattle.mx_report.specs.Lines.{dead_text, domain_head, permission_name, map_line, map_text};
 ghost use Rattle.mx_report.specs.Runs.{IsRun};
-ghost use Rattle.mx_report.specs.Texts.{domain_lines, map_lines};
+ghost use Rattle.mx_report.specs.Texts.{domain_lines, domain_map, map_lines};
 
+use crate::Tail;
 use crate::gathered::{address, put_pieces};
-use crate::{Read, Tail};
 use mx_io::{Failed, Piece, Sink};
+use mx_machine::{Machine, machine_is_valid};
+use mx_table::PermTables;
 use mx_words::Perm;
 
 /// Puts the lines of a domain, a module's number: its name, and the runs of its map.
-pub fn domain_lines<R: Sink, M: Read>(
+pub fn domain_lines<R: Sink, T: PermTables, const N: usize>(
     sink: &mut R,
-    machine: &M,
+    machine: &Machine<T, N>,
     domain: u32,
     name: &str,
 ) -> Result<(), Failed>
-    requires { IsModule (length (M.meaning machine.now).core.modules) domain }
-    ensures { Puts (R.state sink.old) (R.state sink.new) (domain_lines domain name.now (module_at (M.meaning machine.now).core domain).dead (map_in (M.meaning machine.now).core.size (M.meaning machine.now).maps domain)) result }
+    requires { IsModule (length machine.now.core.modules) domain }
+    ensures { Puts (R.state sink.old) (R.state sink.new)
+        (domain_lines domain name.now (module_at machine.now.core domain).dead
+        (domain_map machine.now domain)) result }
 {
     let mut tail = Tail::new();
     put_domain(&mut tail, sink, machine, domain, name)?;
@@ -31,15 +35,17 @@ pub fn domain_lines<R: Sink, M: Read>(
 }
 
 #[tactic(auto, unfolding(crate::specs::Texts::domain_lines))]
-pub(crate) fn put_domain<R: Sink, M: Read>(
+pub(crate) fn put_domain<R: Sink, T: PermTables, const N: usize>(
     tail: &mut Tail,
     sink: &mut R,
-    machine: &M,
+    machine: &Machine<T, N>,
     domain: u32,
     name: &str,
 ) -> Result<(), Failed>
-    requires { IsModule (length (M.meaning machine.now).core.modules) domain }
-    ensures { Passes tail.old (R.state sink.old) (R.state sink.new) tail.new (domain_lines domain name.now (module_at (M.meaning machine.now).core domain).dead (map_in (M.meaning machine.now).core.size (M.meaning machine.now).maps domain)) result }
+    requires { IsModule (length machine.now.core.modules) domain }
+    ensures { Passes tail.old (R.state sink.old) (R.state sink.new) tail.new
+        (domain_lines domain name.now (module_at machine.now.core domain).dead
+        (domain_map machine.now domain)) result }
 {
     put_head(tail, sink, domain, name, machine.dead(domain))?;
     put_maps(tail, sink, machine, domain)
@@ -59,7 +65,8 @@ fn put_head<R: Sink>(
     name: &str,
     dead: bool,
 ) -> Result<(), Failed>
-    ensures { Passes tail.old (R.state sink.old) (R.state sink.new) tail.new (domain_head domain name.now dead) result }
+    ensures { Passes tail.old (R.state sink.old) (R.state sink.new) tail.new
+        (domain_head domain name.now dead) result }
 {
     put_pieces(
         tail,
@@ -74,16 +81,17 @@ fn put_head<R: Sink>(
     )
 }
 
-fn put_maps<R: Sink, M: Read>(
+fn put_maps<R: Sink, T: PermTables, const N: usize>(
     tail: &mut Tail,
     sink: &mut R,
-    machine: &M,
+    machine: &Machine<T, N>,
     domain: u32,
 ) -> Result<(), Failed>
-    requires { IsModule (length (M.meaning machine.now).core.modules) domain }
-    ensures { Passes tail.old (R.state sink.old) (R.state sink.new) tail.new (map_lines domain (map_in (M.meaning machine.now).core.size (M.meaning machine.now).maps domain)) result }
+    requires { IsModule (length machine.now.core.modules) domain }
+    ensures { Passes tail.old (R.state sink.old) (R.state sink.new) tail.new
+        (map_lines domain (domain_map machine.now domain)) result }
 {
-    machine.machine_is_valid();
+    machine_is_valid(machine);
     let mut word = 0;
     'runs: while word < machine.words() {
         let end = run_end(machine, domain, word);
@@ -94,22 +102,29 @@ fn put_maps<R: Sink, M: Read>(
 }
 
 // The first word behind a domain's run of one permission, of which `word` is the first one or a later one. It goes from span to span.
-fn run_end<M: Read>(machine: &M, domain: u32, word: u32) -> u32
-    requires domain { IsModule (length (M.meaning machine.now).core.modules) domain }
-    requires word { word < (M.meaning machine.now).core.size }
-    ensures { IsRun (map_in (M.meaning machine.now).core.size (M.meaning machine.now).maps domain) word result }
+fn run_end<T: PermTables, const N: usize>(machine: &Machine<T, N>, domain: u32, word: u32) -> u32
+    requires domain { IsModule (length machine.now.core.modules) domain }
+    requires word { word < machine.now.core.size }
+    ensures { IsRun (domain_map machine.now domain) word result }
 {
-    machine.machine_is_valid();
+    machine_is_valid(machine);
     let span = machine.span(domain, word);
     let mut end = span.first + span.count;
     'spans: while end < machine.words() {
         let next = machine.span(domain, end);
-        if next.perm != span.perm {
+        if differ(next.perm, span.perm) {
             return end;
         }
         end = next.first + next.count;
     }
     end
+}
+
+/// Whether two permissions are different ones.
+pub(crate) fn differ(p: Perm, q: Perm) -> bool
+    ensures { result ≡ not (same p q) }
+{
+    p.number() != q.number()
 }
 
 fn permission_name(perm: Perm) -> &'static str
@@ -134,7 +149,8 @@ fn put_map<R: Sink>(
 ) -> Result<(), Failed>
     requires first { first ≤ most_words }
     requires end { end ≤ most_words }
-    ensures { Passes tail.old (R.state sink.old) (R.state sink.new) tail.new (map_text domain first end perm) result }
+    ensures { Passes tail.old (R.state sink.old) (R.state sink.new) tail.new
+        (map_text domain first end perm) result }
 {
     match perm {
         Perm::None => Ok(()),
@@ -155,7 +171,8 @@ fn put_map_line<R: Sink>(
 ) -> Result<(), Failed>
     requires first { first ≤ most_words }
     requires end { end ≤ most_words }
-    ensures { Passes tail.old (R.state sink.old) (R.state sink.new) tail.new (map_line domain first end perm) result }
+    ensures { Passes tail.old (R.state sink.old) (R.state sink.new) tail.new
+        (map_line domain first end perm) result }
 {
     put_pieces(
         tail,

@@ -6,27 +6,33 @@ ghost use Rattle.mx_report.specs.Tail.{Passes};
 ghost use Rattle.mx_report.specs.Lines.{owner_line, owner_text};
 ghost use Rattle.mx_report.specs.Texts.{owner_lines};
 
+use crate::Tail;
 use crate::gathered::{address, put_pieces};
-use crate::{Read, Tail};
 use mx_io::{Failed, Piece, Sink};
+use mx_machine::{Machine, machine_is_valid};
+use mx_table::PermTables;
 
 /// Puts a line for each run of words that have one owner, a module.
-pub fn owner_lines<R: Sink, M: Read>(sink: &mut R, machine: &M) -> Result<(), Failed>
-    ensures { Puts (R.state sink.old) (R.state sink.new) (owner_lines (M.meaning machine.now).owners) result }
+pub fn owner_lines<R: Sink, T: PermTables, const N: usize>(
+    sink: &mut R,
+    machine: &Machine<T, N>,
+) -> Result<(), Failed>
+    ensures { Puts (R.state sink.old) (R.state sink.new) (owner_lines machine.now.owners) result }
 {
     let mut tail = Tail::new();
     put_owners(&mut tail, sink, machine)?;
     tail.end(sink)
 }
 
-pub(crate) fn put_owners<R: Sink, M: Read>(
+pub(crate) fn put_owners<R: Sink, T: PermTables, const N: usize>(
     tail: &mut Tail,
     sink: &mut R,
-    machine: &M,
+    machine: &Machine<T, N>,
 ) -> Result<(), Failed>
-    ensures { Passes tail.old (R.state sink.old) (R.state sink.new) tail.new (owner_lines (M.meaning machine.now).owners) result }
+    ensures { Passes tail.old (R.state sink.old) (R.state sink.new) tail.new
+        (owner_lines machine.now.owners) result }
 {
-    machine.machine_is_valid();
+    machine_is_valid(machine);
     let mut word = 0;
     'runs: while word < machine.words() {
         let end = machine.owner_end(word);
@@ -46,7 +52,8 @@ fn put_owner<R: Sink>(
 ) -> Result<(), Failed>
     requires first { first ≤ most_words }
     requires end { end ≤ most_words }
-    ensures { Passes tail.old (R.state sink.old) (R.state sink.new) tail.new (owner_text first end owner) result }
+    ensures { Passes tail.old (R.state sink.old) (R.state sink.new) tail.new
+        (owner_text first end owner) result }
 {
     if owner == 0 {
         Ok(())
@@ -65,7 +72,8 @@ fn put_owner_line<R: Sink>(
 ) -> Result<(), Failed>
     requires first { first ≤ most_words }
     requires end { end ≤ most_words }
-    ensures { Passes tail.old (R.state sink.old) (R.state sink.new) tail.new (owner_line first end owner) result }
+    ensures { Passes tail.old (R.state sink.old) (R.state sink.new) tail.new
+        (owner_line first end owner) result }
 {
     put_pieces(
         tail,

@@ -3,26 +3,30 @@ ghost use Rattle.std.specs.Prelude.{◌≡◌, ◌+◌, ◌<◌, ◌≤◌, leng
 ghost use Rattle.mx_io.specs.Sink.{Puts};
 ghost use Rattle.mx_words.specs.Caches.{Cache};
 ghost use Rattle.mx_words.specs.Ranges.{most_words};
-ghost use Rattle.mx_model.specs.Reads.{map_in};
 ghost use Rattle.mx_model.specs.Valid.{IsModule};
 ghost use Rattle.mx_report.specs.Tail.{Passes};
 ghost use Rattle.mx_report.specs.Lines.{kind_name, tables_line, level_name, shown_line, counts_text};
-ghost use Rattle.mx_report.specs.Texts.{all_items, flat_told, has_rights, shown_text, shown_lines, table_lines, counts_lines};
+ghost use Rattle.mx_report.specs.Texts.{all_items, counts_lines, domain_map, flat_told, has_rights, shown_lines, shown_text, table_lines};
 
+use crate::Tail;
 use crate::gathered::{address, put_pieces};
-use crate::{Counts, Read, Tail};
+use crate::maps::differ;
+use mx_check::Counts;
 use mx_io::{Failed, Piece, Sink};
+use mx_machine::{Machine, machine_is_valid};
+use mx_table::PermTables;
 use mx_words::{Kind, Level, Need, Perm, Shown};
 
 /// Puts the line of what the tables take, with the name of their kind and their limit, and a line for each of their stored items
 /// that has a word of RAM with a permission.
-pub fn table_lines<R: Sink, M: Read>(
+pub fn table_lines<R: Sink, T: PermTables, const N: usize>(
     sink: &mut R,
-    machine: &M,
+    machine: &Machine<T, N>,
     kind: Kind,
     limit: Need,
 ) -> Result<(), Failed>
-    ensures { Puts (R.state sink.old) (R.state sink.new) (table_lines kind limit (M.meaning machine.now).core (flat_told (M.meaning machine.now))) result }
+    ensures { Puts (R.state sink.old) (R.state sink.new)
+        (table_lines kind limit machine.now.core (flat_told machine.now)) result }
 {
     let mut tail = Tail::new();
     put_tables(&mut tail, sink, machine, kind, limit)?;
@@ -30,22 +34,26 @@ pub fn table_lines<R: Sink, M: Read>(
 }
 
 /// Puts a line with the counts of each hart.
-pub fn counts_lines<R: Sink, M: Read>(sink: &mut R, machine: &M) -> Result<(), Failed>
-    ensures { Puts (R.state sink.old) (R.state sink.new) (counts_lines (M.meaning machine.now).core) result }
+pub fn counts_lines<R: Sink, T: PermTables, const N: usize>(
+    sink: &mut R,
+    machine: &Machine<T, N>,
+) -> Result<(), Failed>
+    ensures { Puts (R.state sink.old) (R.state sink.new) (counts_lines machine.now.core) result }
 {
     let mut tail = Tail::new();
     put_counts(&mut tail, sink, machine)?;
     tail.end(sink)
 }
 
-pub(crate) fn put_tables<R: Sink, M: Read>(
+pub(crate) fn put_tables<R: Sink, T: PermTables, const N: usize>(
     tail: &mut Tail,
     sink: &mut R,
-    machine: &M,
+    machine: &Machine<T, N>,
     kind: Kind,
     limit: Need,
 ) -> Result<(), Failed>
-    ensures { Passes tail.old (R.state sink.old) (R.state sink.new) tail.new (table_lines kind limit (M.meaning machine.now).core (flat_told (M.meaning machine.now))) result }
+    ensures { Passes tail.old (R.state sink.old) (R.state sink.new) tail.new
+        (table_lines kind limit machine.now.core (flat_told machine.now)) result }
 {
     put_used(tail, sink, kind, &machine.used(), &limit)?;
     put_items(tail, sink, machine)
@@ -69,7 +77,8 @@ fn put_used<R: Sink>(
     used: &Need,
     limit: &Need,
 ) -> Result<(), Failed>
-    ensures { Passes tail.old (R.state sink.old) (R.state sink.new) tail.new (tables_line kind used.now limit.now) result }
+    ensures { Passes tail.old (R.state sink.old) (R.state sink.new) tail.new
+        (tables_line kind used.now limit.now) result }
 {
     put_pieces(
         tail,
@@ -95,8 +104,13 @@ fn put_used<R: Sink>(
 }
 
 // Puts the lines of all domains' items.
-fn put_items<R: Sink, M: Read>(tail: &mut Tail, sink: &mut R, machine: &M) -> Result<(), Failed>
-    ensures { Passes tail.old (R.state sink.old) (R.state sink.new) tail.new (all_items (M.meaning machine.now).core (flat_told (M.meaning machine.now))) result }
+fn put_items<R: Sink, T: PermTables, const N: usize>(
+    tail: &mut Tail,
+    sink: &mut R,
+    machine: &Machine<T, N>,
+) -> Result<(), Failed>
+    ensures { Passes tail.old (R.state sink.old) (R.state sink.new) tail.new
+        (all_items machine.now.core (flat_told machine.now)) result }
 {
     for i in 0..machine.modules() {
         put_domain_items(tail, sink, machine, i + 1)?;
@@ -104,16 +118,17 @@ fn put_items<R: Sink, M: Read>(tail: &mut Tail, sink: &mut R, machine: &M) -> Re
     Ok(())
 }
 
-fn put_domain_items<R: Sink, M: Read>(
+fn put_domain_items<R: Sink, T: PermTables, const N: usize>(
     tail: &mut Tail,
     sink: &mut R,
-    machine: &M,
+    machine: &Machine<T, N>,
     domain: u32,
 ) -> Result<(), Failed>
-    requires { IsModule (length (M.meaning machine.now).core.modules) domain }
-    ensures { Passes tail.old (R.state sink.old) (R.state sink.new) tail.new (shown_lines domain (M.meaning machine.now).core.kind (map_in (M.meaning machine.now).core.size (M.meaning machine.now).maps domain)) result }
+    requires { IsModule (length machine.now.core.modules) domain }
+    ensures { Passes tail.old (R.state sink.old) (R.state sink.new) tail.new
+        (shown_lines domain machine.now.core.kind (domain_map machine.now domain)) result }
 {
-    machine.machine_is_valid();
+    machine_is_valid(machine);
     let mut word = 0;
     'items: while word < machine.words() {
         let item = machine.shown(domain, word);
@@ -124,18 +139,19 @@ fn put_domain_items<R: Sink, M: Read>(
 }
 
 // Puts the line of an item. One of no permission has none.
-fn put_item<R: Sink, M: Read>(
+fn put_item<R: Sink, T: PermTables, const N: usize>(
     tail: &mut Tail,
     sink: &mut R,
-    machine: &M,
+    machine: &Machine<T, N>,
     domain: u32,
     item: &Shown,
 ) -> Result<(), Failed>
-    requires domain { IsModule (length (M.meaning machine.now).core.modules) domain }
-    requires inside { item.now.first + item.now.count ≤ (M.meaning machine.now).core.size }
-    ensures { Passes tail.old (R.state sink.old) (R.state sink.new) tail.new (shown_text domain (map_in (M.meaning machine.now).core.size (M.meaning machine.now).maps domain) item.now) result }
+    requires domain { IsModule (length machine.now.core.modules) domain }
+    requires inside { item.now.first + item.now.count ≤ machine.now.core.size }
+    ensures { Passes tail.old (R.state sink.old) (R.state sink.new) tail.new
+        (shown_text domain (domain_map machine.now domain) item.now) result }
 {
-    machine.machine_is_valid();
+    machine_is_valid(machine);
     if has_rights(machine, domain, item.first, item.count) {
         put_shown(tail, sink, domain, item)
     } else {
@@ -144,17 +160,22 @@ fn put_item<R: Sink, M: Read>(
 }
 
 // Whether a domain has a right on some of `count` words from `first` on. It goes from span to span.
-fn has_rights<M: Read>(machine: &M, domain: u32, first: u32, count: u32) -> bool
-    requires domain { IsModule (length (M.meaning machine.now).core.modules) domain }
-    requires inside { first + count ≤ (M.meaning machine.now).core.size }
-    ensures { result ≡ has_rights (map_in (M.meaning machine.now).core.size (M.meaning machine.now).maps domain) first count }
+fn has_rights<T: PermTables, const N: usize>(
+    machine: &Machine<T, N>,
+    domain: u32,
+    first: u32,
+    count: u32,
+) -> bool
+    requires domain { IsModule (length machine.now.core.modules) domain }
+    requires inside { first + count ≤ machine.now.core.size }
+    ensures { result ≡ has_rights (domain_map machine.now domain) first count }
 {
-    machine.machine_is_valid();
+    machine_is_valid(machine);
     let end = first + count;
     let mut word = first;
     'spans: while word < end {
         let span = machine.span(domain, word);
-        if span.perm != Perm::None {
+        if differ(span.perm, Perm::None) {
             return true;
         }
         word = span.first + span.count;
@@ -182,7 +203,8 @@ fn put_shown<R: Sink>(
     item: &Shown,
 ) -> Result<(), Failed>
     requires { item.now.first ≤ most_words }
-    ensures { Passes tail.old (R.state sink.old) (R.state sink.new) tail.new (shown_line domain item.now) result }
+    ensures { Passes tail.old (R.state sink.old) (R.state sink.new) tail.new
+        (shown_line domain item.now) result }
 {
     put_pieces(
         tail,
@@ -201,12 +223,13 @@ fn put_shown<R: Sink>(
     )
 }
 
-pub(crate) fn put_counts<R: Sink, M: Read>(
+pub(crate) fn put_counts<R: Sink, T: PermTables, const N: usize>(
     tail: &mut Tail,
     sink: &mut R,
-    machine: &M,
+    machine: &Machine<T, N>,
 ) -> Result<(), Failed>
-    ensures { Passes tail.old (R.state sink.old) (R.state sink.new) tail.new (counts_lines (M.meaning machine.now).core) result }
+    ensures { Passes tail.old (R.state sink.old) (R.state sink.new) tail.new
+        (counts_lines machine.now.core) result }
 {
     for hart in 0..machine.harts() {
         put_hart_counts(tail, sink, hart, &machine.counts(hart))?;
@@ -221,7 +244,8 @@ fn put_hart_counts<R: Sink>(
     hart: u32,
     counts: &Counts,
 ) -> Result<(), Failed>
-    ensures { Passes tail.old (R.state sink.old) (R.state sink.new) tail.new (counts_text hart counts.now.sidecar counts.now.lookaside counts.now.walks) result }
+    ensures { Passes tail.old (R.state sink.old) (R.state sink.new) tail.new
+        (counts_text hart counts.now.sidecar counts.now.lookaside counts.now.walks) result }
 {
     put_pieces(
         tail,

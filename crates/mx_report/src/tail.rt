@@ -40,9 +40,11 @@ impl Tail {
 
     /// Adds the console bytes of a turn. Pieces of 4096 bytes leave for the sink, and what is behind them is held.
     pub fn add<C: Sink>(&mut self, sink: &mut C, bytes: &Events) -> Result<(), Failed>
-        ensures adds { Adds self.old (C.state sink.old) (C.state sink.new) self.new bytes.now.bytes result }
+        ensures adds { Adds self.old (C.state sink.old) (C.state sink.new) self.new
+            bytes.now.bytes result }
         ensures few { length self.new < piece_bytes }
     {
+        let _ = &self.bytes;
         for i in 0..bytes.len() {
             self.push(sink, bytes.byte(i))?;
         }
@@ -54,16 +56,18 @@ impl Tail {
         ensures puts { Puts (C.state sink.old) (C.state sink.new) self.old result }
         ensures empty { self.new ≡ [] }
     {
-        let result = put_all(sink, self.bytes.as_slice());
+        let ended = put_all(sink, self.bytes.as_slice());
         self.bytes.clear();
-        result
+        ended
     }
 
     /// Adds bytes, as `add`.
     pub fn put<C: Sink>(&mut self, sink: &mut C, bytes: &[u8]) -> Result<(), Failed>
-        ensures adds { Adds self.old (C.state sink.old) (C.state sink.new) self.new bytes.now result }
+        ensures adds { Adds self.old (C.state sink.old) (C.state sink.new) self.new
+            bytes.now result }
         ensures few { length self.new < piece_bytes }
     {
+        let _ = &self.bytes;
         for byte in bytes {
             self.push(sink, *byte)?;
         }
@@ -71,7 +75,8 @@ impl Tail {
     }
 
     fn push<C: Sink>(&mut self, sink: &mut C, byte: u8) -> Result<(), Failed>
-        ensures adds { Adds self.old (C.state sink.old) (C.state sink.new) self.new (byte ∷ []) result }
+        ensures adds { Adds self.old (C.state sink.old) (C.state sink.new) self.new
+            (byte ∷ []) result }
         ensures few { length self.new < piece_bytes }
     {
         self.bytes.push(byte);

@@ -13,3 +13,4 @@ mod Giving
 mod Slots
 mod Changes
 mod Blocks
+mod Told

@@ -5,3 +5,4 @@ pub mod Looks
 pub mod Rights
 pub mod Served
 pub mod Services
+pub mod Told

@@ -4,6 +4,7 @@ ghost use Rattle.std.specs.Option.{option_map};
 ghost use Rattle.mx_words.specs.FirstFit.{place, with_block, without_block, block_words, most_blocks};
 ghost use Rattle.mx_heap.specs.HeapState.{LiesIn, area_of};
 ghost use Rattle.mx_supervisor.specs.Heaps.{told_heap, heap_in, heap_at, with_blocks_at};
+ghost use Rattle.mx_supervisor.specs.Told.{IsTold};
 
 use arrayvec::ArrayVec;
 use mx_heap::{Block, Heap, HeapError};
@@ -188,4 +189,28 @@ fn nth_in(slot: &Option<Heap>, i: u32) -> Option<Block>
         Some(heap) => heap.nth(i),
         None => None,
     }
+}
+
+/// A law: the blocks of each heap lie apart in its area and are at most 1024, and an area of no words is (0, 0). A machine's state
+/// is valid only with such heaps.
+pub fn heaps_of(heaps: &Heaps)
+    ensures { (domain : ℕ) → IsTold (heap_at heaps.now domain) }
+{
+    for i in 0..heaps.slots.len() {
+        match heaps.slots.get(i) {
+            Some(slot) => told_in(slot),
+            None => {}
+        }
+    }
+}
+
+/// The heap in a slot is one, of which an area of no words is (0, 0).
+fn told_in(slot: &Option<Heap>)
+    ensures { IsTold (heap_in slot.now) }
+{
+    let Some(heap) = slot else {
+        return;
+    };
+    // What is true of the heap is known from any call.
+    let _ = heap.area();
 }

@@ -12,5 +12,6 @@ mod supervisor;
 mod words;
 
 pub use answer::Answer;
-pub use heaps::Heaps;
+pub use heaps::{Heaps, heaps_of};
 pub use supervisor::Supervisor;
+pub use words::is_announced;

@@ -1,0 +1,116 @@
+-- Each give adds at most two runs of owners: a run begins only where one begins or ends.
+use Rattle.std.proofs.Common.{◌≡◌, ℕ, zero, suc, ◌+◌, ◌-◌, ◌*◌, ◌<◌, ◌≤◌, Bool, true, false, not, cond, ◌==◌, ◌||◌, List, [], ◌∷◌, length, get_or, refl, ap, ◌∙◌, sym, arith}
+use Rattle.std.specs.List.{flat_map, list_any}
+use Rattle.std.proofs.lemmas.Bool.{eq-eqb}
+use Rattle.std.proofs.lemmas.Bool.Decides.{nat_tests}
+use Rattle.mx_words.specs.Counting.{bit, count_below}
+use Rattle.mx_words.specs.Newest.{Give, laid_at, newest, owner, owners}
+use Rattle.mx_words.specs.Ranges.{covers}
+use Rattle.mx_words.specs.Runs.{owner_runs}
+use Rattle.mx_words.specs.Starts.{is_owner_start}
+use Rattle.mx_words.proofs.CountingLaws.{count_below_none}
+use Rattle.mx_words.proofs.OverlayLaws.{length-owners, owners-at}
+use Rattle.mx_words.proofs.RunLaws.{owner_runs-count}
+use Rattle.mx_boot.proofs.Lists.{none_or, length-flat_at_most, all_each}
+
+-- counting
+bit-le-bit : (a b : Bool) → (a ≡ true → b ≡ true) → bit a ≤ bit b
+bit-le-bit true b f = rw (f refl) (omega arith)
+bit-le-bit false true f = omega arith
+bit-le-bit false false f = omega arith
+
+bit-or : (a b : Bool) → bit (a || b) ≤ bit a + bit b
+bit-or true true = omega arith
+bit-or true false = omega arith
+bit-or false true = omega arith
+bit-or false false = omega arith
+
+count-mono : (n : ℕ) (p q : ℕ → Bool) → ((i : ℕ) → i < n → p i ≡ true → q i ≡ true) → count_below n p ≤ count_below n q
+unfolding count_below
+count-mono zero p q f = omega arith
+count-mono (suc n) p q f =
+    let rest = count-mono n p q (λ i lt. f i (omega arith)) in
+    let here = bit-le-bit (p n) (q n) (f n (omega arith)) in
+    omega (arith, rest, here)
+
+count-or : (n : ℕ) (p q : ℕ → Bool) → count_below n (λ i. p i || q i) ≤ count_below n p + count_below n q
+unfolding count_below
+count-or zero p q = omega arith
+count-or (suc n) p q =
+    let rest = count-or n p q in
+    let here = bit-or (p n) (q n) in
+    omega (arith, rest, here)
+
+count-one : (n b : ℕ) → count_below n (λ i. b == i) ≤ 1
+unfolding count_below
+count-one zero b = omega arith
+count-one (suc n) b = elim (b == n) as (λ t. (b == n) ≡ t → count_below n (λ i. b == i) + bit t ≤ 1) [
+  | true ↦ λ e. let none : count_below n (λ i. b == i) ≡ 0 = count_below_none n (λ i. b == i) (λ i lt. grind (arith, nat_tests)) in omega (arith, none)
+  | false ↦ λ e. let rest = count-one n b in omega (arith, rest)
+] refl
+
+count-any : (n : ℕ) (bs : List ℕ) → count_below n (λ i. list_any (λ b. b == i) bs) ≤ length bs
+count-any n [] = let none : count_below n (λ i. false) ≡ 0 = count_below_none n (λ i. false) (λ i lt. refl) in omega (arith, none)
+count-any n (b ∷ bs) =
+    let both = count-or n (λ i. b == i) (λ i. list_any (λ c. c == i) bs) in
+    let one = count-one n b in
+    let rest = count-any n bs in
+    omega (arith, both, one, rest)
+
+-- where a give begins or ends
+abbrev bounds : Give → List ℕ
+bounds g = g.first ∷ (g.first + g.count) ∷ []
+
+covers-next : (first count j : ℕ) → (first == suc j) ≡ false → (first + count == suc j) ≡ false → covers first count j ≡ covers first count (suc j)
+covers-next first count j a b = grind (arith, nat_tests)
+
+-- no give of these begins or ends at a word, so they give it and the word before to the same owner
+newest-next : (d e : ℕ) (gives : List Give) (j : ℕ) → d ≡ e → list_any (λ b. b == suc j) (flat_map bounds gives) ≡ false → newest d gives j ≡ newest e gives (suc j)
+newest-next d e [] j same none = same
+newest-next d e (g ∷ gives) j same none =
+    let first = none_or (g.first == suc j) ((g.first + g.count == suc j) || list_any (λ b. b == suc j) (flat_map bounds gives)) none in
+    let second = none_or (g.first + g.count == suc j) (list_any (λ b. b == suc j) (flat_map bounds gives)) first.1 in
+    let over = covers-next g.first g.count j first.0 second.0 in
+    let here : laid_at j d g ≡ laid_at (suc j) e g = ap (λ t. cond t g.value d) over ∙ ap (λ x. cond (covers g.first g.count (suc j)) g.value x) same in
+    newest-next (laid_at j d g) (laid_at (suc j) e g) gives j here second.1
+
+or_true : (b : Bool) → (b || true) ≡ true
+or_true true = refl
+or_true false = refl
+
+-- whether a run may begin at a word
+abbrev may-begin : List Give → ℕ → Bool
+may-begin gives i = (0 == i) || list_any (λ b. b == i) (flat_map bounds gives)
+
+starts : (gives : List Give) (words i : ℕ) → i < words → is_owner_start (owners gives words) i ≡ true → may-begin gives i ≡ true
+starts gives words zero lt h = refl
+starts gives words (suc j) lt h =
+    elim (list_any (λ b. b == suc j) (flat_map bounds gives)) as (λ t. list_any (λ b. b == suc j) (flat_map bounds gives) ≡ t → ((0 == suc j) || t) ≡ true) [
+      | true ↦ λ e. or_true (0 == suc j)
+      | false ↦ λ e.
+          let before : get_or (owners gives words) j 0 ≡ owner gives j = owners-at gives words j 0 (omega arith) in
+          let here : get_or (owners gives words) (suc j) 0 ≡ owner gives (suc j) = owners-at gives words (suc j) 0 lt in
+          let same : get_or (owners gives words) j 0 ≡ get_or (owners gives words) (suc j) 0 = before ∙ newest-next 0 0 gives j refl e ∙ sym here in
+          absurd (differs j (owners gives words) same h)
+    ] refl
+  where
+    differs : (j : ℕ) (os : List ℕ) → get_or os j 0 ≡ get_or os (suc j) 0 → is_owner_start os (suc j) ≡ true → ⊥
+    differs j os same h =
+        let one : suc j - 1 ≡ j = omega arith in
+        let at : (get_or os (suc j - 1) 0 == get_or os (suc j) 0) ≡ true = eq-eqb _ _ (ap (λ k. get_or os k 0) one ∙ same) in
+        let later : (suc j == 0) ≡ false = grind (arith, nat_tests) in
+        let not_here : is_owner_start os (suc j) ≡ false = ap (λ t. t || not (get_or os (suc j - 1) 0 == get_or os (suc j) 0)) later ∙ ap not at in
+        cc
+
+pub runs-at-most : (gives : List Give) (words : ℕ) → owner_runs (owners gives words) ≤ 1 + 2 * length gives
+runs-at-most gives words =
+    let counted = owner_runs-count (owners gives words) in
+    let long = length-owners gives words in
+    let at_most : count_below words (is_owner_start (owners gives words)) ≤ count_below words (may-begin gives) = count-mono words (is_owner_start (owners gives words)) (may-begin gives) (starts gives words) in
+    let both : count_below words (may-begin gives) ≤ count_below words (λ i. 0 == i) + count_below words (λ i. list_any (λ b. b == i) (flat_map bounds gives)) =
+    count-or words (λ i. 0 == i) (λ i. list_any (λ b. b == i) (flat_map bounds gives)) in
+    let one = count-one words 0 in
+    let rest = count-any words (flat_map bounds gives) in
+    let few = length-flat_at_most bounds 2 gives (all_each (λ g. length (bounds g) ≤ 2) gives (λ g. omega arith)) in
+    let same : count_below (length (owners gives words)) (is_owner_start (owners gives words)) ≡ count_below words (is_owner_start (owners gives words)) = ap (λ n. count_below n (is_owner_start (owners gives words))) long in
+    omega (arith, counted, same, at_most, both, one, rest, few)

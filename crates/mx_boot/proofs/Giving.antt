@@ -1,0 +1,59 @@
+-- Words given one area after another.
+use Rattle.std.proofs.Common.{◌≡◌, ℕ, zero, suc, ◌+◌, ◌<◌, ◌≤◌, List, [], ◌∷◌, ◌++◌, length, get_or, map, take, replicate, refl, ap, ◌∙◌, sym, arith}
+use Rattle.std.specs.List.{flat_map, range_with_len}
+use Rattle.std.proofs.lemmas.List.{length-map, map-append, take_more}
+use Rattle.mx_words.specs.Newest.{laid, owner, owners}
+use Rattle.mx_words.specs.Runs.{owner_runs}
+use Rattle.mx_words.proofs.OverlayLaws.{owners-append}
+use Rattle.mx_manifest.specs.Plan.{Said}
+use Rattle.mx_boot.specs.declared.area.Area.{Area}
+use Rattle.mx_boot.specs.Areas.{Home, homes}
+use Rattle.mx_boot.specs.Boot.{give, gives_of}
+use Rattle.mx_boot.specs.Placed.{owned_areas}
+use Rattle.mx_boot.proofs.FewRuns.{runs-at-most}
+use Rattle.mx_boot.proofs.Housed.{few_gives_all}
+
+-- the owners after one more
+pub give-next : (words i : ℕ) (areas : List Area) (d : Area) → i < length areas
+    → laid (give (get_or areas i d)) (owners (map give (take i areas)) words) ≡ owners (map give (take (i + 1) areas)) words
+give-next words i areas d lt =
+    sym (owners-append (map give (take i areas)) (give (get_or areas i d)) words)
+    ∙ ap (λ gs. owners gs words) (sym (map-append give (take i areas) (get_or areas i d ∷ [])) ∙ ap (map give) (sym (take_more areas i d lt)))
+
+length-take-upto : {X : Type 0} (n : ℕ) (xs : List X) → length (take n xs) ≤ length xs
+length-take-upto zero xs = omega arith
+length-take-upto (suc n) [] = omega arith
+length-take-upto (suc n) (x ∷ xs) = let rest = length-take-upto n xs in omega (arith, rest)
+
+-- there is room for their runs
+pub give-fits : (words i : ℕ) (areas : List Area) (d : Area) → i < length areas → length areas ≤ 2047
+    → 4096 < owner_runs (laid (give (get_or areas i d)) (owners (map give (take i areas)) words)) → ⊥
+give-fits words i areas d lt few full =
+    let runs = runs-at-most (map give (take (i + 1) areas)) words in
+    let long : length (map give (take (i + 1) areas)) ≡ length (take (i + 1) areas) = length-map (take (i + 1) areas) give in
+    let upto = length-take-upto (i + 1) areas in
+    let same = ap owner_runs (give-next words i areas d lt) in
+    let q : ⊥ = omega (arith, runs, long, upto, few, full, same) in q
+
+-- the gives of all modules are those of their areas
+pub map-flat : {A B C : Type 0} (f : B → C) (g : A → List B) (xs : List A) → map f (flat_map g xs) ≡ flat_map (λ x. map f (g x)) xs
+map-flat f g [] = refl
+map-flat f g (x ∷ xs) = map-append f (g x) (flat_map g xs) ∙ ap (λ ys. map f (g x) ++ ys) (map-flat f g xs)
+
+pub gives-are : (harts : ℕ) (all : List Home) → map give (flat_map (owned_areas harts) all) ≡ flat_map (gives_of harts) all
+gives-are harts all = map-flat give (owned_areas harts) all
+
+pub few-owned : (plan : Said) (images : List (List ℕ)) → length plan.modules ≤ 63 → length (flat_map (owned_areas (length plan.harts)) (homes plan images)) ≤ 2047
+few-owned plan images few =
+    let all = flat_map (owned_areas (length plan.harts)) (homes plan images) in
+    let gives = few_gives_all plan images in
+    let same : length (flat_map (gives_of (length plan.harts)) (homes plan images)) ≡ length all = ap length (sym (gives-are (length plan.harts) (homes plan images))) ∙ length-map all give in
+    omega (arith, gives, same, few)
+
+-- nothing is given yet
+none_from : (n words : ℕ) → map (owner []) (range_with_len n words) ≡ replicate words 0
+none_from n zero = refl
+none_from n (suc words) = ap (λ os. 0 ∷ os) (none_from (n + 1) words)
+
+pub none-given : (words : ℕ) → owners [] words ≡ replicate words 0
+none-given words = none_from 0 words

@@ -1,0 +1,197 @@
+-- What the modules of a plan without a fault bring: areas apart in RAM, each of some words, and bytes that lie there.
+use Rattle.std.proofs.Common.{◌≡◌, ◌⊎◌, ℕ, zero, suc, ◌+◌, ◌-◌, ◌*◌, ◌/◌, ◌%◌, ◌<◌, ◌≤◌, true, false, not, cond, List, [], ◌∷◌, ◌++◌, length, map, take, drop, slice_get, Option, Some, None, IfSome, unwrap_or, Result, Ok, Err, refl, ap, ◌∙◌, subst, arith, mul-le-mul_left}
+use Rattle.std.specs.List.{AllByRecursion, enumerate_from, flat_map}
+use Rattle.std.specs.Option.{is_some, option_map_or}
+use Rattle.mx_elf.specs.declared.image.Image.{Image}
+use Rattle.mx_elf.specs.declared.image.ImageFault.{ImageFault}
+use Rattle.mx_elf.specs.declared.segment.Seg.{Seg}
+use Rattle.mx_elf.specs.Image.{IsSound, image_of}
+use Rattle.mx_elf.specs.Segment.{word_count}
+use Rattle.mx_elf.proofs.Sound.{sound-image}
+use Rattle.mx_manifest.specs.declared.parts.ModulePlan.{ModulePlan}
+use Rattle.mx_manifest.specs.InRange.{IsAligned, IsBetween, IsInRange}
+use Rattle.mx_manifest.specs.InRange as range
+use Rattle.mx_manifest.specs.Plan.{Said}
+use Rattle.mx_boot.specs.declared.area.Area.{Area}
+use Rattle.mx_boot.specs.Areas.{Home, home, homes, has_image, image, read_as, pieces, segment_area, inline_area, inline_words, inline_address, word_bytes, stack_words, heap_area, stack_area, heaps, stacks, areas_of, areas, contents, segment_content, inline_content}
+use Rattle.mx_boot.specs.Boot.{owned_pieces}
+use Rattle.mx_boot.specs.Faults.{first_fault, is_in_ram, shares_word, ram_words}
+use Rattle.mx_boot.specs.Placed.{ArePlaced, HasRoom, IsApart, IsPlaced, granted_areas, owned_areas}
+use Rattle.mx_boot.proofs.Apart.{AreClear, all_inside, apart_at, in_ram}
+use Rattle.mx_boot.proofs.Booted.{faultless}
+use Rattle.mx_boot.proofs.Homes.{home_is}
+use Rattle.mx_boot.proofs.Housed.{has_words}
+use Rattle.mx_boot.proofs.Lists.{all_at, all_both, all_flat, all_from, all_join, all_left, all_mapped, all_numbered, all_parts, all_right, all_unmapped, all_weaken}
+
+-- what holds of all areas holds of those of a module, of those with rights and of its own
+pub home_all : (P : Area → Type 0) (plan : Said) (images : List (List ℕ)) (i : ℕ) (m : ModulePlan) → AllByRecursion P (areas plan images) → slice_get plan.modules i ≡ Some m
+    → AllByRecursion P (areas_of (length plan.harts) (home images (i, m)))
+home_all P plan images i m all at =
+    all_at (λ h. AllByRecursion P (areas_of (length plan.harts) h)) (homes plan images) i (home images (i, m))
+    (all_parts (areas_of (length plan.harts)) P (homes plan images) all) (home_is plan images i m at)
+
+granted_part : (P : Area → Type 0) (harts : ℕ) (h : Home) → AllByRecursion P (areas_of harts h) → AllByRecursion P (granted_areas harts h)
+granted_part P harts h all =
+    all_join P (pieces h) (stacks harts h) (all_left P (pieces h) (heaps h) (all_left P (pieces h ++ heaps h) (stacks harts h) all)) (all_right P (pieces h ++ heaps h) (stacks harts h) all)
+
+owned_part : (P : Area → Type 0) (harts : ℕ) (h : Home) → AllByRecursion P (areas_of harts h) → AllByRecursion P (owned_areas harts h)
+owned_part P harts h all =
+    let own = all_left P (pieces h ++ heaps h) (stacks harts h) all in
+    let sealed : AllByRecursion P (owned_pieces h) = elim h.plan.seal as (λ b. AllByRecursion P (cond b [] (pieces h))) [ true ↦ tt | false ↦ all_left P (pieces h) (heaps h) own ] in
+    all_join P (owned_pieces h ++ heaps h) (stacks harts h) (all_join P (owned_pieces h) (heaps h) sealed (all_right P (pieces h) (heaps h) own)) (all_right P (pieces h ++ heaps h) (stacks harts h) all)
+
+-- each area has words
+abbrev HasWords : Area → Type 0
+HasWords a = 0 < a.count
+
+read_sound : (bytes : List ℕ) (r : Result Image ImageFault) → r ≡ image_of bytes → AllByRecursion (IsSound (length bytes)) (read_as r).segments
+read_sound bytes (Ok image) e = (sound-image bytes image e).0
+read_sound bytes (Err fault) e = tt
+
+segments_sound : (h : Home) → AllByRecursion (IsSound (length h.bytes)) (image h).segments
+segments_sound h = read_sound h.bytes (image_of h.bytes) refl
+
+segment_words : (s : Seg) → 0 < s.memory → 0 < word_count s
+segment_words s some = omega (arith, some)
+
+inline_some : (o : Option (List ℕ)) → is_some o ≡ true → IfSome o (λ words. IsBetween 1 65536 (length words)) → 0 < length (unwrap_or o [])
+inline_some None there h = absurd (let q : ⊥ = cc in q)
+inline_some (Some words) there h = let low = h.0 in omega (arith, low)
+
+pieces_some : (modules : ℕ) (h : Home) → range.IsModule modules h.domain h.plan → AllByRecursion HasWords (pieces h)
+pieces_some modules h in_range = elim (has_image h) as (λ b. has_image h ≡ b → AllByRecursion HasWords (cond b (map (segment_area h) (image h).segments) (inline_area h ∷ []))) [
+  | true ↦ λ e. all_mapped (segment_area h) HasWords (image h).segments (all_weaken (IsSound (length h.bytes)) (λ s. 0 < word_count s) (image h).segments (λ s sound. segment_words s sound.covers) (segments_sound h))
+  | false ↦ λ e. (inline_some h.plan.words (in_range.words_or_image ∙ ap not e) in_range.words, tt)
+] refl
+
+heaps_some : (h : Home) (o : Option ℕ) → h.plan.heap ≡ o → is_some h.plan.heap ≡ is_some h.plan.heap_words → IfSome h.plan.heap_words (IsBetween 1 16777216)
+    → AllByRecursion HasWords (option_map_or (λ address. heap_area h address ∷ []) o [])
+heaps_some h None e whole between = tt
+heaps_some h (Some address) e whole between = (let some = has_words h.plan.heap h.plan.heap_words 16777216 address whole between e in omega (arith, some), tt)
+
+stacks_some : (harts : ℕ) (h : Home) (o : Option ℕ) → 1 ≤ harts → h.plan.stack ≡ o → is_some h.plan.stack ≡ is_some h.plan.stack_words → IfSome h.plan.stack_words (IsBetween 1 1048576)
+    → AllByRecursion HasWords (option_map_or (λ address. stack_area harts h address ∷ []) o [])
+stacks_some harts h None one e whole between = tt
+stacks_some harts h (Some address) one e whole between = (
+  (let some = has_words h.plan.stack h.plan.stack_words 1048576 address whole between e in let more : stack_words h.plan * 1 ≤ stack_words h.plan * harts = mul-le-mul_left (stack_words h.plan) one in omega (arith, some, more)),
+  tt,
+)
+
+areas_some : (modules harts : ℕ) (h : Home) → range.IsModule modules h.domain h.plan → 1 ≤ harts → AllByRecursion HasWords (areas_of harts h)
+areas_some modules harts h in_range one =
+    all_join HasWords (pieces h ++ heaps h) (stacks harts h)
+    (all_join HasWords (pieces h) (heaps h) (pieces_some modules h in_range) (heaps_some h h.plan.heap refl in_range.heap_whole in_range.heap_words))
+    (stacks_some harts h h.plan.stack one refl in_range.stack_whole in_range.stack_words)
+
+-- the bytes of a loaded segment or of inline words lie in its area
+length-take-le_of : {X : Type 0} (n : ℕ) (xs : List X) → length (take n xs) ≤ n
+length-take-le_of zero xs = omega arith
+length-take-le_of (suc n) [] = omega arith
+length-take-le_of (suc n) (x ∷ xs) = let rest = length-take-le_of n xs in omega (arith, rest)
+
+pub length-word_bytes : (words : List ℕ) → length (flat_map word_bytes words) ≡ 4 * length words
+length-word_bytes [] = refl
+length-word_bytes (w ∷ words) = let rest = length-word_bytes words in omega (arith, rest)
+
+segment_room : (words : ℕ) (h : Home) (s : Seg) → IsSound (length h.bytes) s → is_in_ram words (segment_area h s) ≡ true → HasRoom (4 * words) (segment_content h.bytes s)
+segment_room words h s sound inside =
+    let r = in_ram words (segment_area h s) inside in
+    let from = r.from in
+    let to = r.to in
+    let long = length-take-le_of s.file (drop s.offset h.bytes) in
+    let held = sound.held in
+    let aligned = sound.aligned in
+    record { from = from; to = room s.address s.memory s.file (length (take s.file (drop s.offset h.bytes))) words from to long held aligned }
+  where
+    room : (address memory file count words : ℕ) → 2147483648 ≤ address → address / 4 + ((address + memory + 3) / 4 - address / 4) ≤ 536870912 + words → count ≤ file → file ≤ memory → address % 4 ≡ 0 → address - 2147483648 + count ≤ 4 * words
+    room address memory file count words a b c d e = omega (arith, a, b, c, d, e)
+
+inline_room : (words : ℕ) (h : Home) → inline_address h.plan % 4 ≡ 0 → is_in_ram words (inline_area h) ≡ true → HasRoom (4 * words) (inline_content h.plan)
+inline_room words h aligned inside =
+    let r = in_ram words (inline_area h) inside in
+    let from = r.from in
+    let to = r.to in
+    record { from = from; to = room (inline_address h.plan) (length (inline_words h.plan)) (length (flat_map word_bytes (inline_words h.plan))) words from to (length-word_bytes (inline_words h.plan)) aligned }
+  where
+    room : (address count size words : ℕ) → 2147483648 ≤ address → address / 4 + count ≤ 536870912 + words → size ≡ 4 * count → address % 4 ≡ 0 → address - 2147483648 + size ≤ 4 * words
+    room address count size words a b c e = omega (arith, a, b, c, e)
+
+contents_room : (words : ℕ) (h : Home) → inline_address h.plan % 4 ≡ 0 → AllByRecursion (λ a. is_in_ram words a ≡ true) (pieces h) → AllByRecursion (HasRoom (4 * words)) (contents h)
+contents_room words h aligned all = elim (has_image h) as (λ b. AllByRecursion (λ a. is_in_ram words a ≡ true) (cond b (map (segment_area h) (image h).segments) (inline_area h ∷ []))
+    → AllByRecursion (HasRoom (4 * words)) (cond b (map (segment_content h.bytes) (image h).segments) (inline_content h.plan ∷ []))) [
+      | true ↦ λ k. all_mapped (segment_content h.bytes) (HasRoom (4 * words)) (image h).segments
+          (all_weaken (λ s. IsSound (length h.bytes) s × (is_in_ram words (segment_area h s) ≡ true)) (λ s. HasRoom (4 * words) (segment_content h.bytes s)) (image h).segments
+          (λ s both. segment_room words h s both.0 both.1)
+          (all_both (IsSound (length h.bytes)) (λ s. is_in_ram words (segment_area h s) ≡ true) (image h).segments (segments_sound h)
+          (all_unmapped (segment_area h) (λ a. is_in_ram words a ≡ true) (image h).segments k)))
+      | false ↦ λ k. (inline_room words h aligned k.0, tt)
+    ] all
+
+inline_aligned : (o : Option ℕ) → IfSome o IsAligned → unwrap_or o 0 % 4 ≡ 0
+inline_aligned None h = refl
+inline_aligned (Some address) h = h.0
+
+-- a module that is ready to boot
+pub record IsReady (words harts : ℕ) (h : Home) : Type 0 where
+  pub granted : ArePlaced words (granted_areas harts h)
+  pub owned : AllByRecursion (IsPlaced words) (owned_areas harts h)
+  pub room : AllByRecursion (HasRoom (4 * words)) (contents h)
+  pub aligned : inline_address h.plan % 4 ≡ 0
+
+module _ (plan : Said) (images : List (List ℕ)) (in_range : IsInRange plan) (clear : AreClear (ram_words plan) [] (areas plan images)) where
+  placed : (i : ℕ) (m : ModulePlan) → slice_get plan.modules i ≡ Some m → AllByRecursion (IsPlaced (ram_words plan)) (areas_of (length plan.harts) (home images (i, m)))
+  placed i m at =
+      let h = home images (i, m) in
+      all_weaken (λ a. (is_in_ram (ram_words plan) a ≡ true) × HasWords a) (IsPlaced (ram_words plan)) (areas_of (length plan.harts) h) (λ a both. record { inside = both.0; some = both.1 })
+      (all_both (λ a. is_in_ram (ram_words plan) a ≡ true) HasWords (areas_of (length plan.harts) h)
+      (home_all (λ a. is_in_ram (ram_words plan) a ≡ true) plan images i m (all_inside (ram_words plan) [] (areas plan images) clear) at)
+      (areas_some (length plan.modules) (length plan.harts) h (in_range.modules i m at) in_range.hart_count.0))
+
+  all_apart : AllByRecursion (IsApart (areas plan images)) (areas plan images)
+  all_apart = all_from (IsApart (areas plan images)) (areas plan images) (λ i a at. apart_at (ram_words plan) [] (areas plan images) clear i a at)
+
+  granted_apart : (i : ℕ) (m : ModulePlan) → slice_get plan.modules i ≡ Some m → AllByRecursion (IsApart (granted_areas (length plan.harts) (home images (i, m)))) (granted_areas (length plan.harts) (home images (i, m)))
+  granted_apart i m at =
+      let h = home images (i, m) in
+      let own = granted_areas (length plan.harts) h in
+      granted_part (IsApart own) (length plan.harts) h
+      (all_weaken (IsApart (areas plan images)) (IsApart own) (areas_of (length plan.harts) h)
+      (λ a apart. granted_part (λ b. (shares_word b a ≡ false) ⊎ (b ≡ a)) (length plan.harts) h (home_all (λ b. (shares_word b a ≡ false) ⊎ (b ≡ a)) plan images i m apart at))
+      (home_all (IsApart (areas plan images)) plan images i m all_apart at))
+
+  pub module_ready : (i : ℕ) (m : ModulePlan) → slice_get plan.modules i ≡ Some m → IsReady (ram_words plan) (length plan.harts) (home images (i, m))
+  module_ready i m at =
+      let h = home images (i, m) in
+      let harts = length plan.harts in
+      let all = placed i m at in
+      let aligned = inline_aligned m.at (in_range.modules i m at).at in
+      record {
+        granted = record { each = granted_part (IsPlaced (ram_words plan)) harts h all; apart = granted_apart i m at };
+        owned = owned_part (IsPlaced (ram_words plan)) harts h all;
+        room = contents_room (ram_words plan) h aligned (all_left (λ a. is_in_ram (ram_words plan) a ≡ true) (pieces h) (heaps h) (all_left (λ a. is_in_ram (ram_words plan) a ≡ true) (pieces h ++ heaps h) (stacks harts h)
+            (home_all (λ a. is_in_ram (ram_words plan) a ≡ true) plan images i m (all_inside (ram_words plan) [] (areas plan images) clear) at)));
+        aligned = aligned;
+      }
+
+  pub homes_ready : AllByRecursion (IsReady (ram_words plan) (length plan.harts)) (homes plan images)
+  homes_ready = all_mapped (home images) (IsReady (ram_words plan) (length plan.harts)) (enumerate_from 0 plan.modules)
+      (all_numbered (λ (p : ℕ × ModulePlan). IsReady (ram_words plan) (length plan.harts) (home images p)) 0 plan.modules
+      (λ i m at. let same : i ≡ 0 + i = omega arith in subst (λ k. IsReady (ram_words plan) (length plan.harts) (home images (k, m))) same (module_ready i m at)))
+
+pub ready : (plan : Said) (images : List (List ℕ)) → IsInRange plan → first_fault plan images ≡ None → (i : ℕ) (h : Home) → slice_get (homes plan images) i ≡ Some h → IsReady (ram_words plan) (length plan.harts) h
+ready plan images in_range none i h at =
+    all_at (IsReady (ram_words plan) (length plan.harts)) (homes plan images) i h (homes_ready plan images in_range (faultless plan images none).placed) at
+
+-- RAM has some words, and no more than may be
+pub some_words : (plan : Said) → IsInRange plan → 0 < ram_words plan
+some_words plan in_range = let r = in_range.ram_kib in omega (arith, r.0)
+
+pub few_words : (plan : Said) → IsInRange plan → ram_words plan ≤ 16777216
+few_words plan in_range = let r = in_range.ram_kib in omega (arith, r.1)
+
+-- what all modules own lies in RAM
+pub owned_placed : (plan : Said) (images : List (List ℕ)) → IsInRange plan → first_fault plan images ≡ None → AllByRecursion (IsPlaced (ram_words plan)) (flat_map (owned_areas (length plan.harts)) (homes plan images))
+owned_placed plan images in_range none =
+    all_flat (owned_areas (length plan.harts)) (IsPlaced (ram_words plan)) (homes plan images)
+    (all_weaken (IsReady (ram_words plan) (length plan.harts)) (λ h. AllByRecursion (IsPlaced (ram_words plan)) (owned_areas (length plan.harts) h)) (homes plan images) (λ h is. is.owned)
+    (homes_ready plan images in_range (faultless plan images none).placed))

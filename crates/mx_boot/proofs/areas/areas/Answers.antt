@@ -1,0 +1,19 @@
+use Rattle.std.proofs.Common.{◌∙◌, ◌≤◌, ◌++◌, ap, length, arith}
+use Rattle.std.specs.List.{flat_map}
+use Rattle.mx_boot.specs.Areas.{areas_of, homes}
+use Rattle.mx_boot.specs.Seen.{seen}
+use Rattle.mx_boot.proofs.Homes.{length-homes}
+use Rattle.mx_boot.proofs.Rows.{grown_by_some, take_past}
+use Rattle.mx_boot.proofs.areas.areas.Goals as goal
+
+pub modules-preserved : goal.modules-preserved
+modules-preserved c =
+    let h = seen c.home_at.result in
+    grown_by_some (areas_of (length c.args.plan.now.harts)) (homes c.args.plan.now c.args.images.now) c.modules.i h c.modules.all.items c.add_areas.new.areas.items
+    c.home_at.ensures.home c.modules.invariant (c.in_ok-add_areas.ensures ∙ ap (λ n. c.modules.all.items ++ areas_of n h) c.harts.ensures.value)
+
+pub returns : goal.returns
+returns c =
+    let all = homes c.args.plan.now c.args.images.now in
+    let past : length all ≤ c.modules.i = omega (arith, length-homes c.args.plan.now c.args.images.now, c.modules-i-end.ensures.value) in
+    c.modules.invariant ∙ ap (flat_map (areas_of (length c.args.plan.now.harts))) (take_past all c.modules.i past)

@@ -1,0 +1,10 @@
+pub mod Areas
+pub mod Boot
+pub mod Booted
+pub mod Entries
+pub mod Faults
+pub mod Images
+pub mod Joined
+pub mod Laid
+pub mod Placed
+pub mod Seen

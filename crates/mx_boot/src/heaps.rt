@@ -1,0 +1,45 @@
+//! The heaps at boot.
+
+ghost use Rattle.std.specs.Prelude.{◌≡◌, ◌+◌, ◌≤◌, None, map, IfOk};
+ghost use Rattle.mx_boot.specs.Boot.{heap_of};
+ghost use Rattle.mx_boot.specs.Entries.{word_at};
+ghost use Rattle.mx_boot.specs.Faults.{first_fault};
+ghost use Rattle.mx_boot.specs.Joined.{heap_state};
+
+use crate::entries::word_at;
+use crate::home::in_range;
+use mx_heap::Heap;
+use mx_manifest::{ModulePlan, Plan};
+use mx_supervisor::Heaps;
+use mx_words::{Blob, NoMemory};
+use std::alloc::Global;
+
+/// The heap of a module, whose area ends at most at 2^24.
+fn heap(alloc: Global, plan: &ModulePlan) -> Result<Heap, NoMemory>
+    requires { (heap_of plan.now).first + (heap_of plan.now).count ≤ 16777216 }
+    ensures { IfOk result (λ heap. heap ≡ heap_state plan.now) }
+{
+    match plan.heap {
+        Some(address) => {
+            let words = match plan.heap_words {
+                Some(words) => words,
+                None => 0,
+            };
+            Heap::new(alloc, word_at(address), words)
+        }
+        None => Heap::new(alloc, 0, 0),
+    }
+}
+
+/// The heaps of all modules, of a plan without a fault.
+pub(crate) fn heaps(alloc: Global, plan: &Plan, images: &[Blob]) -> Result<Heaps, NoMemory>
+    requires { first_fault plan.now images.now ≡ None }
+    ensures { IfOk result (λ heaps. heaps ≡ map heap_state plan.now.modules) }
+{
+    in_range(plan);
+    let mut heaps = Heaps::new();
+    'modules: for i in 0..plan.modules() {
+        heaps.push(heap(alloc, plan.module(i))?);
+    }
+    Ok(heaps)
+}

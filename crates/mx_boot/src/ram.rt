@@ -1,0 +1,116 @@
+//! RAM at boot.
+
+ghost use Rattle.std.specs.Prelude.{◌≡◌, ◌%◌, ◌≤◌, None, length, map, take, drop, fold, IfOk};
+ghost use Rattle.std.specs.List.{AllByRecursion};
+ghost use Rattle.mx_elf.specs.Image.{IsSound};
+ghost use Rattle.mx_boot.specs.Areas.{contents, inline_address, inline_content, segment_content};
+ghost use Rattle.mx_boot.specs.Boot.{boot_ram, with_content};
+ghost use Rattle.mx_boot.specs.Faults.{first_fault};
+ghost use Rattle.mx_boot.specs.Placed.{HasRoom, words_content};
+ghost use Rattle.mx_boot.specs.Seen.{seen};
+
+use crate::home::{Home, home_at, in_range};
+use crate::layout::ram_words;
+use mx_elf::{Seg, Segs, read_image};
+use mx_manifest::{Numbers, Plan};
+use mx_memory::Ram;
+use mx_words::{Blob, NoMemory};
+use std::alloc::Global;
+
+/// Puts bytes from an address on.
+fn put_bytes(ram: &mut Ram, address: u32, bytes: &[u8])
+    requires room { HasRoom (length ram.old) (record { address = address; bytes = bytes.now }) }
+    requires small { length ram.old ≤ 67108864 }
+    ensures bytes { ram.new ≡ with_content ram.old (record { address = address; bytes = bytes.now }) }
+    ensures size { length ram.new ≡ length ram.old }
+{
+    'bytes: for k in 0..bytes.len() {
+        ram.store(address + k as u32, 1, u32::from(bytes[k]));
+    }
+}
+
+/// Puts words from an aligned address on.
+fn put_words(ram: &mut Ram, address: u32, words: &Numbers)
+    requires room { HasRoom (length ram.old) (words_content address words.now) }
+    requires aligned { address % 4 ≡ 0 }
+    requires small { length ram.old ≤ 67108864 }
+    ensures bytes { ram.new ≡ with_content ram.old (words_content address words.now) }
+    ensures size { length ram.new ≡ length ram.old }
+{
+    'words: for k in 0..words.len() {
+        ram.store(address + 4 * k, 4, words.get(k));
+    }
+}
+
+/// The bytes of a segment that its file has.
+fn held(bytes: &[u8], segment: Seg) -> &[u8]
+    requires { IsSound (length bytes.now) segment }
+    ensures { result.now ≡ take segment.file (drop segment.offset bytes.now) }
+{
+    if segment.file == 0 {
+        return &[];
+    }
+    let first = segment.offset as usize;
+    &bytes[first..first + segment.file as usize]
+}
+
+/// Puts what the files of loaded segments have.
+fn put_segments(ram: &mut Ram, bytes: &[u8], segments: &Segs)
+    requires sound { AllByRecursion (IsSound (length bytes.now)) segments.now }
+    requires room { AllByRecursion (HasRoom (length ram.old)) (map (segment_content bytes.now) segments.now) }
+    requires small { length ram.old ≤ 67108864 }
+    ensures bytes { ram.new ≡ fold with_content ram.old (map (segment_content bytes.now) segments.now) }
+    ensures size { length ram.new ≡ length ram.old }
+{
+    'segments: for k in 0..segments.len() {
+        let segment = segments.get(k);
+        put_bytes(ram, segment.address, held(bytes, segment));
+    }
+}
+
+/// Puts inline words.
+fn put_inline(ram: &mut Ram, home: Home)
+    requires room { HasRoom (length ram.old) (inline_content (seen home).plan) }
+    requires aligned { inline_address (seen home).plan % 4 ≡ 0 }
+    requires small { length ram.old ≤ 67108864 }
+    ensures bytes { ram.new ≡ with_content ram.old (inline_content (seen home.entry).plan) }
+    ensures size { length ram.new ≡ length ram.old }
+{
+    let address = match home.plan.at {
+        Some(address) => address,
+        None => 0,
+    };
+    if let Some(words) = &home.plan.words {
+        put_words(ram, address, words);
+    }
+}
+
+/// Puts what a module puts there.
+fn put_home(ram: &mut Ram, home: Home)
+    requires room { AllByRecursion (HasRoom (length ram.old)) (contents (seen home)) }
+    requires aligned { inline_address (seen home).plan % 4 ≡ 0 }
+    requires small { length ram.old ≤ 67108864 }
+    ensures bytes { ram.new ≡ fold with_content ram.old (contents (seen home.entry)) }
+    ensures size { length ram.new ≡ length ram.old }
+{
+    if home.plan.image.is_none() {
+        put_inline(ram, home);
+        return;
+    }
+    if let Ok(image) = read_image(home.bytes) {
+        put_segments(ram, home.bytes, &image.segments);
+    }
+}
+
+/// RAM at boot, of a plan without a fault.
+pub(crate) fn ram(alloc: Global, plan: &Plan, images: &[Blob]) -> Result<Ram, NoMemory>
+    requires { first_fault plan.now images.now ≡ None }
+    ensures { IfOk result (λ ram. ram ≡ boot_ram plan.now images.now) }
+{
+    in_range(plan);
+    let mut ram = Ram::new(alloc, ram_words(plan))?;
+    'modules: for i in 0..plan.modules() {
+        put_home(&mut ram, home_at(plan, images, i));
+    }
+    Ok(ram)
+}

@@ -1,0 +1,55 @@
+//! The permission tables at boot.
+
+ghost use Rattle.std.specs.Prelude.{◌≡◌, None, Ok, IfOk, IfErr};
+ghost use Rattle.mx_table.specs.Tables.{IsLimit};
+ghost use Rattle.mx_model.specs.State.{flat};
+ghost use Rattle.mx_boot.specs.Boot.{boot_of, boot_state, limit_of};
+ghost use Rattle.mx_boot.specs.Booted.{IsRefusedBy};
+ghost use Rattle.mx_boot.specs.Faults.{first_fault, ram_words};
+
+use crate::granted::rows;
+use crate::home::in_range;
+use crate::layout::ram_words;
+use crate::refused::BootRefused;
+use mx_manifest::Plan;
+use mx_table::{BuildRefused, PermTables};
+use mx_words::{Blob, Need};
+use std::alloc::Global;
+
+/// The limit of a plan's tables.
+fn limit(plan: &Plan) -> Need
+    ensures limit { result ≡ limit_of plan.now }
+    ensures most { IsLimit result }
+{
+    Need {
+        upper: plan.upper(),
+        leaf: plan.leaf(),
+        spill: plan.spill(),
+    }
+}
+
+/// The tables of a plan without a fault; or what they need, where that exceeds the plan's limit.
+pub(crate) fn tables<T: PermTables>(
+    alloc: Global,
+    plan: &Plan,
+    images: &[Blob],
+) -> Result<T, BootRefused>
+    requires clear { first_fault plan.now images.now ≡ None }
+    requires kind { T.kind ≡ plan.now.tables }
+    ensures boot { IfOk result (λ t. boot_of plan.now images.now ≡ Ok (boot_state plan.now images.now)) }
+    ensures maps { IfOk result (λ t. T.maps t ≡ (flat (boot_state plan.now images.now)).maps) }
+    ensures size { IfOk result (λ t. T.size t ≡ ram_words plan.now) }
+    ensures limit { IfOk result (λ t. T.limits t ≡ limit_of plan.now) }
+    ensures refused { IfErr result (IsRefusedBy (boot_of plan.now images.now)) }
+{
+    in_range(plan);
+    let Ok(rows) = rows(alloc, plan, images) else {
+        return Err(BootRefused::NoMemory);
+    };
+    let limit = limit(plan);
+    match T::build(alloc, ram_words(plan), rows.as_slice(), limit) {
+        Ok(tables) => Ok(tables),
+        Err(BuildRefused::TablesFull { need }) => Err(BootRefused::TablesFull { need, limit }),
+        Err(BuildRefused::NoMemory) => Err(BootRefused::NoMemory),
+    }
+}

@@ -1,0 +1,28 @@
+-- A list of harts in the first places of an array: what a read and a write of one of them say of the list.
+use Rattle.std.proofs.Common.{◌≡◌, ℕ, zero, suc, ◌<◌, ◌≤◌, List, [], ◌∷◌, length, get_or, set, take, refl, sym, ap, ◌∙◌, arith, length-take, get_or-take}
+use Rattle.std.proofs.lemmas.List.{get_or_default}
+use Rattle.mx_machine.specs.declared.hart.Hart.{Hart}
+use Rattle.mx_machine.specs.Harts.{no_hart, hart_of, stepped}
+
+-- the first elements of a list with a write
+take-written : {X : Type 0} (n : ℕ) (xs : List X) (i : ℕ) (x : X) → take n (set xs i x) ≡ set (take n xs) i x
+take-written zero xs i x = refl
+take-written (suc n) [] i x = refl
+take-written (suc n) (y ∷ ys) zero x = refl
+take-written (suc n) (y ∷ ys) (suc i) x = ap (λ zs. y ∷ zs) (take-written n ys i x)
+
+module _ (n : ℕ) (items : List Hart) (harts : List Hart) (h : ℕ) (d : Hart) (view : take n items ≡ harts) (there : h < length harts) where
+  -- the part that is read is the hart
+  pub hart_read : get_or items h d ≡ hart_of harts h
+  hart_read =
+      let long : h < length (take n items) = omega (arith, ap length view) in
+      let low : h < n = omega (arith, length-take n items) in
+      let inside : h < length items = omega (arith, length-take n items) in
+      get_or_default items h d no_hart inside ∙ sym (get_or-take n items h no_hart low) ∙ ap (λ (hs : List Hart). get_or hs h no_hart) view
+
+  -- a part that is written is the hart after a step
+  pub hart_written : (step : Hart → Hart) (x : Hart) → x ≡ step (get_or items h d) → take n (set items h x) ≡ stepped h step harts
+  hart_written step x e =
+      take-written n items h x
+      ∙ ap (λ (hs : List Hart). set hs h x) view
+      ∙ ap (λ (y : Hart). set harts h y) (e ∙ ap step hart_read)

@@ -1,0 +1,106 @@
+-- What a turn may rest on: a hart that isn't halted is there, stands at an instruction of a module, and acts once it has heard the others' calls.
+use Rattle.std.proofs.Common.{◌≡◌, ℕ, zero, suc, ◌<◌, ◌≤◌, ◌%◌, Bool, true, false, List, [], ◌∷◌, length, refl, sym, ap, subst, ◌∙◌, arith, Option, Some, None}
+use Rattle.mx_table.specs.Tables.{IsDomain}
+use Rattle.mx_check.specs.declared.flight.Flight.{Flight}
+use Rattle.mx_check.specs.Conditions.{HasHeardAll}
+use Rattle.mx_check.specs.Harts.{hart_at as kept_at}
+use Rattle.mx_model.specs.declared.values.TurnKind.{TurnKind}
+use Rattle.mx_model.specs.declared.values.TurnKind.TheVariants as T
+use Rattle.mx_model.specs.Events.{Events, no_events}
+use Rattle.mx_model.specs.Run.{flat_made}
+use Rattle.mx_model.specs.State.{Hart as Seen}
+use Rattle.mx_model.specs.Valid.{IsValid}
+use Rattle.mx_supervisor.proofs.Modules.{length-modules}
+use Rattle.mx_machine.specs.declared.hart.Hart.{Hart}
+use Rattle.mx_machine.specs.declared.hart.Progress.{Progress}
+use Rattle.mx_machine.specs.declared.hart.Progress.TheVariants as G
+use Rattle.mx_machine.specs.Deeds.{counted, heard}
+use Rattle.mx_machine.specs.Harts.{hart_of, is_halted, is_waiting, own_call}
+use Rattle.mx_machine.specs.Held.{Held, meaning, rest_of}
+use Rattle.mx_machine.specs.Made.{IsMade, core_in, doing}
+use Rattle.mx_machine.specs.Ties.{Fits, FliesWhileWaiting, IsWhole, MayAct, MayRun}
+use Rattle.mx_machine.proofs.CaseLaws.{core-counted, fits-counted, turn-halted, valid-counted, valid-heard}
+use Rattle.mx_machine.proofs.HartsAt.{hart-in, length-seen}
+use Rattle.mx_machine.proofs.HearLaws.{fits-heard}
+use Rattle.mx_supervisor.specs.Served.{range_of}
+
+-- a hart that isn't halted is there
+pub there-alive : (xs : List Hart) (h : ℕ) → is_halted (hart_of xs h).progress ≡ false → h < length xs
+there-alive [] h e = absurd (let z : ⊥ = cc in z)
+there-alive (x ∷ xs) zero e = omega arith
+there-alive (x ∷ xs) (suc h) e = let l : h < length xs = there-alive xs h e in omega arith
+
+-- it stands at an instruction of a module
+pub aligned-pc : (m : Held) (h : ℕ) → IsValid (core_in m) → h < length m.harts → (hart_of m.harts h).pc % 4 ≡ 0
+aligned-pc m h v there =
+    ap (λ (s : Seen). s.pc % 4) (sym (hart-in m h)) ∙ (v.harts h (subst (λ n. h < n) (sym (length-seen 0 m.harts m.parts.harts)) there)).pc.aligned
+
+pub own-domain : (m : Held) (h : ℕ) → IsValid (core_in m) → Fits m → h < length m.harts → IsDomain m.parts.maps (hart_of m.harts h).domain
+own-domain m h v f there =
+    let d = (v.harts h (subst (λ n. h < n) (sym (length-seen 0 m.harts m.parts.harts)) there)).domain in
+    let last : (hart_of m.harts h).domain ≤ length (core_in m).modules = subst (λ (s : Seen). s.domain ≤ length (core_in m).modules) (hart-in m h) d.last in
+    record {
+      first = subst (λ (s : Seen). 1 ≤ s.domain) (hart-in m h) d.first;
+      last = omega (arith, last, length-modules (rest_of m) 1 m.parts.heaps, f.sound.heaps);
+    }
+
+-- where no hart may wait, no call is in flight
+still-free : (range : ℕ × ℕ) (flight : Option Flight) (p : Progress) → FliesWhileWaiting range flight p → is_waiting p ≡ false → flight ≡ None
+still-free range flight G.Running t e = t
+still-free range flight G.Waiting t e = absurd (let z : ⊥ = cc in z)
+still-free range flight (G.Halted code) t e = t
+
+pub none-flies : (m : Held) → Fits m → m.waiting ≡ false → (i : ℕ) → (kept_at m.parts.harts i).flight ≡ None
+none-flies m f q i =
+    still-free (range_of m.parts (own_call i (hart_of m.harts i))) (kept_at m.parts.harts i).flight (hart_of m.harts i).progress (f.ties i).flight (f.quiet q i)
+
+-- a halted hart rests in a turn that counts
+pub made-idle : (m : Held) (h : ℕ) (code : Option ℕ) → (hart_of m.harts h).progress ≡ G.Halted code → IsMade m (counted m) no_events T.Idle (flat_made (meaning m) h)
+made-idle m h code e =
+    subst (λ d. IsMade m (counted m) no_events T.Idle d) (sym (turn-halted m h code e))
+    (record { core = core-counted m; maps = refl; owners = refl; console = refl; note = refl; kind = refl })
+
+-- a hart that isn't halted hears the others in a turn that counts
+module _ (m : Held) (h : ℕ) (w : IsWhole m) (p : Progress) (at : (hart_of m.harts h).progress ≡ p) (alive : is_halted p ≡ false) where
+  pub hart-there : h < length m.harts
+  hart-there = there-alive m.harts h (ap is_halted at ∙ alive)
+
+  pub kept-alive : (kept_at m.parts.harts h).halted ≡ false
+  kept-alive = (w.fits.ties h).halted ∙ ap is_halted at ∙ alive
+
+  -- it may hear them
+  pub may-hear : (n : Held) → n ≡ m →
+      (h < length n.parts.harts) × (((kept_at n.parts.harts h).halted ≡ false) × (n.waiting ≡ false → (i : ℕ) → (kept_at n.parts.harts i).flight ≡ None))
+  may-hear n is =
+      let there : h < length m.parts.harts = let l = hart-there in omega (arith, l, w.fits.count) in
+      subst (λ (n : Held). (h < length n.parts.harts) × (((kept_at n.parts.harts h).halted ≡ false) × (n.waiting ≡ false → (i : ℕ) → (kept_at n.parts.harts i).flight ≡ None)))
+      (sym is) (there, (kept-alive, none-flies m w.fits))
+
+  acts-heard : HasHeardAll h (heard h (counted m)).parts.harts → MayAct (heard h (counted m)) h
+  acts-heard all = record {
+    fits = fits-heard (counted m) h (fits-counted m w.fits) hart-there;
+    there = hart-there;
+    heard = all;
+    domain = own-domain m h w.valid w.fits hart-there;
+  }
+
+  -- it is this machine then
+  module _ (old : Held) (is : old ≡ heard h (counted m)) where
+    pub acts-now : HasHeardAll h old.parts.harts → MayAct old h
+    acts-now all = subst (λ (n : Held). MayAct n h) (sym is) (acts-heard (subst (λ (n : Held). HasHeardAll h n.parts.harts) is all))
+
+    pub valid-now : IsValid (core_in old)
+    valid-now =
+        subst (λ (n : Held). IsValid (core_in n)) (sym is)
+        (valid-heard (counted m) h (fits-counted m w.fits) hart-there (valid-counted m w.valid))
+
+    pub stands-now : (hart_of old.harts h).progress ≡ p
+    stands-now = ap (λ (n : Held). (hart_of n.harts h).progress) is ∙ at
+
+    -- what it makes then is what the turn makes
+    pub made-now : (new : Held) (events : Events) (answer : TurnKind) → flat_made (meaning m) h ≡ doing (heard h (counted m)) h →
+        IsMade old new events answer (doing old h) → IsMade m new events answer (flat_made (meaning m) h)
+    made-now new events answer turn i =
+        let j = subst (λ (n : Held). IsMade n new events answer (doing n h)) is i in
+        subst (λ d. IsMade m new events answer d) (sym turn)
+        (record { core = j.core; maps = j.maps; owners = j.owners; console = j.console; note = j.note; kind = j.kind })

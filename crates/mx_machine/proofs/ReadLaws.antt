@@ -1,0 +1,122 @@
+-- What is read of a machine is what its state says.
+use Rattle.std.proofs.Common.{◌≡◌, ℕ, ◌+◌, ◌<◌, ◌≤◌, ◌==◌, ◌&&◌, Bool, true, false, cond, eq-eqb, List, [], ◌∷◌, length, get_or, refl, sym, ap, subst, ◌∙◌, arith, Option, Some, None}
+use Rattle.std.specs.List.{list_all}
+use Rattle.std.proofs.lemmas.Bool.{ne_eqb}
+use Rattle.mx_words.specs.declared.perm.Perm.{Perm}
+use Rattle.mx_table.specs.Tables.{IsDomain, map_of}
+use Rattle.mx_check.specs.declared.flight.Flight.{Flight}
+use Rattle.mx_check.specs.Harts.{Kept, hart_at, has_heard}
+use Rattle.mx_model.specs.declared.values.Call.{Call}
+use Rattle.mx_model.specs.Checks.{is_halted as stands_halted}
+use Rattle.mx_model.specs.Reads.{map_in}
+use Rattle.mx_model.specs.State.{Module, module_at}
+use Rattle.mx_model.specs.State.{Hart as Seen}
+use Rattle.mx_model.specs.Valid.{IsModule}
+use Rattle.mx_supervisor.specs.Served.{range_of}
+use Rattle.mx_supervisor.proofs.Modules.{length-modules}
+use Rattle.mx_machine.specs.declared.hart.Hart.{Hart}
+use Rattle.mx_machine.specs.declared.hart.Progress.{Progress}
+use Rattle.mx_machine.specs.declared.hart.Progress.TheVariants as G
+use Rattle.mx_machine.specs.declared.starts.StackArea.{StackArea}
+use Rattle.mx_machine.specs.declared.views.HartView.{HartView}
+use Rattle.mx_machine.specs.Harts.{hart_of, is_halted, own_call, seen_from, status_by}
+use Rattle.mx_machine.specs.Held.{Held, area_of, rest_of}
+use Rattle.mx_machine.specs.Made.{core_in, hart_in}
+use Rattle.mx_machine.specs.Readings.{IsAreaOf, IsViewOf, TellsHart, status_by_progress, status_told, was_heard}
+use Rattle.mx_machine.specs.Ties.{Fits, FliesWhileWaiting}
+use Rattle.mx_machine.proofs.BusLaws.{map-in}
+use Rattle.mx_machine.proofs.HartsAt.{hart-in, length-seen}
+use Rattle.mx_machine.proofs.HomeLaws.{IsHere, module-is}
+
+module _ (m : Held) (f : Fits m) where
+  pub modules-in : length m.parts.maps ≡ length (core_in m).modules
+  modules-in = sym (length-modules (rest_of m) 1 m.parts.heaps ∙ f.sound.heaps)
+
+  pub harts-in : length m.harts ≡ length (core_in m).harts
+  harts-in = sym (length-seen 0 m.harts m.parts.harts)
+
+  pub domain-in : (d : ℕ) → IsModule (length (core_in m).modules) d → IsDomain m.parts.maps d
+  domain-in d i = record { first = i.first; last = omega (arith, i.last, modules-in) }
+
+  pub here-in : (d : ℕ) → IsModule (length (core_in m).modules) d → IsHere m d
+  here-in d i = record { low = i.first; high = omega (arith, i.last, modules-in, f.sound.heaps) }
+
+  pub map-there : (d : ℕ) → IsModule (length (core_in m).modules) d → map_of m.parts.maps d ≡ map_in m.parts.size m.parts.maps d
+  map-there d i = sym (map-in m.parts.size m.parts.maps d (domain-in d i))
+
+  -- a stack area, with its beginning where it has words
+  pub area-told : (d : ℕ) (a : StackArea) → IsModule (length (core_in m).modules) d →
+      a ≡ record (area_of m.stacks d) { first = cond ((area_of m.stacks d).words == 0) 0 (area_of m.stacks d).first } → IsAreaOf (module_at (core_in m) d) a
+  area-told d a i e =
+      let is = module-is m d f (here-in d i) in
+      record {
+        first = ap (λ (x : StackArea). x.first) e ∙ sym (ap (λ (x : Module). x.stack.first) is);
+        words = ap (λ (x : StackArea). x.words) e ∙ sym (ap (λ (x : Module). x.stack.words) is);
+        kills = ap (λ (x : StackArea). x.kills) e ∙ sym (ap (λ (x : Module). x.kills) is);
+      }
+
+  pub area-none : (d : ℕ) (a : StackArea) → IsModule (length (core_in m).modules) d → a ≡ area_of m.stacks d → a.words ≡ 0 →
+      IsAreaOf (module_at (core_in m) d) (record a { first = 0 })
+  area-none d a i e none =
+      let b = area_of m.stacks d in
+      let empty : (b.words == 0) ≡ true = eq-eqb b.words 0 (sym (ap (λ (x : StackArea). x.words) e) ∙ none) in
+      area-told d (record a { first = 0 }) i
+      (ap (λ (x : StackArea). record x { first = 0 }) e ∙ ap (λ (t : Bool). record b { first = cond t 0 b.first }) (sym empty))
+
+  pub area-some : (d : ℕ) (a : StackArea) → IsModule (length (core_in m).modules) d → a ≡ area_of m.stacks d → (a.words ≡ 0 → ⊥) →
+      IsAreaOf (module_at (core_in m) d) a
+  area-some d a i e some =
+      let b = area_of m.stacks d in
+      let full : (b.words == 0) ≡ false = ne_eqb b.words 0 (λ none. some (ap (λ (x : StackArea). x.words) e ∙ none)) in
+      area-told d a i (e ∙ ap (λ (t : Bool). record b { first = cond t 0 b.first }) (sym full))
+
+  -- maps are as long as RAM
+  pub map-long : (d : ℕ) → IsModule (length (core_in m).modules) d → length (map_in m.parts.size m.parts.maps d) ≡ m.parts.size
+  map-long d i =
+      ap (λ (p : List Perm). length p) (map-in m.parts.size m.parts.maps d (domain-in d i)) ∙ f.sound.maps d (domain-in d i)
+
+status-seen : (call : Call) (flight : Option Flight) (g : Progress) → status_by_progress g ≡ status_told (status_by call flight g)
+status-seen call flight G.Running = refl
+status-seen call flight G.Waiting = refl
+status-seen call flight (G.Halted code) = refl
+
+-- a hart that is told
+pub view-told : (m : Held) (h : ℕ) (view : HartView) → TellsHart (hart_of m.harts h) view → IsViewOf (hart_in m h) view
+view-told m h view t = subst (λ (x : Seen). IsViewOf x view) (sym (hart-in m h)) (record {
+  status = t.status ∙ status-seen (own_call h (hart_of m.harts h)) (hart_at m.parts.harts h).flight (hart_of m.harts h).progress;
+  domain = t.domain;
+  pc = t.pc;
+  frames = t.frames;
+  regs = t.regs;
+})
+
+-- who has heard the call on which a hart waits
+heard-seen : (range : ℕ × ℕ) (call : Call) (by : ℕ) (o : Option Flight) (g : Progress) → FliesWhileWaiting range o g → has_heard o by ≡ was_heard (status_by call o g) by
+heard-seen range call by o G.Running e = ap (λ (x : Option Flight). has_heard x by) e
+heard-seen range call by None G.Waiting e = absurd e
+heard-seen range call by (Some x) G.Waiting e = refl
+heard-seen range call by o (G.Halted code) e = ap (λ (x : Option Flight). has_heard x by) e
+
+pub heard-told : (m : Held) (h by : ℕ) → Fits m → has_heard (hart_at m.parts.harts h).flight by ≡ was_heard (hart_in m h).status by
+heard-told m h by f =
+    let x = hart_of m.harts h in
+    let o = (hart_at m.parts.harts h).flight in
+    heard-seen (range_of m.parts (own_call h x)) (own_call h x) by o x.progress (f.ties h).flight
+    ∙ sym (ap (λ (y : Seen). was_heard y.status by) (hart-in m h))
+
+-- whether all harts are halted
+halted-seen : (call : Call) (flight : Option Flight) (g : Progress) → stands_halted (status_by call flight g) ≡ is_halted g
+halted-seen call flight G.Running = refl
+halted-seen call flight G.Waiting = refl
+halted-seen call flight (G.Halted code) = refl
+
+pub all-halted : (n : ℕ) (xs : List Hart) (kept : List Kept) →
+    list_all (λ (y : Seen). stands_halted y.status) (seen_from n xs kept) ≡ list_all (λ (x : Hart). is_halted x.progress) xs
+all-halted n [] kept = refl
+all-halted n (x ∷ xs) kept =
+    ap (λ b. b && list_all (λ (y : Seen). stands_halted y.status) (seen_from (n + 1) xs kept)) (halted-seen (own_call n x) (hart_at kept n).flight x.progress)
+    ∙ ap (λ b. is_halted x.progress && b) (all-halted (n + 1) xs kept)
+
+-- a hart of the state is one that the checker keeps
+pub kept-there : (m : Held) (h : ℕ) → Fits m → h < length (core_in m).harts → h < length m.parts.harts
+kept-there m h f lt = omega (arith, lt, harts-in m f, f.count)

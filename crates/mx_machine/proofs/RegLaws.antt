@@ -1,0 +1,84 @@
+-- Registers that are written one after another.
+use Rattle.std.proofs.Common.{◌≡◌, ◌≢◌, ℕ, zero, suc, ◌+◌, ◌<◌, ◌≤◌, ◌⊎◌, inl, inr, ◌==◌, ◌&&◌, Bool, true, false, not, cond, List, [], ◌∷◌, length, get_or, set, take, refl, sym, ap, subst, ◌∙◌, arith, eq-eqb, get_or-set_same, get_or-set_other}
+use Rattle.std.specs.Prelude.{fold, min, zip}
+use Rattle.std.specs.List.{list_all}
+use Rattle.std.proofs.lemmas.Bool.{cases_eq, ne_eqb}
+use Rattle.std.proofs.lemmas.List.{ext_get_or, take_all}
+use Rattle.std.proofs.lemmas.List.Sums.{fold_more}
+use Rattle.std.proofs.lemmas.Slice.Zip.{length-zip, get_or-zip}
+use Rattle.mx_model.specs.Effect.{written}
+use Rattle.mx_model.specs.Turn.{restored, saved_registers}
+
+-- one of these numbers is not zero where none is
+head-passes : (b rest : Bool) → (not b && rest) ≡ true → b ≡ false
+head-passes true rest e = cc
+head-passes false rest e = refl
+
+rest-passes : (b rest : Bool) → (not b && rest) ≡ true → rest ≡ true
+rest-passes true rest e = cc
+rest-passes false rest e = e
+
+not-zero : (xs : List ℕ) (i : ℕ) → i < length xs → list_all (λ x. not (x == 0)) xs ≡ true → (get_or xs i 0 == 0) ≡ false
+not-zero [] i lt p = absurd (omega (arith, lt))
+not-zero (x ∷ xs) zero lt p = head-passes (x == 0) (list_all (λ x. not (x == 0)) xs) p
+not-zero (x ∷ xs) (suc i) lt p = not-zero xs i (omega (arith, lt)) (rest-passes (x == 0) (list_all (λ x. not (x == 0)) xs) p)
+
+-- the registers after the first n of the fifteen are put back
+abbrev pub back_first : ℕ → List ℕ → List ℕ → List ℕ
+back_first n regs kept = fold (λ rs (p : ℕ × ℕ). set rs p.0 p.1) regs (take n (zip saved_registers kept))
+
+long-pairs : (kept : List ℕ) → length kept ≡ 15 → length (zip saved_registers kept) ≡ 15
+long-pairs kept n = length-zip saved_registers kept ∙ ap (λ k. min 15 k) n
+
+pub back-more : (regs now kept : List ℕ) (i : ℕ) → length kept ≡ 15 → i < 15 → now ≡ back_first i regs kept →
+    written now (get_or saved_registers i 0) (get_or kept i 0) ≡ back_first (i + 1) regs kept
+back-more regs now kept i n lt e =
+    let r = get_or saved_registers i 0 in
+    let pairs = zip saved_registers kept in
+    let long : i < length pairs = omega (arith, lt, long-pairs kept n) in
+    ap (λ b. cond b now (set now r (get_or kept i 0))) (not-zero saved_registers i lt refl)
+    ∙ ap (λ (rs : List ℕ). set rs r (get_or kept i 0)) e
+    ∙ sym (ap (λ (p : ℕ × ℕ). set (back_first i regs kept) p.0 p.1) (get_or-zip saved_registers kept i (0, 0) lt (omega (arith, lt, n))))
+    ∙ sym (fold_more (λ rs (p : ℕ × ℕ). set rs p.0 p.1) regs pairs i (0, 0) long)
+
+pub back-all : (regs now kept : List ℕ) (i : ℕ) → length kept ≡ 15 → 15 ≤ i → now ≡ back_first i regs kept → now ≡ restored regs kept
+back-all regs now kept i n le e =
+    e ∙ ap (λ (ps : List (ℕ × ℕ)). fold (λ rs (p : ℕ × ℕ). set rs p.0 p.1) regs ps)
+    (take_all i (zip saved_registers kept) (omega (arith, le, long-pairs kept n)))
+
+-- two lists agree in the first n
+pub record AgreeFirst (n : ℕ) (xs ys : List ℕ) : Type 0 where
+  pub at : (j : ℕ) → j < n → get_or xs j 0 ≡ get_or ys j 0
+
+pub agree-none : (xs ys : List ℕ) → AgreeFirst 0 xs ys
+agree-none xs ys = record { at = λ j lt. absurd (omega (arith, lt)) }
+
+pub agree-all : (n : ℕ) (xs ys : List ℕ) → length xs ≡ n → length ys ≡ n → (i : ℕ) → n ≤ i → AgreeFirst i xs ys → xs ≡ ys
+agree-all n xs ys ex ey i le a = ext_get_or 0 xs ys (ex ∙ sym ey) (λ j lt. a.at j (omega (arith, lt, ex, le)))
+
+pub agree-more : (xs ys : List ℕ) (i : ℕ) → i < length xs → AgreeFirst i xs ys → AgreeFirst (i + 1) (set xs i (get_or ys i 0)) ys
+agree-more xs ys i there a = record { at = λ j lt. by j lt (cases_eq j i) }
+  where
+    by : (j : ℕ) → j < i + 1 → (j ≡ i) ⊎ (j ≢ i) → get_or (set xs i (get_or ys i 0)) j 0 ≡ get_or ys j 0
+    by j lt (inl e) =
+        ap (λ k. get_or (set xs i (get_or ys i 0)) k 0) e ∙ get_or-set_same xs i (get_or ys i 0) 0 there ∙ ap (λ k. get_or ys k 0) (sym e)
+    by j lt (inr ne) = get_or-set_other xs i j (get_or ys i 0) 0 ne ∙ a.at j (omega (arith, lt, ne))
+
+-- the registers agree with values of which the first is zero, after one more is written
+pub agree-written : (regs values : List ℕ) (r : ℕ) → r < length regs → get_or values 0 0 ≡ 0 → get_or regs 0 0 ≡ 0 → AgreeFirst r regs values →
+    AgreeFirst (r + 1) (written regs r (get_or values r 0)) values
+agree-written regs values r there zero_value zero_reg a = by (cases_eq r 0)
+  where
+    by : (r ≡ 0) ⊎ (r ≢ 0) → AgreeFirst (r + 1) (written regs r (get_or values r 0)) values
+    by (inl e) = record {
+      at = λ j lt.
+          let first : j ≡ 0 = omega (arith, lt, e) in
+          let same : (r == 0) ≡ true = eq-eqb r 0 e in
+          ap (λ k. get_or (written regs r (get_or values r 0)) k 0) first
+          ∙ ap (λ b. get_or (cond b regs (set regs r (get_or values r 0))) 0 0) same
+          ∙ zero_reg ∙ sym zero_value ∙ ap (λ k. get_or values k 0) (sym first);
+    }
+    by (inr ne) =
+        let whole : written regs r (get_or values r 0) ≡ set regs r (get_or values r 0) =
+        ap (λ b. cond b regs (set regs r (get_or values r 0))) (ne_eqb r 0 ne) in
+        subst (λ (xs : List ℕ). AgreeFirst (r + 1) xs values) (sym whole) (agree-more regs values r there a)

@@ -1,0 +1,241 @@
+-- The parts of a machine that starts or resumes fit one another.
+use Rattle.std.proofs.Common.{◌≡◌, ◌≢◌, ℕ, zero, suc, ◌<◌, ◌≤◌, ◌⊎◌, inl, inr, Bool, true, false, cond, ◌||◌, List, [], ◌∷◌, length, get_or, Option, Some, None, refl, sym, ap, subst, ◌∙◌, arith}
+use Rattle.std.proofs.Common.{map as list_map}
+use Rattle.std.specs.Prelude.{IfSome}
+use Rattle.std.specs.List.{list_any}
+use Rattle.std.specs.Option.{option_map_or}
+use Rattle.std.proofs.Math.Seq.{map-set_same}
+use Rattle.std.proofs.lemmas.Bool.{cases_eq, cases_lt}
+use Rattle.std.proofs.lemmas.List.{get_or-map, get_or-replicate, get_or_past, length-map, length-replicate}
+use Rattle.std.proofs.lemmas.Option.{slice_get-get_or}
+use Rattle.mx_check.specs.declared.flight.Flight.{Flight}
+use Rattle.mx_check.specs.Calls.{new_harts}
+use Rattle.mx_check.specs.Harts.{Kept, at_hart, hart_at, new_hart}
+use Rattle.mx_check.specs.Harts.{halts as counts_as_halted, no_hart as nothing_kept}
+use Rattle.mx_check.proofs.LookLaws.{hart_at-other, hart_at-same, length-at_hart}
+use Rattle.mx_model.specs.declared.values.Call.{Call}
+use Rattle.mx_supervisor.specs.Parts.{IsSound, Parts}
+use Rattle.mx_supervisor.specs.Served.{range_of}
+use Rattle.mx_machine.specs.declared.hart.Hart.{Hart}
+use Rattle.mx_machine.specs.declared.starts.HartStart.{HartStart}
+use Rattle.mx_machine.specs.declared.starts.HartState.{HartState}
+use Rattle.mx_machine.specs.declared.starts.StackArea.{StackArea}
+use Rattle.mx_machine.specs.declared.views.HartStatus.{HartStatus}
+use Rattle.mx_machine.specs.declared.views.HartStatus.TheVariants as V
+use Rattle.mx_machine.specs.Deeds.{halted_first}
+use Rattle.mx_machine.specs.Harts.{hart_of, is_halted, is_waiting, no_hart, own_call}
+use Rattle.mx_machine.specs.Held.{Held}
+use Rattle.mx_machine.specs.Starts.{FliesIfWaiting, MayResume, MayStart, no_state, none_dead, progress_of, resumed_hart, started_from, started_hart}
+use Rattle.mx_machine.specs.Ties.{Fits, IsFlying, IsTied}
+use Rattle.mx_machine.proofs.StartLaws.{length-started, started-at}
+
+tied-as : (range : Call → ℕ × ℕ) (h : ℕ) (x y : Hart) (k l : Kept) → x ≡ y → k ≡ l → IsTied range h y l → IsTied range h x k
+tied-as range h x y k l ex ek t = subst (λ (z : Hart). IsTied range h z k) (sym ex) (subst (λ (z : Kept). IsTied range h y z) (sym ek) t)
+
+tied-start : (range : Call → ℕ × ℕ) (stacks : List StackArea) (h : ℕ) (s : HartStart) → IsTied range h (started_hart stacks h s) new_hart
+tied-start range stacks h s = record { halted = refl; flight = refl; domain = tt }
+
+tied-nobody : (range : Call → ℕ × ℕ) (h : ℕ) → IsTied range h no_hart nothing_kept
+tied-nobody range h = record { halted = refl; flight = refl; domain = tt }
+
+-- what a machine that starts holds
+abbrev pub held_started : Parts → List HartStart → List StackArea → Held
+held_started p starts stacks =
+    record { parts = p; harts = started_from stacks 0 starts; stacks = stacks; dead = none_dead; steps = 0; waiting = false }
+
+pub no_start : HartStart
+no_start = record { domain = 0; pc = 0 }
+
+module _ (p : Parts) (starts : List HartStart) (stacks : List StackArea) (sound : IsSound p) (may : MayStart p starts stacks) (few : length starts ≤ 4) where
+  pub hart-there : (h : ℕ) → h < length starts → hart_of (started_from stacks 0 starts) h ≡ started_hart stacks h (get_or starts h no_start)
+  hart-there h lt =
+      started-at stacks h starts ∙ ap (λ (o : Option HartStart). option_map_or (started_hart stacks h) o no_hart) (slice_get-get_or starts h no_start lt)
+
+  hart-past : (h : ℕ) → length starts ≤ h → hart_of (started_from stacks 0 starts) h ≡ no_hart
+  hart-past h le = get_or_past (started_from stacks 0 starts) h no_hart (omega (arith, le, length-started stacks 0 starts))
+
+  kept-there : (h : ℕ) → h < length starts → hart_at p.harts h ≡ new_hart
+  kept-there h lt = ap (λ (ks : List Kept). hart_at ks h) may.new ∙ get_or-replicate (length starts) h new_hart nothing_kept lt
+
+  kept-past : (h : ℕ) → length starts ≤ h → hart_at p.harts h ≡ nothing_kept
+  kept-past h le =
+      ap (λ (ks : List Kept). hart_at ks h) may.new
+      ∙ get_or_past (new_harts (length starts)) h nothing_kept (omega (arith, le, length-replicate (length starts) new_hart))
+
+  ties-started : (h : ℕ) → (h < length starts) ⊎ (length starts ≤ h) → IsTied (range_of p) h (hart_of (started_from stacks 0 starts) h) (hart_at p.harts h)
+  ties-started h (inl lt) =
+      tied-as (range_of p) h (hart_of (started_from stacks 0 starts) h) (started_hart stacks h (get_or starts h no_start)) (hart_at p.harts h) new_hart
+      (hart-there h lt) (kept-there h lt) (tied-start (range_of p) stacks h (get_or starts h no_start))
+  ties-started h (inr le) =
+      tied-as (range_of p) h (hart_of (started_from stacks 0 starts) h) no_hart (hart_at p.harts h) nothing_kept
+      (hart-past h le) (kept-past h le) (tied-nobody (range_of p) h)
+
+  quiet-started : (h : ℕ) → (h < length starts) ⊎ (length starts ≤ h) → is_waiting (hart_of (started_from stacks 0 starts) h).progress ≡ false
+  quiet-started h (inl lt) = ap (λ (x : Hart). is_waiting x.progress) (hart-there h lt)
+  quiet-started h (inr le) = ap (λ (x : Hart). is_waiting x.progress) (hart-past h le)
+
+  pub fits-started : Fits (held_started p starts stacks)
+  fits-started = record {
+    sound = sound;
+    count = length-started stacks 0 starts ∙ sym (length-replicate (length starts) new_hart) ∙ sym (ap (λ (ks : List Kept). length ks) may.new);
+    few = omega (arith, few, length-started stacks 0 starts);
+    stacks = may.count ∙ sym sound.heaps;
+    dead = refl;
+    ties = λ h. ties-started h (cases_lt h (length starts));
+    quiet = λ e h. quiet-started h (cases_lt h (length starts));
+  }
+
+-- which harts count as halted after the halted ones of the first n do
+module _ (xs : List Hart) (kept : List Kept) where
+  pub length-halted : (n : ℕ) → length (halted_first n xs kept) ≡ length kept
+  length-halted zero = refl
+  length-halted (suc n) = by (is_halted (hart_of xs n).progress) (length-halted n)
+    where
+      by : (b : Bool) → length (halted_first n xs kept) ≡ length kept →
+          length (cond b (at_hart n counts_as_halted (halted_first n xs kept)) (halted_first n xs kept)) ≡ length kept
+      by true e = length-at_hart (halted_first n xs kept) n counts_as_halted ∙ e
+      by false e = e
+
+  one-other : (n h : ℕ) (b : Bool) (ks : List Kept) → h ≢ n → hart_at (cond b (at_hart n counts_as_halted ks) ks) h ≡ hart_at ks h
+  one-other n h true ks ne = hart_at-other ks n counts_as_halted h ne
+  one-other n h false ks ne = refl
+
+  one-same : (n : ℕ) (b : Bool) (ks : List Kept) → n < length ks →
+      hart_at (cond b (at_hart n counts_as_halted ks) ks) n ≡ cond b (counts_as_halted (hart_at ks n)) (hart_at ks n)
+  one-same n true ks lt = hart_at-same ks n counts_as_halted lt
+  one-same n false ks lt = refl
+
+  pub halted-past : (n h : ℕ) → n ≤ h → hart_at (halted_first n xs kept) h ≡ hart_at kept h
+  halted-past zero h le = refl
+  halted-past (suc n) h le =
+      let other : h ≢ n = λ e. absurd (omega (arith, e, le)) in
+      one-other n h (is_halted (hart_of xs n).progress) (halted_first n xs kept) other ∙ halted-past n h (omega (arith, le))
+
+  pub halted-below : (n h : ℕ) → n ≤ length kept → h < n →
+      hart_at (halted_first n xs kept) h ≡ cond (is_halted (hart_of xs h).progress) (counts_as_halted (hart_at kept h)) (hart_at kept h)
+  halted-below zero h most lt = absurd (omega (arith, lt))
+  halted-below (suc n) h most lt = by (halted-below n h (omega (arith, most))) (cases_eq h n)
+    where
+      before : List Kept
+      before = halted_first n xs kept
+
+      by : (h < n → hart_at (halted_first n xs kept) h ≡ cond (is_halted (hart_of xs h).progress) (counts_as_halted (hart_at kept h)) (hart_at kept h)) →
+          (h ≡ n) ⊎ (h ≢ n) →
+          hart_at (halted_first (suc n) xs kept) h ≡ cond (is_halted (hart_of xs h).progress) (counts_as_halted (hart_at kept h)) (hart_at kept h)
+      by rest (inl e) =
+          let long : n < length (halted_first n xs kept) = omega (arith, most, length-halted n) in
+          subst (λ (j : ℕ). hart_at (halted_first (suc n) xs kept) j ≡ cond (is_halted (hart_of xs j).progress) (counts_as_halted (hart_at kept j)) (hart_at kept j)) (sym e)
+          (one-same n (is_halted (hart_of xs n).progress) (halted_first n xs kept) long
+          ∙ ap (λ (k : Kept). cond (is_halted (hart_of xs n).progress) (counts_as_halted k) k) (halted-past n n (omega arith)))
+      by rest (inr ne) =
+          one-other n h (is_halted (hart_of xs n).progress) (halted_first n xs kept) ne ∙ rest (omega (arith, lt, ne))
+
+  -- no caches and no call in flight change
+  pub caches-halted : (n : ℕ) → list_map (λ (k : Kept). k.cache) (halted_first n xs kept) ≡ list_map (λ (k : Kept). k.cache) kept
+  caches-halted zero = refl
+  caches-halted (suc n) = by (is_halted (hart_of xs n).progress) (caches-halted n)
+    where
+      by : (b : Bool) → list_map (λ (k : Kept). k.cache) (halted_first n xs kept) ≡ list_map (λ (k : Kept). k.cache) kept →
+          list_map (λ (k : Kept). k.cache) (cond b (at_hart n counts_as_halted (halted_first n xs kept)) (halted_first n xs kept))
+          ≡ list_map (λ (k : Kept). k.cache) kept
+      by true e =
+          map-set_same (λ (k : Kept). k.cache) (halted_first n xs kept) n (counts_as_halted (hart_at (halted_first n xs kept) n)) nothing_kept refl ∙ e
+      by false e = e
+
+  flight-one : (b : Bool) (k : Kept) → (cond b (counts_as_halted k) k).flight ≡ k.flight
+  flight-one true k = refl
+  flight-one false k = refl
+
+  pub flight-halted : (n h : ℕ) → n ≤ length kept → (hart_at (halted_first n xs kept) h).flight ≡ (hart_at kept h).flight
+  flight-halted n h most = by (cases_lt h n)
+    where
+      by : (h < n) ⊎ (n ≤ h) → (hart_at (halted_first n xs kept) h).flight ≡ (hart_at kept h).flight
+      by (inl lt) = ap (λ (k : Kept). k.flight) (halted-below n h most lt) ∙ flight-one (is_halted (hart_of xs h).progress) (hart_at kept h)
+      by (inr le) = ap (λ (k : Kept). k.flight) (halted-past n h le)
+
+-- one hart that resumes
+module _ (p : Parts) (n h : ℕ) (s : HartState) (k : Kept) (running : k.halted ≡ false) (nowhere : k.domain ≡ None) where
+  flies : (o : Option Flight) → FliesIfWaiting p n h s V.Waiting o → IsFlying (range_of p (own_call h (resumed_hart s))) o
+  flies None t = absurd t
+  flies (Some f) t = t.range
+
+  tied-by : (v : HartStatus) → FliesIfWaiting p n h s v k.flight →
+      IsTied (range_of p) h (record (resumed_hart s) { progress = progress_of v }) (cond (is_halted (progress_of v)) (counts_as_halted k) k)
+  tied-by V.Running t = record { halted = running; flight = t; domain = subst (λ (o : Option ℕ). IfSome o (λ d. d ≡ s.domain)) (sym nowhere) tt }
+  tied-by V.Waiting t = record { halted = running; flight = flies k.flight t; domain = subst (λ (o : Option ℕ). IfSome o (λ d. d ≡ s.domain)) (sym nowhere) tt }
+  tied-by V.Halted t = record { halted = refl; flight = t; domain = subst (λ (o : Option ℕ). IfSome o (λ d. d ≡ s.domain)) (sym nowhere) tt }
+
+-- none waits where no hart of the list does
+or-left : (a b : Bool) → (a || b) ≡ false → a ≡ false
+or-left true b e = e
+or-left false b e = refl
+
+or-right : (a b : Bool) → (a || b) ≡ false → b ≡ false
+or-right true b e = cc
+or-right false b e = e
+
+pub none-waits : (xs : List Hart) (h : ℕ) → list_any (λ (x : Hart). is_waiting x.progress) xs ≡ false → is_waiting (hart_of xs h).progress ≡ false
+none-waits [] h e = refl
+none-waits (x ∷ xs) zero e = or-left (is_waiting x.progress) (list_any (λ (x : Hart). is_waiting x.progress) xs) e
+none-waits (x ∷ xs) (suc h) e = none-waits xs h (or-right (is_waiting x.progress) (list_any (λ (x : Hart). is_waiting x.progress) xs) e)
+
+-- what a machine that resumes holds
+abbrev pub held_resumed : Parts → List HartState → List StackArea → List Bool → ℕ → Held
+held_resumed p states stacks dead steps =
+    let harts = list_map resumed_hart states in
+    record {
+      parts = record p { harts = halted_first (length harts) harts p.harts };
+      harts = harts;
+      stacks = stacks;
+      dead = dead;
+      steps = steps;
+      waiting = list_any (λ (x : Hart). is_waiting x.progress) harts;
+    }
+
+module _ (p : Parts) (states : List HartState) (stacks : List StackArea) (dead : List Bool) (steps : ℕ) (sound : IsSound p)
+    (may : MayResume p states stacks dead steps) (few : length states ≤ 4) (places : length dead ≡ 64) where
+  as-many : length (list_map resumed_hart states) ≡ length p.harts
+  as-many = length-map states resumed_hart ∙ sym may.same_harts
+
+  ties-resumed : (h : ℕ) → (h < length states) ⊎ (length states ≤ h) →
+      IsTied (range_of p) h (hart_of (list_map resumed_hart states) h)
+      (hart_at (halted_first (length (list_map resumed_hart states)) (list_map resumed_hart states) p.harts) h)
+  ties-resumed h (inl lt) =
+      let harts = list_map resumed_hart states in
+      let s = get_or states h no_state in
+      let k = hart_at p.harts h in
+      let u = may.unused h lt in
+      let x : hart_of harts h ≡ resumed_hart s = get_or-map resumed_hart states h no_state no_hart lt in
+      let below : h < length harts = omega (arith, lt, length-map states resumed_hart) in
+      let kept : hart_at (halted_first (length harts) harts p.harts) h ≡ cond (is_halted (progress_of s.status)) (counts_as_halted k) k =
+      halted-below harts p.harts (length harts) h (omega (arith, as-many)) below
+      ∙ ap (λ (y : Hart). cond (is_halted y.progress) (counts_as_halted k) k) x in
+      tied-as (range_of p) h (hart_of harts h) (resumed_hart s) (hart_at (halted_first (length harts) harts p.harts) h)
+      (cond (is_halted (progress_of s.status)) (counts_as_halted k) k) x kept
+      (tied-by p (length states) h s k u.halted u.domain s.status u.flight)
+  ties-resumed h (inr le) =
+      let harts = list_map resumed_hart states in
+      let past : length harts ≤ h = omega (arith, le, length-map states resumed_hart) in
+      tied-as (range_of p) h (hart_of harts h) no_hart (hart_at (halted_first (length harts) harts p.harts) h) nothing_kept
+      (get_or_past harts h no_hart past)
+      (halted-past harts p.harts (length harts) h past ∙ get_or_past p.harts h nothing_kept (omega (arith, le, may.same_harts)))
+      (tied-nobody (range_of p) h)
+
+  pub fits-resumed : Fits (held_resumed p states stacks dead steps)
+  fits-resumed = record {
+    sound = record {
+      few_words = sound.few_words;
+      few_maps = sound.few_maps;
+      maps = sound.maps;
+      ram = sound.ram;
+      owners = sound.owners;
+      heaps = sound.heaps;
+      areas = sound.areas;
+    };
+    count = as-many ∙ sym (length-halted (list_map resumed_hart states) p.harts (length (list_map resumed_hart states)));
+    few = omega (arith, few, length-map states resumed_hart);
+    stacks = may.count ∙ sym sound.heaps;
+    dead = places;
+    ties = λ h. ties-resumed h (cases_lt h (length states));
+    quiet = λ e h. none-waits (list_map resumed_hart states) h e;
+  }

@@ -1,0 +1,81 @@
+-- The harts with which a machine starts or resumes, one by one.
+use Rattle.std.proofs.Common.{◌≡◌, ℕ, zero, suc, ◌+◌, ◌*◌, ◌<◌, ◌≤◌, ◌⊎◌, inl, inr, List, [], ◌∷◌, length, get_or, take, Some, refl, ap, subst, ◌∙◌, arith}
+use Rattle.std.proofs.Common.{map as list_map}
+use Rattle.std.specs.List.{AllByRecursion}
+use Rattle.std.specs.Option.{option_map_or}
+use Rattle.std.specs.Prelude.{slice_get}
+use Rattle.std.proofs.Math.Nat.{le-mul_of_pos_right, mul-le-mul_left}
+use Rattle.mx_machine.specs.declared.hart.Hart.{Hart}
+use Rattle.mx_machine.specs.declared.starts.HartStart.{HartStart}
+use Rattle.mx_machine.specs.declared.starts.StackArea.{StackArea}
+use Rattle.mx_machine.specs.Harts.{no_hart, hart_of}
+use Rattle.mx_machine.specs.Starts.{started_from, started_hart}
+
+-- what is said of all is said of one that is there
+pub got-all : {X : Type 0} (P : X → Type 0) (xs : List X) (i : ℕ) (x : X) → slice_get xs i ≡ Some x → AllByRecursion P xs → P x
+got-all P [] i x e h = cc
+got-all P (y ∷ ys) zero x e h = let same : y ≡ x = cc in subst P same h.0
+got-all P (y ∷ ys) (suc i) x e h = got-all P ys i x e h.1
+
+pub got-below : {X : Type 0} (xs : List X) (i : ℕ) (x : X) → slice_get xs i ≡ Some x → i < length xs
+got-below [] i x e = cc
+got-below (y ∷ ys) zero x e = omega arith
+got-below (y ∷ ys) (suc i) x e = let below = got-below ys i x e in omega (arith, below)
+
+-- hart i of those that start from number n on, and of those that resume
+started-from : (stacks : List StackArea) (n i : ℕ) (starts : List HartStart) →
+    get_or (started_from stacks n starts) i no_hart ≡ option_map_or (started_hart stacks (n + i)) (slice_get starts i) no_hart
+started-from stacks n i [] = refl
+started-from stacks n zero (s ∷ rest) = let e : n ≡ n + 0 = omega arith in ap (λ k. started_hart stacks k s) e
+started-from stacks n (suc i) (s ∷ rest) =
+    let e : (n + 1) + i ≡ n + suc i = omega arith in
+    started-from stacks (n + 1) i rest ∙ ap (λ k. option_map_or (started_hart stacks k) (slice_get rest i) no_hart) e
+
+pub started-at : (stacks : List StackArea) (i : ℕ) (starts : List HartStart) →
+    get_or (started_from stacks 0 starts) i no_hart ≡ option_map_or (started_hart stacks i) (slice_get starts i) no_hart
+started-at stacks i starts =
+    let e : 0 + i ≡ i = omega arith in
+    started-from stacks 0 i starts ∙ ap (λ k. option_map_or (started_hart stacks k) (slice_get starts i) no_hart) e
+
+pub mapped-at : {X Y : Type 0} (f : X → Y) (xs : List X) (i : ℕ) (d : Y) → get_or (list_map f xs) i d ≡ option_map_or f (slice_get xs i) d
+mapped-at f [] i d = refl
+mapped-at f (x ∷ xs) zero d = refl
+mapped-at f (x ∷ xs) (suc i) d = mapped-at f xs i d
+
+pub length-started : (stacks : List StackArea) (n : ℕ) (starts : List HartStart) → length (started_from stacks n starts) ≡ length starts
+length-started stacks n [] = refl
+length-started stacks n (s ∷ rest) = ap suc (length-started stacks (n + 1) rest)
+
+-- at most four are their list
+pub four-are : (xs : List Hart) (n : ℕ) (a b c d : Hart) → n ≡ length xs → n ≤ 4 → a ≡ hart_of xs 0 → b ≡ hart_of xs 1 → c ≡ hart_of xs 2 → d ≡ hart_of xs 3 →
+    take n (a ∷ b ∷ c ∷ d ∷ []) ≡ xs
+four-are xs n a b c d e le ea eb ec ed =
+    ap (λ k. take k (a ∷ b ∷ c ∷ d ∷ [])) e
+    ∙ ap (λ (x : Hart). take (length xs) (x ∷ b ∷ c ∷ d ∷ [])) ea
+    ∙ ap (λ (x : Hart). take (length xs) (hart_of xs 0 ∷ x ∷ c ∷ d ∷ [])) eb
+    ∙ ap (λ (x : Hart). take (length xs) (hart_of xs 0 ∷ hart_of xs 1 ∷ x ∷ d ∷ [])) ec
+    ∙ ap (λ (x : Hart). take (length xs) (hart_of xs 0 ∷ hart_of xs 1 ∷ hart_of xs 2 ∷ x ∷ [])) ed
+    ∙ by xs (omega (arith, e, le))
+  where
+    by : (xs : List Hart) → length xs ≤ 4 → take (length xs) (hart_of xs 0 ∷ hart_of xs 1 ∷ hart_of xs 2 ∷ hart_of xs 3 ∷ []) ≡ xs
+    by [] le = refl
+    by (x ∷ []) le = refl
+    by (x ∷ y ∷ []) le = refl
+    by (x ∷ y ∷ z ∷ []) le = refl
+    by (x ∷ y ∷ z ∷ w ∷ []) le = refl
+    by (x ∷ y ∷ z ∷ w ∷ v ∷ rest) le = absurd (omega (arith, le))
+
+-- an area that lies in RAM for all harts lies there for each, whose number is then small
+pub area-fits : (a : StackArea) (most n h : ℕ) → (a.words ≡ 0) ⊎ (a.first + a.words * n ≤ most) → h < n →
+    (a.words ≡ 0) ⊎ (a.first + a.words * (h + 1) ≤ most)
+area-fits a most n h (inl e) lt = inl e
+area-fits a most n h (inr le) lt =
+    let up : h + 1 ≤ n = omega (arith, lt) in
+    let more : a.words * (h + 1) ≤ a.words * n = mul-le-mul_left a.words up in
+    inr (omega (arith, le, more))
+
+pub hart-fits : (a : StackArea) (most h : ℕ) → 0 < a.words → a.first + a.words * (h + 1) ≤ most → h + 1 ≤ most
+hart-fits a most h some le =
+    let more : h + 1 ≤ (h + 1) * a.words = le-mul_of_pos_right (h + 1) some in
+    let turned : (h + 1) * a.words ≡ a.words * (h + 1) = omega arith in
+    omega (arith, le, more, turned)

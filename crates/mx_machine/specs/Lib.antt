@@ -1,0 +1,13 @@
+pub mod Harts
+pub mod Held
+pub mod Ties
+pub mod Steps
+pub mod Bus
+pub mod Deeds
+pub mod Made
+pub mod Serving
+pub mod Starts
+pub mod Readings
+pub mod Turning
+pub mod Halting
+pub mod Smalls

@@ -1,0 +1,215 @@
+//! What a machine holds, and the parts of a turn, each as one step of it.
+ghost use Rattle.std.specs.Prelude.{◌≡◌, ℕ, ◌+◌, ◌%◌, ◌<◌, ◌≤◌, ◌⊎◌, ◌*◌, true, false, length, slice_index_or, None};
+ghost use Rattle.std.specs.Option.{option_map_or};
+ghost use Rattle.mx_words.specs.Announced.{is_announced};
+ghost use Rattle.mx_words.specs.Ranges.{most_words, word_of};
+ghost use Rattle.mx_table.specs.Tables.{IsDomain};
+ghost use Rattle.mx_check.specs.Calls.{is_ready};
+ghost use Rattle.mx_check.specs.Conditions.{HasHeardAll, MayLook, MayAnnounce, IsWithin};
+ghost use Rattle.mx_check.specs.Harts.{hart_at, announced};
+ghost use Rattle.mx_core.specs.Exec.{HasCause};
+ghost use Rattle.mx_model.specs.declared.values.Note.TheVariants as Notes;
+ghost use Rattle.mx_model.specs.Gates.{gate_target};
+ghost use Rattle.mx_supervisor.specs.Parts.{IsSound};
+ghost use Rattle.mx_supervisor.specs.Served.{range_of};
+ghost use Rattle.mx_machine.specs.Deeds.{after_instruction, crossed, halted_first, fallen, heard, killed, outcome_for, returned, with_kept, with_step};
+ghost use Rattle.mx_machine.specs.Halting.{halted_at};
+ghost use Rattle.mx_machine.specs.Harts.{hart_of, is_halted};
+ghost use Rattle.mx_machine.specs.Held.{area_of};
+
+use crate::Stacks;
+use crate::bus::HartBus;
+use crate::harts::Harts;
+use mx_core::Outcome;
+use mx_model::{Call, Fault, Note};
+use mx_table::PermTables;
+use mx_words::word_of;
+use std::marker::Model;
+
+/// The cause of a fault in a dead domain, which kills none.
+pub const DEAD: u32 = 20;
+
+/// The supervisor behind the bus, the harts, the modules' stack areas, by number which domains are dead, the number of turns made,
+/// and whether some hart may wait.
+#[derive(Drop)]
+pub struct Bare<T: PermTables, const N: usize> {
+    pub bus: HartBus<T, N>,
+    pub harts: Harts,
+    pub stacks: Stacks,
+    pub dead: [bool; 64],
+    pub steps: u64,
+    pub waiting: bool,
+}
+
+impl<T: PermTables, const N: usize> Model for Bare<T, N> {
+    ghost use Rattle.mx_machine.specs.Held.{Held};
+
+    ghost Value = { Held };
+
+    ghost use Rattle.mx_supervisor.specs.Parts.{parts_of};
+
+    ghost view = { λ b. record {
+      parts = parts_of T.kind T.maps T.size T.limits N b.bus.supervisor;
+      harts = b.harts;
+      stacks = b.stacks;
+      dead = b.dead;
+      steps = b.steps;
+      waiting = b.waiting;
+    } };
+}
+
+impl<T: PermTables, const N: usize> Bare<T, N> {
+    /// The target of the gate that stands for a domain at an address.
+    pub fn gate(&self, domain: u32, pc: u32) -> Option<u32>
+        requires { self.now.parts.size ≤ most_words }
+        ensures { result ≡ option_map_or (gate_target self.now.parts.gates domain) (word_of pc self.now.parts.size) None }
+    {
+        let supervisor = &self.bus.supervisor;
+        match word_of(pc, supervisor.checker.tables().words()) {
+            Some(word) => supervisor.gates.target(domain, word),
+            None => None,
+        }
+    }
+
+    /// Whether a domain is dead.
+    pub fn is_dead(&self, domain: u32) -> bool
+        ensures { result ≡ slice_index_or self.now.dead domain false }
+    {
+        match self.dead.get(domain as usize) {
+            Some(dead) => *dead,
+            None => false,
+        }
+    }
+
+    /// Lets the hart hear the others' calls. Where no hart waits there is none.
+    pub fn hear(&mut self, hart: u32)
+        requires hart { hart < length self.old.parts.harts }
+        requires running { (hart_at self.old.parts.harts hart).halted ≡ false }
+        requires quiet { self.old.waiting ≡ false → (i : ℕ) → (hart_at self.old.parts.harts i).flight ≡ None }
+        ensures after { self.new ≡ heard hart self.old }
+        ensures all { HasHeardAll hart self.new.parts.harts }
+    {
+        if self.waiting {
+            self.bus.supervisor.checker.hear(hart);
+        }
+    }
+
+    /// Carries out the instruction at the hart's pc.
+    #[inline(always)]
+    pub fn instruct(&mut self, hart: u32, returns: bool) -> Outcome
+        requires sound { IsSound self.old.parts }
+        requires there { hart < length self.old.harts }
+        requires look { MayLook hart (hart_of self.old.harts hart).domain self.old.parts.harts }
+        requires domain { IsDomain self.old.parts.maps (hart_of self.old.harts hart).domain }
+        requires aligned { (hart_of self.old.harts hart).pc % 4 ≡ 0 }
+        ensures outcome { result ≡ outcome_for self.old hart returns }
+        ensures after { self.new ≡ after_instruction hart returns self.old }
+        ensures cause { HasCause result }
+    {
+        self.bus.hart = hart;
+        self.bus.domain = self.harts.domain(hart);
+        self.harts.instruct(hart, &mut self.bus, returns)
+    }
+
+    /// Makes a killing domain dead after a fault by another cause than 20.
+    pub fn kill(&mut self, domain: u32, cause: u32)
+        requires domain { 1 ≤ domain }
+        requires few { domain < length self.old.dead }
+        ensures { self.new ≡ killed domain cause self.old }
+    {
+        if self.stacks.area(domain).kills && cause != DEAD {
+            self.dead[domain as usize] = true;
+        }
+    }
+
+    /// After a fault, gives up the hart's top frame; without a frame the hart is halted.
+    pub fn fall(&mut self, hart: u32, cause: u32)
+        requires there { hart < length self.old.harts }
+        requires kept { hart < length self.old.parts.harts }
+        requires free { (hart_at self.old.parts.harts hart).flight ≡ None }
+        requires cause { cause < 256 }
+        ensures { self.new ≡ fallen hart cause self.old }
+    {
+        if self.harts.give_up(hart, cause) {
+            self.bus.supervisor.checker.leave_domain(hart);
+        } else {
+            self.bus.supervisor.checker.halt(hart);
+        }
+    }
+
+    /// Pushes a frame and enters a domain.
+    pub fn enter(&mut self, hart: u32, target: u32)
+        requires there { hart < length self.old.harts }
+        requires kept { hart < length self.old.parts.harts }
+        requires room { length (hart_of self.old.harts hart).frames < 64 }
+        requires target { 1 ≤ target }
+        requires area { ((area_of self.old.stacks target).words ≡ 0) ⊎ ((area_of self.old.stacks target).first + (area_of self.old.stacks target).words * (hart + 1) ≤ most_words) }
+        ensures { self.new ≡ crossed hart target self.old }
+    {
+        let own = self.stacks.behind(target, hart);
+        let stack = self.harts.stack_in(hart, target, own);
+        self.harts.enter(hart, target, stack);
+        self.bus.supervisor.checker.leave_domain(hart);
+    }
+
+    /// Gives up the top frame at a return.
+    pub fn leave(&mut self, hart: u32, rd: u32)
+        requires there { hart < length self.old.harts }
+        requires kept { hart < length self.old.parts.harts }
+        requires rd { rd < 32 }
+        ensures { self.new ≡ returned hart rd self.old }
+    {
+        self.harts.go_back(hart, rd);
+        self.bus.supervisor.checker.leave_domain(hart);
+    }
+
+    /// Announces the hart's call. Whether it may take effect at once.
+    pub fn announce(&mut self, hart: u32, call: &Call) -> bool
+        requires sound { IsSound self.old.parts }
+        requires announced { is_announced call.now.number ≡ true }
+        requires domain { IsDomain self.old.parts.maps call.now.domain }
+        requires may { MayAnnounce hart self.old.parts.harts }
+        ensures after { self.new ≡ with_kept hart (announced hart (range_of self.old.parts call.now).0 (range_of self.old.parts call.now).1) self.old }
+        ensures ready { result ≡ is_ready hart self.new.parts.harts }
+    {
+        let (first, count) = self.bus.supervisor.announced(call);
+        self.bus.supervisor.checker.announce(hart, first, count);
+        self.bus.supervisor.checker.ready(hart)
+    }
+
+    /// The note of a fault of the hart.
+    pub fn fault(&self, hart: u32, fault: Fault) -> Note
+        requires { hart < length self.now.harts }
+        ensures { result ≡ Notes.Fault self.now.steps hart (hart_of self.now.harts hart).domain (hart_of self.now.harts hart).pc fault }
+    {
+        Note::Fault {
+            step: self.steps,
+            hart,
+            domain: self.harts.domain(hart),
+            pc: self.harts.pc(hart),
+            fault,
+        }
+    }
+
+    /// Counts the harts that are halted here as halted in the checker.
+    pub fn halt_left(&mut self)
+        requires count { length self.old.harts ≡ length self.old.parts.harts }
+        requires free { (h : ℕ) → is_halted (hart_of self.old.harts h).progress ≡ true → (hart_at self.old.parts.harts h).flight ≡ None }
+        ensures { self.new ≡ record self.old { parts = record self.old.parts { harts = halted_first (length self.old.harts) self.old.harts self.old.parts.harts } } }
+    {
+        for hart in 0..self.harts.len() {
+            self.halt_one(hart);
+        }
+    }
+
+    /// Counts a hart as halted in the checker where it is halted here.
+    fn halt_one(&mut self, hart: u32)
+        requires kept { hart < length self.old.parts.harts }
+        requires free { is_halted (hart_of self.old.harts hart).progress ≡ true → (hart_at self.old.parts.harts hart).flight ≡ None }
+        ensures { self.new ≡ record self.old { parts = record self.old.parts { harts = halted_at hart self.old.harts self.old.parts.harts } } }
+    {
+        if self.harts.is_halted(hart) {
+            self.bus.supervisor.checker.halt(hart);
+        }
+    }
+}

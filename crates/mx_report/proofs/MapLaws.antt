@@ -1,0 +1,101 @@
+-- A run of a map, found from span to span.
+use Rattle.std.proofs.Common.{◌≡◌, ◌≢◌, ℕ, suc, ◌+◌, ◌-◌, ◌<◌, ◌≤◌, ◌⊎◌, inl, inr, Bool, true, false, not, ◌||◌, List, [], ◌∷◌, length, get_or, take, drop, refl, sym, ap, ◌∙◌, subst, arith, length-take, length-drop, get_or-take, get_or-drop}
+use Rattle.std.proofs.lemmas.Bool.{cases_lt, not-false}
+use Rattle.mx_words.specs.declared.perm.Perm.{Perm}
+use Rattle.std.specs.List.{list_any}
+use Rattle.std.proofs.lemmas.List.Folds.{list_any_at}
+use Rattle.mx_words.specs.declared.perm.Perm.TheVariants as P
+use Rattle.mx_words.specs.declared.perm.Span.{Span}
+use Rattle.mx_words.specs.Rights.{same, perm_at}
+use Rattle.mx_words.proofs.ReachLaws.{IsUniformRound, span_round}
+use Rattle.mx_words.proofs.RunLaws.{same_eq, same_from}
+use Rattle.mx_model.specs.Reads.{flat_reads, map_in}
+use Rattle.mx_model.specs.State.{Flat}
+use Rattle.mx_report.specs.Texts.{has_rights}
+use Rattle.mx_report.specs.Runs.{IsRun}
+
+-- permissions that differ, and that don't
+pub differ_ne : (p q : Perm) → not (same p q) ≡ true → p ≢ q
+differ_ne p q h e = absurd (both (not (same p q)) h (ap not (same_from p q e)))
+  where
+    both : (b : Bool) → b ≡ true → b ≡ false → ⊥
+    both true e f = cc
+    both false e f = cc
+
+pub differ_eq : (p q : Perm) → not (same p q) ≡ false → p ≡ q
+differ_eq p q h = same_eq p q (not-false (same p q) h)
+
+-- the words from `word` up to `end` have one permission
+pub record IsAlike (m : List Perm) (word end : ℕ) : Type 0 where
+  pub behind : word < end
+  pub within : end ≤ length m
+  pub alike : (w : ℕ) → word ≤ w → w < end → perm_at m w ≡ perm_at m word
+
+-- the permission of a span is that of its word
+pub round_perm : (m : List Perm) (i : ℕ) (s : Span) → IsUniformRound m i s → s.perm ≡ perm_at m i
+round_perm m i s r = sym (r.alike i r.left r.right)
+
+pub alike_span : (m : List Perm) (i : ℕ) (s : Span) → IsUniformRound m i s → IsAlike m i (s.first + s.count)
+alike_span m i s r =
+    let left = r.left in
+    let right = r.right in
+    record { behind = right; within = r.inside; alike = λ w lo hi. r.alike w (omega arith) hi ∙ round_perm m i s r }
+
+pub alike_more : (m : List Perm) (i end : ℕ) (s : Span) → IsAlike m i end → IsUniformRound m end s → s.perm ≡ perm_at m i → IsAlike m i (s.first + s.count)
+alike_more m i end s a r e =
+    let behind = a.behind in
+    let left = r.left in
+    let right = r.right in
+    record { behind = omega arith; within = r.inside; alike = λ w lo hi. by w lo hi (cases_lt w end) }
+  where
+    by : (w : ℕ) → i ≤ w → w < s.first + s.count → (w < end) ⊎ (end ≤ w) → perm_at m w ≡ perm_at m i
+    by w lo hi (inl lt) = a.alike w lo lt
+    by w lo hi (inr le) = let left = r.left in r.alike w (omega arith) hi ∙ e
+
+pub alike_stop : (m : List Perm) (i end : ℕ) (s : Span) → IsAlike m i end → IsUniformRound m end s → s.perm ≢ perm_at m i → IsRun m i end
+alike_stop m i end s a r ne =
+    record { behind = a.behind; within = a.within; alike = a.alike; ends = λ lt e. ne (round_perm m end s r ∙ e) }
+
+pub alike_end : (m : List Perm) (i end : ℕ) → IsAlike m i end → length m ≤ end → IsRun m i end
+alike_end m i end a le = record { behind = a.behind; within = a.within; alike = a.alike; ends = λ lt. absurd (omega arith) }
+
+-- what a walk answers in a flat state
+pub walk_round : (f : Flat) (d i : ℕ) (s : Span) → s ≡ (flat_reads f).walk d i → length (map_in f.core.size f.maps d) ≡ f.core.size → i < f.core.size → IsUniformRound (map_in f.core.size f.maps d) i s
+walk_round f d i s e whole lt =
+    subst (λ (x : Span). IsUniformRound (map_in f.core.size f.maps d) i x) (sym e) (span_round f.core.kind (map_in f.core.size f.maps d) i (omega arith))
+
+-- some of a part's words has a permission, and none has
+pub some_right : (m : List Perm) (first count w : ℕ) → first + count ≤ length m → first ≤ w → w < first + count → perm_at m w ≢ P.None → has_rights m first count ≡ true
+some_right m first count w fits lo hi ne =
+    let n = length-take count (drop first m) in
+    let d = length-drop first m in
+    let place : first + (w - first) ≡ w = omega arith in
+    let at : get_or (take count (drop first m)) (w - first) P.None ≡ perm_at m w =
+    get_or-take count (drop first m) (w - first) P.None (omega arith) ∙ get_or-drop first m (w - first) P.None ∙ ap (perm_at m) place in
+    list_any_at (λ p. not (same p P.None)) (take count (drop first m)) (w - first) P.None (omega (arith, n, d))
+    (ap (λ p. not (same p P.None)) at ∙ ap not (other (same (perm_at m w) P.None) refl))
+  where
+    other : (b : Bool) → same (perm_at m w) P.None ≡ b → same (perm_at m w) P.None ≡ false
+    other false e = e
+    other true e = absurd (ne (same_eq (perm_at m w) P.None e))
+
+none_at : (xs : List Perm) → ((i : ℕ) → i < length xs → get_or xs i P.None ≡ P.None) → list_any (λ p. not (same p P.None)) xs ≡ false
+none_at [] h = refl
+none_at (x ∷ xs) h =
+    ap (λ p. not (same p P.None) || list_any (λ q. not (same q P.None)) xs) (h 0 (omega arith))
+    ∙ none_at xs (λ i lt. h (suc i) (omega arith))
+
+pub no_right : (m : List Perm) (first count : ℕ) → ((w : ℕ) → first ≤ w → w < first + count → perm_at m w ≡ P.None) → has_rights m first count ≡ false
+no_right m first count none =
+    none_at (take count (drop first m)) (λ i lt.
+    let n = length-take count (drop first m) in
+    get_or-take count (drop first m) i P.None (omega (arith, n)) ∙ get_or-drop first m i P.None ∙ none (first + i) (omega arith) (omega (arith, n)))
+
+-- the words of a span without a permission, behind others
+pub none_more : (m : List Perm) (first word : ℕ) (s : Span) → ((w : ℕ) → first ≤ w → w < word → perm_at m w ≡ P.None) → IsUniformRound m word s → s.perm ≡ P.None →
+    (w : ℕ) → first ≤ w → w < s.first + s.count → perm_at m w ≡ P.None
+none_more m first word s none r e w lo hi = by (cases_lt w word)
+  where
+    by : (w < word) ⊎ (word ≤ w) → perm_at m w ≡ P.None
+    by (inl lt) = none w lo lt
+    by (inr le) = let left = r.left in r.alike w (omega arith) hi ∙ e

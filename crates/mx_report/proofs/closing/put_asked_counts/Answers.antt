@@ -1,0 +1,5 @@
+use Rattle.mx_report.proofs.PassLaws.{passes_nothing}
+use Rattle.mx_report.proofs.closing.put_asked_counts.Goals as goal
+
+pub returns-else-options : goal.returns-else-options
+returns-else-options g c = rw c.if-options.false (passes_nothing _ _)

@@ -1,0 +1,5 @@
+use Rattle.mx_report.proofs.PassLaws.{whole_end}
+use Rattle.mx_report.proofs.lines.exit_line.Goals as goal
+
+pub returns : goal.returns
+returns g c = whole_end c.new-tail.ensures c.in_ok-put_exit.ensures c.end.ensures.puts

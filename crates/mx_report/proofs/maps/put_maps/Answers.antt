@@ -1,0 +1,45 @@
+use Rattle.std.proofs.Common.{drop, ap, arith}
+use Rattle.std.proofs.lemmas.Result.{err_from_is_err_and}
+use Rattle.mx_words.specs.Rights.{same}
+use Rattle.mx_words.specs.Runs.{runs_of}
+use Rattle.mx_model.specs.Reads.{map_in}
+use Rattle.mx_report.specs.Lines.{map_text}
+use Rattle.mx_report.specs.Runs.{run_texts}
+use Rattle.mx_report.specs.Texts.{map_lines}
+use Rattle.mx_report.proofs.PassLaws.{passes_same, coming_all, coming_same, coming_next, coming_stop, coming_none}
+use Rattle.mx_report.proofs.RunTexts.{map_from, map_behind}
+use Rattle.mx_report.proofs.maps.put_maps.Goals as goal
+
+pub runs-init : goal.runs-init
+unfolding map_lines
+runs-init g c = record { within = omega arith; coming = coming_all _ _ _ }
+
+pub returns-in_err-put_map : goal.returns-in_err-put_map
+returns-in_err-put_map g c =
+    let f = c.args.machine.now in
+    let m = map_in f.core.size f.maps c.args.domain in
+    let text = map_text c.args.domain in
+    let end = c.run_end-end.result in
+    let p = err_from_is_err_and c.from_residual.result c.from_residual.ensures.1 in
+    rw (p.1, p.2)
+    (coming_stop (run_texts text end (runs_of same (drop end m))) (coming_same (map_from text m c.runs.word end c.run_end-end.ensures) c.runs.invariant.coming)
+    (passes_same (ap (text c.runs.word end) c.perm.ensures) c.in_err-put_map.ensures))
+
+pub runs-preserved : goal.runs-preserved
+runs-preserved g c =
+    let f = c.args.machine.now in
+    let m = map_in f.core.size f.maps c.args.domain in
+    let text = map_text c.args.domain in
+    let end = c.run_end-end.result in
+    let within = c.run_end-end.ensures.within in
+    record {
+      within = omega (arith, within, c.machine_is_valid.ensures.whole c.args.domain c.requires);
+      coming = coming_next (coming_same (map_from text m c.runs.word end c.run_end-end.ensures) c.runs.invariant.coming)
+          (passes_same (ap (text c.runs.word end) c.perm.ensures) c.in_ok-put_map.ensures);
+    }
+
+pub returns : goal.returns
+returns g c =
+    let f = c.args.machine.now in
+    let m = map_in f.core.size f.maps c.args.domain in
+    coming_none (coming_same (map_behind (map_text c.args.domain) m c.runs.word (omega (arith, c.runs-test.false, c.words.ensures, c.machine_is_valid.ensures.whole c.args.domain c.requires))) c.runs.invariant.coming)

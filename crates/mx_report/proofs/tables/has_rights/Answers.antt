@@ -1,0 +1,60 @@
+use Rattle.std.proofs.Common.{◌<◌, sym, ◌∙◌, arith}
+use Rattle.mx_model.specs.Reads.{map_in}
+use Rattle.mx_words.specs.declared.perm.Perm.TheVariants as P
+use Rattle.mx_report.proofs.MapLaws.{differ_ne, differ_eq, round_perm, walk_round, some_right, no_right, none_more}
+use Rattle.mx_report.proofs.tables.has_rights.Goals as goal
+
+pub returns-then-differ : goal.returns-then-differ
+returns-then-differ g c =
+    let f = c.args.machine.now in
+    let m = map_in f.core.size f.maps c.args.domain in
+    let whole = c.machine_is_valid.ensures.whole c.args.domain c.requires.domain in
+    let few = c.machine_is_valid.ensures.valid.few_words in
+    let small : c.spans.word < f.core.size = omega (arith, c.spans-test.true, c.requires.inside) in
+    let round = walk_round f c.args.domain c.spans.word c.span-span.result c.span-span.ensures whole small in
+    let low = c.spans.invariant.low in
+    sym (some_right m c.args.first c.args.count c.spans.word (omega (arith, whole, c.requires.inside)) low (omega (arith, c.spans-test.true))
+    (λ e. differ_ne c.span-span.result.perm P.None (sym c.differ.ensures ∙ c.if-differ.true) (round_perm m c.spans.word c.span-span.result round ∙ e)))
+
+pub overflow_add-word : goal.overflow_add-word
+overflow_add-word g c =
+    let f = c.args.machine.now in
+    let m = map_in f.core.size f.maps c.args.domain in
+    let whole = c.machine_is_valid.ensures.whole c.args.domain c.requires.domain in
+    let few = c.machine_is_valid.ensures.valid.few_words in
+    let small : c.spans.word < f.core.size = omega (arith, c.spans-test.true, c.requires.inside) in
+    let round = walk_round f c.args.domain c.spans.word c.span-span.result c.span-span.ensures whole small in
+    let inside = round.inside in
+    omega (arith, whole, few, inside)
+
+pub spans-smaller : goal.spans-smaller
+spans-smaller g c =
+    let f = c.args.machine.now in
+    let m = map_in f.core.size f.maps c.args.domain in
+    let whole = c.machine_is_valid.ensures.whole c.args.domain c.requires.domain in
+    let few = c.machine_is_valid.ensures.valid.few_words in
+    let small : c.spans.word < f.core.size = omega (arith, c.spans-test.true, c.requires.inside) in
+    let round = walk_round f c.args.domain c.spans.word c.span-span.result c.span-span.ensures whole small in
+    let right = round.right in
+    omega (arith, c.spans-test.true)
+
+pub spans-preserved : goal.spans-preserved
+spans-preserved g c =
+    let f = c.args.machine.now in
+    let m = map_in f.core.size f.maps c.args.domain in
+    let whole = c.machine_is_valid.ensures.whole c.args.domain c.requires.domain in
+    let few = c.machine_is_valid.ensures.valid.few_words in
+    let small : c.spans.word < f.core.size = omega (arith, c.spans-test.true, c.requires.inside) in
+    let round = walk_round f c.args.domain c.spans.word c.span-span.result c.span-span.ensures whole small in
+    let low = c.spans.invariant.low in
+    let right = round.right in
+    record {
+      low = omega arith;
+      none = none_more m c.args.first c.spans.word c.span-span.result c.spans.invariant.none round (differ_eq c.span-span.result.perm P.None (sym c.differ.ensures ∙ c.if-differ.false));
+    }
+
+pub returns : goal.returns
+returns g c =
+    let f = c.args.machine.now in
+    let m = map_in f.core.size f.maps c.args.domain in
+    sym (no_right m c.args.first c.args.count (λ w lo hi. c.spans.invariant.none w lo (omega (arith, c.spans-test.false))))

@@ -1,0 +1,8 @@
+use Rattle.std.proofs.Common.{sym, ◌∙◌}
+use Rattle.mx_report.proofs.PassLaws.{passes_same, passes_nothing}
+use Rattle.mx_report.proofs.ItemLaws.{shown_none}
+use Rattle.mx_report.proofs.tables.put_item.Goals as goal
+
+pub returns-else-has_rights : goal.returns-else-has_rights
+returns-else-has_rights g c =
+    passes_same (shown_none _ _ c.args.item.now (sym c.has_rights.ensures ∙ c.if-has_rights.false)) (passes_nothing _ _)
