@@ -3,6 +3,7 @@ use Rattle.std.specs.Prelude.{◌≡◌, ℕ, Bool, ◌==◌, ◌+◌, ◌/◌, 
 use Rattle.mx_io.specs.Count.{Rose}
 use Rattle.mx_io.specs.Texts.{AppendsWhole, AppendsPrefix}
 use Rattle.mx_io.specs.Sink.{SinkState}
+use Rattle.mx_model.specs.Events.{Events}
 use Rattle.mx_model.specs.Run.{Schedule, ByQuantum, ByBytes, hart_of, is_over, all_halted, made_of, turn}
 use Rattle.mx_model.specs.State.{Core, State, Flat, flat}
 use Rattle.mx_model.specs.declared.values.Note.{Note}
@@ -127,6 +128,12 @@ pub record Begins (s : State) (machine : Flat) (places : Places) : Type 0 where
   pub notes : s.notes ≡ []
   pub shown : places.shown ≡ []
   pub told : places.told ≡ []
+
+-- a turn of hart h in a state: the flat state afterwards, and what is appended
+pub record IsTurnOf (s : State) (h : ℕ) (machine : Flat) (events : Events) : Type 0 where
+  pub state : machine ≡ flat (turn s h)
+  pub bytes : events.bytes ≡ (made_of s h).console
+  pub note : events.note ≡ (made_of s h).note
 
 -- what a turn keeps and counts
 pub record IsNext (f g : Flat) : Type 0 where

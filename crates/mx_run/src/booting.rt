@@ -2,7 +2,7 @@
 
 ghost use Rattle.std.specs.Prelude.{◌≡◌, ◌<◌, ◌≤◌, ◌^◌, Ok, Some, length, IfOk, IfErr};
 ghost use Rattle.mx_boot.specs.Boot.{boot_of};
-ghost use Rattle.mx_boot.specs.Booted.{IsBooted};
+ghost use Rattle.mx_boot.specs.Machines.{IsBooted};
 ghost use Rattle.mx_run.specs.Words.{Run};
 ghost use Rattle.mx_run.specs.Manifest.{judged};
 ghost use Rattle.mx_run.specs.Outcome.{next, planned, booted};

@@ -2,7 +2,7 @@
 
 ghost use Rattle.std.specs.Prelude.{◌≡◌, ◌≤◌, ◌<◌, ◌^◌, length, map, IfOk};
 ghost use Rattle.mx_boot.specs.Boot.{boot_of};
-ghost use Rattle.mx_boot.specs.Meaning.{meaning};
+ghost use Rattle.mx_boot.specs.Machines.{meaning};
 ghost use Rattle.mx_model.specs.State.{State, flat};
 ghost use Rattle.mx_run.specs.Asked.{order_of};
 ghost use Rattle.mx_run.specs.Outcome.{scheduled, names_of, ran};

@@ -5,7 +5,7 @@ ghost use Rattle.mx_io.specs.Sink.{Puts};
 ghost use Rattle.mx_model.specs.Run.{run};
 ghost use Rattle.mx_model.specs.State.{State, flat};
 ghost use Rattle.mx_report.specs.Tail.{Passes};
-ghost use Rattle.mx_run.specs.Running.{schedule_of, HasTurns, Begins, IsNext, KeepsShape, MakesOrStops, RunsOrStops, places, note_text};
+ghost use Rattle.mx_run.specs.Running.{schedule_of, HasTurns, Begins, IsNext, IsTurnOf, KeepsShape, MakesOrStops, RunsOrStops, places, note_text};
 
 use crate::pace::{Pace, Schedule, begin, next_hart};
 use crate::status::Status;
@@ -64,7 +64,7 @@ fn make_turn<T: PermTables, const N: usize, C: Sink, R: Sink>(
         → MakesOrStops s hart machine.new (places (C.state console.old) shown.old (R.state report.old) told.old)
             (places (C.state console.new) shown.new (R.state report.new) told.new) result }
 {
-    machine.step(hart, events);
+    take_turn(hart, machine, events);
     match shown.add(console, events) {
         Ok(()) => match put_told(told, report, events.note()) {
             Ok(()) => Ok(()),
@@ -72,6 +72,19 @@ fn make_turn<T: PermTables, const N: usize, C: Sink, R: Sink>(
         },
         Err(Failed) => Err(Status::ConsoleFault),
     }
+}
+
+// A turn of the hart of that number, with what of its contract a run needs.
+fn take_turn<T: PermTables, const N: usize>(
+    hart: u32,
+    machine: &mut Machine<T, N>,
+    events: &mut Events,
+)
+    requires { machine.old.core.turns < 2 ^ 64 - 1 }
+    ensures next { IsNext machine.old machine.new }
+    ensures turn { (s : State) → machine.old ≡ flat s → IsTurnOf s hart machine.new events.new }
+{
+    machine.step(hart, events);
 }
 
 // Puts the line of a note, if there is one, through a buffer.
