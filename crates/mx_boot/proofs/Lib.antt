@@ -24,4 +24,6 @@ pub mod Rowed
 pub mod Rowing
 pub mod Rows
 pub mod Started
+pub mod Starting
 pub mod Steps
+pub mod Ready

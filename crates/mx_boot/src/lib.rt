@@ -1,8 +1,10 @@
 //! The loader: what a plan and its images give at boot, or the first of the faults 10 to 17.
 #![tactic(auto)]
 
+mod any;
 mod area;
 mod areas;
+mod booting;
 mod entries;
 mod files;
 mod gates;
@@ -12,13 +14,16 @@ mod home;
 mod joined;
 mod laws;
 mod layout;
+mod machine;
 mod owners;
 mod ram;
 mod refused;
 mod starts;
 mod tables;
 
+pub use any::{AnyMachine, any_machine_is_valid};
 pub use area::Area;
+pub use booting::boot;
 pub use laws::boots_are_valid;
 pub use layout::{Layout, lay_out};
 pub use refused::{BootRefused, LayoutRefused};

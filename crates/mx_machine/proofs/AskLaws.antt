@@ -1,16 +1,16 @@
 -- Calls that are asked for: announced, waited on, and served.
-use Rattle.std.proofs.Common.{◌≡◌, ◌≢◌, ℕ, ◌<◌, ◌≤◌, Bool, true, false, not, cond, ◌||◌, List, [], length, get_or, set, refl, sym, ap, subst, ◌∙◌, arith, Option, Some, None}
+use Rattle.std.proofs.Common.{◌≡◌, ◌≢◌, ℕ, ◌<◌, Bool, true, false, not, ◌||◌, List, refl, sym, ap, subst, ◌∙◌, Option, Some, None}
 use Rattle.std.specs.Prelude.{IfSome}
-use Rattle.std.proofs.lemmas.List.{set-get_or, length-set}
+use Rattle.std.proofs.lemmas.List.{set-get_or}
 use Rattle.mx_words.specs.Announced.{is_announced}
 use Rattle.mx_words.specs.Hearing.{nobody}
 use Rattle.mx_check.specs.declared.flight.Flight.{Flight}
 use Rattle.mx_check.specs.Calls.{is_ready}
-use Rattle.mx_check.specs.Harts.{Kept, hart_at, at_hart, announced}
+use Rattle.mx_check.specs.Harts.{Kept, hart_at, announced}
 use Rattle.mx_model.specs.declared.values.Call.{Call}
 use Rattle.mx_model.specs.declared.values.TurnKind.TheVariants as T
 use Rattle.mx_model.specs.Events.{Events, no_events}
-use Rattle.mx_model.specs.State.{Core, Running, Waiting, with_hart}
+use Rattle.mx_model.specs.State.{Core, Waiting, with_hart}
 use Rattle.mx_model.specs.State.{hart_at as seen_at, no_hart as nobody_seen}
 use Rattle.mx_model.specs.State.{Hart as Seen}
 use Rattle.mx_model.specs.Turn.{Asks, asked, call_of, is_served_now, served}
@@ -25,11 +25,10 @@ use Rattle.mx_machine.specs.Held.{Held, rest_of}
 use Rattle.mx_machine.specs.Made.{IsMade, core_in, deed, hart_in, reads_of}
 use Rattle.mx_machine.specs.Serving.{IsServing}
 use Rattle.mx_machine.specs.Steps.{waits}
-use Rattle.mx_machine.specs.Ties.{Fits, FliesWhileWaiting, HasRange, IsFlying, IsTied, MayAct, MayRun}
+use Rattle.mx_machine.specs.Ties.{Fits, FliesWhileWaiting, IsFlying, IsTied, MayAct, MayRun}
 use Rattle.mx_machine.proofs.CoreLaws.{core-kept, core-step}
-use Rattle.mx_machine.proofs.DeedLaws.{kept-there, may-look, running-free, running-kept}
+use Rattle.mx_machine.proofs.DeedLaws.{kept-there, may-look, running-kept}
 use Rattle.mx_machine.proofs.FitLaws.{IsChange, changed, count-step, fits-change, others-step, own-step}
-use Rattle.mx_machine.proofs.HartsAt.{hart-in}
 use Rattle.mx_machine.proofs.HearLaws.{bars-alike, ready-now}
 use Rattle.mx_machine.proofs.InstructLaws.{seen-running}
 

@@ -1,5 +1,5 @@
 -- A call that is asked for, as the code comes to it: the call that was read, announced or not, and the machine in which it is served.
-use Rattle.std.proofs.Common.{◌≡◌, ℕ, Bool, true, false, refl, sym, ap, subst, ◌∙◌}
+use Rattle.std.proofs.Common.{◌≡◌, ℕ, true, false, refl, sym, ap, subst, ◌∙◌}
 use Rattle.mx_words.specs.Announced.{is_announced}
 use Rattle.mx_check.specs.Calls.{is_ready}
 use Rattle.mx_check.specs.Conditions.{MayAnnounce}
@@ -7,7 +7,7 @@ use Rattle.mx_check.specs.Harts.{announced}
 use Rattle.mx_model.specs.declared.values.Call.{Call}
 use Rattle.mx_model.specs.declared.values.TurnKind.{TurnKind}
 use Rattle.mx_model.specs.declared.values.TurnKind.TheVariants as T
-use Rattle.mx_model.specs.Events.{Events, no_events}
+use Rattle.mx_model.specs.Events.{Events}
 use Rattle.mx_model.specs.Turn.{Asks, Made, call_of, served}
 use Rattle.mx_supervisor.specs.Served.{range_of}
 use Rattle.mx_machine.specs.Deeds.{with_kept}

@@ -1,12 +1,11 @@
 -- The permissions of a bus are those of its domain's map, and what they allow lies in RAM.
-use Rattle.std.proofs.Common.{◌≡◌, ℕ, ◌+◌, ◌-◌, ◌*◌, ◌/◌, ◌<◌, ◌≤◌, Bool, true, false, not, ◌&&◌, cond, nat_lt, nat_le, List, length, get_or, refl, sym, ap, subst, ◌∙◌, arith, Option, Some, None}
+use Rattle.std.proofs.Common.{◌≡◌, ℕ, ◌-◌, ◌*◌, ◌/◌, ◌<◌, Bool, true, false, not, ◌&&◌, cond, nat_lt, nat_le, List, length, refl, sym, ap, subst, ◌∙◌, arith, Some, None}
 use Rattle.std.specs.Option.{option_map_or}
 use Rattle.std.proofs.lemmas.Bool.{ltb-true, leb-true}
 use Rattle.std.proofs.lemmas.List.{get_or_default}
 use Rattle.mx_words.specs.declared.perm.Perm.{Perm}
 use Rattle.mx_words.specs.declared.perm.Perm.TheVariants as P
 use Rattle.mx_words.specs.declared.perm.Access.{Access}
-use Rattle.mx_words.specs.Newest.{map}
 use Rattle.mx_words.specs.Ranges.{ram_base, in_ram, word_of}
 use Rattle.mx_words.specs.Rights.{allows, denies, perm, perm_at}
 use Rattle.mx_table.specs.Tables.{map_of, IsDomain}

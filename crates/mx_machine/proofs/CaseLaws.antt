@@ -1,7 +1,6 @@
 -- A turn by its cases: what the hart's status, its domain and the gate at its pc decide.
-use Rattle.std.proofs.Common.{◌≡◌, ◌≢◌, ℕ, ◌+◌, ◌-◌, ◌<◌, ◌≤◌, ◌%◌, Bool, true, false, not, cond, ◌==◌, nat_le, List, [], ◌∷◌, length, get_or, refl, sym, ap, subst, ◌∙◌, arith, if◌then◌else◌, Option, Some, None}
-use Rattle.std.specs.Prelude.{IfSome, find, option_map}
-use Rattle.std.specs.List.{AllByRecursion}
+use Rattle.std.proofs.Common.{◌≡◌, ◌≢◌, ℕ, ◌+◌, ◌<◌, ◌%◌, Bool, true, false, not, cond, ◌==◌, nat_le, List, [], length, get_or, refl, sym, ap, subst, ◌∙◌, arith, if◌then◌else◌, Option, Some, None}
+use Rattle.std.specs.Prelude.{IfSome, option_map}
 use Rattle.std.specs.Option.{option_map_or}
 use Rattle.mx_words.specs.Ranges.{word_of}
 use Rattle.mx_table.specs.Tables.{IsDomain}
@@ -9,16 +8,15 @@ use Rattle.mx_check.specs.Harts.{hart_at as kept_at}
 use Rattle.mx_model.specs.declared.values.Call.{Call}
 use Rattle.mx_model.specs.declared.values.Gate.{Gate}
 use Rattle.mx_model.specs.declared.values.TurnKind.TheVariants as T
-use Rattle.mx_model.specs.Agreement.{target_at}
 use Rattle.mx_model.specs.Checks.{Look, hears, is_ready, looked_all}
 use Rattle.mx_model.specs.Checks.{is_halted as is_halted_in}
 use Rattle.mx_model.specs.Effect.{reg}
 use Rattle.mx_model.specs.Gates.{gate_at, gate_target, is_at, most_frames}
 use Rattle.mx_model.specs.Reads.{Reads}
 use Rattle.mx_model.specs.Run.{flat_made}
-use Rattle.mx_model.specs.State.{Core, Module, Status, Running, Waiting, Halted, hart_at, module_at}
+use Rattle.mx_model.specs.State.{Core, Module, Status, Waiting, hart_at, module_at}
 use Rattle.mx_model.specs.State.{Hart as Seen}
-use Rattle.mx_model.specs.Turn.{Action, Bounces, Crosses, Decided, Made, Serves, Traps, Waits, acted, at_gate, by_status, call_gate_at, decide, enacted, is_return_at, made, runs_at, runs_in, served, traps, turned, without_look}
+use Rattle.mx_model.specs.Turn.{Bounces, Crosses, Serves, Traps, Waits, acted, at_gate, by_status, decide, enacted, is_return_at, made, runs_at, runs_in, traps, turned, without_look}
 use Rattle.mx_model.specs.Turn.{counted as counted_in}
 use Rattle.mx_model.specs.Valid.{IsGate, IsModule, IsValid}
 use Rattle.mx_model.proofs.GatesAt.{at-call-gate, at-no-gate, at-return-gate, target_from}
@@ -26,14 +24,13 @@ use Rattle.mx_model.proofs.ListLaws.{all-find}
 use Rattle.mx_model.proofs.TurnCases.{turned-halted}
 use Rattle.mx_model.proofs.ValidParts.{valid-hears, valid-turns}
 use Rattle.mx_supervisor.proofs.Modules.{length-modules}
-use Rattle.mx_machine.specs.declared.hart.Hart.{Hart}
 use Rattle.mx_machine.specs.declared.hart.Progress.{Progress}
 use Rattle.mx_machine.specs.declared.hart.Progress.TheVariants as G
 use Rattle.mx_machine.specs.Deeds.{counted, heard}
-use Rattle.mx_machine.specs.Harts.{hart_of, hearers, own_call, seen, seen_with, status_by}
-use Rattle.mx_machine.specs.Held.{Held, beside, meaning, rest_of}
-use Rattle.mx_machine.specs.Made.{IsMade, core_in, deed, doing, hart_in, instruction, reads_of}
-use Rattle.mx_machine.specs.Ties.{Fits, IsWhole, MayAct, MayRun}
+use Rattle.mx_machine.specs.Harts.{hart_of, hearers, own_call, status_by}
+use Rattle.mx_machine.specs.Held.{Held, meaning, rest_of}
+use Rattle.mx_machine.specs.Made.{core_in, deed, doing, hart_in, instruction, reads_of}
+use Rattle.mx_machine.specs.Ties.{Fits, MayRun}
 use Rattle.mx_machine.proofs.DeedLaws.{here}
 use Rattle.mx_machine.proofs.HartsAt.{hart-in, length-seen}
 use Rattle.mx_machine.proofs.HearLaws.{core-heard}

@@ -1,5 +1,5 @@
 -- The state after a hart of a machine is changed, in the machine and in its checker.
-use Rattle.std.proofs.Common.{◌≡◌, ◌≢◌, ℕ, List, get_or, set, refl, sym, ap, ◌∙◌}
+use Rattle.std.proofs.Common.{◌≡◌, ◌≢◌, ℕ, List, get_or, set, sym, ap, ◌∙◌}
 use Rattle.std.proofs.Common.{map as list_map}
 use Rattle.std.proofs.Math.ListN.{get_or-map}
 use Rattle.std.proofs.lemmas.List.{map-set, set-get_or}
@@ -7,12 +7,12 @@ use Rattle.mx_words.specs.Caches.{Cache, no_cache, left_domain}
 use Rattle.mx_check.specs.Harts.{Kept, hart_at, at_hart, leaves_domain}
 use Rattle.mx_check.specs.Harts.{no_hart as no_kept}
 use Rattle.mx_model.specs.Checks.{empties_places}
-use Rattle.mx_model.specs.State.{Core, Module, cache_at, with_hart, with_cache}
+use Rattle.mx_model.specs.State.{Core, Module, with_hart}
 use Rattle.mx_model.specs.State.{Hart as Seen}
-use Rattle.mx_supervisor.specs.Parts.{Parts, core_of, modules_from}
+use Rattle.mx_supervisor.specs.Parts.{Parts, core_of}
 use Rattle.mx_machine.specs.declared.hart.Hart.{Hart}
 use Rattle.mx_machine.specs.Harts.{seen, seen_from}
-use Rattle.mx_machine.specs.Held.{Held, beside, rest_of}
+use Rattle.mx_machine.specs.Held.{Held, rest_of}
 use Rattle.mx_machine.specs.Made.{core_in}
 use Rattle.mx_machine.proofs.HartsAt.{harts-set}
 use Rattle.mx_machine.proofs.HomeLaws.{modules-beside}

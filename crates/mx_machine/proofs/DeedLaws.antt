@@ -1,34 +1,29 @@
 -- The deeds of a running hart: each part of a turn makes what the model's action makes, and leaves all fitting.
-use Rattle.std.proofs.Common.{◌≡◌, ◌≢◌, ℕ, ◌+◌, ◌<◌, ◌≤◌, Bool, true, false, List, [], length, get_or, set, refl, sym, ap, subst, ◌∙◌, arith, Option, Some, None, unwrap_or}
-use Rattle.std.specs.Prelude.{slice_set, IfSome}
+use Rattle.std.proofs.Common.{◌≡◌, ℕ, ◌<◌, Bool, true, false, List, [], length, refl, sym, ap, subst, ◌∙◌, arith, Option, Some, None, unwrap_or}
+use Rattle.std.specs.Prelude.{slice_set}
 use Rattle.std.proofs.lemmas.List.{length-set}
 use Rattle.mx_table.specs.Tables.{IsDomain}
 use Rattle.mx_check.specs.Conditions.{MayLook}
-use Rattle.mx_check.specs.Harts.{Kept, hart_at, at_hart, announced, leaves_domain}
+use Rattle.mx_check.specs.Harts.{Kept, hart_at, at_hart, leaves_domain}
 use Rattle.mx_check.specs.Harts.{halts as counts_as_halted}
-use Rattle.mx_check.specs.declared.flight.Flight.{Flight}
-use Rattle.mx_model.specs.declared.values.Call.{Call}
 use Rattle.mx_model.specs.declared.values.Frame.{Frame}
 use Rattle.mx_model.specs.declared.values.Note.TheVariants as N
 use Rattle.mx_model.specs.declared.values.TurnKind.TheVariants as T
 use Rattle.mx_model.specs.Checks.{empties_places}
 use Rattle.mx_model.specs.Effect.{next, reg, written}
-use Rattle.mx_model.specs.Events.{Events}
 use Rattle.mx_model.specs.Gates.{nearest, top}
-use Rattle.mx_model.specs.State.{Core, Status, Running, Waiting, Halted, with_hart}
+use Rattle.mx_model.specs.State.{Running, Halted, with_hart}
 use Rattle.mx_model.specs.State.{Hart as Seen}
-use Rattle.mx_model.specs.Turn.{Traps, Bounces, Crosses, Returns, fault_answer, given_up, over_frame, trapped, stack_address}
+use Rattle.mx_model.specs.Turn.{Traps, Bounces, Crosses, Returns, fault_answer, given_up, over_frame}
 use Rattle.mx_model.specs.Turn.{crossed as crossed_in, killed as killed_in}
-use Rattle.mx_supervisor.specs.Parts.{core_of}
 use Rattle.mx_supervisor.specs.Served.{range_of}
 use Rattle.mx_machine.specs.declared.hart.Hart.{Hart}
 use Rattle.mx_machine.specs.declared.hart.Progress.{Progress}
-use Rattle.mx_machine.specs.declared.hart.Progress.TheVariants as G
 use Rattle.mx_machine.specs.Deeds.{crossed, dead_after, fallen, gives_up_kept, killed, kills_by, returned, with_step}
 use Rattle.mx_machine.specs.Harts.{hart_of, is_halted, is_waiting, own_call, seen}
-use Rattle.mx_machine.specs.Held.{Held, area_of, behind, rest_of}
-use Rattle.mx_machine.specs.Made.{IsMade, core_in, deed, hart_in}
-use Rattle.mx_machine.specs.Steps.{enters, gives_up, gives_up_over, goes, returns_by, returns_over}
+use Rattle.mx_machine.specs.Held.{Held, behind, rest_of}
+use Rattle.mx_machine.specs.Made.{IsMade, core_in, deed}
+use Rattle.mx_machine.specs.Steps.{enters, gives_up_over, goes, returns_by}
 use Rattle.mx_machine.specs.Ties.{Fits, FliesWhileWaiting, IsTied, MayAct, MayRun}
 use Rattle.mx_machine.proofs.CoreLaws.{FlyAlike, core-kept, core-left, core-step}
 use Rattle.mx_machine.proofs.FitLaws.{IsChange, changed, count-step, fits-change, others-step, own-step}

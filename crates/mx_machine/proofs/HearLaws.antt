@@ -22,7 +22,7 @@ use Rattle.mx_check.proofs.LookLaws.{all_below_agree, hart_at-other, hart_at-sam
 use Rattle.mx_model.specs.declared.values.Call.{Call}
 use Rattle.mx_model.specs.Checks.{arg, call_range, flight_range, heard_by, heard_ranges, is_ready, unheard_ranges}
 use Rattle.mx_model.specs.Checks.{hears as heard_in, is_halted as halted_by}
-use Rattle.mx_model.specs.State.{Core, Module, Status, Running, Waiting, Halted, module_at}
+use Rattle.mx_model.specs.State.{Core, Module, Status, module_at}
 use Rattle.mx_model.specs.State.{Hart as Seen}
 use Rattle.mx_model.specs.State.{no_hart as nobody_seen}
 use Rattle.mx_supervisor.specs.Looks.{BarsAlike}

@@ -1,8 +1,7 @@
 -- An instruction: the machine after it is the state after its looks, with its bytes and registers; its answer says what is done then.
-use Rattle.std.proofs.Common.{◌≡◌, ◌≢◌, ℕ, ◌<◌, ◌≤◌, ◌%◌, Bool, true, false, cond, ◌==◌, List, [], ◌∷◌, length, get_or, set, refl, sym, ap, subst, ◌∙◌, arith, if◌then◌else◌, Option, Some, None}
+use Rattle.std.proofs.Common.{◌≡◌, ℕ, ◌<◌, ◌%◌, Bool, true, false, cond, ◌==◌, List, [], ◌∷◌, length, set, refl, sym, ap, subst, ◌∙◌, if◌then◌else◌, None}
 use Rattle.std.specs.Prelude.{IfSome}
 use Rattle.std.proofs.lemmas.List.{set-get_or, get_or-set_same, length-set}
-use Rattle.std.proofs.Common.{map as list_map}
 use Rattle.mx_words.specs.declared.perm.Perm.{Perm}
 use Rattle.mx_words.specs.declared.perm.Access.TheVariants as A
 use Rattle.mx_words.specs.Caches.{Cache}
@@ -11,36 +10,32 @@ use Rattle.mx_table.specs.Tables.{map_of, IsDomain}
 use Rattle.mx_check.specs.Harts.{Kept, hart_at}
 use Rattle.mx_core.specs.declared.outcome.Outcome.{Outcome}
 use Rattle.mx_core.specs.declared.outcome.Outcome.TheVariants as O
-use Rattle.mx_core.specs.Bus.{denied, load_at, store_at, Touch}
-use Rattle.mx_core.specs.Exec.{action_of, bytes_after, bytes_in, effect_in, fetch_touch, fetched, looks_of, outcome_in, outcome_of, regs_after, regs_in, returns_in, touches_of, trap}
+use Rattle.mx_core.specs.Bus.{denied, load_at, store_at}
+use Rattle.mx_core.specs.Exec.{action_of, bytes_after, bytes_in, effect_in, fetch_touch, looks_of, outcome_of, regs_after, touches_of, trap}
 use Rattle.mx_core.proofs.TurnLaws.{actions-alike, looks-alike}
-use Rattle.mx_model.specs.declared.values.Fault.{Fault}
 use Rattle.mx_model.specs.declared.values.TurnKind.{TurnKind}
 use Rattle.mx_model.specs.declared.values.TurnKind.TheVariants as T
 use Rattle.mx_model.specs.Checks.{Look, looked_all}
 use Rattle.mx_model.specs.Effect.{Effect, Goes, Faults, Loads, Stores, Calls, Jumps, load_size, loaded, next, written}
 use Rattle.mx_model.specs.Events.{Events, no_events}
-use Rattle.mx_model.specs.Reads.{Reads}
-use Rattle.mx_model.specs.State.{Core, Running, Status, with_hart}
+use Rattle.mx_model.specs.State.{Core, Running, with_hart}
 use Rattle.mx_model.specs.State.{hart_at as hart_at_seen}
 use Rattle.mx_model.specs.State.{no_hart as nobody_seen}
 use Rattle.mx_model.specs.State.{Hart as Seen}
-use Rattle.mx_model.specs.Turn.{Action, acted, is_return_at, perm_of, runs_at}
+use Rattle.mx_model.specs.Turn.{Action, acted, is_return_at, runs_at}
 use Rattle.mx_model.proofs.ListLaws.{length-put_at}
 use Rattle.mx_model.proofs.TurnCases.{looked_all-caches}
-use Rattle.mx_supervisor.specs.Parts.{core_of}
 use Rattle.mx_supervisor.specs.Served.{range_of}
 use Rattle.mx_machine.specs.declared.hart.Hart.{Hart}
 use Rattle.mx_machine.specs.declared.hart.Progress.{Progress}
-use Rattle.mx_machine.specs.declared.hart.Progress.TheVariants as G
-use Rattle.mx_machine.specs.Deeds.{after_instruction, effect_for, looks_all, outcome_for, perm_for}
-use Rattle.mx_machine.specs.Harts.{no_hart, hart_of, is_halted, is_waiting, own_call, seen, seen_with, status_by}
+use Rattle.mx_machine.specs.Deeds.{after_instruction, effect_for, outcome_for, perm_for}
+use Rattle.mx_machine.specs.Harts.{no_hart, hart_of, is_waiting, own_call, seen, seen_with, status_by}
 use Rattle.mx_machine.specs.Held.{Held, rest_of}
 use Rattle.mx_machine.specs.Made.{IsMade, core_in, deed, hart_in, instruction, reads_of}
 use Rattle.mx_machine.specs.Steps.{instructed, pc_after}
-use Rattle.mx_machine.specs.Ties.{Fits, FliesWhileWaiting, IsTied, MayAct, MayRun}
+use Rattle.mx_machine.specs.Ties.{Fits, FliesWhileWaiting, MayRun}
 use Rattle.mx_machine.proofs.CoreLaws.{core-step}
-use Rattle.mx_machine.proofs.DeedLaws.{kept-there, running-free, running-kept}
+use Rattle.mx_machine.proofs.DeedLaws.{kept-there, running-free}
 use Rattle.mx_machine.proofs.FitLaws.{IsChange, fits-change}
 use Rattle.mx_machine.proofs.HartsAt.{hart-in}
 use Rattle.mx_machine.proofs.HearLaws.{bars-alike}

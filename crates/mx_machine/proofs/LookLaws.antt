@@ -1,7 +1,7 @@
 -- Looks: what a hart's checks leave in the checker is what its looks leave in the state.
-use Rattle.std.proofs.Common.{◌≡◌, ◌≢◌, ℕ, ◌+◌, ◌<◌, ◌≤◌, Bool, List, [], ◌∷◌, ◌++◌, length, get_or, set, refl, sym, ap, subst, ◌∙◌, arith, Option, Some, None}
+use Rattle.std.proofs.Common.{◌≡◌, ◌≢◌, ℕ, ◌<◌, Bool, List, [], ◌∷◌, length, get_or, set, refl, sym, ap, subst, ◌∙◌, arith, Option, Some, None}
 use Rattle.std.proofs.Common.{map as list_map}
-use Rattle.std.specs.Prelude.{fold, flat_map, IfSome}
+use Rattle.std.specs.Prelude.{IfSome}
 use Rattle.std.specs.List.{list_any}
 use Rattle.std.specs.Option.{option_map_or}
 use Rattle.std.proofs.lemmas.List.Sums.{fold-append}
@@ -11,16 +11,15 @@ use Rattle.mx_words.specs.Caches.{Cache, checked, meets, no_cache}
 use Rattle.mx_words.specs.Ranges.{word_of}
 use Rattle.mx_words.specs.Reach.{span}
 use Rattle.mx_table.specs.Tables.{map_of, IsDomain}
-use Rattle.mx_check.specs.Harts.{Kept, hart_at, at_hart}
+use Rattle.mx_check.specs.Harts.{Kept, hart_at}
 use Rattle.mx_check.specs.Looks.{is_barred, looked_at, looks, with_domain}
 use Rattle.mx_check.specs.Looks.{looked as looked_kept}
 use Rattle.mx_check.proofs.LookLaws.{is_barred-same}
 use Rattle.mx_core.specs.Bus.{Touch}
 use Rattle.mx_core.specs.Exec.{looks_of}
-use Rattle.mx_model.specs.Checks.{Look, heard_ranges, looked, looked_all, looks_at}
+use Rattle.mx_model.specs.Checks.{heard_ranges, looked, looked_all, looks_at}
 use Rattle.mx_model.specs.Reads.{Reads, flat_reads, map_in}
 use Rattle.mx_model.specs.State.{Core}
-use Rattle.mx_supervisor.specs.Looks.{BarsAlike}
 use Rattle.mx_supervisor.specs.Parts.{Parts, core_of, flat_of}
 use Rattle.mx_machine.specs.Deeds.{looks_all}
 use Rattle.mx_machine.proofs.BusLaws.{map-in}

@@ -1,5 +1,5 @@
 -- What a turn may rest on: a hart that isn't halted is there, stands at an instruction of a module, and acts once it has heard the others' calls.
-use Rattle.std.proofs.Common.{◌≡◌, ℕ, zero, suc, ◌<◌, ◌≤◌, ◌%◌, Bool, true, false, List, [], ◌∷◌, length, refl, sym, ap, subst, ◌∙◌, arith, Option, Some, None}
+use Rattle.std.proofs.Common.{◌≡◌, ℕ, zero, suc, ◌<◌, ◌≤◌, ◌%◌, false, List, [], ◌∷◌, length, refl, sym, ap, subst, ◌∙◌, arith, Option, None}
 use Rattle.mx_table.specs.Tables.{IsDomain}
 use Rattle.mx_check.specs.declared.flight.Flight.{Flight}
 use Rattle.mx_check.specs.Conditions.{HasHeardAll}
@@ -18,7 +18,7 @@ use Rattle.mx_machine.specs.Deeds.{counted, heard}
 use Rattle.mx_machine.specs.Harts.{hart_of, is_halted, is_waiting, own_call}
 use Rattle.mx_machine.specs.Held.{Held, meaning, rest_of}
 use Rattle.mx_machine.specs.Made.{IsMade, core_in, doing}
-use Rattle.mx_machine.specs.Ties.{Fits, FliesWhileWaiting, IsWhole, MayAct, MayRun}
+use Rattle.mx_machine.specs.Ties.{Fits, FliesWhileWaiting, IsWhole, MayAct}
 use Rattle.mx_machine.proofs.CaseLaws.{core-counted, fits-counted, turn-halted, valid-counted, valid-heard}
 use Rattle.mx_machine.proofs.HartsAt.{hart-in, length-seen}
 use Rattle.mx_machine.proofs.HearLaws.{fits-heard}

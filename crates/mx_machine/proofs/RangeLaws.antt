@@ -1,6 +1,6 @@
 -- The range of an announced call is empty or lies in RAM.
-use Rattle.std.proofs.Common.{◌≡◌, ℕ, ◌+◌, ◌-◌, ◌*◌, ◌/◌, ◌%◌, ◌<◌, ◌≤◌, ◌⊎◌, inl, inr, Bool, true, false, ◌==◌, ◌&&◌, cond, nat_lt, nat_le, refl, arith, eqb-true, Option, Some, None, unwrap_or}
-use Rattle.std.proofs.lemmas.Bool.{ltb-true, leb-true}
+use Rattle.std.proofs.Common.{◌≡◌, ℕ, ◌+◌, ◌-◌, ◌*◌, ◌/◌, ◌%◌, ◌≤◌, inl, inr, Bool, true, false, ◌==◌, ◌&&◌, cond, nat_lt, nat_le, refl, arith, eqb-true, Some, None, unwrap_or}
+use Rattle.std.proofs.lemmas.Bool.{leb-true}
 use Rattle.mx_check.specs.Conditions.{IsWithin}
 use Rattle.mx_words.specs.Announced.{names_range}
 use Rattle.mx_words.specs.Ranges.{ram_base, is_range, range_words}

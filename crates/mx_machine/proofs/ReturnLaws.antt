@@ -1,5 +1,5 @@
 -- A JAL or JALR at a return gate, by the return address of the top frame.
-use Rattle.std.proofs.Common.{◌≡◌, ◌≢◌, ℕ, Bool, true, false, cond, ◌==◌, List, [], length, refl, sym, ap, subst, ◌∙◌, eq-eqb, Option, Some, None}
+use Rattle.std.proofs.Common.{◌≡◌, ◌≢◌, ℕ, Bool, cond, refl, sym, ap, subst, ◌∙◌, eq-eqb, Option, Some, None}
 use Rattle.std.specs.Prelude.{option_map}
 use Rattle.std.specs.Option.{option_map_or}
 use Rattle.std.proofs.lemmas.Bool.{ne_eqb}
@@ -8,7 +8,7 @@ use Rattle.mx_model.specs.declared.values.TurnKind.TheVariants as T
 use Rattle.mx_model.specs.Events.{no_events}
 use Rattle.mx_model.specs.Gates.{top}
 use Rattle.mx_model.specs.State.{Hart as Seen}
-use Rattle.mx_model.specs.Turn.{Action, Returns, Traps, at_return, returned_over}
+use Rattle.mx_model.specs.Turn.{Returns, Traps, at_return, returned_over}
 use Rattle.mx_machine.specs.Deeds.{returned}
 use Rattle.mx_machine.specs.Harts.{hart_of}
 use Rattle.mx_machine.specs.Held.{Held}

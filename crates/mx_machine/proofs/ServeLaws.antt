@@ -1,24 +1,21 @@
 -- A served call: the machine after it is the state after the model's call, and fits.
-use Rattle.std.proofs.Common.{◌≡◌, ◌≢◌, ℕ, ◌-◌, ◌+◌, ◌<◌, ◌≤◌, ◌⊎◌, inl, inr, Bool, true, false, not, cond, List, [], ◌∷◌, length, get_or, set, refl, sym, ap, subst, ◌∙◌, arith, Option, Some, None}
+use Rattle.std.proofs.Common.{◌≡◌, ◌≢◌, ℕ, ◌-◌, ◌<◌, ◌≤◌, ◌⊎◌, inl, inr, Bool, true, false, cond, List, [], ◌∷◌, length, get_or, set, refl, sym, ap, subst, ◌∙◌, arith, Option, Some, None}
 use Rattle.std.specs.Prelude.{IfSome}
 use Rattle.std.proofs.lemmas.Bool.{cases_eq, cases_lt}
 use Rattle.std.proofs.Math.ListN.{get_or-eq_default}
 use Rattle.std.proofs.lemmas.List.{get_or-set_same, get_or-set_other, length-set}
 use Rattle.mx_words.specs.Announced.{announced, is_announced}
 use Rattle.mx_words.specs.FirstFit.{Area}
-use Rattle.mx_words.specs.FirstRow.{first_row}
-use Rattle.mx_check.specs.declared.flight.Flight.{Flight}
 use Rattle.mx_check.specs.Harts.{Kept, hart_at, at_hart}
 use Rattle.mx_check.specs.Harts.{halts as counts_as_halted}
 use Rattle.mx_model.specs.declared.values.Call.{Call}
 use Rattle.mx_model.specs.Checks.{Look, arg, looked_all}
 use Rattle.mx_model.specs.Reads.{Reads}
-use Rattle.mx_model.specs.Serve.{Served, Service, Exit, Write, Grant, RevokeAll, Transfer, Alloc, Free, AddGate, RemoveGate, AddReturnGate, Query, Self, Exchange, Unknown, judged, answers, serve, served_by, service, ended, write_from, written_out, write_looks, exchange_from, exchanged, with_blocks, look_of, arg_word, allocated, alloc_place, alloc_from}
+use Rattle.mx_model.specs.Serve.{Served, Service, Exit, Write, Grant, RevokeAll, Transfer, Alloc, Free, AddGate, RemoveGate, AddReturnGate, Query, Self, Exchange, Unknown, judged, serve, served_by, service, write_from, write_looks, exchange_from, with_blocks, look_of, arg_word, alloc_from}
 use Rattle.mx_model.specs.State.{Core, Module, no_module, module_at}
 use Rattle.mx_model.proofs.ValidParts.{same-modules-looked_all}
 use Rattle.mx_model.specs.State.{Running, Halted, with_hart}
 use Rattle.mx_model.specs.State.{Hart as Seen}
-use Rattle.mx_model.specs.declared.values.Note.{Note}
 use Rattle.mx_model.specs.declared.values.Note.TheVariants as N
 use Rattle.mx_model.specs.declared.values.TurnKind.TheVariants as T
 use Rattle.mx_model.specs.Effect.{next}
@@ -28,9 +25,9 @@ use Rattle.mx_supervisor.specs.declared.answer.Answer.{Answer}
 use Rattle.mx_supervisor.specs.Heaps.{heap_at}
 use Rattle.mx_supervisor.specs.Looks.{BarsAlike, KeepsHarts}
 use Rattle.mx_supervisor.specs.Parts.{Parts, IsSound, core_of}
-use Rattle.mx_supervisor.specs.Served.{HasAnnounced, IsServed, KeepsSizes, MayServe, flight_after, range_of}
+use Rattle.mx_supervisor.specs.Served.{IsServed, KeepsSizes, flight_after, range_of}
 use Rattle.mx_machine.specs.declared.hart.Hart.{Hart}
-use Rattle.mx_machine.specs.Harts.{no_hart, hart_of, is_halted, is_waiting, own_call, seen}
+use Rattle.mx_machine.specs.Harts.{no_hart, hart_of, is_waiting, own_call, seen}
 use Rattle.mx_machine.specs.Held.{Held, rest_of}
 use Rattle.mx_machine.specs.Made.{IsMade, core_in, hart_in, reads_of}
 use Rattle.mx_machine.specs.Serving.{IsServing}

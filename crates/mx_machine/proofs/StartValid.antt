@@ -15,7 +15,6 @@ use Rattle.mx_check.specs.Harts.{Kept, hart_at}
 use Rattle.mx_check.specs.Harts.{no_hart as nothing_kept}
 use Rattle.mx_heap.specs.HeapState.{HeapState}
 use Rattle.mx_model.specs.declared.values.Frame.{Frame}
-use Rattle.mx_model.specs.declared.values.Gate.{Gate}
 use Rattle.mx_model.specs.Gates.{AreSingle, most_gates}
 use Rattle.mx_model.specs.State.{Module, no_module}
 use Rattle.mx_model.specs.State.{Hart as Seen}

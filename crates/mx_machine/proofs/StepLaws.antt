@@ -1,12 +1,12 @@
 -- A step of a machine is a turn of the abstract machine, and keeps the machine whole.
-use Rattle.std.proofs.Common.{◌≡◌, ◌≢◌, ◌↔◌, ◌⊎◌, inl, inr, ℕ, List, refl, sym, ap, subst, ◌∙◌}
+use Rattle.std.proofs.Common.{◌≡◌, ◌↔◌, inl, inr, ℕ, List, sym, ap, subst, ◌∙◌}
 use Rattle.mx_words.specs.declared.perm.Perm.{Perm}
 use Rattle.mx_model.specs.declared.values.TurnKind.{TurnKind}
 use Rattle.mx_model.specs.declared.values.TurnKind.TheVariants as T
 use Rattle.mx_model.specs.Agreement.{Ended}
 use Rattle.mx_model.specs.Events.{Events}
 use Rattle.mx_model.specs.Reads.{Reads, flat_reads}
-use Rattle.mx_model.specs.Run.{flat_kind, flat_made, flat_turn, made_of, turn}
+use Rattle.mx_model.specs.Run.{flat_kind, flat_made, flat_turn, made_of}
 use Rattle.mx_model.specs.State.{Core, Flat, State, flat}
 use Rattle.mx_model.specs.Turn.{Made, turned}
 use Rattle.mx_model.specs.Valid.{IsValid}

@@ -13,7 +13,7 @@ use Rattle.mx_model.specs.Valid.{IsStatus, IsValid}
 use Rattle.mx_machine.specs.declared.hart.Hart.{Hart}
 use Rattle.mx_machine.specs.declared.hart.Progress.{Progress}
 use Rattle.mx_machine.specs.declared.hart.Progress.TheVariants as G
-use Rattle.mx_machine.specs.Harts.{no_hart, hart_of, hearers, is_waiting, own_call, seen_with, status_by}
+use Rattle.mx_machine.specs.Harts.{no_hart, hart_of, hearers, is_waiting, own_call, status_by}
 use Rattle.mx_machine.specs.Held.{Held}
 use Rattle.mx_machine.specs.Made.{IsMade, core_in, doing, hart_in, reads_of}
 use Rattle.mx_machine.specs.Ties.{Fits, MayAct}

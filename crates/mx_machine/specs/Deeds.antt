@@ -3,7 +3,7 @@ use Rattle.std.specs.Prelude.{ℕ, zero, suc, ◌+◌, Bool, true, not, ◌==◌
 use Rattle.mx_words.specs.declared.perm.Perm.{Perm}
 use Rattle.mx_table.specs.Tables.{map_of}
 use Rattle.mx_check.specs.Calls.{hears}
-use Rattle.mx_check.specs.Harts.{Kept, at_hart, announced, leaves_domain}
+use Rattle.mx_check.specs.Harts.{Kept, at_hart, leaves_domain}
 use Rattle.mx_check.specs.Harts.{halts as counts_as_halted}
 use Rattle.mx_check.specs.Looks.{looked}
 use Rattle.mx_core.specs.declared.outcome.Outcome.{Outcome}

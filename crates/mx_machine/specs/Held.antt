@@ -4,7 +4,7 @@ use Rattle.mx_words.specs.declared.tables.Kind.TheVariants as K
 use Rattle.mx_words.specs.Ranges.{address_of}
 use Rattle.mx_model.specs.State.{Core, Flat, Module, Stack, no_module}
 use Rattle.mx_model.specs.State.{Hart as Seen}
-use Rattle.mx_supervisor.specs.Parts.{Parts, core_of, flat_of}
+use Rattle.mx_supervisor.specs.Parts.{Parts, flat_of}
 use Rattle.mx_machine.specs.declared.hart.Hart.{Hart}
 use Rattle.mx_machine.specs.declared.starts.StackArea.{StackArea}
 use Rattle.mx_machine.specs.Harts.{seen_from}

@@ -1,5 +1,5 @@
 -- What the readers of a machine tell of its state.
-use Rattle.std.specs.Prelude.{◌≡◌, ℕ, Bool, false, List, length}
+use Rattle.std.specs.Prelude.{◌≡◌, ℕ, Bool, false, length}
 use Rattle.mx_words.specs.Hearing.{is_in}
 use Rattle.mx_model.specs.State.{Hart, Module, Status, Running, Waiting, Halted}
 use Rattle.mx_machine.specs.declared.hart.Hart.{Hart as Kept}

@@ -1,5 +1,5 @@
 -- What is true of every machine: its meaning is valid, and what it keeps in two places agrees.
-use Rattle.std.specs.Prelude.{◌≡◌, ℕ, ◌<◌, ◌≤◌, Bool, true, false, List, length, Option, Some, None, IfSome}
+use Rattle.std.specs.Prelude.{◌≡◌, ℕ, ◌<◌, ◌≤◌, false, length, Option, Some, None, IfSome}
 use Rattle.mx_table.specs.Tables.{IsDomain}
 use Rattle.mx_check.specs.declared.flight.Flight.{Flight}
 use Rattle.mx_check.specs.Conditions.{HasHeardAll}

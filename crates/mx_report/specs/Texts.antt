@@ -75,6 +75,10 @@ tables_asked options kind limit c t = if options.tables then table_lines kind li
 abbrev pub counts_asked : Options → Core → List ℕ
 counts_asked options c = if options.counts then counts_lines c else []
 
+-- both, where they are asked
+unfoldable pub asked_lines : Options → Kind → Need → Core → Told → List ℕ
+asked_lines options kind limit c t = concat (tables_asked options kind limit c t ∷ counts_asked options c ∷ [])
+
 -- the lines of each hart
 unfoldable pub all_harts : Core → List ℕ
 all_harts c = flat_map (λ h. hart_lines h (hart_at c h)) (range_with_len 0 (length c.harts))
@@ -88,7 +92,7 @@ all_domains names c t =
 unfoldable pub closing_of : List (List ℕ) → EndState → Options → Core → Told → List ℕ
 closing_of names end options c t =
     concat (end_line c.turns end ∷ all_harts c ∷ all_domains names c t ∷ owner_lines t.owners
-    ∷ tables_asked options c.kind c.limit c t ∷ counts_asked options c ∷ [])
+    ∷ asked_lines options c.kind c.limit c t ∷ [])
 
 -- what a state tells: the maps by its lists of grants, the owners by its list of gives
 abbrev pub told : State → Told

@@ -2,7 +2,7 @@
 ghost use Rattle.std.specs.Prelude.{◌≡◌, ℕ, List, length, map};
 ghost use Rattle.mx_model.specs.State.{State, flat};
 ghost use Rattle.mx_report.specs.Tail.{Passes};
-ghost use Rattle.mx_report.specs.Texts.{all_harts, all_domains, closing, flat_closing, flat_told, tables_asked, counts_asked};
+ghost use Rattle.mx_report.specs.Texts.{all_harts, all_domains, asked_lines, closing, flat_closing, flat_told, tables_asked, counts_asked};
 ghost use Rattle.mx_report.specs.declared.lines.EndState.{EndState as End};
 ghost use Rattle.mx_report.specs.declared.closing.Options.{Options as Asked};
 
@@ -47,6 +47,21 @@ pub fn put_closing<R: Sink, T: PermTables, const N: usize>(
     put_harts(tail, sink, machine)?;
     put_domains(tail, sink, machine, names)?;
     put_owners(tail, sink, machine)?;
+    put_asked(tail, sink, machine, kind, limit, options)
+}
+
+// Puts the lines that are asked beside those that each run has.
+fn put_asked<R: Sink, T: PermTables, const N: usize>(
+    tail: &mut Tail,
+    sink: &mut R,
+    machine: &Machine<T, N>,
+    kind: Kind,
+    limit: Need,
+    options: Options,
+) -> Result<(), Failed>
+    ensures { Passes tail.old (R.state sink.old) (R.state sink.new) tail.new
+        (asked_lines options kind limit machine.now.core (flat_told machine.now)) result }
+{
     put_asked_tables(tail, sink, machine, kind, limit, options)?;
     put_asked_counts(tail, sink, machine, options)
 }

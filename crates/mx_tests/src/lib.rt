@@ -1,10 +1,8 @@
-//! Tests that cross crates: the top call over files and sinks in memory, layouts of plans, and tables of each kind.
+//! Tests that cross crates: the top call over files and sinks in memory, and tables of each kind.
 #![tactic(auto)]
 
 #[cfg(test)]
 mod assembling;
-#[cfg(test)]
-mod layouts;
 #[cfg(test)]
 mod manifests;
 #[cfg(test)]

@@ -1,6 +1,8 @@
 //! Worked examples of tables of one domain over 64 KiB of RAM, for each kind of tables.
 ghost use Rattle.std.specs.Prelude.{◌≡◌, ◌+◌, ◌*◌, ◌<◌, ◌≤◌, length, IfOk};
+ghost use Rattle.mx_words.specs.declared.tables.Kind.TheVariants as K;
 ghost use Rattle.mx_table.specs.Tables.{IsRow, IsLimit};
+ghost use Rattle.mx_upper.specs.Read.{read_maps};
 
 use mx_packed::Packed;
 use mx_plain::{grant, row, try_change};
@@ -83,6 +85,24 @@ fn one_span(alloc: Global, first: u32, count: u32, perm: Perm) -> Result<Spans, 
 {
     let span = Span { first, count, perm };
     row(alloc, span, count, 1)
+}
+
+/// A row with read on the first 2^20 words and read-write on the next.
+fn two_regions(alloc: Global) -> Result<Spans, NoMemory>
+    ensures { IfOk result (IsRow 2097152) }
+{
+    let mut row = Spans::new(alloc);
+    row.push(Span {
+        first: 0,
+        count: 0x10_0000,
+        perm: Perm::Read,
+    })?;
+    row.push(Span {
+        first: 0x10_0000,
+        count: 0x10_0000,
+        perm: Perm::ReadWrite,
+    })?;
+    Ok(row)
 }
 
 /// A row of single words with read, the first of them word 0.
@@ -325,5 +345,29 @@ fn segments_tell_what_they_hold(rt: HostRuntime) -> Result<(), Fail> {
     };
     let items = [run(1024, 4, 0x8000_1002), run(1028, 15356, 0x8000_1010)];
     assert_eq!(rt; readings(&tables), (16384, 1, AMPLE, ONE_FRAME, items));
+    Ok(())
+}
+
+/// The word at a place of domain 1's root table.
+fn in_root(tables: &Trie<Vector>, place: u32) -> u32
+    requires one { length (read_maps K.Multilevel tables.now.upper tables.now.leaf tables.now.spill tables.now.words tables.now.roots) ≡ 1 }
+    requires place { place < 1024 }
+{
+    let root = tables.roots.get(1);
+    tables.upper.get(root, place)
+}
+
+// Read on the first 2^20 words of RAM and read-write on as many behind them: RAM begins at 0x80000000, which is 512 times 4 MiB.
+#[test]
+fn a_root_entry_stands_at_the_place_of_its_addresses(rt: HostRuntime) -> Result<(), Fail> {
+    let Ok(row) = two_regions(rt.alloc()) else {
+        return Err("no row")?;
+    };
+    let Ok(tables) = mx_plain::one_domain::<Trie<Vector>>(rt.alloc(), 0x20_0000, row, AMPLE) else {
+        return Err("no tables")?;
+    };
+    assert_eq!(rt; in_root(&tables, 512), 0x0001_5555);
+    assert_eq!(rt; in_root(&tables, 513), 0x0002_AAA9);
+    assert_eq!(rt; in_root(&tables, 0), 0);
     Ok(())
 }

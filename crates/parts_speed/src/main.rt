@@ -2,12 +2,21 @@
 //! processor time that so many calls of each kind took.
 #![tactic(auto)]
 
+ghost use Rattle.std.specs.Prelude.{◌≤◌};
+ghost use Rattle.mx_supervisor.specs.Parts.{parts_of};
+ghost use Rattle.mx_call_tests.specs.Calls.{IsAtRest};
+
 mod caches;
+mod calls;
 mod gates;
 mod heaps;
 mod images;
 mod owners;
 
+use mx_packed::Packed;
+use mx_supervisor::Supervisor;
+use mx_table::PermTables;
+use mx_upper::Trie;
 use std::alloc::Global;
 use std::time::{CpuClock, Duration};
 use std::{env, io};
@@ -24,7 +33,11 @@ fn main(rt: HostRuntime) -> io::Result<()> {
     time_sidecars(&rt, rounds)?;
     time_owners(&rt, rt.alloc(), rounds)?;
     time_heaps(&rt, rt.alloc(), rounds)?;
-    time_symbols(&rt, rt.alloc())
+    time_symbols(&rt, rt.alloc())?;
+    for modules in [1, 15, 63] {
+        time_calls(&rt, rt.alloc(), modules, rounds)?;
+    }
+    Ok(())
 }
 
 /// `target` at words without a gate, with no gate, with 256 elsewhere, and with 256 in the bucket of the words that are looked
@@ -167,6 +180,72 @@ fn time_symbols(rt: &(impl Print + Eprint + CpuClock), alloc: Global) -> io::Res
         tell(rt, "symbol, 65535 symbols", 4, begun, ended)?;
     }
     Ok(())
+}
+
+/// Supervisor calls through `serve`, with so many modules over packed tables of 64 MiB of RAM.
+fn time_calls(
+    rt: &(impl Print + Eprint + CpuClock),
+    alloc: Global,
+    modules: u32,
+    rounds: u64,
+) -> io::Result<()>
+    requires some { 1 ≤ modules }
+    requires few { modules ≤ 63 }
+{
+    let Some(mut machine) = calls::with_modules::<Trie<Packed>, 32>(alloc, modules) else {
+        return eprintln!(rt; "no memory");
+    };
+    println!(rt; "with {modules} modules:")?;
+    time_rights(rt, &mut machine, modules, rounds)?;
+    time_others(rt, &mut machine, rounds)
+}
+
+/// A grant of a word to the last module, and `alloc` with `free` of 16 words and of a page, the latter a sixty-fourth as often.
+fn time_rights<T: PermTables, const N: usize>(
+    rt: &(impl Print + Eprint + CpuClock),
+    machine: &mut Supervisor<T, N>,
+    modules: u32,
+    rounds: u64,
+) -> io::Result<()>
+    requires { IsAtRest 0 1 (parts_of T.kind T.maps T.size T.limits N machine.old) }
+    ensures { IsAtRest 0 1 (parts_of T.kind T.maps T.size T.limits N machine.new) }
+{
+    let begun = rt.thread_cpu_time()?;
+    let granted = calls::grants_done(machine, modules, rounds);
+    let between = rt.thread_cpu_time()?;
+    let small = calls::blocks_ended(machine, 16, rounds);
+    let ended = rt.thread_cpu_time()?;
+    let large = calls::blocks_ended(machine, 1024, rounds / 64);
+    let last = rt.thread_cpu_time()?;
+    println!(rt; "grant of a word: {granted} done")?;
+    tell(rt, "grant of a word", rounds, begun, between)?;
+    println!(rt; "alloc and free of 16 words: {small} ended")?;
+    tell(rt, "alloc and free of 16 words", rounds, between, ended)?;
+    println!(rt; "alloc and free of 1024 words: {large} ended")?;
+    tell(rt, "alloc and free of 1024 words", rounds / 64, ended, last)
+}
+
+/// A transfer of a word, a query and a self.
+fn time_others<T: PermTables, const N: usize>(
+    rt: &(impl Print + Eprint + CpuClock),
+    machine: &mut Supervisor<T, N>,
+    rounds: u64,
+) -> io::Result<()>
+    requires { IsAtRest 0 1 (parts_of T.kind T.maps T.size T.limits N machine.old) }
+{
+    let begun = rt.thread_cpu_time()?;
+    let given = calls::transfers_done(machine, rounds);
+    let between = rt.thread_cpu_time()?;
+    let asked = calls::queries_answered(machine, rounds);
+    let ended = rt.thread_cpu_time()?;
+    let told = calls::selves_told(machine, rounds);
+    let last = rt.thread_cpu_time()?;
+    println!(rt; "transfer of a word: {given} done")?;
+    tell(rt, "transfer of a word", rounds, begun, between)?;
+    println!(rt; "query: {asked} answered")?;
+    tell(rt, "query", rounds, between, ended)?;
+    println!(rt; "self: {told} answered")?;
+    tell(rt, "self", rounds, ended, last)
 }
 
 /// One line of costs.

@@ -44,7 +44,7 @@ fn main(rt: HostRuntime) -> ExitCode {
 
 /// All replays. The answer is whether none differed.
 fn kinds(rt: &impl Print, alloc: Global) -> io::Result<bool> {
-    Ok(segments(rt, alloc)? && multilevel(rt, alloc)? && packed(rt, alloc)?)
+    Ok(segments(rt, alloc)? && multilevel(rt, alloc)? && replay_packed(rt, alloc)?)
 }
 
 /// The replays of segment tables: all need is for leaf frames.
@@ -82,7 +82,7 @@ fn multilevel(rt: &impl Print, alloc: Global) -> io::Result<bool> {
 }
 
 /// The replays of tries with packed entries.
-fn packed(rt: &impl Print, alloc: Global) -> io::Result<bool> {
+fn replay_packed(rt: &impl Print, alloc: Global) -> io::Result<bool> {
     let limit = |upper, leaf, spill| Need { upper, leaf, spill };
     let replays = [
         large(AMPLE),

@@ -64,7 +64,7 @@ pub struct Reading {
 }
 
 /// What is read of a word.
-fn seen<T: PermTables>(tables: &mut T, domain: u32, word: u32) -> Reading
+fn read_word<T: PermTables>(tables: &mut T, domain: u32, word: u32) -> Reading
     requires domain { IsDomain (T.maps tables.old) domain }
     requires word { word < T.size tables.old }
     ensures read { result ≡ reading T.kind (T.maps tables.old) domain word }
@@ -118,8 +118,8 @@ impl<T: PermTables, P: PermTables> Sides<T, P> {
         ensures plain_maps { P.maps self.new.plain ≡ P.maps self.old.plain }
         ensures size { T.size self.new.tables ≡ T.size self.old.tables }
     {
-        let tables = seen(&mut self.tables, domain, word);
-        let plain = seen(&mut self.plain, domain, word);
+        let tables = read_word(&mut self.tables, domain, word);
+        let plain = read_word(&mut self.plain, domain, word);
         self.compared = self.compared.saturating_add(1);
         if tables == plain {
             Ok(())

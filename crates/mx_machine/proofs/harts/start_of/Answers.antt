@@ -1,4 +1,4 @@
-use Rattle.std.proofs.Common.{ap, sym, ◌∙◌, length, replicate, ◌<◌, Option}
+use Rattle.std.proofs.Common.{ap, sym, ◌∙◌, length, replicate, Option}
 use Rattle.std.specs.Prelude.{slice_set}
 use Rattle.std.specs.Option.{option_map_or}
 use Rattle.mx_words.specs.Ranges.{most_words}

@@ -1,4 +1,4 @@
-use Rattle.std.proofs.Common.{◌≡◌, ℕ, length, sym, subst}
+use Rattle.std.proofs.Common.{◌≡◌, ℕ, length, subst}
 use Rattle.mx_model.specs.Reads.{map_in}
 use Rattle.mx_model.specs.State.{Flat}
 use Rattle.mx_model.specs.Valid.{IsModule}

@@ -5,12 +5,12 @@ use Rattle.mx_words.specs.declared.tables.Need.{Need}
 use Rattle.mx_model.specs.State.{Core}
 use Rattle.mx_report.specs.declared.closing.Options.{Options}
 use Rattle.mx_report.specs.Lines.{end_line}
-use Rattle.mx_report.specs.Texts.{Told, closing_of, tables_asked}
+use Rattle.mx_report.specs.Texts.{Told, closing_of, asked_lines}
 use Rattle.mx_report.proofs.PassLaws.{passes_same, passes_next, passes_stop, passes_last}
 use Rattle.mx_report.proofs.closing.put_closing.Goals as goal
 
-asked_same : (options : Options) (k l : Kind) (n o : Need) (c : Core) (t : Told) → k ≡ l → n ≡ o → tables_asked options k n c t ≡ tables_asked options l o c t
-asked_same options k l n o c t e f = ap (λ (x : Kind). tables_asked options x n c t) e ∙ ap (λ (x : Need). tables_asked options l x c t) f
+asked_same : (options : Options) (k l : Kind) (n o : Need) (c : Core) (t : Told) → k ≡ l → n ≡ o → asked_lines options k n c t ≡ asked_lines options l o c t
+asked_same options k l n o c t e f = ap (λ (x : Kind). asked_lines options x n c t) e ∙ ap (λ (x : Need). asked_lines options l x c t) f
 
 pub returns-in_err-put_end : goal.returns-in_err-put_end
 unfolding closing_of
@@ -40,14 +40,7 @@ returns-in_err-put_owners g c =
     rw (p.1, p.2)
     ((passes_next (passes_same (ap (λ n. end_line n c.args.end) c.steps.ensures) c.in_ok-put_end.ensures) (passes_next (c.in_ok-put_harts.ensures) (passes_next (c.in_ok-put_domains.ensures) (passes_stop _ _ (c.in_err-put_owners.ensures))))))
 
-pub returns-in_err-put_asked_tables : goal.returns-in_err-put_asked_tables
-unfolding closing_of
-returns-in_err-put_asked_tables g c =
-    let p = err_from_is_err_and c.from_residual-in_err-put_asked_tables.result c.from_residual-in_err-put_asked_tables.ensures.1 in
-    rw (p.1, p.2)
-    ((passes_next (passes_same (ap (λ n. end_line n c.args.end) c.steps.ensures) c.in_ok-put_end.ensures) (passes_next (c.in_ok-put_harts.ensures) (passes_next (c.in_ok-put_domains.ensures) (passes_next (c.in_ok-put_owners.ensures) (passes_stop _ _ (passes_same (asked_same c.args.options _ _ _ _ _ _ c.requires.kind c.requires.limit) c.in_err-put_asked_tables.ensures)))))))
-
 pub returns : goal.returns
 unfolding closing_of
 returns g c =
-    (passes_next (passes_same (ap (λ n. end_line n c.args.end) c.steps.ensures) c.in_ok-put_end.ensures) (passes_next (c.in_ok-put_harts.ensures) (passes_next (c.in_ok-put_domains.ensures) (passes_next (c.in_ok-put_owners.ensures) (passes_next (passes_same (asked_same c.args.options _ _ _ _ _ _ c.requires.kind c.requires.limit) c.in_ok-put_asked_tables.ensures) (passes_last c.put_asked_counts.ensures))))))
+    (passes_next (passes_same (ap (λ n. end_line n c.args.end) c.steps.ensures) c.in_ok-put_end.ensures) (passes_next (c.in_ok-put_harts.ensures) (passes_next (c.in_ok-put_domains.ensures) (passes_next (c.in_ok-put_owners.ensures) (passes_last (passes_same (asked_same c.args.options _ _ _ _ _ _ c.requires.kind c.requires.limit) c.put_asked.ensures))))))

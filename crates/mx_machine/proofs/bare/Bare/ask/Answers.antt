@@ -1,4 +1,4 @@
-use Rattle.std.proofs.Common.{rules, ◌≡◌, ℕ, ◌<◌, true, length, refl, ap, sym, subst, ◌∙◌}
+use Rattle.std.proofs.Common.{rules, ◌≡◌, ◌<◌, true, length, refl, ap, sym, subst, ◌∙◌}
 use Rattle.mx_table.specs.Tables.{IsDomain}
 use Rattle.mx_words.specs.Announced.{is_announced}
 use Rattle.mx_check.specs.Calls.{is_ready}

@@ -1,8 +1,7 @@
-use Rattle.std.proofs.Common.{◌≡◌, ◌<◌, sym, subst, ◌∙◌, arith}
+use Rattle.std.proofs.Common.{sym, subst, ◌∙◌, arith}
 use Rattle.mx_core.specs.declared.outcome.Outcome.{Outcome}
 use Rattle.mx_core.specs.declared.outcome.Outcome.TheVariants as O
 use Rattle.mx_core.specs.Exec.{HasCause}
-use Rattle.mx_machine.specs.Deeds.{outcome_for}
 use Rattle.mx_machine.specs.Harts.{hart_of}
 use Rattle.mx_machine.proofs.DeedLaws.{may-look}
 use Rattle.mx_machine.proofs.InstructLaws.{fits-instruction, from-instruction, made-next, runs-instruction}

@@ -1,6 +1,6 @@
-use Rattle.std.proofs.Common.{◌≡◌, Bool, true, false, refl, sym, ap, ◌∙◌, Option, Some, None}
+use Rattle.std.proofs.Common.{◌≡◌, true, false, refl, sym, ◌∙◌, Option, Some, None}
 use Rattle.std.specs.Prelude.{is_some}
-use Rattle.mx_check.specs.Harts.{Kept, leaves_domain}
+use Rattle.mx_check.specs.Harts.{leaves_domain}
 use Rattle.mx_check.specs.Harts.{halts as counts_as_halted}
 use Rattle.mx_model.specs.declared.values.Frame.{Frame}
 use Rattle.mx_model.specs.Gates.{top}

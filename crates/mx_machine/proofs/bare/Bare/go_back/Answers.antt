@@ -1,10 +1,9 @@
-use Rattle.std.proofs.Common.{◌≡◌, ℕ, sym, subst, ◌∙◌, ap, Option}
+use Rattle.std.proofs.Common.{sym, ◌∙◌, ap}
 use Rattle.std.specs.Prelude.{option_map}
 use Rattle.mx_model.specs.declared.values.Frame.{Frame}
 use Rattle.mx_model.specs.Gates.{top}
 use Rattle.mx_machine.specs.Harts.{hart_of}
 use Rattle.mx_machine.specs.Held.{Held}
-use Rattle.mx_machine.specs.Made.{IsMade}
 use Rattle.mx_machine.proofs.ReturnLaws.{back-none, back-other, back-same}
 use Rattle.mx_machine.proofs.bare.Bare.go_back.Goals as goal
 

@@ -1,4 +1,4 @@
-use Rattle.std.proofs.Common.{rules, ◌≡◌, ℕ, ◌<◌, true, None, length, sym, ap, subst, ◌∙◌}
+use Rattle.std.proofs.Common.{rules, ◌≡◌, ℕ, ◌<◌, length, sym, ap, subst, ◌∙◌}
 use Rattle.mx_check.specs.Harts.{hart_at}
 use Rattle.mx_machine.specs.Deeds.{halted_first}
 use Rattle.mx_machine.specs.Halting.{halted_at}

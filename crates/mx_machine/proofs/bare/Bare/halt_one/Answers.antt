@@ -1,5 +1,5 @@
-use Rattle.std.proofs.Common.{rules, ◌≡◌, ◌<◌, Bool, true, false, cond, List, None, length, refl, sym, ap, subst, ◌∙◌}
-use Rattle.mx_check.specs.Harts.{Kept, at_hart, hart_at}
+use Rattle.std.proofs.Common.{rules, ◌≡◌, ◌<◌, Bool, true, false, cond, None, length, sym, ap, subst, ◌∙◌}
+use Rattle.mx_check.specs.Harts.{at_hart, hart_at}
 use Rattle.mx_check.specs.Harts.{halts as counts_as_halted}
 use Rattle.mx_machine.specs.Harts.{hart_of, is_halted}
 use Rattle.mx_machine.specs.Held.{Held}

@@ -1,8 +1,8 @@
-use Rattle.std.proofs.Common.{◌≡◌, ℕ, true, false, sym, subst, ◌∙◌, ap, arith, get_or, Option, Some, None}
+use Rattle.std.proofs.Common.{ℕ, false, sym, subst, ◌∙◌, ap, arith, get_or}
 use Rattle.mx_machine.specs.Harts.{hart_of}
 use Rattle.mx_machine.specs.Held.{Held}
 use Rattle.mx_machine.specs.Made.{IsMade}
-use Rattle.mx_machine.proofs.CaseLaws.{doing-dead, doing-gate, doing-plain, doing-return, gate_here, target-domain}
+use Rattle.mx_machine.proofs.CaseLaws.{doing-dead, doing-gate, doing-plain, doing-return, target-domain}
 use Rattle.mx_machine.proofs.bare.Bare.run.Goals as goal
 
 pub gate-requires : goal.gate-requires

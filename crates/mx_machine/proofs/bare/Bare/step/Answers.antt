@@ -1,4 +1,4 @@
-use Rattle.std.proofs.Common.{◌≡◌, sym, subst, ◌∙◌, ap, refl}
+use Rattle.std.proofs.Common.{sym, subst, ◌∙◌, ap, refl}
 use Rattle.mx_model.specs.Events.{Events}
 use Rattle.mx_model.specs.Run.{flat_made}
 use Rattle.mx_model.specs.declared.values.TurnKind.TheVariants as T

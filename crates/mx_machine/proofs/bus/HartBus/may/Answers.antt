@@ -1,5 +1,4 @@
-use Rattle.std.proofs.Common.{◌≡◌, length}
-use Rattle.mx_table.specs.Tables.{map_of, IsDomain}
+use Rattle.mx_table.specs.Tables.{map_of}
 use Rattle.mx_machine.proofs.BusLaws.{answer-alike, allowed-inside}
 use Rattle.mx_machine.proofs.bus.HartBus.may.Goals as goal
 

@@ -1,4 +1,4 @@
-use Rattle.std.proofs.Common.{◌≡◌, ap, get_or, ◌∙◌}
+use Rattle.std.proofs.Common.{ap, get_or, ◌∙◌}
 use Rattle.mx_machine.specs.declared.hart.Hart.{Hart}
 use Rattle.mx_machine.specs.Harts.{hart_of}
 use Rattle.mx_machine.specs.Steps.{instructed, regs_left}

@@ -1,4 +1,4 @@
-use Rattle.std.proofs.Common.{◌≡◌, ℕ, true, List, length, refl, sym, ap, subst, ◌∙◌, Option, None}
+use Rattle.std.proofs.Common.{◌≡◌, ℕ, true, List, refl, sym, ap, subst, ◌∙◌, None}
 use Rattle.mx_check.specs.Harts.{hart_at}
 use Rattle.mx_supervisor.specs.Parts.{Parts, parts_of}
 use Rattle.mx_machine.specs.declared.hart.Hart.{Hart}

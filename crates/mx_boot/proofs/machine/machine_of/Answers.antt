@@ -1,0 +1,27 @@
+use Rattle.std.proofs.Common.{rules, ◌∙◌, ap}
+use Rattle.mx_machine.specs.Starts.{started}
+use Rattle.mx_boot.specs.Joined.{boot_parts}
+use Rattle.mx_boot.specs.Laid.{start_of}
+use Rattle.mx_boot.specs.Starting.{hart_starts}
+use Rattle.mx_boot.proofs.Ready.{ready}
+use Rattle.mx_boot.proofs.Starting.{boots-as}
+use Rattle.mx_boot.proofs.machine.machine_of.Goals as goal
+
+pub new-requires : goal.new-requires
+new-requires g c =
+    let starts = c.starts-starts.ensures (start_of c.args.plan.now c.args.images.now) (c.as_slice.ensures.value ∙ c.requires.layout.starts) in (
+      search rules,
+      (
+        search rules,
+        ready c.args.plan.now c.args.images.now c.in_range.ensures c.requires.layout.faultless _ c.starts-starts.result c.stacks-stacks.result
+            c.requires.parts starts c.stacks-stacks.ensures,
+      ),
+    )
+
+pub returns : goal.returns
+returns g c =
+    let plan = c.args.plan.now in
+    let images = c.args.images.now in
+    let starts = c.starts-starts.ensures (start_of plan images) (c.as_slice.ensures.value ∙ c.requires.layout.starts) in
+    c.new.ensures ∙ ap (λ p. started p c.starts-starts.result c.stacks-stacks.result) c.requires.parts ∙ ap (λ s. started (boot_parts plan images) s c.stacks-stacks.result) starts
+    ∙ ap (started (boot_parts plan images) (hart_starts plan images)) c.stacks-stacks.ensures ∙ boots-as plan images c.in_range.ensures c.requires.layout.faultless

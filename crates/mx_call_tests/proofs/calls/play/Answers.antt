@@ -1,0 +1,22 @@
+use Rattle.std.proofs.Common.{refl, sym, ◌∙◌}
+use Rattle.mx_supervisor.specs.Parts.{parts_of}
+use Rattle.mx_call_tests.proofs.RestLaws.{few-harts, may-other}
+use Rattle.mx_call_tests.proofs.calls.play.Goals as goal
+
+pub serve-requires : goal.serve-requires
+serve-requires g c =
+    let p = parts_of g.T.PermTables.kind g.T.PermTables.maps g.T.PermTables.size g.T.PermTables.limits g.row.N c.args.machine.now in
+    let call = c.args.call.now in
+    rw c.clear.ensures (
+      assumption c,
+      (
+        c.requires.sound,
+        (
+          c.requires.domain,
+          (
+            few-harts call.hart call.domain p c.requires,
+            (may-other p call (sym c.is_announced.ensures ∙ c.if-is_announced.false) c.requires.may, refl),
+          ),
+        ),
+      ),
+    )

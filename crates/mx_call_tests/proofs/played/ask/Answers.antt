@@ -1,0 +1,4 @@
+use Rattle.mx_call_tests.proofs.played.ask.Goals as goal
+
+pub play-requires : goal.play-requires
+play-requires g c = (assumption c, rw c.own_call.ensures c.requires.rest)

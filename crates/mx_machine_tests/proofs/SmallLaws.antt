@@ -1,0 +1,128 @@
+-- Small machines made by hand: their parts belong together, and they may start.
+use Rattle.std.proofs.Common.{◌≡◌, ℕ, zero, suc, ◌+◌, ◌-◌, ◌*◌, ◌%◌, ◌<◌, ◌≤◌, ◌≢◌, ◌⊎◌, inl, inr, List, [], ◌∷◌, ◌++◌, length, get_or, replicate, rules, Ok, Err, if◌then◌else◌, false, refl, sym, ap, subst, ◌∙◌, arith}
+use Rattle.std.specs.Prelude.{All, OnErr, OnOk, is_err, is_ok}
+use Rattle.std.specs.declared.result.Result.{Result}
+use Rattle.std.specs.List.{AllByRecursion}
+use Rattle.std.proofs.lemmas.Bool.{cases_lt}
+use Rattle.std.proofs.lemmas.List.Elements.{All-append}
+use Rattle.std.proofs.lemmas.List.{get_or-replicate, length-append, length-replicate, replicate-append-replicate}
+use Rattle.std.proofs.Math.ListN.{get_or-eq_default}
+use Rattle.std.proofs.Math.Nat.{mul-le-mul_left}
+use Rattle.mx_words.specs.declared.perm.Span.{Span}
+use Rattle.mx_check.specs.Calls.{new_harts}
+use Rattle.mx_heap.specs.HeapState.{HeapState}
+use Rattle.mx_model.specs.declared.values.Gate.{Gate}
+use Rattle.mx_model.specs.Gates.{with_gate, without_gate}
+use Rattle.mx_model.specs.Valid.{IsGate}
+use Rattle.mx_model.proofs.ListLaws.{all-append, all-filter}
+use Rattle.mx_supervisor.specs.Heaps.{heap_at, no_heap, told_heap}
+use Rattle.mx_supervisor.specs.Parts.{Parts, IsSound}
+use Rattle.mx_table.specs.Tables.{IsDomain, IsRow, map_of, no_span}
+use Rattle.mx_machine.specs.declared.starts.HartStart.{HartStart}
+use Rattle.mx_machine.specs.declared.starts.StackArea.{StackArea}
+use Rattle.mx_machine.specs.Starts.{IsStack, IsStart, MayStart}
+use Rattle.mx_machine_tests.specs.Small.{AreLaid, IsBegin, IsPlaced}
+
+-- a row of one span, and of two
+pub row-one : (s : Span) → 0 < s.count → s.first + s.count ≤ 16384 → IsRow 16384 (s ∷ [])
+row-one s some inside = record { some = λ i l. count i l; sorted = λ i l. absurd (omega (arith, l)); inside = λ i l. end i l }
+  where
+    count : (i : ℕ) → i < 1 → 0 < (get_or (s ∷ []) i no_span).count
+    count zero l = some
+    count (suc i) l = absurd (omega (arith, l))
+
+    end : (i : ℕ) → i < 1 → (get_or (s ∷ []) i no_span).first + (get_or (s ∷ []) i no_span).count ≤ 16384
+    end zero l = inside
+    end (suc i) l = absurd (omega (arith, l))
+
+pub row-two : (s t : Span) → 0 < s.count → 0 < t.count → s.first + s.count ≤ t.first → t.first + t.count ≤ 16384 → IsRow 16384 (s ∷ t ∷ [])
+row-two s t some more apart inside = record { some = λ i l. count i l; sorted = λ i l. order i l; inside = λ i l. end i l }
+  where
+    count : (i : ℕ) → i < 2 → 0 < (get_or (s ∷ t ∷ []) i no_span).count
+    count zero l = some
+    count (suc zero) l = more
+    count (suc (suc i)) l = absurd (omega (arith, l))
+
+    order : (i : ℕ) → i + 1 < 2 → (get_or (s ∷ t ∷ []) i no_span).first + (get_or (s ∷ t ∷ []) i no_span).count ≤ (get_or (s ∷ t ∷ []) (i + 1) no_span).first
+    order zero l = apart
+    order (suc i) l = absurd (omega (arith, l))
+
+    end : (i : ℕ) → i < 2 → (get_or (s ∷ t ∷ []) i no_span).first + (get_or (s ∷ t ∷ []) i no_span).count ≤ 16384
+    end zero l = omega (arith, apart, inside)
+    end (suc zero) l = inside
+    end (suc (suc i)) l = absurd (omega (arith, l))
+
+-- no heap has an area
+no-heap-at : (n d : ℕ) → heap_at (replicate n no_heap) d ≡ no_heap
+no-heap-at n d = by (cases_lt (d - 1) n)
+  where
+    by : (d - 1 < n) ⊎ (n ≤ d - 1) → heap_at (replicate n no_heap) d ≡ no_heap
+    by (inl l) = get_or-replicate n (d - 1) no_heap no_heap l
+    by (inr l) = get_or-eq_default (replicate n no_heap) no_heap (subst (λ k. k ≤ d - 1) (sym (length-replicate n no_heap)) l)
+
+pub no-heap-more : (n : ℕ) → replicate n no_heap ++ no_heap ∷ [] ≡ replicate (n + 1) no_heap
+no-heap-more n = replicate-append-replicate n 1 no_heap
+
+-- what holds of all of a list, where it follows from what holds of all
+pub all-weaker : {X : Type 0} (P Q : X → Type 0) (xs : List X) → ((x : X) → P x → Q x) → AllByRecursion P xs → AllByRecursion Q xs
+all-weaker P Q [] f h = tt
+all-weaker P Q (x ∷ xs) f h = (f x h.0, all-weaker P Q xs f h.1)
+
+-- gates of so many modules
+pub small-gates : (count modules words : ℕ) (gates : List Gate) → modules ≡ count → words ≡ 16384 → AllByRecursion (IsGate count 16384) gates → AllByRecursion (IsGate modules words) gates
+small-gates count modules words gates maps size h =
+    subst (λ n. AllByRecursion (IsGate n words) gates) (sym maps) (subst (λ n. AllByRecursion (IsGate count n) gates) (sym size) h)
+
+module _ (p : Parts) (count harts : ℕ) (rows : List (List Span)) (stacks : List StackArea)
+    (laid : AreLaid count harts rows p.ram p.owners p.heaps stacks) (size : p.size ≡ 16384) (maps : length p.maps ≡ count) where
+  pub small-sound : count ≤ 63 → ((d : ℕ) → IsDomain p.maps d → length (map_of p.maps d) ≡ p.size) → IsSound p
+  small-sound few whole = record {
+    few_words = omega (arith, size);
+    few_maps = omega (arith, maps, few);
+    maps = whole;
+    ram = omega (arith, size, laid.bytes);
+    owners = laid.words ∙ sym size;
+    heaps = ap (λ (hs : List HeapState). length hs) laid.no_heaps ∙ length-replicate count no_heap ∙ sym maps;
+    areas = λ d. subst (λ (h : HeapState). h.area.first + h.area.count ≤ p.size) (sym (ap (λ (hs : List HeapState). heap_at hs d) laid.no_heaps ∙ no-heap-at count d)) (omega (arith, size));
+  }
+
+  pub small-starts : (starts : List HartStart) → 1 ≤ harts → length starts ≡ harts → p.harts ≡ new_harts harts → AllByRecursion (IsBegin count) starts → MayStart p starts stacks
+  small-starts starts some number new each = record {
+    some_harts = omega (arith, some, number);
+    new = new ∙ ap new_harts (sym number);
+    each = all-weaker (IsBegin count) (IsStart p) starts (λ s b. record { domain = record { first = b.first; last = omega (arith, b.last, maps) }; pc = b.pc }) each;
+    count = laid.one_area ∙ sym maps;
+    areas = subst (λ n. AllByRecursion (IsStack n (length starts)) stacks) (sym size) (subst (λ n. AllByRecursion (IsStack 16384 n) stacks) (sym number) laid.areas);
+  }
+
+-- a list to which an element was appended
+pub pushed : {X A E : Type 0} (r : Result A E) (new old : List X) (x : X) → is_err r ≡ false → new ≡ (if is_ok r then old ++ x ∷ [] else old) → new ≡ old ++ x ∷ []
+pushed (Ok a) new old x e p = p
+pushed (Err a) new old x e p = absurd (let q : ⊥ = cc in q)
+
+-- a module more is laid out
+pub laid-more : (count harts : ℕ) (rows more : List (List Span)) (ram owners ram' owners' : List ℕ) (heaps heaps' : List HeapState) (stacks stacks' : List StackArea)
+    (row : List Span) (heap : HeapState) (stack : StackArea) (first code : ℕ) → AreLaid count harts rows ram owners heaps stacks → IsPlaced first code stack.first stack.words → harts ≤ 4 →
+    IsRow 16384 row → more ≡ rows ++ row ∷ [] → length ram' ≡ 65536 → length owners' ≡ 16384 → heap ≡ record { area = record { first = 0; count = 0 }; blocks = [] } →
+    heaps' ≡ heaps ++ told_heap heap ∷ [] → stacks' ≡ stacks ++ stack ∷ [] → AreLaid (count + 1) harts more ram' owners' heaps' stacks'
+laid-more count harts rows more ram owners ram' owners' heaps heaps' stacks stacks' row heap stack first code laid placed few is_row pushed bytes own empty hs ss = record {
+  one_each = ap (λ (xs : List (List Span)). length xs) pushed ∙ length-append rows (row ∷ []) ∙ ap (λ k. k + 1) laid.one_each;
+  are_rows = subst (λ (xs : List (List Span)). All (IsRow 16384) xs) (sym pushed) (All-append (IsRow 16384) rows (row ∷ []) laid.are_rows (search (rules, is_row)));
+  bytes = bytes;
+  words = own;
+  no_heaps = hs ∙ ap (λ (h : HeapState). heaps ++ told_heap h ∷ []) empty ∙ ap (λ (xs : List HeapState). xs ++ no_heap ∷ []) laid.no_heaps ∙ no-heap-more count;
+  one_area = ap (λ (xs : List StackArea). length xs) ss ∙ length-append stacks (stack ∷ []) ∙ ap (λ k. k + 1) laid.one_area;
+  areas = subst (λ (xs : List StackArea). AllByRecursion (IsStack 16384 harts) xs) (sym ss)
+      (all-append (IsStack 16384 harts) stacks stack laid.areas (inr (omega (arith, placed.within, mul-le-mul_left {m = harts} {n = 4} stack.words few))));
+}
+
+-- a gate more, or the same gates
+pub gates-more : {A E : Type 0} (r : Result A E) (modules : ℕ) (old new : List Gate) (g : Gate) → AllByRecursion (IsGate modules 16384) old → IsGate modules 16384 g →
+    OnOk r (new ≡ with_gate g old) → OnErr r (new ≡ old) → AllByRecursion (IsGate modules 16384) new
+gates-more (Ok x) modules old new g all is a b =
+    subst (λ (gs : List Gate). AllByRecursion (IsGate modules 16384) gs) (sym a) (all-append (IsGate modules 16384) (without_gate g.domain g.word old) g (all-filter (IsGate modules 16384) _ old all) is)
+gates-more (Err x) modules old new g all is a b = subst (λ (gs : List Gate). AllByRecursion (IsGate modules 16384) gs) (sym b) all
+
+pub some-there : (n : ℕ) → n ≢ 0 → 1 ≤ n
+some-there zero ne = absurd (ne refl)
+some-there (suc n) ne = omega arith

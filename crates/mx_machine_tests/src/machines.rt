@@ -1,0 +1,293 @@
+//! Worked examples of turns, on machines made by hand.
+
+use crate::small::{Module, Small, machine};
+use mx_machine::{HartStart, HartStatus, HartView, StackArea};
+use mx_model::{Events, Fault, Gate, Note, TurnKind};
+use mx_words::Perm;
+use std::alloc::Global;
+use std::test::Fail;
+
+/// A machine with what its turns told.
+#[derive(Drop)]
+pub struct Played {
+    pub machine: Small,
+    pub notes: Vec<Note>,
+    pub console: Vec<u8>,
+}
+
+/// One turn of a hart, while there is a number for it.
+pub fn turn(machine: &mut Small, hart: u32, out: &mut Events) -> TurnKind {
+    if machine.steps() == u64::MAX {
+        return TurnKind::Idle;
+    }
+    machine.step(hart, out)
+}
+
+impl Played {
+    /// Makes a turn, and keeps what it tells.
+    pub fn turn(&mut self, hart: u32, out: &mut Events) -> Result<(), Fail> {
+        turn(&mut self.machine, hart, out);
+        if let Some(note) = out.note() {
+            self.notes.push(note)?;
+        }
+        for i in 0..out.len() {
+            self.console.push(out.byte(i))?;
+        }
+        Ok(())
+    }
+
+    /// Makes so many turns, of the harts one after another.
+    fn turns(&mut self, count: u32) -> Result<(), Fail> {
+        let mut out = Events::new();
+        let harts = self.machine.harts();
+        if harts == 0 {
+            return Err("no hart")?;
+        }
+        for i in 0..count {
+            self.turn(i % harts, &mut out)?;
+        }
+        Ok(())
+    }
+}
+
+/// A machine of these modules, gates and starts after so many turns.
+pub fn play(
+    alloc: Global,
+    modules: &[Module],
+    gates: &[Gate],
+    starts: &[HartStart],
+    turns: u32,
+) -> Result<Played, Fail> {
+    let Some(machine) = machine(alloc, modules, gates, starts) else {
+        return Err("no machine")?;
+    };
+    let mut played = Played {
+        machine,
+        notes: Vec::new(alloc),
+        console: Vec::new(alloc),
+    };
+    played.turns(turns)?;
+    Ok(played)
+}
+
+/// A module with execute and read on its words, and no stack area.
+pub fn code(first: u32, words: &[u32]) -> Module {
+    Module {
+        first,
+        words,
+        perm: Perm::ExecuteRead,
+        stack: StackArea::default(),
+    }
+}
+
+/// A start in a domain.
+pub fn start(domain: u32, pc: u32) -> HartStart {
+    HartStart { domain, pc }
+}
+
+/// A note of a fault.
+pub fn fault(step: u64, hart: u32, domain: u32, pc: u32, cause: u32, value: u32) -> Note {
+    Note::Fault {
+        step,
+        hart,
+        domain,
+        pc,
+        fault: Fault { cause, value },
+    }
+}
+
+/// Registers of which these aren't zero.
+pub fn regs(values: &[(usize, u32)]) -> [u32; 32] {
+    let mut regs = [0; 32];
+    for (r, value) in values {
+        if *r < 32 {
+            regs[*r] = *value;
+        }
+    }
+    regs
+}
+
+/// A hart as it stands, where there is one.
+pub fn hart(machine: &Small, hart: u32) -> Option<HartView> {
+    if hart < machine.harts() {
+        Some(machine.hart(hart))
+    } else {
+        None
+    }
+}
+
+/// A halted hart in domain 1 without frames.
+fn halted(pc: u32, values: &[(usize, u32)]) -> Option<HartView> {
+    Some(HartView {
+        status: HartStatus::Halted,
+        domain: 1,
+        pc,
+        frames: 0,
+        regs: regs(values),
+    })
+}
+
+#[test]
+fn a_store_into_code_faults_and_changes_no_byte(rt: HostRuntime) -> Result<(), Fail> {
+    let words = [0x0000_0097, 0x0000_A023];
+    let played = play(
+        rt.alloc(),
+        &[code(0, &words)],
+        &[],
+        &[start(1, 0x8000_0000)],
+        5,
+    )?;
+    assert_eq!(rt;
+        played.notes.as_slice(),
+        [fault(2, 0, 1, 0x8000_0004, 7, 0x8000_0000)].as_slice()
+    );
+    assert_eq!(rt; hart(&played.machine, 0), halted(0x8000_0004, &[(1, 0x8000_0000)]));
+    let mut bytes = [0; 8];
+    for i in 0..8 {
+        if i < 4 * played.machine.words() {
+            bytes[i as usize] = played.machine.byte(i);
+        }
+    }
+    assert_eq!(rt; bytes, [0x97, 0, 0, 0, 0x23, 0xA0, 0, 0]);
+    Ok(())
+}
+
+#[test]
+fn a_branch_faults_at_a_target_that_is_no_multiple_of_4(rt: HostRuntime) -> Result<(), Fail> {
+    let words = [0x0002_9363, 0x0012_8293, 0xFF9F_F06F];
+    let played = play(
+        rt.alloc(),
+        &[code(0, &words)],
+        &[],
+        &[start(1, 0x8000_0000)],
+        10,
+    )?;
+    assert_eq!(rt;
+        played.notes.as_slice(),
+        [fault(4, 0, 1, 0x8000_0000, 0, 0x8000_0006)].as_slice()
+    );
+    assert_eq!(rt; hart(&played.machine, 0), halted(0x8000_0000, &[(5, 1)]));
+    Ok(())
+}
+
+#[test]
+fn a_misaligned_load_faults_before_protection(rt: HostRuntime) -> Result<(), Fail> {
+    let words = [0x0010_1303];
+    let played = play(
+        rt.alloc(),
+        &[code(0, &words)],
+        &[],
+        &[start(1, 0x8000_0000)],
+        5,
+    )?;
+    assert_eq!(rt; played.notes.as_slice(), [fault(1, 0, 1, 0x8000_0000, 4, 1)].as_slice());
+    assert_eq!(rt; hart(&played.machine, 0), halted(0x8000_0000, &[]));
+    Ok(())
+}
+
+/// Module `a` calls module `b`, which loads x2 and x8 and returns by this word.
+fn called_and_left_by(alloc: Global, word: u32) -> Result<Played, Fail> {
+    let a = [0x8000_12B7, 0x0002_80E7, 0x0010_0073, 0x0010_0073];
+    let b = [0x0070_0113, 0x0090_0413, word];
+    let gates = [
+        Gate {
+            domain: 1,
+            word: 1024,
+            target: 2,
+        },
+        Gate {
+            domain: 2,
+            word: 1026,
+            target: 2,
+        },
+    ];
+    play(
+        alloc,
+        &[code(0, &a), code(1024, &b)],
+        &gates,
+        &[start(1, 0x8000_0000)],
+        10,
+    )
+}
+
+#[test]
+fn a_return_to_another_address_faults(rt: HostRuntime) -> Result<(), Fail> {
+    let elsewhere = called_and_left_by(rt.alloc(), 0x0040_8067)?;
+    let notes = [
+        fault(6, 0, 2, 0x8000_1008, 17, 0x8000_000C),
+        fault(7, 0, 1, 0x8000_0008, 3, 0x8000_0008),
+    ];
+    assert_eq!(rt; elsewhere.notes.as_slice(), notes.as_slice());
+    let values = [(1, 0x8000_0008), (5, 0x8000_1000), (10, 0xFFFF_FF11)];
+    assert_eq!(rt; hart(&elsewhere.machine, 0), halted(0x8000_0008, &values));
+    Ok(())
+}
+
+#[test]
+fn a_return_to_the_address_behind_the_call_goes_on(rt: HostRuntime) -> Result<(), Fail> {
+    let back = called_and_left_by(rt.alloc(), 0x0000_8067)?;
+    let notes = [fault(7, 0, 1, 0x8000_0008, 3, 0x8000_0008)];
+    assert_eq!(rt; back.notes.as_slice(), notes.as_slice());
+    let values = [(1, 0x8000_0008), (5, 0x8000_1000)];
+    assert_eq!(rt; hart(&back.machine, 0), halted(0x8000_0008, &values));
+    Ok(())
+}
+
+#[test]
+fn a_call_into_a_dead_module_is_sent_back(rt: HostRuntime) -> Result<(), Fail> {
+    let a = [0x8000_12B7, 0x0002_80E7, 0x0002_80E7, 0x0010_0073];
+    let kills = StackArea {
+        first: 0,
+        words: 0,
+        kills: true,
+    };
+    let modules = [
+        code(0, &a),
+        Module {
+            stack: kills,
+            ..code(1024, &[0x0010_0073])
+        },
+    ];
+    let gate = Gate {
+        domain: 1,
+        word: 1024,
+        target: 2,
+    };
+    let played = play(
+        rt.alloc(),
+        &modules,
+        &[gate],
+        &[start(1, 0x8000_0000)],
+        20,
+    )?;
+    let notes = [
+        fault(4, 0, 2, 0x8000_1000, 3, 0x8000_1000),
+        fault(7, 0, 1, 0x8000_000C, 3, 0x8000_000C),
+    ];
+    assert_eq!(rt; played.notes.as_slice(), notes.as_slice());
+    let values = [(1, 0x8000_000C), (5, 0x8000_1000), (10, 0xFFFF_FF14)];
+    assert_eq!(rt; hart(&played.machine, 0), halted(0x8000_000C, &values));
+    Ok(())
+}
+
+#[test]
+fn a_second_hart_in_a_dead_domain_faults(rt: HostRuntime) -> Result<(), Fail> {
+    let kills = StackArea {
+        first: 0,
+        words: 0,
+        kills: true,
+    };
+    let module = Module {
+        stack: kills,
+        ..code(0, &[0x0010_0073])
+    };
+    let starts = [start(1, 0x8000_0000), start(1, 0x8000_0000)];
+    let played = play(rt.alloc(), &[module], &[], &starts, 10)?;
+    let notes = [
+        fault(1, 0, 1, 0x8000_0000, 3, 0x8000_0000),
+        fault(2, 1, 1, 0x8000_0000, 20, 0x8000_0000),
+    ];
+    assert_eq!(rt; played.notes.as_slice(), notes.as_slice());
+    assert_eq!(rt; played.machine.all_halted(), true);
+    Ok(())
+}
