@@ -1,0 +1,107 @@
+-- Examples of the definitions that compute: words, what is done next, findings and lines of refusals.
+use Rattle.std.proofs.Common.{◌≡◌, [], ◌∷◌, true, codes, Some, None, refl, inl, inr, arith}
+use Rattle.std.specs.Fmt.{digits}
+use Rattle.mx_io.specs.Answer.{Sized, Gave}
+use Rattle.mx_run.specs.declared.status.FileRole.TheVariants.{Source}
+use Rattle.mx_run.specs.declared.status.Status.TheVariants.{Usage, ShortFile, AsmFault}
+use Rattle.mx_run.specs.Words.{Run, Asm, plain_order, meaning}
+use Rattle.mx_run.specs.Finding.{Large, Short, Whole, Finds}
+use Rattle.mx_run.specs.Outcome.{Read, End, next, refusal, source_file, manifest_file}
+use Rattle.mx_run.specs.Manifest.{file_fault}
+use Rattle.mx_run.specs.Refusal.{refused_line, fault_text, place_text, detail_text, tables_full_line, short_file_line, asm_fault_line}
+
+-- words with a meaning, and words without
+words_run : meaning (codes "run" ∷ codes "first.toml" ∷ codes "0010" ∷ []) ≡ Some (Run (plain_order (codes "first.toml") 10))
+words_run = refl
+
+words_options : meaning (codes "run" ∷ codes "first.toml" ∷ codes "7" ∷ codes "--counts" ∷ codes "--schedule" ∷ codes "s" ∷ codes "--dump" ∷ [])
+    ≡ Some (Run (record (plain_order (codes "first.toml") 7) { schedule = Some (codes "s"); dump = true; counts = true }))
+words_options = refl
+
+words_twice : meaning (codes "run" ∷ codes "first.toml" ∷ codes "7" ∷ codes "--dump" ∷ codes "--tables" ∷ codes "--dump" ∷ []) ≡ None
+words_twice = refl
+
+words_no_name : meaning (codes "run" ∷ codes "first.toml" ∷ codes "7" ∷ codes "--schedule" ∷ []) ≡ None
+words_no_name = refl
+
+words_long_number : meaning (codes "run" ∷ codes "first.toml" ∷ codes "99999999999" ∷ []) ≡ None
+words_long_number = refl
+
+words_option : meaning (codes "run" ∷ codes "-x" ∷ codes "1" ∷ []) ≡ None
+words_option = refl
+
+words_asm : meaning (codes "asm" ∷ codes "a.s" ∷ []) ≡ Some (Asm (codes "a.s"))
+words_asm = refl
+
+-- what is done next: nothing is read for words without meaning, a source is read once, and what was found decides
+next_usage : next None [] ≡ End (refusal [] Usage)
+next_usage = refl
+
+next_source : next (Some (Asm (codes "a.s"))) [] ≡ Read (source_file (codes "a.s"))
+next_source = refl
+
+next_manifest : next (Some (Run (plain_order (codes "first.toml") 10))) [] ≡ Read (manifest_file (codes "first.toml"))
+next_manifest = refl
+
+next_short : next (Some (Asm (codes "a.s"))) (Short 10 4 ∷ []) ≡ End (refusal (codes "a.s") (ShortFile Source 10 4))
+next_short = refl
+
+next_large : next (Some (Asm (codes "a.s"))) (Large ∷ []) ≡ End (refusal (codes "a.s") (AsmFault 0 11))
+next_large = refl
+
+-- a file of three bytes in two parts, and one that ended after two of them
+finds_whole : Finds 9 (codes "f") (Sized (codes "f") (Some (Some 3)) ∷ Gave (codes "f") 0 3 (Some (7 ∷ 8 ∷ [])) ∷ Gave (codes "f") 2 1 (Some (9 ∷ [])) ∷ []) (Whole (7 ∷ 8 ∷ 9 ∷ []))
+finds_whole = (
+  Some (Some 3),
+  refl,
+  inr (
+    omega arith,
+    (
+      omega arith,
+      Some (7 ∷ 8 ∷ []),
+      refl,
+      inl (
+        7 ∷ 8 ∷ [],
+        refl,
+        omega arith,
+        (omega arith, Some (9 ∷ []), refl, inl (9 ∷ [], refl, omega arith, (refl, refl))),
+      ),
+    ),
+  ),
+)
+
+finds_short : Finds 9 (codes "f") (Sized (codes "f") (Some (Some 3)) ∷ Gave (codes "f") 0 3 (Some (7 ∷ 8 ∷ [])) ∷ Gave (codes "f") 2 1 (Some []) ∷ []) (Short 3 2)
+finds_short = (
+  Some (Some 3),
+  refl,
+  inr (
+    omega arith,
+    (
+      omega arith,
+      Some (7 ∷ 8 ∷ []),
+      refl,
+      inl (
+        7 ∷ 8 ∷ [],
+        refl,
+        omega arith,
+        (omega arith, Some [], refl, inr (refl, refl)),
+      ),
+    ),
+  ),
+)
+
+refused_example : refused_line (file_fault 9) ≡ codes "refused fault=9 at=manifest key=- detail=0\n"
+unfolding refused_line fault_text place_text detail_text digits
+refused_example = refl
+
+full_example : tables_full_line (record { upper = 2; leaf = 1; spill = 0 }) (record { upper = 128; leaf = 0; spill = 4096 }) ≡ codes "tables full upper=2/128 leaf=1/0 spill=0/4096\n"
+unfolding tables_full_line digits
+full_example = refl
+
+short_example : short_file_line (codes "first.toml") 10 4 ≡ codes "short file first.toml told=10 got=4\n"
+unfolding short_file_line digits
+short_example = refl
+
+asm_example : asm_fault_line 2 1 ≡ codes "asm line=2 fault=1\n"
+unfolding asm_fault_line digits
+asm_example = refl
