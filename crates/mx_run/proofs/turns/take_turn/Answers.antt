@@ -1,0 +1,11 @@
+use Rattle.mx_run.proofs.RunTexts.{turn_next}
+use Rattle.mx_run.proofs.turns.take_turn.Goals as goal
+
+pub returns-clause-next : goal.returns-clause-next
+returns-clause-next g c = turn_next c.args.machine.now c.step.new.self c.args.hart c.step.ensures.turn
+
+pub returns-clause-turn : goal.returns-clause-turn
+returns-clause-turn g c =
+    λ s is.
+    let turn = c.step.ensures.state s is in
+    record { state = turn.turn; bytes = turn.told.bytes; note = turn.told.note }

@@ -1,0 +1,98 @@
+//! The turns of a run. No call takes memory.
+
+ghost use Rattle.std.specs.Prelude.{◌≡◌, ◌+◌, ◌-◌, ◌^◌, ◌<◌};
+ghost use Rattle.mx_io.specs.Sink.{Puts};
+ghost use Rattle.mx_model.specs.Run.{run};
+ghost use Rattle.mx_model.specs.State.{State, flat};
+ghost use Rattle.mx_report.specs.Tail.{Passes};
+ghost use Rattle.mx_run.specs.Running.{schedule_of, HasTurns, Begins, IsNext, IsTurnOf, KeepsShape, MakesOrStops, RunsOrStops, places, note_text};
+
+use crate::pace::{Pace, Schedule, begin, next_hart};
+use crate::status::Status;
+use mx_io::{Failed, Sink};
+use mx_machine::{Machine, machine_is_valid};
+use mx_model::{Events, Note};
+use mx_report::{Tail, put_note};
+use mx_table::PermTables;
+
+/// Makes at most `steps` turns, until the schedule ends or all harts are halted. What the turns add leaves through the buffers.
+pub(crate) fn make_turns<T: PermTables, const N: usize, C: Sink, R: Sink>(
+    steps: u64,
+    schedule: Schedule<'_>,
+    machine: &mut Machine<T, N>,
+    shown: &mut Tail,
+    console: &mut C,
+    told: &mut Tail,
+    report: &mut R,
+) -> Result<(), Status>
+    requires few { steps < 2 ^ 64 - 1 }
+    requires start { machine.old.core.turns ≡ 0 }
+    requires quantum { HasTurns schedule }
+    ensures keeps { KeepsShape machine.old machine.new }
+    ensures runs { (s : State) → Begins s machine.old (places (C.state console.old) shown.old (R.state report.old) told.old)
+        → RunsOrStops (run (schedule_of schedule.entry) steps s) machine.new (places (C.state console.old) shown.old (R.state report.old) told.old)
+            (places (C.state console.new) shown.new (R.state report.new) told.new) result }
+{
+    machine_is_valid(machine);
+    let mut events = Events::new();
+    let mut pace = begin(schedule, machine.harts());
+    'turns: for _step in 0..steps {
+        if machine.all_halted() {
+            return Ok(());
+        }
+        let Some(hart) = next_hart(&mut pace) else {
+            return Ok(());
+        };
+        make_turn(hart, machine, &mut events, shown, console, told, report)?;
+    }
+    Ok(())
+}
+
+/// Makes a turn of the hart of that number. What it adds leaves through the buffers.
+fn make_turn<T: PermTables, const N: usize, C: Sink, R: Sink>(
+    hart: u32,
+    machine: &mut Machine<T, N>,
+    events: &mut Events,
+    shown: &mut Tail,
+    console: &mut C,
+    told: &mut Tail,
+    report: &mut R,
+) -> Result<(), Status>
+    requires { machine.old.core.turns < 2 ^ 64 - 1 }
+    ensures next { IsNext machine.old machine.new }
+    ensures makes { (s : State) → machine.old ≡ flat s
+        → MakesOrStops s hart machine.new (places (C.state console.old) shown.old (R.state report.old) told.old)
+            (places (C.state console.new) shown.new (R.state report.new) told.new) result }
+{
+    take_turn(hart, machine, events);
+    match shown.add(console, events) {
+        Ok(()) => match put_told(told, report, events.note()) {
+            Ok(()) => Ok(()),
+            Err(Failed) => Err(Status::ReportFault),
+        },
+        Err(Failed) => Err(Status::ConsoleFault),
+    }
+}
+
+// A turn of the hart of that number, with what of its contract a run needs.
+fn take_turn<T: PermTables, const N: usize>(
+    hart: u32,
+    machine: &mut Machine<T, N>,
+    events: &mut Events,
+)
+    requires { machine.old.core.turns < 2 ^ 64 - 1 }
+    ensures next { IsNext machine.old machine.new }
+    ensures turn { (s : State) → machine.old ≡ flat s → IsTurnOf s hart machine.new events.new }
+{
+    machine.step(hart, events);
+}
+
+// Puts the line of a note, if there is one, through a buffer.
+fn put_told<R: Sink>(told: &mut Tail, report: &mut R, note: Option<Note>) -> Result<(), Failed>
+    ensures { Passes told.old (R.state report.old) (R.state report.new) told.new (note_text note) result }
+{
+    match note {
+        Some(note) => put_note(told, report, &note),
+        None => Ok(()),
+    }
+}
