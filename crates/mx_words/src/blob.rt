@@ -29,6 +29,14 @@ impl Blob {
         }
     }
 
+    /// The bytes of a vector, at most 2^31, which are not copied.
+    pub fn from_vec(items: Vec<u8>) -> Blob
+        requires { length items.items ≤ 2 ^ 31 }
+        ensures { result ≡ items.items }
+    {
+        Blob { items }
+    }
+
     /// An empty list with memory for `count` bytes.
     pub fn with_capacity(alloc: Global, count: u32) -> Result<Blob, NoMemory>
         ensures { IfOk result (λ blob. blob ≡ []) }
