@@ -31,7 +31,7 @@ pub(crate) fn make_turns<T: PermTables, const N: usize, C: Sink, R: Sink>(
     ensures keeps { KeepsShape machine.old machine.new }
     ensures runs { (s : State) → Begins s machine.old (places (C.state console.old) shown.old (R.state report.old) told.old)
         → RunsOrStops (run (schedule_of schedule.entry) steps s) machine.new (places (C.state console.old) shown.old (R.state report.old) told.old)
-            (places (C.state console.new) shown.new (R.state report.new) told.new) result }
+        (places (C.state console.new) shown.new (R.state report.new) told.new) result }
 {
     machine_is_valid(machine);
     let mut events = Events::new();
@@ -62,7 +62,7 @@ fn make_turn<T: PermTables, const N: usize, C: Sink, R: Sink>(
     ensures next { IsNext machine.old machine.new }
     ensures makes { (s : State) → machine.old ≡ flat s
         → MakesOrStops s hart machine.new (places (C.state console.old) shown.old (R.state report.old) told.old)
-            (places (C.state console.new) shown.new (R.state report.new) told.new) result }
+        (places (C.state console.new) shown.new (R.state report.new) told.new) result }
 {
     take_turn(hart, machine, events);
     match shown.add(console, events) {
