@@ -1,7 +1,6 @@
 //! The command `run`: from a machine that has booted to the end of its run.
 
 ghost use Rattle.std.specs.Prelude.{◌≡◌, ◌≤◌, ◌<◌, ◌^◌, length, map, IfOk};
-ghost use Rattle.mx_boot.specs.Boot.{boot_of};
 ghost use Rattle.mx_boot.specs.Machines.{meaning};
 ghost use Rattle.mx_model.specs.State.{State, flat};
 ghost use Rattle.mx_run.specs.Asked.{order_of};
@@ -29,48 +28,30 @@ pub(crate) fn run_booted<S: Store, C: Sink, R: Sink, D: Sink>(
     alloc: Global,
     order: &Order<'_>,
     plan: &Plan,
-    machine: AnyMachine,
+    machine: &mut AnyMachine,
     store: &mut S,
     console: &mut C,
     report: &mut R,
     dump: &mut D,
 ) -> Status
     requires few { order.now.steps < 10 ^ 10 }
-    requires fresh { IsFresh plan.now (meaning machine) }
-    ensures { (s : State) → IsNew s → meaning machine ≡ flat s
+    requires fresh { IsFresh plan.now (meaning machine.old) }
+    ensures { (s : State) → IsNew s → meaning machine.old ≡ flat s
         → Continues (scheduled (order_of order.now) plan.now s (order_of order.now).schedule) S.gives store.old store.new
-        (sinks (C.state console.old) (R.state report.old) (D.state dump.old))
-        (sinks (C.state console.new) (R.state report.new) (D.state dump.new)) result }
+            (sinks (C.state console.old) (R.state report.old) (D.state dump.old))
+            (sinks (C.state console.new) (R.state report.new) (D.state dump.new)) result }
 {
     let Ok(names) = names(alloc, plan) else {
         return Status::WantOfMemory;
     };
     let Some(name) = order.schedule else {
         let schedule = Schedule::Quantum(plan.quantum());
-        return run_any(
-            order,
-            plan,
-            names.as_slice(),
-            machine,
-            schedule,
-            console,
-            report,
-            dump,
-        );
+        return run_any(order, plan, names.as_slice(), machine, schedule, console, report, dump);
     };
     match take_file(alloc, &schedule_file(name), store, report) {
         Ok(bytes) => {
             let schedule = Schedule::Bytes(bytes.as_slice());
-            run_any(
-                order,
-                plan,
-                names.as_slice(),
-                machine,
-                schedule,
-                console,
-                report,
-                dump,
-            )
+            run_any(order, plan, names.as_slice(), machine, schedule, console, report, dump)
         }
         Err(status) => status,
     }
@@ -95,7 +76,7 @@ fn run_any<C: Sink, R: Sink, D: Sink>(
     order: &Order<'_>,
     plan: &Plan,
     names: &[&str],
-    machine: AnyMachine,
+    machine: &mut AnyMachine,
     schedule: Schedule<'_>,
     console: &mut C,
     report: &mut R,
@@ -104,119 +85,38 @@ fn run_any<C: Sink, R: Sink, D: Sink>(
     requires few { order.now.steps < 10 ^ 10 }
     requires names { map (λ name. name.now) names.now ≡ names_of plan.now }
     requires quantum { HasTurns schedule }
-    requires fresh { IsFresh plan.now (meaning machine) }
-    ensures { (s : State) → IsNew s → meaning machine ≡ flat s → Ends (ran (order_of order.now) plan.now s (schedule_of schedule.entry))
+    requires fresh { IsFresh plan.now (meaning machine.old) }
+    ensures { (s : State) → IsNew s → meaning machine.old ≡ flat s → Ends (ran (order_of order.now) plan.now s (schedule_of schedule.entry))
         (sinks (C.state console.old) (R.state report.old) (D.state dump.old))
         (sinks (C.state console.new) (R.state report.new) (D.state dump.new)) result }
 {
     match machine {
-        AnyMachine::Segments8(mut machine) => {
-            run_machine(
-                order,
-                plan,
-                names,
-                &mut machine,
-                schedule,
-                console,
-                report,
-                dump,
-            )
+        AnyMachine::Segments8(machine) => {
+            run_machine(order, plan, names, machine, schedule, console, report, dump)
         }
-        AnyMachine::Segments32(mut machine) => {
-            run_machine(
-                order,
-                plan,
-                names,
-                &mut machine,
-                schedule,
-                console,
-                report,
-                dump,
-            )
+        AnyMachine::Segments32(machine) => {
+            run_machine(order, plan, names, machine, schedule, console, report, dump)
         }
-        AnyMachine::Segments64(mut machine) => {
-            run_machine(
-                order,
-                plan,
-                names,
-                &mut machine,
-                schedule,
-                console,
-                report,
-                dump,
-            )
+        AnyMachine::Segments64(machine) => {
+            run_machine(order, plan, names, machine, schedule, console, report, dump)
         }
-        AnyMachine::Multilevel8(mut machine) => {
-            run_machine(
-                order,
-                plan,
-                names,
-                &mut machine,
-                schedule,
-                console,
-                report,
-                dump,
-            )
+        AnyMachine::Multilevel8(machine) => {
+            run_machine(order, plan, names, machine, schedule, console, report, dump)
         }
-        AnyMachine::Multilevel32(mut machine) => {
-            run_machine(
-                order,
-                plan,
-                names,
-                &mut machine,
-                schedule,
-                console,
-                report,
-                dump,
-            )
+        AnyMachine::Multilevel32(machine) => {
+            run_machine(order, plan, names, machine, schedule, console, report, dump)
         }
-        AnyMachine::Multilevel64(mut machine) => {
-            run_machine(
-                order,
-                plan,
-                names,
-                &mut machine,
-                schedule,
-                console,
-                report,
-                dump,
-            )
+        AnyMachine::Multilevel64(machine) => {
+            run_machine(order, plan, names, machine, schedule, console, report, dump)
         }
-        AnyMachine::Packed8(mut machine) => {
-            run_machine(
-                order,
-                plan,
-                names,
-                &mut machine,
-                schedule,
-                console,
-                report,
-                dump,
-            )
+        AnyMachine::Packed8(machine) => {
+            run_machine(order, plan, names, machine, schedule, console, report, dump)
         }
-        AnyMachine::Packed32(mut machine) => {
-            run_machine(
-                order,
-                plan,
-                names,
-                &mut machine,
-                schedule,
-                console,
-                report,
-                dump,
-            )
+        AnyMachine::Packed32(machine) => {
+            run_machine(order, plan, names, machine, schedule, console, report, dump)
         }
-        AnyMachine::Packed64(mut machine) => {
-            run_machine(
-                order,
-                plan,
-                names,
-                &mut machine,
-                schedule,
-                console,
-                report,
-                dump,
-            )
+        AnyMachine::Packed64(machine) => {
+            run_machine(order, plan, names, machine, schedule, console, report, dump)
         }
     }
 }
