@@ -22,6 +22,7 @@ use mx_machine::{HartView, Machine, StackArea, machine_is_valid};
 use mx_model::{Events, Frame, Gate, TurnKind};
 use mx_packed::Packed;
 use mx_segments::Segments;
+use mx_table::PermTables;
 use mx_upper::{Trie, Vector};
 use mx_words::{Need, Perm, Shown, Span};
 
@@ -270,6 +271,15 @@ impl AnyMachine {
     {
         each!(self, machine => machine.stack_area(domain))
     }
+
+    /// Lets the machine go.
+    pub fn end(self) {
+        each!(self, machine => end(machine))
+    }
+}
+
+fn end<T: PermTables + Drop, const N: usize>(machine: Machine<T, N>) {
+    let _ended = machine;
 }
 
 /// A law: what a machine means is valid, and has a map for each module, each as long as RAM, and an owner for each word.

@@ -93,24 +93,24 @@ module _ (o : Order) (plan : Said) (f : State) (m : Flat) (names : List (List �
       let y = flat_closing names (end_by o.steps f.core) (options_of o) (flat f) in
       let is : note_lines f.notes ++ y ≡ report_of o plan f = report_is o plan f names named law in
       let told = subst
-          (λ (g : Flat). Closes mid.shown (mid.told ++ flat_closing names (end_by o.steps g.core) (options_of o) g) (dumped o.dump g.core) (sinks mid.console mid.report k) (sinks c n l) status)
-          r.state closes in
+      (λ (g : Flat). Closes mid.shown (mid.told ++ flat_closing names (end_by o.steps g.core) (options_of o) g) (dumped o.dump g.core) (sinks mid.console mid.report k) (sinks c n l) status)
+      r.state closes in
       let shown = λ (p : Put mid.console c mid.shown). put_same b c _ _ (append-nil f.console)
-          (moves_put mid.shown b mid.console c f.console [] r.console (put_same mid.console c _ _ (sym (append-nil mid.shown)) p)) in
+      (moves_put mid.shown b mid.console c f.console [] r.console (put_same mid.console c _ _ (sym (append-nil mid.shown)) p)) in
       let lines = λ (p : Put mid.report n (mid.told ++ y)). put_same d n _ _ is (moves_put mid.told d mid.report n (note_lines f.notes) y r.report p) in
       elim told [
-        inl h ↦ ends_whole (ended o plan f) (sinks b d k) (sinks c n l) status h.0 (shown h.1) (lines h.2) h.3
-      | inr h ↦ elim h [
-          inl e ↦
+        | inl h ↦ ends_whole (ended o plan f) (sinks b d k) (sinks c n l) status h.0 (shown h.1) (lines h.2) h.3
+        | inr h ↦ elim h [
+          | inl e ↦
               ends_console (ended o plan f) (sinks b d k) (sinks c n l) status e.0
               (breaks_same b c _ _ (append-nil f.console)
               (moves_breaks [] mid.shown mid.shown b mid.console c f.console [] r.console (breaks_same mid.console c _ _ (sym (append-nil mid.shown)) e.1)))
               (rw (e.2, ← is) (moves_front mid.told d mid.report (note_lines f.notes) y r.report)) (rw e.3 (front_nothing k (ended o plan f).dump))
-        | inr q ↦ elim q [
-            inl e ↦
+          | inr q ↦ elim q [
+            | inl e ↦
                 ends_report (ended o plan f) (sinks b d k) (sinks c n l) status e.0 (put_all_front b c f.console (shown e.1))
                 (breaks_same d n _ _ is (moves_breaks [] mid.told mid.told d mid.report n (note_lines f.notes) y r.report e.2)) (rw e.3 (front_nothing k (ended o plan f).dump))
-          | inr e ↦
+            | inr e ↦
                 ends_dump (ended o plan f) (sinks b d k) (sinks c n l) status e.0 (put_all_front b c f.console (shown e.1)) (put_all_front d n (report_of o plan f) (lines e.2)) e.3
           ]
         ]

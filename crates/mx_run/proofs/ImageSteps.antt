@@ -1,25 +1,23 @@
 -- The images of a plan's modules, one after another.
-use Rattle.std.proofs.Common.{◌≡◌, ℕ, suc, ◌+◌, List, [], ◌∷◌, ◌++◌, drop, slice_get, Some, None, Option, Vec, Global, Result, Ok, Err, IfOk, IfErr, add-one, refl, sym, ap, subst, ◌∙◌}
+use Rattle.std.proofs.Common.{◌≡◌, ℕ, suc, ◌+◌, List, [], ◌∷◌, ◌++◌, drop, slice_get, Some, None, Option, Vec, Global, Result, Ok, Err, add-one, refl, sym, ap, subst, ◌∙◌}
 use Rattle.std.proofs.lemmas.Option.{slice_get_within, get_or_from_slice_get}
 use Rattle.std.proofs.Math.Seq.{drop-cons}
 use Rattle.mx_io.specs.Sink.{SinkState}
 use Rattle.mx_io.specs.Answer.{Answer}
 use Rattle.mx_manifest.specs.declared.parts.ModulePlan.{ModulePlan}
 use Rattle.mx_run.specs.declared.status.Status.{Status}
-use Rattle.mx_run.specs.declared.status.Status.TheVariants.{WantOfMemory}
 use Rattle.mx_run.specs.Finding.{Finding}
 use Rattle.mx_run.specs.Outcome.{Next, after_file, after_images, image_file}
 use Rattle.mx_run.specs.Images.{TakesImage}
 use Rattle.mx_run.specs.Reading.{Takes}
 use Rattle.mx_run.specs.Top.{sinks, Continues, Comes}
-use Rattle.mx_run.proofs.Continued.{continues_wanting}
 
 -- the step of a module's image, by its name
 abbrev image_step : Option (List ℕ) → ℕ → List ModulePlan → List (List ℕ) → (List (List ℕ) → List Finding → Next) → List Finding → Next
 image_step o number ms images rest found = elim o [
-    | None ↦ after_images (number + 1) ms (images ++ [] ∷ []) rest found
-    | Some name ↦ after_file (image_file number name) (λ bytes. after_images (number + 1) ms (images ++ bytes ∷ []) rest) found
-  ]
+  | None ↦ after_images (number + 1) ms (images ++ [] ∷ []) rest found
+  | Some name ↦ after_file (image_file number name) (λ bytes. after_images (number + 1) ms (images ++ bytes ∷ []) rest) found
+]
 
 module _ {S : Type 0} (gives : S → Answer → S → Type 0) (number : ℕ) (m : ModulePlan) (s t : S) (r u : SinkState) where
   -- a module of inline words has an empty image
@@ -45,20 +43,6 @@ module _ {S : Type 0} (gives : S → Answer → S → Type 0) (number : ℕ) (m 
   takes_err name is status takes ms images rest console dump =
       subst (λ (o : Option (List ℕ)). Continues (image_step o number ms images rest) gives s t (sinks console r dump) (sinks console u dump) status) (sym is)
       (takes (λ bytes. after_images (number + 1) ms (images ++ bytes ∷ []) rest) console dump)
-
-  -- it was taken, and there was no memory for it
-  pub takes_wanting : (name : List ℕ) → m.image ≡ Some name → (bytes : Vec ℕ Global) → Takes gives (image_file number name) s t r u (Ok bytes)
-      → (status : Status) → status ≡ WantOfMemory → TakesImage gives number m s t r u (Err status)
-  takes_wanting name is bytes takes status want ms images rest console dump =
-      let took : TakesImage gives number m s t r u (Ok bytes.items) = takes_some name is bytes takes in
-      took.1 ms images rest t (sinks console r dump) (sinks console u dump) status
-      (continues_wanting gives (after_images (number + 1) ms (images ++ bytes.items ∷ []) rest) t want (record { console = refl; report = takes.0; dump = refl }))
-
-  -- its bytes were taken as an image, or there was no memory for it
-  pub takes_image : (name : List ℕ) → m.image ≡ Some name → (bytes : Vec ℕ Global) → Takes gives (image_file number name) s t r u (Ok bytes)
-      → (result : Result (List ℕ) Status) → IfOk result (λ image. image ≡ bytes.items) → IfErr result (λ status. status ≡ WantOfMemory) → TakesImage gives number m s t r u result
-  takes_image name is bytes takes (Ok image) same want = rw same (takes_some name is bytes takes)
-  takes_image name is bytes takes (Err status) same want = takes_wanting name is bytes takes status want
 
 -- the item at a place, and those behind it
 pub drop_got : {A : Type 0} (xs : List A) (i : ℕ) (x : A) → slice_get xs i ≡ Some x → drop i xs ≡ x ∷ drop (i + 1) xs

@@ -135,7 +135,7 @@ run_stops s f h m k before mid now status r g (inl e) =
     inl (
       e.0,
       breaks_same before.console now.console _ _ (sym g.console)
-      (breaks_more before.console now.console (turn s h).console g.more (moves_breaks [] mid.shown mid.shown before.console mid.console now.console s.console (made_of s h).console r.console e.1)),
+          (breaks_more before.console now.console (turn s h).console g.more (moves_breaks [] mid.shown mid.shown before.console mid.console now.console s.console (made_of s h).console r.console e.1)),
       rw (e.2, all.notes) (moves_front mid.told before.report mid.report (note_lines s.notes) all.lines r.report),
     )
 run_stops s f h m k before mid now status r g (inr e) =
@@ -144,8 +144,8 @@ run_stops s f h m k before mid now status r g (inr e) =
       e.0,
       rw g.console (moves_front now.shown before.console now.console (turn s h).console g.more console),
       breaks_same before.report now.report _ _ (ap (λ t. t ++ g.lines) (sym (turn_lines s h)) ∙ sym g.notes)
-      (breaks_more before.report now.report (note_lines s.notes ++ note_text (made_of s h).note) g.lines
-      (moves_breaks [] mid.told mid.told before.report mid.report now.report (note_lines s.notes) (note_text (made_of s h).note) r.report e.2)),
+          (breaks_more before.report now.report (note_lines s.notes ++ note_text (made_of s h).note) g.lines
+          (moves_breaks [] mid.told mid.told before.report mid.report now.report (note_lines s.notes) (note_text (made_of s h).note) r.report e.2)),
     )
 
 -- what a turn keeps and counts

@@ -62,7 +62,7 @@ module _ (b m n : SinkState) (x y : List ℕ) where
         front = (
           length x + min q.front.0 (length y),
           q.front.1 ∙ ap (λ w. appended w (take q.front.0 y)) p.whole ∙ appended-appended b.written x (take q.front.0 y)
-          ∙ ap (appended b.written) (sym (prefix_of_part x y q.front.0)),
+              ∙ ap (appended b.written) (sym (prefix_of_part x y q.front.0)),
         );
         some = omega (arith, q.some, both);
         rose = Rose-earlier b.faults m.faults n.faults p.later q.rose;

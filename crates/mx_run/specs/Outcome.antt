@@ -107,9 +107,9 @@ source_file name = record { role = Source; name = name; most = text_limit; large
 abbrev pub after_images : ℕ → List ModulePlan → List (List ℕ) → (List (List ℕ) → List Finding → Next) → List Finding → Next
 after_images number [] images rest found = rest images found
 after_images number (m ∷ ms) images rest found = elim m.image [
-    None ↦ after_images (number + 1) ms (images ++ [] ∷ []) rest found
+  | None ↦ after_images (number + 1) ms (images ++ [] ∷ []) rest found
   | Some name ↦ after_file (image_file number name) (λ bytes. after_images (number + 1) ms (images ++ bytes ∷ []) rest) found
-  ]
+]
 
 -- why a run ended that was to make so many turns
 abbrev pub end_of : ℕ → State → EndState

@@ -46,7 +46,14 @@ fn assemble_bytes<C: Sink, R: Sink>(
 {
     match from_utf8(bytes) {
         Ok(text) => assemble_text(alloc, source, text, console, report),
-        Err(_) => refuse(report, source, Status::AsmFault { line: 0, number: 11 }),
+        Err(_) => refuse(
+            report,
+            source,
+            Status::AsmFault {
+                line: 0,
+                number: 11,
+            },
+        ),
     }
 }
 

@@ -19,7 +19,7 @@ use crate::words::Order;
 use mx_boot::{AnyMachine, BootRefused, boot};
 use mx_io::{Sink, Store};
 use mx_manifest::{ManifestFault, ModulePlan, Plan};
-use mx_words::{Blob, NoMemory};
+use mx_words::Blob;
 use std::alloc::Global;
 
 /// Runs what an order asks: reads its manifest, boots its plan, and makes its run.
@@ -107,35 +107,11 @@ fn take_image<S: Store, R: Sink>(
 {
     match &home.image {
         Some(name) => match take_file(alloc, &image_file(number, name.as_str()), store, report) {
-            Ok(bytes) => image_of(alloc, bytes.as_slice()),
+            Ok(bytes) => Ok(Blob::from_vec(bytes)),
             Err(status) => Err(status),
         },
         None => Ok(Blob::new(alloc)),
     }
-}
-
-// The bytes as an image.
-fn image_of(alloc: Global, bytes: &[u8]) -> Result<Blob, Status>
-    requires { length bytes.now ≤ 2 ^ 24 }
-    ensures ok { IfOk result (λ image. image ≡ bytes.now) }
-    ensures wanting { IfErr result (λ status. status ≡ Status.WantOfMemory) }
-{
-    match blob_of(alloc, bytes) {
-        Ok(image) => Ok(image),
-        Err(NoMemory) => Err(Status::WantOfMemory),
-    }
-}
-
-// The bytes as a blob.
-fn blob_of(alloc: Global, bytes: &[u8]) -> Result<Blob, NoMemory>
-    requires { length bytes.now ≤ 2 ^ 24 }
-    ensures { IfOk result (λ blob. blob ≡ bytes.now) }
-{
-    let mut blob = Blob::new(alloc);
-    for byte in bytes {
-        blob.push(*byte)?;
-    }
-    Ok(blob)
 }
 
 /// Boots a plan with its images and runs it, or refuses it.
@@ -155,7 +131,20 @@ fn with_images<S: Store, C: Sink, R: Sink, D: Sink>(
         (sinks (C.state console.new) (R.state report.new) (D.state dump.new)) result }
 {
     match boot_all(alloc, plan, images) {
-        Ok(machine) => run_booted(alloc, order, plan, machine, store, console, report, dump),
+        Ok(mut machine) => {
+            let status = run_booted(
+                alloc,
+                order,
+                plan,
+                &mut machine,
+                store,
+                console,
+                report,
+                dump,
+            );
+            machine.end();
+            status
+        }
         Err(BootRefused::Fault(fault)) => refuse(report, order.manifest, Status::Refused(fault)),
         Err(BootRefused::TablesFull { need, limit }) => {
             refuse(report, order.manifest, Status::TablesFull { need, limit })

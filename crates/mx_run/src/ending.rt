@@ -71,7 +71,16 @@ fn put_closing_lines<T: PermTables, const N: usize, R: Sink>(
         tables: order.tables,
         counts: order.counts,
     };
-    put_closing(told, report, machine, names, end, plan.tables(), limit_of(plan), options)?;
+    put_closing(
+        told,
+        report,
+        machine,
+        names,
+        end,
+        plan.tables(),
+        limit_of(plan),
+        options,
+    )?;
     told.end(report)
 }
 
@@ -99,7 +108,11 @@ fn end_of<T: PermTables, const N: usize>(steps: u64, machine: &Machine<T, N>) ->
 }
 
 // Puts RAM's bytes on the dump where they are asked.
-fn put_ram<T: PermTables, const N: usize, D: Sink>(asked: bool, machine: &Machine<T, N>, dump: &mut D) -> Result<(), Failed>
+fn put_ram<T: PermTables, const N: usize, D: Sink>(
+    asked: bool,
+    machine: &Machine<T, N>,
+    dump: &mut D,
+) -> Result<(), Failed>
     ensures { Puts (D.state dump.old) (D.state dump.new) (dumped asked machine.now.core) result }
 {
     if asked {

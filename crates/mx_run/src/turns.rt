@@ -30,7 +30,7 @@ pub(crate) fn make_turns<T: PermTables, const N: usize, C: Sink, R: Sink>(
     ensures keeps { KeepsShape machine.old machine.new }
     ensures runs { (s : State) → Begins s machine.old (places (C.state console.old) shown.old (R.state report.old) told.old)
         → RunsOrStops (run (schedule_of schedule.entry) steps s) machine.new (places (C.state console.old) shown.old (R.state report.old) told.old)
-            (places (C.state console.new) shown.new (R.state report.new) told.new) result }
+        (places (C.state console.new) shown.new (R.state report.new) told.new) result }
 {
     machine_is_valid(machine);
     if machine.all_halted() {
@@ -69,7 +69,7 @@ fn make_turn<T: PermTables, const N: usize, C: Sink, R: Sink>(
     ensures halted { IfOk result (λ halted. halted ≡ all_halted machine.new.core) }
     ensures makes { (s : State) → machine.old ≡ flat s
         → MakesOrStops s hart machine.new (places (C.state console.old) shown.old (R.state report.old) told.old)
-            (places (C.state console.new) shown.new (R.state report.new) told.new) result }
+        (places (C.state console.new) shown.new (R.state report.new) told.new) result }
 {
     if may_tell(take_turn(hart, machine, events)) {
         show(events, shown, console, told, report)?;

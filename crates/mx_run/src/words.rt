@@ -198,7 +198,13 @@ fn with_option<'a>(order: Order<'a>, word: &str) -> Parse<'a>
 {
     match word {
         "--schedule" => once(order.schedule.is_some(), Parse::Lacks(order)),
-        "--dump" => once(order.dump, Parse::Stands(Order { dump: true, ..order })),
+        "--dump" => once(
+            order.dump,
+            Parse::Stands(Order {
+                dump: true,
+                ..order
+            }),
+        ),
         "--tables" => once(
             order.tables,
             Parse::Stands(Order {

@@ -1,11 +1,11 @@
-use Rattle.mx_run.proofs.ImageSteps.{takes_err, takes_image}
+use Rattle.mx_run.proofs.ImageSteps.{takes_err, takes_some}
 use Rattle.mx_run.proofs.booting.take_image.Goals as goal
 
 pub returns-in-Ok-clause-takes : goal.returns-in-Ok-clause-takes
 returns-in-Ok-clause-takes g c =
     let takes = rw (c.image_file.ensures, c.as_str.ensures) at c.in-Ok.ensures.takes in
-    takes_image g.S.Store.gives c.args.number c.args.home.now c.args.store.now c.take_file.new.store (g.R.Sink.state c.args.report.now) (g.R.Sink.state c.take_file.new.report) _ c.in-Some.is c.in-Ok.bytes takes
-    c.image_of.result (rw c.as_slice.ensures.value at c.image_of.ensures.ok) c.image_of.ensures.wanting
+    rw c.from_vec.ensures
+    (takes_some g.S.Store.gives c.args.number c.args.home.now c.args.store.now c.take_file.new.store (g.R.Sink.state c.args.report.now) (g.R.Sink.state c.take_file.new.report) _ c.in-Some.is c.in-Ok.bytes takes)
 
 pub returns-in-Err-clause-takes : goal.returns-in-Err-clause-takes
 returns-in-Err-clause-takes g c =

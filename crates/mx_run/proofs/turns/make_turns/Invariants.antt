@@ -11,5 +11,5 @@ invariant-turns g l = record {
   keeps : KeepsShape l.fn.machine l.machine;
   runs : (s : State) → Begins s l.fn.machine (places (g.C.Sink.state l.fn.console) l.fn.shown (g.R.Sink.state l.fn.report) l.fn.told)
       → HasRun (run (schedule_of l.schedule) l._step s) l.machine (places (g.C.Sink.state l.fn.console) l.fn.shown (g.R.Sink.state l.fn.report) l.fn.told)
-          (places (g.C.Sink.state l.console) l.shown (g.R.Sink.state l.report) l.told);
+      (places (g.C.Sink.state l.console) l.shown (g.R.Sink.state l.report) l.told);
 }

@@ -10,4 +10,4 @@ returns-in-Ok-clause-takes g c =
 pub returns-in-Err-clause-takes : goal.returns-in-Err-clause-takes
 returns-in-Err-clause-takes g c =
     λ rest console dump. continues_refused g.S.Store.gives (wanted_of c.args.file.now) rest c.args.store.now c.read_file.new.store c.in-Err.fault c.in-Err.ensures.found
-        (c.refuse_file.ensures console dump)
+    (c.refuse_file.ensures console dump)
