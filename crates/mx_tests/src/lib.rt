@@ -4,11 +4,17 @@
 #[cfg(test)]
 mod assembling;
 #[cfg(test)]
+mod examples;
+#[cfg(test)]
 mod manifests;
+#[cfg(test)]
+mod network;
 #[cfg(test)]
 mod outside;
 #[cfg(test)]
 mod packets;
+#[cfg(test)]
+mod refusals;
 #[cfg(test)]
 mod runs;
 #[cfg(test)]
