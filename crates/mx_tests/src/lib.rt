@@ -4,17 +4,11 @@
 #[cfg(test)]
 mod assembling;
 #[cfg(test)]
-mod examples;
-#[cfg(test)]
 mod manifests;
-#[cfg(test)]
-mod network;
 #[cfg(test)]
 mod outside;
 #[cfg(test)]
 mod packets;
-#[cfg(test)]
-mod refusals;
 #[cfg(test)]
 mod runs;
 #[cfg(test)]
