@@ -1,24 +1,11 @@
 -- How a call of the program ends.
-use Rattle.std.proofs.Common.{◌≡◌, ℕ, ◌<◌, ◌≤◌, List, [], ◌∷◌, ◌++◌, length, flat_map, Option, Some, None, Ok, Err, IsOk, T, refl, sym, subst, inl, inr, arith}
-use Rattle.std.specs.Prelude.{IsSome}
-use Rattle.std.proofs.lemmas.List.{append-nil}
+use Rattle.std.proofs.Common.{◌≡◌, ℕ, ◌<◌, ◌≤◌, List, [], ◌∷◌, length, Option, Ok, Err, IsOk, T, refl, sym, subst, inl, inr, arith}
 use Rattle.mx_io.specs.Texts.{AppendsWhole, AppendsPrefix}
 use Rattle.mx_io.specs.Sink.{SinkState, Puts}
-use Rattle.mx_io.specs.Answer.{Answer, Talks}
 use Rattle.mx_io.proofs.Text.{appended-nil}
-use Rattle.mx_run.specs.declared.status.Status.{Status}
-use Rattle.mx_run.specs.declared.status.Status.TheVariants.{Usage, ConsoleFault, ReportFault}
-use Rattle.mx_run.specs.declared.reading.ReadFault.{ReadFault}
-use Rattle.mx_run.specs.declared.reading.ReadFault.TheVariants as fault
-use Rattle.mx_run.specs.Words.{Request}
-use Rattle.mx_run.specs.Manifest.{Plan}
-use Rattle.mx_run.specs.Machine.{State, booted, run, notes}
-use Rattle.mx_run.specs.Report.{note_line, closing}
-use Rattle.mx_run.specs.Finding.{Finding, Absent, Large, Short, Broken, Finds}
-use Rattle.mx_run.specs.Outcome.{Outcome, Wanted, Next, Read, End, unless, next, refusal, lack_of, run_text}
-use Rattle.mx_run.specs.Leads.{Leads}
-use Rattle.mx_run.specs.Reading.{Reads, Refuses}
-use Rattle.mx_run.specs.Top.{Sinks, sinks, Holds, Ends, EndsOrWants, Reacts}
+use Rattle.mx_run.specs.declared.status.Status.TheVariants.{ConsoleFault, ReportFault}
+use Rattle.mx_run.specs.Outcome.{Outcome}
+use Rattle.mx_run.specs.Top.{sinks, Holds, Ends}
 
 not_ok : (A : Type 0) {E : Type 0} (e : E) → IsOk {T = A} (Err e) → ⊥
 not_ok A e h = subst T (sym h) tt
@@ -73,41 +60,3 @@ module _ {A E : Type 0} (outcome : Outcome) {before now : SinkState} where
         );
         sure = λ room. absurd (not_ok A e (puts.sure room.console).0);
       }
-
--- one file is read, and what is found of it leads to an outcome
-leads_once : (asked : Option Request) (file : Wanted) (answers : List Answer) (found : Finding) (outcome : Outcome)
-    → next asked [] ≡ Read file → next asked (found ∷ []) ≡ End outcome → Finds file.most file.name answers found → Leads asked answers outcome
-leads_once asked file answers found outcome first last finds = (1, (file, answers, [], found, first, sym (append-nil answers), finds, (last, refl)))
-
--- words without meaning were refused, and nothing was asked of the store
-pub reacts_none : {S : Type 0} (gives : S → Answer → S → Type 0) {s : S} {b n : Sinks} {result : Status} → Ends (refusal [] Usage) b n result → Reacts None gives s s b n result
-reacts_none gives ends = ([], refl, inl (refusal [] Usage, (0, (refl, refl)), ends))
-
--- a file that isn't whole ends the call
-pub unless_lacking : (file : Wanted) (lack : Option Status) (status : Status) (whole : Next) → lack ≡ Some status → unless file lack whole ≡ End (refusal file.name status)
-unless_lacking file lack status whole is = rw is refl
-
-module _ {S : Type 0} (gives : S → Answer → S → Type 0) {s t : S} (asked : Option Request) (file : Wanted) {b n : Sinks} {result : Status} where
-  reacts_ended : (found : Finding) (outcome : Outcome) → next asked [] ≡ Read file → next asked (found ∷ []) ≡ End outcome
-      → ((answers : List Answer) × Talks gives s answers t × Finds file.most file.name answers found) → Ends outcome b n result → Reacts asked gives s t b n result
-  reacts_ended found outcome first last read ends = (read.0, read.1, inl (outcome, leads_once asked file read.0 found outcome first last read.2, ends))
-
-  -- the one file was found, and its bytes were answered
-  pub reacts_found : IsSome asked → (found : Finding) (outcome : Outcome) → next asked [] ≡ Read file → next asked (found ∷ []) ≡ End outcome
-      → ((answers : List Answer) × Talks gives s answers t × Finds file.most file.name answers found) → EndsOrWants outcome b n result → Reacts asked gives s t b n result
-  reacts_found some found outcome first last read ends =
-      elim ends [ inl h ↦ reacts_ended found outcome first last read h | inr h ↦ (read.0, read.1, inr (h.0, some, h.1)) ]
-
-  -- the one file was refused
-  pub reacts_refused : IsSome asked → next asked [] ≡ Read file → ((found : Finding) (status : Status) → lack_of file found ≡ Some status → next asked (found ∷ []) ≡ End (refusal file.name status))
-      → (cause : ReadFault) → Reads gives file.most file.name s t (Err cause) → Refuses file cause b n result → Reacts asked gives s t b n result
-  reacts_refused some first last fault.Absent read refuses = reacts_ended Absent _ first (last Absent _ refl) read refuses
-  reacts_refused some first last fault.Large read refuses = reacts_ended Large _ first (last Large _ refl) read refuses
-  reacts_refused some first last (fault.Short told got) read refuses = reacts_ended (Short told got) _ first (last (Short told got) _ refl) read refuses
-  reacts_refused some first last fault.Broken read refuses = reacts_ended Broken _ first (last Broken _ refl) read refuses
-  reacts_refused some first last fault.NoMemory read refuses = (read.0, read.1, inr (refuses.0, some, refuses.1))
-
--- the text of a run, by equal names and states
-pub run_text-same : (plan : Plan) (n : ℕ) (name : List ℕ) (s : State) → name ≡ plan.name → s ≡ booted plan → (flat_map note_line (notes s n) ++ closing name (run s n)) ≡ run_text plan n
-unfolding run_text
-run_text-same plan n name s named is = rw (named, is) refl

@@ -1,5 +1,5 @@
 -- What the top call promises, from how it reacts.
-use Rattle.std.proofs.Common.{◌≡◌, ◌≢◌, ◌⊎◌, IsTrue, Option, Some, None, IfSome, refl, ap, subst, inl, inr, []}
+use Rattle.std.proofs.Common.{◌≡◌, ◌≢◌, ◌⊎◌, IsTrue, Option, Some, None, IfSome, refl, ap, subst, inl, inr}
 use Rattle.mx_io.specs.Count.{Stays}
 use Rattle.mx_io.specs.Sink.{SinkState}
 use Rattle.mx_io.specs.Store.{StoreState}
@@ -9,7 +9,7 @@ use Rattle.mx_io.proofs.Talks.{talks_told, all_succeeded}
 use Rattle.mx_run.specs.declared.status.Status.{Status}
 use Rattle.mx_run.specs.declared.status.Status.TheVariants.{WantOfMemory}
 use Rattle.mx_run.specs.Words.{Request}
-use Rattle.mx_run.specs.Outcome.{Outcome}
+use Rattle.mx_run.specs.Outcome.{Outcome, next}
 use Rattle.mx_run.specs.Leads.{IsOutcome}
 use Rattle.mx_run.specs.Top.{Sinks, HasRoom, CountsKept, IsSinkFault, EndsBy, Ends, WritesNothing, Answered, Reacts}
 use Rattle.mx_run.specs.Promise.{CountsStay, Gives, Headline, Completeness}
@@ -56,7 +56,7 @@ module _ {S : Type 0} (state : S → StoreState) (gives : S → Answer → S →
       elim r.2 [
         | inl h ↦ (
           h.0,
-          (h.1.0, leads_over h.1.0 asked files [] r.0 h.0 ok (said.told files told) h.1.1),
+          (h.1.0, leads_over h.1.0 (next asked) files r.0 h.0 ok (said.told files told) h.1.1),
           gives_from h.0 b n result (no_fault h.0 b n result stays.console stays.report stays.dump) h.2.how,
         )
         | inr w ↦ absurd (enough w.0)
@@ -72,7 +72,7 @@ module _ {S : Type 0} (state : S → StoreState) (gives : S → Answer → S →
       let ok = said.sure sure in
       elim r.2 [
         | inl h ↦
-            let same : h.0 ≡ outcome = one_outcome asked files h.0 outcome (h.1.0, leads_over h.1.0 asked files [] r.0 h.0 ok.0 (said.told files told) h.1.1) is in
+            let same : h.0 ≡ outcome = one_outcome asked files h.0 outcome (h.1.0, leads_over h.1.0 (next asked) files r.0 h.0 ok.0 (said.told files told) h.1.1) is in
             let ends = subst (λ (o : Outcome). Ends o b n result) same h.2 in
             let e = ends.sure room in
             (ok.1, e.2, inr (e.0, e.1))

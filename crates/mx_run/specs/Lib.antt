@@ -1,14 +1,14 @@
 pub mod Asked
 pub mod Finding
+pub mod Images
 pub mod Judged
 pub mod Leads
-pub mod Machine
 pub mod Manifest
 pub mod Outcome
 pub mod Promise
 pub mod Reading
 pub mod Refusal
-pub mod Report
+pub mod Running
 pub mod Status
 pub mod Top
 pub mod Words

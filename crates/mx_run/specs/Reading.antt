@@ -2,14 +2,15 @@
 use Rattle.std.specs.Prelude.{◌≡◌, ℕ, ◌+◌, ◌-◌, ◌≤◌, List, [], length, take, drop, Result, Ok, Err, IfOk, Vec, option_map, ⊤}
 use Rattle.std.specs.Result.{result_ok}
 use Rattle.std.specs.declared.alloc.Global.{Global}
+use Rattle.mx_io.specs.Sink.{SinkState}
 use Rattle.mx_io.specs.Answer.{Answer, Gave, Talks}
 use Rattle.mx_run.specs.declared.reading.ReadFault.{ReadFault}
 use Rattle.mx_run.specs.declared.reading.ReadFault.TheVariants as fault
 use Rattle.mx_run.specs.Finding.{Finding, Absent, Large, Short, Broken, Whole, Completes, Finds}
-use Rattle.mx_run.specs.Outcome.{Wanted, refusal}
+use Rattle.mx_run.specs.Outcome.{Wanted, Next, after_file, refusal}
 use Rattle.mx_run.specs.declared.status.Status.{Status}
 use Rattle.mx_run.specs.declared.status.Status.TheVariants.{WantOfMemory, StoreFault, NoFile, ShortFile}
-use Rattle.mx_run.specs.Top.{Sinks, WritesNothing, Ends}
+use Rattle.mx_run.specs.Top.{Sinks, sinks, WritesNothing, Ends, Continues, Comes}
 
 -- a fact of what was found, where memory was not wanting
 abbrev pub OfFinding : (Finding → Type 0) → Result (Vec ℕ Global) ReadFault → Type 0
@@ -43,3 +44,11 @@ Refuses file fault.Large before now result = Ends (refusal file.name file.large)
 Refuses file (fault.Short told got) before now result = Ends (refusal file.name (ShortFile file.role told got)) before now result
 Refuses file fault.Broken before now result = Ends (refusal file.name StoreFault) before now result
 Refuses file fault.NoMemory before now result = (result ≡ WantOfMemory) × WritesNothing before now
+
+-- a file was taken: its bytes came, the report is as it was, and the step goes on with them; or the call ended
+abbrev pub Takes : {S : Type 0} → (S → Answer → S → Type 0) → Wanted → S → S → SinkState → SinkState → Result (Vec ℕ Global) Status → Type 0
+Takes gives file store stored before now (Ok bytes) =
+    (now ≡ before) × ((rest : List ℕ → List Finding → Next) → Comes (after_file file rest) gives store stored (rest bytes.items))
+Takes gives file store stored before now (Err status) =
+    (rest : List ℕ → List Finding → Next) (console dump : SinkState)
+    → Continues (after_file file rest) gives store stored (sinks console before dump) (sinks console now dump) status

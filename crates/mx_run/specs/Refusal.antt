@@ -1,6 +1,7 @@
 -- The lines of refusals, each a whole report.
 use Rattle.std.specs.Prelude.{ℕ, List, [], ◌∷◌, decimal, codes, Option, Some, None}
 use Rattle.std.specs.List.{concat}
+use Rattle.mx_words.specs.declared.tables.Need.{Need}
 use Rattle.mx_manifest.specs.declared.fault.BootFault.{BootFault}
 use Rattle.mx_manifest.specs.declared.fault.Part.{Part}
 use Rattle.mx_manifest.specs.declared.fault.Part.TheVariants as part
@@ -76,6 +77,12 @@ short_file_line name told got =
 unfoldable pub no_file_line : List ℕ → List ℕ
 no_file_line name = concat (codes "no file " ∷ name ∷ codes "\n" ∷ [])
 
+-- the permission tables of the boot need more than the limit
+unfoldable pub tables_full_line : Need → Need → List ℕ
+tables_full_line need limit =
+    concat (codes "tables full upper=" ∷ decimal need.upper ∷ codes "/" ∷ decimal limit.upper ∷ codes " leaf=" ∷ decimal need.leaf
+    ∷ codes "/" ∷ decimal limit.leaf ∷ codes " spill=" ∷ decimal need.spill ∷ codes "/" ∷ decimal limit.spill ∷ codes "\n" ∷ [])
+
 -- a source has this first fault
 unfoldable pub asm_fault_line : ℕ → ℕ → List ℕ
 asm_fault_line line number =
@@ -85,12 +92,12 @@ asm_fault_line line number =
 abbrev pub line_of : List ℕ → Status → Option (List ℕ)
 line_of name Usage = Some usage_line
 line_of name (Refused fault) = Some (refused_line fault)
+line_of name (TablesFull need limit) = Some (tables_full_line need limit)
 line_of name StoreFault = Some store_fault_line
 line_of name (ShortFile role told got) = Some (short_file_line name told got)
 line_of name (NoFile role) = Some (no_file_line name)
 line_of name (AsmFault line number) = Some (asm_fault_line line number)
 line_of name Ran = None
-line_of name (TablesFull need limit) = None
 line_of name ConsoleFault = None
 line_of name ReportFault = None
 line_of name DumpFault = None

@@ -7,8 +7,9 @@ use Rattle.mx_io.specs.Answer.{Answer, Talks}
 use Rattle.mx_run.specs.declared.status.Status.{Status}
 use Rattle.mx_run.specs.declared.status.Status.TheVariants.{ConsoleFault, ReportFault, DumpFault, WantOfMemory}
 use Rattle.mx_run.specs.Words.{Request}
-use Rattle.mx_run.specs.Outcome.{Outcome}
-use Rattle.mx_run.specs.Leads.{Leads}
+use Rattle.mx_run.specs.Finding.{Finding}
+use Rattle.mx_run.specs.Outcome.{Outcome, Next}
+use Rattle.mx_run.specs.Leads.{Leads, LeadsTo}
 
 -- the three sinks at a moment
 pub record Sinks : Type 0 where
@@ -92,3 +93,14 @@ abbrev pub Reacts : {S : Type 0} → Option Request → (S → Answer → S → 
 Reacts asked gives store stored before now result =
     (answers : List Answer) × Talks gives store answers stored
     × (((outcome : Outcome) × Leads asked answers outcome × Ends outcome before now result) ⊎ Wants asked before now result)
+
+-- a step was followed: what the store gave leads to an outcome, by which the call ended, or memory was wanting and nothing was written
+abbrev pub Continues : {S : Type 0} → (List Finding → Next) → (S → Answer → S → Type 0) → S → S → Sinks → Sinks → Status → Type 0
+Continues step gives store stored before now result =
+    (answers : List Answer) × Talks gives store answers stored
+    × (((outcome : Outcome) × LeadsTo step answers outcome × Ends outcome before now result) ⊎ ((result ≡ WantOfMemory) × WritesNothing before now))
+
+-- a step came to a later one: however that one is followed, the first one is followed
+abbrev pub Comes : {S : Type 0} → (List Finding → Next) → (S → Answer → S → Type 0) → S → S → (List Finding → Next) → Type 0
+Comes {S} step gives store stored later =
+    (end : S) (before now : Sinks) (result : Status) → Continues later gives stored end before now result → Continues step gives store end before now result

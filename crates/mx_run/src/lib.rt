@@ -1,19 +1,18 @@
 //! The top call: the words of a command line, the files of a store, a boot, a run, and the texts of three sinks.
 #![tactic(auto)]
 
-mod action;
 mod assembling;
 mod booting;
-mod keys;
+mod ending;
 mod laws;
-mod machine;
 mod manifest;
+mod pace;
 mod reading;
 mod refusal;
-mod report;
-mod run;
+mod running;
 mod status;
 mod top;
+mod turns;
 mod wanted;
 mod words;
 

@@ -2,13 +2,14 @@
 
 ghost use Rattle.std.specs.Prelude.{◌≡◌, [], unwrap_or};
 ghost use Rattle.mx_io.specs.Sink.{SinkState, Puts};
-ghost use Rattle.mx_run.specs.Refusal.{line_of, refused_line, fault_text, place_text, detail_text, key_name, short_file_line, no_file_line, usage_line, store_fault_line, asm_fault_line};
+ghost use Rattle.mx_run.specs.Refusal.{line_of, refused_line, fault_text, place_text, detail_text, key_name, tables_full_line, short_file_line, no_file_line, usage_line, store_fault_line, asm_fault_line};
 ghost use Rattle.mx_run.specs.Outcome.{refusal};
 ghost use Rattle.mx_run.specs.Top.{sinks, Ends};
 
 use crate::status::Status;
 use mx_io::{Failed, Piece, Sink, put_all, put_pieces};
 use mx_manifest::{BootFault, Key, Part};
+use mx_words::Need;
 
 /// Ends a call that refuses: its line is the whole report, or the report's fault is the status. The other
 /// two sinks get nothing.
@@ -24,11 +25,13 @@ pub(crate) fn refuse<R: Sink>(report: &mut R, name: &str, status: Status) -> Sta
 
 /// Puts the line of a refusal; `name` is the name of the file that it is about.
 fn put_line<R: Sink>(report: &mut R, name: &str, status: &Status) -> Result<(), Failed>
-    ensures { Puts (R.state report.old) (R.state report.new) (unwrap_or (line_of name.now status.now) []) result }
+    ensures { Puts (R.state report.old) (R.state report.new)
+        (unwrap_or (line_of name.now status.now) []) result }
 {
     match *status {
         Status::Usage => put_usage(report),
         Status::Refused(fault) => put_refused(report, &fault),
+        Status::TablesFull { need, limit } => put_tables_full(report, &need, &limit),
         Status::StoreFault => put_store_fault(report),
         Status::ShortFile { told, got, .. } => put_short_file(report, name, told, got),
         Status::NoFile(_) => put_no_file(report, name),
@@ -44,6 +47,31 @@ fn put_usage<R: Sink>(report: &mut R) -> Result<(), Failed>
     put_all(report, b"mondrix: these words have no meaning\n")
 }
 
+#[tactic(auto, unfolding(crate::specs::Refusal::tables_full_line))]
+fn put_tables_full<R: Sink>(report: &mut R, need: &Need, limit: &Need) -> Result<(), Failed>
+    ensures { Puts (R.state report.old) (R.state report.new)
+        (tables_full_line need.now limit.now) result }
+{
+    put_pieces(
+        report,
+        &[
+            Piece::Text("tables full upper="),
+            Piece::Number(need.upper as u64),
+            Piece::Text("/"),
+            Piece::Number(limit.upper as u64),
+            Piece::Text(" leaf="),
+            Piece::Number(need.leaf as u64),
+            Piece::Text("/"),
+            Piece::Number(limit.leaf as u64),
+            Piece::Text(" spill="),
+            Piece::Number(need.spill as u64),
+            Piece::Text("/"),
+            Piece::Number(limit.spill as u64),
+            Piece::Text("\n"),
+        ],
+    )
+}
+
 #[tactic(auto, unfolding(crate::specs::Refusal::store_fault_line))]
 fn put_store_fault<R: Sink>(report: &mut R) -> Result<(), Failed>
     ensures { Puts (R.state report.old) (R.state report.new) store_fault_line result }
@@ -53,7 +81,8 @@ fn put_store_fault<R: Sink>(report: &mut R) -> Result<(), Failed>
 
 #[tactic(auto, unfolding(crate::specs::Refusal::short_file_line))]
 fn put_short_file<R: Sink>(report: &mut R, name: &str, told: u64, got: u64) -> Result<(), Failed>
-    ensures { Puts (R.state report.old) (R.state report.new) (short_file_line name.now told got) result }
+    ensures { Puts (R.state report.old) (R.state report.new)
+        (short_file_line name.now told got) result }
 {
     put_pieces(
         report,

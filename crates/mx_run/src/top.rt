@@ -17,8 +17,7 @@ use std::alloc::Global;
 ///
 /// Words without a meaning end with `Usage` or, where their line can't be written, with the report's fault;
 /// then nothing is read and no memory is taken. Each file is read whole, in the order of `next`. Where memory
-/// is wanting nothing is written. `run` writes nothing to the console and the dump on this path; `asm` writes
-/// the image to the console.
+/// is wanting nothing is written. No file is read, and no memory taken, after the first step of a run.
 pub fn mondrix<S: Store, C: Sink, R: Sink, D: Sink>(
     alloc: Global,
     words: &Words,
@@ -42,22 +41,24 @@ pub fn mondrix<S: Store, C: Sink, R: Sink, D: Sink>(
         (sinks (C.state console.old) (R.state report.old) (D.state dump.old))
         (sinks (C.state console.new) (R.state report.new) (D.state dump.new)) result }
 {
-    react(alloc, words, store, console, report)
+    react(alloc, words, store, console, report, dump)
 }
 
-/// Does what the words ask, with nothing for the dump.
-fn react<S: Store, C: Sink, R: Sink>(
+/// Does what the words ask.
+fn react<S: Store, C: Sink, R: Sink, D: Sink>(
     alloc: Global,
     words: &Words,
     store: &mut S,
     console: &mut C,
     report: &mut R,
+    dump: &mut D,
 ) -> Status
-    ensures { (dump : SinkState) → Reacts (meaning words.now) S.gives store.old store.new
-        (sinks (C.state console.old) (R.state report.old) dump) (sinks (C.state console.new) (R.state report.new) dump) result }
+    ensures { Reacts (meaning words.now) S.gives store.old store.new
+        (sinks (C.state console.old) (R.state report.old) (D.state dump.old))
+        (sinks (C.state console.new) (R.state report.new) (D.state dump.new)) result }
 {
     match words.asked() {
-        Some(Asked::Run(manifest, steps)) => run_manifest(alloc, manifest, steps, store, report),
+        Some(Asked::Run(order)) => run_manifest(alloc, &order, store, console, report, dump),
         Some(Asked::Asm(source)) => write_image(alloc, source, store, console, report),
         None => refuse(report, "", Status::Usage),
     }

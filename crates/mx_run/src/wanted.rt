@@ -1,14 +1,24 @@
 //! The files that a command reads.
 
+ghost use Rattle.std.specs.Prelude.{◌≡◌, ◌≤◌, IfOk, vec_len};
 ghost use Rattle.mx_io.specs.Sink.{SinkState};
 ghost use Rattle.mx_run.specs.Asked.{wanted_of};
-ghost use Rattle.mx_run.specs.Reading.{Refuses};
+ghost use Rattle.mx_run.specs.Outcome.{too_large, manifest_file, image_file, schedule_file, source_file};
+ghost use Rattle.mx_run.specs.Reading.{Refuses, Takes};
 ghost use Rattle.mx_run.specs.Top.{sinks};
 
-use crate::reading::ReadFault;
+use crate::reading::{ReadFault, read_file};
 use crate::refusal::refuse;
 use crate::status::{FileRole, Status};
-use mx_io::Sink;
+use mx_io::{Sink, Store};
+use mx_manifest::{BootFault, Key, Part, Place};
+use std::alloc::Global;
+
+/// The most bytes of a manifest or of a source.
+const TEXT_LIMIT: u64 = 1048576;
+
+/// The most bytes of an image or of a schedule.
+const FILE_LIMIT: u64 = 16777216;
 
 /// A file that is to be read.
 #[derive(Clone, Copy)]
@@ -23,8 +33,87 @@ pub(crate) struct Wanted<'a> {
     pub large: Status,
 }
 
+/// The manifest of this name.
+pub(crate) fn manifest_file(name: &str) -> Wanted<'_>
+    ensures { wanted_of result ≡ manifest_file name.now }
+{
+    Wanted {
+        role: FileRole::Manifest,
+        name,
+        most: TEXT_LIMIT,
+        large: too_large(Part::Manifest, 0, Key::NoKey),
+    }
+}
+
+/// The image of this name, of the module with this number from 1.
+pub(crate) fn image_file(number: u32, name: &str) -> Wanted<'_>
+    ensures { wanted_of result ≡ image_file number name.now }
+{
+    Wanted {
+        role: FileRole::Image(number),
+        name,
+        most: FILE_LIMIT,
+        large: too_large(Part::Module, number, Key::Image),
+    }
+}
+
+/// The schedule of this name.
+pub(crate) fn schedule_file(name: &str) -> Wanted<'_>
+    ensures { wanted_of result ≡ schedule_file name.now }
+{
+    Wanted {
+        role: FileRole::Schedule,
+        name,
+        most: FILE_LIMIT,
+        large: too_large(Part::Schedule, 0, Key::NoKey),
+    }
+}
+
+/// The source of this name.
+pub(crate) fn source_file(name: &str) -> Wanted<'_>
+    ensures { wanted_of result ≡ source_file name.now }
+{
+    Wanted {
+        role: FileRole::Source,
+        name,
+        most: TEXT_LIMIT,
+        large: Status::AsmFault {
+            line: 0,
+            number: 11,
+        },
+    }
+}
+
+// The status of a file over its limit: fault 9 at its place.
+fn too_large(part: Part, index: u32, key: Key) -> Status
+    ensures { result ≡ too_large part index key }
+{
+    Status::Refused(BootFault {
+        number: 9,
+        place: Place { part, index, key },
+        detail: 0,
+    })
+}
+
+/// The bytes of a file, or the end of a call whose file isn't there whole: its line is the whole report.
+pub(crate) fn take_file<S: Store, R: Sink>(
+    alloc: Global,
+    file: &Wanted<'_>,
+    store: &mut S,
+    report: &mut R,
+) -> Result<Vec<u8>, Status>
+    ensures takes { Takes S.gives (wanted_of file.now) store.old store.new
+        (R.state report.old) (R.state report.new) result }
+    ensures fits { IfOk result (λ bytes. vec_len bytes ≤ file.now.most) }
+{
+    match read_file(alloc, store, file.name, file.most) {
+        Ok(bytes) => Ok(bytes),
+        Err(fault) => Err(refuse_file(report, file, fault)),
+    }
+}
+
 /// Ends a call whose file isn't there whole, with its line as the whole report.
-pub(crate) fn refuse_file<R: Sink>(report: &mut R, file: &Wanted<'_>, fault: ReadFault) -> Status
+fn refuse_file<R: Sink>(report: &mut R, file: &Wanted<'_>, fault: ReadFault) -> Status
     ensures { (console dump : SinkState) → Refuses (wanted_of file.now) fault
         (sinks console (R.state report.old) dump) (sinks console (R.state report.new) dump) result }
 {

@@ -1,11 +1,11 @@
 //! The words of a command line and what they ask.
 
-ghost use Rattle.std.specs.Prelude.{◌≡◌, ℕ, ◌^◌, ◌<◌, ◌≤◌, List, [], ◌∷◌, ◌++◌, length, map, option_map, IsTrue, OnOk, OnErr, IfSome, string_bytes};
+ghost use Rattle.std.specs.Prelude.{◌≡◌, ℕ, ◌^◌, ◌<◌, ◌≤◌, List, [], ◌∷◌, ◌++◌, length, map, fold, option_map, IsTrue, OnOk, OnErr, IfSome, string_bytes};
 ghost use Rattle.std.specs.Char.{is_ascii_digit};
 ghost use Rattle.std.specs.List.{list_all};
 ghost use Rattle.std.specs.Str.Parse.{digits_value};
-ghost use Rattle.mx_run.specs.Asked.{request_of, HasFewSteps};
-ghost use Rattle.mx_run.specs.Words.{Request, is_name, is_number, asm_request, run_request, meaning};
+ghost use Rattle.mx_run.specs.Asked.{order_of, request_of, parsed_of, HasFewSteps, ParsesFewSteps};
+ghost use Rattle.mx_run.specs.Words.{Stands, is_name, is_number, once, with_option, with_word, asked_by, plain_order, asm_request, run_request, meaning};
 
 use mx_words::NoMemory;
 use std::alloc::Global;
@@ -26,13 +26,41 @@ impl Model for Words {
     ghost view = { λ words. map string_bytes words.list.items };
 }
 
-/// What the words ask. A name has 1 to 255 bytes.
+/// What `run` is asked. A name has 1 to 255 bytes.
+#[derive(Clone, Copy)]
+pub(crate) struct Order<'a> {
+    /// The manifest's name.
+    pub manifest: &'a str,
+    /// The most steps to make, at most 9999999999.
+    pub steps: u64,
+    /// The schedule's name.
+    pub schedule: Option<&'a str>,
+    /// Whether RAM goes to the dump.
+    pub dump: bool,
+    /// Whether the report has the lines of the tables.
+    pub tables: bool,
+    /// Whether the report has the lines of the counts.
+    pub counts: bool,
+}
+
+/// What the words ask.
 #[derive(Clone, Copy)]
 pub(crate) enum Asked<'a> {
-    /// To run the manifest of this name, for at most so many steps, at most 9999999999.
-    Run(&'a str, u64),
-    /// To assemble the source of this name.
+    /// A run.
+    Run(Order<'a>),
+    /// To assemble the source of this name, which has 1 to 255 bytes.
     Asm(&'a str),
+}
+
+/// What options made of an order so far.
+#[derive(Clone, Copy)]
+enum Parse<'a> {
+    /// The order stands.
+    Stands(Order<'a>),
+    /// The name of a schedule is to follow.
+    Lacks(Order<'a>),
+    /// The options have no meaning.
+    Meaningless,
 }
 
 impl Words {
@@ -65,38 +93,143 @@ impl Words {
         ensures meaning { option_map request_of result ≡ meaning self.now }
         ensures steps { IfSome result HasFewSteps }
     {
-        match self.list.len() {
-            2 => asm_words(self.list[0].as_str(), self.list[1].as_str()),
-            3 => run_words(
-                self.list[0].as_str(),
-                self.list[1].as_str(),
-                self.list[2].as_str(),
-            ),
+        let (command, operands) = self.list.as_slice().split_first()?;
+        match command.as_str() {
+            "run" => run_words(operands),
+            "asm" => asm_words(operands),
             _ => None,
         }
     }
 }
 
-fn asm_words<'a>(command: &str, source: &'a str) -> Option<Asked<'a>>
-    ensures meaning { option_map request_of result ≡ asm_request command.now source.now }
+fn asm_words(operands: &[String]) -> Option<Asked<'_>>
+    ensures meaning { option_map request_of result ≡ asm_request (map string_bytes operands.now) }
     ensures steps { IfSome result HasFewSteps }
 {
-    if command == "asm" && is_name(source) {
-        Some(Asked::Asm(source))
+    if operands.len() == 1 && is_name(operands[0].as_str()) {
+        Some(Asked::Asm(operands[0].as_str()))
     } else {
         None
     }
 }
 
-fn run_words<'a>(command: &str, manifest: &'a str, steps: &str) -> Option<Asked<'a>>
-    ensures meaning { option_map request_of result ≡ run_request command.now manifest.now steps.now }
+fn run_words(operands: &[String]) -> Option<Asked<'_>>
+    ensures meaning { option_map request_of result ≡ run_request (map string_bytes operands.now) }
     ensures steps { IfSome result HasFewSteps }
 {
-    if command == "run" && is_name(manifest) && is_number(steps) {
-        Some(Asked::Run(manifest, number(steps.as_bytes())))
+    if operands.len() < 2 {
+        return None;
+    }
+    let manifest = operands[0].as_str();
+    let steps = operands[1].as_str();
+    if is_name(manifest) && is_number(steps) {
+        let order = plain_order(manifest, number(steps.as_bytes()));
+        asked_by(with_options(order, &operands[2..]))
     } else {
         None
     }
+}
+
+fn plain_order(manifest: &str, steps: u64) -> Order<'_>
+    ensures { order_of result ≡ plain_order manifest.now steps }
+{
+    Order {
+        manifest,
+        steps,
+        schedule: None,
+        dump: false,
+        tables: false,
+        counts: false,
+    }
+}
+
+fn asked_by(parse: Parse<'_>) -> Option<Asked<'_>>
+    requires { ParsesFewSteps parse }
+    ensures meaning { option_map request_of result ≡ asked_by (parsed_of parse.entry) }
+    ensures steps { IfSome result HasFewSteps }
+{
+    match parse {
+        Parse::Stands(order) => Some(Asked::Run(order)),
+        Parse::Lacks(_) => None,
+        Parse::Meaningless => None,
+    }
+}
+
+/// The order with options.
+fn with_options<'a>(order: Order<'a>, options: &'a [String]) -> Parse<'a>
+    requires { order.steps < 10 ^ 10 }
+    ensures parsed { parsed_of result
+        ≡ fold with_word (Stands (order_of order.entry)) (map string_bytes options.now) }
+    ensures steps { ParsesFewSteps result }
+{
+    let mut parse = Parse::Stands(order);
+    for option in options {
+        parse = with_word(parse, option.as_str());
+    }
+    parse
+}
+
+/// One word more.
+fn with_word<'a>(parse: Parse<'a>, word: &'a str) -> Parse<'a>
+    requires { ParsesFewSteps parse }
+    ensures parsed { parsed_of result ≡ with_word (parsed_of parse.entry) word.now }
+    ensures steps { ParsesFewSteps result }
+{
+    match parse {
+        Parse::Stands(order) => with_option(order, word),
+        Parse::Lacks(order) => {
+            if is_name(word) {
+                Parse::Stands(Order {
+                    schedule: Some(word),
+                    ..order
+                })
+            } else {
+                Parse::Meaningless
+            }
+        }
+        Parse::Meaningless => Parse::Meaningless,
+    }
+}
+
+/// The order with one option more, each of which stands at most once.
+fn with_option<'a>(order: Order<'a>, word: &str) -> Parse<'a>
+    requires { order.steps < 10 ^ 10 }
+    ensures parsed { parsed_of result ≡ with_option (order_of order.entry) word.now }
+    ensures steps { ParsesFewSteps result }
+{
+    match word {
+        "--schedule" => once(order.schedule.is_some(), Parse::Lacks(order)),
+        "--dump" => once(
+            order.dump,
+            Parse::Stands(Order {
+                dump: true,
+                ..order
+            }),
+        ),
+        "--tables" => once(
+            order.tables,
+            Parse::Stands(Order {
+                tables: true,
+                ..order
+            }),
+        ),
+        "--counts" => once(
+            order.counts,
+            Parse::Stands(Order {
+                counts: true,
+                ..order
+            }),
+        ),
+        _ => Parse::Meaningless,
+    }
+}
+
+fn once(given: bool, parse: Parse<'_>) -> Parse<'_>
+    requires { ParsesFewSteps parse }
+    ensures parsed { parsed_of result ≡ once given (parsed_of parse.entry) }
+    ensures steps { ParsesFewSteps result }
+{
+    if given { Parse::Meaningless } else { parse }
 }
 
 fn is_name(word: &str) -> bool

@@ -1,17 +1,17 @@
-use Rattle.std.proofs.Common.{Some, refl}
-use Rattle.mx_run.specs.Words.{Asm}
-use Rattle.mx_run.specs.Finding.{Whole}
-use Rattle.mx_run.specs.Outcome.{source_file, lack_of, assembled}
-use Rattle.mx_run.proofs.Endings.{reacts_found, reacts_refused, unless_lacking}
+use Rattle.std.proofs.Common.{refl}
+use Rattle.mx_run.specs.Outcome.{End, assembled}
+use Rattle.mx_run.proofs.Continued.{continues_end}
 use Rattle.mx_run.proofs.assembling.write_image.Goals as goal
 
 pub returns-in-Ok : goal.returns-in-Ok
 returns-in-Ok g c =
-    λ dump. reacts_found g.S.Store.gives (Some (Asm c.args.source.now)) (source_file c.args.source.now) refl (Whole c.in-Ok.bytes.items)
-    (assembled c.args.source.now c.in-Ok.bytes.items) refl refl c.in-Ok.ensures.found (rw c.as_slice.ensures.value at (c.assemble_bytes.ensures dump))
+    let source = c.args.source.now in
+    let takes = rw c.source_file.ensures at c.in-Ok.ensures.takes in
+    λ dump. takes.1 (λ bytes more. End (assembled source bytes)) _ _ _ _
+    (continues_end g.S.Store.gives (λ more. End (assembled source c.in-Ok.bytes.items)) (assembled source c.in-Ok.bytes.items) refl c.take_file.new.store
+    (rw (c.as_slice.ensures.value, takes.0) at (c.assemble_bytes.ensures dump)))
 
 pub returns-in-Err : goal.returns-in-Err
 returns-in-Err g c =
-    let file = source_file c.args.source.now in
-    λ dump. reacts_refused g.S.Store.gives (Some (Asm c.args.source.now)) file refl refl (λ found status lack. unless_lacking file (lack_of file found) status _ lack)
-    c.in-Err.fault c.in-Err.ensures.found (rw c.source_file-file.ensures at (c.refuse_file.ensures (g.C.Sink.state c.args.console.now) dump))
+    let takes = rw c.source_file.ensures at c.in-Err.ensures.takes in
+    λ dump. takes (λ bytes more. End (assembled c.args.source.now bytes)) (g.C.Sink.state c.args.console.now) dump

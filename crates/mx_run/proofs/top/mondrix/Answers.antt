@@ -4,12 +4,12 @@ use Rattle.mx_run.proofs.top.mondrix.Goals as goal
 
 pub returns-clause-answered : goal.returns-clause-answered
 returns-clause-answered g c =
-    answered_for g.S.Store.state g.S.Store.gives g.met.S.Store.tells _ _ (meaning c.args.words.now) _ _ _ (c.react.ensures (g.D.Sink.state c.args.dump.now))
+    answered_for g.S.Store.state g.S.Store.gives g.met.S.Store.tells _ _ (meaning c.args.words.now) _ _ _ c.react.ensures
 
 pub returns-clause-headline : goal.returns-clause-headline
 returns-clause-headline g c =
-    headline_for g.S.Store.state g.S.Store.gives g.met.S.Store.tells _ _ (meaning c.args.words.now) _ _ _ (c.react.ensures (g.D.Sink.state c.args.dump.now))
+    headline_for g.S.Store.state g.S.Store.gives g.met.S.Store.tells _ _ (meaning c.args.words.now) _ _ _ c.react.ensures
 
 pub returns-clause-complete : goal.returns-clause-complete
 returns-clause-complete g c =
-    complete_for g.S.Store.state g.S.Store.gives g.met.S.Store.tells _ _ (meaning c.args.words.now) _ _ _ (c.react.ensures (g.D.Sink.state c.args.dump.now))
+    complete_for g.S.Store.state g.S.Store.gives g.met.S.Store.tells _ _ (meaning c.args.words.now) _ _ _ c.react.ensures

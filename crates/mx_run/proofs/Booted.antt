@@ -1,0 +1,35 @@
+-- What a plan's state at boot is.
+use Rattle.std.proofs.Common.{◌≡◌, ℕ, Bool, true, false, cond, List, Option, Some, None, Ok, Err, refl, sym, subst}
+use Rattle.std.proofs.lemmas.List.{length-map}
+use Rattle.mx_words.specs.Need.{within}
+use Rattle.mx_manifest.specs.declared.fault.BootFault.{BootFault}
+use Rattle.mx_manifest.specs.Plan.{Said}
+use Rattle.mx_model.specs.State.{State, Flat, flat}
+use Rattle.mx_boot.specs.Boot.{Refusal, TooFull, module_of, boot_need, boot_state, limited, unless, boot_of}
+use Rattle.mx_boot.specs.Faults.{first_fault}
+use Rattle.mx_run.specs.Running.{IsNew, IsFresh}
+
+if_ok : (b : Bool) (s t : State) (e : Refusal) → cond b (Ok s) (Err e) ≡ Ok t → t ≡ s
+if_ok true s t e is = cc
+if_ok false s t e is = cc
+
+unless_ok : (o : Option BootFault) (s t : State) → unless o (limited s) ≡ Ok t → t ≡ s
+unless_ok None s t is = if_ok (within (boot_need s) s.core.limit) s t (TooFull (boot_need s) s.core.limit) is
+unless_ok (Some fault) s t is = cc
+
+-- an accepted boot gives the state at boot
+pub boots : (plan : Said) (images : List (List ℕ)) (t : State) → boot_of plan images ≡ Ok t → t ≡ boot_state plan images
+unfolding boot_of
+boots plan images t is = unless_ok (first_fault plan images) (boot_state plan images) t is
+
+-- which has no texts
+pub boots_new : (plan : Said) (images : List (List ℕ)) (t : State) → boot_of plan images ≡ Ok t → IsNew t
+boots_new plan images t is = rw (boots plan images t is) (record { console = refl; notes = refl })
+
+-- and has made no turn
+fresh : (plan : Said) (images : List (List ℕ)) → IsFresh plan (flat (boot_state plan images))
+fresh plan images = record { turns = refl; kind = refl; limit = refl; modules = length-map plan.modules module_of }
+
+pub boots_fresh : (plan : Said) (images : List (List ℕ)) (t : State) (m : Flat) → boot_of plan images ≡ Ok t → m ≡ flat t → IsFresh plan m
+boots_fresh plan images t m is means =
+    subst (λ (f : Flat). IsFresh plan f) (sym means) (subst (λ (s : State). IsFresh plan (flat s)) (sym (boots plan images t is)) (fresh plan images))

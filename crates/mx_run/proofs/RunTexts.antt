@@ -1,0 +1,211 @@
+-- Runs turn by turn, and their texts through the buffers.
+use Rattle.std.proofs.Common.{◌≡◌, ℕ, zero, suc, ◌+◌, ◌-◌, ◌<◌, ◌≤◌, Bool, true, false, ◌||◌, List, [], ◌++◌, option_to_list, Some, None, Ok, Err, cond, refl, sym, ap, subst, ◌∙◌, inl, inr, append_assoc, arith}
+use Rattle.std.proofs.lemmas.List.{append-nil}
+use Rattle.std.proofs.lemmas.Grind.{flat_map-append}
+use Rattle.mx_model.specs.Events.{Events}
+use Rattle.mx_model.specs.declared.values.TurnKind.{TurnKind}
+use Rattle.mx_model.specs.Run.{Schedule, hart_of, is_over, all_halted, is_stopped, made_of, turn, run, flat_kind, flat_made}
+use Rattle.mx_machine.specs.Turning.{IsTold}
+use Rattle.mx_model.specs.Reads.{flat_reads}
+use Rattle.mx_model.specs.Run.{flat_turn}
+use Rattle.mx_model.specs.State.{Core, State, Flat, flat}
+use Rattle.mx_model.proofs.RunLaws.{run-add}
+use Rattle.mx_model.proofs.KeepLaws.{keeps-turned}
+use Rattle.mx_report.specs.Lines.{note_line}
+use Rattle.mx_run.specs.declared.status.Status.{Status}
+use Rattle.mx_run.specs.Running.{named, Places, Makes, MakesOrStops, HasRun, Stops, Begins, IsNext, IsTurnOf, GoesOn, ShowsOrStops, KeepsShape, may_tell, note_lines, note_text}
+use Rattle.mx_run.proofs.Quiet.{quiet_turned}
+use Rattle.mx_run.proofs.Sinking.{moves_nothing, moves_moves, moves_breaks, moves_front, breaks_more, breaks_same}
+
+-- what a run of one turn more is, where it has stopped, or hasn't
+abbrev next_of : Schedule → ℕ → State → Bool → State
+next_of schedule n s b = elim b [ true ↦ s | false ↦ run schedule n (turn s (hart_of schedule s.core)) ]
+
+-- a run that has stopped makes no further turn
+stopped : (schedule : Schedule) (n : ℕ) (s : State) → is_stopped schedule s ≡ true → run schedule n s ≡ s
+stopped schedule zero s e = refl
+stopped schedule (suc n) s e = ap (next_of schedule n s) e
+
+-- one more turn
+going : (schedule : Schedule) (n : ℕ) (s : State) → is_stopped schedule s ≡ false → run schedule (suc n) s ≡ run schedule n (turn s (hart_of schedule s.core))
+going schedule n s e = ap (next_of schedule n s) e
+
+-- a run of n turns, of which i made it stop
+pub run_ends : (schedule : Schedule) (i n : ℕ) (s : State) → i ≤ n → is_stopped schedule (run schedule i s) ≡ true → run schedule n s ≡ run schedule i s
+run_ends schedule i n s few e =
+    let whole : n ≡ i + (n - i) = omega (arith, few) in
+    ap (λ k. run schedule k s) whole ∙ run-add schedule i (n - i) s ∙ stopped schedule (n - i) (run schedule i s) e
+
+-- a run of one turn more
+pub run_more : (schedule : Schedule) (i : ℕ) (s : State) (h : ℕ) → is_stopped schedule (run schedule i s) ≡ false → h ≡ hart_of schedule (run schedule i s).core
+    → run schedule (i + 1) s ≡ turn (run schedule i s) h
+run_more schedule i s h e is = run-add schedule i 1 s ∙ going schedule zero (run schedule i s) e ∙ ap (turn (run schedule i s)) (sym is)
+
+-- whether a run has stopped
+halted_stops : (a b : Bool) → a ≡ true → (a || b) ≡ true
+halted_stops true b e = refl
+halted_stops false b e = cc
+
+over_stops : (a b : Bool) → b ≡ true → (a || b) ≡ true
+over_stops true b e = refl
+over_stops false b e = e
+
+both_go : (a b : Bool) → a ≡ false → b ≡ false → (a || b) ≡ false
+both_go true b e f = cc
+both_go false b e f = f
+
+pub stops_halted : (schedule : Schedule) (s : State) → all_halted s.core ≡ true → is_stopped schedule s ≡ true
+stops_halted schedule s e = halted_stops (all_halted s.core) (is_over schedule s.core.turns) e
+
+named_none : (b : Bool) (h : ℕ) → cond b None (Some h) ≡ None → b ≡ true
+named_none true h e = refl
+named_none false h e = cc
+
+named_some : (b : Bool) (h k : ℕ) → cond b None (Some h) ≡ Some k → (b ≡ false) × (k ≡ h)
+named_some true h k e = cc
+named_some false h k e = (refl, cc)
+
+pub stops_over : (schedule : Schedule) (s : State) → named schedule s.core ≡ None → is_stopped schedule s ≡ true
+stops_over schedule s e = over_stops (all_halted s.core) (is_over schedule s.core.turns) (named_none (is_over schedule s.core.turns) (hart_of schedule s.core) e)
+
+pub goes_on : (schedule : Schedule) (s : State) (h : ℕ) → all_halted s.core ≡ false → named schedule s.core ≡ Some h → (is_stopped schedule s ≡ false) × (h ≡ hart_of schedule s.core)
+goes_on schedule s h halted e =
+    let n = named_some (is_over schedule s.core.turns) (hart_of schedule s.core) h e in
+    (both_go (all_halted s.core) (is_over schedule s.core.turns) halted n.0, n.1)
+
+-- what is behind the texts of a state in those of a later one
+pub record Grows (s f : State) : Type 0 where
+  pub more : List ℕ
+  pub console : f.console ≡ s.console ++ more
+  pub lines : List ℕ
+  pub notes : note_lines f.notes ≡ note_lines s.notes ++ lines
+
+grows_none : (s : State) → Grows s s
+grows_none s = record { more = []; console = sym (append-nil s.console); lines = []; notes = sym (append-nil (note_lines s.notes)) }
+
+-- the lines of the notes after a turn
+turn_lines : (s : State) (h : ℕ) → note_lines (turn s h).notes ≡ note_lines s.notes ++ note_text (made_of s h).note
+turn_lines s h = flat_map-append note_line s.notes (option_to_list (made_of s h).note)
+
+grows_turn : (s f : State) (h : ℕ) → Grows (turn s h) f → Grows s f
+grows_turn s f h g = record {
+  more = (made_of s h).console ++ g.more;
+  console = g.console ∙ append_assoc s.console (made_of s h).console g.more;
+  lines = note_text (made_of s h).note ++ g.lines;
+  notes = g.notes ∙ ap (λ t. t ++ g.lines) (turn_lines s h) ∙ append_assoc (note_lines s.notes) (note_text (made_of s h).note) g.lines;
+}
+
+-- runs only append
+grows_run : (schedule : Schedule) (n : ℕ) (s : State) → Grows s (run schedule n s)
+grows_run schedule zero s = grows_none s
+grows_run schedule (suc n) s =
+    elim (is_stopped schedule s) as (λ b. is_stopped schedule s ≡ b → Grows s (run schedule (suc n) s)) [
+      | true ↦ λ t. subst (λ (f : State). Grows s f) (sym (stopped schedule (suc n) s t)) (grows_none s)
+      | false ↦ λ f. subst (λ (u : State). Grows s u) (sym (going schedule n s f)) (grows_turn s _ (hart_of schedule s.core) (grows_run schedule n (turn s (hart_of schedule s.core))))
+    ] refl
+
+-- a run of n turns goes on behind its first i turns
+pub grows_on : (schedule : Schedule) (i n : ℕ) (s : State) → i ≤ n → Grows (run schedule i s) (run schedule n s)
+grows_on schedule i n s few =
+    let whole : n ≡ i + (n - i) = omega (arith, few) in
+    subst (λ (f : State). Grows (run schedule i s) f) (sym (ap (λ k. run schedule k s) whole ∙ run-add schedule i (n - i) s)) (grows_run schedule (n - i) (run schedule i s))
+
+-- the run begins
+pub run_begins : (s : State) (machine : Flat) (places : Places) → Begins s machine places → HasRun s machine places places
+run_begins s machine places b = record {
+  state = b.state;
+  console = rw (b.shown, b.console) (moves_nothing [] places.console);
+  report = rw (b.told, b.notes) (moves_nothing [] places.report);
+}
+
+-- one more turn was made
+pub run_makes : (s : State) (h : ℕ) (m k : Flat) (before mid now : Places) → HasRun s m before mid → Makes s h k mid now → HasRun (turn s h) k before now
+run_makes s h m k before mid now r t = record {
+  state = t.state;
+  console = moves_moves [] mid.shown now.shown before.console mid.console now.console s.console (made_of s h).console r.console t.console;
+  report =
+      rw (turn_lines s h) (moves_moves [] mid.told now.told before.report mid.report now.report (note_lines s.notes) (note_text (made_of s h).note) r.report t.report);
+}
+
+-- one more turn was made, and what it adds couldn't be put
+pub run_stops : (s f : State) (h : ℕ) (m k : Flat) (before mid now : Places) (status : Status) → HasRun s m before mid → Grows (turn s h) f → MakesOrStops {A = Unit {0}} s h k mid now (Err status)
+    → Stops before.console now.console f.console before.report now.report (note_lines f.notes) status
+run_stops s f h m k before mid now status r g (inl e) =
+    let all = grows_turn s f h g in
+    inl (
+      e.0,
+      breaks_same before.console now.console _ _ (sym g.console)
+          (breaks_more before.console now.console (turn s h).console g.more (moves_breaks [] mid.shown mid.shown before.console mid.console now.console s.console (made_of s h).console r.console e.1)),
+      rw (e.2, all.notes) (moves_front mid.told before.report mid.report (note_lines s.notes) all.lines r.report),
+    )
+run_stops s f h m k before mid now status r g (inr e) =
+    let console = moves_moves [] mid.shown now.shown before.console mid.console now.console s.console (made_of s h).console r.console e.1 in
+    inr (
+      e.0,
+      rw g.console (moves_front now.shown before.console now.console (turn s h).console g.more console),
+      breaks_same before.report now.report _ _ (ap (λ t. t ++ g.lines) (sym (turn_lines s h)) ∙ sym g.notes)
+          (breaks_more before.report now.report (note_lines s.notes ++ note_text (made_of s h).note) g.lines
+          (moves_breaks [] mid.told mid.told before.report mid.report now.report (note_lines s.notes) (note_text (made_of s h).note) r.report e.2)),
+    )
+
+-- what a turn keeps and counts
+pub turn_next : (f g : Flat) (h : ℕ) → g ≡ flat_turn f h → IsNext f g
+turn_next f g h is =
+    let k = keeps-turned (flat_reads f) f.core h in
+    rw is (record { turns = k.turns; kind = k.kind; limit = k.limit; modules = k.modules; harts = k.harts })
+
+-- a turn that neither traps nor calls
+pub turn_goes_on : (f g : Flat) (h : ℕ) (events : Events) (k : TurnKind) → g ≡ flat_turn f h → IsTold (flat_made f h) events → k ≡ flat_kind f h → may_tell k ≡ false
+    → GoesOn f.core events g.core
+turn_goes_on f g h events k is told kind quiet =
+    let q = quiet_turned (flat_reads f) f.core h (ap may_tell (sym kind) ∙ quiet) in
+    record { bytes = told.bytes ∙ q.console; note = told.note ∙ q.note; going = λ e. ap (λ (x : Flat). all_halted x.core) is ∙ q.going e }
+
+-- a turn was made that added nothing
+pub makes_quiet : (s : State) (h : ℕ) (m : Flat) (c : Core) (events : Events) (at : Places) → IsTurnOf s h m events → GoesOn c events m.core → Makes s h m at at
+makes_quiet s h m c events at is quiet = record {
+  state = is.state;
+  console = rw (sym is.bytes ∙ quiet.bytes) (moves_nothing at.shown at.console);
+  report = rw (sym is.note ∙ quiet.note) (moves_nothing at.told at.report);
+}
+
+-- a turn was made, and what it added was put
+pub makes_shown : (A : Type 0) (a : A) (s : State) (h : ℕ) (m : Flat) (events : Events) (before now : Places) → IsTurnOf s h m events
+    → ShowsOrStops events.bytes (note_text events.note) before now (Ok a) → Makes s h m before now
+makes_shown A a s h m events before now is shows = record {
+  state = is.state;
+  console = rw is.bytes at shows.0;
+  report = rw is.note at shows.1;
+}
+
+-- or couldn't be put
+pub makes_stopped : (A B : Type 0) (s : State) (h : ℕ) (m : Flat) (events : Events) (before now : Places) (status : Status) → IsTurnOf s h m events
+    → ShowsOrStops {A = A} events.bytes (note_text events.note) before now (Err status) → MakesOrStops {A = B} s h m before now (Err status)
+makes_stopped A B s h m events before now status is stops = rw (is.bytes, is.note) at stops
+
+pub keeps_none : (f : Flat) → KeepsShape f f
+keeps_none f = record { kind = refl; limit = refl; modules = refl }
+
+pub keeps_next : (f g h : Flat) → KeepsShape f g → IsNext g h → KeepsShape f h
+keeps_next f g h k n = record { kind = n.kind ∙ k.kind; limit = n.limit ∙ k.limit; modules = n.modules ∙ k.modules }
+
+-- what a machine tells of a run's next turn
+module _ (schedule : Schedule) (i n : ℕ) (s : State) (m : Flat) (is : m ≡ flat (run schedule i s)) where
+  core_is : m.core ≡ (run schedule i s).core
+  core_is = ap (λ (f : Flat). f.core) is
+
+  pub goes_to : (h : ℕ) → all_halted m.core ≡ false → named schedule m.core ≡ Some h → run schedule (i + 1) s ≡ turn (run schedule i s) h
+  goes_to h halted name =
+      let go = goes_on schedule (run schedule i s) h (ap all_halted (sym core_is) ∙ halted) (ap (named schedule) (sym core_is) ∙ name) in
+      run_more schedule i s h go.0 go.1
+
+  pub ends_after : (h : ℕ) → i < n → run schedule (i + 1) s ≡ turn (run schedule i s) h → (k : Flat) → k ≡ flat (turn (run schedule i s) h) → all_halted k.core ≡ true
+      → run schedule n s ≡ turn (run schedule i s) h
+  ends_after h few more k after halted =
+      run_ends schedule (i + 1) n s (omega (arith, few)) (stops_halted schedule (run schedule (i + 1) s) (ap (λ (x : State). all_halted x.core) more ∙ ap (λ (f : Flat). all_halted f.core) (sym after) ∙ halted)) ∙ more
+
+  pub ends_halted : i ≤ n → all_halted m.core ≡ true → run schedule n s ≡ run schedule i s
+  ends_halted few halted = run_ends schedule i n s few (stops_halted schedule (run schedule i s) (ap all_halted (sym core_is) ∙ halted))
+
+  pub ends_over : i ≤ n → named schedule m.core ≡ None → run schedule n s ≡ run schedule i s
+  ends_over few over = run_ends schedule i n s few (stops_over schedule (run schedule i s) (ap (named schedule) (sym core_is) ∙ over))

@@ -1,0 +1,50 @@
+use Rattle.std.proofs.Common.{ℕ, ◌+◌, List, drop, refl, ◌∙◌, arith}
+use Rattle.std.proofs.lemmas.List.{drop_all}
+use Rattle.mx_boot.specs.Boot.{boot_of}
+use Rattle.mx_run.specs.Asked.{order_of}
+use Rattle.mx_run.specs.Outcome.{booted}
+use Rattle.mx_run.proofs.Continued.{continues_wanting}
+use Rattle.mx_run.proofs.ImageSteps.{drop_got}
+use Rattle.mx_run.proofs.booting.with_plan.Goals as goal
+
+pub returns-in-Err-push : goal.returns-in-Err-push
+returns-in-Err-push g c =
+    let rest = λ (images : List (List ℕ)). booted (order_of c.args.order.now) c.args.plan.now (boot_of c.args.plan.now images) in
+    let modules = c.args.plan.now.modules in
+    let behind = drop_got modules c.modules.i c.module.result.now c.module.ensures.value in
+    let comes = rw behind at (c.modules.invariant.comes rest) in
+    let takes = c.in-Ok.ensures in
+    comes _ _ _ _
+    (takes.1 (drop (c.modules.i + 1) modules) c.modules.images.items rest _ _ _ _
+    (continues_wanting g.S.Store.gives _ c.take_image.new.store refl (record { console = refl; report = takes.0 ∙ c.modules.invariant.report; dump = refl })))
+
+pub returns-in-Err : goal.returns-in-Err
+returns-in-Err g c =
+    let rest = λ (images : List (List ℕ)). booted (order_of c.args.order.now) c.args.plan.now (boot_of c.args.plan.now images) in
+    let modules = c.args.plan.now.modules in
+    let behind = drop_got modules c.modules.i c.module.result.now c.module.ensures.value in
+    let comes = rw behind at (c.modules.invariant.comes rest) in
+    let takes = rw c.modules.invariant.report at c.in-Err.ensures in
+    comes _ _ _ _ (takes (drop (c.modules.i + 1) modules) c.modules.images.items rest (g.C.Sink.state c.args.console.now) (g.D.Sink.state c.args.dump.now))
+
+pub modules-preserved : goal.modules-preserved
+modules-preserved g c =
+    let modules = c.args.plan.now.modules in
+    let behind = drop_got modules c.modules.i c.module.result.now c.module.ensures.value in
+    let takes = c.in-Ok.ensures in
+    record {
+      report = takes.0 ∙ c.modules.invariant.report;
+      comes =
+          λ rest end before now result continues.
+          let comes = rw behind at (c.modules.invariant.comes rest) in
+          comes end before now result
+          (takes.1 (drop (c.modules.i + 1) modules) c.modules.images.items rest end before now result (rw c.in-Ok-push.ensures.items at continues));
+    }
+
+pub returns : goal.returns
+returns g c =
+    let rest = λ (images : List (List ℕ)). booted (order_of c.args.order.now) c.args.plan.now (boot_of c.args.plan.now images) in
+    let modules = c.args.plan.now.modules in
+    let all = drop_all c.modules.i modules (omega (arith, c.modules-test.false, c.modules-i-end.ensures.value)) in
+    let comes = rw all at (c.modules.invariant.comes rest) in
+    comes _ _ _ _ (rw c.modules.invariant.report at c.with_images.ensures)
