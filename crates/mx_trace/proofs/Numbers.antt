@@ -1,5 +1,5 @@
 -- Numbers in decimal are read back.
-use Rattle.std.proofs.Common.{◌≡◌, ◌==◌, ℕ, zero, suc, ◌+◌, ◌-◌, ◌*◌, ◌/◌, ◌%◌, ◌^◌, pred, ◌<◌, ◌≤◌, min, Bool, true, false, cond, not, ◌&&◌, ◌||◌, List, [], ◌∷◌, ◌++◌, length, fold, take, drop, refl, ap, sym, ◌∙◌, arith, nat_eq, nat_lt, nat_le, Option, Some, None, option_map, decimal, codes, ltb}
+use Rattle.std.proofs.Common.{◌≡◌, ℕ, suc, ◌+◌, ◌-◌, ◌/◌, ◌%◌, ◌^◌, ◌<◌, ◌≤◌, Bool, true, false, ◌&&◌, List, [], ◌∷◌, ◌++◌, length, fold, refl, ap, ◌∙◌, arith, nat_eq, nat_le, Some, decimal, codes}
 use Rattle.std.specs.Char.{is_ascii_digit}
 use Rattle.std.specs.List.{list_all, starts_with}
 use Rattle.std.proofs.lemmas.Bool.{leb-true, lt-ltb, le-leb, le-ltb, and_parts, and_from, ne_eqb}

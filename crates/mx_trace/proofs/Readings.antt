@@ -1,5 +1,5 @@
 -- The text of each instruction is read as that instruction.
-use Rattle.std.proofs.Common.{◌≡◌, ◌==◌, ℕ, ◌+◌, ◌-◌, ◌*◌, ◌/◌, ◌%◌, ◌^◌, ◌<◌, ◌≤◌, ◌⊎◌, inl, inr, ⊎_elim, Bool, true, false, cond, not, ◌&&◌, ◌||◌, List, [], ◌∷◌, ◌++◌, length, refl, ap, sym, ◌∙◌, arith, nat_le, Option, Some, None, decimal}
+use Rattle.std.proofs.Common.{◌≡◌, ◌==◌, ℕ, ◌-◌, ◌*◌, ◌/◌, ◌%◌, ◌^◌, ◌<◌, ◌≤◌, ◌⊎◌, inl, inr, ⊎_elim, Bool, true, false, cond, not, ◌&&◌, ◌||◌, List, [], ◌∷◌, ◌++◌, length, refl, ap, arith, nat_le, Some, decimal}
 use Rattle.std.specs.List.{list_all}
 use Rattle.std.proofs.lemmas.Bool.{and_from, le-leb, eq-eqb, cases_lt}
 use Rattle.std.proofs.lemmas.List.{append-nil}
@@ -9,13 +9,12 @@ use Rattle.mx_isa.specs.declared.inst.ImmOp.{ImmOp}
 use Rattle.mx_isa.specs.declared.inst.ImmOp.TheVariants.{Addi, Slti, Sltiu, Xori, Ori, Andi, Slli, Srli, Srai}
 use Rattle.mx_isa.specs.Ranges.{IsValid, IsExtended, IsOperand}
 use Rattle.mx_source.specs.declared.number.Number.{Number}
-use Rattle.mx_source.specs.declared.number.Range.{Range}
 use Rattle.mx_source.specs.declared.mnemonics.Form.{Form}
-use Rattle.mx_source.specs.declared.mnemonics.Form.TheVariants.{Lui, Auipc, Jal, Jalr, Branch, Load, Store, OpImm, Op, Fence, Ecall, Ebreak}
-use Rattle.mx_source.specs.Numbers.{number_of, number_bits, plain_number, negative_number, fits}
-use Rattle.mx_source.specs.Operands.{register_of, is_operand, is_name, indexed_of}
+use Rattle.mx_source.specs.declared.mnemonics.Form.TheVariants.{Lui, Auipc, Jal, Jalr, Branch, Load, Store, OpImm, Op, Fence}
+use Rattle.mx_source.specs.Numbers.{number_bits, plain_number, negative_number, fits}
+use Rattle.mx_source.specs.Operands.{is_operand}
 use Rattle.mx_source.specs.Mnemonics.{form_name}
-use Rattle.mx_source.specs.Fields.{Fields, fields, Value, Given, value_of, number_fields, value_fields, branch_fields, load_fields, store_fields, immediate_fields, register_fields, fence_fields, fields_of, range_of, no_value}
+use Rattle.mx_source.specs.Fields.{Fields, fields, Given, value_of, number_fields, value_fields, branch_fields, load_fields, store_fields, immediate_fields, register_fields, fence_fields, fields_of, range_of, no_value}
 use Rattle.mx_asm.specs.Instructions.{inst_of}
 use Rattle.mx_trace.specs.Text.{signed_text, upper_text, jump_text, pair_text, indexed_text, register_text, fence_text, inst_text}
 use Rattle.mx_trace.proofs.Solid.{AreParts, joined}

@@ -1,10 +1,10 @@
 -- Registers in decimal are read back.
-use Rattle.std.proofs.Common.{◌≡◌, ◌==◌, ℕ, zero, suc, ◌+◌, ◌<◌, ◌≤◌, Bool, true, false, ◌&&◌, List, [], ◌∷◌, length, refl, sym, ◌∙◌, arith, nat_eq, nat_lt, Option, Some, None, decimal}
+use Rattle.std.proofs.Common.{◌≡◌, ◌==◌, ℕ, zero, suc, ◌<◌, Bool, true, false, ◌&&◌, List, ◌∷◌, length, refl, arith, nat_eq, nat_lt, Option, Some, None, decimal}
 use Rattle.std.specs.Fmt.{digits}
 use Rattle.std.specs.List.{list_all}
 use Rattle.std.specs.Option.{option_map_or}
 use Rattle.std.proofs.lemmas.Bool.{ltb-true, and_parts, eqb-true, eqb-false}
-use Rattle.mx_source.specs.Operands.{register_of, is_operand, is_name}
+use Rattle.mx_source.specs.Operands.{register_of, is_name}
 use Rattle.mx_trace.proofs.Solid.{is_solid, is_free, IsPart}
 
 abbrev all_below : (ℕ → Bool) → ℕ → Bool

@@ -1,12 +1,11 @@
 -- Texts without blanks, marks and quotes, as the words, registers and numbers of a statement are.
-use Rattle.std.proofs.Common.{◌≡◌, ◌≢◌, ◌==◌, ℕ, suc, ◌+◌, ◌-◌, ◌<◌, ◌≤◌, Bool, true, false, cond, not, ◌&&◌, ◌||◌, List, [], ◌∷◌, ◌++◌, length, take, drop, map, reverse, slice_index, refl, ap, sym, ◌∙◌, arith, nat_lt, zero-add, add-zero, append_assoc}
-use Rattle.std.specs.List.{list_all, prefix_len, take_while, onto_first, AllByRecursion}
-use Rattle.std.proofs.lemmas.Bool.{ltb-true, eqb-false, ne_eqb, and_parts, and_from, or_from}
-use Rattle.std.proofs.lemmas.List.{append-nil, reverse-append, reverse-reverse, length-append, length-reverse, take_all, take-append-le, drop-append-le, drop_all}
+use Rattle.std.proofs.Common.{◌≡◌, ◌==◌, ℕ, ◌+◌, ◌<◌, Bool, true, false, not, ◌&&◌, List, [], ◌∷◌, ◌++◌, length, map, reverse, refl, ap, sym, ◌∙◌, arith, nat_lt, zero-add, append_assoc}
+use Rattle.std.specs.List.{list_all, onto_first, AllByRecursion}
+use Rattle.std.proofs.lemmas.Bool.{ltb-true, ne_eqb, and_parts, and_from, or_from}
+use Rattle.std.proofs.lemmas.List.{append-nil, reverse-append, reverse-reverse, length-append, length-reverse}
 use Rattle.std.proofs.lemmas.List.Folds.{list_all-append}
-use Rattle.mx_source.specs.declared.characters.Quotes.TheVariants.{Outside, Inside}
-use Rattle.mx_source.specs.Characters.{is_blank, trim_start, trim_end, trim, mark_place, parts, without_comment}
-use Rattle.mx_source.specs.Operands.{pieces_of}
+use Rattle.mx_source.specs.declared.characters.Quotes.TheVariants.{Outside}
+use Rattle.mx_source.specs.Characters.{is_blank, trim_start, trim_end, trim, mark_place, parts}
 use Rattle.mx_source.proofs.Steps.{parts-first}
 
 -- no blank, no end of a line, no quote, no mark

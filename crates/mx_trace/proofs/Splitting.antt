@@ -1,15 +1,15 @@
 -- How the line of a word and operands is split.
-use Rattle.std.proofs.Common.{◌≡◌, ◌==◌, ℕ, suc, ◌+◌, ◌-◌, ◌<◌, ◌≤◌, Bool, true, false, cond, ◌&&◌, List, [], ◌∷◌, ◌++◌, length, take, drop, map, slice_index, refl, ap, sym, ◌∙◌, arith, nat_lt, Option, Some, None, append_assoc}
+use Rattle.std.proofs.Common.{◌≡◌, ◌==◌, ℕ, suc, ◌<◌, Bool, true, false, ◌&&◌, List, [], ◌∷◌, ◌++◌, length, take, drop, slice_index, refl, ap, sym, ◌∙◌, arith, nat_lt, Some, None, append_assoc}
 use Rattle.std.specs.List.{list_all, prefix_len, take_while}
-use Rattle.std.proofs.lemmas.Bool.{and_parts, and_from, ne_eqb, ltb-true}
-use Rattle.std.proofs.lemmas.List.{length-append, take_all, take-append-le, drop-append-le, drop_all}
+use Rattle.std.proofs.lemmas.Bool.{and_parts, ne_eqb, ltb-true}
+use Rattle.std.proofs.lemmas.List.{length-append, take_all, take-append-le}
 use Rattle.mx_source.specs.declared.mnemonics.Keyword.{Keyword}
 use Rattle.mx_source.specs.declared.characters.Quotes.TheVariants.{Outside}
-use Rattle.mx_source.specs.Characters.{is_in_name, is_in_word, mark_place, trim_start, trim, without_comment, parts}
+use Rattle.mx_source.specs.Characters.{is_in_name, is_in_word, mark_place, trim_start, trim, without_comment}
 use Rattle.mx_source.specs.Operands.{is_operand, pieces_of}
 use Rattle.mx_source.specs.Mnemonics.{keyword_of}
-use Rattle.mx_source.specs.Lines.{Line, Statement, Listed, is_word, statement_of, line_with_word, line_with_label, line_by_colon, trimmed_line, line_of}
-use Rattle.mx_trace.proofs.Solid.{is_solid, IsSolid, IsPart, AreParts, joined, mark-solid, hash_away, hash-joined, pieces-joined, start-solid, end-solid, ending, beginning}
+use Rattle.mx_source.specs.Lines.{Listed, is_word, statement_of, line_with_word, line_with_label, line_by_colon, trimmed_line, line_of}
+use Rattle.mx_trace.proofs.Solid.{is_solid, IsPart, AreParts, joined, mark-solid, hash_away, hash-joined, pieces-joined, start-solid, end-solid, ending, beginning}
 use Rattle.mx_trace.proofs.Words.{is_mnemonic}
 
 pub prefix-whole : (p : ℕ → Bool) (xs : List ℕ) (y : ℕ) (ys : List ℕ) → list_all p xs ≡ true → p y ≡ false → prefix_len p (xs ++ y ∷ ys) ≡ length xs

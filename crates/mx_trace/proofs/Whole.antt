@@ -1,8 +1,8 @@
 -- The source of an instruction's text has no fault, and its program is one segment with the instruction's word.
-use Rattle.std.proofs.Common.{◌≡◌, ◌==◌, ℕ, ◌+◌, ◌<◌, ◌⊎◌, inl, inr, ⊎_elim, Bool, true, false, cond, not, ◌&&◌, List, [], ◌∷◌, ◌++◌, length, refl, ap, sym, ◌∙◌, arith, Option, None, Some, codes, nat_lt}
+use Rattle.std.proofs.Common.{◌≡◌, ◌==◌, ℕ, ◌<◌, ◌⊎◌, inl, inr, ⊎_elim, Bool, true, ◌&&◌, List, [], ◌∷◌, ◌++◌, length, refl, ap, ◌∙◌, arith, None, Some, codes, nat_lt}
 use Rattle.std.specs.List.{list_all, slice_split, onto_first}
-use Rattle.std.specs.Str.Lines.{lines, lines_of_parts, strip_carriage_return}
-use Rattle.std.proofs.lemmas.Bool.{ltb-true, and_parts, and_from, ne_eqb}
+use Rattle.std.specs.Str.Lines.{lines}
+use Rattle.std.proofs.lemmas.Bool.{ltb-true, and_parts, ne_eqb}
 use Rattle.std.proofs.lemmas.List.{length-append, append-nil}
 use Rattle.mx_isa.specs.declared.inst.Inst.{Inst}
 use Rattle.mx_isa.specs.declared.inst.Inst.TheVariants as insts
@@ -15,18 +15,18 @@ use Rattle.mx_source.specs.declared.mnemonics.Form.{Form}
 use Rattle.mx_source.specs.declared.mnemonics.Form.TheVariants.{Ecall, Ebreak}
 use Rattle.mx_source.specs.declared.number.Number.{Number}
 use Rattle.mx_source.specs.Characters.{is_in_name, is_in_word}
-use Rattle.mx_source.specs.Operands.{is_name, pieces_of, text_of, indexed_of}
+use Rattle.mx_source.specs.Operands.{is_name, pieces_of}
 use Rattle.mx_source.specs.Numbers.{number_of, decimal_of, hexadecimal_of, fits, number_bits, plain_number}
 use Rattle.mx_source.specs.Mnemonics.{form_name, keyword_of}
-use Rattle.mx_source.specs.Lines.{Line, Listed, is_word, statement_of, line_with_word, line_with_label, line_with_name, line_by_colon, trimmed_line, line_of}
+use Rattle.mx_source.specs.Lines.{Listed, is_word, statement_of, line_with_word, line_with_label, line_by_colon, trimmed_line, line_of}
 use Rattle.mx_source.specs.Fields.{Fields, fields, no_value, no_fields, Given, fields_of, range_of}
 use Rattle.mx_asm.specs.Places.{start, address_number, address_of, size_of, place_listed, place_after}
-use Rattle.mx_asm.specs.Labels.{Definition, definition_of, with_name, labels_from}
+use Rattle.mx_asm.specs.Labels.{definition_of, with_name, labels_from}
 use Rattle.mx_asm.specs.Instructions.{inst_of, offset_of}
 use Rattle.mx_asm.specs.Faults.{operand_fault, label_fault, place_fault, line_fault, offset_fault, fault_from, offset_from}
 use Rattle.mx_asm.specs.Denoted.{bytes_of, with_listed, program_from, program_of, first_fault, labels_of_source}
 use Rattle.mx_trace.specs.Text.{inst_text, text_source}
-use Rattle.mx_trace.proofs.Solid.{is_solid, IsSolid, solid, IsPart, AreParts, joined}
+use Rattle.mx_trace.proofs.Solid.{is_solid, solid, IsPart, AreParts, joined}
 use Rattle.mx_trace.proofs.Words.{form_mnemonic, form_keyword}
 use Rattle.mx_trace.proofs.Splitting.{line-text}
 use Rattle.mx_trace.proofs.Readings.{IsRead, inst_read}

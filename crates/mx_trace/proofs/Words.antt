@@ -1,15 +1,10 @@
 -- The words of instructions: each is one that the assembler lists for it.
-use Rattle.std.proofs.Common.{◌≡◌, ◌==◌, ℕ, ◌<◌, Bool, true, ◌&&◌, List, [], ◌∷◌, length, refl, nat_lt, Some}
+use Rattle.std.proofs.Common.{◌≡◌, ℕ, Bool, true, ◌&&◌, List, length, refl, nat_lt, Some}
 use Rattle.std.specs.List.{list_all}
-use Rattle.mx_isa.specs.declared.inst.Cond.{Cond}
 use Rattle.mx_isa.specs.declared.inst.Cond.TheVariants.{Beq, Bne, Blt, Bge, Bltu, Bgeu}
-use Rattle.mx_isa.specs.declared.inst.LoadWidth.{LoadWidth}
 use Rattle.mx_isa.specs.declared.inst.LoadWidth.TheVariants.{Lb, Lh, Lw, Lbu, Lhu}
-use Rattle.mx_isa.specs.declared.inst.StoreWidth.{StoreWidth}
 use Rattle.mx_isa.specs.declared.inst.StoreWidth.TheVariants.{Sb, Sh, Sw}
-use Rattle.mx_isa.specs.declared.inst.ImmOp.{ImmOp}
 use Rattle.mx_isa.specs.declared.inst.ImmOp.TheVariants.{Addi, Slti, Sltiu, Xori, Ori, Andi, Slli, Srli, Srai}
-use Rattle.mx_isa.specs.declared.inst.RegOp.{RegOp}
 use Rattle.mx_isa.specs.declared.inst.RegOp.TheVariants.{Add, Sub, Sll, Slt, Sltu, Xor, Srl, Sra, Or, And, Mul, Mulh, Mulhsu, Mulhu, Div, Divu, Rem, Remu}
 use Rattle.mx_source.specs.declared.mnemonics.Form.{Form}
 use Rattle.mx_source.specs.declared.mnemonics.Form.TheVariants.{Lui, Auipc, Jal, Jalr, Branch, Load, Store, OpImm, Op, Fence, Ecall, Ebreak}
