@@ -1,5 +1,5 @@
 /* Refuses one allocation of a program, the one with the number REFUSE, counted from 1, by standing before the C library's allocator.
-   At the end writes how many there were to the file that COUNT names. */
+   At the end it writes how many there were to the file that COUNT names. */
 #define _GNU_SOURCE
 #include <dlfcn.h>
 #include <errno.h>
@@ -17,11 +17,11 @@ __attribute__((constructor)) static void begin(void) {
 __attribute__((destructor)) static void end(void) {
     const char *name = getenv("COUNT");
     unsigned long count = made;
+    refused = 0;
     FILE *file = name ? fopen(name, "w") : NULL;
-    if (file) {
-        fprintf(file, "%lu\n", count);
-        fclose(file);
-    }
+    if (!file) return;
+    fprintf(file, "%lu\n", count);
+    fclose(file);
 }
 
 static int is_refused(void) {
@@ -40,16 +40,4 @@ void *realloc(void *old, size_t size) {
     static void *(*real)(void *, size_t);
     if (!real) real = (void *(*)(void *, size_t))dlsym(RTLD_NEXT, "realloc");
     return is_refused() ? NULL : real(old, size);
-}
-
-void *aligned_alloc(size_t align, size_t size) {
-    static void *(*real)(size_t, size_t);
-    if (!real) real = (void *(*)(size_t, size_t))dlsym(RTLD_NEXT, "aligned_alloc");
-    return is_refused() ? NULL : real(align, size);
-}
-
-int posix_memalign(void **into, size_t align, size_t size) {
-    static int (*real)(void **, size_t, size_t);
-    if (!real) real = (int (*)(void **, size_t, size_t))dlsym(RTLD_NEXT, "posix_memalign");
-    return is_refused() ? ENOMEM : real(into, align, size);
 }
