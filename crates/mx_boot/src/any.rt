@@ -65,6 +65,11 @@ macro_rules! each {
     };
 }
 
+/// Lets a machine go.
+fn end<T: PermTables + Drop, const N: usize>(machine: Machine<T, N>) {
+    drop(machine);
+}
+
 impl AnyMachine {
     /// One turn of the hart of that number, which may be none (docs/MACHINE.md, "One turn"). What stood in `out` is dropped; the
     /// console bytes and the note of the turn are put there. Fewer than 2^64 - 1 turns were made.
@@ -272,14 +277,11 @@ impl AnyMachine {
         each!(self, machine => machine.stack_area(domain))
     }
 
-    /// Lets the machine go.
+    /// Lets the machine go, with the memory that it holds. A caller whose value goes out of scope does the same; this call keeps the
+    /// drop of nine kinds of machines out of the caller's proof.
     pub fn end(self) {
         each!(self, machine => end(machine))
     }
-}
-
-fn end<T: PermTables + Drop, const N: usize>(machine: Machine<T, N>) {
-    let _ended = machine;
 }
 
 /// A law: what a machine means is valid, and has a map for each module, each as long as RAM, and an owner for each word.

@@ -338,6 +338,30 @@ const FULL: [Step; 4] = [
     Step::Call(7, [0x8000_2FFC, 0, 0, 0], 0xFFFF_FFFB),
 ];
 
+/// One frame of entries for each domain.
+const ONE_FRAME_EACH: Need = Need {
+    upper: 0,
+    leaf: 2,
+    spill: 0,
+};
+
+// Domain 2's map gets 64 runs, which fill its frame. Then the calls that change rights, each where the change would part one more of
+// its runs.
+const FULL_FRAME: [Step; 5] = [
+    Step::Splits(0x8000_8000, 31),
+    Step::Call(3, [0x8000_80F8, 4, 2, 0], 0xFFFF_FFFB),
+    Step::Call(4, [0x8000_3000, 4, 0, 0], 0xFFFF_FFFB),
+    Step::Call(6, [1, 0, 0, 0], 0xFFFF_FFFB),
+    Step::Call(7, [0x8000_2FFC, 0, 0, 0], 0xFFFF_FFFB),
+];
+
+#[test]
+fn full_segments_refuse_changes_of_rights(rt: HostRuntime) -> Result<(), Fail> {
+    let segments = over_crowded_segments(rt.alloc(), ONE_FRAME_EACH, 1023, &FULL_FRAME);
+    assert_eq!(rt; segments, Ok(None));
+    Ok(())
+}
+
 #[test]
 fn full_tries_refuse_changes_of_rights(rt: HostRuntime) -> Result<(), Fail> {
     let multilevel = over_crowded_multilevel(rt.alloc(), TIGHT, 1023, &FULL);

@@ -19,6 +19,9 @@ pub enum Step {
     Call(u32, [u32; 4], u32),
     /// An exchange, which answers 0 and this word.
     Exchange([u32; 4], u32),
+    /// So many grants of permission none to domain 2, each of one word and 8 bytes behind the one before, from an address on. Each
+    /// answers 0.
+    Splits(u32, u32),
     /// An exit, which ends the hart with its code.
     Exit([u32; 4]),
     /// An exit of a hart with a frame on its cross stack, which is refused.
@@ -70,6 +73,7 @@ fn goes<T: PermTables, const N: usize>(
     match *step {
         Step::Call(number, args, a0) => answers(machine, number, args, plain(a0), out),
         Step::Exchange(args, old) => answers(machine, 13, args, exchanged(old), out),
+        Step::Splits(first, count) => splits(machine, first, count, out),
         Step::Exit(args) => answers(machine, 1, args, ended(args[0]), out),
         Step::ExitInside(args) => ask_inside(machine, 1, args, out) == plain(NESTED),
         Step::Store(word, value, may) => stores(machine, word, value, may),
@@ -119,6 +123,25 @@ fn answers<T: PermTables, const N: usize>(
     ensures { IsReady (parts_of T.kind T.maps T.size T.limits N machine.new) }
 {
     ask(machine, number, args, out) == want
+}
+
+/// Whether each of so many grants of permission none to domain 2, of one word each, answers 0.
+fn splits<T: PermTables, const N: usize>(
+    machine: &mut Supervisor<T, N>,
+    first: u32,
+    count: u32,
+    out: &mut Events,
+) -> bool
+    requires { IsReady (parts_of T.kind T.maps T.size T.limits N machine.old) }
+    ensures { IsReady (parts_of T.kind T.maps T.size T.limits N machine.new) }
+{
+    for i in 0..count {
+        let address = first.wrapping_add(i.wrapping_mul(8));
+        if !answers(machine, 3, [address, 4, 2, 0], plain(0), out) {
+            return false;
+        }
+    }
+    true
 }
 
 /// Whether a store may be made as said. It is made where it may.

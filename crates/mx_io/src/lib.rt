@@ -18,7 +18,7 @@ pub use bytes::Bytes;
 pub use files::Files;
 pub use folder::FolderStore;
 pub use loose::Loose;
-pub use piece::{Piece, put_pieces};
+pub use piece::{Piece, hex_digits, hex_number, put_pieces};
 pub use sink::{Sink, put_all};
 pub use store::Store;
 pub use streams::{FileSink, StderrSink, StdoutSink};

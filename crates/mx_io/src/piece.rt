@@ -55,7 +55,8 @@ fn hex_digit(digit: u32) -> u8
     }
 }
 
-fn hex_digits(number: u32) -> [u8; 8]
+/// The eight lower-case hexadecimal digits of a number, as ASCII.
+pub fn hex_digits(number: u32) -> [u8; 8]
     ensures { result ≡ hex_digits number }
 {
     [
@@ -70,7 +71,8 @@ fn hex_digits(number: u32) -> [u8; 8]
     ]
 }
 
-fn hex_number(number: u32) -> [u8; 10]
+/// The same after `0x`.
+pub fn hex_number(number: u32) -> [u8; 10]
     ensures { result ≡ hex_number number }
 {
     let [a, b, c, d, e, f, g, h] = hex_digits(number);

@@ -1,12 +1,12 @@
 //! Texts put on a sink through a buffer, so that many lines leave in one write.
-ghost use Rattle.std.specs.Prelude.{◌≡◌, ◌<◌, ◌≤◌};
+ghost use Rattle.std.specs.Prelude.{◌≡◌, ◌≤◌};
 ghost use Rattle.mx_words.specs.Ranges.{address_of, most_words};
-ghost use Rattle.mx_io.specs.Piece.{hex_digit, hex_digits, hex_number, piece_text, pieces_text};
+ghost use Rattle.mx_io.specs.Piece.{piece_text, pieces_text};
 ghost use Rattle.mx_report.specs.Tail.{Passes};
 
 use crate::Tail;
 use itoa::Buffer;
-use mx_io::{Failed, Piece, Sink};
+use mx_io::{Failed, Piece, Sink, hex_digits, hex_number};
 use mx_words::RAM_BASE;
 
 /// Puts the texts of the pieces, one after another.
@@ -42,40 +42,6 @@ fn put_bytes<R: Sink>(tail: &mut Tail, sink: &mut R, bytes: &[u8]) -> Result<(),
     ensures { Passes tail.old (R.state sink.old) (R.state sink.new) tail.new bytes.now result }
 {
     tail.put(sink, bytes)
-}
-
-fn hex_digit(digit: u32) -> u8
-    requires { digit < 16 }
-    ensures { result ≡ hex_digit digit }
-{
-    let digit = digit as u8;
-    if digit < 10 {
-        b'0' + digit
-    } else {
-        b'a' - 10 + digit
-    }
-}
-
-fn hex_digits(number: u32) -> [u8; 8]
-    ensures { result ≡ hex_digits number }
-{
-    [
-        hex_digit(number / 0x1000_0000 % 16),
-        hex_digit(number / 0x100_0000 % 16),
-        hex_digit(number / 0x10_0000 % 16),
-        hex_digit(number / 0x1_0000 % 16),
-        hex_digit(number / 0x1000 % 16),
-        hex_digit(number / 0x100 % 16),
-        hex_digit(number / 0x10 % 16),
-        hex_digit(number % 16),
-    ]
-}
-
-fn hex_number(number: u32) -> [u8; 10]
-    ensures { result ≡ hex_number number }
-{
-    let [a, b, c, d, e, f, g, h] = hex_digits(number);
-    [b'0', b'x', a, b, c, d, e, f, g, h]
 }
 
 /// The address of a word.

@@ -2,7 +2,10 @@
 use Rattle.std.proofs.Common.{◌≡◌, ℕ, zero, suc, ◌+◌, ◌-◌, ◌≤◌, Bool, true, false, ◌||◌, List, [], ◌∷◌, ◌++◌, length, flat_map, option_to_list, Option, Some, None, Result, Ok, Err, cond, refl, sym, ap, subst, ◌∙◌, inl, inr, append_assoc, arith}
 use Rattle.std.proofs.lemmas.List.{append-nil}
 use Rattle.std.proofs.lemmas.Grind.{flat_map-append}
-use Rattle.mx_model.specs.Run.{Schedule, hart_of, is_over, all_halted, is_stopped, made_of, turn, run}
+use Rattle.mx_model.specs.Events.{Events}
+use Rattle.mx_model.specs.declared.values.TurnKind.{TurnKind}
+use Rattle.mx_model.specs.Run.{Schedule, hart_of, is_over, all_halted, is_stopped, made_of, turn, run, flat_kind, flat_made}
+use Rattle.mx_machine.specs.Turning.{IsTold}
 use Rattle.mx_model.specs.Reads.{flat_reads}
 use Rattle.mx_model.specs.Run.{flat_turn}
 use Rattle.mx_model.specs.State.{Core, State, Flat, flat}
@@ -10,7 +13,8 @@ use Rattle.mx_model.proofs.RunLaws.{run-add}
 use Rattle.mx_model.proofs.KeepLaws.{keeps-turned}
 use Rattle.mx_report.specs.Lines.{note_line}
 use Rattle.mx_run.specs.declared.status.Status.{Status}
-use Rattle.mx_run.specs.Running.{named, Places, Makes, MakesOrStops, HasRun, Stops, Begins, IsNext, KeepsShape, Breaks, note_lines, note_text}
+use Rattle.mx_run.specs.Running.{named, Places, Makes, MakesOrStops, HasRun, Stops, Begins, IsNext, IsTurnOf, GoesOn, ShowsOrStops, KeepsShape, Breaks, may_tell, note_lines, note_text}
+use Rattle.mx_run.proofs.Quiet.{quiet_turned}
 use Rattle.mx_run.proofs.Sinking.{moves_nothing, moves_moves, moves_breaks, moves_front, breaks_more, breaks_same}
 
 -- what a run of one turn more is, where it has stopped, or hasn't
@@ -150,6 +154,35 @@ turn_next f g h is =
     let k = keeps-turned (flat_reads f) f.core h in
     rw is (record { turns = k.turns; kind = k.kind; limit = k.limit; modules = k.modules; harts = k.harts })
 
+-- a turn that neither traps nor calls
+pub turn_goes_on : (f g : Flat) (h : ℕ) (events : Events) (k : TurnKind) → g ≡ flat_turn f h → IsTold (flat_made f h) events → k ≡ flat_kind f h → may_tell k ≡ false
+    → GoesOn f.core events g.core
+turn_goes_on f g h events k is told kind quiet =
+    let q = quiet_turned (flat_reads f) f.core h (ap may_tell (sym kind) ∙ quiet) in
+    record { bytes = told.bytes ∙ q.console; note = told.note ∙ q.note; going = λ e. ap (λ (x : Flat). all_halted x.core) is ∙ q.going e }
+
+-- a turn was made that added nothing
+pub makes_quiet : (s : State) (h : ℕ) (m : Flat) (c : Core) (events : Events) (at : Places) → IsTurnOf s h m events → GoesOn c events m.core → Makes s h m at at
+makes_quiet s h m c events at turn quiet = record {
+  state = turn.state;
+  console = rw (sym turn.bytes ∙ quiet.bytes) (moves_nothing at.shown at.console);
+  report = rw (sym turn.note ∙ quiet.note) (moves_nothing at.told at.report);
+}
+
+-- a turn was made, and what it added was put
+pub makes_shown : (s : State) (h : ℕ) (m : Flat) (events : Events) (before now : Places) → IsTurnOf s h m events
+    → ShowsOrStops events.bytes (note_text events.note) before now (Ok tt) → Makes s h m before now
+makes_shown s h m events before now turn shows = record {
+  state = turn.state;
+  console = rw turn.bytes at shows.0;
+  report = rw turn.note at shows.1;
+}
+
+-- or couldn't be put
+pub makes_stopped : {A B : Type 0} (s : State) (h : ℕ) (m : Flat) (events : Events) (before now : Places) (status : Status) → IsTurnOf s h m events
+    → ShowsOrStops {A = A} events.bytes (note_text events.note) before now (Err status) → MakesOrStops {A = B} s h m before now (Err status)
+makes_stopped s h m events before now status turn stops = rw (turn.bytes, turn.note) at stops
+
 pub keeps_none : (f : Flat) → KeepsShape f f
 keeps_none f = record { kind = refl; limit = refl; modules = refl }
 
@@ -165,6 +198,11 @@ module _ (schedule : Schedule) (i n : ℕ) (s : State) (m : Flat) (is : m ≡ fl
   goes_to h halted name =
       let go = goes_on schedule (run schedule i s) h (ap all_halted (sym core_is) ∙ halted) (ap (named schedule) (sym core_is) ∙ name) in
       run_more schedule i s h go.0 go.1
+
+  pub ends_after : (h : ℕ) → i < n → run schedule (i + 1) s ≡ turn (run schedule i s) h → (k : Flat) → k ≡ flat (turn (run schedule i s) h) → all_halted k.core ≡ true
+      → run schedule n s ≡ turn (run schedule i s) h
+  ends_after h few more k after halted =
+      run_ends schedule (i + 1) n s (omega (arith, few)) (stops_halted schedule (run schedule (i + 1) s) (ap (λ (x : State). all_halted x.core) more ∙ ap (λ (f : Flat). all_halted f.core) (sym after) ∙ halted)) ∙ more
 
   pub ends_halted : i ≤ n → all_halted m.core ≡ true → run schedule n s ≡ run schedule i s
   ends_halted few halted = run_ends schedule i n s few (stops_halted schedule (run schedule i s) (ap all_halted (sym core_is) ∙ halted))

@@ -1,5 +1,5 @@
 -- A run whose texts leave through buffers: what holds between two turns, and what holds where a sink failed.
-use Rattle.std.specs.Prelude.{◌≡◌, ℕ, Bool, ◌==◌, ◌+◌, ◌/◌, ◌%◌, ◌<◌, ◌≤◌, ◌⊎◌, List, [], ◌++◌, length, drop, flat_map, option_to_list, Option, Some, None, Result, Ok, Err, if◌then◌else◌}
+use Rattle.std.specs.Prelude.{◌≡◌, ℕ, Bool, true, false, ◌==◌, ◌+◌, ◌/◌, ◌%◌, ◌<◌, ◌≤◌, ◌⊎◌, List, [], ◌++◌, length, drop, flat_map, option_to_list, Option, Some, None, Result, Ok, Err, if◌then◌else◌}
 use Rattle.mx_io.specs.Count.{Rose}
 use Rattle.mx_io.specs.Texts.{AppendsWhole, AppendsPrefix}
 use Rattle.mx_io.specs.Sink.{SinkState}
@@ -7,6 +7,8 @@ use Rattle.mx_model.specs.Events.{Events}
 use Rattle.mx_model.specs.Run.{Schedule, ByQuantum, ByBytes, hart_of, is_over, all_halted, made_of, turn}
 use Rattle.mx_model.specs.State.{Core, State, Flat, flat}
 use Rattle.mx_model.specs.declared.values.Note.{Note}
+use Rattle.mx_model.specs.declared.values.TurnKind.{TurnKind}
+use Rattle.mx_model.specs.declared.values.TurnKind.TheVariants as K
 use Rattle.mx_report.specs.declared.lines.EndState.{EndState}
 use Rattle.mx_report.specs.declared.lines.EndState.TheVariants as E
 use Rattle.mx_report.specs.Lines.{note_line}
@@ -102,13 +104,20 @@ pub record Makes (s : State) (hart : ℕ) (machine : Flat) (before now : Places)
   pub console : Moves before.shown before.console now.console now.shown (made_of s hart).console
   pub report : Moves before.told before.report now.report now.told (note_text (made_of s hart).note)
 
--- a call that makes a turn; where a sink failed nothing was put behind that
+-- a text was put through the console's buffer and lines through the report's; where a sink failed nothing was put behind that
+abbrev pub ShowsOrStops : {A : Type 0} → List ℕ → List ℕ → Places → Places → Result A Status → Type 0
+ShowsOrStops text lines before now (Ok a) =
+    Moves before.shown before.console now.console now.shown text × Moves before.told before.report now.report now.told lines
+ShowsOrStops text lines before now (Err status) =
+    ((status ≡ ConsoleFault) × Breaks before.console now.console (before.shown ++ text) × (now.report ≡ before.report))
+    ⊎ ((status ≡ ReportFault) × Moves before.shown before.console now.console now.shown text
+    × Breaks before.report now.report (before.told ++ lines))
+
+-- a call that makes a turn and puts what it adds
 abbrev pub MakesOrStops : {A : Type 0} → State → ℕ → Flat → Places → Places → Result A Status → Type 0
 MakesOrStops s hart machine before now (Ok a) = Makes s hart machine before now
-MakesOrStops s hart machine before now (Err status) =
-    ((status ≡ ConsoleFault) × Breaks before.console now.console (before.shown ++ (made_of s hart).console) × (now.report ≡ before.report))
-    ⊎ ((status ≡ ReportFault) × Moves before.shown before.console now.console now.shown (made_of s hart).console
-    × Breaks before.report now.report (before.told ++ note_text (made_of s hart).note))
+MakesOrStops {A} s hart machine before now (Err status) =
+    ShowsOrStops {A = A} (made_of s hart).console (note_text (made_of s hart).note) before now (Err status)
 
 -- turns were made from a state without texts, and the texts so far were put through the buffers
 pub record HasRun (s : State) (machine : Flat) (before now : Places) : Type 0 where
@@ -134,6 +143,18 @@ pub record IsTurnOf (s : State) (h : ℕ) (machine : Flat) (events : Events) : T
   pub state : machine ≡ flat (turn s h)
   pub bytes : events.bytes ≡ (made_of s h).console
   pub note : events.note ≡ (made_of s h).note
+
+-- whether a turn of a kind can add something to the texts or halt its hart
+abbrev pub may_tell : TurnKind → Bool
+may_tell K.Trapped = true
+may_tell K.Called = true
+may_tell kind = false
+
+-- a turn that added nothing, and behind which some hart can go on if one could before
+pub record GoesOn (c : Core) (events : Events) (e : Core) : Type 0 where
+  pub bytes : events.bytes ≡ []
+  pub note : events.note ≡ None
+  pub going : all_halted c ≡ false → all_halted e ≡ false
 
 -- what a turn keeps and counts
 pub record IsNext (f g : Flat) : Type 0 where

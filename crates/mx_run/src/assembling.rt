@@ -22,8 +22,10 @@ pub(crate) fn write_image<S: Store, C: Sink, R: Sink>(
     console: &mut C,
     report: &mut R,
 ) -> Status
-    ensures { (dump : SinkState) → Continues (next (Some (Asm source.now))) S.gives store.old store.new
-        (sinks (C.state console.old) (R.state report.old) dump) (sinks (C.state console.new) (R.state report.new) dump) result }
+    ensures { (dump : SinkState) →
+        Continues (next (Some (Asm source.now))) S.gives store.old store.new
+        (sinks (C.state console.old) (R.state report.old) dump)
+        (sinks (C.state console.new) (R.state report.new) dump) result }
 {
     match take_file(alloc, &source_file(source), store, report) {
         Ok(bytes) => assemble_bytes(alloc, source, bytes.as_slice(), console, report),
@@ -42,7 +44,8 @@ fn assemble_bytes<C: Sink, R: Sink>(
 ) -> Status
     requires { length bytes.now ≤ 2 ^ 20 }
     ensures { (dump : SinkState) → EndsOrWants (assembled source.now bytes.now)
-        (sinks (C.state console.old) (R.state report.old) dump) (sinks (C.state console.new) (R.state report.new) dump) result }
+        (sinks (C.state console.old) (R.state report.old) dump)
+        (sinks (C.state console.new) (R.state report.new) dump) result }
 {
     match from_utf8(bytes) {
         Ok(text) => assemble_text(alloc, source, text, console, report),
@@ -67,7 +70,8 @@ fn assemble_text<C: Sink, R: Sink>(
 ) -> Status
     requires { length text.now ≤ 2 ^ 20 }
     ensures { (dump : SinkState) → EndsOrWants (assembled_text source.now text.now)
-        (sinks (C.state console.old) (R.state report.old) dump) (sinks (C.state console.new) (R.state report.new) dump) result }
+        (sinks (C.state console.old) (R.state report.old) dump)
+        (sinks (C.state console.new) (R.state report.new) dump) result }
 {
     match assemble(alloc, text) {
         Ok(image) => put_image(console, image.as_slice()),

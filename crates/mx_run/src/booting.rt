@@ -1,6 +1,6 @@
 //! The command `run`: from the name of a manifest to the boot of its machine.
 
-ghost use Rattle.std.specs.Prelude.{◌≡◌, ◌<◌, ◌≤◌, ◌^◌, Ok, Some, length, IfOk, IfErr};
+ghost use Rattle.std.specs.Prelude.{◌<◌, ◌^◌, Ok, Some};
 ghost use Rattle.mx_boot.specs.Boot.{boot_of};
 ghost use Rattle.mx_boot.specs.Machines.{IsBooted};
 ghost use Rattle.mx_run.specs.Words.{Run};
@@ -53,7 +53,8 @@ fn with_manifest<S: Store, C: Sink, R: Sink, D: Sink>(
     dump: &mut D,
 ) -> Status
     requires { order.now.steps < 10 ^ 10 }
-    ensures { Continues (planned (order_of order.now) (judged bytes.now)) S.gives store.old store.new
+    ensures { Continues (planned (order_of order.now) (judged bytes.now))
+        S.gives store.old store.new
         (sinks (C.state console.old) (R.state report.old) (D.state dump.old))
         (sinks (C.state console.new) (R.state report.new) (D.state dump.new)) result }
 {
@@ -102,8 +103,8 @@ fn take_image<S: Store, R: Sink>(
     store: &mut S,
     report: &mut R,
 ) -> Result<Blob, Status>
-    ensures takes { TakesImage S.gives number home.now store.old store.new (R.state report.old) (R.state report.new) result }
-    ensures fits { IfOk result (λ image. length image ≤ 2 ^ 24) }
+    ensures { TakesImage S.gives number home.now store.old store.new
+        (R.state report.old) (R.state report.new) result }
 {
     match &home.image {
         Some(name) => match take_file(alloc, &image_file(number, name.as_str()), store, report) {
@@ -126,7 +127,8 @@ fn with_images<S: Store, C: Sink, R: Sink, D: Sink>(
     dump: &mut D,
 ) -> Status
     requires { order.now.steps < 10 ^ 10 }
-    ensures { Continues (booted (order_of order.now) plan.now (boot_of plan.now images.items)) S.gives store.old store.new
+    ensures { Continues (booted (order_of order.now) plan.now (boot_of plan.now images.items))
+        S.gives store.old store.new
         (sinks (C.state console.old) (R.state report.old) (D.state dump.old))
         (sinks (C.state console.new) (R.state report.new) (D.state dump.new)) result }
 {

@@ -25,7 +25,8 @@ pub(crate) fn refuse<R: Sink>(report: &mut R, name: &str, status: Status) -> Sta
 
 /// Puts the line of a refusal; `name` is the name of the file that it is about.
 fn put_line<R: Sink>(report: &mut R, name: &str, status: &Status) -> Result<(), Failed>
-    ensures { Puts (R.state report.old) (R.state report.new) (unwrap_or (line_of name.now status.now) []) result }
+    ensures { Puts (R.state report.old) (R.state report.new)
+        (unwrap_or (line_of name.now status.now) []) result }
 {
     match *status {
         Status::Usage => put_usage(report),
@@ -48,7 +49,8 @@ fn put_usage<R: Sink>(report: &mut R) -> Result<(), Failed>
 
 #[tactic(auto, unfolding(crate::specs::Refusal::tables_full_line))]
 fn put_tables_full<R: Sink>(report: &mut R, need: &Need, limit: &Need) -> Result<(), Failed>
-    ensures { Puts (R.state report.old) (R.state report.new) (tables_full_line need.now limit.now) result }
+    ensures { Puts (R.state report.old) (R.state report.new)
+        (tables_full_line need.now limit.now) result }
 {
     put_pieces(
         report,
@@ -79,7 +81,8 @@ fn put_store_fault<R: Sink>(report: &mut R) -> Result<(), Failed>
 
 #[tactic(auto, unfolding(crate::specs::Refusal::short_file_line))]
 fn put_short_file<R: Sink>(report: &mut R, name: &str, told: u64, got: u64) -> Result<(), Failed>
-    ensures { Puts (R.state report.old) (R.state report.new) (short_file_line name.now told got) result }
+    ensures { Puts (R.state report.old) (R.state report.new)
+        (short_file_line name.now told got) result }
 {
     put_pieces(
         report,

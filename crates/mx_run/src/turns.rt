@@ -1,17 +1,16 @@
 //! The turns of a run. No call takes memory.
 
-ghost use Rattle.std.specs.Prelude.{◌≡◌, ◌+◌, ◌-◌, ◌^◌, ◌<◌};
-ghost use Rattle.mx_io.specs.Sink.{Puts};
-ghost use Rattle.mx_model.specs.Run.{run};
+ghost use Rattle.std.specs.Prelude.{◌≡◌, ◌+◌, ◌-◌, ◌^◌, ◌<◌, false, IfOk};
+ghost use Rattle.mx_model.specs.Run.{all_halted, run};
 ghost use Rattle.mx_model.specs.State.{State, flat};
 ghost use Rattle.mx_report.specs.Tail.{Passes};
-ghost use Rattle.mx_run.specs.Running.{schedule_of, HasTurns, Begins, IsNext, IsTurnOf, KeepsShape, MakesOrStops, RunsOrStops, places, note_text};
+ghost use Rattle.mx_run.specs.Running.{schedule_of, HasTurns, Begins, IsNext, IsTurnOf, KeepsShape, MakesOrStops, RunsOrStops, ShowsOrStops, GoesOn, may_tell, places, note_text};
 
-use crate::pace::{Pace, Schedule, begin, next_hart};
+use crate::pace::{Schedule, begin, next_hart};
 use crate::status::Status;
 use mx_io::{Failed, Sink};
 use mx_machine::{Machine, machine_is_valid};
-use mx_model::{Events, Note};
+use mx_model::{Events, Note, TurnKind};
 use mx_report::{Tail, put_note};
 use mx_table::PermTables;
 
@@ -34,21 +33,27 @@ pub(crate) fn make_turns<T: PermTables, const N: usize, C: Sink, R: Sink>(
         (places (C.state console.new) shown.new (R.state report.new) told.new) result }
 {
     machine_is_valid(machine);
+    if machine.all_halted() {
+        return Ok(());
+    }
     let mut events = Events::new();
     let mut pace = begin(schedule, machine.harts());
     'turns: for _step in 0..steps {
-        if machine.all_halted() {
-            return Ok(());
-        }
         let Some(hart) = next_hart(&mut pace) else {
             return Ok(());
         };
-        make_turn(hart, machine, &mut events, shown, console, told, report)?;
+        if make_turn(hart, machine, &mut events, shown, console, told, report)? {
+            return Ok(());
+        }
     }
     Ok(())
 }
 
-/// Makes a turn of the hart of that number. What it adds leaves through the buffers.
+/// Makes a turn of the hart of that number, where not all harts are halted, and tells whether all are halted then. What the turn
+/// adds leaves through the buffers.
+///
+/// Nearly all turns add nothing and halt no hart: for these nothing is looked at but their kind.
+#[inline(always)]
 fn make_turn<T: PermTables, const N: usize, C: Sink, R: Sink>(
     hart: u32,
     machine: &mut Machine<T, N>,
@@ -57,14 +62,65 @@ fn make_turn<T: PermTables, const N: usize, C: Sink, R: Sink>(
     console: &mut C,
     told: &mut Tail,
     report: &mut R,
-) -> Result<(), Status>
-    requires { machine.old.core.turns < 2 ^ 64 - 1 }
+) -> Result<bool, Status>
+    requires few { machine.old.core.turns < 2 ^ 64 - 1 }
+    requires going { all_halted machine.old.core ≡ false }
     ensures next { IsNext machine.old machine.new }
+    ensures halted { IfOk result (λ halted. halted ≡ all_halted machine.new.core) }
     ensures makes { (s : State) → machine.old ≡ flat s
         → MakesOrStops s hart machine.new (places (C.state console.old) shown.old (R.state report.old) told.old)
         (places (C.state console.new) shown.new (R.state report.new) told.new) result }
 {
-    take_turn(hart, machine, events);
+    if may_tell(take_turn(hart, machine, events)) {
+        show(events, shown, console, told, report)?;
+        Ok(machine.all_halted())
+    } else {
+        Ok(false)
+    }
+}
+
+// A turn of the hart of that number, with what of its contract a run needs.
+#[inline(always)]
+fn take_turn<T: PermTables, const N: usize>(
+    hart: u32,
+    machine: &mut Machine<T, N>,
+    events: &mut Events,
+) -> TurnKind
+    requires { machine.old.core.turns < 2 ^ 64 - 1 }
+    ensures next { IsNext machine.old machine.new }
+    ensures turn { (s : State) → machine.old ≡ flat s → IsTurnOf s hart machine.new events.new }
+    ensures quiet { may_tell result ≡ false → GoesOn machine.old.core events.new machine.new.core }
+{
+    machine.step(hart, events)
+}
+
+// Whether a turn of a kind can add something or halt its hart.
+fn may_tell(kind: TurnKind) -> bool
+    ensures { result ≡ may_tell kind }
+{
+    match kind {
+        TurnKind::Trapped | TurnKind::Called => true,
+        TurnKind::Idle
+        | TurnKind::Waited
+        | TurnKind::Ran
+        | TurnKind::Crossed
+        | TurnKind::Returned => false,
+    }
+}
+
+// Puts what a turn adds through the buffers: its console bytes, and the line of its note.
+#[cold]
+fn show<C: Sink, R: Sink>(
+    events: &Events,
+    shown: &mut Tail,
+    console: &mut C,
+    told: &mut Tail,
+    report: &mut R,
+) -> Result<(), Status>
+    ensures { ShowsOrStops events.now.bytes (note_text events.now.note)
+        (places (C.state console.old) shown.old (R.state report.old) told.old)
+        (places (C.state console.new) shown.new (R.state report.new) told.new) result }
+{
     match shown.add(console, events) {
         Ok(()) => match put_told(told, report, events.note()) {
             Ok(()) => Ok(()),
@@ -72,19 +128,6 @@ fn make_turn<T: PermTables, const N: usize, C: Sink, R: Sink>(
         },
         Err(Failed) => Err(Status::ConsoleFault),
     }
-}
-
-// A turn of the hart of that number, with what of its contract a run needs.
-fn take_turn<T: PermTables, const N: usize>(
-    hart: u32,
-    machine: &mut Machine<T, N>,
-    events: &mut Events,
-)
-    requires { machine.old.core.turns < 2 ^ 64 - 1 }
-    ensures next { IsNext machine.old machine.new }
-    ensures turn { (s : State) → machine.old ≡ flat s → IsTurnOf s hart machine.new events.new }
-{
-    machine.step(hart, events);
 }
 
 // Puts the line of a note, if there is one, through a buffer.

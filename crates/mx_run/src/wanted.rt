@@ -102,7 +102,8 @@ pub(crate) fn take_file<S: Store, R: Sink>(
     store: &mut S,
     report: &mut R,
 ) -> Result<Vec<u8>, Status>
-    ensures takes { Takes S.gives (wanted_of file.now) store.old store.new (R.state report.old) (R.state report.new) result }
+    ensures takes { Takes S.gives (wanted_of file.now) store.old store.new
+        (R.state report.old) (R.state report.new) result }
     ensures fits { IfOk result (λ bytes. vec_len bytes ≤ file.now.most) }
 {
     match read_file(alloc, store, file.name, file.most) {

@@ -158,7 +158,8 @@ fn asked_by(parse: Parse<'_>) -> Option<Asked<'_>>
 /// The order with options.
 fn with_options<'a>(order: Order<'a>, options: &'a [String]) -> Parse<'a>
     requires { order.steps < 10 ^ 10 }
-    ensures parsed { parsed_of result ≡ fold with_word (Stands (order_of order.entry)) (map string_bytes options.now) }
+    ensures parsed { parsed_of result
+        ≡ fold with_word (Stands (order_of order.entry)) (map string_bytes options.now) }
     ensures steps { ParsesFewSteps result }
 {
     let mut parse = Parse::Stands(order);

@@ -14,7 +14,7 @@ returns-in-Err-push g c =
     let modules = c.args.plan.now.modules in
     let behind = drop_got modules c.modules.i c.module.result.now c.module.ensures.value in
     let comes = rw behind at (c.modules.invariant.comes rest) in
-    let takes = c.in-Ok.ensures.takes in
+    let takes = c.in-Ok.ensures in
     comes _ _ _ _
     (takes.1 (drop (c.modules.i + 1) modules) c.modules.images.items rest _ _ _ _
     (continues_wanting g.S.Store.gives _ c.take_image.new.store refl (record { console = refl; report = takes.0 ∙ c.modules.invariant.report; dump = refl })))
@@ -25,14 +25,14 @@ returns-in-Err g c =
     let modules = c.args.plan.now.modules in
     let behind = drop_got modules c.modules.i c.module.result.now c.module.ensures.value in
     let comes = rw behind at (c.modules.invariant.comes rest) in
-    let takes = rw c.modules.invariant.report at c.in-Err.ensures.takes in
+    let takes = rw c.modules.invariant.report at c.in-Err.ensures in
     comes _ _ _ _ (takes (drop (c.modules.i + 1) modules) c.modules.images.items rest (g.C.Sink.state c.args.console.now) (g.D.Sink.state c.args.dump.now))
 
 pub modules-preserved : goal.modules-preserved
 modules-preserved g c =
     let modules = c.args.plan.now.modules in
     let behind = drop_got modules c.modules.i c.module.result.now c.module.ensures.value in
-    let takes = c.in-Ok.ensures.takes in
+    let takes = c.in-Ok.ensures in
     record {
       report = takes.0 ∙ c.modules.invariant.report;
       comes =
