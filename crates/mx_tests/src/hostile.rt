@@ -212,6 +212,35 @@ fn sizes_over_their_limits(rt: HostRuntime) -> Result<(), Fail> {
 }
 
 #[test]
+fn files_are_judged_in_their_order(rt: HostRuntime) -> Result<(), Fail> {
+    let beyond = "name = \"m\"\nat = 0x80010000\nperm = \"rx\"\nwords = [0]\n";
+    let full = format!(in rt.alloc(); "{TOP}leaf = 0\n")?;
+    let need = "tables full upper=2/128 leaf=1/0 spill=0/4096\n";
+    let cases = [
+        (TOP, IMAGE, 6, "no file m.elf\n"),
+        (TOP, MODULE, 6, "no file absent\n"),
+        (
+            TOP,
+            beyond,
+            3,
+            "refused fault=12 at=module.1 key=at detail=0\n",
+        ),
+        (full.as_str(), MODULE, 4, need),
+    ];
+    for (top, module, number, line) in cases {
+        let text = joined(rt.alloc(), top, module, HART)?;
+        let mut files = Files::new(rt.alloc());
+        files.add("first.toml", text.as_bytes())?;
+        let mut sinks = Sinks::new(rt.alloc())?;
+        let words = ["10", "--schedule", "absent"];
+        let status = run_first(rt.alloc(), &words, &mut files, &mut sinks)?;
+        assert_eq!(rt; status.number(), number, "{line}");
+        assert_eq!(rt; sinks.report.as_slice(), line.as_bytes());
+    }
+    Ok(())
+}
+
+#[test]
 fn sixty_four_modules(rt: HostRuntime) -> Result<(), Fail> {
     let mut text = String::from_str(rt.alloc(), "version = 2\nram_kib = 64\n")?;
     for number in 0..64u32 {
