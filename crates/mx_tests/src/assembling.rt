@@ -1,6 +1,6 @@
 //! The command `asm`: images, and sources, files and sinks that have none.
 
-use crate::manifests::{answer, call};
+use crate::calls::{answer, call};
 use crate::packets::{CONSOLE, DRIVER, PROTO};
 use mx_elf::{read_image, symbol};
 use mx_io::{Bytes, Files, Loose};

@@ -4,12 +4,24 @@
 #[cfg(test)]
 mod assembling;
 #[cfg(test)]
-mod manifests;
+mod calls;
+#[cfg(test)]
+mod examples;
+#[cfg(test)]
+mod failing;
+#[cfg(test)]
+mod hostile;
+#[cfg(test)]
+mod one_module;
+#[cfg(test)]
+mod options;
 #[cfg(test)]
 mod outside;
 #[cfg(test)]
+mod packet_runs;
+#[cfg(test)]
 mod packets;
 #[cfg(test)]
-mod runs;
-#[cfg(test)]
 mod tables;
+#[cfg(test)]
+mod two_modules;

@@ -1,10 +1,10 @@
 //! What the outside does to a call: words without meaning, absent, short and hostile files, and calls that fail.
 
-use crate::manifests::{THREE_WORDS, answer, manifest};
-use crate::runs::THREE_WORDS_REPORT;
+use crate::calls::answer;
+use crate::examples::files_of;
+use crate::one_module::THREE_WORDS;
 use mx_io::{Bytes, Files, Loose};
 use mx_run::Status;
-use std::alloc::{AllocError, Global};
 use std::test::Fail;
 
 const USAGE: &str = "mondrix: these words have no meaning\n";
@@ -12,7 +12,7 @@ const USAGE: &str = "mondrix: these words have no meaning\n";
 #[test]
 fn words_without_meaning(rt: HostRuntime) -> Result<(), Fail> {
     let long = "1234567890123456";
-    let cases: [&[&str]; 19] = [
+    let cases: [&[&str]; 28] = [
         &[],
         &["asm"],
         &["asm", "-first.s"],
@@ -26,6 +26,24 @@ fn words_without_meaning(rt: HostRuntime) -> Result<(), Fail> {
         &["run", "-first.toml", "1"],
         &["run", "", "1"],
         &["run", "first.toml", "1", "--dump", "--dump"],
+        &["run", "first.toml", "1", "--tables", "--tables"],
+        &["run", "first.toml", "1", "--counts", "--tables", "--counts"],
+        &[
+            "run",
+            "first.toml",
+            "1",
+            "--schedule",
+            "x",
+            "--dump",
+            "--schedule",
+            "x",
+        ],
+        &["run", "first.toml", "1", "--schedule", "--schedule", "x"],
+        &["run", "first.toml", "1", "--schedule", "x", "y"],
+        &["run", "first.toml", "1", "--schedule="],
+        &["run", "first.toml", "1", "--"],
+        &["run", "first.toml", "1", "-d"],
+        &["run", "first.toml", "1", "dump"],
         &["run", "first.toml", "1", "--schedule"],
         &["run", "first.toml", "1", "--schedule", "-x"],
         &["run", "first.toml", "1", "--dump=1"],
@@ -41,64 +59,6 @@ fn words_without_meaning(rt: HostRuntime) -> Result<(), Fail> {
         let status = answer(rt.alloc(), words, &mut files, &mut report)?;
         assert_eq!(rt; status, Status::Usage);
         assert_eq!(rt; report.as_slice(), USAGE.as_bytes());
-    }
-    Ok(())
-}
-
-fn spaces(alloc: Global, count: usize) -> Result<Vec<u8>, AllocError> {
-    let mut bytes = Vec::new(alloc);
-    for _space in 0..count {
-        bytes.push(b' ')?;
-    }
-    Ok(bytes)
-}
-
-#[test]
-fn hostile_files_are_refused(rt: HostRuntime) -> Result<(), Fail> {
-    let beyond = manifest(rt.alloc(), "0x80010000", "rx", THREE_WORDS)?;
-    let unaligned = manifest(rt.alloc(), "0x80000002", "rx", THREE_WORDS)?;
-    let none = manifest(rt.alloc(), "0x80000000", "rx", "")?;
-    let over = spaces(rt.alloc(), 1048577)?;
-    let most = spaces(rt.alloc(), 1048576)?;
-    let cases: [(&[u8], &str); 7] = [
-        (
-            b"",
-            "refused fault=3 at=manifest key=version detail=0\n",
-        ),
-        (b"\xff", "refused fault=1 at=manifest key=- detail=0\n"),
-        (
-            over.as_slice(),
-            "refused fault=9 at=manifest key=- detail=0\n",
-        ),
-        (
-            most.as_slice(),
-            "refused fault=3 at=manifest key=version detail=0\n",
-        ),
-        (
-            beyond.as_bytes(),
-            "refused fault=12 at=module.1 key=at detail=0\n",
-        ),
-        (
-            unaligned.as_bytes(),
-            "refused fault=5 at=module.1 key=at detail=0\n",
-        ),
-        (
-            none.as_bytes(),
-            "refused fault=5 at=module.1 key=words detail=0\n",
-        ),
-    ];
-    for (bytes, line) in cases {
-        let mut files = Files::new(rt.alloc());
-        files.add("first.toml", bytes)?;
-        let mut report = Bytes::new(rt.alloc(), 100)?;
-        let status = answer(
-            rt.alloc(),
-            &["run", "first.toml", "10"],
-            &mut files,
-            &mut report,
-        )?;
-        assert_eq!(rt; status.number(), 3, "{line}");
-        assert_eq!(rt; report.as_slice(), line.as_bytes());
     }
     Ok(())
 }
@@ -126,10 +86,8 @@ fn absent_and_short_files(rt: HostRuntime) -> Result<(), Fail> {
 #[test]
 fn each_call_fails_in_turn(rt: HostRuntime) -> Result<(), Fail> {
     let words = ["run", "first.toml", "10"];
-    let text = manifest(rt.alloc(), "0x80000000", "rx", THREE_WORDS)?;
     for call in 1..3u64 {
-        let mut files = Files::new(rt.alloc());
-        files.add("first.toml", text.as_bytes())?;
+        let mut files = files_of(rt.alloc(), &THREE_WORDS)?;
         files.fail_at(call);
         let mut report = Bytes::new(rt.alloc(), 1000)?;
         let status = answer(rt.alloc(), &words, &mut files, &mut report)?;
@@ -138,8 +96,7 @@ fn each_call_fails_in_turn(rt: HostRuntime) -> Result<(), Fail> {
     }
     let mut failed = 0;
     for call in 1..1000u64 {
-        let mut files = Files::new(rt.alloc());
-        files.add("first.toml", text.as_bytes())?;
+        let mut files = files_of(rt.alloc(), &THREE_WORDS)?;
         let mut report = Bytes::new(rt.alloc(), 1000)?;
         report.fail_at(call);
         let status = answer(rt.alloc(), &words, &mut files, &mut report)?;
@@ -148,7 +105,7 @@ fn each_call_fails_in_turn(rt: HostRuntime) -> Result<(), Fail> {
         }
         failed = call;
         assert_eq!(rt; status, Status::ReportFault, "write {call} of the report");
-        assert!(rt; THREE_WORDS_REPORT.as_bytes().starts_with(report.as_slice()));
+        assert!(rt; THREE_WORDS.report.as_bytes().starts_with(report.as_slice()));
     }
     assert_eq!(rt; failed, 1, "the report leaves in one write");
     Ok(())

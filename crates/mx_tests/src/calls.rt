@@ -1,19 +1,9 @@
-//! Manifests of one module that is given by its words, and the call of the program on them.
+//! The call of the program on words, a store and sinks.
 
 use mx_io::{Bytes, Sink, Store};
 use mx_run::{Status, Words, mondrix};
-use std::alloc::{AllocError, Global};
+use std::alloc::Global;
 use std::test::Fail;
-
-/// The words of the program that leaves with 5 after three steps.
-pub const THREE_WORDS: &str = "0x00100893, 0x00500513, 0x00000073";
-
-/// A manifest of one module `m` with these words, and a hart in it.
-pub fn manifest(alloc: Global, at: &str, perm: &str, words: &str) -> Result<String, AllocError> {
-    format!(in alloc;
-        "version = 1\nram_kib = 64\n\n[[module]]\nname = \"m\"\nat = {at}\nperm = \"{perm}\"\nwords = [{words}]\n\n[[hart]]\nmodule = \"m\"\n"
-    )
-}
 
 /// The program's answer to these words; the dump gets nothing.
 pub fn call<S: Store, C: Sink, R: Sink>(

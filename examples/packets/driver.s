@@ -1,0 +1,37 @@
+# Sends 350 packets of four words to the protocol module, and leaves with 0.
+.text 0x80000000
+start:
+    li s0, 350
+next:
+    addi a0, zero, 4
+    addi a7, zero, 6
+    ecall                   # alloc of four words
+    addi s1, a0, 0
+    sw s0, 0(s1)
+    slli t0, s0, 1
+    sw t0, 4(s1)
+    xori t0, s0, -1
+    sw t0, 8(s1)
+    addi t0, zero, 7
+    sw t0, 12(s1)
+    addi a1, zero, 16
+    addi a2, zero, 2
+    addi a3, zero, 1
+    addi a7, zero, 3
+    ecall                   # grant of read to the protocol module
+    addi a0, s1, 0
+    lui t0, 0x80010
+    jalr ra, 0(t0)          # receive
+    addi a0, s1, 0
+    addi a7, zero, 7
+    ecall                   # free
+    addi s0, s0, -1
+    bne s0, zero, next
+    addi a0, zero, 0
+    addi a7, zero, 1
+    ecall                   # exit
+idle:
+    jal zero, idle
+.data 0x80001000
+table: .word 1, 2, 4, 8, start, next
+.at 0x80002234
