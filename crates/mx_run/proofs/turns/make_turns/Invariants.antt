@@ -1,4 +1,4 @@
-use Rattle.std.proofs.Common.{◌≡◌, ℕ, false}
+use Rattle.std.proofs.Common.{◌≡◌, false}
 use Rattle.mx_model.specs.State.{State}
 use Rattle.mx_model.specs.Run.{all_halted, run}
 use Rattle.mx_run.specs.Running.{schedule_of, IsPace, Begins, KeepsShape, HasRun, places}
