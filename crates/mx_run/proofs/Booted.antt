@@ -28,7 +28,7 @@ boots_new plan images t is = rw (boots plan images t is) (record { console = ref
 
 -- and has made no turn
 fresh : (plan : Said) (images : List (List ℕ)) → IsFresh plan (flat (boot_state plan images))
-fresh plan images = record { turns = refl; kind = refl; limit = refl; modules = length-map module_of plan.modules }
+fresh plan images = record { turns = refl; kind = refl; limit = refl; modules = length-map plan.modules module_of }
 
 pub boots_fresh : (plan : Said) (images : List (List ℕ)) (t : State) (m : Flat) → boot_of plan images ≡ Ok t → m ≡ flat t → IsFresh plan m
 boots_fresh plan images t m is means =
