@@ -1,10 +1,9 @@
 -- The end of a run, and its outcome.
-use Rattle.std.proofs.Common.{◌≡◌, ℕ, ◌<◌, ◌≤◌, ◌⊎◌, List, [], ◌++◌, length, map, Result, Ok, Err, Bor, refl, sym, ap, subst, ◌∙◌, inl, inr}
+use Rattle.std.proofs.Common.{◌≡◌, ℕ, List, [], ◌++◌, length, map, Result, Ok, Bor, sym, ap, subst, ◌∙◌, inl, inr}
 use Rattle.std.proofs.lemmas.List.{append-nil, length-map}
 use Rattle.mx_io.specs.Texts.{AppendsPrefix}
 use Rattle.mx_io.specs.Sink.{SinkState, Puts}
 use Rattle.mx_io.proofs.Text.{left_all, left_next, left_end}
-use Rattle.mx_model.specs.Run.{Schedule, run}
 use Rattle.mx_model.specs.State.{State, Flat, flat}
 use Rattle.mx_manifest.specs.Plan.{Said}
 use Rattle.mx_manifest.specs.declared.parts.ModulePlan.{ModulePlan}
@@ -14,11 +13,11 @@ use Rattle.mx_report.specs.declared.closing.Options.{Options}
 use Rattle.mx_report.specs.Tail.{Passes}
 use Rattle.mx_report.specs.Texts.{closing, flat_closing}
 use Rattle.mx_run.specs.declared.status.Status.{Status}
-use Rattle.mx_run.specs.declared.status.Status.TheVariants.{Ran, ConsoleFault, ReportFault, DumpFault}
+use Rattle.mx_run.specs.declared.status.Status.TheVariants.{ConsoleFault, ReportFault, DumpFault}
 use Rattle.mx_run.specs.Words.{Order}
-use Rattle.mx_run.specs.Outcome.{Outcome, ended, report_of, names_of, end_of, options_of}
-use Rattle.mx_run.specs.Running.{Put, Breaks, Moves, Places, places, HasRun, Stops, Closes, IsFresh, KeepsShape, note_lines, dumped, end_by}
-use Rattle.mx_run.specs.Top.{Sinks, sinks, Holds, HoldsPrefix, HasRoom, Ends}
+use Rattle.mx_run.specs.Outcome.{Outcome, ended, report_of, names_of, options_of}
+use Rattle.mx_run.specs.Running.{Put, Breaks, Places, places, HasRun, Stops, Closes, IsFresh, KeepsShape, note_lines, dumped, end_by}
+use Rattle.mx_run.specs.Top.{Sinks, sinks, Holds, Ends}
 use Rattle.mx_run.proofs.Sinking.{front_nothing, front_more, put_front, moves_front, moves_put, moves_breaks, breaks_more, breaks_same, put_same}
 
 -- what was held and then a text was put

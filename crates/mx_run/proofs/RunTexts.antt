@@ -1,5 +1,5 @@
 -- Runs turn by turn, and their texts through the buffers.
-use Rattle.std.proofs.Common.{◌≡◌, ℕ, zero, suc, ◌+◌, ◌-◌, ◌<◌, ◌≤◌, Bool, true, false, ◌||◌, List, [], ◌∷◌, ◌++◌, length, flat_map, option_to_list, Option, Some, None, Result, Ok, Err, cond, refl, sym, ap, subst, ◌∙◌, inl, inr, append_assoc, arith}
+use Rattle.std.proofs.Common.{◌≡◌, ℕ, zero, suc, ◌+◌, ◌-◌, ◌<◌, ◌≤◌, Bool, true, false, ◌||◌, List, [], ◌++◌, option_to_list, Some, None, Ok, Err, cond, refl, sym, ap, subst, ◌∙◌, inl, inr, append_assoc, arith}
 use Rattle.std.proofs.lemmas.List.{append-nil}
 use Rattle.std.proofs.lemmas.Grind.{flat_map-append}
 use Rattle.mx_model.specs.Events.{Events}
@@ -13,7 +13,7 @@ use Rattle.mx_model.proofs.RunLaws.{run-add}
 use Rattle.mx_model.proofs.KeepLaws.{keeps-turned}
 use Rattle.mx_report.specs.Lines.{note_line}
 use Rattle.mx_run.specs.declared.status.Status.{Status}
-use Rattle.mx_run.specs.Running.{named, Places, Makes, MakesOrStops, HasRun, Stops, Begins, IsNext, IsTurnOf, GoesOn, ShowsOrStops, KeepsShape, Breaks, may_tell, note_lines, note_text}
+use Rattle.mx_run.specs.Running.{named, Places, Makes, MakesOrStops, HasRun, Stops, Begins, IsNext, IsTurnOf, GoesOn, ShowsOrStops, KeepsShape, may_tell, note_lines, note_text}
 use Rattle.mx_run.proofs.Quiet.{quiet_turned}
 use Rattle.mx_run.proofs.Sinking.{moves_nothing, moves_moves, moves_breaks, moves_front, breaks_more, breaks_same}
 
