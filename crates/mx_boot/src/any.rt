@@ -67,7 +67,7 @@ macro_rules! each {
 
 /// Lets a machine go.
 fn end<T: PermTables + Drop, const N: usize>(machine: Machine<T, N>) {
-    drop(machine);
+    let _ended = machine;
 }
 
 impl AnyMachine {

@@ -1,5 +1,5 @@
 -- What a plan's state at boot is.
-use Rattle.std.proofs.Common.{◌≡◌, ℕ, Bool, true, false, cond, List, length, map, Option, Some, None, Result, Ok, Err, refl, sym, subst}
+use Rattle.std.proofs.Common.{◌≡◌, ℕ, Bool, true, false, cond, List, Option, Some, None, Ok, Err, refl, sym, subst}
 use Rattle.std.proofs.lemmas.List.{length-map}
 use Rattle.mx_words.specs.Need.{within}
 use Rattle.mx_manifest.specs.declared.fault.BootFault.{BootFault}
@@ -28,7 +28,7 @@ boots_new plan images t is = rw (boots plan images t is) (record { console = ref
 
 -- and has made no turn
 fresh : (plan : Said) (images : List (List ℕ)) → IsFresh plan (flat (boot_state plan images))
-fresh plan images = record { turns = refl; kind = refl; limit = refl; modules = length-map module_of plan.modules }
+fresh plan images = record { turns = refl; kind = refl; limit = refl; modules = length-map plan.modules module_of }
 
 pub boots_fresh : (plan : Said) (images : List (List ℕ)) (t : State) (m : Flat) → boot_of plan images ≡ Ok t → m ≡ flat t → IsFresh plan m
 boots_fresh plan images t m is means =

@@ -1,22 +1,23 @@
 -- The end of a run, and its outcome.
-use Rattle.std.proofs.Common.{◌≡◌, ℕ, ◌<◌, ◌≤◌, ◌⊎◌, List, [], ◌++◌, length, map, Result, Ok, Err, refl, sym, ap, subst, ◌∙◌, inl, inr}
-use Rattle.std.proofs.lemmas.List.{append-nil}
+use Rattle.std.proofs.Common.{◌≡◌, ℕ, List, [], ◌++◌, length, map, Result, Ok, Bor, sym, ap, subst, ◌∙◌, inl, inr}
+use Rattle.std.proofs.lemmas.List.{append-nil, length-map}
 use Rattle.mx_io.specs.Texts.{AppendsPrefix}
 use Rattle.mx_io.specs.Sink.{SinkState, Puts}
 use Rattle.mx_io.proofs.Text.{left_all, left_next, left_end}
-use Rattle.mx_model.specs.Run.{Schedule, run}
 use Rattle.mx_model.specs.State.{State, Flat, flat}
 use Rattle.mx_manifest.specs.Plan.{Said}
+use Rattle.mx_manifest.specs.declared.parts.ModulePlan.{ModulePlan}
+use Rattle.mx_boot.specs.Boot.{limit_of}
 use Rattle.mx_report.specs.declared.lines.EndState.{EndState}
 use Rattle.mx_report.specs.declared.closing.Options.{Options}
 use Rattle.mx_report.specs.Tail.{Passes}
 use Rattle.mx_report.specs.Texts.{closing, flat_closing}
 use Rattle.mx_run.specs.declared.status.Status.{Status}
-use Rattle.mx_run.specs.declared.status.Status.TheVariants.{Ran, ConsoleFault, ReportFault, DumpFault}
+use Rattle.mx_run.specs.declared.status.Status.TheVariants.{ConsoleFault, ReportFault, DumpFault}
 use Rattle.mx_run.specs.Words.{Order}
-use Rattle.mx_run.specs.Outcome.{Outcome, ended, report_of, names_of, end_of, options_of}
-use Rattle.mx_run.specs.Running.{Put, Breaks, Moves, Places, places, HasRun, Stops, Closes, note_lines, dumped, end_by}
-use Rattle.mx_run.specs.Top.{Sinks, sinks, Holds, HoldsPrefix, HasRoom, Ends}
+use Rattle.mx_run.specs.Outcome.{Outcome, ended, report_of, names_of, options_of}
+use Rattle.mx_run.specs.Running.{Put, Breaks, Places, places, HasRun, Stops, Closes, IsFresh, KeepsShape, note_lines, dumped, end_by}
+use Rattle.mx_run.specs.Top.{Sinks, sinks, Holds, Ends}
 use Rattle.mx_run.proofs.Sinking.{front_nothing, front_more, put_front, moves_front, moves_put, moves_breaks, breaks_more, breaks_same, put_same}
 
 -- what was held and then a text was put
@@ -115,3 +116,12 @@ module _ (o : Order) (plan : Said) (f : State) (m : Flat) (names : List (List �
           ]
         ]
       ]
+
+-- a machine of a plan, after the turns of a run
+pub keeps_plan : (names : List (Bor (List ℕ))) (plan : Said) (f g : Flat) → map (λ (name : Bor (List ℕ)). name.now) names ≡ names_of plan → IsFresh plan f → KeepsShape f g
+    → (length names ≡ length g.core.modules) × (g.core.kind ≡ plan.tables) × (g.core.limit ≡ limit_of plan)
+keeps_plan names plan f g named fresh keeps = (
+  sym (length-map names (λ (name : Bor (List ℕ)). name.now)) ∙ ap length named ∙ length-map plan.modules (λ (m : ModulePlan). m.name) ∙ sym (keeps.modules ∙ fresh.modules),
+  keeps.kind ∙ fresh.kind,
+  keeps.limit ∙ fresh.limit,
+)

@@ -1,14 +1,13 @@
 -- A turn that neither traps nor calls adds nothing to the texts, and where some hart could go on before it one can go on behind it.
-use Rattle.std.proofs.Common.{◌≡◌, ℕ, zero, suc, ◌+◌, ◌==◌, if◌then◌else◌, Bool, true, false, ◌&&◌, cond, List, [], ◌∷◌, refl, sym, ap, subst, ◌∙◌, Option, None}
+use Rattle.std.proofs.Common.{◌≡◌, ℕ, zero, suc, ◌+◌, ◌==◌, if◌then◌else◌, Bool, true, false, ◌&&◌, cond, List, [], ◌∷◌, refl, ap, ◌∙◌, None}
 use Rattle.std.proofs.Common.{map as list_map}
 use Rattle.std.specs.Prelude.{slice_set}
 use Rattle.std.specs.List.{list_all, enumerate_from}
-use Rattle.mx_model.specs.declared.values.TurnKind.{TurnKind}
 use Rattle.mx_model.specs.Checks.{hears, heard_by, is_halted, looked_all}
 use Rattle.mx_model.specs.Reads.{Reads}
 use Rattle.mx_model.specs.Run.{all_halted}
 use Rattle.mx_model.specs.State.{Core, Hart, Status, Running, Waiting, Halted, hart_at}
-use Rattle.mx_model.specs.Turn.{Action, Rests, Waits, Serves, Asks, Traps, Bounces, Crosses, Returns, Runs, Writes, Decided, Made, acted, asked, counted, decide, enacted, heard_first, is_served_now, turned}
+use Rattle.mx_model.specs.Turn.{Action, Rests, Waits, Serves, Asks, Traps, Bounces, Crosses, Returns, Runs, Writes, Decided, Made, acted, asked, counted, decide, heard_first, is_served_now, turned}
 use Rattle.mx_model.proofs.TurnCases.{looked_all-caches}
 use Rattle.mx_run.specs.Running.{may_tell}
 

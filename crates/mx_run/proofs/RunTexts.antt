@@ -1,5 +1,5 @@
 -- Runs turn by turn, and their texts through the buffers.
-use Rattle.std.proofs.Common.{◌≡◌, ℕ, zero, suc, ◌+◌, ◌-◌, ◌≤◌, Bool, true, false, ◌||◌, List, [], ◌∷◌, ◌++◌, length, flat_map, option_to_list, Option, Some, None, Result, Ok, Err, cond, refl, sym, ap, subst, ◌∙◌, inl, inr, append_assoc, arith}
+use Rattle.std.proofs.Common.{◌≡◌, ℕ, zero, suc, ◌+◌, ◌-◌, ◌<◌, ◌≤◌, Bool, true, false, ◌||◌, List, [], ◌++◌, option_to_list, Some, None, Ok, Err, cond, refl, sym, ap, subst, ◌∙◌, inl, inr, append_assoc, arith}
 use Rattle.std.proofs.lemmas.List.{append-nil}
 use Rattle.std.proofs.lemmas.Grind.{flat_map-append}
 use Rattle.mx_model.specs.Events.{Events}
@@ -13,7 +13,7 @@ use Rattle.mx_model.proofs.RunLaws.{run-add}
 use Rattle.mx_model.proofs.KeepLaws.{keeps-turned}
 use Rattle.mx_report.specs.Lines.{note_line}
 use Rattle.mx_run.specs.declared.status.Status.{Status}
-use Rattle.mx_run.specs.Running.{named, Places, Makes, MakesOrStops, HasRun, Stops, Begins, IsNext, IsTurnOf, GoesOn, ShowsOrStops, KeepsShape, Breaks, may_tell, note_lines, note_text}
+use Rattle.mx_run.specs.Running.{named, Places, Makes, MakesOrStops, HasRun, Stops, Begins, IsNext, IsTurnOf, GoesOn, ShowsOrStops, KeepsShape, may_tell, note_lines, note_text}
 use Rattle.mx_run.proofs.Quiet.{quiet_turned}
 use Rattle.mx_run.proofs.Sinking.{moves_nothing, moves_moves, moves_breaks, moves_front, breaks_more, breaks_same}
 
@@ -163,25 +163,25 @@ turn_goes_on f g h events k is told kind quiet =
 
 -- a turn was made that added nothing
 pub makes_quiet : (s : State) (h : ℕ) (m : Flat) (c : Core) (events : Events) (at : Places) → IsTurnOf s h m events → GoesOn c events m.core → Makes s h m at at
-makes_quiet s h m c events at turn quiet = record {
-  state = turn.state;
-  console = rw (sym turn.bytes ∙ quiet.bytes) (moves_nothing at.shown at.console);
-  report = rw (sym turn.note ∙ quiet.note) (moves_nothing at.told at.report);
+makes_quiet s h m c events at is quiet = record {
+  state = is.state;
+  console = rw (sym is.bytes ∙ quiet.bytes) (moves_nothing at.shown at.console);
+  report = rw (sym is.note ∙ quiet.note) (moves_nothing at.told at.report);
 }
 
 -- a turn was made, and what it added was put
-pub makes_shown : (s : State) (h : ℕ) (m : Flat) (events : Events) (before now : Places) → IsTurnOf s h m events
-    → ShowsOrStops events.bytes (note_text events.note) before now (Ok tt) → Makes s h m before now
-makes_shown s h m events before now turn shows = record {
-  state = turn.state;
-  console = rw turn.bytes at shows.0;
-  report = rw turn.note at shows.1;
+pub makes_shown : (A : Type 0) (a : A) (s : State) (h : ℕ) (m : Flat) (events : Events) (before now : Places) → IsTurnOf s h m events
+    → ShowsOrStops events.bytes (note_text events.note) before now (Ok a) → Makes s h m before now
+makes_shown A a s h m events before now is shows = record {
+  state = is.state;
+  console = rw is.bytes at shows.0;
+  report = rw is.note at shows.1;
 }
 
 -- or couldn't be put
-pub makes_stopped : {A B : Type 0} (s : State) (h : ℕ) (m : Flat) (events : Events) (before now : Places) (status : Status) → IsTurnOf s h m events
+pub makes_stopped : (A B : Type 0) (s : State) (h : ℕ) (m : Flat) (events : Events) (before now : Places) (status : Status) → IsTurnOf s h m events
     → ShowsOrStops {A = A} events.bytes (note_text events.note) before now (Err status) → MakesOrStops {A = B} s h m before now (Err status)
-makes_stopped s h m events before now status turn stops = rw (turn.bytes, turn.note) at stops
+makes_stopped A B s h m events before now status is stops = rw (is.bytes, is.note) at stops
 
 pub keeps_none : (f : Flat) → KeepsShape f f
 keeps_none f = record { kind = refl; limit = refl; modules = refl }

@@ -1,8 +1,7 @@
 -- Texts that were put on a sink one after another, or of which one couldn't be put.
-use Rattle.std.proofs.Common.{◌≡◌, ℕ, ◌+◌, ◌<◌, ◌≤◌, List, [], ◌∷◌, ◌++◌, length, take, min, refl, sym, ap, subst, ◌∙◌, append_assoc, length-append, arith, Result, Ok, Err, IsOk, T}
+use Rattle.std.proofs.Common.{◌≡◌, ℕ, ◌+◌, ◌<◌, ◌≤◌, List, [], ◌∷◌, ◌++◌, length, take, min, refl, sym, ap, subst, ◌∙◌, append_assoc, length-append, arith, Ok, Err, IsOk, T}
 use Rattle.std.proofs.lemmas.List.{append-nil, take-append-le, take_min}
 use Rattle.std.proofs.Math.Seq.{take-append_seam, take-append-add}
-use Rattle.mx_io.specs.Count.{Rose}
 use Rattle.mx_io.specs.Texts.{appended, AppendsPrefix}
 use Rattle.mx_io.specs.Sink.{SinkState, Puts}
 use Rattle.mx_io.proofs.Text.{appended-nil, appended-appended, Rose-earlier}

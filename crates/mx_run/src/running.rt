@@ -38,20 +38,38 @@ pub(crate) fn run_booted<S: Store, C: Sink, R: Sink, D: Sink>(
     requires fresh { IsFresh plan.now (meaning machine.old) }
     ensures { (s : State) → IsNew s → meaning machine.old ≡ flat s
         → Continues (scheduled (order_of order.now) plan.now s (order_of order.now).schedule) S.gives store.old store.new
-            (sinks (C.state console.old) (R.state report.old) (D.state dump.old))
-            (sinks (C.state console.new) (R.state report.new) (D.state dump.new)) result }
+        (sinks (C.state console.old) (R.state report.old) (D.state dump.old))
+        (sinks (C.state console.new) (R.state report.new) (D.state dump.new)) result }
 {
     let Ok(names) = names(alloc, plan) else {
         return Status::WantOfMemory;
     };
     let Some(name) = order.schedule else {
         let schedule = Schedule::Quantum(plan.quantum());
-        return run_any(order, plan, names.as_slice(), machine, schedule, console, report, dump);
+        return run_any(
+            order,
+            plan,
+            names.as_slice(),
+            machine,
+            schedule,
+            console,
+            report,
+            dump,
+        );
     };
     match take_file(alloc, &schedule_file(name), store, report) {
         Ok(bytes) => {
             let schedule = Schedule::Bytes(bytes.as_slice());
-            run_any(order, plan, names.as_slice(), machine, schedule, console, report, dump)
+            run_any(
+                order,
+                plan,
+                names.as_slice(),
+                machine,
+                schedule,
+                console,
+                report,
+                dump,
+            )
         }
         Err(status) => status,
     }

@@ -71,11 +71,12 @@ fn make_turn<T: PermTables, const N: usize, C: Sink, R: Sink>(
         → MakesOrStops s hart machine.new (places (C.state console.old) shown.old (R.state report.old) told.old)
         (places (C.state console.new) shown.new (R.state report.new) told.new) result }
 {
-    if may_tell(take_turn(hart, machine, events)) {
-        show(events, shown, console, told, report)?;
-        Ok(machine.all_halted())
-    } else {
-        Ok(false)
+    if !may_tell(take_turn(hart, machine, events)) {
+        return Ok(false);
+    }
+    match show(events, shown, console, told, report) {
+        Ok(()) => Ok(machine.all_halted()),
+        Err(status) => Err(status),
     }
 }
 

@@ -7,15 +7,15 @@ use Rattle.mx_run.proofs.Booted.{boots_new, boots_fresh}
 use Rattle.mx_run.proofs.Continued.{continues_end, continues_wanting}
 use Rattle.mx_run.proofs.booting.with_images.Goals as goal
 
-pub run_booted-requires : goal.run_booted-requires
-run_booted-requires g c =
+pub run_booted-status-requires : goal.run_booted-status-requires
+run_booted-status-requires g c =
     let boot = c.in-Ok.ensures in
     record { few = c.requires; fresh = boots_fresh c.args.plan.now c.args.images.items boot.0 _ boot.1 boot.2 }
 
 pub returns-in-Ok : goal.returns-in-Ok
 returns-in-Ok g c =
     let boot = c.in-Ok.ensures in
-    rw boot.1 (c.run_booted.ensures boot.0 (boots_new c.args.plan.now c.args.images.items boot.0 boot.1) boot.2)
+    rw boot.1 (c.run_booted-status.ensures boot.0 (boots_new c.args.plan.now c.args.images.items boot.0 boot.1) boot.2)
 
 pub returns-in-Err-Fault : goal.returns-in-Err-Fault
 returns-in-Err-Fault g c =
@@ -23,7 +23,7 @@ returns-in-Err-Fault g c =
     let o = order_of c.args.order.now in
     rw boot
     (continues_end g.S.Store.gives (booted o c.args.plan.now (Err (Faulty c.in-Err-Fault.fault))) (refusal o.manifest (Refused c.in-Err-Fault.fault)) refl c.args.store.now
-    (inl (c.refuse.ensures (g.C.Sink.state c.args.console.now) (g.D.Sink.state c.args.dump.now))))
+    (inl (rw c.in-Err-Fault.field-0-is at (c.refuse.ensures (g.C.Sink.state c.args.console.now) (g.D.Sink.state c.args.dump.now)))))
 
 pub returns-in-Err-TablesFull : goal.returns-in-Err-TablesFull
 returns-in-Err-TablesFull g c =
@@ -31,7 +31,7 @@ returns-in-Err-TablesFull g c =
     let o = order_of c.args.order.now in
     rw boot
     (continues_end g.S.Store.gives (booted o c.args.plan.now (Err (TooFull c.in-Err-TablesFull.need c.in-Err-TablesFull.limit))) (refusal o.manifest (TablesFull c.in-Err-TablesFull.need c.in-Err-TablesFull.limit)) refl c.args.store.now
-    (inl (c.refuse.ensures (g.C.Sink.state c.args.console.now) (g.D.Sink.state c.args.dump.now))))
+    (inl (rw c.in-Err-TablesFull.field-0-is at (c.refuse-in-Err-TablesFull.ensures (g.C.Sink.state c.args.console.now) (g.D.Sink.state c.args.dump.now)))))
 
 pub returns-in-Err-NoMemory : goal.returns-in-Err-NoMemory
 returns-in-Err-NoMemory g c =

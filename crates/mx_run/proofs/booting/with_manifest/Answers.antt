@@ -14,7 +14,7 @@ returns-in-Err-Fault g c =
     let o = order_of c.args.order.now in
     rw judged
     (continues_end g.S.Store.gives (planned o (Err c.in-Err-Fault.fault)) (refusal o.manifest (Refused c.in-Err-Fault.fault)) refl c.args.store.now
-    (inl (c.refuse.ensures (g.C.Sink.state c.args.console.now) (g.D.Sink.state c.args.dump.now))))
+    (inl (rw c.in-Err-Fault.field-0-is at (c.refuse.ensures (g.C.Sink.state c.args.console.now) (g.D.Sink.state c.args.dump.now)))))
 
 pub returns-in-Err-NoMemory : goal.returns-in-Err-NoMemory
 returns-in-Err-NoMemory g c =

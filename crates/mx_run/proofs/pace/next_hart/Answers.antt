@@ -1,4 +1,4 @@
-use Rattle.std.proofs.Common.{◌≡◌, subst}
+use Rattle.std.proofs.Common.{subst}
 use Rattle.mx_run.specs.declared.pace.Pace.{Pace}
 use Rattle.mx_run.specs.Running.{IsPace}
 use Rattle.mx_run.proofs.Paces.{paces_rest}

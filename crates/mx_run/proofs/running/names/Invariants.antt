@@ -1,4 +1,4 @@
-use Rattle.std.proofs.Common.{◌≡◌, List, ℕ, take, map}
+use Rattle.std.proofs.Common.{◌≡◌, take, map}
 use Rattle.mx_run.specs.Outcome.{names_of}
 use Rattle.mx_run.proofs.running.names.Given as goal
 

@@ -1,8 +1,14 @@
 use Rattle.mx_model.specs.Run.{run}
 use Rattle.mx_run.specs.Asked.{order_of}
 use Rattle.mx_run.specs.Running.{schedule_of, places}
-use Rattle.mx_run.proofs.Closings.{ends_stopped, ends_closed}
+use Rattle.mx_machine.proofs.SizeLaws.{fits-inside}
+use Rattle.mx_run.proofs.Closings.{ends_stopped, ends_closed, keeps_plan}
 use Rattle.mx_run.proofs.running.run_machine.Goals as goal
+
+pub end_run-requires : goal.end_run-requires
+end_run-requires g c =
+    let keeps = keeps_plan c.args.names.now c.args.plan.now c.args.machine.now c.make_turns.new.machine c.requires.names c.requires.fresh c.in-Ok.ensures.keeps in
+    (search fits-inside, (keeps.0, (keeps.1, keeps.2)))
 
 pub returns-in-Ok : goal.returns-in-Ok
 returns-in-Ok g c =

@@ -1,35 +1,25 @@
-use Rattle.std.proofs.Common.{refl, inl, inr}
-use Rattle.mx_report.proofs.PassLaws.{passes_adds}
-use Rattle.mx_run.proofs.Sinking.{breaks_of, moves_of}
+use Rattle.std.proofs.Common.{sym}
+use Rattle.mx_run.specs.Running.{places}
+use Rattle.mx_run.proofs.RunTexts.{makes_quiet, makes_shown, makes_stopped}
 use Rattle.mx_run.proofs.turns.make_turn.Goals as goal
 
-pub returns-in-Ok-put_told-clause-next : goal.returns-in-Ok-put_told-clause-next
-returns-in-Ok-put_told-clause-next g c = c.take_turn.ensures.next
-
-pub returns-in-Ok-put_told-clause-makes : goal.returns-in-Ok-put_told-clause-makes
-returns-in-Ok-put_told-clause-makes g c =
+pub returns-then-not-may_tell-clause-makes : goal.returns-then-not-may_tell-clause-makes
+returns-then-not-may_tell-clause-makes g c =
     λ s is.
-    let turn = c.take_turn.ensures.turn s is in
-    record {
-      state = turn.state;
-      console = rw turn.bytes at (moves_of (passes_adds c.in-Ok.ensures.adds));
-      report = rw (c.note.ensures, turn.note) at (moves_of c.in-Ok-put_told.ensures);
-    }
+    makes_quiet s c.args.hart c.take_turn.new.machine c.args.machine.now.core c.take_turn.new.events
+    (places (g.C.Sink.state c.args.console.now) c.args.shown.now (g.R.Sink.state c.args.report.now) c.args.told.now) (c.take_turn.ensures.turn s is)
+    (c.take_turn.ensures.quiet (sym c.if-not-may_tell.ensures))
 
-pub returns-in-Err-put_told-clause-next : goal.returns-in-Err-put_told-clause-next
-returns-in-Err-put_told-clause-next g c = c.take_turn.ensures.next
-
-pub returns-in-Err-put_told-clause-makes : goal.returns-in-Err-put_told-clause-makes
-returns-in-Err-put_told-clause-makes g c =
+pub returns-in-Ok-clause-makes : goal.returns-in-Ok-clause-makes
+returns-in-Ok-clause-makes g c =
     λ s is.
-    let turn = c.take_turn.ensures.turn s is in
-    inr (refl, rw turn.bytes at (moves_of (passes_adds c.in-Ok.ensures.adds)), rw (c.note.ensures, turn.note) at (breaks_of c.in-Err-put_told.ensures.stopped))
-
-pub returns-in-Err-clause-next : goal.returns-in-Err-clause-next
-returns-in-Err-clause-next g c = c.take_turn.ensures.next
+    makes_shown _ c.in-Ok.field-0 s c.args.hart c.take_turn.new.machine c.take_turn.new.events
+    (places (g.C.Sink.state c.args.console.now) c.args.shown.now (g.R.Sink.state c.args.report.now) c.args.told.now)
+    (places (g.C.Sink.state c.show.new.console) c.show.new.shown (g.R.Sink.state c.show.new.report) c.show.new.told) (c.take_turn.ensures.turn s is) c.in-Ok.ensures
 
 pub returns-in-Err-clause-makes : goal.returns-in-Err-clause-makes
 returns-in-Err-clause-makes g c =
     λ s is.
-    let turn = c.take_turn.ensures.turn s is in
-    inl (refl, rw turn.bytes at (breaks_of (passes_adds c.in-Err.ensures.adds).stopped), refl {a = g.R.Sink.state c.args.report.now})
+    makes_stopped (Unit {0}) (Unit {0}) s c.args.hart c.take_turn.new.machine c.take_turn.new.events
+    (places (g.C.Sink.state c.args.console.now) c.args.shown.now (g.R.Sink.state c.args.report.now) c.args.told.now)
+    (places (g.C.Sink.state c.show.new.console) c.show.new.shown (g.R.Sink.state c.show.new.report) c.show.new.told) c.in-Err.status (c.take_turn.ensures.turn s is) c.in-Err.ensures

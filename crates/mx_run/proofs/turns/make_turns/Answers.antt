@@ -1,24 +1,25 @@
-use Rattle.std.proofs.Common.{◌≡◌, ◌+◌, sym, ap, ◌∙◌, arith}
+use Rattle.std.proofs.Common.{◌≡◌, ◌+◌, ◌-◌, ◌^◌, ◌<◌, sym, ap, ◌∙◌, arith}
 use Rattle.std.proofs.lemmas.Result.{err_from_is_err_and}
+use Rattle.mx_machine.proofs.SizeLaws.{fits-inside}
 use Rattle.mx_model.specs.Run.{run}
 use Rattle.mx_run.specs.Running.{schedule_of, places}
-use Rattle.mx_run.proofs.RunTexts.{keeps_none, keeps_next, run_begins, run_makes, run_stops, grows_on, goes_to, ends_halted, ends_over}
+use Rattle.mx_run.proofs.RunTexts.{keeps_none, keeps_next, run_begins, run_makes, run_stops, grows_on, goes_to, ends_after, ends_halted, ends_over}
 use Rattle.mx_run.proofs.turns.make_turns.Goals as goal
+
+pub returns-then-all_halted-clause-runs : goal.returns-then-all_halted-clause-runs
+returns-then-all_halted-clause-runs g c =
+    λ s b.
+    rw (ends_halted (schedule_of c.args.schedule) 0 c.args.steps s c.args.machine.now b.state (omega arith) (sym c.if-all_halted.ensures)) (run_begins s _ _ b)
 
 pub turns-init : goal.turns-init
 turns-init g c =
     record {
       turns = c.requires.start;
       pace = c.begin-pace.ensures c.args.machine.now.core c.requires.start (sym c.harts.ensures);
+      going = sym c.if-all_halted.ensures;
       keeps = keeps_none c.args.machine.now;
       runs = λ s b. run_begins s _ _ b;
     }
-
-pub returns-then-all_halted-clause-runs : goal.returns-then-all_halted-clause-runs
-returns-then-all_halted-clause-runs g c =
-    λ s b.
-    let r = c.turns.invariant.runs s b in
-    rw (ends_halted (schedule_of c.args.schedule) c.turns._step c.args.steps s c.turns.machine r.state (omega (arith, c.turns-test.true)) (sym c.if-all_halted.ensures)) r
 
 pub returns-in_default-clause-runs : goal.returns-in_default-clause-runs
 returns-in_default-clause-runs g c =
@@ -26,6 +27,11 @@ returns-in_default-clause-runs g c =
     let r = c.turns.invariant.runs s b in
     let over = c.in_default.ensures.named (schedule_of c.args.schedule) c.turns.machine.core c.turns.invariant.pace in
     rw (ends_over (schedule_of c.args.schedule) c.turns._step c.args.steps s c.turns.machine r.state (omega (arith, c.turns-test.true)) (sym over)) r
+
+pub make_turn-requires : goal.make_turn-requires
+make_turn-requires g c =
+    let few : c.turns.machine.core.turns < 2 ^ 64 - 1 = omega (arith, c.turns.invariant.turns, c.turns-test.true, c.requires.few) in
+    (search fits-inside, (few, c.turns.invariant.going))
 
 pub returns-in_err-make_turn-clause-keeps : goal.returns-in_err-make_turn-clause-keeps
 returns-in_err-make_turn-clause-keeps g c = keeps_next c.args.machine.now c.turns.machine c.make_turn.new.machine c.turns.invariant.keeps c.make_turn.ensures.next
@@ -38,11 +44,29 @@ returns-in_err-make_turn-clause-runs g c =
     (λ s b.
     let r = c.turns.invariant.runs s b in
     let name = c.in-Some.ensures.named schedule c.turns.machine.core c.turns.invariant.pace in
-    let more = goes_to schedule c.turns._step c.args.steps s c.turns.machine r.state c.in-Some.hart (sym c.if-all_halted.ensures) (sym name) in
+    let more = goes_to schedule c.turns._step c.args.steps s c.turns.machine r.state c.in-Some.hart c.turns.invariant.going (sym name) in
     let grows = grows_on schedule (c.turns._step + 1) c.args.steps s (omega (arith, c.turns-test.true)) in
     run_stops (run schedule c.turns._step s) (run schedule c.args.steps s) c.in-Some.hart c.turns.machine c.make_turn.new.machine _ _
     (places (g.C.Sink.state c.make_turn.new.console) c.make_turn.new.shown (g.R.Sink.state c.make_turn.new.report) c.make_turn.new.told) c.in_err-make_turn.field-0.0 r (rw more at grows)
     (c.in_err-make_turn.ensures.makes (run schedule c.turns._step s) r.state))
+
+pub returns-then-branch-clause-runs : goal.returns-then-branch-clause-runs
+returns-then-branch-clause-runs g c =
+    let schedule = schedule_of c.args.schedule in
+    λ s b.
+    let r = c.turns.invariant.runs s b in
+    let name = c.in-Some.ensures.named schedule c.turns.machine.core c.turns.invariant.pace in
+    let more = goes_to schedule c.turns._step c.args.steps s c.turns.machine r.state c.in-Some.hart c.turns.invariant.going (sym name) in
+    let makes = c.in_ok-make_turn.ensures.makes (run schedule c.turns._step s) r.state in
+    rw (ends_after schedule c.turns._step c.args.steps s c.turns.machine r.state c.in-Some.hart (omega (arith, c.turns-test.true)) more c.make_turn.new.machine makes.state
+    (sym c.in_ok-make_turn.ensures.halted ∙ c.if-branch.true))
+    (run_makes (run schedule c.turns._step s) c.in-Some.hart c.turns.machine c.make_turn.new.machine _ _ _ r makes)
+
+pub returns-clause-runs : goal.returns-clause-runs
+returns-clause-runs g c =
+    λ s b.
+    let e : c.turns._step ≡ c.args.steps = omega (arith, c.turns-test.false, c.turns.auto._step-end) in
+    rw (← e) (c.turns.invariant.runs s b)
 
 pub turns-preserved : goal.turns-preserved
 turns-preserved g c =
@@ -51,12 +75,13 @@ turns-preserved g c =
     record {
       turns = next.turns ∙ ap (λ n. n + 1) c.turns.invariant.turns;
       pace = c.in-Some.ensures.paces schedule c.turns.machine.core c.turns.invariant.pace c.make_turn.new.machine.core next.turns next.harts;
+      going = sym c.in_ok-make_turn.ensures.halted ∙ c.if-branch.false;
       keeps = keeps_next c.args.machine.now c.turns.machine c.make_turn.new.machine c.turns.invariant.keeps next;
       runs =
           λ s b.
           let r = c.turns.invariant.runs s b in
           let name = c.in-Some.ensures.named schedule c.turns.machine.core c.turns.invariant.pace in
-          let more = goes_to schedule c.turns._step c.args.steps s c.turns.machine r.state c.in-Some.hart (sym c.if-all_halted.ensures) (sym name) in
+          let more = goes_to schedule c.turns._step c.args.steps s c.turns.machine r.state c.in-Some.hart c.turns.invariant.going (sym name) in
           rw more
           (run_makes (run schedule c.turns._step s) c.in-Some.hart c.turns.machine c.make_turn.new.machine _ _ _ r (c.in_ok-make_turn.ensures.makes (run schedule c.turns._step s) r.state));
     }

@@ -1,6 +1,6 @@
-use Rattle.std.proofs.Common.{◌≡◌, ℕ}
+use Rattle.std.proofs.Common.{◌≡◌, false}
 use Rattle.mx_model.specs.State.{State}
-use Rattle.mx_model.specs.Run.{run}
+use Rattle.mx_model.specs.Run.{all_halted, run}
 use Rattle.mx_run.specs.Running.{schedule_of, IsPace, Begins, KeepsShape, HasRun, places}
 use Rattle.mx_run.proofs.turns.make_turns.Given as goal
 
@@ -8,6 +8,7 @@ abbrev pub invariant-turns : goal.invariant-turns
 invariant-turns g l = record {
   turns : l.machine.core.turns ≡ l._step;
   pace : IsPace (schedule_of l.schedule) l.machine.core l.pace;
+  going : all_halted l.machine.core ≡ false;
   keeps : KeepsShape l.fn.machine l.machine;
   runs : (s : State) → Begins s l.fn.machine (places (g.C.Sink.state l.fn.console) l.fn.shown (g.R.Sink.state l.fn.report) l.fn.told)
       → HasRun (run (schedule_of l.schedule) l._step s) l.machine (places (g.C.Sink.state l.fn.console) l.fn.shown (g.R.Sink.state l.fn.report) l.fn.told)
