@@ -11,27 +11,16 @@ use Rattle.std.proofs.lemmas.List.Filters.{length-filter_both}
 use Rattle.mx_model.specs.declared.values.Gate.{Gate}
 use Rattle.mx_model.specs.Gates.{is_at, gate_at, without_gate, has_gate, no_gate_fits}
 use Rattle.mx_model.specs.Gates.{AreSingle}
+use Rattle.mx_model.proofs.ApartLaws.{at-flipped}
 use Rattle.mx_gates.proofs.Lists.{filter-find_none, find_none-any, find_none-from, length-filter_any, find-filter_not, find_none-at}
-
--- a gate is apart from another that is_at elsewhere
-apart_back : (g h : Gate) → is_at g.domain g.word h ≡ false → is_at h.domain h.word g ≡ false
-apart_back g h out = elim (cases_Bool (is_at h.domain h.word g)) [
-  | inl same ↦
-      let parts = and_parts _ _ same in
-      absurd (false≢true (sym out ∙ and_from _ _ (eq-eqb h.domain g.domain (sym (eqb-true _ _ parts.0))) (eq-eqb h.word g.word (sym (eqb-true _ _ parts.1)))))
-  | inr other ↦ other
-]
 
 -- two gates that stand at one place
 at_both : (domain word : ℕ) (g h : Gate) → is_at domain word g ≡ true → is_at domain word h ≡ true → is_at g.domain g.word h ≡ true
 at_both domain word g h p q = grind arith
 
-pub AreSingle-without : (domain word : ℕ) (gates : List Gate) → AreSingle gates → AreSingle (without_gate domain word gates)
-AreSingle-without domain word gates a = AllPairs-filter (λ (g h : Gate). is_at g.domain g.word h ≡ false) _ gates a
-
 pub AreSingle-push : (gates : List Gate) (g : Gate) → gate_at gates g.domain g.word ≡ None → AreSingle gates → AreSingle (gates ++ g ∷ [])
 AreSingle-push gates g none a =
-    all_pairs_push (λ (g h : Gate). is_at g.domain g.word h ≡ false) gates g a (λ k d within. apart_back g (get_or gates k d) (find_none-at _ gates k d none within))
+    all_pairs_push (λ (g h : Gate). is_at g.domain g.word h ≡ false) gates g a (λ k d within. at-flipped g (get_or gates k d) (find_none-at _ gates k d none within))
 
 AreSingle-tail : (g : Gate) (gates : List Gate) → AreSingle (g ∷ gates) → AreSingle gates
 AreSingle-tail g gates a i j d lt within = a (suc i) (suc j) d (omega arith) (omega arith)

@@ -2,4 +2,3 @@ pub mod Lists
 pub mod Order
 pub mod Apart
 pub mod Indexing
-pub mod Borrow

@@ -1,7 +1,7 @@
 -- The order of sorted gates, and what stands where in them.
 use Rattle.std.proofs.Common.{◌≡◌, ℕ, ◌+◌, ◌-◌, ◌/◌, ◌<◌, ◌≤◌, Bool, true, false, not, List, length, get_or, refl, sym, ap, arith, ⊎_elim}
 use Rattle.std.specs.List.{position_or_len}
-use Rattle.std.proofs.lemmas.Bool.{cases_lt}
+use Rattle.std.proofs.lemmas.Bool.{cases_lt, not-false, not-true}
 use Rattle.std.proofs.lemmas.List.Sums.{position_or_len_is, fails_before_first, passes_at_first}
 use Rattle.mx_model.specs.declared.values.Gate.{Gate}
 use Rattle.mx_model.specs.Gates.{is_at}
@@ -83,18 +83,10 @@ module _ (domain word : ℕ) (sorted : List Gate) (up : AreRising sorted) where
   module _ (d : Gate) where
     -- all before the place come before, and none from it on does
     pub before_place : (k : ℕ) → k < place_of domain word sorted → is_before domain word (get_or sorted k d) ≡ true
-    before_place k lt = not_not _ (fails_before_first (λ g. not (is_before domain word g)) sorted k d lt)
-      where
-        not_not : (b : Bool) → not b ≡ false → b ≡ true
-        not_not true e = refl
-        not_not false e = absurd (let q : ⊥ = cc in q)
+    before_place k lt = not-false _ (fails_before_first (λ g. not (is_before domain word g)) sorted k d lt)
 
     at_place : place_of domain word sorted < length sorted → is_before domain word (get_or sorted (place_of domain word sorted) d) ≡ false
-    at_place within = not_true _ (passes_at_first (λ g. not (is_before domain word g)) sorted d within)
-      where
-        not_true : (b : Bool) → not b ≡ true → b ≡ false
-        not_true false e = refl
-        not_true true e = absurd (let q : ⊥ = cc in q)
+    at_place within = not-true _ (passes_at_first (λ g. not (is_before domain word g)) sorted d within)
 
     pub behind_place : (k : ℕ) → place_of domain word sorted ≤ k → k < length sorted → is_before domain word (get_or sorted k d) ≡ false
     behind_place k le within =

@@ -5,6 +5,5 @@ pub mod BlockLaws
 pub mod EditLaws
 pub mod JoinLaws
 pub mod KeptParts
-pub mod Borrow
 pub mod OrderLaws
 pub mod ListLaws

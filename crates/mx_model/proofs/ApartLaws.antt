@@ -2,7 +2,7 @@
 use Rattle.std.proofs.Common.{◌≡◌, ℕ, ◌+◌, ◌-◌, ◌<◌, ◌≤◌, Bool, true, false, not, cond, nat_lt, ◌==◌, ◌&&◌, ◌||◌, List, [], ◌∷◌, ◌++◌, refl, sym, ◌∙◌, ap, arith, ◌⊎◌, ⊎_elim, inl, inr}
 use Rattle.std.specs.Prelude.{filter}
 use Rattle.std.specs.List.{AllByRecursion, list_any}
-use Rattle.std.proofs.lemmas.Bool.{ltb-true, ltb-false, lt-ltb, ne_eqb}
+use Rattle.std.proofs.lemmas.Bool.{ltb-true, ltb-false, lt-ltb, ne_eqb, or_parts, eq-eqb}
 use Rattle.std.proofs.lemmas.Bool.Decides.{eqb_tells}
 use Rattle.mx_words.specs.FirstFit.{AreApart, Area, with_block, without_block}
 use Rattle.mx_words.specs.Ranges.{overlaps}
@@ -43,16 +43,12 @@ apart-ranges a n b m p q e = elim (nat_lt a b) as (λ t. nat_lt a b ≡ t → (n
     last-false true false z p q f = absurd (let r : ⊥ = cc in r)
     last-false false y z p q f = absurd (let r : ⊥ = cc in r)
 
-or-false : (x y : Bool) → (x || y) ≡ false → (x ≡ false) × (y ≡ false)
-or-false true y e = absurd (let r : ⊥ = cc in r)
-or-false false y e = (refl, e)
-
 -- a block that meets none of the others
 pub apart-with : (c : Area) (low high : ℕ) (bs : List Area) → low ≤ c.first → c.first + c.count ≤ high → 0 < c.count →
     list_any (λ (b : Area). overlaps b.first b.count c.first c.count) bs ≡ false → AreApart low high bs → AreApart low high (with_block c bs)
 apart-with c low high [] l u s e p = (l, s, u)
 apart-with c low high (b ∷ bs) l u s e p =
-    let f = or-false (overlaps b.first b.count c.first c.count) (list_any (λ (x : Area). overlaps x.first x.count c.first c.count) bs) e in
+    let f = or_parts (overlaps b.first b.count c.first c.count) (list_any (λ (x : Area). overlaps x.first x.count c.first c.count) bs) e in
     let r = apart-ranges b.first b.count c.first c.count p.1 s f.0 in
     elim (nat_lt c.first b.first) as (λ t. nat_lt c.first b.first ≡ t → AreApart low high (cond t (c ∷ b ∷ bs) (b ∷ with_block c bs))) [
       | true ↦ λ t. let v = ltb-true c.first b.first t in
@@ -72,19 +68,15 @@ single-append g gs q p =
     all_pairs_push (λ (g h : Gate). is_at g.domain g.word h ≡ false) gs g p
     (λ k d l. all-in (λ (h : Gate). is_at h.domain h.word g ≡ false) gs d q k l)
 
--- equal numbers
-eq-same : (m n : ℕ) → m ≡ n → (m == n) ≡ true
-eq-same m n e = ⊎_elim (λ t. t.0) (λ f. absurd (f.1 e)) (eqb_tells m n)
-
 -- no gate of those without a domain and word is for these
-at-flipped : (g h : Gate) → is_at g.domain g.word h ≡ false → is_at h.domain h.word g ≡ false
+pub at-flipped : (g h : Gate) → is_at g.domain g.word h ≡ false → is_at h.domain h.word g ≡ false
 at-flipped g h e = flipped (h.domain == g.domain) (g.domain == h.domain) (h.word == g.word) (g.word == h.word) (eq-flipped h.domain g.domain) (eq-flipped h.word g.word) e
   where
     flipped : (a b x y : Bool) → a ≡ b → x ≡ y → (a && x) ≡ false → (b && y) ≡ false
     flipped a b x y p q f = sym (ap (λ t. t && y) p) ∙ sym (ap (λ t. a && t) q) ∙ f
 
     eq-flipped : (m n : ℕ) → (m == n) ≡ (n == m)
-    eq-flipped m n = ⊎_elim (λ t. t.0 ∙ sym (eq-same n m (sym t.1))) (λ f. f.0 ∙ sym (ne_eqb n m (λ q. f.1 (sym q)))) (eqb_tells m n)
+    eq-flipped m n = ⊎_elim (λ t. t.0 ∙ sym (eq-eqb n m (sym t.1))) (λ f. f.0 ∙ sym (ne_eqb n m (λ q. f.1 (sym q)))) (eqb_tells m n)
 
 pub single-others : (g : Gate) (gs : List Gate) → AllByRecursion (λ h. is_at h.domain h.word g ≡ false) (without_gate g.domain g.word gs)
 single-others g [] = tt

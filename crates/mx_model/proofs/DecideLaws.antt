@@ -2,7 +2,7 @@
 use Rattle.std.proofs.Common.{◌≡◌, ℕ, zero, suc, ◌-◌, ◌%◌, ◌^◌, ◌<◌, Bool, true, false, not, cond, nat_le, ◌==◌, List, length, refl, sym, lit<, subst, eqb-true, if◌then◌else◌, Option, Some, None}
 use Rattle.std.specs.Prelude.{IfSome}
 use Rattle.std.specs.Option.{option_map_or}
-use Rattle.std.proofs.lemmas.Bool.{leb-false}
+use Rattle.std.proofs.lemmas.Bool.{leb-false, not-false}
 use Rattle.mx_words.specs.declared.perm.Access.TheVariants as A
 use Rattle.mx_words.specs.Bytes.{number_at}
 use Rattle.mx_words.specs.Ranges.{ram_base, word_of}
@@ -50,10 +50,6 @@ decided-choice modules h hart true d e p q = p refl
 decided-choice modules h hart false d e p q = q refl
 
 -- at a gate
-not-false : (b : Bool) → not b ≡ false → b ≡ true
-not-false true e = refl
-not-false false e = sym e
-
 action-at_gate : (c : Core) (h : ℕ) (hart : Hart) (target : ℕ) → IsRegisters hart.regs → IsModule (length c.modules) target →
     IsAction (length c.modules) h hart (at_gate c hart target).action
 action-at_gate c h hart target r t =

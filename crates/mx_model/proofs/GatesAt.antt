@@ -2,7 +2,7 @@
 use Rattle.std.proofs.Common.{◌≡◌, ◌≢◌, ℕ, Bool, true, false, ◌==◌, ◌&&◌, refl, ◌∙◌, ap, eqb-true, if◌then◌else◌, Option, Some, None}
 use Rattle.std.specs.Prelude.{IfSome, option_map}
 use Rattle.std.specs.Option.{option_map_or}
-use Rattle.std.proofs.lemmas.Bool.{eq-eqb, ne_eqb}
+use Rattle.std.proofs.lemmas.Bool.{eq-eqb, ne_eqb, and_parts}
 use Rattle.mx_words.specs.Ranges.{word_of}
 use Rattle.mx_model.specs.declared.values.Gate.{Gate}
 use Rattle.mx_model.specs.Agreement.{target_at}
@@ -25,12 +25,8 @@ is_own d None = false
 is_own d (Some t) = t == d
 
 -- a gate that is found is for the domain for which it was looked up
-first-true : (x y : Bool) → (x && y) ≡ true → x ≡ true
-first-true true y e = refl
-first-true false y e = e
-
 domain-found : (d word : ℕ) (g : Gate) → is_at d word g ≡ true → g.domain ≡ d
-domain-found d word g e = eqb-true g.domain d (first-true (g.domain == d) (g.word == word) e)
+domain-found d word g e = eqb-true g.domain d (and_parts (g.domain == d) (g.word == word) e).0
 
 called-found : (d word : ℕ) (o : Option Gate) → IfSome o (λ g. is_at d word g ≡ true) →
     option_map_or call_target o None ≡ called_domain d (option_map (λ (g : Gate). g.target) o)

@@ -1,9 +1,10 @@
 -- A served call leaves a valid state valid, and answers numbers of 32 bits.
-use Rattle.std.proofs.Common.{◌≡◌, ℕ, ◌+◌, ◌-◌, ◌*◌, ◌%◌, ◌^◌, ◌<◌, ◌≤◌, Bool, true, false, not, cond, nat_lt, nat_le, ◌==◌, ◌&&◌, ◌||◌, List, [], ◌∷◌, ◌++◌, length, refl, sym, arith, lit<, if◌then◌else◌, Option, Some, None, unwrap_or, is_none}
+use Rattle.std.proofs.Common.{◌≡◌, ◌∙◌, ℕ, ◌+◌, ◌-◌, ◌*◌, ◌%◌, ◌^◌, ◌<◌, ◌≤◌, Bool, true, false, not, cond, nat_lt, nat_le, ◌==◌, ◌&&◌, ◌||◌, List, [], ◌∷◌, ◌++◌, length, refl, sym, arith, lit<, if◌then◌else◌, Option, Some, None, unwrap_or, is_none}
 use Rattle.std.specs.Prelude.{IfSome}
 use Rattle.std.specs.List.{AllByRecursion, list_any, range_with_len}
-use Rattle.std.proofs.lemmas.Bool.{eqb-false, ltb-true, leb-true, leb-false}
+use Rattle.std.proofs.lemmas.Bool.{eqb-false, ltb-true, leb-true, leb-false, and_parts, or_parts, not-false, not-true}
 use Rattle.std.proofs.lemmas.List.{length-append}
+use Rattle.std.proofs.Math.Bool.{and-true}
 use Rattle.mx_words.specs.declared.perm.Perm.{Perm}
 use Rattle.mx_words.specs.declared.perm.Perm.TheVariants as P
 use Rattle.mx_words.specs.declared.perm.Access.TheVariants as A
@@ -120,16 +121,13 @@ record HasRoom (area : Area) (blocks : List Area) (n a : ℕ) : Type 0 where
   high : a + n ≤ area.first + area.count
   free : list_any (λ (b : Area). overlaps b.first b.count a n) blocks ≡ false
 
-three-true : (x y z : Bool) → (x && y && not z) ≡ true → (x ≡ true) × (y ≡ true) × (z ≡ false)
-three-true true true false e = (refl, refl, refl)
-three-true true true true e = absurd (let q : ⊥ = cc in q)
-three-true true false z e = absurd (let q : ⊥ = cc in q)
-three-true false y z e = absurd (let q : ⊥ = cc in q)
-
 room-is : (area : Area) (blocks : List Area) (n a : ℕ) → has_room area blocks n a ≡ true → HasRoom area blocks n a
 room-is area blocks n a e =
-    let t = three-true (nat_le area.first a) (nat_le (a + n) (area.first + area.count)) (list_any (λ (b : Area). overlaps b.first b.count a n) blocks) e in
-    record { low = leb-true area.first a t.0; high = leb-true (a + n) (area.first + area.count) t.1; free = t.2 }
+    let fits : Bool = nat_le (a + n) (area.first + area.count) in
+    let met : Bool = list_any (λ (b : Area). overlaps b.first b.count a n) blocks in
+    let t = and_parts (nat_le area.first a && fits) (not met) e in
+    let u = and_parts (nat_le area.first a) fits t.0 in
+    record { low = leb-true area.first a u.0; high = leb-true (a + n) (area.first + area.count) u.1; free = not-true met t.1 }
 
 -- alloc: the place has room in the heap area, which lies in RAM
 found-room : (o : Option ℕ) (P : ℕ → Type 0) → IfSome o P → is_none o ≡ false → P (unwrap_or o 0)
@@ -155,19 +153,10 @@ served-allocated c h call first v p q room some =
 -- the word of a0 lies in RAM
 word-inside : (c : Core) (call : Call) → no_word c call ≡ false → arg_word call < c.size
 word-inside c call e =
-    let w : is_word c (arg call 0) ≡ true = not-not (is_word c (arg call 0)) e in
-    let i : in_ram (arg call 0) c.size ≡ true = and-right (arg call 0 % 4 == 0) _ w in
-    let l : arg call 0 - ram_base < 4 * c.size = ltb-true (arg call 0 - ram_base) (4 * c.size) (and-right (nat_le ram_base (arg call 0)) _ i) in
+    let w : is_word c (arg call 0) ≡ true = not-false (is_word c (arg call 0)) e in
+    let i : in_ram (arg call 0) c.size ≡ true = (and_parts (arg call 0 % 4 == 0) (in_ram (arg call 0) c.size) w).1 in
+    let l : arg call 0 - ram_base < 4 * c.size = ltb-true (arg call 0 - ram_base) (4 * c.size) (and_parts (nat_le ram_base (arg call 0)) _ i).1 in
     omega (arith, l)
-  where
-    not-not : (b : Bool) → not b ≡ false → b ≡ true
-    not-not true e = refl
-    not-not false e = sym e
-
-    and-right : (x y : Bool) → x && y ≡ true → y ≡ true
-    and-right true y e = e
-    and-right false true e = refl
-    and-right false false e = e
 
 -- a gate added, where one fits
 gates-fit : (gates : List Gate) (domain word : ℕ) (g : Gate) → length gates ≤ most_gates → no_gate_fits gates domain word ≡ false →
@@ -178,12 +167,8 @@ gates-fit gates domain word g p e =
     length (without_gate domain word gates ++ g ∷ []) ≤ most_gates) [
       | true ↦ λ t f. let q = length-filter-lt (is_at domain word) gates t in omega (arith, l, q, p)
       | false ↦ λ t f. let q = length-filter-le (λ x. not (is_at domain word x)) gates in
-          let few : length gates < most_gates = leb-false most_gates (length gates) (and-true (nat_le most_gates (length gates)) f) in omega (arith, l, q, few)
+          let few : length gates < most_gates = leb-false most_gates (length gates) (sym (and-true (nat_le most_gates (length gates))) ∙ f) in omega (arith, l, q, few)
     ] refl e
-  where
-    and-true : (b : Bool) → b && true ≡ false → b ≡ false
-    and-true true e = e
-    and-true false e = refl
 
 served-adds : (c : Core) (g : Gate) → IsValid c → IsGate (length c.modules) c.size g → no_gate_fits c.gates g.domain g.word ≡ false → IsServed (adds c g)
 served-adds c g v p e = served-answers (record c { gates = with_gate g c.gates }) 0
@@ -194,21 +179,8 @@ served-adds c g v p e = served-answers (record c { gates = with_gate g c.gates }
 
 module-is : (c : Core) (d : ℕ) → not (is_module c d) ≡ false → IsModule (length c.modules) d
 module-is c d e =
-    let both : is_module c d ≡ true = not-not (is_module c d) e in
-    record { first = leb-true 1 d (and-left _ _ both); last = leb-true d (length c.modules) (and-right _ _ both) }
-  where
-    not-not : (b : Bool) → not b ≡ false → b ≡ true
-    not-not true e = refl
-    not-not false e = sym e
-
-    and-right : (x y : Bool) → x && y ≡ true → y ≡ true
-    and-right true y e = e
-    and-right false true e = refl
-    and-right false false e = e
-
-    and-left : (x y : Bool) → x && y ≡ true → x ≡ true
-    and-left true y e = refl
-    and-left false y e = e
+    let both = and_parts (nat_le 1 d) _ (not-false (is_module c d) e) in
+    record { first = leb-true 1 d both.0; last = leb-true d (length c.modules) both.1 }
 
 -- each test of a list that no test fails
 tests-two : (s t : Row ℕ) → first_row (s ∷ t ∷ []) ≡ None → (s.0 ≡ false) × (t.0 ≡ false)
@@ -219,10 +191,6 @@ tests-three s t u e = let p = test-head s (t ∷ u ∷ []) e in let q = tests-tw
 
 pub tests-four : (s t u w : Row ℕ) → first_row (s ∷ t ∷ u ∷ w ∷ []) ≡ None → (s.0 ≡ false) × (t.0 ≡ false) × (u.0 ≡ false) × (w.0 ≡ false)
 tests-four s t u w e = let p = test-head s (t ∷ u ∷ w ∷ []) e in let q = tests-three t u w p.1 in (p.0, q.0, q.1, q.2)
-
-or-left : (x y : Bool) → x || y ≡ false → x ≡ false
-or-left true y e = e
-or-left false y e = refl
 
 served-alloc_from : (c : Core) (call : Call) (first : ℕ) (o : Option ℕ) → IsValid c → IfSome o (λ n. 0 < n) → (o ≡ None → IsServed (allocated c call first)) →
     IsServed (alloc_from c call first o)
@@ -274,7 +242,7 @@ served-gate r c h call v p =
     (codes-failed (t1 ∷ t2 ∷ t3 ∷ t4 ∷ []) (lit< tt, (lit< tt, (lit< tt, (lit< tt, tt))))) (λ e.
     let q = tests-four t1 t2 t3 t4 e in
     served-adds c g v (record {
-      domain = module-is c (arg call 1) (or-left (not (is_module c (arg call 1))) (arg call 1 == call.domain) q.1);
+      domain = module-is c (arg call 1) (or_parts (not (is_module c (arg call 1))) (arg call 1 == call.domain) q.1).0;
       target = p.domain;
       word = word-inside c call q.0;
     }) q.3)

@@ -2,7 +2,7 @@
 use Rattle.std.proofs.Common.{◌≡◌, ℕ, zero, suc, ◌+◌, ◌-◌, ◌*◌, ◌≤◌, Bool, true, false, not, cond, nat_lt, ◌||◌, List, [], ◌∷◌, length, get_or, refl, sym, ◌∙◌, ap, subst, Option, Some, None, unwrap_or}
 use Rattle.std.specs.Prelude.{IfSome, slice_index}
 use Rattle.std.specs.List.{AllByRecursion, list_all}
-use Rattle.std.proofs.lemmas.Bool.{ltb-false, leb-true}
+use Rattle.std.proofs.lemmas.Bool.{ltb-false, leb-true, not-false}
 use Rattle.mx_words.specs.declared.perm.Perm.{Perm}
 use Rattle.mx_words.specs.declared.perm.Access.TheVariants as A
 use Rattle.mx_words.specs.Announced.{is_announced}
@@ -15,6 +15,7 @@ use Rattle.mx_words.specs.Ranges.{covers}
 use Rattle.mx_words.specs.Rights.{number, allows}
 use Rattle.mx_words.specs.Runs.{owner_runs, most_owner_runs}
 use Rattle.mx_words.proofs.OverlayLaws.{length-laid, length-map_of}
+use Rattle.mx_words.proofs.MapLaws.{length-changed_map}
 use Rattle.mx_model.specs.declared.values.Call.{Call}
 use Rattle.mx_model.specs.Checks.{arg, call_range, drops, looked_all}
 use Rattle.mx_model.specs.Gates.{without_gate}
@@ -62,10 +63,6 @@ give-alloc_from : (P : Give → Type 0) (c : Core) (call : Call) (first : ℕ) (
 give-alloc_from P c call first (Some n) = record { each = tt }
 give-alloc_from P c call first None = record { each = tt }
 
-not-not : (b : Bool) → not b ≡ false → b ≡ true
-not-not true e = refl
-not-not false e = sym e
-
 give-transfer : (r : Reads) (c : Core) (call : Call) → Gives (IsGive r (length c.modules)) (served_by Transfer r c call)
 give-transfer r c call =
     let t1 : Row ℕ = (no_range c call || meets_heap c call, 1) in
@@ -74,7 +71,7 @@ give-transfer r c call =
     let t4 : Row ℕ = (not (r.few_runs (give_of c call)), 14) in
     give-judged (IsGive r (length c.modules)) c (first_row (t1 ∷ t2 ∷ t3 ∷ t4 ∷ [])) (record (answers c 0) { give = Some (give_of c call) }) (λ e.
     let q = tests-four t1 t2 t3 t4 e in
-    record { each = (ltb-false (length c.modules) (arg call 2) q.1, not-not (r.few_runs (give_of c call)) q.3) })
+    record { each = (ltb-false (length c.modules) (arg call 2) q.1, not-false (r.few_runs (give_of c call)) q.3) })
 
 give-served_by : (k : Service) (r : Reads) (c : Core) (call : Call) → Gives (IsGive r (length c.modules)) (served_by k r c call)
 give-served_by Exit r c call = give-judged (IsGive r (length c.modules)) c _ (record (answers c (arg call 0)) { stop = true }) (λ e. record { each = tt })
@@ -134,10 +131,6 @@ length-each_from step d (x ∷ xs) = ap suc (length-each_from step (d + 1) xs)
 length-maps_after : (maps : List (List Perm)) (o : Option Change) → length (maps_after maps o) ≡ length maps
 length-maps_after maps None = refl
 length-maps_after maps (Some c) = length-each_from (λ d m. changed_map c.first c.count (c.given d) m) 1 maps
-
-length-changed_map : (first count : ℕ) (o : Option Perm) (m : List Perm) → length (changed_map first count o m) ≡ length m
-length-changed_map first count None m = refl
-length-changed_map first count (Some p) m = length-laid (record { first = first; count = count; value = p }) m
 
 whole-each_from : (size first count d : ℕ) (given : ℕ → Option Perm) (maps : List (List Perm)) → AllByRecursion (λ (m : List Perm). length m ≡ size) maps →
     AllByRecursion (λ (m : List Perm). length m ≡ size) (each_from (λ d m. changed_map first count (given d) m) d maps)

@@ -3,4 +3,3 @@ pub mod PlaceLaws
 pub mod CountLaws
 pub mod GiveLaws
 pub mod Ranges
-pub mod Borrow

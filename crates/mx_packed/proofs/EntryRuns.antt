@@ -10,6 +10,7 @@ use Rattle.mx_words.specs.declared.tables.Kind.TheVariants as K
 use Rattle.mx_words.specs.Rights.{same, perm_at}
 use Rattle.mx_words.specs.Runs.{runs, line_words}
 use Rattle.mx_words.specs.Reach.{packed}
+use Rattle.mx_words.proofs.NumberLaws.{shift-first}
 use Rattle.mx_upper.specs.Leaf.{IsStored, IsEntry, needs_spill, packed_entry, line_run, placed, lengthened, left_of_run, right_of_run, entry_run}
 use Rattle.mx_upper.proofs.PlainRuns.{left_of_run-none, right_of_run-none, lengthened-none}
 use Rattle.mx_upper.proofs.MiniEntries.{IsMade, mini-made}
@@ -86,14 +87,6 @@ line_run-inside perms i below =
     let a : length (slice_range perms 0 i) ≡ min (i - 0) (length perms) = length-take (i - 0) perms in
     let b : length (slice_range perms i line_words) ≡ min (line_words - i) (length (drop i perms)) = length-take (line_words - i) (drop i perms) in
     omega arith
-
--- tests that a shift doesn't change
-shift-first : (line a : ℕ) → (line + a == line) ≡ (a == 0)
-shift-first line a = cases (eqb_tells a 0)
-  where
-    cases : ((a == 0) ≡ true) × (a ≡ 0) ⊎ ((a == 0) ≡ false) × (a ≢ 0) → (line + a == line) ≡ (a == 0)
-    cases (inl h) = eq-eqb (line + a) line (omega arith) ∙ sym h.0
-    cases (inr h) = ne_eqb (line + a) line (λ e. h.1 (omega arith)) ∙ sym h.0
 
 shift-last : (line a b : ℕ) → (line + a + b == line + line_words) ≡ (a + b == line_words)
 shift-last line a b = cases (eqb_tells (a + b) line_words)

@@ -4,5 +4,3 @@ pub mod StoredWords
 pub mod NeedSums
 pub mod MapLaws
 pub mod ShapeLaws
-pub mod RowLaws
-pub mod GrantLaws

@@ -67,11 +67,6 @@ module _ (first count : ℕ) (p : Perm) (m : List Perm) (fits : first + count �
   pub put_is : take first m ++ replicate count p ++ drop (first + count) m ≡ laid (grant_of first count p) m
   put_is = laid_is (grant_of first count p) m put long (λ i d lt. put-at i d lt (cases_lt i first) (cases_lt i (first + count)))
 
--- a map with a permission, or none, laid over some words
-pub length-changed_map : (first count : ℕ) (given : Option Perm) (m : List Perm) → length (changed_map first count given m) ≡ length m
-length-changed_map first count None m = refl
-length-changed_map first count (Some p) m = length-laid (grant_of first count p) m
-
 pub changed_past : (first count : ℕ) (given : Option Perm) (m : List Perm) (word : ℕ) → length m ≤ word → perm_at m word ≡ perm_at (changed_map first count given m) word
 changed_past first count None m word le = refl
 changed_past first count (Some p) m word le = sym (laid_past m (grant_of first count p) word le)

@@ -10,7 +10,6 @@ use Rattle.mx_words.specs.declared.tables.Need.{Need}
 use Rattle.mx_words.specs.Runs.{page_words, broken_blocks, crowded_lines}
 use Rattle.mx_words.specs.Need.{need, segment_frames, upper_frames}
 use Rattle.mx_words.specs.Changes.{changed_map}
-use Rattle.mx_words.proofs.ChangeLaws.{length-changed_from, changed_from-at}
 use Rattle.mx_table.specs.declared.change.Change.{Change}
 use Rattle.mx_table.specs.Change.{given, changed}
 use Rattle.mx_table.specs.Tables.{row_map}
@@ -57,14 +56,6 @@ few_many i a most few = record {
   leaf = (let x = few.leaf in omega arith);
   spill = (let x = few.spill in omega arith);
 }
-
--- the changed map of a domain, and the map of a row
-pub changed-at : (change : Change) (ms : List (List Perm)) (i : ℕ) → i < length ms →
-    get_or (changed change ms) i [] ≡ changed_map change.first change.count (given change (i + 1)) (get_or ms i [])
-changed-at change ms i lt = changed_from-at change.first change.count (given change) 1 ms i (i + 1) [] lt (omega arith)
-
-pub length-changed : (change : Change) (ms : List (List Perm)) → length (changed change ms) ≡ length ms
-length-changed change ms = length-changed_from change.first change.count (given change) 1 ms
 
 pub row_map-at : (words : ℕ) (rows : List (List Span)) (i : ℕ) → i < length rows → get_or (map (row_map words) rows) i [] ≡ row_map words (get_or rows i [])
 row_map-at words rows i lt = get_or-map (row_map words) rows i [] [] lt

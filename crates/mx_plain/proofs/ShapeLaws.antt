@@ -11,8 +11,10 @@ use Rattle.mx_words.specs.Changes.{changed_map}
 use Rattle.mx_table.specs.declared.change.Change.{Change}
 use Rattle.mx_table.specs.Change.{given, changed}
 use Rattle.mx_table.specs.Tables.{most_words, most_modules, row_map, IsLimit, IsShaped}
-use Rattle.mx_plain.proofs.MapLaws.{length-changed_map, length-row}
-use Rattle.mx_plain.proofs.NeedSums.{changed-at, length-changed, row_map-at, length-row_maps}
+use Rattle.mx_words.proofs.MapLaws.{length-changed_map}
+use Rattle.mx_plain.proofs.MapLaws.{length-row}
+use Rattle.mx_table.proofs.ChangedMaps.{changed-at, length-changed}
+use Rattle.mx_plain.proofs.NeedSums.{row_map-at, length-row_maps}
 
 -- the map at a row
 pub row_long : (kind : Kind) (words : ℕ) (limit : Need) (maps : List (List Perm)) → IsShaped kind words limit maps → (k : ℕ) → k < length maps → length (get_or maps k []) ≡ words

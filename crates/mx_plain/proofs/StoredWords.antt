@@ -18,24 +18,6 @@ use Rattle.mx_plain.specs.declared.stored.LineRun.{LineRun}
 use Rattle.mx_plain.specs.declared.stored.LineRuns.{LineRuns}
 use Rattle.mx_plain.specs.LineRuns.{run_length, run_number, run_in, runs_in, no_run, count_at, IsInLine}
 
-pub number-small : (p : Perm) → number p < 4
-number-small P.None = omega arith
-number-small P.Read = omega arith
-number-small P.ReadWrite = omega arith
-number-small P.ExecuteRead = omega arith
-
--- n permissions take 2 n bits
-pub packed-below : (n : ℕ) (ps : List Perm) → length ps ≤ n → packed ps < 4 ^ n
-packed-below zero [] few = omega arith
-packed-below zero (p ∷ ps) few = absurd (omega arith)
-packed-below (suc n) [] few =
-    let more : packed [] < 4 ^ n = packed-below n [] (omega arith) in
-    rw pow-suc (omega arith)
-packed-below (suc n) (p ∷ ps) few =
-    let small : number p < 4 = number-small p in
-    let more : packed ps < 4 ^ n = packed-below n ps (omega arith) in
-    rw pow-suc (omega arith)
-
 -- a list of the permissions of the first words of a block's parts
 pub eighths_are : (size : ℕ) (m : List Perm) (first : ℕ) (ps : List Perm) → length ps ≡ 8 → ((k : ℕ) → k < 8 → perm_at ps k ≡ perm_at m (first + size / 8 * k)) →
     ps ≡ eighths size m first

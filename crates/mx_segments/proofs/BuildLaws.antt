@@ -16,6 +16,7 @@ use Rattle.mx_words.proofs.CountingLaws.{count_below-zero}
 use Rattle.mx_table.specs.Tables.{row_map, IsRow}
 use Rattle.mx_table.specs.Rows.{first_spans}
 use Rattle.mx_table.proofs.RowLaws.{length-first, tail_none}
+use Rattle.mx_table.proofs.RowsBuilt.{no_row}
 use Rattle.mx_pool.specs.Frames.{free_in}
 use Rattle.mx_segments.specs.Lists.{list_at}
 use Rattle.mx_segments.specs.Store.{Frames, frames_in, IsStore, KeepsOthers}
@@ -46,9 +47,6 @@ free_moved fs ls fs' ls' row st st' keeps within =
     omega (arith, sums, whole)
 
 -- one entry and zeros behind it are the chain of a map without permissions
-no_row : (words : ℕ) → IsRow words []
-no_row words = record { some = λ i lt. absurd (omega arith); sorted = λ i lt. absurd (omega arith); inside = λ i lt. absurd (omega arith) }
-
 pub start_chain : (words frames : ℕ) (stored : ℕ → ℕ) → 1 ≤ words → frames ≡ 1 → stored 0 ≡ 2147483648 → ((k : ℕ) → 0 < k → k < 64 → stored k ≡ 0) →
     IsChain words frames stored (map [] words)
 start_chain words frames stored pos one first zeros =

@@ -13,6 +13,7 @@ use Rattle.mx_words.proofs.CountingLaws.{count_below_agree, count_below_along, c
 use Rattle.mx_words.proofs.OverlayLaws.{laid_in, laid_below, laid_behind, length-laid}
 use Rattle.mx_words.proofs.RunLaws.{runs-count, is_start-behind, same_refl}
 use Rattle.mx_words.specs.Changes.{grant_of}
+use Rattle.mx_words.proofs.MapLaws.{start_step}
 use Rattle.mx_segments.specs.declared.plan.Plan.{Plan}
 use Rattle.mx_segments.specs.Entries.{entry_word, IsChain}
 use Rattle.mx_segments.specs.Plan.{IsPlan, IsLaid, kept, total}
@@ -37,14 +38,9 @@ module _ (words : ℕ) (m : List Perm) (len : length m ≡ words) (first count :
   new_behind i le = laid_behind g m i P.None le
 
   -- the test of two neighbours, after the first word
-  step : (x : List Perm) (i : ℕ) → 0 < i → is_start x i ≡ not (same (perm_at x (i - 1)) (perm_at x i))
-  step x i pos =
-      let e : i - 1 + 1 ≡ i = omega arith in
-      ap (is_start x) (sym e) ∙ is_start-behind x (i - 1) ∙ ap (λ j. not (same (perm_at x (i - 1)) (perm_at x j))) e
-
   alike : (i : ℕ) → perm_at new (i - 1) ≡ perm_at m (i - 1) → perm_at new i ≡ perm_at m i → 0 < i → is_start new i ≡ is_start m i
   alike i e f pos =
-      step new i pos ∙ ap (λ p. not (same p (perm_at new i))) e ∙ ap (λ p. not (same (perm_at m (i - 1)) p)) f ∙ sym (step m i pos)
+      start_step new i pos ∙ ap (λ p. not (same p (perm_at new i))) e ∙ ap (λ p. not (same (perm_at m (i - 1)) p)) f ∙ sym (start_step m i pos)
 
   pub start_below : (i : ℕ) → i < first → is_start new i ≡ is_start m i
   start_below i lt = elim (cases_eq i 0) [
@@ -54,7 +50,7 @@ module _ (words : ℕ) (m : List Perm) (len : length m ≡ words) (first count :
 
   pub start_inside : (i : ℕ) → first < i → i < first + count → is_start new i ≡ false
   start_inside i lt lt' =
-      step new i (omega arith) ∙ ap (λ p. not (same p (perm_at new i))) (new_in (i - 1) (omega arith) (omega arith))
+      start_step new i (omega arith) ∙ ap (λ p. not (same p (perm_at new i))) (new_in (i - 1) (omega arith) (omega arith))
       ∙ ap (λ p. not (same perm p)) (new_in i (omega arith) lt') ∙ ap not (same_refl perm)
 
   pub start_behind : (i : ℕ) → first + count < i → is_start new i ≡ is_start m i
@@ -65,14 +61,14 @@ module _ (words : ℕ) (m : List Perm) (len : length m ≡ words) (first count :
     | inl e ↦ (let t : (first == 0) ≡ true = grind (arith, nat_tests) in
         ap (is_start new) e ∙ sym (ap (λ b. b || not (same (perm_at m (first - 1)) perm)) t))
     | inr ne ↦ (let t : (first == 0) ≡ false = grind (arith, nat_tests) in
-        step new first (omega arith) ∙ ap (λ p. not (same p (perm_at new first))) (new_below (first - 1) (omega arith))
+        start_step new first (omega arith) ∙ ap (λ p. not (same p (perm_at new first))) (new_below (first - 1) (omega arith))
         ∙ ap (λ p. not (same (perm_at m (first - 1)) p)) (new_in first (omega arith) (omega arith))
         ∙ sym (ap (λ b. b || not (same (perm_at m (first - 1)) perm)) t))
   ]
 
   pub start_end : is_start new (first + count) ≡ not (same perm (perm_at m (first + count)))
   start_end =
-      step new (first + count) (omega arith) ∙ ap (λ p. not (same p (perm_at new (first + count)))) (new_in (first + count - 1) (omega arith) (omega arith))
+      start_step new (first + count) (omega arith) ∙ ap (λ p. not (same p (perm_at new (first + count)))) (new_in (first + count - 1) (omega arith) (omega arith))
       ∙ ap (λ p. not (same perm p)) (new_behind (first + count) (omega arith))
 
   -- the counts

@@ -10,35 +10,23 @@ use Rattle.mx_words.specs.Ranges.{address_of}
 use Rattle.mx_words.specs.Counting.{count_below}
 use Rattle.mx_words.specs.Runs.{runs}
 use Rattle.mx_words.specs.Starts.{is_start}
+use Rattle.mx_words.proofs.NumberLaws.{number-small, from_number-number}
 use Rattle.mx_words.proofs.CountingLaws.{IsCounted, count_below_find, count_below_is, count_below_yes, count_below-mono, count_below_after, count_below_same, list_below_is}
 use Rattle.mx_words.proofs.RunLaws.{runs-count, same_in_run, start_differs, same_from, same_eq, IsRound}
 use Rattle.mx_segments.specs.Entries.{entry_word, perm_of, word_of_entry, begins_before, run_start, entry_of, read_at, read_map, IsChain}
 
--- an entry in its parts
-pub number-le : (p : Perm) → number p ≤ 3
-number-le P.None = omega arith
-number-le P.Read = omega arith
-number-le P.ReadWrite = omega arith
-number-le P.ExecuteRead = omega arith
-
-from_number-number : (p : Perm) → unwrap_or (from_number (number p)) P.None ≡ p
-from_number-number P.None = refl
-from_number-number P.Read = refl
-from_number-number P.ReadWrite = refl
-from_number-number P.ExecuteRead = refl
-
 entry_rest : (word : ℕ) (p : Perm) → entry_word word p % 4 ≡ number p
-entry_rest word p = omega (arith, number-le p)
+entry_rest word p = omega (arith, number-small p)
 
 pub perm_of-entry : (word : ℕ) (p : Perm) → perm_of (entry_word word p) ≡ p
 perm_of-entry word p = ap (λ n. unwrap_or (from_number n) P.None) (entry_rest word p) ∙ from_number-number p
 
 pub word_of-entry : (word : ℕ) (p : Perm) → word_of_entry (entry_word word p) ≡ word
-word_of-entry word p = omega (arith, number-le p)
+word_of-entry word p = omega (arith, number-small p)
 
 pub begins_before-entry : (i : ℕ) (p : Perm) (x : ℕ) → i < x → begins_before (entry_word i p) x ≡ true
 begins_before-entry i p x lt =
-    let small = number-le p in
+    let small = number-small p in
     let some : 0 < entry_word i p = omega arith in
     let below : entry_word i p < address_of x = omega arith in
     both some below
@@ -50,7 +38,7 @@ begins_before-entry i p x lt =
         rest e a some below = grind (arith, nat_tests)
 
 pub begins_behind-entry : (i : ℕ) (p : Perm) (x : ℕ) → x ≤ i → begins_before (entry_word i p) x ≡ false
-begins_behind-entry i p x le = rest (entry_word i p) (address_of x) (omega (arith, number-le p))
+begins_behind-entry i p x le = rest (entry_word i p) (address_of x) (omega (arith, number-small p))
   where
     rest : (e a : ℕ) → a ≤ e → (nat_lt 0 e && nat_lt e a) ≡ false
     rest e a le = grind (arith, nat_tests)

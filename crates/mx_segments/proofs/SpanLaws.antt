@@ -12,17 +12,13 @@ use Rattle.mx_words.specs.Starts.{is_start}
 use Rattle.mx_words.proofs.CountingLaws.{count_below_agree, count_below_still, count_below-more, count_below-mono, bit-le}
 use Rattle.mx_words.proofs.OverlayLaws.{length-map_of}
 use Rattle.mx_words.proofs.RunLaws.{runs-count, is_start-behind, same_refl}
+use Rattle.mx_words.proofs.MapLaws.{start_step}
 use Rattle.mx_table.specs.Tables.{granted, row_map, IsRow}
 use Rattle.mx_table.specs.Rows.{end_at, first_spans}
 use Rattle.mx_table.proofs.RowLaws.{ends_within, tail_none, alike_before, length-first}
 
 module _ (words : ℕ) (row : List Span) (is : IsRow words row) where
   -- the first spans have at most one run more than all
-  start_step : (m : List Perm) (i : ℕ) → 0 < i → is_start m i ≡ not (same (perm_at m (i - 1)) (perm_at m i))
-  start_step m i some =
-      let e : i - 1 + 1 ≡ i = omega arith in
-      ap (is_start m) (sym e) ∙ is_start-behind m (i - 1) ∙ ap (λ j. not (same (perm_at m (i - 1)) (perm_at m j))) e
-
   starts_alike : (n i : ℕ) → n ≤ length row → i < end_at row n → is_start (first_spans words row n) i ≡ is_start (row_map words row) i
   starts_alike n i le before = elim (cases_eq i 0) [
     | inl e ↦ (ap (is_start (first_spans words row n)) e ∙ sym (ap (is_start (row_map words row)) e))

@@ -13,6 +13,7 @@ use Rattle.mx_words.specs.Runs.{runs}
 use Rattle.mx_words.specs.Starts.{is_start}
 use Rattle.mx_words.proofs.CountingLaws.{count_below-zero, count_below_still, count_below_yes, count_below-le}
 use Rattle.mx_words.proofs.RunLaws.{runs-count, is_start-behind, same_refl}
+use Rattle.mx_words.proofs.MapLaws.{start_step}
 use Rattle.mx_table.specs.Tables.{IsRow}
 use Rattle.mx_table.specs.Rows.{first_spans}
 use Rattle.mx_table.proofs.RowLaws.{tail_none, length-first}
@@ -22,16 +23,11 @@ use Rattle.mx_segments.specs.Plan.{IsPlan, kept}
 use Rattle.mx_segments.specs.Tally.{IsTally, counted_before, perm_before}
 use Rattle.mx_segments.proofs.ChangeLaws.{in_range, total_is, new_in, new_behind, length-new}
 
-step : (m : List Perm) (i : ℕ) → 0 < i → is_start m i ≡ not (same (perm_at m (i - 1)) (perm_at m i))
-step m i some =
-    let e : i - 1 + 1 ≡ i = omega arith in
-    ap (is_start m) (sym e) ∙ is_start-behind m (i - 1) ∙ ap (λ j. not (same (perm_at m (i - 1)) (perm_at m j))) e
-
 module _ (words : ℕ) (m : List Perm) (len : length m ≡ words) (tally : Tally) (is : IsTally words m tally) (first count : ℕ) (perm : Perm)
     (some : 0 < count) (inside : first + count ≤ words) (behind : tally.end ≤ first) where
   no_start : (i : ℕ) → tally.end < i → is_start m i ≡ false
   no_start i lt =
-      step m i (omega arith) ∙ ap (λ p. not (same p (perm_at m i))) (is.tail (i - 1) (omega arith))
+      start_step m i (omega arith) ∙ ap (λ p. not (same p (perm_at m i))) (is.tail (i - 1) (omega arith))
       ∙ ap (λ p. not (same P.None p)) (is.tail i (omega arith)) ∙ ap not (same_refl P.None)
 
   runs_are : runs m ≡ count_below words (is_start m)
@@ -109,7 +105,7 @@ module _ (words : ℕ) (row : List Span) (is : IsRow words row) (pos : 1 ≤ wor
 
   pub none_started : (i : ℕ) → 0 < i → is_start (first_spans words row 0) i ≡ false
   none_started i lt =
-      step (first_spans words row 0) i lt ∙ ap (λ p. not (same p (perm_at (first_spans words row 0) i))) (none_yet (i - 1))
+      start_step (first_spans words row 0) i lt ∙ ap (λ p. not (same p (perm_at (first_spans words row 0) i))) (none_yet (i - 1))
       ∙ ap (λ p. not (same P.None p)) (none_yet i) ∙ ap not (same_refl P.None)
 
   pub one_run : runs (first_spans words row 0) ≡ 1

@@ -1,2 +1,5 @@
 pub mod RowLaws
 pub mod ChangeLaws
+pub mod RowsBuilt
+pub mod NamedLaws
+pub mod ChangedMaps

@@ -1,3 +1,4 @@
 pub mod Change
 pub mod Tables
 pub mod Rows
+pub mod Names

@@ -5,7 +5,7 @@ use Rattle.std.proofs.lemmas.List.{drop_more, ext_get_or}
 use Rattle.mx_words.specs.declared.perm.Perm.{Perm}
 use Rattle.mx_words.specs.declared.perm.Perm.TheVariants as P
 use Rattle.mx_words.specs.Rights.{number, same, perm_at}
-use Rattle.mx_upper.proofs.Digits.{number-one_to_one, number-small}
+use Rattle.mx_words.proofs.NumberLaws.{number-one_to_one, number-small}
 use Rattle.mx_upper.specs.Codes.{value_code, start_code}
 use Rattle.mx_upper.specs.Decoded.{IsDecoded}
 use Rattle.mx_upper.proofs.RunCodes.{value_code-same, value_code-other, start_code-same, start_code-other}

@@ -1,24 +1,13 @@
--- The numbers of permissions, and digits of two bits, by shift and mask, of packed permissions, and of one permission eight times.
+-- Digits of two bits, by shift and mask, of packed permissions, and of one permission eight times.
 use Rattle.std.proofs.Common.{◌≡◌, ℕ, zero, suc, ◌+◌, ◌*◌, ◌/◌, ◌%◌, ◌^◌, ◌<◌, ◌≤◌, List, [], ◌∷◌, length, refl, ap, ◌∙◌, arith, eq-eqb, sym}
-use Rattle.std.proofs.Math.Nat.{pow-suc, div-one}
+use Rattle.std.proofs.Math.Nat.{div-one}
 use Rattle.std.proofs.lemmas.Nat.{shr-shr, and_mask}
 use Rattle.std.specs.Int.Bits.{bit_and}
 use Rattle.mx_words.specs.declared.perm.Perm.{Perm}
-use Rattle.mx_words.specs.declared.perm.Perm.TheVariants as P
 use Rattle.mx_words.specs.Rights.{number, perm_at}
 use Rattle.mx_words.specs.Reach.{packed}
-use Rattle.mx_words.proofs.RunLaws.{same_eq}
-use Rattle.mx_upper.specs.Digits.{digit, numbered}
-
--- a permission has its number alone, and is told by it
-pub number-one_to_one : (p q : Perm) → number p ≡ number q → p ≡ q
-number-one_to_one p q e = same_eq p q (eq-eqb (number p) (number q) e)
-
-pub numbered-number : (p : Perm) → numbered (number p) ≡ p
-numbered-number P.None = refl
-numbered-number P.Read = refl
-numbered-number P.ReadWrite = refl
-numbered-number P.ExecuteRead = refl
+use Rattle.mx_words.proofs.NumberLaws.{number-small}
+use Rattle.mx_upper.specs.Digits.{digit}
 
 pub digit-zero : (w : ℕ) → digit w 0 ≡ w % 4
 unfolding digit
@@ -39,12 +28,6 @@ shifted w (suc i) =
 pub masked : (w i : ℕ) → bit_and (w / 2 ^ (2 * i)) 3 ≡ digit w i
 masked w i = and_mask (w / 2 ^ (2 * i)) 2 ∙ shifted w i
 
-pub number-small : (p : Perm) → number p < 4
-number-small P.None = omega arith
-number-small P.Read = omega arith
-number-small P.ReadWrite = omega arith
-number-small P.ExecuteRead = omega arith
-
 pub digit-of_zero : (i : ℕ) → digit 0 i ≡ 0
 digit-of_zero zero = digit-zero 0
 digit-of_zero (suc i) = digit-suc 0 i ∙ digit-of_zero i
@@ -59,18 +42,6 @@ digit-packed (p ∷ ps) (suc i) =
     let small : number p < 4 = number-small p in
     let rest : (number p + 4 * packed ps) / 4 ≡ packed ps = omega arith in
     digit-suc (packed (p ∷ ps)) i ∙ ap (λ w. digit w i) rest ∙ digit-packed ps i
-
--- n permissions take 2 n bits
-pub packed-below : (n : ℕ) (ps : List Perm) → length ps ≤ n → packed ps < 4 ^ n
-packed-below zero [] few = omega arith
-packed-below zero (p ∷ ps) few = absurd (omega arith)
-packed-below (suc n) [] few =
-    let more : packed [] < 4 ^ n = packed-below n [] (omega arith) in
-    rw pow-suc (omega arith)
-packed-below (suc n) (p ∷ ps) few =
-    let small : number p < 4 = number-small p in
-    let more : packed ps < 4 ^ n = packed-below n ps (omega arith) in
-    rw pow-suc (omega arith)
 
 -- the digits of a number in which one digit stands eight times
 pub flat-digits : (n e : ℕ) → n ≡ 21845 * (n % 4) → e < 8 → digit n e ≡ n % 4

@@ -19,7 +19,7 @@ use Rattle.mx_upper.specs.Filled.{flat_line, flat_vector}
 use Rattle.mx_upper.specs.Leaf.{IsTrieKind, needs_spill, leaf_entry, spill_number}
 use Rattle.mx_upper.specs.Walk.{Frames, most_lines, vector_perm, spilled_word, line_number, IsLine}
 use Rattle.mx_upper.specs.Found.{IsVector}
-use Rattle.mx_upper.proofs.Digits.{numbered-number}
+use Rattle.mx_words.proofs.NumberLaws.{from_number-number}
 use Rattle.mx_upper.proofs.FoundSpans.{vector-digit}
 use Rattle.mx_upper.proofs.LeafSpans.{length-line, line-at}
 
@@ -96,7 +96,7 @@ page-line-stands kind k spill m y z entry below at even entry_is =
     let whole : (y * 1024 + z % 64 / 8 * 128 + 0) / 1024 ≡ y = omega arith in
     let p : vector_perm entry (z % 64 / 8) ≡ perm_at m (y * page_words + z % 64 / 8 * 128) =
     ap numbered (vector-part 1024 128 m y (z % 64 / 8) 0 entry refl whole (omega arith) (omega arith) even entry_is)
-    ∙ numbered-number (perm_at m (y * 1024 + z % 64 / 8 * 128 + 0))
+    ∙ from_number-number (perm_at m (y * 1024 + z % 64 / 8 * 128 + 0))
     ∙ ap (perm_at m) place in
     flat-line-stands kind k spill m z (vector_perm entry (z % 64 / 8)) below (even-line m y z at even ∙ ap flat_line (sym p))
 

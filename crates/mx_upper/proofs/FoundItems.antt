@@ -13,7 +13,7 @@ use Rattle.mx_words.specs.Reach.{level, span, span_at, stored, stored_at, line_a
 use Rattle.mx_upper.specs.Digits.{digit}
 use Rattle.mx_upper.specs.Leaf.{IsTrieKind, IsEntry, packed_entry}
 use Rattle.mx_upper.specs.Found.{IsVector, IsLeaf}
-use Rattle.mx_upper.proofs.Digits.{number-one_to_one}
+use Rattle.mx_words.proofs.NumberLaws.{number-one_to_one}
 use Rattle.mx_upper.proofs.FoundSpans.{vector-digit}
 
 span-is : (s : Span) (a b : ℕ) (p : Perm) → s.first ≡ a → s.count ≡ b → s.perm ≡ p → s ≡ record { first = a; count = b; perm = p }

@@ -14,6 +14,8 @@ use Rattle.mx_words.specs.declared.tables.Level.TheVariants as L
 use Rattle.mx_words.specs.Rights.{number, same, perm_at}
 use Rattle.mx_words.specs.Runs.{line_words}
 use Rattle.mx_words.specs.Reach.{level, span, span_at, span_within, line_span, line_at, first_in, left_reach, right_reach, reached, packed, eighths}
+use Rattle.mx_words.proofs.NumberLaws.{shift-first}
+use Rattle.mx_words.proofs.ReachLaws.{left_reach-most, right_reach-most}
 use Rattle.mx_upper.specs.Digits.{digit}
 use Rattle.mx_upper.specs.Leaf.{IsTrieKind, line_run, placed, lengthened, left_of_run, right_of_run, entry_run, cut_at}
 use Rattle.mx_upper.specs.Found.{IsVector, IsLeaf}
@@ -39,14 +41,6 @@ vector-digit size part m i e k entry is v below inside at =
     ∙ ap (λ n. digit n e) quotient
     ∙ digit-packed (eighths size m (first_in size i)) e
     ∙ ap number (eighths-at size part m (first_in size i) e is below ∙ ap (perm_at m) begin ∙ sym ((v.even.parts e below).alike k inside) ∙ ap (perm_at m) here)
-
--- a shift that a test doesn't see
-shift-first : (line a : ℕ) → (line + a == line) ≡ (a == 0)
-shift-first line a = cases (eqb_tells a 0)
-  where
-    cases : ((a == 0) ≡ true) × (a ≡ 0) ⊎ ((a == 0) ≡ false) × (a ≢ 0) → (line + a == line) ≡ (a == 0)
-    cases (inl h) = eq-eqb (line + a) line (omega arith) ∙ sym h.0
-    cases (inr h) = ne_eqb (line + a) line (λ e. h.1 (omega arith)) ∙ sym h.0
 
 -- cut spans of lines
 module _ (m : List Perm) (b k : ℕ) (below : k < line_words) (inside : b * line_words + k < length m) where
@@ -92,14 +86,6 @@ module _ (line f l size lr rr : ℕ) (some : f < l) (short : l ≤ 16) (inside :
   count-parts a c d (inr g) (inr h) (inl k) = omega arith
   count-parts a c d (inr g) (inr h) (inr k) = omega arith
 
-left_reach-in : (m : List Perm) (line : ℕ) → left_reach m line ≤ line
-left_reach-in m line =
-    let few = suffix_len-le-length (same (perm_at m line)) (take line m) in omega (arith, few, length-take line m)
-
-right_reach-in : (m : List Perm) (line : ℕ) → right_reach m line ≤ length m - (line + 16)
-right_reach-in m line =
-    let few = prefix_len-le-length (same (perm_at m (line + line_words - 1))) (drop (line + line_words) m) in omega (arith, few, length-drop (line + line_words) m)
-
 pub reached-cut : (m : List Perm) (b k : ℕ) → k < line_words → b * line_words + k < length m →
     let line : ℕ = b * line_words in
     let s : Span = line_run (line_at m line) k in
@@ -120,7 +106,7 @@ reached-cut m b k below inside =
     let q : Perm = perm_at m (line + k) in
     let count : min ((if f == 0 then lr else 0) + (l - f) + (if f + (l - f) == 16 then rt else 0)) (length m - (line + f - (if f == 0 then lr else 0)))
     ≡ (if f == 0 then lr else 0) + c + (if line + f + c == line + 16 then rt else 0) =
-    count-parts line f l (length m) lr rt (omega arith) up_to (omega arith) (left_reach-in m line) (right_reach-in m line)
+    count-parts line f l (length m) lr rt (omega arith) up_to (omega arith) (left_reach-most m line) (right_reach-most m line)
     (if f == 0 then lr else 0) (if f + (l - f) == 16 then rt else 0) (if line + f + c == line + 16 then rt else 0)
     (chosen f 0 lr).either (chosen (f + (l - f)) 16 rt).either (chosen (line + f + c) (line + 16) rt).either in
     ap (λ (s : Span). cut_at (length m) (lengthened (left_of_run false s lr) (right_of_run false s rt) (placed line s))) (line_run-parts m b k below inside)

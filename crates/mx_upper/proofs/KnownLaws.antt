@@ -14,7 +14,7 @@ use Rattle.mx_upper.specs.Filled.{flat_line}
 use Rattle.mx_upper.specs.Leaf.{form_reach, leaf_entry}
 use Rattle.mx_upper.specs.Views.{IsOne, IsRound}
 use Rattle.mx_upper.specs.Walk.{map_left, map_right}
-use Rattle.mx_upper.proofs.Digits.{number-one_to_one}
+use Rattle.mx_words.proofs.NumberLaws.{number-one_to_one}
 use Rattle.mx_upper.proofs.LeafSpans.{length-line, line-at}
 use Rattle.mx_upper.proofs.MapReaches.{map_left-cut, map_right-cut}
 use Rattle.mx_upper.proofs.Scans.{IsAlike, left-far, right-far}

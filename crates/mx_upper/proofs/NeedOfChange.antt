@@ -13,6 +13,7 @@ use Rattle.mx_words.specs.Blocks.{is_broken}
 use Rattle.mx_words.proofs.CountingLaws.{count_below-le, sum_below-zero, sum_below-more}
 use Rattle.mx_words.proofs.BlockLaws.{broken_blocks-count}
 use Rattle.mx_words.proofs.OverlayLaws.{length-laid}
+use Rattle.mx_words.proofs.MapLaws.{length-changed_map}
 use Rattle.mx_upper.specs.Leaf.{needs_spill}
 use Rattle.mx_upper.specs.Walk.{Frames, most_regions, most_pages, most_lines}
 use Rattle.mx_upper.specs.Forest.{map_at}
@@ -69,11 +70,6 @@ broken-most m few = (
 
 pub spill-most : (kind : Kind) (m : List Perm) → spill_lines kind m ≤ 1048576
 spill-most kind m = count_below-le most_lines (λ z. needs_spill kind (line_at m (z * line_words)))
-
--- the map of a domain that a change names, or doesn't name
-pub length-changed_map : (first count : ℕ) (given : Option Perm) (m : List Perm) → length (changed_map first count given m) ≡ length m
-length-changed_map first count None m = refl
-length-changed_map first count (Some p) m = length-laid (grant_of first count p) m
 
 pub map-unnamed : (first count : ℕ) (given : Option Perm) (m : List Perm) → given ≡ None → m ≡ changed_map first count given m
 map-unnamed first count given m e = sym (ap (λ (o : Option Perm). changed_map first count o m) e)

@@ -9,7 +9,8 @@ use Rattle.mx_words.specs.Runs.{line_words}
 use Rattle.mx_words.specs.Reach.{packed}
 use Rattle.mx_upper.specs.Digits.{digit}
 use Rattle.mx_upper.specs.Leaf.{IsStored, entry_run, left_of_run, right_of_run, lengthened, placed, line_run}
-use Rattle.mx_upper.proofs.Digits.{digit-packed, number-one_to_one}
+use Rattle.mx_words.proofs.NumberLaws.{number-one_to_one}
+use Rattle.mx_upper.proofs.Digits.{digit-packed}
 use Rattle.mx_upper.proofs.RunBounds.{IsRunIn, span_within-is}
 
 -- what a scan of a plain entry's digits round a place finds

@@ -1,6 +1,7 @@
 -- Which pages have leaf tables, and which lines have spill words, by the words on the way to them.
 use Rattle.std.proofs.Common.{◌≡◌, ℕ, ◌/◌, ◌&&◌, Bool, true, false, Option, None, is_some, refl, ap, ◌∙◌}
 use Rattle.std.proofs.lemmas.Bool.{and_parts}
+use Rattle.std.proofs.Math.Bool.{and-false}
 use Rattle.mx_words.specs.declared.tables.Kind.{Kind}
 use Rattle.mx_upper.specs.Leaf.{spill_number}
 use Rattle.mx_upper.specs.Walk.{Frames, is_pointer, mid_word, leaf_word, has_mid, has_leaf}
@@ -51,8 +52,4 @@ pub spill-no-page : (kind : Kind) (upper leaf : Frames) (root z : ℕ) → has_l
 spill-no-page kind upper leaf root z h = ap (λ (b : Bool). b && is_some (spill_number kind (leaf_word upper leaf root z))) h
 
 pub spill-none : (kind : Kind) (upper leaf : Frames) (root z : ℕ) → spill_number kind (leaf_word upper leaf root z) ≡ None → has_spill kind upper leaf root z ≡ false
-spill-none kind upper leaf root z h = ap (λ (o : Option ℕ). has_leaf upper root (z / 64) && is_some o) h ∙ and-none (has_leaf upper root (z / 64))
-  where
-    and-none : (a : Bool) → (a && false) ≡ false
-    and-none true = refl
-    and-none false = refl
+spill-none kind upper leaf root z h = ap (λ (o : Option ℕ). has_leaf upper root (z / 64) && is_some o) h ∙ and-false (has_leaf upper root (z / 64))

@@ -19,7 +19,8 @@ use Rattle.mx_upper.specs.Leaf.{IsTrieKind, packed_entry, IsStored}
 use Rattle.mx_upper.specs.Walk.{Frames, most_regions, most_pages, most_lines, has_mid, is_pointer, root_word, mid_word, leaf_word, spilled_word, vector_perm, line_number, IsLine, IsShown}
 use Rattle.mx_upper.specs.Found.{IsVector}
 use Rattle.mx_upper.specs.Read.{plain_line, codes_line, packed_line, read_line, leaf_perm, read_at, read_map}
-use Rattle.mx_upper.proofs.Digits.{digit-packed, numbered-number}
+use Rattle.mx_words.proofs.NumberLaws.{from_number-number}
+use Rattle.mx_upper.proofs.Digits.{digit-packed}
 use Rattle.mx_upper.proofs.Decoding.{decoded-ended, decoded-going, value_code-first}
 use Rattle.mx_upper.proofs.MiniEntries.{IsMade, mini-made}
 use Rattle.mx_upper.proofs.LeafSpans.{line-at}
@@ -48,7 +49,7 @@ plain_line-packed perms whole =
     let inside : i < 16 = omega (arith, length-list_below 16 (λ k. numbered (digit (packed perms) k))) in
     list_below-at 16 i (λ k. numbered (digit (packed perms) k)) P.None inside
     ∙ ap numbered (digit-packed perms i)
-    ∙ numbered-number (perm_at perms i))
+    ∙ from_number-number (perm_at perms i))
 
 -- one more word of a packed line
 codes-step : (n i values starts : ℕ) (perms : List Perm) → i + suc n ≡ 16 → length perms ≡ 16 → values ≡ value_code (drop i perms) →
@@ -58,7 +59,7 @@ unfolding codes_line
 codes-step n i values starts perms ends whole is rest =
     let inside : i < length perms = omega arith in
     let first : numbered (values % 4) ≡ perm_at perms i =
-    ap (λ v. numbered (v % 4)) is ∙ ap numbered (value_code-first perms i inside) ∙ numbered-number (perm_at perms i) in
+    ap (λ v. numbered (v % 4)) is ∙ ap numbered (value_code-first perms i inside) ∙ from_number-number (perm_at perms i) in
     ap (λ (p : Perm). p ∷ codes_line n (i + 1) (if starts % 16 == i + 1 then values / 4 else values) (if starts % 16 == i + 1 then starts / 16 else starts)) first
     ∙ ap (λ (xs : List Perm). perm_at perms i ∷ xs) (rest (if starts % 16 == i + 1 then values / 4 else values) (if starts % 16 == i + 1 then starts / 16 else starts) refl refl)
     ∙ sym (drop_more perms i P.None inside)
@@ -130,7 +131,7 @@ module _ (kind : Kind) (lefts rights : ℕ → ℕ) (upper leaf spill : Frames) 
       let v : IsVector region_words 131072 m i (root_word upper root (i / 1048576)) =
       record { even = shown.region_even (i / 1048576) x closed; entry_is = shown.region_vector (i / 1048576) x closed } in
       ap numbered (vector-digit 1048576 131072 m i (i / 131072 % 8) (i % 131072) (root_word upper root (i / 1048576)) refl v (omega arith) (omega arith) (omega arith))
-      ∙ numbered-number (perm_at m i)
+      ∙ from_number-number (perm_at m i)
 
   open-at : (i : ℕ) → has_mid upper root (i / 1048576) ≡ true → has_mid upper root (i / 1024 / 1024) ≡ true
   open-at i opened = let at : i / 1024 / 1024 ≡ i / 1048576 = omega arith in ap (has_mid upper root) at ∙ opened
@@ -142,7 +143,7 @@ module _ (kind : Kind) (lefts rights : ℕ → ℕ) (upper leaf spill : Frames) 
       let v : IsVector page_words 128 m i (mid_word upper root (i / 1024)) =
       record { even = shown.page_even (i / 1024) y (open-at i opened) closed; entry_is = shown.page_vector (i / 1024) y (open-at i opened) closed } in
       ap numbered (vector-digit 1024 128 m i (i / 128 % 8) (i % 128) (mid_word upper root (i / 1024)) refl v (omega arith) (omega arith) (omega arith))
-      ∙ numbered-number (perm_at m i)
+      ∙ from_number-number (perm_at m i)
 
   pub leaf-read : (i : ℕ) → i < 2 ^ 24 → has_mid upper root (i / 1048576) ≡ true → is_pointer (mid_word upper root (i / 1024)) ≡ true →
       leaf_perm kind spill (leaf_word upper leaf root (i / 16)) i ≡ perm_at m i

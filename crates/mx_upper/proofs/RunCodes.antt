@@ -8,7 +8,7 @@ use Rattle.mx_words.specs.declared.perm.Perm.TheVariants as P
 use Rattle.mx_words.specs.Rights.{number, same, perm_at}
 use Rattle.mx_words.specs.Runs.{Run, run_before, runs_of, runs}
 use Rattle.mx_words.specs.Reach.{mini_entry, starts_from}
-use Rattle.mx_upper.proofs.Digits.{number-small}
+use Rattle.mx_words.proofs.NumberLaws.{number-small}
 use Rattle.mx_upper.specs.Codes.{value_code, start_code}
 
 -- a number with these digits in base b, the first the lowest

@@ -12,7 +12,7 @@ use Rattle.mx_words.specs.Reach.{left_reach, right_reach}
 use Rattle.mx_words.specs.Blocks.{IsUniform}
 use Rattle.mx_words.proofs.RunLaws.{same_from}
 use Rattle.mx_upper.specs.Views.{IsRound}
-use Rattle.mx_upper.proofs.Digits.{number-one_to_one}
+use Rattle.mx_words.proofs.NumberLaws.{number-one_to_one}
 
 -- the words from `from` up to `to` have one permission
 pub record IsAlike (m : List Perm) (from to : ℕ) (p : Perm) : Type 0 where

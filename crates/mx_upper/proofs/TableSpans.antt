@@ -14,7 +14,7 @@ use Rattle.mx_upper.specs.Leaf.{IsTrieKind, needs_spill, line_run, left_of_run, 
 use Rattle.mx_upper.specs.Walk.{Frames, is_pointer, root_word, mid_word, spilled_word, has_mid, vector_perm, line_number, IsLine, IsShown}
 use Rattle.mx_upper.specs.Views.{IsRound}
 use Rattle.mx_upper.proofs.LeafSpans.{line-at}
-use Rattle.mx_upper.proofs.Digits.{numbered-number}
+use Rattle.mx_words.proofs.NumberLaws.{from_number-number}
 use Rattle.mx_upper.proofs.ReadLines.{root-read, mid-read}
 use Rattle.mx_upper.proofs.WalkWords.{region-closed, region-opened, mid-is, page-closed}
 
@@ -124,7 +124,7 @@ module _ (kind : Kind) (lefts rights : ℕ → ℕ) (upper leaf spill : Frames) 
         ∙ ap (λ n. vector_perm (root_word upper root n) (j / 131072 % 8)) region
         ∙ ap (λ n. vector_perm n (j / 131072 % 8)) (sym e)
         ∙ ap (λ n. vector_perm a (n % 8)) part
-        ∙ ap numbered (sym perm) ∙ numbered-number s.perm;
+        ∙ ap numbered (sym perm) ∙ from_number-number s.perm;
   }
 
   -- a region whose vector has one permission
@@ -140,7 +140,7 @@ module _ (kind : Kind) (lefts rights : ℕ → ℕ) (upper leaf spill : Frames) 
         sym (root-read kind lefts rights upper leaf spill root m k shown j (omega arith) closed)
         ∙ ap (λ n. vector_perm (root_word upper root n) (j / 131072 % 8)) region
         ∙ ap (λ n. vector_perm n (j / 131072 % 8)) (sym e)
-        ∙ ap numbered (flat (j / 131072 % 8) (omega arith) ∙ sym (flat (i / 1048576 % 8) (omega arith)) ∙ sym perm) ∙ numbered-number s.perm;
+        ∙ ap numbered (flat (j / 131072 % 8) (omega arith) ∙ sym (flat (i / 1048576 % 8) (omega arith)) ∙ sym perm) ∙ from_number-number s.perm;
   }
 
   pub around-root : (a size : ℕ) (s : Span) → a ≡ root_word upper root (i / 1048576) → a % 4 ≢ 0 →
@@ -169,7 +169,7 @@ module _ (kind : Kind) (lefts rights : ℕ → ℕ) (upper leaf spill : Frames) 
         ∙ ap (λ n. vector_perm (mid_word upper root n) (j / 128 % 8)) page
         ∙ ap (λ n. vector_perm n (j / 128 % 8)) (sym (mid-is upper root i a b e f))
         ∙ ap (λ n. vector_perm b (n % 8)) part
-        ∙ ap numbered (sym perm) ∙ numbered-number s.perm;
+        ∙ ap numbered (sym perm) ∙ from_number-number s.perm;
   }
 
   -- a page whose vector has one permission
@@ -189,7 +189,7 @@ module _ (kind : Kind) (lefts rights : ℕ → ℕ) (upper leaf spill : Frames) 
         sym (mid-read kind lefts rights upper leaf spill root m k shown j (omega arith) opened closed)
         ∙ ap (λ n. vector_perm (mid_word upper root n) (j / 128 % 8)) page
         ∙ ap (λ n. vector_perm n (j / 128 % 8)) (sym (mid-is upper root i a b e f))
-        ∙ ap numbered (flat (j / 128 % 8) (omega arith) ∙ sym (flat (i / 1024 % 8) (omega arith)) ∙ sym perm) ∙ numbered-number s.perm;
+        ∙ ap numbered (flat (j / 128 % 8) (omega arith) ∙ sym (flat (i / 1024 % 8) (omega arith)) ∙ sym perm) ∙ from_number-number s.perm;
   }
 
   pub around-mid : (a b size : ℕ) (s : Span) → a ≡ root_word upper root (i / 1048576) → a % 4 ≡ 0 → b ≡ word_at upper (a / 4) (i / 1024 % 1024) → b % 4 ≢ 0 →

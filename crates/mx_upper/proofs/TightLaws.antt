@@ -1,6 +1,7 @@
 -- Blocks outside a range stay whole or broken; so tight tables stay tight there, and a table that is missing has a frame to be made in.
 use Rattle.std.proofs.Common.{◌≡◌, ◌≢◌, ℕ, ◌+◌, ◌*◌, ◌/◌, ◌<◌, ◌≤◌, ◌⊎◌, inl, inr, ◌==◌, ◌||◌, Bool, true, false, List, refl, sym, ap, ◌∙◌, arith, eq-eqb}
 use Rattle.std.proofs.lemmas.Bool.{ne_eqb}
+use Rattle.std.proofs.Math.Bool.{or-true, or-false}
 use Rattle.mx_words.specs.declared.perm.Perm.{Perm}
 use Rattle.mx_words.specs.declared.tables.Kind.{Kind}
 use Rattle.mx_words.specs.Counting.{count_below}
@@ -23,14 +24,6 @@ broken-out size b first end p m some apart =
     word : (k : ℕ) → k < size → (b * size + size ≤ first) ⊎ (end ≤ b * size) → perm_at (with_range first end p m) (b * size + k) ≡ perm_at m (b * size + k)
     word k below (inl h) = with_range-below first end p m (b * size + k) (omega arith)
     word k below (inr h) = with_range-behind first end p m (b * size + k) some (omega arith)
-
-or-true : (a : Bool) → (a || true) ≡ true
-or-true true = refl
-or-true false = refl
-
-or-false : (a : Bool) → (a || false) ≡ a
-or-false true = refl
-or-false false = refl
 
 -- where the block of a word has no table, and the other blocks' tables are tight, there is a frame
 block-need : (n size x free first : ℕ) (p : Perm) (m : List Perm) (test : ℕ → Bool) → x < n → x ≡ first / size → test x ≡ false →

@@ -21,7 +21,7 @@ use Rattle.mx_upper.specs.Forest.{map_at, IsTables}
 use Rattle.mx_upper.specs.Laying.{spill_lines, IsCanonical}
 use Rattle.mx_upper.specs.Standing.{IsStanding}
 use Rattle.mx_upper.specs.Shape.{length-read_maps}
-use Rattle.mx_upper.proofs.NeedOfChange.{length-changed_map}
+use Rattle.mx_words.proofs.MapLaws.{length-changed_map}
 use Rattle.mx_upper.proofs.NeedLaws.{IsNeedCounted, need-counted}
 use Rattle.mx_upper.proofs.StandingLaws.{map_at-read}
 use Rattle.mx_upper.proofs.FramesCounted.{tables-counted}

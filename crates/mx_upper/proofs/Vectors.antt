@@ -9,7 +9,7 @@ use Rattle.mx_words.specs.declared.perm.Span.{Span}
 use Rattle.mx_words.specs.Rights.{number, perm_at}
 use Rattle.mx_words.specs.Reach.{packed, eighths, vector}
 use Rattle.mx_upper.specs.Views.{IsRound}
-use Rattle.mx_upper.proofs.Digits.{packed-below}
+use Rattle.mx_words.proofs.NumberLaws.{packed-below}
 use Rattle.mx_upper.proofs.Scans.{round-perm}
 
 -- a number holds the permissions of the last e parts

@@ -14,3 +14,6 @@ pub mod ReachLaws
 pub mod LocalReach
 pub mod BrokenLaws
 pub mod FirstRowLaws
+pub mod NumberLaws
+pub mod Borrow
+pub mod MapLaws

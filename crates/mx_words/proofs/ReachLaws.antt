@@ -188,7 +188,7 @@ left_reach-alike m line w fits far lt =
     suffix_len_passes (same (perm_at m line)) (take line m) w P.None (omega (arith, long)) (omega (arith, long)) in
     sym (same_eq (perm_at m line) (get_or (take line m) w P.None) pass ∙ get_or-take line m w P.None lt)
 
-left_reach-most : (m : List Perm) (line : ℕ) → left_reach m line ≤ line
+pub left_reach-most : (m : List Perm) (line : ℕ) → left_reach m line ≤ line
 left_reach-most m line = omega (arith, suffix_len-le-length (same (perm_at m line)) (take line m), length-take line m)
 
 right_reach-alike : (m : List Perm) (line w : ℕ) → line + 16 ≤ w → w < line + 16 + right_reach m line → perm_at m w ≡ perm_at m (line + 16 - 1)
@@ -199,7 +199,7 @@ right_reach-alike m line w le lt =
     prefix_len_passes (same (perm_at m (line + 16 - 1))) (drop (line + 16) m) k P.None (omega arith) in
     sym (same_eq (perm_at m (line + 16 - 1)) (get_or (drop (line + 16) m) k P.None) pass ∙ get_or-drop (line + 16) m k P.None ∙ ap (perm_at m) sum)
 
-right_reach-most : (m : List Perm) (line : ℕ) → right_reach m line ≤ length m - (line + 16)
+pub right_reach-most : (m : List Perm) (line : ℕ) → right_reach m line ≤ length m - (line + 16)
 right_reach-most m line = omega (arith, prefix_len-le-length (same (perm_at m (line + 16 - 1))) (drop (line + 16) m), length-drop (line + 16) m)
 
 -- a run inside a line, lengthened by the reaches

@@ -2,7 +2,7 @@
 ghost use Rattle.std.specs.Prelude.{◌<◌, ◌≤◌};
 ghost use Rattle.mx_table.specs.Change.{IsLawful};
 ghost use Rattle.mx_table.specs.Tables.{most_words, most_modules};
-ghost use Rattle.tables_replay.specs.Names.{NamesUpTo};
+ghost use Rattle.mx_table.specs.Names.{NamesUpTo};
 
 use crate::mix::Mix;
 use crate::numbers::Numbers;

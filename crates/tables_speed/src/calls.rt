@@ -75,7 +75,7 @@ fn toggle(range: Range, i: u64) -> Change
 }
 
 /// How many of so many changes of a range would fit. None is made.
-pub fn fitting<T: PermTables>(tables: &T, range: Range, rounds: u64) -> u64
+pub fn count_fits<T: PermTables>(tables: &T, range: Range, rounds: u64) -> u64
     requires some { 0 < range.count }
     requires inside { range.first + range.count ≤ T.size tables.now }
     requires one { length (T.maps tables.now) ≡ 1 }
@@ -91,7 +91,7 @@ pub fn fitting<T: PermTables>(tables: &T, range: Range, rounds: u64) -> u64
 }
 
 /// How many of so many changes of a range fitted and were made.
-pub fn made<T: PermTables>(tables: &mut T, range: Range, rounds: u64) -> u64
+pub fn count_made<T: PermTables>(tables: &mut T, range: Range, rounds: u64) -> u64
     requires some { 0 < range.count }
     requires inside { range.first + range.count ≤ T.size tables.old }
     requires one { length (T.maps tables.old) ≡ 1 }

@@ -2,8 +2,9 @@
 //! calls answered, which is the same for each kind, and to stderr the processor time that so many calls of each took.
 #![tactic(auto)]
 
-ghost use Rattle.std.specs.Prelude.{◌≡◌, ◌/◌, ◌<◌, ◌≤◌, ◌^◌, length};
+ghost use Rattle.std.specs.Prelude.{◌≡◌, ◌+◌, ◌/◌, ◌<◌, ◌≤◌, ◌^◌, length};
 
+mod allocs;
 mod calls;
 mod sample;
 
@@ -49,7 +50,94 @@ fn time_kind<T: PermTables + Drop>(
     rounds: u64,
 ) -> io::Result<()> {
     time_size::<T>(rt, alloc, 1 << 14, rounds)?;
-    time_size::<T>(rt, alloc, 1 << 24, rounds)
+    time_size::<T>(rt, alloc, 1 << 24, rounds)?;
+    for domains in [1, 15, 63] {
+        time_domains::<T>(rt, alloc, domains, rounds)?;
+    }
+    Ok(())
+}
+
+/// Times allocs of 16 words, 1 MiB and 64 MiB over tables of so many domains, each at a usual place and at a worst one: for 16 words the
+/// first page of a region and the last page of one of which all other pages are even; for more, whole regions' eighths and whole
+/// regions, and ranges that begin a few words behind.
+fn time_domains<T: PermTables + Drop>(
+    rt: &(impl Print + Eprint + CpuClock),
+    alloc: Global,
+    domains: u32,
+    rounds: u64,
+) -> io::Result<()>
+    requires some { 1 ≤ domains }
+    requires few { domains ≤ 63 }
+{
+    let Some(mut tables) = allocs::tables::<T>(alloc, domains) else {
+        return eprintln!(rt; "no memory");
+    };
+    let at = |first, count| Range { first, count };
+    time_allocs(
+        rt,
+        &mut tables,
+        "usual",
+        at(0x40_0200, 0x10),
+        domains,
+        rounds,
+    )?;
+    time_allocs(
+        rt,
+        &mut tables,
+        "worst",
+        at(0x8F_FE00, 0x10),
+        domains,
+        rounds,
+    )?;
+    time_allocs(
+        rt,
+        &mut tables,
+        "usual",
+        at(0x60_0000, 0x4_0000),
+        domains,
+        rounds,
+    )?;
+    time_allocs(
+        rt,
+        &mut tables,
+        "worst",
+        at(0x60_0008, 0x4_0000),
+        domains,
+        rounds,
+    )?;
+    time_allocs(rt, &mut tables, "usual", at(0, 0x100_0000), domains, rounds)?;
+    time_allocs(rt, &mut tables, "worst", at(1, 0xFF_FFFE), domains, rounds)
+}
+
+/// `fits` alone, and `fits` with `apply`, of allocs and frees of a range, as often as makes about `rounds` lines of 16 words, and at
+/// least twice.
+fn time_allocs<T: PermTables>(
+    rt: &(impl Print + Eprint + CpuClock),
+    tables: &mut T,
+    place: &str,
+    range: Range,
+    domains: u32,
+    rounds: u64,
+) -> io::Result<()>
+    requires some { 1 ≤ domains }
+    requires few { domains ≤ 63 }
+    requires domains { length (T.maps tables.old) ≡ domains }
+    requires size { T.size tables.old ≡ 16777216 }
+    requires words { 16 ≤ range.count }
+    requires inside { range.first + range.count ≤ 16777216 }
+    ensures domains { length (T.maps tables.new) ≡ domains }
+    ensures size { T.size tables.new ≡ 16777216 }
+{
+    let count = range.count;
+    let rounds = (rounds / u64::from(count / 16)).max(2);
+    let begun = rt.thread_cpu_time()?;
+    let fit = allocs::fits(tables, range, domains, rounds);
+    let between = rt.thread_cpu_time()?;
+    let made = allocs::changes(tables, range, domains, rounds);
+    let ended = rt.thread_cpu_time()?;
+    println!(rt; "alloc of {count} in {domains} domains, {place}: {fit} fit, {made} made")?;
+    tell_alloc(rt, "fits", place, count, domains, rounds, begun, between)?;
+    tell_alloc(rt, "alloc", place, count, domains, rounds, between, ended)
 }
 
 /// Times the calls over tables of a RAM of `words` words: changes are of a word, of a page, and of 4 MiB where RAM is larger.
@@ -119,9 +207,9 @@ fn time_changes<T: PermTables>(
     let range = Range { first, count };
     let rounds = (rounds / u64::from(count / 16 + 1)).max(2);
     let begun = rt.thread_cpu_time()?;
-    let fit = calls::fitting(tables, range, rounds);
+    let fit = calls::count_fits(tables, range, rounds);
     let between = rt.thread_cpu_time()?;
-    let made = calls::made(tables, range, rounds);
+    let made = calls::count_made(tables, range, rounds);
     let ended = rt.thread_cpu_time()?;
     println!(rt; "fits of {count} in {words} words: {fit} fit")?;
     println!(rt; "apply of {count} in {words} words: {made} made")?;
@@ -142,6 +230,24 @@ fn tell(
     let taken = ended.checked_sub(begun).unwrap_or_default();
     eprintln!(rt;
         "name={call}-{count}-{words} rounds={rounds} microseconds={}",
+        taken.as_micros()
+    )
+}
+
+/// One line of costs of allocs.
+fn tell_alloc(
+    rt: &impl Eprint,
+    call: &str,
+    place: &str,
+    count: u32,
+    domains: u32,
+    rounds: u64,
+    begun: Duration,
+    ended: Duration,
+) -> io::Result<()> {
+    let taken = ended.checked_sub(begun).unwrap_or_default();
+    eprintln!(rt;
+        "name={call}-{count}-{domains}-{place} rounds={rounds} microseconds={}",
         taken.as_micros()
     )
 }

@@ -1,5 +1,5 @@
 use Rattle.std.proofs.Common.{length, ap, ◌∙◌}
-use Rattle.check_speed.proofs.Changes.{length-changed}
+use Rattle.mx_table.proofs.ChangedMaps.{length-changed}
 use Rattle.check_speed.proofs.runs.withdraw.Goals as goal
 
 pub returns-in-Ok-clause-two : goal.returns-in-Ok-clause-two

@@ -4,7 +4,7 @@ use Rattle.std.specs.Int.Bits.{and_zero_r}
 use Rattle.std.proofs.lemmas.Nat.{and_mask}
 use Rattle.std.proofs.lemmas.Bool.{cases_lt, lt-ltb, le-ltb, ne_eqb, eq-eqb}
 use Rattle.mx_gates.specs.Index.{is_before}
-use Rattle.mx_gates.proofs.Borrow.{borrows, borrows_none, high_ones, high_none}
+use Rattle.mx_words.proofs.Borrow.{borrows, borrows_none, high_ones, high_none}
 use Rattle.mx_gates.proofs.index.step.Goals as goal
 
 pub returns : goal.returns

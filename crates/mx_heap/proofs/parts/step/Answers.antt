@@ -2,7 +2,7 @@ use Rattle.std.proofs.Common.{◌≡◌, ◌+◌, ◌%◌, ◌<◌, ◌≤◌, b
 use Rattle.std.specs.Int.Bits.{and_zero_r}
 use Rattle.std.proofs.lemmas.Nat.{and_mask}
 use Rattle.std.proofs.lemmas.Bool.{cases_lt, le-leb, lt-leb}
-use Rattle.mx_heap.proofs.Borrow.{high_ones, high_none}
+use Rattle.mx_words.proofs.Borrow.{high_ones, high_none}
 use Rattle.mx_heap.proofs.parts.step.Goals as goal
 
 pub returns : goal.returns

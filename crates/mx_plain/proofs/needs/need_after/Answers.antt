@@ -3,8 +3,9 @@ use Rattle.std.proofs.lemmas.List.{get_or_read, take_all}
 use Rattle.mx_words.specs.Need.{need}
 use Rattle.mx_words.specs.Changes.{changed_map}
 use Rattle.mx_table.specs.Change.{given, changed}
-use Rattle.mx_plain.proofs.MapLaws.{length-changed_map}
-use Rattle.mx_plain.proofs.NeedSums.{need_step, changed-at, length-changed}
+use Rattle.mx_words.proofs.MapLaws.{length-changed_map}
+use Rattle.mx_table.proofs.ChangedMaps.{changed-at, length-changed}
+use Rattle.mx_plain.proofs.NeedSums.{need_step}
 use Rattle.mx_plain.proofs.needs.need_after.Goals as goal
 
 pub need_of-requires : goal.need_of-requires

@@ -5,14 +5,14 @@ use Rattle.mx_upper.specs.Digits.{digit, numbered}
 use Rattle.mx_upper.specs.Filled.{flat_line}
 use Rattle.mx_upper.specs.Leaf.{leaf_entry}
 use Rattle.mx_upper.specs.Walk.{vector_perm}
-use Rattle.mx_upper.proofs.Digits.{numbered-number}
+use Rattle.mx_words.proofs.NumberLaws.{from_number-number}
 use Rattle.mx_upper.proofs.fill.fill_page.Goals as goal
 
 pub loop-part-preserved : goal.loop-part-preserved
 loop-part-preserved g c =
     let i = c.loop-part.invariant in
     let f = c.fill.ensures in
-    let told : vector_perm c.args.entry c.loop-part.part ≡ c.perm_in-perm.result = ap numbered (sym c.perm_in-perm.ensures) ∙ numbered-number c.perm_in-perm.result in
+    let told : vector_perm c.args.entry c.loop-part.part ≡ c.perm_in-perm.result = ap numbered (sym c.perm_in-perm.ensures) ∙ from_number-number c.perm_in-perm.result in
     record {
       taken = f.taken;
       lines = λ k below. elim (cases_lt k (8 * c.loop-part.part)) [

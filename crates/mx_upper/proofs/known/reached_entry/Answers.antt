@@ -1,4 +1,4 @@
-use Rattle.std.proofs.Common.{◌+◌, ◌-◌, ◌*◌, ◌∙◌, refl, arith}
+use Rattle.std.proofs.Common.{◌∙◌, refl, arith}
 use Rattle.mx_upper.proofs.KnownLaws.{deep-entry, flat-entry}
 use Rattle.mx_upper.proofs.known.reached_entry.Goals as goal
 

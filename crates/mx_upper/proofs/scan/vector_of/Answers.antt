@@ -1,5 +1,5 @@
 use Rattle.std.proofs.Common.{◌+◌, ◌*◌, ap, ◌∙◌, arith}
-use Rattle.mx_upper.proofs.Digits.{number-small}
+use Rattle.mx_words.proofs.NumberLaws.{number-small}
 use Rattle.mx_upper.proofs.Vectors.{part-none, part-more, part-small, part-whole}
 use Rattle.mx_upper.proofs.scan.vector_of.Goals as goal
 

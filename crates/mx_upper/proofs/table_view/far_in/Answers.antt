@@ -1,7 +1,5 @@
-use Rattle.std.proofs.Common.{rules, ◌≡◌, ◌/◌, inl, inr, List, sym, subst, arith}
-use Rattle.mx_words.specs.declared.perm.Perm.{Perm}
+use Rattle.std.proofs.Common.{rules, inl, inr, sym, subst}
 use Rattle.mx_words.specs.declared.perm.Span.{Span}
-use Rattle.mx_upper.specs.Forest.{IsLoose}
 use Rattle.mx_upper.specs.Views.{IsRound}
 use Rattle.mx_upper.proofs.WalkWords.{walk-taken}
 use Rattle.mx_upper.proofs.WideSpans.{wide-pages, wide-lines}

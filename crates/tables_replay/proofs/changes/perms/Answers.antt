@@ -1,4 +1,4 @@
-use Rattle.tables_replay.proofs.Named.{names_none}
+use Rattle.mx_table.proofs.NamedLaws.{names_none}
 use Rattle.tables_replay.proofs.changes.perms.Goals as goal
 
 pub loop-domain-init : goal.loop-domain-init

@@ -1,4 +1,4 @@
-use Rattle.tables_replay.specs.Names.{NamesUpTo}
+use Rattle.mx_table.specs.Names.{NamesUpTo}
 use Rattle.tables_replay.proofs.changes.perms.Given as goal
 
 abbrev pub invariant-loop-domain : goal.invariant-loop-domain

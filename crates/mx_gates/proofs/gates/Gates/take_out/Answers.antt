@@ -3,7 +3,8 @@ use Rattle.std.specs.List.{position_or_len}
 use Rattle.mx_model.specs.declared.values.Gate.{Gate}
 use Rattle.mx_model.specs.Gates.{is_at, has_gate}
 use Rattle.mx_gates.specs.Index.{bucket, lying}
-use Rattle.mx_gates.proofs.Apart.{place_in, removed, AreSingle-without}
+use Rattle.mx_model.proofs.ApartLaws.{single-filter}
+use Rattle.mx_gates.proofs.Apart.{place_in, removed}
 use Rattle.mx_gates.proofs.Indexing.{Indexes-has, Indexes-without, lying-some}
 use Rattle.mx_gates.proofs.gates.Gates.take_out.Goals as goal
 
@@ -44,7 +45,7 @@ invariant_of-self c =
     let at = c.sorted_place-at.ensures ∙ ap (position_or_len (is_at d w)) c.as_slice.ensures.value in
     let at2 = c.first_place-at.ensures ∙ ap (position_or_len (is_at d w)) c.as_slice-2.ensures.value in
     rw (c.remove-2.ensures.items, c.remove.ensures.items, at2, at, c.bucket.ensures.value, removed d w s.gates.items c.self.invariant.0 has)
-    (AreSingle-without d w s.gates.items c.self.invariant.0, Indexes-without s.gates.items s.sorted.items s.counts c.self.invariant.1 d w c.self.invariant.0 has)
+    (single-filter _ s.gates.items c.self.invariant.0, Indexes-without s.gates.items s.sorted.items s.counts c.self.invariant.1 d w c.self.invariant.0 has)
 
 pub returns : goal.returns
 returns c =

@@ -1,5 +1,5 @@
 use Rattle.std.proofs.Common.{sym, ◌∙◌}
-use Rattle.mx_plain.proofs.MapLaws.{length-changed_map}
+use Rattle.mx_words.proofs.MapLaws.{length-changed_map}
 use Rattle.mx_plain.proofs.maps.ChangedWordMap.words.Goals as goal
 
 pub returns : goal.returns

@@ -1,6 +1,6 @@
 use Rattle.std.proofs.Common.{Option, Some, None, replicate, ◌∙◌, get_or-set_other}
 use Rattle.mx_words.specs.declared.perm.Perm.{Perm}
-use Rattle.mx_segments.proofs.TestLaws.{everywhere}
+use Rattle.mx_table.proofs.NamedLaws.{everywhere}
 use Rattle.mx_segments.proofs.segments.tests.grant.Goals as goal
 
 pub returns-clause-others : goal.returns-clause-others

@@ -13,14 +13,6 @@ no_row words = record {
   inside = λ i lt. absurd (omega arith);
 }
 
--- a row of a smaller RAM is one of a larger RAM
-pub wider : (m n : ℕ) (row : List Span) → m ≤ n → IsRow m row → IsRow n row
-wider m n row le is = record {
-  some = λ i lt. is.some i lt;
-  sorted = λ i lt. is.sorted i lt;
-  inside = λ i lt. let h : (get_or row i no_span).first + (get_or row i no_span).count ≤ m = is.inside i lt in omega arith;
-}
-
 -- a row of the words below n, and one more span from word n on or behind it
 pub longer : (n m : ℕ) (row : List Span) (s : Span) → IsRow n row → n ≤ s.first → 0 < s.count → s.first + s.count ≤ m → IsRow m (row ++ s ∷ [])
 longer n m row s is behind some inside = record {
@@ -57,3 +49,7 @@ longer n m row s is behind some inside = record {
         let end : (get_or row i no_span).first + (get_or row i no_span).count ≤ n = is.inside i below in
         rw (old i below) (omega arith)
     inside_at i lt (inr above) = let e : i ≡ length row = omega (arith, long) in rw (new i e) inside
+
+-- a row of one span
+pub one_row : (words : ℕ) (s : Span) → 0 < s.count → s.first + s.count ≤ words → IsRow words (s ∷ [])
+one_row words s some inside = longer 0 words [] s (no_row 0) (omega arith) some inside

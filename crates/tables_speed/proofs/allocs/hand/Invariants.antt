@@ -1,0 +1,5 @@
+use Rattle.mx_table.specs.Names.{NamesUpTo}
+use Rattle.tables_speed.proofs.allocs.hand.Given as goal
+
+abbrev pub invariant-loop-domain : goal.invariant-loop-domain
+invariant-loop-domain l = NamesUpTo l.domains l.perms
