@@ -1,8 +1,6 @@
 -- How a step is followed: by the reading of a file and then by the rest, or by its end.
-use Rattle.std.proofs.Common.{◌≡◌, ℕ, suc, ◌⊎◌, List, [], ◌∷◌, ◌++◌, Some, None, Option, Vec, Global, Result, Ok, Err, refl, sym, inl, inr, subst}
-use Rattle.std.specs.Prelude.{IsSome}
+use Rattle.std.proofs.Common.{◌≡◌, ℕ, suc, List, [], ◌∷◌, ◌++◌, Some, None, Err, refl, sym, inl, inr}
 use Rattle.std.proofs.lemmas.List.{append-nil}
-use Rattle.mx_io.specs.Sink.{SinkState}
 use Rattle.mx_io.specs.Answer.{Answer, Talks}
 use Rattle.mx_io.proofs.Talks.{talks-append}
 use Rattle.mx_run.specs.declared.status.Status.{Status}
@@ -11,9 +9,9 @@ use Rattle.mx_run.specs.declared.reading.ReadFault.{ReadFault}
 use Rattle.mx_run.specs.declared.reading.ReadFault.TheVariants as fault
 use Rattle.mx_run.specs.Words.{Request}
 use Rattle.mx_run.specs.Finding.{Finding, Absent, Large, Short, Broken, Whole, Finds}
-use Rattle.mx_run.specs.Outcome.{Outcome, Wanted, Next, Read, End, after_file, refusal, next}
-use Rattle.mx_run.specs.Reading.{Reads, Refuses, Takes}
-use Rattle.mx_run.specs.Top.{Sinks, sinks, WritesNothing, Ends, EndsOrWants, Reacts, Continues, Comes}
+use Rattle.mx_run.specs.Outcome.{Outcome, Wanted, Next, End, after_file, refusal, next}
+use Rattle.mx_run.specs.Reading.{Reads, Refuses}
+use Rattle.mx_run.specs.Top.{Sinks, WritesNothing, Ends, EndsOrWants, Reacts, Continues, Comes}
 
 module _ {S : Type 0} (gives : S → Answer → S → Type 0) where
   -- a step that reads no file

@@ -1,21 +1,11 @@
 -- How a call of the program ends.
-use Rattle.std.proofs.Common.{◌≡◌, ℕ, ◌<◌, ◌≤◌, List, [], ◌∷◌, ◌++◌, length, flat_map, Option, Some, None, Ok, Err, IsOk, T, refl, sym, subst, inl, inr, arith}
-use Rattle.std.specs.Prelude.{IsSome}
-use Rattle.std.proofs.lemmas.List.{append-nil}
+use Rattle.std.proofs.Common.{◌≡◌, ℕ, ◌<◌, ◌≤◌, List, [], ◌∷◌, length, Option, Ok, Err, IsOk, T, refl, sym, subst, inl, inr, arith}
 use Rattle.mx_io.specs.Texts.{AppendsWhole, AppendsPrefix}
 use Rattle.mx_io.specs.Sink.{SinkState, Puts}
-use Rattle.mx_io.specs.Answer.{Answer, Talks}
 use Rattle.mx_io.proofs.Text.{appended-nil}
-use Rattle.mx_run.specs.declared.status.Status.{Status}
-use Rattle.mx_run.specs.declared.status.Status.TheVariants.{Usage, ConsoleFault, ReportFault}
-use Rattle.mx_run.specs.declared.reading.ReadFault.{ReadFault}
-use Rattle.mx_run.specs.declared.reading.ReadFault.TheVariants as fault
-use Rattle.mx_run.specs.Words.{Request}
-use Rattle.mx_run.specs.Finding.{Finding, Absent, Large, Short, Broken, Finds}
-use Rattle.mx_run.specs.Outcome.{Outcome, Wanted, Next, Read, End, refusal}
-use Rattle.mx_run.specs.Leads.{Leads}
-use Rattle.mx_run.specs.Reading.{Reads, Refuses}
-use Rattle.mx_run.specs.Top.{Sinks, sinks, Holds, Ends, EndsOrWants, Reacts}
+use Rattle.mx_run.specs.declared.status.Status.TheVariants.{ConsoleFault, ReportFault}
+use Rattle.mx_run.specs.Outcome.{Outcome}
+use Rattle.mx_run.specs.Top.{sinks, Holds, Ends}
 
 not_ok : (A : Type 0) {E : Type 0} (e : E) → IsOk {T = A} (Err e) → ⊥
 not_ok A e h = subst T (sym h) tt

@@ -1,5 +1,5 @@
 -- What the top call promises, from how it reacts.
-use Rattle.std.proofs.Common.{◌≡◌, ◌≢◌, ◌⊎◌, IsTrue, Option, Some, None, IfSome, refl, ap, subst, inl, inr, []}
+use Rattle.std.proofs.Common.{◌≡◌, ◌≢◌, ◌⊎◌, IsTrue, Option, Some, None, IfSome, refl, ap, subst, inl, inr}
 use Rattle.mx_io.specs.Count.{Stays}
 use Rattle.mx_io.specs.Sink.{SinkState}
 use Rattle.mx_io.specs.Store.{StoreState}

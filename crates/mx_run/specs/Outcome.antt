@@ -1,8 +1,7 @@
 -- What the program does next by what it has found, and what it answers and writes at the end.
-use Rattle.std.specs.Prelude.{ℕ, ◌+◌, ◌==◌, Bool, if◌then◌else◌, List, [], ◌∷◌, ◌++◌, length, Option, Some, None, option_map, unwrap_or, Result, Ok, Err, flat_map}
+use Rattle.std.specs.Prelude.{ℕ, ◌+◌, ◌==◌, if◌then◌else◌, List, [], ◌∷◌, ◌++◌, Option, Some, None, unwrap_or, Result, Ok, Err, flat_map}
 use Rattle.std.specs.Prelude.{map as list_map}
 use Rattle.std.specs.Str.{is_utf8}
-use Rattle.mx_words.specs.declared.tables.Need.{Need}
 use Rattle.mx_model.specs.Run.{Schedule, ByQuantum, ByBytes, all_halted, run}
 use Rattle.mx_model.specs.State.{State}
 use Rattle.mx_manifest.specs.declared.fault.BootFault.{BootFault}

@@ -1,4 +1,4 @@
-use Rattle.std.proofs.Common.{◌≡◌, Option, Some, None, subst}
+use Rattle.std.proofs.Common.{◌≡◌, Option, Some, subst}
 use Rattle.mx_run.specs.Asked.{order_of}
 use Rattle.mx_run.specs.Words.{Request, Run, Asm, meaning}
 use Rattle.mx_run.specs.Top.{sinks, Reacts}
