@@ -6,6 +6,7 @@ ghost use Rattle.std.specs.Prelude.{◌≡◌, ◌+◌, ◌/◌, ◌<◌, ◌≤
 
 mod allocs;
 mod calls;
+mod places;
 mod sample;
 
 use calls::Range;
@@ -54,7 +55,69 @@ fn time_kind<T: PermTables + Drop>(
     for domains in [1, 15, 63] {
         time_domains::<T>(rt, alloc, domains, rounds)?;
     }
+    for step in [64, 256] {
+        time_places::<T>(rt, alloc, step, rounds)?;
+    }
     Ok(())
+}
+
+/// Times changes of one word in a region full of spans, one in each `step` words: at its start, in its middle and at its end, each time
+/// in the middle of the words between two spans.
+fn time_places<T: PermTables + Drop>(
+    rt: &(impl Print + Eprint + CpuClock),
+    alloc: Global,
+    step: u32,
+    rounds: u64,
+) -> io::Result<()>
+    requires some { 4 ≤ step }
+    requires few { step ≤ 1024 }
+{
+    let Some(mut tables) = places::tables::<T>(alloc, step) else {
+        return eprintln!(rt; "no memory");
+    };
+    let between = step / 2 + step / 4;
+    let last = places::REGION_WORDS - step;
+    time_place(rt, &mut tables, "start", between, step, rounds)?;
+    time_place(
+        rt,
+        &mut tables,
+        "middle",
+        places::REGION_WORDS / 2 + between,
+        step,
+        rounds,
+    )?;
+    time_place(rt, &mut tables, "end", last + between, step, rounds)
+}
+
+/// `fits` alone, and `fits` with `apply`, of changes of the word `at` of the region, which gets a right and loses it in turn.
+fn time_place<T: PermTables>(
+    rt: &(impl Print + Eprint + CpuClock),
+    tables: &mut T,
+    place: &str,
+    at: u32,
+    step: u32,
+    rounds: u64,
+) -> io::Result<()>
+    requires inside { at < 1048576 }
+    requires one { length (T.maps tables.old) ≡ 1 }
+    requires size { T.size tables.old ≡ 16777216 }
+    ensures one { length (T.maps tables.new) ≡ 1 }
+    ensures size { T.size tables.new ≡ 16777216 }
+{
+    let range = Range {
+        first: places::REGION + at,
+        count: 1,
+    };
+    let begun = rt.thread_cpu_time()?;
+    let fit = allocs::fits(tables, range, 1, rounds);
+    let between = rt.thread_cpu_time()?;
+    let made = allocs::changes(tables, range, 1, rounds);
+    let ended = rt.thread_cpu_time()?;
+    println!(rt;
+        "a word at the {place} of a region, spans each {step} words: {fit} fit, {made} made"
+    )?;
+    tell_alloc(rt, "place-fits", place, step, 1, rounds, begun, between)?;
+    tell_alloc(rt, "place-apply", place, step, 1, rounds, between, ended)
 }
 
 /// Times allocs of 16 words, 1 MiB and 64 MiB over tables of so many domains, each at a usual place and at a worst one: for 16 words the
