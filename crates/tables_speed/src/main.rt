@@ -2,7 +2,7 @@
 //! calls answered, which is the same for each kind, and to stderr the processor time that so many calls of each took.
 #![tactic(auto)]
 
-ghost use Rattle.std.specs.Prelude.{◌≡◌, ◌+◌, ◌/◌, ◌<◌, ◌≤◌, ◌^◌, length};
+ghost use Rattle.std.specs.Prelude.{◌≡◌, ◌+◌, ◌*◌, ◌/◌, ◌<◌, ◌≤◌, ◌^◌, length};
 
 mod allocs;
 mod calls;
@@ -55,24 +55,24 @@ fn time_kind<T: PermTables + Drop>(
     for domains in [1, 15, 63] {
         time_domains::<T>(rt, alloc, domains, rounds)?;
     }
-    for step in [64, 256] {
-        time_places::<T>(rt, alloc, step, rounds)?;
-    }
-    Ok(())
+    time_places::<T>(rt, alloc, 64, 16_384, rounds)?;
+    time_places::<T>(rt, alloc, 256, 4_096, rounds)
 }
 
-/// Times changes of one word in a region full of spans, one in each `step` words: at its start, in its middle and at its end, each time
-/// in the middle of the words between two spans.
+/// Times changes of one word in a region full of so many spans, one in each `step` words: at its start, in its middle and at its end,
+/// each time in the middle of the words behind a span.
 fn time_places<T: PermTables + Drop>(
     rt: &(impl Print + Eprint + CpuClock),
     alloc: Global,
     step: u32,
+    spans: u32,
     rounds: u64,
 ) -> io::Result<()>
     requires some { 4 ≤ step }
-    requires few { step ≤ 1024 }
+    requires small { step ≤ 1024 }
+    requires few { step * spans ≤ 1048576 }
 {
-    let Some(mut tables) = places::tables::<T>(alloc, step) else {
+    let Some(mut tables) = places::tables::<T>(alloc, 1 << 24, step, spans) else {
         return eprintln!(rt; "no memory");
     };
     let between = step / 2 + step / 4;
