@@ -349,24 +349,61 @@ fn the_readers_tell_who_has_heard_a_call(rt: HostRuntime) -> Result<(), Fail> {
     Ok(())
 }
 
+/// The harts whose turns are made when a machine goes on.
+const TURNS: [u32; 8] = [0, 1, 2, 1, 0, 0, 2, 0];
+
+/// How a machine that was left went on: its harts as it began, after which turns it was like the one that was not left, and its turns
+/// and the granted permission at the end.
+#[derive(Clone, Copy)]
+struct GoneOn {
+    began: [Option<HartStatus>; 3],
+    alike: [bool; 8],
+    steps: u64,
+    granted: Option<Perm>,
+}
+
+/// Makes the same turns on two machines.
+fn go_on(one: &mut Small, other: &mut Small) -> GoneOn {
+    let began = [status(other, 0), status(other, 1), status(other, 2)];
+    let mut alike = [false; 8];
+    for i in 0..8 {
+        alike[i] = go_alike(one, other, TURNS[i]);
+    }
+    GoneOn {
+        began,
+        alike,
+        steps: other.steps(),
+        granted: perm(other, 2, 1024),
+    }
+}
+
+/// A machine as it was left, gone on beside the one that was not.
+fn resume_beside(alloc: Global, modules: &[Module], one: &mut Small) -> Option<GoneOn> {
+    match again(alloc, modules, one) {
+        Some(mut other) => Some(go_on(one, &mut other)),
+        None => None,
+    }
+}
+
+/// A machine left after ten turns, gone on beside the one that was not.
+fn leave_and_go_on(alloc: Global) -> Result<Option<GoneOn>, Fail> {
+    let modules = granting();
+    let mut played = stopped(alloc, &modules)?;
+    Ok(resume_beside(alloc, &modules, &mut played.machine))
+}
+
 #[test]
 fn a_machine_that_was_left_goes_on_as_one_that_was_not(rt: HostRuntime) -> Result<(), Fail> {
-    let modules = granting();
-    let mut played = stopped(rt.alloc(), &modules)?;
-    let Some(mut other) = again(rt.alloc(), &modules, &played.machine) else {
+    let Some(gone) = leave_and_go_on(rt.alloc())? else {
         return Err("no machine")?;
     };
-    assert_eq!(rt; status(&other, 0), Some(HartStatus::Waiting));
-    assert_eq!(rt; status(&other, 1), Some(HartStatus::Halted));
-    assert_eq!(rt; status(&other, 2), Some(HartStatus::Running));
-    for number in [0, 1, 2, 1, 0, 0, 2, 0] {
-        assert_eq!(rt;
-            go_alike(&mut played.machine, &mut other, number),
-            true,
-            "hart {number}"
-        );
-    }
-    assert_eq!(rt; other.steps(), 18);
-    assert_eq!(rt; perm(&other, 2, 1024), Some(Perm::Read));
+    let began = [
+        Some(HartStatus::Waiting),
+        Some(HartStatus::Halted),
+        Some(HartStatus::Running),
+    ];
+    assert_eq!(rt; gone.began, began);
+    assert_eq!(rt; gone.alike, [true; 8]);
+    assert_eq!(rt; (gone.steps, gone.granted), (18, Some(Perm::Read)));
     Ok(())
 }
