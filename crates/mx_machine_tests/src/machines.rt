@@ -374,7 +374,7 @@ fn a_waiting_grant_of_a_word_that_is_transferred_is_refused(rt: HostRuntime) -> 
 }
 
 /// The owner of a word, and the word behind those round it that have its owner, where there is the word.
-fn run_from(machine: &Small, word: u32) -> Option<(u32, u32)> {
+pub fn run_from(machine: &Small, word: u32) -> Option<(u32, u32)> {
     if word < machine.words() {
         Some((machine.owner(word), machine.owner_end(word)))
     } else {
