@@ -42,9 +42,9 @@ fn reads_the_image_of_a_linker(rt: HostRuntime) -> Result<(), Fail> {
         assert_eq!(rt; symbol(SUMS, name), want, "{name}");
     }
     let asked = ["sum", "su", "sum\0", "greeting", "sum", "start", "sums"];
-    let together = Symbols::find(rt.alloc(), SUMS, &asked)
-        .ok()
-        .ok_or("no memory")?;
+    let Ok(together) = Symbols::find(rt.alloc(), SUMS, &asked) else {
+        return Err(Fail::from("no memory"));
+    };
     let none = Symbols::none(rt.alloc());
     for (name, want) in symbols {
         assert_eq!(rt; together.value(SUMS, name), want, "{name}");

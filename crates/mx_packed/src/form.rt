@@ -57,6 +57,10 @@ impl LeafForm for Packed {
         }
     }
 
+    fn flat(perm: Perm, left: u32, right: u32) -> u32 {
+        2 + 4 * perm.number() + 0x40_0000 * right + 0x800_0000 * left
+    }
+
     fn spill_of(entry: u32) -> Option<u32> {
         if entry % 4 == 3 {
             Some(entry / 4)

@@ -12,12 +12,22 @@ pub record IsCopied (size : ℕ) (ws us : List ℕ) (source from target to count
   pub below : (k : ℕ) → k < target * size + to → get_or us k 0 ≡ get_or ws k 0
   pub behind : (k : ℕ) → target * size + to + count ≤ k → get_or us k 0 ≡ get_or ws k 0
 
+-- two stores, of which the second has one value at places of one frame
+pub record IsFilled (size : ℕ) (ws us : List ℕ) (f from count value : ℕ) : Type 0 where
+  pub total : length us ≡ length ws
+  pub inside : (k : ℕ) → f * size + from ≤ k → k < f * size + from + count → get_or us k 0 ≡ value
+  pub below : (k : ℕ) → k < f * size + from → get_or us k 0 ≡ get_or ws k 0
+  pub behind : (k : ℕ) → f * size + from + count ≤ k → get_or us k 0 ≡ get_or ws k 0
+
 module _ (size : ℕ) (ws : List ℕ) (ts : List Bool) (free : List ℕ) (spare : ℕ) (pool : IsPool size ws ts free spare)
     (frames : List (Option (List ℕ))) (view : frames_of size ws ts ≡ frames) where
   -- another frame after a change of frame f
   pub elsewhere : (f g : ℕ) (us : List ℕ) (ss : List Bool) → SameOutside size f ws us → g ≢ f → get_or ss g false ≡ get_or ts g false →
       get_or (frames_of size us ss) g None ≡ get_or frames g None
   elsewhere f g us ss same ne mark = shown_elsewhere size f g ws us ts ss same ne mark ∙ ap (λ (fs : List (Option (List ℕ))). get_or fs g None) view
+
+  pub word-now : (f at : ℕ) → IsSome (get_or frames f None) → at < size → get_or (unwrap_or (get_or frames f None) []) at 0 ≡ get_or ws (f * size + at) 0
+  word-now f at h lt = word_shown size ws ts frames view f at h lt
 
   pub total : (us : List ℕ) (ss : List Bool) → length ss ≡ length ts → length (frames_of size us ss) ≡ length frames
   total us ss len = length-frames_of size us ss ∙ len ∙ sym (length-frames_of size ws ts) ∙ ap (λ (fs : List (Option (List ℕ))). length fs) view
@@ -116,3 +126,26 @@ module _ (size : ℕ) (ws : List ℕ) (ts : List Bool) (free : List ℕ) (spare 
     pub copied_behind : (k : ℕ) → to + count ≤ k → k < size →
         get_or (unwrap_or (get_or (frames_of size us ts) target None) []) k 0 ≡ get_or (unwrap_or (get_or frames target None) []) k 0
     copied_behind k h lt = stays k lt (c.behind (target * size + k) (omega arith))
+
+  -- one value is written to places of a taken frame: what the frames show afterwards
+  module _ (us : List ℕ) (f from count value : ℕ) (taken : IsSome (get_or frames f None)) (room : from + count ≤ size) (c : IsFilled size ws us f from count value) where
+    pub filled_taken : IsSome (get_or (frames_of size us ts) f None)
+    filled_taken = rw (marked_shows size us ts f (is_marked size ws ts frames view f taken)) refl
+
+    pub filled_outside : SameOutside size f ws us
+    filled_outside = record { total = c.total; below = λ i h. c.below i (omega arith); behind = λ i h. c.behind i (omega arith) }
+
+    pub filled_here : (k : ℕ) → from ≤ k → k < from + count → get_or (unwrap_or (get_or (frames_of size us ts) f None) []) k 0 ≡ value
+    filled_here k least most =
+        word_shown size us ts (frames_of size us ts) refl f k filled_taken (omega arith) ∙ c.inside (f * size + k) (omega arith) (omega arith)
+
+    kept : (k : ℕ) → k < size → get_or us (f * size + k) 0 ≡ get_or ws (f * size + k) 0 →
+        get_or (unwrap_or (get_or (frames_of size us ts) f None) []) k 0 ≡ get_or (unwrap_or (get_or frames f None) []) k 0
+    kept k h same = word_shown size us ts (frames_of size us ts) refl f k filled_taken h ∙ same ∙ sym (word_shown size ws ts frames view f k taken h)
+
+    pub filled_below : (k : ℕ) → k < from → get_or (unwrap_or (get_or (frames_of size us ts) f None) []) k 0 ≡ get_or (unwrap_or (get_or frames f None) []) k 0
+    filled_below k h = kept k (omega arith) (c.below (f * size + k) (omega arith))
+
+    pub filled_behind : (k : ℕ) → from + count ≤ k → k < size →
+        get_or (unwrap_or (get_or (frames_of size us ts) f None) []) k 0 ≡ get_or (unwrap_or (get_or frames f None) []) k 0
+    filled_behind k h lt = kept k lt (c.behind (f * size + k) (omega arith))

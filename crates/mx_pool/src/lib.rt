@@ -1,7 +1,7 @@
 //! Frames of words out of one flat store, which the permission tables stand in.
 #![tactic(auto)]
 
-ghost use Rattle.std.specs.Prelude.{◌≡◌, ◌≢◌, ℕ, ◌+◌, ◌-◌, ◌<◌, ◌≤◌, ◌^◌, ◌↔◌, false, None, Some, length, replicate, slice_index, slice_set, IsNone, IfSome, IfOk, OnSome, IfNone};
+ghost use Rattle.std.specs.Prelude.{◌≡◌, ◌≢◌, ℕ, ◌+◌, ◌-◌, ◌<◌, ◌≤◌, ◌^◌, ◌↔◌, true, false, None, Some, length, replicate, slice_index, slice_set, IsNone, IfSome, IfOk, OnSome, IfNone};
 ghost use Rattle.mx_pool.specs.Frames.{frame_at, IsTaken, words_of, word_at, free_in};
 
 use mx_words::NoMemory;
@@ -72,7 +72,7 @@ impl<const WORDS: usize> Pool<WORDS> {
         self.spare -= 1;
         let frame = self.free[self.spare as usize];
         self.taken[frame as usize] = true;
-        clear(&mut self.words, frame as usize * WORDS, WORDS);
+        fill_words(&mut self.words, frame as usize * WORDS, WORDS, 0);
         Some(frame)
     }
 
@@ -135,6 +135,41 @@ impl<const WORDS: usize> Pool<WORDS> {
         );
     }
 
+    /// Writes one value to `count` places from place `from` on of a taken frame.
+    pub fn fill(&mut self, frame: u32, from: u32, count: u32, value: u32)
+        requires taken { IsTaken self.old frame }
+        requires within { from + count ≤ WORDS }
+        ensures filled { (k : ℕ) → from ≤ k → k < from + count → word_at self.new frame k ≡ value }
+        ensures below { (k : ℕ) → k < from → word_at self.new frame k ≡ word_at self.old frame k }
+        ensures behind { (k : ℕ) → from + count ≤ k → k < WORDS → word_at self.new frame k ≡ word_at self.old frame k }
+        ensures taken { IsTaken self.new frame }
+        ensures elsewhere { (g : ℕ) → g ≢ frame → frame_at self.new g ≡ frame_at self.old g }
+        ensures free { free_in self.new ≡ free_in self.old }
+        ensures total { length self.new ≡ length self.old }
+    {
+        fill_words(
+            &mut self.words,
+            frame as usize * WORDS + from as usize,
+            count as usize,
+            value,
+        );
+    }
+
+    /// Whether `count` words from place `from` on of a taken frame are equal.
+    pub fn is_alike(&self, frame: u32, from: u32, count: u32) -> bool
+        requires taken { IsTaken self.now frame }
+        requires within { from + count ≤ WORDS }
+        requires some { 0 < count }
+        ensures yes { result ≡ true → (k : ℕ) → k < count → word_at self.now frame (from + k) ≡ word_at self.now frame from }
+        ensures no { ((k : ℕ) → k < count → word_at self.now frame (from + k) ≡ word_at self.now frame from) → result ≡ true }
+    {
+        are_alike(
+            &self.words,
+            frame as usize * WORDS + from as usize,
+            count as usize,
+        )
+    }
+
     /// The number of free frames.
     pub fn free_frames(&self) -> u32
         ensures { result ≡ free_in self.now }
@@ -175,17 +210,31 @@ fn downwards(alloc: Global, frames: u32) -> Result<Vec<u32>, NoMemory>
     Ok(free)
 }
 
-// Makes `count` words from `first` on 0.
-fn clear(words: &mut [u32], first: usize, count: usize)
+// Makes `count` words from `first` on `value`.
+fn fill_words(words: &mut [u32], first: usize, count: usize, value: u32)
     requires { first + count ≤ length words.old }
     ensures total { length words.new ≡ length words.old }
-    ensures inside { (i : ℕ) → first ≤ i → i < first + count → slice_index words.new i ≡ 0 }
+    ensures inside { (i : ℕ) → first ≤ i → i < first + count → slice_index words.new i ≡ value }
     ensures below { (i : ℕ) → i < first → slice_index words.new i ≡ slice_index words.old i }
     ensures behind { (i : ℕ) → first + count ≤ i → slice_index words.new i ≡ slice_index words.old i }
 {
+    let part = &mut words[first..first + count];
+    part.fill(value);
+}
+
+// Whether `count` words from `first` on are equal.
+fn are_alike(words: &[u32], first: usize, count: usize) -> bool
+    requires inside { first + count ≤ length words.now }
+    requires some { 0 < count }
+    ensures yes { result ≡ true → (i : ℕ) → first ≤ i → i < first + count → slice_index words.now i ≡ slice_index words.now first }
+    ensures no { ((i : ℕ) → first ≤ i → i < first + count → slice_index words.now i ≡ slice_index words.now first) → result ≡ true }
+{
+    let word = words[first];
+    let mut alike = true;
     for i in first..first + count {
-        words[i] = 0;
+        alike = alike & (words[i] == word);
     }
+    alike
 }
 
 // Copies `count` words from `first` on to `place` on.

@@ -13,7 +13,7 @@ use Rattle.mx_model.proofs.RunLaws.{run-add}
 use Rattle.mx_model.proofs.KeepLaws.{keeps-turned}
 use Rattle.mx_report.specs.Lines.{note_line}
 use Rattle.mx_run.specs.declared.status.Status.{Status}
-use Rattle.mx_run.specs.Running.{named, Places, Makes, MakesOrStops, HasRun, Stops, Begins, IsNext, IsTurnOf, GoesOn, ShowsOrStops, KeepsShape, may_tell, note_lines, note_text}
+use Rattle.mx_run.specs.Running.{named, Places, Moves, HasRun, Stops, Begins, IsNext, IsTurnOf, GoesOn, ShowsOrStops, KeepsShape, may_tell, note_lines, note_text}
 use Rattle.mx_run.proofs.Quiet.{quiet_turned}
 use Rattle.mx_run.proofs.Sinking.{moves_nothing, moves_moves, moves_breaks, moves_front, breaks_more, breaks_same}
 
@@ -110,6 +110,12 @@ grows_on schedule i n s few =
     let whole : n ≡ i + (n - i) = omega (arith, few) in
     subst (λ (f : State). Grows (run schedule i s) f) (sym (ap (λ k. run schedule k s) whole ∙ run-add schedule i (n - i) s)) (grows_run schedule (n - i) (run schedule i s))
 
+-- a turn was made, and what it adds was put through the buffers
+pub record Makes (s : State) (hart : ℕ) (machine : Flat) (before now : Places) : Type 0 where
+  pub state : machine ≡ flat (turn s hart)
+  pub console : Moves before.shown before.console now.console now.shown (made_of s hart).console
+  pub report : Moves before.told before.report now.report now.told (note_text (made_of s hart).note)
+
 -- the run begins
 pub run_begins : (s : State) (machine : Flat) (places : Places) → Begins s machine places → HasRun s machine places places
 run_begins s machine places b = record {
@@ -128,7 +134,7 @@ run_makes s h m k before mid now r t = record {
 }
 
 -- one more turn was made, and what it adds couldn't be put
-pub run_stops : (s f : State) (h : ℕ) (m k : Flat) (before mid now : Places) (status : Status) → HasRun s m before mid → Grows (turn s h) f → MakesOrStops {A = Unit {0}} s h k mid now (Err status)
+pub run_stops : (s f : State) (h : ℕ) (m k : Flat) (before mid now : Places) (status : Status) → HasRun s m before mid → Grows (turn s h) f → ShowsOrStops {A = Unit {0}} (made_of s h).console (note_text (made_of s h).note) mid now (Err status)
     → Stops before.console now.console f.console before.report now.report (note_lines f.notes) status
 run_stops s f h m k before mid now status r g (inl e) =
     let all = grows_turn s f h g in
@@ -179,9 +185,9 @@ makes_shown A a s h m events before now is shows = record {
 }
 
 -- or couldn't be put
-pub makes_stopped : (A B : Type 0) (s : State) (h : ℕ) (m : Flat) (events : Events) (before now : Places) (status : Status) → IsTurnOf s h m events
-    → ShowsOrStops {A = A} events.bytes (note_text events.note) before now (Err status) → MakesOrStops {A = B} s h m before now (Err status)
-makes_stopped A B s h m events before now status is stops = rw (is.bytes, is.note) at stops
+pub makes_stopped : (A : Type 0) (s : State) (h : ℕ) (m : Flat) (events : Events) (before now : Places) (status : Status) → IsTurnOf s h m events
+    → ShowsOrStops {A = A} events.bytes (note_text events.note) before now (Err status) → ShowsOrStops {A = Unit {0}} (made_of s h).console (note_text (made_of s h).note) before now (Err status)
+makes_stopped A s h m events before now status is stops = rw (is.bytes, is.note) at stops
 
 pub keeps_none : (f : Flat) → KeepsShape f f
 keeps_none f = record { kind = refl; limit = refl; modules = refl }

@@ -98,12 +98,6 @@ pub record Places : Type 0 where
 abbrev pub places : SinkState → List ℕ → SinkState → List ℕ → Places
 places console shown report told = record { console = console; shown = shown; report = report; told = told }
 
--- a turn was made, and what it adds was put through the buffers
-pub record Makes (s : State) (hart : ℕ) (machine : Flat) (before now : Places) : Type 0 where
-  pub state : machine ≡ flat (turn s hart)
-  pub console : Moves before.shown before.console now.console now.shown (made_of s hart).console
-  pub report : Moves before.told before.report now.report now.told (note_text (made_of s hart).note)
-
 -- a text was put through the console's buffer and lines through the report's; where a sink failed nothing was put behind that
 abbrev pub ShowsOrStops : {A : Type 0} → List ℕ → List ℕ → Places → Places → Result A Status → Type 0
 ShowsOrStops text lines before now (Ok a) =
@@ -112,12 +106,6 @@ ShowsOrStops text lines before now (Err status) =
     ((status ≡ ConsoleFault) × Breaks before.console now.console (before.shown ++ text) × (now.report ≡ before.report))
     ⊎ ((status ≡ ReportFault) × Moves before.shown before.console now.console now.shown text
     × Breaks before.report now.report (before.told ++ lines))
-
--- a call that makes a turn and puts what it adds
-abbrev pub MakesOrStops : {A : Type 0} → State → ℕ → Flat → Places → Places → Result A Status → Type 0
-MakesOrStops s hart machine before now (Ok a) = Makes s hart machine before now
-MakesOrStops {A} s hart machine before now (Err status) =
-    ShowsOrStops {A = A} (made_of s hart).console (note_text (made_of s hart).note) before now (Err status)
 
 -- turns were made from a state without texts, and the texts so far were put through the buffers
 pub record HasRun (s : State) (machine : Flat) (before now : Places) : Type 0 where

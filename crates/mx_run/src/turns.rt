@@ -4,7 +4,7 @@ ghost use Rattle.std.specs.Prelude.{◌≡◌, ◌+◌, ◌-◌, ◌^◌, ◌<�
 ghost use Rattle.mx_model.specs.Run.{all_halted, run};
 ghost use Rattle.mx_model.specs.State.{State, flat};
 ghost use Rattle.mx_report.specs.Tail.{Passes};
-ghost use Rattle.mx_run.specs.Running.{schedule_of, HasTurns, Begins, IsNext, IsTurnOf, KeepsShape, MakesOrStops, RunsOrStops, ShowsOrStops, GoesOn, may_tell, places, note_text};
+ghost use Rattle.mx_run.specs.Running.{schedule_of, HasTurns, Begins, IsNext, IsTurnOf, KeepsShape, RunsOrStops, ShowsOrStops, GoesOn, may_tell, places, note_text};
 
 use crate::pace::{Schedule, begin, next_hart};
 use crate::status::Status;
@@ -42,42 +42,15 @@ pub(crate) fn make_turns<T: PermTables, const N: usize, C: Sink, R: Sink>(
         let Some(hart) = next_hart(&mut pace) else {
             return Ok(());
         };
-        if make_turn(hart, machine, &mut events, shown, console, told, report)? {
+        // Nearly all turns add nothing and halt no hart: of these nothing but their kind is looked at.
+        if !may_tell(take_turn(hart, machine, &mut events)) {
+            continue;
+        }
+        if end_turn(machine, &events, shown, console, told, report)? {
             return Ok(());
         }
     }
     Ok(())
-}
-
-/// Makes a turn of the hart of that number, where not all harts are halted, and tells whether all are halted then. What the turn
-/// adds leaves through the buffers.
-///
-/// Nearly all turns add nothing and halt no hart: for these nothing is looked at but their kind.
-#[inline(always)]
-fn make_turn<T: PermTables, const N: usize, C: Sink, R: Sink>(
-    hart: u32,
-    machine: &mut Machine<T, N>,
-    events: &mut Events,
-    shown: &mut Tail,
-    console: &mut C,
-    told: &mut Tail,
-    report: &mut R,
-) -> Result<bool, Status>
-    requires few { machine.old.core.turns < 2 ^ 64 - 1 }
-    requires going { all_halted machine.old.core ≡ false }
-    ensures next { IsNext machine.old machine.new }
-    ensures halted { IfOk result (λ halted. halted ≡ all_halted machine.new.core) }
-    ensures makes { (s : State) → machine.old ≡ flat s
-        → MakesOrStops s hart machine.new (places (C.state console.old) shown.old (R.state report.old) told.old)
-        (places (C.state console.new) shown.new (R.state report.new) told.new) result }
-{
-    if !may_tell(take_turn(hart, machine, events)) {
-        return Ok(false);
-    }
-    match show(events, shown, console, told, report) {
-        Ok(()) => Ok(machine.all_halted()),
-        Err(status) => Err(status),
-    }
 }
 
 // A turn of the hart of that number, with what of its contract a run needs.
@@ -109,8 +82,28 @@ fn may_tell(kind: TurnKind) -> bool
     }
 }
 
-// Puts what a turn adds through the buffers: its console bytes, and the line of its note.
+// Puts what a turn adds through the buffers, and tells whether all harts are halted.
 #[cold]
+fn end_turn<T: PermTables, const N: usize, C: Sink, R: Sink>(
+    machine: &Machine<T, N>,
+    events: &Events,
+    shown: &mut Tail,
+    console: &mut C,
+    told: &mut Tail,
+    report: &mut R,
+) -> Result<bool, Status>
+    ensures halted { IfOk result (λ halted. halted ≡ all_halted machine.now.core) }
+    ensures shows { ShowsOrStops events.now.bytes (note_text events.now.note)
+        (places (C.state console.old) shown.old (R.state report.old) told.old)
+        (places (C.state console.new) shown.new (R.state report.new) told.new) result }
+{
+    match show(events, shown, console, told, report) {
+        Ok(()) => Ok(machine.all_halted()),
+        Err(status) => Err(status),
+    }
+}
+
+// Puts what a turn adds through the buffers: its console bytes, and the line of its note.
 fn show<C: Sink, R: Sink>(
     events: &Events,
     shown: &mut Tail,

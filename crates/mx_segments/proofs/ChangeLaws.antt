@@ -11,7 +11,7 @@ use Rattle.mx_words.specs.Runs.{runs}
 use Rattle.mx_words.specs.Starts.{is_start}
 use Rattle.mx_words.proofs.CountingLaws.{count_below_agree, count_below_along, count_below_still, count_below-more, count_below-mono, count_below_after}
 use Rattle.mx_words.proofs.OverlayLaws.{laid_in, laid_below, laid_behind, length-laid}
-use Rattle.mx_words.proofs.RunLaws.{runs-count, is_start-behind, same_refl}
+use Rattle.mx_words.proofs.RunLaws.{runs-count, same_refl}
 use Rattle.mx_words.specs.Changes.{grant_of}
 use Rattle.mx_words.proofs.MapLaws.{start_step}
 use Rattle.mx_segments.specs.declared.plan.Plan.{Plan}

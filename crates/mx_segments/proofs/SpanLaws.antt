@@ -2,7 +2,6 @@
 use Rattle.std.proofs.Common.{◌≡◌, ℕ, ◌+◌, ◌-◌, ◌<◌, ◌≤◌, false, not, List, length, sym, ◌∙◌, ap, arith, inl, inr}
 use Rattle.std.proofs.Common.{map as list_map}
 use Rattle.std.proofs.lemmas.Bool.{cases_lt, cases_eq}
-use Rattle.mx_words.specs.declared.perm.Perm.{Perm}
 use Rattle.mx_words.specs.declared.perm.Perm.TheVariants as P
 use Rattle.mx_words.specs.declared.perm.Span.{Span}
 use Rattle.mx_words.specs.Rights.{same, perm_at}
@@ -11,7 +10,7 @@ use Rattle.mx_words.specs.Runs.{runs}
 use Rattle.mx_words.specs.Starts.{is_start}
 use Rattle.mx_words.proofs.CountingLaws.{count_below_agree, count_below_still, count_below-more, count_below-mono, bit-le}
 use Rattle.mx_words.proofs.OverlayLaws.{length-map_of}
-use Rattle.mx_words.proofs.RunLaws.{runs-count, is_start-behind, same_refl}
+use Rattle.mx_words.proofs.RunLaws.{runs-count, same_refl}
 use Rattle.mx_words.proofs.MapLaws.{start_step}
 use Rattle.mx_table.specs.Tables.{granted, row_map, IsRow}
 use Rattle.mx_table.specs.Rows.{end_at, first_spans}

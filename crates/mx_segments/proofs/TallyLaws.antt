@@ -12,7 +12,7 @@ use Rattle.mx_words.specs.Changes.{grant_of}
 use Rattle.mx_words.specs.Runs.{runs}
 use Rattle.mx_words.specs.Starts.{is_start}
 use Rattle.mx_words.proofs.CountingLaws.{count_below-zero, count_below_still, count_below_yes, count_below-le}
-use Rattle.mx_words.proofs.RunLaws.{runs-count, is_start-behind, same_refl}
+use Rattle.mx_words.proofs.RunLaws.{runs-count, same_refl}
 use Rattle.mx_words.proofs.MapLaws.{start_step}
 use Rattle.mx_table.specs.Tables.{IsRow}
 use Rattle.mx_table.specs.Rows.{first_spans}

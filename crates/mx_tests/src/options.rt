@@ -94,7 +94,7 @@ fn a_dump_is_the_bytes_of_ram(rt: HostRuntime) -> Result<(), Fail> {
     let bytes = sinks.dump.as_slice();
     assert_eq!(rt; bytes.len(), 65536);
     let words = b"\x93\x08\x10\x00\x13\x05\x50\x00\x73\x00\x00\x00";
-    assert_eq!(rt; &bytes[..12], words.as_slice());
+    assert_eq!(rt; &bytes[0..12], words.as_slice());
     assert!(rt; bytes[12..].iter().all(|byte| *byte == 0));
 
     let mut files = files_of(rt.alloc(), &ALLOC_STORE_FREE)?;

@@ -74,3 +74,21 @@ pages-spill kind m pages trie within few =
 -- a count over the blocks that take in RAM is that of all broken blocks
 pub blocks-count : (size : ℕ) (m : List Perm) (blocks : ℕ) → 0 < size → length m ≤ blocks * size → count_below (blocks - 0) (λ i. is_broken size m (0 + i)) ≡ broken_blocks size m
 blocks-count size m blocks some within = count-first blocks (is_broken size m) ∙ sym (broken_blocks-count size m blocks some within)
+
+-- one thing of which some were counted
+one-below : (test : ℕ → Bool) → count_below 1 test ≡ bit (test 0)
+unfolding count_below
+one-below test = omega arith
+
+pub one-counted : (from n count : ℕ) (test : ℕ → Bool) → n ≡ from + 1 → count ≡ count_below (n - from) (λ i. test (from + i)) → 0 < count → test from ≡ true
+one-counted from n count test one is some = by (test from) refl
+  where
+    told : count ≡ bit (test from)
+    told =
+        let once : n - from ≡ 1 = omega arith in
+        let at : from + 0 ≡ from = omega arith in
+        is ∙ ap (λ k. count_below k (λ i. test (from + i))) once ∙ one-below (λ i. test (from + i)) ∙ ap (λ k. bit (test k)) at
+
+    by : (b : Bool) → test from ≡ b → test from ≡ true
+    by true e = e
+    by false e = absurd (let none : count ≡ 0 = told ∙ ap bit e in omega arith)

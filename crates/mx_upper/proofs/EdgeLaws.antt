@@ -23,16 +23,6 @@ broken-region m x y at broken = by (is_broken region_words m x) refl
 pub told-other : (x y : ℕ) → not (x == y) ≡ true → x ≢ y
 told-other x y told e = let no : false ≡ true = sym (ap not (eq-eqb x y e)) ∙ told in cc
 
--- the mid table that a root entry points to is taken
-pub mid-there : (upper : Frames) (root region entry r : ℕ) → IsPathTaken upper root (region * 1024) → r ≡ root → entry ≡ root_word upper r region → entry % 4 ≡ 0 →
-    IsTaken upper (entry / 4)
-mid-there upper root region entry r path at is pointer =
-    let place : region * 1024 / 1024 ≡ region = omega arith in
-    let e : entry ≡ root_word upper root (region * 1024 / 1024) = is ∙ ap (λ (n : ℕ). root_word upper n region) at ∙ ap (root_word upper root) (sym place) in
-    let has : has_mid upper root (region * 1024 / 1024) ≡ true = eq-eqb (root_word upper root (region * 1024 / 1024) % 4) 0 (ap (λ n. n % 4) (sym e) ∙ pointer) in
-    let T : ℕ → Type 0 = λ n. IsTaken upper (n / 4) in
-    subst T (sym e) (path.mid_taken has)
-
 -- a page in which two neighbours of one eighth differ
 pub edge-page : (m : List Perm) (at : ℕ) (before here : Span) → at % 128 ≢ 0 → IsRound m (at - 1) before → IsRound m at here →
     number here.perm ≢ number before.perm → is_broken page_words m (at / 1024) ≡ true

@@ -24,6 +24,7 @@ pub mod Vectors
 pub mod RowSpans
 pub mod LaidSpans
 pub mod TableSpans
+pub mod WideSpans
 pub mod BlockCounts
 -- frames and owners
 pub mod ForestLaws
@@ -57,6 +58,7 @@ pub mod RangeInRegion
 pub mod CanonicalLaws
 pub mod MapReaches
 pub mod DomainLaid
+pub mod KnownLaws
 pub mod ReachesWritten
 -- all domains
 pub mod StandingLaws

@@ -145,7 +145,7 @@ module _ (kind : Kind) (lefts rights : ℕ → ℕ) (upper leaf spill : Frames) 
       ap numbered (vector-digit 1024 128 m i (i / 128 % 8) (i % 128) (mid_word upper root (i / 1024)) refl v (omega arith) (omega arith) (omega arith))
       ∙ from_number-number (perm_at m i)
 
-  leaf-read : (i : ℕ) → i < 2 ^ 24 → has_mid upper root (i / 1048576) ≡ true → is_pointer (mid_word upper root (i / 1024)) ≡ true →
+  pub leaf-read : (i : ℕ) → i < 2 ^ 24 → has_mid upper root (i / 1048576) ≡ true → is_pointer (mid_word upper root (i / 1024)) ≡ true →
       leaf_perm kind spill (leaf_word upper leaf root (i / 16)) i ≡ perm_at m i
   leaf-read i below opened page =
       let z : i / 16 < most_lines = omega arith in

@@ -1,5 +1,5 @@
 //! What the maps need after a change, told without making it.
-ghost use Rattle.std.specs.Prelude.{◌≡◌, ℕ, ◌+◌, ◌-◌, ◌*◌, ◌/◌, ◌<◌, ◌≤◌, length};
+ghost use Rattle.std.specs.Prelude.{◌≡◌, ℕ, ◌+◌, ◌-◌, ◌*◌, ◌/◌, ◌<◌, ◌≤◌, true, length};
 ghost use Rattle.mx_words.specs.Changes.{changed_map};
 ghost use Rattle.mx_words.specs.Counting.{count_below, sum_below};
 ghost use Rattle.mx_words.specs.Runs.{page_words, region_words, broken_blocks};
@@ -102,6 +102,15 @@ fn lines_spilled<L: LeafForm>(
     count
 }
 
+/// Whether the pages `from` to `to - 1` are one page, and it is broken. So many of them are.
+fn is_one_broken(broken: u32, from: u32, to: u32) -> bool
+    requires { from ≤ to }
+    ensures some { result ≡ true → 0 < broken }
+    ensures one { result ≡ true → to ≡ from + 1 }
+{
+    broken > 0 && to - from == 1
+}
+
 /// What all maps need after a permission is laid over a range of one domain, where `need` is what they need before.
 fn need_laid<L: LeafForm>(
     upper: &Pool<1024>,
@@ -140,14 +149,13 @@ fn need_laid<L: LeafForm>(
     let regions = (lay.first / REGION_WORDS, last / REGION_WORDS + 1);
     let pages = (lay.first / PAGE_WORDS, last / PAGE_WORDS + 1);
     let lines = (lay.first / LINE_WORDS, last / LINE_WORDS + 1);
+    let broken = pages_broken_after(&new, lay.first, lay.end, pages.0, pages.1);
+    let odd = is_one_broken(broken, pages.0, pages.1);
     Need {
         upper: need.upper
-            + regions_broken_after(
-                upper, roots, lay.row, &new, lay.first, lay.end, regions.0, regions.1,
-            )
+            + regions_broken_after(&new, lay.first, lay.end, odd, regions.0, regions.1)
             - regions_opened(upper, roots, lay.row, regions.0, regions.1),
-        leaf: need.leaf + pages_broken_after(&new, lay.first, lay.end, pages.0, pages.1)
-            - pages_opened(upper, roots, lay.row, pages.0, pages.1),
+        leaf: need.leaf + broken - pages_opened(upper, roots, lay.row, pages.0, pages.1),
         spill: need.spill + lines_crowded::<L, ChangedView<TableView<L>>>(&new, lines.0, lines.1)
             - lines_spilled::<L>(upper, leaf, roots, lay.row, lines.0, lines.1),
     }

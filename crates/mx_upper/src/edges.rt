@@ -1,18 +1,14 @@
-//! Pages and regions after a change of a range: whether they are eighth-uniform is told at the range's edges first, then by the pages
-//! that have leaf tables, and only then by all words.
-ghost use Rattle.std.specs.Prelude.{◌≡◌, ℕ, ◌+◌, ◌-◌, ◌/◌, ◌<◌, ◌≤◌, true, not, length};
+//! Pages and regions after a change of a range: whether they are eighth-uniform is told at the range's edges first, and only then by all
+//! words.
+ghost use Rattle.std.specs.Prelude.{◌≡◌, ℕ, ◌+◌, ◌-◌, ◌/◌, ◌<◌, ◌≤◌, true, not};
 ghost use Rattle.mx_words.specs.Counting.{count_below};
 ghost use Rattle.mx_words.specs.Runs.{page_words, region_words};
 ghost use Rattle.mx_words.specs.Blocks.{is_broken};
 ghost use Rattle.mx_upper.specs.Walk.{most_regions, most_pages};
-ghost use Rattle.mx_upper.specs.Forest.{root_at, IsPathTaken};
 
-use crate::Roots;
-use crate::root_table::root_entry;
 use crate::scan::{is_page_even, is_region_even};
-use crate::sizes::{PAGE_EIGHTH, PAGE_WORDS, REGION_PAGES, REGION_WORDS};
+use crate::sizes::{PAGE_EIGHTH, PAGE_WORDS, REGION_WORDS};
 use crate::view::View;
-use mx_pool::Pool;
 use mx_words::MOST_WORDS;
 
 /// Whether a word has another permission than the word before it, which lies in the same eighth of a page.
@@ -43,51 +39,17 @@ pub(crate) fn is_page_even_after<V: View>(view: &V, first: u32, end: u32, page: 
     is_page_even(view, page)
 }
 
-/// Whether a page of a region has a leaf table in a domain's tables and isn't eighth-uniform by the map. The page of the word `first`
-/// is the first that is looked at.
-fn has_broken_page<V: View>(
-    upper: &Pool<1024>,
-    roots: &Roots,
-    row: u32,
-    view: &V,
-    first: u32,
-    end: u32,
-    region: u32,
-) -> bool
-    requires taken { (y : ℕ) → y < most_pages → IsPathTaken upper.now (root_at roots.now row) y }
-    requires row { row < length roots.now }
-    requires lawful { V.lawful view.now }
-    requires region { region < most_regions }
-    ensures { result ≡ true → is_broken region_words (V.map view.now) region ≡ true }
-{
-    let in_root = root_entry(upper, roots.at(row), region);
-    if in_root % 4 != 0 {
-        return false;
-    }
-    for step in 0..REGION_PAGES {
-        let place = (first / PAGE_WORDS + step) % REGION_PAGES;
-        let page = region * REGION_PAGES + place;
-        if upper.get(in_root / 4, place) % 4 == 0 && !is_page_even_after(view, first, end, page) {
-            return true;
-        }
-    }
-    false
-}
-
-/// Whether a region is eighth-uniform by a map that has changed on the words `first` to `end - 1`. All its words are looked at only
-/// where the range's edges don't tell, and no page that has a leaf table in the domain's tables.
+/// Whether a region is eighth-uniform by a map that has changed on the words `first` to `end - 1`. `odd` says that the page of the word
+/// `first` is known not to be eighth-uniform. All words are looked at only where neither that nor the range's edges tell.
 pub(crate) fn is_region_even_after<V: View>(
-    upper: &Pool<1024>,
-    roots: &Roots,
-    row: u32,
     view: &V,
     first: u32,
     end: u32,
+    odd: bool,
     region: u32,
 ) -> bool
-    requires taken { (y : ℕ) → y < most_pages → IsPathTaken upper.now (root_at roots.now row) y }
-    requires row { row < length roots.now }
     requires lawful { V.lawful view.now }
+    requires odd { odd ≡ true → is_broken page_words (V.map view.now) (first / 1024) ≡ true }
     requires region { region < most_regions }
     ensures { result ≡ not (is_broken region_words (V.map view.now) region) }
 {
@@ -97,26 +59,24 @@ pub(crate) fn is_region_even_after<V: View>(
     if end / REGION_WORDS == region && is_edge(view, end) {
         return false;
     }
-    if has_broken_page(upper, roots, row, view, first, end, region) {
+    if odd && first / REGION_WORDS == region {
         return false;
     }
     is_region_even(view, region)
 }
 
-/// How many of the regions `from` to `to - 1` aren't eighth-uniform by a map that has changed on the words `first` to `end - 1`.
+/// How many of the regions `from` to `to - 1` aren't eighth-uniform by a map that has changed on the words `first` to `end - 1`. `odd` says
+/// that the page of the word `first` is known not to be eighth-uniform.
 pub(crate) fn regions_broken_after<V: View>(
-    upper: &Pool<1024>,
-    roots: &Roots,
-    row: u32,
     view: &V,
     first: u32,
     end: u32,
+    odd: bool,
     from: u32,
     to: u32,
 ) -> u32
-    requires taken { (y : ℕ) → y < most_pages → IsPathTaken upper.now (root_at roots.now row) y }
-    requires row { row < length roots.now }
     requires lawful { V.lawful view.now }
+    requires odd { odd ≡ true → is_broken page_words (V.map view.now) (first / 1024) ≡ true }
     requires from { from ≤ to }
     requires to { to ≤ most_regions }
     ensures count { result ≡ count_below (to - from) (λ i. is_broken region_words (V.map view.now) (from + i)) }
@@ -124,7 +84,7 @@ pub(crate) fn regions_broken_after<V: View>(
 {
     let mut count = 0;
     for region in from..to {
-        count += u32::from(!is_region_even_after(upper, roots, row, view, first, end, region));
+        count += u32::from(!is_region_even_after(view, first, end, odd, region));
     }
     count
 }

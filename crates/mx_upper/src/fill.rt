@@ -19,9 +19,9 @@ pub(crate) fn fill_page<L: LeafForm>(leaf: &mut Pool<64>, frame: u32, entry: u32
     ensures free { free_in leaf.new ≡ free_in leaf.old }
     ensures total { length leaf.new ≡ length leaf.old }
 {
-    for line in 0..64u32 {
-        let perm = perm_in(entry / 4, line / 8);
-        leaf.set(frame, line, L::entry(&[perm; 16], 0, 0, 0));
+    for part in 0..8u32 {
+        let perm = perm_in(entry / 4, part);
+        leaf.fill(frame, 8 * part, 8, L::flat(perm, 0, 0));
     }
 }
 
@@ -43,7 +43,8 @@ pub(crate) fn fill_region(upper: &mut Pool<1024>, frame: u32, entry: u32)
     ensures free { free_in upper.new ≡ free_in upper.old }
     ensures total { length upper.new ≡ length upper.old }
 {
-    for page in 0..1024u32 {
-        upper.set(frame, page, flat(perm_in(entry / 4, page / 128).number()));
+    for part in 0..8u32 {
+        let vector = flat(perm_in(entry / 4, part).number());
+        upper.fill(frame, 128 * part, 128, vector);
     }
 }

@@ -12,9 +12,10 @@ ghost use Rattle.mx_upper.specs.Laying.{part_first, part_end, with_range, ArePag
 use crate::close::{free_leaf_table, free_mid_table};
 use crate::edges::{is_page_even_after, is_region_even_after};
 use crate::line::{lay_over, set_line};
+use crate::reach::has_table;
 use crate::root_table::root_entry;
 use crate::scan::{line_perms, page_vector, region_vector};
-use crate::sizes::{LINE_WORDS, PAGE_LINES, REGION_LINES, REGION_PAGES};
+use crate::sizes::{LINE_WORDS, PAGE_LINES, PAGE_WORDS, REGION_LINES, REGION_PAGES};
 use crate::table_view::map_of;
 use crate::{LeafForm, Roots};
 use mx_pool::Pool;
@@ -95,7 +96,8 @@ pub(crate) fn close_page<L: LeafForm>(
     }
 }
 
-/// Takes the mid table of a region away where the region is eighth-uniform. Just its broken pages have leaf tables.
+/// Takes the mid table of a region away where the region is eighth-uniform. Just its broken pages have leaf tables, so where the
+/// range's first page has one, the region isn't.
 pub(crate) fn close_region<L: LeafForm>(
     upper: &mut Pool<1024>,
     leaf: &Pool<64>,
@@ -117,8 +119,12 @@ pub(crate) fn close_region<L: LeafForm>(
     ensures lines { (e z : ℕ) → e < length roots.now → z < most_lines → has_leaf upper.old (root_at roots.now e) (z / 64) ≡ true → IsLineKept L.kind upper.old leaf.now spill.now upper.new leaf.now spill.now (root_at roots.now e) z }
     ensures total { length upper.new ≡ length upper.old }
 {
+    let page = lay.first / PAGE_WORDS;
+    if page / REGION_PAGES == region && has_table(upper, roots.at(lay.row), page) {
+        return;
+    }
     let map = map_of::<L>(upper, leaf, spill, roots, lay);
-    if is_region_even_after(upper, roots, lay.row, &map, lay.first, lay.end, region) {
+    if is_region_even_after(&map, lay.first, lay.end, false, region) {
         let vector = region_vector(&map, region);
         free_mid_table(upper, roots.at(lay.row), region, vector);
     }

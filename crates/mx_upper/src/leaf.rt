@@ -3,6 +3,7 @@ ghost use Rattle.std.specs.Prelude.{◌≡◌, ℕ, ◌+◌, ◌-◌, ◌*◌, �
 ghost use Rattle.mx_words.specs.declared.perm.Perm.{Perm};
 ghost use Rattle.mx_words.specs.declared.tables.Kind.{Kind};
 ghost use Rattle.mx_words.specs.Runs.{line_words};
+ghost use Rattle.mx_upper.specs.Filled.{flat_line};
 ghost use Rattle.mx_upper.specs.Leaf.{IsTrieKind, form_reach, needs_spill, leaf_entry, spill_number, named_spill, entry_run, IsStored, IsEntry};
 
 use mx_words::{Perm, Span};
@@ -29,6 +30,12 @@ pub trait LeafForm {
         requires right { right ≤ REACH }
         requires spill { spill < 2 ^ 30 }
         ensures { result ≡ leaf_entry kind perms.now left right spill };
+
+    /// The entry of a line of which all words have one permission, both reaches at most `REACH`. It names no spill word.
+    fn flat(perm: Perm, left: u32, right: u32) -> u32
+        requires left { left ≤ REACH }
+        requires right { right ≤ REACH }
+        ensures { (spill : ℕ) → result ≡ leaf_entry kind (flat_line perm) left right spill };
 
     /// The number of the spill word that an entry names. `None` exactly where it names none.
     fn spill_of(entry: u32) -> Option<u32>

@@ -9,6 +9,7 @@ mod close;
 mod counts;
 mod edges;
 mod fill;
+mod known;
 mod lay;
 mod leaf;
 mod line;

@@ -1,50 +1,23 @@
 //! The reaches of entries, written anew after a permission was laid over a range.
 ghost use Rattle.std.specs.Prelude.{◌≡◌, ◌≢◌, ℕ, ◌+◌, ◌-◌, ◌*◌, ◌/◌, ◌<◌, ◌≤◌, ◌⊎◌, true, false, length};
-ghost use Rattle.mx_table.specs.Tables.{most_words};
 ghost use Rattle.mx_upper.specs.Walk.{most_pages, most_lines, leaf_word, has_leaf, map_left, map_right, IsLine};
+ghost use Rattle.mx_upper.specs.Views.{IsOne};
 ghost use Rattle.mx_upper.specs.Forest.{root_at, map_at, IsTables, IsLineKept, IsPathTaken};
 ghost use Rattle.mx_upper.specs.Laying.{IsCanonical, IsDomainLaid, map_in, IsRoomyIn};
 
+use crate::known::{further, reached_entry};
 use crate::lay::Laying;
 use crate::range::lay_range;
 use crate::root_table::root_entry;
-use crate::scan::{has_perm, left_of, line_perms, right_of};
+use crate::scan::has_perm;
 use crate::sizes::{LINE_WORDS, MOST_LINES, PAGE_LINES, PAGE_WORDS, REGION_LINES, REGION_PAGES};
 use crate::table_view::map_of;
-use crate::view::View;
 use crate::{LeafForm, Roots};
 use mx_pool::Pool;
+use mx_words::{Perm, Span};
 
-/// The left reach of a line's entry by a map of `words` words of RAM. A line outside RAM has none.
-fn left_in<L: LeafForm, V: View>(view: &V, words: u32, line: u32) -> u32
-    requires lawful { V.lawful view.now }
-    requires line { line < most_lines }
-    requires words { words ≡ length (V.map view.now) }
-    ensures { result ≡ map_left L.kind (V.map view.now) line }
-{
-    if line * LINE_WORDS < words {
-        left_of(view, line).min(L::REACH)
-    } else {
-        0
-    }
-}
-
-/// The right reach of a line's entry by a map of `words` words of RAM. A line outside RAM has none.
-fn right_in<L: LeafForm, V: View>(view: &V, words: u32, line: u32) -> u32
-    requires lawful { V.lawful view.now }
-    requires line { line < most_lines }
-    requires words { words ≡ length (V.map view.now) }
-    requires few { words ≤ most_words }
-    ensures { result ≡ map_right L.kind (V.map view.now) line }
-{
-    if line * LINE_WORDS < words {
-        right_of(view, words, line).min(L::REACH)
-    } else {
-        0
-    }
-}
-
-/// Writes the entry of a line, whose page has a leaf table, with the reaches of the map.
+/// Writes the entry of a line, whose page has a leaf table, with the reaches of the map, of which a span with one permission is
+/// known. Answers the span that is known then.
 fn write_reaches<L: LeafForm>(
     upper: &Pool<1024>,
     leaf: &mut Pool<64>,
@@ -52,11 +25,14 @@ fn write_reaches<L: LeafForm>(
     roots: &Roots,
     lay: &Laying,
     line: u32,
-)
+    known: Span,
+) -> Span
     requires tables { IsTables L.kind lay.now.words upper.now leaf.old spill.now roots.now }
     requires row { lay.now.row < length roots.now }
     requires line { line < most_lines }
     requires leafed { has_leaf upper.now (root_at roots.now lay.now.row) (line / 64) ≡ true }
+    requires known { IsOne (map_in L.kind upper.now leaf.old spill.now roots.now lay.now) known }
+    ensures known { IsOne (map_in L.kind upper.now leaf.old spill.now roots.now lay.now) result }
     ensures tables { IsTables L.kind lay.now.words upper.now leaf.new spill.now roots.now }
     ensures maps { (e : ℕ) → e < length roots.now → map_at L.kind lay.now.words upper.now leaf.new spill.now roots.now e ≡ map_at L.kind lay.now.words upper.now leaf.old spill.now roots.now e }
     ensures here { let m = map_in L.kind upper.now leaf.old spill.now roots.now lay.now in IsLine L.kind spill.now m line (map_left L.kind m line) (map_right L.kind m line) (leaf_word upper.now leaf.new (root_at roots.now lay.now.row) line) }
@@ -67,14 +43,10 @@ fn write_reaches<L: LeafForm>(
     let frame = upper.get(mid, line / PAGE_LINES % REGION_PAGES) / 4;
     let number = L::spill_of(leaf.get(frame, line % PAGE_LINES)).unwrap_or(0);
     let map = map_of::<L>(upper, leaf, spill, roots, lay);
-    let perms = line_perms(&map, line);
-    let left = left_in::<L, _>(&map, lay.words, line);
-    let right = right_in::<L, _>(&map, lay.words, line);
-    leaf.set(
-        frame,
-        line % PAGE_LINES,
-        L::entry(&perms, left, right, number),
-    );
+    let wider = further(&map, line, known);
+    let entry = reached_entry::<L, _>(&map, lay.words, line, wider, number);
+    leaf.set(frame, line % PAGE_LINES, entry);
+    wider
 }
 
 /// Whether a page of a domain has a leaf table.
@@ -106,9 +78,14 @@ fn reach_lines<L: LeafForm>(
     ensures lines { (e z : ℕ) → e < length roots.now → z < most_lines → (e ≢ lay.now.row) ⊎ ((z < from) ⊎ (to ≤ z)) → has_leaf upper.now (root_at roots.now e) (z / 64) ≡ true → IsLineKept L.kind upper.now leaf.old spill.now upper.now leaf.new spill.now (root_at roots.now e) z }
     ensures total { length leaf.new ≡ length leaf.old }
 {
+    let mut known = Span {
+        first: 0,
+        count: 0,
+        perm: Perm::None,
+    };
     for line in from..to {
         if has_table(upper, roots.at(lay.row), line / PAGE_LINES) {
-            write_reaches::<L>(upper, leaf, spill, roots, lay, line);
+            known = write_reaches::<L>(upper, leaf, spill, roots, lay, line, known);
         }
     }
 }

@@ -70,4 +70,8 @@ impl View for RowView<'_> {
             }
         }
     }
+
+    fn around_far(&self, word: u32) -> Span {
+        self.around(word)
+    }
 }

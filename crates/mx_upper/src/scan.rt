@@ -1,18 +1,19 @@
 //! What is asked of a map that is read span by span.
-ghost use Rattle.std.specs.Prelude.{◌≡◌, ℕ, ◌+◌, ◌*◌, ◌<◌, ◌≤◌, true, not, length};
+ghost use Rattle.std.specs.Prelude.{◌≡◌, ℕ, ◌+◌, ◌-◌, ◌*◌, ◌<◌, ◌≤◌, true, not, length};
 ghost use Rattle.mx_words.specs.Rights.{perm_at};
 ghost use Rattle.mx_words.specs.Runs.{line_words, page_words, region_words};
 ghost use Rattle.mx_words.specs.Reach.{vector, line_at, left_reach, right_reach};
 ghost use Rattle.mx_words.specs.Blocks.{is_broken, IsUniform, IsEven};
 ghost use Rattle.mx_table.specs.Tables.{most_words};
+ghost use Rattle.mx_upper.specs.Views.{IsRound};
 ghost use Rattle.mx_upper.specs.Walk.{most_regions, most_pages, most_lines};
 
 use crate::sizes::{LINE_WORDS, PAGE_EIGHTH, PAGE_WORDS, REGION_EIGHTH, REGION_WORDS};
 use crate::view::View;
-use mx_words::Perm;
+use mx_words::{Perm, Span};
 
 /// The greatest reach of an entry.
-const MOST_REACH: u32 = 31;
+pub(crate) const MOST_REACH: u32 = 31;
 
 /// Whether `count` words from `first` on have one permission.
 fn is_uniform<V: View>(view: &V, first: u32, count: u32) -> bool
@@ -22,7 +23,7 @@ fn is_uniform<V: View>(view: &V, first: u32, count: u32) -> bool
     ensures yes { result ≡ true → IsUniform (V.map view.now) first count }
     ensures no { IsUniform (V.map view.now) first count → result ≡ true }
 {
-    let span = view.around(first);
+    let span = view.around_far(first);
     let mut at = span.first + span.count;
     while at < first + count {
         let next = view.around(at);
@@ -138,14 +139,15 @@ pub(crate) fn line_perms<V: View>(view: &V, line: u32) -> [Perm; 16]
 }
 
 /// How many words right before a line of RAM have the permission of its first word, at most 31.
-pub(crate) fn left_of<V: View>(view: &V, line: u32) -> u32
+/// `span` is round that word.
+pub(crate) fn left_of<V: View>(view: &V, line: u32, span: Span) -> u32
     requires lawful { V.lawful view.now }
     requires line { line < most_lines }
     requires inside { line * line_words < length (V.map view.now) }
+    requires span { IsRound (V.map view.now) (line * line_words) span }
     ensures { result ≡ left_reach (V.map view.now) (line * line_words) }
 {
     let first = line * LINE_WORDS;
-    let span = view.around(first);
     let mut begin = span.first;
     while 0 < begin && first - begin < MOST_REACH {
         let before = view.around(begin - 1);
@@ -158,15 +160,16 @@ pub(crate) fn left_of<V: View>(view: &V, line: u32) -> u32
 }
 
 /// How many words of RAM right behind a line have the permission of its last word, at most 31. RAM has `words` words.
-pub(crate) fn right_of<V: View>(view: &V, words: u32, line: u32) -> u32
+/// `span` is round that word.
+pub(crate) fn right_of<V: View>(view: &V, words: u32, line: u32, span: Span) -> u32
     requires lawful { V.lawful view.now }
     requires line { line < most_lines }
     requires words { words ≡ length (V.map view.now) }
     requires few { words ≤ most_words }
+    requires span { IsRound (V.map view.now) (line * line_words + line_words - 1) span }
     ensures { result ≡ right_reach (V.map view.now) (line * line_words) }
 {
     let behind = line * LINE_WORDS + LINE_WORDS;
-    let span = view.around(behind - 1);
     let mut end = span.first + span.count;
     while end < words && end - behind < MOST_REACH {
         let next = view.around(end);

@@ -2,12 +2,14 @@
 ghost use Rattle.std.specs.Prelude.{◌≡◌, ℕ, ◌+◌, ◌*◌, ◌/◌, ◌%◌, ◌<◌, ◌≤◌, min, max, ◌⊎◌, List, length};
 ghost use Rattle.mx_words.specs.declared.perm.Perm.{Perm};
 ghost use Rattle.mx_words.specs.Rights.{number};
+ghost use Rattle.mx_words.specs.Runs.{line_words, page_words};
+ghost use Rattle.mx_pool.specs.Frames.{IsTaken};
 ghost use Rattle.mx_table.specs.Tables.{most_words};
 ghost use Rattle.mx_upper.specs.Digits.{digit};
 ghost use Rattle.mx_upper.specs.Walk.{IsLine};
 ghost use Rattle.mx_upper.specs.Forest.{IsLoose, IsTables};
 ghost use Rattle.mx_upper.specs.Read.{read_map};
-ghost use Rattle.mx_upper.specs.Views.{IsRound, IsSomeLine};
+ghost use Rattle.mx_upper.specs.Views.{IsRound, IsSomeLine, IsWide};
 ghost use Rattle.mx_upper.specs.Laying.{map_in};
 
 use crate::lay::Laying;
@@ -48,6 +50,72 @@ fn around_in<L: LeafForm>(
         leaf.get(in_mid / 4, word / LINE_WORDS % PAGE_LINES),
         word,
     )
+}
+
+/// As `around_in`; where a whole eighth of the word's region or page has one entry, that eighth.
+fn far_in<L: LeafForm>(
+    upper: &Pool<1024>,
+    leaf: &Pool<64>,
+    spill: &Pool<1>,
+    root: u32,
+    word: u32,
+) -> Span
+    requires shown { (m : List Perm) × IsLoose L.kind upper.now leaf.now spill.now root m }
+    requires word { word < most_words }
+    ensures { (m : List Perm) → IsLoose L.kind upper.now leaf.now spill.now root m → IsRound m word result }
+{
+    let near = around_in::<L>(upper, leaf, spill, root, word);
+    let in_root = root_entry(upper, root, word / REGION_WORDS);
+    if in_root % 4 != 0 {
+        return near;
+    }
+    let in_mid = upper.get(in_root / 4, word / PAGE_WORDS % REGION_PAGES);
+    if in_mid % 4 != 0 {
+        return wide_pages(upper, in_root / 4, near, word);
+    }
+    wide_lines(leaf, in_mid / 4, near, word)
+}
+
+/// The eighth of a region where a span holds the word's page, and all the eighth's pages have one entry; else the span.
+fn wide_pages(upper: &Pool<1024>, mid: u32, near: Span, word: u32) -> Span
+    requires taken { IsTaken upper.now mid }
+    requires whole { near.first + near.count ≤ most_words }
+    requires word { word < most_words }
+    ensures { (result ≡ near) ⊎ IsWide upper.now mid 128 page_words word near result }
+{
+    let page = word / PAGE_WORDS * PAGE_WORDS;
+    if page < near.first || near.first + near.count < page + PAGE_WORDS {
+        return near;
+    }
+    if !upper.is_alike(mid, word / REGION_EIGHTH % 8 * 128, 128) {
+        return near;
+    }
+    Span {
+        first: word / REGION_EIGHTH * REGION_EIGHTH,
+        count: REGION_EIGHTH,
+        perm: near.perm,
+    }
+}
+
+/// The eighth of a page where a span holds the word's line, and all the eighth's lines have one entry; else the span.
+fn wide_lines(leaf: &Pool<64>, frame: u32, near: Span, word: u32) -> Span
+    requires taken { IsTaken leaf.now frame }
+    requires whole { near.first + near.count ≤ most_words }
+    requires word { word < most_words }
+    ensures { (result ≡ near) ⊎ IsWide leaf.now frame 8 line_words word near result }
+{
+    let line = word / LINE_WORDS * LINE_WORDS;
+    if line < near.first || near.first + near.count < line + LINE_WORDS {
+        return near;
+    }
+    if !leaf.is_alike(frame, word / PAGE_EIGHTH % 8 * 8, 8) {
+        return near;
+    }
+    Span {
+        first: word / PAGE_EIGHTH * PAGE_EIGHTH,
+        count: PAGE_EIGHTH,
+        perm: near.perm,
+    }
 }
 
 /// How many words, aligned in blocks of their number, have one permission by a vector of parts of `part` words: those of a part, or
@@ -156,5 +224,9 @@ impl<L: LeafForm> View for TableView<'_, L> {
 
     fn around(&self, word: u32) -> Span {
         around_in::<L>(self.upper, self.leaf, self.spill, self.root, word)
+    }
+
+    fn around_far(&self, word: u32) -> Span {
+        far_in::<L>(self.upper, self.leaf, self.spill, self.root, word)
     }
 }

@@ -94,6 +94,10 @@ impl LeafForm for Vector {
         pack_line(perms)
     }
 
+    fn flat(perm: Perm, _left: u32, _right: u32) -> u32 {
+        0x5555_5555 * perm.number()
+    }
+
     fn spill_of(_entry: u32) -> Option<u32> {
         None
     }

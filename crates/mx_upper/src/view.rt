@@ -19,4 +19,10 @@ pub(crate) trait View {
         requires lawful { lawful self.now }
         requires word { word < most_words }
         ensures { IsRound (map self.now) word result };
+
+    /// As `around`. It may take longer, and looks for a longer span.
+    fn around_far(&self, word: u32) -> Span
+        requires lawful { lawful self.now }
+        requires word { word < most_words }
+        ensures { IsRound (map self.now) word result };
 }

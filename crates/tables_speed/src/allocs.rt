@@ -81,8 +81,8 @@ fn hand(range: Range, domains: u32, perm: Perm) -> Change
     }
 }
 
-/// How many of so many allocs of a range would fit. None is made.
-pub fn fits<T: PermTables>(tables: &T, range: Range, domains: u32, rounds: u64) -> u64
+/// How many of so many changes that give domain 1 a permission on a range, and the others none, would fit. None is made.
+pub fn fits<T: PermTables>(tables: &T, range: Range, domains: u32, perm: Perm, rounds: u64) -> u64
     requires some { 1 ≤ domains }
     requires few { domains ≤ most_modules }
     requires domains { length (T.maps tables.now) ≡ domains }
@@ -93,7 +93,7 @@ pub fn fits<T: PermTables>(tables: &T, range: Range, domains: u32, rounds: u64) 
 {
     let mut fit = 0;
     for _ in 0..rounds {
-        if tables.fits(&hand(range, domains, Perm::ReadWrite)) {
+        if tables.fits(&hand(range, domains, perm)) {
             fit += 1;
         }
     }

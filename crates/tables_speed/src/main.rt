@@ -2,10 +2,11 @@
 //! calls answered, which is the same for each kind, and to stderr the processor time that so many calls of each took.
 #![tactic(auto)]
 
-ghost use Rattle.std.specs.Prelude.{◌≡◌, ◌+◌, ◌/◌, ◌<◌, ◌≤◌, ◌^◌, length};
+ghost use Rattle.std.specs.Prelude.{◌≡◌, ◌+◌, ◌*◌, ◌/◌, ◌<◌, ◌≤◌, ◌^◌, length};
 
 mod allocs;
 mod calls;
+mod places;
 mod sample;
 
 use calls::Range;
@@ -13,7 +14,7 @@ use mx_packed::Packed;
 use mx_segments::Segments;
 use mx_table::PermTables;
 use mx_upper::{Trie, Vector};
-use mx_words::Kind;
+use mx_words::{Kind, Perm};
 use std::alloc::Global;
 use std::time::{CpuClock, Duration};
 use std::{env, io};
@@ -54,7 +55,96 @@ fn time_kind<T: PermTables + Drop>(
     for domains in [1, 15, 63] {
         time_domains::<T>(rt, alloc, domains, rounds)?;
     }
-    Ok(())
+    time_places::<T>(rt, alloc, 64, 16_384, rounds)?;
+    time_places::<T>(rt, alloc, 256, 4_096, rounds)
+}
+
+/// Times changes of one word in a region full of so many spans, one in each `step` words: at its start, in its middle and at its end,
+/// each time in the middle of the words behind a span.
+fn time_places<T: PermTables + Drop>(
+    rt: &(impl Print + Eprint + CpuClock),
+    alloc: Global,
+    step: u32,
+    spans: u32,
+    rounds: u64,
+) -> io::Result<()>
+    requires some { 4 ≤ step }
+    requires small { step ≤ 1024 }
+    requires few { step * spans ≤ 1048576 }
+{
+    let Some(mut tables) = places::tables::<T>(alloc, 1 << 24, step, spans) else {
+        return eprintln!(rt; "no memory");
+    };
+    let between = step / 2 + step / 4;
+    let last = places::REGION_WORDS - step;
+    time_place(rt, &mut tables, "start", between, step, rounds)?;
+    time_place(
+        rt,
+        &mut tables,
+        "middle",
+        places::REGION_WORDS / 2 + between,
+        step,
+        rounds,
+    )?;
+    time_place(rt, &mut tables, "end", last + between, step, rounds)
+}
+
+/// Changes of the word `at` of the region: `fits` alone where it gets a right, `fits` with `apply` where it gets it and loses it in turn,
+/// and `fits` alone where it loses it.
+fn time_place<T: PermTables>(
+    rt: &(impl Print + Eprint + CpuClock),
+    tables: &mut T,
+    place: &str,
+    at: u32,
+    step: u32,
+    rounds: u64,
+) -> io::Result<()>
+    requires inside { at < 1048576 }
+    requires one { length (T.maps tables.old) ≡ 1 }
+    requires size { T.size tables.old ≡ 16777216 }
+    ensures one { length (T.maps tables.new) ≡ 1 }
+    ensures size { T.size tables.new ≡ 16777216 }
+{
+    let range = Range {
+        first: places::REGION + at,
+        count: 1,
+    };
+    let begun = rt.thread_cpu_time()?;
+    let fit = allocs::fits(tables, range, 1, Perm::ReadWrite, rounds);
+    let between = rt.thread_cpu_time()?;
+    let made = allocs::changes(tables, range, 1, rounds);
+    let ended = rt.thread_cpu_time()?;
+    println!(rt;
+        "a word at the {place} of a region, spans each {step} words: {fit} fit, {made} made"
+    )?;
+    tell_alloc(rt, "place-fits", place, step, 1, rounds, begun, between)?;
+    tell_alloc(rt, "place-apply", place, step, 1, rounds, between, ended)?;
+    time_loss(rt, tables, place, range, step, rounds)
+}
+
+/// `fits` alone of changes by which a range of the region loses its right. It gets it before and loses it afterwards.
+fn time_loss<T: PermTables>(
+    rt: &(impl Print + Eprint + CpuClock),
+    tables: &mut T,
+    place: &str,
+    range: Range,
+    step: u32,
+    rounds: u64,
+) -> io::Result<()>
+    requires words { 0 < range.count }
+    requires inside { range.first + range.count ≤ 16777216 }
+    requires one { length (T.maps tables.old) ≡ 1 }
+    requires size { T.size tables.old ≡ 16777216 }
+    ensures one { length (T.maps tables.new) ≡ 1 }
+    ensures size { T.size tables.new ≡ 16777216 }
+{
+    let given = allocs::changes(tables, range, 1, 1);
+    let begun = rt.thread_cpu_time()?;
+    let fit = allocs::fits(tables, range, 1, Perm::None, rounds);
+    let ended = rt.thread_cpu_time()?;
+    let taken = allocs::changes(tables, range, 1, 2);
+    println!(rt; "and without its right: {fit} fit, {} made", given + taken)?;
+    tell_alloc(rt, "place-loss", place, step, 1, rounds, begun, ended)
 }
 
 /// Times allocs of 16 words, 1 MiB and 64 MiB over tables of so many domains, each at a usual place and at a worst one: for 16 words the
@@ -131,7 +221,7 @@ fn time_allocs<T: PermTables>(
     let count = range.count;
     let rounds = (rounds / u64::from(count / 16)).max(2);
     let begun = rt.thread_cpu_time()?;
-    let fit = allocs::fits(tables, range, domains, rounds);
+    let fit = allocs::fits(tables, range, domains, Perm::ReadWrite, rounds);
     let between = rt.thread_cpu_time()?;
     let made = allocs::changes(tables, range, domains, rounds);
     let ended = rt.thread_cpu_time()?;

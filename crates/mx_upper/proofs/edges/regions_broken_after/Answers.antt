@@ -1,5 +1,6 @@
-use Rattle.std.proofs.Common.{◌+◌, not, ap, ◌∙◌, arith}
+use Rattle.std.proofs.Common.{◌≡◌, ℕ, ◌+◌, ◌-◌, not, ap, ◌∙◌, arith}
 use Rattle.std.proofs.Math.Bool.{not-not}
+use Rattle.mx_words.specs.Counting.{count_below}
 use Rattle.mx_words.specs.Runs.{region_words}
 use Rattle.mx_words.specs.Blocks.{is_broken}
 use Rattle.mx_words.proofs.CountingLaws.{bit-le}
@@ -21,3 +22,8 @@ loop-region-preserved g c =
       count_is = ap (λ n. c.loop-region.count + n) (c.from-count.ensures ∙ told) ∙ more;
       most = omega (arith, c.loop-region.invariant.most, c.from-count.ensures, told, bit-le (not c.is_region_even_after.result));
     }
+
+pub returns-clause-count : goal.returns-clause-count
+returns-clause-count g c =
+    let last : c.loop-region.region ≡ c.args.to = omega arith in
+    c.loop-region.invariant.count_is ∙ ap (λ (n : ℕ). count_below (n - c.args.from) (λ i. is_broken region_words (g.V.View.map c.args.view.now) (c.args.from + i))) last

@@ -5,8 +5,8 @@ use Rattle.mx_upper.proofs.scan.left_of.Goals.{then-loop-begin-test+else-first-b
 
 pub loop-begin-init : goal.loop-begin-init
 loop-begin-init g c = record {
-  before = c.around-span.ensures.from;
-  alike = alike-to (g.V.View.map c.args.view.now) (c.args.line * 16) c.around-span.result c.around-span.ensures;
+  before = c.requires.span.from;
+  alike = alike-to (g.V.View.map c.args.view.now) (c.args.line * 16) c.args.span c.requires.span;
 }
 
 pub overflow_sub-first : goal.overflow_sub-first
@@ -20,8 +20,8 @@ overflow_sub-result g c = c.loop-begin.invariant.before
 
 pub returns-then-number : goal.returns-then-number
 returns-then-number g c =
-    left-ended (g.V.View.map c.args.view.now) (c.args.line * 16) c.loop-begin.begin c.around-span.result.perm c.loop-begin.invariant.before c.requires.inside
-    (round-perm (g.V.View.map c.args.view.now) (c.args.line * 16) c.around-span.result c.around-span.ensures) c.loop-begin.invariant.alike
+    left-ended (g.V.View.map c.args.view.now) (c.args.line * 16) c.loop-begin.begin c.args.span.perm c.loop-begin.invariant.before c.requires.inside
+    (round-perm (g.V.View.map c.args.view.now) (c.args.line * 16) c.args.span c.requires.span) c.loop-begin.invariant.alike
     c.around-before.result c.loop-begin-test.true c.if-first-begin-lt-MOST_REACH.true c.around-before.ensures
     (λ e. c.if-number.true (c.number.ensures ∙ omega (arith, e, c.number-in-loop-begin.ensures)))
 
@@ -31,14 +31,14 @@ loop-begin-smaller g c = let h = c.around-before.ensures.from in omega (arith, h
 pub loop-begin-preserved : goal.loop-begin-preserved
 loop-begin-preserved g c = record {
   before = (let h = c.around-before.ensures.from in omega (arith, h, c.loop-begin.invariant.before));
-  alike = alike-back (g.V.View.map c.args.view.now) c.loop-begin.begin (c.args.line * 16) c.around-span.result.perm c.around-before.result c.loop-begin-test.true
+  alike = alike-back (g.V.View.map c.args.view.now) c.loop-begin.begin (c.args.line * 16) c.args.span.perm c.around-before.result c.loop-begin-test.true
       c.loop-begin.invariant.alike c.around-before.ensures (omega (arith, c.number.ensures, c.number-in-loop-begin.ensures, c.if-number.false));
 }
 
 pub returns : goal.returns
 returns g c =
-    let far = left-far (g.V.View.map c.args.view.now) (c.args.line * 16) c.loop-begin.begin c.around-span.result.perm c.loop-begin.invariant.before c.requires.inside
-    (round-perm (g.V.View.map c.args.view.now) (c.args.line * 16) c.around-span.result c.around-span.ensures) c.loop-begin.invariant.alike in
+    let far = left-far (g.V.View.map c.args.view.now) (c.args.line * 16) c.loop-begin.begin c.args.span.perm c.loop-begin.invariant.before c.requires.inside
+    (round-perm (g.V.View.map c.args.view.now) (c.args.line * 16) c.args.span c.requires.span) c.loop-begin.invariant.alike in
     let why : (c.loop-begin.begin ≡ 0) ⊎ (31 ≤ c.args.line * 16 - c.loop-begin.begin) =
     elim c.loop-begin-test.branch [
       | then-loop-begin-test+else-first-begin-lt-MOST_REACH w ↦ inr w.if-first-begin-lt-MOST_REACH.false

@@ -5,9 +5,9 @@ use Rattle.mx_upper.proofs.scan.right_of.Goals.{then-loop-end-test+else-end-behi
 
 pub loop-end-init : goal.loop-end-init
 loop-end-init g c = record {
-  behind = (let h = c.around-span.ensures.to in omega arith);
-  whole = c.around-span.ensures.whole;
-  alike = alike-behind (g.V.View.map c.args.view.now) (c.args.line * 16 + 16 - 1) (c.args.line * 16 + 16) c.around-span.result (omega arith) c.around-span.ensures;
+  behind = (let h = c.requires.span.to in omega arith);
+  whole = c.requires.span.whole;
+  alike = alike-behind (g.V.View.map c.args.view.now) (c.args.line * 16 + 16 - 1) (c.args.line * 16 + 16) c.args.span (omega arith) c.requires.span;
 }
 
 pub overflow_sub-end : goal.overflow_sub-end
@@ -18,8 +18,8 @@ overflow_sub-result g c = c.loop-end.invariant.behind
 
 pub returns-then-number : goal.returns-then-number
 returns-then-number g c =
-    right-ended (g.V.View.map c.args.view.now) (c.args.line * 16) c.loop-end.end c.around-span.result.perm
-    (round-perm (g.V.View.map c.args.view.now) (c.args.line * 16 + 16 - 1) c.around-span.result c.around-span.ensures) c.loop-end.invariant.alike
+    right-ended (g.V.View.map c.args.view.now) (c.args.line * 16) c.loop-end.end c.args.span.perm
+    (round-perm (g.V.View.map c.args.view.now) (c.args.line * 16 + 16 - 1) c.args.span c.requires.span) c.loop-end.invariant.alike
     c.around-next.result c.loop-end.invariant.behind (omega (arith, c.loop-end-test.true, c.requires.words)) c.if-end-behind-lt-MOST_REACH.true c.around-next.ensures
     (λ e. c.if-number.true (c.number.ensures ∙ omega (arith, e, c.number-in-loop-end.ensures)))
 
@@ -30,14 +30,14 @@ pub loop-end-preserved : goal.loop-end-preserved
 loop-end-preserved g c = record {
   behind = (let h = c.around-next.ensures.to in omega (arith, h, c.loop-end.invariant.behind));
   whole = c.around-next.ensures.whole;
-  alike = alike-on (g.V.View.map c.args.view.now) (c.args.line * 16 + 16) c.loop-end.end c.around-span.result.perm c.around-next.result
+  alike = alike-on (g.V.View.map c.args.view.now) (c.args.line * 16 + 16) c.loop-end.end c.args.span.perm c.around-next.result
       c.loop-end.invariant.alike c.around-next.ensures (omega (arith, c.number.ensures, c.number-in-loop-end.ensures, c.if-number.false));
 }
 
 pub returns : goal.returns
 returns g c =
-    let far = right-far (g.V.View.map c.args.view.now) (c.args.line * 16) c.loop-end.end c.around-span.result.perm
-    (round-perm (g.V.View.map c.args.view.now) (c.args.line * 16 + 16 - 1) c.around-span.result c.around-span.ensures) c.loop-end.invariant.alike c.loop-end.invariant.behind in
+    let far = right-far (g.V.View.map c.args.view.now) (c.args.line * 16) c.loop-end.end c.args.span.perm
+    (round-perm (g.V.View.map c.args.view.now) (c.args.line * 16 + 16 - 1) c.args.span c.requires.span) c.loop-end.invariant.alike c.loop-end.invariant.behind in
     let why : (length (g.V.View.map c.args.view.now) ≤ c.loop-end.end) ⊎ (31 ≤ c.loop-end.end - (c.args.line * 16 + 16)) =
     elim c.loop-end-test.branch [
       | then-loop-end-test+else-end-behind-lt-MOST_REACH w ↦ inr w.if-end-behind-lt-MOST_REACH.false
