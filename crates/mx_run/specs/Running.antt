@@ -61,8 +61,10 @@ pub record IsRound (quantum : ℕ) (c : Core) (whole last next rest : ℕ) : Typ
 
 -- a schedule where so many turns were made
 abbrev pub IsPace : Schedule → Core → Pace → Type 0
+IsPace (ByQuantum quantum) c pace.Alone = length c.harts ≡ 1
 IsPace (ByQuantum quantum) c (pace.Quantum whole last hart left) = IsRound quantum c whole last hart left
 IsPace (ByQuantum quantum) c (pace.Bytes bytes) = ⊥
+IsPace (ByBytes names) c pace.Alone = ⊥
 IsPace (ByBytes names) c (pace.Quantum whole last hart left) = ⊥
 IsPace (ByBytes names) c (pace.Bytes bytes) = bytes.now ≡ drop c.turns names
 
@@ -70,9 +72,26 @@ IsPace (ByBytes names) c (pace.Bytes bytes) = bytes.now ≡ drop c.turns names
 abbrev pub named : Schedule → Core → Option ℕ
 named schedule c = if is_over schedule c.turns then None else Some (hart_of schedule c)
 
--- the same schedule one turn later
-abbrev pub PacesOn : Schedule → Core → Pace → Type 0
-PacesOn schedule c pace = (e : Core) → e.turns ≡ c.turns + 1 → length e.harts ≡ length c.harts → IsPace schedule e pace
+-- the next turns, at least one and at most so many, are a hart's
+pub record IsRow (schedule : Schedule) (c : Core) (most hart turns : ℕ) : Type 0 where
+  pub some : 1 ≤ turns
+  pub few : turns ≤ most
+  pub each : (j : ℕ) → j < turns → (e : Core) → e.turns ≡ c.turns + j → length e.harts ≡ length c.harts → named schedule e ≡ Some hart
+
+-- a hart and how many of the next turns are its own, or none where the schedule is at its end
+abbrev pub IsNamed : Schedule → Core → ℕ → Option (ℕ × ℕ) → Type 0
+IsNamed schedule c most None = named schedule c ≡ None
+IsNamed schedule c most (Some next) = IsRow schedule c most next.0 next.1
+
+-- the next change of a schedule comes no sooner than behind so many turns
+abbrev pub Leaves : Pace → ℕ → Type 0
+Leaves pace.Alone turns = Unit {0}
+Leaves (pace.Quantum whole last hart left) turns = turns ≤ left
+Leaves (pace.Bytes bytes) turns = turns ≤ 1
+
+-- the same schedule so many turns later
+abbrev pub PacesOn : Schedule → Core → ℕ → Pace → Type 0
+PacesOn schedule c turns pace = (e : Core) → e.turns ≡ c.turns + turns → length e.harts ≡ length c.harts → IsPace schedule e pace
 
 -- the lines of notes
 abbrev pub note_lines : List Note → List ℕ
@@ -144,9 +163,9 @@ pub record GoesOn (c : Core) (events : Events) (e : Core) : Type 0 where
   pub note : events.note ≡ None
   pub going : all_halted c ≡ false → all_halted e ≡ false
 
--- what a turn keeps and counts
-pub record IsNext (f g : Flat) : Type 0 where
-  pub turns : g.core.turns ≡ f.core.turns + 1
+-- what so many turns keep and count
+pub record IsLater (f : Flat) (turns : ℕ) (g : Flat) : Type 0 where
+  pub turns : g.core.turns ≡ f.core.turns + turns
   pub kind : g.core.kind ≡ f.core.kind
   pub limit : g.core.limit ≡ f.core.limit
   pub modules : length g.core.modules ≡ length f.core.modules
