@@ -34,9 +34,13 @@ impl Model for Heap {
 
     ghost use Rattle.mx_heap.specs.Places.{blocks_of, AreStored};
 
-    ghost view = { λ h. record { area = record { first = h.first; count = h.count }; blocks = blocks_of h.parts.items } };
+    ghost view = { λ h. record {
+      area = record { first = h.first; count = h.count };
+      blocks = blocks_of h.parts.items;
+    } };
 
-    ghost invariant = { λ h. AreStored h.first h.count h.parts.items h.live (vec_capacity h.parts) h.blocks.items (vec_capacity h.blocks) };
+    ghost invariant = { λ h. AreStored h.first h.count h.parts.items h.live (vec_capacity h.parts) h.blocks.items
+        (vec_capacity h.blocks) };
 }
 
 impl Heap {
