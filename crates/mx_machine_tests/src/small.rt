@@ -149,7 +149,7 @@ impl Layout {
         })
     }
 
-    /// Lays out a module behind `count` others.
+    /// Lays out a module after `count` others.
     fn add(&mut self, alloc: Global, part: &Module, count: u32, harts: u32) -> Result<(), NoMemory>
         requires laid { AreLaid count harts self.old.rows.items self.old.ram self.old.owners self.old.heaps self.old.stacks }
         requires room { count < 63 }
