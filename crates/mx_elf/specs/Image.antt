@@ -28,7 +28,11 @@ header_rows bytes =
     ∷ (not (ei_class bytes == 1) || not (ei_data bytes == 1), 3)
     ∷ (not (e_type bytes == 2), 4)
     ∷ (not (e_machine bytes == 243), 5)
-    ∷ (not (e_phnum bytes == 0) && (not (e_phentsize bytes == 32) || nat_lt (length bytes) (e_phoff bytes + 32 * e_phnum bytes)), 6)
+    ∷ (
+      not (e_phnum bytes == 0) && (not (e_phentsize bytes == 32)
+          || nat_lt (length bytes) (e_phoff bytes + 32 * e_phnum bytes)),
+      6,
+    )
     ∷ []
 
 -- the faults of a segment with its place among the loaded ones, in a file of size bytes
@@ -85,4 +89,6 @@ pub record IsSound (size : ℕ) (s : Seg) : Type 0 where
 
 -- the image of a file, or its first fault
 unfoldable pub image_of : List ℕ → Result Image ImageFault
-image_of bytes = unless (first_fault (rows_of bytes)) (record { entry = e_entry bytes; segments = segments_of bytes })
+image_of bytes =
+    unless (first_fault (rows_of bytes))
+    (record { entry = e_entry bytes; segments = segments_of bytes })

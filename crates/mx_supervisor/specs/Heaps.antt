@@ -28,4 +28,5 @@ heap_at heaps d = slice_index_or heaps (d - 1) no_heap
 
 -- the heaps with other live blocks for domain d
 abbrev pub with_blocks_at : ℕ → List Area → List HeapState → List HeapState
-with_blocks_at d blocks heaps = slice_set heaps (d - 1) (record (heap_at heaps d) { blocks = blocks })
+with_blocks_at d blocks heaps =
+    slice_set heaps (d - 1) (record (heap_at heaps d) { blocks = blocks })
