@@ -12,6 +12,7 @@ use Rattle.mx_source.specs.Fields.{Value, Given, Label, Fields, value_of, value_
 use Rattle.mx_asm.specs.Places.{address_number, address_of, ascii_of, size_of, place_after}
 use Rattle.mx_asm.specs.Labels.{Definition, definition_of}
 use Rattle.mx_asm.specs.Instructions.{offset_of}
+use Rattle.mx_words.specs.FirstRow.{first_row}
 
 -- the lesser of two fault numbers, where there are any
 abbrev pub lesser_fault : Option ℕ → Option ℕ → Option ℕ
@@ -91,16 +92,19 @@ abbrev pub is_at : Keyword → Bool
 is_at At = true
 is_at _ = false
 
--- the number of the first row that applies
-abbrev pub first_row : List (ℕ × Bool) → Option ℕ
-first_row [] = None
-first_row (row ∷ rows) = if row.1 then Some row.0 else first_row rows
-
 -- 6: before the first segment. 10: a label at 2^32
 abbrev pub label_place_fault : Option (List ℕ) → Place → Option ℕ
 label_place_fault label place =
-    first_row ((6, is_some label && (place.segments == 0))
-    ∷ (10, is_some label && nat_le (2 ^ 32) place.here) ∷ [])
+    first_row (
+    (is_some label && (place.segments == 0), 6)
+    ∷ (is_some label && nat_le (2 ^ 32) place.here, 10)
+    ∷ [])
+
+-- a segment or a word that would not begin at a multiple of 4
+abbrev pub is_misplaced : Keyword → List (List ℕ) → Place → Bool
+is_misplaced keyword operands place =
+    (begins_segment keyword && not (address_of operands % 4 == 0))
+    || (is_aligned keyword && not (place.here % 4 == 0))
 
 -- too many bytes, a segment that passes 2^32, or a label at 2^32
 abbrev pub is_full : Option (List ℕ) → Place → ℕ → Bool
@@ -113,15 +117,11 @@ is_full label place size =
 unfoldable pub place_fault : Option (List ℕ) → Keyword → List (List ℕ) → Place → Option ℕ
 place_fault label keyword operands place =
     first_row (
-    (6, (place.segments == 0) && (is_some label || not (begins_segment keyword)))
-    ∷ (
-      7,
-      (begins_segment keyword && not (address_of operands % 4 == 0))
-          || (is_aligned keyword && not (place.here % 4 == 0)),
-    )
-    ∷ (8, is_at keyword && nat_lt (address_of operands) place.here)
-    ∷ (9, begins_segment keyword && nat_le 16 place.segments)
-    ∷ (10, is_full label place (size_of keyword operands place.here))
+    ((place.segments == 0) && (is_some label || not (begins_segment keyword)), 6)
+    ∷ (is_misplaced keyword operands place, 7)
+    ∷ (is_at keyword && nat_lt (address_of operands) place.here, 8)
+    ∷ (begins_segment keyword && nat_le 16 place.segments, 9)
+    ∷ (is_full label place (size_of keyword operands place.here), 10)
     ∷ [])
 
 -- the least fault of a line with this number at this place, offsets to labels aside

@@ -26,9 +26,10 @@ use Rattle.mx_model.specs.Valid.{IsValid}
 use Rattle.mx_model.proofs.ListLaws.{all-append, all-in, all-last, all-set, all-take}
 use Rattle.mx_model.proofs.TurnLaws.{valid-heard_first}
 use Rattle.mx_model.proofs.ValidParts.{valid-turns, valid-looked_all, hearing}
+use Rattle.mx_model.proofs.TurnCases.{looked_all-caches}
 use Rattle.mx_audit.proofs.ActionLaws.{IsInside, IsStore, inside-decide}
 use Rattle.mx_audit.proofs.ByteLaws.{put-outside, store-outside}
-use Rattle.mx_audit.proofs.CallLaws.{Stands, IsSpared, Keeps, keeps-core, keeps-serve, looked-is, heap-set, other-word}
+use Rattle.mx_audit.proofs.CallLaws.{Stands, IsSpared, Keeps, keeps-core, keeps-serve, heap-set, other-word}
 use Rattle.mx_audit.proofs.LiveLaws.{IsHome, IsClosed, both-true}
 
 -- a core with one hart, or one hart's caches changed
@@ -156,7 +157,7 @@ keeps-behind : (L : ℕ → Type 0) (w : ℕ) (r : Reads) (c : Core) (h : ℕ) (
     IsInside L r c hart d.action → KeepsMade L w c (acted r (looked_all r h d.looks c) h hart d.action)
 keeps-behind L w r c h hart d s sp p i =
     let seen = record c { caches = (looked_all r h d.looks c).caches } in
-    let e = looked-is r h d.looks c in
+    let e = looked_all-caches r h d.looks c in
     let t : Stands L r seen = record {
       valid = subst IsValid e (valid-looked_all r h d.looks c s.valid);
       heaps = s.heaps;

@@ -82,9 +82,9 @@ in-all P (x ∷ xs) d h p = elim (x == d) as (λ b. (x == d) ≡ b → (b || is_
 ] refl p
 
 -- all elements of two lists, of a map and of a flat map
-all-both : {X : Type 0} (P : X → Type 0) (xs ys : List X) → AllByRecursion P xs → AllByRecursion P ys → AllByRecursion P (xs ++ ys)
-all-both P [] ys h k = k
-all-both P (x ∷ xs) ys h k = (h.0, all-both P xs ys h.1 k)
+pub all-join : {X : Type 0} (P : X → Type 0) (xs ys : List X) → AllByRecursion P xs → AllByRecursion P ys → AllByRecursion P (xs ++ ys)
+all-join P [] ys h k = k
+all-join P (x ∷ xs) ys h k = (h.0, all-join P xs ys h.1 k)
 
 all-callers : (P : ℕ → Type 0) (fs : List Frame) → AllByRecursion (λ (f : Frame). P f.caller) fs → AllByRecursion P (list_map (λ (f : Frame). f.caller) fs)
 all-callers P [] h = tt
@@ -93,7 +93,7 @@ all-callers P (f ∷ fs) h = (h.0, all-callers P fs h.1)
 all-domains : (P : ℕ → Type 0) (hs : List Hart) → AllByRecursion (IsHome P) hs → AllByRecursion P (flat_map domains_of hs)
 all-domains P [] h = tt
 all-domains P (x ∷ xs) h =
-    all-both P (domains_of x) (flat_map domains_of xs) (h.0.0, all-callers P x.frames h.0.1) (all-domains P xs h.1)
+    all-join P (domains_of x) (flat_map domains_of xs) (h.0.0, all-callers P x.frames h.0.1) (all-domains P xs h.1)
 
 -- each domain that a round gives is in a closed set
 all-targets : (P : ℕ → Type 0) (live : List ℕ) (gates : List Gate) → AllByRecursion (Leads P) gates → AllByRecursion P live →
@@ -113,7 +113,7 @@ all-rounds : (P : ℕ → Type 0) (n : ℕ) (gates : List Gate) (live : List ℕ
 all-rounds P zero gates live h p = p
 all-rounds P (suc n) gates live h p =
     all-rounds P n (not_passed live gates) (live ++ list_map (λ (gate : Gate). gate.target) (passed live gates)) (all-not_passed (Leads P) live gates h)
-    (all-both P live (list_map (λ (gate : Gate). gate.target) (passed live gates)) p (all-targets P live gates h p))
+    (all-join P live (list_map (λ (gate : Gate). gate.target) (passed live gates)) p (all-targets P live gates h p))
 
 -- the rounds keep what is live
 in-rounds : (n : ℕ) (gates : List Gate) (live : List ℕ) (d : ℕ) → In live d → In (rounds n gates live) d
@@ -242,9 +242,9 @@ true-all : (test : ℕ → Bool) (xs : List ℕ) → AllByRecursion (λ d. test 
 true-all test [] h = refl
 true-all test (x ∷ xs) h = true-both (test x) (list_all test xs) h.0 (true-all test xs h.1)
 
-pub all-map : {X : Type 0} (P Q : X → Type 0) (xs : List X) → ((x : X) → P x → Q x) → AllByRecursion P xs → AllByRecursion Q xs
-all-map P Q [] f h = tt
-all-map P Q (x ∷ xs) f h = (f x h.0, all-map P Q xs f h.1)
+pub all-weaker : {X : Type 0} (P Q : X → Type 0) (xs : List X) → ((x : X) → P x → Q x) → AllByRecursion P xs → AllByRecursion Q xs
+all-weaker P Q [] f h = tt
+all-weaker P Q (x ∷ xs) f h = (f x h.0, all-weaker P Q xs f h.1)
 
 from-rounds : (r : Reads) (c : Core) (word : ℕ) → IsTrue (is_sealed r c word) → IsSealed r c word
 from-rounds r c word e =
@@ -267,7 +267,7 @@ to-rounds r c word s =
     true-both (nat_lt word c.size && owned) kept
     (true-both (nat_lt word c.size) owned (lt-ltb word c.size s.in_ram)
     (true-not (is_in (live c) (r.owner word)) (λ k. s.owner ((live-rounds c (r.owner word)).0 k))))
-    (true-all (is_kept r word) (live c) (all-map (IsLive c) (λ x. is_kept r word x ≡ true) (live c)
+    (true-all (is_kept r word) (live c) (all-weaker (IsLive c) (λ x. is_kept r word x ≡ true) (live c)
     (λ d k. true-not (same (r.perm d word) P.ReadWrite) (λ w. s.rights d k (same-is (r.perm d word) w))) (rounds-live c)))
 
 pub sealed-rounds : (r : Reads) (c : Core) (word : ℕ) → IsTrue (is_sealed r c word) ↔ IsSealed r c word

@@ -14,6 +14,7 @@ use Rattle.mx_model.specs.State.{Hart as Seen}
 use Rattle.mx_model.specs.Valid.{IsModule}
 use Rattle.mx_supervisor.specs.Served.{range_of}
 use Rattle.mx_supervisor.proofs.Modules.{length-modules}
+use Rattle.mx_supervisor.proofs.Maps.{map-in}
 use Rattle.mx_machine.specs.declared.hart.Hart.{Hart}
 use Rattle.mx_machine.specs.declared.hart.Progress.{Progress}
 use Rattle.mx_machine.specs.declared.hart.Progress.TheVariants as G
@@ -24,7 +25,6 @@ use Rattle.mx_machine.specs.Held.{Held, area_of, rest_of}
 use Rattle.mx_machine.specs.Made.{core_in, hart_in}
 use Rattle.mx_machine.specs.Readings.{IsAreaOf, IsViewOf, TellsHart, status_by_progress, status_told, was_heard}
 use Rattle.mx_machine.specs.Ties.{Fits, FliesWhileWaiting}
-use Rattle.mx_machine.proofs.BusLaws.{map-in}
 use Rattle.mx_machine.proofs.HartsAt.{hart-in, length-seen}
 use Rattle.mx_machine.proofs.HomeLaws.{IsHere, module-is}
 

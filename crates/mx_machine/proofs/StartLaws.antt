@@ -17,11 +17,6 @@ got-all P [] i x e h = cc
 got-all P (y ∷ ys) zero x e h = let same : y ≡ x = cc in subst P same h.0
 got-all P (y ∷ ys) (suc i) x e h = got-all P ys i x e h.1
 
-pub got-below : {X : Type 0} (xs : List X) (i : ℕ) (x : X) → slice_get xs i ≡ Some x → i < length xs
-got-below [] i x e = cc
-got-below (y ∷ ys) zero x e = omega arith
-got-below (y ∷ ys) (suc i) x e = let below = got-below ys i x e in omega (arith, below)
-
 -- hart i of those that start from number n on, and of those that resume
 started-from : (stacks : List StackArea) (n i : ℕ) (starts : List HartStart) →
     get_or (started_from stacks n starts) i no_hart ≡ option_map_or (started_hart stacks (n + i)) (slice_get starts i) no_hart

@@ -1,7 +1,7 @@
 -- A number before a register in brackets is read back.
 use Rattle.std.proofs.Common.{◌≡◌, ◌==◌, ℕ, suc, ◌+◌, ◌-◌, Bool, true, false, not, ◌||◌, List, [], ◌∷◌, ◌++◌, length, take, drop, refl, ap, sym, arith, Some, is_some, position, append_assoc, add-one}
 use Rattle.std.specs.List.{list_all}
-use Rattle.std.proofs.lemmas.Bool.{and_parts, and_from, lt-ltb, eq-eqb}
+use Rattle.std.proofs.lemmas.Bool.{and_parts, and_from, lt-ltb, eq-eqb, or_right}
 use Rattle.std.proofs.lemmas.List.{length-append}
 use Rattle.std.proofs.lemmas.List.Folds.{list_all-append}
 use Rattle.mx_source.specs.declared.number.Number.{Number}
@@ -69,10 +69,6 @@ module _ (num : List ℕ) (z : Number) (r : ℕ) (number : IsNumber num z) (name
         all = rw list_all-append (and_from (list_all is_solid num) (list_all is_solid (40 ∷ (register r ++ 41 ∷ []))) number.part.all inner);
       }
 
-last_true : (a b : Bool) → b ≡ true → (a || b) ≡ true
-last_true true b h = refl
-last_true false b h = h
-
 or_middle : (a b c : Bool) → (a || true || b || c) ≡ true
 or_middle true b c = refl
 or_middle false b c = refl
@@ -84,4 +80,4 @@ pub operand-register : (r : ℕ) → IsRegister r → is_operand (register r) �
 operand-register r h = rw h.name refl
 
 pub operand-indexed : (text : List ℕ) (i : Indexed) → indexed_of text ≡ Some i → is_operand text ≡ true
-operand-indexed text i h = last_true (is_name text || is_some (number_of text) || is_some (text_of text)) (is_some (indexed_of text)) (ap is_some h)
+operand-indexed text i h = or_right (is_name text || is_some (number_of text) || is_some (text_of text)) (is_some (indexed_of text)) (ap is_some h)
