@@ -102,9 +102,9 @@ impl<T: PermTables, const N: usize> Supervisor<T, N> {
             (parts_of T.kind T.maps T.size T.limits N self.old)
             (parts_of T.kind T.maps T.size T.limits N self.new) }
         ensures answer { (rest : Core) →
-            list_all (may_read
-            (flat_reads (flat_of rest (parts_of T.kind T.maps T.size T.limits N self.old)))
-            call.now.domain) (range_with_len first (behind - first)) ≡ result }
+            list_all (may_read (flat_reads (flat_of rest
+            (parts_of T.kind T.maps T.size T.limits N self.old))) call.now.domain)
+            (range_with_len first (behind - first)) ≡ result }
     {
         for word in first..behind {
             if !self.look(call, word, Access::Read) {
@@ -122,8 +122,9 @@ impl<T: PermTables, const N: usize> Supervisor<T, N> {
         requires inside { word < T.size self.old.checker.tables }
         ensures looked { HasLooked call.now word (parts_of T.kind T.maps T.size T.limits N self.old)
             (parts_of T.kind T.maps T.size T.limits N self.new) }
-        ensures answer { allows (perm_at (map_in (T.size self.old.checker.tables)
-            (T.maps self.old.checker.tables) call.now.domain) word) access ≡ result }
+        ensures answer { allows (perm_at
+            (map_in (T.size self.old.checker.tables) (T.maps self.old.checker.tables) call.now.domain)
+            word) access ≡ result }
     {
         self.checker
             .may(call.hart, PLACE, call.domain, RAM_BASE + 4 * word, access)
