@@ -69,8 +69,8 @@ impl<T: PermTables, const N: usize> Bare<T, N> {
             ≡ allows (decided T.kind (map_of (T.maps self.old.tables) domain) place domain addr
             (hart_at self.old.harts hart).cache) access }
         ensures harts { self.new.harts
-            ≡ looked N T.kind (map_of (T.maps self.old.tables) domain) hart place domain addr
-            self.old.harts }
+            ≡ looked N T.kind (map_of (T.maps self.old.tables) domain)
+            hart place domain addr self.old.harts }
         ensures lookups { T.lookups self.new.tables
             ≡ lookups_after (map_of (T.maps self.old.tables) domain) place domain addr
             (hart_at self.old.harts hart).cache (T.lookups self.old.tables) }
@@ -95,9 +95,8 @@ impl<T: PermTables, const N: usize> Bare<T, N> {
         requires domain { IsDomain (T.maps self.old.tables) domain }
         requires word { word < T.size self.old.tables }
         ensures answer { result
-            ≡ decided_by (found place domain word (hart_at self.old.harts hart).cache) (span T.kind
-            (map_of
-            (T.maps self.old.tables) domain) word) }
+            ≡ decided_by (found place domain word (hart_at self.old.harts hart).cache)
+            (span T.kind (map_of (T.maps self.old.tables) domain) word) }
         ensures harts { let s = span T.kind (map_of (T.maps self.old.tables) domain) word in
             self.new.harts
             ≡ at_hart hart (looks N place domain word s (is_barred hart s self.old.harts))

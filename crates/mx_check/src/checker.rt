@@ -76,8 +76,8 @@ impl<T: PermTables, const N: usize> Checker<T, N> {
         ensures answer { result
             ≡ not (denies (perm (map_of (T.maps self.old.tables) domain)) addr access) }
         ensures harts { self.new.harts
-            ≡ looked N T.kind (map_of (T.maps self.old.tables) domain) hart place domain addr
-            self.old.harts }
+            ≡ looked N T.kind (map_of (T.maps self.old.tables) domain)
+            hart place domain addr self.old.harts }
         ensures lookups { T.lookups self.new.tables
             ≡ lookups_after (map_of (T.maps self.old.tables) domain) place domain addr
             (hart_at self.old.harts hart).cache (T.lookups self.old.tables) }

@@ -244,9 +244,8 @@ fn store<B: Bus>(
         (store_size width) (reg regs.old rs2)) }
     ensures regs { regs.new ≡ regs.old }
     ensures bytes { B.bytes bus.new
-        ≡ bytes_after (B.perm bus.old) (B.bytes bus.old) (stores_at rs1
-        (plus (reg regs.old rs1) imm)
-        (store_size width) (reg regs.old rs2)) }
+        ≡ bytes_after (B.perm bus.old) (B.bytes bus.old)
+        (stores_at rs1 (plus (reg regs.old rs1) imm) (store_size width) (reg regs.old rs2)) }
     ensures touches { IsTouched B.touches bus.old (touches_of (stores_at rs1 (plus
         (reg regs.old rs1) imm) (store_size width) (reg regs.old rs2))) bus.new }
     ensures aligned { IsAligned result }

@@ -28,5 +28,6 @@ fresh_log = record { made = 0; listed = [] }
 abbrev pub with_listed : CallLog → ℕ → CallLog
 with_listed log n =
     if list_any (λ m. nat_eq m n) log.listed then log
-    else if nat_lt (length log.listed) 8 then record { made = log.made; listed = log.listed ++ n ∷ [] }
+    else if nat_lt (length log.listed) 8
+    then record { made = log.made; listed = log.listed ++ n ∷ [] }
     else log

@@ -21,7 +21,8 @@ files_code =
     code_by (FileMap × (ℕ × (ℕ × List ℕ))) (coded× (code (coded_list coded_ℕ) (coded_list coded_ℕ))
     (coded× coded_ℕ (coded× coded_ℕ (coded_list coded_ℕ))))
     (λ s. (s.files, (s.faults, (s.calls.made, s.calls.listed))))
-    (λ p. record { files = p.0; faults = p.1.0; calls = record { made = p.1.1.0; listed = p.1.1.1 } })
+    (λ p.
+    record { files = p.0; faults = p.1.0; calls = record { made = p.1.1.0; listed = p.1.1.1 } })
     (λ _. refl)
 
 -- the files that entries under names make, the newest first

@@ -176,8 +176,8 @@ impl<T: PermTables, const N: usize> Bare<T, N> {
         requires domain { IsDomain self.old.parts.maps call.now.domain }
         requires may { MayAnnounce hart self.old.parts.harts }
         ensures after { self.new
-            ≡ with_kept hart (announced hart (range_of self.old.parts call.now).0
-            (range_of self.old.parts call.now).1) self.old }
+            ≡ with_kept hart (announced hart
+            (range_of self.old.parts call.now).0 (range_of self.old.parts call.now).1) self.old }
         ensures ready { result ≡ is_ready hart self.new.parts.harts }
     {
         let (first, count) = self.bus.supervisor.announced(call);

@@ -228,11 +228,11 @@ impl Harts {
         requires hart { hart < length self.old }
         requires usable { B.usable bus.old }
         requires aligned { (hart_of self.old hart).pc % 4 ≡ 0 }
-        ensures ran { Instructs B.perm B.bytes B.touches returns (hart_of self.old hart) bus.old
-            result bus.new }
+        ensures ran { Instructs B.perm B.bytes B.touches returns (hart_of self.old hart)
+            bus.old result bus.new }
         ensures after { self.new
-            ≡ stepped hart (instructed
-            (regs_left B.perm B.bytes returns (hart_of self.old hart) bus.old) result)
+            ≡ stepped hart
+            (instructed (regs_left B.perm B.bytes returns (hart_of self.old hart) bus.old) result)
             self.old }
         ensures map { B.perm bus.new ≡ B.perm bus.old }
         ensures usable { B.usable bus.new }

@@ -57,8 +57,8 @@ impl<T: PermTables, const N: usize> Machine<T, N> {
         requires gates { AllByRecursion
             (IsGate (length (T.maps parts.checker.tables)) (T.size parts.checker.tables))
             parts.gates }
-        requires may { MayStart (parts_of T.kind T.maps T.size T.limits N parts) starts.now
-            stacks.now }
+        requires may { MayStart (parts_of T.kind T.maps T.size T.limits N parts)
+            starts.now stacks.now }
         ensures { result
             ≡ started (parts_of T.kind T.maps T.size T.limits N parts) starts.now stacks.now }
     {
@@ -97,11 +97,11 @@ impl<T: PermTables, const N: usize> Machine<T, N> {
         requires gates { AllByRecursion
             (IsGate (length (T.maps parts.checker.tables)) (T.size parts.checker.tables))
             parts.gates }
-        requires may { MayResume (parts_of T.kind T.maps T.size T.limits N parts) harts.now
-            stacks.now dead.now steps }
+        requires may { MayResume (parts_of T.kind T.maps T.size T.limits N parts)
+            harts.now stacks.now dead.now steps }
         ensures { result
-            ≡ resumed (parts_of T.kind T.maps T.size T.limits N parts) harts.now stacks.now dead.now
-            steps }
+            ≡ resumed (parts_of T.kind T.maps T.size T.limits N parts)
+            harts.now stacks.now dead.now steps }
     {
         shape_of(parts.checker.tables());
         flights_of(&parts.checker);

@@ -122,9 +122,8 @@ impl<T: PermTables, const N: usize> Supervisor<T, N> {
         requires inside { word < T.size self.old.checker.tables }
         ensures looked { HasLooked call.now word (parts_of T.kind T.maps T.size T.limits N self.old)
             (parts_of T.kind T.maps T.size T.limits N self.new) }
-        ensures answer { allows (perm_at
-            (map_in (T.size self.old.checker.tables) (T.maps self.old.checker.tables) call.now.domain)
-            word) access ≡ result }
+        ensures answer { allows (perm_at (map_in (T.size self.old.checker.tables)
+            (T.maps self.old.checker.tables) call.now.domain) word) access ≡ result }
     {
         self.checker
             .may(call.hart, PLACE, call.domain, RAM_BASE + 4 * word, access)

@@ -165,7 +165,8 @@ impl<T: PermTables, const N: usize> Supervisor<T, N> {
     fn is_other(&self, call: &Call, domain: u32) -> bool
         requires { IsSound (parts_of T.kind T.maps T.size T.limits N self.now) }
         ensures { (rest : Core) →
-            (not (is_module (core_of rest (parts_of T.kind T.maps T.size T.limits N self.now)) domain)
+            (not (is_module (core_of rest
+            (parts_of T.kind T.maps T.size T.limits N self.now)) domain)
             || (domain == call.now.domain)) ≡ not result }
     {
         self.is_module(domain) && domain != call.domain

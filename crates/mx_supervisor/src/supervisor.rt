@@ -187,8 +187,8 @@ impl<T: PermTables, const N: usize> Supervisor<T, N> {
 /// Call 1: the hart ends, unless it has a frame on its cross stack.
 fn exit(call: &Call) -> Answer
     ensures { (p : Parts) → IsSound p →
-        Meets (λ r c call. serve_exit c call) call.now (hart_at p.harts call.now.hart).flight p p []
-        result }
+        Meets (λ r c call. serve_exit c call) call.now (hart_at p.harts call.now.hart).flight
+        p p [] result }
 {
     if call.nested {
         return Answer::refused(Refusal::Nested);
