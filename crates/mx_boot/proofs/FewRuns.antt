@@ -1,7 +1,7 @@
 -- Each give adds at most two runs of owners: a run begins only where one begins or ends.
 use Rattle.std.proofs.Common.{◌≡◌, ℕ, zero, suc, ◌+◌, ◌-◌, ◌*◌, ◌<◌, ◌≤◌, Bool, true, false, not, cond, ◌==◌, ◌||◌, List, [], ◌∷◌, length, get_or, refl, ap, ◌∙◌, sym, arith}
 use Rattle.std.specs.List.{flat_map, list_any}
-use Rattle.std.proofs.lemmas.Bool.{eq-eqb, or_parts}
+use Rattle.std.proofs.lemmas.Bool.{eq-eqb, or_parts, or_right}
 use Rattle.std.proofs.lemmas.Bool.Decides.{nat_tests}
 use Rattle.mx_words.specs.Counting.{bit, count_below}
 use Rattle.mx_words.specs.Newest.{Give, laid_at, newest, owner, owners}
@@ -74,10 +74,6 @@ newest-next d e (g ∷ gives) j same none =
     let here : laid_at j d g ≡ laid_at (suc j) e g = ap (λ t. cond t g.value d) over ∙ ap (λ x. cond (covers g.first g.count (suc j)) g.value x) same in
     newest-next (laid_at j d g) (laid_at (suc j) e g) gives j here second.1
 
-or_true : (b : Bool) → (b || true) ≡ true
-or_true true = refl
-or_true false = refl
-
 -- whether a run may begin at a word
 abbrev may-begin : List Give → ℕ → Bool
 may-begin gives i = (0 == i) || list_any (λ b. b == i) (flat_map bounds gives)
@@ -86,7 +82,7 @@ starts : (gives : List Give) (words i : ℕ) → i < words → is_owner_start (o
 starts gives words zero lt h = refl
 starts gives words (suc j) lt h =
     elim (list_any (λ b. b == suc j) (flat_map bounds gives)) as (λ t. list_any (λ b. b == suc j) (flat_map bounds gives) ≡ t → ((0 == suc j) || t) ≡ true) [
-      | true ↦ λ e. or_true (0 == suc j)
+      | true ↦ λ e. or_right (0 == suc j) true refl
       | false ↦ λ e.
           let before : get_or (owners gives words) j 0 ≡ owner gives j = owners-at gives words j 0 (omega arith) in
           let here : get_or (owners gives words) (suc j) 0 ≡ owner gives (suc j) = owners-at gives words (suc j) 0 lt in

@@ -12,6 +12,7 @@ use Rattle.mx_check.specs.declared.flight.Flight.{Flight}
 use Rattle.mx_words.specs.Hearing.{bars}
 use Rattle.mx_check.specs.Harts.{Kept, hart_at, at_hart}
 use Rattle.std.specs.Prelude.{length}
+use Rattle.std.specs.Option.{option_or}
 
 -- whether a span meets the range of a call in flight that hart h has heard
 abbrev pub flight_bars : ℕ → Span → Option Flight → Bool
@@ -27,13 +28,9 @@ abbrev pub is_barred : ℕ → Span → List Kept → Bool
 is_barred h s harts = not (all_below (length harts) (λ i. not (hart_bars h s harts i)))
 
 -- the span with which a place or the list answers, the place first
-abbrev pub first_of_two : Option Span → Option Span → Option Span
-first_of_two (Some s) o = Some s
-first_of_two None o = o
-
 abbrev pub found : ℕ → ℕ → ℕ → Cache → Option Span
 found place domain word c =
-    first_of_two (found_in_place c.places place word) (found_kept c.kept domain word)
+    option_or (found_in_place c.places place word) (found_kept c.kept domain word)
 
 -- the caches after an answer of a place or of the list
 abbrev pub answered_by : ℕ → Option Span → Option Span → Cache → Cache

@@ -81,7 +81,7 @@ flies-heard h range (Some f) G.Waiting t = record { first = t.first; count = t.c
 flies-heard h range flight (G.Halted code) t = ap (option_map (marked h)) t
 
 -- a hart of the state is halted where the machine's is
-halted-seen : (call : Call) (flight : Option Flight) (p : Progress) → halted_by (status_by call flight p) ≡ is_halted p
+pub halted-seen : (call : Call) (flight : Option Flight) (p : Progress) → halted_by (status_by call flight p) ≡ is_halted p
 halted-seen call flight G.Running = refl
 halted-seen call flight G.Waiting = refl
 halted-seen call flight (G.Halted code) = refl
