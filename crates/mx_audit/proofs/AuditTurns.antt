@@ -5,7 +5,7 @@ use Rattle.std.proofs.Math.ListN.{get_or-eq_default}
 use Rattle.std.specs.Prelude.{IfSome, slice_set}
 use Rattle.std.specs.Option.{option_map_or}
 use Rattle.std.specs.List.{AllByRecursion, enumerate_from}
-use Rattle.std.proofs.lemmas.Bool.{ltb-true, ltb-false, leb-true}
+use Rattle.std.proofs.lemmas.Bool.{ltb-true, ltb-false, leb-true, and_parts}
 use Rattle.mx_words.specs.declared.perm.Perm.TheVariants as P
 use Rattle.mx_words.specs.declared.perm.Access.TheVariants as A
 use Rattle.mx_words.specs.Bytes.{put_at}
@@ -30,7 +30,7 @@ use Rattle.mx_model.proofs.TurnCases.{looked_all-caches}
 use Rattle.mx_audit.proofs.ActionLaws.{IsInside, IsStore, inside-decide}
 use Rattle.mx_audit.proofs.ByteLaws.{put-outside, store-outside}
 use Rattle.mx_audit.proofs.CallLaws.{Stands, IsSpared, Keeps, keeps-core, keeps-serve, heap-set, other-word}
-use Rattle.mx_audit.proofs.LiveLaws.{IsHome, IsClosed, both-true}
+use Rattle.mx_audit.proofs.LiveLaws.{IsHome, IsClosed}
 
 -- a core with one hart, or one hart's caches changed
 keeps-hart : (L : ℕ → Type 0) (w : ℕ) (ram : List ℕ) (modules : List Module) (e : Core) (change : Option Change) (give : Option Give) (h : ℕ) (hart : Hart) →
@@ -112,7 +112,7 @@ store-word : (r : Reads) (c : Core) (d address : ℕ) → is_denied r c d addres
 store-word r c d address e = elim (in_ram address c.size) as
     (λ b. in_ram address c.size ≡ b → not (allows (option_map_or (r.perm d) (if b then Some ((address - ram_base) / 4) else None) P.None) A.Write) ≡ false →
     (ram_base ≤ address) × (allows (r.perm d ((address - ram_base) / 4)) A.Write ≡ true)) [
-      | true ↦ λ t f. (leb-true ram_base address (both-true (nat_le ram_base address) (nat_lt (address - ram_base) (4 * c.size)) t).0, not-false _ f)
+      | true ↦ λ t f. (leb-true ram_base address (and_parts (nat_le ram_base address) (nat_lt (address - ram_base) (4 * c.size)) t).0, not-false _ f)
       | false ↦ λ t f. absurd (let q : ⊥ = cc in q)
     ] refl e
   where

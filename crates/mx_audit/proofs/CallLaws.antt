@@ -3,7 +3,7 @@
 use Rattle.std.proofs.Common.{◌≡◌, ◌≢◌, inl, inr, ⊎_elim, ℕ, zero, suc, ◌+◌, ◌-◌, ◌*◌, ◌<◌, ◌≤◌, Bool, true, false, not, cond, nat_lt, nat_le, ◌==◌, ◌&&◌, ◌||◌, List, [], ◌∷◌, length, set, refl, sym, ◌∙◌, ap, subst, arith, eqb-true, IsTrue, if◌then◌else◌, Option, Some, None, unwrap_or, is_none}
 use Rattle.std.specs.Prelude.{IfSome, slice_index, slice_index_or, option_map, find}
 use Rattle.std.specs.List.{AllByRecursion, list_all, range_with_len}
-use Rattle.std.proofs.lemmas.Bool.{ltb-true, ltb-false, lt-ltb, leb-true, eqb-false, not-false}
+use Rattle.std.proofs.lemmas.Bool.{ltb-true, ltb-false, lt-ltb, leb-true, eqb-false, not-false, and_parts, or_parts}
 use Rattle.mx_words.specs.declared.perm.Perm.{Perm}
 use Rattle.mx_words.specs.declared.perm.Perm.TheVariants as P
 use Rattle.mx_words.specs.declared.perm.Access.TheVariants as A
@@ -27,7 +27,7 @@ use Rattle.mx_model.proofs.ValidParts.{home-at}
 use Rattle.mx_model.proofs.TurnCases.{looked_all-caches}
 use Rattle.mx_audit.specs.Sealed.{OwnHeaps}
 use Rattle.mx_audit.proofs.ByteLaws.{IsOutside, put-outside, cleared-outside}
-use Rattle.mx_audit.proofs.LiveLaws.{IsClosed, Leads, both-true}
+use Rattle.mx_audit.proofs.LiveLaws.{IsClosed, Leads}
 
 -- a state whose live domains lie in a set
 pub record Stands (L : ℕ → Type 0) (r : Reads) (c : Core) : Type 0 where
@@ -99,15 +99,11 @@ keeps-either : (L : ℕ → Type 0) (w : ℕ) (ram : List ℕ) (modules : List M
 keeps-either L w ram modules e None s p q = q
 keeps-either L w ram modules e (Some n) s p q = p
 
-or-right : (a b : Bool) → a || b ≡ false → b ≡ false
-or-right true b e = absurd (let q : ⊥ = cc in q)
-or-right false b e = e
-
 -- each word of a range whose words the caller owns is the caller's
 all-range : (test : ℕ → Bool) (first count v : ℕ) → list_all test (range_with_len first count) ≡ true → first ≤ v → v < first + count → test v ≡ true
 all-range test first zero v e l u = absurd (let q : ⊥ = omega (arith, l, u) in q)
 all-range test first (suc count) v e l u =
-    let p = both-true (test first) (list_all test (range_with_len (first + 1) count)) e in
+    let p = and_parts (test first) (list_all test (range_with_len (first + 1) count)) e in
     elim (first == v) as (λ b. (first == v) ≡ b → test v ≡ true) [
       | true ↦ λ t. subst (λ n. test n ≡ true) (eqb-true first v t) p.0
       | false ↦ λ t. let n = eqb-false first v t in
@@ -171,8 +167,8 @@ heap-set (x ∷ xs) (suc i) (suc j) m e = heap-set xs i j m e
 -- alloc
 room-low : (a : Area) (blocks : List Area) (n first : ℕ) → has_room a blocks n first ≡ true → (a.first ≤ first) × (first + n ≤ a.first + a.count)
 room-low a blocks n first e =
-    let p = both-true (nat_le a.first first && nat_le (first + n) (a.first + a.count)) _ e in
-    let q = both-true (nat_le a.first first) (nat_le (first + n) (a.first + a.count)) p.0 in
+    let p = and_parts (nat_le a.first first && nat_le (first + n) (a.first + a.count)) _ e in
+    let q = and_parts (nat_le a.first first) (nat_le (first + n) (a.first + a.count)) p.0 in
     (leb-true a.first first q.0, leb-true (first + n) (a.first + a.count) q.1)
 
 of-some : (o : Option ℕ) (Q : ℕ → Type 0) → IfSome o Q → is_none o ≡ false → Q (unwrap_or o 0)
@@ -292,7 +288,7 @@ keeps-transfer L w r c call s sp p =
       heaps = λ d. refl;
       rights = tt;
       owner = spared-range L r w call (arg_range c call) sp p t.1.1.0;
-      owners = λ d v m h. heap-apart L r c call d v s (not-false (owns r call (arg_range c call)) t.1.1.0) (or-right (no_range c call) (meets_heap c call) t.0) m h;
+      owners = λ d v m h. heap-apart L r c call d v s (not-false (owns r call (arg_range c call)) t.1.1.0) (or_parts (no_range c call) (meets_heap c call) t.0).1 m h;
     })
 
 -- gates

@@ -1,14 +1,10 @@
 -- The area that begins first at a word or behind it.
 use Rattle.std.proofs.Common.{◌≡◌, ℕ, ◌<◌, ◌≤◌, true, false, cond, nat_lt, nat_le, List, [], ◌∷◌, fold, Option, Some, None, IfSome, refl, subst, sym, arith}
 use Rattle.std.specs.List.{AllByRecursion}
-use Rattle.std.proofs.lemmas.Bool.Decides.{nat_tests}
-use Rattle.std.proofs.lemmas.Bool.{leb-true, ltb-false, ltb-true}
+use Rattle.std.proofs.lemmas.Bool.{leb-true, ltb-false, ltb-true, leb-false}
 use Rattle.mx_boot.specs.declared.area.Area.{Area}
 use Rattle.mx_boot.specs.Entries.{word_at}
 use Rattle.mx_boot.specs.Placed.{nearer, next_area}
-
-over : (a b : ℕ) → nat_le a b ≡ false → b ≤ a
-over a b e = grind (arith, nat_tests)
 
 -- what holds of each area, and of the one found so far, holds of the one found
 kept : (P : Area → Type 0) (word : ℕ) (found : Option Area) (a : Area) → IfSome found P → (word ≤ word_at a.address → P a) → IfSome (nearer word found a) P
@@ -64,7 +60,7 @@ before word (Some c) a b h =
       | false ↦ λ e. elim (nat_le (word_at c.address) (word_at b.address)) as (λ t. nat_le (word_at c.address) (word_at b.address) ≡ t
           → IfSome (cond t (Some c) (Some b)) (λ (x : Area). word_at a.address ≤ word_at x.address) → IsBefore word a b × (word_at a.address ≤ word_at c.address)) [
             | true ↦ λ f k. (λ ge. let le = leb-true (word_at c.address) (word_at b.address) f in omega (arith, le, k), k)
-            | false ↦ λ f k. (λ ge. k, let le = over (word_at c.address) (word_at b.address) f in omega (arith, le, k))
+            | false ↦ λ f k. (λ ge. k, let le = leb-false (word_at c.address) (word_at b.address) f in omega (arith, le, k))
           ] refl
     ] refl h
 

@@ -1,5 +1,5 @@
 -- What the modules of a plan without a fault bring: areas apart in RAM, each of some words, and bytes that lie there.
-use Rattle.std.proofs.Common.{◌≡◌, ◌⊎◌, ℕ, zero, suc, ◌+◌, ◌-◌, ◌*◌, ◌/◌, ◌%◌, ◌<◌, ◌≤◌, true, false, not, cond, List, [], ◌∷◌, ◌++◌, length, map, take, drop, slice_get, Option, Some, None, IfSome, unwrap_or, Result, Ok, Err, refl, ap, ◌∙◌, subst, arith, mul-le-mul_left}
+use Rattle.std.proofs.Common.{◌≡◌, ◌⊎◌, ℕ, ◌+◌, ◌-◌, ◌*◌, ◌/◌, ◌%◌, ◌<◌, ◌≤◌, true, false, not, cond, List, [], ◌∷◌, ◌++◌, length, map, take, drop, slice_get, Option, Some, None, IfSome, unwrap_or, Result, Ok, Err, refl, ap, ◌∙◌, subst, arith, mul-le-mul_left, length-take}
 use Rattle.std.specs.List.{AllByRecursion, enumerate_from, flat_map}
 use Rattle.std.specs.Option.{is_some, option_map_or}
 use Rattle.mx_elf.specs.declared.image.Image.{Image}
@@ -87,11 +87,6 @@ areas_some modules harts h in_range one =
     (stacks_some harts h h.plan.stack one refl in_range.stack_whole in_range.stack_words)
 
 -- the bytes of a loaded segment or of inline words lie in its area
-length-take-le_of : {X : Type 0} (n : ℕ) (xs : List X) → length (take n xs) ≤ n
-length-take-le_of zero xs = omega arith
-length-take-le_of (suc n) [] = omega arith
-length-take-le_of (suc n) (x ∷ xs) = let rest = length-take-le_of n xs in omega (arith, rest)
-
 pub length-word_bytes : (words : List ℕ) → length (flat_map word_bytes words) ≡ 4 * length words
 length-word_bytes [] = refl
 length-word_bytes (w ∷ words) = let rest = length-word_bytes words in omega (arith, rest)
@@ -101,7 +96,7 @@ segment_room words h s sound inside =
     let r = in_ram words (segment_area h s) inside in
     let from = r.from in
     let to = r.to in
-    let long = length-take-le_of s.file (drop s.offset h.bytes) in
+    let long : length (take s.file (drop s.offset h.bytes)) ≤ s.file = omega (arith, length-take s.file (drop s.offset h.bytes)) in
     let held = sound.held in
     let aligned = sound.aligned in
     record { from = from; to = room s.address s.memory s.file (length (take s.file (drop s.offset h.bytes))) words from to long held aligned }

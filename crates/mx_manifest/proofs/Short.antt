@@ -1,5 +1,5 @@
 -- Lists of plans are as short as the lists that they are made of.
-use Rattle.std.proofs.Common.{◌≡◌, ℕ, ◌+◌, ◌<◌, ◌≤◌, suc, zero, List, [], ◌∷◌, ◌++◌, length, get_or, map, take, Option, Some, None, IfSome, slice_get, option_map, ap, sym, ◌∙◌, subst, arith}
+use Rattle.std.proofs.Common.{◌≡◌, ℕ, ◌+◌, ◌<◌, ◌≤◌, suc, zero, List, [], ◌∷◌, ◌++◌, length, get_or, map, take, Option, Some, None, IfSome, slice_get, option_map, ap, sym, ◌∙◌, subst, arith, length-take}
 use Rattle.std.proofs.lemmas.List.{length-map, take_more, map_push}
 use Rattle.toml.specs.Data.{Data}
 use Rattle.toml.specs.declared.value.Value.{Value}
@@ -13,9 +13,7 @@ use Rattle.mx_manifest.specs.Faults.{modules, module_names, domain_of, from_text
 use Rattle.mx_manifest.proofs.Values.{length-data}
 
 pub length-taken : {A : Type 0} (i : ℕ) (xs : List A) → length (take i xs) ≤ length xs
-length-taken zero xs = omega arith
-length-taken (suc i) [] = omega arith
-length-taken (suc i) (x ∷ xs) = omega (arith, length-taken i xs)
+length-taken i xs = omega (arith, length-take i xs)
 
 -- a list that a loop has made
 pub made_length : {B : Type 0} (f : Data → B) (values : List Value) (i most : ℕ) (made : List B) → made ≡ map f (map view (take i values)) → length values ≤ most → length made ≤ most
