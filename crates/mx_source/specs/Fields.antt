@@ -6,6 +6,7 @@ use Rattle.mx_source.specs.declared.number.Number.{Number}
 use Rattle.mx_source.specs.declared.number.Range.{Range}
 use Rattle.mx_source.specs.declared.mnemonics.Form.{Form}
 use Rattle.mx_source.specs.declared.mnemonics.Form.TheVariants.{Lui, Auipc, Jal, Jalr, Branch, Load, Store, OpImm, Op, Fence, Ecall, Ebreak}
+use Rattle.mx_source.specs.Options.{◌>>=◌}
 use Rattle.mx_source.specs.Numbers.{number_of, plain_number, number_range, even_range}
 use Rattle.mx_source.specs.Operands.{is_name, register_of, indexed_of, single_of, pair_of, triple_of}
 
