@@ -1,13 +1,13 @@
 -- A check that walks: what is asked of the caches first, and what the walk does to them then.
 use Rattle.std.proofs.Common.{◌≡◌, ◌≢◌, ℕ, zero, suc, ◌<◌, ◌⊎◌, inl, inr, ◌==◌, ◌&&◌, Bool, true, not, List, length, set, Option, Some, None, refl, sym, ap, ◌∙◌, arith, length-set, get_or-set_same, get_or-set_other, eq-eqb}
-use Rattle.std.specs.Option.{option_map}
+use Rattle.std.specs.Option.{option_map, option_or}
 use Rattle.std.proofs.lemmas.Bool.{cases_eq}
 use Rattle.std.proofs.lemmas.List.{set-set}
 use Rattle.mx_words.specs.declared.perm.Span.{Span}
 use Rattle.mx_words.specs.Counting.{all_below}
 use Rattle.mx_words.specs.Caches.{found_in_place, found_kept}
 use Rattle.mx_check.specs.Harts.{Kept, no_hart, hart_at, at_hart}
-use Rattle.mx_check.specs.Looks.{flight_forbids, hart_forbids, is_forbidden, first_of_two, found, after_caches, after_walk, looks}
+use Rattle.mx_check.specs.Looks.{flight_forbids, hart_forbids, is_forbidden, found, after_caches, after_walk, looks}
 
 -- two tests that agree below a number
 pub all_below_agree : (n : ℕ) (p q : ℕ → Bool) → ((i : ℕ) → i < n → p i ≡ q i) → all_below n p ≡ all_below n q
@@ -56,7 +56,7 @@ pub no_permission : (o : Option Span) → None ≡ option_map (λ (s : Span). s.
 no_permission None e = refl
 no_permission (Some s) e = cc
 
-neither : (a b : Option Span) → first_of_two a b ≡ None → (a ≡ None) × (b ≡ None)
+neither : (a b : Option Span) → option_or a b ≡ None → (a ≡ None) × (b ≡ None)
 neither None b e = (refl, e)
 neither (Some s) b e = cc
 

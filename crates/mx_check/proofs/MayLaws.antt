@@ -6,7 +6,7 @@ use Rattle.std.proofs.lemmas.List.{get_or_past}
 use Rattle.mx_words.specs.declared.perm.Perm.{Perm}
 use Rattle.mx_words.specs.declared.perm.Perm.TheVariants as P
 use Rattle.mx_words.specs.declared.perm.Span.{Span}
-use Rattle.std.specs.Option.{option_map_or}
+use Rattle.std.specs.Option.{option_map_or, option_or}
 use Rattle.mx_words.specs.declared.perm.Access.{Access}
 use Rattle.mx_words.specs.declared.tables.Kind.{Kind}
 use Rattle.mx_words.specs.Counting.{all_below}
@@ -23,7 +23,7 @@ use Rattle.mx_table.specs.Tables.{map_of}
 use Rattle.mx_check.specs.declared.flight.Flight.{Flight}
 use Rattle.mx_words.specs.Hearing.{is_in}
 use Rattle.mx_check.specs.Harts.{Kept, no_hart, hart_at, at_hart, leaves_domain}
-use Rattle.mx_check.specs.Looks.{flight_forbids, hart_forbids, is_forbidden, first_of_two, found, with_domain, looks, looked_at, looked, decided_by, decided_at, decided}
+use Rattle.mx_check.specs.Looks.{flight_forbids, hart_forbids, is_forbidden, found, with_domain, looks, looked_at, looked, decided_by, decided_at, decided}
 use Rattle.mx_check.specs.Coherence.{EachSpan, Agrees, AgreesIn, HasDropped, Keeps}
 use Rattle.mx_check.specs.Conditions.{MayLook}
 use Rattle.mx_check.proofs.LookLaws.{length-at_hart, hart_at-same, hart_at-other}
@@ -106,7 +106,7 @@ module _ (kind : Kind) (maps : List (List Perm)) (harts : List Kept) (h domain :
         sym (a'.at word inside refl)
 
     by_found : (a b : Option Span) → found_in_place (hart_at harts h).cache.places place word ≡ a → found_kept (hart_at harts h).cache.kept domain word ≡ b →
-        (decided_by (first_of_two a b) s) ≡ perm_at (map_of maps domain) word
+        (decided_by (option_or a b) s) ≡ perm_at (map_of maps domain) word
     by_found (Some t) b ea eb =
         let p = has_found_in_place (λ s. Agrees (map_of maps domain) (hart_at harts h).flight s) (hart_at harts h).cache.places place word t current_now.places ea in
         unexempt t p.0 p.1

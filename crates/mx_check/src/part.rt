@@ -78,7 +78,8 @@ impl<const N: usize> Part<N> {
     #[inline(always)]
     pub fn answer(&mut self, place: u32, domain: u32, word: u32) -> Option<Perm>
         requires { place < 32 }
-        ensures answer { result ≡ option_map (λ s. s.perm) (found place domain word self.old.cache) }
+        ensures answer { result
+            ≡ option_map (λ s. s.perm) (found place domain word self.old.cache) }
         ensures after { self.new ≡ after_caches place domain word self.old }
     {
         self.domain = Some(domain);
@@ -95,7 +96,8 @@ impl<const N: usize> Part<N> {
     #[inline(always)]
     fn list_answer(&mut self, place: u32, domain: u32, word: u32) -> Option<Perm>
         requires { place < 32 }
-        ensures answer { result ≡ option_map (λ s. s.perm) (found_kept self.old.cache.kept domain word) }
+        ensures answer { result
+            ≡ option_map (λ s. s.perm) (found_kept self.old.cache.kept domain word) }
         ensures after { self.new ≡ after_list place domain word self.old }
     {
         match self.kept.find(domain, word) {

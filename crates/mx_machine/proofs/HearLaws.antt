@@ -6,10 +6,8 @@ use Rattle.std.specs.List.{list_any, enumerate_from}
 use Rattle.std.specs.Option.{option_map}
 use Rattle.std.proofs.lemmas.Bool.{cases_eq, ne_eqb}
 use Rattle.mx_words.specs.declared.perm.Span.{Span}
-use Rattle.mx_words.specs.Announced.{announced as announced_range}
 use Rattle.mx_words.specs.Caches.{Cache, meets, without_range}
 use Rattle.mx_words.specs.Counting.{all_below}
-use Rattle.mx_words.specs.FirstFit.{Area}
 use Rattle.mx_words.specs.Hearing.{heard_range, is_in, lets_pass, nobody, unheard_range}
 use Rattle.mx_check.specs.declared.flight.Flight.{Flight}
 use Rattle.mx_check.specs.Calls.{hears, ready_with, unheard, unheard_of}
@@ -20,15 +18,15 @@ use Rattle.mx_check.specs.Looks.{flight_forbids, hart_forbids, is_forbidden}
 use Rattle.mx_check.proofs.HearLaws.{hears_own, length-hears_first}
 use Rattle.mx_check.proofs.LookLaws.{all_below_agree, hart_at-other, hart_at-same, length-at_hart}
 use Rattle.mx_model.specs.declared.values.Call.{Call}
-use Rattle.mx_model.specs.Checks.{arg, call_range, flight_range, heard_by, heard_ranges, is_ready, unheard_ranges}
+use Rattle.mx_model.specs.Checks.{call_range, flight_range, heard_by, heard_ranges, is_ready, unheard_ranges}
 use Rattle.mx_model.specs.Checks.{hears as heard_in, is_halted as halted_by}
 use Rattle.mx_model.specs.State.{Core, Module, Status, module_at}
 use Rattle.mx_model.specs.State.{Hart as Seen}
 use Rattle.mx_model.specs.State.{no_hart as nobody_seen}
 use Rattle.mx_supervisor.specs.Looks.{BarsAlike}
-use Rattle.mx_supervisor.specs.Parts.{Parts, core_of, modules_from, with_heap}
+use Rattle.mx_supervisor.specs.Parts.{modules_from, with_heap}
 use Rattle.mx_supervisor.specs.Served.{range_of}
-use Rattle.mx_supervisor.proofs.Modules.{module-heap}
+use Rattle.mx_supervisor.proofs.Ending.{range-is}
 use Rattle.mx_heap.specs.HeapState.{HeapState}
 use Rattle.mx_machine.specs.declared.hart.Hart.{Hart}
 use Rattle.mx_machine.specs.declared.hart.Progress.{Progress}
@@ -41,6 +39,7 @@ use Rattle.mx_machine.specs.Ties.{Fits, FliesWhileWaiting, IsFlying, IsTied}
 use Rattle.mx_machine.proofs.EachHart.{all-numbered, none-numbered, some_passes, without-numbered}
 use Rattle.mx_machine.proofs.HartsAt.{hart-seen, length-seen}
 use Rattle.mx_machine.proofs.Hearing.{IsHeard, cache-kept, caches_of, caches-first, heard-at, quiet-first, without_first}
+use mathlib.Core.Bool.{not-not}
 
 -- the other harts are tied
 abbrev pub OthersTied : Held → ℕ → Type 0
@@ -57,10 +56,6 @@ all-quiet kept h q i other = subst (λ (o : Option Flight). IfSome o (λ f. is_i
 abbrev taken : (List Bool → ℕ × ℕ → Option (ℕ × ℕ)) → Option Flight → Option (ℕ × ℕ)
 taken choice None = None
 taken choice (Some f) = choice f.heard (f.first, f.count)
-
--- a call's range is the same in the state and for the supervisor
-range-alike : (rest : Core) (p : Parts) (call : Call) → call_range (core_of rest p) call ≡ range_of p call
-range-alike rest p call = ap (λ (a : Area). announced_range call.number (arg call 0) (arg call 1) p.size (a.first, a.count)) (module-heap rest p call.domain)
 
 -- a choice takes the same range of a hart that waits as of its call in flight
 status-taken : (choice : List Bool → ℕ × ℕ → Option (ℕ × ℕ)) (c : Core) (call : Call) (range : ℕ × ℕ) (flight : Option Flight) (p : Progress) →
@@ -86,7 +81,7 @@ flies-heard h range (Some f) G.Waiting t = record { first = t.first; count = t.c
 flies-heard h range flight (G.Halted code) t = ap (option_map (marked h)) t
 
 -- a hart of the state is halted where the machine's is
-halted-seen : (call : Call) (flight : Option Flight) (p : Progress) → halted_by (status_by call flight p) ≡ is_halted p
+pub halted-seen : (call : Call) (flight : Option Flight) (p : Progress) → halted_by (status_by call flight p) ≡ is_halted p
 halted-seen call flight G.Running = refl
 halted-seen call flight G.Waiting = refl
 halted-seen call flight (G.Halted code) = refl
@@ -105,7 +100,7 @@ module _ (m : Held) (h : ℕ) (choice : List Bool → ℕ × ℕ → Option (ℕ
   taken-other j t =
       let x = hart_of m.harts j in
       let k = hart_at m.parts.harts j in
-      status-taken choice (core_in m) (own_call j x) (range_of m.parts (own_call j x)) k.flight x.progress (range-alike (rest_of m) m.parts (own_call j x)) t.flight
+      status-taken choice (core_in m) (own_call j x) (range_of m.parts (own_call j x)) k.flight x.progress (range-is (rest_of m) m.parts (own_call j x)) t.flight
 
 -- what hart h hasn't heard
 unheard-taken : (h : ℕ) (o : Option Flight) → taken (unheard_range h) o ≡ unheard_of h o
@@ -345,10 +340,6 @@ ready-now m h first count f there =
     (λ i lt. ap (λ b. lets_pass h nobody i b) (sym (halted-still kept h first count i long)))
     ∙ ap (λ n. all_below n (λ i. lets_pass h nobody i (hart_at new i).halted)) (sym (length-at_hart kept h (announced h first count)))
     ∙ ap (λ (o : Option Flight). ready_with h o new) (ap (λ (k : Kept). k.flight) (sym (hart_at-same kept h (announced h first count) long)))
-
-not-not : (b : Bool) → not (not b) ≡ b
-not-not true = refl
-not-not false = refl
 
 -- the calls that keep hart h from keeping a span are the same in both
 bars-at : (m : Held) (h : ℕ) (s : Span) → length m.harts ≡ length m.parts.harts → OthersTied m h →

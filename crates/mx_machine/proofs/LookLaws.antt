@@ -21,8 +21,8 @@ use Rattle.mx_model.specs.Checks.{heard_ranges, looked, looked_all, looks_at}
 use Rattle.mx_model.specs.Reads.{Reads, flat_reads, map_in}
 use Rattle.mx_model.specs.State.{Core}
 use Rattle.mx_supervisor.specs.Parts.{Parts, core_of, flat_of}
-use Rattle.mx_machine.specs.Actions.{looks_all}
-use Rattle.mx_machine.proofs.BusLaws.{map-in}
+use Rattle.mx_supervisor.proofs.Maps.{map-in}
+use Rattle.mx_machine.specs.Deeds.{looks_all}
 use Rattle.mx_machine.proofs.CoreLaws.{caches-at, caches-step, caches-still}
 use Rattle.mx_machine.proofs.FitLaws.{count-step, others-step, own-step}
 

@@ -110,7 +110,8 @@ impl<T: PermTables, const N: usize> Bare<T, N> {
         requires run { MayRun self.old hart }
         requires target { IsDomain self.old.parts.maps target }
         requires empty { out.old ≡ no_events }
-        ensures made { IsMade self.old self.new out.new result (deed self.old hart (at_gate (core_in self.old) (hart_in self.old hart) target).action) }
+        ensures made { IsMade self.old self.new out.new result (deed self.old hart
+            (at_gate (core_in self.old) (hart_in self.old hart) target).action) }
         ensures fits { Fits self.new }
     {
         let link = self.harts.link(hart);
@@ -134,7 +135,9 @@ impl<T: PermTables, const N: usize> Bare<T, N> {
     fn execute(&mut self, hart: u32, returns: bool, out: &mut Events) -> TurnKind
         requires valid { IsValid (meaning self.old).core }
         requires run { MayRun self.old hart }
-        requires returns { returns ≡ is_return_at (core_in self.old) (hart_in self.old hart).domain (hart_in self.old hart).pc }
+        requires returns { returns
+            ≡ is_return_at (core_in self.old) (hart_in self.old hart).domain
+            (hart_in self.old hart).pc }
         requires empty { out.old ≡ no_events }
         ensures made { IsMade self.old self.new out.new result (instruction self.old hart) }
         ensures fits { Fits self.new }
@@ -152,7 +155,8 @@ impl<T: PermTables, const N: usize> Bare<T, N> {
         requires run { MayRun self.old hart }
         requires cause { cause < 256 }
         requires empty { out.old ≡ no_events }
-        ensures made { IsMade self.old self.new out.new result (deed self.old hart (Traps cause value)) }
+        ensures made { IsMade self.old self.new out.new result
+            (deed self.old hart (Traps cause value)) }
         ensures fits { Fits self.new }
     {
         let domain = self.harts.domain(hart);
@@ -168,7 +172,8 @@ impl<T: PermTables, const N: usize> Bare<T, N> {
         requires run { MayRun self.old hart }
         requires rd { rd < 32 }
         requires empty { out.old ≡ no_events }
-        ensures made { IsMade self.old self.new out.new result (deed self.old hart (at_return (hart_in self.old hart) rd target)) }
+        ensures made { IsMade self.old self.new out.new result
+            (deed self.old hart (at_return (hart_in self.old hart) rd target)) }
         ensures fits { Fits self.new }
     {
         match self.harts.back(hart) {
@@ -188,7 +193,8 @@ impl<T: PermTables, const N: usize> Bare<T, N> {
     fn ask(&mut self, hart: u32, out: &mut Events) -> TurnKind
         requires run { MayRun self.old hart }
         requires empty { out.old ≡ no_events }
-        ensures made { IsMade self.old self.new out.new result (deed self.old hart (Asks (call_of hart (hart_in self.old hart)))) }
+        ensures made { IsMade self.old self.new out.new result
+            (deed self.old hart (Asks (call_of hart (hart_in self.old hart)))) }
         ensures fits { Fits self.new }
     {
         let call = self.harts.call(hart);
@@ -205,7 +211,8 @@ impl<T: PermTables, const N: usize> Bare<T, N> {
     fn serve(&mut self, hart: u32, call: &Call, out: &mut Events)
         requires serving { IsServing self.old hart call.now }
         requires empty { out.old ≡ no_events }
-        ensures made { IsMade self.old self.new out.new TurnKind.Called (served (reads_of self.old) (core_in self.old) hart (hart_in self.old hart) call.now) }
+        ensures made { IsMade self.old self.new out.new TurnKind.Called
+            (served (reads_of self.old) (core_in self.old) hart (hart_in self.old hart) call.now) }
         ensures fits { Fits self.new }
     {
         let answer = self.bus.supervisor.serve(call, out);

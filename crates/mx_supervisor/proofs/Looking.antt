@@ -1,5 +1,5 @@
 -- One look at a word: what the checker keeps afterwards is what the model's look leaves.
-use Rattle.std.proofs.Common.{◌≡◌, ◌≢◌, ℕ, ◌-◌, ◌*◌, ◌/◌, ◌<◌, ◌⊎◌, inl, inr, Bool, true, false, not, ◌==◌, ◌&&◌, nat_lt, nat_le, List, length, set, Option, Some, refl, sym, ap, subst, ◌∙◌, arith, length-set, get_or-set_same, get_or-set_other, eq-eqb}
+use Rattle.std.proofs.Common.{◌≡◌, ◌≢◌, ℕ, ◌-◌, ◌*◌, ◌/◌, ◌<◌, ◌⊎◌, inl, inr, true, not, ◌==◌, ◌&&◌, nat_lt, nat_le, List, length, set, Option, Some, refl, sym, ap, subst, ◌∙◌, arith, length-set, get_or-set_same, get_or-set_other, eq-eqb}
 use Rattle.std.proofs.Common.{map as list_map}
 use Rattle.std.specs.Prelude.{IfSome}
 use Rattle.std.proofs.Math.ListN.{get_or-map}
@@ -29,6 +29,7 @@ use Rattle.mx_model.specs.State.{Core, cache_at}
 use Rattle.mx_supervisor.specs.Looks.{BarsAlike, KeepsHarts, HasLooked}
 use Rattle.mx_supervisor.specs.Parts.{Parts, core_of, flat_of, IsSound}
 use Rattle.mx_supervisor.proofs.Maps.{map-in}
+use mathlib.Core.Bool.{not-not}
 
 -- the word that holds the address of a word
 pub word-of-address : (w size : ℕ) → w < size → word_of (address_of w) size ≡ Some w
@@ -84,7 +85,7 @@ step-keeps call harts step there halted flight domain =
       domain = inr (ap (λ (k : Kept). k.domain) now ∙ domain);
     }
 
-abbrev cache_of : Kept → Cache
+abbrev pub cache_of : Kept → Cache
 cache_of k = k.cache
 
 -- the state after it
@@ -117,11 +118,6 @@ has-looked call w p harts sound there lt may is =
       harts = step-keeps call p.harts step may.hart refl refl refl;
       core = λ rest bars. core-look rest p call.hart call.domain w there bars;
     })
-
--- what the checker answers of it
-not-not : (b : Bool) → not (not b) ≡ b
-not-not true = refl
-not-not false = refl
 
 pub allowed-word : (p : Parts) (d w : ℕ) (access : Access) → IsSound p → IsDomain p.maps d → w < p.size →
     not (denies (perm (map_of p.maps d)) (address_of w) access) ≡ allows (perm_at (map_in p.size p.maps d) w) access

@@ -1,11 +1,12 @@
 -- What is true of each module's heap.
-use Rattle.std.proofs.Common.{◌≡◌, ℕ, zero, suc, ◌+◌, ◌-◌, ◌<◌, ◌≤◌, ◌==◌, ◌⊎◌, inl, inr, Bool, true, false, cond, List, [], ◌∷◌, length, get_or, eq-eqb, refl, sym, ap, subst, ◌∙◌, arith, Option, Some, None}
+use Rattle.std.proofs.Common.{◌≡◌, ℕ, ◌+◌, ◌-◌, ◌<◌, ◌≤◌, ◌⊎◌, inl, inr, cond, List, [], ◌∷◌, length, get_or, eq-eqb, refl, sym, ap, subst, ◌∙◌, arith, Option, None}
 use Rattle.std.proofs.Common.{map as list_map}
 use Rattle.std.proofs.lemmas.Bool.{cases_eq, cases_lt, ne_eqb}
 use Rattle.std.proofs.lemmas.List.{get_or-map, get_or_past, length-map}
 use Rattle.mx_words.specs.FirstFit.{Area, AreApart}
 use Rattle.mx_words.proofs.AreaLaws.{apart_ordered}
 use Rattle.mx_heap.specs.HeapState.{HeapState, IsHeap}
+use Rattle.mx_heap.proofs.RoomLaws.{apart-le}
 use Rattle.mx_supervisor.specs.Heaps.{heap_at, heap_in, no_area, no_heap, told_heap, told_area}
 use Rattle.mx_supervisor.specs.Told.{IsTold}
 
