@@ -1,9 +1,10 @@
 -- What a line without faults keeps: the segments of the program so far, and the place after them.
-use Rattle.std.proofs.Common.{◌≡◌, ◌==◌, ℕ, ◌-◌, ◌%◌, ◌^◌, ◌<◌, ◌≤◌, Bool, true, false, cond, not, ◌&&◌, ◌||◌, List, [], ◌∷◌, length, map, refl, arith, Option, None, Some, IsSome, is_some, nat_le}
-use Rattle.std.specs.Option.{option_or, option_map_or}
+use Rattle.std.proofs.Common.{◌≡◌, ◌==◌, ℕ, ◌-◌, ◌^◌, ◌<◌, ◌≤◌, Bool, true, false, cond, not, ◌&&◌, ◌||◌, List, [], ◌∷◌, length, map, refl, arith, Option, None, Some, IsSome, is_some, nat_le}
+use Rattle.std.specs.Option.{option_map_or}
 use Rattle.std.proofs.lemmas.Bool.{leb-true, and_parts}
 use Rattle.std.proofs.lemmas.List.{length-map, length-replicate}
 use Rattle.mx_image.specs.Image.{words}
+use Rattle.mx_image.proofs.Sizes.{length-words}
 use Rattle.mx_source.specs.declared.mnemonics.Keyword.{Keyword}
 use Rattle.mx_source.specs.declared.mnemonics.Keyword.TheVariants.{Text, Data, At, Word, Byte, Ascii, Li, La, Inst}
 use Rattle.mx_source.specs.declared.number.Number.{Number}
@@ -12,20 +13,10 @@ use Rattle.mx_source.specs.Fields.{Fields, value_fields, label_fields, fields_of
 use Rattle.mx_asm.specs.declared.places.Place.{Place}
 use Rattle.mx_asm.specs.Places.{address_number, address_of, size_of}
 use Rattle.mx_asm.specs.Labels.{Definition}
-use Rattle.mx_asm.specs.Faults.{kind_fault, address_fault, operand_fault, begins_segment, is_aligned, is_full, place_fault}
+use Rattle.mx_asm.specs.Faults.{kind_fault, address_fault, operand_fault, is_full, place_fault, begins_segment, is_misplaced}
 use Rattle.mx_asm.specs.Denoted.{bytes_of, pair_words, inst_word, word_of_value, byte_of_number}
 use Rattle.mx_asm.proofs.FaultLaws.{kind_some}
-use Rattle.mx_asm.proofs.ProgramLaws.{length-words}
-
--- of two faults there is neither
-pub or_none : {A : Type 0} (a b : Option A) → option_or a b ≡ None → (a ≡ None) × (b ≡ None)
-or_none None b h = (refl, h)
-or_none (Some a) b h = cc
-
--- a row that doesn't apply
-pub row_none : (t : Bool) (n : ℕ) (rest : Option ℕ) → cond t (Some n) rest ≡ None → (t ≡ false) × (rest ≡ None)
-row_none true n rest h = cc
-row_none false n rest h = (refl, h)
+use Rattle.mx_elf.proofs.Sound.{row_none}
 
 pub no_fault : (t : Bool) (n : ℕ) → cond t None (Some n) ≡ None → t ≡ true
 no_fault true n h = refl
@@ -34,7 +25,7 @@ no_fault false n h = cc
 -- what the rows of a statement's place say where none applies
 pub record IsPlain (label : Option (List ℕ)) (keyword : Keyword) (operands : List (List ℕ)) (place : Place) : Type 0 where
   pub begun : ((place.segments == 0) && (is_some label || not (begins_segment keyword))) ≡ false
-  pub aligned : ((begins_segment keyword && not (address_of operands % 4 == 0)) || (is_aligned keyword && not (place.here % 4 == 0))) ≡ false
+  pub aligned : is_misplaced keyword operands place ≡ false
   pub sixteenth : (begins_segment keyword && nat_le 16 place.segments) ≡ false
   pub room : is_full label place (size_of keyword operands place.here) ≡ false
 

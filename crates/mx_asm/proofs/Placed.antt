@@ -1,8 +1,8 @@
 -- Lines without faults keep a program within its limits.
-use Rattle.std.proofs.Common.{◌≡◌, ◌⊎◌, inl, inr, ◌==◌, ℕ, ◌+◌, ◌%◌, ◌^◌, ◌<◌, ◌≤◌, Bool, true, false, cond, not, ◌&&◌, ◌||◌, List, [], ◌∷◌, ◌++◌, length, refl, ap, sym, arith, add-zero, Option, None, Some, IsSome, is_some, nat_lt, nat_le}
+use Rattle.std.proofs.Common.{◌≡◌, ◌⊎◌, inl, inr, ◌==◌, ℕ, ◌+◌, ◌%◌, ◌^◌, ◌<◌, ◌≤◌, Bool, true, false, cond, not, ◌&&◌, ◌||◌, List, [], ◌∷◌, ◌++◌, length, refl, ap, arith, add-zero, Option, None, Some, IsSome, is_some, nat_lt, nat_le}
 use Rattle.std.specs.List.{AllByRecursion}
 use Rattle.std.specs.Option.{option_or}
-use Rattle.std.proofs.lemmas.Bool.{ltb-false, leb-false, eqb-true, eqb-false, or_parts}
+use Rattle.std.proofs.lemmas.Bool.{ltb-false, leb-false, eqb-true, eqb-false, or_parts, not-false}
 use Rattle.std.proofs.lemmas.List.{length-append}
 use Rattle.mx_image.specs.declared.segment.Segment.{Segment}
 use Rattle.mx_image.specs.Program.{Program, byte_count, with_entry, with_byte, with_last_byte, no_program, with_bytes}
@@ -18,7 +18,8 @@ use Rattle.mx_asm.specs.Faults.{operand_fault, begins_segment, is_aligned, place
 use Rattle.mx_asm.specs.Denoted.{bytes_of, with_begun, with_listed, with_statement, with_defined}
 use Rattle.mx_asm.specs.Ready.{IsReady, IsReadyFor}
 use Rattle.mx_asm.proofs.ProgramLaws.{grown}
-use Rattle.mx_asm.proofs.PlaceLaws.{or_none, row_none, no_fault, IsPlain, place_plain, address_below, length-bytes_of}
+use Rattle.mx_asm.proofs.PlaceLaws.{no_fault, IsPlain, place_plain, address_below, length-bytes_of}
+use Rattle.mx_elf.proofs.Sound.{neither, row_none}
 
 -- a segment at a multiple of 4, of code or of data
 pub record IsBegun (s : Segment) : Type 0 where
@@ -131,15 +132,11 @@ both_true false b h = refl
 first_of : (a b c : Bool) → (a || b || c) ≡ false → (a ≡ false) × (b ≡ false) × (c ≡ false)
 first_of a b c h = let p = or_parts (a || b) c h in let q = or_parts a b p.0 in (q.0, q.1, p.1)
 
-not_false : (b : Bool) → not b ≡ false → b ≡ true
-not_false true h = refl
-not_false false h = sym h
-
 pos_of : (n : ℕ) → (n ≡ 0 → ⊥) → 0 < n
 pos_of n h = omega (arith, h)
 
 not_aligned : (n : ℕ) → not (n % 4 == 0) ≡ false → n % 4 ≡ 0
-not_aligned n h = eqb-true (n % 4) 0 (not_false (n % 4 == 0) h)
+not_aligned n h = eqb-true (n % 4) 0 (not-false (n % 4 == 0) h)
 
 module _ (labels : List Definition) (label : Option (List ℕ)) (operands : List (List ℕ)) (place : Place) (p : Program) (is : IsPlaced place p) where
   begun_of : (keyword : Keyword) → begins_segment keyword ≡ false → IsPlain label keyword operands place → 0 < length p.segments
@@ -210,8 +207,8 @@ unfolding line_fault offset_fault
 statement_step labels number place label Absent p h off is = record { ready = tt; after = is }
 statement_step labels number place label Unlisted p h off is = cc
 statement_step labels number place label (Listed keyword operands) p h off is =
-    let o = or_none (operand_fault labels keyword operands) (option_or (label_fault labels number label) (place_fault label keyword operands place)) h in
-    let q = or_none (label_fault labels number label) (place_fault label keyword operands place) o.1 in
+    let o = neither (operand_fault labels keyword operands) (option_or (label_fault labels number label) (place_fault label keyword operands place)) h in
+    let q = neither (label_fault labels number label) (place_fault label keyword operands place) o.1 in
     listed_step labels label operands place p is keyword o.0 (no_fault (offset_fits labels place.here keyword operands) 3 off) (place_plain label keyword operands place q.1)
 
 below_end : (some : Bool) (here : ℕ) → (some && nat_le (2 ^ 32) here) ≡ false → some ≡ true → here < 2 ^ 32
@@ -223,14 +220,14 @@ pub label_below : (labels : List Definition) (number : ℕ) (place : Place) (lab
     → line_fault labels number place label statement ≡ None → IsSome label → place.here < 2 ^ 32
 unfolding line_fault
 label_below labels number place label Absent h some =
-    let o = or_none (label_fault labels number label) (label_place_fault label place) h in
+    let o = neither (label_fault labels number label) (label_place_fault label place) h in
     let a = row_none (is_some label && (place.segments == 0)) 6 _ o.1 in
     let b = row_none (is_some label && nat_le (2 ^ 32) place.here) 10 None a.1 in
     below_end (is_some label) place.here b.0 some
 label_below labels number place label Unlisted h some = cc
 label_below labels number place label (Listed keyword operands) h some =
-    let o = or_none (operand_fault labels keyword operands) (option_or (label_fault labels number label) (place_fault label keyword operands place)) h in
-    let q = or_none (label_fault labels number label) (place_fault label keyword operands place) o.1 in
+    let o = neither (operand_fault labels keyword operands) (option_or (label_fault labels number label) (place_fault label keyword operands place)) h in
+    let q = neither (label_fault labels number label) (place_fault label keyword operands place) o.1 in
     let size = size_of keyword operands place.here in
     let plain = place_plain label keyword operands place q.1 in
     below_end (is_some label) place.here (first_of (nat_lt 4194304 (place.total + size)) (nat_lt (2 ^ 32) (place.here + size)) (is_some label && nat_le (2 ^ 32) place.here) plain.room).2 some
@@ -239,11 +236,11 @@ label_below labels number place label (Listed keyword operands) h some =
 pub label_here : (labels : List Definition) (number : ℕ) (place : Place) (label : Option (List ℕ)) (statement : Statement)
     → line_fault labels number place label statement ≡ None → label_fault labels number label ≡ None
 unfolding line_fault
-label_here labels number place label Absent h = (or_none (label_fault labels number label) (label_place_fault label place) h).0
+label_here labels number place label Absent h = (neither (label_fault labels number label) (label_place_fault label place) h).0
 label_here labels number place label Unlisted h = cc
 label_here labels number place label (Listed keyword operands) h =
-    (or_none (label_fault labels number label) (place_fault label keyword operands place)
-    (or_none (operand_fault labels keyword operands) (option_or (label_fault labels number label) (place_fault label keyword operands place)) h).1).0
+    (neither (label_fault labels number label) (place_fault label keyword operands place)
+    (neither (operand_fault labels keyword operands) (option_or (label_fault labels number label) (place_fault label keyword operands place)) h).1).0
 
 -- a label changes neither
 pub label_placed : (place : Place) (label : Option (List ℕ)) (here : ℕ) (p : Program) → IsPlaced place p → IsPlaced place (with_defined label here p)

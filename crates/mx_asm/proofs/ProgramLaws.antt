@@ -1,5 +1,5 @@
 -- Laws of programs with more bytes.
-use Rattle.std.proofs.Common.{◌≡◌, ℕ, ◌+◌, ◌*◌, ◌<◌, List, [], ◌∷◌, ◌++◌, length, refl, ap, sym, ◌∙◌, arith, replicate}
+use Rattle.std.proofs.Common.{◌≡◌, ℕ, ◌+◌, ◌<◌, List, [], ◌∷◌, ◌++◌, length, refl, ap, sym, ◌∙◌, arith, replicate}
 use Rattle.std.proofs.lemmas.List.{length-append, replicate-append-replicate}
 use Rattle.mx_image.proofs.Building.{length-with_last_byte, byte_count-with_last_byte}
 use Rattle.mx_image.specs.Program.{Program, with_byte, with_bytes, byte_count}
@@ -59,7 +59,3 @@ zeros_split n k m e = ap (λ i. replicate {A = ℕ} i 0) (sym e) ∙ sym (replic
 -- words one by one
 pub words-cons : (v : ℕ) (vs : List ℕ) → words (v ∷ vs) ≡ words (v ∷ []) ++ words vs
 words-cons v vs = refl
-
-pub length-words : (vs : List ℕ) → length (words vs) ≡ 4 * length vs
-length-words [] = refl
-length-words (v ∷ vs) = omega (arith, length-words vs)

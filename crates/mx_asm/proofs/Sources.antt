@@ -14,8 +14,8 @@ use Rattle.mx_asm.specs.LabelViews.{definition_view}
 use Rattle.mx_asm.specs.Faults.{at_line, line_fault, offset_fault, fault_from, offset_from}
 use Rattle.mx_asm.specs.Denoted.{with_line, with_defined, with_start, program_from, program_of, first_fault, labels_of_source}
 use Rattle.mx_asm.proofs.LineLaws.{IsLineAt}
-use Rattle.mx_asm.proofs.PlaceLaws.{or_none}
 use Rattle.mx_asm.proofs.Placed.{IsPlaced, IsStep, statement_step, label_below, label_placed}
+use Rattle.mx_elf.proofs.Sound.{neither}
 
 line_none : (number : ℕ) (fault : Option ℕ) → at_line number fault ≡ None → fault ≡ None
 line_none number None h = refl
@@ -27,14 +27,14 @@ module _ (labels : List Definition) (place : Place) (number : ℕ) (text : List 
       → (line_fault labels number place (line_of text).label (line_of text).statement ≡ None) × (fault_from labels (place_after (line_of text).statement place) (number + 1) rest ≡ None)
   unfolding fault_from
   fault_parts h =
-      let o = or_none (at_line number (line_fault labels number place (line_of text).label (line_of text).statement)) (fault_from labels (place_after (line_of text).statement place) (number + 1) rest) h in
+      let o = neither (at_line number (line_fault labels number place (line_of text).label (line_of text).statement)) (fault_from labels (place_after (line_of text).statement place) (number + 1) rest) h in
       (line_none number (line_fault labels number place (line_of text).label (line_of text).statement) o.0, o.1)
 
   pub offset_parts : offset_from labels place number (text ∷ rest) ≡ None
       → (offset_fault labels place (line_of text).statement ≡ None) × (offset_from labels (place_after (line_of text).statement place) (number + 1) rest ≡ None)
   unfolding offset_from
   offset_parts h =
-      let o = or_none (at_line number (offset_fault labels place (line_of text).statement)) (offset_from labels (place_after (line_of text).statement place) (number + 1) rest) h in
+      let o = neither (at_line number (offset_fault labels place (line_of text).statement)) (offset_from labels (place_after (line_of text).statement place) (number + 1) rest) h in
       (line_none number (offset_fault labels place (line_of text).statement) o.0, o.1)
 
   pub program_more : (p : Program)
@@ -80,7 +80,7 @@ pub first_none : (source : List ℕ) (labels : List Definition) → labels ≡ l
     → (fault_from labels start 1 (lines source) ≡ None) × (offset_from labels start 1 (lines source) ≡ None)
 unfolding first_fault
 first_none source labels is h =
-    let o = or_none (fault_from (labels_of_source source) start 1 (lines source)) (offset_from (labels_of_source source) start 1 (lines source)) h in
+    let o = neither (fault_from (labels_of_source source) start 1 (lines source)) (offset_from (labels_of_source source) start 1 (lines source)) h in
     (rw is o.0, rw is o.1)
 
 -- labels below 2^32

@@ -29,12 +29,14 @@ byte_of_number text = option_map_or (λ n. number_bits n % 256) (number_of text)
 
 -- the word of an instruction at an address
 abbrev pub inst_word : List Definition → ℕ → Form → Fields → ℕ
-inst_word labels here form f = encoded (inst_of form f (number_bits (offset_of labels here f.value)))
+inst_word labels here form f =
+    encoded (inst_of form f (number_bits (offset_of labels here f.value)))
 
 -- the words of `li` and `la`
 abbrev pub pair_words : List Definition → Fields → List ℕ
 pair_words labels f =
-    encoded (upper_inst f.rd (bits_of_value labels f.value)) ∷ encoded (low_inst f.rd (bits_of_value labels f.value)) ∷ []
+    encoded (upper_inst f.rd (bits_of_value labels f.value))
+    ∷ encoded (low_inst f.rd (bits_of_value labels f.value)) ∷ []
 
 -- the bytes of a statement at an address
 unfoldable pub bytes_of : List Definition → ℕ → Keyword → List (List ℕ) → List ℕ
@@ -44,9 +46,12 @@ bytes_of labels here At operands = replicate (address_of operands - here) 0
 bytes_of labels here Word operands = words (map (word_of_value labels) operands)
 bytes_of labels here Byte operands = map byte_of_number operands
 bytes_of labels here Ascii operands = unwrap_or (ascii_of operands) []
-bytes_of labels here Li operands = option_map_or (λ f. words (pair_words labels f)) (value_fields operands) []
-bytes_of labels here La operands = option_map_or (λ f. words (pair_words labels f)) (label_fields operands) []
-bytes_of labels here (Inst form) operands = option_map_or (λ f. words (inst_word labels here form f ∷ [])) (fields_of form operands) []
+bytes_of labels here Li operands =
+    option_map_or (λ f. words (pair_words labels f)) (value_fields operands) []
+bytes_of labels here La operands =
+    option_map_or (λ f. words (pair_words labels f)) (label_fields operands) []
+bytes_of labels here (Inst form) operands =
+    option_map_or (λ f. words (inst_word labels here form f ∷ [])) (fields_of form operands) []
 
 -- with a segment of these flags begun at an address, which is the entry where it is the first
 abbrev pub with_begun : ℕ → ℕ → Program → Program
@@ -73,7 +78,8 @@ with_defined (Some name) here p = with_label (record { name = name; address = he
 
 -- with a line at an address
 abbrev pub with_line : List Definition → ℕ → Line → Program → Program
-with_line labels here line p = with_statement labels here line.statement (with_defined line.label here p)
+with_line labels here line p =
+    with_statement labels here line.statement (with_defined line.label here p)
 
 -- with lines, the first of which stands at this place
 unfoldable pub program_from : List Definition → Place → List (List ℕ) → Program → Program
@@ -88,17 +94,20 @@ labels_of_source source = labels_from start 1 [] (lines source)
 
 -- with the label `start` as its entry, where it is defined
 abbrev pub with_start : List Definition → Program → Program
-with_start labels p = option_map_or (λ d. with_entry d.address p) (definition_of labels (codes "start")) p
+with_start labels p =
+    option_map_or (λ d. with_entry d.address p) (definition_of labels (codes "start")) p
 
 -- the program that a source denotes
 unfoldable pub program_of : List ℕ → Program
 program_of source =
-    with_start (labels_of_source source) (program_from (labels_of_source source) start (lines source) no_program)
+    with_start (labels_of_source source)
+    (program_from (labels_of_source source) start (lines source) no_program)
 
 -- the first fault of a source; offsets to labels are judged only where no line has another one
 unfoldable pub first_fault : List ℕ → Option SourceFault
 first_fault source =
-    option_or (fault_from (labels_of_source source) start 1 (lines source)) (offset_from (labels_of_source source) start 1 (lines source))
+    option_or (fault_from (labels_of_source source) start 1 (lines source))
+    (offset_from (labels_of_source source) start 1 (lines source))
 
 -- a refusal tells the first fault, or that memory is wanting
 abbrev pub IsToldOf : Option SourceFault → AsmRefused → Type 0

@@ -12,6 +12,7 @@ use Rattle.mx_source.specs.Fields.{Value, Given, Label, Fields, value_of, value_
 use Rattle.mx_asm.specs.Places.{address_number, address_of, ascii_of, size_of, place_after}
 use Rattle.mx_asm.specs.Labels.{Definition, definition_of}
 use Rattle.mx_asm.specs.Instructions.{offset_of}
+use Rattle.mx_words.specs.FirstRow.{first_row}
 
 -- the lesser of two fault numbers, where there are any
 abbrev pub lesser_fault : Option ℕ → Option ℕ → Option ℕ
@@ -46,7 +47,8 @@ some_fault fault operands = if length operands == 0 then Some 2 else least_fault
 
 -- of an address
 abbrev pub address_fault : List (List ℕ) → Option ℕ
-address_fault operands = kind_fault (λ n. if fits address_range n then None else Some 3) (address_number operands)
+address_fault operands =
+    kind_fault (λ n. if fits address_range n then None else Some 3) (address_number operands)
 
 -- of fields with a value in this range
 abbrev pub fields_fault : List Definition → Range → Option Fields → Option ℕ
@@ -62,7 +64,8 @@ operand_fault labels Byte operands = some_fault byte_fault operands
 operand_fault labels Ascii operands = kind_fault (λ text. None) (ascii_of operands)
 operand_fault labels Li operands = fields_fault labels word_range (value_fields operands)
 operand_fault labels La operands = fields_fault labels word_range (label_fields operands)
-operand_fault labels (Inst form) operands = fields_fault labels (range_of form) (fields_of form operands)
+operand_fault labels (Inst form) operands =
+    fields_fault labels (range_of form) (fields_of form operands)
 
 -- 5: the label was defined on an earlier line, so this isn't the line that defines it first
 unfoldable pub label_fault : List Definition → ℕ → Option (List ℕ) → Option ℕ
@@ -89,36 +92,42 @@ abbrev pub is_at : Keyword → Bool
 is_at At = true
 is_at _ = false
 
--- the number of the first row that applies
-abbrev pub first_row : List (ℕ × Bool) → Option ℕ
-first_row [] = None
-first_row (row ∷ rows) = if row.1 then Some row.0 else first_row rows
-
 -- 6: before the first segment. 10: a label at 2^32
 abbrev pub label_place_fault : Option (List ℕ) → Place → Option ℕ
 label_place_fault label place =
-    first_row ((6, is_some label && (place.segments == 0)) ∷ (10, is_some label && nat_le (2 ^ 32) place.here) ∷ [])
+    first_row (
+    (is_some label && (place.segments == 0), 6)
+    ∷ (is_some label && nat_le (2 ^ 32) place.here, 10)
+    ∷ [])
+
+-- a segment or a word that would not begin at a multiple of 4
+abbrev pub is_misplaced : Keyword → List (List ℕ) → Place → Bool
+is_misplaced keyword operands place =
+    (begins_segment keyword && not (address_of operands % 4 == 0))
+    || (is_aligned keyword && not (place.here % 4 == 0))
 
 -- too many bytes, a segment that passes 2^32, or a label at 2^32
 abbrev pub is_full : Option (List ℕ) → Place → ℕ → Bool
 is_full label place size =
-    nat_lt 4194304 (place.total + size) || nat_lt (2 ^ 32) (place.here + size) || (is_some label && nat_le (2 ^ 32) place.here)
+    nat_lt 4194304 (place.total + size) || nat_lt (2 ^ 32) (place.here + size)
+    || (is_some label && nat_le (2 ^ 32) place.here)
 
 -- 6: before the first segment. 7: not at a multiple of 4. 8: `.at` before the present address. 9: the seventeenth segment.
 -- 10: too many bytes, a segment that passes 2^32, or a label at 2^32
 unfoldable pub place_fault : Option (List ℕ) → Keyword → List (List ℕ) → Place → Option ℕ
 place_fault label keyword operands place =
     first_row (
-    (6, (place.segments == 0) && (is_some label || not (begins_segment keyword)))
-    ∷ (7, (begins_segment keyword && not (address_of operands % 4 == 0)) || (is_aligned keyword && not (place.here % 4 == 0)))
-    ∷ (8, is_at keyword && nat_lt (address_of operands) place.here)
-    ∷ (9, begins_segment keyword && nat_le 16 place.segments)
-    ∷ (10, is_full label place (size_of keyword operands place.here))
+    ((place.segments == 0) && (is_some label || not (begins_segment keyword)), 6)
+    ∷ (is_misplaced keyword operands place, 7)
+    ∷ (is_at keyword && nat_lt (address_of operands) place.here, 8)
+    ∷ (begins_segment keyword && nat_le 16 place.segments, 9)
+    ∷ (is_full label place (size_of keyword operands place.here), 10)
     ∷ [])
 
 -- the least fault of a line with this number at this place, offsets to labels aside
 unfoldable pub line_fault : List Definition → ℕ → Place → Option (List ℕ) → Statement → Option ℕ
-line_fault labels number place label Absent = option_or (label_fault labels number label) (label_place_fault label place)
+line_fault labels number place label Absent =
+    option_or (label_fault labels number label) (label_place_fault label place)
 line_fault labels number place label Unlisted = Some 1
 line_fault labels number place label (Listed keyword operands) =
     option_or (operand_fault labels keyword operands)
@@ -127,12 +136,14 @@ line_fault labels number place label (Listed keyword operands) =
 -- whether an instruction's number, or its offset to a label, is in its range
 abbrev pub offset_fits : List Definition → ℕ → Keyword → List (List ℕ) → Bool
 offset_fits labels here (Inst form) operands =
-    option_map_or (λ f. fits (range_of form) (offset_of labels here f.value)) (fields_of form operands) true
+    option_map_or (λ f. fits (range_of form) (offset_of labels here f.value))
+    (fields_of form operands) true
 offset_fits labels here _ operands = true
 
 -- 3: an offset to a label out of its range
 unfoldable pub offset_fault : List Definition → Place → Statement → Option ℕ
-offset_fault labels place (Listed keyword operands) = if offset_fits labels place.here keyword operands then None else Some 3
+offset_fault labels place (Listed keyword operands) =
+    if offset_fits labels place.here keyword operands then None else Some 3
 offset_fault labels place _ = None
 
 -- a fault with its line

@@ -32,4 +32,5 @@ unfoldable pub labels_from : Place → ℕ → List Definition → List (List �
 labels_from place number labels [] = labels
 labels_from place number labels (text ∷ lines) =
     let line = line_of text in
-    labels_from (place_after line.statement place) (number + 1) (with_name line.label place.here number labels) lines
+    labels_from (place_after line.statement place) (number + 1)
+    (with_name line.label place.here number labels) lines

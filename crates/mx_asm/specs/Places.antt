@@ -40,11 +40,13 @@ start = record { segments = 0; here = 0; total = 0 }
 
 -- with the next segment begun, at an address
 abbrev pub at_segment : ℕ → Place → Place
-at_segment address place = record { segments = place.segments + 1; here = address; total = place.total }
+at_segment address place =
+    record { segments = place.segments + 1; here = address; total = place.total }
 
 -- with more bytes in the present one
 abbrev pub with_size : ℕ → Place → Place
-with_size size place = record { segments = place.segments; here = place.here + size; total = place.total + size }
+with_size size place =
+    record { segments = place.segments; here = place.here + size; total = place.total + size }
 
 -- after a listed statement
 unfoldable pub place_listed : Keyword → List (List ℕ) → Place → Place

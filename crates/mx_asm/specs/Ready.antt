@@ -9,7 +9,8 @@ use Rattle.mx_asm.specs.Labels.{Definition}
 use Rattle.mx_asm.specs.Faults.{operand_fault, offset_fits, begins_segment}
 
 -- a listed statement has no fault, has a segment to stand in, and there is room for it
-pub record IsReadyFor (labels : List Definition) (place : Place) (keyword : Keyword) (operands : List (List ℕ)) (p : Program) : Type 0 where
+pub record IsReadyFor (labels : List Definition) (place : Place) (keyword : Keyword)
+    (operands : List (List ℕ)) (p : Program) : Type 0 where
   pub begun : begins_segment keyword ≡ false → 0 < length p.segments
   pub address : begins_segment keyword ≡ true → address_of operands < 2 ^ 32
   pub faultless : operand_fault labels keyword operands ≡ None

@@ -161,8 +161,10 @@ fn add_content(
     operands: &[u8],
 ) -> Result<(), NoMemory>
     requires begun { 0 < length program.old.segments }
-    requires faultless { operand_fault (labels_view labels.now) keyword (pieces_of operands.now) ≡ None }
-    requires fits { IsTrue (offset_fits (labels_view labels.now) here keyword (pieces_of operands.now)) }
+    requires faultless { operand_fault (labels_view labels.now) keyword (pieces_of operands.now)
+        ≡ None }
+    requires fits { IsTrue
+        (offset_fits (labels_view labels.now) here keyword (pieces_of operands.now)) }
     requires room { byte_count program.old.segments
         + size_of keyword (pieces_of operands.now) here ≤ 2 ^ 23 }
     ensures { OnOk result (program.new

@@ -3,6 +3,7 @@ use Rattle.std.proofs.Common.{◌≡◌, inl, inr, ℕ, ◌%◌, Bool, true, fal
 use Rattle.std.specs.Prelude.{IfSome}
 use Rattle.std.specs.Option.{option_map_or}
 use Rattle.std.specs.List.{AllByRecursion}
+use Rattle.std.proofs.lemmas.Bool.{and_parts}
 use Rattle.mx_words.specs.declared.perm.Access.TheVariants as A
 use Rattle.mx_words.specs.Bytes.{IsSize}
 use Rattle.mx_words.specs.Ranges.{word_of}
@@ -22,7 +23,7 @@ use Rattle.mx_model.specs.State.{Core, Hart, Status, Running, Waiting, Halted, h
 use Rattle.mx_model.specs.Turn.{Action, Rests, Waits, Serves, Asks, Traps, Bounces, Crosses, Returns, Runs, Writes, Decided, without_look, traps, is_denied, call_gate_at, is_return_at, load_at, at_gate, returned_over, at_return, jump_action, by_effect, by_word, fetches, runs_at, runs_in, by_status, decide}
 use Rattle.mx_model.specs.Valid.{IsStatus}
 use Rattle.mx_model.proofs.ListLaws.{all-find, all-last, found-passes}
-use Rattle.mx_audit.proofs.LiveLaws.{IsHome, Leads, both-true}
+use Rattle.mx_audit.proofs.LiveLaws.{IsHome, Leads}
 
 -- an effect's store is aligned
 abbrev IsAligned : Effect → Type 0
@@ -138,7 +139,7 @@ inside-runs_at L r c h hart None p q = inside-fetches L r c h hart (is_denied r 
 -- the target of a call gate of a domain in the set
 target-in : (L : ℕ → Type 0) (d word : ℕ) (g : Gate) → L d → Leads L g → is_at d word g ≡ true → IfSome (call_target g) L
 target-in L d word g p q e =
-    let own : g.domain ≡ d = eqb-true g.domain d (both-true (g.domain == d) (g.word == word) e).0 in
+    let own : g.domain ≡ d = eqb-true g.domain d (and_parts (g.domain == d) (g.word == word) e).0 in
     elim (g.target == g.domain) as (λ b. IfSome (cond b None (Some g.target)) L) [ true ↦ tt | false ↦ q (subst L (sym own) p) ]
 
 target-some : (L : ℕ → Type 0) (d word : ℕ) (o : Option Gate) → L d → IfSome o (Leads L) → IfSome o (λ g. is_at d word g ≡ true) →

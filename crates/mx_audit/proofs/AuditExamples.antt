@@ -8,12 +8,12 @@ use Rattle.mx_words.specs.Runs.{Run, runs_of}
 use Rattle.mx_isa.specs.Fields.{imm_i, imm_s, imm_b, imm_u, imm_j, extended}
 use Rattle.mx_isa.specs.Table.{decoded}
 use Rattle.mx_model.specs.declared.values.Frame.{Frame}
-use Rattle.mx_model.specs.declared.values.Gate.{Gate}
 use Rattle.mx_model.specs.Effect.{holds, imm_result, reg_result, loaded, effect}
 use Rattle.mx_model.specs.Reads.{reads}
 use Rattle.mx_model.specs.Run.{ByQuantum, run}
 use Rattle.mx_model.specs.State.{State, hart_at, with_hart}
 use Rattle.mx_model.proofs.Boots.{Inline, inline, boot, one_module}
+use Rattle.mx_model.proofs.Smalls.{gate}
 use Rattle.mx_audit.specs.Live.{is_live}
 use Rattle.mx_audit.specs.Sealed.{is_sealed}
 
@@ -44,10 +44,6 @@ sealed-three-live = refl
 
 sealed-three : audit (record three { gives = [] }) ≡ words 16384 true ∷ []
 sealed-three = refl
-
--- a gate
-abbrev gate : ℕ → ℕ → ℕ → Gate
-gate domain word target = record { domain = domain; word = word; target = target }
 
 -- audit of gates in a circle: each domain has a gate into the other
 abbrev circle : State

@@ -21,7 +21,7 @@ use Rattle.mx_audit.specs.Live.{IsLive}
 use Rattle.mx_audit.specs.Sealed.{IsSealed, IsAudited}
 use Rattle.mx_audit.proofs.AuditTurns.{keeps-turned}
 use Rattle.mx_audit.proofs.CallLaws.{Stands, IsSpared, SparesChange, SparesGive, heap_in}
-use Rattle.mx_audit.proofs.LiveLaws.{IsHome, Leads, IsClosed, all-each, all-map, live-least, live-closed}
+use Rattle.mx_audit.proofs.LiveLaws.{IsHome, Leads, IsClosed, all-each, all-weaker, live-least, live-closed}
 
 -- a grant that doesn't cover a word leaves its permission
 at-changed : (first count : ℕ) (o : Option Perm) (g : List Grant) (w : ℕ) → covers first count w ≡ false → at (changed_grants first count o g) w ≡ at g w
@@ -117,13 +117,13 @@ modules-closed : (c : Core) → IsValid c → IsClosed (IsModule (length c.modul
 modules-closed c v = record {
   harts = all-each (IsHome (IsModule (length c.modules))) c.harts (λ hart k.
       subst (IsHome (IsModule (length c.modules))) (same-index c.harts k.0 hart no_hart k.1 ∙ k.2) (home k.0 k.1));
-  gates = all-map (IsGate (length c.modules) c.size) (Leads (IsModule (length c.modules))) c.gates (λ g p l. p.target) v.gates;
+  gates = all-weaker (IsGate (length c.modules) c.size) (Leads (IsModule (length c.modules))) c.gates (λ g p l. p.target) v.gates;
 }
   where
     home : (h : ℕ) → h < length c.harts → IsHome (IsModule (length c.modules)) (hart_at c h)
     home h l =
         let p = v.harts h l in
-        (p.domain, all-map (IsFrame (length c.modules)) (λ (f : Frame). IsModule (length c.modules) f.caller) (hart_at c h).frames (λ f q. q.caller) p.frames)
+        (p.domain, all-weaker (IsFrame (length c.modules)) (λ (f : Frame). IsModule (length c.modules) f.caller) (hart_at c h).frames (λ f q. q.caller) p.frames)
 
     -- an index in the list reads the same with any default
     same-index : (hs : List Hart) (i : ℕ) (a b : Hart) → i < length hs → slice_index_or hs i b ≡ slice_index_or hs i a

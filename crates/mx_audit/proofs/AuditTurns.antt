@@ -5,7 +5,7 @@ use Rattle.std.proofs.Math.ListN.{get_or-eq_default}
 use Rattle.std.specs.Prelude.{IfSome, slice_set}
 use Rattle.std.specs.Option.{option_map_or}
 use Rattle.std.specs.List.{AllByRecursion, enumerate_from}
-use Rattle.std.proofs.lemmas.Bool.{ltb-true, ltb-false, leb-true}
+use Rattle.std.proofs.lemmas.Bool.{ltb-true, ltb-false, leb-true, and_parts}
 use Rattle.mx_words.specs.declared.perm.Perm.TheVariants as P
 use Rattle.mx_words.specs.declared.perm.Access.TheVariants as A
 use Rattle.mx_words.specs.Bytes.{put_at}
@@ -26,10 +26,11 @@ use Rattle.mx_model.specs.Valid.{IsValid}
 use Rattle.mx_model.proofs.ListLaws.{all-append, all-in, all-last, all-set, all-take}
 use Rattle.mx_model.proofs.TurnLaws.{valid-heard_first}
 use Rattle.mx_model.proofs.ValidParts.{valid-turns, valid-looked_all, hearing}
+use Rattle.mx_model.proofs.TurnCases.{looked_all-caches}
 use Rattle.mx_audit.proofs.ActionLaws.{IsInside, IsStore, inside-decide}
 use Rattle.mx_audit.proofs.ByteLaws.{put-outside, store-outside}
-use Rattle.mx_audit.proofs.CallLaws.{Stands, IsSpared, Keeps, keeps-core, keeps-serve, looked-is, heap-set, other-word}
-use Rattle.mx_audit.proofs.LiveLaws.{IsHome, IsClosed, both-true}
+use Rattle.mx_audit.proofs.CallLaws.{Stands, IsSpared, Keeps, keeps-core, keeps-serve, heap-set, other-word}
+use Rattle.mx_audit.proofs.LiveLaws.{IsHome, IsClosed}
 
 -- a core with one hart, or one hart's caches changed
 keeps-hart : (L : ℕ → Type 0) (w : ℕ) (ram : List ℕ) (modules : List Module) (e : Core) (change : Option Change) (give : Option Give) (h : ℕ) (hart : Hart) →
@@ -111,7 +112,7 @@ store-word : (r : Reads) (c : Core) (d address : ℕ) → is_denied r c d addres
 store-word r c d address e = elim (in_ram address c.size) as
     (λ b. in_ram address c.size ≡ b → not (allows (option_map_or (r.perm d) (if b then Some ((address - ram_base) / 4) else None) P.None) A.Write) ≡ false →
     (ram_base ≤ address) × (allows (r.perm d ((address - ram_base) / 4)) A.Write ≡ true)) [
-      | true ↦ λ t f. (leb-true ram_base address (both-true (nat_le ram_base address) (nat_lt (address - ram_base) (4 * c.size)) t).0, not-false _ f)
+      | true ↦ λ t f. (leb-true ram_base address (and_parts (nat_le ram_base address) (nat_lt (address - ram_base) (4 * c.size)) t).0, not-false _ f)
       | false ↦ λ t f. absurd (let q : ⊥ = cc in q)
     ] refl e
   where
@@ -156,7 +157,7 @@ keeps-behind : (L : ℕ → Type 0) (w : ℕ) (r : Reads) (c : Core) (h : ℕ) (
     IsInside L r c hart d.action → KeepsMade L w c (acted r (looked_all r h d.looks c) h hart d.action)
 keeps-behind L w r c h hart d s sp p i =
     let seen = record c { caches = (looked_all r h d.looks c).caches } in
-    let e = looked-is r h d.looks c in
+    let e = looked_all-caches r h d.looks c in
     let t : Stands L r seen = record {
       valid = subst IsValid e (valid-looked_all r h d.looks c s.valid);
       heaps = s.heaps;

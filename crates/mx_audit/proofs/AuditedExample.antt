@@ -2,10 +2,8 @@
 use Rattle.std.proofs.Common.{◌≡◌, ℕ, zero, suc, ◌+◌, ◌-◌, ◌<◌, ◌≤◌, true, [], ◌∷◌, refl, ap, arith}
 use Rattle.std.specs.List.{range_with_len}
 use Rattle.std.specs.Prelude.{filter}
-use Rattle.mx_words.specs.declared.perm.Perm.{Perm}
 use Rattle.mx_words.specs.declared.perm.Perm.TheVariants as P
 use Rattle.mx_words.specs.Bytes.{number_at}
-use Rattle.mx_words.specs.Newest.{Grant, Give}
 use Rattle.mx_words.proofs.OverlayLaws.{covers_from}
 use Rattle.mx_isa.specs.Table.{decoded}
 use Rattle.mx_model.specs.Effect.{effect}
@@ -13,14 +11,9 @@ use Rattle.mx_model.specs.Reads.{reads}
 use Rattle.mx_model.specs.Run.{ByBytes, run}
 use Rattle.mx_model.specs.State.{State, flat, hart_at}
 use Rattle.mx_model.proofs.ValidExample.{core, small, small-core}
+use Rattle.mx_model.proofs.Smalls.{grant, give}
 use Rattle.mx_audit.specs.Live.{is_live}
 use Rattle.mx_audit.specs.Sealed.{is_sealed, OwnHeaps, IsAudited}
-
-abbrev grant : ℕ → ℕ → Perm → Grant
-grant first count p = record { first = first; count = count; value = p }
-
-abbrev give : ℕ → ℕ → ℕ → Give
-give first count d = record { first = first; count = count; value = d }
 
 abbrev small_state : State
 small_state = record {

@@ -3,12 +3,13 @@
 use Rattle.std.proofs.Common.{◌≡◌, ◌≢◌, inl, inr, ⊎_elim, ℕ, zero, suc, ◌+◌, ◌-◌, ◌*◌, ◌<◌, ◌≤◌, Bool, true, false, not, cond, nat_lt, nat_le, ◌==◌, ◌&&◌, ◌||◌, List, [], ◌∷◌, length, set, refl, sym, ◌∙◌, ap, subst, arith, eqb-true, IsTrue, if◌then◌else◌, Option, Some, None, unwrap_or, is_none}
 use Rattle.std.specs.Prelude.{IfSome, slice_index, slice_index_or, option_map, find}
 use Rattle.std.specs.List.{AllByRecursion, list_all, range_with_len}
-use Rattle.std.proofs.lemmas.Bool.{ltb-true, ltb-false, lt-ltb, leb-true, eqb-false}
+use Rattle.std.proofs.lemmas.Bool.{ltb-true, ltb-false, lt-ltb, leb-true, eqb-false, not-false, and_parts, or_parts}
 use Rattle.mx_words.specs.declared.perm.Perm.{Perm}
 use Rattle.mx_words.specs.declared.perm.Perm.TheVariants as P
 use Rattle.mx_words.specs.declared.perm.Access.TheVariants as A
 use Rattle.mx_words.specs.Announced.{is_announced}
 use Rattle.mx_words.specs.FirstFit.{Area, AreApart, has_room, block_words, most_blocks}
+use Rattle.mx_words.proofs.AreaLaws.{apart_ordered}
 use Rattle.mx_words.specs.FirstRow.{first_row, Row}
 use Rattle.mx_words.specs.Newest.{Give}
 use Rattle.mx_words.specs.Ranges.{covers, overlaps}
@@ -16,7 +17,7 @@ use Rattle.mx_words.specs.Rights.{allows}
 use Rattle.mx_words.proofs.OverlayLaws.{covers_in, covers_from}
 use Rattle.mx_model.specs.declared.values.Call.{Call}
 use Rattle.mx_model.specs.declared.values.Gate.{Gate}
-use Rattle.mx_model.specs.Checks.{Look, arg, call_range, drops, looked, looked_all}
+use Rattle.mx_model.specs.Checks.{Look, arg, call_range, drops, looked_all}
 use Rattle.mx_model.specs.Gates.{is_at, with_gate, without_gate}
 use Rattle.mx_model.specs.Reads.{Reads, Change}
 use Rattle.mx_model.specs.Serve.{Served, Service, Exit, Write, Grant, RevokeAll, Transfer, Alloc, Free, AddGate, RemoveGate, AddReturnGate, Query, Self, Exchange, Unknown, judged, serve, served_by, service, ended, arg_range, no_range, meets_heap, owns, give_of, grant_change, revoke_change, write_from, written_out, write_looks, exchange_from, exchanged, look_of, arg_word, is_word, alloc_place, alloc_change, allocated, alloc_from, freed_count, free_change}
@@ -24,9 +25,10 @@ use Rattle.mx_model.specs.State.{Core, Module, no_module, module_at, is_module}
 use Rattle.mx_model.specs.Valid.{IsModule, IsValid}
 use Rattle.mx_model.proofs.ListLaws.{all-append, all-filter, found-passes}
 use Rattle.mx_model.proofs.ValidParts.{home-at}
+use Rattle.mx_model.proofs.TurnCases.{looked_all-caches}
 use Rattle.mx_audit.specs.Sealed.{OwnHeaps}
 use Rattle.mx_audit.proofs.ByteLaws.{IsOutside, put-outside, cleared-outside}
-use Rattle.mx_audit.proofs.LiveLaws.{IsClosed, Leads, both-true}
+use Rattle.mx_audit.proofs.LiveLaws.{IsClosed, Leads}
 
 -- a state whose live domains lie in a set
 pub record Stands (L : ℕ → Type 0) (r : Reads) (c : Core) : Type 0 where
@@ -69,14 +71,9 @@ KeepsServed L w c s = Keeps L w c.ram c.modules s.core s.change s.give
 pub keeps-core : (L : ℕ → Type 0) (w : ℕ) (e : Core) → IsClosed L e → Keeps L w e.ram e.modules e None None
 keeps-core L w e p = record { closed = p; bytes = λ k l. refl; heaps = λ d. refl; rights = tt; owner = tt; owners = λ d v m h. tt }
 
--- looks change caches alone
-pub looked-is : (r : Reads) (h : ℕ) (looks : List Look) (c : Core) → looked_all r h looks c ≡ record c { caches = (looked_all r h looks c).caches }
-looked-is r h [] c = refl
-looked-is r h (l ∷ ls) c = looked-is r h ls (looked r h c l)
-
 keeps-looked : (L : ℕ → Type 0) (w : ℕ) (r : Reads) (h : ℕ) (looks : List Look) (c : Core) → IsClosed L c → Keeps L w c.ram c.modules (looked_all r h looks c) None None
 keeps-looked L w r h looks c p =
-    subst (λ (x : Core). Keeps L w c.ram c.modules x None None) (sym (looked-is r h looks c))
+    subst (λ (x : Core). Keeps L w c.ram c.modules x None None) (sym (looked_all-caches r h looks c))
     (keeps-core L w (record c { caches = (looked_all r h looks c).caches }) (record { harts = p.harts; gates = p.gates }))
 
 -- rows of which none applies
@@ -103,19 +100,11 @@ keeps-either : (L : ℕ → Type 0) (w : ℕ) (ram : List ℕ) (modules : List M
 keeps-either L w ram modules e None s p q = q
 keeps-either L w ram modules e (Some n) s p q = p
 
-not-false : (b : Bool) → not b ≡ false → b ≡ true
-not-false true e = refl
-not-false false e = sym e
-
-or-right : (a b : Bool) → a || b ≡ false → b ≡ false
-or-right true b e = absurd (let q : ⊥ = cc in q)
-or-right false b e = e
-
 -- each word of a range whose words the caller owns is the caller's
 all-range : (test : ℕ → Bool) (first count v : ℕ) → list_all test (range_with_len first count) ≡ true → first ≤ v → v < first + count → test v ≡ true
 all-range test first zero v e l u = absurd (let q : ⊥ = omega (arith, l, u) in q)
 all-range test first (suc count) v e l u =
-    let p = both-true (test first) (list_all test (range_with_len (first + 1) count)) e in
+    let p = and_parts (test first) (list_all test (range_with_len (first + 1) count)) e in
     elim (first == v) as (λ b. (first == v) ≡ b → test v ≡ true) [
       | true ↦ λ t. subst (λ n. test n ≡ true) (eqb-true first v t) p.0
       | false ↦ λ t. let n = eqb-false first v t in
@@ -179,8 +168,8 @@ heap-set (x ∷ xs) (suc i) (suc j) m e = heap-set xs i j m e
 -- alloc
 room-low : (a : Area) (blocks : List Area) (n first : ℕ) → has_room a blocks n first ≡ true → (a.first ≤ first) × (first + n ≤ a.first + a.count)
 room-low a blocks n first e =
-    let p = both-true (nat_le a.first first && nat_le (first + n) (a.first + a.count)) _ e in
-    let q = both-true (nat_le a.first first) (nat_le (first + n) (a.first + a.count)) p.0 in
+    let p = and_parts (nat_le a.first first && nat_le (first + n) (a.first + a.count)) _ e in
+    let q = and_parts (nat_le a.first first) (nat_le (first + n) (a.first + a.count)) p.0 in
     (leb-true a.first first q.0, leb-true (first + n) (a.first + a.count) q.1)
 
 of-some : (o : Option ℕ) (Q : ℕ → Type 0) → IfSome o Q → is_none o ≡ false → Q (unwrap_or o 0)
@@ -222,15 +211,11 @@ keeps-alloc L w r c call s sp p =
     (found-passes (has_room m.heap m.blocks (arg call 0)) (range_with_len m.heap.first m.heap.count)) t.1.0))
 
 -- free: a live block lies in its heap area
-apart-low : (low high : ℕ) (bs : List Area) → AreApart low high bs → low ≤ high
-apart-low low high [] p = p
-apart-low low high (b ∷ bs) p = let q = apart-low (b.first + b.count) high bs p.2 in let r = p.0 in omega (arith, q, r)
-
 block-in : (low high first : ℕ) (bs : List Area) → AreApart low high bs → IfSome (block_words bs first) (λ n. (low ≤ first) × (first + n ≤ high))
 block-in low high first [] p = tt
 block-in low high first (b ∷ bs) p = elim (b.first == first) as
     (λ t. (b.first == first) ≡ t → IfSome (option_map (λ (x : Area). x.count) (cond t (Some b) (find (λ (x : Area). x.first == first) bs))) (λ n. (low ≤ first) × (first + n ≤ high))) [
-      | true ↦ λ t. let e = eqb-true b.first first t in let l = p.0 in let h = apart-low (b.first + b.count) high bs p.2 in (omega (arith, e, l), omega (arith, e, h))
+      | true ↦ λ t. let e = eqb-true b.first first t in let l = p.0 in let h = apart_ordered (b.first + b.count) high bs p.2 in (omega (arith, e, l), omega (arith, e, h))
       | false ↦ λ t. lower (block_words bs first) (block-in (b.first + b.count) high first bs p.2)
     ] refl
   where
@@ -300,7 +285,7 @@ keeps-transfer L w r c call s sp p =
       heaps = λ d. refl;
       rights = tt;
       owner = spared-range L r w call (arg_range c call) sp p t.1.1.0;
-      owners = λ d v m h. heap-apart L r c call d v s (not-false (owns r call (arg_range c call)) t.1.1.0) (or-right (no_range c call) (meets_heap c call) t.0) m h;
+      owners = λ d v m h. heap-apart L r c call d v s (not-false (owns r call (arg_range c call)) t.1.1.0) (or_parts (no_range c call) (meets_heap c call) t.0).1 m h;
     })
 
 -- gates

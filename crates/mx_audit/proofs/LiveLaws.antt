@@ -2,7 +2,7 @@
 use Rattle.std.proofs.Common.{◌≡◌, ℕ, zero, suc, ◌≤◌, ◌↔◌, Bool, true, false, not, cond, nat_lt, ◌==◌, ◌&&◌, ◌||◌, List, [], ◌∷◌, ◌++◌, length, refl, sym, ◌∙◌, ap, subst, arith, eqb-true, IsTrue, inl, inr}
 use Rattle.std.proofs.Common.{map as list_map}
 use Rattle.std.specs.List.{AllByRecursion, Contains, list_all, list_any, flat_map}
-use Rattle.std.proofs.lemmas.Bool.{ltb-true, lt-ltb}
+use Rattle.std.proofs.lemmas.Bool.{ltb-true, lt-ltb, or_right, and_from, both_ways, not-true, not_from_false, false_from_ne_true, and_parts}
 use Rattle.std.proofs.lemmas.Bool.Decides.{eqb_tells}
 use Rattle.std.proofs.lemmas.List.{append-nil}
 use Rattle.mx_words.specs.declared.perm.Perm.{Perm}
@@ -53,15 +53,11 @@ live-closed c = record {
 abbrev In : List ℕ → ℕ → Type 0
 In xs d = is_in xs d ≡ true
 
-or-right : (b : Bool) → b || true ≡ true
-or-right true = refl
-or-right false = refl
-
 in-head : (x : ℕ) (xs : List ℕ) → In (x ∷ xs) x
 in-head x xs = elim (eqb_tells x x) [ inl t ↦ ap (λ b. b || is_in xs x) t.0 | inr f ↦ absurd (f.1 refl) ]
 
 in-tail : (x : ℕ) (xs : List ℕ) (d : ℕ) → In xs d → In (x ∷ xs) d
-in-tail x xs d p = ap (λ b. (x == d) || b) p ∙ or-right (x == d)
+in-tail x xs d p = or_right (x == d) (is_in xs d) p
 
 in-left : (xs ys : List ℕ) (d : ℕ) → In xs d → In (xs ++ ys) d
 in-left [] ys d p = absurd (let q : ⊥ = cc in q)
@@ -82,9 +78,9 @@ in-all P (x ∷ xs) d h p = elim (x == d) as (λ b. (x == d) ≡ b → (b || is_
 ] refl p
 
 -- all elements of two lists, of a map and of a flat map
-all-both : {X : Type 0} (P : X → Type 0) (xs ys : List X) → AllByRecursion P xs → AllByRecursion P ys → AllByRecursion P (xs ++ ys)
-all-both P [] ys h k = k
-all-both P (x ∷ xs) ys h k = (h.0, all-both P xs ys h.1 k)
+pub all-join : {X : Type 0} (P : X → Type 0) (xs ys : List X) → AllByRecursion P xs → AllByRecursion P ys → AllByRecursion P (xs ++ ys)
+all-join P [] ys h k = k
+all-join P (x ∷ xs) ys h k = (h.0, all-join P xs ys h.1 k)
 
 all-callers : (P : ℕ → Type 0) (fs : List Frame) → AllByRecursion (λ (f : Frame). P f.caller) fs → AllByRecursion P (list_map (λ (f : Frame). f.caller) fs)
 all-callers P [] h = tt
@@ -93,7 +89,7 @@ all-callers P (f ∷ fs) h = (h.0, all-callers P fs h.1)
 all-domains : (P : ℕ → Type 0) (hs : List Hart) → AllByRecursion (IsHome P) hs → AllByRecursion P (flat_map domains_of hs)
 all-domains P [] h = tt
 all-domains P (x ∷ xs) h =
-    all-both P (domains_of x) (flat_map domains_of xs) (h.0.0, all-callers P x.frames h.0.1) (all-domains P xs h.1)
+    all-join P (domains_of x) (flat_map domains_of xs) (h.0.0, all-callers P x.frames h.0.1) (all-domains P xs h.1)
 
 -- each domain that a round gives is in a closed set
 all-targets : (P : ℕ → Type 0) (live : List ℕ) (gates : List Gate) → AllByRecursion (Leads P) gates → AllByRecursion P live →
@@ -113,7 +109,7 @@ all-rounds : (P : ℕ → Type 0) (n : ℕ) (gates : List Gate) (live : List ℕ
 all-rounds P zero gates live h p = p
 all-rounds P (suc n) gates live h p =
     all-rounds P n (not_passed live gates) (live ++ list_map (λ (gate : Gate). gate.target) (passed live gates)) (all-not_passed (Leads P) live gates h)
-    (all-both P live (list_map (λ (gate : Gate). gate.target) (passed live gates)) p (all-targets P live gates h p))
+    (all-join P live (list_map (λ (gate : Gate). gate.target) (passed live gates)) p (all-targets P live gates h p))
 
 -- the rounds keep what is live
 in-rounds : (n : ℕ) (gates : List Gate) (live : List ℕ) (d : ℕ) → In live d → In (rounds n gates live) d
@@ -208,23 +204,6 @@ rounds-live c =
 pub live-rounds : (c : Core) (d : ℕ) → IsTrue (is_in (live c) d) ↔ IsLive c d
 live-rounds c d = (in-all (IsLive c) (live c) d (rounds-live c), live-least (In (live c)) c d (rounds-closed c))
 
--- a word that passes the test by rounds is sealed, and a sealed one passes
-pub both-true : (a b : Bool) → a && b ≡ true → (a ≡ true) × (b ≡ true)
-both-true true b e = (refl, e)
-both-true false b e = absurd (let q : ⊥ = cc in q)
-
-true-both : (a b : Bool) → a ≡ true → b ≡ true → a && b ≡ true
-true-both true b p q = q
-true-both false b p q = p
-
-not-true : (b : Bool) → not b ≡ true → b ≡ true → ⊥
-not-true true p q = let z : ⊥ = cc in z
-not-true false p q = let z : ⊥ = cc in z
-
-true-not : (b : Bool) → (b ≡ true → ⊥) → not b ≡ true
-true-not true h = absurd (h refl)
-true-not false h = refl
-
 same-is : (p : Perm) → same p P.ReadWrite ≡ true → p ≡ P.ReadWrite
 same-is P.None e = absurd (let q : ⊥ = cc in q)
 same-is P.Read e = absurd (let q : ⊥ = cc in q)
@@ -234,41 +213,43 @@ same-is P.ExecuteRead e = absurd (let q : ⊥ = cc in q)
 abbrev is_kept : Reads → ℕ → ℕ → Bool
 is_kept r word d = not (same (r.perm d word) P.ReadWrite)
 
+-- a word that passes the test by rounds is sealed, and a sealed one passes
 all-true : (test : ℕ → Bool) (xs : List ℕ) → list_all test xs ≡ true → AllByRecursion (λ d. test d ≡ true) xs
 all-true test [] e = tt
-all-true test (x ∷ xs) e = let q = both-true (test x) (list_all test xs) e in (q.0, all-true test xs q.1)
+all-true test (x ∷ xs) e = let q = and_parts (test x) (list_all test xs) e in (q.0, all-true test xs q.1)
 
 true-all : (test : ℕ → Bool) (xs : List ℕ) → AllByRecursion (λ d. test d ≡ true) xs → list_all test xs ≡ true
 true-all test [] h = refl
-true-all test (x ∷ xs) h = true-both (test x) (list_all test xs) h.0 (true-all test xs h.1)
+true-all test (x ∷ xs) h = and_from (test x) (list_all test xs) h.0 (true-all test xs h.1)
 
-pub all-map : {X : Type 0} (P Q : X → Type 0) (xs : List X) → ((x : X) → P x → Q x) → AllByRecursion P xs → AllByRecursion Q xs
-all-map P Q [] f h = tt
-all-map P Q (x ∷ xs) f h = (f x h.0, all-map P Q xs f h.1)
+pub all-weaker : {X : Type 0} (P Q : X → Type 0) (xs : List X) → ((x : X) → P x → Q x) → AllByRecursion P xs → AllByRecursion Q xs
+all-weaker P Q [] f h = tt
+all-weaker P Q (x ∷ xs) f h = (f x h.0, all-weaker P Q xs f h.1)
 
 from-rounds : (r : Reads) (c : Core) (word : ℕ) → IsTrue (is_sealed r c word) → IsSealed r c word
 from-rounds r c word e =
     let owned = not (is_in (live c) (r.owner word)) in
     let kept = list_all (is_kept r word) (live c) in
-    let p = both-true (nat_lt word c.size && owned) kept e in
-    let q = both-true (nat_lt word c.size) owned p.0 in
+    let p = and_parts (nat_lt word c.size && owned) kept e in
+    let q = and_parts (nat_lt word c.size) owned p.0 in
     record {
       in_ram = ltb-true word c.size q.0;
-      owner = λ k. not-true (is_in (live c) (r.owner word)) q.1 ((live-rounds c (r.owner word)).1 k);
-      rights = λ d k w. not-true (same (r.perm d word) P.ReadWrite)
-          (in-all (λ x. is_kept r word x ≡ true) (live c) d (all-true (is_kept r word) (live c) p.1) ((live-rounds c d).1 k))
+      owner = λ k. both_ways (is_in (live c) (r.owner word)) (not-true (is_in (live c) (r.owner word)) q.1) ((live-rounds c (r.owner word)).1 k);
+      rights = λ d k w. both_ways (same (r.perm d word) P.ReadWrite) (not-true (same (r.perm d word) P.ReadWrite)
+          (in-all (λ x. is_kept r word x ≡ true) (live c) d (all-true (is_kept r word) (live c) p.1) ((live-rounds c d).1 k)))
           (ap (λ x. same x P.ReadWrite) w);
     }
 
 to-rounds : (r : Reads) (c : Core) (word : ℕ) → IsSealed r c word → IsTrue (is_sealed r c word)
 to-rounds r c word s =
-    let owned = not (is_in (live c) (r.owner word)) in
+    let owner_live = is_in (live c) (r.owner word) in
+    let owned = not owner_live in
     let kept = list_all (is_kept r word) (live c) in
-    true-both (nat_lt word c.size && owned) kept
-    (true-both (nat_lt word c.size) owned (lt-ltb word c.size s.in_ram)
-    (true-not (is_in (live c) (r.owner word)) (λ k. s.owner ((live-rounds c (r.owner word)).0 k))))
-    (true-all (is_kept r word) (live c) (all-map (IsLive c) (λ x. is_kept r word x ≡ true) (live c)
-    (λ d k. true-not (same (r.perm d word) P.ReadWrite) (λ w. s.rights d k (same-is (r.perm d word) w))) (rounds-live c)))
+    and_from (nat_lt word c.size && owned) kept
+    (and_from (nat_lt word c.size) owned (lt-ltb word c.size s.in_ram)
+    (not_from_false owner_live (false_from_ne_true owner_live (λ k. s.owner ((live-rounds c (r.owner word)).0 k)))))
+    (true-all (is_kept r word) (live c) (all-weaker (IsLive c) (λ x. is_kept r word x ≡ true) (live c)
+    (λ d k. not_from_false (same (r.perm d word) P.ReadWrite) (false_from_ne_true (same (r.perm d word) P.ReadWrite) (λ w. s.rights d k (same-is (r.perm d word) w)))) (rounds-live c)))
 
 pub sealed-rounds : (r : Reads) (c : Core) (word : ℕ) → IsTrue (is_sealed r c word) ↔ IsSealed r c word
 sealed-rounds r c word = (from-rounds r c word, to-rounds r c word)

@@ -27,13 +27,13 @@ pub fn live_never_grows()
 pub fn sealed_words_stay()
     ensures owner { (p : Schedule) (n : ℕ) (s : State) (word : ℕ) → IsAudited s → HasSealed s word →
         (reads (run p n s)).owner word ≡ (reads s).owner word }
-    ensures rights { (p : Schedule) (n : ℕ) (s : State) (word : ℕ) → IsAudited s → HasSealed s word →
-        (d : ℕ) → (reads (run p n s)).perm d word ≡ (reads s).perm d word }
+    ensures rights { (p : Schedule) (n : ℕ) (s : State) (word : ℕ) → IsAudited s →
+        HasSealed s word → (d : ℕ) → (reads (run p n s)).perm d word ≡ (reads s).perm d word }
     ensures bytes { (p : Schedule) (n : ℕ) (s : State) (word : ℕ) → IsAudited s → HasSealed s word →
         (k : ℕ) → k < 4 →
         slice_index (run p n s).core.ram (4 * word + k) ≡ slice_index s.core.ram (4 * word + k) }
-    ensures sealed { (p : Schedule) (n : ℕ) (s : State) (word : ℕ) → IsAudited s → HasSealed s word →
-        HasSealed (run p n s) word }
+    ensures sealed { (p : Schedule) (n : ℕ) (s : State) (word : ℕ) → IsAudited s →
+        HasSealed s word → HasSealed (run p n s) word }
     ensures audited { (p : Schedule) (n : ℕ) (s : State) → IsAudited s → IsAudited (run p n s) }
 {}
 

@@ -4,23 +4,22 @@ use Rattle.std.specs.List.{AllByRecursion}
 use Rattle.std.specs.Option.{is_some}
 use Rattle.std.proofs.lemmas.Bool.Decides.{nat_tests}
 use Rattle.std.proofs.lemmas.Option.{same_Some}
+use Rattle.std.proofs.lemmas.Bool.{not-false}
 use Rattle.mx_words.specs.FirstRow.{first_row}
 use Rattle.mx_words.specs.Ranges.{ram_base, covers, overlaps}
 use Rattle.mx_words.proofs.FirstRowLaws.{first_row-append}
 use Rattle.mx_manifest.specs.declared.fault.BootFault.{BootFault}
+use Rattle.mx_manifest.proofs.Clear.{neither}
 use Rattle.mx_boot.specs.declared.area.Area.{Area}
 use Rattle.mx_boot.specs.Entries.{word_at}
 use Rattle.mx_boot.specs.Faults.{is_in_ram, shares_word, area_rows, areas_rows}
-use Rattle.mx_boot.proofs.Lists.{all_weaken, all_at, find_none, neither}
+use Rattle.mx_boot.proofs.Lists.{all_at, find_none}
+use Rattle.mx_audit.proofs.LiveLaws.{all-weaker}
 
 -- a row that doesn't apply, and the rows behind it
 pub row_fails : (test : Bool) (fault : BootFault) (rest : Option BootFault) → cond test (Some fault) rest ≡ None → (test ≡ false) × (rest ≡ None)
 row_fails true fault rest h = absurd cc
 row_fails false fault rest h = (refl, h)
-
-pub not_false : (b : Bool) → not b ≡ false → b ≡ true
-not_false true h = refl
-not_false false h = absurd cc
 
 none_from : {A : Type 0} (o : Option A) → is_some o ≡ false → o ≡ None
 none_from None h = refl
@@ -36,7 +35,7 @@ area_clear words earlier a h =
     let first = row_fails (not (is_in_ram words a)) _ _ h in
     let second = row_fails (is_some (find (shares_word a) earlier)) _ _ first.1 in
     record {
-      inside = not_false (is_in_ram words a) first.0;
+      inside = not-false (is_in_ram words a) first.0;
       apart = find_none (shares_word a) earlier (none_from (find (shares_word a) earlier) second.0);
     }
 
@@ -88,7 +87,7 @@ apart_at words earlier [] h i b at = tt
 apart_at words earlier (a ∷ rest) h zero b at =
     let same = same_Some _ _ at in
     let later = apart_from words (earlier ++ a ∷ []) rest h.1 b (length earlier) (get_last earlier a ∙ at) in
-    (inr same, all_weaken (λ c. shares_word c b ≡ false) (λ c. (shares_word c b ≡ false) ⊎ (c ≡ b)) rest (λ c e. inl e) later)
+    (inr same, all-weaker (λ c. shares_word c b ≡ false) (λ c. (shares_word c b ≡ false) ⊎ (c ≡ b)) rest (λ c e. inl e) later)
 apart_at words earlier (a ∷ rest) h (suc i) b at =
     let before : shares_word b a ≡ false = all_at (λ c. shares_word c a ≡ false) rest i b (apart_from words (earlier ++ a ∷ []) rest h.1 a (length earlier) (get_last earlier a)) at in
     (inl (shares_both a b ∙ before), apart_at words (earlier ++ a ∷ []) rest h.1 i b at)

@@ -4,7 +4,7 @@ use Rattle.std.specs.List.{flat_map}
 use Rattle.std.specs.Option.{option_or}
 use Rattle.std.proofs.lemmas.Grind.{flat_map-append}
 use Rattle.std.proofs.lemmas.List.Concat.{flat_map_single}
-use Rattle.std.proofs.lemmas.List.{append-nil, map-append, take-append-drop}
+use Rattle.std.proofs.lemmas.List.{append-nil, map-append, take-append-drop, take_all}
 use Rattle.mx_words.specs.FirstRow.{first_row}
 use Rattle.mx_model.specs.declared.values.Gate.{Gate}
 use Rattle.mx_manifest.specs.declared.fault.BootFault.{BootFault}
@@ -15,7 +15,7 @@ use Rattle.mx_boot.specs.declared.refused.LayoutRefused.TheVariants.{Fault, NoMe
 use Rattle.mx_boot.specs.Faults.{gate_rows, gates_rows}
 use Rattle.mx_boot.specs.Laid.{Tells, gate_of, AreAsked}
 use Rattle.mx_boot.proofs.Behind.{first_behind}
-use Rattle.mx_boot.proofs.Rows.{take_at, take_past}
+use Rattle.mx_boot.proofs.Rows.{take_at}
 
 abbrev Done : Type 0
 Done = Result (Unit {0}) LayoutRefused
@@ -80,7 +80,7 @@ module _ {A : Type 0} (areas : List Area) (earlier : List Gate) (ask : A → Lis
 
   pub each-ends : (k : ℕ) (later : List Gate) (result : Done) → length xs ≤ k
       → AreAsked areas earlier (flat_map ask (take k xs)) later result → AreAsked areas earlier (flat_map ask xs) later result
-  each-ends k later result past a = subst (λ ys. AreAsked areas earlier (flat_map ask ys) later result) (take_past xs k past) a
+  each-ends k later result past a = subst (λ ys. AreAsked areas earlier (flat_map ask ys) later result) (take_all k xs past) a
 
 -- elements that ask for one gate each
 pub each-single : {A : Type 0} (areas : List Area) (earlier : List Gate) (ask : A → Request) (xs : List A) (later : List Gate) (result : Done)

@@ -1,13 +1,13 @@
 -- Rows of elements that are judged behind the earlier ones.
 use Rattle.std.proofs.Common.{◌≡◌, ℕ, ◌+◌, ◌≤◌, List, [], ◌∷◌, ◌++◌, length, take, drop, map, slice_get, Option, Some, None, ap, ◌∙◌, sym, append_assoc}
 use Rattle.std.specs.Option.{option_or}
-use Rattle.std.proofs.lemmas.List.{append-nil}
+use Rattle.std.proofs.lemmas.List.{append-nil, drop_all}
 use Rattle.mx_words.specs.FirstRow.{first_row}
 use Rattle.mx_words.proofs.FirstRowLaws.{first_row-append}
 use Rattle.mx_manifest.specs.declared.fault.BootFault.{BootFault}
 use Rattle.mx_boot.specs.declared.area.Area.{Area}
 use Rattle.mx_boot.specs.Faults.{Fault, each_behind, area_rows, areas_rows}
-use Rattle.mx_boot.proofs.Rows.{drop_at, drop_past, take_at}
+use Rattle.mx_boot.proofs.Rows.{drop_at, take_at}
 
 pub behind-append : {A B : Type 0} (keep : A → B) (rows : List B → A → List Fault) (earlier : List B) (xs ys : List A)
     → each_behind keep rows earlier (xs ++ ys) ≡ each_behind keep rows earlier xs ++ each_behind keep rows (earlier ++ map keep xs) ys
@@ -42,4 +42,4 @@ pub areas_here : (words : ℕ) (all : List Area) (i : ℕ) (a : Area) (fault : B
 areas_here words all i a fault at some = areas_at words all i a at ∙ ap (λ o. option_or o (areas_from words (i + 1) all)) some
 
 pub areas_end : (words : ℕ) (all : List Area) (i : ℕ) → length all ≤ i → areas_from words i all ≡ None
-areas_end words all i past = ap (λ rest. first_row (areas_rows words (take i all) rest)) (drop_past all i past)
+areas_end words all i past = ap (λ rest. first_row (areas_rows words (take i all) rest)) (drop_all i all past)

@@ -2,7 +2,7 @@
 use Rattle.std.proofs.Common.{◌≡◌, ℕ, ◌+◌, ◌/◌, ◌%◌, ◌<◌, ◌≤◌, true, not, ◌==◌, List, Option, None, unwrap_or, arith}
 use Rattle.std.specs.List.{AllByRecursion, list_any}
 use Rattle.std.specs.Option.{is_some}
-use Rattle.std.proofs.lemmas.Bool.{and_parts}
+use Rattle.std.proofs.lemmas.Bool.{and_parts, not-false}
 use Rattle.std.proofs.lemmas.Bool.Decides.{nat_tests}
 use Rattle.mx_words.specs.FirstRow.{first_row}
 use Rattle.mx_words.specs.Ranges.{covers}
@@ -10,7 +10,7 @@ use Rattle.mx_manifest.specs.declared.fault.Place.{Place}
 use Rattle.mx_boot.specs.declared.area.Area.{Area}
 use Rattle.mx_boot.specs.Entries.{word_at}
 use Rattle.mx_boot.specs.Faults.{is_in_ram, holds_entry, is_entry, entry_rows}
-use Rattle.mx_boot.proofs.Apart.{in_ram, row_fails, not_false}
+use Rattle.mx_boot.proofs.Apart.{in_ram, row_fails}
 use Rattle.mx_boot.proofs.Lists.{all_at, any_some}
 
 -- an aligned address in RAM
@@ -53,4 +53,4 @@ pub entry_clear : (all : List Area) (place : Place) (domain : ℕ) (address : Op
 entry_clear all place domain address h =
     let first = row_fails (not (is_some address)) _ _ h in
     let second = row_fails (not (is_entry all domain (unwrap_or address 0))) _ _ first.1 in
-    record { there = not_false (is_some address) first.0; entry = not_false (is_entry all domain (unwrap_or address 0)) second.0 }
+    record { there = not-false (is_some address) first.0; entry = not-false (is_entry all domain (unwrap_or address 0)) second.0 }

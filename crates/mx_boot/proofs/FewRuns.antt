@@ -1,7 +1,7 @@
 -- Each give adds at most two runs of owners: a run begins only where one begins or ends.
 use Rattle.std.proofs.Common.{◌≡◌, ℕ, zero, suc, ◌+◌, ◌-◌, ◌*◌, ◌<◌, ◌≤◌, Bool, true, false, not, cond, ◌==◌, ◌||◌, List, [], ◌∷◌, length, get_or, refl, ap, ◌∙◌, sym, arith}
 use Rattle.std.specs.List.{flat_map, list_any}
-use Rattle.std.proofs.lemmas.Bool.{eq-eqb}
+use Rattle.std.proofs.lemmas.Bool.{eq-eqb, or_parts, or_right}
 use Rattle.std.proofs.lemmas.Bool.Decides.{nat_tests}
 use Rattle.mx_words.specs.Counting.{bit, count_below}
 use Rattle.mx_words.specs.Newest.{Give, laid_at, newest, owner, owners}
@@ -11,7 +11,7 @@ use Rattle.mx_words.specs.Starts.{is_owner_start}
 use Rattle.mx_words.proofs.CountingLaws.{count_below_none}
 use Rattle.mx_words.proofs.OverlayLaws.{length-owners, owners-at}
 use Rattle.mx_words.proofs.RunLaws.{owner_runs-count}
-use Rattle.mx_boot.proofs.Lists.{none_or, length-flat_at_most, all_each}
+use Rattle.mx_boot.proofs.Lists.{length-flat_at_most, all_each}
 
 -- counting
 bit-le-bit : (a b : Bool) → (a ≡ true → b ≡ true) → bit a ≤ bit b
@@ -68,15 +68,11 @@ covers-next first count j a b = grind (arith, nat_tests)
 newest-next : (d e : ℕ) (gives : List Give) (j : ℕ) → d ≡ e → list_any (λ b. b == suc j) (flat_map bounds gives) ≡ false → newest d gives j ≡ newest e gives (suc j)
 newest-next d e [] j same none = same
 newest-next d e (g ∷ gives) j same none =
-    let first = none_or (g.first == suc j) ((g.first + g.count == suc j) || list_any (λ b. b == suc j) (flat_map bounds gives)) none in
-    let second = none_or (g.first + g.count == suc j) (list_any (λ b. b == suc j) (flat_map bounds gives)) first.1 in
+    let first = or_parts (g.first == suc j) ((g.first + g.count == suc j) || list_any (λ b. b == suc j) (flat_map bounds gives)) none in
+    let second = or_parts (g.first + g.count == suc j) (list_any (λ b. b == suc j) (flat_map bounds gives)) first.1 in
     let over = covers-next g.first g.count j first.0 second.0 in
     let here : laid_at j d g ≡ laid_at (suc j) e g = ap (λ t. cond t g.value d) over ∙ ap (λ x. cond (covers g.first g.count (suc j)) g.value x) same in
     newest-next (laid_at j d g) (laid_at (suc j) e g) gives j here second.1
-
-or_true : (b : Bool) → (b || true) ≡ true
-or_true true = refl
-or_true false = refl
 
 -- whether a run may begin at a word
 abbrev may-begin : List Give → ℕ → Bool
@@ -86,7 +82,7 @@ starts : (gives : List Give) (words i : ℕ) → i < words → is_owner_start (o
 starts gives words zero lt h = refl
 starts gives words (suc j) lt h =
     elim (list_any (λ b. b == suc j) (flat_map bounds gives)) as (λ t. list_any (λ b. b == suc j) (flat_map bounds gives) ≡ t → ((0 == suc j) || t) ≡ true) [
-      | true ↦ λ e. or_true (0 == suc j)
+      | true ↦ λ e. or_right (0 == suc j) true refl
       | false ↦ λ e.
           let before : get_or (owners gives words) j 0 ≡ owner gives j = owners-at gives words j 0 (omega arith) in
           let here : get_or (owners gives words) (suc j) 0 ≡ owner gives (suc j) = owners-at gives words (suc j) 0 lt in

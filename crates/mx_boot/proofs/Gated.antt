@@ -18,6 +18,7 @@ use Rattle.mx_manifest.specs.declared.parts.ModulePlan.{ModulePlan}
 use Rattle.mx_manifest.specs.InRange.{IsInRange}
 use Rattle.mx_manifest.specs.InRange as range
 use Rattle.mx_manifest.specs.Plan.{Said}
+use Rattle.mx_manifest.proofs.Clear.{neither}
 use Rattle.mx_boot.specs.declared.area.Area.{Area}
 use Rattle.mx_boot.specs.declared.gates.Request.{Request}
 use Rattle.mx_boot.specs.Areas.{Home, home, homes}
@@ -26,7 +27,9 @@ use Rattle.mx_boot.specs.Faults.{Fault, is_in_ram, at_module, fault, entry_rows,
 use Rattle.mx_boot.specs.Laid.{gate_of}
 use Rattle.mx_boot.proofs.Apart.{row_fails}
 use Rattle.mx_boot.proofs.Entered.{IsEntered, entry_inside, entry_clear}
-use Rattle.mx_boot.proofs.Lists.{all_join, all_weaken, all_both, all_each, all_mapped, all_flat, all_from, all_numbered, any_none, neither}
+use Rattle.mx_boot.proofs.Lists.{all_both, all_each, all_mapped, all_flat, all_numbered, any_none}
+use Rattle.mx_machine.proofs.SmallLaws.{from-each}
+use Rattle.mx_audit.proofs.LiveLaws.{all-weaker, all-join}
 
 -- a gate behind earlier ones
 pub record IsClear (all : List Area) (earlier : List Gate) (r : Request) : Type 0 where
@@ -79,7 +82,7 @@ single_from : (all : List Area) (earlier : List Gate) (rs : List Request) → Ar
 single_from all earlier [] single h = subst AreSingle (sym (append-nil earlier)) single
 single_from all earlier (r ∷ rest) single h =
     let others = any_none (is_at r.gate.domain r.gate.word) earlier h.0.fresh in
-    let flip = all_weaken (λ g. is_at r.gate.domain r.gate.word g ≡ false) (λ g. is_at g.domain g.word r.gate ≡ false) earlier (λ g. flipped r.gate.domain r.gate.word g.domain g.word) others in
+    let flip = all-weaker (λ g. is_at r.gate.domain r.gate.word g ≡ false) (λ g. is_at g.domain g.word r.gate ≡ false) earlier (λ g. flipped r.gate.domain r.gate.word g.domain g.word) others in
     let more = single-append r.gate earlier flip single in
     subst AreSingle (append_assoc earlier (r.gate ∷ []) (map gate_of rest)) (single_from all (earlier ++ r.gate ∷ []) rest more h.1)
 
@@ -102,13 +105,13 @@ module _ (modules : ℕ) (h : Home) (own : IsModule modules h.domain) (in_range 
 
   calls_asked : (gate : GatePlan) → range.IsGate modules h.domain gate → AllByRecursion (IsAsked modules) (call_requests h gate)
   calls_asked gate g = all_mapped (request h key.Gates gate.entry) (IsAsked modules) gate.from
-      (all_from (λ domain. IsAsked modules (request h key.Gates gate.entry domain)) gate.from
+      (from-each (λ domain. IsAsked modules (request h key.Gates gate.entry domain)) gate.from
       (λ i domain at. let between = (g.from i domain at).0 in asked key.Gates gate.entry domain (record { first = between.0; last = between.1 })))
 
   pub module_asked : AllByRecursion (IsAsked modules) (requests_of h)
-  module_asked = all_join (IsAsked modules) (flat_map (call_requests h) h.plan.gates) (map (return_request h) h.plan.returns)
+  module_asked = all-join (IsAsked modules) (flat_map (call_requests h) h.plan.gates) (map (return_request h) h.plan.returns)
       (all_flat (call_requests h) (IsAsked modules) h.plan.gates
-      (all_from (λ gate. AllByRecursion (IsAsked modules) (call_requests h gate)) h.plan.gates (λ i gate at. calls_asked gate (in_range.gates i gate at))))
+      (from-each (λ gate. AllByRecursion (IsAsked modules) (call_requests h gate)) h.plan.gates (λ i gate at. calls_asked gate (in_range.gates i gate at))))
       (all_mapped (return_request h) (IsAsked modules) h.plan.returns
       (all_each (λ entry. IsAsked modules (return_request h entry)) h.plan.returns (λ entry. asked key.Returns entry h.domain own)))
 
@@ -126,7 +129,7 @@ pub gates_valid : (words modules : ℕ) (all : List Area) (rs : List Request) �
     → AllByRecursion (IsAsked modules) rs → AllByRecursion (IsGate modules words) (map gate_of rs)
 gates_valid words modules all rs inside clear asked_all =
     all_mapped gate_of (IsGate modules words) rs
-    (all_weaken (λ (r : Request). IsAsked modules r × IsEntered all r.gate.target r.address) (λ r. IsGate modules words r.gate) rs
+    (all-weaker (λ (r : Request). IsAsked modules r × IsEntered all r.gate.target r.address) (λ r. IsGate modules words r.gate) rs
     (λ r h. record {
       domain = h.0.domain;
       target = h.0.target;

@@ -1,8 +1,10 @@
 -- Gates added one after another.
-use Rattle.std.proofs.Common.{◌≡◌, ℕ, zero, suc, ◌+◌, ◌<◌, ◌≤◌, Bool, false, not, cond, nat_le, ◌&&◌, ◌||◌, List, [], ◌∷◌, ◌++◌, length, get_or, take, refl, ap, ◌∙◌, sym, arith}
+use Rattle.std.proofs.Common.{◌≡◌, ℕ, zero, suc, ◌+◌, ◌<◌, ◌≤◌, Bool, false, not, cond, nat_le, ◌&&◌, List, [], ◌∷◌, ◌++◌, length, get_or, take, refl, ap, ◌∙◌, sym, arith}
 use Rattle.std.specs.List.{AllByRecursion, list_any}
 use Rattle.std.proofs.lemmas.Bool.Decides.{nat_tests}
 use Rattle.std.proofs.lemmas.List.{take_more, length-take-le}
+use Rattle.std.proofs.lemmas.List.Folds.{list_any_none}
+use Rattle.std.proofs.lemmas.List.Elements.{All-from_recursion}
 use Rattle.mx_model.specs.declared.values.Gate.{Gate}
 use Rattle.mx_model.specs.Gates.{AreSingle, has_gate, is_at, no_gate_fits, with_gate, without_gate}
 use Rattle.mx_boot.proofs.Gated.{flipped}
@@ -14,8 +16,7 @@ all_taken P (x ∷ xs) zero d f = tt
 all_taken P (x ∷ xs) (suc i) d f = (f 0 (omega arith) (omega arith), all_taken P xs i d (λ j a b. f (suc j) (omega (arith, a)) (omega (arith, b))))
 
 none_any : {X : Type 0} (p : X → Bool) (xs : List X) → AllByRecursion (λ x. p x ≡ false) xs → list_any p xs ≡ false
-none_any p [] h = refl
-none_any p (x ∷ xs) h = ap (λ b. b || list_any p xs) h.0 ∙ none_any p xs h.1
+none_any p xs h = list_any_none p xs (All-from_recursion (λ x. p x ≡ false) xs h)
 
 none_left_out : (domain word : ℕ) (gs : List Gate) → AllByRecursion (λ g. is_at domain word g ≡ false) gs → without_gate domain word gs ≡ gs
 none_left_out domain word [] h = refl

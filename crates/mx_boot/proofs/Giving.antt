@@ -6,6 +6,7 @@ use Rattle.mx_words.specs.Newest.{laid, owner, owners}
 use Rattle.mx_words.specs.Runs.{owner_runs}
 use Rattle.mx_words.proofs.OverlayLaws.{owners-append}
 use Rattle.mx_manifest.specs.Plan.{Said}
+use Rattle.mx_manifest.proofs.Short.{length-taken}
 use Rattle.mx_boot.specs.declared.area.Area.{Area}
 use Rattle.mx_boot.specs.Areas.{Home, homes}
 use Rattle.mx_boot.specs.Boot.{give, gives_of}
@@ -20,18 +21,13 @@ give-next words i areas d lt =
     sym (owners-append (map give (take i areas)) (give (get_or areas i d)) words)
     ∙ ap (λ gs. owners gs words) (sym (map-append give (take i areas) (get_or areas i d ∷ [])) ∙ ap (map give) (sym (take_more areas i d lt)))
 
-length-take-upto : {X : Type 0} (n : ℕ) (xs : List X) → length (take n xs) ≤ length xs
-length-take-upto zero xs = omega arith
-length-take-upto (suc n) [] = omega arith
-length-take-upto (suc n) (x ∷ xs) = let rest = length-take-upto n xs in omega (arith, rest)
-
 -- there is room for their runs
 pub give-fits : (words i : ℕ) (areas : List Area) (d : Area) → i < length areas → length areas ≤ 2047
     → 4096 < owner_runs (laid (give (get_or areas i d)) (owners (map give (take i areas)) words)) → ⊥
 give-fits words i areas d lt few full =
     let runs = runs-at-most (map give (take (i + 1) areas)) words in
     let long : length (map give (take (i + 1) areas)) ≡ length (take (i + 1) areas) = length-map (take (i + 1) areas) give in
-    let upto = length-take-upto (i + 1) areas in
+    let upto = length-taken (i + 1) areas in
     let same = ap owner_runs (give-next words i areas d lt) in
     let q : ⊥ = omega (arith, runs, long, upto, few, full, same) in q
 

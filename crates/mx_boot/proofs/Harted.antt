@@ -11,6 +11,7 @@ use Rattle.mx_manifest.specs.declared.parts.HartPlan.{HartPlan}
 use Rattle.mx_manifest.specs.declared.parts.ModulePlan.{ModulePlan}
 use Rattle.mx_manifest.specs.InRange.{IsInRange}
 use Rattle.mx_manifest.specs.Plan.{Said}
+use Rattle.mx_manifest.proofs.Clear.{neither}
 use Rattle.mx_boot.specs.Areas.{Home, home, pieces, heaps, stacks, stack_words, stack_area, areas}
 use Rattle.mx_boot.specs.Boot.{stack_address, hart_of}
 use Rattle.mx_boot.specs.Entries.{hart_start}
@@ -19,8 +20,9 @@ use Rattle.mx_boot.proofs.Apart.{in_ram}
 use Rattle.mx_boot.proofs.Entered.{IsInside, entry_inside, entry_clear}
 use Rattle.mx_boot.proofs.Homes.{hart_domain}
 use Rattle.mx_boot.proofs.Housed.{Inside, home_inside}
-use Rattle.mx_boot.proofs.Lists.{all_right, neither, there}
+use Rattle.mx_boot.proofs.Lists.{there}
 use Rattle.mx_boot.proofs.Rows.{at_numbered}
+use Rattle.mx_laws.proofs.ComparisonLaws.{all-second}
 
 -- where none of the rows of elements applies, none of those of each applies
 pub each_clear : {A : Type 0} (rows : A → List Fault) (xs : List A) (i : ℕ) (x : A) → first_row (flat_map rows xs) ≡ None → slice_get xs i ≡ Some x → first_row (rows x) ≡ None
@@ -68,7 +70,7 @@ x2_small : (plan : Said) (images : List (List ℕ)) (words h i : ℕ) (m : Modul
 x2_small plan images words h i m few all lt at =
     let g = home images (i, m) in
     stack_small words (length plan.harts) h g m.stack few lt
-    (all_right (λ a. is_in_ram words a ≡ true) (pieces g ++ heaps g) (stacks (length plan.harts) g) (home_inside plan images words i m all at))
+    (all-second (λ a. is_in_ram words a ≡ true) (pieces g ++ heaps g) (stacks (length plan.harts) g) (home_inside plan images words i m all at))
 
 pub hart_valid : (plan : Said) (images : List (List ℕ)) (words h : ℕ) (hart : HartPlan) → IsInRange plan → words ≤ 16777216 → Inside words (areas plan images)
     → first_row (harts_rows plan images) ≡ None → slice_get plan.harts h ≡ Some hart

@@ -24,7 +24,10 @@ use Rattle.mx_boot.specs.Entries.{word_at}
 use Rattle.mx_boot.specs.Faults.{is_in_ram}
 use Rattle.mx_boot.proofs.Apart.{in_ram, end_is}
 use Rattle.mx_boot.proofs.Homes.{home_is, length-homes}
-use Rattle.mx_boot.proofs.Lists.{all_left, all_right, all_join, all_at, all_parts, all_from, all_flat, all_mapped, all_numbered, all_each, all_weaken, length-flat_at_most}
+use Rattle.mx_boot.proofs.Lists.{all_at, all_parts, all_flat, all_mapped, all_numbered, all_each, length-flat_at_most}
+use Rattle.mx_machine.proofs.SmallLaws.{from-each}
+use Rattle.mx_audit.proofs.LiveLaws.{all-weaker, all-join}
+use Rattle.mx_laws.proofs.ComparisonLaws.{all-first, all-second}
 
 abbrev pub Inside : ℕ → List area.Area → Type 0
 Inside words all = AllByRecursion (λ a. is_in_ram words a ≡ true) all
@@ -70,9 +73,9 @@ stack_kept words harts h (Some address) e whole between inside =
 
 pub module_valid : (words harts modules : ℕ) (h : Home) → range.IsModule modules h.domain h.plan → Inside words (areas_of harts h) → IsHome words harts (module_of h.plan)
 module_valid words harts modules h in_range inside =
-    let own = all_left (λ a. is_in_ram words a ≡ true) (pieces h ++ heaps h) (stacks harts h) inside in
-    let heap = heap_kept words h h.plan.heap refl in_range.heap_whole in_range.heap_words (all_right (λ a. is_in_ram words a ≡ true) (pieces h) (heaps h) own) in
-    let stack = stack_kept words harts h h.plan.stack refl in_range.stack_whole in_range.stack_words (all_right (λ a. is_in_ram words a ≡ true) (pieces h ++ heaps h) (stacks harts h) inside) in
+    let own = all-first (λ a. is_in_ram words a ≡ true) (pieces h ++ heaps h) (stacks harts h) inside in
+    let heap = heap_kept words h h.plan.heap refl in_range.heap_whole in_range.heap_words (all-second (λ a. is_in_ram words a ≡ true) (pieces h) (heaps h) own) in
+    let stack = stack_kept words harts h h.plan.stack refl in_range.stack_whole in_range.stack_words (all-second (λ a. is_in_ram words a ≡ true) (pieces h ++ heaps h) (stacks harts h) inside) in
     record {
       heap = heap.fits;
       blocks = omega arith;
@@ -86,7 +89,7 @@ pub modules_valid : (plan : Said) (images : List (List ℕ)) (words : ℕ) → I
     → AllByRecursion (IsHome words (length plan.harts)) (map module_of plan.modules)
 modules_valid plan images words in_range all =
     all_mapped module_of (IsHome words (length plan.harts)) plan.modules
-    (all_from (λ m. IsHome words (length plan.harts) (module_of m)) plan.modules
+    (from-each (λ m. IsHome words (length plan.harts) (module_of m)) plan.modules
     (λ i m at. module_valid words (length plan.harts) (length plan.modules) (home images (i, m)) (in_range.modules i m at) (home_inside plan images words i m all at)))
 
 -- a module gives at most 18 areas
@@ -144,10 +147,10 @@ stack_own harts h (Some address) = (refl, tt)
 
 gives_small : (harts modules : ℕ) (h : Home) → h.domain ≤ modules → AllByRecursion (λ (g : Give). g.value ≤ modules) (gives_of harts h)
 gives_small harts modules h le =
-    let own = all_join (λ (a : area.Area). a.domain ≡ h.domain) (owned_pieces h ++ heaps h) (stacks harts h)
-    (all_join (λ (a : area.Area). a.domain ≡ h.domain) (owned_pieces h) (heaps h) (owned_own h) (heap_own h h.plan.heap)) (stack_own harts h h.plan.stack) in
+    let own = all-join (λ (a : area.Area). a.domain ≡ h.domain) (owned_pieces h ++ heaps h) (stacks harts h)
+    (all-join (λ (a : area.Area). a.domain ≡ h.domain) (owned_pieces h) (heaps h) (owned_own h) (heap_own h h.plan.heap)) (stack_own harts h h.plan.stack) in
     all_mapped give (λ (g : Give). g.value ≤ modules) (owned_pieces h ++ heaps h ++ stacks harts h)
-    (all_weaken (λ (a : area.Area). a.domain ≡ h.domain) (λ a. a.domain ≤ modules) (owned_pieces h ++ heaps h ++ stacks harts h) (λ a e. omega (arith, e, le)) own)
+    (all-weaker (λ (a : area.Area). a.domain ≡ h.domain) (λ a. a.domain ≤ modules) (owned_pieces h ++ heaps h ++ stacks harts h) (λ a e. omega (arith, e, le)) own)
 
 newest_small : (most d i : ℕ) (gives : List Give) → AllByRecursion (λ (g : Give). g.value ≤ most) gives → d ≤ most → newest d gives i ≤ most
 newest_small most d i [] all le = le

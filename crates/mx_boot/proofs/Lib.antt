@@ -3,7 +3,6 @@ pub mod Asked
 pub mod Behind
 pub mod Booted
 pub mod Entered
-pub mod Examples
 pub mod FewRuns
 pub mod Fitting
 pub mod Gated

@@ -1,33 +1,21 @@
 -- The area that begins first at a word or behind it.
 use Rattle.std.proofs.Common.{◌≡◌, ℕ, ◌<◌, ◌≤◌, true, false, cond, nat_lt, nat_le, List, [], ◌∷◌, fold, Option, Some, None, IfSome, refl, subst, sym, arith}
 use Rattle.std.specs.List.{AllByRecursion}
-use Rattle.std.proofs.lemmas.Bool.Decides.{nat_tests}
+use Rattle.std.proofs.lemmas.Bool.{leb-true, ltb-false, ltb-true, leb-false}
 use Rattle.mx_boot.specs.declared.area.Area.{Area}
 use Rattle.mx_boot.specs.Entries.{word_at}
 use Rattle.mx_boot.specs.Placed.{nearer, next_area}
-
-below : (a b : ℕ) → nat_lt a b ≡ true → a < b
-below a b e = grind (arith, nat_tests)
-
-above : (a b : ℕ) → nat_lt a b ≡ false → b ≤ a
-above a b e = grind (arith, nat_tests)
-
-at_most : (a b : ℕ) → nat_le a b ≡ true → a ≤ b
-at_most a b e = grind (arith, nat_tests)
-
-over : (a b : ℕ) → nat_le a b ≡ false → b ≤ a
-over a b e = grind (arith, nat_tests)
 
 -- what holds of each area, and of the one found so far, holds of the one found
 kept : (P : Area → Type 0) (word : ℕ) (found : Option Area) (a : Area) → IfSome found P → (word ≤ word_at a.address → P a) → IfSome (nearer word found a) P
 kept P word None a h p = elim (nat_lt (word_at a.address) word) as (λ t. nat_lt (word_at a.address) word ≡ t → IfSome (cond t None (Some a)) P) [
   | true ↦ λ e. tt
-  | false ↦ λ e. p (above (word_at a.address) word e)
+  | false ↦ λ e. p (ltb-false (word_at a.address) word e)
 ] refl
 kept P word (Some b) a h p =
     elim (nat_lt (word_at a.address) word) as (λ t. nat_lt (word_at a.address) word ≡ t → IfSome (cond t (Some b) (cond (nat_le (word_at b.address) (word_at a.address)) (Some b) (Some a))) P) [
       | true ↦ λ e. h
-      | false ↦ λ e. elim (nat_le (word_at b.address) (word_at a.address)) as (λ t. IfSome (cond t (Some b) (Some a)) P) [ true ↦ h | false ↦ p (above (word_at a.address) word e) ]
+      | false ↦ λ e. elim (nat_le (word_at b.address) (word_at a.address)) as (λ t. IfSome (cond t (Some b) (Some a)) P) [ true ↦ h | false ↦ p (ltb-false (word_at a.address) word e) ]
     ] refl
 
 held : (P : Area → Type 0) (word : ℕ) (found : Option Area) (areas : List Area) (a : Area) → IfSome found P → AllByRecursion (λ b. word ≤ word_at b.address → P b) areas
@@ -59,7 +47,7 @@ before : (word : ℕ) (found : Option Area) (a b : Area) → IfSome (nearer word
     → IsBefore word a b × IfSome found (λ c. word_at a.address ≤ word_at c.address)
 before word None a b h = (
   elim (nat_lt (word_at b.address) word) as (λ t. nat_lt (word_at b.address) word ≡ t → IfSome (cond t None (Some b)) (λ (c : Area). word_at a.address ≤ word_at c.address) → IsBefore word a b) [
-    | true ↦ λ e k ge. absurd (let lt = below (word_at b.address) word e in let q : ⊥ = omega (arith, lt, ge) in q)
+    | true ↦ λ e k ge. absurd (let lt = ltb-true (word_at b.address) word e in let q : ⊥ = omega (arith, lt, ge) in q)
     | false ↦ λ e k ge. k
   ] refl h,
   tt,
@@ -68,11 +56,11 @@ before word (Some c) a b h =
     elim (nat_lt (word_at b.address) word) as (λ t. nat_lt (word_at b.address) word ≡ t
     → IfSome (cond t (Some c) (cond (nat_le (word_at c.address) (word_at b.address)) (Some c) (Some b))) (λ (x : Area). word_at a.address ≤ word_at x.address)
     → IsBefore word a b × (word_at a.address ≤ word_at c.address)) [
-      | true ↦ λ e k. (λ ge. absurd (let lt = below (word_at b.address) word e in let q : ⊥ = omega (arith, lt, ge) in q), k)
+      | true ↦ λ e k. (λ ge. absurd (let lt = ltb-true (word_at b.address) word e in let q : ⊥ = omega (arith, lt, ge) in q), k)
       | false ↦ λ e. elim (nat_le (word_at c.address) (word_at b.address)) as (λ t. nat_le (word_at c.address) (word_at b.address) ≡ t
           → IfSome (cond t (Some c) (Some b)) (λ (x : Area). word_at a.address ≤ word_at x.address) → IsBefore word a b × (word_at a.address ≤ word_at c.address)) [
-            | true ↦ λ f k. (λ ge. let le = at_most (word_at c.address) (word_at b.address) f in omega (arith, le, k), k)
-            | false ↦ λ f k. (λ ge. k, let le = over (word_at c.address) (word_at b.address) f in omega (arith, le, k))
+            | true ↦ λ f k. (λ ge. let le = leb-true (word_at c.address) (word_at b.address) f in omega (arith, le, k), k)
+            | false ↦ λ f k. (λ ge. k, let le = leb-false (word_at c.address) (word_at b.address) f in omega (arith, le, k))
           ] refl
     ] refl h
 
@@ -95,7 +83,7 @@ nowhere word None (b ∷ rest) e =
       refl,
       (
         elim (nat_lt (word_at b.address) word) as (λ t. nat_lt (word_at b.address) word ≡ t → cond t None (Some b) ≡ None → word_at b.address < word) [
-          | true ↦ λ f k. below (word_at b.address) word f
+          | true ↦ λ f k. ltb-true (word_at b.address) word f
           | false ↦ λ f k. absurd (let q : ⊥ = cc in q)
         ] refl later.0,
         later.1,

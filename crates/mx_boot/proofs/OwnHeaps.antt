@@ -5,6 +5,7 @@ use Rattle.std.specs.Option.{option_map_or}
 use Rattle.std.proofs.lemmas.Bool.Decides.{nat_tests}
 use Rattle.std.proofs.lemmas.List.{length-map}
 use Rattle.std.proofs.lemmas.Option.{same_Some, get_or_from_slice_get}
+use Rattle.std.proofs.lemmas.Map.Keys.{any_passes_from_place}
 use Rattle.mx_words.specs.FirstFit.{Area}
 use Rattle.mx_words.specs.Newest.{Give, owner}
 use Rattle.mx_words.specs.Ranges.{covers}
@@ -21,9 +22,11 @@ use Rattle.mx_boot.specs.Faults.{is_in_ram, shares_word}
 use Rattle.mx_boot.proofs.Apart.{AreClear, IsInRam, all_inside, apart_at, both_cover, end_is, in_ram}
 use Rattle.mx_boot.proofs.Homes.{home_is}
 use Rattle.mx_boot.proofs.Housed.{Inside, home_inside}
-use Rattle.mx_boot.proofs.Lists.{all_left, all_right, all_join, all_weaken, all_both, all_mapped, all_flat, all_parts, all_at, any_at, any_flat, there}
+use Rattle.mx_boot.proofs.Lists.{all_both, all_mapped, all_flat, all_parts, all_at, any_flat, there}
 use Rattle.mx_boot.proofs.Owning.{is_over, newest_is}
 use Rattle.mx_boot.proofs.Rows.{at_mapped}
+use Rattle.mx_audit.proofs.LiveLaws.{all-weaker, all-join}
+use Rattle.mx_laws.proofs.ComparisonLaws.{all-first, all-second}
 
 -- an element of a list
 abbrev Has : {X : Type 0} → List X → X → Type 0
@@ -87,29 +90,29 @@ module _ (plan : Said) (images : List (List ℕ)) (words i : ℕ) (m : ModulePla
   all_own =
       let has = has_flat (areas_of harts) (homes plan images) i own heap (home_is plan images i m at)
       (has_left (pieces own ++ heaps own) (stacks harts own) heap (has_right (pieces own) (heaps own) heap heap_there)) in
-      all_weaken (λ a. (is_in_ram words a ≡ true) × ((shares_word a heap ≡ false) ⊎ (a ≡ heap))) IsOwn (areas plan images) own_of
+      all-weaker (λ a. (is_in_ram words a ≡ true) × ((shares_word a heap ≡ false) ⊎ (a ≡ heap))) IsOwn (areas plan images) own_of
       (all_both (λ a. is_in_ram words a ≡ true) (λ a. (shares_word a heap ≡ false) ⊎ (a ≡ heap)) (areas plan images) all_in (apart_at words [] (areas plan images) clear has.0 heap has.1))
 
   gives_own : (h : Home) → AllByRecursion IsOwn (areas_of harts h) → AllByRecursion (λ (g : Give). is_over word g ≡ true → g.value ≡ i + 1) (gives_of harts h)
   gives_own h all =
-      let most = all_left IsOwn (pieces h ++ heaps h) (stacks harts h) all in
+      let most = all-first IsOwn (pieces h ++ heaps h) (stacks harts h) all in
       let some : AllByRecursion IsOwn (owned_pieces h) = elim h.plan.seal as (λ b. AllByRecursion IsOwn (cond b [] (pieces h))) [
         | true ↦ tt
-        | false ↦ all_left IsOwn (pieces h) (heaps h) most
+        | false ↦ all-first IsOwn (pieces h) (heaps h) most
       ] in
       all_mapped give (λ (g : Give). is_over word g ≡ true → g.value ≡ i + 1) (owned_pieces h ++ heaps h ++ stacks harts h)
-      (all_join IsOwn (owned_pieces h ++ heaps h) (stacks harts h)
-      (all_join IsOwn (owned_pieces h) (heaps h) some (all_right IsOwn (pieces h) (heaps h) most)) (all_right IsOwn (pieces h ++ heaps h) (stacks harts h) all))
+      (all-join IsOwn (owned_pieces h ++ heaps h) (stacks harts h)
+      (all-join IsOwn (owned_pieces h) (heaps h) some (all-second IsOwn (pieces h) (heaps h) most)) (all-second IsOwn (pieces h ++ heaps h) (stacks harts h) all))
 
   pub owner_is : (if nat_lt word words then owner (flat_map (gives_of harts) (homes plan images)) word else 0) ≡ i + 1
   owner_is =
       let lt : nat_lt word words ≡ true = below word words word_in in
       let has = has_left (owned_pieces own ++ heaps own) (stacks harts own) heap (has_right (owned_pieces own) (heaps own) heap heap_there) in
       let given = at_mapped give (owned_pieces own ++ heaps own ++ stacks harts own) has.0 heap has.1 in
-      let some = any_flat (gives_of harts) (is_over word) (homes plan images) i own (home_is plan images i m at) (any_at (is_over word) (gives_of harts own) has.0 (give heap) given over) in
+      let some = any_flat (gives_of harts) (is_over word) (homes plan images) i own (home_is plan images i m at) (any_passes_from_place (is_over word) (gives_of harts own) has.0 (give heap) given over) in
       rw lt (newest_is 0 (i + 1) (flat_map (gives_of harts) (homes plan images)) word
       (all_flat (gives_of harts) (λ (g : Give). is_over word g ≡ true → g.value ≡ i + 1) (homes plan images)
-      (all_weaken (λ h. AllByRecursion IsOwn (areas_of harts h)) (λ h. AllByRecursion (λ (g : Give). is_over word g ≡ true → g.value ≡ i + 1) (gives_of harts h)) (homes plan images) gives_own
+      (all-weaker (λ h. AllByRecursion IsOwn (areas_of harts h)) (λ h. AllByRecursion (λ (g : Give). is_over word g ≡ true → g.value ≡ i + 1) (gives_of harts h)) (homes plan images) gives_own
       (all_parts (areas_of harts) IsOwn (homes plan images) all_own))) (inl some))
     where
       below : (a b : ℕ) → a < b → nat_lt a b ≡ true

@@ -1,5 +1,5 @@
 -- What the modules of a plan without a fault bring: areas apart in RAM, each of some words, and bytes that lie there.
-use Rattle.std.proofs.Common.{◌≡◌, ◌⊎◌, ℕ, zero, suc, ◌+◌, ◌-◌, ◌*◌, ◌/◌, ◌%◌, ◌<◌, ◌≤◌, true, false, not, cond, List, [], ◌∷◌, ◌++◌, length, map, take, drop, slice_get, Option, Some, None, IfSome, unwrap_or, Result, Ok, Err, refl, ap, ◌∙◌, subst, arith, mul-le-mul_left}
+use Rattle.std.proofs.Common.{◌≡◌, ◌⊎◌, ℕ, ◌+◌, ◌-◌, ◌*◌, ◌/◌, ◌%◌, ◌<◌, ◌≤◌, true, false, not, cond, List, [], ◌∷◌, ◌++◌, length, map, take, drop, slice_get, Option, Some, None, IfSome, unwrap_or, Result, Ok, Err, refl, ap, ◌∙◌, subst, arith, mul-le-mul_left, length-take}
 use Rattle.std.specs.List.{AllByRecursion, enumerate_from, flat_map}
 use Rattle.std.specs.Option.{is_some, option_map_or}
 use Rattle.mx_elf.specs.declared.image.Image.{Image}
@@ -21,7 +21,10 @@ use Rattle.mx_boot.proofs.Apart.{AreClear, all_inside, apart_at, in_ram}
 use Rattle.mx_boot.proofs.Booted.{faultless}
 use Rattle.mx_boot.proofs.Homes.{home_is}
 use Rattle.mx_boot.proofs.Housed.{has_words}
-use Rattle.mx_boot.proofs.Lists.{all_at, all_both, all_flat, all_from, all_join, all_left, all_mapped, all_numbered, all_parts, all_right, all_unmapped, all_weaken}
+use Rattle.mx_boot.proofs.Lists.{all_at, all_both, all_flat, all_mapped, all_numbered, all_parts, all_unmapped}
+use Rattle.mx_machine.proofs.SmallLaws.{from-each}
+use Rattle.mx_audit.proofs.LiveLaws.{all-weaker, all-join}
+use Rattle.mx_laws.proofs.ComparisonLaws.{all-first, all-second}
 
 -- what holds of all areas holds of those of a module, of those with rights and of its own
 pub home_all : (P : Area → Type 0) (plan : Said) (images : List (List ℕ)) (i : ℕ) (m : ModulePlan) → AllByRecursion P (areas plan images) → slice_get plan.modules i ≡ Some m
@@ -32,13 +35,13 @@ home_all P plan images i m all at =
 
 granted_part : (P : Area → Type 0) (harts : ℕ) (h : Home) → AllByRecursion P (areas_of harts h) → AllByRecursion P (granted_areas harts h)
 granted_part P harts h all =
-    all_join P (pieces h) (stacks harts h) (all_left P (pieces h) (heaps h) (all_left P (pieces h ++ heaps h) (stacks harts h) all)) (all_right P (pieces h ++ heaps h) (stacks harts h) all)
+    all-join P (pieces h) (stacks harts h) (all-first P (pieces h) (heaps h) (all-first P (pieces h ++ heaps h) (stacks harts h) all)) (all-second P (pieces h ++ heaps h) (stacks harts h) all)
 
 owned_part : (P : Area → Type 0) (harts : ℕ) (h : Home) → AllByRecursion P (areas_of harts h) → AllByRecursion P (owned_areas harts h)
 owned_part P harts h all =
-    let own = all_left P (pieces h ++ heaps h) (stacks harts h) all in
-    let sealed : AllByRecursion P (owned_pieces h) = elim h.plan.seal as (λ b. AllByRecursion P (cond b [] (pieces h))) [ true ↦ tt | false ↦ all_left P (pieces h) (heaps h) own ] in
-    all_join P (owned_pieces h ++ heaps h) (stacks harts h) (all_join P (owned_pieces h) (heaps h) sealed (all_right P (pieces h) (heaps h) own)) (all_right P (pieces h ++ heaps h) (stacks harts h) all)
+    let own = all-first P (pieces h ++ heaps h) (stacks harts h) all in
+    let sealed : AllByRecursion P (owned_pieces h) = elim h.plan.seal as (λ b. AllByRecursion P (cond b [] (pieces h))) [ true ↦ tt | false ↦ all-first P (pieces h) (heaps h) own ] in
+    all-join P (owned_pieces h ++ heaps h) (stacks harts h) (all-join P (owned_pieces h) (heaps h) sealed (all-second P (pieces h) (heaps h) own)) (all-second P (pieces h ++ heaps h) (stacks harts h) all)
 
 -- each area has words
 abbrev HasWords : Area → Type 0
@@ -60,7 +63,7 @@ inline_some (Some words) there h = let low = h.0 in omega (arith, low)
 
 pieces_some : (modules : ℕ) (h : Home) → range.IsModule modules h.domain h.plan → AllByRecursion HasWords (pieces h)
 pieces_some modules h in_range = elim (has_image h) as (λ b. has_image h ≡ b → AllByRecursion HasWords (cond b (map (segment_area h) (image h).segments) (inline_area h ∷ []))) [
-  | true ↦ λ e. all_mapped (segment_area h) HasWords (image h).segments (all_weaken (IsSound (length h.bytes)) (λ s. 0 < word_count s) (image h).segments (λ s sound. segment_words s sound.covers) (segments_sound h))
+  | true ↦ λ e. all_mapped (segment_area h) HasWords (image h).segments (all-weaker (IsSound (length h.bytes)) (λ s. 0 < word_count s) (image h).segments (λ s sound. segment_words s sound.covers) (segments_sound h))
   | false ↦ λ e. (inline_some h.plan.words (in_range.words_or_image ∙ ap not e) in_range.words, tt)
 ] refl
 
@@ -79,16 +82,11 @@ stacks_some harts h (Some address) one e whole between = (
 
 areas_some : (modules harts : ℕ) (h : Home) → range.IsModule modules h.domain h.plan → 1 ≤ harts → AllByRecursion HasWords (areas_of harts h)
 areas_some modules harts h in_range one =
-    all_join HasWords (pieces h ++ heaps h) (stacks harts h)
-    (all_join HasWords (pieces h) (heaps h) (pieces_some modules h in_range) (heaps_some h h.plan.heap refl in_range.heap_whole in_range.heap_words))
+    all-join HasWords (pieces h ++ heaps h) (stacks harts h)
+    (all-join HasWords (pieces h) (heaps h) (pieces_some modules h in_range) (heaps_some h h.plan.heap refl in_range.heap_whole in_range.heap_words))
     (stacks_some harts h h.plan.stack one refl in_range.stack_whole in_range.stack_words)
 
 -- the bytes of a loaded segment or of inline words lie in its area
-length-take-le_of : {X : Type 0} (n : ℕ) (xs : List X) → length (take n xs) ≤ n
-length-take-le_of zero xs = omega arith
-length-take-le_of (suc n) [] = omega arith
-length-take-le_of (suc n) (x ∷ xs) = let rest = length-take-le_of n xs in omega (arith, rest)
-
 pub length-word_bytes : (words : List ℕ) → length (flat_map word_bytes words) ≡ 4 * length words
 length-word_bytes [] = refl
 length-word_bytes (w ∷ words) = let rest = length-word_bytes words in omega (arith, rest)
@@ -98,7 +96,7 @@ segment_room words h s sound inside =
     let r = in_ram words (segment_area h s) inside in
     let from = r.from in
     let to = r.to in
-    let long = length-take-le_of s.file (drop s.offset h.bytes) in
+    let long : length (take s.file (drop s.offset h.bytes)) ≤ s.file = omega (arith, length-take s.file (drop s.offset h.bytes)) in
     let held = sound.held in
     let aligned = sound.aligned in
     record { from = from; to = room s.address s.memory s.file (length (take s.file (drop s.offset h.bytes))) words from to long held aligned }
@@ -120,7 +118,7 @@ contents_room : (words : ℕ) (h : Home) → inline_address h.plan % 4 ≡ 0 →
 contents_room words h aligned all = elim (has_image h) as (λ b. AllByRecursion (λ a. is_in_ram words a ≡ true) (cond b (map (segment_area h) (image h).segments) (inline_area h ∷ []))
     → AllByRecursion (HasRoom (4 * words)) (cond b (map (segment_content h.bytes) (image h).segments) (inline_content h.plan ∷ []))) [
       | true ↦ λ k. all_mapped (segment_content h.bytes) (HasRoom (4 * words)) (image h).segments
-          (all_weaken (λ s. IsSound (length h.bytes) s × (is_in_ram words (segment_area h s) ≡ true)) (λ s. HasRoom (4 * words) (segment_content h.bytes s)) (image h).segments
+          (all-weaker (λ s. IsSound (length h.bytes) s × (is_in_ram words (segment_area h s) ≡ true)) (λ s. HasRoom (4 * words) (segment_content h.bytes s)) (image h).segments
           (λ s both. segment_room words h s both.0 both.1)
           (all_both (IsSound (length h.bytes)) (λ s. is_in_ram words (segment_area h s) ≡ true) (image h).segments (segments_sound h)
           (all_unmapped (segment_area h) (λ a. is_in_ram words a ≡ true) (image h).segments k)))
@@ -142,20 +140,20 @@ module _ (plan : Said) (images : List (List ℕ)) (in_range : IsInRange plan) (c
   placed : (i : ℕ) (m : ModulePlan) → slice_get plan.modules i ≡ Some m → AllByRecursion (IsPlaced (ram_words plan)) (areas_of (length plan.harts) (home images (i, m)))
   placed i m at =
       let h = home images (i, m) in
-      all_weaken (λ a. (is_in_ram (ram_words plan) a ≡ true) × HasWords a) (IsPlaced (ram_words plan)) (areas_of (length plan.harts) h) (λ a both. record { inside = both.0; some = both.1 })
+      all-weaker (λ a. (is_in_ram (ram_words plan) a ≡ true) × HasWords a) (IsPlaced (ram_words plan)) (areas_of (length plan.harts) h) (λ a both. record { inside = both.0; some = both.1 })
       (all_both (λ a. is_in_ram (ram_words plan) a ≡ true) HasWords (areas_of (length plan.harts) h)
       (home_all (λ a. is_in_ram (ram_words plan) a ≡ true) plan images i m (all_inside (ram_words plan) [] (areas plan images) clear) at)
       (areas_some (length plan.modules) (length plan.harts) h (in_range.modules i m at) in_range.hart_count.0))
 
   all_apart : AllByRecursion (IsApart (areas plan images)) (areas plan images)
-  all_apart = all_from (IsApart (areas plan images)) (areas plan images) (λ i a at. apart_at (ram_words plan) [] (areas plan images) clear i a at)
+  all_apart = from-each (IsApart (areas plan images)) (areas plan images) (λ i a at. apart_at (ram_words plan) [] (areas plan images) clear i a at)
 
   granted_apart : (i : ℕ) (m : ModulePlan) → slice_get plan.modules i ≡ Some m → AllByRecursion (IsApart (granted_areas (length plan.harts) (home images (i, m)))) (granted_areas (length plan.harts) (home images (i, m)))
   granted_apart i m at =
       let h = home images (i, m) in
       let own = granted_areas (length plan.harts) h in
       granted_part (IsApart own) (length plan.harts) h
-      (all_weaken (IsApart (areas plan images)) (IsApart own) (areas_of (length plan.harts) h)
+      (all-weaker (IsApart (areas plan images)) (IsApart own) (areas_of (length plan.harts) h)
       (λ a apart. granted_part (λ b. (shares_word b a ≡ false) ⊎ (b ≡ a)) (length plan.harts) h (home_all (λ b. (shares_word b a ≡ false) ⊎ (b ≡ a)) plan images i m apart at))
       (home_all (IsApart (areas plan images)) plan images i m all_apart at))
 
@@ -168,7 +166,7 @@ module _ (plan : Said) (images : List (List ℕ)) (in_range : IsInRange plan) (c
       record {
         granted = record { each = granted_part (IsPlaced (ram_words plan)) harts h all; apart = granted_apart i m at };
         owned = owned_part (IsPlaced (ram_words plan)) harts h all;
-        room = contents_room (ram_words plan) h aligned (all_left (λ a. is_in_ram (ram_words plan) a ≡ true) (pieces h) (heaps h) (all_left (λ a. is_in_ram (ram_words plan) a ≡ true) (pieces h ++ heaps h) (stacks harts h)
+        room = contents_room (ram_words plan) h aligned (all-first (λ a. is_in_ram (ram_words plan) a ≡ true) (pieces h) (heaps h) (all-first (λ a. is_in_ram (ram_words plan) a ≡ true) (pieces h ++ heaps h) (stacks harts h)
             (home_all (λ a. is_in_ram (ram_words plan) a ≡ true) plan images i m (all_inside (ram_words plan) [] (areas plan images) clear) at)));
         aligned = aligned;
       }
@@ -193,5 +191,5 @@ few_words plan in_range = let r = in_range.ram_kib in omega (arith, r.1)
 pub owned_placed : (plan : Said) (images : List (List ℕ)) → IsInRange plan → first_fault plan images ≡ None → AllByRecursion (IsPlaced (ram_words plan)) (flat_map (owned_areas (length plan.harts)) (homes plan images))
 owned_placed plan images in_range none =
     all_flat (owned_areas (length plan.harts)) (IsPlaced (ram_words plan)) (homes plan images)
-    (all_weaken (IsReady (ram_words plan) (length plan.harts)) (λ h. AllByRecursion (IsPlaced (ram_words plan)) (owned_areas (length plan.harts) h)) (homes plan images) (λ h is. is.owned)
+    (all-weaker (IsReady (ram_words plan) (length plan.harts)) (λ h. AllByRecursion (IsPlaced (ram_words plan)) (owned_areas (length plan.harts) h)) (homes plan images) (λ h is. is.owned)
     (homes_ready plan images in_range (faultless plan images none).placed))

@@ -10,7 +10,9 @@ use Rattle.mx_boot.specs.Areas.{Home, home, homes, Content, contents, has_image,
 use Rattle.mx_boot.specs.Boot.{with_content, boot_ram}
 use Rattle.mx_boot.specs.Faults.{ram_words}
 use Rattle.mx_boot.specs.Images.{AreImages}
-use Rattle.mx_boot.proofs.Lists.{all_each, all_mapped, all_flat, all_numbered, all_weaken}
+use Rattle.mx_boot.proofs.Lists.{all_each, all_mapped, all_flat, all_numbered}
+use Rattle.mx_boot.proofs.Puts.{put}
+use Rattle.mx_audit.proofs.LiveLaws.{all-weaker}
 
 abbrev pub IsByte : ℕ → Type 0
 IsByte b = b < 256
@@ -40,9 +42,6 @@ all-drop P (suc n) [] h = tt
 all-drop P (suc n) (x ∷ xs) h = all-drop P n xs h.1
 
 -- bytes put from a place on
-abbrev put : List ℕ → ℕ → List ℕ → List ℕ
-put ram k bytes = fold (λ ram (p : ℕ × ℕ). set ram p.0 p.1) ram (enumerate_from k bytes)
-
 length-put : (ram : List ℕ) (k : ℕ) (bytes : List ℕ) → length (put ram k bytes) ≡ length ram
 length-put ram k [] = refl
 length-put ram k (b ∷ bytes) = length-put (set ram k b) (k + 1) bytes ∙ length-set ram k b
@@ -80,4 +79,4 @@ length-boot_ram plan images = length-contents (replicate (4 * ram_words plan) 0)
 pub small-boot_ram : (plan : Said) (images : List (List ℕ)) → AreImages images → AreSmall (boot_ram plan images)
 small-boot_ram plan images are = small-contents (replicate (4 * ram_words plan) 0) (flat_map contents (homes plan images)) (small-zeros (4 * ram_words plan))
     (all_flat contents (λ (c : Content). AllByRecursion IsByte c.bytes) (homes plan images)
-    (all_weaken (λ (h : Home). AllByRecursion IsByte h.bytes) (λ h. AllByRecursion (λ (c : Content). AllByRecursion IsByte c.bytes) (contents h)) (homes plan images) contents-small (homes-small plan images are)))
+    (all-weaker (λ (h : Home). AllByRecursion IsByte h.bytes) (λ h. AllByRecursion (λ (c : Content). AllByRecursion IsByte c.bytes) (contents h)) (homes plan images) contents-small (homes-small plan images are)))

@@ -3,6 +3,7 @@ use Rattle.std.proofs.Common.{◌≡◌, ◌⊎◌, inl, inr, ℕ, ◌+◌, ◌<
 use Rattle.std.specs.List.{AllByRecursion, list_any, range_with_len}
 use Rattle.std.proofs.lemmas.Bool.{cases_lt}
 use Rattle.std.proofs.lemmas.List.{length-append, get_or_append_left, get_or-append-add, map-append}
+use Rattle.std.proofs.lemmas.Map.Keys.{any_passes_from_place}
 use Rattle.mx_words.specs.declared.perm.Perm.TheVariants as P
 use Rattle.mx_words.specs.declared.perm.Span.{Span}
 use Rattle.mx_words.specs.Newest.{Grant, laid_at, at}
@@ -16,10 +17,12 @@ use Rattle.mx_boot.specs.Entries.{word_at}
 use Rattle.mx_boot.specs.Faults.{shares_word}
 use Rattle.mx_boot.specs.Placed.{ArePlaced, IsApart, IsPlaced, next_area}
 use Rattle.mx_boot.proofs.Apart.{both_cover, end_is, in_ram}
-use Rattle.mx_boot.proofs.Lists.{all_both, all_each, all_from, all_mapped, all_weaken, any_at}
+use Rattle.mx_boot.proofs.Lists.{all_both, all_each, all_mapped}
 use Rattle.mx_boot.proofs.Nearest.{next-is, next-from, next-least, next-none}
 use Rattle.mx_boot.proofs.Owning.{is_over, newest_is}
 use Rattle.mx_boot.proofs.Rows.{at_mapped}
+use Rattle.mx_machine.proofs.SmallLaws.{from-each}
+use Rattle.mx_audit.proofs.LiveLaws.{all-weaker}
 
 -- the span of an area, and the word behind it
 abbrev pub span_of : Area → Span
@@ -69,13 +72,13 @@ grown P row s h p i lt = elim (cases_lt i (length row)) [
 no_area : (areas : List Area) (w : ℕ) → AllByRecursion (λ a. covers (word_at a.address) a.count w ≡ true → ⊥) areas → at (map grant areas) w ≡ P.None
 no_area areas w none = newest_is P.None P.None (map grant areas) w
     (all_mapped grant (λ (e : Grant). is_over w e ≡ true → e.value ≡ P.None) areas
-    (all_weaken (λ (a : Area). covers (word_at a.address) a.count w ≡ true → ⊥) (λ (a : Area). covers (word_at a.address) a.count w ≡ true → a.perm ≡ P.None) areas
+    (all-weaker (λ (a : Area). covers (word_at a.address) a.count w ≡ true → ⊥) (λ (a : Area). covers (word_at a.address) a.count w ≡ true → a.perm ≡ P.None) areas
     (λ a not h. absurd (not h)) none))
     (inr refl)
 
 any_each : (areas : List Area) (w : ℕ) → AllByRecursion (λ a. covers (word_at a.address) a.count w ≡ true → list_any (is_over w) (map grant areas) ≡ true) areas
-any_each areas w = all_from (λ (a : Area). covers (word_at a.address) a.count w ≡ true → list_any (is_over w) (map grant areas) ≡ true) areas
-    (λ i a found h. any_at (is_over w) (map grant areas) i (grant a) (at_mapped grant areas i a found) h)
+any_each areas w = from-each (λ (a : Area). covers (word_at a.address) a.count w ≡ true → list_any (is_over w) (map grant areas) ≡ true) areas
+    (λ i a found h. any_passes_from_place (is_over w) (map grant areas) i (grant a) (at_mapped grant areas i a found) h)
 
 module _ (words to : ℕ) (areas : List Area) (row : List Span) (a : Area) (placed : ArePlaced words areas) (so_far : IsRowTo words to areas row) (next : next_area to areas ≡ Some a) where
   abbrev s : Span
@@ -108,13 +111,13 @@ module _ (words to : ℕ) (areas : List Area) (row : List Span) (a : Area) (plac
       let ca = covers_in (word_at a.address) a.count w ge lt in
       newest_is P.None a.perm (map grant areas) w
       (all_mapped grant (λ (e : Grant). is_over w e ≡ true → e.value ≡ a.perm) areas
-      (all_weaken (λ b. IsPlaced words b × ((shares_word b a ≡ false) ⊎ (b ≡ a))) (λ (b : Area). covers (word_at b.address) b.count w ≡ true → b.perm ≡ a.perm) areas
+      (all-weaker (λ b. IsPlaced words b × ((shares_word b a ≡ false) ⊎ (b ≡ a))) (λ (b : Area). covers (word_at b.address) b.count w ≡ true → b.perm ≡ a.perm) areas
       (λ b h cb. ap (λ (x : Area). x.perm) (same b w h.0 h.1 cb ca)) others))
       (inl (next-is (λ b. covers (word_at b.address) b.count w ≡ true → list_any (is_over w) (map grant areas) ≡ true) to areas a (any_each areas w) next ca))
 
   between : (w : ℕ) → to ≤ w → w < word_at a.address → at (map grant areas) w ≡ P.None
   between w ge lt = no_area areas w
-      (all_weaken (λ b. (word_at b.address < to → end_of b ≤ to) × (to ≤ word_at b.address → word_at a.address ≤ word_at b.address))
+      (all-weaker (λ b. (word_at b.address < to → end_of b ≤ to) × (to ≤ word_at b.address → word_at a.address ≤ word_at b.address))
       (λ (b : Area). covers (word_at b.address) b.count w ≡ true → ⊥) areas
       (λ b h c. let r = covers_from (word_at b.address) b.count w c in elim (cases_lt (word_at b.address) to) [
         | inl before ↦ (let e = h.0 before in let q : ⊥ = omega (arith, e, r.1, ge) in q)
@@ -138,7 +141,7 @@ module _ (words to : ℕ) (areas : List Area) (row : List Span) (a : Area) (plac
   rest w ge = more w ∙ laid_at_behind w (at (map granted row) w) (granted s) ge ∙ so_far.rest w (let f = from in omega (arith, f, ge))
 
   apart : AllByRecursion (λ b. word_at b.address < end_of a → end_of b ≤ end_of a) areas
-  apart = all_weaken (λ b. ((word_at b.address < to → end_of b ≤ to) × (to ≤ word_at b.address → word_at a.address ≤ word_at b.address)) × (IsPlaced words b × ((shares_word b a ≡ false) ⊎ (b ≡ a))))
+  apart = all-weaker (λ b. ((word_at b.address < to → end_of b ≤ to) × (to ≤ word_at b.address → word_at a.address ≤ word_at b.address)) × (IsPlaced words b × ((shares_word b a ≡ false) ⊎ (b ≡ a))))
       (λ (b : Area). word_at b.address < end_of a → end_of b ≤ end_of a) areas
       (λ b h lt. let f = from in elim (cases_lt (word_at b.address) to) [
         | inl before ↦ (let e = h.0.0 before in omega (arith, e, f))
@@ -194,7 +197,7 @@ pub row-end : (words to : ℕ) (areas : List Area) (row : List Span) → IsRowTo
 row-end words to areas row so_far none = map_same (at (map granted row)) (at (map grant areas)) (range_with_len 0 words) (λ w. elim (cases_lt w to) [
   | inl before ↦ so_far.done w before
   | inr ge ↦ so_far.rest w ge ∙ sym (no_area areas w
-      (all_weaken (λ b. (word_at b.address < to → end_of b ≤ to) × (word_at b.address < to)) (λ (b : Area). covers (word_at b.address) b.count w ≡ true → ⊥) areas
+      (all-weaker (λ b. (word_at b.address < to → end_of b ≤ to) × (word_at b.address < to)) (λ (b : Area). covers (word_at b.address) b.count w ≡ true → ⊥) areas
       (λ b h c. let r = covers_from (word_at b.address) b.count w c in let e = h.0 h.1 in let q : ⊥ = omega (arith, e, r.1, ge) in q)
       (all_both (λ (b : Area). word_at b.address < to → end_of b ≤ to) (λ (b : Area). word_at b.address < to) areas so_far.apart (next-none to areas none))))
 ])

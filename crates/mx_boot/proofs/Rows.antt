@@ -2,7 +2,7 @@
 use Rattle.std.proofs.Common.{◌≡◌, ℕ, zero, suc, ◌+◌, ◌<◌, ◌≤◌, List, [], ◌∷◌, ◌++◌, length, take, drop, map, slice_get, Option, Some, None, option_map, refl, ap, ◌∙◌, sym, subst, arith, append_assoc, get_or, find, Bool, true, false}
 use Rattle.std.specs.List.{enumerate_from, flat_map}
 use Rattle.std.specs.Option.{option_or}
-use Rattle.std.proofs.lemmas.List.{drop_more, take_more, append-nil, map-append}
+use Rattle.std.proofs.lemmas.List.{drop_more, take_more, append-nil, map-append, drop_all}
 use Rattle.std.proofs.lemmas.Grind.{flat_map-append}
 use Rattle.std.proofs.lemmas.Option.{same_Some, slice_get-map, slice_get_within, get_or_from_slice_get}
 use Rattle.mx_words.specs.FirstRow.{Row, first_row}
@@ -15,18 +15,6 @@ drop_at xs i x e = drop_more xs i x (slice_get_within xs i x e) ∙ ap (λ z. z 
 -- the elements before a place and the element there
 pub take_at : {A : Type 0} (xs : List A) (i : ℕ) (x : A) → slice_get xs i ≡ Some x → take (i + 1) xs ≡ take i xs ++ x ∷ []
 take_at xs i x e = take_more xs i x (slice_get_within xs i x e) ∙ ap (λ z. take i xs ++ z ∷ []) (get_or_from_slice_get xs i x x e)
-
-pub take_past : {A : Type 0} (xs : List A) (i : ℕ) → length xs ≤ i → take i xs ≡ xs
-take_past [] zero h = refl
-take_past [] (suc i) h = refl
-take_past (x ∷ xs) zero h = absurd (omega arith)
-take_past (x ∷ xs) (suc i) h = ap (λ ys. x ∷ ys) (take_past xs i (omega arith))
-
-pub drop_past : {A : Type 0} (xs : List A) (i : ℕ) → length xs ≤ i → drop i xs ≡ []
-drop_past [] zero h = refl
-drop_past [] (suc i) h = refl
-drop_past (x ∷ xs) zero h = absurd (omega arith)
-drop_past (x ∷ xs) (suc i) h = drop_past xs i (omega arith)
 
 -- the first of the rows of the elements from a place on
 abbrev pub first_from : {A B : Type 0} → (A → List (Row B)) → ℕ → List A → Option B
@@ -45,7 +33,7 @@ pub first_here : {A B : Type 0} (rows : A → List (Row B)) (xs : List A) (i : �
 first_here rows xs i x fault at some = at_from rows xs i x at ∙ ap (λ o. option_or o (first_from rows (i + 1) xs)) some
 
 pub first_end : {A B : Type 0} (rows : A → List (Row B)) (xs : List A) (i : ℕ) → length xs ≤ i → first_from rows i xs ≡ None
-first_end rows xs i past = ap (λ ys. first_row (flat_map rows ys)) (drop_past xs i past)
+first_end rows xs i past = ap (λ ys. first_row (flat_map rows ys)) (drop_all i xs past)
 
 -- an element of a numbered list
 pub at_numbered : {A : Type 0} (xs : List A) (n i : ℕ) (x : A) → slice_get xs i ≡ Some x → slice_get (enumerate_from n xs) i ≡ Some (n + i, x)
@@ -76,7 +64,7 @@ pub find_next : {A : Type 0} (test : A → Bool) (xs : List A) (i : ℕ) (d : A)
 find_next test xs i d below fails = rw (drop_more xs i d below, fails) refl
 
 pub find_end : {A : Type 0} (test : A → Bool) (xs : List A) (i : ℕ) → length xs ≤ i → find test (drop i xs) ≡ None
-find_end test xs i past = ap (find test) (drop_past xs i past)
+find_end test xs i past = ap (find test) (drop_all i xs past)
 
 -- a list that grows by what each element of another gives
 pub grown_by_one : {A B : Type 0} (f : A → B) (xs : List A) (k : ℕ) (x : A) (old items new : List B) (y : B) → slice_get xs k ≡ Some x

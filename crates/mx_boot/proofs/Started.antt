@@ -3,6 +3,7 @@ use Rattle.std.proofs.Common.{◌≡◌, ℕ, ◌+◌, ◌-◌, ◌≤◌, List,
 use Rattle.std.specs.List.{enumerate_from}
 use Rattle.std.specs.Prelude.{option_and_then}
 use Rattle.std.proofs.lemmas.List.FromFn.{length-enumerate_from}
+use Rattle.std.proofs.lemmas.List.{take_all}
 use Rattle.mx_words.specs.FirstRow.{first_row}
 use Rattle.mx_manifest.specs.declared.fault.BootFault.{BootFault}
 use Rattle.mx_manifest.specs.declared.parts.HartPlan.{HartPlan}
@@ -14,7 +15,7 @@ use Rattle.mx_boot.specs.Areas.{Home, homes, areas}
 use Rattle.mx_boot.specs.Entries.{hart_start, start_address}
 use Rattle.mx_boot.specs.Faults.{at_hart, entry_rows, hart_rows, harts_rows}
 use Rattle.mx_boot.specs.Laid.{Tells, start_of}
-use Rattle.mx_boot.proofs.Rows.{at_numbered, first_from, first_here, first_next, first_end, grown_by_one, take_past}
+use Rattle.mx_boot.proofs.Rows.{at_numbered, first_from, first_here, first_next, first_end, grown_by_one}
 
 module _ (plan : Said) (images : List (List ℕ)) (hart : HartPlan) (h : Home) (at : slice_get (homes plan images) (hart.module - 1) ≡ Some h) where
   start_is : start_address h hart.entry ≡ hart_start plan images hart
@@ -62,5 +63,5 @@ pub harts_end : (plan : Said) (images : List (List ℕ)) (i : ℕ) (old items : 
 harts_end plan images i old items past so_far =
     let all : length (enumerate_from 1 plan.harts) ≤ i = omega (arith, length-enumerate_from 1 plan.harts) in (
       sym so_far.faults ∙ first_end (hart_rows plan images) (enumerate_from 1 plan.harts) i all,
-      so_far.added ∙ ap (λ hs. old ++ map (start_of plan images) hs) (take_past plan.harts i past),
+      so_far.added ∙ ap (λ hs. old ++ map (start_of plan images) hs) (take_all i plan.harts past),
     )

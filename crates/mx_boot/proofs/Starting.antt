@@ -16,6 +16,7 @@ use Rattle.mx_machine.specs.Harts.{seen_from}
 use Rattle.mx_machine.specs.Held.{area_of, behind, beside, homes_from, home, no_area, told}
 use Rattle.mx_machine.specs.Starts.{IsStack, IsStart, MayStart, none_dead, started, started_from}
 use Rattle.mx_machine.specs.declared.starts.StackArea.{StackArea}
+use Rattle.mx_machine.proofs.SmallLaws.{from-each}
 use Rattle.mx_manifest.specs.declared.parts.HartPlan.{HartPlan}
 use Rattle.mx_manifest.specs.declared.parts.ModulePlan.{ModulePlan}
 use Rattle.mx_manifest.specs.InRange.{IsAligned, IsBetween, IsInRange}
@@ -34,8 +35,9 @@ use Rattle.mx_boot.proofs.Harted.{hart_valid}
 use Rattle.mx_boot.proofs.Homes.{hart_domain}
 use Rattle.mx_boot.proofs.Housed.{Inside, has_words, home_inside, modules_valid}
 use Rattle.mx_boot.proofs.Joining.{length-maps}
-use Rattle.mx_boot.proofs.Lists.{all_from, all_mapped, all_right, all_at, there}
+use Rattle.mx_boot.proofs.Lists.{all_mapped, all_at, there}
 use Rattle.mx_boot.proofs.Rows.{at_mapped}
+use Rattle.mx_laws.proofs.ComparisonLaws.{all-second}
 
 -- what a plan without a fault says of a module's stack
 pub record HasStack (h : ℕ) (m : ModulePlan) : Type 0 where
@@ -125,7 +127,7 @@ module _ (plan : Said) (images : List (List ℕ)) (in_range : IsInRange plan) (n
   has_stack h i m at =
       let g = areas_spec.home images (i, m) in
       let r = in_range.modules i m at in
-      let own = all_right (λ a. is_in_ram (ram_words plan) a ≡ true) (pieces g ++ heaps g) (stacks (length plan.harts) g) (home_inside plan images (ram_words plan) i m inside at) in
+      let own = all-second (λ a. is_in_ram (ram_words plan) a ≡ true) (pieces g ++ heaps g) (stacks (length plan.harts) g) (home_inside plan images (ram_words plan) i m inside at) in
       record {
         stack = stack_told m m.stack refl r.stack_whole r.stack_words;
         behind = stack_behind (ram_words plan) (length plan.harts) h g m.stack refl r.stack_whole r.stack_words r.stack own;
@@ -176,13 +178,13 @@ module _ (plan : Said) (images : List (List ℕ)) (in_range : IsInRange plan) (n
         some_harts = (let some = in_range.hart_count in omega (arith, count, some.0));
         new = ap new_harts (sym count);
         each = all_mapped (hart_start_of (start_of plan images)) (IsStart (boot_parts plan images)) plan.harts
-            (all_from (λ x. IsStart (boot_parts plan images) (hart_start_of (start_of plan images) x)) plan.harts
+            (from-each (λ x. IsStart (boot_parts plan images) (hart_start_of (start_of plan images) x)) plan.harts
             (λ i x at. let v = hart_valid plan images (ram_words plan) i x in_range (omega (arith, few.1)) inside clear.started at in
             let d = v.domain in record { domain = (let first = d.first in let last = d.last in record { first = first; last = omega (arith, maps, last) }); pc = v.pc.aligned }));
         count = length-map plan.modules stack_area_of ∙ sym maps;
         areas = subst (λ n. AllByRecursion (IsStack (ram_words plan) n) (stack_areas plan)) (sym count)
             (all_mapped stack_area_of (IsStack (ram_words plan) (length plan.harts)) plan.modules
-            (all_from (λ m. IsStack (ram_words plan) (length plan.harts) (stack_area_of m)) plan.modules
+            (from-each (λ m. IsStack (ram_words plan) (length plan.harts) (stack_area_of m)) plan.modules
             (λ i m at. stack_fits m m.stack (all_at (IsHome (ram_words plan) (length plan.harts)) (map module_of plan.modules) i (module_of m)
             (modules_valid plan images (ram_words plan) in_range inside) (at_mapped module_of plan.modules i m at)).stack)));
       }

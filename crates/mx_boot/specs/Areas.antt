@@ -22,7 +22,8 @@ pub record Home : Type 0 where
 
 -- the module at a place, which counts from 0
 abbrev pub home : List (List ℕ) → ℕ × ModulePlan → Home
-home images placed = record { domain = placed.0 + 1; plan = placed.1; bytes = slice_index_or images placed.0 [] }
+home images placed =
+    record { domain = placed.0 + 1; plan = placed.1; bytes = slice_index_or images placed.0 [] }
 
 -- the modules of a plan
 abbrev pub homes : Said → List (List ℕ) → List Home
@@ -123,9 +124,11 @@ abbrev pub word_bytes : ℕ → List ℕ
 word_bytes w = w % 256 ∷ w / 256 % 256 ∷ w / 65536 % 256 ∷ w / 16777216 % 256 ∷ []
 
 abbrev pub inline_content : ModulePlan → Content
-inline_content plan = record { address = inline_address plan; bytes = flat_map word_bytes (inline_words plan) }
+inline_content plan =
+    record { address = inline_address plan; bytes = flat_map word_bytes (inline_words plan) }
 
 -- what a module puts into RAM
 abbrev pub contents : Home → List Content
 contents h =
-    if has_image h then map (segment_content h.bytes) (image h).segments else inline_content h.plan ∷ []
+    if has_image h then map (segment_content h.bytes) (image h).segments
+    else inline_content h.plan ∷ []

@@ -22,11 +22,14 @@ use Rattle.mx_boot.specs.Faults.{first_fault, ram_words}
 
 -- RAM with bytes put into it
 abbrev pub with_content : List ℕ → Content → List ℕ
-with_content ram c = fold (λ ram (p : ℕ × ℕ). slice_set ram p.0 p.1) ram (enumerate_from (c.address - ram_base) c.bytes)
+with_content ram c =
+    fold (λ ram (p : ℕ × ℕ). slice_set ram p.0 p.1) ram
+    (enumerate_from (c.address - ram_base) c.bytes)
 
 -- RAM at boot: zeros but for what the modules put there
 abbrev pub boot_ram : Said → List (List ℕ) → List ℕ
-boot_ram plan images = fold with_content (replicate (4 * ram_words plan) 0) (flat_map contents (homes plan images))
+boot_ram plan images =
+    fold with_content (replicate (4 * ram_words plan) 0) (flat_map contents (homes plan images))
 
 -- an area's grant of its permission to its module, and its give to its module
 abbrev pub grant : area.Area → Grant
@@ -48,24 +51,36 @@ gives_of harts h = map give (owned_pieces h ++ heaps h ++ stacks harts h)
 
 -- a module as it stands in the state
 abbrev pub heap_of : ModulePlan → Area
-heap_of plan = option_map_or (λ address. record { first = word_at address; count = heap_words plan }) plan.heap
+heap_of plan =
+    option_map_or (λ address. record { first = word_at address; count = heap_words plan }) plan.heap
     (record { first = 0; count = 0 })
 
 abbrev pub stack_of : ModulePlan → Stack
-stack_of plan = option_map_or (λ address. record { first = word_at address; words = stack_words plan }) plan.stack
+stack_of plan =
+    option_map_or (λ address. record { first = word_at address; words = stack_words plan })
+    plan.stack
     (record { first = 0; words = 0 })
 
 abbrev pub module_of : ModulePlan → Module
-module_of plan = record { heap = heap_of plan; blocks = []; stack = stack_of plan; kills = plan.kills; dead = false }
+module_of plan =
+    record {
+      heap = heap_of plan;
+      blocks = [];
+      stack = stack_of plan;
+      kills = plan.kills;
+      dead = false;
+    }
 
 -- a module's stack address for a hart, which counts from 0: behind that hart's words; 0 where the module has no stack
 abbrev pub stack_address : ℕ → ModulePlan → ℕ
-stack_address h plan = option_map_or (λ address. address + 4 * stack_words plan * (h + 1)) plan.stack 0
+stack_address h plan =
+    option_map_or (λ address. address + 4 * stack_words plan * (h + 1)) plan.stack 0
 
 -- a hart with its number from 0: it is in its module, at its entry, with all registers zero but x2, its stack address
 abbrev pub hart_of : Said → List (List ℕ) → ℕ × HartPlan → Hart
 hart_of plan images placed =
-    let stack = option_map_or (stack_address placed.0) (slice_get plan.modules (placed.1.module - 1)) 0 in
+    let stack =
+    option_map_or (stack_address placed.0) (slice_get plan.modules (placed.1.module - 1)) 0 in
     record {
       regs = slice_set (replicate 32 0) 2 stack;
       pc = unwrap_or (hart_start plan images placed.1) 0;
@@ -109,7 +124,8 @@ boot_need s = need s.core.kind (flat s).maps
 
 -- a state whose maps fit its limit
 abbrev pub limited : State → Result State Refusal
-limited s = if within (boot_need s) s.core.limit then Ok s else Err (TooFull (boot_need s) s.core.limit)
+limited s =
+    if within (boot_need s) s.core.limit then Ok s else Err (TooFull (boot_need s) s.core.limit)
 
 abbrev pub unless : Option BootFault → Result State Refusal → Result State Refusal
 unless (Some fault) boot = Err (Faulty fault)

@@ -57,4 +57,5 @@ start_address h entry = option_map_or (entry_address h.bytes) entry (Some (defau
 -- the address that a hart's entry means in its module
 abbrev pub hart_start : Said → List (List ℕ) → HartPlan → Option ℕ
 hart_start plan images hart =
-    option_and_then (λ h. start_address h hart.entry) (slice_get (homes plan images) (hart.module - 1))
+    option_and_then (λ h. start_address h hart.entry)
+    (slice_get (homes plan images) (hart.module - 1))

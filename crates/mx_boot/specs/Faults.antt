@@ -51,7 +51,9 @@ fault_number (Err fault) = fault.number
 -- step 5, of a module with an image. Fault 10: the file has a fault of its own; fault 11: a segment is writable and executable, and
 -- there is no `wx`
 abbrev pub image_row : Home → Fault
-image_row h = let file = image_of h.bytes in (is_err file, fault 10 (at_module h.domain key.Image) (fault_number file))
+image_row h =
+    let file = image_of h.bytes in
+    (is_err file, fault 10 (at_module h.domain key.Image) (fault_number file))
 
 abbrev pub flags_rows : Home → ℕ × Seg → List Fault
 flags_rows h placed = (
@@ -62,17 +64,21 @@ flags_rows h placed = (
 
 abbrev pub image_rows : Home → List Fault
 image_rows h =
-    if has_image h then image_row h ∷ flat_map (flags_rows h) (enumerate_from 0 (image h).segments) else []
+    if has_image h then image_row h ∷ flat_map (flags_rows h) (enumerate_from 0 (image h).segments)
+    else []
 
 -- the rows of each element in turn, judged behind what is kept of the earlier ones
-abbrev pub each_behind : {A B : Type 0} → (A → B) → (List B → A → List Fault) → List B → List A → List Fault
+abbrev pub each_behind : {A B : Type 0} → (A → B) → (List B → A → List Fault) → List B → List A →
+    List Fault
 each_behind keep rows earlier [] = []
-each_behind keep rows earlier (x ∷ xs) = rows earlier x ++ each_behind keep rows (earlier ++ keep x ∷ []) xs
+each_behind keep rows earlier (x ∷ xs) =
+    rows earlier x ++ each_behind keep rows (earlier ++ keep x ∷ []) xs
 
 -- step 6, of an area behind the earlier ones. Fault 12: it isn't wholly in a RAM of so many words; fault 13: it shares a word with an
 -- earlier area, the first of which the fault tells by its module
 abbrev pub is_in_ram : ℕ → Area → Bool
-is_in_ram words a = nat_le ram_base a.address && nat_le (a.address / 4 + a.count) (ram_base / 4 + words)
+is_in_ram words a =
+    nat_le ram_base a.address && nat_le (a.address / 4 + a.count) (ram_base / 4 + words)
 
 abbrev pub shares_word : Area → Area → Bool
 shares_word a b = overlaps (a.address / 4) a.count (b.address / 4) b.count
@@ -114,12 +120,14 @@ gate_rows areas earlier r =
     ∷ []
 
 abbrev pub gates_rows : List Area → List Gate → List Request → List Fault
-gates_rows areas earlier requests = each_behind (λ (r : Request). r.gate) (gate_rows areas) earlier requests
+gates_rows areas earlier requests =
+    each_behind (λ (r : Request). r.gate) (gate_rows areas) earlier requests
 
 -- step 8, of a hart, whose number counts from 1
 abbrev pub hart_rows : Said → List (List ℕ) → ℕ × HartPlan → List Fault
 hart_rows plan images placed =
-    entry_rows (areas plan images) (at_hart placed.0) placed.1.module (hart_start plan images placed.1)
+    entry_rows (areas plan images) (at_hart placed.0) placed.1.module
+    (hart_start plan images placed.1)
 
 abbrev pub harts_rows : Said → List (List ℕ) → List Fault
 harts_rows plan images = flat_map (hart_rows plan images) (enumerate_from 1 plan.harts)

@@ -23,10 +23,13 @@ Tells first NoMemory = Unit {0}
 abbrev pub gate_of : Request → Gate
 gate_of r = r.gate
 
-abbrev pub AreAsked : List Area → List Gate → List Request → List Gate → Result (Unit {0}) LayoutRefused → Type 0
+abbrev pub AreAsked : List Area → List Gate → List Request → List Gate →
+    Result (Unit {0}) LayoutRefused → Type 0
 AreAsked areas earlier requests later (Ok done) =
-    (first_row (gates_rows areas earlier requests) ≡ None) × (later ≡ earlier ++ map gate_of requests)
-AreAsked areas earlier requests later (Err refused) = Tells (first_row (gates_rows areas earlier requests)) refused
+    (first_row (gates_rows areas earlier requests) ≡ None)
+    × (later ≡ earlier ++ map gate_of requests)
+AreAsked areas earlier requests later (Err refused) =
+    Tells (first_row (gates_rows areas earlier requests)) refused
 
 -- the first pc of a hart
 abbrev pub start_of : Said → List (List ℕ) → HartPlan → ℕ
@@ -34,17 +37,22 @@ start_of plan images hart = unwrap_or (hart_start plan images hart) 0
 
 -- a hart with its number from 1, its domain and the address that its entry means: its first pc is added, and it has no fault; or this
 -- is its first fault
-abbrev pub IsStarted : List Area → ℕ → ℕ → Option ℕ → List ℕ → List ℕ → Result (Unit {0}) LayoutRefused → Type 0
+abbrev pub IsStarted : List Area → ℕ → ℕ → Option ℕ → List ℕ → List ℕ →
+    Result (Unit {0}) LayoutRefused → Type 0
 IsStarted areas number domain address earlier later (Ok done) =
-    (first_row (entry_rows areas (at_hart number) domain address) ≡ None) × (later ≡ earlier ++ unwrap_or address 0 ∷ [])
+    (first_row (entry_rows areas (at_hart number) domain address) ≡ None)
+    × (later ≡ earlier ++ unwrap_or address 0 ∷ [])
 IsStarted areas number domain address earlier later (Err refused) =
     Tells (first_row (entry_rows areas (at_hart number) domain address)) refused
 
 -- all harts behind earlier ones
-abbrev pub AreStarted : Said → List (List ℕ) → List ℕ → List ℕ → Result (Unit {0}) LayoutRefused → Type 0
+abbrev pub AreStarted : Said → List (List ℕ) → List ℕ → List ℕ → Result (Unit {0}) LayoutRefused →
+    Type 0
 AreStarted plan images earlier later (Ok done) =
-    (first_row (harts_rows plan images) ≡ None) × (later ≡ earlier ++ map (start_of plan images) plan.harts)
-AreStarted plan images earlier later (Err refused) = Tells (first_row (harts_rows plan images)) refused
+    (first_row (harts_rows plan images) ≡ None)
+    × (later ≡ earlier ++ map (start_of plan images) plan.harts)
+AreStarted plan images earlier later (Err refused) =
+    Tells (first_row (harts_rows plan images)) refused
 
 -- the layout of a plan without a fault: its areas, its gates, and the first pc of each hart
 pub record IsLayout (plan : Said) (images : List (List ℕ)) (l : Layout) : Type 0 where

@@ -14,7 +14,9 @@ use Rattle.mx_boot.specs.Laid.{start_of}
 -- a module's stack area, and whether it is killing
 abbrev pub stack_area_of : ModulePlan → StackArea
 stack_area_of plan =
-    option_map_or (λ address. record { first = word_at address; words = stack_words plan; kills = plan.kills }) plan.stack
+    option_map_or
+    (λ address. record { first = word_at address; words = stack_words plan; kills = plan.kills })
+    plan.stack
     (record { first = 0; words = 0; kills = plan.kills })
 
 abbrev pub stack_areas : Said → List StackArea

@@ -80,11 +80,15 @@ impl AnyMachine {
         ensures turn { meaning self.new ≡ flat_turn (meaning self.old) hart }
         ensures out { IsTold (flat_made (meaning self.old) hart) out.new }
         ensures kind { result ≡ flat_kind (meaning self.old) hart }
-        ensures state { (s : State) → meaning self.old ≡ flat s → IsTurn s hart (meaning self.new) out.new result }
-        ensures foreign { ForeignAfter (flat_reads (meaning self.old)) (meaning self.old).core hart (meaning self.new).core }
+        ensures state { (s : State) → meaning self.old ≡ flat s →
+            IsTurn s hart (meaning self.new) out.new result }
+        ensures foreign { ForeignAfter (flat_reads (meaning self.old)) (meaning self.old).core hart
+            (meaning self.new).core }
         ensures bytes { KeepsBytes result (meaning self.old) (meaning self.new) }
-        ensures frames { FramesAfter (hart_at (meaning self.old).core hart) (hart_at (meaning self.new).core hart) }
-        ensures others { (h : ℕ) → h ≢ hart → frames_at (meaning self.new).core h ≡ frames_at (meaning self.old).core h }
+        ensures frames { FramesAfter (hart_at (meaning self.old).core hart)
+            (hart_at (meaning self.new).core hart) }
+        ensures others { (h : ℕ) → h ≢ hart →
+            frames_at (meaning self.new).core h ≡ frames_at (meaning self.old).core h }
     {
         each!(self, machine => machine.step(hart, out))
     }
@@ -163,8 +167,11 @@ impl AnyMachine {
         requires { word < (meaning self.now).core.size }
         ensures behind { word < result }
         ensures within { result ≤ (meaning self.now).core.size }
-        ensures same { (w : ℕ) → word ≤ w → w < result → (flat_reads (meaning self.now)).owner w ≡ (flat_reads (meaning self.now)).owner word }
-        ensures ends { result < (meaning self.now).core.size → (flat_reads (meaning self.now)).owner result ≢ (flat_reads (meaning self.now)).owner word }
+        ensures same { (w : ℕ) → word ≤ w → w < result →
+            (flat_reads (meaning self.now)).owner w ≡ (flat_reads (meaning self.now)).owner word }
+        ensures ends { result < (meaning self.now).core.size →
+            (flat_reads (meaning self.now)).owner result
+            ≢ (flat_reads (meaning self.now)).owner word }
     {
         each!(self, machine => machine.owner_end(word))
     }
@@ -199,7 +206,9 @@ impl AnyMachine {
     pub fn shown(&self, domain: u32, word: u32) -> Shown
         requires domain { IsModule (length (meaning self.now).core.modules) domain }
         requires word { word < (meaning self.now).core.size }
-        ensures { result ≡ stored (meaning self.now).core.kind (map_in (meaning self.now).core.size (meaning self.now).maps domain) word }
+        ensures { result
+            ≡ stored (meaning self.now).core.kind
+            (map_in (meaning self.now).core.size (meaning self.now).maps domain) word }
     {
         each!(self, machine => machine.shown(domain, word))
     }
@@ -237,7 +246,8 @@ impl AnyMachine {
     /// The live block of a domain at place `i`, in the order of their addresses. `None` exactly where no more than `i` live.
     pub fn block(&self, domain: u32, i: u32) -> Option<Block>
         requires { IsModule (length (meaning self.now).core.modules) domain }
-        ensures { option_map area_of result ≡ slice_get (module_at (meaning self.now).core domain).blocks i }
+        ensures { option_map area_of result
+            ≡ slice_get (module_at (meaning self.now).core domain).blocks i }
     {
         each!(self, machine => machine.block(domain, i))
     }
@@ -286,7 +296,9 @@ impl AnyMachine {
 pub fn any_machine_is_valid(any: &AnyMachine)
     ensures valid { IsValid (meaning any.now).core }
     ensures maps { length (meaning any.now).maps ≡ length (meaning any.now).core.modules }
-    ensures whole { (d : ℕ) → IsModule (length (meaning any.now).core.modules) d → length (map_in (meaning any.now).core.size (meaning any.now).maps d) ≡ (meaning any.now).core.size }
+    ensures whole { (d : ℕ) → IsModule (length (meaning any.now).core.modules) d →
+        length (map_in (meaning any.now).core.size (meaning any.now).maps d)
+        ≡ (meaning any.now).core.size }
     ensures owners { length (meaning any.now).owners ≡ (meaning any.now).core.size }
 {
     each!(any, machine => machine_is_valid(machine))

@@ -93,7 +93,8 @@ fn add(areas: &mut Vec<Area>, area: Area) -> Result<(), NoMemory>
 
 /// Adds the areas of loaded segments.
 fn add_segments(areas: &mut Vec<Area>, home: Home, segments: &Segs) -> Result<(), NoMemory>
-    ensures { OnOk result (areas.new.items ≡ areas.old.items ++ map (segment_area (seen home.entry)) segments.now) }
+    ensures { OnOk result
+        (areas.new.items ≡ areas.old.items ++ map (segment_area (seen home.entry)) segments.now) }
 {
     for k in 0..segments.len() {
         add(areas, segment_area(home, segments.get(k)))?;

@@ -31,7 +31,8 @@ fn is_refused(flags: u32, wx: Option<Perm>) -> bool
 
 /// The first fault 11 of a module's segments.
 fn flags_fault(home: Home, segments: &Segs) -> Option<BootFault>
-    ensures { result ≡ first_row (flat_map (flags_rows (seen home.entry)) (enumerate_from 0 segments.now)) }
+    ensures { result
+        ≡ first_row (flat_map (flags_rows (seen home.entry)) (enumerate_from 0 segments.now)) }
 {
     for k in 0..segments.len() {
         if is_refused(segments.get(k).flags, home.plan.wx) {

@@ -102,7 +102,8 @@ fn ask_call(
     gate: &GatePlan,
 ) -> Result<(), LayoutRefused>
     requires { HoldsIn (seen home).bytes symbols.now }
-    ensures { AreAsked areas.now gates.old.items (call_requests (seen home.entry) gate.now) gates.new.items result }
+    ensures { AreAsked areas.now gates.old.items (call_requests (seen home.entry) gate.now)
+        gates.new.items result }
 {
     let address = known_address(home.bytes, symbols, &gate.entry);
     'names: for k in 0..gate.from.len() {
@@ -124,7 +125,8 @@ fn ask_calls(
 ) -> Result<(), LayoutRefused>
     requires { HoldsIn (seen home).bytes symbols.now }
     ensures { let h = seen home.entry in
-        AreAsked areas.now gates.old.items (flat_map (call_requests h) h.plan.gates) gates.new.items result }
+        AreAsked areas.now gates.old.items (flat_map (call_requests h) h.plan.gates)
+        gates.new.items result }
 {
     'gates: for k in 0..home.plan.gates.len() {
         match ask_call(areas, gates, home, symbols, home.plan.gates.get(k)) {
@@ -144,7 +146,8 @@ fn ask_returns(
 ) -> Result<(), LayoutRefused>
     requires { HoldsIn (seen home).bytes symbols.now }
     ensures { let h = seen home.entry in
-        AreAsked areas.now gates.old.items (map (return_request h) h.plan.returns) gates.new.items result }
+        AreAsked areas.now gates.old.items (map (return_request h) h.plan.returns)
+        gates.new.items result }
 {
     'returns: for k in 0..home.plan.returns.len() {
         let address = known_address(home.bytes, symbols, home.plan.returns.get(k));
@@ -165,7 +168,8 @@ fn ask_both(
     symbols: &Symbols,
 ) -> Result<(), LayoutRefused>
     requires { HoldsIn (seen home).bytes symbols.now }
-    ensures { AreAsked areas.now gates.old.items (requests_of (seen home.entry)) gates.new.items result }
+    ensures { AreAsked areas.now gates.old.items (requests_of (seen home.entry))
+        gates.new.items result }
 {
     match ask_calls(areas, gates, home, symbols) {
         Ok(()) => ask_returns(areas, gates, home, symbols),
@@ -180,7 +184,8 @@ fn ask_module(
     gates: &mut Vec<Gate>,
     home: Home,
 ) -> Result<(), LayoutRefused>
-    ensures { AreAsked areas.now gates.old.items (requests_of (seen home.entry)) gates.new.items result }
+    ensures { AreAsked areas.now gates.old.items (requests_of (seen home.entry))
+        gates.new.items result }
 {
     match gate_symbols(alloc, home) {
         Ok(symbols) => ask_both(areas, gates, home, &symbols),
@@ -196,7 +201,8 @@ pub(crate) fn ask_gates(
     plan: &Plan,
     images: &[Blob],
 ) -> Result<(), LayoutRefused>
-    ensures { AreAsked areas.now gates.old.items (requests plan.now images.now) gates.new.items result }
+    ensures { AreAsked areas.now gates.old.items (requests plan.now images.now)
+        gates.new.items result }
 {
     'modules: for i in 0..plan.modules() {
         match ask_module(alloc, areas, gates, home_at(plan, images, i)) {

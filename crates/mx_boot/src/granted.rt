@@ -84,7 +84,8 @@ fn row_of(alloc: Global, home: Home, harts: u32, words: u32) -> Result<Spans, No
     requires placed { ArePlaced words (granted_areas harts (seen home)) }
     requires size { words ≤ most_words }
     ensures row { IfOk result (IsRow words) }
-    ensures map { IfOk result (λ row. row_map words row ≡ map_of (grants_of harts (seen home.entry)) words) }
+    ensures map { IfOk result
+        (λ row. row_map words row ≡ map_of (grants_of harts (seen home.entry)) words) }
 {
     let areas = granted_areas(alloc, home, harts)?;
     row(alloc, areas.as_slice(), words)

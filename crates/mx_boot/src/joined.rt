@@ -50,8 +50,10 @@ pub(crate) fn join<T: PermTables, const N: usize>(
     requires layout { IsLayout plan.now images.now layout.now }
     requires kind { T.kind ≡ plan.now.tables }
     requires buffer { N ≡ plan.now.lookaside }
-    ensures boot { IfOk result (λ s. boot_of plan.now images.now ≡ Ok (boot_state plan.now images.now)) }
-    ensures parts { IfOk result (λ s. parts_of T.kind T.maps T.size T.limits N s ≡ boot_parts plan.now images.now) }
+    ensures boot { IfOk result
+        (λ s. boot_of plan.now images.now ≡ Ok (boot_state plan.now images.now)) }
+    ensures parts { IfOk result
+        (λ s. parts_of T.kind T.maps T.size T.limits N s ≡ boot_parts plan.now images.now) }
     ensures refused { IfErr result (IsRefusedBy (boot_of plan.now images.now)) }
 {
     in_range(plan);

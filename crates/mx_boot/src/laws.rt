@@ -12,8 +12,8 @@ ghost use Rattle.mx_boot.specs.Images.{AreImages};
 
 /// Each state at boot of a plan in range is valid, and in it each heap area of a module belongs to that module.
 pub fn boots_are_valid()
-    ensures valid { (plan : Said) (images : List (List ℕ)) (s : State) → IsInRange plan → AreImages images →
-        boot_of plan images ≡ Ok s → IsFlat (flat s) }
+    ensures valid { (plan : Said) (images : List (List ℕ)) (s : State) → IsInRange plan →
+        AreImages images → boot_of plan images ≡ Ok s → IsFlat (flat s) }
     ensures heaps { (plan : Said) (images : List (List ℕ)) (s : State) → IsInRange plan →
         boot_of plan images ≡ Ok s → OwnHeaps (reads s) s.core }
 {}

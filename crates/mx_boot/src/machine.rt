@@ -54,7 +54,8 @@ fn stacks(plan: &Plan) -> Stacks
 /// Where all harts start, with the first pc of each.
 fn starts(plan: &Plan, pcs: &[u32]) -> Starts
     requires { length pcs.now ≡ length plan.now.harts }
-    ensures { (pc : HartPlan → ℕ) → pcs.now ≡ map pc plan.now.harts → result ≡ map (hart_start_of pc) plan.now.harts }
+    ensures { (pc : HartPlan → ℕ) → pcs.now ≡ map pc plan.now.harts →
+        result ≡ map (hart_start_of pc) plan.now.harts }
 {
     let mut starts = Starts::new();
     'harts: for h in 0..plan.harts() {
@@ -74,7 +75,8 @@ pub(crate) fn machine_of<T: PermTables, const N: usize>(
     parts: Supervisor<T, N>,
 ) -> Machine<T, N>
     requires layout { IsLayout plan.now images.now layout.now }
-    requires parts { parts_of T.kind T.maps T.size T.limits N parts ≡ boot_parts plan.now images.now }
+    requires parts { parts_of T.kind T.maps T.size T.limits N parts
+        ≡ boot_parts plan.now images.now }
     ensures { result ≡ flat (boot_state plan.now images.now) }
 {
     in_range(plan);

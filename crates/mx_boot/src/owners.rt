@@ -34,7 +34,8 @@ fn add_owned_pieces(areas: &mut Vec<Area>, home: Home) -> Result<(), NoMemory>
 fn add_owned(areas: &mut Vec<Area>, home: Home, harts: u32) -> Result<(), NoMemory>
     requires few { IfSome (seen home).plan.stack_words (λ words. words ≤ 1048576) }
     requires harts { harts ≤ 4 }
-    ensures { OnOk result (areas.new.items ≡ areas.old.items ++ owned_areas harts (seen home.entry)) }
+    ensures { OnOk result
+        (areas.new.items ≡ areas.old.items ++ owned_areas harts (seen home.entry)) }
 {
     add_owned_pieces(areas, home)?;
     add_heap(areas, home)?;

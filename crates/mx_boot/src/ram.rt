@@ -21,7 +21,8 @@ use std::alloc::Global;
 fn put_bytes(ram: &mut Ram, address: u32, bytes: &[u8])
     requires room { HasRoom (length ram.old) (record { address = address; bytes = bytes.now }) }
     requires small { length ram.old ≤ 67108864 }
-    ensures bytes { ram.new ≡ with_content ram.old (record { address = address; bytes = bytes.now }) }
+    ensures bytes { ram.new
+        ≡ with_content ram.old (record { address = address; bytes = bytes.now }) }
     ensures size { length ram.new ≡ length ram.old }
 {
     'bytes: for k in 0..bytes.len() {
@@ -57,9 +58,11 @@ fn held(bytes: &[u8], segment: Seg) -> &[u8]
 /// Puts what the files of loaded segments have.
 fn put_segments(ram: &mut Ram, bytes: &[u8], segments: &Segs)
     requires sound { AllByRecursion (IsSound (length bytes.now)) segments.now }
-    requires room { AllByRecursion (HasRoom (length ram.old)) (map (segment_content bytes.now) segments.now) }
+    requires room { AllByRecursion (HasRoom (length ram.old))
+        (map (segment_content bytes.now) segments.now) }
     requires small { length ram.old ≤ 67108864 }
-    ensures bytes { ram.new ≡ fold with_content ram.old (map (segment_content bytes.now) segments.now) }
+    ensures bytes { ram.new
+        ≡ fold with_content ram.old (map (segment_content bytes.now) segments.now) }
     ensures size { length ram.new ≡ length ram.old }
 {
     'segments: for k in 0..segments.len() {

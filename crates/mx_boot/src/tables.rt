@@ -36,7 +36,8 @@ pub(crate) fn tables<T: PermTables>(
 ) -> Result<T, BootRefused>
     requires clear { first_fault plan.now images.now ≡ None }
     requires kind { T.kind ≡ plan.now.tables }
-    ensures boot { IfOk result (λ t. boot_of plan.now images.now ≡ Ok (boot_state plan.now images.now)) }
+    ensures boot { IfOk result
+        (λ t. boot_of plan.now images.now ≡ Ok (boot_state plan.now images.now)) }
     ensures maps { IfOk result (λ t. T.maps t ≡ (flat (boot_state plan.now images.now)).maps) }
     ensures size { IfOk result (λ t. T.size t ≡ ram_words plan.now) }
     ensures limit { IfOk result (λ t. T.limits t ≡ limit_of plan.now) }

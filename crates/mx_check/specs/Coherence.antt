@@ -24,7 +24,8 @@ is_spared (Some f) word = covers f.first f.count word
 
 -- a span has its permission on each of its words in a map, but for the words of the hart's own call
 pub record Agrees (m : List Perm) (own : Option Flight) (s : Span) : Type 0 where
-  pub at : (word : ℕ) → covers_word s word ≡ true → is_spared own word ≡ false → perm_at m word ≡ s.perm
+  pub at : (word : ℕ) → covers_word s word ≡ true → is_spared own word ≡ false →
+      perm_at m word ≡ s.perm
 
 -- the same in the map of the domain that is kept for the hart; where none is, its places hold no span
 abbrev pub AgreesIn : List (List Perm) → Option Flight → Option ℕ → Span → Type 0
@@ -33,11 +34,13 @@ AgreesIn maps own (Some d) s = Agrees (map_of maps d) own s
 
 -- first fact, the spans of one hart are current: an entry's span agrees with its own domain's map, a place's with that of the kept domain
 abbrev pub AreCurrent : List (List Perm) → Kept → Type 0
-AreCurrent maps k = EachSpan (λ d s. Agrees (map_of maps d) k.flight s) (AgreesIn maps k.flight k.domain) k.cache
+AreCurrent maps k =
+    EachSpan (λ d s. Agrees (map_of maps d) k.flight s) (AgreesIn maps k.flight k.domain) k.cache
 
 -- no span of a hart meets a range
 abbrev pub IsClear : ℕ → ℕ → Cache → Type 0
-IsClear first count c = EachSpan (λ d s. meets s first count ≡ false) (λ s. meets s first count ≡ false) c
+IsClear first count c =
+    EachSpan (λ d s. meets s first count ≡ false) (λ s. meets s first count ≡ false) c
 
 -- second fact, of hart h and one call: where h has heard it, no span of h meets its range
 abbrev pub HasDropped : ℕ → Cache → Flight → Type 0

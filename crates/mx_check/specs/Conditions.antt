@@ -8,7 +8,8 @@ use Rattle.mx_check.specs.Calls.{is_ready}
 
 -- hart h has heard the call in flight of each other hart
 abbrev pub HasHeardAll : ℕ → List Kept → Type 0
-HasHeardAll h harts = (i : ℕ) → i ≢ h → IfSome (hart_at harts i).flight (λ f. is_in f.heard h ≡ true)
+HasHeardAll h harts =
+    (i : ℕ) → i ≢ h → IfSome (hart_at harts i).flight (λ f. is_in f.heard h ≡ true)
 
 -- hart h may check an address in a domain: it is there, not halted, has no call in flight, has heard the others', and no other
 -- domain is kept for it

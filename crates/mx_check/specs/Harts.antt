@@ -30,7 +30,8 @@ at_hart h step harts = slice_set harts h (step (hart_at harts h))
 
 -- the hart has a call in flight that changes at most the words first to first + count - 1
 abbrev pub announced : ℕ → ℕ → ℕ → Kept → Kept
-announced h first count k = record k { flight = Some (record { hart = h; first = first; count = count; heard = nobody }) }
+announced h first count k =
+    record k { flight = Some (record { hart = h; first = first; count = count; heard = nobody }) }
 
 -- hart h has heard the hart's call
 abbrev pub marked : ℕ → Flight → Flight

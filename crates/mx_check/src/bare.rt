@@ -8,7 +8,7 @@ ghost use Rattle.mx_table.specs.Change.{IsLawful, changed};
 ghost use Rattle.mx_table.specs.Tables.{IsDomain, map_of};
 ghost use Rattle.mx_check.specs.Flights.{IsSet};
 ghost use Rattle.mx_check.specs.Harts.{hart_at, at_hart, announced, finished, leaves_domain, halts, has_heard};
-ghost use Rattle.mx_check.specs.Looks.{found, decided_by, decided, lookups_with, lookups_after, looks, after_walk, looked, is_barred};
+ghost use Rattle.mx_check.specs.Looks.{found, decided_by, decided, lookups_with, lookups_after, looks, after_walk, looked, is_forbidden};
 ghost use Rattle.mx_check.specs.Calls.{hears, is_ready, new_harts, waiting_harts};
 
 use crate::harts::Harts;
@@ -49,7 +49,8 @@ impl<T: PermTables, const N: usize> Bare<T, N> {
     pub fn resume(tables: T, harts: u32, flights: &Flights) -> Bare<T, N>
         requires size { N ≤ 64 }
         requires few { harts ≤ 4 }
-        ensures value { result ≡ record { tables = tables; harts = waiting_harts flights.now harts } }
+        ensures value { result
+            ≡ record { tables = tables; harts = waiting_harts flights.now harts } }
         ensures sets { All IsSet flights.now }
     {
         Bare {
@@ -68,7 +69,8 @@ impl<T: PermTables, const N: usize> Bare<T, N> {
             ≡ allows (decided T.kind (map_of (T.maps self.old.tables) domain) place domain addr
             (hart_at self.old.harts hart).cache) access }
         ensures harts { self.new.harts
-            ≡ looked N T.kind (map_of (T.maps self.old.tables) domain) hart place domain addr self.old.harts }
+            ≡ looked N T.kind (map_of (T.maps self.old.tables) domain)
+            hart place domain addr self.old.harts }
         ensures lookups { T.lookups self.new.tables
             ≡ lookups_after (map_of (T.maps self.old.tables) domain) place domain addr
             (hart_at self.old.harts hart).cache (T.lookups self.old.tables) }
@@ -93,10 +95,12 @@ impl<T: PermTables, const N: usize> Bare<T, N> {
         requires domain { IsDomain (T.maps self.old.tables) domain }
         requires word { word < T.size self.old.tables }
         ensures answer { result
-            ≡ decided_by (found place domain word (hart_at self.old.harts hart).cache) (span T.kind (map_of
-            (T.maps self.old.tables) domain) word) }
-        ensures harts { let s = span T.kind (map_of (T.maps self.old.tables) domain) word in self.new.harts
-            ≡ at_hart hart (looks N place domain word s (is_barred hart s self.old.harts)) self.old.harts }
+            ≡ decided_by (found place domain word (hart_at self.old.harts hart).cache)
+            (span T.kind (map_of (T.maps self.old.tables) domain) word) }
+        ensures harts { let s = span T.kind (map_of (T.maps self.old.tables) domain) word in
+            self.new.harts
+            ≡ at_hart hart (looks N place domain word s (is_forbidden hart s self.old.harts))
+            self.old.harts }
         ensures lookups { T.lookups self.new.tables
             ≡ lookups_with (found place domain word (hart_at self.old.harts hart).cache)
             (T.lookups self.old.tables) }
@@ -118,15 +122,17 @@ impl<T: PermTables, const N: usize> Bare<T, N> {
         requires domain { IsDomain (T.maps self.old.tables) domain }
         requires word { word < T.size self.old.tables }
         ensures answer { result ≡ (span T.kind (map_of (T.maps self.old.tables) domain) word).perm }
-        ensures harts { let s = span T.kind (map_of (T.maps self.old.tables) domain) word in self.new.harts
-            ≡ at_hart hart (after_walk N place domain s (is_barred hart s self.old.harts)) self.old.harts }
+        ensures harts { let s = span T.kind (map_of (T.maps self.old.tables) domain) word in
+            self.new.harts
+            ≡ at_hart hart (after_walk N place domain s (is_forbidden hart s self.old.harts))
+            self.old.harts }
         ensures lookups { T.lookups self.new.tables ≡ raised (T.lookups self.old.tables) }
         ensures same_maps { T.maps self.new.tables ≡ T.maps self.old.tables }
         ensures same_size { T.size self.new.tables ≡ T.size self.old.tables }
         ensures same_limit { T.limits self.new.tables ≡ T.limits self.old.tables }
     {
         let span = self.tables.lookup(domain, word);
-        let barred = self.harts.is_barred(hart, &span);
+        let barred = self.harts.is_forbidden(hart, &span);
         self.harts.keep(hart, place, domain, span, barred);
         span.perm
     }
@@ -170,8 +176,10 @@ impl<T: PermTables, const N: usize> Bare<T, N> {
     pub fn change(&mut self, change: &Change) -> Result<(), TablesFull>
         requires { IsLawful change.now (T.size self.old.tables) (length (T.maps self.old.tables)) }
         ensures full { IsTrue (is_err result)
-            ↔ IsFalse (fits T.kind (T.limits self.old.tables) (changed change.now (T.maps self.old.tables))) }
-        ensures ok { OnOk result (T.maps self.new.tables ≡ changed change.now (T.maps self.old.tables)) }
+            ↔ IsFalse
+            (fits T.kind (T.limits self.old.tables) (changed change.now (T.maps self.old.tables))) }
+        ensures ok { OnOk result
+            (T.maps self.new.tables ≡ changed change.now (T.maps self.old.tables)) }
         ensures err { OnErr result (self.new ≡ self.old) }
         ensures same_harts { self.new.harts ≡ self.old.harts }
         ensures same_lookups { T.lookups self.new.tables ≡ T.lookups self.old.tables }

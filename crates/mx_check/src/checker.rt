@@ -73,9 +73,11 @@ impl<T: PermTables, const N: usize> Checker<T, N> {
         requires may { MayLook hart domain self.old.harts }
         requires place { place < 32 }
         requires domain { IsDomain (T.maps self.old.tables) domain }
-        ensures answer { result ≡ not (denies (perm (map_of (T.maps self.old.tables) domain)) addr access) }
+        ensures answer { result
+            ≡ not (denies (perm (map_of (T.maps self.old.tables) domain)) addr access) }
         ensures harts { self.new.harts
-            ≡ looked N T.kind (map_of (T.maps self.old.tables) domain) hart place domain addr self.old.harts }
+            ≡ looked N T.kind (map_of (T.maps self.old.tables) domain)
+            hart place domain addr self.old.harts }
         ensures lookups { T.lookups self.new.tables
             ≡ lookups_after (map_of (T.maps self.old.tables) domain) place domain addr
             (hart_at self.old.harts hart).cache (T.lookups self.old.tables) }
@@ -137,10 +139,13 @@ impl<T: PermTables, const N: usize> Checker<T, N> {
     /// exceed the tables' limit; then nothing has changed.
     pub fn change(&mut self, hart: u32, change: &Change) -> Result<(), TablesFull>
         requires may { MayChange hart change.now self.old.harts }
-        requires lawful { IsLawful change.now (T.size self.old.tables) (length (T.maps self.old.tables)) }
+        requires lawful { IsLawful change.now (T.size self.old.tables)
+            (length (T.maps self.old.tables)) }
         ensures full { IsTrue (is_err result)
-            ↔ IsFalse (fits T.kind (T.limits self.old.tables) (changed change.now (T.maps self.old.tables))) }
-        ensures ok { OnOk result (T.maps self.new.tables ≡ changed change.now (T.maps self.old.tables)) }
+            ↔ IsFalse
+            (fits T.kind (T.limits self.old.tables) (changed change.now (T.maps self.old.tables))) }
+        ensures ok { OnOk result
+            (T.maps self.new.tables ≡ changed change.now (T.maps self.old.tables)) }
         ensures err { OnErr result (self.new ≡ self.old) }
         ensures same_harts { self.new.harts ≡ self.old.harts }
         ensures same_lookups { T.lookups self.new.tables ≡ T.lookups self.old.tables }

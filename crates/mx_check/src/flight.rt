@@ -35,7 +35,8 @@ impl Model for Flights {
 
     ghost view = { λ f. take f.len f.items };
 
-    ghost invariant = { λ f. (length f.items ≡ 4) × (f.len ≤ 4) × All (λ x. length x.heard ≡ 4) f.items };
+    ghost invariant = { λ f.
+        (length f.items ≡ 4) × (f.len ≤ 4) × All (λ x. length x.heard ≡ 4) f.items };
 }
 
 impl Flights {

@@ -27,8 +27,10 @@ pub record Touch : Type 0 where
 -- a bus becomes another by touches in a row
 abbrev pub Through : {B : Type 0} → (B → ℕ → ℕ → Access → B → Type 0) → B → List Touch → B → Type 0
 Through touches a [] b = a ≡ b
-Through {B} touches a (t ∷ ts) b = (m : B) × (touches a t.place t.address t.kind m × Through touches m ts b)
+Through {B} touches a (t ∷ ts) b =
+    (m : B) × (touches a t.place t.address t.kind m × Through touches m ts b)
 
 -- these touches and no others
-pub record IsTouched {B : Type 0} (touches : B → ℕ → ℕ → Access → B → Type 0) (a : B) (ts : List Touch) (b : B) : Type 0 where
+pub record IsTouched {B : Type 0} (touches : B → ℕ → ℕ → Access → B → Type 0) (a : B)
+    (ts : List Touch) (b : B) : Type 0 where
   pub each : Through touches a ts b

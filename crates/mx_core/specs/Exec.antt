@@ -21,7 +21,8 @@ effect_of regs pc word (Some inst) = effect inst regs pc
 -- the effect of an allowed or a denied fetch
 abbrev pub after_fetch : List ℕ → List ℕ → ℕ → Bool → Effect
 after_fetch bytes regs pc true = Faults 1 pc
-after_fetch bytes regs pc false = effect_of regs pc (load_at bytes pc 4) (decoded (load_at bytes pc 4))
+after_fetch bytes regs pc false =
+    effect_of regs pc (load_at bytes pc 4) (decoded (load_at bytes pc 4))
 
 -- the effect of the instruction at pc
 unfoldable pub fetched : (ℕ → Perm) → List ℕ → List ℕ → ℕ → Effect
@@ -35,26 +36,33 @@ trap cause value = Trap (record { cause = cause; value = value })
 unfoldable pub outcome_of : (ℕ → Perm) → ℕ → Bool → Effect → Outcome
 outcome_of perm pc returns (Goes regs target) = Next target
 outcome_of perm pc returns (Faults cause value) = trap cause value
-outcome_of perm pc returns (Loads place address width rd) = if denied perm address Read then trap 5 address else Next (next pc)
-outcome_of perm pc returns (Stores place address size value) = if denied perm address Write then trap 7 address else Next (next pc)
+outcome_of perm pc returns (Loads place address width rd) =
+    if denied perm address Read then trap 5 address else Next (next pc)
+outcome_of perm pc returns (Stores place address size value) =
+    if denied perm address Write then trap 7 address else Next (next pc)
 outcome_of perm pc returns Calls = Call
-outcome_of perm pc returns (Jumps rd target) = if returns then Back rd target else by_target target (Next target) (trap 0 target)
+outcome_of perm pc returns (Jumps rd target) =
+    if returns then Back rd target else by_target target (Next target) (trap 0 target)
 
 -- the registers after an effect
 unfoldable pub regs_after : (ℕ → Perm) → List ℕ → List ℕ → ℕ → Bool → Effect → List ℕ
 regs_after perm bytes regs pc returns (Goes new target) = new
 regs_after perm bytes regs pc returns (Faults cause value) = regs
-regs_after perm bytes regs pc returns (Loads place address width rd) = if denied perm address Read then regs else written regs rd (loaded width (load_at bytes address (load_size width)))
+regs_after perm bytes regs pc returns (Loads place address width rd) =
+    if denied perm address Read then regs
+    else written regs rd (loaded width (load_at bytes address (load_size width)))
 regs_after perm bytes regs pc returns (Stores place address size value) = regs
 regs_after perm bytes regs pc returns Calls = regs
-regs_after perm bytes regs pc returns (Jumps rd target) = if returns then regs else by_target target (written regs rd (next pc)) regs
+regs_after perm bytes regs pc returns (Jumps rd target) =
+    if returns then regs else by_target target (written regs rd (next pc)) regs
 
 -- RAM's bytes after an effect
 unfoldable pub bytes_after : (ℕ → Perm) → List ℕ → Effect → List ℕ
 bytes_after perm bytes (Goes new target) = bytes
 bytes_after perm bytes (Faults cause value) = bytes
 bytes_after perm bytes (Loads place address width rd) = bytes
-bytes_after perm bytes (Stores place address size value) = if denied perm address Write then bytes else store_at bytes address size value
+bytes_after perm bytes (Stores place address size value) =
+    if denied perm address Write then bytes else store_at bytes address size value
 bytes_after perm bytes Calls = bytes
 bytes_after perm bytes (Jumps rd target) = bytes
 
@@ -62,8 +70,10 @@ bytes_after perm bytes (Jumps rd target) = bytes
 unfoldable pub touches_of : Effect → List Touch
 touches_of (Goes new target) = []
 touches_of (Faults cause value) = []
-touches_of (Loads place address width rd) = record { place = place; address = address; kind = Read } ∷ []
-touches_of (Stores place address size value) = record { place = place; address = address; kind = Write } ∷ []
+touches_of (Loads place address width rd) =
+    record { place = place; address = address; kind = Read } ∷ []
+touches_of (Stores place address size value) =
+    record { place = place; address = address; kind = Write } ∷ []
 touches_of Calls = []
 touches_of (Jumps rd target) = []
 
@@ -94,10 +104,13 @@ abbrev pub returns_in : Core → Hart → Bool
 returns_in c hart = is_return_at c hart.domain hart.pc
 
 abbrev pub outcome_in : Reads → Core → Hart → Outcome
-outcome_in r c hart = outcome_of (perm_of r c hart.domain) hart.pc (returns_in c hart) (effect_in r c hart)
+outcome_in r c hart =
+    outcome_of (perm_of r c hart.domain) hart.pc (returns_in c hart) (effect_in r c hart)
 
 abbrev pub regs_in : Reads → Core → Hart → List ℕ
-regs_in r c hart = regs_after (perm_of r c hart.domain) c.ram hart.regs hart.pc (returns_in c hart) (effect_in r c hart)
+regs_in r c hart =
+    regs_after (perm_of r c hart.domain) c.ram hart.regs hart.pc (returns_in c hart)
+    (effect_in r c hart)
 
 abbrev pub bytes_in : Reads → Core → Hart → List ℕ
 bytes_in r c hart = bytes_after (perm_of r c hart.domain) c.ram (effect_in r c hart)

@@ -12,8 +12,10 @@ ghost use Rattle.mx_core.specs.Exec.{effect_in, outcome_in, regs_in, bytes_in, l
 /// of rights, each state and each hart.
 pub fn instructions_are_turns()
     ensures looks { (r : Reads) (c : Core) (h : ℕ) (hart : Hart) →
-        (runs_at r c h hart None).looks ≡ looks_of c hart.domain (fetch_touch hart.pc ∷ touches_of (effect_in r c hart)) }
+        (runs_at r c h hart None).looks
+        ≡ looks_of c hart.domain (fetch_touch hart.pc ∷ touches_of (effect_in r c hart)) }
     ensures action { (r : Reads) (c : Core) (h : ℕ) (hart : Hart) (caches : List Cache) →
         acted r (record c { caches = caches }) h hart (runs_at r c h hart None).action
-        ≡ acted r (record c { ram = bytes_in r c hart; caches = caches }) h hart (action_of h hart (regs_in r c hart) (outcome_in r c hart)) }
+        ≡ acted r (record c { ram = bytes_in r c hart; caches = caches }) h hart
+        (action_of h hart (regs_in r c hart) (outcome_in r c hart)) }
 {}

@@ -35,11 +35,14 @@ pub fn exec<B: Bus>(bus: &mut B, regs: &mut Regs, pc: u32, returns: bool) -> Out
     requires usable { B.usable bus.old }
     requires aligned { pc % 4 ≡ 0 }
     ensures outcome { result
-        ≡ outcome_of (B.perm bus.old) pc returns (fetched (B.perm bus.old) (B.bytes bus.old) regs.old pc) }
+        ≡ outcome_of (B.perm bus.old) pc returns
+        (fetched (B.perm bus.old) (B.bytes bus.old) regs.old pc) }
     ensures regs { regs.new
-        ≡ regs_after (B.perm bus.old) (B.bytes bus.old) regs.old pc returns (fetched (B.perm bus.old) (B.bytes bus.old) regs.old pc) }
+        ≡ regs_after (B.perm bus.old) (B.bytes bus.old) regs.old pc returns
+        (fetched (B.perm bus.old) (B.bytes bus.old) regs.old pc) }
     ensures bytes { B.bytes bus.new
-        ≡ bytes_after (B.perm bus.old) (B.bytes bus.old) (fetched (B.perm bus.old) (B.bytes bus.old) regs.old pc) }
+        ≡ bytes_after (B.perm bus.old) (B.bytes bus.old)
+        (fetched (B.perm bus.old) (B.bytes bus.old) regs.old pc) }
     ensures touches { IsTouched B.touches bus.old (fetch_touch pc
         ∷ touches_of (fetched (B.perm bus.old) (B.bytes bus.old) regs.old pc)) bus.new }
     ensures aligned { IsAligned result }
@@ -65,7 +68,8 @@ fn act<B: Bus>(bus: &mut B, regs: &mut Regs, pc: u32, returns: bool, inst: Inst)
     requires valid { IsValid inst }
     ensures outcome { result ≡ outcome_of (B.perm bus.old) pc returns (effect inst regs.old pc) }
     ensures regs { regs.new
-        ≡ regs_after (B.perm bus.old) (B.bytes bus.old) regs.old pc returns (effect inst regs.old pc) }
+        ≡ regs_after (B.perm bus.old) (B.bytes bus.old) regs.old pc returns
+        (effect inst regs.old pc) }
     ensures bytes { B.bytes bus.new
         ≡ bytes_after (B.perm bus.old) (B.bytes bus.old) (effect inst regs.old pc) }
     ensures touches { IsTouched B.touches bus.old (touches_of (effect inst regs.old pc)) bus.new }
@@ -160,9 +164,11 @@ fn go_to(target: u32) -> Outcome
 fn jump(regs: &mut Regs, pc: u32, returns: bool, rd: u32, target: u32) -> Outcome
     requires { rd < 32 }
     ensures outcome { result
-        ≡ (if returns then Outcome.Back rd target else (if target % 4 == 0 then Outcome.Next target else trap 0 target)) }
+        ≡ (if returns then Outcome.Back rd target
+        else (if target % 4 == 0 then Outcome.Next target else trap 0 target)) }
     ensures regs { regs.new
-        ≡ (if returns then regs.old else (if target % 4 == 0 then written regs.old rd (next pc) else regs.old)) }
+        ≡ (if returns then regs.old
+        else (if target % 4 == 0 then written regs.old rd (next pc) else regs.old)) }
     ensures aligned { IsAligned result }
     ensures cause { HasCause result }
 {
@@ -193,7 +199,8 @@ fn load<B: Bus>(
     requires rd { rd < 32 }
     requires rs1 { rs1 < 32 }
     ensures outcome { result
-        ≡ outcome_of (B.perm bus.old) pc false (loads_at rs1 (plus (reg regs.old rs1) imm) width rd) }
+        ≡ outcome_of (B.perm bus.old) pc false
+        (loads_at rs1 (plus (reg regs.old rs1) imm) width rd) }
     ensures regs { regs.new
         ≡ regs_after (B.perm bus.old) (B.bytes bus.old) regs.old pc false (loads_at rs1 (plus
         (reg regs.old rs1) imm) width rd) }
@@ -237,8 +244,8 @@ fn store<B: Bus>(
         (store_size width) (reg regs.old rs2)) }
     ensures regs { regs.new ≡ regs.old }
     ensures bytes { B.bytes bus.new
-        ≡ bytes_after (B.perm bus.old) (B.bytes bus.old) (stores_at rs1 (plus (reg regs.old rs1) imm)
-        (store_size width) (reg regs.old rs2)) }
+        ≡ bytes_after (B.perm bus.old) (B.bytes bus.old)
+        (stores_at rs1 (plus (reg regs.old rs1) imm) (store_size width) (reg regs.old rs2)) }
     ensures touches { IsTouched B.touches bus.old (touches_of (stores_at rs1 (plus
         (reg regs.old rs1) imm) (store_size width) (reg regs.old rs2))) bus.new }
     ensures aligned { IsAligned result }

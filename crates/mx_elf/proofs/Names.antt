@@ -4,7 +4,7 @@ use Rattle.std.specs.Prelude.{find, option_map, if◌then◌else◌}
 use Rattle.std.specs.Option.{option_map_or}
 use Rattle.std.specs.Str.{bytes_eq}
 use Rattle.std.specs.List.{list_any}
-use Rattle.std.proofs.lemmas.Bool.{cases_Bool, cases_lt, lt-ltb, le-ltb, ne_eqb, eqb-true, eqb-false}
+use Rattle.std.proofs.lemmas.Bool.{cases_Bool, cases_lt, lt-ltb, le-ltb, ne_eqb, eqb-true, eqb-false, or_parts}
 use Rattle.mx_elf.specs.Symbol.{name_of, begins_with_name, HasNoZero}
 
 lt-suc : (a b : ℕ) → nat_lt (suc a) (suc b) ≡ nat_lt a b
@@ -39,10 +39,6 @@ never true true e = refl
 never true false e = refl
 never false z e = refl
 
-or-parts : (x y : Bool) → (x || y) ≡ false → (x ≡ false) × (y ≡ false)
-or-parts true y e = absurd (let r : ⊥ = cc in r)
-or-parts false y e = (refl, e)
-
 -- strings begin with a name exactly where its bytes stand there with a zero byte behind them
 pub begins_told : (strings name : List ℕ) → HasNoZero name →
     begins_with_name strings name ≡ (nat_lt (length name) (length strings) && ((get_or strings (length name) 0 == 0) && bytes_eq (take (length name) strings) name))
@@ -55,7 +51,7 @@ begins_told (b ∷ strings) [] h =
     by true = refl
     by false = longer b (name_of strings)
 begins_told (b ∷ strings) (c ∷ name) h =
-    let parts = or-parts (c == 0) (list_any (λ x. x == 0) name) h in
+    let parts = or_parts (c == 0) (list_any (λ x. x == 0) name) h in
     let l = nat_lt (length name) (length strings) in
     let z = get_or strings (length name) 0 == 0 in
     let e = bytes_eq (take (length name) strings) name in

@@ -14,14 +14,14 @@ use Rattle.mx_words.proofs.FirstRowLaws.{first_row-append}
 use Rattle.mx_elf.proofs.Loading.{faults-here}
 
 -- where neither of two has a value
-neither : (a b : Option ℕ) → option_or a b ≡ None → (a ≡ None) × (b ≡ None)
+pub neither : {A : Type 0} (a b : Option A) → option_or a b ≡ None → (a ≡ None) × (b ≡ None)
 neither None b e = (refl, e)
-neither (Some n) b e = absurd cc
+neither (Some a) b e = absurd cc
 
 -- a row that doesn't apply
-row : (n : ℕ) (b : Bool) (o : Option ℕ) → cond b (Some n) o ≡ None → (b ≡ false) × (o ≡ None)
-row n true o e = absurd cc
-row n false o e = (refl, e)
+pub row_none : (b : Bool) (n : ℕ) (o : Option ℕ) → cond b (Some n) o ≡ None → (b ≡ false) × (o ≡ None)
+row_none true n o e = absurd cc
+row_none false n o e = (refl, e)
 
 -- the tests of a segment, as facts
 inside-fits : (size : ℕ) (s : Seg) → (not (s.file == 0) && nat_lt size (s.offset + s.file)) ≡ false → 0 < s.file → s.offset + s.file ≤ size
@@ -30,10 +30,10 @@ inside-fits size s e some = grind (arith, nat_tests)
 -- the rows of a segment say what is known of it
 sound-here : (size place : ℕ) (s : Seg) → 0 < s.memory → first_fault (segment_rows size (place, s)) ≡ None → IsSound size s × (place ≡ 16 → ⊥)
 sound-here size place s covers e =
-    let a = row 7 (place == 16) _ e in
-    let b = row 8 (not (s.file == 0) && nat_lt size (s.offset + s.file)) _ a.1 in
-    let c = row 9 (nat_lt s.memory s.file) _ b.1 in
-    let d = row 10 (not (s.address % 4 == 0)) _ c.1 in (
+    let a = row_none (place == 16) 7 _ e in
+    let b = row_none (not (s.file == 0) && nat_lt size (s.offset + s.file)) 8 _ a.1 in
+    let c = row_none (nat_lt s.memory s.file) 9 _ b.1 in
+    let d = row_none (not (s.address % 4 == 0)) 10 _ c.1 in (
       record {
         inside = inside-fits size s b.0;
         held = grind (arith, nat_tests, c.0);

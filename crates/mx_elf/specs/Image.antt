@@ -1,5 +1,5 @@
 -- What a file is read as: an image, or its first fault.
-use Rattle.std.specs.Prelude.{◌≡◌, ◌<◌, ◌≤◌, ℕ, ◌+◌, ◌*◌, ◌%◌, ◌==◌, nat_eq, nat_lt, Bool, not, ◌&&◌, ◌||◌, if◌then◌else◌, List, [], ◌∷◌, ◌++◌, length, map, filter, Option, Some, None, Result, Ok, Err}
+use Rattle.std.specs.Prelude.{◌≡◌, ◌<◌, ◌≤◌, ℕ, ◌+◌, ◌*◌, ◌%◌, ◌==◌, nat_eq, nat_lt, Bool, not, ◌&&◌, ◌||◌, List, [], ◌∷◌, ◌++◌, length, map, filter, Option, Some, None, Result, Ok, Err}
 use Rattle.std.specs.List.{starts_with, flat_map, enumerate_from}
 use Rattle.mx_words.specs.FirstRow.{Row, first_row}
 use Rattle.mx_elf.specs.declared.image.Image.{Image}
@@ -20,6 +20,11 @@ first_fault rows = first_row rows
 abbrev pub magic : List ℕ
 magic = 0x7F ∷ 0x45 ∷ 0x4C ∷ 0x46 ∷ []
 
+-- whether program headers have another size than 32 bytes, or reach past the file
+abbrev pub is_other_table : List ℕ → Bool
+is_other_table bytes =
+    not (e_phentsize bytes == 32) || nat_lt (length bytes) (e_phoff bytes + 32 * e_phnum bytes)
+
 -- the faults of the file header and of the table of program headers, in order
 abbrev pub header_rows : List ℕ → List Fault
 header_rows bytes =
@@ -28,7 +33,7 @@ header_rows bytes =
     ∷ (not (ei_class bytes == 1) || not (ei_data bytes == 1), 3)
     ∷ (not (e_type bytes == 2), 4)
     ∷ (not (e_machine bytes == 243), 5)
-    ∷ (not (e_phnum bytes == 0) && (not (e_phentsize bytes == 32) || nat_lt (length bytes) (e_phoff bytes + 32 * e_phnum bytes)), 6)
+    ∷ (not (e_phnum bytes == 0) && is_other_table bytes, 6)
     ∷ []
 
 -- the faults of a segment with its place among the loaded ones, in a file of size bytes
@@ -85,4 +90,6 @@ pub record IsSound (size : ℕ) (s : Seg) : Type 0 where
 
 -- the image of a file, or its first fault
 unfoldable pub image_of : List ℕ → Result Image ImageFault
-image_of bytes = unless (first_fault (rows_of bytes)) (record { entry = e_entry bytes; segments = segments_of bytes })
+image_of bytes =
+    unless (first_fault (rows_of bytes))
+    (record { entry = e_entry bytes; segments = segments_of bytes })

@@ -19,7 +19,9 @@ told_of told name = lookup (bytes_eq name) told
 
 -- all that is told holds in a file
 abbrev pub HoldsIn : List ℕ → Told → Type 0
-HoldsIn bytes told = (name : List ℕ) (value : Option ℕ) → told_of told name ≡ Some value → value ≡ symbol_of bytes name
+HoldsIn bytes told =
+    (name : List ℕ) (value : Option ℕ) → told_of told name ≡ Some value →
+    value ≡ symbol_of bytes name
 
 -- a map from names to values, and what it tells
 abbrev pub Values : Type 0
@@ -33,7 +35,8 @@ known_in values name = get_by (λ key. bytes_eq name key.now) values
 
 -- each name has at most so many bytes
 abbrev pub AreShort : ℕ → Values → Type 0
-AreShort longest values = (name : List ℕ) → is_some (known_in values name) ≡ true → length name ≤ longest
+AreShort longest values =
+    (name : List ℕ) → is_some (known_in values name) ≡ true → length name ≤ longest
 
 -- the value of the symbol at a place, if it is defined and has this name
 abbrev pub value_here : List ℕ → List ℕ → List ℕ → ℕ → Option ℕ

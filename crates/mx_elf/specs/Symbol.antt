@@ -19,11 +19,14 @@ has_sections bytes =
 -- the place of the symbol table's header: of the first section of type 2
 unfoldable pub symbol_table_of : List ℕ → Option ℕ
 symbol_table_of bytes =
-    if has_sections bytes then find (λ at. sh_type bytes at == 2) (places (e_shoff bytes) 40 (e_shnum bytes)) else None
+    if has_sections bytes
+    then find (λ at. sh_type bytes at == 2) (places (e_shoff bytes) 40 (e_shnum bytes))
+    else None
 
 -- the place of the header of the section with a number
 unfoldable pub section_place : List ℕ → ℕ → Option ℕ
-section_place bytes number = if nat_lt number (e_shnum bytes) then Some (e_shoff bytes + 40 * number) else None
+section_place bytes number =
+    if nat_lt number (e_shnum bytes) then Some (e_shoff bytes + 40 * number) else None
 
 -- the bytes of the section whose header stands at a place, if they lie in the file
 unfoldable pub section_bytes : List ℕ → ℕ → Option (List ℕ)
@@ -52,7 +55,8 @@ is_defined symbols strings name at =
 -- the value of the first symbol that is defined and has this name
 unfoldable pub value_of : List ℕ → List ℕ → List ℕ → Option ℕ
 value_of symbols strings name =
-    option_map (st_value symbols) (find (is_defined symbols strings name) (places 0 16 (length symbols / 16)))
+    option_map (st_value symbols)
+    (find (is_defined symbols strings name) (places 0 16 (length symbols / 16)))
 
 -- the value of the symbol with this name in a file, if there is one
 unfoldable pub symbol_of : List ℕ → List ℕ → Option ℕ

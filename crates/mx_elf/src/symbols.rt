@@ -28,7 +28,8 @@ pub fn symbol(bytes: &[u8], name: &str) -> Option<u32>
 /// The symbols of the file and the strings that hold their names.
 #[tactic(auto, unfolding(crate::specs::Symbol::symbol_of))]
 pub(crate) fn sections(bytes: &[u8]) -> Option<(&[u8], &[u8])>
-    ensures { (name : List ℕ) → symbol_of bytes.now name ≡ option_and_then (λ s. value_of s.0.now s.1.now name) result }
+    ensures { (name : List ℕ) →
+        symbol_of bytes.now name ≡ option_and_then (λ s. value_of s.0.now s.1.now name) result }
 {
     let table = symbol_table(bytes)?;
     let symbols = section(bytes, table)?;

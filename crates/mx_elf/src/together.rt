@@ -88,7 +88,8 @@ fn unknown<'a>(alloc: Global, names: &[&'a str]) -> Result<Values<'a>, NoMemory>
 
 /// How many bytes the longest name has.
 fn longest(names: &[&str]) -> usize
-    ensures { (name : List ℕ) → list_any (λ n. bytes_eq name n.now) names.now ≡ true → length name ≤ result }
+    ensures { (name : List ℕ) → list_any (λ n. bytes_eq name n.now) names.now ≡ true →
+        length name ≤ result }
 {
     let mut most = 0;
     'names: for name in names {
@@ -99,7 +100,8 @@ fn longest(names: &[&str]) -> usize
 
 /// Gives each name, none of which has a value or is longer than `longest`, the value of the file's symbol of that name.
 fn look_up(values: &mut Values, bytes: &[u8], longest: usize)
-    requires unknown { (name : List ℕ) (value : Option ℕ) → known_in values.old name ≡ Some value → value ≡ None }
+    requires unknown { (name : List ℕ) (value : Option ℕ) → known_in values.old name ≡ Some value →
+        value ≡ None }
     requires short { AreShort longest values.old }
     ensures { (name : List ℕ) → known_in values.new name
         ≡ option_map (λ _. symbol_of bytes.now name) (known_in values.old name) }
@@ -111,7 +113,8 @@ fn look_up(values: &mut Values, bytes: &[u8], longest: usize)
 
 /// Gives each name, none of which has a value or is longer than `longest`, the value of the first symbol that is defined and has it.
 fn walk(values: &mut Values, symbols: &[u8], strings: &[u8], longest: usize)
-    requires unknown { (name : List ℕ) (value : Option ℕ) → known_in values.old name ≡ Some value → value ≡ None }
+    requires unknown { (name : List ℕ) (value : Option ℕ) → known_in values.old name ≡ Some value →
+        value ≡ None }
     requires short { AreShort longest values.old }
     ensures { (name : List ℕ) → known_in values.new name
         ≡ option_map (λ _. value_of symbols.now strings.now name) (known_in values.old name) }
@@ -127,7 +130,8 @@ fn note(values: &mut Values, symbols: &[u8], strings: &[u8], longest: usize, at:
     requires inside { at + 16 ≤ length symbols.now }
     requires short { AreShort longest values.old }
     ensures { (name : List ℕ) → known_in values.new name
-        ≡ option_map (λ v. option_or v (value_here symbols.now strings.now name at)) (known_in values.old name) }
+        ≡ option_map (λ v. option_or v (value_here symbols.now strings.now name at))
+        (known_in values.old name) }
 {
     if half_at(symbols, at + ST_SHNDX) == 0 {
         return;
@@ -140,7 +144,8 @@ fn note(values: &mut Values, symbols: &[u8], strings: &[u8], longest: usize, at:
 /// Gives a name, if it is asked for, a value, unless it has one.
 fn give(values: &mut Values, name: &[u8], value: u32)
     ensures { (q : List ℕ) → known_in values.new q
-        ≡ option_map (λ v. option_or v (if bytes_eq name.now q then Some value else None)) (known_in values.old q) }
+        ≡ option_map (λ v. option_or v (if bytes_eq name.now q then Some value else None))
+        (known_in values.old q) }
 {
     if let Some(place) = values.get_mut(name) {
         if place.is_none() {
@@ -152,7 +157,8 @@ fn give(values: &mut Values, name: &[u8], value: u32)
 /// The name at place `at` of the strings, if it has at most `longest` bytes.
 fn name_at(strings: &[u8], at: u32, longest: usize) -> Option<&[u8]>
     ensures { (name : List ℕ) → length name ≤ longest →
-        begins_with_name (drop at strings.now) name ≡ option_map_or (λ n. bytes_eq n.now name) result false }
+        begins_with_name (drop at strings.now) name
+        ≡ option_map_or (λ n. bytes_eq n.now name) result false }
 {
     let at = at as usize;
     if at > strings.len() {

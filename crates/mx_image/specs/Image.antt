@@ -45,7 +45,8 @@ program_header at s =
 -- of segments whose bytes stand one after the other, the first at a place
 abbrev pub program_headers : ℕ → List Segment → List ℕ
 program_headers at [] = []
-program_headers at (s ∷ segments) = program_header at s ++ program_headers (at + rounded (length s.bytes)) segments
+program_headers at (s ∷ segments) =
+    program_header at s ++ program_headers (at + rounded (length s.bytes)) segments
 
 -- the bytes of segments, each followed by zero bytes up to a multiple of 4
 abbrev pub contents : List Segment → List ℕ
@@ -118,7 +119,8 @@ image_with entry segments labels =
     ++ contents segments
     ++ symbol_table labels
     ++ padded (strings labels)
-    ++ section_headers (symbols_at segments) (length labels + 1) (strings_at segments labels) (length (strings labels))
+    ++ section_headers (symbols_at segments) (length labels + 1) (strings_at segments labels)
+    (length (strings labels))
 
 -- the image of a program: segments without bytes are left out
 abbrev pub image_of : Program → List ℕ

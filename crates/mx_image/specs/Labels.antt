@@ -14,4 +14,5 @@ labels_of items = map label_of items
 
 -- the program with an entry, these segments and these labels
 abbrev pub program_of : ℕ → List Segment → List NamedAddress → Program
-program_of entry segments items = record { entry = entry; segments = segments; labels = labels_of items }
+program_of entry segments items =
+    record { entry = entry; segments = segments; labels = labels_of items }

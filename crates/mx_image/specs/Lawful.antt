@@ -56,7 +56,13 @@ IsNoLabel p name = AllByRecursion (λ l. l.name ≢ name) p.labels
 abbrev pub placed : ℕ → List Segment → List Seg
 placed at [] = []
 placed at (s ∷ segments) =
-    record { offset = at; file = length s.bytes; address = s.address; memory = length s.bytes; flags = s.flags }
+    record {
+      offset = at;
+      file = length s.bytes;
+      address = s.address;
+      memory = length s.bytes;
+      flags = s.flags;
+    }
     ∷ placed (at + rounded (length s.bytes)) segments
 
 -- how a loader reads the image of a program

@@ -36,7 +36,8 @@ pub record Tells (before : StoreState) (answer : Answer) (now : StoreState) : Ty
   pub later : before.faults ≤ now.faults
   pub counted : now.faults < 2 ^ 64
   pub failed : (HasSucceeded answer → ⊥) → Rose before.faults now.faults
-  pub sure : IsTrue before.sure → HasSucceeded answer × (now.faults ≡ before.faults) × IsTrue now.sure
+  pub sure : IsTrue before.sure →
+      HasSucceeded answer × (now.faults ≡ before.faults) × IsTrue now.sure
   pub told : IfSome before.told (λ files. IsOf files answer)
 
 -- the step of a store with nothing more to say than its state

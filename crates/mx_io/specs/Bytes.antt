@@ -17,7 +17,13 @@ no_bytes room = record { written = []; room = room; faults = 0; calls = fresh_lo
 
 -- with one more call listed
 abbrev pub with_refusing : BytesState → ℕ → BytesState
-with_refusing s call = record { written = s.written; room = s.room; faults = s.faults; calls = with_listed s.calls call }
+with_refusing s call =
+    record {
+      written = s.written;
+      room = s.room;
+      faults = s.faults;
+      calls = with_listed s.calls call;
+    }
 
 -- a write fails where its call is listed, and where it has bytes and no room is left
 abbrev pub refuses : BytesState → List ℕ → Bool
@@ -29,11 +35,23 @@ takes s piece = min (length piece) s.room
 
 -- after a write that failed: its fault is counted
 abbrev pub after_refusal : BytesState → BytesState
-after_refusal s = record { written = s.written; room = s.room; faults = raised s.faults; calls = after_call s.calls }
+after_refusal s =
+    record {
+      written = s.written;
+      room = s.room;
+      faults = raised s.faults;
+      calls = after_call s.calls;
+    }
 
 -- after another write: the bytes that it takes are appended
 abbrev pub after_taking : BytesState → List ℕ → BytesState
-after_taking s piece = record { written = s.written ++ take (takes s piece) piece; room = s.room - takes s piece; faults = s.faults; calls = after_call s.calls }
+after_taking s piece =
+    record {
+      written = s.written ++ take (takes s piece) piece;
+      room = s.room - takes s piece;
+      faults = s.faults;
+      calls = after_call s.calls;
+    }
 
 -- after a write
 abbrev pub after_write : BytesState → List ℕ → BytesState
@@ -41,4 +59,9 @@ after_write s piece = if refuses s piece then after_refusal s else after_taking 
 
 -- as a sink: it tells its bytes, and is sure of its room where no call that is to come is listed
 abbrev pub bytes_sink : BytesState → SinkState
-bytes_sink s = record { written = Some s.written; faults = s.faults; room = if is_quiet s.calls then s.room else 0 }
+bytes_sink s =
+    record {
+      written = Some s.written;
+      faults = s.faults;
+      room = if is_quiet s.calls then s.room else 0;
+    }

@@ -26,4 +26,8 @@ fresh_log = record { made = 0; listed = [] }
 
 -- with one more number listed: one that is listed already, or a ninth, changes nothing
 abbrev pub with_listed : CallLog → ℕ → CallLog
-with_listed log n = if list_any (λ m. nat_eq m n) log.listed then log else if nat_lt (length log.listed) 8 then record { made = log.made; listed = log.listed ++ n ∷ [] } else log
+with_listed log n =
+    if list_any (λ m. nat_eq m n) log.listed then log
+    else if nat_lt (length log.listed) 8
+    then record { made = log.made; listed = log.listed ++ n ∷ [] }
+    else log

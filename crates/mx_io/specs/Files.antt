@@ -18,8 +18,12 @@ pub record FilesState : Type 0 where
 -- a code by which two such values are told apart: the tuple of their parts
 abbrev pub files_code : Coded FilesState
 files_code =
-    code_by (FileMap × (ℕ × (ℕ × List ℕ))) (coded× (code (coded_list coded_ℕ) (coded_list coded_ℕ)) (coded× coded_ℕ (coded× coded_ℕ (coded_list coded_ℕ))))
-    (λ s. (s.files, (s.faults, (s.calls.made, s.calls.listed)))) (λ p. record { files = p.0; faults = p.1.0; calls = record { made = p.1.1.0; listed = p.1.1.1 } }) (λ _. refl)
+    code_by (FileMap × (ℕ × (ℕ × List ℕ))) (coded× (code (coded_list coded_ℕ) (coded_list coded_ℕ))
+    (coded× coded_ℕ (coded× coded_ℕ (coded_list coded_ℕ))))
+    (λ s. (s.files, (s.faults, (s.calls.made, s.calls.listed))))
+    (λ p.
+    record { files = p.0; faults = p.1.0; calls = record { made = p.1.1.0; listed = p.1.1.1 } })
+    (λ _. refl)
 
 -- the files that entries under names make, the newest first
 abbrev pub files_of : {Z : Type 0} → List (Named (Vec ℕ Z)) → FileMap
@@ -31,15 +35,22 @@ no_files = record { files = empty; faults = 0; calls = fresh_log }
 
 -- with a file under a name, in place of an older one
 abbrev pub with_file : FilesState → List ℕ → List ℕ → FilesState
-with_file s name bytes = record { files = insert s.files name bytes; faults = s.faults; calls = s.calls }
+with_file s name bytes =
+    record { files = insert s.files name bytes; faults = s.faults; calls = s.calls }
 
 -- with one more call listed
 abbrev pub with_failing : FilesState → ℕ → FilesState
-with_failing s call = record { files = s.files; faults = s.faults; calls = with_listed s.calls call }
+with_failing s call =
+    record { files = s.files; faults = s.faults; calls = with_listed s.calls call }
 
 -- after one call: its fault is counted where it is listed
 abbrev pub after_ask : FilesState → FilesState
-after_ask s = record { files = s.files; faults = if fails_next s.calls then raised s.faults else s.faults; calls = after_call s.calls }
+after_ask s =
+    record {
+      files = s.files;
+      faults = if fails_next s.calls then raised s.faults else s.faults;
+      calls = after_call s.calls;
+    }
 
 -- as a store: it tells its files, and is sure to succeed where no call that is to come is listed
 abbrev pub files_store : FilesState → StoreState

@@ -52,10 +52,25 @@ not_failed : {A : Type 0} {a : A} → None ≡ Some a → ⊥
 not_failed e = cc
 
 -- the steps meet the law of the stores
-pub loose_tells : (files : LooseMap) → (answer : Answer) → (now : LooseMap) → loose_gives files answer now → Tells (loose_store files) answer (loose_store now)
+pub loose_tells : (files : LooseMap) → (answer : Answer) → (now : LooseMap) →
+    loose_gives files answer now → Tells (loose_store files) answer (loose_store now)
 loose_tells files (Sized name (Some size)) now step =
-    record { files = refl; later = omega arith; counted = omega arith; failed = λ fails. absurd (fails tt); sure = λ _. (tt, refl, refl); told = tt }
+    record {
+      files = refl;
+      later = omega arith;
+      counted = omega arith;
+      failed = λ fails. absurd (fails tt);
+      sure = λ _. (tt, refl, refl);
+      told = tt;
+    }
 loose_tells files (Sized name None) now step = absurd (not_failed step.0)
 loose_tells files (Gave name at room (Some bytes)) now step =
-    record { files = refl; later = omega arith; counted = omega arith; failed = λ fails. absurd (fails tt); sure = λ _. (tt, refl, refl); told = tt }
+    record {
+      files = refl;
+      later = omega arith;
+      counted = omega arith;
+      failed = λ fails. absurd (fails tt);
+      sure = λ _. (tt, refl, refl);
+      told = tt;
+    }
 loose_tells files (Gave name at room None) now step = absurd (not_failed step.0)

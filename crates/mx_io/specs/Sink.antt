@@ -10,7 +10,8 @@ pub record SinkState : Type 0 where
   pub room : ℕ
 
 -- one write: Ok k appended the first k bytes; Err appended nothing, and the count rose
-pub record Writes {E : Type 0} (before now : SinkState) (bytes : List ℕ) (result : Result ℕ E) : Type 0 where
+pub record Writes {E : Type 0} (before now : SinkState) (bytes : List ℕ) (result : Result ℕ E)
+    : Type 0 where
   pub later : before.faults ≤ now.faults
   pub counted : now.faults < 2 ^ 64
   pub bound : IfOk result (λ k. k ≤ length bytes)
@@ -18,12 +19,15 @@ pub record Writes {E : Type 0} (before now : SinkState) (bytes : List ℕ) (resu
   pub taken : IfOk result (λ k. AppendsWhole before.written now.written (take k bytes))
   pub nothing : OnErr result (now.written ≡ before.written)
   pub failed : OnErr result (Rose before.faults now.faults)
-  pub sure : 0 < length bytes → length bytes ≤ before.room → IsOk result × (now.faults ≡ before.faults) × IfOk result (λ k. before.room ≤ now.room + k)
+  pub sure : 0 < length bytes → length bytes ≤ before.room →
+      IsOk result × (now.faults ≡ before.faults) × IfOk result (λ k. before.room ≤ now.room + k)
 
 -- a text put on a sink: whole on Ok; on Err a prefix of it, and the count rose; Ok is sure where the sink has room for the text
-pub record Puts {A E : Type 0} (before now : SinkState) (text : List ℕ) (result : Result A E) : Type 0 where
+pub record Puts {A E : Type 0} (before now : SinkState) (text : List ℕ) (result : Result A E)
+    : Type 0 where
   pub later : before.faults ≤ now.faults
   pub whole : OnOk result (AppendsWhole before.written now.written text)
   pub front : OnErr result (AppendsPrefix before.written now.written text)
   pub failed : OnErr result (Rose before.faults now.faults)
-  pub sure : length text ≤ before.room → IsOk result × (now.faults ≡ before.faults) × (before.room ≤ now.room + length text)
+  pub sure : length text ≤ before.room →
+      IsOk result × (now.faults ≡ before.faults) × (before.room ≤ now.room + length text)

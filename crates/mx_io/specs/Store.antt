@@ -29,10 +29,12 @@ pub record Asks {A E : Type 0} (before now : StoreState) (result : Result A E) :
 
 -- the size of a file: nothing exactly where the name is absent, else the number of its bytes
 abbrev pub TellsSize : {E : Type 0} → Option FileMap → List ℕ → Result (Option ℕ) E → Type 0
-TellsSize told name result = IfOk result (λ size. IfSome told (λ files. size ≡ option_map length (get files name)))
+TellsSize told name result =
+    IfOk result (λ size. IfSome told (λ files. size ≡ option_map length (get files name)))
 
 -- a part of a file: Ok k put its k bytes from place `at` on at the start of `into`; none for a slice with room exactly at the end
-pub record GivesBytes (told : Option FileMap) (name : List ℕ) (at : ℕ) (into : List ℕ) (k : ℕ) : Type 0 where
+pub record GivesBytes (told : Option FileMap) (name : List ℕ) (at : ℕ) (into : List ℕ) (k : ℕ)
+    : Type 0 where
   pub bound : k ≤ length into
   pub bytes : IfSome told (λ files. take k into ≡ take k (drop at (file_bytes files name)))
   pub end : IfSome told (λ files. 0 < length into → (k ≡ 0) ↔ (length (file_bytes files name) ≤ at))

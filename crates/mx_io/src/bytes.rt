@@ -25,9 +25,13 @@ impl Model for Bytes {
 
     ghost Value = { BytesState };
 
-    ghost view = { λ b. record { written = b.written.items; room = b.room; faults = b.faults; calls = b.calls } };
+    ghost view = { λ b.
+        record { written = b.written.items; room = b.room; faults = b.faults; calls = b.calls } };
 
-    ghost invariant = { λ b. record { fits : vec_len b.written + b.room ≤ vec_capacity b.written; counted : b.faults < 2 ^ 64 } };
+    ghost invariant = { λ b. record {
+      fits : vec_len b.written + b.room ≤ vec_capacity b.written;
+      counted : b.faults < 2 ^ 64;
+    } };
 }
 
 impl Bytes {

@@ -35,7 +35,8 @@ impl Model for Files {
 
     ghost use Rattle.mx_io.specs.Files.{files_of};
 
-    ghost view = { λ f. record { files = files_of f.entries.items; faults = f.faults; calls = f.calls } };
+    ghost view = { λ f.
+        record { files = files_of f.entries.items; faults = f.faults; calls = f.calls } };
 
     ghost use Rattle.std.specs.Prelude.{◌<◌, ◌^◌};
 
@@ -118,9 +119,11 @@ impl Store for Files {
     /// Fails exactly where the call is listed, and then counts one fault and puts nothing. Else puts as
     /// many bytes as stand there and fit.
     fn read(&mut self, name: &str, at: u64, into: &mut [u8]) -> Result<usize, Failed>
-        ensures gives { tells_by files_store self.old (Gave name.now at (length into.new) (option_map (λ k. take k into.new) (result_ok result))) self.new }
+        ensures gives { tells_by files_store self.old (Gave name.now at (length into.new)
+            (option_map (λ k. take k into.new) (result_ok result))) self.new }
         ensures bound { IfOk result (λ k. k ≤ length into.new) }
-        ensures part { IfOk result (CopiesPart (file_bytes self.old.files name.now) at into.old into.new) }
+        ensures part { IfOk result
+            (CopiesPart (file_bytes self.old.files name.now) at into.old into.new) }
         ensures nothing { OnErr result (into.new ≡ into.old) }
         ensures after { self.new ≡ after_ask self.old }
         ensures fails { IsErr result ↔ IsTrue (fails_next self.old.calls) }

@@ -67,7 +67,8 @@ impl Loose {
     }
 
     fn file(&self, name: &str) -> Option<&LooseFile>
-        ensures { option_map (λ f. (f.now.size, f.now.bytes.items)) result ≡ map.get self.now name.now }
+        ensures { option_map (λ f. (f.now.size, f.now.bytes.items)) result
+            ≡ map.get self.now name.now }
     {
         find(&self.entries, name)
     }
@@ -92,10 +93,12 @@ impl Store for Loose {
 
     /// Puts as many bytes as stand there and fit. Never fails.
     fn read(&mut self, name: &str, at: u64, into: &mut [u8]) -> Result<usize, Failed>
-        ensures gives { loose_gives self.old (Gave name.now at (length into.new) (option_map (λ k. take k into.new) (result_ok result))) self.new }
+        ensures gives { loose_gives self.old (Gave name.now at (length into.new)
+            (option_map (λ k. take k into.new) (result_ok result))) self.new }
         ensures bound { IfOk result (λ k. k ≤ length into.new) }
         ensures ok { IsOk result }
-        ensures part { IfOk result (CopiesPart (loose_bytes self.old name.now) at into.old into.new) }
+        ensures part { IfOk result
+            (CopiesPart (loose_bytes self.old name.now) at into.old into.new) }
         ensures stays { self.new ≡ self.old }
     {
         match self.file(name) {

@@ -35,7 +35,8 @@ pub(crate) fn add<V: Drop>(
     name: &str,
     value: V,
 ) -> Result<(), NoMemory>
-    ensures ok { OnOk result (named entries.new.items ≡ (name.now, value) ∷ named entries.old.items) }
+    ensures ok { OnOk result
+        (named entries.new.items ≡ (name.now, value) ∷ named entries.old.items) }
     ensures err { OnErr result (named entries.new.items ≡ named entries.old.items) }
 {
     let Ok(name) = String::from_str(alloc, name) else {

@@ -25,10 +25,12 @@ pub trait Store {
     /// as `into` holds, and at least one where a byte stands there. Ok(0) for a slice with room is the end.
     /// Fails only where the count of faults rose in this call.
     fn read(&mut self, name: &str, at: u64, into: &mut [u8]) -> Result<usize, Failed>
-        ensures gives { gives self.old (Gave name.now at (length into.new) (option_map (λ k. take k into.new) (result_ok result))) self.new }
+        ensures gives { gives self.old (Gave name.now at (length into.new)
+            (option_map (λ k. take k into.new) (result_ok result))) self.new }
         ensures bound { IfOk result (λ k. k ≤ length into.new) };
 
     /// A step keeps the files, and its answer is that of the files, where the store tells them. The count
     /// never falls, and it rose where the call failed.
-    ghost tells: { (s : Self) → (answer : Answer) → (t : Self) → gives s answer t → Tells (state s) answer (state t) };
+    ghost tells: { (s : Self) → (answer : Answer) → (t : Self) → gives s answer t →
+        Tells (state s) answer (state t) };
 }

@@ -2,7 +2,7 @@
 use Rattle.std.proofs.Common.{◌≡◌, ℕ, zero, suc, ◌+◌, ◌-◌, ◌*◌, ◌/◌, ◌%◌, Bool, true, false, ◌==◌, nat_lt, List, [], ◌∷◌, length, get_or, set, refl, sym, ◌∙◌, ap, subst, arith, eqb-true, if◌then◌else◌, Option, None}
 use Rattle.std.proofs.lemmas.Bool.{eqb-false}
 use Rattle.std.proofs.lemmas.List.{length-set}
-use Rattle.std.specs.Prelude.{IsTrue, option_map}
+use Rattle.std.specs.Prelude.{IsTrue}
 use Rattle.mx_words.specs.declared.perm.Perm.{Perm}
 use Rattle.mx_words.specs.declared.perm.Perm.TheVariants as P
 use Rattle.mx_words.specs.declared.perm.Access.TheVariants as A
@@ -12,7 +12,7 @@ use Rattle.mx_words.specs.Rights.{allows, perm_at}
 use Rattle.mx_model.specs.declared.values.Gate.{Gate}
 use Rattle.mx_model.specs.Agreement.{Agrees, agree, flat_agree, standing, target_at}
 use Rattle.mx_model.specs.Effect.{next}
-use Rattle.mx_model.specs.Gates.{gate_at}
+use Rattle.mx_model.specs.Gates.{gate_target}
 use Rattle.mx_model.specs.Reads.{Reads, Change, reads, flat_reads, grants_of, map_in}
 use Rattle.mx_model.specs.Run.{turn, flat_turn, made_of, flat_made, after, flat_after, grants_after, maps_after}
 use Rattle.mx_model.specs.State.{Core, Hart, Module, State, Flat, hart_at, module_at, no_module}
@@ -73,9 +73,6 @@ harts-after x y a s = record { standing = refl; pc = pc-after x y a s.pc; regs =
 abbrev module_in : List Module → ℕ → Module
 module_in modules d = get_or modules (d - 1) no_module
 
-abbrev target_in : List Gate → ℕ → ℕ → Option ℕ
-target_in gates d word = option_map (λ (g : Gate). g.target) (gate_at gates d word)
-
 -- hart g after a turn of hart h in both
 module _ (r : Reads) (c : Core) (q : Reads) (e : Core) (h g : ℕ) (t : AreFreeTwins r c q e h) (a : Agrees r c q e g) where
   abbrev first : Core
@@ -133,7 +130,7 @@ module _ (r : Reads) (c : Core) (q : Reads) (e : Core) (h g : ℕ) (t : AreFreeT
         same_death = subst (λ (k : ℕ). (module_at first k).dead ≡ (module_at second k).dead) stays
             (ap (λ (ms : List Module). (module_in ms d).dead) left.modules ∙ a.same_death ∙ sym (ap (λ (ms : List Module). (module_in ms d).dead) right.modules));
         same_gates = λ i. subst (λ (k : ℕ). target_at first k i ≡ target_at second k i) stays
-            (ap (λ (gs : List Gate). target_in gs d i) left.gates ∙ a.same_gates i ∙ sym (ap (λ (gs : List Gate). target_in gs d i) right.gates));
+            (ap (λ (gs : List Gate). gate_target gs d i) left.gates ∙ a.same_gates i ∙ sym (ap (λ (gs : List Gate). gate_target gs d i) right.gates));
         same_bytes = λ i p k l. same-byte (4 * i + k)
             (a.same_bytes i (subst (λ (x : Perm). IsTrue (allows x A.Read)) (m d i) (subst (λ (k : ℕ). IsTrue (allows (u.perm k i) A.Read)) (sym stays) p)) k l);
       }

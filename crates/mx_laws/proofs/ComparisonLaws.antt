@@ -60,11 +60,11 @@ all-from : (p : Gate → Bool) (xs : List Gate) → ((x : Gate) → p x ≡ true
 all-from p [] k = refl
 all-from p (x ∷ xs) k = and_from (p x) (list_all p xs) (k x) (all-from p xs k)
 
-all-first : (P : Gate → Type 0) (xs ys : List Gate) → AllByRecursion P (xs ++ ys) → AllByRecursion P xs
+pub all-first : {X : Type 0} (P : X → Type 0) (xs ys : List X) → AllByRecursion P (xs ++ ys) → AllByRecursion P xs
 all-first P [] ys p = tt
 all-first P (x ∷ xs) ys p = (p.0, all-first P xs ys p.1)
 
-all-second : (P : Gate → Type 0) (xs ys : List Gate) → AllByRecursion P (xs ++ ys) → AllByRecursion P ys
+pub all-second : {X : Type 0} (P : X → Type 0) (xs ys : List X) → AllByRecursion P (xs ++ ys) → AllByRecursion P ys
 all-second P [] ys p = p
 all-second P (x ∷ xs) ys p = all-second P xs ys p.1
 

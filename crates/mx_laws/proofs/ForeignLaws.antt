@@ -9,6 +9,7 @@ use Rattle.mx_words.specs.Caches.{Cache}
 use Rattle.mx_words.specs.FirstFit.{Area, has_room}
 use Rattle.mx_words.specs.Ranges.{covers, ram_base}
 use Rattle.mx_words.specs.Rights.{allows}
+use Rattle.mx_words.proofs.OverlayLaws.{covers_from}
 use Rattle.mx_model.specs.declared.values.Call.{Call}
 use Rattle.mx_model.specs.declared.values.Frame.{Frame}
 use Rattle.mx_model.specs.declared.values.TurnKind.TheVariants as T
@@ -46,14 +47,6 @@ cleared-beside xs k n j p s = grind (arith, common_steps)
 cleared-inside : (xs : List ℕ) (k n j : ℕ) → k + n ≤ length xs → k ≤ j → j < k + n → get_or (cleared_at xs k n) j 0 ≡ 0
 unfolding cleared_at
 cleared-inside xs k n j p a b = grind (arith, common_steps)
-
--- a word covered by an area, and one beside it
-covered : (first count w : ℕ) → covers first count w ≡ true → (first ≤ w) × (w < first + count)
-covered first count w e =
-    let both = and_parts (nat_le first w) (nat_lt (w - first) count) e in
-    let a = leb-true first w both.0 in
-    let b = ltb-true (w - first) count both.1 in
-    (a, omega (arith, a, b))
 
 uncovered : (first count w : ℕ) → covers first count w ≡ false → (w < first) ⊎ (first + count ≤ w)
 uncovered first count w e = elim (nat_le first w) as (λ b. nat_le first w ≡ b → b && nat_lt (w - first) count ≡ false → (w < first) ⊎ (first + count ≤ w)) [
@@ -153,7 +146,7 @@ module _ (r : Reads) (c : Core) (h : ℕ) (v : IsValid c) (l : h < length c.hart
         low = room.low;
         high = room.high;
         zero = λ w g k l.
-            let in_block = covered first n w g in
+            let in_block = covers_from first n w g in
             let a = in_block.0 in
             let b = in_block.1 in
             cleared-inside c.ram (4 * first) (4 * n) (4 * w + k) inside (omega (arith, a)) (omega (arith, b, l));

@@ -35,7 +35,9 @@ same_target c e d word = option_eq nat_eq (target_at c d word) (target_at e d wo
 
 -- whether the four bytes of a word are the same
 abbrev pub same_word : Core → Core → ℕ → Bool
-same_word c e word = list_all (λ k. slice_index c.ram (4 * word + k) == slice_index e.ram (4 * word + k)) (0 ∷ 1 ∷ 2 ∷ 3 ∷ [])
+same_word c e word =
+    list_all (λ k. slice_index c.ram (4 * word + k) == slice_index e.ram (4 * word + k))
+    (0 ∷ 1 ∷ 2 ∷ 3 ∷ [])
 
 -- whether they are, where a domain may read the word
 abbrev pub same_if_read : Reads → Core → Core → ℕ → ℕ → Bool

@@ -23,4 +23,5 @@ pub data FramesAfter (before after : Hart) : Type 0 where
   -- one is pushed
   OneMore : after.frames ≡ before.frames ++ frame_of before ∷ [] → FramesAfter before after
   -- the top one is given up
-  OneLess : (f : Frame) → before.frames ≡ after.frames ++ f ∷ [] → IsBack f after → FramesAfter before after
+  OneLess : (f : Frame) → before.frames ≡ after.frames ++ f ∷ [] → IsBack f after →
+      FramesAfter before after

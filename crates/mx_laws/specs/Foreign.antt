@@ -33,7 +33,8 @@ pub record TakesBlock (r : Reads) (c : Core) (h : ℕ) (e : Core) : Type 0 where
   pub call : service (reg (hart_at c h).regs 17) ≡ Alloc
   pub block : Area
   pub count : block.count ≡ reg (hart_at c h).regs 10
-  pub taken : (module_at e (domain_at c h)).blocks ≡ with_block block (module_at c (domain_at c h)).blocks
+  pub taken : (module_at e (domain_at c h)).blocks
+      ≡ with_block block (module_at c (domain_at c h)).blocks
   pub low : (heap_of c h).first ≤ block.first
   pub high : block.first + block.count ≤ (heap_of c h).first + (heap_of c h).count
   pub zero : (w : ℕ) → covers block.first block.count w ≡ true → IsZero e w

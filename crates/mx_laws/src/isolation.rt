@@ -22,7 +22,8 @@ pub fn turns_of_twins()
         (kind_of r c h ≡ T.Idle) ↔ (standing_at c h ≡ Ended) }
     ensures store { (r q : Reads) (c e : Core) (h : ℕ) → AreFreeTwins r c q e h →
         MakeOneStore r c q e h }
-    ensures agreement { (s t : State) (h g : ℕ) → free_twins s t h → agree s t g → agree_after s t h g }
+    ensures agreement { (s t : State) (h g : ℕ) → free_twins s t h → agree s t g →
+        agree_after s t h g }
     ensures flat { (s t : Flat) (h g : ℕ) → flat_free_twins s t h → flat_agree s t g →
         flat_agree_after s t h g }
 {}

@@ -1,8 +1,7 @@
 -- The permissions of a bus are those of its domain's map, and what they allow lies in RAM.
-use Rattle.std.proofs.Common.{◌≡◌, ℕ, ◌-◌, ◌*◌, ◌/◌, ◌<◌, Bool, true, false, not, ◌&&◌, cond, nat_lt, nat_le, List, length, refl, sym, ap, subst, ◌∙◌, arith, Some, None}
+use Rattle.std.proofs.Common.{◌≡◌, ℕ, ◌-◌, ◌*◌, ◌/◌, ◌<◌, Bool, true, false, not, cond, nat_lt, nat_le, List, length, refl, sym, ap, subst, ◌∙◌, Some, None}
 use Rattle.std.specs.Option.{option_map_or}
-use Rattle.std.proofs.lemmas.Bool.{ltb-true, leb-true}
-use Rattle.std.proofs.lemmas.List.{get_or_default}
+use Rattle.std.proofs.lemmas.Bool.{ltb-true, leb-true, and_parts}
 use Rattle.mx_words.specs.declared.perm.Perm.{Perm}
 use Rattle.mx_words.specs.declared.perm.Perm.TheVariants as P
 use Rattle.mx_words.specs.declared.perm.Access.{Access}
@@ -10,21 +9,15 @@ use Rattle.mx_words.specs.Ranges.{ram_base, in_ram, word_of}
 use Rattle.mx_words.specs.Rights.{allows, denies, perm, perm_at}
 use Rattle.mx_table.specs.Tables.{map_of, IsDomain}
 use Rattle.mx_core.specs.Bus.{denied}
-use Rattle.mx_model.specs.Reads.{map_in}
 use Rattle.mx_machine.specs.Bus.{perm_from, IsInRam}
-
-pub map-in : (size : ℕ) (maps : List (List Perm)) (d : ℕ) → IsDomain maps d → map_in size maps d ≡ map_of maps d
-map-in size maps d p = let l : d - 1 < length maps = let a = p.first in let b = p.last in omega arith in get_or_default maps (d - 1) _ _ l
+use mathlib.Core.Bool.{not-not}
+use Rattle.mx_supervisor.proofs.Maps.{map-in}
 
 pub perm-alike : (size : ℕ) (maps : List (List Perm)) (d address : ℕ) → IsDomain maps d → length (map_of maps d) ≡ size →
     perm_from size maps d address ≡ perm (map_of maps d) address
 perm-alike size maps d address p e =
     ap (λ (m : List Perm). option_map_or (perm_at m) (word_of address size) P.None) (map-in size maps d p)
     ∙ ap (λ (n : ℕ). option_map_or (perm_at (map_of maps d)) (word_of address n) P.None) (sym e)
-
-not-not : (b : Bool) → not (not b) ≡ b
-not-not true = refl
-not-not false = refl
 
 pub answer-alike : (size : ℕ) (maps : List (List Perm)) (d address : ℕ) (access : Access) (b : Bool) → IsDomain maps d → length (map_of maps d) ≡ size →
     b ≡ not (denies (perm (map_of maps d)) address access) → not b ≡ denied (perm_from size maps d) address access
@@ -38,14 +31,10 @@ allowed-in : (m : List Perm) (address : ℕ) (access : Access) (b : Bool) → in
 allowed-in m address access true e q = refl
 allowed-in m address access false e q = q
 
-both : (a b : Bool) → (a && b) ≡ true → (a ≡ true) × (b ≡ true)
-both true b e = (refl, e)
-both false b e = absurd (let q : ⊥ = cc in q)
-
 pub allowed-inside : (size : ℕ) (m : List Perm) (address : ℕ) (access : Access) (b : Bool) → length m ≡ size →
     b ≡ not (denies (perm m) address access) → b ≡ true → IsInRam size address
 allowed-inside size m address access b e q t =
     let a : allows (perm m address) access ≡ true = sym (not-not (allows (perm m address) access)) ∙ sym q ∙ t in
     let i : in_ram address (length m) ≡ true = allowed-in m address access (in_ram address (length m)) refl a in
-    let p = both (nat_le ram_base address) (nat_lt (address - ram_base) (4 * length m)) i in
+    let p = and_parts (nat_le ram_base address) (nat_lt (address - ram_base) (4 * length m)) i in
     (leb-true ram_base address p.0, subst (λ (n : ℕ). address - ram_base < 4 * n) e (ltb-true (address - ram_base) (4 * length m) p.1))

@@ -5,6 +5,7 @@ use Rattle.std.specs.List.{list_all, list_any, enumerate_from, cons_option}
 use Rattle.mx_words.specs.Caches.{Cache, without_range}
 use Rattle.mx_words.specs.Counting.{all_below}
 use Rattle.mx_machine.proofs.Hearing.{without_one, without_first}
+use mathlib.Core.Bool.{and_assoc}
 
 -- whether an option holds what passes
 abbrev pub some_passes : {X : Type 0} → (X → Bool) → Option X → Bool
@@ -24,10 +25,6 @@ below-none i test = let e : i + 0 ≡ i = omega arith in ap (λ k. all_below k t
     by : (b : Bool) → b ≡ (b && true)
     by true = refl
     by false = refl
-
-and-assoc : (a b c : Bool) → ((a && b) && c) ≡ (a && (b && c))
-and-assoc true b c = refl
-and-assoc false b c = refl
 
 -- an equation of each element from place i on, behind the first
 module _ {X Y : Type 0} (f : ℕ → X → Y) (g : ℕ → Y) (d : X) where
@@ -52,7 +49,7 @@ module _ {X : Type 0} (test : ℕ × X → Bool) (low : ℕ → Bool) (d : X) wh
       ∙ all-numbered (i + 1) xs (behind-first (λ k y. test (k, y)) low d i x xs e)
       ∙ ap (λ b. b && list_all test (enumerate_from (i + 1) xs)) (below-one i low)
       ∙ ap (λ b. (all_below i low && b) && list_all test (enumerate_from (i + 1) xs)) (sym (of-first (λ k y. test (k, y)) low d i x xs e))
-      ∙ and-assoc (all_below i low) (test (i, x)) (list_all test (enumerate_from (i + 1) xs))
+      ∙ and_assoc (all_below i low) (test (i, x)) (list_all test (enumerate_from (i + 1) xs))
 
 any-option : {R : Type 0} (test : R → Bool) (o : Option R) (rs : List R) → list_any test (cons_option o rs) ≡ (some_passes test o || list_any test rs)
 any-option test None rs = refl

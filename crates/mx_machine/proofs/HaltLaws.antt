@@ -1,12 +1,12 @@
 -- Harts that are halted in a machine, counted as halted in its checker.
-use Rattle.std.proofs.Common.{◌≡◌, ◌≢◌, ℕ, zero, suc, ◌+◌, ◌<◌, ◌≤◌, ◌⊎◌, inl, inr, Bool, true, false, cond, List, length, refl, sym, ap, subst, ◌∙◌, arith}
+use Rattle.std.proofs.Common.{◌≡◌, ◌≢◌, ℕ, zero, suc, ◌<◌, ◌≤◌, ◌⊎◌, inl, inr, Bool, true, false, cond, List, length, refl, sym, ap, subst, ◌∙◌}
 use Rattle.std.proofs.lemmas.Bool.{cases_eq, cases_lt}
 use Rattle.std.proofs.Math.ListN.{get_or-eq_default}
 use Rattle.mx_check.specs.Harts.{Kept, hart_at, at_hart}
 use Rattle.mx_check.specs.Harts.{halts as counts_as_halted}
 use Rattle.mx_check.specs.Harts.{no_hart as no_kept}
 use Rattle.mx_machine.specs.declared.hart.Hart.{Hart}
-use Rattle.mx_machine.specs.Deeds.{halted_first}
+use Rattle.mx_machine.specs.Actions.{halted_first}
 use Rattle.mx_machine.specs.Harts.{hart_of, is_halted}
 use Rattle.mx_machine.proofs.FitLaws.{count-step, others-step, own-step}
 
@@ -41,8 +41,3 @@ halted-flight zero harts kept h = refl
 halted-flight (suc n) harts kept h = flight-at (is_halted (hart_of harts n).progress) (halted_first n harts kept) n h ∙ halted-flight n harts kept h
 
 -- the place behind one, and where a loop ends
-pub next-place : (i : ℕ) → suc i ≡ i + 1
-next-place i = omega arith
-
-pub last-place : (i n : ℕ) → i ≤ n → n ≤ i → i ≡ n
-last-place i n a b = omega (arith, a, b)

@@ -1,15 +1,9 @@
 -- A list of harts in the first places of an array: what a read and a write of one of them say of the list.
-use Rattle.std.proofs.Common.{◌≡◌, ℕ, zero, suc, ◌<◌, List, [], ◌∷◌, length, get_or, set, take, refl, sym, ap, ◌∙◌, arith, length-take, get_or-take}
+use Rattle.std.proofs.Common.{◌≡◌, ℕ, ◌<◌, List, length, get_or, set, take, sym, ap, ◌∙◌, arith, length-take, get_or-take}
 use Rattle.std.proofs.lemmas.List.{get_or_default}
 use Rattle.mx_machine.specs.declared.hart.Hart.{Hart}
 use Rattle.mx_machine.specs.Harts.{no_hart, hart_of, stepped}
-
--- the first elements of a list with a write
-take-written : {X : Type 0} (n : ℕ) (xs : List X) (i : ℕ) (x : X) → take n (set xs i x) ≡ set (take n xs) i x
-take-written zero xs i x = refl
-take-written (suc n) [] i x = refl
-take-written (suc n) (y ∷ ys) zero x = refl
-take-written (suc n) (y ∷ ys) (suc i) x = ap (λ zs. y ∷ zs) (take-written n ys i x)
+use Rattle.mx_check.proofs.HartLaws.{take-written}
 
 module _ (n : ℕ) (items : List Hart) (harts : List Hart) (h : ℕ) (d : Hart) (view : take n items ≡ harts) (there : h < length harts) where
   -- the part that is read is the hart

@@ -6,34 +6,32 @@ use Rattle.std.specs.List.{list_any, enumerate_from}
 use Rattle.std.specs.Option.{option_map}
 use Rattle.std.proofs.lemmas.Bool.{cases_eq, ne_eqb}
 use Rattle.mx_words.specs.declared.perm.Span.{Span}
-use Rattle.mx_words.specs.Announced.{announced as announced_range}
 use Rattle.mx_words.specs.Caches.{Cache, meets, without_range}
 use Rattle.mx_words.specs.Counting.{all_below}
-use Rattle.mx_words.specs.FirstFit.{Area}
 use Rattle.mx_words.specs.Hearing.{heard_range, is_in, lets_pass, nobody, unheard_range}
 use Rattle.mx_check.specs.declared.flight.Flight.{Flight}
 use Rattle.mx_check.specs.Calls.{hears, ready_with, unheard, unheard_of}
 use Rattle.mx_check.specs.Calls.{is_ready as ready_kept}
 use Rattle.mx_check.specs.Conditions.{HasHeardAll, SameButCaches}
 use Rattle.mx_check.specs.Harts.{Kept, hart_at, at_hart, announced, marked}
-use Rattle.mx_check.specs.Looks.{flight_bars, hart_bars, is_barred}
+use Rattle.mx_check.specs.Looks.{flight_forbids, hart_forbids, is_forbidden}
 use Rattle.mx_check.proofs.HearLaws.{hears_own, length-hears_first}
 use Rattle.mx_check.proofs.LookLaws.{all_below_agree, hart_at-other, hart_at-same, length-at_hart}
 use Rattle.mx_model.specs.declared.values.Call.{Call}
-use Rattle.mx_model.specs.Checks.{arg, call_range, flight_range, heard_by, heard_ranges, is_ready, unheard_ranges}
+use Rattle.mx_model.specs.Checks.{call_range, flight_range, heard_by, heard_ranges, is_ready, unheard_ranges}
 use Rattle.mx_model.specs.Checks.{hears as heard_in, is_halted as halted_by}
 use Rattle.mx_model.specs.State.{Core, Module, Status, module_at}
 use Rattle.mx_model.specs.State.{Hart as Seen}
 use Rattle.mx_model.specs.State.{no_hart as nobody_seen}
 use Rattle.mx_supervisor.specs.Looks.{BarsAlike}
-use Rattle.mx_supervisor.specs.Parts.{Parts, core_of, modules_from, with_heap}
+use Rattle.mx_supervisor.specs.Parts.{modules_from, with_heap}
 use Rattle.mx_supervisor.specs.Served.{range_of}
-use Rattle.mx_supervisor.proofs.Modules.{module-heap}
+use Rattle.mx_supervisor.proofs.Ending.{range-is}
 use Rattle.mx_heap.specs.HeapState.{HeapState}
 use Rattle.mx_machine.specs.declared.hart.Hart.{Hart}
 use Rattle.mx_machine.specs.declared.hart.Progress.{Progress}
 use Rattle.mx_machine.specs.declared.hart.Progress.TheVariants as G
-use Rattle.mx_machine.specs.Deeds.{heard}
+use Rattle.mx_machine.specs.Actions.{heard}
 use Rattle.mx_machine.specs.Harts.{hart_of, hearers, is_halted, no_hart, own_call, seen, seen_from, status_by}
 use Rattle.mx_machine.specs.Held.{Held, rest_of}
 use Rattle.mx_machine.specs.Made.{core_in}
@@ -41,6 +39,7 @@ use Rattle.mx_machine.specs.Ties.{Fits, FliesWhileWaiting, IsFlying, IsTied}
 use Rattle.mx_machine.proofs.EachHart.{all-numbered, none-numbered, some_passes, without-numbered}
 use Rattle.mx_machine.proofs.HartsAt.{hart-seen, length-seen}
 use Rattle.mx_machine.proofs.Hearing.{IsHeard, cache-kept, caches_of, caches-first, heard-at, quiet-first, without_first}
+use mathlib.Core.Bool.{not-not}
 
 -- the other harts are tied
 abbrev pub OthersTied : Held → ℕ → Type 0
@@ -57,10 +56,6 @@ all-quiet kept h q i other = subst (λ (o : Option Flight). IfSome o (λ f. is_i
 abbrev taken : (List Bool → ℕ × ℕ → Option (ℕ × ℕ)) → Option Flight → Option (ℕ × ℕ)
 taken choice None = None
 taken choice (Some f) = choice f.heard (f.first, f.count)
-
--- a call's range is the same in the state and for the supervisor
-range-alike : (rest : Core) (p : Parts) (call : Call) → call_range (core_of rest p) call ≡ range_of p call
-range-alike rest p call = ap (λ (a : Area). announced_range call.number (arg call 0) (arg call 1) p.size (a.first, a.count)) (module-heap rest p call.domain)
 
 -- a choice takes the same range of a hart that waits as of its call in flight
 status-taken : (choice : List Bool → ℕ × ℕ → Option (ℕ × ℕ)) (c : Core) (call : Call) (range : ℕ × ℕ) (flight : Option Flight) (p : Progress) →
@@ -86,7 +81,7 @@ flies-heard h range (Some f) G.Waiting t = record { first = t.first; count = t.c
 flies-heard h range flight (G.Halted code) t = ap (option_map (marked h)) t
 
 -- a hart of the state is halted where the machine's is
-halted-seen : (call : Call) (flight : Option Flight) (p : Progress) → halted_by (status_by call flight p) ≡ is_halted p
+pub halted-seen : (call : Call) (flight : Option Flight) (p : Progress) → halted_by (status_by call flight p) ≡ is_halted p
 halted-seen call flight G.Running = refl
 halted-seen call flight G.Waiting = refl
 halted-seen call flight (G.Halted code) = refl
@@ -105,7 +100,7 @@ module _ (m : Held) (h : ℕ) (choice : List Bool → ℕ × ℕ → Option (ℕ
   taken-other j t =
       let x = hart_of m.harts j in
       let k = hart_at m.parts.harts j in
-      status-taken choice (core_in m) (own_call j x) (range_of m.parts (own_call j x)) k.flight x.progress (range-alike (rest_of m) m.parts (own_call j x)) t.flight
+      status-taken choice (core_in m) (own_call j x) (range_of m.parts (own_call j x)) k.flight x.progress (range-is (rest_of m) m.parts (own_call j x)) t.flight
 
 -- what hart h hasn't heard
 unheard-taken : (h : ℕ) (o : Option Flight) → taken (unheard_range h) o ≡ unheard_of h o
@@ -127,7 +122,7 @@ unheard-alike m h others j = by (cases_eq j h)
         (taken-other m h (unheard_range h) j (others j ne) ∙ unheard-taken h (hart_at m.parts.harts j).flight)
 
 -- what bars a span
-bars-taken : (h : ℕ) (s : Span) (o : Option Flight) → some_passes (λ (r : ℕ × ℕ). meets s r.0 r.1) (taken (heard_range h) o) ≡ flight_bars h s o
+bars-taken : (h : ℕ) (s : Span) (o : Option Flight) → some_passes (λ (r : ℕ × ℕ). meets s r.0 r.1) (taken (heard_range h) o) ≡ flight_forbids h s o
 bars-taken h s None = refl
 bars-taken h s (Some f) = by (is_in f.heard h)
   where
@@ -137,24 +132,24 @@ bars-taken h s (Some f) = by (is_in f.heard h)
 
 hart-bars : (m : Held) (h : ℕ) (s : Span) → OthersTied m h → (j : ℕ) →
     some_passes (λ (r : ℕ × ℕ). meets s r.0 r.1) (cond (j == h) None (flight_range (core_in m) (heard_range h) (seen j (hart_of m.harts j) (hart_at m.parts.harts j)).status))
-    ≡ hart_bars h s m.parts.harts j
+    ≡ hart_forbids h s m.parts.harts j
 hart-bars m h s others j = by (cases_eq j h)
   where
     by : (j ≡ h) ⊎ (j ≢ h) →
         some_passes (λ (r : ℕ × ℕ). meets s r.0 r.1) (cond (j == h) None (flight_range (core_in m) (heard_range h) (seen j (hart_of m.harts j) (hart_at m.parts.harts j)).status))
-        ≡ hart_bars h s m.parts.harts j
+        ≡ hart_forbids h s m.parts.harts j
     by (inl e) =
         let same : (j == h) ≡ true = eq-eqb j h e in
         ap (λ b. some_passes (λ (r : ℕ × ℕ). meets s r.0 r.1)
         (cond b None (flight_range (core_in m) (heard_range h) (seen j (hart_of m.harts j) (hart_at m.parts.harts j)).status))) same
-        ∙ sym (ap (λ b. not b && flight_bars h s (hart_at m.parts.harts j).flight) same)
+        ∙ sym (ap (λ b. not b && flight_forbids h s (hart_at m.parts.harts j).flight) same)
     by (inr ne) =
         let other : (j == h) ≡ false = ne_eqb j h ne in
         ap (λ b. some_passes (λ (r : ℕ × ℕ). meets s r.0 r.1)
         (cond b None (flight_range (core_in m) (heard_range h) (seen j (hart_of m.harts j) (hart_at m.parts.harts j)).status))) other
         ∙ ap (λ (o : Option (ℕ × ℕ)). some_passes (λ (r : ℕ × ℕ). meets s r.0 r.1) o) (taken-other m h (heard_range h) j (others j ne))
         ∙ bars-taken h s (hart_at m.parts.harts j).flight
-        ∙ sym (ap (λ b. not b && flight_bars h s (hart_at m.parts.harts j).flight) other)
+        ∙ sym (ap (λ b. not b && flight_forbids h s (hart_at m.parts.harts j).flight) other)
 
 -- each hart of the state, once hart h has heard its call
 hart-hears : (m : Held) (h : ℕ) → Fits m → h < length m.harts → (j : ℕ) →
@@ -346,16 +341,12 @@ ready-now m h first count f there =
     ∙ ap (λ n. all_below n (λ i. lets_pass h nobody i (hart_at new i).halted)) (sym (length-at_hart kept h (announced h first count)))
     ∙ ap (λ (o : Option Flight). ready_with h o new) (ap (λ (k : Kept). k.flight) (sym (hart_at-same kept h (announced h first count) long)))
 
-not-not : (b : Bool) → not (not b) ≡ b
-not-not true = refl
-not-not false = refl
-
 -- the calls that keep hart h from keeping a span are the same in both
 bars-at : (m : Held) (h : ℕ) (s : Span) → length m.harts ≡ length m.parts.harts → OthersTied m h →
-    list_any (λ (r : ℕ × ℕ). meets s r.0 r.1) (heard_ranges (core_in m) h) ≡ is_barred h s m.parts.harts
+    list_any (λ (r : ℕ × ℕ). meets s r.0 r.1) (heard_ranges (core_in m) h) ≡ is_forbidden h s m.parts.harts
 unfolding all_below
 bars-at m h s n others =
-    let low : ℕ → Bool = λ i. hart_bars h s m.parts.harts i in
+    let low : ℕ → Bool = λ i. hart_forbids h s m.parts.harts i in
     let test : ℕ × ℕ → Bool = λ r. meets s r.0 r.1 in
     sym (not-not (list_any test (heard_ranges (core_in m) h)))
     ∙ ap not (sym (none-numbered (λ (p : ℕ × Seen). cond (p.0 == h) None (flight_range (core_in m) (heard_range h) p.1.status)) test low nobody_seen

@@ -1,6 +1,6 @@
 -- The range of an announced call is empty or lies in RAM.
 use Rattle.std.proofs.Common.{◌≡◌, ℕ, ◌+◌, ◌-◌, ◌*◌, ◌/◌, ◌%◌, ◌≤◌, inl, inr, Bool, true, false, ◌==◌, ◌&&◌, cond, nat_lt, nat_le, refl, arith, eqb-true, Some, None, unwrap_or}
-use Rattle.std.proofs.lemmas.Bool.{leb-true}
+use Rattle.std.proofs.lemmas.Bool.{leb-true, and_parts}
 use Rattle.mx_check.specs.Conditions.{IsWithin}
 use Rattle.mx_words.specs.Announced.{names_range}
 use Rattle.mx_words.specs.Ranges.{ram_base, is_range, range_words}
@@ -10,15 +10,11 @@ use Rattle.mx_supervisor.specs.Heaps.{heap_at}
 use Rattle.mx_supervisor.specs.Parts.{Parts, IsSound}
 use Rattle.mx_supervisor.specs.Served.{range_of}
 
-both : (a b : Bool) → (a && b) ≡ true → (a ≡ true) × (b ≡ true)
-both true b e = (refl, e)
-both false b e = absurd (let q : ⊥ = cc in q)
-
 lies : (address size words : ℕ) → is_range address size words ≡ true → (address - ram_base) / 4 + (size + 3) / 4 ≤ words
 lies address size words e =
-    let a = both (nat_lt 0 size && (address % 4 == 0) && nat_le ram_base address) (nat_le (address + size) (ram_base + 4 * words)) e in
-    let b = both (nat_lt 0 size && (address % 4 == 0)) (nat_le ram_base address) a.0 in
-    let c = both (nat_lt 0 size) (address % 4 == 0) b.0 in
+    let a = and_parts (nat_lt 0 size && (address % 4 == 0) && nat_le ram_base address) (nat_le (address + size) (ram_base + 4 * words)) e in
+    let b = and_parts (nat_lt 0 size && (address % 4 == 0)) (nat_le ram_base address) a.0 in
+    let c = and_parts (nat_lt 0 size) (address % 4 == 0) b.0 in
     let straight : address % 4 ≡ 0 = eqb-true (address % 4) 0 c.1 in
     let low : ram_base ≤ address = leb-true ram_base address b.1 in
     let high : address + size ≤ ram_base + 4 * words = leb-true (address + size) (ram_base + 4 * words) a.1 in

@@ -14,6 +14,7 @@ use Rattle.mx_model.specs.State.{Hart as Seen}
 use Rattle.mx_model.specs.Valid.{IsModule}
 use Rattle.mx_supervisor.specs.Served.{range_of}
 use Rattle.mx_supervisor.proofs.Modules.{length-modules}
+use Rattle.mx_supervisor.proofs.Maps.{map-in}
 use Rattle.mx_machine.specs.declared.hart.Hart.{Hart}
 use Rattle.mx_machine.specs.declared.hart.Progress.{Progress}
 use Rattle.mx_machine.specs.declared.hart.Progress.TheVariants as G
@@ -24,9 +25,9 @@ use Rattle.mx_machine.specs.Held.{Held, area_of, rest_of}
 use Rattle.mx_machine.specs.Made.{core_in, hart_in}
 use Rattle.mx_machine.specs.Readings.{IsAreaOf, IsViewOf, TellsHart, status_by_progress, status_told, was_heard}
 use Rattle.mx_machine.specs.Ties.{Fits, FliesWhileWaiting}
-use Rattle.mx_machine.proofs.BusLaws.{map-in}
 use Rattle.mx_machine.proofs.HartsAt.{hart-in, length-seen}
 use Rattle.mx_machine.proofs.HomeLaws.{IsHere, module-is}
+use Rattle.mx_machine.proofs.HearLaws.{halted-seen}
 
 module _ (m : Held) (f : Fits m) where
   pub modules-in : length m.parts.maps ≡ length (core_in m).modules
@@ -105,11 +106,6 @@ heard-told m h by f =
     ∙ sym (ap (λ (y : Seen). was_heard y.status by) (hart-in m h))
 
 -- whether all harts are halted
-halted-seen : (call : Call) (flight : Option Flight) (g : Progress) → stands_halted (status_by call flight g) ≡ is_halted g
-halted-seen call flight G.Running = refl
-halted-seen call flight G.Waiting = refl
-halted-seen call flight (G.Halted code) = refl
-
 pub all-halted : (n : ℕ) (xs : List Hart) (kept : List Kept) →
     list_all (λ (y : Seen). stands_halted y.status) (seen_from n xs kept) ≡ list_all (λ (x : Hart). is_halted x.progress) xs
 all-halted n [] kept = refl

@@ -1,8 +1,8 @@
 -- Registers that are written one after another.
-use Rattle.std.proofs.Common.{◌≡◌, ◌≢◌, ℕ, zero, suc, ◌+◌, ◌<◌, ◌≤◌, ◌⊎◌, inl, inr, ◌==◌, ◌&&◌, Bool, true, false, not, cond, List, [], ◌∷◌, length, get_or, set, take, refl, sym, ap, subst, ◌∙◌, arith, eq-eqb, get_or-set_same, get_or-set_other}
+use Rattle.std.proofs.Common.{◌≡◌, ◌≢◌, ℕ, zero, suc, ◌+◌, ◌<◌, ◌≤◌, ◌⊎◌, inl, inr, ◌==◌, true, false, not, cond, List, [], ◌∷◌, length, get_or, set, take, refl, sym, ap, subst, ◌∙◌, arith, eq-eqb, get_or-set_same, get_or-set_other}
 use Rattle.std.specs.Prelude.{fold, min, zip}
 use Rattle.std.specs.List.{list_all}
-use Rattle.std.proofs.lemmas.Bool.{cases_eq, ne_eqb}
+use Rattle.std.proofs.lemmas.Bool.{cases_eq, ne_eqb, and_parts, not-true}
 use Rattle.std.proofs.lemmas.List.{ext_get_or, take_all}
 use Rattle.std.proofs.lemmas.List.Sums.{fold_more}
 use Rattle.std.proofs.lemmas.Slice.Zip.{length-zip, get_or-zip}
@@ -10,18 +10,10 @@ use Rattle.mx_model.specs.Effect.{written}
 use Rattle.mx_model.specs.Turn.{restored, saved_registers}
 
 -- one of these numbers is not zero where none is
-head-passes : (b rest : Bool) → (not b && rest) ≡ true → b ≡ false
-head-passes true rest e = cc
-head-passes false rest e = refl
-
-rest-passes : (b rest : Bool) → (not b && rest) ≡ true → rest ≡ true
-rest-passes true rest e = cc
-rest-passes false rest e = e
-
 not-zero : (xs : List ℕ) (i : ℕ) → i < length xs → list_all (λ x. not (x == 0)) xs ≡ true → (get_or xs i 0 == 0) ≡ false
 not-zero [] i lt p = absurd (omega (arith, lt))
-not-zero (x ∷ xs) zero lt p = head-passes (x == 0) (list_all (λ x. not (x == 0)) xs) p
-not-zero (x ∷ xs) (suc i) lt p = not-zero xs i (omega (arith, lt)) (rest-passes (x == 0) (list_all (λ x. not (x == 0)) xs) p)
+not-zero (x ∷ xs) zero lt p = not-true (x == 0) (and_parts (not (x == 0)) (list_all (λ x. not (x == 0)) xs) p).0
+not-zero (x ∷ xs) (suc i) lt p = not-zero xs i (omega (arith, lt)) (and_parts (not (x == 0)) (list_all (λ x. not (x == 0)) xs) p).1
 
 -- the registers after the first n of the fifteen are put back
 abbrev pub back_first : ℕ → List ℕ → List ℕ → List ℕ

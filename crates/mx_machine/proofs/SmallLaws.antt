@@ -1,9 +1,9 @@
 -- What is true of each of a list, element after element.
-use Rattle.std.proofs.Common.{◌≡◌, ◌≢◌, ℕ, zero, suc, ◌+◌, ◌<◌, ◌≤◌, ◌⊎◌, inl, inr, List, [], ◌∷◌, length, get_or, refl, sym, ap, subst, ◌∙◌, arith, Option, Some, None}
+use Rattle.std.proofs.Common.{◌≡◌, ◌≢◌, ℕ, suc, ◌+◌, ◌<◌, ◌≤◌, ◌⊎◌, inl, inr, List, [], ◌∷◌, length, get_or, refl, sym, ap, subst, ◌∙◌, arith, Option, Some, None}
 use Rattle.std.specs.List.{AllByRecursion}
 use Rattle.std.specs.Prelude.{slice_get}
 use Rattle.std.proofs.lemmas.Bool.{cases_eq}
-use Rattle.std.proofs.lemmas.Option.{slice_get-get_or}
+use Rattle.std.proofs.lemmas.Option.{slice_get-get_or, slice_get_within}
 
 -- P of the first n
 pub record AllFirst {X : Type 0} (P : X → Type 0) (n : ℕ) (xs : List X) : Type 0 where
@@ -33,19 +33,9 @@ pub from-each : {X : Type 0} (P : X → Type 0) (xs : List X) → ((i : ℕ) (x 
 from-each P [] h = tt
 from-each P (x ∷ xs) h = (h 0 x refl, from-each P xs (λ i y e. h (suc i) y e))
 
-pub got-there : {X : Type 0} (xs : List X) (i : ℕ) (x : X) → slice_get xs i ≡ Some x → i < length xs
-got-there [] i x e = cc
-got-there (y ∷ ys) zero x e = omega arith
-got-there (y ∷ ys) (suc i) x e = let lt = got-there ys i x e in omega (arith, lt)
-
 pub first-all : {X : Type 0} (P : X → Type 0) (xs : List X) (n : ℕ) → length xs ≤ n → AllFirst P n xs → AllByRecursion P xs
-first-all P xs n le a = from-each P xs (λ i x e. let lt = got-there xs i x e in a.at i x (omega (arith, lt, le)) e)
+first-all P xs n le a = from-each P xs (λ i x e. let lt = slice_get_within xs i x e in a.at i x (omega (arith, lt, le)) e)
 
 -- an element that is there and one that isn't
 pub get-there : {X : Type 0} (xs ys : List X) (i : ℕ) (x : X) → ys ≡ xs → i < length ys → x ≡ get_or ys i x → slice_get xs i ≡ Some x
 get-there xs ys i x same lt e = ap (λ (zs : List _). slice_get zs i) (sym same) ∙ slice_get-get_or ys i x lt ∙ ap (λ y. Some y) (sym e)
-
-pub get-past : {X : Type 0} (xs : List X) (i : ℕ) → length xs ≤ i → slice_get xs i ≡ None
-get-past [] i le = refl
-get-past (x ∷ xs) zero le = absurd (omega (arith, le))
-get-past (x ∷ xs) (suc i) le = get-past xs i (omega (arith, le))

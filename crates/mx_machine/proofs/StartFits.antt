@@ -1,5 +1,5 @@
 -- The parts of a machine that starts or resumes fit one another.
-use Rattle.std.proofs.Common.{◌≡◌, ◌≢◌, ℕ, zero, suc, ◌<◌, ◌≤◌, ◌⊎◌, inl, inr, Bool, true, false, cond, ◌||◌, List, [], ◌∷◌, length, get_or, Option, Some, None, refl, sym, ap, subst, ◌∙◌, arith}
+use Rattle.std.proofs.Common.{◌≡◌, ◌≢◌, ℕ, zero, suc, ◌<◌, ◌≤◌, ◌⊎◌, inl, inr, Bool, true, false, cond, List, length, get_or, Option, Some, None, refl, sym, ap, subst, ◌∙◌, arith}
 use Rattle.std.proofs.Common.{map as list_map}
 use Rattle.std.specs.Prelude.{IfSome}
 use Rattle.std.specs.List.{list_any}
@@ -22,12 +22,13 @@ use Rattle.mx_machine.specs.declared.starts.HartState.{HartState}
 use Rattle.mx_machine.specs.declared.starts.StackArea.{StackArea}
 use Rattle.mx_machine.specs.declared.views.HartStatus.{HartStatus}
 use Rattle.mx_machine.specs.declared.views.HartStatus.TheVariants as V
-use Rattle.mx_machine.specs.Deeds.{halted_first}
+use Rattle.mx_machine.specs.Actions.{halted_first}
 use Rattle.mx_machine.specs.Harts.{hart_of, is_halted, is_waiting, no_hart, own_call}
 use Rattle.mx_machine.specs.Held.{Held}
 use Rattle.mx_machine.specs.Starts.{FliesIfWaiting, MayResume, MayStart, no_state, none_dead, progress_of, resumed_hart, started_from, started_hart}
 use Rattle.mx_machine.specs.Ties.{Fits, IsFlying, IsTied}
 use Rattle.mx_machine.proofs.StartLaws.{length-started, started-at}
+use Rattle.mx_machine.proofs.WaitLaws.{none-waits}
 
 tied-as : (range : Call → ℕ × ℕ) (h : ℕ) (x y : Hart) (k l : Kept) → x ≡ y → k ≡ l → IsTied range h y l → IsTied range h x k
 tied-as range h x y k l ex ek t = subst (λ (z : Hart). IsTied range h z k) (sym ex) (subst (λ (z : Kept). IsTied range h y z) (sym ek) t)
@@ -164,20 +165,6 @@ module _ (p : Parts) (n h : ℕ) (s : HartState) (k : Kept) (running : k.halted 
   tied-by V.Running t = record { halted = running; flight = t; domain = subst (λ (o : Option ℕ). IfSome o (λ d. d ≡ s.domain)) (sym nowhere) tt }
   tied-by V.Waiting t = record { halted = running; flight = flies k.flight t; domain = subst (λ (o : Option ℕ). IfSome o (λ d. d ≡ s.domain)) (sym nowhere) tt }
   tied-by V.Halted t = record { halted = refl; flight = t; domain = subst (λ (o : Option ℕ). IfSome o (λ d. d ≡ s.domain)) (sym nowhere) tt }
-
--- none waits where no hart of the list does
-or-left : (a b : Bool) → (a || b) ≡ false → a ≡ false
-or-left true b e = e
-or-left false b e = refl
-
-or-right : (a b : Bool) → (a || b) ≡ false → b ≡ false
-or-right true b e = cc
-or-right false b e = e
-
-pub none-waits : (xs : List Hart) (h : ℕ) → list_any (λ (x : Hart). is_waiting x.progress) xs ≡ false → is_waiting (hart_of xs h).progress ≡ false
-none-waits [] h e = refl
-none-waits (x ∷ xs) zero e = or-left (is_waiting x.progress) (list_any (λ (x : Hart). is_waiting x.progress) xs) e
-none-waits (x ∷ xs) (suc h) e = none-waits xs h (or-right (is_waiting x.progress) (list_any (λ (x : Hart). is_waiting x.progress) xs) e)
 
 -- what a machine that resumes holds
 abbrev pub held_resumed : Parts → List HartState → List StackArea → List Bool → ℕ → Held

@@ -1,7 +1,6 @@
 -- The harts with which a machine starts or resumes, one by one.
-use Rattle.std.proofs.Common.{◌≡◌, ℕ, zero, suc, ◌+◌, ◌*◌, ◌<◌, ◌≤◌, ◌⊎◌, inl, inr, List, [], ◌∷◌, length, get_or, take, Some, refl, ap, subst, ◌∙◌, arith}
+use Rattle.std.proofs.Common.{◌≡◌, ℕ, zero, suc, ◌+◌, ◌*◌, ◌<◌, ◌≤◌, ◌⊎◌, inl, inr, List, [], ◌∷◌, length, get_or, take, refl, ap, ◌∙◌, arith}
 use Rattle.std.proofs.Common.{map as list_map}
-use Rattle.std.specs.List.{AllByRecursion}
 use Rattle.std.specs.Option.{option_map_or}
 use Rattle.std.specs.Prelude.{slice_get}
 use Rattle.std.proofs.Math.Nat.{le-mul_of_pos_right, mul-le-mul_left}
@@ -10,17 +9,6 @@ use Rattle.mx_machine.specs.declared.starts.HartStart.{HartStart}
 use Rattle.mx_machine.specs.declared.starts.StackArea.{StackArea}
 use Rattle.mx_machine.specs.Harts.{no_hart, hart_of}
 use Rattle.mx_machine.specs.Starts.{started_from, started_hart}
-
--- what is said of all is said of one that is there
-pub got-all : {X : Type 0} (P : X → Type 0) (xs : List X) (i : ℕ) (x : X) → slice_get xs i ≡ Some x → AllByRecursion P xs → P x
-got-all P [] i x e h = cc
-got-all P (y ∷ ys) zero x e h = let same : y ≡ x = cc in subst P same h.0
-got-all P (y ∷ ys) (suc i) x e h = got-all P ys i x e h.1
-
-pub got-below : {X : Type 0} (xs : List X) (i : ℕ) (x : X) → slice_get xs i ≡ Some x → i < length xs
-got-below [] i x e = cc
-got-below (y ∷ ys) zero x e = omega arith
-got-below (y ∷ ys) (suc i) x e = let below = got-below ys i x e in omega (arith, below)
 
 -- hart i of those that start from number n on, and of those that resume
 started-from : (stacks : List StackArea) (n i : ℕ) (starts : List HartStart) →

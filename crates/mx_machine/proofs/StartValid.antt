@@ -5,7 +5,7 @@ use Rattle.std.specs.Prelude.{slice_get, slice_index, IfSome}
 use Rattle.std.specs.List.{AllByRecursion}
 use Rattle.std.proofs.lemmas.Bool.{cases_eq, cases_lt, ne_eqb}
 use Rattle.std.proofs.lemmas.List.{get_or-map, get_or_past, length-map, length-set}
-use Rattle.std.proofs.lemmas.Option.{get_or_from_slice_get}
+use Rattle.std.proofs.lemmas.Option.{get_or_from_slice_get, slice_get_within}
 use Rattle.mx_words.specs.Caches.{Cache}
 use Rattle.mx_words.specs.Ranges.{address_of, most_words}
 use Rattle.mx_table.specs.Tables.{IsDomain}
@@ -20,6 +20,7 @@ use Rattle.mx_model.specs.State.{Module, no_module}
 use Rattle.mx_model.specs.State.{Hart as Seen}
 use Rattle.mx_model.specs.State.{no_hart as nobody_seen}
 use Rattle.mx_model.specs.Valid.{IsFrame, IsGate, IsHart, IsHome, IsModule, IsPc, IsRegisters, IsValid}
+use Rattle.mx_model.proofs.ListLaws.{all-at, all-in}
 use Rattle.mx_supervisor.specs.Heaps.{heap_at}
 use Rattle.mx_supervisor.specs.Told.{IsTold}
 use Rattle.mx_supervisor.specs.Parts.{IsSound, Parts, core_of, flat_of, with_heap}
@@ -30,7 +31,7 @@ use Rattle.mx_machine.specs.declared.starts.HartState.{HartState}
 use Rattle.mx_machine.specs.declared.starts.StackArea.{StackArea}
 use Rattle.mx_machine.specs.declared.views.HartStatus.{HartStatus}
 use Rattle.mx_machine.specs.declared.views.HartStatus.TheVariants as V
-use Rattle.mx_machine.specs.Deeds.{halted_first}
+use Rattle.mx_machine.specs.Actions.{halted_first}
 use Rattle.mx_machine.specs.Harts.{hart_of, is_halted, no_hart, own_call, seen, seen_with, status_by}
 use Rattle.mx_machine.specs.Held.{Held, area_of, behind, beside, home, meaning, no_area, rest_of}
 use Rattle.mx_machine.specs.Made.{core_in}
@@ -39,7 +40,7 @@ use Rattle.mx_machine.specs.Starts.{FliesIfWaiting, IsBackPlace, IsHartState, Is
 use Rattle.mx_machine.specs.Ties.{Fits, IsWhole}
 use Rattle.mx_machine.proofs.HartsAt.{hart-in, length-seen, seen-same}
 use Rattle.mx_machine.proofs.HomeLaws.{IsHere, module-is}
-use Rattle.mx_machine.proofs.SmallLaws.{from-each, got-there}
+use Rattle.mx_machine.proofs.SmallLaws.{from-each}
 use Rattle.mx_machine.proofs.StartFits.{caches-halted, fits-resumed, fits-started, flight-halted, hart-there, held_resumed, held_started, no_start}
 use Rattle.mx_machine.proofs.StartLaws.{area-fits, length-started}
 
@@ -73,11 +74,6 @@ pub record HasValidParts (m : Held) : Type 0 where
   pub stacks : AllByRecursion (IsStack m.parts.size (length m.harts)) m.stacks
   pub harts : (h : ℕ) → h < length m.harts → IsHart (length m.parts.maps) (length m.harts) h (seen h (hart_of m.harts h) (hart_at m.parts.harts h))
 
-all-in : {X : Type 0} (P : X → Type 0) (xs : List X) (d : X) (i : ℕ) → AllByRecursion P xs → i < length xs → P (get_or xs i d)
-all-in P [] d i h lt = absurd (omega (arith, lt))
-all-in P (x ∷ xs) d zero h lt = h.0
-all-in P (x ∷ xs) d (suc i) h lt = all-in P xs d i h.1 (omega (arith, lt))
-
 module _ (m : Held) (f : Fits m) (v : HasValidParts m) where
   as-modules : length (core_in m).modules ≡ length m.parts.maps
   as-modules = length-modules (rest_of m) 1 m.parts.heaps ∙ f.sound.heaps
@@ -87,13 +83,13 @@ module _ (m : Held) (f : Fits m) (v : HasValidParts m) where
 
   each-module : (i : ℕ) (x : Module) → slice_get (core_in m).modules i ≡ Some x → IsHome m.parts.size (length m.harts) x
   each-module i x e =
-      let there : i < length m.parts.heaps = omega (arith, got-there (core_in m).modules i x e, as-modules, f.sound.heaps) in
+      let there : i < length m.parts.heaps = omega (arith, slice_get_within (core_in m).modules i x e, as-modules, f.sound.heaps) in
       let place : (i + 1) - 1 ≡ i = omega arith in
       let here : IsHere m (i + 1) = record { low = omega arith; high = omega (arith, there) } in
       let is : with_heap (home m.dead (i + 1) (area_of m.stacks (i + 1))) (heap_at m.parts.heaps (i + 1)) ≡ x =
       sym (module-is m (i + 1) f here) ∙ ap (λ k. get_or (core_in m).modules k no_module) place ∙ get_or_from_slice_get (core_in m).modules i x no_module e in
       let stack : IsStack m.parts.size (length m.harts) (area_of m.stacks (i + 1)) =
-      all-in (IsStack m.parts.size (length m.harts)) m.stacks no_area ((i + 1) - 1) v.stacks (omega (arith, there, f.stacks)) in
+      all-in (IsStack m.parts.size (length m.harts)) m.stacks no_area v.stacks ((i + 1) - 1) (omega (arith, there, f.stacks)) in
       subst (IsHome m.parts.size (length m.harts)) is
       (home-is m.parts.size (length m.harts) m.dead (i + 1) (area_of m.stacks (i + 1)) (heap_at m.parts.heaps (i + 1)) (f.sound.areas (i + 1)) (v.heaps (i + 1)) stack)
 
@@ -213,19 +209,14 @@ module _ (p : Parts) (n h : ℕ) (s : HartState) (is : IsHartState p s) (small :
   pub hart-resumes : (k : Kept) → FliesIfWaiting p n h s s.status k.flight → IfSome k.flight IsSet → IsHart (length p.maps) n h (seen h (resumed_hart s) k)
   hart-resumes k t q = resumes-as s.status k.flight t q
 
--- stack areas of a machine, also of a domain that isn't there
-all-at : {X : Type 0} (P : X → Type 0) (xs : List X) (d : X) (i : ℕ) → AllByRecursion P xs → P d → P (get_or xs i d)
-all-at P [] d i h p = p
-all-at P (x ∷ xs) d zero h p = h.0
-all-at P (x ∷ xs) d (suc i) h p = all-at P xs d i h.1 p
-
 all-weaker : {X : Type 0} (P Q : X → Type 0) (xs : List X) → ((x : X) → P x → Q x) → AllByRecursion P xs → AllByRecursion Q xs
 all-weaker P Q [] f h = tt
 all-weaker P Q (x ∷ xs) f h = (f x h.0, all-weaker P Q xs f h.1)
 
+-- stack areas of a machine, also of a domain that isn't there
 pub stack-at : (size n most d : ℕ) (stacks : List StackArea) → size ≤ most → AllByRecursion (IsStack size n) stacks →
     ((area_of stacks d).words ≡ 0) ⊎ ((area_of stacks d).first + (area_of stacks d).words * n ≤ most)
-stack-at size n most d stacks le h = wider (all-at (IsStack size n) stacks no_area (d - 1) h (inl refl))
+stack-at size n most d stacks le h = wider (all-at (IsStack size n) stacks no_area h (inl refl) (d - 1))
   where
     wider : IsStack size n (area_of stacks d) → ((area_of stacks d).words ≡ 0) ⊎ ((area_of stacks d).first + (area_of stacks d).words * n ≤ most)
     wider (inl e) = inl e
@@ -260,8 +251,8 @@ module _ (p : Parts) (starts : List HartStart) (stacks : List StackArea) (sound 
       let s = get_or starts h no_start in
       let area = area-fits (area_of stacks s.domain) most_words (length starts) h (stack-at p.size (length starts) most_words s.domain stacks sound.few_words may.areas) lt in
       subst (λ (x : Hart). IsHart (length p.maps) (length starts) h (seen h x (hart_at p.harts h))) (sym (hart-there p starts stacks sound may few h lt))
-      (hart-starts p stacks (length starts) h s (hart_at p.harts h) (all-in (IsStart p) starts no_start h may.each lt)
-      (all-in IsSmallStart starts no_start h small lt) area)
+      (hart-starts p stacks (length starts) h s (hart_at p.harts h) (all-in (IsStart p) starts no_start may.each h lt)
+      (all-in IsSmallStart starts no_start small h lt) area)
 
   started-parts : HasValidParts (held_started p starts stacks)
   started-parts = record {
@@ -325,7 +316,7 @@ module _ (p : Parts) (states : List HartState) (stacks : List StackArea) (dead :
       let s = get_or states h no_state in
       let k = hart_at (kept_resumed p states) h in
       subst (λ (x : Hart). IsHart (length p.maps) (length states) h (seen h x k)) (sym (get_or-map resumed_hart states h no_state no_hart lt))
-      (hart-resumes p (length states) h s (all-in (IsHartState p) states no_state h may.each lt) (all-in IsSmallState states no_state h small lt) k
+      (hart-resumes p (length states) h s (all-in (IsHartState p) states no_state may.each h lt) (all-in IsSmallState states no_state small h lt) k
       (subst (λ (o : Option Flight). FliesIfWaiting p (length states) h s s.status o) (sym (same-flight p states stacks dead steps may h)) (may.unused h lt).flight)
       (subst (λ (o : Option Flight). IfSome o IsSet) (sym (same-flight p states stacks dead steps may h)) (sets h)))
 

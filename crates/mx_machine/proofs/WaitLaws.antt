@@ -1,6 +1,7 @@
 -- A waiting hart: it waits on, or its call is served.
-use Rattle.std.proofs.Common.{◌≡◌, ℕ, zero, suc, ◌<◌, Bool, true, false, ◌||◌, List, [], ◌∷◌, length, get_or, refl, sym, ap, subst, ◌∙◌}
+use Rattle.std.proofs.Common.{◌≡◌, ℕ, zero, suc, ◌<◌, Bool, true, false, List, [], ◌∷◌, length, get_or, refl, sym, ap, subst, ◌∙◌}
 use Rattle.std.specs.List.{list_any}
+use Rattle.std.proofs.lemmas.Bool.{or_parts}
 use Rattle.mx_check.specs.Calls.{is_ready}
 use Rattle.mx_check.specs.Harts.{hart_at as kept_at}
 use Rattle.mx_words.specs.Announced.{is_announced}
@@ -39,14 +40,10 @@ waiting-announced m h v l w =
     (v.harts h (subst (λ n. h < n) (sym (length-seen 0 m.harts m.parts.harts)) l)).status).announced
 
 -- whether some hart may wait is looked up again
-any-none : (a b : Bool) → (a || b) ≡ false → (a ≡ false) × (b ≡ false)
-any-none true b e = absurd (let z : ⊥ = cc in z)
-any-none false b e = (refl, e)
-
-none-waits : (xs : List Hart) (i : ℕ) → list_any (λ (x : Hart). is_waiting x.progress) xs ≡ false → is_waiting (get_or xs i no_hart).progress ≡ false
+pub none-waits : (xs : List Hart) (i : ℕ) → list_any (λ (x : Hart). is_waiting x.progress) xs ≡ false → is_waiting (get_or xs i no_hart).progress ≡ false
 none-waits [] i e = refl
-none-waits (x ∷ xs) zero e = (any-none (is_waiting x.progress) (list_any (λ (x : Hart). is_waiting x.progress) xs) e).0
-none-waits (x ∷ xs) (suc i) e = none-waits xs i (any-none (is_waiting x.progress) (list_any (λ (x : Hart). is_waiting x.progress) xs) e).1
+none-waits (x ∷ xs) zero e = (or_parts (is_waiting x.progress) (list_any (λ (x : Hart). is_waiting x.progress) xs) e).0
+none-waits (x ∷ xs) (suc i) e = none-waits xs i (or_parts (is_waiting x.progress) (list_any (λ (x : Hart). is_waiting x.progress) xs) e).1
 
 pub fits-settled : (n : Held) → Fits n → Fits (record n { waiting = list_any (λ (x : Hart). is_waiting x.progress) n.harts })
 fits-settled n f = record {

@@ -7,4 +7,5 @@ use Rattle.mx_machine.specs.Harts.{hart_of, is_halted}
 
 -- hart h counts as halted, where it is halted
 abbrev pub halted_at : ℕ → List Hart → List Kept → List Kept
-halted_at h harts kept = if is_halted (hart_of harts h).progress then at_hart h counts_as_halted kept else kept
+halted_at h harts kept =
+    if is_halted (hart_of harts h).progress then at_hart h counts_as_halted kept else kept

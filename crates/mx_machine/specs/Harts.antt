@@ -13,7 +13,8 @@ use Rattle.mx_machine.specs.declared.hart.Progress.TheVariants as G
 
 -- a hart that isn't there is halted
 abbrev pub no_hart : Hart
-no_hart = record { regs = replicate 32 0; pc = 0; domain = 0; frames = []; progress = G.Halted None }
+no_hart =
+    record { regs = replicate 32 0; pc = 0; domain = 0; frames = []; progress = G.Halted None }
 
 -- hart h, and the harts after a step of hart h
 abbrev pub hart_of : List Hart → ℕ → Hart
@@ -24,7 +25,8 @@ stepped h step harts = slice_set harts h (step (hart_of harts h))
 
 -- a hart of the state, with a status
 abbrev pub seen_with : Status → Hart → Seen
-seen_with status x = record { regs = x.regs; pc = x.pc; domain = x.domain; frames = x.frames; status = status }
+seen_with status x =
+    record { regs = x.regs; pc = x.pc; domain = x.domain; frames = x.frames; status = status }
 
 -- the call that the registers of hart h make
 abbrev pub own_call : ℕ → Hart → Call

@@ -37,7 +37,8 @@ behind stacks d h =
 
 -- what is said of a module beside its heap
 abbrev pub home : List Bool → ℕ → StackArea → Module
-home dead d a = record no_module { stack = told a; kills = a.kills; dead = slice_index_or dead d false }
+home dead d a =
+    record no_module { stack = told a; kills = a.kills; dead = slice_index_or dead d false }
 
 -- the same of the modules from domain d on
 abbrev pub homes_from : List Bool → ℕ → List StackArea → List Module

@@ -33,7 +33,8 @@ deed m h action = acted (reads_of m) (core_in m) h (hart_in m h) action
 
 -- what an instruction of hart h makes, where no call gate stands at its pc
 abbrev pub instruction : Held → ℕ → Made
-instruction m h = enacted (reads_of m) (core_in m) h (runs_at (reads_of m) (core_in m) h (hart_in m h) None)
+instruction m h =
+    enacted (reads_of m) (core_in m) h (runs_at (reads_of m) (core_in m) h (hart_in m h) None)
 
 -- what hart h makes that has heard the others' calls
 abbrev pub doing : Held → ℕ → Made

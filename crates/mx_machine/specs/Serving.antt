@@ -24,5 +24,6 @@ pub record IsServing (m : Held) (h : ℕ) (call : Call) : Type 0 where
   pub bars : BarsAlike (rest_of m) m.parts h
   pub running : (hart_at m.parts.harts h).halted ≡ false
   pub kept_domain : IfSome (hart_at m.parts.harts h).domain (λ d. d ≡ (hart_of m.harts h).domain)
-  pub others : (i : ℕ) → i ≢ h → IsTied (range_of m.parts) i (hart_of m.harts i) (hart_at m.parts.harts i)
+  pub others : (i : ℕ) → i ≢ h →
+      IsTied (range_of m.parts) i (hart_of m.harts i) (hart_at m.parts.harts i)
   pub quiet : m.waiting ≡ false → (i : ℕ) → is_waiting (hart_of m.harts i).progress ≡ false

@@ -45,7 +45,8 @@ started_from stacks h (s ∷ rest) = started_hart stacks h s ∷ started_from st
 
 -- the flat state of a machine that starts: no domain is dead and no turn is made
 abbrev pub started : Parts → List HartStart → List StackArea → Flat
-started p starts stacks = state_of p (seen_from 0 (started_from stacks 0 starts) p.harts) stacks none_dead 0
+started p starts stacks =
+    state_of p (seen_from 0 (started_from stacks 0 starts) p.harts) stacks none_dead 0
 
 -- a hart resumes; one that is halted has no exit code
 abbrev pub progress_of : HartStatus → Progress
@@ -54,11 +55,19 @@ progress_of V.Waiting = G.Waiting
 progress_of V.Halted = G.Halted None
 
 abbrev pub resumed_hart : HartState → Hart
-resumed_hart s = record { regs = s.regs; pc = s.pc; domain = s.domain; frames = s.frames; progress = progress_of s.status }
+resumed_hart s =
+    record {
+      regs = s.regs;
+      pc = s.pc;
+      domain = s.domain;
+      frames = s.frames;
+      progress = progress_of s.status;
+    }
 
 -- the flat state of a machine that resumes: a waiting hart's call is that of its registers, and the checker keeps who has heard it
 abbrev pub resumed : Parts → List HartState → List StackArea → List Bool → ℕ → Flat
-resumed p states stacks dead steps = state_of p (seen_from 0 (list_map resumed_hart states) p.harts) stacks dead steps
+resumed p states stacks dead steps =
+    state_of p (seen_from 0 (list_map resumed_hart states) p.harts) stacks dead steps
 
 -- a stack area of no words, or one that lies in RAM for all harts
 abbrev pub IsStack : ℕ → ℕ → StackArea → Type 0
@@ -113,11 +122,13 @@ abbrev pub no_state : HartState
 no_state = record { status = V.Halted; domain = 0; pc = 0; regs = replicate 32 0; frames = [] }
 
 -- a machine may resume with these
-pub record MayResume (p : Parts) (states : List HartState) (stacks : List StackArea) (dead : List Bool) (steps : ℕ) : Type 0 where
+pub record MayResume (p : Parts) (states : List HartState) (stacks : List StackArea)
+    (dead : List Bool) (steps : ℕ) : Type 0 where
   pub some_harts : 1 ≤ length states
   pub same_harts : length p.harts ≡ length states
   pub each : AllByRecursion (IsHartState p) states
-  pub unused : (h : ℕ) → h < length states → IsUnused p (length states) h (slice_index_or states h no_state) (hart_at p.harts h)
+  pub unused : (h : ℕ) → h < length states →
+      IsUnused p (length states) h (slice_index_or states h no_state) (hart_at p.harts h)
   pub count : length stacks ≡ length p.maps
   pub areas : AllByRecursion (IsStack p.size (length states)) stacks
   pub dead_modules : (d : ℕ) → slice_index_or dead d false ≡ true → IsDomain p.maps d

@@ -18,14 +18,20 @@ use Rattle.mx_machine.specs.Harts.{seen_with}
 
 -- the registers that the instruction at its pc leaves, over a bus
 abbrev pub regs_left : {B : Type 0} → (B → ℕ → Perm) → (B → List ℕ) → Bool → Hart → B → List ℕ
-regs_left perm bytes returns x bus = regs_after (perm bus) (bytes bus) x.regs x.pc returns (fetched (perm bus) (bytes bus) x.regs x.pc)
+regs_left perm bytes returns x bus =
+    regs_after (perm bus) (bytes bus) x.regs x.pc returns
+    (fetched (perm bus) (bytes bus) x.regs x.pc)
 
 -- the instruction at its pc answers, and leaves the bus
-pub record Instructs {B : Type 0} (perm : B → ℕ → Perm) (bytes : B → List ℕ) (touches : B → ℕ → ℕ → Access → B → Type 0) (returns : Bool) (x : Hart) (old : B)
+pub record Instructs {B : Type 0} (perm : B → ℕ → Perm) (bytes : B → List ℕ)
+    (touches : B → ℕ → ℕ → Access → B → Type 0) (returns : Bool) (x : Hart) (old : B)
     (answer : Outcome) (new : B) : Type 0 where
-  pub answered : answer ≡ outcome_of (perm old) x.pc returns (fetched (perm old) (bytes old) x.regs x.pc)
-  pub left : bytes new ≡ bytes_after (perm old) (bytes old) (fetched (perm old) (bytes old) x.regs x.pc)
-  pub touched : IsTouched touches old (fetch_touch x.pc ∷ touches_of (fetched (perm old) (bytes old) x.regs x.pc)) new
+  pub answered : answer
+      ≡ outcome_of (perm old) x.pc returns (fetched (perm old) (bytes old) x.regs x.pc)
+  pub left : bytes new
+      ≡ bytes_after (perm old) (bytes old) (fetched (perm old) (bytes old) x.regs x.pc)
+  pub touched : IsTouched touches old
+      (fetch_touch x.pc ∷ touches_of (fetched (perm old) (bytes old) x.regs x.pc)) new
   pub caused : HasCause answer
 
 -- an instruction leaves it these registers, and where it goes on another pc
@@ -76,7 +82,8 @@ leaves regs frame rest x = record x {
 -- it gives up its top frame after a fault, and is halted where it has none
 abbrev pub gives_up_over : ℕ → Hart → Option Frame → Hart
 gives_up_over cause x None = halts None x
-gives_up_over cause x (Some frame) = leaves (slice_set x.regs 10 (fault_answer cause)) frame (below_top x.frames) x
+gives_up_over cause x (Some frame) =
+    leaves (slice_set x.regs 10 (fault_answer cause)) frame (below_top x.frames) x
 
 abbrev pub gives_up : ℕ → Hart → Hart
 gives_up cause x = gives_up_over cause x (top x.frames)

@@ -14,7 +14,8 @@ pub record IsTold (m : Made) (events : Events) : Type 0 where
   pub note : events.note ≡ m.note
 
 -- a turn of hart h in a state: the flat state afterwards, what is appended, and what the turn was
-pub record IsTurn (s : State) (h : ℕ) (new : Flat) (events : Events) (answer : TurnKind) : Type 0 where
+pub record IsTurn (s : State) (h : ℕ) (new : Flat) (events : Events) (answer : TurnKind)
+    : Type 0 where
   pub turn : new ≡ flat (turn s h)
   pub told : IsTold (made_of s h) events
   pub kind : answer ≡ kind s h

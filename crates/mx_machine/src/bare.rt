@@ -12,7 +12,7 @@ ghost use Rattle.mx_model.specs.declared.values.Note.TheVariants as Notes;
 ghost use Rattle.mx_model.specs.Gates.{gate_target};
 ghost use Rattle.mx_supervisor.specs.Parts.{IsSound};
 ghost use Rattle.mx_supervisor.specs.Served.{range_of};
-ghost use Rattle.mx_machine.specs.Deeds.{after_instruction, crossed, halted_first, fallen, heard, killed, outcome_for, returned, with_kept, with_step};
+ghost use Rattle.mx_machine.specs.Actions.{after_instruction, crossed, halted_first, fallen, heard, killed, outcome_for, returned, with_kept, with_step};
 ghost use Rattle.mx_machine.specs.Halting.{halted_at};
 ghost use Rattle.mx_machine.specs.Harts.{hart_of, is_halted};
 ghost use Rattle.mx_machine.specs.Held.{area_of};
@@ -62,7 +62,9 @@ impl<T: PermTables, const N: usize> Bare<T, N> {
     /// The target of the gate that stands for a domain at an address.
     pub fn gate(&self, domain: u32, pc: u32) -> Option<u32>
         requires { self.now.parts.size ≤ most_words }
-        ensures { result ≡ option_map_or (gate_target self.now.parts.gates domain) (word_of pc self.now.parts.size) None }
+        ensures { result
+            ≡ option_map_or (gate_target self.now.parts.gates domain)
+            (word_of pc self.now.parts.size) None }
     {
         let supervisor = &self.bus.supervisor;
         match word_of(pc, supervisor.checker.tables().words()) {
@@ -86,7 +88,8 @@ impl<T: PermTables, const N: usize> Bare<T, N> {
     pub fn hear(&mut self, hart: u32)
         requires hart { hart < length self.old.parts.harts }
         requires running { (hart_at self.old.parts.harts hart).halted ≡ false }
-        requires quiet { self.old.waiting ≡ false → (i : ℕ) → (hart_at self.old.parts.harts i).flight ≡ None }
+        requires quiet { self.old.waiting ≡ false → (i : ℕ) →
+            (hart_at self.old.parts.harts i).flight ≡ None }
         ensures after { self.new ≡ heard hart self.old }
         ensures all { HasHeardAll hart self.new.parts.harts }
     {
@@ -144,7 +147,9 @@ impl<T: PermTables, const N: usize> Bare<T, N> {
         requires kept { hart < length self.old.parts.harts }
         requires room { length (hart_of self.old.harts hart).frames < 64 }
         requires target { 1 ≤ target }
-        requires area { ((area_of self.old.stacks target).words ≡ 0) ⊎ ((area_of self.old.stacks target).first + (area_of self.old.stacks target).words * (hart + 1) ≤ most_words) }
+        requires area { ((area_of self.old.stacks target).words ≡ 0)
+            ⊎ ((area_of self.old.stacks target).first
+            + (area_of self.old.stacks target).words * (hart + 1) ≤ most_words) }
         ensures { self.new ≡ crossed hart target self.old }
     {
         let own = self.stacks.behind(target, hart);
@@ -170,7 +175,9 @@ impl<T: PermTables, const N: usize> Bare<T, N> {
         requires announced { is_announced call.now.number ≡ true }
         requires domain { IsDomain self.old.parts.maps call.now.domain }
         requires may { MayAnnounce hart self.old.parts.harts }
-        ensures after { self.new ≡ with_kept hart (announced hart (range_of self.old.parts call.now).0 (range_of self.old.parts call.now).1) self.old }
+        ensures after { self.new
+            ≡ with_kept hart (announced hart
+            (range_of self.old.parts call.now).0 (range_of self.old.parts call.now).1) self.old }
         ensures ready { result ≡ is_ready hart self.new.parts.harts }
     {
         let (first, count) = self.bus.supervisor.announced(call);
@@ -181,7 +188,9 @@ impl<T: PermTables, const N: usize> Bare<T, N> {
     /// The note of a fault of the hart.
     pub fn fault(&self, hart: u32, fault: Fault) -> Note
         requires { hart < length self.now.harts }
-        ensures { result ≡ Notes.Fault self.now.steps hart (hart_of self.now.harts hart).domain (hart_of self.now.harts hart).pc fault }
+        ensures { result
+            ≡ Notes.Fault self.now.steps hart (hart_of self.now.harts hart).domain
+            (hart_of self.now.harts hart).pc fault }
     {
         Note::Fault {
             step: self.steps,
@@ -195,8 +204,15 @@ impl<T: PermTables, const N: usize> Bare<T, N> {
     /// Counts the harts that are halted here as halted in the checker.
     pub fn halt_left(&mut self)
         requires count { length self.old.harts ≡ length self.old.parts.harts }
-        requires free { (h : ℕ) → is_halted (hart_of self.old.harts h).progress ≡ true → (hart_at self.old.parts.harts h).flight ≡ None }
-        ensures { self.new ≡ record self.old { parts = record self.old.parts { harts = halted_first (length self.old.harts) self.old.harts self.old.parts.harts } } }
+        requires free { (h : ℕ) → is_halted (hart_of self.old.harts h).progress ≡ true →
+            (hart_at self.old.parts.harts h).flight ≡ None }
+        ensures { self.new
+            ≡ record self.old {
+              parts = record self.old.parts {
+                harts = halted_first
+                    (length self.old.harts) self.old.harts self.old.parts.harts;
+              };
+            } }
     {
         for hart in 0..self.harts.len() {
             self.halt_one(hart);
@@ -206,8 +222,13 @@ impl<T: PermTables, const N: usize> Bare<T, N> {
     /// Counts a hart as halted in the checker where it is halted here.
     fn halt_one(&mut self, hart: u32)
         requires kept { hart < length self.old.parts.harts }
-        requires free { is_halted (hart_of self.old.harts hart).progress ≡ true → (hart_at self.old.parts.harts hart).flight ≡ None }
-        ensures { self.new ≡ record self.old { parts = record self.old.parts { harts = halted_at hart self.old.harts self.old.parts.harts } } }
+        requires free { is_halted (hart_of self.old.harts hart).progress ≡ true →
+            (hart_at self.old.parts.harts hart).flight ≡ None }
+        ensures { self.new
+            ≡ record self.old {
+              parts = record self.old.parts
+                  { harts = halted_at hart self.old.harts self.old.parts.harts };
+            } }
     {
         if self.harts.is_halted(hart) {
             self.bus.supervisor.checker.halt(hart);

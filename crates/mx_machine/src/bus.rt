@@ -22,11 +22,14 @@ impl<T: PermTables, const N: usize> HartBus<T, N> {
     fn may(&mut self, place: u32, addr: u32, access: Access) -> bool
         requires usable { IsUsable T.maps T.size self.old }
         requires place { place < 32 }
-        ensures answer { not result ≡ denied (perm_from (T.size self.old.supervisor.checker.tables) (T.maps self.old.supervisor.checker.tables) self.old.domain) addr access }
+        ensures answer { not result
+            ≡ denied (perm_from (T.size self.old.supervisor.checker.tables)
+            (T.maps self.old.supervisor.checker.tables) self.old.domain) addr access }
         ensures inside { result ≡ true → IsInRam (T.size self.old.supervisor.checker.tables) addr }
         ensures ram { self.new.supervisor.ram ≡ self.old.supervisor.ram }
         ensures usable { IsUsable T.maps T.size self.new }
-        ensures touch { IsTouch T.kind T.maps T.size T.limits T.lookups N self.old place addr self.new }
+        ensures touch { IsTouch T.kind T.maps T.size T.limits T.lookups N
+            self.old place addr self.new }
     {
         self.supervisor
             .checker
@@ -37,11 +40,13 @@ impl<T: PermTables, const N: usize> HartBus<T, N> {
 impl<T: PermTables, const N: usize> Bus for HartBus<T, N> {
     ghost bytes = { λ b. b.supervisor.ram };
 
-    ghost perm = { λ b. perm_from (T.size b.supervisor.checker.tables) (T.maps b.supervisor.checker.tables) b.domain };
+    ghost perm = { λ b. perm_from (T.size b.supervisor.checker.tables)
+        (T.maps b.supervisor.checker.tables) b.domain };
 
     ghost usable = { λ b. IsUsable T.maps T.size b };
 
-    ghost touches = { λ old place address access new. IsTouch T.kind T.maps T.size T.limits T.lookups N old place address new };
+    ghost touches = { λ old place address access new.
+        IsTouch T.kind T.maps T.size T.limits T.lookups N old place address new };
 
     #[inline(always)]
     fn fetch(&mut self, addr: u32) -> Result<u32, Denied> {

@@ -52,7 +52,13 @@ impl Hart {
 
     /// A hart that has made no turn, with a stack address in x2.
     pub fn start(domain: u32, pc: u32, stack: u32) -> Hart
-        ensures { result ≡ record no_hart { regs = slice_set (replicate 32 0) 2 stack; pc = pc; domain = domain; progress = Progress.Running } }
+        ensures { result
+            ≡ record no_hart {
+              regs = slice_set (replicate 32 0) 2 stack;
+              pc = pc;
+              domain = domain;
+              progress = Progress.Running;
+            } }
     {
         let mut regs = Regs::new();
         regs.set(2, stack);
@@ -114,7 +120,8 @@ impl Hart {
         requires usable { B.usable bus.old }
         requires aligned { self.old.pc % 4 ≡ 0 }
         ensures ran { Instructs B.perm B.bytes B.touches returns self.old bus.old result bus.new }
-        ensures after { self.new ≡ instructed (regs_left B.perm B.bytes returns self.old bus.old) result self.old }
+        ensures after { self.new
+            ≡ instructed (regs_left B.perm B.bytes returns self.old bus.old) result self.old }
         ensures map { B.perm bus.new ≡ B.perm bus.old }
         ensures usable { B.usable bus.new }
     {

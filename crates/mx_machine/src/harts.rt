@@ -43,7 +43,10 @@ impl Harts {
     pub fn start(starts: &Starts, stacks: &Stacks) -> Harts
         requires few { length starts.now ≤ 4 }
         requires each { AllByRecursion (λ s. 1 ≤ s.domain) starts.now }
-        requires areas { (d : ℕ) → ((area_of stacks.now d).words ≡ 0) ⊎ ((area_of stacks.now d).first + (area_of stacks.now d).words * length starts.now ≤ most_words) }
+        requires areas { (d : ℕ) →
+            ((area_of stacks.now d).words ≡ 0)
+            ⊎ ((area_of stacks.now d).first + (area_of stacks.now d).words * length starts.now
+            ≤ most_words) }
         ensures { result ≡ started_from stacks.now 0 starts.now }
     {
         Harts {
@@ -225,8 +228,12 @@ impl Harts {
         requires hart { hart < length self.old }
         requires usable { B.usable bus.old }
         requires aligned { (hart_of self.old hart).pc % 4 ≡ 0 }
-        ensures ran { Instructs B.perm B.bytes B.touches returns (hart_of self.old hart) bus.old result bus.new }
-        ensures after { self.new ≡ stepped hart (instructed (regs_left B.perm B.bytes returns (hart_of self.old hart) bus.old) result) self.old }
+        ensures ran { Instructs B.perm B.bytes B.touches returns (hart_of self.old hart)
+            bus.old result bus.new }
+        ensures after { self.new
+            ≡ stepped hart
+            (instructed (regs_left B.perm B.bytes returns (hart_of self.old hart) bus.old) result)
+            self.old }
         ensures map { B.perm bus.new ≡ B.perm bus.old }
         ensures usable { B.usable bus.new }
     {
@@ -237,7 +244,8 @@ impl Harts {
     /// As `Hart::go_with`, for one hart.
     pub fn go_with(&mut self, hart: u32, pc: u32, value: u32)
         requires { hart < length self.old }
-        ensures { self.new ≡ stepped hart (goes (slice_set (hart_of self.old hart).regs 10 value) pc) self.old }
+        ensures { self.new
+            ≡ stepped hart (goes (slice_set (hart_of self.old hart).regs 10 value) pc) self.old }
     {
         let part = &mut self.items[hart as usize];
         part.go_with(pc, value);
@@ -305,7 +313,10 @@ impl Harts {
 /// The start of a hart; of one that isn't there, no hart.
 fn start_of(starts: &Starts, stacks: &Stacks, hart: u32) -> Hart
     requires each { AllByRecursion (λ s. 1 ≤ s.domain) starts.now }
-    requires areas { (d : ℕ) → ((area_of stacks.now d).words ≡ 0) ⊎ ((area_of stacks.now d).first + (area_of stacks.now d).words * length starts.now ≤ most_words) }
+    requires areas { (d : ℕ) →
+        ((area_of stacks.now d).words ≡ 0)
+        ⊎ ((area_of stacks.now d).first + (area_of stacks.now d).words * length starts.now
+        ≤ most_words) }
     ensures { result ≡ hart_of (started_from stacks.now 0 starts.now) hart }
 {
     match starts.get(hart) {

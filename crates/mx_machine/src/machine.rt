@@ -54,9 +54,13 @@ impl<T: PermTables, const N: usize> Machine<T, N> {
     /// one start for each hart of the checker, which has done nothing yet, and one stack area for each module.
     pub fn new(parts: Supervisor<T, N>, starts: &Starts, stacks: &Stacks) -> Machine<T, N>
         requires sound { IsSound (parts_of T.kind T.maps T.size T.limits N parts) }
-        requires gates { AllByRecursion (IsGate (length (T.maps parts.checker.tables)) (T.size parts.checker.tables)) parts.gates }
-        requires may { MayStart (parts_of T.kind T.maps T.size T.limits N parts) starts.now stacks.now }
-        ensures { result ≡ started (parts_of T.kind T.maps T.size T.limits N parts) starts.now stacks.now }
+        requires gates { AllByRecursion
+            (IsGate (length (T.maps parts.checker.tables)) (T.size parts.checker.tables))
+            parts.gates }
+        requires may { MayStart (parts_of T.kind T.maps T.size T.limits N parts)
+            starts.now stacks.now }
+        ensures { result
+            ≡ started (parts_of T.kind T.maps T.size T.limits N parts) starts.now stacks.now }
     {
         shape_of(parts.checker.tables());
         bytes_of(&parts.ram);
@@ -90,9 +94,14 @@ impl<T: PermTables, const N: usize> Machine<T, N> {
         steps: u64,
     ) -> Machine<T, N>
         requires sound { IsSound (parts_of T.kind T.maps T.size T.limits N parts) }
-        requires gates { AllByRecursion (IsGate (length (T.maps parts.checker.tables)) (T.size parts.checker.tables)) parts.gates }
-        requires may { MayResume (parts_of T.kind T.maps T.size T.limits N parts) harts.now stacks.now dead.now steps }
-        ensures { result ≡ resumed (parts_of T.kind T.maps T.size T.limits N parts) harts.now stacks.now dead.now steps }
+        requires gates { AllByRecursion
+            (IsGate (length (T.maps parts.checker.tables)) (T.size parts.checker.tables))
+            parts.gates }
+        requires may { MayResume (parts_of T.kind T.maps T.size T.limits N parts)
+            harts.now stacks.now dead.now steps }
+        ensures { result
+            ≡ resumed (parts_of T.kind T.maps T.size T.limits N parts)
+            harts.now stacks.now dead.now steps }
     {
         shape_of(parts.checker.tables());
         flights_of(&parts.checker);
@@ -133,7 +142,8 @@ impl<T: PermTables, const N: usize> Machine<T, N> {
         ensures foreign { ForeignAfter (flat_reads self.old) self.old.core hart self.new.core }
         ensures bytes { KeepsBytes result self.old self.new }
         ensures frames { FramesAfter (hart_at self.old.core hart) (hart_at self.new.core hart) }
-        ensures others { (h : ℕ) → h ≢ hart → frames_at self.new.core h ≡ frames_at self.old.core h }
+        ensures others { (h : ℕ) → h ≢ hart →
+            frames_at self.new.core h ≡ frames_at self.old.core h }
     {
         flat_of_a_turn();
         turns_keep_validity();

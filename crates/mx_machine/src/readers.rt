@@ -93,8 +93,10 @@ impl<T: PermTables, const N: usize> Machine<T, N> {
         requires { word < self.now.core.size }
         ensures behind { word < result }
         ensures within { result ≤ self.now.core.size }
-        ensures same { (w : ℕ) → word ≤ w → w < result → (flat_reads self.now).owner w ≡ (flat_reads self.now).owner word }
-        ensures ends { result < self.now.core.size → (flat_reads self.now).owner result ≢ (flat_reads self.now).owner word }
+        ensures same { (w : ℕ) → word ≤ w → w < result →
+            (flat_reads self.now).owner w ≡ (flat_reads self.now).owner word }
+        ensures ends { result < self.now.core.size →
+            (flat_reads self.now).owner result ≢ (flat_reads self.now).owner word }
     {
         self.bare.bus.supervisor.owners.run_end(word)
     }
@@ -129,7 +131,8 @@ impl<T: PermTables, const N: usize> Machine<T, N> {
     pub fn shown(&self, domain: u32, word: u32) -> Shown
         requires domain { IsModule (length self.now.core.modules) domain }
         requires word { word < self.now.core.size }
-        ensures { result ≡ stored self.now.core.kind (map_in self.now.core.size self.now.maps domain) word }
+        ensures { result
+            ≡ stored self.now.core.kind (map_in self.now.core.size self.now.maps domain) word }
     {
         self.bare
             .bus
@@ -220,7 +223,8 @@ impl<T: PermTables, const N: usize> Machine<T, N> {
 pub fn machine_is_valid<T: PermTables, const N: usize>(machine: &Machine<T, N>)
     ensures valid { IsValid machine.now.core }
     ensures maps { length machine.now.maps ≡ length machine.now.core.modules }
-    ensures whole { (d : ℕ) → IsModule (length machine.now.core.modules) d → length (map_in machine.now.core.size machine.now.maps d) ≡ machine.now.core.size }
+    ensures whole { (d : ℕ) → IsModule (length machine.now.core.modules) d →
+        length (map_in machine.now.core.size machine.now.maps d) ≡ machine.now.core.size }
     ensures owners { length machine.now.owners ≡ machine.now.core.size }
 {
     let _ = &machine.bare;

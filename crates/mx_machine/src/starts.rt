@@ -140,7 +140,9 @@ impl Stacks {
     /// The address behind a domain's stack area for a hart, 0 where it has none. The area lies in RAM.
     pub(crate) fn behind(&self, domain: u32, hart: u32) -> u32
         requires domain { 1 ≤ domain }
-        requires area { ((area_of self.now domain).words ≡ 0) ⊎ ((area_of self.now domain).first + (area_of self.now domain).words * (hart + 1) ≤ most_words) }
+        requires area { ((area_of self.now domain).words ≡ 0)
+            ⊎ ((area_of self.now domain).first + (area_of self.now domain).words * (hart + 1)
+            ≤ most_words) }
         ensures { result ≡ behind self.now domain hart }
     {
         let area = self.area(domain);

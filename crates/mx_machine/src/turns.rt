@@ -111,7 +111,8 @@ impl<T: PermTables, const N: usize> Bare<T, N> {
         requires run { MayRun self.old hart }
         requires target { IsDomain self.old.parts.maps target }
         requires empty { out.old ≡ no_events }
-        ensures made { IsMade self.old self.new out.new result (deed self.old hart (at_gate (core_in self.old) (hart_in self.old hart) target).action) }
+        ensures made { IsMade self.old self.new out.new result (deed self.old hart
+            (at_gate (core_in self.old) (hart_in self.old hart) target).action) }
         ensures fits { Fits self.new }
     {
         let link = self.harts.link(hart);
@@ -135,7 +136,9 @@ impl<T: PermTables, const N: usize> Bare<T, N> {
     pub fn execute(&mut self, hart: u32, returns: bool, out: &mut Events) -> Option<TurnKind>
         requires valid { IsValid (meaning self.old).core }
         requires run { MayRun self.old hart }
-        requires returns { returns ≡ is_return_at (core_in self.old) (hart_in self.old hart).domain (hart_in self.old hart).pc }
+        requires returns { returns
+            ≡ is_return_at (core_in self.old) (hart_in self.old hart).domain
+            (hart_in self.old hart).pc }
         requires empty { out.old ≡ no_events }
         ensures made { IsMade self.old self.new out.new (unwrap_or result TurnKind.Ran) (instruction self.old hart) }
         ensures fits { Fits self.new }
@@ -154,7 +157,8 @@ impl<T: PermTables, const N: usize> Bare<T, N> {
         requires run { MayRun self.old hart }
         requires cause { cause < 256 }
         requires empty { out.old ≡ no_events }
-        ensures made { IsMade self.old self.new out.new result (deed self.old hart (Traps cause value)) }
+        ensures made { IsMade self.old self.new out.new result
+            (deed self.old hart (Traps cause value)) }
         ensures fits { Fits self.new }
     {
         let domain = self.harts.domain(hart);
@@ -170,7 +174,8 @@ impl<T: PermTables, const N: usize> Bare<T, N> {
         requires run { MayRun self.old hart }
         requires rd { rd < 32 }
         requires empty { out.old ≡ no_events }
-        ensures made { IsMade self.old self.new out.new result (deed self.old hart (at_return (hart_in self.old hart) rd target)) }
+        ensures made { IsMade self.old self.new out.new result
+            (deed self.old hart (at_return (hart_in self.old hart) rd target)) }
         ensures fits { Fits self.new }
     {
         match self.harts.back(hart) {
@@ -190,7 +195,8 @@ impl<T: PermTables, const N: usize> Bare<T, N> {
     fn ask(&mut self, hart: u32, out: &mut Events) -> TurnKind
         requires run { MayRun self.old hart }
         requires empty { out.old ≡ no_events }
-        ensures made { IsMade self.old self.new out.new result (deed self.old hart (Asks (call_of hart (hart_in self.old hart)))) }
+        ensures made { IsMade self.old self.new out.new result
+            (deed self.old hart (Asks (call_of hart (hart_in self.old hart)))) }
         ensures fits { Fits self.new }
     {
         let call = self.harts.call(hart);
@@ -207,7 +213,8 @@ impl<T: PermTables, const N: usize> Bare<T, N> {
     fn serve(&mut self, hart: u32, call: &Call, out: &mut Events)
         requires serving { IsServing self.old hart call.now }
         requires empty { out.old ≡ no_events }
-        ensures made { IsMade self.old self.new out.new TurnKind.Called (served (reads_of self.old) (core_in self.old) hart (hart_in self.old hart) call.now) }
+        ensures made { IsMade self.old self.new out.new TurnKind.Called
+            (served (reads_of self.old) (core_in self.old) hart (hart_in self.old hart) call.now) }
         ensures fits { Fits self.new }
     {
         let answer = self.bus.supervisor.serve(call, out);

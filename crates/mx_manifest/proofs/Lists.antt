@@ -1,6 +1,6 @@
 -- What the ranges say of each element of a list.
 use Rattle.std.proofs.Common.{◌≡◌, ◌≢◌, ℕ, ◌+◌, ◌<◌, ◌≤◌, suc, zero, Bool, true, false, not, ◌||◌, ◌==◌, nat_lt, cond, List, [], ◌∷◌, length, map, take, Option, Some, None, slice_get, unwrap_or, ℤ, pos, negsuc, refl, ap, ◌∙◌, subst, arith, if◌then◌else◌}
-use Rattle.std.proofs.lemmas.Bool.{and_parts, eq-eqb}
+use Rattle.std.proofs.lemmas.Bool.{and_parts, eq-eqb, or_right}
 use Rattle.std.proofs.lemmas.Bool.Decides.{nat_tests}
 use Rattle.std.proofs.lemmas.List.Sums.{prefix_len-le-length}
 use Rattle.std.proofs.lemmas.Option.{same_Some}
@@ -106,10 +106,6 @@ other_in_range names own name h =
 
 pub home_in_range : (names : List (List ℕ)) (name : List ℕ) → (domain_of names name == 0) ≡ false → IsBetween 1 (length names) (domain_of names name)
 home_in_range names name h = (grind (arith, nat_tests), domain_at_most names name)
-
-or_right : (a b : Bool) → b ≡ true → (a || b) ≡ true
-or_right true b h = refl
-or_right false b h = h
 
 -- an element of a list of values
 pub from_mapped : {A B : Type 0} (f : A → B) (xs : List A) (i : ℕ) (y : B) → slice_get (map f xs) i ≡ Some y → (x : A) × (slice_get xs i ≡ Some x) × (f x ≡ y)

@@ -1,11 +1,12 @@
 -- What the tests say of the plans of modules, gates and harts.
 use Rattle.std.proofs.Common.{◌≡◌, ◌≢◌, ℕ, ◌%◌, ◌<◌, ◌≤◌, Bool, true, false, not, ◌&&◌, ◌||◌, nat_eq, ◌⊎◌, inl, inr, codes, if◌then◌else◌, List, [], length, map, Option, Some, None, IfSome, option_map, unwrap_or, refl, ap, sym, ◌∙◌, subst, arith}
-use Rattle.std.proofs.lemmas.Bool.{and_parts}
+use Rattle.std.proofs.lemmas.Bool.{and_parts, not-true}
 use Rattle.std.proofs.lemmas.List.{length-map}
 use Rattle.std.specs.List.{list_all, starts_with}
 use Rattle.std.specs.Str.{bytes_eq}
 use Rattle.mx_words.specs.declared.perm.Perm.TheVariants as perms
 use Rattle.std.specs.Option.{is_some, option_map_or}
+use Rattle.std.proofs.lemmas.Bool.Decides.{same_from_decides}
 use Rattle.toml.specs.Data.{Data}
 use Rattle.mx_manifest.specs.declared.fault.Key.{Key}
 use Rattle.mx_manifest.specs.declared.fault.Key.TheVariants as key
@@ -122,9 +123,7 @@ none_beside true false false true h = cc
 
 -- both or neither
 both_ways : (a b : Bool) → (b ≡ true → a ≡ true) → (a ≡ true → b ≡ true) → a ≡ b
-both_ways true b f g = sym (g refl)
-both_ways false true f g = f refl
-both_ways false false f g = refl
+both_ways a b f g = same_from_decides {P = b ≡ true} a b (g, f) (λ e. e, λ e. e)
 
 words_of : (o : Option Data) → ((v : Data) → o ≡ Some v → is_within 1 65536 (length (elements v)) ≡ true) → IfSome (option_map word_list o) (λ words. IsBetween 1 65536 (length words))
 words_of None each = tt
@@ -132,10 +131,6 @@ words_of (Some v) each = rw (length-map (elements v) _) (within_parts 1 65536 (l
 
 inline_key : (m : Data) (this : Key) (form : Form) → row_fault m (row this (Without key.Image) form) ≡ None → (has key.Image m && has this m) ≡ false → has this m ≡ not (has key.Image m)
 inline_key m this form h apart = one_of (has key.Image m) (has this m) (has_asked m this (Without key.Image) form h) apart
-
-not_true : (b : Bool) → not b ≡ true → b ≡ false
-not_true true h = cc
-not_true false h = refl
 
 name_in_range : (text : List ℕ) → is_text ModuleName text ≡ true → IsName text
 name_in_range text h =
@@ -145,7 +140,7 @@ name_in_range text h =
 file_in_range : (text : List ℕ) → is_text FileName text ≡ true → IsFileName text
 file_in_range text h =
     let parts = and_parts (is_within 1 255 (length text)) (not (starts_with nat_eq text (codes "-"))) h in
-    (within_parts 1 255 (length text) parts.0, not_true _ parts.1)
+    (within_parts 1 255 (length text) parts.0, not-true _ parts.1)
 
 -- a permission by its name
 perm_there : (a b : Bool) → (if a then perms.ReadWrite else if b then perms.ExecuteRead else perms.Read) ≢ perms.None

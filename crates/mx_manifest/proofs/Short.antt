@@ -1,6 +1,6 @@
 -- Lists of plans are as short as the lists that they are made of.
-use Rattle.std.proofs.Common.{◌≡◌, ℕ, ◌+◌, ◌<◌, ◌≤◌, suc, zero, List, [], ◌∷◌, ◌++◌, length, get_or, map, take, Option, Some, None, IfSome, slice_get, option_map, refl, ap, sym, ◌∙◌, subst, arith}
-use Rattle.std.proofs.lemmas.List.{length-map, take_more}
+use Rattle.std.proofs.Common.{◌≡◌, ℕ, ◌+◌, ◌<◌, ◌≤◌, suc, zero, List, [], ◌∷◌, ◌++◌, length, get_or, map, take, Option, Some, None, IfSome, slice_get, option_map, ap, sym, ◌∙◌, subst, arith, length-take}
+use Rattle.std.proofs.lemmas.List.{length-map, take_more, map_push}
 use Rattle.toml.specs.Data.{Data}
 use Rattle.toml.specs.declared.value.Value.{Value}
 use Rattle.toml.specs.View.{view}
@@ -12,10 +12,8 @@ use Rattle.mx_manifest.specs.Short.{HasShortLists}
 use Rattle.mx_manifest.specs.Faults.{modules, module_names, domain_of, from_texts}
 use Rattle.mx_manifest.proofs.Values.{length-data}
 
-length-taken : {A : Type 0} (i : ℕ) (xs : List A) → length (take i xs) ≤ length xs
-length-taken zero xs = omega arith
-length-taken (suc i) [] = omega arith
-length-taken (suc i) (x ∷ xs) = omega (arith, length-taken i xs)
+pub length-taken : {A : Type 0} (i : ℕ) (xs : List A) → length (take i xs) ≤ length xs
+length-taken i xs = omega (arith, length-take i xs)
 
 -- a list that a loop has made
 pub made_length : {B : Type 0} (f : Data → B) (values : List Value) (i most : ℕ) (made : List B) → made ≡ map f (map view (take i values)) → length values ≤ most → length made ≤ most
@@ -48,18 +46,13 @@ weaker : (o : Option (List ℕ)) → IfSome o (λ words. IsBetween 1 65536 (leng
 weaker None h = tt
 weaker (Some words) h = h.1
 
--- one more plan at the end
-map_last : {A B : Type 0} (f : A → B) (xs : List A) (x : A) → map f (xs ++ x ∷ []) ≡ map f xs ++ f x ∷ []
-map_last f [] x = refl
-map_last f (y ∷ xs) x = ap (λ rest. f y ∷ rest) (map_last f xs x)
-
 pub built_more : {B : Type 0} (f : Data → B) (values : List Value) (i : ℕ) (v : Value) (old new : List B) (made : B) → i < length values → v ≡ get_or values i v
     → old ≡ map f (map view (take i values)) → made ≡ f (view v) → new ≡ old ++ made ∷ [] → new ≡ map f (map view (take (i + 1) values))
 built_more f values i v old new made below at before is after =
     after ∙ ap (λ m. old ++ m ∷ []) is
     ∙ ap (λ o. o ++ f (view v) ∷ []) before
-    ∙ sym (map_last f (map view (take i values)) (view v))
-    ∙ ap (map f) (sym (map_last view (take i values) v))
+    ∙ sym (map_push f (map view (take i values)) (view v))
+    ∙ ap (map f) (sym (map_push view (take i values) v))
     ∙ ap (λ w. map f (map view (take i values ++ w ∷ []))) at
     ∙ ap (λ vs. map f (map view vs)) (sym (take_more values i v below))
 

@@ -4,6 +4,7 @@ use Rattle.std.specs.List.{list_all}
 use Rattle.std.specs.Map.{keys_of}
 use Rattle.std.proofs.lemmas.List.Folds.{list_all-map, list_any-append}
 use Rattle.std.specs.Option.{is_some}
+use Rattle.std.proofs.lemmas.List.{map-map}
 use Rattle.toml.specs.Data.{Data, as_array}
 use Rattle.toml.specs.declared.value.Value.{Value}
 use Rattle.toml.specs.View.{view, items_view, members_view}
@@ -34,12 +35,8 @@ all_names test [] = refl
 all_names test (e ∷ entries) = ap (λ rest. test (string_bytes e.0) && rest) (all_names test entries)
 
 -- a function of all elements, on the values and on their data
-pub map_twice : {A B C : Type 0} (f : B → C) (g : A → B) (xs : List A) → map (λ x. f (g x)) xs ≡ map f (map g xs)
-map_twice f g [] = refl
-map_twice f g (x ∷ xs) = ap (λ rest. f (g x) ∷ rest) (map_twice f g xs)
-
 pub map_data : {B : Type 0} (f : Data → B) (values : List Value) → map (λ v. f (view v)) values ≡ map f (map view values)
-map_data f values = map_twice f view values
+map_data f values = sym (map-map f view values)
 
 pub length-data : (values : List Value) → length (map view values) ≡ length values
 length-data [] = refl

@@ -21,7 +21,8 @@ use Rattle.mx_manifest.specs.Reads.{has, names_in, elements, elements_at, number
 use Rattle.mx_manifest.specs.Forms.{is_typed, is_ranged}
 use Rattle.mx_manifest.specs.Rows.{top_rows, early_rows, late_rows, gate_rows, hart_rows}
 
--- the first of some tests that finds a fault
+-- The first of some tests that finds a fault. A test is a fault or none, and no row of a test beside what it says, as of
+-- the rules for calls and images: most tests here are lists of tests of their own, so that one applies where it finds one.
 abbrev pub first_of : {F : Type 0} → List (Option F) → Option F
 first_of [] = None
 first_of (test ∷ tests) = option_or test (first_of tests)
@@ -42,7 +43,8 @@ is_asked (WithoutAny a b c) t = not (has a t || has b t || has c t)
 abbrev pub value_fault : Row → Data → Option Data → Option ℕ
 value_fault row t None = if is_asked row.asked t then Some 3 else None
 value_fault row t (Some value) =
-    if not (is_typed row.form value) then Some 4 else if not (is_ranged row.form value) then Some 5 else None
+    if not (is_typed row.form value) then Some 4
+    else if not (is_ranged row.form value) then Some 5 else None
 
 -- the fault of the key of a row
 abbrev pub row_fault : Data → Row → Option KeyFault
@@ -68,7 +70,8 @@ table_fault rows t = first_of (unlisted_fault rows t ∷ rows_fault rows t ∷ [
 -- the first fault inside a module's gates, gate by gate
 abbrev pub gate_fault : Version → Data → Option KeyFault
 gate_fault version gate =
-    option_map (λ fault. record { number = fault.number; key = key.Gates }) (table_fault (gate_rows version) gate)
+    option_map (λ fault. record { number = fault.number; key = key.Gates })
+    (table_fault (gate_rows version) gate)
 
 abbrev pub gates_fault : Version → Data → Option KeyFault
 gates_fault version m = first_of (map (gate_fault version) (elements_at key.Gates m))
@@ -96,7 +99,11 @@ module_fault version m = first_of
 -- a fault with its place
 abbrev pub placed : Part → ℕ → Option KeyFault → Option BootFault
 placed sort index fault = option_map
-    (λ f. record { number = f.number; place = record { part = sort; index = index; key = f.key }; detail = 0 })
+    (λ f. record {
+      number = f.number;
+      place = record { part = sort; index = index; key = f.key };
+      detail = 0;
+    })
     fault
 
 -- the first fault that a test finds in tables of one sort, which are numbered from 1
@@ -175,4 +182,5 @@ names_fault names top = first_of
     ∷ [])
 
 abbrev pub first_fault : Data → Option BootFault
-first_fault top = first_of (tables_fault (version_of top) top ∷ names_fault (module_names top) top ∷ [])
+first_fault top =
+    first_of (tables_fault (version_of top) top ∷ names_fault (module_names top) top ∷ [])

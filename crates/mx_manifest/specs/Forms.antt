@@ -64,7 +64,9 @@ abbrev pub is_entry_typed : Data → Bool
 is_entry_typed value = is_some (as_str value) || is_some (as_integer value)
 
 abbrev pub is_entry : Data → Bool
-is_entry value = passes (λ text. is_within 1 255 (length text)) (as_str value) || passes is_address (as_integer value)
+is_entry value =
+    passes (λ text. is_within 1 255 (length text)) (as_str value)
+    || passes is_address (as_integer value)
 
 -- the type of an element
 abbrev pub is_item_typed : ItemForm → Data → Bool
@@ -88,14 +90,17 @@ is_typed (Choice a b c) value = is_some (as_integer value)
 is_typed (Text text) value = is_some (as_str value)
 is_typed Boolean value = is_some (as_bool value)
 is_typed Entry value = is_entry_typed value
-is_typed (Array low high item) value = is_some (as_array value) && list_all (is_item_typed item) (elements value)
+is_typed (Array low high item) value =
+    is_some (as_array value) && list_all (is_item_typed item) (elements value)
 
 -- the range of a value, of an array's length and elements too
 abbrev pub is_ranged : Form → Data → Bool
 is_ranged (Integer low high) value = passes (is_integer low high) (as_integer value)
-is_ranged (Aligned low high) value = passes (λ n. is_integer low high n && is_aligned n) (as_integer value)
+is_ranged (Aligned low high) value =
+    passes (λ n. is_integer low high n && is_aligned n) (as_integer value)
 is_ranged (Choice a b c) value = passes (is_choice a b c) (as_integer value)
 is_ranged (Text text) value = passes (is_text text) (as_str value)
 is_ranged Boolean value = true
 is_ranged Entry value = is_entry value
-is_ranged (Array low high item) value = is_within low high (length (elements value)) && list_all (is_item item) (elements value)
+is_ranged (Array low high item) value =
+    is_within low high (length (elements value)) && list_all (is_item item) (elements value)

@@ -70,7 +70,8 @@ pub record IsModule (count own : ℕ) (plan : ModulePlan) : Type 0 where
 -- no two modules have one name
 abbrev pub HasNamesApart : List ModulePlan → Type 0
 HasNamesApart plans =
-    (i j : ℕ) (a b : ModulePlan) → slice_get plans i ≡ Some a → slice_get plans j ≡ Some b → a.name ≡ b.name → i ≡ j
+    (i j : ℕ) (a b : ModulePlan) → slice_get plans i ≡ Some a → slice_get plans j ≡ Some b →
+    a.name ≡ b.name → i ≡ j
 
 -- a hart among `count` modules
 pub record IsHart (count : ℕ) (plan : HartPlan) : Type 0 where

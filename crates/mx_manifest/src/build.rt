@@ -108,8 +108,10 @@ fn word(value: &Value) -> u32
 }
 
 fn words(alloc: Global, section: Section) -> Result<Option<Numbers>, NoMemory>
-    requires { IfSome (option_map word_list (value_at Key.Words (section_view section))) (λ words. length words ≤ 65536) }
-    ensures { IfOk result (λ words. words ≡ option_map word_list (value_at Key.Words (section_view section.entry))) }
+    requires { IfSome (option_map word_list (value_at Key.Words (section_view section)))
+        (λ words. length words ≤ 65536) }
+    ensures { IfOk result
+        (λ words. words ≡ option_map word_list (value_at Key.Words (section_view section.entry))) }
 {
     match section.value_at(Key::Words) {
         Some(value) => Ok(Some(word_list(alloc, elements(value))?)),
@@ -119,7 +121,8 @@ fn words(alloc: Global, section: Section) -> Result<Option<Numbers>, NoMemory>
 
 fn word_list(alloc: Global, values: &[Value]) -> Result<Numbers, NoMemory>
     requires { length values.now ≤ 65536 }
-    ensures { IfOk result (λ words. words ≡ map (λ word. unwrap_or (number_of word) 0) (map view values.now)) }
+    ensures { IfOk result
+        (λ words. words ≡ map (λ word. unwrap_or (number_of word) 0) (map view values.now)) }
 {
     match values.iter().map(|value| word(value)).collect(alloc) {
         Ok(words) => Ok(Numbers::new(words)),
@@ -130,7 +133,8 @@ fn word_list(alloc: Global, values: &[Value]) -> Result<Numbers, NoMemory>
 fn domains(alloc: Global, names: &Names, values: &[Value]) -> Result<Numbers, NoMemory>
     requires names { length names.now ≤ 63 }
     requires few { length values.now ≤ 65536 }
-    ensures { IfOk result (λ domains. domains ≡ map (domain_of names.now) (map text_of (map view values.now))) }
+    ensures { IfOk result
+        (λ domains. domains ≡ map (domain_of names.now) (map text_of (map view values.now))) }
 {
     match values
         .iter()
@@ -158,7 +162,8 @@ fn gate_plan(alloc: Global, names: &Names, gate: Section) -> Result<GatePlan, No
 fn gate_plans(alloc: Global, names: &Names, gates: &[Value]) -> Result<GatePlans, NoMemory>
     requires names { length names.now ≤ 63 }
     requires few { length gates.now ≤ 256 }
-    requires froms { Each (λ gate. length gate.from ≤ 65536) (map (gate_plan names.now) (map view gates.now)) }
+    requires froms { Each (λ gate. length gate.from ≤ 65536)
+        (map (gate_plan names.now) (map view gates.now)) }
     ensures { IfOk result (λ plans. plans ≡ map (gate_plan names.now) (map view gates.now)) }
 {
     let mut plans = Vec::new(alloc);
@@ -172,7 +177,9 @@ fn gate_plans(alloc: Global, names: &Names, gates: &[Value]) -> Result<GatePlans
 }
 
 fn kills(section: Section) -> bool
-    ensures { result ≡ option_map_or (bytes_eq (codes "kill")) (text_at Key.OnFault (section_view section.entry)) false }
+    ensures { result
+        ≡ option_map_or (bytes_eq (codes "kill")) (text_at Key.OnFault (section_view section.entry))
+        false }
 {
     match section.text_at(Key::OnFault) {
         Some(text) => text == "kill",
@@ -181,7 +188,9 @@ fn kills(section: Section) -> bool
 }
 
 fn is_sealed(section: Section) -> bool
-    ensures { result ≡ unwrap_or (option_and_then as_bool (value_at Key.Seal (section_view section.entry))) false }
+    ensures { result
+        ≡ unwrap_or (option_and_then as_bool (value_at Key.Seal (section_view section.entry)))
+        false }
 {
     match section.value_at(Key::Seal) {
         Some(value) => match value.as_bool() {
@@ -227,7 +236,8 @@ fn module_plans(
 ) -> Result<Vec<ModulePlan>, NoMemory>
     requires names { length names.now ≤ 63 }
     requires short { Each HasShortLists (map (module_plan names.now) (map view modules.now)) }
-    ensures { IfOk result (λ plans. plans.items ≡ map (module_plan names.now) (map view modules.now)) }
+    ensures { IfOk result
+        (λ plans. plans.items ≡ map (module_plan names.now) (map view modules.now)) }
 {
     let mut plans = Vec::new(alloc);
     for module in modules {
@@ -275,7 +285,8 @@ fn version_number(version: Version) -> u32
 }
 
 fn kind_at(top: Section) -> Kind
-    ensures { result ≡ option_map_or kind_named (text_at Key.Tables (section_view top.entry)) Kind.Packed }
+    ensures { result
+        ≡ option_map_or kind_named (text_at Key.Tables (section_view top.entry)) Kind.Packed }
 {
     match top.text_at(Key::Tables) {
         Some(text) => kind_named(text),

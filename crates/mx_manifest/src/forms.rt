@@ -56,7 +56,9 @@ fn is_item_typed(item: ItemForm, value: &Value) -> bool
 }
 
 fn is_array(low: u32, high: u32, item: ItemForm, values: &[Value]) -> bool
-    ensures { result ≡ (is_within low high (length values.now) && list_all (λ v. is_item item (view v)) values.now) }
+    ensures { result
+        ≡ (is_within low high (length values.now)
+        && list_all (λ v. is_item item (view v)) values.now) }
 {
     low as usize <= values.len() && values.len() <= high as usize && are_items(item, values)
 }

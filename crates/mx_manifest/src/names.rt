@@ -43,7 +43,8 @@ impl<'a> Names<'a> {
     /// Adds a name at the end. The answer is false where it was there already.
     fn add(&mut self, name: &'a str) -> Result<bool, NoMemory>
         ensures fresh { IfOk result (λ fresh. fresh ≡ not (list_any (bytes_eq name.now) self.old)) }
-        ensures added { IfOk result (λ fresh. self.new ≡ (if fresh then self.old ++ name.now ∷ [] else self.old)) }
+        ensures added { IfOk result
+            (λ fresh. self.new ≡ (if fresh then self.old ++ name.now ∷ [] else self.old)) }
     {
         match self.set.insert(name) {
             Ok(fresh) => Ok(fresh),
@@ -217,8 +218,10 @@ pub(crate) fn resolve_names<'a>(alloc: Global, top: Section<'a>) -> Result<Names
     requires modules { length (modules (section_view top)) ≤ 63 }
     requires harts { length (harts (section_view top)) ≤ 4 }
     ensures names { IfOk result (λ names. names ≡ module_names (section_view top.entry)) }
-    ensures clear { let top = section_view top.entry in OnOk result (names_fault (module_names top) top ≡ None) }
-    ensures fault { let top = section_view top.entry in IfErr result (Tells (names_fault (module_names top) top)) }
+    ensures clear { let top = section_view top.entry in
+        OnOk result (names_fault (module_names top) top ≡ None) }
+    ensures fault { let top = section_view top.entry in
+        IfErr result (Tells (names_fault (module_names top) top)) }
 {
     let modules = top.elements_at(Key::Module);
     let names = match read_names(alloc, modules) {

@@ -121,7 +121,9 @@ fn is_listed(rows: &[Row], name: &str) -> bool
 /// Whether all keys of a table stand in one of two lists of rows.
 
 fn are_listed(rows: &[Row], more: &[Row], members: &Table) -> bool
-    ensures { result ≡ list_all (λ k. is_listed (rows.now ++ more.now) (string_bytes k)) (keys_of members.now.entries) }
+    ensures { result
+        ≡ list_all (λ k. is_listed (rows.now ++ more.now) (string_bytes k))
+        (keys_of members.now.entries) }
 {
     members
         .keys()
@@ -137,7 +139,8 @@ fn is_listed_by(rows: &[Row], more: &[Row], name: &str) -> bool
 
 /// The same, where the table is one.
 fn has_listed_keys(rows: &[Row], more: &[Row], table: Section) -> bool
-    ensures { result ≡ list_all (is_listed (rows.now ++ more.now)) (names_in (section_view table.entry)) }
+    ensures { result
+        ≡ list_all (is_listed (rows.now ++ more.now)) (names_in (section_view table.entry)) }
 {
     match table.table() {
         Some(members) => are_listed(rows, more, members),
@@ -213,7 +216,8 @@ fn late_fault(version: Version, section: Section) -> Option<KeyFault>
 }
 
 fn unlisted_module_fault(version: Version, section: Section) -> Option<KeyFault>
-    ensures { result ≡ unlisted_fault (early_rows version ++ late_rows version) (section_view section.entry) }
+    ensures { result
+        ≡ unlisted_fault (early_rows version ++ late_rows version) (section_view section.entry) }
 {
     let early = early_rows(version);
     match version {

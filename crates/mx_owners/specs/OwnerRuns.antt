@@ -26,7 +26,8 @@ owners_in words runs = list_below words (owner_in runs)
 -- before `low`
 abbrev pub Fill : ℕ → ℕ → ℕ → List Run → Type 0
 Fill low high before [] = low ≡ high
-Fill low high before (r ∷ rs) = (low < r.end) × (0 < low → r.owner ≢ before) × Fill r.end high r.owner rs
+Fill low high before (r ∷ rs) =
+    (low < r.end) × (0 < low → r.owner ≢ before) × Fill r.end high r.owner rs
 
 -- what stays true of the stored runs
 pub record AreRuns (words : ℕ) (runs : List Run) : Type 0 where
@@ -50,19 +51,25 @@ runs_before runs owner first =
 
 -- whether the run of the word behind a give has the same owner, and so is part of the give's run
 abbrev pub goes_on : List Run → ℕ → ℕ → Bool
-goes_on runs owner behind = nat_lt (place_of runs behind) (length runs) && (run_at runs (place_of runs behind)).owner == owner
+goes_on runs owner behind =
+    nat_lt (place_of runs behind) (length runs)
+    && (run_at runs (place_of runs behind)).owner == owner
 
 -- the end of the give's run, and the place of the first run that stays behind it
 abbrev pub end_behind : List Run → ℕ → ℕ → ℕ
-end_behind runs owner behind = if goes_on runs owner behind then (run_at runs (place_of runs behind)).end else behind
+end_behind runs owner behind =
+    if goes_on runs owner behind then (run_at runs (place_of runs behind)).end else behind
 
 abbrev pub place_behind : List Run → ℕ → ℕ → ℕ
-place_behind runs owner behind = if goes_on runs owner behind then place_of runs behind + 1 else place_of runs behind
+place_behind runs owner behind =
+    if goes_on runs owner behind then place_of runs behind + 1 else place_of runs behind
 
 -- the runs after a give of the words from `first` to before `behind`
 abbrev pub given : List Run → ℕ → ℕ → ℕ → List Run
 given runs owner first behind =
-    runs_before runs owner first ++ record { end = end_behind runs owner behind; owner = owner } ∷ drop (place_behind runs owner behind) runs
+    runs_before runs owner first
+    ++ record { end = end_behind runs owner behind; owner = owner }
+    ∷ drop (place_behind runs owner behind) runs
 
 -- the same, with room for the runs of a give on both sides of the exchange
 pub record AreOwners (words : ℕ) (runs : List Run) (room next_room : ℕ) : Type 0 where

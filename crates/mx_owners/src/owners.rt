@@ -33,7 +33,8 @@ impl Model for Owners {
 
     ghost view = { λ o. owners_in o.words o.runs.items };
 
-    ghost invariant = { λ o. AreOwners o.words o.runs.items (vec_capacity o.runs) (vec_capacity o.next) };
+    ghost invariant = { λ o.
+        AreOwners o.words o.runs.items (vec_capacity o.runs) (vec_capacity o.next) };
 }
 
 impl Owners {
@@ -115,7 +116,8 @@ impl Owners {
         ensures within { result ≤ length self.now }
         ensures same { (w : ℕ) → word ≤ w → w < result →
             slice_index self.now w ≡ slice_index self.now word }
-        ensures ends { result < length self.now → slice_index self.now result ≢ slice_index self.now word }
+        ensures ends { result < length self.now →
+            slice_index self.now result ≢ slice_index self.now word }
     {
         self.runs[run_place(&self.runs, word)].end
     }

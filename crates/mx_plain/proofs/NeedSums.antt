@@ -9,9 +9,6 @@ use Rattle.mx_words.specs.declared.tables.Kind.TheVariants as K
 use Rattle.mx_words.specs.declared.tables.Need.{Need}
 use Rattle.mx_words.specs.Runs.{page_words, broken_blocks, crowded_lines}
 use Rattle.mx_words.specs.Need.{need, segment_frames, upper_frames}
-use Rattle.mx_words.specs.Changes.{changed_map}
-use Rattle.mx_table.specs.declared.change.Change.{Change}
-use Rattle.mx_table.specs.Change.{given, changed}
 use Rattle.mx_table.specs.Tables.{row_map}
 use Rattle.mx_plain.specs.Sums.{IsFew, sum_of}
 

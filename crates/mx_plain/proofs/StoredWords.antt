@@ -1,7 +1,6 @@
 -- Words of packed permissions, and the runs of a line.
-use Rattle.std.proofs.Common.{◌≡◌, ℕ, zero, suc, ◌+◌, ◌-◌, ◌*◌, ◌/◌, ◌^◌, ◌<◌, ◌≤◌, ◌⊎◌, inl, inr, true, false, cond, List, [], ◌∷◌, length, take, drop, map, sum_by, slice_index, refl, sym, ◌∙◌, ap, arith, length-drop, get_or-drop, get_or}
+use Rattle.std.proofs.Common.{◌≡◌, ℕ, zero, suc, ◌+◌, ◌-◌, ◌*◌, ◌/◌, ◌<◌, ◌≤◌, ◌⊎◌, inl, inr, true, false, cond, List, [], ◌∷◌, length, take, drop, map, sum_by, slice_index, refl, sym, ◌∙◌, ap, arith, length-drop, get_or-drop, get_or}
 use Rattle.std.specs.List.{AllByRecursion}
-use Rattle.std.proofs.Math.Nat.{pow-suc}
 use Rattle.std.proofs.lemmas.List.{get_or_past, get_or-map, length-map}
 use Rattle.std.proofs.lemmas.List.FromFn.{fill_by_all}
 use Rattle.std.proofs.lemmas.List.Sums.{sum_by-cons, get_or-le-sum_by, sum_by_more, sum_by-take-le}
@@ -9,7 +8,7 @@ use Rattle.mx_words.specs.declared.perm.Perm.{Perm}
 use Rattle.mx_words.specs.declared.perm.Perm.TheVariants as P
 use Rattle.mx_words.specs.Rights.{number, same, perm_at}
 use Rattle.mx_words.specs.Runs.{Run, runs_of, run_before, runs}
-use Rattle.mx_words.specs.Reach.{packed, eighths, starts_from}
+use Rattle.mx_words.specs.Reach.{eighths, starts_from}
 use Rattle.mx_words.proofs.CountingLaws.{count_below-le}
 use Rattle.mx_words.proofs.RunLaws.{runs-count}
 use Rattle.mx_words.proofs.MaximalRuns.{some-runs_of}

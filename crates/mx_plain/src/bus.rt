@@ -23,14 +23,16 @@ impl Model for PlainBus {
 
     ghost view = { λ bus. (bus.ram, bus.perms.items) };
 
-    ghost invariant = { λ bus. (length bus.ram ≡ 4 * length bus.perms.items) × (length bus.perms.items ≤ 2 ^ 24) };
+    ghost invariant = { λ bus.
+        (length bus.ram ≡ 4 * length bus.perms.items) × (length bus.perms.items ≤ 2 ^ 24) };
 }
 
 impl PlainBus {
     /// So many zero words, at most 2^24, without a permission.
     pub fn new(alloc: Global, words: u32) -> Result<PlainBus, NoMemory>
         requires { words ≤ 2 ^ 24 }
-        ensures { IfOk result (λ bus. (bus.0 ≡ replicate (4 * words) 0) × (bus.1 ≡ replicate words Perm.None)) }
+        ensures { IfOk result
+            (λ bus. (bus.0 ≡ replicate (4 * words) 0) × (bus.1 ≡ replicate words Perm.None)) }
     {
         let ram = Ram::new(alloc, words)?;
         match vec![in alloc; Perm::None; words as usize] {
@@ -43,7 +45,8 @@ impl PlainBus {
     pub fn permit(&mut self, first: u32, count: u32, perm: Perm)
         requires { first + count ≤ length self.old.1 }
         ensures bytes { self.new.0 ≡ self.old.0 }
-        ensures map { self.new.1 ≡ take first self.old.1 ++ replicate count perm ++ drop (first + count) self.old.1 }
+        ensures map { self.new.1
+            ≡ take first self.old.1 ++ replicate count perm ++ drop (first + count) self.old.1 }
         ensures size { length self.new.1 ≡ length self.old.1 }
     {
         let at = first as usize;
@@ -102,7 +105,8 @@ impl Bus for PlainBus {
 fn perm_at(perms: &[Perm], addr: u32) -> Perm
     requires { length perms.now ≤ 2 ^ 24 }
     ensures value { result ≡ perm perms.now addr }
-    ensures inside { (result ≡ Perm.None) ⊎ ((ram_base ≤ addr) × (addr - ram_base < 4 * length perms.now)) }
+    ensures inside { (result ≡ Perm.None)
+        ⊎ ((ram_base ≤ addr) × (addr - ram_base < 4 * length perms.now)) }
 {
     let word = (addr.wrapping_sub(RAM_BASE) / 4) as usize;
     if word < perms.len() {

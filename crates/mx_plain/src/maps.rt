@@ -66,7 +66,8 @@ impl PlainMap {
     /// Gives a permission to words `first` to `first + count - 1`.
     fn put(&mut self, first: u32, count: u32, perm: Perm)
         requires { first + count ≤ length self.old }
-        ensures { self.new ≡ take first self.old ++ replicate count perm ++ drop (first + count) self.old }
+        ensures { self.new
+            ≡ take first self.old ++ replicate count perm ++ drop (first + count) self.old }
     {
         let at = first as usize;
         let part = &mut self.perms[at..at + count as usize];

@@ -13,7 +13,8 @@ pub fn row(alloc: Global, span: Span, step: u32, count: u32) -> Result<Spans, No
     requires some { 0 < span.count }
     requires apart { span.count ≤ step }
     requires inside { span.first + step * count ≤ most_words }
-    ensures row { IfOk result (λ r. (words : ℕ) → span.first + step * count ≤ words → IsRow words r) }
+    ensures row { IfOk result
+        (λ r. (words : ℕ) → span.first + step * count ≤ words → IsRow words r) }
     ensures count { IfOk result (λ r. length r ≡ count) }
 {
     let mut row = Spans::new(alloc);
@@ -53,7 +54,8 @@ pub fn grant(first: u32, count: u32, perm: Perm) -> Change
     ensures first { result.first ≡ first }
     ensures count { result.count ≡ count }
     ensures perm { given result 1 ≡ Some perm }
-    ensures lawful { (words modules : ℕ) → first + count ≤ words → 1 ≤ modules → IsLawful result words modules }
+    ensures lawful { (words modules : ℕ) → first + count ≤ words → 1 ≤ modules →
+        IsLawful result words modules }
 {
     let mut perms = [None; 64];
     perms[1] = Some(perm);
@@ -67,7 +69,8 @@ pub fn grant(first: u32, count: u32, perm: Perm) -> Change
 /// Makes a lawful change where the tables have room for it. The answer is whether they have.
 pub fn try_change<T: PermTables>(tables: &mut T, change: &Change) -> bool
     requires { IsLawful change.now (T.size tables.old) (length (T.maps tables.old)) }
-    ensures room { result ≡ fits T.kind (T.limits tables.old) (changed change.now (T.maps tables.old)) }
+    ensures room { result
+        ≡ fits T.kind (T.limits tables.old) (changed change.now (T.maps tables.old)) }
     ensures made { IsTrue result → T.maps tables.new ≡ changed change.now (T.maps tables.old) }
     ensures full { IsFalse result → T.maps tables.new ≡ T.maps tables.old }
     ensures same_modules { length (T.maps tables.new) ≡ length (T.maps tables.old) }

@@ -12,8 +12,8 @@ use crate::maps::{PlainMap, WordMap, same};
 use crate::spans::{block_round, left_reach, level_of, right_reach, span_within};
 use mx_words::{Kind, Level, Perm, RAM_BASE, Shown, Span};
 
-/// Up to 16 permissions of two bits each, the first in the lowest bits.
-fn pack(perms: &[Perm]) -> u32
+/// The word that holds up to 16 permissions of two bits each, the first in the lowest bits.
+fn word_of_perms(perms: &[Perm]) -> u32
     requires { length perms.now ≤ 16 }
     ensures word { result ≡ packed perms.now }
     ensures few { length perms.now ≤ 8 → result < 2 ^ 16 }
@@ -44,7 +44,7 @@ fn vector(map: &PlainMap, size: u32, first: u32) -> u32
     requires { first + size < 2 ^ 32 }
     ensures { result ≡ vector size map.now first }
 {
-    1 + 4 * pack(&eighths(map, size, first))
+    1 + 4 * word_of_perms(&eighths(map, size, first))
 }
 
 /// A run of a line.
@@ -165,7 +165,7 @@ fn line_entry(kind: Kind, map: &PlainMap, first: u32) -> u32
     let line = line_from(map, first);
     match kind {
         Kind::Packed => mini_entry(&line, left_reach(map, first), right_reach(map, first)),
-        _ => pack(&line),
+        _ => word_of_perms(&line),
     }
 }
 
@@ -232,7 +232,7 @@ pub(crate) fn stored_of(kind: Kind, map: &PlainMap, word: u32) -> Shown
             map,
             LINE,
             word,
-            pack(&line_from(map, word / LINE * LINE)),
+            word_of_perms(&line_from(map, word / LINE * LINE)),
         ),
     }
 }

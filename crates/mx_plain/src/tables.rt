@@ -98,7 +98,8 @@ fn maps_of(alloc: Global, words: u32, rows: &[Spans]) -> Result<Vec<PlainMap>, N
 fn change_one(map: &mut PlainMap, change: &Change, row: usize)
     requires row { row < most_modules }
     requires inside { change.now.first + change.now.count ≤ length map.old }
-    ensures { map.new ≡ changed_map change.now.first change.now.count (given change.now (row + 1)) map.old }
+    ensures { map.new
+        ≡ changed_map change.now.first change.now.count (given change.now (row + 1)) map.old }
 {
     if let Some(perm) = change.perms[row + 1] {
         map.lay(change.first, change.count, perm);
@@ -108,7 +109,8 @@ fn change_one(map: &mut PlainMap, change: &Change, row: usize)
 /// Makes a change of all maps.
 fn change_all(maps: &mut Vec<PlainMap>, change: &Change)
     requires few { vec_len maps.old ≤ most_modules }
-    requires inside { (k : ℕ) → k < vec_len maps.old → change.now.first + change.now.count ≤ length (slice_index_or maps.old.items k []) }
+    requires inside { (k : ℕ) → k < vec_len maps.old →
+        change.now.first + change.now.count ≤ length (slice_index_or maps.old.items k []) }
     ensures { maps.new.items ≡ changed change.now maps.old.items }
 {
     for row in 0..maps.len() {

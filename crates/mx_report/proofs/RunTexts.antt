@@ -1,7 +1,7 @@
 -- The runs of a list from the first word of one on: that run, and the runs from its end on.
 use Rattle.std.proofs.Common.{◌≡◌, ◌≢◌, ℕ, zero, suc, ◌+◌, ◌-◌, ◌<◌, ◌≤◌, Bool, true, false, cond, ◌==◌, List, [], ◌∷◌, ◌++◌, length, get_or, drop, refl, sym, ap, ◌∙◌, arith, length-drop, get_or-drop}
 use Rattle.std.proofs.lemmas.List.{drop-drop, drop_all}
-use Rattle.std.proofs.lemmas.Bool.{eqb-true}
+use Rattle.std.proofs.lemmas.Bool.{eqb-true, eq-eqb}
 use Rattle.mx_words.specs.declared.perm.Perm.{Perm}
 use Rattle.mx_words.specs.declared.perm.Perm.TheVariants as P
 use Rattle.mx_words.specs.Rights.{same, perm_at}
@@ -81,15 +81,12 @@ pub map_from : (text : ℕ → ℕ → Perm → List ℕ) (m : List Perm) (a b :
     run_texts text a (runs_of same (drop a m)) ≡ text a b (perm_at m a) ++ run_texts text b (runs_of same (drop b m))
 map_from text m a b r = texts_from same same_eq same_refl P.None text m a b r.behind r.within r.alike r.ends
 
-eqb_refl : (n : ℕ) → (n == n) ≡ true
-eqb_refl n = grind arith
-
 pub owners_from : (text : ℕ → ℕ → ℕ → List ℕ) (m : List ℕ) (a b : ℕ) → a < b → b ≤ length m → ((w : ℕ) → a ≤ w → w < b → get_or m w 0 ≡ get_or m a 0) → (b < length m → get_or m b 0 ≢ get_or m a 0) →
     run_texts text a (runs_of (λ x y. x == y) (drop a m)) ≡ text a b (get_or m a 0) ++ run_texts text b (runs_of (λ x y. x == y) (drop b m))
-owners_from = texts_from (λ x y. x == y) eqb-true eqb_refl 0
+owners_from = texts_from (λ x y. x == y) eqb-true (λ n. eq-eqb n n refl) 0
 
 pub map_behind : (text : ℕ → ℕ → Perm → List ℕ) (m : List Perm) (a : ℕ) → length m ≤ a → run_texts text a (runs_of same (drop a m)) ≡ []
 map_behind = texts_behind same same_eq same_refl P.None
 
 pub owners_behind : (text : ℕ → ℕ → ℕ → List ℕ) (m : List ℕ) (a : ℕ) → length m ≤ a → run_texts text a (runs_of (λ x y. x == y) (drop a m)) ≡ []
-owners_behind = texts_behind (λ x y. x == y) eqb-true eqb_refl 0
+owners_behind = texts_behind (λ x y. x == y) eqb-true (λ n. eq-eqb n n refl) 0

@@ -1,7 +1,7 @@
 -- Laws of what has left for the sink and what is held.
-use Rattle.std.proofs.Common.{◌≡◌, ℕ, suc, ◌+◌, ◌*◌, ◌/◌, ◌<◌, List, [], ◌∷◌, ◌++◌, length, get_or, take, drop, refl, sym, ap, ◌∙◌, subst, arith, append_assoc, length-append, length-take, length-drop, Result, Ok, Err}
-use Rattle.std.proofs.lemmas.List.{take-append-drop, append-nil, drop_all}
-use Rattle.std.proofs.Math.Seq.{take-append-add, drop-append-add, drop-cons}
+use Rattle.std.proofs.Common.{◌≡◌, ℕ, ◌+◌, ◌*◌, ◌/◌, ◌<◌, List, [], ◌∷◌, ◌++◌, length, get_or, take, drop, refl, sym, ap, ◌∙◌, subst, arith, append_assoc, length-append, length-take, length-drop, Result, Ok, Err}
+use Rattle.std.proofs.lemmas.List.{take-append-drop, append-nil, drop_all, drop_more}
+use Rattle.std.proofs.Math.Seq.{take-append-add, drop-append-add}
 use Rattle.mx_io.specs.Sink.{SinkState, Puts}
 use Rattle.mx_io.proofs.Text.{left_all, left_next, left_stop, left_end, left_none}
 use Rattle.mx_io.specs.declared.Failed.{Failed}
@@ -114,7 +114,7 @@ push_full b x {r = Err f} n p e = record { left = puts_same (sym (sent_whole (b 
 
 -- the bytes from place i on: that byte, and those behind it
 pub one_more : (xs : List ℕ) (i x : ℕ) → i < length xs → x ≡ get_or xs i 0 → drop i xs ≡ (x ∷ []) ++ drop (i + 1) xs
-one_more xs i x h e = drop-cons xs i 0 h ∙ ap (λ y. y ∷ drop (suc i) xs) (sym e) ∙ ap (λ n. x ∷ drop n xs) (let s : suc i ≡ i + 1 = omega arith in s)
+one_more xs i x h e = drop_more xs i 0 h ∙ ap (λ y. y ∷ drop (i + 1) xs) (sym e)
 
 -- what is still to be added of bytes: what comes of adding it comes of adding them all from the start on
 pub record Adding (b : List ℕ) (s : SinkState) (all c : List ℕ) (t : SinkState) (rest : List ℕ) : Type 0 where

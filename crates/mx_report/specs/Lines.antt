@@ -26,14 +26,15 @@ use Rattle.mx_report.specs.declared.lines.EndState.TheVariants as E
 -- a fault at a step
 unfoldable pub fault_line : ℕ → ℕ → ℕ → ℕ → Fault → List ℕ
 fault_line step hart domain pc fault =
-    concat (codes "fault step=" ∷ decimal step ∷ codes " hart=" ∷ decimal hart ∷ codes " domain=" ∷ decimal domain
-    ∷ codes " pc=" ∷ hex_number pc ∷ codes " cause=" ∷ decimal fault.cause ∷ codes " value=" ∷ hex_number fault.value ∷ codes "\n" ∷ [])
+    concat (codes "fault step=" ∷ decimal step ∷ codes " hart=" ∷ decimal hart ∷ codes " domain="
+    ∷ decimal domain ∷ codes " pc=" ∷ hex_number pc ∷ codes " cause=" ∷ decimal fault.cause
+    ∷ codes " value=" ∷ hex_number fault.value ∷ codes "\n" ∷ [])
 
 -- an exit at a step
 unfoldable pub exit_line : ℕ → ℕ → ℕ → ℕ → List ℕ
 exit_line step hart domain code =
-    concat (codes "exit step=" ∷ decimal step ∷ codes " hart=" ∷ decimal hart ∷ codes " domain=" ∷ decimal domain
-    ∷ codes " code=" ∷ decimal code ∷ codes "\n" ∷ [])
+    concat (codes "exit step=" ∷ decimal step ∷ codes " hart=" ∷ decimal hart ∷ codes " domain="
+    ∷ decimal domain ∷ codes " code=" ∷ decimal code ∷ codes "\n" ∷ [])
 
 -- the line of a note
 abbrev pub note_line : Note → List ℕ
@@ -48,7 +49,8 @@ end_name E.Schedule = codes "schedule"
 
 -- the end of a run: how many turns were made, and why it ended
 unfoldable pub end_line : ℕ → EndState → List ℕ
-end_line steps state = concat (codes "end steps=" ∷ decimal steps ∷ codes " state=" ∷ end_name state ∷ codes "\n" ∷ [])
+end_line steps state =
+    concat (codes "end steps=" ∷ decimal steps ∷ codes " state=" ∷ end_name state ∷ codes "\n" ∷ [])
 
 abbrev pub status_name : HartStatus → List ℕ
 status_name V.Running = codes "running"
@@ -58,8 +60,9 @@ status_name V.Halted = codes "halted"
 -- hart h: its status, domain, pc and number of frames
 unfoldable pub hart_text : ℕ → HartStatus → ℕ → ℕ → ℕ → List ℕ
 hart_text h status domain pc frames =
-    concat (codes "hart " ∷ decimal h ∷ codes " status=" ∷ status_name status ∷ codes " domain=" ∷ decimal domain
-    ∷ codes " pc=" ∷ hex_number pc ∷ codes " frames=" ∷ decimal frames ∷ codes "\n" ∷ [])
+    concat (codes "hart " ∷ decimal h ∷ codes " status=" ∷ status_name status ∷ codes " domain="
+    ∷ decimal domain ∷ codes " pc=" ∷ hex_number pc ∷ codes " frames=" ∷ decimal frames
+    ∷ codes "\n" ∷ [])
 
 -- one register
 unfoldable pub register_text : ℕ → List ℕ
@@ -79,7 +82,13 @@ view_lines h v = concat (hart_text h v.status v.domain v.pc v.frames ∷ registe
 -- what is told of a hart
 abbrev pub view_of : Hart → HartView
 view_of hart =
-    record { status = status_told hart.status; domain = hart.domain; pc = hart.pc; frames = length hart.frames; regs = hart.regs }
+    record {
+      status = status_told hart.status;
+      domain = hart.domain;
+      pc = hart.pc;
+      frames = length hart.frames;
+      regs = hart.regs;
+    }
 
 -- both lines of a hart
 abbrev pub hart_lines : ℕ → Hart → List ℕ
@@ -92,7 +101,8 @@ dead_text false = codes "\n"
 
 -- a domain and its module's name
 unfoldable pub domain_head : ℕ → List ℕ → Bool → List ℕ
-domain_head domain name dead = concat (codes "domain " ∷ decimal domain ∷ codes " " ∷ name ∷ dead_text dead ∷ [])
+domain_head domain name dead =
+    concat (codes "domain " ∷ decimal domain ∷ codes " " ∷ name ∷ dead_text dead ∷ [])
 
 -- a permission's name; none has no line
 abbrev pub permission_name : Perm → List ℕ
@@ -108,8 +118,8 @@ word_text word = hex_number (address_of word)
 -- words from `first` up to `behind` with one permission: the first address, the address behind them, and the permission
 unfoldable pub map_line : ℕ → ℕ → ℕ → Perm → List ℕ
 map_line domain first behind perm =
-    concat (codes "map " ∷ decimal domain ∷ codes " " ∷ word_text first ∷ codes " " ∷ word_text behind
-    ∷ codes " " ∷ permission_name perm ∷ codes "\n" ∷ [])
+    concat (codes "map " ∷ decimal domain ∷ codes " " ∷ word_text first ∷ codes " "
+    ∷ word_text behind ∷ codes " " ∷ permission_name perm ∷ codes "\n" ∷ [])
 
 -- the line of a maximal run of one permission; one of none has no line
 abbrev pub map_text : ℕ → ℕ → ℕ → Perm → List ℕ
@@ -121,7 +131,8 @@ map_text domain first behind P.ExecuteRead = map_line domain first behind P.Exec
 -- words from `first` up to `behind` with one owner
 unfoldable pub owner_line : ℕ → ℕ → ℕ → List ℕ
 owner_line first behind owner =
-    concat (codes "owner " ∷ word_text first ∷ codes " " ∷ word_text behind ∷ codes " " ∷ decimal owner ∷ codes "\n" ∷ [])
+    concat (codes "owner " ∷ word_text first ∷ codes " " ∷ word_text behind ∷ codes " "
+    ∷ decimal owner ∷ codes "\n" ∷ [])
 
 -- the line of a maximal run of one owner; one of the supervisor, 0, has no line
 abbrev pub owner_text : ℕ → ℕ → ℕ → List ℕ
@@ -135,8 +146,8 @@ kind_name K.Packed = codes "packed"
 -- what the tables of a kind take, and the limit of each count
 unfoldable pub tables_line : Kind → Need → Need → List ℕ
 tables_line kind used limit =
-    concat (codes "tables kind=" ∷ kind_name kind ∷ codes " upper=" ∷ decimal used.upper ∷ codes "/" ∷ decimal limit.upper
-    ∷ codes " leaf=" ∷ decimal used.leaf ∷ codes "/" ∷ decimal limit.leaf
+    concat (codes "tables kind=" ∷ kind_name kind ∷ codes " upper=" ∷ decimal used.upper ∷ codes "/"
+    ∷ decimal limit.upper ∷ codes " leaf=" ∷ decimal used.leaf ∷ codes "/" ∷ decimal limit.leaf
     ∷ codes " spill=" ∷ decimal used.spill ∷ codes "/" ∷ decimal limit.spill ∷ codes "\n" ∷ [])
 
 abbrev pub level_name : Level → List ℕ
@@ -149,14 +160,14 @@ level_name L.Spill = codes "spill"
 -- a stored item of a domain's map: its level, the address of its first word, and its bits
 unfoldable pub shown_line : ℕ → Shown → List ℕ
 shown_line domain item =
-    concat (codes "shown " ∷ decimal domain ∷ codes " " ∷ level_name item.level ∷ codes " " ∷ word_text item.first
-    ∷ codes " " ∷ hex_number item.stored ∷ codes "\n" ∷ [])
+    concat (codes "shown " ∷ decimal domain ∷ codes " " ∷ level_name item.level ∷ codes " "
+    ∷ word_text item.first ∷ codes " " ∷ hex_number item.stored ∷ codes "\n" ∷ [])
 
 -- how many checks of hart h its places answered, how many its lookaside buffer, and how many the tables
 unfoldable pub counts_text : ℕ → ℕ → ℕ → ℕ → List ℕ
 counts_text h sidecar lookaside walks =
-    concat (codes "counts " ∷ decimal h ∷ codes " sidecar=" ∷ decimal sidecar ∷ codes " lookaside=" ∷ decimal lookaside
-    ∷ codes " walks=" ∷ decimal walks ∷ codes "\n" ∷ [])
+    concat (codes "counts " ∷ decimal h ∷ codes " sidecar=" ∷ decimal sidecar ∷ codes " lookaside="
+    ∷ decimal lookaside ∷ codes " walks=" ∷ decimal walks ∷ codes "\n" ∷ [])
 
 abbrev pub counts_line : ℕ → Cache → List ℕ
 counts_line h cache = counts_text h cache.sidecar cache.lookaside cache.walks

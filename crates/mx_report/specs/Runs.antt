@@ -7,7 +7,8 @@ use Rattle.mx_words.specs.Runs.{Run}
 -- the texts of runs of which the first begins at `start`
 abbrev pub run_texts : {A : Type 0} → (ℕ → ℕ → A → List ℕ) → ℕ → List (Run A) → List ℕ
 run_texts text start [] = []
-run_texts text start (r ∷ rs) = text start (start + r.count) r.value ++ run_texts text (start + r.count) rs
+run_texts text start (r ∷ rs) =
+    text start (start + r.count) r.value ++ run_texts text (start + r.count) rs
 
 -- the words of a map from `word` up to `end` have one permission, and no longer part from there on has
 pub record IsRun (m : List Perm) (word end : ℕ) : Type 0 where

@@ -14,12 +14,15 @@ unfoldable pub held : List ℕ → List ℕ
 held all = drop (length all / piece_bytes * piece_bytes) all
 
 -- bytes were added to those held: the whole pieces of all of them were put on the sink, and the rest is held
-pub record Adds {A E : Type 0} (before : List ℕ) (old new : SinkState) (after bytes : List ℕ) (result : Result A E) : Type 0 where
+pub record Adds {A E : Type 0} (before : List ℕ) (old new : SinkState) (after bytes : List ℕ)
+    (result : Result A E) : Type 0 where
   pub left : Puts old new (sent (before ++ bytes)) result
   pub kept : OnOk result (after ≡ held (before ++ bytes))
 
 -- a text was put on a sink through a buffer: what was held and then the text are what was put on the sink and then what is held;
 -- where it failed, what was put on the sink is a prefix of what was held and then the text
-pub record Passes {A E : Type 0} (before : List ℕ) (old new : SinkState) (after text : List ℕ) (result : Result A E) : Type 0 where
-  pub whole : OnOk result ((gone : List ℕ) × (before ++ text ≡ gone ++ after) × Puts old new gone result)
+pub record Passes {A E : Type 0} (before : List ℕ) (old new : SinkState) (after text : List ℕ)
+    (result : Result A E) : Type 0 where
+  pub whole : OnOk result
+      ((gone : List ℕ) × (before ++ text ≡ gone ++ after) × Puts old new gone result)
   pub stopped : OnErr result (Puts old new (before ++ text) result)

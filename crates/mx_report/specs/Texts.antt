@@ -58,11 +58,13 @@ pub record Told : Type 0 where
 
 -- the lines of the stored items of each domain
 unfoldable pub all_items : Core → Told → List ℕ
-all_items c t = flat_map (λ d. shown_lines d c.kind (t.map_of d)) (range_with_len 1 (length c.modules))
+all_items c t =
+    flat_map (λ d. shown_lines d c.kind (t.map_of d)) (range_with_len 1 (length c.modules))
 
 -- what the tables take, under a kind's name with a limit, and the stored items of each domain
 unfoldable pub table_lines : Kind → Need → Core → Told → List ℕ
-table_lines kind limit c t = concat (tables_line kind (need c.kind t.maps) limit ∷ all_items c t ∷ [])
+table_lines kind limit c t =
+    concat (tables_line kind (need c.kind t.maps) limit ∷ all_items c t ∷ [])
 
 -- the counts of each hart
 unfoldable pub counts_lines : Core → List ℕ
@@ -77,7 +79,8 @@ counts_asked options c = if options.counts then counts_lines c else []
 
 -- both, where they are asked
 unfoldable pub asked_lines : Options → Kind → Need → Core → Told → List ℕ
-asked_lines options kind limit c t = concat (tables_asked options kind limit c t ∷ counts_asked options c ∷ [])
+asked_lines options kind limit c t =
+    concat (tables_asked options kind limit c t ∷ counts_asked options c ∷ [])
 
 -- the lines of each hart
 unfoldable pub all_harts : Core → List ℕ
@@ -86,7 +89,9 @@ all_harts c = flat_map (λ h. hart_lines h (hart_at c h)) (range_with_len 0 (len
 -- the lines of each domain, with the names of the modules in order
 unfoldable pub all_domains : List (List ℕ) → Core → Told → List ℕ
 all_domains names c t =
-    flat_map (λ d. domain_lines d (slice_index_or names (d - 1) []) (module_at c d).dead (t.map_of d)) (range_with_len 1 (length c.modules))
+    flat_map
+    (λ d. domain_lines d (slice_index_or names (d - 1) []) (module_at c d).dead (t.map_of d))
+    (range_with_len 1 (length c.modules))
 
 -- the closing lines, in their order
 unfoldable pub closing_of : List (List ℕ) → EndState → Options → Core → Told → List ℕ

@@ -24,7 +24,8 @@ pub fn same_after_a_turn()
 
 /// What a run adds to console and notes is what it gives from the same state with neither, and it leaves the same flat state.
 pub fn run_from_silence()
-    ensures flat { (p : Schedule) (n : ℕ) (s : State) → flat (run p n s) ≡ flat (run p n (silent s)) }
+    ensures flat { (p : Schedule) (n : ℕ) (s : State) →
+        flat (run p n s) ≡ flat (run p n (silent s)) }
     ensures console { (p : Schedule) (n : ℕ) (s : State) →
         (run p n s).console ≡ s.console ++ (run p n (silent s)).console }
     ensures notes { (p : Schedule) (n : ℕ) (s : State) →

@@ -53,13 +53,15 @@ is_mark mark Escape c = false
 -- how many characters stand before the first such mark
 abbrev pub mark_place : ℕ → Quotes → List ℕ → ℕ
 mark_place mark quotes [] = 0
-mark_place mark quotes (c ∷ cs) = if is_mark mark quotes c then 0 else mark_place mark (quotes_after quotes c) cs + 1
+mark_place mark quotes (c ∷ cs) =
+    if is_mark mark quotes c then 0 else mark_place mark (quotes_after quotes c) cs + 1
 
 -- the parts of a text between such marks
 abbrev pub parts : ℕ → Quotes → List ℕ → List (List ℕ)
 parts mark quotes [] = [] ∷ []
 parts mark quotes (c ∷ cs) =
-    if is_mark mark quotes c then [] ∷ parts mark Outside cs else onto_first c (parts mark (quotes_after quotes c) cs)
+    if is_mark mark quotes c then [] ∷ parts mark Outside cs
+    else onto_first c (parts mark (quotes_after quotes c) cs)
 
 -- a line without its comment, which `#` outside quotes begins
 abbrev pub without_comment : List ℕ → List ℕ

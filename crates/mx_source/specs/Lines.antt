@@ -40,7 +40,8 @@ line_with_word label word operands =
 unfoldable pub line_with_label : Option (List ℕ) → List ℕ → Line
 line_with_label label text =
     if length text == 0 then record { label = label; statement = Absent }
-    else line_with_word label (take_while is_in_word text) (trim_start (drop (length (take_while is_in_word text)) text))
+    else line_with_word label (take_while is_in_word text)
+    (trim_start (drop (length (take_while is_in_word text)) text))
 
 -- the line with a name before its colon
 unfoldable pub line_with_name : List ℕ → List ℕ → Line
@@ -48,11 +49,15 @@ line_with_name name text = if is_name name then line_with_label (Some name) text
 
 -- the line that begins with these characters of a name, and goes on with this text
 unfoldable pub line_by_colon : List ℕ → List ℕ → List ℕ → Line
-line_by_colon name after text = if slice_index after 0 == 58 then line_with_name name (trim_start (drop 1 after)) else line_with_label None text
+line_by_colon name after text =
+    if slice_index after 0 == 58 then line_with_name name (trim_start (drop 1 after))
+    else line_with_label None text
 
 -- the line of a text without comment and without blanks at its ends
 unfoldable pub trimmed_line : List ℕ → Line
-trimmed_line text = line_by_colon (take_while is_in_name text) (trim_start (drop (length (take_while is_in_name text)) text)) text
+trimmed_line text =
+    line_by_colon (take_while is_in_name text)
+    (trim_start (drop (length (take_while is_in_name text)) text)) text
 
 -- the line of a text
 unfoldable pub line_of : List ℕ → Line

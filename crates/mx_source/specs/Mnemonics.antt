@@ -104,7 +104,8 @@ keyword_name (Inst form) = form_name form
 abbrev pub forms : List Form
 forms =
     Lui ∷ Auipc ∷ Jal ∷ Jalr ∷ Fence ∷ Ecall ∷ Ebreak
-    ∷ (map Branch conds ++ map Load loads ++ map Store stores ++ map OpImm imm_ops ++ map Op reg_ops)
+    ∷ (map Branch conds ++ map Load loads ++ map Store stores ++ map OpImm imm_ops
+    ++ map Op reg_ops)
 
 -- all statements
 abbrev pub keywords : List Keyword

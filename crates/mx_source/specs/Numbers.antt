@@ -15,12 +15,14 @@ decimal_step value digit = cap (10 * value + (digit - 48))
 
 -- of a hexadecimal one, of either case
 abbrev pub hexadecimal_step : ℕ → ℕ → ℕ
-hexadecimal_step value digit = cap (16 * value + (if nat_lt digit 58 then digit - 48 else digit % 32 + 9))
+hexadecimal_step value digit =
+    cap (16 * value + (if nat_lt digit 58 then digit - 48 else digit % 32 + 9))
 
 -- what decimal digits say; there is at least one
 unfoldable pub decimal_of : List ℕ → Option ℕ
 decimal_of digits =
-    if nat_lt 0 (length digits) && list_all is_ascii_digit digits then Some (fold decimal_step 0 digits) else None
+    if nat_lt 0 (length digits) && list_all is_ascii_digit digits
+    then Some (fold decimal_step 0 digits) else None
 
 -- what 1 to 8 hexadecimal digits say
 unfoldable pub hexadecimal_of : List ℕ → Option ℕ
@@ -38,14 +40,17 @@ negative_number n = record { negative = true; magnitude = n }
 -- the number that a text is: `-` and decimal digits, `0x` and hexadecimal ones, or decimal ones
 unfoldable pub number_of : List ℕ → Option Number
 number_of text =
-    if starts_with nat_eq text (codes "-") then option_map negative_number (decimal_of (drop 1 text))
-    else (if starts_with nat_eq text (codes "0x") then option_map plain_number (hexadecimal_of (drop 2 text))
+    if starts_with nat_eq text (codes "-")
+    then option_map negative_number (decimal_of (drop 1 text))
+    else (if starts_with nat_eq text (codes "0x")
+    then option_map plain_number (hexadecimal_of (drop 2 text))
     else option_map plain_number (decimal_of text))
 
 -- whether a number lies in a range: from -low to high, and even where the range is of even numbers
 abbrev pub fits : Range → Number → Bool
 fits range n =
-    nat_le n.magnitude (if n.negative then range.low else range.high) && (not range.even || (n.magnitude % 2 == 0))
+    nat_le n.magnitude (if n.negative then range.low else range.high)
+    && (not range.even || (n.magnitude % 2 == 0))
 
 -- the 32 bits of a number
 abbrev pub number_bits : Number → ℕ
@@ -53,7 +58,8 @@ number_bits n = if n.negative then (2 ^ 32 - n.magnitude) % 2 ^ 32 else n.magnit
 
 -- the number that leads from an address to another
 abbrev pub difference : ℕ → ℕ → Number
-difference to from = if nat_le from to then plain_number (to - from) else negative_number (from - to)
+difference to from =
+    if nat_le from to then plain_number (to - from) else negative_number (from - to)
 
 -- the numbers from -low to high
 abbrev pub number_range : ℕ → ℕ → Range

@@ -18,7 +18,8 @@ pieces_in (Some text) = map trim (parts 44 Outside text.now)
 
 -- the parts of a text between marks, after the first one, which ends at a place
 unfoldable pub later_parts : ℕ → List ℕ → ℕ → List (List ℕ)
-later_parts mark text place = if nat_lt place (length text) then parts mark Outside (drop (place + 1) text) else []
+later_parts mark text place =
+    if nat_lt place (length text) then parts mark Outside (drop (place + 1) text) else []
 
 -- the operands that are left
 abbrev pub pieces_left : Pieces → List (List ℕ)

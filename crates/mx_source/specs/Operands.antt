@@ -11,32 +11,45 @@ use Rattle.mx_source.specs.Numbers.{number_of}
 
 -- the form of a label: a letter or _, then letters, digits or _, at most 64 bytes
 unfoldable pub is_name : List ℕ → Bool
-is_name text = nat_le (length text) 64 && begins_name (slice_index text 0) && list_all is_in_name text
+is_name text =
+    nat_le (length text) 64 && begins_name (slice_index text 0) && list_all is_in_name text
 
 -- the names of the registers by their numbers
 abbrev pub plain_names : List (List ℕ)
 plain_names =
-    codes "x0" ∷ codes "x1" ∷ codes "x2" ∷ codes "x3" ∷ codes "x4" ∷ codes "x5" ∷ codes "x6" ∷ codes "x7"
-    ∷ codes "x8" ∷ codes "x9" ∷ codes "x10" ∷ codes "x11" ∷ codes "x12" ∷ codes "x13" ∷ codes "x14" ∷ codes "x15"
-    ∷ codes "x16" ∷ codes "x17" ∷ codes "x18" ∷ codes "x19" ∷ codes "x20" ∷ codes "x21" ∷ codes "x22" ∷ codes "x23"
-    ∷ codes "x24" ∷ codes "x25" ∷ codes "x26" ∷ codes "x27" ∷ codes "x28" ∷ codes "x29" ∷ codes "x30" ∷ codes "x31" ∷ []
+    codes "x0" ∷ codes "x1" ∷ codes "x2" ∷ codes "x3"
+    ∷ codes "x4" ∷ codes "x5" ∷ codes "x6" ∷ codes "x7"
+    ∷ codes "x8" ∷ codes "x9" ∷ codes "x10" ∷ codes "x11"
+    ∷ codes "x12" ∷ codes "x13" ∷ codes "x14" ∷ codes "x15"
+    ∷ codes "x16" ∷ codes "x17" ∷ codes "x18" ∷ codes "x19"
+    ∷ codes "x20" ∷ codes "x21" ∷ codes "x22" ∷ codes "x23"
+    ∷ codes "x24" ∷ codes "x25" ∷ codes "x26" ∷ codes "x27"
+    ∷ codes "x28" ∷ codes "x29" ∷ codes "x30" ∷ codes "x31" ∷ []
 
 -- and by what they are for
 abbrev pub use_names : List (List ℕ)
 use_names =
-    codes "zero" ∷ codes "ra" ∷ codes "sp" ∷ codes "gp" ∷ codes "tp" ∷ codes "t0" ∷ codes "t1" ∷ codes "t2"
-    ∷ codes "s0" ∷ codes "s1" ∷ codes "a0" ∷ codes "a1" ∷ codes "a2" ∷ codes "a3" ∷ codes "a4" ∷ codes "a5"
-    ∷ codes "a6" ∷ codes "a7" ∷ codes "s2" ∷ codes "s3" ∷ codes "s4" ∷ codes "s5" ∷ codes "s6" ∷ codes "s7"
-    ∷ codes "s8" ∷ codes "s9" ∷ codes "s10" ∷ codes "s11" ∷ codes "t3" ∷ codes "t4" ∷ codes "t5" ∷ codes "t6" ∷ []
+    codes "zero" ∷ codes "ra" ∷ codes "sp" ∷ codes "gp"
+    ∷ codes "tp" ∷ codes "t0" ∷ codes "t1" ∷ codes "t2"
+    ∷ codes "s0" ∷ codes "s1" ∷ codes "a0" ∷ codes "a1"
+    ∷ codes "a2" ∷ codes "a3" ∷ codes "a4" ∷ codes "a5"
+    ∷ codes "a6" ∷ codes "a7" ∷ codes "s2" ∷ codes "s3"
+    ∷ codes "s4" ∷ codes "s5" ∷ codes "s6" ∷ codes "s7"
+    ∷ codes "s8" ∷ codes "s9" ∷ codes "s10" ∷ codes "s11"
+    ∷ codes "t3" ∷ codes "t4" ∷ codes "t5" ∷ codes "t6" ∷ []
 
 -- the register with a name
 unfoldable pub register_of : List ℕ → Option ℕ
-register_of text = option_or (position (bytes_eq text) plain_names) (position (bytes_eq text) use_names)
+register_of text =
+    option_or (position (bytes_eq text) plain_names) (position (bytes_eq text) use_names)
 
 -- the byte that a character after `\` stands for
 abbrev pub escape_byte : ℕ → Option ℕ
 escape_byte c =
-    if c == 110 then Some 10 else (if c == 48 then Some 0 else (if c == 34 then Some 34 else (if c == 92 then Some 92 else None)))
+    if c == 110 then Some 10
+    else (if c == 48 then Some 0
+    else (if c == 34 then Some 34
+    else (if c == 92 then Some 92 else None)))
 
 -- a byte before others, if there are any
 abbrev pub prepend : ℕ → Option (List ℕ) → Option (List ℕ)
@@ -63,7 +76,8 @@ pub record Indexed : Type 0 where
 -- the name between two places of a text, the second of which is its end
 unfoldable pub name_between : List ℕ → ℕ → ℕ → Option (List ℕ)
 name_between text first last =
-    if (last + 1 == length text) && is_name (trim (take (last - (first + 1)) (drop (first + 1) text)))
+    if (last + 1 == length text)
+    && is_name (trim (take (last - (first + 1)) (drop (first + 1) text)))
     then Some (trim (take (last - (first + 1)) (drop (first + 1) text))) else None
 
 unfoldable pub indexed_of : List ℕ → Option Indexed
@@ -75,7 +89,8 @@ indexed_of text = do
 
 -- whether a part of a line is an operand
 abbrev pub is_operand : List ℕ → Bool
-is_operand text = is_name text || is_some (number_of text) || is_some (text_of text) || is_some (indexed_of text)
+is_operand text =
+    is_name text || is_some (number_of text) || is_some (text_of text) || is_some (indexed_of text)
 
 -- the parts between the commas of a statement's operands, none where there is no text
 unfoldable pub pieces_of : List ℕ → List (List ℕ)

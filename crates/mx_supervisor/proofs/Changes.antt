@@ -1,10 +1,9 @@
 -- Calls that change rights, and what changes beside them.
-use Rattle.std.proofs.Common.{◌≡◌, ℕ, ◌+◌, ◌-◌, ◌<◌, ◌≤◌, List, [], length, refl, sym, ◌∙◌, ap, subst, arith, Option, Some, None, true, false, nat_lt, ⊎_elim, if◌then◌else◌}
+use Rattle.std.proofs.Common.{◌≡◌, ℕ, ◌+◌, ◌-◌, ◌<◌, ◌≤◌, [], length, refl, sym, ◌∙◌, ap, subst, arith, Option, true, false, nat_lt, ⊎_elim, if◌then◌else◌}
 use Rattle.std.proofs.lemmas.Bool.{cases_lt, le-ltb}
 use Rattle.mx_words.specs.declared.perm.Perm.{Perm}
-use Rattle.mx_words.specs.Changes.{changed_map, changed_maps, grant_of}
+use Rattle.mx_words.specs.Changes.{changed_maps}
 use Rattle.mx_words.proofs.ChangeLaws.{length-changed_from, changed_from-at}
-use Rattle.mx_words.proofs.OverlayLaws.{length-laid}
 use Rattle.mx_table.specs.Tables.{map_of}
 use Rattle.mx_check.specs.Harts.{hart_at}
 use Rattle.mx_model.specs.declared.values.Call.{Call}
@@ -20,6 +19,7 @@ use Rattle.mx_words.specs.Announced.{names_range}
 use Rattle.mx_words.specs.FirstFit.{Area}
 use Rattle.mx_words.specs.Ranges.{range_words}
 use Rattle.mx_words.specs.declared.tables.Kind.TheVariants as K
+use Rattle.mx_words.proofs.MapLaws.{length-changed_map}
 use Rattle.mx_table.specs.declared.change.Change.{Change as ChangeOf}
 use Rattle.mx_table.specs.Change.{IsLawful}
 use Rattle.mx_model.specs.Checks.{arg}
@@ -27,10 +27,6 @@ use Rattle.mx_model.specs.Serve.{arg_range}
 use Rattle.mx_supervisor.specs.Heaps.{heap_at}
 use Rattle.mx_supervisor.specs.Rights.{Gives}
 use Rattle.mx_supervisor.specs.Served.{IsIn, range_of}
-
-length-changed_map : (first count : ℕ) (o : Option Perm) (m : List Perm) → length (changed_map first count o m) ≡ length m
-length-changed_map first count None m = refl
-length-changed_map first count (Some p) m = length-laid (grant_of first count p) m
 
 -- changed maps are as many and as long as they were
 pub sound-changed : (p : Parts) (first count : ℕ) (given : ℕ → Option Perm) → IsSound p → IsSound (record p { maps = changed_maps first count given p.maps })

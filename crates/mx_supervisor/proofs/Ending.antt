@@ -21,9 +21,10 @@ use Rattle.mx_supervisor.specs.Parts.{Parts, core_of, flat_of}
 use Rattle.mx_supervisor.specs.Served.{IsServed, HasAnnounced, Meets, range_of, flight_after, served_row}
 use Rattle.mx_supervisor.proofs.Answering.{with-harts}
 use Rattle.mx_supervisor.proofs.Modules.{module-heap}
+use Rattle.mx_supervisor.proofs.Looking.{cache_of}
 
 -- the range that the model's call announces is that of the parts
-range-is : (rest : Core) (p : Parts) (call : Call) → call_range (core_of rest p) call ≡ range_of p call
+pub range-is : (rest : Core) (p : Parts) (call : Call) → call_range (core_of rest p) call ≡ range_of p call
 range-is rest p call =
     ap (λ (a : Area). announced call.number (arg call 0) (arg call 1) p.size (a.first, a.count)) (module-heap rest p call.domain)
 
@@ -33,9 +34,6 @@ ended-is : (h : ℕ) (harts : List Kept) (o : Option Flight) (r : ℕ × ℕ) (c
 ended-is h harts None r c range ready = absurd (let q : ⊥ = cc in q)
 ended-is h harts (Some f) r c range ready =
     ap (λ n. without_range n f.count c) range.0 ∙ ap (λ n. without_range r.0 n c) range.1
-
-abbrev cache_of : Kept → Cache
-cache_of k = k.cache
 
 -- the state after it
 core-ended : (rest : Core) (call : Call) (p q : Parts) → HasAnnounced p call → (hart_at q.harts call.hart).flight ≡ (hart_at p.harts call.hart).flight →

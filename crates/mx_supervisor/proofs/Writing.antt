@@ -1,7 +1,7 @@
 -- The calls that look: write and exchange, by the outcome of their looks.
-use Rattle.std.proofs.Common.{◌≡◌, ℕ, ◌+◌, ◌-◌, ◌*◌, ◌/◌, ◌<◌, ◌≤◌, Bool, true, false, ◌||◌, nat_lt, List, refl, arith, Some}
+use Rattle.std.proofs.Common.{◌≡◌, ℕ, ◌+◌, ◌-◌, ◌*◌, ◌/◌, ◌<◌, ◌≤◌, true, false, ◌||◌, nat_lt, List, arith, Some}
 use Rattle.std.specs.List.{list_all, range_with_len}
-use Rattle.std.proofs.lemmas.Bool.{ltb-false, lt-ltb, le-ltb}
+use Rattle.std.proofs.lemmas.Bool.{ltb-false, lt-ltb, le-ltb, or_parts}
 use Rattle.mx_words.specs.Ranges.{ram_base}
 use Rattle.mx_model.specs.declared.values.Call.{Call}
 use Rattle.mx_words.specs.declared.perm.Access.TheVariants as A
@@ -37,13 +37,9 @@ pub record AreBytes (addr count size : ℕ) : Type 0 where
   pub begins : ram_base ≤ addr
   pub ends : addr + count ≤ ram_base + 4 * size
 
-neither : (a b : Bool) → (a || b) ≡ false → (a ≡ false) × (b ≡ false)
-neither true b e = absurd (let q : ⊥ = cc in q)
-neither false b e = (refl, e)
-
 pub are-bytes : (addr count size : ℕ) → count ≤ 4096 → 0 < count → (nat_lt addr ram_base || nat_lt (ram_base + 4 * size) (addr + count)) ≡ false → AreBytes addr count size
 are-bytes addr count size few some inside =
-    let both = neither (nat_lt addr ram_base) (nat_lt (ram_base + 4 * size) (addr + count)) inside in
+    let both = or_parts (nat_lt addr ram_base) (nat_lt (ram_base + 4 * size) (addr + count)) inside in
     record { some = some; few = few; begins = ltb-false addr ram_base both.0; ends = ltb-false (ram_base + 4 * size) (addr + count) both.1 }
 
 abbrev pub first_of : ℕ → ℕ

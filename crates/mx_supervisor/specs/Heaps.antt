@@ -1,6 +1,6 @@
 -- The heaps of all modules, in the modules' order.
 use Rattle.std.specs.Prelude.{ℕ, ◌-◌, ◌==◌, List, [], slice_index_or, slice_set, if◌then◌else◌, Option, Some, None}
-use Rattle.mx_words.specs.FirstFit.{Area}
+use Rattle.mx_words.specs.FirstFit.{Area, place, with_block}
 use Rattle.mx_heap.specs.HeapState.{HeapState}
 
 -- a module with no heap has an area of no words
@@ -26,6 +26,19 @@ heap_in (Some heap) = told_heap heap
 abbrev pub heap_at : List HeapState → ℕ → HeapState
 heap_at heaps d = slice_index_or heaps (d - 1) no_heap
 
+-- where first fit puts a block of this many words in a heap
+abbrev pub room_in : HeapState → ℕ → Option ℕ
+room_in heap words = place heap.area heap.blocks words
+
+-- a heap with one more live block
+abbrev pub with_live : Area → HeapState → HeapState
+with_live block heap = record heap { blocks = with_block block heap.blocks }
+
 -- the heaps with other live blocks for domain d
 abbrev pub with_blocks_at : ℕ → List Area → List HeapState → List HeapState
-with_blocks_at d blocks heaps = slice_set heaps (d - 1) (record (heap_at heaps d) { blocks = blocks })
+with_blocks_at d blocks heaps =
+    slice_set heaps (d - 1) (record (heap_at heaps d) { blocks = blocks })
+
+-- the heaps with one more live block for domain d
+abbrev pub with_block_at : ℕ → Area → List HeapState → List HeapState
+with_block_at d block heaps = with_blocks_at d (with_block block (heap_at heaps d).blocks) heaps

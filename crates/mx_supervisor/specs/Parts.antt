@@ -27,7 +27,8 @@ pub record Parts : Type 0 where
   pub heaps : List HeapState
 
 -- the parts of a supervisor over tables of a kind, by what the tables mean
-abbrev pub parts_of : {T : Type 0} {N : ℕ} → Kind → (T → List (List Perm)) → (T → ℕ) → (T → Need) → ℕ → Supervisor T N → Parts
+abbrev pub parts_of : {T : Type 0} {N : ℕ} → Kind → (T → List (List Perm)) → (T → ℕ) → (T → Need) →
+    ℕ → Supervisor T N → Parts
 parts_of kind maps size limit buffer s = record {
   kind = kind;
   maps = maps s.checker.tables;
@@ -48,7 +49,8 @@ with_heap m heap = record m { heap = heap.area; blocks = heap.blocks }
 -- the modules from domain d on
 abbrev pub modules_from : Core → ℕ → List HeapState → List Module
 modules_from rest d [] = []
-modules_from rest d (heap ∷ heaps) = with_heap (module_at rest d) heap ∷ modules_from rest (d + 1) heaps
+modules_from rest d (heap ∷ heaps) =
+    with_heap (module_at rest d) heap ∷ modules_from rest (d + 1) heaps
 
 -- the state with these parts: its harts, its turns, and the modules' stack areas, killing and dead ones, are those of another
 abbrev pub core_of : Core → Parts → Core

@@ -35,7 +35,8 @@ IsIn first count range = (range.0 ≤ first) × (first + count ≤ range.0 + ran
 pub record HasAnnounced (p : Parts) (call : Call) : Type 0 where
   pub hart : call.hart < length p.harts
   pub ready : is_ready call.hart p.harts ≡ true
-  pub range : IfSome (hart_at p.harts call.hart).flight (λ f. (f.first ≡ (range_of p call).0) × (f.count ≡ (range_of p call).1))
+  pub range : IfSome (hart_at p.harts call.hart).flight
+      (λ f. (f.first ≡ (range_of p call).0) × (f.count ≡ (range_of p call).1))
 
 -- a call may be served: it was announced and is ready, or its hart may look at words
 pub record MayServe (p : Parts) (call : Call) : Type 0 where
@@ -43,7 +44,8 @@ pub record MayServe (p : Parts) (call : Call) : Type 0 where
   pub other : is_announced call.number ≡ false → MayLook call.hart call.domain p.harts
 
 -- the parts, the console bytes and the answer after a call are what it was served
-pub record IsServed (rest : Core) (old new : Parts) (bytes : List ℕ) (answer : Answer) (s : Served) : Type 0 where
+pub record IsServed (rest : Core) (old new : Parts) (bytes : List ℕ) (answer : Answer) (s : Served)
+    : Type 0 where
   pub core : core_of rest new ≡ s.core
   pub maps : new.maps ≡ maps_after old.maps s.change
   pub owners : new.owners ≡ owners_after old.owners s.give
@@ -53,9 +55,12 @@ pub record IsServed (rest : Core) (old new : Parts) (bytes : List ℕ) (answer :
   pub stop : answer.stop ≡ s.stop
 
 -- a call is served as the model's: in every state with these parts, whose harts let the caller keep what its checker lets it keep
-abbrev pub ServesAs : (Reads → Core → Call → Served) → Call → Parts → Parts → List ℕ → Answer → Type 0
+abbrev pub ServesAs : (Reads → Core → Call → Served) → Call → Parts → Parts → List ℕ → Answer →
+    Type 0
 ServesAs row call old new bytes answer =
-    (rest : Core) → BarsAlike rest old call.hart → IsServed rest old new bytes answer (row (flat_reads (flat_of rest old)) (core_of rest old) call)
+    (rest : Core) → BarsAlike rest old call.hart →
+    IsServed rest old new bytes answer
+    (row (flat_reads (flat_of rest old)) (core_of rest old) call)
 
 -- nothing but caches, the caller's call in flight and its answer changed
 pub record IsSpared (old new : Parts) (bytes : List ℕ) : Type 0 where
@@ -74,10 +79,12 @@ pub record KeepsSizes (old new : Parts) : Type 0 where
 
 -- the caller's call in flight after it was served
 abbrev pub flight_after : Call → List Kept → Option Flight
-flight_after call harts = if is_announced call.number then None else (hart_at harts call.hart).flight
+flight_after call harts =
+    if is_announced call.number then None else (hart_at harts call.hart).flight
 
 -- all that is said of a call, where a flight is the caller's afterwards
-pub record Meets (row : Reads → Core → Call → Served) (call : Call) (after : Option Flight) (old new : Parts) (bytes : List ℕ) (answer : Answer) : Type 0 where
+pub record Meets (row : Reads → Core → Call → Served) (call : Call) (after : Option Flight)
+    (old new : Parts) (bytes : List ℕ) (answer : Answer) : Type 0 where
   pub served : ServesAs row call old new bytes answer
   pub refused : is_refusal answer ≡ true → IsSpared old new bytes
   pub harts : KeepsHarts call after old.harts new.harts
@@ -85,10 +92,13 @@ pub record Meets (row : Reads → Core → Call → Served) (call : Call) (after
   pub sound : IsSound new
 
 -- a row of the table of calls, by which the caller's call stays in flight
-abbrev pub Does : {T : Type 0} {N : ℕ} → Kind → (T → List (List Perm)) → (T → ℕ) → (T → Need) → ℕ → Supervisor T N → Supervisor T N →
+abbrev pub Does : {T : Type 0} {N : ℕ} → Kind → (T → List (List Perm)) → (T → ℕ) → (T → Need) → ℕ →
+    Supervisor T N → Supervisor T N →
     (Reads → Core → Call → Served) → Call → List ℕ → Answer → Type 0
 Does kind maps size limit buffer old new row call bytes answer =
-    Meets row call (hart_at old.checker.harts call.hart).flight (parts_of kind maps size limit buffer old) (parts_of kind maps size limit buffer new) bytes answer
+    Meets row call (hart_at old.checker.harts call.hart).flight
+    (parts_of kind maps size limit buffer old) (parts_of kind maps size limit buffer new)
+    bytes answer
 
 -- a call by its row, without the end of its flight
 abbrev pub served_row : Reads → Core → Call → Served

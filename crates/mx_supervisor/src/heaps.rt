@@ -1,9 +1,9 @@
 //! The heaps of all modules.
 ghost use Rattle.std.specs.Prelude.{◌≡◌, ℕ, ◌+◌, ◌<◌, ◌≤◌, ◌↔◌, [], ◌∷◌, ◌++◌, length, slice_get, slice_set, IfOk, IsNone, IsSome, IsErrOf, IfSome, Some};
 ghost use Rattle.std.specs.Option.{option_map};
-ghost use Rattle.mx_words.specs.FirstFit.{place, with_block, without_block, block_words, most_blocks};
+ghost use Rattle.mx_words.specs.FirstFit.{without_block, block_words, most_blocks};
 ghost use Rattle.mx_heap.specs.HeapState.{LiesIn, area_of};
-ghost use Rattle.mx_supervisor.specs.Heaps.{told_heap, heap_in, heap_at, with_blocks_at};
+ghost use Rattle.mx_supervisor.specs.Heaps.{told_heap, heap_in, heap_at, room_in, with_live, with_blocks_at, with_block_at};
 ghost use Rattle.mx_supervisor.specs.Told.{IsTold};
 
 use arrayvec::ArrayVec;
@@ -64,9 +64,12 @@ impl Heaps {
     pub(crate) fn place(&self, domain: u32, words: u32) -> Result<u32, HeapError>
         requires domain { 1 ≤ domain }
         requires words { 0 < words }
-        ensures ok { IfOk result (λ a. place (heap_at self.now domain).area (heap_at self.now domain).blocks words ≡ Some a) }
-        ensures no_room { IsErrOf result HeapError.NoRoom ↔ IsNone (place (heap_at self.now domain).area (heap_at self.now domain).blocks words) }
-        ensures full { IsErrOf result HeapError.BlocksFull ↔ (IsSome (place (heap_at self.now domain).area (heap_at self.now domain).blocks words) × (length (heap_at self.now domain).blocks ≡ most_blocks)) }
+        ensures ok { IfOk result (λ a. room_in (heap_at self.now domain) words ≡ Some a) }
+        ensures no_room { IsErrOf result HeapError.NoRoom
+            ↔ IsNone (room_in (heap_at self.now domain) words) }
+        ensures full { IsErrOf result HeapError.BlocksFull
+            ↔ (IsSome (room_in (heap_at self.now domain) words)
+            × (length (heap_at self.now domain).blocks ≡ most_blocks)) }
         ensures inside { IfOk result (λ a. LiesIn (heap_at self.now domain).area a words) }
         ensures few { length (heap_at self.now domain).blocks ≤ most_blocks }
     {
@@ -81,7 +84,9 @@ impl Heaps {
         requires domain { 1 ≤ domain }
         requires there { domain ≤ length self.old }
         requires words { 0 < words }
-        ensures { (a : ℕ) → place (heap_at self.old domain).area (heap_at self.old domain).blocks words ≡ Some a → length (heap_at self.old domain).blocks < most_blocks → self.new ≡ with_blocks_at domain (with_block (record { first = a; count = words }) (heap_at self.old domain).blocks) self.old }
+        ensures { (a : ℕ) → room_in (heap_at self.old domain) words ≡ Some a →
+            length (heap_at self.old domain).blocks < most_blocks →
+            self.new ≡ with_block_at domain (record { first = a; count = words }) self.old }
     {
         let slot = &mut self.slots.as_mut_slice()[domain as usize - 1];
         alloc_in(slot, words);
@@ -91,7 +96,8 @@ impl Heaps {
     pub(crate) fn block(&self, domain: u32, first: u32) -> Option<u32>
         requires { 1 ≤ domain }
         ensures count { result ≡ block_words (heap_at self.now domain).blocks first }
-        ensures inside { IfSome result (λ n. (0 < n) × LiesIn (heap_at self.now domain).area first n) }
+        ensures inside { IfSome result
+            (λ n. (0 < n) × LiesIn (heap_at self.now domain).area first n) }
     {
         match self.slots.get(domain as usize - 1) {
             Some(slot) => block_in(slot, first),
@@ -103,7 +109,8 @@ impl Heaps {
     pub(crate) fn free(&mut self, domain: u32, first: u32)
         requires domain { 1 ≤ domain }
         requires there { domain ≤ length self.old }
-        ensures { self.new ≡ with_blocks_at domain (without_block first (heap_at self.old domain).blocks) self.old }
+        ensures { self.new ≡ with_blocks_at domain
+            (without_block first (heap_at self.old domain).blocks) self.old }
     {
         let slot = &mut self.slots.as_mut_slice()[domain as usize - 1];
         free_in(slot, first);
@@ -138,9 +145,11 @@ fn area_in(slot: &Option<Heap>) -> Block
 /// As `Heap::place`, for the heap in a slot.
 fn place_in(slot: &Option<Heap>, words: u32) -> Result<u32, HeapError>
     requires { 0 < words }
-    ensures ok { IfOk result (λ a. place (heap_in slot.now).area (heap_in slot.now).blocks words ≡ Some a) }
-    ensures no_room { IsErrOf result HeapError.NoRoom ↔ IsNone (place (heap_in slot.now).area (heap_in slot.now).blocks words) }
-    ensures full { IsErrOf result HeapError.BlocksFull ↔ (IsSome (place (heap_in slot.now).area (heap_in slot.now).blocks words) × (length (heap_in slot.now).blocks ≡ most_blocks)) }
+    ensures ok { IfOk result (λ a. room_in (heap_in slot.now) words ≡ Some a) }
+    ensures no_room { IsErrOf result HeapError.NoRoom ↔ IsNone (room_in (heap_in slot.now) words) }
+    ensures full { IsErrOf result HeapError.BlocksFull
+        ↔ (IsSome (room_in (heap_in slot.now) words)
+        × (length (heap_in slot.now).blocks ≡ most_blocks)) }
     ensures inside { IfOk result (λ a. LiesIn (heap_in slot.now).area a words) }
     ensures few { length (heap_in slot.now).blocks ≤ most_blocks }
 {
@@ -153,7 +162,9 @@ fn place_in(slot: &Option<Heap>, words: u32) -> Result<u32, HeapError>
 /// As `Heap::alloc`, for the heap in a slot.
 fn alloc_in(slot: &mut Option<Heap>, words: u32)
     requires { 0 < words }
-    ensures { (a : ℕ) → place (heap_in slot.old).area (heap_in slot.old).blocks words ≡ Some a → length (heap_in slot.old).blocks < most_blocks → heap_in slot.new ≡ record (heap_in slot.old) { blocks = with_block (record { first = a; count = words }) (heap_in slot.old).blocks } }
+    ensures { (a : ℕ) → room_in (heap_in slot.old) words ≡ Some a →
+        length (heap_in slot.old).blocks < most_blocks →
+        heap_in slot.new ≡ with_live (record { first = a; count = words }) (heap_in slot.old) }
 {
     if let Some(heap) = slot {
         // What it answers is known from `place`.
@@ -174,7 +185,8 @@ fn block_in(slot: &Option<Heap>, first: u32) -> Option<u32>
 
 /// As `Heap::free`, for the heap in a slot.
 fn free_in(slot: &mut Option<Heap>, first: u32)
-    ensures { heap_in slot.new ≡ record (heap_in slot.old) { blocks = without_block first (heap_in slot.old).blocks } }
+    ensures { heap_in slot.new
+        ≡ record (heap_in slot.old) { blocks = without_block first (heap_in slot.old).blocks } }
 {
     if let Some(heap) = slot {
         heap.free(first);

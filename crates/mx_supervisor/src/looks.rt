@@ -35,7 +35,8 @@ impl<T: PermTables, const N: usize> Supervisor<T, N> {
         requires domain { IsDomain (T.maps self.old.checker.tables) call.now.domain }
         requires may { MayLook call.now.hart call.now.domain self.old.checker.harts }
         requires empty { out.old.bytes ≡ [] }
-        ensures does { Does T.kind T.maps T.size T.limits N self.old self.new serve_write call.now out.new.bytes result }
+        ensures does { Does T.kind T.maps T.size T.limits N
+            self.old self.new serve_write call.now out.new.bytes result }
         ensures note { out.new.note ≡ out.old.note }
     {
         let [addr, count, _, _] = call.args;
@@ -62,7 +63,8 @@ impl<T: PermTables, const N: usize> Supervisor<T, N> {
         requires sound { IsSound (parts_of T.kind T.maps T.size T.limits N self.old) }
         requires domain { IsDomain (T.maps self.old.checker.tables) call.now.domain }
         requires may { MayLook call.now.hart call.now.domain self.old.checker.harts }
-        ensures { Does T.kind T.maps T.size T.limits N self.old self.new serve_exchange call.now [] result }
+        ensures { Does T.kind T.maps T.size T.limits N
+            self.old self.new serve_exchange call.now [] result }
     {
         let Some(word) = self.arg_word(call) else {
             return Answer::refused(Refusal::BadRange);
@@ -82,7 +84,8 @@ impl<T: PermTables, const N: usize> Supervisor<T, N> {
     /// Whether some of the bytes lie outside RAM.
     fn is_outside(&self, addr: u32, count: u32) -> bool
         requires { IsSound (parts_of T.kind T.maps T.size T.limits N self.now) }
-        ensures { (nat_lt addr ram_base || nat_lt (ram_base + 4 * T.size self.now.checker.tables) (addr + count)) ≡ result }
+        ensures { (nat_lt addr ram_base
+            || nat_lt (ram_base + 4 * T.size self.now.checker.tables) (addr + count)) ≡ result }
     {
         let size = 4 * self.checker.tables().words();
         addr < RAM_BASE || addr - RAM_BASE > size || count > size - (addr - RAM_BASE)
@@ -95,8 +98,13 @@ impl<T: PermTables, const N: usize> Supervisor<T, N> {
         requires domain { IsDomain (T.maps self.old.checker.tables) call.now.domain }
         requires may { MayLook call.now.hart call.now.domain self.old.checker.harts }
         requires inside { behind ≤ T.size self.old.checker.tables }
-        ensures read { HasRead call.now (range_with_len first (behind - first)) (parts_of T.kind T.maps T.size T.limits N self.old) (parts_of T.kind T.maps T.size T.limits N self.new) }
-        ensures answer { (rest : Core) → list_all (may_read (flat_reads (flat_of rest (parts_of T.kind T.maps T.size T.limits N self.old))) call.now.domain) (range_with_len first (behind - first)) ≡ result }
+        ensures read { HasRead call.now (range_with_len first (behind - first))
+            (parts_of T.kind T.maps T.size T.limits N self.old)
+            (parts_of T.kind T.maps T.size T.limits N self.new) }
+        ensures answer { (rest : Core) →
+            list_all (may_read (flat_reads (flat_of rest
+            (parts_of T.kind T.maps T.size T.limits N self.old))) call.now.domain)
+            (range_with_len first (behind - first)) ≡ result }
     {
         for word in first..behind {
             if !self.look(call, word, Access::Read) {
@@ -112,8 +120,10 @@ impl<T: PermTables, const N: usize> Supervisor<T, N> {
         requires domain { IsDomain (T.maps self.old.checker.tables) call.now.domain }
         requires may { MayLook call.now.hart call.now.domain self.old.checker.harts }
         requires inside { word < T.size self.old.checker.tables }
-        ensures looked { HasLooked call.now word (parts_of T.kind T.maps T.size T.limits N self.old) (parts_of T.kind T.maps T.size T.limits N self.new) }
-        ensures answer { allows (perm_at (map_in (T.size self.old.checker.tables) (T.maps self.old.checker.tables) call.now.domain) word) access ≡ result }
+        ensures looked { HasLooked call.now word (parts_of T.kind T.maps T.size T.limits N self.old)
+            (parts_of T.kind T.maps T.size T.limits N self.new) }
+        ensures answer { allows (perm_at (map_in (T.size self.old.checker.tables)
+            (T.maps self.old.checker.tables) call.now.domain) word) access ≡ result }
     {
         self.checker
             .may(call.hart, PLACE, call.domain, RAM_BASE + 4 * word, access)
@@ -125,7 +135,8 @@ impl<T: PermTables, const N: usize> Supervisor<T, N> {
         requires inside { addr + count ≤ ram_base + length self.now.ram }
         requires few { count ≤ 4096 }
         requires empty { out.old.bytes ≡ [] }
-        ensures { out.new ≡ record out.old { bytes = take count (drop (addr - ram_base) self.now.ram) } }
+        ensures { out.new
+            ≡ record out.old { bytes = take count (drop (addr - ram_base) self.now.ram) } }
     {
         let at = addr - RAM_BASE;
         for i in 0..count {
@@ -138,7 +149,9 @@ impl<T: PermTables, const N: usize> Supervisor<T, N> {
         requires sound { IsSound (parts_of T.kind T.maps T.size T.limits N self.old) }
         requires inside { word < T.size self.old.checker.tables }
         ensures old { result ≡ number_at self.old.ram (4 * word) 4 }
-        ensures put { parts_of T.kind T.maps T.size T.limits N self.new ≡ record (parts_of T.kind T.maps T.size T.limits N self.old) { ram = put_at self.old.ram (4 * word) 4 value } }
+        ensures put { parts_of T.kind T.maps T.size T.limits N self.new
+            ≡ record (parts_of T.kind T.maps T.size T.limits N self.old)
+            { ram = put_at self.old.ram (4 * word) 4 value } }
     {
         let old = self.ram.word(word);
         self.ram.store(RAM_BASE + 4 * word, 4, value);

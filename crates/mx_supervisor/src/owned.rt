@@ -25,7 +25,8 @@ impl<T: PermTables, const N: usize> Supervisor<T, N> {
         requires sound { IsSound (parts_of T.kind T.maps T.size T.limits N self.old) }
         requires domain { IsDomain (T.maps self.old.checker.tables) call.now.domain }
         requires may { MayLook call.now.hart call.now.domain self.old.checker.harts }
-        ensures { Does T.kind T.maps T.size T.limits N self.old self.new serve_transfer call.now [] result }
+        ensures { Does T.kind T.maps T.size T.limits N
+            self.old self.new serve_transfer call.now [] result }
     {
         let Some((first, count)) = self.arg_range(call) else {
             return Answer::refused(Refusal::BadRange);
@@ -51,7 +52,8 @@ impl<T: PermTables, const N: usize> Supervisor<T, N> {
         requires sound { IsSound (parts_of T.kind T.maps T.size T.limits N self.old) }
         requires domain { IsDomain (T.maps self.old.checker.tables) call.now.domain }
         requires may { MayLook call.now.hart call.now.domain self.old.checker.harts }
-        ensures { Does T.kind T.maps T.size T.limits N self.old self.new serve_gate call.now [] result }
+        ensures { Does T.kind T.maps T.size T.limits N
+            self.old self.new serve_gate call.now [] result }
     {
         let Some(word) = self.arg_word(call) else {
             return Answer::refused(Refusal::BadRange);
@@ -79,7 +81,8 @@ impl<T: PermTables, const N: usize> Supervisor<T, N> {
         requires sound { IsSound (parts_of T.kind T.maps T.size T.limits N self.old) }
         requires domain { IsDomain (T.maps self.old.checker.tables) call.now.domain }
         requires may { MayLook call.now.hart call.now.domain self.old.checker.harts }
-        ensures { Does T.kind T.maps T.size T.limits N self.old self.new serve_ungate call.now [] result }
+        ensures { Does T.kind T.maps T.size T.limits N
+            self.old self.new serve_ungate call.now [] result }
     {
         let Some(word) = self.arg_word(call) else {
             return Answer::refused(Refusal::BadRange);
@@ -102,7 +105,8 @@ impl<T: PermTables, const N: usize> Supervisor<T, N> {
         requires sound { IsSound (parts_of T.kind T.maps T.size T.limits N self.old) }
         requires domain { IsDomain (T.maps self.old.checker.tables) call.now.domain }
         requires may { MayLook call.now.hart call.now.domain self.old.checker.harts }
-        ensures { Does T.kind T.maps T.size T.limits N self.old self.new serve_return_gate call.now [] result }
+        ensures { Does T.kind T.maps T.size T.limits N
+            self.old self.new serve_return_gate call.now [] result }
     {
         let Some(word) = self.arg_word(call) else {
             return Answer::refused(Refusal::BadRange);
@@ -126,7 +130,8 @@ impl<T: PermTables, const N: usize> Supervisor<T, N> {
         requires sound { IsSound (parts_of T.kind T.maps T.size T.limits N self.now) }
         requires domain { IsDomain (T.maps self.now.checker.tables) call.now.domain }
         requires may { MayLook call.now.hart call.now.domain self.now.checker.harts }
-        ensures { Does T.kind T.maps T.size T.limits N self.now self.now serve_query call.now [] result }
+        ensures { Does T.kind T.maps T.size T.limits N
+            self.now self.now serve_query call.now [] result }
     {
         let Some(word) = self.arg_word(call) else {
             return Answer::refused(Refusal::BadRange);
@@ -144,7 +149,8 @@ impl<T: PermTables, const N: usize> Supervisor<T, N> {
     /// Whether a range meets the caller's heap area.
     fn meets_heap(&self, call: &Call, first: u32, count: u32) -> bool
         requires domain { IsDomain (T.maps self.now.checker.tables) call.now.domain }
-        ensures { let heap = (heap_at self.now.heaps call.now.domain).area in overlaps heap.first heap.count first count ≡ result }
+        ensures { let heap = (heap_at self.now.heaps call.now.domain).area in
+            overlaps heap.first heap.count first count ≡ result }
     {
         let area = self.heaps.area(call.domain);
         let heap = Span {
@@ -158,7 +164,10 @@ impl<T: PermTables, const N: usize> Supervisor<T, N> {
     /// Whether a number is a module's, and not the caller's.
     fn is_other(&self, call: &Call, domain: u32) -> bool
         requires { IsSound (parts_of T.kind T.maps T.size T.limits N self.now) }
-        ensures { (rest : Core) → (not (is_module (core_of rest (parts_of T.kind T.maps T.size T.limits N self.now)) domain) || (domain == call.now.domain)) ≡ not result }
+        ensures { (rest : Core) →
+            (not (is_module (core_of rest
+            (parts_of T.kind T.maps T.size T.limits N self.now)) domain)
+            || (domain == call.now.domain)) ≡ not result }
     {
         self.is_module(domain) && domain != call.domain
     }
@@ -167,7 +176,8 @@ impl<T: PermTables, const N: usize> Supervisor<T, N> {
     fn is_secret(&self, call: &Call, domain: u32, word: u32) -> bool
         requires sound { IsSound (parts_of T.kind T.maps T.size T.limits N self.now) }
         requires inside { word < T.size self.now.checker.tables }
-        ensures { (not (domain == call.now.domain) && not (slice_index self.now.owners word == call.now.domain)) ≡ result }
+        ensures { (not (domain == call.now.domain)
+            && not (slice_index self.now.owners word == call.now.domain)) ≡ result }
     {
         domain != call.domain && self.is_foreign(call, word)
     }
@@ -177,9 +187,18 @@ impl<T: PermTables, const N: usize> Supervisor<T, N> {
         requires sound { IsSound (parts_of T.kind T.maps T.size T.limits N self.old) }
         requires some { 0 < count }
         requires inside { first + count ≤ T.size self.old.checker.tables }
-        ensures fits { (rest : Core) → (flat_reads (flat_of rest (parts_of T.kind T.maps T.size T.limits N self.old))).few_runs (record { first = first; count = count; value = domain }) ≡ result }
-        ensures done { result ≡ true → parts_of T.kind T.maps T.size T.limits N self.new ≡ record (parts_of T.kind T.maps T.size T.limits N self.old) { owners = laid (record { first = first; count = count; value = domain }) self.old.owners } }
-        ensures kept { result ≡ false → parts_of T.kind T.maps T.size T.limits N self.new ≡ parts_of T.kind T.maps T.size T.limits N self.old }
+        ensures fits { (rest : Core) →
+            (flat_reads (flat_of rest (parts_of T.kind T.maps T.size T.limits N self.old))).few_runs
+            (record { first = first; count = count; value = domain }) ≡ result }
+        ensures done { result ≡ true →
+            parts_of T.kind T.maps T.size T.limits N self.new
+            ≡ record (parts_of T.kind T.maps T.size T.limits N self.old) {
+              owners = laid
+                  (record { first = first; count = count; value = domain }) self.old.owners;
+            } }
+        ensures kept { result ≡ false →
+            parts_of T.kind T.maps T.size T.limits N self.new
+            ≡ parts_of T.kind T.maps T.size T.limits N self.old }
     {
         self.owners.give(domain, first, count).is_ok()
     }
@@ -187,8 +206,13 @@ impl<T: PermTables, const N: usize> Supervisor<T, N> {
     /// Adds a gate in place of the one of its domain and word. False, with nothing changed, exactly where it doesn't fit.
     fn try_gate(&mut self, gate: Gate) -> bool
         ensures fits { no_gate_fits self.old.gates gate.domain gate.word ≡ not result }
-        ensures done { result ≡ true → parts_of T.kind T.maps T.size T.limits N self.new ≡ record (parts_of T.kind T.maps T.size T.limits N self.old) { gates = with_gate gate self.old.gates } }
-        ensures kept { result ≡ false → parts_of T.kind T.maps T.size T.limits N self.new ≡ parts_of T.kind T.maps T.size T.limits N self.old }
+        ensures done { result ≡ true →
+            parts_of T.kind T.maps T.size T.limits N self.new
+            ≡ record (parts_of T.kind T.maps T.size T.limits N self.old)
+            { gates = with_gate gate self.old.gates } }
+        ensures kept { result ≡ false →
+            parts_of T.kind T.maps T.size T.limits N self.new
+            ≡ parts_of T.kind T.maps T.size T.limits N self.old }
     {
         self.gates.add(gate).is_ok()
     }
@@ -196,8 +220,12 @@ impl<T: PermTables, const N: usize> Supervisor<T, N> {
     /// Removes the gate of a domain and word. False, with nothing changed, exactly where none stands there.
     fn take_gate(&mut self, domain: u32, word: u32) -> bool
         ensures stood { has_gate self.old.gates domain word ≡ result }
-        ensures done { parts_of T.kind T.maps T.size T.limits N self.new ≡ record (parts_of T.kind T.maps T.size T.limits N self.old) { gates = without_gate domain word self.old.gates } }
-        ensures kept { result ≡ false → parts_of T.kind T.maps T.size T.limits N self.new ≡ parts_of T.kind T.maps T.size T.limits N self.old }
+        ensures done { parts_of T.kind T.maps T.size T.limits N self.new
+            ≡ record (parts_of T.kind T.maps T.size T.limits N self.old)
+            { gates = without_gate domain word self.old.gates } }
+        ensures kept { result ≡ false →
+            parts_of T.kind T.maps T.size T.limits N self.new
+            ≡ parts_of T.kind T.maps T.size T.limits N self.old }
     {
         self.gates.remove(domain, word)
     }

@@ -30,7 +30,8 @@ fn put_right(perms: &mut [Option<Perm>; 64], domain: u32, right: Option<Perm>)
 fn to_one(first: u32, count: u32, domain: u32, perm: Perm) -> Change
     requires some { 1 ≤ domain }
     requires few { domain ≤ 63 }
-    ensures { (modules : ℕ) → domain ≤ modules → Gives result first count modules (to_one domain perm) }
+    ensures { (modules : ℕ) → domain ≤ modules →
+        Gives result first count modules (to_one domain perm) }
 {
     let mut perms = [None; 64];
     put_right(&mut perms, domain, Some(perm));
@@ -96,12 +97,25 @@ impl<T: PermTables, const N: usize> Supervisor<T, N> {
     /// Makes a change of the caller's ready call, inside its range. False, with nothing changed, exactly where the maps would then
     /// exceed the tables' limit.
     fn try_change(&mut self, call: &Call, change: &Change) -> bool
-        requires announced { HasAnnounced (parts_of T.kind T.maps T.size T.limits N self.old) call.now }
-        requires lawful { IsLawful change.now (T.size self.old.checker.tables) (length (T.maps self.old.checker.tables)) }
-        requires inside { IsIn change.now.first change.now.count (range_of (parts_of T.kind T.maps T.size T.limits N self.old) call.now) }
-        ensures fits { (first count : ℕ) (given : ℕ → Option Perm) → Gives change.now first count (length (T.maps self.old.checker.tables)) given → fits T.kind (T.limits self.old.checker.tables) (changed_maps first count given (T.maps self.old.checker.tables)) ≡ result }
-        ensures done { (first count : ℕ) (given : ℕ → Option Perm) → Gives change.now first count (length (T.maps self.old.checker.tables)) given → result ≡ true → parts_of T.kind T.maps T.size T.limits N self.new ≡ record (parts_of T.kind T.maps T.size T.limits N self.old) { maps = changed_maps first count given (T.maps self.old.checker.tables) } }
-        ensures kept { result ≡ false → parts_of T.kind T.maps T.size T.limits N self.new ≡ parts_of T.kind T.maps T.size T.limits N self.old }
+        requires announced { HasAnnounced (parts_of T.kind T.maps T.size T.limits N self.old)
+            call.now }
+        requires lawful { IsLawful change.now (T.size self.old.checker.tables)
+            (length (T.maps self.old.checker.tables)) }
+        requires inside { IsIn change.now.first change.now.count
+            (range_of (parts_of T.kind T.maps T.size T.limits N self.old) call.now) }
+        ensures fits { (first count : ℕ) (given : ℕ → Option Perm) →
+            Gives change.now first count (length (T.maps self.old.checker.tables)) given →
+            fits T.kind (T.limits self.old.checker.tables)
+            (changed_maps first count given (T.maps self.old.checker.tables)) ≡ result }
+        ensures done { (first count : ℕ) (given : ℕ → Option Perm) →
+            Gives change.now first count (length (T.maps self.old.checker.tables)) given →
+            result ≡ true →
+            parts_of T.kind T.maps T.size T.limits N self.new
+            ≡ record (parts_of T.kind T.maps T.size T.limits N self.old)
+            { maps = changed_maps first count given (T.maps self.old.checker.tables) } }
+        ensures kept { result ≡ false →
+            parts_of T.kind T.maps T.size T.limits N self.new
+            ≡ parts_of T.kind T.maps T.size T.limits N self.old }
     {
         self.checker.change(call.hart, change).is_ok()
     }
@@ -110,9 +124,11 @@ impl<T: PermTables, const N: usize> Supervisor<T, N> {
     pub(crate) fn grant(&mut self, call: &Call) -> Answer
         requires sound { IsSound (parts_of T.kind T.maps T.size T.limits N self.old) }
         requires domain { IsDomain (T.maps self.old.checker.tables) call.now.domain }
-        requires announced { HasAnnounced (parts_of T.kind T.maps T.size T.limits N self.old) call.now }
+        requires announced { HasAnnounced (parts_of T.kind T.maps T.size T.limits N self.old)
+            call.now }
         requires number { call.now.number ≡ 3 }
-        ensures { Does T.kind T.maps T.size T.limits N self.old self.new serve_grant call.now [] result }
+        ensures { Does T.kind T.maps T.size T.limits N
+            self.old self.new serve_grant call.now [] result }
     {
         let Some((first, count)) = self.arg_range(call) else {
             return Answer::refused(Refusal::BadRange);
@@ -138,9 +154,11 @@ impl<T: PermTables, const N: usize> Supervisor<T, N> {
     pub(crate) fn revoke_all(&mut self, call: &Call) -> Answer
         requires sound { IsSound (parts_of T.kind T.maps T.size T.limits N self.old) }
         requires domain { IsDomain (T.maps self.old.checker.tables) call.now.domain }
-        requires announced { HasAnnounced (parts_of T.kind T.maps T.size T.limits N self.old) call.now }
+        requires announced { HasAnnounced (parts_of T.kind T.maps T.size T.limits N self.old)
+            call.now }
         requires number { call.now.number ≡ 4 }
-        ensures { Does T.kind T.maps T.size T.limits N self.old self.new serve_revoke_all call.now [] result }
+        ensures { Does T.kind T.maps T.size T.limits N
+            self.old self.new serve_revoke_all call.now [] result }
     {
         let Some((first, count)) = self.arg_range(call) else {
             return Answer::refused(Refusal::BadRange);
@@ -159,9 +177,11 @@ impl<T: PermTables, const N: usize> Supervisor<T, N> {
     pub(crate) fn alloc(&mut self, call: &Call) -> Answer
         requires sound { IsSound (parts_of T.kind T.maps T.size T.limits N self.old) }
         requires domain { IsDomain (T.maps self.old.checker.tables) call.now.domain }
-        requires announced { HasAnnounced (parts_of T.kind T.maps T.size T.limits N self.old) call.now }
+        requires announced { HasAnnounced (parts_of T.kind T.maps T.size T.limits N self.old)
+            call.now }
         requires number { call.now.number ≡ 6 }
-        ensures { Does T.kind T.maps T.size T.limits N self.old self.new serve_alloc call.now [] result }
+        ensures { Does T.kind T.maps T.size T.limits N
+            self.old self.new serve_alloc call.now [] result }
     {
         let [words, _, _, _] = call.args;
         if words == 0 {
@@ -185,9 +205,11 @@ impl<T: PermTables, const N: usize> Supervisor<T, N> {
     pub(crate) fn free(&mut self, call: &Call) -> Answer
         requires sound { IsSound (parts_of T.kind T.maps T.size T.limits N self.old) }
         requires domain { IsDomain (T.maps self.old.checker.tables) call.now.domain }
-        requires announced { HasAnnounced (parts_of T.kind T.maps T.size T.limits N self.old) call.now }
+        requires announced { HasAnnounced (parts_of T.kind T.maps T.size T.limits N self.old)
+            call.now }
         requires number { call.now.number ≡ 7 }
-        ensures { Does T.kind T.maps T.size T.limits N self.old self.new serve_free call.now [] result }
+        ensures { Does T.kind T.maps T.size T.limits N
+            self.old self.new serve_free call.now [] result }
     {
         let Some((first, count)) = self.arg_block(call) else {
             return Answer::refused(Refusal::NotABlock);

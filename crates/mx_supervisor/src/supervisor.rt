@@ -54,9 +54,24 @@ impl<T: PermTables, const N: usize> Supervisor<T, N> {
         gates: Gates,
         heaps: Heaps,
     ) -> Supervisor<T, N>
-        requires sound { IsSound (parts_of {N = N} T.kind T.maps T.size T.limits N (record { checker = checker; ram = ram; owners = owners; gates = gates; heaps = heaps })) }
-        requires gates { AllByRecursion (IsGate (length (T.maps checker.tables)) (T.size checker.tables)) gates }
-        ensures { result ≡ record { checker = checker; ram = ram; owners = owners; gates = gates; heaps = heaps } }
+        requires sound { IsSound (parts_of {N = N} T.kind T.maps T.size T.limits N
+            (record {
+              checker = checker;
+              ram = ram;
+              owners = owners;
+              gates = gates;
+              heaps = heaps;
+            })) }
+        requires gates { AllByRecursion
+            (IsGate (length (T.maps checker.tables)) (T.size checker.tables)) gates }
+        ensures { result
+            ≡ record {
+              checker = checker;
+              ram = ram;
+              owners = owners;
+              gates = gates;
+              heaps = heaps;
+            } }
     {
         Supervisor {
             checker,
@@ -73,7 +88,8 @@ impl<T: PermTables, const N: usize> Supervisor<T, N> {
         requires sound { IsSound (parts_of T.kind T.maps T.size T.limits N self.now) }
         requires announced { is_announced call.now.number ≡ true }
         requires domain { IsDomain (T.maps self.now.checker.tables) call.now.domain }
-        ensures range { result ≡ range_of (parts_of T.kind T.maps T.size T.limits N self.now) call.now }
+        ensures range { result
+            ≡ range_of (parts_of T.kind T.maps T.size T.limits N self.now) call.now }
         ensures within { IsWithin result.0 result.1 (T.size self.now.checker.tables) }
     {
         if names_range(call.number) {
@@ -94,12 +110,18 @@ impl<T: PermTables, const N: usize> Supervisor<T, N> {
         requires few { length self.old.checker.harts ≤ 4 }
         requires may { MayServe (parts_of T.kind T.maps T.size T.limits N self.old) call.now }
         requires empty { out.old.bytes ≡ [] }
-        ensures served { ServesAs serve call.now (parts_of T.kind T.maps T.size T.limits N self.old) (parts_of T.kind T.maps T.size T.limits N self.new) out.new.bytes result }
-        ensures refused { is_refusal result ≡ true → IsSpared (parts_of T.kind T.maps T.size T.limits N self.old) (parts_of T.kind T.maps T.size T.limits N self.new) out.new.bytes }
+        ensures served { ServesAs serve call.now (parts_of T.kind T.maps T.size T.limits N self.old)
+            (parts_of T.kind T.maps T.size T.limits N self.new) out.new.bytes result }
+        ensures refused { is_refusal result ≡ true →
+            IsSpared (parts_of T.kind T.maps T.size T.limits N self.old)
+            (parts_of T.kind T.maps T.size T.limits N self.new) out.new.bytes }
         ensures note { out.new.note ≡ out.old.note }
-        ensures harts { KeepsHarts call.now (flight_after call.now self.old.checker.harts) self.old.checker.harts self.new.checker.harts }
-        ensures again { MayLook call.now.hart call.now.domain self.old.checker.harts → MayLook call.now.hart call.now.domain self.new.checker.harts }
-        ensures sizes { KeepsSizes (parts_of T.kind T.maps T.size T.limits N self.old) (parts_of T.kind T.maps T.size T.limits N self.new) }
+        ensures harts { KeepsHarts call.now (flight_after call.now self.old.checker.harts)
+            self.old.checker.harts self.new.checker.harts }
+        ensures again { MayLook call.now.hart call.now.domain self.old.checker.harts →
+            MayLook call.now.hart call.now.domain self.new.checker.harts }
+        ensures sizes { KeepsSizes (parts_of T.kind T.maps T.size T.limits N self.old)
+            (parts_of T.kind T.maps T.size T.limits N self.new) }
         ensures sound { IsSound (parts_of T.kind T.maps T.size T.limits N self.new) }
     {
         let answer = self.serve_row(call, out);
@@ -116,7 +138,8 @@ impl<T: PermTables, const N: usize> Supervisor<T, N> {
         requires few { length self.old.checker.harts ≤ 4 }
         requires may { MayServe (parts_of T.kind T.maps T.size T.limits N self.old) call.now }
         requires empty { out.old.bytes ≡ [] }
-        ensures does { Does T.kind T.maps T.size T.limits N self.old self.new served_row call.now out.new.bytes result }
+        ensures does { Does T.kind T.maps T.size T.limits N
+            self.old self.new served_row call.now out.new.bytes result }
         ensures note { out.new.note ≡ out.old.note }
     {
         match Service::of(call.number) {
@@ -163,7 +186,9 @@ impl<T: PermTables, const N: usize> Supervisor<T, N> {
 
 /// Call 1: the hart ends, unless it has a frame on its cross stack.
 fn exit(call: &Call) -> Answer
-    ensures { (p : Parts) → IsSound p → Meets (λ r c call. serve_exit c call) call.now (hart_at p.harts call.now.hart).flight p p [] result }
+    ensures { (p : Parts) → IsSound p →
+        Meets (λ r c call. serve_exit c call) call.now (hart_at p.harts call.now.hart).flight
+        p p [] result }
 {
     if call.nested {
         return Answer::refused(Refusal::Nested);

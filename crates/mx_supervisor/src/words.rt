@@ -35,9 +35,14 @@ impl<T: PermTables, const N: usize> Supervisor<T, N> {
     /// The words of the range of a0 and a1.
     pub(crate) fn arg_range(&self, call: &Call) -> Option<(u32, u32)>
         requires { IsSound (parts_of T.kind T.maps T.size T.limits N self.now) }
-        ensures there { (rest : Core) → no_range (core_of rest (parts_of T.kind T.maps T.size T.limits N self.now)) call.now ≡ not (is_some result) }
-        ensures range { IfSome result (λ r. (rest : Core) → arg_range (core_of rest (parts_of T.kind T.maps T.size T.limits N self.now)) call.now ≡ r) }
-        ensures inside { IfSome result (λ r. (0 < r.1) × (r.0 + r.1 ≤ T.size self.now.checker.tables)) }
+        ensures there { (rest : Core) →
+            no_range (core_of rest (parts_of T.kind T.maps T.size T.limits N self.now)) call.now
+            ≡ not (is_some result) }
+        ensures range { IfSome result (λ r. (rest : Core) →
+            arg_range (core_of rest (parts_of T.kind T.maps T.size T.limits N self.now)) call.now
+            ≡ r) }
+        ensures inside { IfSome result
+            (λ r. (0 < r.1) × (r.0 + r.1 ≤ T.size self.now.checker.tables)) }
     {
         let [addr, size, _, _] = call.args;
         word_range(addr, size, self.checker.tables().words())
@@ -46,9 +51,12 @@ impl<T: PermTables, const N: usize> Supervisor<T, N> {
     /// The word at a0.
     pub(crate) fn arg_word(&self, call: &Call) -> Option<u32>
         requires { IsSound (parts_of T.kind T.maps T.size T.limits N self.now) }
-        ensures there { (rest : Core) → is_word (core_of rest (parts_of T.kind T.maps T.size T.limits N self.now)) (arg call.now 0) ≡ is_some result }
+        ensures there { (rest : Core) →
+            is_word (core_of rest (parts_of T.kind T.maps T.size T.limits N self.now))
+            (arg call.now 0) ≡ is_some result }
         ensures word { IfSome result (λ w. arg_word call.now ≡ w) }
-        ensures inside { IfSome result (λ w. (w < T.size self.now.checker.tables) × (arg call.now 0 ≡ address_of w)) }
+        ensures inside { IfSome result
+            (λ w. (w < T.size self.now.checker.tables) × (arg call.now 0 ≡ address_of w)) }
     {
         let [addr, _, _, _] = call.args;
         if addr % 4 != 0 {
@@ -61,10 +69,13 @@ impl<T: PermTables, const N: usize> Supervisor<T, N> {
     pub(crate) fn arg_block(&self, call: &Call) -> Option<(u32, u32)>
         requires sound { IsSound (parts_of T.kind T.maps T.size T.limits N self.now) }
         requires domain { IsDomain (T.maps self.now.checker.tables) call.now.domain }
-        ensures there { (rest : Core) → freed_count (core_of rest (parts_of T.kind T.maps T.size T.limits N self.now)) call.now ≡ option_map (λ b. b.1) result }
+        ensures there { (rest : Core) →
+            freed_count (core_of rest (parts_of T.kind T.maps T.size T.limits N self.now)) call.now
+            ≡ option_map (λ b. b.1) result }
         ensures word { IfSome result (λ b. arg_word call.now ≡ b.0) }
         ensures some { IfSome result (λ b. 0 < b.1) }
-        ensures inside { IfSome result (λ b. LiesIn (heap_at self.now.heaps call.now.domain).area b.0 b.1) }
+        ensures inside { IfSome result
+            (λ b. LiesIn (heap_at self.now.heaps call.now.domain).area b.0 b.1) }
     {
         let Some(word) = self.arg_word(call) else {
             return None;
@@ -85,7 +96,9 @@ impl<T: PermTables, const N: usize> Supervisor<T, N> {
     /// Whether a number is a module's.
     pub(crate) fn is_module(&self, domain: u32) -> bool
         requires { IsSound (parts_of T.kind T.maps T.size T.limits N self.now) }
-        ensures module { (rest : Core) → is_module (core_of rest (parts_of T.kind T.maps T.size T.limits N self.now)) domain ≡ result }
+        ensures module { (rest : Core) →
+            is_module (core_of rest (parts_of T.kind T.maps T.size T.limits N self.now)) domain
+            ≡ result }
         ensures domain { IsTrue result ↔ IsDomain (T.maps self.now.checker.tables) domain }
     {
         1 <= domain && domain <= self.modules()
@@ -96,7 +109,9 @@ impl<T: PermTables, const N: usize> Supervisor<T, N> {
         requires sound { IsSound (parts_of T.kind T.maps T.size T.limits N self.now) }
         requires some { 0 < count }
         requires inside { first + count ≤ T.size self.now.checker.tables }
-        ensures { (rest : Core) → owns (flat_reads (flat_of rest (parts_of T.kind T.maps T.size T.limits N self.now))) call.now (first, count) ≡ result }
+        ensures { (rest : Core) →
+            owns (flat_reads (flat_of rest (parts_of T.kind T.maps T.size T.limits N self.now)))
+            call.now (first, count) ≡ result }
     {
         self.owners.owns(call.domain, first, count)
     }

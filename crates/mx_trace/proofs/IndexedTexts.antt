@@ -1,15 +1,15 @@
 -- A number before a register in brackets is read back.
 use Rattle.std.proofs.Common.{◌≡◌, ◌==◌, ℕ, suc, ◌+◌, ◌-◌, Bool, true, false, not, ◌||◌, List, [], ◌∷◌, ◌++◌, length, take, drop, refl, ap, sym, arith, Some, is_some, position, append_assoc, add-one}
 use Rattle.std.specs.List.{list_all}
-use Rattle.std.proofs.lemmas.Bool.{and_parts, and_from, lt-ltb, eq-eqb}
-use Rattle.std.proofs.lemmas.List.{length-append}
+use Rattle.std.proofs.lemmas.Bool.{and_parts, and_from, lt-ltb, eq-eqb, or_right}
+use Rattle.std.proofs.lemmas.List.{length-append, take_at}
 use Rattle.std.proofs.lemmas.List.Folds.{list_all-append}
 use Rattle.mx_source.specs.declared.number.Number.{Number}
 use Rattle.mx_source.specs.Characters.{trim}
 use Rattle.mx_source.specs.Numbers.{number_of}
 use Rattle.mx_source.specs.Operands.{Indexed, name_between, indexed_of, is_operand, is_name, text_of}
 use Rattle.mx_trace.proofs.Solid.{is_solid, is_free, IsPart, trim-solid}
-use Rattle.mx_trace.proofs.Splitting.{prefix-whole, take-whole}
+use Rattle.mx_trace.proofs.Splitting.{prefix-whole}
 use Rattle.mx_trace.proofs.Registers.{register, IsRegister}
 use Rattle.mx_trace.proofs.Numbers.{IsNumber}
 
@@ -54,12 +54,12 @@ module _ (num : List ℕ) (z : Number) (r : ℕ) (number : IsNumber num z) (name
       let n : length (num ++ 40 ∷ register r) - (length num + 1) ≡ length (register r) = omega (arith, length-append num (40 ∷ register r)) in
       let d : drop (length num + 1) (num ++ 40 ∷ (register r ++ 41 ∷ [])) ≡ register r ++ 41 ∷ [] = rw add-one (drop-more num 40 (register r ++ 41 ∷ []) (length num) refl) in
       let t : trim (take (length (num ++ 40 ∷ register r) - (length num + 1)) (drop (length num + 1) (num ++ 40 ∷ (register r ++ 41 ∷ [])))) ≡ register r =
-      rw (n, d, take-whole (register r) (41 ∷ [])) (trim-solid (register r) named.part) in
+      rw (n, d, take_at (register r) (41 ∷ []) (length (register r)) refl) (trim-solid (register r) named.part) in
       rw (whole, t, named.name) refl
 
   pub indexed-read : indexed_of (num ++ 40 ∷ (register r ++ 41 ∷ [])) ≡ Some (record { number = z; name = register r })
   unfolding indexed_of
-  indexed-read = rw (open_at, close_at, take-whole num (40 ∷ (register r ++ 41 ∷ [])), trim-solid num number.part, number.read, between) refl
+  indexed-read = rw (open_at, close_at, take_at num (40 ∷ (register r ++ 41 ∷ [])) (length num) refl, trim-solid num number.part, number.read, between) refl
 
   pub indexed-part : IsPart (num ++ 40 ∷ (register r ++ 41 ∷ []))
   indexed-part =
@@ -68,10 +68,6 @@ module _ (num : List ℕ) (z : Number) (r : ℕ) (number : IsNumber num z) (name
         some = omega (arith, length-append num (40 ∷ (register r ++ 41 ∷ [])));
         all = rw list_all-append (and_from (list_all is_solid num) (list_all is_solid (40 ∷ (register r ++ 41 ∷ []))) number.part.all inner);
       }
-
-last_true : (a b : Bool) → b ≡ true → (a || b) ≡ true
-last_true true b h = refl
-last_true false b h = h
 
 or_middle : (a b c : Bool) → (a || true || b || c) ≡ true
 or_middle true b c = refl
@@ -84,4 +80,4 @@ pub operand-register : (r : ℕ) → IsRegister r → is_operand (register r) �
 operand-register r h = rw h.name refl
 
 pub operand-indexed : (text : List ℕ) (i : Indexed) → indexed_of text ≡ Some i → is_operand text ≡ true
-operand-indexed text i h = last_true (is_name text || is_some (number_of text) || is_some (text_of text)) (is_some (indexed_of text)) (ap is_some h)
+operand-indexed text i h = or_right (is_name text || is_some (number_of text) || is_some (text_of text)) (is_some (indexed_of text)) (ap is_some h)

@@ -2,12 +2,11 @@
 use Rattle.std.proofs.Common.{◌≡◌, ℕ, suc, ◌+◌, ◌-◌, ◌/◌, ◌%◌, ◌^◌, ◌<◌, ◌≤◌, Bool, true, false, ◌&&◌, List, [], ◌∷◌, ◌++◌, length, fold, refl, ap, ◌∙◌, arith, nat_eq, nat_le, Some, decimal, codes}
 use Rattle.std.specs.Char.{is_ascii_digit}
 use Rattle.std.specs.List.{list_all, starts_with}
-use Rattle.std.proofs.lemmas.Bool.{leb-true, lt-ltb, le-leb, le-ltb, and_parts, and_from, ne_eqb}
+use Rattle.std.proofs.lemmas.Bool.{leb-true, lt-ltb, le-leb, le-ltb, and_parts, and_from, ne_eqb, lt-leb}
 use Rattle.std.proofs.lemmas.Fmt.{decimal_by_steps}
 use Rattle.std.proofs.lemmas.List.{length-append}
 use Rattle.std.proofs.lemmas.List.Folds.{list_all-append}
 use Rattle.mx_source.specs.declared.number.Number.{Number}
-use Rattle.std.proofs.lemmas.Bool.Decides.{nat_tests}
 use Rattle.mx_source.specs.Characters.{begins_name, is_in_name}
 use Rattle.mx_source.specs.Operands.{is_name}
 use Rattle.mx_source.specs.Numbers.{cap, decimal_step, decimal_of, number_of, plain_number, negative_number}
@@ -103,9 +102,6 @@ digits_free (c ∷ cs) h =
     let p = and_parts (is_ascii_digit c) (list_all is_ascii_digit cs) h in
     and_from (is_free c) (list_all is_free cs) (digit_free c p.0) (digits_free cs p.1)
 
-not_le : (a b : ℕ) → b < a → nat_le a b ≡ false
-not_le a b lt = grind (arith, nat_tests)
-
 middle_false : (a b : Bool) → (a && false && b) ≡ false
 middle_false true b = refl
 middle_false false b = refl
@@ -119,7 +115,7 @@ digits_unnamed [] some h = absurd (omega arith)
 digits_unnamed (c ∷ cs) some h =
     let p = and_parts (is_ascii_digit c) (list_all is_ascii_digit cs) h in
     let high = leb-true c 57 (and_parts (nat_le 48 c) (nat_le c 57) p.0).1 in
-    let begins : begins_name c ≡ false = rw (not_le 65 c (omega arith), not_le 97 c (omega arith), ne_eqb c 95 (λ z. omega (arith, z, high))) refl in
+    let begins : begins_name c ≡ false = rw (lt-leb 65 c (omega arith), lt-leb 97 c (omega arith), ne_eqb c 95 (λ z. omega (arith, z, high))) refl in
     middle_at (nat_le (length (c ∷ cs)) 64) (begins_name c) (list_all is_in_name (c ∷ cs)) begins
 
 minus_unnamed : (cs : List ℕ) → is_name (45 ∷ cs) ≡ false

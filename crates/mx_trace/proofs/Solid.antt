@@ -1,7 +1,7 @@
 -- Texts without blanks, marks and quotes, as the words, registers and numbers of a statement are.
 use Rattle.std.proofs.Common.{◌≡◌, ◌==◌, ℕ, ◌+◌, ◌<◌, Bool, true, false, not, ◌&&◌, List, [], ◌∷◌, ◌++◌, length, map, reverse, refl, ap, sym, ◌∙◌, arith, nat_lt, zero-add, append_assoc}
 use Rattle.std.specs.List.{list_all, onto_first, AllByRecursion}
-use Rattle.std.proofs.lemmas.Bool.{ltb-true, ne_eqb, and_parts, and_from, or_from}
+use Rattle.std.proofs.lemmas.Bool.{ltb-true, ne_eqb, and_parts, and_from, or_from, not-true}
 use Rattle.std.proofs.lemmas.List.{append-nil, reverse-append, reverse-reverse, length-append, length-reverse}
 use Rattle.std.proofs.lemmas.List.Folds.{list_all-append}
 use Rattle.mx_source.specs.declared.characters.Quotes.TheVariants.{Outside}
@@ -24,10 +24,6 @@ pub record IsSolid (c : ℕ) : Type 0 where
   pub comma : (c == 44) ≡ false
   pub colon : (c == 58) ≡ false
 
-not_true : (b : Bool) → not b ≡ true → b ≡ false
-not_true true h = sym h
-not_true false h = refl
-
 pub solid : (c : ℕ) → is_solid c ≡ true → IsSolid c
 solid c h =
     let a = and_parts (nat_lt 32 c && not (c == 34) && not (c == 35) && not (c == 44)) (not (c == 58)) h in
@@ -38,10 +34,10 @@ solid c h =
     record {
       blank = or_from (c == 32) (c == 9) (ne_eqb c 32 (λ z. omega (arith, z, more))) (ne_eqb c 9 (λ z. omega (arith, z, more)));
       ends = ne_eqb c 10 (λ z. omega (arith, z, more));
-      quote = not_true (c == 34) e.1;
-      hash = not_true (c == 35) d.1;
-      comma = not_true (c == 44) b.1;
-      colon = not_true (c == 58) a.1;
+      quote = not-true (c == 34) e.1;
+      hash = not-true (c == 35) d.1;
+      comma = not-true (c == 44) b.1;
+      colon = not-true (c == 58) a.1;
     }
 
 -- a text of such characters, at least one

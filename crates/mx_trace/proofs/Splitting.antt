@@ -1,8 +1,8 @@
 -- How the line of a word and operands is split.
-use Rattle.std.proofs.Common.{◌≡◌, ◌==◌, ℕ, suc, ◌<◌, Bool, true, false, ◌&&◌, List, [], ◌∷◌, ◌++◌, length, take, drop, slice_index, refl, ap, sym, ◌∙◌, arith, nat_lt, Some, None, append_assoc}
+use Rattle.std.proofs.Common.{◌≡◌, ◌==◌, ℕ, suc, ◌<◌, Bool, true, false, ◌&&◌, List, [], ◌∷◌, ◌++◌, length, drop, slice_index, refl, ap, sym, ◌∙◌, arith, nat_lt, Some, None, append_assoc}
 use Rattle.std.specs.List.{list_all, prefix_len, take_while}
 use Rattle.std.proofs.lemmas.Bool.{and_parts, ne_eqb, ltb-true}
-use Rattle.std.proofs.lemmas.List.{length-append, take_all, take-append-le}
+use Rattle.std.proofs.lemmas.List.{length-append, take_all, take_at, drop_at}
 use Rattle.mx_source.specs.declared.mnemonics.Keyword.{Keyword}
 use Rattle.mx_source.specs.declared.characters.Quotes.TheVariants.{Outside}
 use Rattle.mx_source.specs.Characters.{is_in_name, is_in_word, mark_place, trim_start, trim, without_comment}
@@ -17,13 +17,6 @@ prefix-whole p [] y ys h f = rw f refl
 prefix-whole p (x ∷ xs) y ys h f =
     let q = and_parts (p x) (list_all p xs) h in
     rw q.0 (omega (arith, prefix-whole p xs y ys q.1 f))
-
-pub take-whole : (xs ys : List ℕ) → take (length xs) (xs ++ ys) ≡ xs
-take-whole xs ys = take-append-le (length xs) xs ys (omega arith) ∙ take_all (length xs) xs (omega arith)
-
-pub drop-whole : (xs ys : List ℕ) → drop (length xs) (xs ++ ys) ≡ ys
-drop-whole [] ys = refl
-drop-whole (x ∷ xs) ys = drop-whole xs ys
 
 module _ (name : List ℕ) (k : Keyword) (os : List (List ℕ)) (mnemonic : is_mnemonic name ≡ true) (keyword : keyword_of name ≡ Some k) (are : AreParts os) (more : 0 < length os) (operands : list_all is_operand os ≡ true) where
   -- the word and its operands
@@ -65,7 +58,7 @@ module _ (name : List ℕ) (k : Keyword) (os : List (List ℕ)) (mnemonic : is_m
       rw (b.2, b.3.blank) refl
 
   after : (n : ℕ) → n ≡ length name → trim_start (drop n (name ++ 32 ∷ joined os)) ≡ joined os
-  after n e = rw (e, drop-whole name (32 ∷ joined os)) starts
+  after n e = rw (e, drop_at name (32 ∷ joined os) (length name) refl) starts
 
   colon : (slice_index (joined os) 0 == 58) ≡ false
   colon =
@@ -87,11 +80,11 @@ module _ (name : List ℕ) (k : Keyword) (os : List (List ℕ)) (mnemonic : is_m
   unfolding line_with_label
   with_label =
       let n : (length (name ++ 32 ∷ joined os) == 0) ≡ false = ne_eqb (length (name ++ 32 ∷ joined os)) 0 (λ z. omega (arith, z, length-append name (32 ∷ joined os))) in
-      let t : take_while is_in_word (name ++ 32 ∷ joined os) ≡ name = rw (prefix-whole is_in_word name 32 (joined os) words refl) (take-whole name (32 ∷ joined os)) in
+      let t : take_while is_in_word (name ++ 32 ∷ joined os) ≡ name = rw (prefix-whole is_in_word name 32 (joined os) words refl) (take_at name (32 ∷ joined os) (length name) refl) in
       rw (n, t, after (length name) refl) with_word
 
   pub line-text : line_of (name ++ 32 ∷ joined os) ≡ record { label = None; statement = Listed k os }
   unfolding line_of trimmed_line line_by_colon
   line-text =
-      let t : take_while is_in_name (name ++ 32 ∷ joined os) ≡ name = rw (prefix-whole is_in_name name 32 (joined os) names refl) (take-whole name (32 ∷ joined os)) in
+      let t : take_while is_in_name (name ++ 32 ∷ joined os) ≡ name = rw (prefix-whole is_in_name name 32 (joined os) names refl) (take_at name (32 ∷ joined os) (length name) refl) in
       rw (no_comment, trimmed, t, after (length name) refl, colon) with_label

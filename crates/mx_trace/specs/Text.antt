@@ -15,26 +15,31 @@ signed_text bits = signed_decimal (cast_signed w32 bits)
 
 -- `rd, n`
 unfoldable pub upper_text : Form → ℕ → ℕ → List ℕ
-upper_text form rd n = concat (form_name form ∷ codes " x" ∷ decimal rd ∷ codes ", " ∷ decimal n ∷ [])
+upper_text form rd n =
+    concat (form_name form ∷ codes " x" ∷ decimal rd ∷ codes ", " ∷ decimal n ∷ [])
 
 -- `rd, T`
 unfoldable pub jump_text : Form → ℕ → ℕ → List ℕ
-jump_text form rd offset = concat (form_name form ∷ codes " x" ∷ decimal rd ∷ codes ", " ∷ signed_text offset ∷ [])
+jump_text form rd offset =
+    concat (form_name form ∷ codes " x" ∷ decimal rd ∷ codes ", " ∷ signed_text offset ∷ [])
 
 -- `rs1, rs2, T`, and `rd, rs1, n`
 unfoldable pub pair_text : Form → ℕ → ℕ → ℕ → List ℕ
 pair_text form first second n =
-    concat (form_name form ∷ codes " x" ∷ decimal first ∷ codes ", x" ∷ decimal second ∷ codes ", " ∷ signed_text n ∷ [])
+    concat (form_name form ∷ codes " x" ∷ decimal first ∷ codes ", x" ∷ decimal second ∷ codes ", "
+    ∷ signed_text n ∷ [])
 
 -- `rd, n(rs1)`, and `rs2, n(rs1)`
 unfoldable pub indexed_text : Form → ℕ → ℕ → ℕ → List ℕ
 indexed_text form register n base =
-    concat (form_name form ∷ codes " x" ∷ decimal register ∷ codes ", " ∷ signed_text n ∷ codes "(x" ∷ decimal base ∷ codes ")" ∷ [])
+    concat (form_name form ∷ codes " x" ∷ decimal register ∷ codes ", " ∷ signed_text n ∷ codes "(x"
+    ∷ decimal base ∷ codes ")" ∷ [])
 
 -- `rd, rs1, rs2`
 unfoldable pub register_text : Form → ℕ → ℕ → ℕ → List ℕ
 register_text form rd rs1 rs2 =
-    concat (form_name form ∷ codes " x" ∷ decimal rd ∷ codes ", x" ∷ decimal rs1 ∷ codes ", x" ∷ decimal rs2 ∷ [])
+    concat (form_name form ∷ codes " x" ∷ decimal rd ∷ codes ", x" ∷ decimal rs1 ∷ codes ", x"
+    ∷ decimal rs2 ∷ [])
 
 -- `fence n`
 unfoldable pub fence_text : ℕ → List ℕ

@@ -1,11 +1,12 @@
 use Rattle.std.proofs.Common.{◌≡◌, map, ap, ◌∙◌, ◌∷◌, [], arith, length}
 use Rattle.std.proofs.lemmas.List.{length-map}
 use Rattle.mx_image.specs.Image.{words}
+use Rattle.mx_image.proofs.Sizes.{length-words}
 use Rattle.mx_source.specs.Operands.{pieces_of}
 use Rattle.mx_source.specs.OperandViews.{pieces_left}
 use Rattle.mx_asm.specs.LabelViews.{labels_view}
 use Rattle.mx_asm.specs.Denoted.{word_of_value}
-use Rattle.mx_asm.proofs.ProgramLaws.{left_bytes, words-cons, length-words}
+use Rattle.mx_asm.proofs.ProgramLaws.{left_bytes, words-cons}
 use Rattle.mx_asm.proofs.emission.add_values.Goals as goal
 
 pub add_word-requires-clause-room : goal.add_word-requires-clause-room

@@ -9,8 +9,8 @@ use Rattle.mx_boot.specs.Boot.{give}
 use Rattle.mx_boot.specs.Placed.{IsPlaced}
 use Rattle.mx_boot.proofs.Apart.{end_is, in_ram}
 use Rattle.mx_boot.proofs.Giving.{give-fits, give-next, none-given}
-use Rattle.mx_boot.proofs.Lists.{all_get}
 use Rattle.mx_boot.proofs.owners.give_all.Goals as goal
+use Rattle.mx_model.proofs.ListLaws.{all-in}
 
 -- what is read behind the last area
 abbrev none : Area
@@ -26,7 +26,7 @@ areas-init c = c.in_ok-owners.ensures ∙ sym (none-given c.args.words)
 pub give-requires-clause-in_ram : goal.give-requires-clause-in_ram
 give-requires-clause-in_ram c =
     let a = get_or c.args.areas.now c.areas.area-index none in
-    let placed = all_get (IsPlaced c.args.words) c.args.areas.now c.areas.area-index none c.requires.placed c.areas-test.true in
+    let placed = all-in (IsPlaced c.args.words) c.args.areas.now none c.requires.placed c.areas.area-index c.areas-test.true in
     let fits = end_is c.args.words a (in_ram c.args.words a placed.inside) in
     let long = ap length c.areas.invariant ∙ length-owners (map give (take c.areas.area-index c.args.areas.now)) c.args.words in
     omega (arith, fits, long, c.word_at.ensures)

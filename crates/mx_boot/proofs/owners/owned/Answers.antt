@@ -1,10 +1,11 @@
 use Rattle.std.proofs.Common.{◌∙◌, ◌≤◌, ◌++◌, ap, length, arith}
 use Rattle.std.specs.List.{flat_map}
+use Rattle.std.proofs.lemmas.List.{take_all}
 use Rattle.mx_boot.specs.Areas.{homes}
 use Rattle.mx_boot.specs.Placed.{owned_areas}
 use Rattle.mx_boot.specs.Seen.{seen}
 use Rattle.mx_boot.proofs.Homes.{length-homes}
-use Rattle.mx_boot.proofs.Rows.{grown_by_some, take_past}
+use Rattle.mx_boot.proofs.Rows.{grown_by_some}
 use Rattle.mx_boot.proofs.owners.owned.Goals as goal
 
 pub modules-preserved : goal.modules-preserved
@@ -17,4 +18,4 @@ pub returns : goal.returns
 returns c =
     let all = homes c.args.plan.now c.args.images.now in
     let past : length all ≤ c.modules.i = omega (arith, length-homes c.args.plan.now c.args.images.now, c.modules-i-end.ensures.value) in
-    c.modules.invariant ∙ ap (flat_map (owned_areas (length c.args.plan.now.harts))) (take_past all c.modules.i past)
+    c.modules.invariant ∙ ap (flat_map (owned_areas (length c.args.plan.now.harts))) (take_all c.modules.i all past)

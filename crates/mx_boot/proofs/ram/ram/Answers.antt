@@ -1,5 +1,6 @@
 use Rattle.std.proofs.Common.{◌∙◌, ◌*◌, ◌≤◌, ap, sym, subst, length, replicate, fold, arith}
 use Rattle.std.specs.List.{AllByRecursion, flat_map}
+use Rattle.std.proofs.lemmas.List.{take_all}
 use Rattle.mx_boot.specs.Areas.{contents, homes}
 use Rattle.mx_boot.specs.Boot.{with_content}
 use Rattle.mx_boot.specs.Faults.{ram_words}
@@ -8,7 +9,6 @@ use Rattle.mx_boot.specs.Seen.{seen}
 use Rattle.mx_boot.proofs.Homes.{length-homes}
 use Rattle.mx_boot.proofs.Placing.{ready}
 use Rattle.mx_boot.proofs.Puts.{next-contents}
-use Rattle.mx_boot.proofs.Rows.{take_past}
 use Rattle.mx_boot.proofs.ram.ram.Goals as goal
 
 pub put_home-requires-clause-room : goal.put_home-requires-clause-room
@@ -31,4 +31,4 @@ pub returns : goal.returns
 returns c =
     let all = homes c.args.plan.now c.args.images.now in
     let past : length all ≤ c.modules.i = omega (arith, length-homes c.args.plan.now c.args.images.now, c.modules-i-end.ensures.value) in
-    c.modules.invariant.0 ∙ ap (λ hs. fold with_content (replicate (4 * ram_words c.args.plan.now) 0) (flat_map contents hs)) (take_past all c.modules.i past)
+    c.modules.invariant.0 ∙ ap (λ hs. fold with_content (replicate (4 * ram_words c.args.plan.now) 0) (flat_map contents hs)) (take_all c.modules.i all past)

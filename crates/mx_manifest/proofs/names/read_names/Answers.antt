@@ -1,5 +1,5 @@
 use Rattle.std.proofs.Common.{◌≡◌, ℕ, ◌+◌, ◌-◌, ◌<◌, ◌∙◌, Bool, true, false, not, if◌then◌else◌, List, [], ◌∷◌, ◌++◌, length, get_or, map, take, Some, None, refl, ap, sym, arith}
-use Rattle.std.proofs.lemmas.List.{take-map, take_more}
+use Rattle.std.proofs.lemmas.List.{take-map, take_more, map_push}
 use Rattle.std.specs.List.{list_any}
 use Rattle.std.specs.Str.{bytes_eq}
 use Rattle.toml.specs.declared.value.Value.{Value}
@@ -10,13 +10,10 @@ use Rattle.mx_manifest.specs.Faults.{fault_where, module_name, placed, repeat_fa
 use Rattle.mx_manifest.proofs.Clear.{unmapped}
 use Rattle.mx_manifest.proofs.Loops.{each_next, each_here}
 use Rattle.mx_manifest.proofs.names.read_names.Goals as goal
+use mathlib.Core.Bool.{not-not}
 
 names_of : List Value → List (List ℕ)
 names_of values = map module_name (map view values)
-
-not_not : (b : Bool) → not (not b) ≡ b
-not_not true = refl
-not_not false = refl
 
 -- the test of a module's name among those before it
 repeat_is : (values : List Value) (i : ℕ) (v : Value) (seen : List (List ℕ)) (name : List ℕ) (fresh : Bool) → seen ≡ names_of (take i values) → name ≡ module_name (view v)
@@ -26,12 +23,8 @@ unfolding names_of
 repeat_is values i v seen name fresh first same is =
     let before : take (i + 1 - 1) (names_of values) ≡ seen =
     ap (λ n. take n (names_of values)) (omega arith) ∙ take-map module_name i (map view values) ∙ ap (map module_name) (take-map view i values) ∙ sym first in
-    let test : not fresh ≡ list_any (bytes_eq name) seen = ap not is ∙ not_not (list_any (bytes_eq name) seen) in
+    let test : not fresh ≡ list_any (bytes_eq name) seen = ap not is ∙ not-not (list_any (bytes_eq name) seen) in
     ap (λ b. fault_where b 7 key.Name) (test ∙ ap (λ n. list_any (bytes_eq n) seen) same ∙ ap (λ ns. list_any (bytes_eq (module_name (view v))) ns) (sym before))
-
-map_last : {A B : Type 0} (f : A → B) (xs : List A) (x : A) → map f (xs ++ x ∷ []) ≡ map f xs ++ f x ∷ []
-map_last f [] x = refl
-map_last f (y ∷ xs) x = ap (λ rest. f y ∷ rest) (map_last f xs x)
 
 -- one more name
 names_more : (values : List Value) (i : ℕ) (v : Value) (seen after : List (List ℕ)) (name : List ℕ) (fresh : Bool) → i < length values → v ≡ get_or values i v → seen ≡ names_of (take i values)
@@ -41,8 +34,8 @@ names_more values i v seen after name fresh below at first same new is =
     is ∙ ap (λ b. if b then seen ++ name ∷ [] else seen) new
     ∙ ap (λ n. seen ++ n ∷ []) same
     ∙ ap (λ s. s ++ module_name (view v) ∷ []) first
-    ∙ sym (map_last module_name (map view (take i values)) (view v))
-    ∙ ap (map module_name) (sym (map_last view (take i values) v))
+    ∙ sym (map_push module_name (map view (take i values)) (view v))
+    ∙ ap (map module_name) (sym (map_push view (take i values) v))
     ∙ ap (λ w. map module_name (map view (take i values ++ w ∷ []))) at
     ∙ ap (λ vs. map module_name (map view vs)) (sym (take_more values i v below))
 

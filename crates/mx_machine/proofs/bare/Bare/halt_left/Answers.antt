@@ -1,10 +1,10 @@
-use Rattle.std.proofs.Common.{rules, ◌≡◌, ℕ, ◌<◌, length, sym, ap, subst, ◌∙◌}
+use Rattle.std.proofs.Common.{rules, ◌≡◌, ℕ, ◌<◌, length, sym, ap, subst, ◌∙◌, suc, ◌+◌, arith}
 use Rattle.mx_check.specs.Harts.{hart_at}
-use Rattle.mx_machine.specs.Deeds.{halted_first}
+use Rattle.mx_machine.specs.Actions.{halted_first}
 use Rattle.mx_machine.specs.Halting.{halted_at}
 use Rattle.mx_machine.specs.Harts.{hart_of, is_halted}
 use Rattle.mx_machine.specs.Held.{Held}
-use Rattle.mx_machine.proofs.HaltLaws.{halted-count, halted-flight, last-place, next-place}
+use Rattle.mx_machine.proofs.HaltLaws.{halted-count, halted-flight}
 use Rattle.mx_machine.proofs.bare.Bare.halt_left.Goals as goal
 
 pub halt_one-requires : goal.halt_one-requires
@@ -27,13 +27,13 @@ loop-hart-preserved g c =
     let i = c.loop-hart.hart in
     c.halt_one.ensures
     ∙ ap (λ (n : Held). record n { parts = record n.parts { harts = halted_at i n.harts n.parts.harts } }) c.loop-hart.invariant
-    ∙ ap (λ (k : ℕ). record m { parts = record m.parts { harts = halted_first k m.harts m.parts.harts } }) (next-place i)
+    ∙ ap (λ (k : ℕ). record m { parts = record m.parts { harts = halted_first k m.harts m.parts.harts } }) (let next : suc i ≡ i + 1 = omega arith in next)
 
 pub returns : goal.returns
 returns g c =
     let m = c.args.self.now in
     let i = c.loop-hart.hart in
-    let end = last-place i c.len-hart-end.result c.loop-hart.auto.hart-end c.loop-hart-test.false in
+    let end : i ≡ c.len-hart-end.result = omega (arith, c.loop-hart.auto.hart-end, c.loop-hart-test.false) in
     c.loop-hart.invariant
     ∙ ap (λ (k : ℕ). record m { parts = record m.parts { harts = halted_first k m.harts m.parts.harts } })
     (end ∙ c.len-hart-end.ensures.number ∙ ap (λ (n : Held). length n.harts) c.self.view_is)

@@ -1,7 +1,7 @@
 use Rattle.std.proofs.Common.{◌<◌, ◌^◌, drop, length-drop, arith}
 use Rattle.mx_words.specs.Reach.{packed}
 use Rattle.mx_words.proofs.NumberLaws.{packed-below, number-small}
-use Rattle.mx_plain.proofs.stored.pack.Goals as goal
+use Rattle.mx_plain.proofs.stored.word_of_perms.Goals as goal
 
 pub overflow_mul-word : goal.overflow_mul-word
 overflow_mul-word c =

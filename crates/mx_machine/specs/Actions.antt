@@ -36,7 +36,9 @@ heard h m = record m { parts = record m.parts { harts = hears h m.parts.harts } 
 
 -- the checks of a domain's touches by hart h
 abbrev pub looks_all : Parts → ℕ → ℕ → List Touch → List Kept → List Kept
-looks_all p h d touches harts = fold (λ kept (t : Touch). looked p.buffer p.kind (map_of p.maps d) h t.place d t.address kept) harts touches
+looks_all p h d touches harts =
+    fold (λ kept (t : Touch). looked p.buffer p.kind (map_of p.maps d) h t.place d t.address kept)
+    harts touches
 
 -- the permissions of a hart, and the effect of the instruction at its pc
 abbrev pub perm_for : Held → Hart → ℕ → Perm
@@ -57,9 +59,14 @@ after_instruction h returns m =
     record m {
       parts = record m.parts {
         ram = bytes_after (perm_for m x) m.parts.ram (effect_for m x);
-        harts = looks_all m.parts h x.domain (fetch_touch x.pc ∷ touches_of (effect_for m x)) m.parts.harts;
+        harts =
+            looks_all m.parts h x.domain (fetch_touch x.pc ∷ touches_of (effect_for m x))
+            m.parts.harts;
       };
-      harts = stepped h (instructed (regs_after (perm_for m x) m.parts.ram x.regs x.pc returns (effect_for m x)) (outcome_for m h returns)) m.harts;
+      harts =
+          stepped h
+          (instructed (regs_after (perm_for m x) m.parts.ram x.regs x.pc returns (effect_for m x))
+          (outcome_for m h returns)) m.harts;
     }
 
 -- a domain is dead after a fault, where it is killing and the fault is none by 20
@@ -96,4 +103,6 @@ returned h rd m = with_kept h leaves_domain (with_step h (returns_over rd) m)
 abbrev pub halted_first : ℕ → List Hart → List Kept → List Kept
 halted_first zero harts kept = kept
 halted_first (suc n) harts kept =
-    if is_halted (hart_of harts n).progress then at_hart n counts_as_halted (halted_first n harts kept) else halted_first n harts kept
+    if is_halted (hart_of harts n).progress
+    then at_hart n counts_as_halted (halted_first n harts kept)
+    else halted_first n harts kept
