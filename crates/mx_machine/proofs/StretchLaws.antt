@@ -11,7 +11,7 @@ use Rattle.mx_model.specs.Valid.{IsValid}
 use Rattle.mx_model.proofs.KeepLaws.{keeps-turned}
 use Rattle.mx_machine.specs.declared.hart.Hart.{Hart}
 use Rattle.mx_machine.specs.declared.views.Stretch.{Stretch}
-use Rattle.mx_machine.specs.Deeds.{after_instruction, effect_for, outcome_for, perm_for}
+use Rattle.mx_machine.specs.Actions.{after_instruction, effect_for, outcome_for, perm_for}
 use Rattle.mx_machine.specs.Harts.{no_hart, hart_of}
 use Rattle.mx_machine.specs.Held.{Held, meaning}
 use Rattle.mx_machine.specs.Made.{IsMade, core_in}

@@ -5,7 +5,7 @@ ghost use Rattle.mx_model.specs.Events.{no_events};
 ghost use Rattle.mx_model.specs.Run.{flat_made};
 ghost use Rattle.mx_model.specs.Turn.{Asks, Traps, at_gate, at_return, call_of, is_return_at, served};
 ghost use Rattle.mx_model.specs.Valid.{IsValid};
-ghost use Rattle.mx_machine.specs.Deeds.{after_instruction};
+ghost use Rattle.mx_machine.specs.Actions.{after_instruction};
 ghost use Rattle.mx_machine.specs.Harts.{hart_of};
 ghost use Rattle.mx_machine.specs.Held.{meaning};
 ghost use Rattle.mx_machine.specs.Made.{IsMade, core_in, hart_in, reads_of, deed, instruction, doing};

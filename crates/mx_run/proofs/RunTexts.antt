@@ -159,13 +159,13 @@ run_stops s f h m k before mid now status r g (inr e) =
 
 -- what turns keep and count
 later_none : (f : Flat) → IsLater f 0 f
-later_none f = record { turns = refl; kind = refl; limit = refl; modules = refl; harts = refl }
+later_none f = record { turns = omega arith; kind = refl; limit = refl; modules = refl; harts = refl }
 
-pub later_turn : (f g k : Flat) (n h : ℕ) → IsLater f n g → k ≡ flat_turn g h → IsLater f (n + 1) k
-later_turn f g k n h l is =
+pub later_turn : (f g k : Flat) (n m h : ℕ) → IsLater f n g → k ≡ flat_turn g h → m ≡ n + 1 → IsLater f m k
+later_turn f g k n m h l is more =
     let t = keeps-turned (flat_reads g) g.core h in
     rw is (record {
-      turns = t.turns ∙ ap (λ i. i + 1) l.turns;
+      turns = omega (arith, t.turns, l.turns, more);
       kind = t.kind ∙ l.kind;
       limit = t.limit ∙ l.limit;
       modules = t.modules ∙ l.modules;
@@ -174,7 +174,7 @@ later_turn f g k n h l is =
 
 pub later_all : (h : ℕ) (f : Flat) (n : ℕ) → IsLater f n (turns_of h f n)
 later_all h f zero = later_none f
-later_all h f (suc n) = later_turn f (turns_of h f n) (turns_of h f (suc n)) n h (later_all h f n) refl
+later_all h f (suc n) = later_turn f (turns_of h f n) (turns_of h f (suc n)) n (suc n) h (later_all h f n) refl (omega arith)
 
 -- a turn that neither traps nor calls
 pub turn_goes_on : (f g : Flat) (h : ℕ) (events : Events) (k : TurnKind) → g ≡ flat_turn f h → IsTold (flat_made f h) events → k ≡ flat_kind f h → may_tell k ≡ false
@@ -239,47 +239,61 @@ module _ (schedule : Schedule) (i n : ℕ) (s : State) (m : Flat) (is : m ≡ fl
   ends_over few over = run_ends schedule i n s few (stops_over schedule (run schedule i s) (ap (named schedule) (sym core_is) ∙ over))
 
 -- turns of one hart in a row from a state of a run
-module _ (schedule : Schedule) (m : Flat) (going : all_halted m.core ≡ false) (h most turns : ℕ) (row : IsRow schedule m.core most h turns) where
+module _ (schedule : Schedule) (f : Flat) (going : all_halted f.core ≡ false) (h most turns : ℕ) (row : IsRow schedule f.core most h turns) where
   -- each carries out an instruction: behind them some hart can go on
-  pub going_along : (n : ℕ) → ((j : ℕ) → j < n → flat_kind (turns_of h m j) h ≡ K.Ran) → all_halted (turns_of h m n).core ≡ false
+  pub going_along : (n : ℕ) → ((j : ℕ) → j < n → flat_kind (turns_of h f j) h ≡ K.Ran) → all_halted (turns_of h f n).core ≡ false
   going_along zero ran = going
   going_along (suc n) ran =
-      let g = turns_of h m n in
+      let g = turns_of h f n in
       (quiet_turned (flat_reads g) g.core h (ap may_tell (ran n (omega arith)))).going (going_along n (λ j below. ran j (omega (arith, below))))
 
-  module _ (i : ℕ) (s : State) (before at : Places) (r : HasRun (run schedule i s) m before at) where
+  -- what the last of them keeps and counts with those before it
+  pub last_later : (k : Flat) (events : Events) (stretch : Stretch) → IsStretch f h turns k events stretch → IsLater f (stretch.ran + 1) k
+  last_later k events stretch is = later_turn f (turns_of h f stretch.ran) k stretch.ran (stretch.ran + 1) h (later_all h f stretch.ran) is.turn refl
+
+  module _ (i : ℕ) (s : State) (before at : Places) (r : HasRun (run schedule i s) f before at) where
     -- the next of them is one of the run
     abbrev pub Reached : ℕ → Type 0
-    Reached n = HasRun (run schedule (i + n) s) (turns_of h m n) before at
+    Reached n = HasRun (run schedule (i + n) s) (turns_of h f n) before at
 
-    next_along : (n : ℕ) → n < turns → all_halted (turns_of h m n).core ≡ false → Reached n → run schedule (i + (n + 1)) s ≡ turn (run schedule (i + n) s) h
-    next_along n few on reached =
-        let g = turns_of h m n in
-        let l = later_all h m n in
-        goes_to schedule (i + n) 0 s g reached.state h on (row.each n few g.core l.turns l.harts)
+    next_along : (n m : ℕ) → m ≡ i + n + 1 → n < turns → all_halted (turns_of h f n).core ≡ false → Reached n → run schedule m s ≡ turn (run schedule (i + n) s) h
+    next_along n m next few on reached =
+        let g = turns_of h f n in
+        let l = later_all h f n in
+        ap (λ j. run schedule j s) next ∙ goes_to schedule (i + n) 0 s g reached.state h on (row.each n few g.core l.turns l.harts)
 
-    pub run_along : (n : ℕ) → n < turns → ((j : ℕ) → j < n → flat_kind (turns_of h m j) h ≡ K.Ran) → Reached n
-    run_along zero few ran = r
+    pub run_along : (n : ℕ) → n < turns → ((j : ℕ) → j < n → flat_kind (turns_of h f j) h ≡ K.Ran) → Reached n
+    run_along zero few ran =
+        let same : i + 0 ≡ i = omega arith in
+        subst (λ (u : State). HasRun u f before at) (sym (ap (λ j. run schedule j s) same)) r
     run_along (suc n) few ran =
-        let g = turns_of h m n in
+        let g = turns_of h f n in
         let k = flat_turn g h in
         let u = run schedule (i + n) s in
-        let ran_before : (j : ℕ) → j < n → flat_kind (turns_of h m j) h ≡ K.Ran = λ j below. ran j (omega (arith, below)) in
+        let ran_before : (j : ℕ) → j < n → flat_kind (turns_of h f j) h ≡ K.Ran = λ j below. ran j (omega (arith, below)) in
         let few_before : n < turns = omega (arith, few) in
+        let next : i + suc n ≡ i + n + 1 = omega arith in
+        let last : n < suc n = omega arith in
         let events : Events = record { bytes = (flat_made g h).console; note = (flat_made g h).note } in
         let told : IsTold (flat_made g h) events = record { bytes = refl; note = refl } in
         let reached = run_along n few_before ran_before in
-        let quiet = turn_goes_on g k h events K.Ran refl told (sym (ran n (omega arith))) refl in
+        let quiet = turn_goes_on g k h events K.Ran refl told (sym (ran n last)) refl in
         let makes = makes_quiet u h k g.core events at (turn_of g k h events u refl told reached.state) quiet in
-        rw (next_along n few_before (going_along n ran_before) reached) (run_makes u h g k before at at reached makes)
+        subst (λ (v : State). HasRun v k before at) (sym (next_along n (i + suc n) next few_before (going_along n ran_before) reached))
+        (run_makes u h g k before at at reached makes)
 
     -- the last of them
-    module _ (k : Flat) (events : Events) (stretch : Stretch) (is : IsStretch m h turns k events stretch) where
+    module _ (k : Flat) (events : Events) (stretch : Stretch) (is : IsStretch f h turns k events stretch) where
       pub last_reached : Reached stretch.ran
       last_reached = run_along stretch.ran is.few is.ran
 
       pub last_is : IsTurnOf (run schedule (i + stretch.ran) s) h k events
-      last_is = turn_of (turns_of h m stretch.ran) k h events (run schedule (i + stretch.ran) s) is.turn is.told last_reached.state
+      last_is = turn_of (turns_of h f stretch.ran) k h events (run schedule (i + stretch.ran) s) is.turn is.told last_reached.state
+
+      pub last_next : run schedule (i + stretch.ran + 1) s ≡ turn (run schedule (i + stretch.ran) s) h
+      last_next = next_along stretch.ran (i + stretch.ran + 1) refl is.few (going_along stretch.ran is.ran) last_reached
 
       pub last_more : run schedule (i + (stretch.ran + 1)) s ≡ turn (run schedule (i + stretch.ran) s) h
-      last_more = next_along stretch.ran is.few (going_along stretch.ran is.ran) last_reached
+      last_more =
+          let next : i + (stretch.ran + 1) ≡ i + stretch.ran + 1 = omega arith in
+          ap (λ j. run schedule j s) next ∙ last_next

@@ -164,8 +164,8 @@ pub record GoesOn (c : Core) (events : Events) (e : Core) : Type 0 where
   pub going : all_halted c ≡ false → all_halted e ≡ false
 
 -- what so many turns keep and count
-pub record IsLater (f : Flat) (turns : ℕ) (g : Flat) : Type 0 where
-  pub turns : g.core.turns ≡ f.core.turns + turns
+pub record IsLater (f : Flat) (n : ℕ) (g : Flat) : Type 0 where
+  pub turns : g.core.turns ≡ f.core.turns + n
   pub kind : g.core.kind ≡ f.core.kind
   pub limit : g.core.limit ≡ f.core.limit
   pub modules : length g.core.modules ≡ length f.core.modules
