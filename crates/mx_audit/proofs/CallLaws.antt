@@ -9,6 +9,7 @@ use Rattle.mx_words.specs.declared.perm.Perm.TheVariants as P
 use Rattle.mx_words.specs.declared.perm.Access.TheVariants as A
 use Rattle.mx_words.specs.Announced.{is_announced}
 use Rattle.mx_words.specs.FirstFit.{Area, AreApart, has_room, block_words, most_blocks}
+use Rattle.mx_words.proofs.AreaLaws.{apart_ordered}
 use Rattle.mx_words.specs.FirstRow.{first_row, Row}
 use Rattle.mx_words.specs.Newest.{Give}
 use Rattle.mx_words.specs.Ranges.{covers, overlaps}
@@ -210,15 +211,11 @@ keeps-alloc L w r c call s sp p =
     (found-passes (has_room m.heap m.blocks (arg call 0)) (range_with_len m.heap.first m.heap.count)) t.1.0))
 
 -- free: a live block lies in its heap area
-apart-low : (low high : ℕ) (bs : List Area) → AreApart low high bs → low ≤ high
-apart-low low high [] p = p
-apart-low low high (b ∷ bs) p = let q = apart-low (b.first + b.count) high bs p.2 in let r = p.0 in omega (arith, q, r)
-
 block-in : (low high first : ℕ) (bs : List Area) → AreApart low high bs → IfSome (block_words bs first) (λ n. (low ≤ first) × (first + n ≤ high))
 block-in low high first [] p = tt
 block-in low high first (b ∷ bs) p = elim (b.first == first) as
     (λ t. (b.first == first) ≡ t → IfSome (option_map (λ (x : Area). x.count) (cond t (Some b) (find (λ (x : Area). x.first == first) bs))) (λ n. (low ≤ first) × (first + n ≤ high))) [
-      | true ↦ λ t. let e = eqb-true b.first first t in let l = p.0 in let h = apart-low (b.first + b.count) high bs p.2 in (omega (arith, e, l), omega (arith, e, h))
+      | true ↦ λ t. let e = eqb-true b.first first t in let l = p.0 in let h = apart_ordered (b.first + b.count) high bs p.2 in (omega (arith, e, l), omega (arith, e, h))
       | false ↦ λ t. lower (block_words bs first) (block-in (b.first + b.count) high first bs p.2)
     ] refl
   where

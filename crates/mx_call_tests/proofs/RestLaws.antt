@@ -13,7 +13,7 @@ use Rattle.mx_check.specs.declared.flight.Flight.{Flight}
 use Rattle.mx_check.specs.Calls.{ready_with, hart_lets_pass}
 use Rattle.mx_check.specs.Conditions.{MayLook, MayAnnounce}
 use Rattle.mx_check.specs.Harts.{Kept, no_hart, hart_at, at_hart, announced}
-use Rattle.mx_check.specs.Looks.{looked, looked_at, looks, with_domain, is_barred}
+use Rattle.mx_check.specs.Looks.{looked, looked_at, looks, with_domain, is_forbidden}
 use Rattle.mx_model.specs.declared.values.Call.{Call}
 use Rattle.mx_supervisor.specs.Looks.{KeepsHarts}
 use Rattle.mx_supervisor.specs.Parts.{Parts, IsSound}
@@ -112,7 +112,7 @@ length-looked buffer kind m h place domain address harts = by (word_of address (
   where
     by : (o : Option ℕ) → length (looked_at buffer kind m h place domain o harts) ≡ length harts
     by None = length-set harts h (with_domain domain (hart_at harts h))
-    by (Some word) = length-set harts h (looks buffer place domain word (span kind m word) (is_barred h (span kind m word) harts) (hart_at harts h))
+    by (Some word) = length-set harts h (looks buffer place domain word (span kind m word) (is_forbidden h (span kind m word) harts) (hart_at harts h))
 
 -- what an access of the hart leaves of it
 pub rest-accessed : (h d : ℕ) (p : Parts) (harts : List Kept) (ram : List ℕ) → IsAtRest h d p → length harts ≡ length p.harts → MayLook h d harts →

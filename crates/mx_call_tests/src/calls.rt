@@ -11,7 +11,8 @@ use mx_table::PermTables;
 
 /// A call of hart 0 in domain 1, without a frame on its cross stack.
 pub fn own_call(number: u32, args: [u32; 4]) -> Call
-    ensures { result ≡ record { number = number; args = args; hart = 0; domain = 1; nested = false } }
+    ensures { result ≡
+        record { number = number; args = args; hart = 0; domain = 1; nested = false } }
 {
     Call {
         number,

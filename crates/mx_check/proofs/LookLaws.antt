@@ -7,7 +7,7 @@ use Rattle.mx_words.specs.declared.perm.Span.{Span}
 use Rattle.mx_words.specs.Counting.{all_below}
 use Rattle.mx_words.specs.Caches.{found_in_place, found_kept}
 use Rattle.mx_check.specs.Harts.{Kept, no_hart, hart_at, at_hart}
-use Rattle.mx_check.specs.Looks.{flight_bars, hart_bars, is_barred, found, after_caches, after_walk, looks}
+use Rattle.mx_check.specs.Looks.{flight_forbids, hart_forbids, is_forbidden, found, after_caches, after_walk, looks}
 
 -- two tests that agree below a number
 pub all_below_agree : (n : ℕ) (p q : ℕ → Bool) → ((i : ℕ) → i < n → p i ≡ q i) → all_below n p ≡ all_below n q
@@ -34,22 +34,22 @@ at_hart-twice harts h f g there =
     ∙ ap (λ (k : Kept). set harts h (f k)) (hart_at-same harts h g there)
 
 -- whether a hart's call bars a span, after a step that leaves the calls in flight
-hart_bars-other : (h : ℕ) (s : Span) (harts other : List Kept) (i : ℕ) → ((i ≢ h) → (hart_at other i).flight ≡ (hart_at harts i).flight) →
-    hart_bars h s other i ≡ hart_bars h s harts i
-hart_bars-other h s harts other i same = by (cases_eq i h)
+hart_forbids-other : (h : ℕ) (s : Span) (harts other : List Kept) (i : ℕ) → ((i ≢ h) → (hart_at other i).flight ≡ (hart_at harts i).flight) →
+    hart_forbids h s other i ≡ hart_forbids h s harts i
+hart_forbids-other h s harts other i same = by (cases_eq i h)
   where
-    by : (i ≡ h) ⊎ (i ≢ h) → hart_bars h s other i ≡ hart_bars h s harts i
+    by : (i ≡ h) ⊎ (i ≢ h) → hart_forbids h s other i ≡ hart_forbids h s harts i
     by (inl e) =
         let own : (i == h) ≡ true = eq-eqb i h e in
-        ap (λ b. not b && flight_bars h s (hart_at other i).flight) own ∙ sym (ap (λ b. not b && flight_bars h s (hart_at harts i).flight) own)
-    by (inr ne) = ap (λ f. not (i == h) && flight_bars h s f) (same ne)
+        ap (λ b. not b && flight_forbids h s (hart_at other i).flight) own ∙ sym (ap (λ b. not b && flight_forbids h s (hart_at harts i).flight) own)
+    by (inr ne) = ap (λ f. not (i == h) && flight_forbids h s f) (same ne)
 
-pub is_barred-same : (h : ℕ) (s : Span) (harts : List Kept) (step : Kept → Kept) → is_barred h s (at_hart h step harts) ≡ is_barred h s harts
-is_barred-same h s harts step =
+pub is_forbidden-same : (h : ℕ) (s : Span) (harts : List Kept) (step : Kept → Kept) → is_forbidden h s (at_hart h step harts) ≡ is_forbidden h s harts
+is_forbidden-same h s harts step =
     let other = at_hart h step harts in
-    ap (λ n. not (all_below n (λ i. not (hart_bars h s other i)))) (length-at_hart harts h step)
-    ∙ ap not (all_below_agree (length harts) (λ i. not (hart_bars h s other i)) (λ i. not (hart_bars h s harts i))
-    (λ i lt. ap not (hart_bars-other h s harts other i (λ ne. ap (λ (k : Kept). k.flight) (hart_at-other harts h step i ne)))))
+    ap (λ n. not (all_below n (λ i. not (hart_forbids h s other i)))) (length-at_hart harts h step)
+    ∙ ap not (all_below_agree (length harts) (λ i. not (hart_forbids h s other i)) (λ i. not (hart_forbids h s harts i))
+    (λ i lt. ap not (hart_forbids-other h s harts other i (λ ne. ap (λ (k : Kept). k.flight) (hart_at-other harts h step i ne)))))
 
 -- where neither the place nor the list answers, neither holds the word
 pub no_permission : (o : Option Span) → None ≡ option_map (λ (s : Span). s.perm) o → o ≡ None
@@ -71,12 +71,12 @@ asked_walked most place domain word s barred k a b ea eb ia ib =
 
 pub walk_is_look : (most h place domain word : ℕ) (s : Span) (harts : List Kept) → h < length harts →
     None ≡ option_map (λ (s : Span). s.perm) (found place domain word (hart_at harts h).cache) →
-    at_hart h (after_walk most place domain s (is_barred h s (at_hart h (after_caches place domain word) harts))) (at_hart h (after_caches place domain word) harts)
-    ≡ at_hart h (looks most place domain word s (is_barred h s harts)) harts
+    at_hart h (after_walk most place domain s (is_forbidden h s (at_hart h (after_caches place domain word) harts))) (at_hart h (after_caches place domain word) harts)
+    ≡ at_hart h (looks most place domain word s (is_forbidden h s harts)) harts
 walk_is_look most h place domain word s harts there miss =
     let k = hart_at harts h in
     let none : found place domain word k.cache ≡ None = no_permission (found place domain word k.cache) miss in
     let parts = neither (found_in_place k.cache.places place word) (found_kept k.cache.kept domain word) none in
-    ap (λ (b : Bool). at_hart h (after_walk most place domain s b) (at_hart h (after_caches place domain word) harts)) (is_barred-same h s harts (after_caches place domain word))
-    ∙ at_hart-twice harts h (after_walk most place domain s (is_barred h s harts)) (after_caches place domain word) there
-    ∙ ap (λ (x : Kept). set harts h x) (asked_walked most place domain word s (is_barred h s harts) k _ _ parts.0 parts.1 refl refl)
+    ap (λ (b : Bool). at_hart h (after_walk most place domain s b) (at_hart h (after_caches place domain word) harts)) (is_forbidden-same h s harts (after_caches place domain word))
+    ∙ at_hart-twice harts h (after_walk most place domain s (is_forbidden h s harts)) (after_caches place domain word) there
+    ∙ ap (λ (x : Kept). set harts h x) (asked_walked most place domain word s (is_forbidden h s harts) k _ _ parts.0 parts.1 refl refl)

@@ -23,7 +23,7 @@ use Rattle.mx_table.specs.Tables.{map_of}
 use Rattle.mx_check.specs.declared.flight.Flight.{Flight}
 use Rattle.mx_words.specs.Hearing.{is_in}
 use Rattle.mx_check.specs.Harts.{Kept, no_hart, hart_at, at_hart, leaves_domain}
-use Rattle.mx_check.specs.Looks.{flight_bars, hart_bars, is_barred, found, with_domain, looks, looked_at, looked, decided_by, decided_at, decided}
+use Rattle.mx_check.specs.Looks.{flight_forbids, hart_forbids, is_forbidden, found, with_domain, looks, looked_at, looked, decided_by, decided_at, decided}
 use Rattle.mx_check.specs.Coherence.{EachSpan, Agrees, AgreesIn, HasDropped, Keeps}
 use Rattle.mx_check.specs.Conditions.{MayLook}
 use Rattle.mx_check.proofs.LookLaws.{length-at_hart, hart_at-same, hart_at-other}
@@ -38,15 +38,15 @@ uniform_agrees m own i s u = record { at = λ word inside spared. let c = covers
 second : (a b : Bool) → (a && b) ≡ false → a ≡ true → b ≡ false
 second a b e hit = sym (ap (λ x. x && b) hit) ∙ e
 
-unbarred : (h : ℕ) (s : Span) (harts : List Kept) (i : ℕ) (f : Flight) → is_barred h s harts ≡ false → i < length harts → i ≢ h →
+unbarred : (h : ℕ) (s : Span) (harts : List Kept) (i : ℕ) (f : Flight) → is_forbidden h s harts ≡ false → i < length harts → i ≢ h →
     (hart_at harts i).flight ≡ Some f → is_in f.heard h ≡ true → meets s f.first f.count ≡ false
 unbarred h s harts i f free lt ne flying hit =
-    let all : all_below (length harts) (λ i. not (hart_bars h s harts i)) ≡ true = not-false (all_below (length harts) (λ i. not (hart_bars h s harts i))) free in
-    let at : not (hart_bars h s harts i) ≡ true = all_below-at (length harts) i (λ i. not (hart_bars h s harts i)) all lt in
-    let no_bar : hart_bars h s harts i ≡ false = not-true (hart_bars h s harts i) at in
+    let all : all_below (length harts) (λ i. not (hart_forbids h s harts i)) ≡ true = not-false (all_below (length harts) (λ i. not (hart_forbids h s harts i))) free in
+    let at : not (hart_forbids h s harts i) ≡ true = all_below-at (length harts) i (λ i. not (hart_forbids h s harts i)) all lt in
+    let no_bar : hart_forbids h s harts i ≡ false = not-true (hart_forbids h s harts i) at in
     let other : not (i == h) ≡ true = ap not (ne_eqb i h ne) in
-    let flight : flight_bars h s (hart_at harts i).flight ≡ false = second (not (i == h)) (flight_bars h s (hart_at harts i).flight) no_bar other in
-    second (is_in f.heard h) (meets s f.first f.count) (sym (ap (flight_bars h s) flying) ∙ flight) hit
+    let flight : flight_forbids h s (hart_at harts i).flight ≡ false = second (not (i == h)) (flight_forbids h s (hart_at harts i).flight) no_bar other in
+    second (is_in f.heard h) (meets s f.first f.count) (sym (ap (flight_forbids h s) flying) ∙ flight) hit
 
 flown_there : (harts : List Kept) (i : ℕ) (f : Flight) → (hart_at harts i).flight ≡ Some f → i < length harts
 flown_there harts i f flying = by (cases_lt i (length harts))
@@ -79,21 +79,21 @@ module _ (kind : Kind) (maps : List (List Perm)) (harts : List Kept) (h domain :
 
   module _ (most place word : ℕ) (s : Span) (round : IsUniformRound (map_of maps domain) word s) where
     clear_looked : (i : ℕ) → i ≢ h → (f : Flight) → (hart_at harts i).flight ≡ Some f → HasDropped h (hart_at harts h).cache f →
-        HasDropped h (looks most place domain word s (is_barred h s harts) (hart_at harts h)).cache f
+        HasDropped h (looks most place domain word s (is_forbidden h s harts) (hart_at harts h)).cache f
     clear_looked i ne f flying old hit =
-        each_checked most place domain word s (is_barred h s harts) (hart_at harts h).cache (old hit) (λ t p. p)
+        each_checked most place domain word s (is_forbidden h s harts) (hart_at harts h).cache (old hit) (λ t p. p)
         (λ free. unbarred h s harts i f free (flown_there harts i f flying) ne flying hit)
 
     dropped_looked : (i : ℕ) → i ≢ h → (o : Option Flight) → (hart_at harts i).flight ≡ o → IfSome o (HasDropped h (hart_at harts h).cache) →
-        IfSome o (HasDropped h (looks most place domain word s (is_barred h s harts) (hart_at harts h)).cache)
+        IfSome o (HasDropped h (looks most place domain word s (is_forbidden h s harts) (hart_at harts h)).cache)
     dropped_looked i ne None e old = tt
     dropped_looked i ne (Some f) e old = clear_looked i ne f e old
 
-    pub looks-keeps : Keeps maps (at_hart h (looks most place domain word s (is_barred h s harts)) harts)
+    pub looks-keeps : Keeps maps (at_hart h (looks most place domain word s (is_forbidden h s harts)) harts)
     looks-keeps =
         let k = hart_at harts h in
-        keeps_step maps harts h (looks most place domain word s (is_barred h s harts)) keeps may.hart
-        (λ running. each_checked most place domain word s (is_barred h s harts) k.cache current_now (λ t p. p)
+        keeps_step maps harts h (looks most place domain word s (is_forbidden h s harts)) keeps may.hart
+        (λ running. each_checked most place domain word s (is_forbidden h s harts) k.cache current_now (λ t p. p)
         (λ free. uniform_agrees (map_of maps domain) k.flight word s round))
         (λ i running apart. dropped_looked i apart (hart_at harts i).flight refl (keeps.dropped h i running apart))
         (λ i running apart. keeps.dropped i h running (λ e. apart (sym e)))
@@ -162,7 +162,7 @@ module _ (kind : Kind) (maps : List (List Perm)) (harts : List Kept) (h domain m
   again_at : (o : Option ℕ) → MayLook h domain (looked_at most kind (map_of maps domain) h place domain o harts)
   again_at None = again_after harts h domain (with_domain domain) may (λ k. refl) (λ k. refl) (λ k. refl)
   again_at (Some word) =
-      again_after harts h domain (looks most place domain word (span kind (map_of maps domain) word) (is_barred h (span kind (map_of maps domain) word) harts)) may (λ k. refl) (λ k. refl) (λ k. refl)
+      again_after harts h domain (looks most place domain word (span kind (map_of maps domain) word) (is_forbidden h (span kind (map_of maps domain) word) harts)) may (λ k. refl) (λ k. refl) (λ k. refl)
 
   pub may_again : MayLook h domain (looked most kind (map_of maps domain) h place domain address harts)
   may_again = again_at (word_of address (length (map_of maps domain)))

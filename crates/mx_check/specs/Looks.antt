@@ -9,23 +9,23 @@ use Rattle.mx_words.specs.Counting.{all_below}
 use Rattle.mx_words.specs.Ranges.{word_of}
 use Rattle.mx_words.specs.Reach.{span}
 use Rattle.mx_check.specs.declared.flight.Flight.{Flight}
-use Rattle.mx_words.specs.Hearing.{bars}
+use Rattle.mx_words.specs.Hearing.{forbids_keeping}
 use Rattle.mx_check.specs.Harts.{Kept, hart_at, at_hart}
 use Rattle.std.specs.Prelude.{length}
 use Rattle.std.specs.Option.{option_or}
 
 -- whether a span meets the range of a call in flight that hart h has heard
-abbrev pub flight_bars : ℕ → Span → Option Flight → Bool
-flight_bars h s None = false
-flight_bars h s (Some f) = bars h f.heard (f.first, f.count) s
+abbrev pub flight_forbids : ℕ → Span → Option Flight → Bool
+flight_forbids h s None = false
+flight_forbids h s (Some f) = forbids_keeping h f.heard (f.first, f.count) s
 
 -- whether the call of hart i keeps hart h from keeping a span
-abbrev pub hart_bars : ℕ → Span → List Kept → ℕ → Bool
-hart_bars h s harts i = not (i == h) && flight_bars h s (hart_at harts i).flight
+abbrev pub hart_forbids : ℕ → Span → List Kept → ℕ → Bool
+hart_forbids h s harts i = not (i == h) && flight_forbids h s (hart_at harts i).flight
 
 -- whether a span meets the range of a call in flight of another hart that hart h has heard
-abbrev pub is_barred : ℕ → Span → List Kept → Bool
-is_barred h s harts = not (all_below (length harts) (λ i. not (hart_bars h s harts i)))
+abbrev pub is_forbidden : ℕ → Span → List Kept → Bool
+is_forbidden h s harts = not (all_below (length harts) (λ i. not (hart_forbids h s harts i)))
 
 -- the span with which a place or the list answers, the place first
 abbrev pub found : ℕ → ℕ → ℕ → Cache → Option Span
@@ -70,7 +70,7 @@ abbrev pub looked_at : ℕ → Kind → List Perm → ℕ → ℕ → ℕ → Op
 looked_at most kind m h place domain None harts = at_hart h (with_domain domain) harts
 looked_at most kind m h place domain (Some word) harts =
     at_hart h
-    (looks most place domain word (span kind m word) (is_barred h (span kind m word) harts))
+    (looks most place domain word (span kind m word) (is_forbidden h (span kind m word) harts))
     harts
 
 -- the harts after hart h checks an address in a domain with the map m: the buffers hold `most` entries

@@ -8,7 +8,7 @@ ghost use Rattle.mx_table.specs.Change.{IsLawful, changed};
 ghost use Rattle.mx_table.specs.Tables.{IsDomain, map_of};
 ghost use Rattle.mx_check.specs.Flights.{IsSet};
 ghost use Rattle.mx_check.specs.Harts.{hart_at, at_hart, announced, finished, leaves_domain, halts, has_heard};
-ghost use Rattle.mx_check.specs.Looks.{found, decided_by, decided, lookups_with, lookups_after, looks, after_walk, looked, is_barred};
+ghost use Rattle.mx_check.specs.Looks.{found, decided_by, decided, lookups_with, lookups_after, looks, after_walk, looked, is_forbidden};
 ghost use Rattle.mx_check.specs.Calls.{hears, is_ready, new_harts, waiting_harts};
 
 use crate::harts::Harts;
@@ -99,7 +99,7 @@ impl<T: PermTables, const N: usize> Bare<T, N> {
             (span T.kind (map_of (T.maps self.old.tables) domain) word) }
         ensures harts { let s = span T.kind (map_of (T.maps self.old.tables) domain) word in
             self.new.harts
-            ≡ at_hart hart (looks N place domain word s (is_barred hart s self.old.harts))
+            ≡ at_hart hart (looks N place domain word s (is_forbidden hart s self.old.harts))
             self.old.harts }
         ensures lookups { T.lookups self.new.tables
             ≡ lookups_with (found place domain word (hart_at self.old.harts hart).cache)
@@ -124,7 +124,7 @@ impl<T: PermTables, const N: usize> Bare<T, N> {
         ensures answer { result ≡ (span T.kind (map_of (T.maps self.old.tables) domain) word).perm }
         ensures harts { let s = span T.kind (map_of (T.maps self.old.tables) domain) word in
             self.new.harts
-            ≡ at_hart hart (after_walk N place domain s (is_barred hart s self.old.harts))
+            ≡ at_hart hart (after_walk N place domain s (is_forbidden hart s self.old.harts))
             self.old.harts }
         ensures lookups { T.lookups self.new.tables ≡ raised (T.lookups self.old.tables) }
         ensures same_maps { T.maps self.new.tables ≡ T.maps self.old.tables }
@@ -132,7 +132,7 @@ impl<T: PermTables, const N: usize> Bare<T, N> {
         ensures same_limit { T.limits self.new.tables ≡ T.limits self.old.tables }
     {
         let span = self.tables.lookup(domain, word);
-        let barred = self.harts.is_barred(hart, &span);
+        let barred = self.harts.is_forbidden(hart, &span);
         self.harts.keep(hart, place, domain, span, barred);
         span.perm
     }

@@ -3,7 +3,7 @@ ghost use Rattle.std.specs.Prelude.{◌≡◌, ◌<◌, ◌≤◌, Some, None, l
 ghost use Rattle.std.specs.Option.{option_map};
 ghost use Rattle.mx_check.specs.Flights.{IsSet};
 ghost use Rattle.mx_check.specs.Harts.{hart_at, at_hart, announced, heard_by, drops, finished, leaves_domain, halts, has_heard};
-ghost use Rattle.mx_check.specs.Looks.{found, after_caches, after_walk, with_domain, hart_bars, is_barred};
+ghost use Rattle.mx_check.specs.Looks.{found, after_caches, after_walk, with_domain, hart_forbids, is_forbidden};
 ghost use Rattle.mx_check.specs.Calls.{unheard, hears_one, hears, hart_lets_pass, is_ready, new_harts, waiting_harts};
 
 use crate::part::Part;
@@ -231,24 +231,24 @@ impl<const N: usize> Harts<N> {
     }
 
     /// Whether the call of hart `i` keeps the hart from keeping a span.
-    fn hart_bars(&self, hart: u32, span: &Span, i: u32) -> bool
+    fn hart_forbids(&self, hart: u32, span: &Span, i: u32) -> bool
         requires hart { hart < length self.now }
         requires other { i < length self.now }
-        ensures { result ≡ hart_bars hart span.now self.now i }
+        ensures { result ≡ hart_forbids hart span.now self.now i }
     {
         let part = &self.parts[i as usize];
-        i != hart && part.hart_bars(hart, span)
+        i != hart && part.hart_forbids(hart, span)
     }
 
     /// Whether a span meets the range of a call in flight of another hart that the hart has heard.
     #[tactic(auto, unfolding(mx_words::specs::Counting::all_below))]
-    pub fn is_barred(&self, hart: u32, span: &Span) -> bool
+    pub fn is_forbidden(&self, hart: u32, span: &Span) -> bool
         requires { hart < length self.now }
-        ensures { result ≡ is_barred hart span.now self.now }
+        ensures { result ≡ is_forbidden hart span.now self.now }
     {
         let mut clear = true;
         for i in 0..self.len() {
-            clear = clear && !self.hart_bars(hart, span, i);
+            clear = clear && !self.hart_forbids(hart, span, i);
         }
         !clear
     }

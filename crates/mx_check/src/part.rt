@@ -3,7 +3,7 @@ ghost use Rattle.std.specs.Prelude.{◌≡◌, ◌<◌, ◌≤◌, Some, None, s
 ghost use Rattle.std.specs.Option.{option_map};
 ghost use Rattle.mx_words.specs.Caches.{raised, found_kept};
 ghost use Rattle.mx_check.specs.Harts.{new_hart, no_hart, announced, heard_by, drops, finished, leaves_domain, halts, has_heard};
-ghost use Rattle.mx_check.specs.Looks.{found, after_caches, after_list, after_walk, with_domain, flight_bars};
+ghost use Rattle.mx_check.specs.Looks.{found, after_caches, after_list, after_walk, with_domain, flight_forbids};
 ghost use Rattle.mx_check.specs.Calls.{unheard_of};
 
 use crate::Flight;
@@ -164,9 +164,9 @@ impl<const N: usize> Part<N> {
     }
 
     /// Whether a span meets the range of the call in flight, where the hart `by` has heard it.
-    pub fn hart_bars(&self, by: u32, span: &Span) -> bool
+    pub fn hart_forbids(&self, by: u32, span: &Span) -> bool
         requires { by < 4 }
-        ensures { result ≡ flight_bars by span.now self.now.flight }
+        ensures { result ≡ flight_forbids by span.now self.now.flight }
     {
         match self.flight {
             Some(flight) => { flight.heard[by as usize] && span.meets(flight.first, flight.count) }

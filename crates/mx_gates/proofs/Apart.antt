@@ -6,21 +6,21 @@ use Rattle.std.proofs.lemmas.Bool.{cases_Bool, and_parts, and_cases, and_from, n
 use Rattle.std.proofs.lemmas.List.{take-append-drop}
 use Rattle.std.proofs.lemmas.List.Kept.{AllPairs-filter}
 use Rattle.std.proofs.lemmas.List.Folds.{find-append}
-use Rattle.std.proofs.lemmas.List.Quantifiers.{all_pairs_push}
 use Rattle.std.proofs.lemmas.List.Filters.{length-filter_both}
 use Rattle.mx_model.specs.declared.values.Gate.{Gate}
 use Rattle.mx_model.specs.Gates.{is_at, gate_at, without_gate, has_gate, no_gate_fits}
 use Rattle.mx_model.specs.Gates.{AreSingle}
-use Rattle.mx_model.proofs.ApartLaws.{at-flipped}
+use Rattle.mx_model.proofs.ApartLaws.{at-flipped, single-push}
 use Rattle.mx_gates.proofs.Lists.{filter-find_none, find_none-any, find_none-from, length-filter_any, find-filter_not, find_none-at}
 
 -- two gates that stand at one place
 at_both : (domain word : ℕ) (g h : Gate) → is_at domain word g ≡ true → is_at domain word h ≡ true → is_at g.domain g.word h ≡ true
 at_both domain word g h p q = grind arith
 
-pub AreSingle-push : (gates : List Gate) (g : Gate) → gate_at gates g.domain g.word ≡ None → AreSingle gates → AreSingle (gates ++ g ∷ [])
-AreSingle-push gates g none a =
-    all_pairs_push (λ (g h : Gate). is_at g.domain g.word h ≡ false) gates g a (λ k d within. at-flipped g (get_or gates k d) (find_none-at _ gates k d none within))
+-- a gate at a place where none stands goes to the others
+pub pushed-single : (gates : List Gate) (g : Gate) → gate_at gates g.domain g.word ≡ None → AreSingle gates → AreSingle (gates ++ g ∷ [])
+pushed-single gates g none a =
+    single-push g gates a (λ k d within. at-flipped g (get_or gates k d) (find_none-at _ gates k d none within))
 
 AreSingle-tail : (g : Gate) (gates : List Gate) → AreSingle (g ∷ gates) → AreSingle gates
 AreSingle-tail g gates a i j d lt within = a (suc i) (suc j) d (omega arith) (omega arith)

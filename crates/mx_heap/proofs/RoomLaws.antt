@@ -7,6 +7,7 @@ use Rattle.std.proofs.lemmas.List.{take-append-drop, drop_more}
 use Rattle.std.proofs.lemmas.List.Quantifiers.{position-Some}
 use Rattle.std.proofs.lemmas.List.Sums.{fails_before_first}
 use Rattle.mx_words.specs.FirstFit.{Area, has_room, place}
+use Rattle.mx_words.proofs.AreaLaws.{apart_ordered}
 use Rattle.mx_words.specs.Ranges.{overlaps}
 use Rattle.mx_heap.specs.declared.parts.Part.{Part}
 use Rattle.mx_words.specs.FirstFit.{AreApart}
@@ -37,14 +38,10 @@ overlap_across f c a n sc sn h k =
 abbrev pub met : ℕ → ℕ → List Area → Bool
 met a n blocks = list_any (λ (b : Area). overlaps b.first b.count a n) blocks
 
-pub apart-le : (low high : ℕ) (bs : List Area) → AreApart low high bs → low ≤ high
-apart-le low high [] h = h
-apart-le low high (b ∷ bs) h = let rest : b.first + b.count ≤ high = apart-le (b.first + b.count) high bs h.2 in omega (arith, h.0)
-
 pub met_below : (low high a n : ℕ) (bs : List Area) → AreApart low high bs → high ≤ a → met a n bs ≡ false
 met_below low high a n [] h le = refl
 met_below low high a n (b ∷ bs) h le =
-    let end : b.first + b.count ≤ high = apart-le (b.first + b.count) high bs h.2 in
+    let end : b.first + b.count ≤ high = apart_ordered (b.first + b.count) high bs h.2 in
     or_from (overlaps b.first b.count a n) (met a n bs) (overlap_below b.first b.count a n h.1 (omega arith)) (met_below (b.first + b.count) high a n bs h.2 le)
 
 pub met_behind : (low high a n : ℕ) (bs : List Area) → AreApart low high bs → a + n ≤ low → met a n bs ≡ false

@@ -19,7 +19,9 @@ LiesIn area a n = (area.first ≤ a) × (a + n ≤ area.first + area.count)
 
 -- whether a block may become live: it has a word, has room in the area, and isn't one too many
 abbrev pub may_live : HeapState → Area → Bool
-may_live heap b = nat_lt 0 b.count && has_room heap.area heap.blocks b.count b.first && nat_lt (length heap.blocks) most_blocks
+may_live heap b =
+    nat_lt 0 b.count && has_room heap.area heap.blocks b.count b.first &&
+    nat_lt (length heap.blocks) most_blocks
 
 -- a block as the words that it takes
 abbrev pub area_of : Block → Area

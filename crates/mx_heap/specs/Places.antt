@@ -28,7 +28,8 @@ abbrev pub is_hole_for : ℕ → Part → Bool
 is_hole_for n p = not p.live && nat_le n p.count
 
 abbrev pub is_hole_around : ℕ → ℕ → Part → Bool
-is_hole_around first count p = not p.live && (nat_le p.first first && nat_le (first + count) (p.first + p.count))
+is_hole_around first count p =
+    not p.live && (nat_le p.first first && nat_le (first + count) (p.first + p.count))
 
 abbrev pub is_block_at : ℕ → Part → Bool
 is_block_at first p = p.live && p.first == first
@@ -54,7 +55,9 @@ without_hole parts i count = if nat_lt 0 count then remove parts i else parts
 abbrev pub split : List Part → ℕ → ℕ → ℕ → List Part
 split parts i first count =
     let h : Part = part_at parts i in
-    with_hole (with_hole (slice_set parts i (live_part first count)) (i + 1) (first + count) (h.first + h.count - (first + count))) i h.first (first - h.first)
+    with_hole
+    (with_hole (slice_set parts i (live_part first count)) (i + 1) (first + count)
+    (h.first + h.count - (first + count))) i h.first (first - h.first)
 
 -- the parts with a hole in place of the block at place i, merged with the holes around it
 abbrev pub joined : List Part → ℕ → List Part
@@ -62,25 +65,30 @@ joined parts i =
     let before : ℕ = hole_words parts (i - 1) in
     let behind : ℕ = hole_words parts (i + 1) in
     let b : Part = part_at parts i in
-    without_hole (without_hole (slice_set parts i (hole (b.first - before) (before + b.count + behind))) (i + 1) behind) (i - 1) before
+    without_hole
+    (without_hole (slice_set parts i (hole (b.first - before) (before + b.count + behind)))
+    (i + 1) behind) (i - 1) before
 
 -- the live blocks among the parts
 abbrev pub blocks_of : List Part → List Area
 blocks_of [] = []
-blocks_of (p ∷ ps) = if p.live then record { first = p.first; count = p.count } ∷ blocks_of ps else blocks_of ps
+blocks_of (p ∷ ps) =
+    if p.live then record { first = p.first; count = p.count } ∷ blocks_of ps else blocks_of ps
 
 -- parts of at least one word that fill the words from `low` to before `high`, of which no two neighbours are holes; `after_live` says
 -- whether what stands before them is no hole
 abbrev pub Fill : ℕ → ℕ → Bool → List Part → Type 0
 Fill low high after_live [] = low ≡ high
 Fill low high after_live (p ∷ ps) =
-    (p.first ≡ low) × (0 < p.count) × (after_live ≡ false → p.live ≡ true) × Fill (low + p.count) high p.live ps
+    (p.first ≡ low) × (0 < p.count) × (after_live ≡ false → p.live ≡ true) ×
+    Fill (low + p.count) high p.live ps
 
 -- parts of at least one word, in the order of their addresses and apart, of which a heap has at most 2049
 pub record AreInOrder (parts : List Part) : Type 0 where
   pub few : length parts ≤ 2 * most_blocks + 1
   pub some : (i : ℕ) → i < length parts → 0 < (part_at parts i).count
-  pub apart : (i j : ℕ) → i < j → j < length parts → (part_at parts i).first + (part_at parts i).count ≤ (part_at parts j).first
+  pub apart : (i j : ℕ) → i < j → j < length parts →
+      (part_at parts i).first + (part_at parts i).count ≤ (part_at parts j).first
 
 -- how many parts begin at a word or before it, where they are in order
 abbrev pub parts_to : ℕ → List Part → ℕ
@@ -103,10 +111,12 @@ listed_at blocks i = slice_index_or blocks i no_block
 
 -- listed blocks in the order of their addresses
 abbrev pub AreRising : List Block → Type 0
-AreRising blocks = (i j : ℕ) → i < j → j < length blocks → (listed_at blocks i).first < (listed_at blocks j).first
+AreRising blocks =
+    (i j : ℕ) → i < j → j < length blocks → (listed_at blocks i).first < (listed_at blocks j).first
 
 -- the same beside a list of the live blocks alone
-pub record AreStored (first count : ℕ) (parts : List Part) (live capacity : ℕ) (blocks : List Block) (room : ℕ) : Type 0 where
+pub record AreStored (first count : ℕ) (parts : List Part) (live capacity : ℕ) (blocks : List Block)
+    (room : ℕ) : Type 0 where
   pub are : AreParts first count parts live capacity
   pub listed : map area_of blocks ≡ blocks_of parts
   pub room_is : most_blocks ≤ room

@@ -34,9 +34,13 @@ impl Model for Heap {
 
     ghost use Rattle.mx_heap.specs.Places.{blocks_of, AreStored};
 
-    ghost view = { λ h. record { area = record { first = h.first; count = h.count }; blocks = blocks_of h.parts.items } };
+    ghost view = { λ h. record {
+      area = record { first = h.first; count = h.count };
+      blocks = blocks_of h.parts.items;
+    } };
 
-    ghost invariant = { λ h. AreStored h.first h.count h.parts.items h.live (vec_capacity h.parts) h.blocks.items (vec_capacity h.blocks) };
+    ghost invariant = { λ h. AreStored h.first h.count h.parts.items h.live (vec_capacity h.parts) h.blocks.items
+        (vec_capacity h.blocks) };
 }
 
 impl Heap {
@@ -82,7 +86,8 @@ impl Heap {
         ensures no_room { IsErrOf result HeapError.NoRoom
             ↔ IsNone (place self.now.area self.now.blocks words) }
         ensures full { IsErrOf result HeapError.BlocksFull
-            ↔ (IsSome (place self.now.area self.now.blocks words) × (length self.now.blocks ≡ most_blocks)) }
+            ↔ (IsSome (place self.now.area self.now.blocks words) ×
+            (length self.now.blocks ≡ most_blocks)) }
         ensures inside { IfOk result (λ a. LiesIn self.now.area a words) }
         ensures heap { IsHeap self.now }
     {
@@ -100,13 +105,15 @@ impl Heap {
         ensures no_room { IsErrOf result HeapError.NoRoom
             ↔ IsNone (place self.old.area self.old.blocks words) }
         ensures full { IsErrOf result HeapError.BlocksFull
-            ↔ (IsSome (place self.old.area self.old.blocks words) × (length self.old.blocks ≡ most_blocks)) }
+            ↔ (IsSome (place self.old.area self.old.blocks words) ×
+            (length self.old.blocks ≡ most_blocks)) }
         ensures inside { IfOk result (λ a. LiesIn self.old.area a words) }
         ensures heap { IsHeap self.old }
         ensures still { IsHeap self.new }
 
         ensures live { IfOk result (λ a. self.new
-            ≡ record self.old { blocks = with_block (record { first = a; count = words }) self.old.blocks }) }
+            ≡ record self.old
+            { blocks = with_block (record { first = a; count = words }) self.old.blocks }) }
         ensures unchanged { OnErr result (self.new ≡ self.old) }
     {
         let i = match fitting_hole(&self.parts, self.live, words) {

@@ -43,7 +43,9 @@ imm_s w = extended 12 (bits_of w 25 7 * 2 ^ 5 + bits_of w 7 5)
 
 -- B: bit 31 is bit 12, bit 7 is bit 11, bits 30..25 are 10..5, bits 11..8 are 4..1; sign-extended
 unfoldable pub imm_b : ℕ → ℕ
-imm_b w = extended 13 (bits_of w 31 1 * 2 ^ 12 + bits_of w 7 1 * 2 ^ 11 + bits_of w 25 6 * 2 ^ 5 + bits_of w 8 4 * 2)
+imm_b w =
+    extended 13
+    (bits_of w 31 1 * 2 ^ 12 + bits_of w 7 1 * 2 ^ 11 + bits_of w 25 6 * 2 ^ 5 + bits_of w 8 4 * 2)
 
 -- U: bits 31..12 in place
 unfoldable pub imm_u : ℕ → ℕ
@@ -51,7 +53,10 @@ imm_u w = bits_of w 12 20 * 2 ^ 12
 
 -- J: bit 31 is bit 20, bits 19..12 in place, bit 20 is bit 11, bits 30..21 are 10..1; sign-extended
 unfoldable pub imm_j : ℕ → ℕ
-imm_j w = extended 21 (bits_of w 31 1 * 2 ^ 20 + bits_of w 12 8 * 2 ^ 12 + bits_of w 20 1 * 2 ^ 11 + bits_of w 21 10 * 2)
+imm_j w =
+    extended 21
+    (bits_of w 31 1 * 2 ^ 20 + bits_of w 12 8 * 2 ^ 12 + bits_of w 20 1 * 2 ^ 11 +
+    bits_of w 21 10 * 2)
 
 -- FENCE's free bits: bits 31..15, then 11..7
 unfoldable pub fence_fields : ℕ → ℕ

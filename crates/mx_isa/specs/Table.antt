@@ -160,14 +160,43 @@ rows =
     record { opcode = 0x37; inst = λ w. Some (Lui (rd_of w) (imm_u w)) }
     ∷ record { opcode = 0x17; inst = λ w. Some (Auipc (rd_of w) (imm_u w)) }
     ∷ record { opcode = 0x6F; inst = λ w. Some (Jal (rd_of w) (imm_j w)) }
-    ∷ record { opcode = 0x67; inst = λ w. if f3_of w == 0 then Some (Jalr (rd_of w) (rs1_of w) (imm_i w)) else None }
-    ∷ record { opcode = 0x63; inst = λ w. option_map (λ c. Branch c (rs1_of w) (rs2_of w) (imm_b w)) (cond_of (f3_of w)) }
-    ∷ record { opcode = 0x03; inst = λ w. option_map (λ x. Load x (rd_of w) (rs1_of w) (imm_i w)) (load_of (f3_of w)) }
-    ∷ record { opcode = 0x23; inst = λ w. option_map (λ x. Store x (rs1_of w) (rs2_of w) (imm_s w)) (store_of (f3_of w)) }
-    ∷ record { opcode = 0x13; inst = λ w. option_map (λ op. OpImm op (rd_of w) (rs1_of w) (imm_of_op op w)) (imm_op_of (f3_of w) (f7_of w)) }
-    ∷ record { opcode = 0x33; inst = λ w. option_map (λ op. Op op (rd_of w) (rs1_of w) (rs2_of w)) (reg_op_of (f3_of w) (f7_of w)) }
-    ∷ record { opcode = 0x0F; inst = λ w. if f3_of w == 0 then Some (Fence (fence_fields w)) else None }
-    ∷ record { opcode = 0x73; inst = λ w. if w == 0x73 then Some Ecall else (if w == 0x00100073 then Some Ebreak else None) }
+    ∷ record {
+      opcode = 0x67;
+      inst = λ w. if f3_of w == 0
+          then Some (Jalr (rd_of w) (rs1_of w) (imm_i w)) else None;
+    }
+    ∷ record {
+      opcode = 0x63;
+      inst = λ w. option_map (λ c. Branch c (rs1_of w) (rs2_of w) (imm_b w)) (cond_of (f3_of w));
+    }
+    ∷ record {
+      opcode = 0x03;
+      inst = λ w. option_map (λ x. Load x (rd_of w) (rs1_of w) (imm_i w)) (load_of (f3_of w));
+    }
+    ∷ record {
+      opcode = 0x23;
+      inst = λ w. option_map (λ x. Store x (rs1_of w) (rs2_of w) (imm_s w)) (store_of (f3_of w));
+    }
+    ∷ record {
+      opcode = 0x13;
+      inst = λ w. option_map (λ op. OpImm op (rd_of w) (rs1_of w) (imm_of_op op w))
+          (imm_op_of (f3_of w) (f7_of w));
+    }
+    ∷ record {
+      opcode = 0x33;
+      inst = λ w. option_map (λ op. Op op (rd_of w) (rs1_of w) (rs2_of w))
+          (reg_op_of (f3_of w) (f7_of w));
+    }
+    ∷ record {
+      opcode = 0x0F;
+      inst = λ w. if f3_of w == 0 then Some (Fence (fence_fields w))
+          else None;
+    }
+    ∷ record {
+      opcode = 0x73;
+      inst = λ w. if w == 0x73 then Some Ecall
+          else (if w == 0x00100073 then Some Ebreak else None);
+    }
     ∷ []
 
 -- the instruction of a word, or None where no row matches
@@ -176,7 +205,8 @@ decoded w = option_and_then (λ r. r.inst w) (find (λ r. r.opcode == opcode_of 
 
 -- a word of six fields
 abbrev pub word_r : ℕ → ℕ → ℕ → ℕ → ℕ → ℕ → ℕ
-word_r opcode rd f3 rs1 rs2 f7 = opcode + rd * 2 ^ 7 + f3 * 2 ^ 12 + rs1 * 2 ^ 15 + rs2 * 2 ^ 20 + f7 * 2 ^ 25
+word_r opcode rd f3 rs1 rs2 f7 =
+    opcode + rd * 2 ^ 7 + f3 * 2 ^ 12 + rs1 * 2 ^ 15 + rs2 * 2 ^ 20 + f7 * 2 ^ 25
 
 -- a word with an immediate I
 abbrev pub word_i : ℕ → ℕ → ℕ → ℕ → ℕ → ℕ
@@ -188,7 +218,9 @@ word_s opcode f3 rs1 rs2 imm = word_r opcode (bits_of imm 0 5) f3 rs1 rs2 (bits_
 
 -- a word with an immediate B
 abbrev pub word_b : ℕ → ℕ → ℕ → ℕ → ℕ → ℕ
-word_b opcode f3 rs1 rs2 imm = word_r opcode (bits_of imm 1 4 * 2 + bits_of imm 11 1) f3 rs1 rs2 (bits_of imm 12 1 * 2 ^ 6 + bits_of imm 5 6)
+word_b opcode f3 rs1 rs2 imm =
+    word_r opcode (bits_of imm 1 4 * 2 + bits_of imm 11 1) f3 rs1 rs2
+    (bits_of imm 12 1 * 2 ^ 6 + bits_of imm 5 6)
 
 -- a word with an immediate U
 abbrev pub word_u : ℕ → ℕ → ℕ → ℕ
@@ -196,11 +228,14 @@ word_u opcode rd imm = opcode + rd * 2 ^ 7 + bits_of imm 12 20 * 2 ^ 12
 
 -- a word with an immediate J
 abbrev pub word_j : ℕ → ℕ → ℕ → ℕ
-word_j opcode rd imm = opcode + rd * 2 ^ 7 + bits_of imm 12 8 * 2 ^ 12 + bits_of imm 11 1 * 2 ^ 20 + bits_of imm 1 10 * 2 ^ 21 + bits_of imm 20 1 * 2 ^ 31
+word_j opcode rd imm =
+    opcode + rd * 2 ^ 7 + bits_of imm 12 8 * 2 ^ 12 + bits_of imm 11 1 * 2 ^ 20 +
+    bits_of imm 1 10 * 2 ^ 21 + bits_of imm 20 1 * 2 ^ 31
 
 -- a word of an operation with an immediate
 abbrev pub word_op_imm : ImmOp → ℕ → ℕ → ℕ → ℕ
-word_op_imm op rd rs1 imm = word_r 0x13 rd (imm_op_f3 op) rs1 (bits_of imm 0 5) (unwrap_or (imm_op_f7 op) (bits_of imm 5 7))
+word_op_imm op rd rs1 imm =
+    word_r 0x13 rd (imm_op_f3 op) rs1 (bits_of imm 0 5) (unwrap_or (imm_op_f7 op) (bits_of imm 5 7))
 
 -- the word of an instruction
 unfoldable pub encoded : Inst → ℕ

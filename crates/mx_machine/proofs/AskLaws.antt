@@ -19,7 +19,7 @@ use Rattle.mx_supervisor.specs.Served.{range_of}
 use Rattle.mx_machine.specs.declared.hart.Hart.{Hart}
 use Rattle.mx_machine.specs.declared.hart.Progress.{Progress}
 use Rattle.mx_machine.specs.declared.hart.Progress.TheVariants as G
-use Rattle.mx_machine.specs.Deeds.{with_kept}
+use Rattle.mx_machine.specs.Actions.{with_kept}
 use Rattle.mx_machine.specs.Harts.{no_hart, hart_of, is_halted, own_call, seen, seen_with, status_by}
 use Rattle.mx_machine.specs.Held.{Held, rest_of}
 use Rattle.mx_machine.specs.Made.{IsMade, core_in, deed, hart_in, reads_of}

@@ -10,7 +10,7 @@ use Rattle.mx_model.specs.declared.values.TurnKind.TheVariants as T
 use Rattle.mx_model.specs.Events.{Events}
 use Rattle.mx_model.specs.Turn.{Asks, Made, call_of, served}
 use Rattle.mx_supervisor.specs.Served.{range_of}
-use Rattle.mx_machine.specs.Deeds.{with_kept}
+use Rattle.mx_machine.specs.Actions.{with_kept}
 use Rattle.mx_machine.specs.Harts.{hart_of, own_call}
 use Rattle.mx_machine.specs.Held.{Held}
 use Rattle.mx_machine.specs.Made.{IsMade, core_in, deed, hart_in, reads_of}

@@ -28,7 +28,7 @@ use Rattle.mx_model.proofs.ValidParts.{valid-hears, valid-turns}
 use Rattle.mx_supervisor.proofs.Modules.{length-modules}
 use Rattle.mx_machine.specs.declared.hart.Progress.{Progress}
 use Rattle.mx_machine.specs.declared.hart.Progress.TheVariants as G
-use Rattle.mx_machine.specs.Deeds.{counted, heard}
+use Rattle.mx_machine.specs.Actions.{counted, heard}
 use Rattle.mx_machine.specs.Harts.{hart_of, hearers, own_call, status_by}
 use Rattle.mx_machine.specs.Held.{Held, meaning, rest_of}
 use Rattle.mx_machine.specs.Made.{core_in, deed, doing, hart_in, instruction, reads_of}

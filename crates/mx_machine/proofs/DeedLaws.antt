@@ -19,7 +19,7 @@ use Rattle.mx_model.specs.Turn.{crossed as crossed_in, killed as killed_in}
 use Rattle.mx_supervisor.specs.Served.{range_of}
 use Rattle.mx_machine.specs.declared.hart.Hart.{Hart}
 use Rattle.mx_machine.specs.declared.hart.Progress.{Progress}
-use Rattle.mx_machine.specs.Deeds.{crossed, dead_after, fallen, gives_up_kept, killed, kills_by, returned, with_step}
+use Rattle.mx_machine.specs.Actions.{crossed, dead_after, fallen, gives_up_kept, killed, kills_by, returned, with_step}
 use Rattle.mx_machine.specs.Harts.{hart_of, is_halted, is_waiting, own_call, seen}
 use Rattle.mx_machine.specs.Held.{Held, behind, rest_of}
 use Rattle.mx_machine.specs.Made.{IsMade, core_in, deed}

@@ -6,7 +6,7 @@ use Rattle.mx_check.specs.Harts.{Kept, hart_at, at_hart}
 use Rattle.mx_check.specs.Harts.{halts as counts_as_halted}
 use Rattle.mx_check.specs.Harts.{no_hart as no_kept}
 use Rattle.mx_machine.specs.declared.hart.Hart.{Hart}
-use Rattle.mx_machine.specs.Deeds.{halted_first}
+use Rattle.mx_machine.specs.Actions.{halted_first}
 use Rattle.mx_machine.specs.Harts.{hart_of, is_halted}
 use Rattle.mx_machine.proofs.FitLaws.{count-step, others-step, own-step}
 

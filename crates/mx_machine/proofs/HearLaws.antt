@@ -14,7 +14,7 @@ use Rattle.mx_check.specs.Calls.{hears, ready_with, unheard, unheard_of}
 use Rattle.mx_check.specs.Calls.{is_ready as ready_kept}
 use Rattle.mx_check.specs.Conditions.{HasHeardAll, SameButCaches}
 use Rattle.mx_check.specs.Harts.{Kept, hart_at, at_hart, announced, marked}
-use Rattle.mx_check.specs.Looks.{flight_bars, hart_bars, is_barred}
+use Rattle.mx_check.specs.Looks.{flight_forbids, hart_forbids, is_forbidden}
 use Rattle.mx_check.proofs.HearLaws.{hears_own, length-hears_first}
 use Rattle.mx_check.proofs.LookLaws.{all_below_agree, hart_at-other, hart_at-same, length-at_hart}
 use Rattle.mx_model.specs.declared.values.Call.{Call}
@@ -31,7 +31,7 @@ use Rattle.mx_heap.specs.HeapState.{HeapState}
 use Rattle.mx_machine.specs.declared.hart.Hart.{Hart}
 use Rattle.mx_machine.specs.declared.hart.Progress.{Progress}
 use Rattle.mx_machine.specs.declared.hart.Progress.TheVariants as G
-use Rattle.mx_machine.specs.Deeds.{heard}
+use Rattle.mx_machine.specs.Actions.{heard}
 use Rattle.mx_machine.specs.Harts.{hart_of, hearers, is_halted, no_hart, own_call, seen, seen_from, status_by}
 use Rattle.mx_machine.specs.Held.{Held, rest_of}
 use Rattle.mx_machine.specs.Made.{core_in}
@@ -122,7 +122,7 @@ unheard-alike m h others j = by (cases_eq j h)
         (taken-other m h (unheard_range h) j (others j ne) ∙ unheard-taken h (hart_at m.parts.harts j).flight)
 
 -- what bars a span
-bars-taken : (h : ℕ) (s : Span) (o : Option Flight) → some_passes (λ (r : ℕ × ℕ). meets s r.0 r.1) (taken (heard_range h) o) ≡ flight_bars h s o
+bars-taken : (h : ℕ) (s : Span) (o : Option Flight) → some_passes (λ (r : ℕ × ℕ). meets s r.0 r.1) (taken (heard_range h) o) ≡ flight_forbids h s o
 bars-taken h s None = refl
 bars-taken h s (Some f) = by (is_in f.heard h)
   where
@@ -132,24 +132,24 @@ bars-taken h s (Some f) = by (is_in f.heard h)
 
 hart-bars : (m : Held) (h : ℕ) (s : Span) → OthersTied m h → (j : ℕ) →
     some_passes (λ (r : ℕ × ℕ). meets s r.0 r.1) (cond (j == h) None (flight_range (core_in m) (heard_range h) (seen j (hart_of m.harts j) (hart_at m.parts.harts j)).status))
-    ≡ hart_bars h s m.parts.harts j
+    ≡ hart_forbids h s m.parts.harts j
 hart-bars m h s others j = by (cases_eq j h)
   where
     by : (j ≡ h) ⊎ (j ≢ h) →
         some_passes (λ (r : ℕ × ℕ). meets s r.0 r.1) (cond (j == h) None (flight_range (core_in m) (heard_range h) (seen j (hart_of m.harts j) (hart_at m.parts.harts j)).status))
-        ≡ hart_bars h s m.parts.harts j
+        ≡ hart_forbids h s m.parts.harts j
     by (inl e) =
         let same : (j == h) ≡ true = eq-eqb j h e in
         ap (λ b. some_passes (λ (r : ℕ × ℕ). meets s r.0 r.1)
         (cond b None (flight_range (core_in m) (heard_range h) (seen j (hart_of m.harts j) (hart_at m.parts.harts j)).status))) same
-        ∙ sym (ap (λ b. not b && flight_bars h s (hart_at m.parts.harts j).flight) same)
+        ∙ sym (ap (λ b. not b && flight_forbids h s (hart_at m.parts.harts j).flight) same)
     by (inr ne) =
         let other : (j == h) ≡ false = ne_eqb j h ne in
         ap (λ b. some_passes (λ (r : ℕ × ℕ). meets s r.0 r.1)
         (cond b None (flight_range (core_in m) (heard_range h) (seen j (hart_of m.harts j) (hart_at m.parts.harts j)).status))) other
         ∙ ap (λ (o : Option (ℕ × ℕ)). some_passes (λ (r : ℕ × ℕ). meets s r.0 r.1) o) (taken-other m h (heard_range h) j (others j ne))
         ∙ bars-taken h s (hart_at m.parts.harts j).flight
-        ∙ sym (ap (λ b. not b && flight_bars h s (hart_at m.parts.harts j).flight) other)
+        ∙ sym (ap (λ b. not b && flight_forbids h s (hart_at m.parts.harts j).flight) other)
 
 -- each hart of the state, once hart h has heard its call
 hart-hears : (m : Held) (h : ℕ) → Fits m → h < length m.harts → (j : ℕ) →
@@ -343,10 +343,10 @@ ready-now m h first count f there =
 
 -- the calls that keep hart h from keeping a span are the same in both
 bars-at : (m : Held) (h : ℕ) (s : Span) → length m.harts ≡ length m.parts.harts → OthersTied m h →
-    list_any (λ (r : ℕ × ℕ). meets s r.0 r.1) (heard_ranges (core_in m) h) ≡ is_barred h s m.parts.harts
+    list_any (λ (r : ℕ × ℕ). meets s r.0 r.1) (heard_ranges (core_in m) h) ≡ is_forbidden h s m.parts.harts
 unfolding all_below
 bars-at m h s n others =
-    let low : ℕ → Bool = λ i. hart_bars h s m.parts.harts i in
+    let low : ℕ → Bool = λ i. hart_forbids h s m.parts.harts i in
     let test : ℕ × ℕ → Bool = λ r. meets s r.0 r.1 in
     sym (not-not (list_any test (heard_ranges (core_in m) h)))
     ∙ ap not (sym (none-numbered (λ (p : ℕ × Seen). cond (p.0 == h) None (flight_range (core_in m) (heard_range h) p.1.status)) test low nobody_seen

@@ -12,7 +12,7 @@ use Rattle.mx_supervisor.specs.Heaps.{no_heap, heap_at}
 use Rattle.mx_supervisor.specs.Parts.{with_heap, modules_from}
 use Rattle.mx_supervisor.proofs.Modules.{length-modules}
 use Rattle.mx_machine.specs.declared.starts.StackArea.{StackArea}
-use Rattle.mx_machine.specs.Deeds.{dead_after, killed, kills_by}
+use Rattle.mx_machine.specs.Actions.{dead_after, killed, kills_by}
 use Rattle.mx_machine.specs.Held.{Held, area_of, behind, beside, home, homes_from, no_area, rest_of}
 use Rattle.mx_machine.specs.Made.{core_in}
 use Rattle.mx_machine.specs.Ties.{Fits}

@@ -28,7 +28,7 @@ use Rattle.mx_model.proofs.TurnCases.{looked_all-caches}
 use Rattle.mx_supervisor.specs.Served.{range_of}
 use Rattle.mx_machine.specs.declared.hart.Hart.{Hart}
 use Rattle.mx_machine.specs.declared.hart.Progress.{Progress}
-use Rattle.mx_machine.specs.Deeds.{after_instruction, effect_for, outcome_for, perm_for}
+use Rattle.mx_machine.specs.Actions.{after_instruction, effect_for, outcome_for, perm_for}
 use Rattle.mx_machine.specs.Harts.{no_hart, hart_of, is_waiting, own_call, seen, seen_with, status_by}
 use Rattle.mx_machine.specs.Held.{Held, rest_of}
 use Rattle.mx_machine.specs.Made.{IsMade, core_in, deed, hart_in, instruction, reads_of}

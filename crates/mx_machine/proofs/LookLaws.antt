@@ -12,9 +12,9 @@ use Rattle.mx_words.specs.Ranges.{word_of}
 use Rattle.mx_words.specs.Reach.{span}
 use Rattle.mx_table.specs.Tables.{map_of, IsDomain}
 use Rattle.mx_check.specs.Harts.{Kept, hart_at}
-use Rattle.mx_check.specs.Looks.{is_barred, looked_at, looks, with_domain}
+use Rattle.mx_check.specs.Looks.{is_forbidden, looked_at, looks, with_domain}
 use Rattle.mx_check.specs.Looks.{looked as looked_kept}
-use Rattle.mx_check.proofs.LookLaws.{is_barred-same}
+use Rattle.mx_check.proofs.LookLaws.{is_forbidden-same}
 use Rattle.mx_core.specs.Bus.{Touch}
 use Rattle.mx_core.specs.Exec.{looks_of}
 use Rattle.mx_model.specs.Checks.{heard_ranges, looked, looked_all, looks_at}
@@ -35,7 +35,7 @@ module _ (rest : Core) (p : Parts) (h d : ℕ) (dom : IsDomain p.maps d) (whole 
   answers = flat_reads (flat_of rest p)
 
   abbrev pub Bars : List Kept → Type 0
-  Bars kept = (s : Span) → list_any (λ (r : ℕ × ℕ). meets s r.0 r.1) (heard_ranges (core_of rest p) h) ≡ is_barred h s kept
+  Bars kept = (s : Span) → list_any (λ (r : ℕ × ℕ). meets s r.0 r.1) (heard_ranges (core_of rest p) h) ≡ is_forbidden h s kept
 
   -- one check of an address
   abbrev pub checks : ℕ → ℕ → List Kept → List Kept
@@ -49,7 +49,7 @@ module _ (rest : Core) (p : Parts) (h d : ℕ) (dom : IsDomain p.maps d) (whole 
       let m = map_of p.maps d in
       let s = span p.kind m w in
       let t = span p.kind (map_in p.size p.maps d) w in
-      let b = is_barred h s kept in
+      let b = is_forbidden h s kept in
       let cs = list_map (λ (k : Kept). k.cache) kept in
       let barred = λ (u : Span). list_any (λ (r : ℕ × ℕ). meets u r.0 r.1) (heard_ranges (core_of rest p) h) in
       ap (λ (cs : List Cache). record (keeping kept) { caches = cs })
@@ -66,11 +66,11 @@ module _ (rest : Core) (p : Parts) (h d : ℕ) (dom : IsDomain p.maps d) (whole 
       ∙ at-word kept place (word_of address p.size) bars
 
   -- what a check keeps
-  bars-at : (kept : List Kept) (place : ℕ) (o : Option ℕ) (s : Span) → is_barred h s (looked_at p.buffer p.kind (map_of p.maps d) h place d o kept) ≡ is_barred h s kept
-  bars-at kept place None s = is_barred-same h s kept (with_domain d)
+  bars-at : (kept : List Kept) (place : ℕ) (o : Option ℕ) (s : Span) → is_forbidden h s (looked_at p.buffer p.kind (map_of p.maps d) h place d o kept) ≡ is_forbidden h s kept
+  bars-at kept place None s = is_forbidden-same h s kept (with_domain d)
   bars-at kept place (Some w) s =
       let u = span p.kind (map_of p.maps d) w in
-      is_barred-same h s kept (looks p.buffer place d w u (is_barred h u kept))
+      is_forbidden-same h s kept (looks p.buffer place d w u (is_forbidden h u kept))
 
   bars-still : (kept : List Kept) (place address : ℕ) → Bars kept → Bars (checks place address kept)
   bars-still kept place address bars s = bars s ∙ sym (bars-at kept place (word_of address (length (map_of p.maps d))) s)
@@ -106,7 +106,7 @@ stay-at most p h d place None kept l =
     }
 stay-at most p h d place (Some w) kept l =
     let s = span p.kind (map_of p.maps d) w in
-    let step = looks p.buffer place d w s (is_barred h s kept) in
+    let step = looks p.buffer place d w s (is_forbidden h s kept) in
     let e = own-step kept h step l in
     record {
       count = count-step kept h step;

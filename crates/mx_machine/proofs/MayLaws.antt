@@ -14,7 +14,7 @@ use Rattle.mx_supervisor.proofs.Modules.{length-modules}
 use Rattle.mx_machine.specs.declared.hart.Hart.{Hart}
 use Rattle.mx_machine.specs.declared.hart.Progress.{Progress}
 use Rattle.mx_machine.specs.declared.hart.Progress.TheVariants as G
-use Rattle.mx_machine.specs.Deeds.{counted, heard}
+use Rattle.mx_machine.specs.Actions.{counted, heard}
 use Rattle.mx_machine.specs.Harts.{hart_of, is_halted, is_waiting, own_call}
 use Rattle.mx_machine.specs.Held.{Held, meaning, rest_of}
 use Rattle.mx_machine.specs.Made.{IsMade, core_in, doing}

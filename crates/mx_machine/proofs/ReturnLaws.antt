@@ -9,7 +9,7 @@ use Rattle.mx_model.specs.Events.{no_events}
 use Rattle.mx_model.specs.Gates.{top}
 use Rattle.mx_model.specs.State.{Hart as Seen}
 use Rattle.mx_model.specs.Turn.{Returns, Traps, at_return, returned_over}
-use Rattle.mx_machine.specs.Deeds.{returned}
+use Rattle.mx_machine.specs.Actions.{returned}
 use Rattle.mx_machine.specs.Harts.{hart_of}
 use Rattle.mx_machine.specs.Held.{Held}
 use Rattle.mx_machine.specs.Made.{IsMade, deed, hart_in}

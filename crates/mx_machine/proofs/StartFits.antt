@@ -22,7 +22,7 @@ use Rattle.mx_machine.specs.declared.starts.HartState.{HartState}
 use Rattle.mx_machine.specs.declared.starts.StackArea.{StackArea}
 use Rattle.mx_machine.specs.declared.views.HartStatus.{HartStatus}
 use Rattle.mx_machine.specs.declared.views.HartStatus.TheVariants as V
-use Rattle.mx_machine.specs.Deeds.{halted_first}
+use Rattle.mx_machine.specs.Actions.{halted_first}
 use Rattle.mx_machine.specs.Harts.{hart_of, is_halted, is_waiting, no_hart, own_call}
 use Rattle.mx_machine.specs.Held.{Held}
 use Rattle.mx_machine.specs.Starts.{FliesIfWaiting, MayResume, MayStart, no_state, none_dead, progress_of, resumed_hart, started_from, started_hart}

@@ -31,7 +31,7 @@ use Rattle.mx_machine.specs.declared.starts.HartState.{HartState}
 use Rattle.mx_machine.specs.declared.starts.StackArea.{StackArea}
 use Rattle.mx_machine.specs.declared.views.HartStatus.{HartStatus}
 use Rattle.mx_machine.specs.declared.views.HartStatus.TheVariants as V
-use Rattle.mx_machine.specs.Deeds.{halted_first}
+use Rattle.mx_machine.specs.Actions.{halted_first}
 use Rattle.mx_machine.specs.Harts.{hart_of, is_halted, no_hart, own_call, seen, seen_with, status_by}
 use Rattle.mx_machine.specs.Held.{Held, area_of, behind, beside, home, meaning, no_area, rest_of}
 use Rattle.mx_machine.specs.Made.{core_in}

@@ -3,7 +3,7 @@ pub mod Held
 pub mod Ties
 pub mod Steps
 pub mod Bus
-pub mod Deeds
+pub mod Actions
 pub mod Made
 pub mod Serving
 pub mod Starts

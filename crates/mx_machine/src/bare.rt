@@ -12,7 +12,7 @@ ghost use Rattle.mx_model.specs.declared.values.Note.TheVariants as Notes;
 ghost use Rattle.mx_model.specs.Gates.{gate_target};
 ghost use Rattle.mx_supervisor.specs.Parts.{IsSound};
 ghost use Rattle.mx_supervisor.specs.Served.{range_of};
-ghost use Rattle.mx_machine.specs.Deeds.{after_instruction, crossed, halted_first, fallen, heard, killed, outcome_for, returned, with_kept, with_step};
+ghost use Rattle.mx_machine.specs.Actions.{after_instruction, crossed, halted_first, fallen, heard, killed, outcome_for, returned, with_kept, with_step};
 ghost use Rattle.mx_machine.specs.Halting.{halted_at};
 ghost use Rattle.mx_machine.specs.Harts.{hart_of, is_halted};
 ghost use Rattle.mx_machine.specs.Held.{area_of};

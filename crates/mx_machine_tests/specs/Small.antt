@@ -24,7 +24,8 @@ abbrev pub HasArea : HeapState → Type 0
 HasArea heap = heap.area.first + heap.area.count ≤ 16384
 
 -- so many modules are laid out for so many harts: a row of permissions, a heap and a stack area for each
-pub record AreLaid (count harts : ℕ) (rows : List (List Span)) (ram owners : List ℕ) (heaps : List HeapState) (stacks : List StackArea) : Type 0 where
+pub record AreLaid (count harts : ℕ) (rows : List (List Span)) (ram owners : List ℕ)
+    (heaps : List HeapState) (stacks : List StackArea) : Type 0 where
   pub one_each : length rows ≡ count
   pub are_rows : All (IsRow 16384) rows
   pub bytes : length ram ≡ 65536
@@ -49,12 +50,14 @@ pub record IsLeft (count domain pc : ℕ) (regs : List ℕ) : Type 0 where
 
 -- the state of a hart without frames
 abbrev pub left_state : HartStatus → ℕ → ℕ → List ℕ → HartState
-left_state status domain pc regs = record { status = status; domain = domain; pc = pc; regs = regs; frames = [] }
+left_state status domain pc regs =
+    record { status = status; domain = domain; pc = pc; regs = regs; frames = [] }
 
 -- the states of a waiting, a halted and a running hart
 abbrev pub left_states : ℕ → ℕ → List ℕ → ℕ → ℕ → List ℕ → ℕ → ℕ → List ℕ → List HartState
 left_states d0 pc0 regs0 d1 pc1 regs1 d2 pc2 regs2 =
-    left_state V.Waiting d0 pc0 regs0 ∷ left_state V.Halted d1 pc1 regs1 ∷ left_state V.Running d2 pc2 regs2 ∷ []
+    left_state V.Waiting d0 pc0 regs0 ∷ left_state V.Halted d1 pc1 regs1 ∷
+    left_state V.Running d2 pc2 regs2 ∷ []
 
 -- a call of hart 0 in flight that no hart has heard
 abbrev pub unheard : ℕ → ℕ → Flight

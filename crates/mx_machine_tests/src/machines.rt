@@ -1,6 +1,7 @@
 //! Worked examples of turns, on machines made by hand.
 
 use crate::small::{Module, NO_HEAP, Small, machine};
+use mx_check::Counts;
 use mx_machine::{HartStart, HartStatus, HartView, StackArea};
 use mx_model::{Events, Fault, Gate, Note, TurnKind};
 use mx_words::Perm;
@@ -70,6 +71,98 @@ pub fn play(
     Ok(played)
 }
 
+/// The owner of a word, and the word after those round it that have its owner, where there is the word.
+pub fn run_from(machine: &Small, word: u32) -> Option<(u32, u32)> {
+    if word < machine.words() {
+        Some((machine.owner(word), machine.owner_end(word)))
+    } else {
+        None
+    }
+}
+
+/// The first runs of words with one owner: where each begins, and its owner.
+fn runs(machine: &Small) -> [(u32, u32); 6] {
+    let mut all = [(0, 0); 6];
+    let mut word = 0;
+    for i in 0..6 {
+        if let Some((owner, end)) = run_from(machine, word) {
+            all[i] = (word, owner);
+            word = end;
+        }
+    }
+    all
+}
+
+/// The first bytes of RAM.
+fn first_bytes(machine: &Small) -> [u8; 8] {
+    let mut bytes = [0; 8];
+    for i in 0..8 {
+        if i < 4 * machine.words() {
+            bytes[i as usize] = machine.byte(i);
+        }
+    }
+    bytes
+}
+
+/// What the turns of a machine told, and how it stood after them.
+#[derive(Drop)]
+struct Ending {
+    notes: Vec<Note>,
+    console: Vec<u8>,
+    harts: [Option<HartView>; 2],
+    counts: Option<Counts>,
+    is_halted: bool,
+    /// The first bytes of RAM.
+    bytes: [u8; 8],
+    /// The first runs of words with one owner: where each begins, and its owner.
+    owners: [(u32, u32); 6],
+}
+
+/// Reads a machine, and lets it go.
+fn end(played: Played) -> Ending {
+    let machine = &played.machine;
+    let harts = [hart(machine, 0), hart(machine, 1)];
+    let counts = if 0 < machine.harts() {
+        Some(machine.counts(0))
+    } else {
+        None
+    };
+    let is_halted = machine.all_halted();
+    let bytes = first_bytes(machine);
+    let owners = runs(machine);
+    Ending {
+        notes: played.notes,
+        console: played.console,
+        harts,
+        counts,
+        is_halted,
+        bytes,
+        owners,
+    }
+}
+
+/// How such a machine ends after so many turns.
+fn play_to_end(
+    alloc: Global,
+    modules: &[Module],
+    gates: &[Gate],
+    starts: &[HartStart],
+    turns: u32,
+) -> Result<Ending, Fail> {
+    Ok(end(play(alloc, modules, gates, starts, turns)?))
+}
+
+/// How one hart ends in one module, from its first word on, after so many turns.
+fn alone(alloc: Global, words: &[u32], turns: u32) -> Result<Ending, Fail> {
+    play_to_end(
+        alloc,
+        &[code(0, words)],
+        &[],
+        &[start(1, 0x8000_0000)],
+        turns,
+    )
+}
+
 /// A module with execute and read on its words, and no stack area.
 pub fn code(first: u32, words: &[u32]) -> Module {
     Module {
@@ -131,28 +224,13 @@ fn halted(pc: u32, values: &[(usize, u32)]) -> Option<HartView> {
 #[test]
 fn a_store_into_code_faults_and_changes_no_byte(rt: HostRuntime) -> Result<(), Fail> {
     let words = [0x0000_0097, 0x0000_A023];
-    let played = play(
-        rt.alloc(),
-        &[code(0, &words)],
-        &[],
-        &[start(1, 0x8000_0000)],
-        5,
-    )?;
+    let end = alone(rt.alloc(), &words, 5)?;
     assert_eq!(rt;
-        played.notes.as_slice(),
+        end.notes.as_slice(),
         [fault(2, 0, 1, 0x8000_0004, 7, 0x8000_0000)].as_slice()
     );
-    assert_eq!(rt;
-        hart(&played.machine, 0),
-        halted(0x8000_0004, &[(1, 0x8000_0000)])
-    );
-    let mut bytes = [0; 8];
-    for i in 0..8 {
-        if i < 4 * played.machine.words() {
-            bytes[i as usize] = played.machine.byte(i);
-        }
-    }
-    assert_eq!(rt; bytes, [0x97, 0, 0, 0, 0x23, 0xA0, 0, 0]);
+    assert_eq!(rt; end.harts[0], halted(0x8000_0004, &[(1, 0x8000_0000)]));
+    assert_eq!(rt; end.bytes, [0x97, 0, 0, 0, 0x23, 0xA0, 0, 0]);
     Ok(())
 }
 
@@ -165,14 +243,8 @@ fn divisions_at_their_corners_fault_nowhere(rt: HostRuntime) -> Result<(), Fail>
         0x0202_CE33,
         0x0202_EEB3,
     ];
-    let played = play(
-        rt.alloc(),
-        &[code(0, &words)],
-        &[],
-        &[start(1, 0x8000_0000)],
-        5,
-    )?;
-    assert_eq!(rt; played.notes.as_slice(), [].as_slice());
+    let end = alone(rt.alloc(), &words, 5)?;
+    assert_eq!(rt; end.notes.as_slice(), [].as_slice());
     let values = [
         (5, 0x8000_0000),
         (6, 0xFFFF_FFFF),
@@ -187,43 +259,31 @@ fn divisions_at_their_corners_fault_nowhere(rt: HostRuntime) -> Result<(), Fail>
         frames: 0,
         regs: regs(&values),
     };
-    assert_eq!(rt; hart(&played.machine, 0), Some(want));
+    assert_eq!(rt; end.harts[0], Some(want));
     Ok(())
 }
 
 #[test]
 fn a_branch_faults_at_a_target_that_is_no_multiple_of_4(rt: HostRuntime) -> Result<(), Fail> {
     let words = [0x0002_9363, 0x0012_8293, 0xFF9F_F06F];
-    let played = play(
-        rt.alloc(),
-        &[code(0, &words)],
-        &[],
-        &[start(1, 0x8000_0000)],
-        10,
-    )?;
+    let end = alone(rt.alloc(), &words, 10)?;
     assert_eq!(rt;
-        played.notes.as_slice(),
+        end.notes.as_slice(),
         [fault(4, 0, 1, 0x8000_0000, 0, 0x8000_0006)].as_slice()
     );
-    assert_eq!(rt; hart(&played.machine, 0), halted(0x8000_0000, &[(5, 1)]));
+    assert_eq!(rt; end.harts[0], halted(0x8000_0000, &[(5, 1)]));
     Ok(())
 }
 
 #[test]
 fn a_misaligned_load_faults_before_protection(rt: HostRuntime) -> Result<(), Fail> {
     let words = [0x0010_1303];
-    let played = play(
-        rt.alloc(),
-        &[code(0, &words)],
-        &[],
-        &[start(1, 0x8000_0000)],
-        5,
-    )?;
+    let end = alone(rt.alloc(), &words, 5)?;
     assert_eq!(rt;
-        played.notes.as_slice(),
+        end.notes.as_slice(),
         [fault(1, 0, 1, 0x8000_0000, 4, 1)].as_slice()
     );
-    assert_eq!(rt; hart(&played.machine, 0), halted(0x8000_0000, &[]));
+    assert_eq!(rt; end.harts[0], halted(0x8000_0000, &[]));
     Ok(())
 }
 
@@ -243,7 +303,7 @@ fn gates_in_a_circle_end_at_the_last_frame(rt: HostRuntime) -> Result<(), Fail> 
             target: 2,
         },
     ];
-    let played = play(
+    let end = play_to_end(
         rt.alloc(),
         &[code(0, &a), code(1024, &b)],
         &gates,
@@ -251,7 +311,7 @@ fn gates_in_a_circle_end_at_the_last_frame(rt: HostRuntime) -> Result<(), Fail> 
         195,
     )?;
     assert_eq!(rt;
-        played.notes.as_slice(),
+        end.notes.as_slice(),
         [fault(195, 0, 1, 0x8000_1000, 16, 0x8000_1000)].as_slice()
     );
     let values = [(1, 0x8000_0008), (5, 0x8000_1000), (10, 0xFFFF_FF10)];
@@ -262,12 +322,12 @@ fn gates_in_a_circle_end_at_the_last_frame(rt: HostRuntime) -> Result<(), Fail> 
         frames: 63,
         regs: regs(&values),
     };
-    assert_eq!(rt; hart(&played.machine, 0), Some(want));
+    assert_eq!(rt; end.harts[0], Some(want));
     Ok(())
 }
 
 /// Module `a` calls module `b`, which loads x2 and x8 and returns by this word.
-fn called_and_left_by(alloc: Global, word: u32) -> Result<Played, Fail> {
+fn called_and_left_by(alloc: Global, word: u32) -> Result<Ending, Fail> {
     let a = [0x8000_12B7, 0x0002_80E7, 0x0010_0073, 0x0010_0073];
     let b = [0x0070_0113, 0x0090_0413, word];
     let gates = [
@@ -282,7 +342,7 @@ fn called_and_left_by(alloc: Global, word: u32) -> Result<Played, Fail> {
             target: 2,
         },
     ];
-    play(
+    play_to_end(
         alloc,
         &[code(0, &a), code(1024, &b)],
         &gates,
@@ -300,22 +360,22 @@ fn a_return_to_another_address_faults(rt: HostRuntime) -> Result<(), Fail> {
     ];
     assert_eq!(rt; elsewhere.notes.as_slice(), notes.as_slice());
     let values = [(1, 0x8000_0008), (5, 0x8000_1000), (10, 0xFFFF_FF11)];
-    assert_eq!(rt; hart(&elsewhere.machine, 0), halted(0x8000_0008, &values));
+    assert_eq!(rt; elsewhere.harts[0], halted(0x8000_0008, &values));
     Ok(())
 }
 
 #[test]
-fn a_return_to_the_address_behind_the_call_goes_on(rt: HostRuntime) -> Result<(), Fail> {
+fn a_return_to_the_address_after_the_call_goes_on(rt: HostRuntime) -> Result<(), Fail> {
     let back = called_and_left_by(rt.alloc(), 0x0000_8067)?;
     let notes = [fault(7, 0, 1, 0x8000_0008, 3, 0x8000_0008)];
     assert_eq!(rt; back.notes.as_slice(), notes.as_slice());
     let values = [(1, 0x8000_0008), (5, 0x8000_1000)];
-    assert_eq!(rt; hart(&back.machine, 0), halted(0x8000_0008, &values));
+    assert_eq!(rt; back.harts[0], halted(0x8000_0008, &values));
     Ok(())
 }
 
 /// Hart 0 grants the first word of its stack area, and while that grant waits hart 1 transfers the word.
-fn granted_and_transferred(alloc: Global) -> Result<Played, Fail> {
+fn granted_and_transferred(alloc: Global) -> Result<Ending, Fail> {
     let a = [
         0x8000_1537,
         0x0040_0593,
@@ -348,17 +408,17 @@ fn granted_and_transferred(alloc: Global) -> Result<Played, Fail> {
         },
     ];
     let starts = [start(1, 0x8000_0000), start(1, 0x8000_001C)];
-    play(alloc, &modules, &[], &starts, 20)
+    play_to_end(alloc, &modules, &[], &starts, 20)
 }
 
 #[test]
 fn a_waiting_grant_of_a_word_that_is_transferred_is_refused(rt: HostRuntime) -> Result<(), Fail> {
-    let played = granted_and_transferred(rt.alloc())?;
+    let end = granted_and_transferred(rt.alloc())?;
     let notes = [
         fault(14, 1, 1, 0x8000_0034, 3, 0x8000_0034),
         fault(15, 0, 1, 0x8000_0018, 3, 0x8000_0018),
     ];
-    assert_eq!(rt; played.notes.as_slice(), notes.as_slice());
+    assert_eq!(rt; end.notes.as_slice(), notes.as_slice());
     let granted = [
         (2, 0x8000_1010),
         (10, 0xFFFF_FFFE),
@@ -367,39 +427,17 @@ fn a_waiting_grant_of_a_word_that_is_transferred_is_refused(rt: HostRuntime) -> 
         (13, 1),
         (17, 3),
     ];
-    assert_eq!(rt; hart(&played.machine, 0), halted(0x8000_0018, &granted));
+    assert_eq!(rt; end.harts[0], halted(0x8000_0018, &granted));
     let transferred = [(2, 0x8000_1020), (11, 4), (12, 2), (17, 5)];
-    assert_eq!(rt; hart(&played.machine, 1), halted(0x8000_0034, &transferred));
+    assert_eq!(rt; end.harts[1], halted(0x8000_0034, &transferred));
     Ok(())
-}
-
-/// The owner of a word, and the word behind those round it that have its owner, where there is the word.
-pub fn run_from(machine: &Small, word: u32) -> Option<(u32, u32)> {
-    if word < machine.words() {
-        Some((machine.owner(word), machine.owner_end(word)))
-    } else {
-        None
-    }
-}
-
-/// The first runs of words with one owner: where each begins, and its owner.
-fn runs(machine: &Small) -> [(u32, u32); 6] {
-    let mut all = [(0, 0); 6];
-    let mut word = 0;
-    for i in 0..6 {
-        if let Some((owner, end)) = run_from(machine, word) {
-            all[i] = (word, owner);
-            word = end;
-        }
-    }
-    all
 }
 
 #[test]
 fn a_transferred_word_changes_its_owner(rt: HostRuntime) -> Result<(), Fail> {
-    let played = granted_and_transferred(rt.alloc())?;
+    let end = granted_and_transferred(rt.alloc())?;
     assert_eq!(rt;
-        runs(&played.machine),
+        end.owners,
         [(0, 1), (14, 0), (1024, 2), (1025, 1), (1032, 0), (2048, 2)]
     );
     Ok(())
@@ -425,14 +463,14 @@ fn a_call_into_a_dead_module_is_sent_back(rt: HostRuntime) -> Result<(), Fail> {
         word: 1024,
         target: 2,
     };
-    let played = play(rt.alloc(), &modules, &[gate], &[start(1, 0x8000_0000)], 20)?;
+    let end = play_to_end(rt.alloc(), &modules, &[gate], &[start(1, 0x8000_0000)], 20)?;
     let notes = [
         fault(4, 0, 2, 0x8000_1000, 3, 0x8000_1000),
         fault(7, 0, 1, 0x8000_000C, 3, 0x8000_000C),
     ];
-    assert_eq!(rt; played.notes.as_slice(), notes.as_slice());
+    assert_eq!(rt; end.notes.as_slice(), notes.as_slice());
     let values = [(1, 0x8000_000C), (5, 0x8000_1000), (10, 0xFFFF_FF14)];
-    assert_eq!(rt; hart(&played.machine, 0), halted(0x8000_000C, &values));
+    assert_eq!(rt; end.harts[0], halted(0x8000_000C, &values));
     Ok(())
 }
 
@@ -448,13 +486,13 @@ fn a_second_hart_in_a_dead_domain_faults(rt: HostRuntime) -> Result<(), Fail> {
         ..code(0, &[0x0010_0073])
     };
     let starts = [start(1, 0x8000_0000), start(1, 0x8000_0000)];
-    let played = play(rt.alloc(), &[module], &[], &starts, 10)?;
+    let end = play_to_end(rt.alloc(), &[module], &[], &starts, 10)?;
     let notes = [
         fault(1, 0, 1, 0x8000_0000, 3, 0x8000_0000),
         fault(2, 1, 1, 0x8000_0000, 20, 0x8000_0000),
     ];
-    assert_eq!(rt; played.notes.as_slice(), notes.as_slice());
-    assert_eq!(rt; played.machine.all_halted(), true);
+    assert_eq!(rt; end.notes.as_slice(), notes.as_slice());
+    assert_eq!(rt; end.is_halted, true);
     Ok(())
 }
 
@@ -470,24 +508,20 @@ fn hi_stands_on_the_console(rt: HostRuntime) -> Result<(), Fail> {
         0x0000_0073,
         0x000A_6968,
     ];
-    let played = play(
-        rt.alloc(),
-        &[code(0, &words)],
-        &[],
-        &[start(1, 0x8000_0000)],
-        9,
-    )?;
-    assert_eq!(rt; played.console.as_slice(), b"hi\n".as_slice());
+    let end = alone(rt.alloc(), &words, 9)?;
+    assert_eq!(rt; end.console.as_slice(), b"hi\n".as_slice());
     let exit = Note::Exit {
         step: 7,
         hart: 0,
         domain: 1,
         code: 3,
     };
-    assert_eq!(rt; played.notes.as_slice(), [exit].as_slice());
-    if 0 < played.machine.harts() {
-        let counts = played.machine.counts(0);
-        assert_eq!(rt; (counts.sidecar, counts.lookaside, counts.walks), (6, 1, 1));
-    }
+    assert_eq!(rt; end.notes.as_slice(), [exit].as_slice());
+    let counts = Counts {
+        sidecar: 6,
+        lookaside: 1,
+        walks: 1,
+    };
+    assert_eq!(rt; end.counts, Some(counts));
     Ok(())
 }

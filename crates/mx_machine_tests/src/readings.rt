@@ -302,12 +302,12 @@ fn is_dead(machine: &Small, domain: u32) -> Option<bool> {
     }
 }
 
-/// What a turn told, and whether domain 2 was dead before it and behind it.
+/// What a turn told, and whether domain 2 was dead before it and after it.
 #[derive(Clone, Copy)]
 struct Killing {
     before: Option<bool>,
     note: Option<Note>,
-    behind: Option<bool>,
+    after: Option<bool>,
 }
 
 /// Makes a turn of hart 0.
@@ -318,7 +318,7 @@ fn kill(machine: &mut Small) -> Killing {
     Killing {
         before,
         note: out.note(),
-        behind: is_dead(machine, 2),
+        after: is_dead(machine, 2),
     }
 }
 
@@ -332,7 +332,7 @@ fn kill_inside_a_call(alloc: Global) -> Result<Killing, Fail> {
 fn the_readers_tell_which_module_is_dead(rt: HostRuntime) -> Result<(), Fail> {
     let killing = kill_inside_a_call(rt.alloc())?;
     let note = fault(4, 0, 2, 0x8000_1000, 3, 0x8000_1000);
-    assert_eq!(rt; (killing.before, killing.behind), (Some(false), Some(true)));
+    assert_eq!(rt; (killing.before, killing.after), (Some(false), Some(true)));
     assert_eq!(rt; killing.note, Some(note));
     Ok(())
 }
@@ -366,7 +366,7 @@ fn the_readers_tell_blocks_and_heap_areas(rt: HostRuntime) -> Result<(), Fail> {
     Ok(())
 }
 
-/// Hart 0 grants the first word of its stack area to domain 2 for reading, hart 1 faults behind that call, and hart 2 counts in x5
+/// Hart 0 grants the first word of its stack area to domain 2 for reading, hart 1 faults after that call, and hart 2 counts in x5
 /// without end.
 const GRANTS: [u32; 9] = [
     0x8000_1537,
@@ -476,7 +476,7 @@ fn granting() -> [Module<'static>; 2] {
     ]
 }
 
-/// Whether hart 2 has heard the waiting call of hart 0 before its turn and behind it, and hart 0 one of hart 2.
+/// Whether hart 2 has heard the waiting call of hart 0 before its turn and after it, and hart 0 one of hart 2.
 fn hear(machine: &mut Small) -> [Option<bool>; 3] {
     let before = heard(machine, 0, 2);
     let mut out = Events::new();

@@ -51,7 +51,9 @@ pub struct Module<'a> {
 
 /// Whether a module's code and stack area lie in RAM.
 fn is_placed(part: &Module) -> bool
-    ensures { result ≡ true → IsPlaced part.now.first (length part.now.words.now) part.now.stack.first part.now.stack.words }
+    ensures { result ≡ true →
+        IsPlaced part.now.first (length part.now.words.now) part.now.stack.first
+        part.now.stack.words }
 {
     let count = part.words.len();
     if count == 0 || count > 64 || part.first > 15000 {
@@ -73,7 +75,8 @@ fn is_area(heap: Block) -> bool
 
 /// The permissions of a module for so many harts: those of its code, and read and write on its stack area.
 fn row(alloc: Global, part: &Module, harts: u32) -> Result<Spans, NoMemory>
-    requires placed { IsPlaced part.now.first (length part.now.words.now) part.now.stack.first part.now.stack.words }
+    requires placed { IsPlaced part.now.first (length part.now.words.now) part.now.stack.first
+        part.now.stack.words }
     requires some { 1 ≤ harts }
     requires few { harts ≤ 4 }
     ensures { IfOk result (IsRow 16384) }
@@ -98,7 +101,8 @@ fn row(alloc: Global, part: &Module, harts: u32) -> Result<Spans, NoMemory>
 /// Puts a module's words into RAM.
 fn fill(ram: &mut Ram, part: &Module)
     requires words { length ram.old ≡ 65536 }
-    requires placed { IsPlaced part.now.first (length part.now.words.now) part.now.stack.first part.now.stack.words }
+    requires placed { IsPlaced part.now.first (length part.now.words.now) part.now.stack.first
+        part.now.stack.words }
     ensures { length ram.new ≡ 65536 }
 {
     let words = part.words;
@@ -110,7 +114,8 @@ fn fill(ram: &mut Ram, part: &Module)
 /// Gives a module its words for so many harts.
 fn own(owners: &mut Owners, part: &Module, domain: u32, harts: u32)
     requires words { length owners.old ≡ 16384 }
-    requires placed { IsPlaced part.now.first (length part.now.words.now) part.now.stack.first part.now.stack.words }
+    requires placed { IsPlaced part.now.first (length part.now.words.now) part.now.stack.first
+        part.now.stack.words }
     requires heap { part.now.heap.first + part.now.heap.count ≤ 16384 }
     requires some { 1 ≤ harts }
     requires few { harts ≤ 4 }
@@ -149,15 +154,19 @@ impl Layout {
         })
     }
 
-    /// Lays out a module behind `count` others.
+    /// Lays out a module after `count` others.
     fn add(&mut self, alloc: Global, part: &Module, count: u32, harts: u32) -> Result<(), NoMemory>
-        requires laid { AreLaid count harts self.old.rows.items self.old.ram self.old.owners self.old.heaps self.old.stacks }
+        requires laid { AreLaid count harts self.old.rows.items self.old.ram self.old.owners self.old.heaps
+            self.old.stacks }
         requires room { count < 63 }
-        requires placed { IsPlaced part.now.first (length part.now.words.now) part.now.stack.first part.now.stack.words }
+        requires placed { IsPlaced part.now.first (length part.now.words.now) part.now.stack.first
+            part.now.stack.words }
         requires heap { part.now.heap.first + part.now.heap.count ≤ 16384 }
         requires some { 1 ≤ harts }
         requires few { harts ≤ 4 }
-        ensures { OnOk result (AreLaid (count + 1) harts self.new.rows.items self.new.ram self.new.owners self.new.heaps self.new.stacks) }
+        ensures { OnOk result
+            (AreLaid (count + 1) harts self.new.rows.items self.new.ram self.new.owners
+            self.new.heaps self.new.stacks) }
     {
         let row = row(alloc, part, harts)?;
         let heap = Heap::new(alloc, part.heap.first, part.heap.count)?;
@@ -177,7 +186,8 @@ fn lay_out(alloc: Global, modules: &[Module], harts: u32) -> Option<Layout>
     requires some { 1 ≤ harts }
     requires few { harts ≤ 4 }
     requires modules { length modules.now ≤ 63 }
-    ensures { IfSome result (λ l. AreLaid (length modules.now) harts l.rows.items l.ram l.owners l.heaps l.stacks) }
+    ensures { IfSome result
+        (λ l. AreLaid (length modules.now) harts l.rows.items l.ram l.owners l.heaps l.stacks) }
 {
     let Ok(mut layout) = Layout::new(alloc, harts) else {
         return None;
@@ -328,7 +338,9 @@ fn state_of(left: &Left, status: HartStatus) -> HartState
 
 /// The states of a waiting, a halted and a running hart.
 fn states_of(waiting: &Left, halted: &Left, running: &Left) -> HartStates
-    ensures { result ≡ left_states waiting.now.domain waiting.now.pc waiting.now.regs halted.now.domain halted.now.pc halted.now.regs running.now.domain running.now.pc running.now.regs }
+    ensures { result ≡
+        left_states waiting.now.domain waiting.now.pc waiting.now.regs halted.now.domain
+        halted.now.pc halted.now.regs running.now.domain running.now.pc running.now.regs }
 {
     let mut states = HartStates::new();
     states.push(state_of(waiting, HartStatus::Waiting));
@@ -354,7 +366,9 @@ fn flights_of(first: u32, count: u32) -> Flights
 /// The range of a grant on which a hart waits. `None` where it waits on another call, and for no range of RAM.
 fn granted_by(waiting: &Left) -> Option<(u32, u32)>
     ensures number { IfSome result (λ r. slice_index waiting.now.regs 17 ≡ 3) }
-    ensures range { IfSome result (λ r. word_range (slice_index waiting.now.regs 10) (slice_index waiting.now.regs 11) 16384 ≡ Some r) }
+    ensures range { IfSome result
+        (λ r. word_range (slice_index waiting.now.regs 10) (slice_index waiting.now.regs 11) 16384 ≡
+        Some r) }
     ensures inside { IfSome result (λ r. r.0 + r.1 ≤ 16384) }
 {
     if waiting.regs[17] != 3 {

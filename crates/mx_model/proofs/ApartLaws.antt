@@ -1,5 +1,5 @@
 -- Blocks that lie apart, and gates of which one at most stands for a domain at a word, under the edits that a turn makes.
-use Rattle.std.proofs.Common.{◌≡◌, ℕ, ◌+◌, ◌-◌, ◌<◌, ◌≤◌, Bool, true, false, not, cond, nat_lt, ◌==◌, ◌&&◌, ◌||◌, List, [], ◌∷◌, ◌++◌, refl, sym, ◌∙◌, ap, arith, ◌⊎◌, ⊎_elim, inl, inr}
+use Rattle.std.proofs.Common.{◌≡◌, ℕ, ◌+◌, ◌-◌, ◌<◌, ◌≤◌, Bool, true, false, not, cond, nat_lt, ◌==◌, ◌&&◌, ◌||◌, List, [], ◌∷◌, ◌++◌, length, get_or, refl, sym, ◌∙◌, ap, arith, ◌⊎◌, ⊎_elim, inl, inr}
 use Rattle.std.specs.Prelude.{filter}
 use Rattle.std.specs.List.{AllByRecursion, list_any}
 use Rattle.std.proofs.lemmas.Bool.{ltb-true, ltb-false, lt-ltb, ne_eqb, or_parts, eq-eqb}
@@ -16,10 +16,6 @@ use Rattle.mx_model.proofs.ListLaws.{all-in}
 pub apart-lower : (low low' high : ℕ) (bs : List Area) → low' ≤ low → AreApart low high bs → AreApart low' high bs
 apart-lower low low' high [] e p = omega (arith, e, p)
 apart-lower low low' high (b ∷ bs) e p = let q = p.0 in (omega (arith, e, q), p.1, p.2)
-
-apart-ordered : (low high : ℕ) (bs : List Area) → AreApart low high bs → low ≤ high
-apart-ordered low high [] p = p
-apart-ordered low high (b ∷ bs) p = let q = apart-ordered (b.first + b.count) high bs p.2 in let r = p.0 in omega (arith, q, r)
 
 pub apart-without : (first low high : ℕ) (bs : List Area) → AreApart low high bs → AreApart low high (without_block first bs)
 apart-without first low high [] p = p
@@ -63,10 +59,13 @@ apart-with c low high (b ∷ bs) l u s e p =
 pub single-filter : (test : Gate → Bool) (gs : List Gate) → AreSingle gs → AreSingle (filter test gs)
 single-filter test gs p = AllPairs-filter (λ (g h : Gate). is_at g.domain g.word h ≡ false) test gs p
 
+pub single-push : (g : Gate) (gs : List Gate) → AreSingle gs →
+    ((k : ℕ) (d : Gate) → k < length gs → is_at (get_or gs k d).domain (get_or gs k d).word g ≡ false) →
+    AreSingle (gs ++ g ∷ [])
+single-push g gs p q = all_pairs_push (λ (g h : Gate). is_at g.domain g.word h ≡ false) gs g p q
+
 pub single-append : (g : Gate) (gs : List Gate) → AllByRecursion (λ h. is_at h.domain h.word g ≡ false) gs → AreSingle gs → AreSingle (gs ++ g ∷ [])
-single-append g gs q p =
-    all_pairs_push (λ (g h : Gate). is_at g.domain g.word h ≡ false) gs g p
-    (λ k d l. all-in (λ (h : Gate). is_at h.domain h.word g ≡ false) gs d q k l)
+single-append g gs q p = single-push g gs p (λ k d l. all-in (λ (h : Gate). is_at h.domain h.word g ≡ false) gs d q k l)
 
 -- no gate of those without a domain and word is for these
 pub at-flipped : (g h : Gate) → is_at g.domain g.word h ≡ false → is_at h.domain h.word g ≡ false

@@ -57,12 +57,16 @@ pub data Border : Type 0 where
 abbrev pub border_of_effect : Reads → Core → Hart → Effect → Border
 border_of_effect r c hart (Goes regs pc) = Nothing
 border_of_effect r c hart (Faults cause value) = Trap cause value
-border_of_effect r c hart (Loads p address width rd) = if is_denied r c hart.domain address A.Read then Trap 5 address else Nothing
-border_of_effect r c hart (Stores p address size value) = if is_denied r c hart.domain address A.Write then Trap 7 address else Nothing
+border_of_effect r c hart (Loads p address width rd) =
+    if is_denied r c hart.domain address A.Read then Trap 5 address else Nothing
+border_of_effect r c hart (Stores p address size value) =
+    if is_denied r c hart.domain address A.Write then Trap 7 address else Nothing
 border_of_effect r c hart Calls =
-    Call (reg hart.regs 17) (reg hart.regs 10) (reg hart.regs 11) (reg hart.regs 12) (reg hart.regs 13)
+    Call (reg hart.regs 17) (reg hart.regs 10) (reg hart.regs 11) (reg hart.regs 12)
+        (reg hart.regs 13)
 border_of_effect r c hart (Jumps rd target) =
-    if is_return_at c hart.domain hart.pc then Back hart.pc target else by_target target Nothing (Trap 0 target)
+    if is_return_at c hart.domain hart.pc then Back hart.pc target
+        else by_target target Nothing (Trap 0 target)
 
 abbrev pub border_of_word : Reads → Core → Hart → ℕ → Option Inst → Border
 border_of_word r c hart word None = Trap 2 word
@@ -70,11 +74,13 @@ border_of_word r c hart word (Some inst) = border_of_effect r c hart (effect ins
 
 abbrev pub border_of_fetch : Reads → Core → Hart → Bool → Border
 border_of_fetch r c hart true = Trap 1 hart.pc
-border_of_fetch r c hart false = let word = load_at c hart.pc 4 in border_of_word r c hart word (decoded word)
+border_of_fetch r c hart false =
+    let word = load_at c hart.pc 4 in border_of_word r c hart word (decoded word)
 
 abbrev pub border_of_gate : Reads → Core → Hart → Option ℕ → Border
 border_of_gate r c hart (Some target) = AtGate ((hart.pc - ram_base) / 4) target (reg hart.regs 1)
-border_of_gate r c hart None = border_of_fetch r c hart (is_denied r c hart.domain hart.pc A.Execute)
+border_of_gate r c hart None =
+    border_of_fetch r c hart (is_denied r c hart.domain hart.pc A.Execute)
 
 abbrev pub border_in : Reads → Core → Hart → Bool → Border
 border_in r c hart true = Trap 20 hart.pc

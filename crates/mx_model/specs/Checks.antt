@@ -37,7 +37,8 @@ flight_range c choice (Halted code) = None
 -- the ranges of the calls in flight of the harts other than h, as far as the choice takes them
 abbrev pub ranges : Core → ℕ → (List Bool → ℕ × ℕ → Option (ℕ × ℕ)) → List (ℕ × ℕ)
 ranges c h choice =
-    filter_map (λ (p : ℕ × Hart). if p.0 == h then None else flight_range c choice p.1.status) (enumerate_from 0 c.harts)
+    filter_map (λ (p : ℕ × Hart). if p.0 == h then None else flight_range c choice p.1.status)
+        (enumerate_from 0 c.harts)
 
 -- the ranges that hart h has heard, and those that it hasn't
 abbrev pub heard_ranges : Core → ℕ → List (ℕ × ℕ)
@@ -55,9 +56,13 @@ heard_by h (Halted code) = Halted code
 -- hart h hears every call in flight of another hart, and drops its spans that meet a range heard for the first time
 abbrev pub hears : ℕ → Core → Core
 hears h c =
-    let cache = fold (λ cache (r : ℕ × ℕ). without_range r.0 r.1 cache) (cache_at c h) (unheard_ranges c h) in
+    let cache = fold (λ cache (r : ℕ × ℕ). without_range r.0 r.1 cache) (cache_at c h)
+        (unheard_ranges c h) in
     record c {
-      harts = list_map (λ (p : ℕ × Hart). if p.0 == h then p.1 else record p.1 { status = heard_by h p.1.status }) (enumerate_from 0 c.harts);
+      harts = list_map
+          (λ (p : ℕ × Hart).
+              if p.0 == h then p.1 else record p.1 { status = heard_by h p.1.status })
+          (enumerate_from 0 c.harts);
       caches = slice_set c.caches h cache;
     }
 
@@ -69,7 +74,8 @@ is_halted status = false
 -- whether every other hart that isn't halted is among those that have heard hart h's call
 abbrev pub is_ready : Core → ℕ → List Bool → Bool
 is_ready c h heard =
-    list_all (λ (p : ℕ × Hart). lets_pass h heard p.0 (is_halted p.1.status)) (enumerate_from 0 c.harts)
+    list_all (λ (p : ℕ × Hart). lets_pass h heard p.0 (is_halted p.1.status))
+        (enumerate_from 0 c.harts)
 
 -- hart h's caches after a look
 abbrev pub looked : Reads → ℕ → Core → Look → Core
@@ -92,4 +98,6 @@ drops h range c = with_cache h (without_range range.0 range.1 (cache_at c h)) c
 
 -- a look at the word that holds an address; outside RAM there is none
 abbrev pub looks_at : Core → ℕ → ℕ → ℕ → List Look
-looks_at c place domain address = option_map_or (λ w. record { place = place; domain = domain; word = w } ∷ []) (word_of address c.size) []
+looks_at c place domain address =
+    option_map_or (λ w. record { place = place; domain = domain; word = w } ∷ [])
+    (word_of address c.size) []

@@ -158,11 +158,13 @@ takes regs pc rd value = Goes (written regs rd value) (next pc)
 
 -- a load of an address, unless it is misaligned
 abbrev pub loads_at : ℕ → ℕ → LoadWidth → ℕ → Effect
-loads_at place address width rd = if address % load_size width == 0 then Loads place address width rd else Faults 4 address
+loads_at place address width rd =
+    if address % load_size width == 0 then Loads place address width rd else Faults 4 address
 
 -- a store to an address, unless it is misaligned
 abbrev pub stores_at : ℕ → ℕ → ℕ → ℕ → Effect
-stores_at place address size value = if address % size == 0 then Stores place address size value else Faults 6 address
+stores_at place address size value =
+    if address % size == 0 then Stores place address size value else Faults 6 address
 
 -- what an instruction does, of registers and pc
 unfoldable pub effect : Inst → List ℕ → ℕ → Effect
@@ -170,9 +172,12 @@ effect (Lui rd imm) regs pc = takes regs pc rd imm
 effect (Auipc rd imm) regs pc = takes regs pc rd (plus pc imm)
 effect (Jal rd imm) regs pc = Jumps rd (plus pc imm)
 effect (Jalr rd rs1 imm) regs pc = Jumps rd (plus (reg regs rs1) imm / 2 * 2)
-effect (Branch cond rs1 rs2 imm) regs pc = if holds cond (reg regs rs1) (reg regs rs2) then taken regs (plus pc imm) else Goes regs (next pc)
+effect (Branch cond rs1 rs2 imm) regs pc =
+    if holds cond (reg regs rs1) (reg regs rs2) then taken regs (plus pc imm)
+    else Goes regs (next pc)
 effect (Load width rd rs1 imm) regs pc = loads_at rs1 (plus (reg regs rs1) imm) width rd
-effect (Store width rs1 rs2 imm) regs pc = stores_at rs1 (plus (reg regs rs1) imm) (store_size width) (reg regs rs2)
+effect (Store width rs1 rs2 imm) regs pc =
+    stores_at rs1 (plus (reg regs rs1) imm) (store_size width) (reg regs rs2)
 effect (OpImm op rd rs1 imm) regs pc = takes regs pc rd (imm_result op (reg regs rs1) imm)
 effect (Op op rd rs1 rs2) regs pc = takes regs pc rd (reg_result op (reg regs rs1) (reg regs rs2))
 effect (Fence fields) regs pc = Goes regs (next pc)

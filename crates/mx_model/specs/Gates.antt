@@ -35,7 +35,8 @@ call_gate gates domain word = option_map_or call_target (gate_at gates domain wo
 
 -- whether a return gate stands there, whose target is its own domain
 abbrev pub is_return : List Gate → ℕ → ℕ → Bool
-is_return gates domain word = option_map_or (λ (g : Gate). g.target == g.domain) (gate_at gates domain word) false
+is_return gates domain word =
+    option_map_or (λ (g : Gate). g.target == g.domain) (gate_at gates domain word) false
 
 -- the gates without that of a domain and word
 abbrev pub without_gate : ℕ → ℕ → List Gate → List Gate
@@ -51,7 +52,8 @@ has_gate gates domain word = list_any (is_at domain word) gates
 
 -- whether no gate for a domain and word can be added: as many stand as may, and none of them is there
 abbrev pub no_gate_fits : List Gate → ℕ → ℕ → Bool
-no_gate_fits gates domain word = nat_le most_gates (length gates) && not (has_gate gates domain word)
+no_gate_fits gates domain word =
+    nat_le most_gates (length gates) && not (has_gate gates domain word)
 
 -- at most one gate stands for a domain at a word
 abbrev pub AreSingle : List Gate → Type 0
@@ -70,4 +72,6 @@ saved_stack f = slice_index f.kept 0
 
 -- the saved x2 of the frame nearest the top whose caller is a domain
 abbrev pub nearest : List Frame → ℕ → Option ℕ
-nearest frames domain = option_map_or (λ f. Some (saved_stack f)) (find (λ (f : Frame). f.caller == domain) (reverse frames)) None
+nearest frames domain =
+    option_map_or (λ f. Some (saved_stack f))
+    (find (λ (f : Frame). f.caller == domain) (reverse frames)) None

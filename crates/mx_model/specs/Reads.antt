@@ -46,7 +46,8 @@ reads s =
       perm = λ d i. if nat_lt i size then at (grants_of s.grants d) i else P.None;
       owner = λ i. if nat_lt i size then owner s.gives i else 0;
       walk = λ d i. span s.core.kind (map (grants_of s.grants d) size) i;
-      fits = λ (c : Change). fits s.core.kind s.core.limit (list_map (λ grants. map grants size) (granted_all c.first c.count c.given s.grants));
+      fits = λ (c : Change). fits s.core.kind s.core.limit
+          (list_map (λ grants. map grants size) (granted_all c.first c.count c.given s.grants));
       few_runs = λ give. nat_le (owner_runs (owners (s.gives ++ give ∷ []) size)) most_owner_runs;
     }
 
@@ -58,6 +59,7 @@ flat_reads f =
       perm = λ d i. perm_at (map_in size f.maps d) i;
       owner = λ i. slice_index f.owners i;
       walk = λ d i. span f.core.kind (map_in size f.maps d) i;
-      fits = λ (c : Change). fits f.core.kind f.core.limit (changed_maps c.first c.count c.given f.maps);
+      fits = λ (c : Change). fits f.core.kind f.core.limit
+          (changed_maps c.first c.count c.given f.maps);
       few_runs = λ give. nat_le (owner_runs (laid give f.owners)) most_owner_runs;
     }

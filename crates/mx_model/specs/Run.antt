@@ -90,4 +90,6 @@ is_stopped schedule s = all_halted s.core || is_over schedule s.core.turns
 -- at most n further turns by a schedule: fewer where it ends or all harts are halted
 abbrev pub run : Schedule → ℕ → State → State
 run schedule zero s = s
-run schedule (suc n) s = elim (is_stopped schedule s) [ true ↦ s | false ↦ run schedule n (turn s (hart_of schedule s.core)) ]
+run schedule (suc n) s =
+    elim (is_stopped schedule s)
+    [ true ↦ s | false ↦ run schedule n (turn s (hart_of schedule s.core)) ]

@@ -39,9 +39,10 @@ pub data Service : Type 0 where
 
 abbrev pub service : ℕ → Service
 service n =
-    if n == 1 then Exit else if n == 2 then Write else if n == 3 then Grant else if n == 4 then RevokeAll else
-    if n == 5 then Transfer else if n == 6 then Alloc else if n == 7 then Free else if n == 8 then AddGate else
-    if n == 9 then RemoveGate else if n == 10 then AddReturnGate else if n == 11 then Query else if n == 12 then Self else
+    if n == 1 then Exit else if n == 2 then Write else if n == 3 then Grant else
+    if n == 4 then RevokeAll else if n == 5 then Transfer else if n == 6 then Alloc else
+    if n == 7 then Free else if n == 8 then AddGate else if n == 9 then RemoveGate else
+    if n == 10 then AddReturnGate else if n == 11 then Query else if n == 12 then Self else
     if n == 13 then Exchange else Unknown
 
 -- what a served call comes to: RAM, blocks, gates and caches afterwards; a change of rights; a give; bytes for the console; the answers in
@@ -57,7 +58,8 @@ pub record Served : Type 0 where
 
 -- an answer with no effect
 abbrev pub answers : Core → ℕ → Served
-answers c a0 = record { core = c; change = None; give = None; console = []; a0 = a0; a1 = None; stop = false }
+answers c a0 =
+    record { core = c; change = None; give = None; console = []; a0 = a0; a1 = None; stop = false }
 
 -- the number of a code as it stands in a register
 abbrev pub code : ℕ → ℕ
@@ -111,12 +113,14 @@ changes c change = record (answers c 0) { change = Some change }
 
 -- 1 exit: not with a frame on the cross stack
 abbrev pub serve_exit : Core → Call → Served
-serve_exit c call = judged c (first_row ((call.nested, 10) ∷ [])) (record (answers c (arg call 0)) { stop = true })
+serve_exit c call =
+    judged c (first_row ((call.nested, 10) ∷ [])) (record (answers c (arg call 0)) { stop = true })
 
 -- 2 write: whether a byte lies outside RAM
 abbrev pub write_outside : Core → Call → Bool
 write_outside c call =
-    nat_lt 0 (arg call 1) && (nat_lt (arg call 0) ram_base || nat_lt (ram_base + 4 * c.size) (arg call 0 + arg call 1))
+    nat_lt 0 (arg call 1) &&
+        (nat_lt (arg call 0) ram_base || nat_lt (ram_base + 4 * c.size) (arg call 0 + arg call 1))
 
 -- the touched words
 abbrev pub write_words : Call → List ℕ
@@ -143,7 +147,8 @@ bytes_at c address size = take size (drop (address - ram_base) c.ram)
 abbrev pub written_out : Reads → Core → Call → Served
 written_out r c call =
     let looked = looked_all r call.hart (write_looks r call) c in
-    judged looked (first_row ((not (list_all (may_read r call.domain) (write_words call)), 12) ∷ []))
+    judged looked
+        (first_row ((not (list_all (may_read r call.domain) (write_words call)), 12) ∷ []))
     (record (answers looked (arg call 1)) { console = bytes_at c (arg call 0) (arg call 1) })
 
 abbrev pub write_from : Reads → Core → Call → Option ℕ → Served
@@ -151,11 +156,14 @@ write_from r c call (Some n) = answers c (code n)
 write_from r c call None = written_out r c call
 
 abbrev pub serve_write : Reads → Core → Call → Served
-serve_write r c call = write_from r c call (first_row ((nat_lt 4096 (arg call 1), 11) ∷ (write_outside c call, 1) ∷ []))
+serve_write r c call =
+    write_from r c call
+    (first_row ((nat_lt 4096 (arg call 1), 11) ∷ (write_outside c call, 1) ∷ []))
 
 -- 3 grant
 abbrev pub grant_change : Core → Call → Change
-grant_change c call = change_of (arg_range c call) (to_one (arg call 2) (unwrap_or (from_number (arg call 3)) P.None))
+grant_change c call =
+    change_of (arg_range c call) (to_one (arg call 2) (unwrap_or (from_number (arg call 3)) P.None))
 
 abbrev pub serve_grant : Reads → Core → Call → Served
 serve_grant r c call =
@@ -186,7 +194,8 @@ meets_heap c call =
     overlaps heap.first heap.count (arg_range c call).0 (arg_range c call).1
 
 abbrev pub give_of : Core → Call → Give
-give_of c call = record { first = (arg_range c call).0; count = (arg_range c call).1; value = arg call 2 }
+give_of c call =
+    record { first = (arg_range c call).0; count = (arg_range c call).1; value = arg call 2 }
 
 abbrev pub serve_transfer : Reads → Core → Call → Served
 serve_transfer r c call =
@@ -199,11 +208,13 @@ serve_transfer r c call =
 
 -- the caller's module with other live blocks
 abbrev pub with_blocks : Call → List Area → Core → Core
-with_blocks call blocks c = with_module call.domain (record (module_at c call.domain) { blocks = blocks }) c
+with_blocks call blocks c =
+    with_module call.domain (record (module_at c call.domain) { blocks = blocks }) c
 
 -- 6 alloc: the lowest place, zero-filled, read-write for the caller alone
 abbrev pub alloc_place : Core → Call → Option ℕ
-alloc_place c call = place (module_at c call.domain).heap (module_at c call.domain).blocks (arg call 0)
+alloc_place c call =
+    place (module_at c call.domain).heap (module_at c call.domain).blocks (arg call 0)
 
 abbrev pub alloc_change : ℕ → Call → Change
 alloc_change first call = change_of (first, arg call 0) (own_alone call.domain)
@@ -212,7 +223,8 @@ abbrev pub allocated : Core → Call → ℕ → Served
 allocated c call first =
     let cleared = record c { ram = cleared_at c.ram (4 * first) (4 * arg call 0) } in
     let block : Area = record { first = first; count = arg call 0 } in
-    record (changes (with_blocks call (with_block block (module_at c call.domain).blocks) cleared) (alloc_change first call)) {
+    record (changes (with_blocks call (with_block block (module_at c call.domain).blocks) cleared)
+        (alloc_change first call)) {
       a0 = address_of first;
     }
 
@@ -231,7 +243,9 @@ serve_alloc r c call =
 
 -- 7 free
 abbrev pub freed_count : Core → Call → Option ℕ
-freed_count c call = if is_word c (arg call 0) then block_words (module_at c call.domain).blocks (arg_word call) else None
+freed_count c call =
+    if is_word c (arg call 0) then block_words (module_at c call.domain).blocks (arg_word call)
+    else None
 
 abbrev pub free_change : Core → Call → Change
 free_change c call = change_of (arg_word call, unwrap_or (freed_count c call) 0) none_at_all
@@ -241,7 +255,8 @@ serve_free r c call =
     judged c (first_row (
     (is_none (freed_count c call), 8)
     ∷ (not (r.fits (free_change c call)), 5) ∷ []))
-    (changes (with_blocks call (without_block (arg_word call) (module_at c call.domain).blocks) c) (free_change c call))
+    (changes (with_blocks call (without_block (arg_word call) (module_at c call.domain).blocks) c)
+        (free_change c call))
 
 -- whether the caller doesn't own the word of a0
 abbrev pub foreign_word : Reads → Call → Bool
@@ -331,7 +346,9 @@ served_by Unknown r c call = answers c (code 13)
 
 -- at the effect of an announced call, refused or not, the caller drops its own spans on the call's range
 abbrev pub ended : Core → Call → Served → Served
-ended c call s = if is_announced call.number then record s { core = drops call.hart (call_range c call) s.core } else s
+ended c call s =
+    if is_announced call.number then record s { core = drops call.hart (call_range c call) s.core }
+    else s
 
 -- one supervisor call
 abbrev pub serve : Reads → Core → Call → Served

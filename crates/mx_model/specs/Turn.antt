@@ -95,7 +95,8 @@ abbrev pub returned_over : ℕ → ℕ → Frame → Action
 returned_over rd target frame = if frame.back == target then Returns rd frame else Traps 17 target
 
 abbrev pub at_return : Hart → ℕ → ℕ → Action
-at_return hart rd target = option_map_or (returned_over rd target) (top hart.frames) (Traps 18 target)
+at_return hart rd target =
+    option_map_or (returned_over rd target) (top hart.frames) (Traps 18 target)
 
 -- the call that a hart makes
 abbrev pub call_of : ℕ → Hart → Call
@@ -110,7 +111,8 @@ call_of h hart = record {
 -- a JAL or JALR where no return gate stands: rd takes pc + 4 and the hart goes on at the target, or a misaligned target faults and
 -- writes no register
 abbrev pub jump_action : Hart → ℕ → ℕ → Action
-jump_action hart rd target = by_target target (Runs (written hart.regs rd (next hart.pc)) target) (Traps 0 target)
+jump_action hart rd target =
+    by_target target (Runs (written hart.regs rd (next hart.pc)) target) (Traps 0 target)
 
 -- a load, and a store
 abbrev pub load_action : Reads → Core → Hart → ℕ → LoadWidth → ℕ → Action
@@ -136,7 +138,8 @@ by_effect r c h hart (Stores p address size value) = record {
 }
 by_effect r c h hart Calls = without_look (Asks (call_of h hart))
 by_effect r c h hart (Jumps rd target) = without_look (
-    if is_return_at c hart.domain hart.pc then at_return hart rd target else jump_action hart rd target)
+    if is_return_at c hart.domain hart.pc then at_return hart rd target
+        else jump_action hart rd target)
 
 -- a fetched word that matches no row of the instruction table, or an instruction (case 6)
 abbrev pub by_word : Reads → Core → ℕ → Hart → ℕ → Option Inst → Decided
@@ -154,7 +157,8 @@ after_look looks d = record { looks = looks ++ d.looks; action = d.action }
 abbrev pub runs_at : Reads → Core → ℕ → Hart → Option ℕ → Decided
 runs_at r c h hart (Some target) = at_gate c hart target
 runs_at r c h hart None =
-    after_look (looks_at c 0 hart.domain hart.pc) (fetches r c h hart (is_denied r c hart.domain hart.pc A.Execute))
+    after_look (looks_at c 0 hart.domain hart.pc)
+        (fetches r c h hart (is_denied r c hart.domain hart.pc A.Execute))
 
 -- a running hart, in a dead domain or a live one (case 4)
 abbrev pub runs_in : Reads → Core → ℕ → Hart → Bool → Decided
@@ -164,7 +168,8 @@ runs_in r c h hart false = runs_at r c h hart (call_gate_at c hart.domain hart.p
 -- what hart h does, by its status, in a state in which it has heard the others' calls (cases 1, 3 and 4)
 abbrev pub by_status : Reads → Core → ℕ → Hart → Status → Decided
 by_status r c h hart (Halted code) = without_look Rests
-by_status r c h hart (Waiting call heard) = without_look (if is_ready c h heard then Serves call else Waits)
+by_status r c h hart (Waiting call heard) =
+    without_look (if is_ready c h heard then Serves call else Waits)
 by_status r c h hart Running = runs_in r c h hart (module_at c hart.domain).dead
 
 abbrev pub decide : Reads → Core → ℕ → Decided
@@ -181,7 +186,8 @@ pub record Made : Type 0 where
 
 -- a turn that makes nothing but a new state
 abbrev pub made : TurnKind → Core → Made
-made kind c = record { core = c; change = None; give = None; console = []; note = None; kind = kind }
+made kind c =
+    record { core = c; change = None; give = None; console = []; note = None; kind = kind }
 
 -- hart h with other registers and another pc; it runs
 abbrev pub with_regs : ℕ → Hart → List ℕ → ℕ → Core → Core
@@ -206,7 +212,8 @@ stack_address c d h =
 -- a crossing: a frame is pushed, x2 becomes the entered domain's saved or own stack address, and the places are emptied
 abbrev pub crossed : Core → ℕ → Hart → ℕ → Core
 crossed c h hart target =
-    let frame : Frame = record { back = reg hart.regs 1; caller = hart.domain; kept = saved hart.regs } in
+    let frame : Frame =
+        record { back = reg hart.regs 1; caller = hart.domain; kept = saved hart.regs } in
     let stack = unwrap_or (nearest hart.frames target) (stack_address c target h) in
     empties_places h (with_hart h (record hart {
       regs = slice_set hart.regs 2 stack;
@@ -237,7 +244,8 @@ fault_answer cause = 0xFFFFFF00 + cause
 -- where a fault leaves its hart: halted, or over its top frame in the caller
 abbrev pub given_up : Core → ℕ → Hart → ℕ → Option Frame → Core
 given_up c h hart cause None = halted h hart None c
-given_up c h hart cause (Some frame) = over_frame c h hart frame (slice_set hart.regs 10 (fault_answer cause))
+given_up c h hart cause (Some frame) =
+    over_frame c h hart frame (slice_set hart.regs 10 (fault_answer cause))
 
 -- a fault by another cause than 20 makes a killing domain dead
 abbrev pub killed : ℕ → ℕ → Core → Core
@@ -253,7 +261,8 @@ trapped c h hart cause value =
 
 -- the hart after a served call that doesn't end it: a0, and for an exchange a1, and the next pc
 abbrev pub answered : Hart → ℕ → Option ℕ → List ℕ
-answered hart a0 a1 = let regs = slice_set hart.regs 10 a0 in option_map_or (slice_set regs 11) a1 regs
+answered hart a0 a1 =
+    let regs = slice_set hart.regs 10 a0 in option_map_or (slice_set regs 11) a1 regs
 
 -- a served call
 abbrev pub done : ℕ → Hart → Served → Made
@@ -272,7 +281,8 @@ served r c h hart call = done h hart (serve r c call)
 -- an announced call waits until the other harts have heard it; where they are all halted, or for another call, it is served at once (case 8)
 abbrev pub asked : Reads → Core → ℕ → Hart → Call → Bool → Made
 asked r c h hart call true = served r c h hart call
-asked r c h hart call false = made T.Called (with_hart h (record hart { status = Waiting call nobody }) c)
+asked r c h hart call false =
+    made T.Called (with_hart h (record hart { status = Waiting call nobody }) c)
 
 abbrev pub is_served_now : Core → ℕ → Call → Bool
 is_served_now c h call = not (is_announced call.number) || is_ready c h nobody
@@ -284,12 +294,17 @@ acted r c h hart Waits = made T.Waited c
 acted r c h hart (Serves call) = served r c h hart call
 acted r c h hart (Asks call) = asked r c h hart call (is_served_now c h call)
 acted r c h hart (Traps cause value) = trapped c h hart cause value
-acted r c h hart Bounces = made T.Returned (with_regs h hart (slice_set hart.regs 10 (fault_answer 20)) (reg hart.regs 1) c)
+acted r c h hart Bounces =
+    made T.Returned
+    (with_regs h hart (slice_set hart.regs 10 (fault_answer 20)) (reg hart.regs 1) c)
 acted r c h hart (Crosses target) = made T.Crossed (crossed c h hart target)
-acted r c h hart (Returns rd frame) = made T.Returned (over_frame c h hart frame (written hart.regs rd (next hart.pc)))
+acted r c h hart (Returns rd frame) =
+    made T.Returned (over_frame c h hart frame (written hart.regs rd (next hart.pc)))
 acted r c h hart (Runs regs pc) = made T.Ran (with_regs h hart regs pc c)
 acted r c h hart (Writes address size value) =
-    made T.Ran (with_regs h hart hart.regs (next hart.pc) (record c { ram = put_at c.ram (address - ram_base) size value }))
+    made T.Ran
+        (with_regs h hart hart.regs (next hart.pc)
+        (record c { ram = put_at c.ram (address - ram_base) size value }))
 
 -- the decided action done behind its looks
 abbrev pub enacted : Reads → Core → ℕ → Decided → Made

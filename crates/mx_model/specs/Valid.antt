@@ -101,7 +101,8 @@ pub record IsValid (c : Core) : Type 0 where
   pub modules : AllByRecursion (IsHome c.size (length c.harts)) c.modules
   pub some_harts : 1 ≤ length c.harts
   pub few_harts : length c.harts ≤ most_harts
-  pub harts : (h : ℕ) → h < length c.harts → IsHart (length c.modules) (length c.harts) h (hart_at c h)
+  pub harts : (h : ℕ) → h < length c.harts →
+      IsHart (length c.modules) (length c.harts) h (hart_at c h)
   pub caches : length c.caches ≡ length c.harts
   pub few_gates : length c.gates ≤ most_gates
   pub gates : AllByRecursion (IsGate (length c.modules) c.size) c.gates

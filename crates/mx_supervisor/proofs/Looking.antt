@@ -18,7 +18,7 @@ use Rattle.mx_table.specs.Tables.{map_of, IsDomain}
 use Rattle.mx_check.specs.declared.flight.Flight.{Flight}
 use Rattle.mx_check.specs.Conditions.{MayLook}
 use Rattle.mx_check.specs.Harts.{Kept, no_hart, hart_at, at_hart}
-use Rattle.mx_check.specs.Looks.{flight_bars, hart_bars, is_barred, looks}
+use Rattle.mx_check.specs.Looks.{flight_forbids, hart_forbids, is_forbidden, looks}
 use Rattle.mx_check.specs.Looks.{looked as looked_harts}
 use Rattle.mx_check.proofs.LookLaws.{all_below_agree}
 use Rattle.mx_model.specs.declared.values.Call.{Call}
@@ -40,20 +40,20 @@ word-of-address w size lt =
     rw (low, high, round)
 
 -- whether a span is barred, from what else is kept of the other harts
-hart-kept : (h : ℕ) (s : Span) (old new : List Kept) (i : ℕ) → (i ≢ h → hart_at new i ≡ hart_at old i) → hart_bars h s new i ≡ hart_bars h s old i
+hart-kept : (h : ℕ) (s : Span) (old new : List Kept) (i : ℕ) → (i ≢ h → hart_at new i ≡ hart_at old i) → hart_forbids h s new i ≡ hart_forbids h s old i
 hart-kept h s old new i same = by (cases_eq i h)
   where
-    by : (i ≡ h) ⊎ (i ≢ h) → hart_bars h s new i ≡ hart_bars h s old i
+    by : (i ≡ h) ⊎ (i ≢ h) → hart_forbids h s new i ≡ hart_forbids h s old i
     by (inl e) =
         let own : (i == h) ≡ true = eq-eqb i h e in
-        ap (λ b. not b && flight_bars h s (hart_at new i).flight) own ∙ sym (ap (λ b. not b && flight_bars h s (hart_at old i).flight) own)
-    by (inr ne) = ap (λ (k : Kept). not (i == h) && flight_bars h s k.flight) (same ne)
+        ap (λ b. not b && flight_forbids h s (hart_at new i).flight) own ∙ sym (ap (λ b. not b && flight_forbids h s (hart_at old i).flight) own)
+    by (inr ne) = ap (λ (k : Kept). not (i == h) && flight_forbids h s k.flight) (same ne)
 
 pub barred-kept : (h : ℕ) (s : Span) (old new : List Kept) → length new ≡ length old → ((i : ℕ) → i ≢ h → hart_at new i ≡ hart_at old i) →
-    is_barred h s new ≡ is_barred h s old
+    is_forbidden h s new ≡ is_forbidden h s old
 barred-kept h s old new count same =
-    ap (λ n. not (all_below n (λ i. not (hart_bars h s new i)))) count
-    ∙ ap not (all_below_agree (length old) (λ i. not (hart_bars h s new i)) (λ i. not (hart_bars h s old i))
+    ap (λ n. not (all_below n (λ i. not (hart_forbids h s new i)))) count
+    ∙ ap not (all_below_agree (length old) (λ i. not (hart_forbids h s new i)) (λ i. not (hart_forbids h s old i))
     (λ i lt. ap not (hart-kept h s old new i (same i))))
 
 -- the parts with other harts that keep the calls in flight
@@ -66,7 +66,7 @@ bars-kept rest p call flight harts keeps bars = record {
 -- what the checker says of a look at the word of an address
 pub looked-word : (p : Parts) (h d w : ℕ) → IsSound p → IsDomain p.maps d → w < p.size →
     looked_harts p.buffer p.kind (map_of p.maps d) h 10 d (address_of w) p.harts
-    ≡ at_hart h (looks p.buffer 10 d w (span p.kind (map_of p.maps d) w) (is_barred h (span p.kind (map_of p.maps d) w) p.harts)) p.harts
+    ≡ at_hart h (looks p.buffer 10 d w (span p.kind (map_of p.maps d) w) (is_forbidden h (span p.kind (map_of p.maps d) w) p.harts)) p.harts
 looked-word p h d w sound there lt =
     let size : length (map_of p.maps d) ≡ p.size = sound.maps d there in
     rw (size, word-of-address w p.size lt)
@@ -91,7 +91,7 @@ cache_of k = k.cache
 -- the state after it
 core-look : (rest : Core) (p : Parts) (h d w : ℕ) → IsDomain p.maps d → BarsAlike rest p h →
     core_of rest (record p {
-      harts = at_hart h (looks p.buffer 10 d w (span p.kind (map_of p.maps d) w) (is_barred h (span p.kind (map_of p.maps d) w) p.harts)) p.harts;
+      harts = at_hart h (looks p.buffer 10 d w (span p.kind (map_of p.maps d) w) (is_forbidden h (span p.kind (map_of p.maps d) w) p.harts)) p.harts;
     }) ≡ looked (flat_reads (flat_of rest p)) h (core_of rest p) (look_of d w)
 core-look rest p h d w there bars =
     let s = span p.kind (map_of p.maps d) w in
@@ -100,9 +100,9 @@ core-look rest p h d w there bars =
     let caches = list_map cache_of p.harts in
     let kept : cache_of (hart_at p.harts h) ≡ cache_at (core_of rest p) h = sym (get_or-map cache_of p.harts h no_hart) in
     ap (λ (cs : List Cache). record (core_of rest p) { caches = cs }) (
-    map-set cache_of p.harts h (looks p.buffer 10 d w s (is_barred h s p.harts) (hart_at p.harts h))
-    ∙ ap (λ (c : Cache). set caches h (checked p.buffer 10 d w s (is_barred h s p.harts) c)) kept
-    ∙ ap (λ (x : Span). set caches h (checked p.buffer 10 d w x (is_barred h x p.harts) (cache_at (core_of rest p) h))) same
+    map-set cache_of p.harts h (looks p.buffer 10 d w s (is_forbidden h s p.harts) (hart_at p.harts h))
+    ∙ ap (λ (c : Cache). set caches h (checked p.buffer 10 d w s (is_forbidden h s p.harts) c)) kept
+    ∙ ap (λ (x : Span). set caches h (checked p.buffer 10 d w x (is_forbidden h x p.harts) (cache_at (core_of rest p) h))) same
     ∙ ap (λ b. set caches h (checked p.buffer 10 d w t b (cache_at (core_of rest p) h))) (sym (bars.at t)))
 
 -- the look of a call's hart
@@ -111,7 +111,7 @@ pub has-looked : (call : Call) (w : ℕ) (p : Parts) (harts : List Kept) → IsS
     HasLooked call w p (record p { harts = harts })
 has-looked call w p harts sound there lt may is =
     let s = span p.kind (map_of p.maps call.domain) w in
-    let step : Kept → Kept = looks p.buffer 10 call.domain w s (is_barred call.hart s p.harts) in
+    let step : Kept → Kept = looks p.buffer 10 call.domain w s (is_forbidden call.hart s p.harts) in
     let e : harts ≡ at_hart call.hart step p.harts = is ∙ looked-word p call.hart call.domain w sound there lt in
     subst (λ (hs : List Kept). HasLooked call w p (record p { harts = hs })) (sym e) (record {
       same = refl;

@@ -4,15 +4,15 @@ use Rattle.std.proofs.Common.{map as list_map}
 use Rattle.std.proofs.lemmas.Bool.{cases_eq, cases_lt, ne_eqb}
 use Rattle.std.proofs.lemmas.List.{get_or-map, get_or_past, length-map}
 use Rattle.mx_words.specs.FirstFit.{Area, AreApart}
+use Rattle.mx_words.proofs.AreaLaws.{apart_ordered}
 use Rattle.mx_heap.specs.HeapState.{HeapState, IsHeap}
-use Rattle.mx_heap.proofs.RoomLaws.{apart-le}
 use Rattle.mx_supervisor.specs.Heaps.{heap_at, heap_in, no_area, no_heap, told_heap, told_area}
 use Rattle.mx_supervisor.specs.Told.{IsTold}
 
 -- an area of no words has no block
 nowhere : (first count : ℕ) (bs : List Area) → count ≡ 0 → AreApart first (first + count) bs → AreApart 0 0 bs
 nowhere first count [] e h = omega arith
-nowhere first count (b ∷ bs) e h = let rest = apart-le (b.first + b.count) (first + count) bs h.2 in absurd (omega (arith, e, h.0, h.1, rest))
+nowhere first count (b ∷ bs) e h = let rest = apart_ordered (b.first + b.count) (first + count) bs h.2 in absurd (omega (arith, e, h.0, h.1, rest))
 
 pub told-none : IsTold no_heap
 told-none = record { heap = record { apart = omega arith; few = omega arith }; no_words = λ e. refl }

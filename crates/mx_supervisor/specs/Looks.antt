@@ -6,7 +6,7 @@ use Rattle.mx_words.specs.declared.perm.Span.{Span}
 use Rattle.mx_words.specs.Caches.{meets}
 use Rattle.mx_check.specs.declared.flight.Flight.{Flight}
 use Rattle.mx_check.specs.Harts.{Kept, hart_at}
-use Rattle.mx_check.specs.Looks.{is_barred}
+use Rattle.mx_check.specs.Looks.{is_forbidden}
 use Rattle.mx_model.specs.declared.values.Call.{Call}
 use Rattle.mx_model.specs.Checks.{heard_ranges, looked, looked_all}
 use Rattle.mx_model.specs.Reads.{Reads, flat_reads}
@@ -18,7 +18,7 @@ use Rattle.mx_supervisor.specs.Parts.{Parts, core_of, flat_of}
 pub record BarsAlike (rest : Core) (p : Parts) (h : ℕ) : Type 0 where
   pub at : (s : Span) →
       list_any (λ (r : ℕ × ℕ). meets s r.0 r.1) (heard_ranges (core_of rest p) h)
-      ≡ is_barred h s p.harts
+      ≡ is_forbidden h s p.harts
 
 -- beside caches, the checker keeps of the harts what it kept, but for the caller's call in flight and the domain of its looks
 pub record KeepsHarts (call : Call) (after : Option Flight) (old new : List Kept) : Type 0 where

@@ -7,6 +7,7 @@ pub mod OverlayLaws
 pub mod ChangeLaws
 pub mod RunLaws
 pub mod FirstFitLaws
+pub mod AreaLaws
 pub mod MaximalRuns
 pub mod PieceLaws
 pub mod BlockLaws

@@ -11,7 +11,7 @@ use Rattle.mx_words.specs.Bytes.{number_at, put_at, cleared_at}
 use Rattle.mx_words.specs.Changes.{changed_maps, granted_all}
 use Rattle.mx_words.specs.FirstFit.{Area, place, with_block, without_block, block_words, most_blocks}
 use Rattle.mx_words.specs.FirstRow.{first_row}
-use Rattle.mx_words.specs.Hearing.{most_harts, is_in, nobody, with_hearer, heard_range, unheard_range, bars, lets_pass}
+use Rattle.mx_words.specs.Hearing.{most_harts, is_in, nobody, with_hearer, heard_range, unheard_range, forbids_keeping, lets_pass}
 use Rattle.mx_words.specs.Newest.{Laid, Grant, at, map, owners, laid}
 use Rattle.mx_words.specs.Ranges.{most_words, address_of, covers, overlaps, in_ram, word_of, word_range, range_words}
 use Rattle.mx_words.specs.Rights.{number, from_number, same, allows, perm, denies}
@@ -198,7 +198,7 @@ unheard-ranges : list_map (λ h. unheard_range h (false ∷ true ∷ []) (5, 3))
 unheard-ranges = refl
 
 -- hart 1 has heard a call on words 5 to 7, and hart 0 hasn't: spans of words 7 to 8, and of word 8
-barred : list_map (λ (p : ℕ × ℕ). bars p.0 (false ∷ true ∷ []) (5, 3) (record { first = p.1; count = 9 - p.1; perm = Read })) ((0, 7) ∷ (1, 7) ∷ (1, 8) ∷ [])
+barred : list_map (λ (p : ℕ × ℕ). forbids_keeping p.0 (false ∷ true ∷ []) (5, 3) (record { first = p.1; count = 9 - p.1; perm = Read })) ((0, 7) ∷ (1, 7) ∷ (1, 8) ∷ [])
     ≡ false ∷ true ∷ false ∷ []
 barred = refl
 

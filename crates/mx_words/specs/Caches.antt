@@ -25,7 +25,8 @@ place_count = 32
 
 -- empty caches with counts 0
 abbrev pub no_cache : Cache
-no_cache = record { places = replicate place_count None; kept = []; sidecar = 0; lookaside = 0; walks = 0 }
+no_cache =
+    record { places = replicate place_count None; kept = []; sidecar = 0; lookaside = 0; walks = 0 }
 
 -- a count after one more; at 2^64 - 1 it stays
 abbrev pub raised : ℕ → ℕ
@@ -53,7 +54,8 @@ is_for domain word e = (e.0 == domain) && covers_word e.1 word
 
 -- the newest kept span of the domain that covers the word
 abbrev pub found_kept : List Entry → ℕ → ℕ → Option Span
-found_kept kept domain word = option_map_or (λ (e : Entry). Some e.1) (find (is_for domain word) kept) None
+found_kept kept domain word =
+    option_map_or (λ (e : Entry). Some e.1) (find (is_for domain word) kept) None
 
 -- the list with a new entry in front, of which at most `most` stay
 abbrev pub kept_with : ℕ → Entry → List Entry → List Entry
@@ -73,7 +75,8 @@ with_place_hit c = record c { sidecar = raised c.sidecar }
 
 -- the list answers: its span goes into the place, and the list stays
 abbrev pub with_kept_hit : ℕ → Span → Cache → Cache
-with_kept_hit p s c = record c { places = slice_set c.places p (Some s); lookaside = raised c.lookaside }
+with_kept_hit p s c =
+    record c { places = slice_set c.places p (Some s); lookaside = raised c.lookaside }
 
 -- the tables are walked: the span goes into the place and to the front of the list, unless it is barred
 abbrev pub with_walk : ℕ → ℕ → ℕ → Span → Bool → Cache → Cache
@@ -108,4 +111,5 @@ left_domain c = record c { places = replicate place_count None }
 -- the spans that meet a range dropped
 abbrev pub without_range : ℕ → ℕ → Cache → Cache
 without_range first count c =
-    record c { places = places_without first count c.places; kept = kept_without first count c.kept }
+    record c { places = places_without first count c.places;
+        kept = kept_without first count c.kept }

@@ -12,7 +12,8 @@ pub record Area : Type 0 where
 -- whether n words from word a on lie in the area and meet no live block
 abbrev pub has_room : Area → List Area → ℕ → ℕ → Bool
 has_room area blocks n a =
-    nat_le area.first a && nat_le (a + n) (area.first + area.count) && not (list_any (λ (b : Area). overlaps b.first b.count a n) blocks)
+    nat_le area.first a && nat_le (a + n) (area.first + area.count) &&
+        not (list_any (λ (b : Area). overlaps b.first b.count a n) blocks)
 
 -- the least word with room for n words, and nothing where there is none
 abbrev pub place : Area → List Area → ℕ → Option ℕ
@@ -28,7 +29,8 @@ without_block first blocks = filter (λ (b : Area). not (b.first == first)) bloc
 
 -- the number of words of the live block that begins at a word
 abbrev pub block_words : List Area → ℕ → Option ℕ
-block_words blocks first = option_map (λ (b : Area). b.count) (find (λ (b : Area). b.first == first) blocks)
+block_words blocks first =
+    option_map (λ (b : Area). b.count) (find (λ (b : Area). b.first == first) blocks)
 
 -- how many live blocks a heap has at most
 abbrev pub most_blocks : ℕ

@@ -28,8 +28,8 @@ abbrev pub unheard_range : ℕ → List Bool → ℕ × ℕ → Option (ℕ × �
 unheard_range h heard range = if is_in heard h then None else Some range
 
 -- whether a call that hart h has heard keeps it from keeping a span
-abbrev pub bars : ℕ → List Bool → ℕ × ℕ → Span → Bool
-bars h heard range s = is_in heard h && meets s range.0 range.1
+abbrev pub forbids_keeping : ℕ → List Bool → ℕ × ℕ → Span → Bool
+forbids_keeping h heard range s = is_in heard h && meets s range.0 range.1
 
 -- whether hart i doesn't hold up a call of hart h: it is h, is halted, or has heard the call
 abbrev pub lets_pass : ℕ → List Bool → ℕ → Bool → Bool

@@ -20,7 +20,8 @@ covers first count w = nat_le first w && nat_lt (w - first) count
 
 -- whether some word lies in both ranges; in an empty one there is none
 abbrev pub overlaps : ℕ → ℕ → ℕ → ℕ → Bool
-overlaps a n b m = nat_lt 0 n && nat_lt 0 m && (if nat_lt a b then nat_lt (b - a) n else nat_lt (a - b) m)
+overlaps a n b m =
+    nat_lt 0 n && nat_lt 0 m && (if nat_lt a b then nat_lt (b - a) n else nat_lt (a - b) m)
 
 -- whether an address lies in a RAM of `words` words
 abbrev pub in_ram : ℕ → ℕ → Bool
@@ -33,7 +34,8 @@ word_of address words = if in_ram address words then Some ((address - ram_base) 
 -- whether `size` bytes from an address on are a range: at least one byte, from a multiple of 4 on, all in RAM
 abbrev pub is_range : ℕ → ℕ → ℕ → Bool
 is_range address size words =
-    nat_lt 0 size && (address % 4 == 0) && nat_le ram_base address && nat_le (address + size) (ram_base + 4 * words)
+    nat_lt 0 size && (address % 4 == 0) && nat_le ram_base address &&
+        nat_le (address + size) (ram_base + 4 * words)
 
 -- the words of a range, as its first word and their number, and nothing where it is no range
 abbrev pub word_range : ℕ → ℕ → ℕ → Option (ℕ × ℕ)

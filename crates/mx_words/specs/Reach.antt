@@ -48,7 +48,8 @@ abbrev pub count_in : ℕ → List Perm → ℕ → ℕ
 count_in size m i = min size (length m - first_in size i)
 
 abbrev pub block_span : ℕ → List Perm → ℕ → Span
-block_span size m i = record { first = first_in size i; count = count_in size m i; perm = perm_at m i }
+block_span size m i =
+    record { first = first_in size i; count = count_in size m i; perm = perm_at m i }
 
 -- the run of word i within its line
 abbrev pub line_span : List Perm → ℕ → Span
@@ -65,7 +66,8 @@ left_reach m line = min most_reach (suffix_len (same (perm_at m line)) (take lin
 -- how many words right behind the line all have the permission of its last word, at most 31
 abbrev pub right_reach : List Perm → ℕ → ℕ
 right_reach m line =
-    min most_reach (prefix_len (same (perm_at m (line + line_words - 1))) (drop (line + line_words) m))
+    min most_reach
+        (prefix_len (same (perm_at m (line + line_words - 1))) (drop (line + line_words) m))
 
 -- a run of a line, lengthened by the reaches where it stands at the line's edges
 abbrev pub reached : List Perm → ℕ → Span → Span
@@ -111,7 +113,8 @@ abbrev pub mini_entry : List (Run Perm) → ℕ → ℕ → ℕ
 mini_entry rs left right =
     let perms = list_map (λ (r : Run Perm). number r.value) rs in
     let starts = starts_from 0 rs in
-    2 + 4 * slice_index perms 0 + 2 ^ 4 * slice_index perms 1 + 2 ^ 6 * slice_index perms 2 + 2 ^ 8 * slice_index perms 3
+    2 + 4 * slice_index perms 0 + 2 ^ 4 * slice_index perms 1 + 2 ^ 6 * slice_index perms 2 +
+        2 ^ 8 * slice_index perms 3
     + 2 ^ 10 * slice_index starts 1 + 2 ^ 14 * slice_index starts 2 + 2 ^ 18 * slice_index starts 3
     + 2 ^ 22 * right + 2 ^ 27 * left
 
@@ -121,7 +124,8 @@ line_at m line = whole_line (block_at line_words m line)
 
 -- the stored word of a line that isn't crowded
 abbrev pub line_entry : Kind → List Perm → ℕ → ℕ
-line_entry K.Packed m line = mini_entry (runs_of same (line_at m line)) (left_reach m line) (right_reach m line)
+line_entry K.Packed m line =
+    mini_entry (runs_of same (line_at m line)) (left_reach m line) (right_reach m line)
 line_entry kind m line = packed (line_at m line)
 
 -- an item that stands for word i's block of `size` words, cut at RAM's end
@@ -130,15 +134,21 @@ shown_block l size m i word =
     record { level = l; first = first_in size i; count = count_in size m i; stored = word }
 
 abbrev pub shown_run : Span → Shown
-shown_run s = record { level = L.Segment; first = s.first; count = s.count; stored = address_of s.first + number s.perm }
+shown_run s =
+    record { level = L.Segment; first = s.first; count = s.count;
+    stored = address_of s.first + number s.perm }
 
 -- the item at each level
 abbrev pub stored_at : Kind → Level → List Perm → ℕ → Shown
 stored_at kind L.Segment m i = shown_run (span_within m 0 (length m) i)
-stored_at kind L.Root m i = shown_block L.Root region_words m i (vector region_words m (first_in region_words i))
-stored_at kind L.Mid m i = shown_block L.Mid page_words m i (vector page_words m (first_in page_words i))
-stored_at kind L.Leaf m i = shown_block L.Leaf line_words m i (line_entry kind m (first_in line_words i))
-stored_at kind L.Spill m i = shown_block L.Spill line_words m i (packed (line_at m (first_in line_words i)))
+stored_at kind L.Root m i =
+    shown_block L.Root region_words m i (vector region_words m (first_in region_words i))
+stored_at kind L.Mid m i =
+    shown_block L.Mid page_words m i (vector page_words m (first_in page_words i))
+stored_at kind L.Leaf m i =
+    shown_block L.Leaf line_words m i (line_entry kind m (first_in line_words i))
+stored_at kind L.Spill m i =
+    shown_block L.Spill line_words m i (packed (line_at m (first_in line_words i)))
 
 -- the stored item that decides word i
 abbrev pub stored : Kind → List Perm → ℕ → Shown

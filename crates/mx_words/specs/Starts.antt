@@ -6,7 +6,8 @@ use Rattle.mx_words.specs.Rights.{same}
 
 -- whether a run begins at place i: the first place, and each whose element differs from that before
 abbrev pub begins : {A : Type 0} → (A → A → Bool) → A → List A → ℕ → Bool
-begins eq default xs i = i == 0 || not (eq (slice_index_or xs (i - 1) default) (slice_index_or xs i default))
+begins eq default xs i =
+    i == 0 || not (eq (slice_index_or xs (i - 1) default) (slice_index_or xs i default))
 
 -- whether a run of permissions begins at word i of a map
 abbrev pub is_start : List Perm → ℕ → Bool

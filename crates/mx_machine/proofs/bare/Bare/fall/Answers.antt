@@ -4,7 +4,7 @@ use Rattle.mx_check.specs.Harts.{leaves_domain}
 use Rattle.mx_check.specs.Harts.{halts as counts_as_halted}
 use Rattle.mx_model.specs.declared.values.Frame.{Frame}
 use Rattle.mx_model.specs.Gates.{top}
-use Rattle.mx_machine.specs.Deeds.{gives_up_kept}
+use Rattle.mx_machine.specs.Actions.{gives_up_kept}
 use Rattle.mx_machine.specs.Harts.{hart_of}
 use Rattle.mx_machine.proofs.bare.Bare.fall.Goals as goal
 

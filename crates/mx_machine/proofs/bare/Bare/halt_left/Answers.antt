@@ -1,6 +1,6 @@
 use Rattle.std.proofs.Common.{rules, ◌≡◌, ℕ, ◌<◌, length, sym, ap, subst, ◌∙◌, suc, ◌+◌, arith}
 use Rattle.mx_check.specs.Harts.{hart_at}
-use Rattle.mx_machine.specs.Deeds.{halted_first}
+use Rattle.mx_machine.specs.Actions.{halted_first}
 use Rattle.mx_machine.specs.Halting.{halted_at}
 use Rattle.mx_machine.specs.Harts.{hart_of, is_halted}
 use Rattle.mx_machine.specs.Held.{Held}

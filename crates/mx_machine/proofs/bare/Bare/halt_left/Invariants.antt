@@ -1,5 +1,5 @@
 use Rattle.std.proofs.Common.{◌≡◌}
-use Rattle.mx_machine.specs.Deeds.{halted_first}
+use Rattle.mx_machine.specs.Actions.{halted_first}
 use Rattle.mx_machine.proofs.bare.Bare.halt_left.Given as goal
 
 abbrev pub invariant-loop-hart : goal.invariant-loop-hart

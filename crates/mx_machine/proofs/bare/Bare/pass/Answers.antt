@@ -3,7 +3,7 @@ use Rattle.std.proofs.lemmas.Bool.{ne_eqb}
 use Rattle.std.specs.Prelude.{slice_set}
 use Rattle.mx_model.specs.Effect.{reg}
 use Rattle.mx_model.specs.Turn.{fault_answer}
-use Rattle.mx_machine.specs.Deeds.{crossed, with_step}
+use Rattle.mx_machine.specs.Actions.{crossed, with_step}
 use Rattle.mx_machine.specs.Harts.{hart_of}
 use Rattle.mx_machine.specs.Held.{Held}
 use Rattle.mx_machine.specs.Steps.{goes}

@@ -3,7 +3,7 @@ use Rattle.mx_model.specs.Events.{Events}
 use Rattle.mx_model.specs.Run.{flat_made}
 use Rattle.mx_model.specs.declared.values.TurnKind.TheVariants as T
 use Rattle.mx_machine.specs.declared.hart.Progress.TheVariants as G
-use Rattle.mx_machine.specs.Deeds.{counted, heard}
+use Rattle.mx_machine.specs.Actions.{counted, heard}
 use Rattle.mx_machine.specs.Harts.{hart_of}
 use Rattle.mx_machine.specs.Held.{Held, meaning}
 use Rattle.mx_machine.specs.Made.{IsMade}

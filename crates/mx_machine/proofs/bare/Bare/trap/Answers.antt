@@ -2,7 +2,7 @@ use Rattle.std.proofs.Common.{◌≡◌, ℕ, [], Some, ap, ◌∙◌}
 use Rattle.mx_model.specs.declared.values.Note.{Note}
 use Rattle.mx_model.specs.declared.values.Note.TheVariants as N
 use Rattle.mx_model.specs.Events.{Events}
-use Rattle.mx_machine.specs.Deeds.{fallen, killed}
+use Rattle.mx_machine.specs.Actions.{fallen, killed}
 use Rattle.mx_machine.specs.Harts.{hart_of}
 use Rattle.mx_machine.specs.Held.{Held}
 use Rattle.mx_machine.proofs.DeedLaws.{fits-trap, kept-there, made-trap, running-free}
