@@ -21,8 +21,8 @@ abbrev pub magic : List ℕ
 magic = 0x7F ∷ 0x45 ∷ 0x4C ∷ 0x46 ∷ []
 
 -- whether program headers have another size than 32 bytes, or reach past the file
-abbrev pub is_other_table : List ℕ → Bool
-is_other_table bytes =
+abbrev pub has_unreadable_headers : List ℕ → Bool
+has_unreadable_headers bytes =
     not (e_phentsize bytes == 32) || nat_lt (length bytes) (e_phoff bytes + 32 * e_phnum bytes)
 
 -- the faults of the file header and of the table of program headers, in order
@@ -33,7 +33,7 @@ header_rows bytes =
     ∷ (not (ei_class bytes == 1) || not (ei_data bytes == 1), 3)
     ∷ (not (e_type bytes == 2), 4)
     ∷ (not (e_machine bytes == 243), 5)
-    ∷ (not (e_phnum bytes == 0) && is_other_table bytes, 6)
+    ∷ (not (e_phnum bytes == 0) && has_unreadable_headers bytes, 6)
     ∷ []
 
 -- the faults of a segment with its place among the loaded ones, in a file of size bytes

@@ -6,7 +6,6 @@ use Rattle.std.proofs.lemmas.List.{get_or-map, get_or_past, length-map}
 use Rattle.mx_words.specs.FirstFit.{Area, AreApart}
 use Rattle.mx_words.proofs.AreaLaws.{apart_ordered}
 use Rattle.mx_heap.specs.HeapState.{HeapState, IsHeap}
-use Rattle.mx_heap.proofs.RoomLaws.{apart-le}
 use Rattle.mx_supervisor.specs.Heaps.{heap_at, heap_in, no_area, no_heap, told_heap, told_area}
 use Rattle.mx_supervisor.specs.Told.{IsTold}
 

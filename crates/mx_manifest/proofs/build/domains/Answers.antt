@@ -1,6 +1,6 @@
 use Rattle.std.proofs.Common.{◌≡◌, ◌∙◌, map, rules, sym}
 use Rattle.std.proofs.iter.runs.Made.{chains}
-use Rattle.std.proofs.lemmas.List.{map-map}
+use Rattle.std.proofs.lemmas.Simd.{map-map}
 use Rattle.toml.specs.View.{view}
 use Rattle.mx_manifest.specs.Reads.{text_of}
 use Rattle.mx_manifest.specs.Faults.{domain_of}
