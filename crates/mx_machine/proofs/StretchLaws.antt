@@ -1,5 +1,6 @@
 -- Turns of one hart in a row: what holds behind some of them, and behind one more.
-use Rattle.std.proofs.Common.{◌≡◌, ℕ, zero, suc, ◌+◌, ◌-◌, ◌<◌, ◌≤◌, ◌⊎◌, inl, inr, false, set, refl, sym, ap, subst, ◌∙◌, arith, get_or, get_or-set_same}
+use Rattle.std.proofs.Common.{◌≡◌, ℕ, zero, suc, ◌+◌, ◌-◌, ◌<◌, ◌≤◌, ◌⊎◌, inl, inr, false, set, refl, sym, ap, subst, ◌∙◌, arith, get_or, get_or-set_same, Option, None, Some}
+use Rattle.std.specs.Prelude.{is_some}
 use Rattle.mx_model.specs.declared.values.TurnKind.{TurnKind}
 use Rattle.mx_model.specs.declared.values.TurnKind.TheVariants as T
 use Rattle.mx_model.specs.Events.{Events, no_events}
@@ -11,7 +12,7 @@ use Rattle.mx_model.specs.Valid.{IsValid}
 use Rattle.mx_model.proofs.KeepLaws.{keeps-turned}
 use Rattle.mx_machine.specs.declared.hart.Hart.{Hart}
 use Rattle.mx_machine.specs.declared.views.Stretch.{Stretch}
-use Rattle.mx_machine.specs.Actions.{after_instruction, effect_for, outcome_for, perm_for}
+use Rattle.mx_machine.specs.Actions.{after_instruction, counted, effect_for, heard, outcome_for, perm_for}
 use Rattle.mx_machine.specs.Harts.{no_hart, hart_of}
 use Rattle.mx_machine.specs.Held.{Held, meaning}
 use Rattle.mx_machine.specs.Made.{IsMade, core_in}
@@ -24,7 +25,9 @@ use Rattle.mx_core.specs.Exec.{regs_after}
 
 -- one more turn
 pub turns-more : (h : ℕ) (f : Flat) (n : ℕ) → turns_of h f (n + 1) ≡ flat_turn (turns_of h f n) h
-turns-more h f n = refl
+turns-more h f n =
+    let e : n + 1 ≡ suc n = omega arith in
+    ap (turns_of h f) e
 
 -- a hart that runs in a live domain does so behind an instruction
 pub alive-instruction : (m : Held) (h : ℕ) → MayRun m h → get_or m.dead (hart_of m.harts h).domain false ≡ false → RunsAlive (after_instruction h false m) h
@@ -35,6 +38,14 @@ alive-instruction m h r alive =
     let own : hart_of (set m.harts h y) h ≡ y = get_or-set_same m.harts h y no_hart r.act.there in
     let n = runs-instruction m h false r in
     record { there = n.act.there; runs = n.runs; alive = ap (λ (z : Hart). get_or m.dead z.domain false) own ∙ alive }
+
+pub alive-now : (m n : Held) (h : ℕ) → RunsAlive m h → n ≡ heard h (counted m) → get_or n.dead (hart_of n.harts h).domain false ≡ false
+alive-now m n h r is = ap (λ (k : Held). get_or k.dead (hart_of k.harts h).domain false) is ∙ r.alive
+
+-- no gate stands there
+pub none-here : (o : Option ℕ) → is_some o ≡ false → o ≡ None
+none-here None e = refl
+none-here (Some t) e = absurd (let z : ⊥ = cc in z)
 
 -- behind some turns of hart h from a flat state, each of which carried out an instruction
 pub record HasRunOn (f : Flat) (h n : ℕ) (m : Held) : Type 0 where
@@ -71,7 +82,7 @@ module _ (f : Flat) (h n : ℕ) (m k : Held) (events : Events) (answer : TurnKin
   pub run-more : Law → Fits k → answer ≡ T.Ran → HasRunOn f h (n + 1) k
   run-more law fits is = record {
     whole = whole-is m k h events answer i law r.whole fits;
-    at = run-turn;
+    at = run-turn ∙ sym (turns-more h f n);
     ran = λ j below. by j (let c : (j < n) ⊎ (j ≡ n) = omega (arith, below) in c);
     steps = ap (λ (c : Core). c.turns) i.core ∙ (keeps-turned (flat_reads (meaning m)) (core_in m) h).turns ∙ ap (λ s. s + 1) r.steps;
   }

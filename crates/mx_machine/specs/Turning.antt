@@ -30,7 +30,8 @@ turns_of h f zero = f
 turns_of h f (suc n) = flat_turn (turns_of h f n) h
 
 -- turns of hart h in a row, at most so many: those before the last carry out an instruction each, and events and answer are the last one's
-pub record IsStretch (f : Flat) (h most : ℕ) (new : Flat) (events : Events) (answer : Stretch) : Type 0 where
+pub record IsStretch (f : Flat) (h most : ℕ) (new : Flat) (events : Events)
+    (answer : Stretch) : Type 0 where
   pub few : answer.ran < most
   pub ran : (i : ℕ) → i < answer.ran → flat_kind (turns_of h f i) h ≡ T.Ran
   pub turn : new ≡ flat_turn (turns_of h f answer.ran) h

@@ -70,7 +70,8 @@ impl<T: PermTables, const N: usize> Bare<T, N> {
         requires alive { RunsAlive self.old hart }
         requires few { self.old.steps < 2 ^ 64 - 1 }
         requires empty { out.old ≡ no_events }
-        ensures made { IsMade self.old self.new out.new (unwrap_or result TurnKind.Ran) (flat_made (meaning self.old) hart) }
+        ensures made { IsMade self.old self.new out.new (unwrap_or result TurnKind.Ran)
+            (flat_made (meaning self.old) hart) }
         ensures fits { Fits self.new }
         ensures on { result ≡ None → RunsAlive self.new hart × (out.new ≡ no_events) }
     {

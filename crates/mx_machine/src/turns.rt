@@ -140,9 +140,11 @@ impl<T: PermTables, const N: usize> Bare<T, N> {
             ≡ is_return_at (core_in self.old) (hart_in self.old hart).domain
             (hart_in self.old hart).pc }
         requires empty { out.old ≡ no_events }
-        ensures made { IsMade self.old self.new out.new (unwrap_or result TurnKind.Ran) (instruction self.old hart) }
+        ensures made { IsMade self.old self.new out.new (unwrap_or result TurnKind.Ran)
+            (instruction self.old hart) }
         ensures fits { Fits self.new }
-        ensures on { result ≡ None → (self.new ≡ after_instruction hart returns self.old) × (out.new ≡ no_events) }
+        ensures on { result ≡ None → (self.new ≡ after_instruction hart returns self.old)
+            × (out.new ≡ no_events) }
     {
         match self.instruct(hart, returns) {
             Outcome::Next(_) => None,

@@ -29,7 +29,8 @@ pub(crate) enum Pace<'a> {
 pub(crate) fn begin(schedule: Schedule<'_>, harts: u32) -> Pace<'_>
     requires harts { 1 ≤ harts }
     requires quantum { HasTurns schedule }
-    ensures { (c : Core) → c.turns ≡ 0 → length c.harts ≡ harts → IsPace (schedule_of schedule.entry) c result }
+    ensures { (c : Core) → c.turns ≡ 0 → length c.harts ≡ harts →
+        IsPace (schedule_of schedule.entry) c result }
 {
     match schedule {
         Schedule::Quantum(quantum) => {
@@ -79,7 +80,8 @@ pub(crate) fn later(pace: Pace<'_>, turns: u64) -> Pace<'_>
 fn rotated<'a>(quantum: u64, last: u32, hart: u32, left: u64, turns: u64) -> Pace<'a>
     requires some { 1 ≤ turns }
     requires leaves { turns ≤ left }
-    ensures { (s : Turns) (c : Core) → IsPace s c (Pace.Quantum quantum last hart left) → PacesOn s c turns result }
+    ensures { (s : Turns) (c : Core) → IsPace s c (Pace.Quantum quantum last hart left) →
+        PacesOn s c turns result }
 {
     if turns < left {
         Pace::Quantum(quantum, last, hart, left - turns)

@@ -28,8 +28,10 @@ pub(crate) fn make_turns<T: PermTables, const N: usize, C: Sink, R: Sink>(
     requires start { machine.old.core.turns ≡ 0 }
     requires quantum { HasTurns schedule }
     ensures keeps { KeepsShape machine.old machine.new }
-    ensures runs { (s : State) → Begins s machine.old (places (C.state console.old) shown.old (R.state report.old) told.old)
-        → RunsOrStops (run (schedule_of schedule.entry) steps s) machine.new (places (C.state console.old) shown.old (R.state report.old) told.old)
+    ensures runs { (s : State) → Begins s machine.old
+        (places (C.state console.old) shown.old (R.state report.old) told.old)
+        → RunsOrStops (run (schedule_of schedule.entry) steps s) machine.new
+        (places (C.state console.old) shown.old (R.state report.old) told.old)
         (places (C.state console.new) shown.new (R.state report.new) told.new) result }
 {
     machine_is_valid(machine);
@@ -115,7 +117,8 @@ fn show<C: Sink, R: Sink>(
 
 // Puts the line of a note, if there is one, through a buffer.
 fn put_told<R: Sink>(told: &mut Tail, report: &mut R, note: Option<Note>) -> Result<(), Failed>
-    ensures { Passes told.old (R.state report.old) (R.state report.new) told.new (note_text note) result }
+    ensures { Passes told.old (R.state report.old) (R.state report.new) told.new
+        (note_text note) result }
 {
     match note {
         Some(note) => put_note(told, report, &note),
