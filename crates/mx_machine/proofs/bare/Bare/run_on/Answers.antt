@@ -9,5 +9,5 @@ pub turns-init : goal.turns-init
 turns-init g c = record {
   run = run-none c.args.self.now c.args.hart c.requires.whole;
   empty = c.clear.ensures;
-  alive = λ some. ?;
+  alive = c.before_last-room.ensures.alive;
 }
