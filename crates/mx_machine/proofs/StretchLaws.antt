@@ -1,5 +1,5 @@
 -- Turns of one hart in a row: what holds behind some of them, and behind one more.
-use Rattle.std.proofs.Common.{◌≡◌, ℕ, zero, suc, ◌+◌, ◌-◌, ◌<◌, ◌≤◌, ◌⊎◌, inl, inr, false, set, refl, sym, ap, subst, ◌∙◌, arith, get_or, get_or-set_same, Option, None, Some}
+use Rattle.std.proofs.Common.{◌≡◌, ℕ, zero, suc, ◌+◌, ◌-◌, ◌<◌, ◌≤◌, ◌⊎◌, inl, inr, Bool, true, false, not, set, refl, sym, ap, subst, ◌∙◌, arith, get_or, get_or-set_same, Option, None, Some}
 use Rattle.std.specs.Prelude.{is_some}
 use Rattle.mx_model.specs.declared.values.TurnKind.{TurnKind}
 use Rattle.mx_model.specs.declared.values.TurnKind.TheVariants as T
@@ -41,6 +41,10 @@ alive-instruction m h r alive =
 
 pub alive-now : (m n : Held) (h : ℕ) → RunsAlive m h → n ≡ heard h (counted m) → get_or n.dead (hart_of n.harts h).domain false ≡ false
 alive-now m n h r is = ap (λ (k : Held). get_or k.dead (hart_of k.harts h).domain false) is ∙ r.alive
+
+pub live-of : (b : Bool) → not b ≡ true → b ≡ false
+live-of true e = absurd (let z : ⊥ = cc in z)
+live-of false e = refl
 
 -- no gate stands there
 pub none-here : (o : Option ℕ) → is_some o ≡ false → o ≡ None
