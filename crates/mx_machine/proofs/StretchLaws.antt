@@ -1,6 +1,7 @@
 -- Turns of one hart in a row: what holds behind some of them, and behind one more.
-use Rattle.std.proofs.Common.{◌≡◌, ℕ, zero, suc, ◌+◌, ◌-◌, ◌<◌, ◌≤◌, ◌⊎◌, inl, inr, Bool, true, false, not, set, refl, sym, ap, subst, ◌∙◌, arith, get_or, get_or-set_same, Option, None, Some}
+use Rattle.std.proofs.Common.{◌≡◌, ◌≢◌, ℕ, zero, suc, ◌+◌, ◌-◌, ◌<◌, ◌≤◌, ◌⊎◌, inl, inr, Bool, true, false, not, set, refl, sym, ap, subst, ◌∙◌, arith, get_or, get_or-set_same, Option, None, Some}
 use Rattle.std.specs.Prelude.{is_some}
+use Rattle.std.proofs.lemmas.Bool.{cases_eq}
 use Rattle.mx_model.specs.declared.values.TurnKind.{TurnKind}
 use Rattle.mx_model.specs.declared.values.TurnKind.TheVariants as T
 use Rattle.mx_model.specs.Events.{Events, no_events}
@@ -87,10 +88,12 @@ module _ (f : Flat) (h n : ℕ) (m k : Held) (events : Events) (answer : TurnKin
   run-more law fits is = record {
     whole = whole-is m k h events answer i law r.whole fits;
     at = run-turn ∙ sym (turns-more h f n);
-    ran = λ j below. by j (let c : (j < n) ⊎ (j ≡ n) = omega (arith, below) in c);
-    steps = ap (λ (c : Core). c.turns) i.core ∙ (keeps-turned (flat_reads (meaning m)) (core_in m) h).turns ∙ ap (λ s. s + 1) r.steps;
+    ran = λ j below. by j below (cases_eq j n);
+    steps =
+        let one : k.steps ≡ m.steps + 1 = ap (λ (c : Core). c.turns) i.core ∙ (keeps-turned (flat_reads (meaning m)) (core_in m) h).turns in
+        omega (arith, one, r.steps);
   }
     where
-      by : (j : ℕ) → (j < n) ⊎ (j ≡ n) → flat_kind (turns_of h f j) h ≡ T.Ran
-      by j (inl l) = r.ran j l
-      by j (inr e) = ap (λ s. flat_kind (turns_of h f s) h) e ∙ sym run-kind ∙ is
+      by : (j : ℕ) → j < n + 1 → (j ≡ n) ⊎ (j ≢ n) → flat_kind (turns_of h f j) h ≡ T.Ran
+      by j below (inl e) = ap (λ s. flat_kind (turns_of h f s) h) e ∙ sym run-kind ∙ is
+      by j below (inr ne) = r.ran j (omega (arith, below, ne))
