@@ -1,10 +1,10 @@
 -- Turns of one hart in a row: what holds behind some of them, and behind one more.
-use Rattle.std.proofs.Common.{◌≡◌, ◌≢◌, ℕ, zero, suc, ◌+◌, ◌-◌, ◌<◌, ◌≤◌, ◌⊎◌, inl, inr, Bool, true, false, not, set, refl, sym, ap, subst, ◌∙◌, arith, get_or, get_or-set_same, Option, None, Some}
+use Rattle.std.proofs.Common.{◌≡◌, ◌≢◌, ℕ, suc, ◌+◌, ◌<◌, ◌⊎◌, inl, inr, Bool, true, false, not, set, refl, sym, ap, ◌∙◌, arith, get_or, get_or-set_same, Option, None, Some}
 use Rattle.std.specs.Prelude.{is_some}
 use Rattle.std.proofs.lemmas.Bool.{cases_eq}
 use Rattle.mx_model.specs.declared.values.TurnKind.{TurnKind}
 use Rattle.mx_model.specs.declared.values.TurnKind.TheVariants as T
-use Rattle.mx_model.specs.Events.{Events, no_events}
+use Rattle.mx_model.specs.Events.{Events}
 use Rattle.mx_model.specs.Reads.{Reads, flat_reads}
 use Rattle.mx_model.specs.Run.{flat_kind, flat_made, flat_turn}
 use Rattle.mx_model.specs.State.{Core, Flat}
@@ -12,7 +12,6 @@ use Rattle.mx_model.specs.Turn.{turned}
 use Rattle.mx_model.specs.Valid.{IsValid}
 use Rattle.mx_model.proofs.KeepLaws.{keeps-turned}
 use Rattle.mx_machine.specs.declared.hart.Hart.{Hart}
-use Rattle.mx_machine.specs.declared.views.Stretch.{Stretch}
 use Rattle.mx_machine.specs.Actions.{after_instruction, counted, effect_for, heard, outcome_for, perm_for}
 use Rattle.mx_machine.specs.Harts.{no_hart, hart_of}
 use Rattle.mx_machine.specs.Held.{Held, meaning}

@@ -1,4 +1,4 @@
-use Rattle.std.proofs.Common.{◌≡◌, ℕ, false, sym, subst, ◌∙◌, ap, refl, get_or, unwrap_or}
+use Rattle.std.proofs.Common.{◌≡◌, false, sym, subst, ◌∙◌, ap, refl, get_or, unwrap_or}
 use Rattle.mx_model.specs.declared.values.TurnKind.TheVariants as T
 use Rattle.mx_machine.specs.declared.hart.Progress.TheVariants as G
 use Rattle.mx_machine.specs.Actions.{counted, heard}
