@@ -1,4 +1,4 @@
-//! The walk of a domain's tables for one word: three indexed reads at most, and a decode.
+//! The walk of a domain's tables for one word: three indexed reads at most, a fourth of a spill word, and a decode.
 ghost use Rattle.std.specs.Prelude.{◌≡◌, ℕ, ◌+◌, ◌-◌, ◌*◌, ◌/◌, ◌%◌, ◌<◌, ◌≤◌, ◌^◌, List, length, min, true, false};
 ghost use Rattle.mx_words.specs.declared.perm.Perm.{Perm};
 ghost use Rattle.mx_words.specs.Rights.{number};
