@@ -22,7 +22,7 @@ use Rattle.mx_model.specs.Reads.{Reads, flat_reads, map_in}
 use Rattle.mx_model.specs.State.{Core}
 use Rattle.mx_supervisor.specs.Parts.{Parts, core_of, flat_of}
 use Rattle.mx_supervisor.proofs.Maps.{map-in}
-use Rattle.mx_machine.specs.Deeds.{looks_all}
+use Rattle.mx_machine.specs.Actions.{looks_all}
 use Rattle.mx_machine.proofs.CoreLaws.{caches-at, caches-step, caches-still}
 use Rattle.mx_machine.proofs.FitLaws.{count-step, others-step, own-step}
 
