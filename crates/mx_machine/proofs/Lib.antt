@@ -21,6 +21,7 @@ pub mod WaitLaws
 pub mod MayLaws
 pub mod SizeLaws
 pub mod StepLaws
+pub mod StretchLaws
 pub mod StartLaws
 pub mod StartFits
 pub mod FrameLaws

@@ -1,5 +1,5 @@
 -- What is true of every machine: its meaning is valid, and what it keeps in two places agrees.
-use Rattle.std.specs.Prelude.{◌≡◌, ℕ, ◌<◌, ◌≤◌, false, length, Option, Some, None, IfSome}
+use Rattle.std.specs.Prelude.{◌≡◌, ℕ, ◌<◌, ◌≤◌, false, length, slice_index_or, Option, Some, None, IfSome}
 use Rattle.mx_table.specs.Tables.{IsDomain}
 use Rattle.mx_check.specs.declared.flight.Flight.{Flight}
 use Rattle.mx_check.specs.Conditions.{HasHeardAll}
@@ -63,3 +63,9 @@ pub record MayAct (m : Held) (h : ℕ) : Type 0 where
 pub record MayRun (m : Held) (h : ℕ) : Type 0 where
   pub act : MayAct m h
   pub runs : (hart_of m.harts h).progress ≡ G.Running
+
+-- hart h runs in a live domain
+pub record RunsAlive (m : Held) (h : ℕ) : Type 0 where
+  pub there : h < length m.harts
+  pub runs : (hart_of m.harts h).progress ≡ G.Running
+  pub alive : slice_index_or m.dead (hart_of m.harts h).domain false ≡ false

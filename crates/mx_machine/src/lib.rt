@@ -9,10 +9,11 @@ mod harts;
 mod machine;
 mod readers;
 mod starts;
+mod stretch;
 mod turns;
 mod views;
 
 pub use machine::Machine;
 pub use readers::machine_is_valid;
 pub use starts::{HartStart, HartState, HartStates, StackArea, Stacks, Starts};
-pub use views::{HartStatus, HartView};
+pub use views::{HartStatus, HartView, Stretch};

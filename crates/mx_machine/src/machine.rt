@@ -1,5 +1,5 @@
 //! The machine.
-ghost use Rattle.std.specs.Prelude.{◌≡◌, ◌≢◌, ℕ, ◌-◌, ◌^◌, ◌<◌, length};
+ghost use Rattle.std.specs.Prelude.{◌≡◌, ◌≢◌, ℕ, ◌+◌, ◌-◌, ◌^◌, ◌<◌, ◌≤◌, length};
 ghost use Rattle.std.specs.List.{AllByRecursion};
 ghost use Rattle.mx_model.specs.Reads.{flat_reads};
 ghost use Rattle.mx_model.specs.Run.{flat_kind, flat_made, flat_turn};
@@ -10,13 +10,13 @@ ghost use Rattle.mx_laws.specs.Crossing.{FramesAfter};
 ghost use Rattle.mx_laws.specs.Foreign.{ForeignAfter};
 ghost use Rattle.mx_supervisor.specs.Parts.{parts_of, IsSound};
 ghost use Rattle.mx_machine.specs.Starts.{MayResume, MayStart, resumed, started};
-ghost use Rattle.mx_machine.specs.Turning.{IsTold, IsTurn, KeepsBytes};
+ghost use Rattle.mx_machine.specs.Turning.{IsStretch, IsTold, IsTurn, KeepsBytes};
 
 use crate::bare::Bare;
 use crate::bus::HartBus;
 use crate::harts::Harts;
 use crate::starts::{starts_of, states_of};
-use crate::{HartStates, Stacks, Starts};
+use crate::{HartStates, Stacks, Starts, Stretch};
 use mx_check::flights_of;
 use mx_laws::{turns_keep_foreign_words, turns_keep_frames, turns_of_twins};
 use mx_memory::bytes_of;
@@ -151,5 +151,16 @@ impl<T: PermTables, const N: usize> Machine<T, N> {
         turns_keep_frames();
         turns_of_twins();
         self.bare.step(hart, out)
+    }
+
+    /// Turns of the hart of that number in a row, at least one and at most so many: it makes turns until one doesn't just carry out
+    /// an instruction, or so many are made. Each is a turn as `step` makes it; what stands in `out` is of the last alone, since those
+    /// before it add nothing. There is at least one to make, and fewer than 2^64 turns are made with them.
+    pub fn run_on(&mut self, hart: u32, most: u64, out: &mut Events) -> Stretch
+        requires some { 1 ≤ most }
+        requires few { self.old.core.turns + most < 2 ^ 64 }
+        ensures { IsStretch self.old hart most self.new out.new result }
+    {
+        self.bare.run_on(hart, most, out)
     }
 }

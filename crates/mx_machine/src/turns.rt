@@ -1,10 +1,11 @@
 //! A turn by its cases (docs/MACHINE.md, "One turn").
-ghost use Rattle.std.specs.Prelude.{◌≡◌, ◌-◌, ◌^◌, ◌<◌};
+ghost use Rattle.std.specs.Prelude.{◌≡◌, ◌-◌, ◌^◌, ◌<◌, None, unwrap_or};
 ghost use Rattle.mx_table.specs.Tables.{IsDomain};
 ghost use Rattle.mx_model.specs.Events.{no_events};
 ghost use Rattle.mx_model.specs.Run.{flat_made};
 ghost use Rattle.mx_model.specs.Turn.{Asks, Traps, at_gate, at_return, call_of, is_return_at, served};
 ghost use Rattle.mx_model.specs.Valid.{IsValid};
+ghost use Rattle.mx_machine.specs.Actions.{after_instruction};
 ghost use Rattle.mx_machine.specs.Harts.{hart_of};
 ghost use Rattle.mx_machine.specs.Held.{meaning};
 ghost use Rattle.mx_machine.specs.Made.{IsMade, core_in, hart_in, reads_of, deed, instruction, doing};
@@ -29,7 +30,7 @@ const SENT_BACK: u32 = 0xFFFF_FF14;
 
 /// Empties what a turn adds to. A turn mostly adds nothing, and then nothing is written.
 #[inline(always)]
-fn clear(out: &mut Events)
+pub fn clear(out: &mut Events)
     ensures { out.new ≡ no_events }
 {
     if out.len() == 0 && out.note().is_none() {
@@ -80,7 +81,7 @@ impl<T: PermTables, const N: usize> Bare<T, N> {
     }
 
     /// A running hart: dead domain, gate, or instruction.
-    fn run(&mut self, hart: u32, out: &mut Events) -> TurnKind
+    pub fn run(&mut self, hart: u32, out: &mut Events) -> TurnKind
         requires valid { IsValid (meaning self.old).core }
         requires run { MayRun self.old hart }
         requires empty { out.old ≡ no_events }
@@ -93,10 +94,10 @@ impl<T: PermTables, const N: usize> Bare<T, N> {
             return self.trap(hart, DEAD, pc, out);
         }
         match self.gate(domain, pc) {
-            None => self.execute(hart, false, out),
+            None => self.execute(hart, false, out).unwrap_or(TurnKind::Ran),
             Some(target) => {
                 if target == domain {
-                    self.execute(hart, true, out)
+                    self.execute(hart, true, out).unwrap_or(TurnKind::Ran)
                 } else {
                     self.pass(hart, target, out)
                 }
@@ -130,23 +131,26 @@ impl<T: PermTables, const N: usize> Bare<T, N> {
         TurnKind::Crossed
     }
 
-    /// A running hart at an instruction, where no call gate stands.
+    /// A running hart at an instruction, where no call gate stands. `None` where it carried it out and goes on.
     #[inline(always)]
-    fn execute(&mut self, hart: u32, returns: bool, out: &mut Events) -> TurnKind
+    pub fn execute(&mut self, hart: u32, returns: bool, out: &mut Events) -> Option<TurnKind>
         requires valid { IsValid (meaning self.old).core }
         requires run { MayRun self.old hart }
         requires returns { returns
             ≡ is_return_at (core_in self.old) (hart_in self.old hart).domain
             (hart_in self.old hart).pc }
         requires empty { out.old ≡ no_events }
-        ensures made { IsMade self.old self.new out.new result (instruction self.old hart) }
+        ensures made { IsMade self.old self.new out.new (unwrap_or result TurnKind.Ran)
+            (instruction self.old hart) }
         ensures fits { Fits self.new }
+        ensures on { result ≡ None → (self.new ≡ after_instruction hart returns self.old)
+            × (out.new ≡ no_events) }
     {
         match self.instruct(hart, returns) {
-            Outcome::Next(_) => TurnKind::Ran,
-            Outcome::Trap(fault) => self.trap(hart, fault.cause, fault.value, out),
-            Outcome::Call => self.ask(hart, out),
-            Outcome::Back { rd, target } => self.go_back(hart, rd, target, out),
+            Outcome::Next(_) => None,
+            Outcome::Trap(fault) => Some(self.trap(hart, fault.cause, fault.value, out)),
+            Outcome::Call => Some(self.ask(hart, out)),
+            Outcome::Back { rd, target } => Some(self.go_back(hart, rd, target, out)),
         }
     }
 

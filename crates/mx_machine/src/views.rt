@@ -1,4 +1,5 @@
-//! What is told of a hart.
+//! What is told of a hart, and of turns that it made.
+use mx_model::TurnKind;
 
 /// Whether a hart runs, waits on its announced call, or is halted.
 #[derive(Clone, Copy, PartialEq, Eq, Debug)]
@@ -24,4 +25,13 @@ pub struct HartView {
     pub frames: u32,
     /// Its registers x0 to x31.
     pub regs: [u32; 32],
+}
+
+/// Turns that a hart made in a row, of which all but the last carried out an instruction and no more.
+#[derive(Clone, Copy, PartialEq, Eq, Debug)]
+pub struct Stretch {
+    /// How many came before the last.
+    pub ran: u64,
+    /// What the last was.
+    pub last: TurnKind,
 }

@@ -4,8 +4,11 @@ use Rattle.std.proofs.lemmas.List.{append-nil}
 use Rattle.std.proofs.lemmas.Grind.{flat_map-append}
 use Rattle.mx_model.specs.Events.{Events}
 use Rattle.mx_model.specs.declared.values.TurnKind.{TurnKind}
+use Rattle.mx_model.specs.declared.values.TurnKind.TheVariants as K
 use Rattle.mx_model.specs.Run.{Schedule, hart_of, is_over, all_halted, is_stopped, made_of, turn, run, flat_kind, flat_made}
-use Rattle.mx_machine.specs.Turning.{IsTold}
+use Rattle.mx_machine.specs.declared.views.Stretch.{Stretch}
+use Rattle.mx_machine.specs.Turning.{IsStretch, IsTold, turns_of}
+use Rattle.mx_machine.proofs.StepLaws.{is-turn}
 use Rattle.mx_model.specs.Reads.{flat_reads}
 use Rattle.mx_model.specs.Run.{flat_turn}
 use Rattle.mx_model.specs.State.{Core, State, Flat, flat}
@@ -13,7 +16,7 @@ use Rattle.mx_model.proofs.RunLaws.{run-add}
 use Rattle.mx_model.proofs.KeepLaws.{keeps-turned}
 use Rattle.mx_report.specs.Lines.{note_line}
 use Rattle.mx_run.specs.declared.status.Status.{Status}
-use Rattle.mx_run.specs.Running.{named, Places, Moves, HasRun, Stops, Begins, IsNext, IsTurnOf, GoesOn, ShowsOrStops, KeepsShape, may_tell, note_lines, note_text}
+use Rattle.mx_run.specs.Running.{named, Places, Moves, HasRun, Stops, Begins, IsLater, IsRow, IsTurnOf, GoesOn, ShowsOrStops, KeepsShape, may_tell, note_lines, note_text}
 use Rattle.mx_run.proofs.Quiet.{quiet_turned}
 use Rattle.mx_run.proofs.Sinking.{moves_nothing, moves_moves, moves_breaks, moves_front, breaks_more, breaks_same}
 
@@ -154,11 +157,24 @@ run_stops s f h m k before mid now status r g (inr e) =
           (moves_breaks [] mid.told mid.told before.report mid.report now.report (note_lines s.notes) (note_text (made_of s h).note) r.report e.2)),
     )
 
--- what a turn keeps and counts
-pub turn_next : (f g : Flat) (h : ℕ) → g ≡ flat_turn f h → IsNext f g
-turn_next f g h is =
-    let k = keeps-turned (flat_reads f) f.core h in
-    rw is (record { turns = k.turns; kind = k.kind; limit = k.limit; modules = k.modules; harts = k.harts })
+-- what turns keep and count
+later_none : (f : Flat) → IsLater f 0 f
+later_none f = record { turns = omega arith; kind = refl; limit = refl; modules = refl; harts = refl }
+
+pub later_turn : (f g k : Flat) (n m h : ℕ) → IsLater f n g → k ≡ flat_turn g h → m ≡ n + 1 → IsLater f m k
+later_turn f g k n m h l is more =
+    let t = keeps-turned (flat_reads g) g.core h in
+    rw is (record {
+      turns = omega (arith, t.turns, l.turns, more);
+      kind = t.kind ∙ l.kind;
+      limit = t.limit ∙ l.limit;
+      modules = t.modules ∙ l.modules;
+      harts = t.harts ∙ l.harts;
+    })
+
+pub later_all : (h : ℕ) (f : Flat) (n : ℕ) → IsLater f n (turns_of h f n)
+later_all h f zero = later_none f
+later_all h f (suc n) = later_turn f (turns_of h f n) (turns_of h f (suc n)) n (suc n) h (later_all h f n) refl (omega arith)
 
 -- a turn that neither traps nor calls
 pub turn_goes_on : (f g : Flat) (h : ℕ) (events : Events) (k : TurnKind) → g ≡ flat_turn f h → IsTold (flat_made f h) events → k ≡ flat_kind f h → may_tell k ≡ false
@@ -166,6 +182,12 @@ pub turn_goes_on : (f g : Flat) (h : ℕ) (events : Events) (k : TurnKind) → g
 turn_goes_on f g h events k is told kind quiet =
     let q = quiet_turned (flat_reads f) f.core h (ap may_tell (sym kind) ∙ quiet) in
     record { bytes = told.bytes ∙ q.console; note = told.note ∙ q.note; going = λ e. ap (λ (x : Flat). all_halted x.core) is ∙ q.going e }
+
+-- a turn of a flat state is one of each state of which it is the flat state
+pub turn_of : (f g : Flat) (h : ℕ) (events : Events) (s : State) → g ≡ flat_turn f h → IsTold (flat_made f h) events → f ≡ flat s → IsTurnOf s h g events
+turn_of f g h events s is told e =
+    let turn = is-turn f g h events (flat_kind f h) is told refl s e in
+    record { state = turn.turn; bytes = turn.told.bytes; note = turn.told.note }
 
 -- a turn was made that added nothing
 pub makes_quiet : (s : State) (h : ℕ) (m : Flat) (c : Core) (events : Events) (at : Places) → IsTurnOf s h m events → GoesOn c events m.core → Makes s h m at at
@@ -192,8 +214,8 @@ makes_stopped A s h m events before now status is stops = rw (is.bytes, is.note)
 pub keeps_none : (f : Flat) → KeepsShape f f
 keeps_none f = record { kind = refl; limit = refl; modules = refl }
 
-pub keeps_next : (f g h : Flat) → KeepsShape f g → IsNext g h → KeepsShape f h
-keeps_next f g h k n = record { kind = n.kind ∙ k.kind; limit = n.limit ∙ k.limit; modules = n.modules ∙ k.modules }
+pub keeps_later : (f g h : Flat) (n : ℕ) → KeepsShape f g → IsLater g n h → KeepsShape f h
+keeps_later f g h n k l = record { kind = l.kind ∙ k.kind; limit = l.limit ∙ k.limit; modules = l.modules ∙ k.modules }
 
 -- what a machine tells of a run's next turn
 module _ (schedule : Schedule) (i n : ℕ) (s : State) (m : Flat) (is : m ≡ flat (run schedule i s)) where
@@ -215,3 +237,63 @@ module _ (schedule : Schedule) (i n : ℕ) (s : State) (m : Flat) (is : m ≡ fl
 
   pub ends_over : i ≤ n → named schedule m.core ≡ None → run schedule n s ≡ run schedule i s
   ends_over few over = run_ends schedule i n s few (stops_over schedule (run schedule i s) (ap (named schedule) (sym core_is) ∙ over))
+
+-- turns of one hart in a row from a state of a run
+module _ (schedule : Schedule) (f : Flat) (going : all_halted f.core ≡ false) (h most turns : ℕ) (row : IsRow schedule f.core most h turns) where
+  -- each carries out an instruction: behind them some hart can go on
+  pub going_along : (n : ℕ) → ((j : ℕ) → j < n → flat_kind (turns_of h f j) h ≡ K.Ran) → all_halted (turns_of h f n).core ≡ false
+  going_along zero ran = going
+  going_along (suc n) ran =
+      let g = turns_of h f n in
+      (quiet_turned (flat_reads g) g.core h (ap may_tell (ran n (omega arith)))).going (going_along n (λ j below. ran j (omega (arith, below))))
+
+  -- what the last of them keeps and counts with those before it
+  pub last_later : (k : Flat) (events : Events) (stretch : Stretch) → IsStretch f h turns k events stretch → IsLater f (stretch.ran + 1) k
+  last_later k events stretch is = later_turn f (turns_of h f stretch.ran) k stretch.ran (stretch.ran + 1) h (later_all h f stretch.ran) is.turn refl
+
+  module _ (i : ℕ) (s : State) (before at : Places) (r : HasRun (run schedule i s) f before at) where
+    -- the next of them is one of the run
+    abbrev pub Reached : ℕ → Type 0
+    Reached n = HasRun (run schedule (i + n) s) (turns_of h f n) before at
+
+    next_along : (n m : ℕ) → m ≡ i + n + 1 → n < turns → all_halted (turns_of h f n).core ≡ false → Reached n → run schedule m s ≡ turn (run schedule (i + n) s) h
+    next_along n m next few on reached =
+        let g = turns_of h f n in
+        let l = later_all h f n in
+        ap (λ j. run schedule j s) next ∙ goes_to schedule (i + n) 0 s g reached.state h on (row.each n few g.core l.turns l.harts)
+
+    pub run_along : (n : ℕ) → n < turns → ((j : ℕ) → j < n → flat_kind (turns_of h f j) h ≡ K.Ran) → Reached n
+    run_along zero few ran =
+        let same : i + 0 ≡ i = omega arith in
+        subst (λ (u : State). HasRun u f before at) (sym (ap (λ j. run schedule j s) same)) r
+    run_along (suc n) few ran =
+        let g = turns_of h f n in
+        let k = flat_turn g h in
+        let u = run schedule (i + n) s in
+        let ran_before : (j : ℕ) → j < n → flat_kind (turns_of h f j) h ≡ K.Ran = λ j below. ran j (omega (arith, below)) in
+        let few_before : n < turns = omega (arith, few) in
+        let next : i + suc n ≡ i + n + 1 = omega arith in
+        let last : n < suc n = omega arith in
+        let events : Events = record { bytes = (flat_made g h).console; note = (flat_made g h).note } in
+        let told : IsTold (flat_made g h) events = record { bytes = refl; note = refl } in
+        let reached = run_along n few_before ran_before in
+        let quiet = turn_goes_on g k h events K.Ran refl told (sym (ran n last)) refl in
+        let makes = makes_quiet u h k g.core events at (turn_of g k h events u refl told reached.state) quiet in
+        subst (λ (v : State). HasRun v k before at) (sym (next_along n (i + suc n) next few_before (going_along n ran_before) reached))
+        (run_makes u h g k before at at reached makes)
+
+    -- the last of them
+    module _ (k : Flat) (events : Events) (stretch : Stretch) (is : IsStretch f h turns k events stretch) where
+      pub last_reached : Reached stretch.ran
+      last_reached = run_along stretch.ran is.few is.ran
+
+      pub last_is : IsTurnOf (run schedule (i + stretch.ran) s) h k events
+      last_is = turn_of (turns_of h f stretch.ran) k h events (run schedule (i + stretch.ran) s) is.turn is.told last_reached.state
+
+      pub last_next : run schedule (i + stretch.ran + 1) s ≡ turn (run schedule (i + stretch.ran) s) h
+      last_next = next_along stretch.ran (i + stretch.ran + 1) refl is.few (going_along stretch.ran is.ran) last_reached
+
+      pub last_more : run schedule (i + (stretch.ran + 1)) s ≡ turn (run schedule (i + stretch.ran) s) h
+      last_more =
+          let next : i + (stretch.ran + 1) ≡ i + stretch.ran + 1 = omega arith in
+          ap (λ j. run schedule j s) next ∙ last_next

@@ -43,4 +43,9 @@ ParsesFewSteps parse.Meaningless = ⊤
 
 -- the file that is to be read
 abbrev pub wanted_of : files.Wanted → Wanted
-wanted_of file = record { role = file.role; name = file.name.now; most = file.most; large = file.large }
+wanted_of file = record {
+  role = file.role;
+  name = file.name.now;
+  most = file.most;
+  large = file.large;
+}

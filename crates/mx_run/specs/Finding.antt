@@ -24,8 +24,10 @@ EndsEarly (Some (byte ∷ bytes)) told got found = ⊥
 abbrev pub Completes : List ℕ → ℕ → List ℕ → List Answer → Finding → Type 0
 Completes name told got [] found = (length got ≡ told) × (found ≡ Whole got)
 Completes name told got (answer ∷ more) found =
-    (length got < told) × (part : Option (List ℕ)) × (answer ≡ Gave name (length got) (told - length got) part)
-    × (((bytes : List ℕ) × (part ≡ Some bytes) × (0 < length bytes) × Completes name told (got ++ bytes) more found)
+    (length got < told) × (part : Option (List ℕ))
+    × (answer ≡ Gave name (length got) (told - length got) part)
+    × (((bytes : List ℕ) × (part ≡ Some bytes) × (0 < length bytes)
+    × Completes name told (got ++ bytes) more found)
     ⊎ (EndsEarly part told (length got) found × (more ≡ [])))
 
 -- answers that follow that of the file's size
@@ -33,7 +35,8 @@ abbrev pub FindsSized : ℕ → List ℕ → Option (Option ℕ) → List Answer
 FindsSized most name None more found = (found ≡ Broken) × (more ≡ [])
 FindsSized most name (Some None) more found = (found ≡ Absent) × (more ≡ [])
 FindsSized most name (Some (Some told)) more found =
-    ((most < told) × (found ≡ Large) × (more ≡ [])) ⊎ ((told ≤ most) × Completes name told [] more found)
+    ((most < told) × (found ≡ Large) × (more ≡ []))
+    ⊎ ((told ≤ most) × Completes name told [] more found)
 
 -- what the answers about one file of at most so many bytes come to: its size is asked first
 abbrev pub Finds : ℕ → List ℕ → List Answer → Finding → Type 0

@@ -27,7 +27,8 @@ Leads asked answers outcome = LeadsTo (next asked) answers outcome
 abbrev pub LeadsOver : ℕ → (List Finding → Next) → FileMap → Outcome → Type 0
 LeadsOver zero step files outcome = step [] ≡ End outcome
 LeadsOver (suc n) step files outcome =
-    (file : Wanted) × (step [] ≡ Read file) × LeadsOver n (λ more. step (found_in files file.most file.name ∷ more)) files outcome
+    (file : Wanted) × (step [] ≡ Read file)
+    × LeadsOver n (λ more. step (found_in files file.most file.name ∷ more)) files outcome
 
 -- what is asked leads to this outcome over the files
 abbrev pub IsOutcome : Option Request → FileMap → Outcome → Type 0
@@ -35,4 +36,5 @@ IsOutcome asked files outcome = (n : ℕ) × LeadsOver n (next asked) files outc
 
 -- the same answers lead to one outcome
 abbrev pub AnswersDecide : Type 0
-AnswersDecide = (asked : Option Request) (answers : List Answer) (a b : Outcome) → Leads asked answers a → Leads asked answers b → a ≡ b
+AnswersDecide = (asked : Option Request) (answers : List Answer) (a b : Outcome) →
+    Leads asked answers a → Leads asked answers b → a ≡ b

@@ -11,7 +11,11 @@ use Rattle.mx_manifest.specs.Plan.{Said, plan_of}
 
 -- a fault of the manifest file as a whole
 abbrev pub file_fault : ℕ → BootFault
-file_fault number = record { number = number; place = record { part = part.Manifest; index = 0; key = key.NoKey }; detail = 0 }
+file_fault number = record {
+  number = number;
+  place = record { part = part.Manifest; index = 0; key = key.NoKey };
+  detail = 0;
+}
 
 -- the document that bytes spell
 abbrev pub document : List ℕ → Option Members

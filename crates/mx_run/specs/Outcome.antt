@@ -37,7 +37,12 @@ pub record Outcome : Type 0 where
 
 -- a refusal writes its line and nothing else; the name is that of the file that it is about
 abbrev pub refusal : List ℕ → Status → Outcome
-refusal name status = record { status = status; console = []; report = unwrap_or (line_of name status) []; dump = [] }
+refusal name status = record {
+  status = status;
+  console = [];
+  report = unwrap_or (line_of name status) [];
+  dump = [];
+}
 
 -- a file that is to be read: its role, its name, the most bytes that it may have, and the status where it has more
 pub record Wanted : Type 0 where
@@ -86,33 +91,55 @@ file_limit = 16777216
 
 -- the status of a file over its limit: fault 9 at its place
 abbrev pub too_large : Part → ℕ → Key → Status
-too_large table index at = Refused (record { number = 9; place = record { part = table; index = index; key = at }; detail = 0 })
+too_large table index at = Refused (record {
+  number = 9;
+  place = record { part = table; index = index; key = at };
+  detail = 0;
+})
 
 -- the files that a run reads: the manifest, the image of the module with a number, the schedule
 abbrev pub manifest_file : List ℕ → Wanted
-manifest_file name = record { role = Manifest; name = name; most = text_limit; large = too_large part.Manifest 0 key.NoKey }
+manifest_file name = record {
+  role = Manifest;
+  name = name;
+  most = text_limit;
+  large = too_large part.Manifest 0 key.NoKey;
+}
 
 abbrev pub image_file : ℕ → List ℕ → Wanted
-image_file number name = record { role = Image number; name = name; most = file_limit; large = too_large part.Module number key.Image }
+image_file number name = record {
+  role = Image number;
+  name = name;
+  most = file_limit;
+  large = too_large part.Module number key.Image;
+}
 
 abbrev pub schedule_file : List ℕ → Wanted
-schedule_file name = record { role = ScheduleRole; name = name; most = file_limit; large = too_large part.Schedule 0 key.NoKey }
+schedule_file name = record {
+  role = ScheduleRole;
+  name = name;
+  most = file_limit;
+  large = too_large part.Schedule 0 key.NoKey;
+}
 
 -- the source of an image
 abbrev pub source_file : List ℕ → Wanted
 source_file name = record { role = Source; name = name; most = text_limit; large = AsmFault 0 11 }
 
 -- the images of modules from a number on, in order, behind those that are there; a module of inline words has an empty one
-abbrev pub after_images : ℕ → List ModulePlan → List (List ℕ) → (List (List ℕ) → List Finding → Next) → List Finding → Next
+abbrev pub after_images : ℕ → List ModulePlan → List (List ℕ) →
+    (List (List ℕ) → List Finding → Next) → List Finding → Next
 after_images number [] images rest found = rest images found
 after_images number (m ∷ ms) images rest found = elim m.image [
   | None ↦ after_images (number + 1) ms (images ++ [] ∷ []) rest found
-  | Some name ↦ after_file (image_file number name) (λ bytes. after_images (number + 1) ms (images ++ bytes ∷ []) rest) found
+  | Some name ↦ after_file (image_file number name)
+      (λ bytes. after_images (number + 1) ms (images ++ bytes ∷ []) rest) found
 ]
 
 -- why a run ended that was to make so many turns
 abbrev pub end_of : ℕ → State → EndState
-end_of steps s = if all_halted s.core then E.Halted else if s.core.turns == steps then E.Steps else E.Schedule
+end_of steps s = if all_halted s.core then E.Halted else if s.core.turns == steps then E.Steps
+    else E.Schedule
 
 -- the names of a plan's modules, in order
 abbrev pub names_of : Said → List (List ℕ)
@@ -123,11 +150,17 @@ options_of o = record { tables = o.tables; counts = o.counts }
 
 -- the report of a run that ended in a state: the notes' lines, then the closing lines
 unfoldable pub report_of : Order → Said → State → List ℕ
-report_of o plan s = flat_map note_line s.notes ++ closing (names_of plan) (end_of o.steps s) (options_of o) s
+report_of o plan s = flat_map note_line s.notes
+    ++ closing (names_of plan) (end_of o.steps s) (options_of o) s
 
 -- a run that ended in a state: its console bytes, its report, and RAM's bytes where the dump is asked
 abbrev pub ended : Order → Said → State → Outcome
-ended o plan s = record { status = Ran; console = s.console; report = report_of o plan s; dump = if o.dump then s.core.ram else [] }
+ended o plan s = record {
+  status = Ran;
+  console = s.console;
+  report = report_of o plan s;
+  dump = if o.dump then s.core.ram else [];
+}
 
 -- an accepted boot runs by a schedule
 abbrev pub ran : Order → Said → State → Schedule → Outcome
@@ -136,7 +169,8 @@ ran o plan s schedule = ended o plan (run schedule o.steps s)
 -- it runs by the quantum or by the schedule file that is asked
 abbrev pub scheduled : Order → Said → State → Option (List ℕ) → List Finding → Next
 scheduled o plan s None found = End (ran o plan s (ByQuantum plan.quantum))
-scheduled o plan s (Some name) found = after_file (schedule_file name) (λ bytes more. End (ran o plan s (ByBytes bytes))) found
+scheduled o plan s (Some name) found = after_file (schedule_file name)
+    (λ bytes more. End (ran o plan s (ByBytes bytes))) found
 
 -- a state at boot runs; otherwise there is one refusal
 abbrev pub booted : Order → Said → Result State Refusal → List Finding → Next
@@ -146,7 +180,8 @@ booted o plan (Err (TooFull need limit)) found = End (refusal o.manifest (Tables
 
 -- a plan boots with its images; otherwise there is one refusal
 abbrev pub planned : Order → Result Said BootFault → List Finding → Next
-planned o (Ok plan) found = after_images 1 plan.modules [] (λ images. booted o plan (boot_of plan images)) found
+planned o (Ok plan) found = after_images 1 plan.modules []
+    (λ images. booted o plan (boot_of plan images)) found
 planned o (Err fault) found = End (refusal o.manifest (Refused fault))
 
 -- the bytes of an image go to the console
@@ -161,7 +196,8 @@ unless_faulty (Some fault) refused faultless = refused fault
 -- the image of a text goes to the console; a text with a fault is refused by its first one
 abbrev pub assembled_text : List ℕ → List ℕ → Outcome
 assembled_text source text =
-    unless_faulty (first_fault text) (λ fault. refusal source (AsmFault fault.line fault.number)) (written_image (image_of (program_of text)))
+    unless_faulty (first_fault text) (λ fault. refusal source (AsmFault fault.line fault.number))
+    (written_image (image_of (program_of text)))
 
 -- bytes that are no text are refused as a whole
 abbrev pub assembled : List ℕ → List ℕ → Outcome
@@ -171,5 +207,7 @@ assembled source bytes =
 -- what the program does next, by what the words ask and what was found of the files read so far, the first of them first
 abbrev pub next : Option Request → List Finding → Next
 next None found = End (refusal [] Usage)
-next (Some (Run o)) found = after_file (manifest_file o.manifest) (λ bytes. planned o (judged bytes)) found
-next (Some (Asm source)) found = after_file (source_file source) (λ bytes more. End (assembled source bytes)) found
+next (Some (Run o)) found = after_file (manifest_file o.manifest)
+    (λ bytes. planned o (judged bytes)) found
+next (Some (Asm source)) found = after_file (source_file source)
+    (λ bytes more. End (assembled source bytes)) found

@@ -31,5 +31,7 @@ Headline asked store stored before now result =
 -- and the outcome is given or memory is wanting
 abbrev pub Completeness : Option Request → StoreState → StoreState → Sinks → Sinks → Status → Type 0
 Completeness asked store stored before now result =
-    IfSome store.told (λ files. (outcome : Outcome) → IsOutcome asked files outcome → IsTrue store.sure → HasRoom outcome before →
-    (stored.faults ≡ store.faults) × CountsKept before now × ((result ≡ WantOfMemory) ⊎ Gives outcome before now result))
+    IfSome store.told (λ files. (outcome : Outcome) → IsOutcome asked files outcome →
+    IsTrue store.sure → HasRoom outcome before →
+    (stored.faults ≡ store.faults) × CountsKept before now
+    × ((result ≡ WantOfMemory) ⊎ Gives outcome before now result))

@@ -52,7 +52,8 @@ fault_text number = concat (codes "refused fault=" ∷ decimal number ∷ codes 
 
 -- the key at which it stands, and what it adds
 unfoldable pub detail_text : List ℕ → ℕ → List ℕ
-detail_text name detail = concat (codes " key=" ∷ name ∷ codes " detail=" ∷ decimal detail ∷ codes "\n" ∷ [])
+detail_text name detail = concat (codes " key=" ∷ name ∷ codes " detail=" ∷ decimal detail
+    ∷ codes "\n" ∷ [])
 
 -- a boot is refused
 unfoldable pub refused_line : BootFault → List ℕ
@@ -71,7 +72,8 @@ store_fault_line = codes "store fault\n"
 -- a file ended early
 unfoldable pub short_file_line : List ℕ → ℕ → ℕ → List ℕ
 short_file_line name told got =
-    concat (codes "short file " ∷ name ∷ codes " told=" ∷ decimal told ∷ codes " got=" ∷ decimal got ∷ codes "\n" ∷ [])
+    concat (codes "short file " ∷ name ∷ codes " told=" ∷ decimal told ∷ codes " got="
+    ∷ decimal got ∷ codes "\n" ∷ [])
 
 -- a file is absent
 unfoldable pub no_file_line : List ℕ → List ℕ
@@ -80,8 +82,10 @@ no_file_line name = concat (codes "no file " ∷ name ∷ codes "\n" ∷ [])
 -- the permission tables of the boot need more than the limit
 unfoldable pub tables_full_line : Need → Need → List ℕ
 tables_full_line need limit =
-    concat (codes "tables full upper=" ∷ decimal need.upper ∷ codes "/" ∷ decimal limit.upper ∷ codes " leaf=" ∷ decimal need.leaf
-    ∷ codes "/" ∷ decimal limit.leaf ∷ codes " spill=" ∷ decimal need.spill ∷ codes "/" ∷ decimal limit.spill ∷ codes "\n" ∷ [])
+    concat (codes "tables full upper=" ∷ decimal need.upper ∷ codes "/" ∷ decimal limit.upper
+    ∷ codes " leaf=" ∷ decimal need.leaf
+    ∷ codes "/" ∷ decimal limit.leaf ∷ codes " spill=" ∷ decimal need.spill ∷ codes "/"
+    ∷ decimal limit.spill ∷ codes "\n" ∷ [])
 
 -- a source has this first fault
 unfoldable pub asm_fault_line : ℕ → ℕ → List ℕ

@@ -26,7 +26,8 @@ use Rattle.mx_run.specs.declared.status.Status.TheVariants.{Ran, ConsoleFault, R
 pub record Put (before now : SinkState) (text : List ℕ) : Type 0 where
   pub whole : AppendsWhole before.written now.written text
   pub later : before.faults ≤ now.faults
-  pub sure : length text ≤ before.room → (now.faults ≡ before.faults) × (before.room ≤ now.room + length text)
+  pub sure : length text ≤ before.room → (now.faults ≡ before.faults)
+      × (before.room ≤ now.room + length text)
 
 -- putting a text on a sink failed
 pub record Breaks (before now : SinkState) (text : List ℕ) : Type 0 where
@@ -61,8 +62,11 @@ pub record IsRound (quantum : ℕ) (c : Core) (whole last next rest : ℕ) : Typ
 
 -- a schedule where so many turns were made
 abbrev pub IsPace : Schedule → Core → Pace → Type 0
-IsPace (ByQuantum quantum) c (pace.Quantum whole last hart left) = IsRound quantum c whole last hart left
+IsPace (ByQuantum quantum) c pace.Alone = length c.harts ≡ 1
+IsPace (ByQuantum quantum) c (pace.Quantum whole last hart left)
+    = IsRound quantum c whole last hart left
 IsPace (ByQuantum quantum) c (pace.Bytes bytes) = ⊥
+IsPace (ByBytes names) c pace.Alone = ⊥
 IsPace (ByBytes names) c (pace.Quantum whole last hart left) = ⊥
 IsPace (ByBytes names) c (pace.Bytes bytes) = bytes.now ≡ drop c.turns names
 
@@ -70,9 +74,28 @@ IsPace (ByBytes names) c (pace.Bytes bytes) = bytes.now ≡ drop c.turns names
 abbrev pub named : Schedule → Core → Option ℕ
 named schedule c = if is_over schedule c.turns then None else Some (hart_of schedule c)
 
--- the same schedule one turn later
-abbrev pub PacesOn : Schedule → Core → Pace → Type 0
-PacesOn schedule c pace = (e : Core) → e.turns ≡ c.turns + 1 → length e.harts ≡ length c.harts → IsPace schedule e pace
+-- the next turns, at least one and at most so many, are a hart's
+pub record IsRow (schedule : Schedule) (c : Core) (most hart turns : ℕ) : Type 0 where
+  pub some : 1 ≤ turns
+  pub few : turns ≤ most
+  pub each : (j : ℕ) → j < turns → (e : Core) → e.turns ≡ c.turns + j →
+      length e.harts ≡ length c.harts → named schedule e ≡ Some hart
+
+-- a hart and how many of the next turns are its own, or none where the schedule is at its end
+abbrev pub IsNamed : Schedule → Core → ℕ → Option (ℕ × ℕ) → Type 0
+IsNamed schedule c most None = named schedule c ≡ None
+IsNamed schedule c most (Some next) = IsRow schedule c most next.0 next.1
+
+-- the next change of a schedule comes no sooner than behind so many turns
+abbrev pub Leaves : Pace → ℕ → Type 0
+Leaves pace.Alone turns = Unit {0}
+Leaves (pace.Quantum whole last hart left) turns = turns ≤ left
+Leaves (pace.Bytes bytes) turns = turns ≤ 1
+
+-- the same schedule so many turns later
+abbrev pub PacesOn : Schedule → Core → ℕ → Pace → Type 0
+PacesOn schedule c turns pace = (e : Core) → e.turns ≡ c.turns + turns →
+    length e.harts ≡ length c.harts → IsPace schedule e pace
 
 -- the lines of notes
 abbrev pub note_lines : List Note → List ℕ
@@ -85,8 +108,10 @@ note_text note = note_lines (option_to_list note)
 -- one of two texts couldn't be put: the console's, or the report's after the console's
 abbrev pub Stops : SinkState → SinkState → List ℕ → SinkState → SinkState → List ℕ → Status → Type 0
 Stops console shown text report told lines result =
-    ((result ≡ ConsoleFault) × Breaks console shown text × AppendsPrefix report.written told.written lines)
-    ⊎ ((result ≡ ReportFault) × AppendsPrefix console.written shown.written text × Breaks report told lines)
+    ((result ≡ ConsoleFault) × Breaks console shown text
+    × AppendsPrefix report.written told.written lines)
+    ⊎ ((result ≡ ReportFault) × AppendsPrefix console.written shown.written text
+    × Breaks report told lines)
 
 -- the four states of a run beside its state: the console and what its buffer holds, the report and what its buffer holds
 pub record Places : Type 0 where
@@ -96,14 +121,22 @@ pub record Places : Type 0 where
   pub told : List ℕ
 
 abbrev pub places : SinkState → List ℕ → SinkState → List ℕ → Places
-places console shown report told = record { console = console; shown = shown; report = report; told = told }
+places console shown report told = record {
+  console = console;
+  shown = shown;
+  report = report;
+  told = told;
+}
 
 -- a text was put through the console's buffer and lines through the report's; where a sink failed nothing was put behind that
-abbrev pub ShowsOrStops : {A : Type 0} → List ℕ → List ℕ → Places → Places → Result A Status → Type 0
+abbrev pub ShowsOrStops : {A : Type 0} → List ℕ → List ℕ → Places → Places → Result A Status →
+    Type 0
 ShowsOrStops text lines before now (Ok a) =
-    Moves before.shown before.console now.console now.shown text × Moves before.told before.report now.report now.told lines
+    Moves before.shown before.console now.console now.shown text
+    × Moves before.told before.report now.report now.told lines
 ShowsOrStops text lines before now (Err status) =
-    ((status ≡ ConsoleFault) × Breaks before.console now.console (before.shown ++ text) × (now.report ≡ before.report))
+    ((status ≡ ConsoleFault) × Breaks before.console now.console (before.shown ++ text)
+    × (now.report ≡ before.report))
     ⊎ ((status ≡ ReportFault) × Moves before.shown before.console now.console now.shown text
     × Breaks before.report now.report (before.told ++ lines))
 
@@ -116,7 +149,9 @@ pub record HasRun (s : State) (machine : Flat) (before now : Places) : Type 0 wh
 -- a call that makes the turns of a run which ends in a state
 abbrev pub RunsOrStops : {A : Type 0} → State → Flat → Places → Places → Result A Status → Type 0
 RunsOrStops s machine before now (Ok a) = HasRun s machine before now
-RunsOrStops s machine before now (Err status) = Stops before.console now.console s.console before.report now.report (note_lines s.notes) status
+RunsOrStops s machine before now (Err status)
+    = Stops before.console now.console s.console before.report now.report
+    (note_lines s.notes) status
 
 -- a run begins: nothing was written or is held, and no turn was made
 pub record Begins (s : State) (machine : Flat) (places : Places) : Type 0 where
@@ -144,9 +179,9 @@ pub record GoesOn (c : Core) (events : Events) (e : Core) : Type 0 where
   pub note : events.note ≡ None
   pub going : all_halted c ≡ false → all_halted e ≡ false
 
--- what a turn keeps and counts
-pub record IsNext (f g : Flat) : Type 0 where
-  pub turns : g.core.turns ≡ f.core.turns + 1
+-- what so many turns keep and count
+pub record IsLater (f : Flat) (n : ℕ) (g : Flat) : Type 0 where
+  pub turns : g.core.turns ≡ f.core.turns + n
   pub kind : g.core.kind ≡ f.core.kind
   pub limit : g.core.limit ≡ f.core.limit
   pub modules : length g.core.modules ≡ length f.core.modules
@@ -168,10 +203,14 @@ pub record IsFresh (plan : Said) (f : Flat) : Type 0 where
 -- the three texts were put, one after another, or one of them couldn't be put and those behind it weren't
 abbrev pub Closes : List ℕ → List ℕ → List ℕ → Sinks → Sinks → Status → Type 0
 Closes shown told bytes before now result =
-    ((result ≡ Ran) × Put before.console now.console shown × Put before.report now.report told × Put before.dump now.dump bytes)
-    ⊎ ((result ≡ ConsoleFault) × Breaks before.console now.console shown × (now.report ≡ before.report) × (now.dump ≡ before.dump))
-    ⊎ ((result ≡ ReportFault) × Put before.console now.console shown × Breaks before.report now.report told × (now.dump ≡ before.dump))
-    ⊎ ((result ≡ DumpFault) × Put before.console now.console shown × Put before.report now.report told × Breaks before.dump now.dump bytes)
+    ((result ≡ Ran) × Put before.console now.console shown × Put before.report now.report told
+    × Put before.dump now.dump bytes)
+    ⊎ ((result ≡ ConsoleFault) × Breaks before.console now.console shown
+    × (now.report ≡ before.report) × (now.dump ≡ before.dump))
+    ⊎ ((result ≡ ReportFault) × Put before.console now.console shown
+    × Breaks before.report now.report told × (now.dump ≡ before.dump))
+    ⊎ ((result ≡ DumpFault) × Put before.console now.console shown
+    × Put before.report now.report told × Breaks before.dump now.dump bytes)
 
 -- the dump of a machine: RAM's bytes where they are asked
 abbrev pub dumped : Bool → Core → List ℕ

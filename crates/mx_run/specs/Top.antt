@@ -62,10 +62,12 @@ Wants asked before now result = (result ≡ WantOfMemory) × IsSome asked × Wri
 
 -- over every store: there are answers, just those that it gave in this call, one after another; they lead to an outcome, by
 -- which the call ended, or memory was wanting
-abbrev pub Answered : {S : Type 0} → Option Request → (S → Answer → S → Type 0) → S → S → Sinks → Sinks → Status → Type 0
+abbrev pub Answered : {S : Type 0} → Option Request → (S → Answer → S → Type 0) → S → S → Sinks →
+    Sinks → Status → Type 0
 Answered asked gives store stored before now result =
     (answers : List Answer) × Talks gives store answers stored
-    × (((outcome : Outcome) × Leads asked answers outcome × EndsBy outcome before now result) ⊎ Wants asked before now result)
+    × (((outcome : Outcome) × Leads asked answers outcome × EndsBy outcome before now result)
+    ⊎ Wants asked before now result)
 
 -- each sink has room for its text
 pub record HasRoom (outcome : Outcome) (before : Sinks) : Type 0 where
@@ -82,25 +84,34 @@ pub record CountsKept (before now : Sinks) : Type 0 where
 -- a call ended by an outcome, surely with its status and its texts where the sinks have room for these
 pub record Ends (outcome : Outcome) (before now : Sinks) (result : Status) : Type 0 where
   pub how : EndsBy outcome before now result
-  pub sure : HasRoom outcome before → (result ≡ outcome.status) × Holds outcome before now × CountsKept before now
+  pub sure : HasRoom outcome before → (result ≡ outcome.status) × Holds outcome before now
+      × CountsKept before now
 
 -- the same, or memory was wanting and nothing was written
 abbrev pub EndsOrWants : Outcome → Sinks → Sinks → Status → Type 0
-EndsOrWants outcome before now result = Ends outcome before now result ⊎ ((result ≡ WantOfMemory) × WritesNothing before now)
+EndsOrWants outcome before now result = Ends outcome before now result
+    ⊎ ((result ≡ WantOfMemory) × WritesNothing before now)
 
 -- what was asked was answered by what the store gave
-abbrev pub Reacts : {S : Type 0} → Option Request → (S → Answer → S → Type 0) → S → S → Sinks → Sinks → Status → Type 0
+abbrev pub Reacts : {S : Type 0} → Option Request → (S → Answer → S → Type 0) → S → S → Sinks →
+    Sinks → Status → Type 0
 Reacts asked gives store stored before now result =
     (answers : List Answer) × Talks gives store answers stored
-    × (((outcome : Outcome) × Leads asked answers outcome × Ends outcome before now result) ⊎ Wants asked before now result)
+    × (((outcome : Outcome) × Leads asked answers outcome × Ends outcome before now result)
+    ⊎ Wants asked before now result)
 
 -- a step was followed: what the store gave leads to an outcome, by which the call ended, or memory was wanting and nothing was written
-abbrev pub Continues : {S : Type 0} → (List Finding → Next) → (S → Answer → S → Type 0) → S → S → Sinks → Sinks → Status → Type 0
+abbrev pub Continues : {S : Type 0} → (List Finding → Next) → (S → Answer → S → Type 0) → S → S →
+    Sinks → Sinks → Status → Type 0
 Continues step gives store stored before now result =
     (answers : List Answer) × Talks gives store answers stored
-    × (((outcome : Outcome) × LeadsTo step answers outcome × Ends outcome before now result) ⊎ ((result ≡ WantOfMemory) × WritesNothing before now))
+    × (((outcome : Outcome) × LeadsTo step answers outcome × Ends outcome before now result)
+    ⊎ ((result ≡ WantOfMemory) × WritesNothing before now))
 
 -- a step came to a later one: however that one is followed, the first one is followed
-abbrev pub Comes : {S : Type 0} → (List Finding → Next) → (S → Answer → S → Type 0) → S → S → (List Finding → Next) → Type 0
+abbrev pub Comes : {S : Type 0} → (List Finding → Next) → (S → Answer → S → Type 0) → S → S →
+    (List Finding → Next) → Type 0
 Comes {S} step gives store stored later =
-    (end : S) (before now : Sinks) (result : Status) → Continues later gives stored end before now result → Continues step gives store end before now result
+    (end : S) (before now : Sinks) (result : Status) →
+    Continues later gives stored end before now result →
+    Continues step gives store end before now result

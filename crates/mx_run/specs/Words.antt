@@ -43,14 +43,17 @@ abbrev pub with_option : Order → List ℕ → Parsed
 with_option o word =
     if bytes_eq word (codes "--schedule") then once (is_some o.schedule) (Lacks o)
     else if bytes_eq word (codes "--dump") then once o.dump (Stands (record o { dump = true }))
-    else if bytes_eq word (codes "--tables") then once o.tables (Stands (record o { tables = true }))
-    else if bytes_eq word (codes "--counts") then once o.counts (Stands (record o { counts = true }))
+    else if bytes_eq word (codes "--tables")
+    then once o.tables (Stands (record o { tables = true }))
+    else if bytes_eq word (codes "--counts")
+    then once o.counts (Stands (record o { counts = true }))
     else Meaningless
 
 -- one word more
 abbrev pub with_word : Parsed → List ℕ → Parsed
 with_word (Stands o) word = with_option o word
-with_word (Lacks o) word = if is_name word then Stands (record o { schedule = Some word }) else Meaningless
+with_word (Lacks o) word = if is_name word then Stands (record o { schedule = Some word })
+    else Meaningless
 with_word Meaningless word = Meaningless
 
 abbrev pub asked_by : Parsed → Option Request
@@ -60,7 +63,14 @@ asked_by Meaningless = None
 
 -- an order without options
 abbrev pub plain_order : List ℕ → ℕ → Order
-plain_order manifest steps = record { manifest = manifest; steps = steps; schedule = None; dump = false; tables = false; counts = false }
+plain_order manifest steps = record {
+  manifest = manifest;
+  steps = steps;
+  schedule = None;
+  dump = false;
+  tables = false;
+  counts = false;
+}
 
 -- `run`: a manifest's name, a number of steps, and options in any order
 abbrev pub run_request : List (List ℕ) → Option Request

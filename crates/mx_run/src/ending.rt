@@ -34,7 +34,8 @@ pub(crate) fn end_run<T: PermTables, const N: usize, C: Sink, R: Sink, D: Sink>(
     requires kind { machine.now.core.kind ≡ plan.now.tables }
     requires limit { machine.now.core.limit ≡ limit_of plan.now }
     ensures { Closes shown.old
-        (told.old ++ flat_closing (map (λ name. name.now) names.now) (end_by order.now.steps machine.now.core) (options_of (order_of order.now)) machine.now)
+        (told.old ++ flat_closing (map (λ name. name.now) names.now)
+        (end_by order.now.steps machine.now.core) (options_of (order_of order.now)) machine.now)
         (dumped order.now.dump machine.now.core)
         (sinks (C.state console.old) (R.state report.old) (D.state dump.old))
         (sinks (C.state console.new) (R.state report.new) (D.state dump.new)) result }
@@ -64,7 +65,9 @@ fn put_closing_lines<T: PermTables, const N: usize, R: Sink>(
     requires kind { machine.now.core.kind ≡ plan.now.tables }
     requires limit { machine.now.core.limit ≡ limit_of plan.now }
     ensures { Puts (R.state report.old) (R.state report.new)
-        (told.old ++ flat_closing (map (λ name. name.now) names.now) (end_by order.now.steps machine.now.core) (options_of (order_of order.now)) machine.now) result }
+        (told.old ++ flat_closing (map (λ name. name.now) names.now)
+        (end_by order.now.steps machine.now.core)
+        (options_of (order_of order.now)) machine.now) result }
 {
     let end = end_of(order.steps, machine);
     let options = Options {

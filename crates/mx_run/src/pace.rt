@@ -1,9 +1,9 @@
 //! Which hart makes each turn.
 
-ghost use Rattle.std.specs.Prelude.{◌≡◌, ℕ, ◌≤◌, length, IfSome};
+ghost use Rattle.std.specs.Prelude.{◌≡◌, ◌≤◌, length, IfSome};
 ghost use Rattle.mx_model.specs.Run.{Schedule as Turns};
 ghost use Rattle.mx_model.specs.State.{Core};
-ghost use Rattle.mx_run.specs.Running.{schedule_of, HasTurns, IsPace, PacesOn, named};
+ghost use Rattle.mx_run.specs.Running.{schedule_of, HasTurns, IsNamed, IsPace, Leaves, PacesOn};
 
 /// What names the hart of each turn.
 #[derive(Clone, Copy)]
@@ -17,8 +17,10 @@ pub(crate) enum Schedule<'a> {
 /// A schedule at its place.
 #[derive(Clone, Copy)]
 pub(crate) enum Pace<'a> {
+    /// The only hart makes all turns.
+    Alone,
     /// The quantum, the number of the last hart, the hart whose turn is next, and how many turns of its quantum are left.
-    Quantum(u32, u32, u32, u32),
+    Quantum(u64, u32, u32, u64),
     /// The bytes of the turns to come.
     Bytes(&'a [u8]),
 }
@@ -27,38 +29,62 @@ pub(crate) enum Pace<'a> {
 pub(crate) fn begin(schedule: Schedule<'_>, harts: u32) -> Pace<'_>
     requires harts { 1 ≤ harts }
     requires quantum { HasTurns schedule }
-    ensures { (c : Core) → c.turns ≡ 0 → length c.harts ≡ harts → IsPace (schedule_of schedule.entry) c result }
+    ensures { (c : Core) → c.turns ≡ 0 → length c.harts ≡ harts →
+        IsPace (schedule_of schedule.entry) c result }
 {
     match schedule {
-        Schedule::Quantum(quantum) => Pace::Quantum(quantum, harts - 1, 0, quantum),
+        Schedule::Quantum(quantum) => {
+            if harts == 1 {
+                Pace::Alone
+            } else {
+                Pace::Quantum(u64::from(quantum), harts - 1, 0, u64::from(quantum))
+            }
+        }
         Schedule::Bytes(bytes) => Pace::Bytes(bytes),
     }
 }
 
-/// The hart that makes the next turn, or none where the schedule is at its end.
-pub(crate) fn next_hart(pace: &mut Pace<'_>) -> Option<u32>
-    ensures named { (s : Turns) (c : Core) → IsPace s c pace.old → result ≡ named s c }
-    ensures paces { IfSome result (λ _. (s : Turns) (c : Core) → IsPace s c pace.old → PacesOn s c pace.new) }
+/// The hart that makes the next turns, and how many of them, at most so many; or none where the schedule is at its end.
+pub(crate) fn next_hart(pace: &Pace<'_>, most: u64) -> Option<(u32, u64)>
+    requires some { 1 ≤ most }
+    ensures named { (s : Turns) (c : Core) → IsPace s c pace.now → IsNamed s c most result }
+    ensures leaves { IfSome result (λ next. Leaves pace.now next.1) }
 {
     match *pace {
-        Pace::Quantum(quantum, last, hart, left) => {
-            *pace = later(quantum, last, hart, left);
-            Some(hart)
-        }
+        Pace::Alone => Some((0, most)),
+        Pace::Quantum(_, _, hart, left) => Some((hart, most.min(left))),
         Pace::Bytes(bytes) => {
-            let (hart, rest) = bytes.split_first()?;
-            *pace = Pace::Bytes(rest);
-            Some(u32::from(*hart))
+            let (hart, _) = bytes.split_first()?;
+            Some((u32::from(*hart), 1))
         }
     }
 }
 
-// The same quantum one turn later.
-fn later<'a>(quantum: u32, last: u32, hart: u32, left: u32) -> Pace<'a>
-    ensures { (s : Turns) (c : Core) → IsPace s c (Pace.Quantum quantum last hart left) → PacesOn s c result }
+/// The same schedule so many turns of the next hart later.
+pub(crate) fn later(pace: Pace<'_>, turns: u64) -> Pace<'_>
+    requires some { 1 ≤ turns }
+    requires leaves { Leaves pace turns }
+    ensures { (s : Turns) (c : Core) → IsPace s c pace.entry → PacesOn s c turns result }
 {
-    if left > 1 {
-        Pace::Quantum(quantum, last, hart, left - 1)
+    match pace {
+        Pace::Alone => Pace::Alone,
+        Pace::Quantum(quantum, last, hart, left) => rotated(quantum, last, hart, left, turns),
+        Pace::Bytes(bytes) => match bytes.split_first() {
+            Some((_, rest)) => Pace::Bytes(rest),
+            None => pace,
+        },
+    }
+}
+
+// The same quantum so many turns later.
+fn rotated<'a>(quantum: u64, last: u32, hart: u32, left: u64, turns: u64) -> Pace<'a>
+    requires some { 1 ≤ turns }
+    requires leaves { turns ≤ left }
+    ensures { (s : Turns) (c : Core) → IsPace s c (Pace.Quantum quantum last hart left) →
+        PacesOn s c turns result }
+{
+    if turns < left {
+        Pace::Quantum(quantum, last, hart, left - turns)
     } else if hart < last {
         Pace::Quantum(quantum, last, hart + 1, quantum)
     } else {

@@ -37,7 +37,8 @@ pub(crate) fn run_booted<S: Store, C: Sink, R: Sink, D: Sink>(
     requires few { order.now.steps < 10 ^ 10 }
     requires fresh { IsFresh plan.now (meaning machine.old) }
     ensures { (s : State) → IsNew s → meaning machine.old ≡ flat s
-        → Continues (scheduled (order_of order.now) plan.now s (order_of order.now).schedule) S.gives store.old store.new
+        → Continues (scheduled (order_of order.now) plan.now s (order_of order.now).schedule)
+        S.gives store.old store.new
         (sinks (C.state console.old) (R.state report.old) (D.state dump.old))
         (sinks (C.state console.new) (R.state report.new) (D.state dump.new)) result }
 {
@@ -104,7 +105,8 @@ fn run_any<C: Sink, R: Sink, D: Sink>(
     requires names { map (λ name. name.now) names.now ≡ names_of plan.now }
     requires quantum { HasTurns schedule }
     requires fresh { IsFresh plan.now (meaning machine.old) }
-    ensures { (s : State) → IsNew s → meaning machine.old ≡ flat s → Ends (ran (order_of order.now) plan.now s (schedule_of schedule.entry))
+    ensures { (s : State) → IsNew s → meaning machine.old ≡ flat s →
+        Ends (ran (order_of order.now) plan.now s (schedule_of schedule.entry))
         (sinks (C.state console.old) (R.state report.old) (D.state dump.old))
         (sinks (C.state console.new) (R.state report.new) (D.state dump.new)) result }
 {
@@ -154,7 +156,8 @@ fn run_machine<T: PermTables, const N: usize, C: Sink, R: Sink, D: Sink>(
     requires names { map (λ name. name.now) names.now ≡ names_of plan.now }
     requires quantum { HasTurns schedule }
     requires fresh { IsFresh plan.now machine.old }
-    ensures { (s : State) → IsNew s → machine.old ≡ flat s → Ends (ran (order_of order.now) plan.now s (schedule_of schedule.entry))
+    ensures { (s : State) → IsNew s → machine.old ≡ flat s →
+        Ends (ran (order_of order.now) plan.now s (schedule_of schedule.entry))
         (sinks (C.state console.old) (R.state report.old) (D.state dump.old))
         (sinks (C.state console.new) (R.state report.new) (D.state dump.new)) result }
 {

@@ -4,9 +4,9 @@ ghost use Rattle.std.specs.Prelude.{◌≡◌, ◌+◌, ◌-◌, ◌^◌, ◌<�
 ghost use Rattle.mx_model.specs.Run.{all_halted, run};
 ghost use Rattle.mx_model.specs.State.{State, flat};
 ghost use Rattle.mx_report.specs.Tail.{Passes};
-ghost use Rattle.mx_run.specs.Running.{schedule_of, HasTurns, Begins, IsNext, IsTurnOf, KeepsShape, RunsOrStops, ShowsOrStops, GoesOn, may_tell, places, note_text};
+ghost use Rattle.mx_run.specs.Running.{schedule_of, HasTurns, Begins, KeepsShape, RunsOrStops, ShowsOrStops, may_tell, places, note_text};
 
-use crate::pace::{Schedule, begin, next_hart};
+use crate::pace::{Schedule, begin, later, next_hart};
 use crate::status::Status;
 use mx_io::{Failed, Sink};
 use mx_machine::{Machine, machine_is_valid};
@@ -28,8 +28,10 @@ pub(crate) fn make_turns<T: PermTables, const N: usize, C: Sink, R: Sink>(
     requires start { machine.old.core.turns ≡ 0 }
     requires quantum { HasTurns schedule }
     ensures keeps { KeepsShape machine.old machine.new }
-    ensures runs { (s : State) → Begins s machine.old (places (C.state console.old) shown.old (R.state report.old) told.old)
-        → RunsOrStops (run (schedule_of schedule.entry) steps s) machine.new (places (C.state console.old) shown.old (R.state report.old) told.old)
+    ensures runs { (s : State) → Begins s machine.old
+        (places (C.state console.old) shown.old (R.state report.old) told.old)
+        → RunsOrStops (run (schedule_of schedule.entry) steps s) machine.new
+        (places (C.state console.old) shown.old (R.state report.old) told.old)
         (places (C.state console.new) shown.new (R.state report.new) told.new) result }
 {
     machine_is_valid(machine);
@@ -38,12 +40,16 @@ pub(crate) fn make_turns<T: PermTables, const N: usize, C: Sink, R: Sink>(
     }
     let mut events = Events::new();
     let mut pace = begin(schedule, machine.harts());
-    'turns: for _step in 0..steps {
-        let Some(hart) = next_hart(&mut pace) else {
+    let mut made = 0;
+    'turns: while made < steps {
+        let Some((hart, most)) = next_hart(&pace, steps - made) else {
             return Ok(());
         };
+        let stretch = machine.run_on(hart, most, &mut events);
+        made += stretch.ran + 1;
+        pace = later(pace, stretch.ran + 1);
         // Nearly all turns add nothing and halt no hart: of these nothing but their kind is looked at.
-        if !may_tell(take_turn(hart, machine, &mut events)) {
+        if !may_tell(stretch.last) {
             continue;
         }
         if end_turn(machine, &events, shown, console, told, report)? {
@@ -51,21 +57,6 @@ pub(crate) fn make_turns<T: PermTables, const N: usize, C: Sink, R: Sink>(
         }
     }
     Ok(())
-}
-
-// A turn of the hart of that number, with what of its contract a run needs.
-#[inline(always)]
-fn take_turn<T: PermTables, const N: usize>(
-    hart: u32,
-    machine: &mut Machine<T, N>,
-    events: &mut Events,
-) -> TurnKind
-    requires { machine.old.core.turns < 2 ^ 64 - 1 }
-    ensures next { IsNext machine.old machine.new }
-    ensures turn { (s : State) → machine.old ≡ flat s → IsTurnOf s hart machine.new events.new }
-    ensures quiet { may_tell result ≡ false → GoesOn machine.old.core events.new machine.new.core }
-{
-    machine.step(hart, events)
 }
 
 // Whether a turn of a kind can add something or halt its hart.
@@ -126,7 +117,8 @@ fn show<C: Sink, R: Sink>(
 
 // Puts the line of a note, if there is one, through a buffer.
 fn put_told<R: Sink>(told: &mut Tail, report: &mut R, note: Option<Note>) -> Result<(), Failed>
-    ensures { Passes told.old (R.state report.old) (R.state report.new) told.new (note_text note) result }
+    ensures { Passes told.old (R.state report.old) (R.state report.new) told.new
+        (note_text note) result }
 {
     match note {
         Some(note) => put_note(told, report, &note),

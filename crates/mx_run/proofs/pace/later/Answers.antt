@@ -1,11 +1,12 @@
-use Rattle.mx_run.proofs.Paces.{paces_in, paces_next, paces_again}
+use Rattle.std.proofs.Common.{◌≡◌, ◌≤◌, subst, arith}
+use Rattle.mx_run.specs.declared.pace.Pace.{Pace}
+use Rattle.mx_run.specs.Running.{IsPace, Leaves}
+use Rattle.mx_run.proofs.Paces.{paces_rest}
 use Rattle.mx_run.proofs.pace.later.Goals as goal
 
-pub returns-then-left-gt1 : goal.returns-then-left-gt1
-returns-then-left-gt1 c = λ s core i. paces_in s core c.args.quantum c.args.last c.args.hart c.args.left c.if-left-gt1.true i
-
-pub returns-then-hart-last : goal.returns-then-hart-last
-returns-then-hart-last c = λ s core i. paces_next s core c.args.quantum c.args.last c.args.hart c.args.left c.if-left-gt1.false c.if-hart-last.true i
-
-pub returns-else-hart-last : goal.returns-else-hart-last
-returns-else-hart-last c = λ s core i. paces_again s core c.args.quantum c.args.last c.args.hart c.args.left c.if-left-gt1.false c.if-hart-last.false i
+pub returns-in-Some : goal.returns-in-Some
+returns-in-Some c =
+    let few : c.args.turns ≤ 1 = subst (λ (p : Pace). Leaves p c.args.turns) c.in-Bytes.is c.requires.leaves in
+    let one : c.args.turns ≡ 1 = omega (arith, few, c.requires.some) in
+    λ s core i. paces_rest s core c.in-Bytes.bytes c.in-Some.rest c.in-Some.field-0-0.now c.args.turns one c.in-Some.ensures.cases.0
+    (subst (λ (p : Pace). IsPace s core p) c.in-Bytes.is i)

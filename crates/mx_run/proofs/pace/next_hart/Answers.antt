@@ -1,10 +1,7 @@
-use Rattle.std.proofs.Common.{subst}
-use Rattle.mx_run.specs.declared.pace.Pace.{Pace}
-use Rattle.mx_run.specs.Running.{IsPace}
-use Rattle.mx_run.proofs.Paces.{paces_rest}
+use Rattle.mx_run.proofs.Paces.{row_quantum}
 use Rattle.mx_run.proofs.pace.next_hart.Goals as goal
 
-pub returns-in_ok-hart-in-Bytes-clause-paces : goal.returns-in_ok-hart-in-Bytes-clause-paces
-returns-in_ok-hart-in-Bytes-clause-paces c =
-    λ s core i. paces_rest s core c.in-Bytes.bytes c.in_ok-hart-in-Bytes.rest c.in_ok-hart-in-Bytes.hart.now c.in_ok-hart-in-Bytes.ensures.cases.0
-    (subst (λ (p : Pace). IsPace s core p) c.in-Bytes.is i)
+pub returns-in-Quantum-clause-named : goal.returns-in-Quantum-clause-named
+returns-in-Quantum-clause-named c = λ s core i.
+    row_quantum s core c.args.most c.in-Quantum.field-0 c.in-Quantum.field-1 c.in-Quantum.hart c.in-Quantum.left c.min.result c.requires.some c.min.ensures
+    (rw c.in-Quantum.is at i)

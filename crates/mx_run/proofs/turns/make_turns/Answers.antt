@@ -1,9 +1,10 @@
-use Rattle.std.proofs.Common.{◌≡◌, ◌+◌, sym, ap, ◌∙◌, arith}
+use Rattle.std.proofs.Common.{◌≡◌, ℕ, ◌+◌, ◌-◌, ◌<◌, ◌≤◌, Option, sym, ap, subst, ◌∙◌, arith}
 use Rattle.std.proofs.lemmas.Result.{err_from_is_err_and}
 use Rattle.mx_machine.proofs.SizeLaws.{fits-inside}
 use Rattle.mx_model.specs.Run.{run}
-use Rattle.mx_run.specs.Running.{schedule_of, places}
-use Rattle.mx_run.proofs.RunTexts.{keeps_none, keeps_next, run_begins, run_makes, run_stops, grows_on, goes_to, makes_quiet, makes_shown, makes_stopped, ends_after, ends_halted, ends_over}
+use Rattle.mx_machine.specs.Turning.{turns_of}
+use Rattle.mx_run.specs.Running.{IsNamed, schedule_of, places}
+use Rattle.mx_run.proofs.RunTexts.{keeps_none, keeps_later, run_begins, run_makes, run_stops, grows_on, turn_goes_on, makes_quiet, makes_shown, makes_stopped, ends_after, ends_halted, ends_over, going_along, last_later, last_reached, last_is, last_next, last_more}
 use Rattle.mx_run.proofs.turns.make_turns.Goals as goal
 
 pub returns-then-all_halted-clause-runs : goal.returns-then-all_halted-clause-runs
@@ -15,109 +16,166 @@ pub turns-init : goal.turns-init
 turns-init g c =
     record {
       turns = c.requires.start;
+      within = omega arith;
       pace = c.begin-pace.ensures c.args.machine.now.core c.requires.start (sym c.harts.ensures);
       going = sym c.if-all_halted.ensures;
       keeps = keeps_none c.args.machine.now;
       runs = λ s b. run_begins s _ _ b;
     }
 
+-- the schedule is at its end
 pub returns-in_default-clause-runs : goal.returns-in_default-clause-runs
 returns-in_default-clause-runs g c =
     λ s b.
+    let schedule = schedule_of c.args.schedule in
+    let f = c.turns.machine in
     let r = c.turns.invariant.runs s b in
-    let over = c.in_default.ensures.named (schedule_of c.args.schedule) c.turns.machine.core c.turns.invariant.pace in
-    rw (ends_over (schedule_of c.args.schedule) c.turns._step c.args.steps s c.turns.machine r.state (omega (arith, c.turns-test.true)) (sym over)) r
+    let over = subst (λ (o : Option (ℕ × ℕ)). IsNamed schedule f.core (c.args.steps - c.turns.made) o) c.in_default.is (c.next_hart.ensures.named schedule f.core c.turns.invariant.pace) in
+    rw (ends_over schedule c.turns.made c.args.steps s f r.state c.turns.invariant.within over) r
 
 pub end_turn-requires : goal.end_turn-requires
 end_turn-requires g c = search fits-inside
 
--- a turn that may add nothing
+-- turns of which the last may add nothing
 pub turns-preserved-then-not-may_tell : goal.turns-preserved-then-not-may_tell
 turns-preserved-then-not-may_tell g c =
     let schedule = schedule_of c.args.schedule in
-    let next = c.take_turn.ensures.next in
-    let quiet = c.take_turn.ensures.quiet (sym c.if-not-may_tell.ensures) in
+    let f = c.turns.machine in
+    let h = c.in-Some.hart in
+    let k = c.run_on-stretch.new.self in
+    let events = c.run_on-stretch.new.out in
+    let stretch = c.run_on-stretch.result in
+    let is = c.run_on-stretch.ensures in
+    let going = c.turns.invariant.going in
+    let row = c.in-Some.ensures.named schedule f.core c.turns.invariant.pace in
+    let later = last_later schedule f going h (c.args.steps - c.turns.made) c.in-Some.most row k events stretch is in
+    let quiet = turn_goes_on (turns_of h f stretch.ran) k h events stretch.last is.turn is.told is.kind (sym c.if-not-may_tell.ensures) in
     record {
-      turns = next.turns ∙ ap (λ n. n + 1) c.turns.invariant.turns;
-      pace = c.in-Some.ensures.paces schedule c.turns.machine.core c.turns.invariant.pace c.take_turn.new.machine.core next.turns next.harts;
-      going = quiet.going c.turns.invariant.going;
-      keeps = keeps_next c.args.machine.now c.turns.machine c.take_turn.new.machine c.turns.invariant.keeps next;
+      turns = later.turns ∙ ap (λ n. n + (stretch.ran + 1)) c.turns.invariant.turns;
+      within = omega (arith, is.few, row.few, c.turns.invariant.within);
+      pace = c.later-pace.ensures schedule f.core c.turns.invariant.pace k.core later.turns later.harts;
+      going = quiet.going (going_along schedule f going h (c.args.steps - c.turns.made) c.in-Some.most row stretch.ran is.ran);
+      keeps = keeps_later c.args.machine.now f k (stretch.ran + 1) c.turns.invariant.keeps later;
       runs =
           λ s b.
           let r = c.turns.invariant.runs s b in
-          let u = run schedule c.turns._step s in
-          let name = c.in-Some.ensures.named schedule c.turns.machine.core c.turns.invariant.pace in
-          let more = goes_to schedule c.turns._step c.args.steps s c.turns.machine r.state c.in-Some.hart c.turns.invariant.going (sym name) in
-          let mid = places (g.C.Sink.state c.turns.console) c.turns.shown (g.R.Sink.state c.turns.report) c.turns.told in
-          let makes = makes_quiet u c.in-Some.hart c.take_turn.new.machine c.turns.machine.core c.take_turn.new.events mid (c.take_turn.ensures.turn u r.state) quiet in
-          rw more (run_makes u c.in-Some.hart c.turns.machine c.take_turn.new.machine _ mid mid r makes);
+          let at = places (g.C.Sink.state c.turns.console) c.turns.shown (g.R.Sink.state c.turns.report) c.turns.told in
+          let u = run schedule (c.turns.made + stretch.ran) s in
+          let reached = last_reached schedule f going h (c.args.steps - c.turns.made) c.in-Some.most row c.turns.made s _ at r k events stretch is in
+          let last = last_is schedule f going h (c.args.steps - c.turns.made) c.in-Some.most row c.turns.made s _ at r k events stretch is in
+          let more = last_more schedule f going h (c.args.steps - c.turns.made) c.in-Some.most row c.turns.made s _ at r k events stretch is in
+          rw more (run_makes u h (turns_of h f stretch.ran) k _ at at reached (makes_quiet u h k (turns_of h f stretch.ran).core events at last quiet));
     }
 
--- a turn whose texts couldn't be put
+-- turns of which the last one's texts couldn't be put
+pub returns-in_err-end_turn-clause-keeps : goal.returns-in_err-end_turn-clause-keeps
+returns-in_err-end_turn-clause-keeps g c =
+    let schedule = schedule_of c.args.schedule in
+    let f = c.turns.machine in
+    let k = c.run_on-stretch.new.self in
+    let stretch = c.run_on-stretch.result in
+    let row = c.in-Some.ensures.named schedule f.core c.turns.invariant.pace in
+    keeps_later c.args.machine.now f k (stretch.ran + 1) c.turns.invariant.keeps
+    (last_later schedule f c.turns.invariant.going c.in-Some.hart (c.args.steps - c.turns.made) c.in-Some.most row k c.run_on-stretch.new.out stretch c.run_on-stretch.ensures)
+
 pub returns-in_err-end_turn-clause-runs : goal.returns-in_err-end_turn-clause-runs
 returns-in_err-end_turn-clause-runs g c =
     let p = err_from_is_err_and c.from_residual.result c.from_residual.ensures.1 in
     let schedule = schedule_of c.args.schedule in
+    let f = c.turns.machine in
+    let h = c.in-Some.hart in
+    let k = c.run_on-stretch.new.self in
+    let events = c.run_on-stretch.new.out in
+    let stretch = c.run_on-stretch.result in
+    let is = c.run_on-stretch.ensures in
+    let going = c.turns.invariant.going in
+    let row = c.in-Some.ensures.named schedule f.core c.turns.invariant.pace in
     rw (p.1, p.2)
     (λ s b.
     let r = c.turns.invariant.runs s b in
-    let u = run schedule c.turns._step s in
-    let name = c.in-Some.ensures.named schedule c.turns.machine.core c.turns.invariant.pace in
-    let more = goes_to schedule c.turns._step c.args.steps s c.turns.machine r.state c.in-Some.hart c.turns.invariant.going (sym name) in
-    let grows = grows_on schedule (c.turns._step + 1) c.args.steps s (omega (arith, c.turns-test.true)) in
-    let mid = places (g.C.Sink.state c.turns.console) c.turns.shown (g.R.Sink.state c.turns.report) c.turns.told in
+    let at = places (g.C.Sink.state c.turns.console) c.turns.shown (g.R.Sink.state c.turns.report) c.turns.told in
     let now = places (g.C.Sink.state c.end_turn.new.console) c.end_turn.new.shown (g.R.Sink.state c.end_turn.new.report) c.end_turn.new.told in
+    let u = run schedule (c.turns.made + stretch.ran) s in
+    let reached = last_reached schedule f going h (c.args.steps - c.turns.made) c.in-Some.most row c.turns.made s _ at r k events stretch is in
+    let last = last_is schedule f going h (c.args.steps - c.turns.made) c.in-Some.most row c.turns.made s _ at r k events stretch is in
+    let more = last_more schedule f going h (c.args.steps - c.turns.made) c.in-Some.most row c.turns.made s _ at r k events stretch is in
+    let few : c.turns.made + (stretch.ran + 1) ≤ c.args.steps = omega (arith, is.few, row.few, c.turns.invariant.within) in
+    let grows = grows_on schedule (c.turns.made + (stretch.ran + 1)) c.args.steps s few in
     let status = c.in_err-end_turn.field-0.0 in
-    let stops =
-    makes_stopped (Unit {0}) u c.in-Some.hart c.take_turn.new.machine c.take_turn.new.events mid now status (c.take_turn.ensures.turn u r.state) c.in_err-end_turn.ensures.shows
-    in
-    run_stops u (run schedule c.args.steps s) c.in-Some.hart c.turns.machine c.take_turn.new.machine _ mid now status r (rw more at grows) stops)
+    let stops = makes_stopped (Unit {0}) u h k events at now status last c.in_err-end_turn.ensures.shows in
+    run_stops u (run schedule c.args.steps s) h (turns_of h f stretch.ran) k _ at now status reached (rw more at grows) stops)
 
--- a turn behind which all harts are halted
+-- turns behind which all harts are halted
+pub returns-then-branch-clause-keeps : goal.returns-then-branch-clause-keeps
+returns-then-branch-clause-keeps g c =
+    let schedule = schedule_of c.args.schedule in
+    let f = c.turns.machine in
+    let k = c.run_on-stretch.new.self in
+    let stretch = c.run_on-stretch.result in
+    let row = c.in-Some.ensures.named schedule f.core c.turns.invariant.pace in
+    keeps_later c.args.machine.now f k (stretch.ran + 1) c.turns.invariant.keeps
+    (last_later schedule f c.turns.invariant.going c.in-Some.hart (c.args.steps - c.turns.made) c.in-Some.most row k c.run_on-stretch.new.out stretch c.run_on-stretch.ensures)
+
 pub returns-then-branch-clause-runs : goal.returns-then-branch-clause-runs
 returns-then-branch-clause-runs g c =
     let schedule = schedule_of c.args.schedule in
+    let f = c.turns.machine in
+    let h = c.in-Some.hart in
+    let k = c.run_on-stretch.new.self in
+    let events = c.run_on-stretch.new.out in
+    let stretch = c.run_on-stretch.result in
+    let is = c.run_on-stretch.ensures in
+    let going = c.turns.invariant.going in
+    let row = c.in-Some.ensures.named schedule f.core c.turns.invariant.pace in
     λ s b.
     let r = c.turns.invariant.runs s b in
-    let u = run schedule c.turns._step s in
-    let name = c.in-Some.ensures.named schedule c.turns.machine.core c.turns.invariant.pace in
-    let more = goes_to schedule c.turns._step c.args.steps s c.turns.machine r.state c.in-Some.hart c.turns.invariant.going (sym name) in
-    let mid = places (g.C.Sink.state c.turns.console) c.turns.shown (g.R.Sink.state c.turns.report) c.turns.told in
+    let at = places (g.C.Sink.state c.turns.console) c.turns.shown (g.R.Sink.state c.turns.report) c.turns.told in
     let now = places (g.C.Sink.state c.end_turn.new.console) c.end_turn.new.shown (g.R.Sink.state c.end_turn.new.report) c.end_turn.new.told in
-    let makes =
-    makes_shown _ c.in_ok-end_turn.field-0 u c.in-Some.hart c.take_turn.new.machine c.take_turn.new.events mid now (c.take_turn.ensures.turn u r.state) c.in_ok-end_turn.ensures.shows
-    in
-    rw (ends_after schedule c.turns._step c.args.steps s c.turns.machine r.state c.in-Some.hart (omega (arith, c.turns-test.true)) more c.take_turn.new.machine makes.state
+    let u = run schedule (c.turns.made + stretch.ran) s in
+    let reached = last_reached schedule f going h (c.args.steps - c.turns.made) c.in-Some.most row c.turns.made s _ at r k events stretch is in
+    let last = last_is schedule f going h (c.args.steps - c.turns.made) c.in-Some.most row c.turns.made s _ at r k events stretch is in
+    let next = last_next schedule f going h (c.args.steps - c.turns.made) c.in-Some.most row c.turns.made s _ at r k events stretch is in
+    let few : c.turns.made + stretch.ran < c.args.steps = omega (arith, is.few, row.few, c.turns.invariant.within) in
+    let makes = makes_shown _ c.in_ok-end_turn.field-0 u h k events at now last c.in_ok-end_turn.ensures.shows in
+    rw (ends_after schedule (c.turns.made + stretch.ran) c.args.steps s (turns_of h f stretch.ran) reached.state h few next k makes.state
     (sym c.in_ok-end_turn.ensures.halted ∙ c.if-branch.true))
-    (run_makes u c.in-Some.hart c.turns.machine c.take_turn.new.machine _ mid now r makes)
+    (run_makes u h (turns_of h f stretch.ran) k _ at now reached makes)
 
--- a turn whose texts were put
+-- turns whose texts were put
 pub turns-preserved : goal.turns-preserved
 turns-preserved g c =
     let schedule = schedule_of c.args.schedule in
-    let next = c.take_turn.ensures.next in
+    let f = c.turns.machine in
+    let h = c.in-Some.hart in
+    let k = c.run_on-stretch.new.self in
+    let events = c.run_on-stretch.new.out in
+    let stretch = c.run_on-stretch.result in
+    let is = c.run_on-stretch.ensures in
+    let going = c.turns.invariant.going in
+    let row = c.in-Some.ensures.named schedule f.core c.turns.invariant.pace in
+    let later = last_later schedule f going h (c.args.steps - c.turns.made) c.in-Some.most row k events stretch is in
     record {
-      turns = next.turns ∙ ap (λ n. n + 1) c.turns.invariant.turns;
-      pace = c.in-Some.ensures.paces schedule c.turns.machine.core c.turns.invariant.pace c.take_turn.new.machine.core next.turns next.harts;
+      turns = later.turns ∙ ap (λ n. n + (stretch.ran + 1)) c.turns.invariant.turns;
+      within = omega (arith, is.few, row.few, c.turns.invariant.within);
+      pace = c.later-pace.ensures schedule f.core c.turns.invariant.pace k.core later.turns later.harts;
       going = sym c.in_ok-end_turn.ensures.halted ∙ c.if-branch.false;
-      keeps = keeps_next c.args.machine.now c.turns.machine c.take_turn.new.machine c.turns.invariant.keeps next;
+      keeps = keeps_later c.args.machine.now f k (stretch.ran + 1) c.turns.invariant.keeps later;
       runs =
           λ s b.
           let r = c.turns.invariant.runs s b in
-          let u = run schedule c.turns._step s in
-          let name = c.in-Some.ensures.named schedule c.turns.machine.core c.turns.invariant.pace in
-          let more = goes_to schedule c.turns._step c.args.steps s c.turns.machine r.state c.in-Some.hart c.turns.invariant.going (sym name) in
-          let mid = places (g.C.Sink.state c.turns.console) c.turns.shown (g.R.Sink.state c.turns.report) c.turns.told in
+          let at = places (g.C.Sink.state c.turns.console) c.turns.shown (g.R.Sink.state c.turns.report) c.turns.told in
           let now = places (g.C.Sink.state c.end_turn.new.console) c.end_turn.new.shown (g.R.Sink.state c.end_turn.new.report) c.end_turn.new.told in
-          let makes =
-          makes_shown _ c.in_ok-end_turn.field-0 u c.in-Some.hart c.take_turn.new.machine c.take_turn.new.events mid now (c.take_turn.ensures.turn u r.state) c.in_ok-end_turn.ensures.shows
-          in
-          rw more (run_makes u c.in-Some.hart c.turns.machine c.take_turn.new.machine _ mid now r makes);
+          let u = run schedule (c.turns.made + stretch.ran) s in
+          let reached = last_reached schedule f going h (c.args.steps - c.turns.made) c.in-Some.most row c.turns.made s _ at r k events stretch is in
+          let last = last_is schedule f going h (c.args.steps - c.turns.made) c.in-Some.most row c.turns.made s _ at r k events stretch is in
+          let more = last_more schedule f going h (c.args.steps - c.turns.made) c.in-Some.most row c.turns.made s _ at r k events stretch is in
+          let makes = makes_shown _ c.in_ok-end_turn.field-0 u h k events at now last c.in_ok-end_turn.ensures.shows in
+          rw more (run_makes u h (turns_of h f stretch.ran) k _ at now reached makes);
     }
 
 -- all turns were made
 pub returns-clause-runs : goal.returns-clause-runs
 returns-clause-runs g c =
     λ s b.
-    let e : c.turns._step ≡ c.args.steps = omega (arith, c.turns-test.false, c.turns.auto._step-end) in
+    let e : c.turns.made ≡ c.args.steps = omega (arith, c.turns-test.false, c.turns.invariant.within) in
     rw (← e) (c.turns.invariant.runs s b)

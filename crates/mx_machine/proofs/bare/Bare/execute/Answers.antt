@@ -46,6 +46,7 @@ returns-in-Next g c =
       made = rw (c.instruct.ensures.after, c.requires.empty)
           (made-next m h c.args.returns r (r.act.fits.sound.maps (hart_of m.harts h).domain r.act.domain) c.requires.returns _ e);
       fits = rw c.instruct.ensures.after (fits-instruction m h c.args.returns r);
+      on = λ none. (c.instruct.ensures.after, c.requires.empty);
     }
 
 pub returns-in-Trap : goal.returns-in-Trap
@@ -59,6 +60,7 @@ returns-in-Trap g c =
       made = from-instruction m h c.args.returns r (r.act.fits.sound.maps (hart_of m.harts h).domain r.act.domain) c.requires.returns
           c.trap.new.self c.trap.new.out c.trap.result (O.Trap c.in-Trap.fault) e tt made;
       fits = c.trap.ensures.fits;
+      on = λ none. absurd (let z : ⊥ = cc in z);
     }
 
 pub returns-in-Call : goal.returns-in-Call
@@ -72,6 +74,7 @@ returns-in-Call g c =
       made = from-instruction m h c.args.returns r (r.act.fits.sound.maps (hart_of m.harts h).domain r.act.domain) c.requires.returns
           c.ask.new.self c.ask.new.out c.ask.result O.Call e tt made;
       fits = c.ask.ensures.fits;
+      on = λ none. absurd (let z : ⊥ = cc in z);
     }
 
 pub returns-in-Back : goal.returns-in-Back
@@ -85,4 +88,5 @@ returns-in-Back g c =
       made = from-instruction m h c.args.returns r (r.act.fits.sound.maps (hart_of m.harts h).domain r.act.domain) c.requires.returns
           c.go_back.new.self c.go_back.new.out c.go_back.result (O.Back c.in-Back.rd c.in-Back.target) e tt made;
       fits = c.go_back.ensures.fits;
+      on = λ none. absurd (let z : ⊥ = cc in z);
     }

@@ -1,4 +1,5 @@
-use Rattle.std.proofs.Common.{ℕ, false, sym, subst, ◌∙◌, ap, arith, get_or}
+use Rattle.std.proofs.Common.{ℕ, false, sym, subst, ◌∙◌, ap, arith, get_or, unwrap_or}
+use Rattle.mx_model.specs.declared.values.TurnKind.TheVariants as T
 use Rattle.mx_machine.specs.Harts.{hart_of}
 use Rattle.mx_machine.specs.Held.{Held}
 use Rattle.mx_machine.specs.Made.{IsMade}
@@ -30,7 +31,7 @@ returns-in-None g c =
     let alive = sym c.is_dead.ensures ∙ c.if-is_dead.false in
     let plain = doing-plain m h c.domain-domain.result c.pc-pc.result c.requires.run d p alive (sym c.in-None.ensures) in
     record {
-      made = subst (λ e. IsMade m c.execute.new.self c.execute.new.out c.execute.result e) (sym plain.0) c.execute.ensures.made;
+      made = rw c.unwrap_or.ensures (subst (λ e. IsMade m c.execute.new.self c.execute.new.out (unwrap_or c.execute.result T.Ran) e) (sym plain.0) c.execute.ensures.made);
       fits = c.execute.ensures.fits;
     }
 
@@ -66,7 +67,7 @@ returns-then-target-domain g c =
     let back = doing-return m h c.domain-domain.result c.pc-pc.result c.in-Some.target c.requires.run d p alive (sym c.in-Some.ensures) c.if-target-domain.true in
     let done = c.execute-then-target-domain in
     record {
-      made = subst (λ e. IsMade m done.new.self done.new.out done.result e) (sym back.0) done.ensures.made;
+      made = rw c.unwrap_or-then-target-domain.ensures (subst (λ e. IsMade m done.new.self done.new.out (unwrap_or done.result T.Ran) e) (sym back.0) done.ensures.made);
       fits = done.ensures.fits;
     }
 

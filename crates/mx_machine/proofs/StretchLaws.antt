@@ -1,0 +1,96 @@
+-- Turns of one hart in a row: what holds behind some of them, and behind one more.
+use Rattle.std.proofs.Common.{◌≡◌, ℕ, zero, suc, ◌+◌, ◌-◌, ◌<◌, ◌≤◌, ◌⊎◌, inl, inr, Bool, true, false, not, set, refl, sym, ap, subst, ◌∙◌, arith, get_or, get_or-set_same, Option, None, Some}
+use Rattle.std.specs.Prelude.{is_some}
+use Rattle.mx_model.specs.declared.values.TurnKind.{TurnKind}
+use Rattle.mx_model.specs.declared.values.TurnKind.TheVariants as T
+use Rattle.mx_model.specs.Events.{Events, no_events}
+use Rattle.mx_model.specs.Reads.{Reads, flat_reads}
+use Rattle.mx_model.specs.Run.{flat_kind, flat_made, flat_turn}
+use Rattle.mx_model.specs.State.{Core, Flat}
+use Rattle.mx_model.specs.Turn.{turned}
+use Rattle.mx_model.specs.Valid.{IsValid}
+use Rattle.mx_model.proofs.KeepLaws.{keeps-turned}
+use Rattle.mx_machine.specs.declared.hart.Hart.{Hart}
+use Rattle.mx_machine.specs.declared.views.Stretch.{Stretch}
+use Rattle.mx_machine.specs.Actions.{after_instruction, counted, effect_for, heard, outcome_for, perm_for}
+use Rattle.mx_machine.specs.Harts.{no_hart, hart_of}
+use Rattle.mx_machine.specs.Held.{Held, meaning}
+use Rattle.mx_machine.specs.Made.{IsMade, core_in}
+use Rattle.mx_machine.specs.Steps.{instructed}
+use Rattle.mx_machine.specs.Ties.{Fits, IsWhole, MayRun, RunsAlive}
+use Rattle.mx_machine.specs.Turning.{IsStretch, turns_of}
+use Rattle.mx_machine.proofs.InstructLaws.{runs-instruction}
+use Rattle.mx_machine.proofs.StepLaws.{told-is, turn-is, whole-is}
+use Rattle.mx_core.specs.Exec.{regs_after}
+
+-- one more turn
+pub turns-more : (h : ℕ) (f : Flat) (n : ℕ) → turns_of h f (n + 1) ≡ flat_turn (turns_of h f n) h
+turns-more h f n =
+    let e : n + 1 ≡ suc n = omega arith in
+    ap (turns_of h f) e
+
+-- a hart that runs in a live domain does so behind an instruction
+pub alive-instruction : (m : Held) (h : ℕ) → MayRun m h → get_or m.dead (hart_of m.harts h).domain false ≡ false → RunsAlive (after_instruction h false m) h
+alive-instruction m h r alive =
+    let x = hart_of m.harts h in
+    let regs = regs_after (perm_for m x) m.parts.ram x.regs x.pc false (effect_for m x) in
+    let y : Hart = instructed regs (outcome_for m h false) x in
+    let own : hart_of (set m.harts h y) h ≡ y = get_or-set_same m.harts h y no_hart r.act.there in
+    let n = runs-instruction m h false r in
+    record { there = n.act.there; runs = n.runs; alive = ap (λ (z : Hart). get_or m.dead z.domain false) own ∙ alive }
+
+pub alive-now : (m n : Held) (h : ℕ) → RunsAlive m h → n ≡ heard h (counted m) → get_or n.dead (hart_of n.harts h).domain false ≡ false
+alive-now m n h r is = ap (λ (k : Held). get_or k.dead (hart_of k.harts h).domain false) is ∙ r.alive
+
+pub live-of : (b : Bool) → not b ≡ true → b ≡ false
+live-of true e = absurd (let z : ⊥ = cc in z)
+live-of false e = refl
+
+-- no gate stands there
+pub none-here : (o : Option ℕ) → is_some o ≡ false → o ≡ None
+none-here None e = refl
+none-here (Some t) e = absurd (let z : ⊥ = cc in z)
+
+-- behind some turns of hart h from a flat state, each of which carried out an instruction
+pub record HasRunOn (f : Flat) (h n : ℕ) (m : Held) : Type 0 where
+  pub whole : IsWhole m
+  pub at : meaning m ≡ turns_of h f n
+  pub ran : (i : ℕ) → i < n → flat_kind (turns_of h f i) h ≡ T.Ran
+  pub steps : m.steps ≡ f.core.turns + n
+
+pub run-none : (m : Held) (h : ℕ) → IsWhole m → HasRunOn (meaning m) h 0 m
+run-none m h w = record { whole = w; at = refl; ran = λ i below. absurd (let z : ⊥ = omega arith in z); steps = omega arith }
+
+module _ (f : Flat) (h n : ℕ) (m k : Held) (events : Events) (answer : TurnKind) (r : HasRunOn f h n m) (i : IsMade m k events answer (flat_made (meaning m) h)) where
+  abbrev pub Law : Type 0
+  Law = (q : Reads) (c : Core) (g : ℕ) → IsValid c → IsValid (turned q c g).core
+
+  -- one more, the last or not
+  pub run-turn : meaning k ≡ flat_turn (turns_of h f n) h
+  run-turn = turn-is m k h events answer i ∙ ap (λ (g : Flat). flat_turn g h) r.at
+
+  pub run-kind : answer ≡ flat_kind (turns_of h f n) h
+  run-kind = i.kind ∙ ap (λ (g : Flat). flat_kind g h) r.at
+
+  pub run-stretch : (most : ℕ) → n < most → IsStretch f h most (meaning k) events (record { ran = n; last = answer })
+  run-stretch most below =
+      let t = told-is m k h events answer i in
+      record {
+        few = below;
+        ran = r.ran;
+        turn = run-turn;
+        told = record { bytes = t.bytes ∙ ap (λ (g : Flat). (flat_made g h).console) r.at; note = t.note ∙ ap (λ (g : Flat). (flat_made g h).note) r.at };
+        kind = run-kind;
+      }
+
+  pub run-more : Law → Fits k → answer ≡ T.Ran → HasRunOn f h (n + 1) k
+  run-more law fits is = record {
+    whole = whole-is m k h events answer i law r.whole fits;
+    at = run-turn ∙ sym (turns-more h f n);
+    ran = λ j below. by j (let c : (j < n) ⊎ (j ≡ n) = omega (arith, below) in c);
+    steps = ap (λ (c : Core). c.turns) i.core ∙ (keeps-turned (flat_reads (meaning m)) (core_in m) h).turns ∙ ap (λ s. s + 1) r.steps;
+  }
+    where
+      by : (j : ℕ) → (j < n) ⊎ (j ≡ n) → flat_kind (turns_of h f j) h ≡ T.Ran
+      by j (inl l) = r.ran j l
+      by j (inr e) = ap (λ s. flat_kind (turns_of h f s) h) e ∙ sym run-kind ∙ is

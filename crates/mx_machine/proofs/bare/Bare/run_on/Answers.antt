@@ -1,0 +1,54 @@
+use Rattle.std.proofs.Common.{◌≡◌, ℕ, ◌<◌, refl, subst, arith, Option, None, unwrap_or}
+use Rattle.mx_model.specs.declared.values.TurnKind.{TurnKind}
+use Rattle.mx_model.specs.declared.values.TurnKind.TheVariants as T
+use Rattle.mx_model.specs.Run.{flat_made}
+use Rattle.mx_machine.specs.Held.{meaning}
+use Rattle.mx_machine.specs.Made.{IsMade}
+use Rattle.mx_machine.proofs.StepLaws.{whole-is}
+use Rattle.mx_machine.proofs.StretchLaws.{HasRunOn, run-more, run-none, run-stretch}
+use Rattle.mx_machine.proofs.bare.Bare.run_on.Goals as goal
+
+pub turns-init : goal.turns-init
+turns-init g c = record {
+  run = run-none c.args.self.now c.args.hart c.requires.whole;
+  empty = c.clear.ensures;
+  alive = c.before_last-room.ensures.alive;
+}
+
+pub turns-preserved : goal.turns-preserved
+turns-preserved g c =
+    let m = c.turns.self in
+    let k = c.turn_on.new.self in
+    let h = c.args.hart in
+    let on = c.turn_on.ensures.on c.in_default.is in
+    let made = subst (λ (o : Option TurnKind). IsMade m k c.turn_on.new.out (unwrap_or o T.Ran) (flat_made (meaning m) h)) c.in_default.is c.turn_on.ensures.made in
+    record {
+      run = run-more (meaning c.args.self.now) h c.turns.ran m k c.turn_on.new.out T.Ran c.turns.invariant.run made c.turns_keep_validity.ensures c.turn_on.ensures.fits refl;
+      empty = on.1;
+      alive = λ more. on.0;
+    }
+
+-- a turn ended the run
+pub returns-in-Some-clause-stretch : goal.returns-in-Some-clause-stretch
+returns-in-Some-clause-stretch g c =
+    let below : c.turns.ran < c.args.most = omega (arith, c.turns-test.true, c.before_last-room.ensures.below) in
+    run-stretch (meaning c.args.self.now) c.args.hart c.turns.ran c.turns.self c.turn_on.new.self c.turn_on.new.out c.in-Some.last c.turns.invariant.run c.in-Some.ensures.made
+    c.args.most below
+
+pub returns-in-Some-clause-whole : goal.returns-in-Some-clause-whole
+returns-in-Some-clause-whole g c =
+    whole-is c.turns.self c.turn_on.new.self c.args.hart c.turn_on.new.out c.in-Some.last c.in-Some.ensures.made c.turns_keep_validity.ensures c.turns.invariant.run.whole
+    c.in-Some.ensures.fits
+
+-- the last turn
+pub returns-clause-stretch : goal.returns-clause-stretch
+returns-clause-stretch g c =
+    let all : c.turns.ran ≡ c.before_last-room.result = omega (arith, c.turns-test.false, c.turns.auto.ran-end) in
+    let f = meaning c.args.self.now in
+    run-stretch f c.args.hart c.before_last-room.result c.turns.self c.step-last.new.self c.step-last.new.out c.step-last.result
+    (subst (λ (n : ℕ). HasRunOn f c.args.hart n c.turns.self) all c.turns.invariant.run) c.step-last.ensures.made c.args.most c.before_last-room.ensures.below
+
+pub returns-clause-whole : goal.returns-clause-whole
+returns-clause-whole g c =
+    whole-is c.turns.self c.step-last.new.self c.args.hart c.step-last.new.out c.step-last.result c.step-last.ensures.made c.turns_keep_validity.ensures c.turns.invariant.run.whole
+    c.step-last.ensures.fits

@@ -1,0 +1,95 @@
+use Rattle.std.proofs.Common.{◌≡◌, ℕ, false, sym, subst, ◌∙◌, ap, refl, get_or, unwrap_or}
+use Rattle.mx_model.specs.declared.values.TurnKind.TheVariants as T
+use Rattle.mx_machine.specs.declared.hart.Progress.TheVariants as G
+use Rattle.mx_machine.specs.Actions.{counted, heard}
+use Rattle.mx_machine.specs.Harts.{hart_of}
+use Rattle.mx_machine.specs.Held.{Held}
+use Rattle.mx_machine.specs.Made.{IsMade}
+use Rattle.mx_machine.specs.Ties.{MayRun, RunsAlive}
+use Rattle.mx_machine.proofs.CaseLaws.{doing-plain, turn-running}
+use Rattle.mx_machine.proofs.MayLaws.{acts-now, hart-there, made-now, may-hear, stands-now, valid-now}
+use Rattle.mx_machine.proofs.StretchLaws.{alive-instruction, alive-now, none-here}
+use Rattle.mx_machine.proofs.bare.Bare.turn_on.Goals as goal
+
+pub hear-requires : goal.hear-requires
+hear-requires g c = (assumption c, may-hear c.args.self.now c.args.hart c.requires.whole G.Running c.requires.alive.runs refl _ c.self.view_is)
+
+pub gate-requires : goal.gate-requires
+gate-requires g c =
+    let m = c.args.self.now in
+    let h = c.args.hart in
+    let w = c.requires.whole in
+    let at = c.requires.alive.runs in
+    let n = c.hear.new.self in
+    let is : n ≡ heard h (counted m) = c.hear.ensures.after ∙ ap (λ (k : Held). heard h (counted k)) c.self.view_is in
+    let run : MayRun n h = record { act = acts-now m h w G.Running at refl n is c.hear.ensures.all; runs = stands-now m h w G.Running at refl n is } in
+    (assumption c, run.act.fits.sound.few_words)
+
+pub run-requires : goal.run-requires
+run-requires g c =
+    let m = c.args.self.now in
+    let h = c.args.hart in
+    let w = c.requires.whole in
+    let at = c.requires.alive.runs in
+    let n = c.hear.new.self in
+    let is : n ≡ heard h (counted m) = c.hear.ensures.after ∙ ap (λ (k : Held). heard h (counted k)) c.self.view_is in
+    let run : MayRun n h = record { act = acts-now m h w G.Running at refl n is c.hear.ensures.all; runs = stands-now m h w G.Running at refl n is } in
+    (assumption c, (valid-now m h w G.Running at refl n is, (run, c.requires.empty)))
+
+pub returns-then-is_some : goal.returns-then-is_some
+returns-then-is_some g c =
+    let m = c.args.self.now in
+    let h = c.args.hart in
+    let w = c.requires.whole in
+    let at = c.requires.alive.runs in
+    let n = c.hear.new.self in
+    let is : n ≡ heard h (counted m) = c.hear.ensures.after ∙ ap (λ (k : Held). heard h (counted k)) c.self.view_is in
+    let run : MayRun n h = record { act = acts-now m h w G.Running at refl n is c.hear.ensures.all; runs = stands-now m h w G.Running at refl n is } in
+    record {
+      made = made-now m h w G.Running at refl n is c.run.new.self c.run.new.out c.run.result
+          (turn-running m h w.fits (hart-there m h w G.Running at refl) at) c.run.ensures.made;
+      fits = c.run.ensures.fits;
+      on = λ none. absurd (let z : ⊥ = cc in z);
+    }
+
+pub execute-requires : goal.execute-requires
+execute-requires g c =
+    let m = c.args.self.now in
+    let h = c.args.hart in
+    let w = c.requires.whole in
+    let at = c.requires.alive.runs in
+    let n = c.hear.new.self in
+    let is : n ≡ heard h (counted m) = c.hear.ensures.after ∙ ap (λ (k : Held). heard h (counted k)) c.self.view_is in
+    let run : MayRun n h = record { act = acts-now m h w G.Running at refl n is c.hear.ensures.all; runs = stands-now m h w G.Running at refl n is } in
+    let d : c.domain-domain.result ≡ (hart_of n.harts h).domain = c.domain-domain.ensures ∙ ap (λ (k : Held). (hart_of k.harts h).domain) c.self-2.view_is in
+    let p : c.pc-pc.result ≡ (hart_of n.harts h).pc = c.pc-pc.ensures ∙ ap (λ (k : Held). (hart_of k.harts h).pc) c.self-2.view_is in
+    let live = alive-now m n h c.requires.alive is in
+    let alive : get_or n.dead c.domain-domain.result false ≡ false = ap (λ x. get_or n.dead x false) d ∙ live in
+    let none = none-here c.gate.result (sym c.is_some.ensures ∙ c.if-is_some.false) in
+    let plain = doing-plain n h c.domain-domain.result c.pc-pc.result run d p alive (sym c.gate.ensures ∙ none) in
+    (assumption c, (valid-now m h w G.Running at refl n is, (run, (plain.1, c.requires.empty))))
+
+pub returns : goal.returns
+returns g c =
+    let m = c.args.self.now in
+    let h = c.args.hart in
+    let w = c.requires.whole in
+    let at = c.requires.alive.runs in
+    let n = c.hear.new.self in
+    let is : n ≡ heard h (counted m) = c.hear.ensures.after ∙ ap (λ (k : Held). heard h (counted k)) c.self.view_is in
+    let run : MayRun n h = record { act = acts-now m h w G.Running at refl n is c.hear.ensures.all; runs = stands-now m h w G.Running at refl n is } in
+    let d : c.domain-domain.result ≡ (hart_of n.harts h).domain = c.domain-domain.ensures ∙ ap (λ (k : Held). (hart_of k.harts h).domain) c.self-2.view_is in
+    let p : c.pc-pc.result ≡ (hart_of n.harts h).pc = c.pc-pc.ensures ∙ ap (λ (k : Held). (hart_of k.harts h).pc) c.self-2.view_is in
+    let live = alive-now m n h c.requires.alive is in
+    let alive : get_or n.dead c.domain-domain.result false ≡ false = ap (λ x. get_or n.dead x false) d ∙ live in
+    let none = none-here c.gate.result (sym c.is_some.ensures ∙ c.if-is_some.false) in
+    let plain = doing-plain n h c.domain-domain.result c.pc-pc.result run d p alive (sym c.gate.ensures ∙ none) in
+    record {
+      made = made-now m h w G.Running at refl n is c.execute.new.self c.execute.new.out (unwrap_or c.execute.result T.Ran)
+          (turn-running m h w.fits (hart-there m h w G.Running at refl) at)
+          (subst (λ e. IsMade n c.execute.new.self c.execute.new.out (unwrap_or c.execute.result T.Ran) e) (sym plain.0) c.execute.ensures.made);
+      fits = c.execute.ensures.fits;
+      on = λ none.
+          let e = c.execute.ensures.on none in
+          (subst (λ (k : Held). RunsAlive k h) (sym e.0) (alive-instruction n h run live), e.1);
+    }

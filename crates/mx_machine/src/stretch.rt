@@ -1,0 +1,87 @@
+//! Turns of one hart in a row. While they carry out instructions and no more, the hart runs on in its domain: only the gate at its
+//! pc is asked about before each.
+ghost use Rattle.std.specs.Prelude.{◌≡◌, ◌+◌, ◌-◌, ◌^◌, ◌<◌, ◌≤◌, None, true, unwrap_or};
+ghost use Rattle.mx_model.specs.Events.{no_events};
+ghost use Rattle.mx_model.specs.Run.{flat_made};
+ghost use Rattle.mx_machine.specs.Held.{meaning};
+ghost use Rattle.mx_machine.specs.Made.{IsMade};
+ghost use Rattle.mx_machine.specs.Ties.{Fits, IsWhole, RunsAlive};
+ghost use Rattle.mx_machine.specs.Turning.{IsStretch};
+ghost use Rattle.mx_model.specs.declared.values.TurnKind.{TurnKind};
+
+use crate::Stretch;
+use crate::bare::Bare;
+use crate::hart::Progress;
+use crate::turns::clear;
+use mx_model::{Events, TurnKind, turns_keep_validity};
+use mx_table::PermTables;
+
+impl<T: PermTables, const N: usize> Bare<T, N> {
+    /// Turns of the hart of that number in a row, at least one and at most so many.
+    pub fn run_on(&mut self, hart: u32, most: u64, out: &mut Events) -> Stretch
+        requires whole { IsWhole self.old }
+        requires some { 1 ≤ most }
+        requires few { self.old.steps + most < 2 ^ 64 }
+        ensures stretch { IsStretch (meaning self.old) hart most (meaning self.new) out.new result }
+        ensures whole { IsWhole self.new }
+    {
+        turns_keep_validity();
+        clear(out);
+        let room = self.before_last(hart, most);
+        'turns: for ran in 0..room {
+            if let Some(last) = self.turn_on(hart, out) {
+                return Stretch { ran, last };
+            }
+        }
+        let last = self.step(hart, out);
+        Stretch { ran: room, last }
+    }
+
+    /// How many turns before the last of so many a hart makes, if none of them ends its run.
+    fn before_last(&self, hart: u32, most: u64) -> u64
+        requires whole { IsWhole self.now }
+        requires some { 1 ≤ most }
+        ensures below { result < most }
+        ensures alive { 0 < result → RunsAlive self.now hart }
+    {
+        if most > 1 && self.runs_alive(hart) {
+            most - 1
+        } else {
+            0
+        }
+    }
+
+    /// Whether a hart runs in a live domain.
+    fn runs_alive(&self, hart: u32) -> bool
+        requires whole { IsWhole self.now }
+        ensures { result ≡ true → RunsAlive self.now hart }
+    {
+        match self.harts.progress(hart) {
+            Progress::Running => !self.is_dead(self.harts.domain(hart)),
+            Progress::Waiting => false,
+            Progress::Halted(_) => false,
+        }
+    }
+
+    /// One turn of a hart that runs in a live domain. `None` where it carried out an instruction and goes on so.
+    #[inline(always)]
+    fn turn_on(&mut self, hart: u32, out: &mut Events) -> Option<TurnKind>
+        requires whole { IsWhole self.old }
+        requires alive { RunsAlive self.old hart }
+        requires few { self.old.steps < 2 ^ 64 - 1 }
+        requires empty { out.old ≡ no_events }
+        ensures made { IsMade self.old self.new out.new (unwrap_or result TurnKind.Ran)
+            (flat_made (meaning self.old) hart) }
+        ensures fits { Fits self.new }
+        ensures on { result ≡ None → RunsAlive self.new hart × (out.new ≡ no_events) }
+    {
+        self.steps += 1;
+        self.hear(hart);
+        let domain = self.harts.domain(hart);
+        let pc = self.harts.pc(hart);
+        if self.gate(domain, pc).is_some() {
+            return Some(self.run(hart, out));
+        }
+        self.execute(hart, false, out)
+    }
+}
