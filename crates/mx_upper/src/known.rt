@@ -76,7 +76,7 @@ pub(crate) fn further<V: View>(view: &V, line: u32, known: Span) -> Span
 }
 
 /// Whether a span of RAM holds a line and as many words on either side of it as an entry can reach.
-fn is_deep(known: Span, words: u32, line: u32) -> bool
+pub(crate) fn is_deep(known: Span, words: u32, line: u32) -> bool
     requires whole { known.first + known.count ≤ most_words }
     requires line { line < most_lines }
     ensures before { result ≡ true → known.first + 31 ≤ line * 16 }
