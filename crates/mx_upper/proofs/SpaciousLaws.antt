@@ -1,6 +1,5 @@
 -- A change takes at most two more frames of each sort for each domain, so it fits where there are as many beside the spare ones.
-use Rattle.std.proofs.Common.{◌≡◌, ℕ, zero, suc, ◌+◌, ◌-◌, ◌*◌, ◌<◌, ◌≤◌, inl, inr, true, nat_le, ◌&&◌, List, length, Option, Some, None, sym, ap, ◌∙◌, arith, subst, refl}
-use Rattle.std.proofs.lemmas.Bool.Decides.{nat_tests}
+use Rattle.std.proofs.Common.{◌≡◌, ℕ, zero, suc, ◌+◌, ◌-◌, ◌*◌, ◌<◌, ◌≤◌, true, List, length, Option, Some, None, ap, arith, subst, refl}
 use Rattle.mx_words.specs.declared.perm.Perm.{Perm}
 use Rattle.mx_words.specs.declared.tables.Kind.{Kind}
 use Rattle.mx_words.specs.declared.tables.Kind.TheVariants as K
@@ -12,7 +11,7 @@ use Rattle.mx_words.specs.Need.{need, within}
 use Rattle.mx_words.specs.Runs.{broken_blocks, page_words, region_words}
 use Rattle.mx_words.proofs.BrokenLaws.{broken_blocks-after}
 use Rattle.mx_words.proofs.CountingLaws.{sum_below_at_most}
-use Rattle.mx_table.specs.Tables.{most_words}
+use Rattle.mx_table.proofs.WithinLaws.{within-whole}
 use Rattle.mx_pool.specs.Frames.{free_in}
 use Rattle.mx_upper.specs.Leaf.{IsTrieKind, form_reach}
 use Rattle.mx_upper.specs.Walk.{Frames, most_regions, most_pages}
@@ -23,15 +22,7 @@ use Rattle.mx_upper.specs.Standing.{IsStanding}
 use Rattle.mx_upper.proofs.FramesCounted.{IsCounted, tables-counted}
 use Rattle.mx_upper.proofs.MapsRead.{length-map_at}
 use Rattle.mx_upper.proofs.RangeCounts.{spill-with_range}
-use Rattle.mx_upper.proofs.TrieLaws.{IsWithin, IsNeedTold, read-told, changed-told}
-
-within-whole : (n limit : Need) → IsWithin n limit → within n limit ≡ true
-within-whole n limit parts =
-    let u = parts.upper in let l = parts.leaf in let s = parts.spill in
-    let a : nat_le n.upper limit.upper ≡ true = grind (arith, nat_tests) in
-    let b : nat_le n.leaf limit.leaf ≡ true = grind (arith, nat_tests) in
-    let c : nat_le n.spill limit.spill ≡ true = grind (arith, nat_tests) in
-    ap (λ x. x && nat_le n.leaf limit.leaf && nat_le n.spill limit.spill) a ∙ ap (λ x. true && x && nat_le n.spill limit.spill) b ∙ ap (λ x. true && true && x) c
+use Rattle.mx_upper.proofs.TrieLaws.{IsNeedTold, read-told, changed-told}
 
 -- a sum of numbers that are two more each
 sum-two : (n : ℕ) (f : ℕ → ℕ) → sum_below n (λ i. f i + 2) ≡ sum_below n f + 2 * n
