@@ -75,7 +75,8 @@ fn starts_at(leaf: &Pool<64>, chains: &Chains, row: u32, words: u32, first: u32,
     requires small { words ≤ most_words }
     requires sound { IsSound words leaf.now chains.now.lists row }
     requires word { first < words }
-    ensures { result ≡ ((first == 0) || not (same (perm_at (map_in words leaf.now chains.now.lists row) (first - 1)) perm)) }
+    ensures { result ≡ ((first == 0)
+        || not (same (perm_at (map_in words leaf.now chains.now.lists row) (first - 1)) perm)) }
 {
     if first == 0 {
         return true;
@@ -148,7 +149,8 @@ pub(crate) fn frames_after(
     requires sound { IsSound words leaf.now chains.now.lists row }
     requires some { 0 < count }
     requires inside { first + count ≤ words }
-    ensures frames { result ≡ (runs (laid (grant_of first count perm) (map_in words leaf.now chains.now.lists row)) + 63) / 64 }
+    ensures frames { result ≡ (runs
+        (laid (grant_of first count perm) (map_in words leaf.now chains.now.lists row)) + 63) / 64 }
     ensures most { result ≤ most_frames }
 {
     if has_already(leaf, chains, row, words, first, count, perm) {

@@ -11,7 +11,7 @@ use Rattle.mx_pool.specs.Frames.{frame_at, IsTaken, word_at, free_in}
 use Rattle.mx_upper.specs.Digits.{digit}
 use Rattle.mx_upper.specs.Filled.{flat_line, flat_vector}
 use Rattle.mx_upper.specs.Leaf.{needs_spill, leaf_entry, spill_number}
-use Rattle.mx_upper.specs.Walk.{Frames, most_regions, most_pages, most_lines, vector_perm, root_word, leaf_word, has_mid, has_leaf, IsLine}
+use Rattle.mx_upper.specs.Walk.{Frames, most_regions, most_pages, most_lines, vector_perm, root_word, leaf_word, has_mid, has_leaf, map_left, map_right, IsLine}
 use Rattle.mx_upper.specs.Forest.{root_at, map_at, IsTables, IsLineKept}
 
 -- a mid table in a frame that was free, with the vectors of the pages of region x, which had a vector in a root table
@@ -159,3 +159,14 @@ pub record IsLineReached (kind : Kind) (words : ℕ) (upper leaf spill leaf' : F
   pub lines : (e k : ℕ) → e < length roots → k < most_lines → (e ≢ d) ⊎ (k ≢ z) → has_leaf upper (root_at roots e) (k / 64) ≡ true →
       IsLineKept kind upper leaf spill upper leaf' spill (root_at roots e) k
   pub leaf_total : length leaf' ≡ length leaf
+
+-- the lines from `from` up to `to` of domain d that have entries have the reaches of the map, and nothing else changes
+pub record AreLinesReached (kind : Kind) (words : ℕ) (upper leaf spill leaf' : Frames) (roots : List ℕ) (d from to : ℕ) : Type 0 where
+  pub tables : IsTables kind words upper leaf' spill roots
+  pub maps : (e : ℕ) → e < length roots → map_at kind words upper leaf' spill roots e ≡ map_at kind words upper leaf spill roots e
+  pub here : (z : ℕ) → from ≤ z → z < to → has_leaf upper (root_at roots d) (z / 64) ≡ true →
+      IsLine kind spill (map_at kind words upper leaf spill roots d) z (map_left kind (map_at kind words upper leaf spill roots d) z)
+      (map_right kind (map_at kind words upper leaf spill roots d) z) (leaf_word upper leaf' (root_at roots d) z)
+  pub lines : (e z : ℕ) → e < length roots → z < most_lines → (e ≢ d) ⊎ ((z < from) ⊎ (to ≤ z)) → has_leaf upper (root_at roots e) (z / 64) ≡ true →
+      IsLineKept kind upper leaf spill upper leaf' spill (root_at roots e) z
+  pub total : length leaf' ≡ length leaf

@@ -26,7 +26,7 @@ fn is_uniform<V: View>(view: &V, first: u32, count: u32) -> bool
     let span = view.around_far(first);
     let mut at = span.first + span.count;
     while at < first + count {
-        let next = view.around(at);
+        let next = view.around_far(at);
         if next.perm.number() != span.perm.number() {
             return false;
         }

@@ -52,7 +52,7 @@ fn around_in<L: LeafForm>(
     )
 }
 
-/// As `around_in`; where a whole eighth of the word's region or page has one entry, that eighth.
+/// As `around_in`; where the pages or lines to the end of the word's eighth have one entry, all of them.
 fn far_in<L: LeafForm>(
     upper: &Pool<1024>,
     leaf: &Pool<64>,
@@ -76,7 +76,8 @@ fn far_in<L: LeafForm>(
     wide_lines(leaf, in_mid / 4, near, word)
 }
 
-/// The eighth of a region where a span holds the word's page, and all the eighth's pages have one entry; else the span.
+/// The pages from the word's page to the end of its eighth of a region where a span holds the word's page, and they have one entry; else
+/// the span. Only at the first page of an eighth are the entries compared, so that a walk over pages doesn't compare them at each.
 fn wide_pages(upper: &Pool<1024>, mid: u32, near: Span, word: u32) -> Span
     requires taken { IsTaken upper.now mid }
     requires whole { near.first + near.count ≤ most_words }
@@ -84,20 +85,26 @@ fn wide_pages(upper: &Pool<1024>, mid: u32, near: Span, word: u32) -> Span
     ensures { (result ≡ near) ⊎ IsWide upper.now mid 128 page_words word near result }
 {
     let page = word / PAGE_WORDS * PAGE_WORDS;
+    if word % REGION_EIGHTH >= PAGE_WORDS {
+        return near;
+    }
     if page < near.first || near.first + near.count < page + PAGE_WORDS {
         return near;
     }
-    if !upper.is_alike(mid, word / REGION_EIGHTH % 8 * 128, 128) {
+    let place = word / PAGE_WORDS % REGION_PAGES;
+    let count = 128 - place % 128;
+    if !upper.is_alike(mid, place, count) {
         return near;
     }
     Span {
-        first: word / REGION_EIGHTH * REGION_EIGHTH,
-        count: REGION_EIGHTH,
+        first: page,
+        count: count * PAGE_WORDS,
         perm: near.perm,
     }
 }
 
-/// The eighth of a page where a span holds the word's line, and all the eighth's lines have one entry; else the span.
+/// The lines from the word's line to the end of its eighth of a page where a span holds the word's line, and they have one entry; else
+/// the span.
 fn wide_lines(leaf: &Pool<64>, frame: u32, near: Span, word: u32) -> Span
     requires taken { IsTaken leaf.now frame }
     requires whole { near.first + near.count ≤ most_words }
@@ -108,12 +115,14 @@ fn wide_lines(leaf: &Pool<64>, frame: u32, near: Span, word: u32) -> Span
     if line < near.first || near.first + near.count < line + LINE_WORDS {
         return near;
     }
-    if !leaf.is_alike(frame, word / PAGE_EIGHTH % 8 * 8, 8) {
+    let place = word / LINE_WORDS % PAGE_LINES;
+    let count = 8 - place % 8;
+    if !leaf.is_alike(frame, place, count) {
         return near;
     }
     Span {
-        first: word / PAGE_EIGHTH * PAGE_EIGHTH,
-        count: PAGE_EIGHTH,
+        first: line,
+        count: count * LINE_WORDS,
         perm: near.perm,
     }
 }
