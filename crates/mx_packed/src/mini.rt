@@ -9,7 +9,7 @@ ghost use Rattle.mx_upper.specs.Codes.{value_code, start_code};
 
 use mx_words::{Perm, Span};
 
-/// What a packed entry says of a line: its 16 permissions, and how many words right before and right behind the line have the
+/// What a packed entry says of a line: its 16 permissions, and how many words right before and right after the line have the
 /// permission of its first and of its last word, 0 to 31 each.
 #[derive(Clone, Copy, PartialEq, Eq, Debug)]
 pub struct Unpacked {
@@ -103,7 +103,7 @@ pub(crate) fn line_of(values: u32, starts: u32) -> [Perm; 16]
 }
 
 /// The run of a word in its line, which begins at the word `line`, from the permissions of the line's runs and from their starts. The
-/// starts rise, and a start of 0 stands behind the last one.
+/// starts rise, and a start of 0 stands after the last one.
 pub(crate) fn run_of(values: u32, starts: u32, line: u32, word: u32) -> Span
     requires coded { IsCoded values starts }
     requires from { line ≤ word }

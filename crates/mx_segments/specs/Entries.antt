@@ -42,7 +42,7 @@ read_at frames stored i =
 abbrev pub read_map : ℕ → ℕ → (ℕ → ℕ) → List Perm
 read_map words frames stored = list_below words (read_at frames stored)
 
--- the words of `frames` frames are the entries of a map's runs, in order and as few frames as hold them, and zeros behind
+-- the words of `frames` frames are the entries of a map's runs, in order and as few frames as hold them, and zeros after
 pub record IsChain (words frames : ℕ) (stored : ℕ → ℕ) (m : List Perm) : Type 0 where
   pub length_is : length m ≡ words
   pub frames_are : frames ≡ segment_frames m

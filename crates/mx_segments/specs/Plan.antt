@@ -9,7 +9,7 @@ use Rattle.mx_segments.specs.declared.plan.Plan.{Plan}
 use Rattle.mx_segments.specs.Entries.{entry_word}
 
 -- a plan counts the runs that begin before the range, those that begin before its end or right there, and all; and it tells
--- whether runs begin at the range and right behind it afterwards, and the permission of the word behind it
+-- whether runs begin at the range and right after it afterwards, and the permission of the word after it
 pub record IsPlan (m : List Perm) (first count : ℕ) (perm : Perm) (plan : Plan) : Type 0 where
   pub before : plan.before ≡ count_below first (is_start m)
   pub behind : plan.behind ≡ count_below (min (first + count + 1) (length m)) (is_start m)

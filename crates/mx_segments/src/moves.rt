@@ -47,7 +47,7 @@ fn piece_begin(from: u32, end: u32, by: u32) -> u32
     from.max(source).max(target.saturating_sub(by))
 }
 
-// The place behind the first words from place `begin` on, before place `to`, that lie in one frame and still do `by` places lower.
+// The place after the first words from place `begin` on, before place `to`, that lie in one frame and still do `by` places lower.
 fn piece_end(begin: u32, to: u32, by: u32) -> u32
     requires some { begin < to }
     requires far { by ≤ begin }

@@ -50,7 +50,7 @@ granted s = record { first = s.first; count = s.count; value = s.perm }
 abbrev pub row_map : ℕ → List Span → List Perm
 row_map words row = map (list_map granted row) words
 
--- what is read of a row behind its last span
+-- what is read of a row after its last span
 abbrev pub no_span : Span
 no_span = record { first = 0; count = 0; perm = P.None }
 

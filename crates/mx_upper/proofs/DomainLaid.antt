@@ -151,7 +151,7 @@ domain-plain kind words upper leaf spill upper' leaf' spill' roots d first end p
   spill_total = laid.spill_total;
 }
 
--- where lines are written anew from two lines before a range to two lines behind it, and on its first and last page where that had no
+-- where lines are written anew from two lines before a range to two lines after it, and on its first and last page where that had no
 -- leaf table
 module _ (upper : Frames) (root first end from to : ℕ) (order : first < end) (had_first had_last : Bool)
     (first_is : had_first ≡ has_leaf upper root (first / 1024)) (last_is : had_last ≡ has_leaf upper root ((end - 1) / 1024))

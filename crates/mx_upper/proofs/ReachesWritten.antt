@@ -159,7 +159,7 @@ reached-pass kind words upper leaf spill roots d from to tables within closed = 
   total = refl;
 }
 
--- more lines behind those that are written
+-- more lines after those that are written
 module _ (kind : Kind) (words : ℕ) (upper leaf spill leaf' leaf'' : Frames) (roots : List ℕ) (d from at to : ℕ) (k : IsTrieKind kind) (order : from ≤ at) (after : at ≤ to) (domain : d < length roots)
     (reached : AreLinesReached kind words upper leaf spill leaf' roots d from at) (next : AreLinesReached kind words upper leaf' spill leaf'' roots d at to) where
   before : (e z : ℕ) → (e ≢ d) ⊎ ((z < from) ⊎ (to ≤ z)) → (e ≢ d) ⊎ ((z < from) ⊎ (at ≤ z))

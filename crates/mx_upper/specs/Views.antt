@@ -27,7 +27,8 @@ pub record IsWide (frames : Frames) (frame places block word : ℕ) (near far : 
   pub from : near.first ≤ word / block * block
   pub to : word / block * block + block ≤ near.first + near.count
   pub alike : (k : ℕ) → k < places - word / block % places →
-      word_at frames frame (word / block % (8 * places) + k) ≡ word_at frames frame (word / block % (8 * places))
+      word_at frames frame (word / block % (8 * places) + k) ≡
+      word_at frames frame (word / block % (8 * places))
   pub first : far.first ≡ word / block * block
   pub count : far.count ≡ (places - word / block % places) * block
   pub perm : far.perm ≡ near.perm

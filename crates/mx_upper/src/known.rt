@@ -117,7 +117,9 @@ pub(crate) fn reached_entry<L: LeafForm, V: View>(
     requires few { words ≤ most_words }
     requires known { IsOne (V.map view.now) known }
     requires number { number < 2 ^ 30 }
-    ensures { result ≡ leaf_entry L.kind (line_at (V.map view.now) (line * line_words)) (map_left L.kind (V.map view.now) line) (map_right L.kind (V.map view.now) line) number }
+    ensures { result ≡
+        leaf_entry L.kind (line_at (V.map view.now) (line * line_words))
+        (map_left L.kind (V.map view.now) line) (map_right L.kind (V.map view.now) line) number }
 {
     if is_deep(known, words, line) {
         return L::flat(known.perm, L::REACH, L::REACH);

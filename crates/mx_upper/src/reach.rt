@@ -36,7 +36,8 @@ fn write_reaches<L: LeafForm>(
     requires frame { frame ≡ target (mid_word upper.now (root_at roots.now lay.now.row) (line / 64)) }
     requires known { IsOne (map_in L.kind upper.now leaf.old spill.now roots.now lay.now) known }
     ensures known { IsOne (map_in L.kind upper.now leaf.old spill.now roots.now lay.now) result }
-    ensures reached { AreLinesReached L.kind lay.now.words upper.now leaf.old spill.now leaf.new roots.now lay.now.row line (line + 1) }
+    ensures reached { AreLinesReached L.kind lay.now.words upper.now leaf.old spill.now leaf.new roots.now
+        lay.now.row line (line + 1) }
 {
     if is_deep(known, lay.words, line) {
         let entry = L::flat(known.perm, L::REACH, L::REACH);
@@ -71,7 +72,8 @@ fn reach_page<L: LeafForm>(
     requires leafed { has_leaf upper.now (root_at roots.now lay.now.row) (from / 64) ≡ true }
     requires known { IsOne (map_in L.kind upper.now leaf.old spill.now roots.now lay.now) known }
     ensures known { IsOne (map_in L.kind upper.now leaf.old spill.now roots.now lay.now) result }
-    ensures reached { AreLinesReached L.kind lay.now.words upper.now leaf.old spill.now leaf.new roots.now lay.now.row from to }
+    ensures reached { AreLinesReached L.kind lay.now.words upper.now leaf.old spill.now leaf.new roots.now
+        lay.now.row from to }
 {
     let mid = root_entry(upper, roots.at(lay.row), from / REGION_LINES) / 4;
     let frame = upper.get(mid, from / PAGE_LINES % REGION_PAGES) / 4;
@@ -106,9 +108,19 @@ fn reach_lines<L: LeafForm>(
     requires row { lay.now.row < length roots.now }
     requires to { to ≤ most_lines }
     ensures tables { IsTables L.kind lay.now.words upper.now leaf.new spill.now roots.now }
-    ensures maps { (e : ℕ) → e < length roots.now → map_at L.kind lay.now.words upper.now leaf.new spill.now roots.now e ≡ map_at L.kind lay.now.words upper.now leaf.old spill.now roots.now e }
-    ensures here { let m = map_in L.kind upper.now leaf.old spill.now roots.now lay.now in (z : ℕ) → from ≤ z → z < to → has_leaf upper.now (root_at roots.now lay.now.row) (z / 64) ≡ true → IsLine L.kind spill.now m z (map_left L.kind m z) (map_right L.kind m z) (leaf_word upper.now leaf.new (root_at roots.now lay.now.row) z) }
-    ensures lines { (e z : ℕ) → e < length roots.now → z < most_lines → (e ≢ lay.now.row) ⊎ ((z < from) ⊎ (to ≤ z)) → has_leaf upper.now (root_at roots.now e) (z / 64) ≡ true → IsLineKept L.kind upper.now leaf.old spill.now upper.now leaf.new spill.now (root_at roots.now e) z }
+    ensures maps { (e : ℕ) → e < length roots.now →
+        map_at L.kind lay.now.words upper.now leaf.new spill.now roots.now e ≡
+        map_at L.kind lay.now.words upper.now leaf.old spill.now roots.now e }
+    ensures here { let m = map_in L.kind upper.now leaf.old spill.now roots.now lay.now in
+        (z : ℕ) → from ≤ z → z < to →
+        has_leaf upper.now (root_at roots.now lay.now.row) (z / 64) ≡ true →
+        IsLine L.kind spill.now m z (map_left L.kind m z) (map_right L.kind m z)
+        (leaf_word upper.now leaf.new (root_at roots.now lay.now.row) z) }
+    ensures lines { (e z : ℕ) → e < length roots.now → z < most_lines →
+        (e ≢ lay.now.row) ⊎ ((z < from) ⊎ (to ≤ z)) →
+        has_leaf upper.now (root_at roots.now e) (z / 64) ≡ true →
+        IsLineKept L.kind upper.now leaf.old spill.now upper.now leaf.new spill.now
+        (root_at roots.now e) z }
     ensures total { length leaf.new ≡ length leaf.old }
 {
     let mut known = Span {
@@ -139,13 +151,14 @@ fn first_line(lay: &Laying, had_table: bool) -> u32
     }
 }
 
-/// The line behind the last one whose reach a range may change.
+/// The line after the last one whose reach a range may change.
 fn line_behind(lay: &Laying, had_table: bool) -> u32
     requires some { lay.now.first < lay.now.end }
     requires inside { lay.now.end ≤ 16777216 }
     ensures most { result ≤ most_lines }
     ensures near { (z : ℕ) → result ≤ z → z < most_lines → lay.now.end + 31 ≤ z * 16 }
-    ensures page { had_table ≡ false → (z : ℕ) → result ≤ z → z < most_lines → (lay.now.end - 1) / 1024 < z / 64 }
+    ensures page { had_table ≡ false → (z : ℕ) → result ≤ z → z < most_lines →
+        (lay.now.end - 1) / 1024 < z / 64 }
 {
     let near = ((lay.end - 1) / LINE_WORDS + 3).min(MOST_LINES);
     if had_table {
@@ -169,7 +182,8 @@ fn rewrite_domain<L: LeafForm>(
     requires inside { lay.now.end ≤ lay.now.words }
     requires canonical { IsCanonical L.kind lay.now.words upper.old leaf.old spill.old roots.now lay.now.row }
     requires room { IsRoomyIn L.kind upper.old leaf.old spill.old roots.now lay.now lay.now.first lay.now.end }
-    ensures { IsDomainLaid L.kind lay.now.words upper.old leaf.old spill.old upper.new leaf.new spill.new roots.now lay.now.row lay.now.first lay.now.end lay.now.perm }
+    ensures { IsDomainLaid L.kind lay.now.words upper.old leaf.old spill.old upper.new leaf.new
+        spill.new roots.now lay.now.row lay.now.first lay.now.end lay.now.perm }
 {
     let root = roots.at(lay.row);
     let had_first = has_table(upper, root, lay.first / PAGE_WORDS);
@@ -197,7 +211,8 @@ pub(crate) fn lay_domain<L: LeafForm>(
     requires inside { lay.now.end ≤ lay.now.words }
     requires canonical { IsCanonical L.kind lay.now.words upper.old leaf.old spill.old roots.now lay.now.row }
     requires room { IsRoomyIn L.kind upper.old leaf.old spill.old roots.now lay.now lay.now.first lay.now.end }
-    ensures { IsDomainLaid L.kind lay.now.words upper.old leaf.old spill.old upper.new leaf.new spill.new roots.now lay.now.row lay.now.first lay.now.end lay.now.perm }
+    ensures { IsDomainLaid L.kind lay.now.words upper.old leaf.old spill.old upper.new leaf.new
+        spill.new roots.now lay.now.row lay.now.first lay.now.end lay.now.perm }
 {
     let map = map_of::<L>(upper, leaf, spill, roots, lay);
     if !has_perm(&map, lay.first, lay.end, lay.perm) {

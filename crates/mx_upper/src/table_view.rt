@@ -35,7 +35,8 @@ fn around_in<L: LeafForm>(
 ) -> Span
     requires shown { (m : List Perm) × IsLoose L.kind upper.now leaf.now spill.now root m }
     requires word { word < most_words }
-    ensures { (m : List Perm) → IsLoose L.kind upper.now leaf.now spill.now root m → IsRound m word result }
+    ensures { (m : List Perm) → IsLoose L.kind upper.now leaf.now spill.now root m →
+        IsRound m word result }
 {
     let in_root = root_entry(upper, root, word / REGION_WORDS);
     if in_root % 4 != 0 {
@@ -62,7 +63,8 @@ fn far_in<L: LeafForm>(
 ) -> Span
     requires shown { (m : List Perm) × IsLoose L.kind upper.now leaf.now spill.now root m }
     requires word { word < most_words }
-    ensures { (m : List Perm) → IsLoose L.kind upper.now leaf.now spill.now root m → IsRound m word result }
+    ensures { (m : List Perm) → IsLoose L.kind upper.now leaf.now spill.now root m →
+        IsRound m word result }
 {
     let near = around_in::<L>(upper, leaf, spill, root, word);
     let in_root = root_entry(upper, root, word / REGION_WORDS);
@@ -131,7 +133,8 @@ fn wide_lines(leaf: &Pool<64>, frame: u32, near: Span, word: u32) -> Span
 /// those of the block where all its parts have one permission.
 fn alike_in(entry: u32, part: u32) -> u32
     requires { part ≤ most_words }
-    ensures { (result ≡ part) ⊎ ((result ≡ 8 * part) × ((e : ℕ) → e < 8 → digit (entry / 4) e ≡ entry / 4 % 4)) }
+    ensures { (result ≡ part) ⊎
+        ((result ≡ 8 * part) × ((e : ℕ) → e < 8 → digit (entry / 4) e ≡ entry / 4 % 4)) }
 {
     let perms = entry / 4;
     if perms == 0x5555 * (perms % 4) {
@@ -159,7 +162,8 @@ fn part_of(entry: u32, part: u32, word: u32) -> Span
 fn around_line<L: LeafForm>(spill: &Pool<1>, entry: u32, word: u32) -> Span
     requires line { IsSomeLine L.kind spill.now (word / 16) entry }
     requires word { word < most_words }
-    ensures { (m : List Perm) (left right : ℕ) → IsLine L.kind spill.now m (word / 16) left right entry → IsRound m word result }
+    ensures { (m : List Perm) (left right : ℕ) →
+        IsLine L.kind spill.now m (word / 16) left right entry → IsRound m word result }
 {
     let spilled = match L::spill_of(entry) {
         Some(number) => spill.get(number, 0),
@@ -213,8 +217,10 @@ pub(crate) fn map_of<'a, L: LeafForm>(
     lay: &Laying,
 ) -> TableView<'a, L>
     requires { lay.now.row < length roots.now }
-    ensures map { ⟦<TableView<'static, L> as View>⟧.map result ≡ map_in L.kind upper.now leaf.now spill.now roots.now lay.now }
-    ensures lawful { IsTables L.kind lay.now.words upper.now leaf.now spill.now roots.now → ⟦<TableView<'static, L> as View>⟧.lawful result }
+    ensures map { ⟦<TableView<'static, L> as View>⟧.map result ≡
+        map_in L.kind upper.now leaf.now spill.now roots.now lay.now }
+    ensures lawful { IsTables L.kind lay.now.words upper.now leaf.now spill.now roots.now →
+        ⟦<TableView<'static, L> as View>⟧.lawful result }
 {
     TableView {
         upper,
@@ -229,7 +235,9 @@ pub(crate) fn map_of<'a, L: LeafForm>(
 impl<L: LeafForm> View for TableView<'_, L> {
     ghost map = { λ v. read_map L.kind v.upper.now v.leaf.now v.spill.now v.words v.root };
 
-    ghost lawful = { λ v. (v.words ≤ most_words) × IsLoose L.kind v.upper.now v.leaf.now v.spill.now v.root (read_map L.kind v.upper.now v.leaf.now v.spill.now v.words v.root) };
+    ghost lawful = { λ v. (v.words ≤ most_words) ×
+        IsLoose L.kind v.upper.now v.leaf.now v.spill.now v.root
+        (read_map L.kind v.upper.now v.leaf.now v.spill.now v.words v.root) };
 
     fn around(&self, word: u32) -> Span {
         around_in::<L>(self.upper, self.leaf, self.spill, self.root, word)
