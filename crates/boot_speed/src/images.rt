@@ -8,7 +8,7 @@ use std::alloc::Global;
 /// How many bytes an image has at most.
 const MOST: u32 = 16777216;
 
-/// Where the names begin: behind the headers.
+/// Where the names begin: after the headers.
 const NAMES_AT: u32 = 1024;
 
 /// How many letters each name has.
@@ -62,7 +62,7 @@ fn image(alloc: Global, address: u32, bytes: u32) -> Result<Blob, NoMemory>
     Ok(blob)
 }
 
-/// Which of the names the symbol at place `i` of so many has: its own, if it is one of the last 256, or one of those behind these.
+/// Which of the names the symbol at place `i` of so many has: its own, if it is one of the last 256, or one of those after these.
 fn name_of(i: u32, symbols: u32, others: u32) -> u32 {
     let first_own = symbols.saturating_sub(NAMES);
     if first_own <= i {
@@ -87,7 +87,7 @@ fn put_symbols(blob: &mut Blob, symbols: u32, others: u32, address: u32) -> Resu
     Ok(())
 }
 
-/// The file header, with 16 program headers behind it and three section headers behind those.
+/// The file header, with 16 program headers after it and three section headers after those.
 fn header(entry: u32) -> [u32; 13] {
     [
         0x464C_457F,

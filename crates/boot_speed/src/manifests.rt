@@ -6,7 +6,7 @@ use std::alloc::Global;
 /// How the gates lie.
 #[derive(Clone, Copy)]
 pub enum Gates {
-    /// Each module has one for each of the four modules behind it, at one entry.
+    /// Each module has one for each of the four modules after it, at one entry.
     Spread,
     /// The first module has 256 for the second one, each at an entry of its own.
     Gathered,
@@ -58,7 +58,7 @@ fn name(alloc: Global, number: u32) -> Option<String> {
     Some(name)
 }
 
-/// The module so many places behind another one.
+/// The module so many places after another one.
 fn next(i: u32, places: u32, count: u32) -> u32 {
     if count == 0 {
         return 0;

@@ -158,7 +158,7 @@ sealed-still schedule n s w p q =
       rights = λ d l. sp.rights d (live-least (IsLive s.core) t.core d f.stands.closed l);
     }
 
--- the word behind RAM's end, which nobody owns or may write: a run of any audited state spares it
+-- the word after RAM's end, which nobody owns or may write: a run of any audited state spares it
 behind-spared : (s : State) → IsAudited s → IsSpared (IsLive s.core) (reads s) s.core.size
 behind-spared s p = record {
   owner = λ l.

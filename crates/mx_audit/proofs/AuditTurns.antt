@@ -152,7 +152,7 @@ keeps-acted L w r c h hart (Runs regs pc) s sp p i = keeps-hart L w c.ram c.modu
 keeps-acted L w r c h hart (Writes address size value) s sp p i =
     keeps-hart L w c.ram c.modules _ None None h _ (keeps-store L w r c hart.domain address size value s.closed sp p.0 i) p
 
--- behind its looks
+-- after its looks
 keeps-behind : (L : ℕ → Type 0) (w : ℕ) (r : Reads) (c : Core) (h : ℕ) (hart : Hart) (d : Decided) → Stands L r c → IsSpared L r w → IsHome L hart →
     IsInside L r c hart d.action → KeepsMade L w c (acted r (looked_all r h d.looks c) h hart d.action)
 keeps-behind L w r c h hart d s sp p i =

@@ -16,7 +16,7 @@ use Rattle.mx_boot.specs.Faults.{is_in_ram, shares_word, area_rows, areas_rows}
 use Rattle.mx_boot.proofs.Lists.{all_at, find_none}
 use Rattle.mx_audit.proofs.LiveLaws.{all-weaker}
 
--- a row that doesn't apply, and the rows behind it
+-- a row that doesn't apply, and the rows after it
 pub row_fails : (test : Bool) (fault : BootFault) (rest : Option BootFault) → cond test (Some fault) rest ≡ None → (test ≡ false) × (rest ≡ None)
 row_fails true fault rest h = absurd cc
 row_fails false fault rest h = (refl, h)
@@ -25,7 +25,7 @@ none_from : {A : Type 0} (o : Option A) → is_some o ≡ false → o ≡ None
 none_from None h = refl
 none_from (Some x) h = absurd cc
 
--- an area behind earlier ones
+-- an area after earlier ones
 pub record IsClear (words : ℕ) (earlier : List Area) (a : Area) : Type 0 where
   pub inside : is_in_ram words a ≡ true
   pub apart : AllByRecursion (λ b. shares_word a b ≡ false) earlier

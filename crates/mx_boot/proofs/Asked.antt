@@ -35,7 +35,7 @@ tells_first first rest NoMemory some = tt
 tells_same : (first other : Option BootFault) (refused : LayoutRefused) → first ≡ other → Tells first refused → Tells other refused
 tells_same first other refused same h = subst (λ o. Tells o refused) same h
 
--- more gates behind some that have no fault
+-- more gates after some that have no fault
 pub asked-then : (areas : List Area) (earlier : List Gate) (xs ys : List Request) (between later : List Gate) (result : Done)
     → AreAsked areas earlier xs between (Ok tt) → AreAsked areas between ys later result → AreAsked areas earlier (xs ++ ys) later result
 asked-then areas earlier xs ys between later (Ok done) a b = (
@@ -48,7 +48,7 @@ asked-then areas earlier xs ys between later (Err refused) a b =
     (tells_rest (first_row (gates_rows areas earlier xs)) (first_row (gates_rows areas (earlier ++ map gate_of xs) ys)) refused a.0
     (subst (λ e. Tells (first_row (gates_rows areas e ys)) refused) a.1 b))
 
--- some have a fault, whatever comes behind
+-- some have a fault, whatever comes after
 pub asked-stops : (areas : List Area) (earlier : List Gate) (xs ys : List Request) (between later : List Gate) (refused : LayoutRefused)
     → AreAsked areas earlier xs between (Err refused) → AreAsked areas earlier (xs ++ ys) later (Err refused)
 asked-stops areas earlier xs ys between later refused a =

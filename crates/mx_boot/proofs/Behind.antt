@@ -1,4 +1,4 @@
--- Rows of elements that are judged behind the earlier ones.
+-- Rows of elements that are judged after the earlier ones.
 use Rattle.std.proofs.Common.{◌≡◌, ℕ, ◌+◌, ◌≤◌, List, [], ◌∷◌, ◌++◌, length, take, drop, map, slice_get, Option, Some, None, ap, ◌∙◌, sym, append_assoc}
 use Rattle.std.specs.Option.{option_or}
 use Rattle.std.proofs.lemmas.List.{append-nil, drop_all}
@@ -22,7 +22,7 @@ pub first_behind : {A B : Type 0} (keep : A → B) (rows : List B → A → List
     → first_row (each_behind keep rows earlier (xs ++ ys)) ≡ option_or (first_row (each_behind keep rows earlier xs)) (first_row (each_behind keep rows (earlier ++ map keep xs) ys))
 first_behind keep rows earlier xs ys = ap first_row (behind-append keep rows earlier xs ys) ∙ first_row-append (each_behind keep rows earlier xs) _
 
--- areas from a place on, behind those before it
+-- areas from a place on, after those before it
 abbrev pub areas_from : ℕ → ℕ → List Area → Option BootFault
 areas_from words i all = first_row (areas_rows words (take i all) (drop i all))
 

@@ -31,7 +31,7 @@ use Rattle.mx_boot.proofs.Lists.{all_both, all_each, all_mapped, all_flat, all_n
 use Rattle.mx_machine.proofs.SmallLaws.{from-each}
 use Rattle.mx_audit.proofs.LiveLaws.{all-weaker, all-join}
 
--- a gate behind earlier ones
+-- a gate after earlier ones
 pub record IsClear (all : List Area) (earlier : List Gate) (r : Request) : Type 0 where
   pub entered : IsEntered all r.gate.target r.address
   pub fresh : has_gate earlier r.gate.domain r.gate.word ≡ false

@@ -1,4 +1,4 @@
--- The area that begins first at a word or behind it.
+-- The area that begins first at a word or after it.
 use Rattle.std.proofs.Common.{◌≡◌, ℕ, ◌<◌, ◌≤◌, true, false, cond, nat_lt, nat_le, List, [], ◌∷◌, fold, Option, Some, None, IfSome, refl, subst, sym, arith}
 use Rattle.std.specs.List.{AllByRecursion}
 use Rattle.std.proofs.lemmas.Bool.{leb-true, ltb-false, ltb-true, leb-false}

@@ -7,11 +7,8 @@ use Rattle.mx_words.specs.Bytes.{put_at}
 use Rattle.mx_boot.specs.Areas.{Content, word_bytes}
 use Rattle.mx_boot.specs.Boot.{with_content}
 use Rattle.mx_boot.proofs.Placing.{length-word_bytes}
+use Rattle.mx_boot.proofs.RamBytes.{put}
 use Rattle.mx_boot.proofs.Rows.{take_at}
-
--- bytes put from a place on
-abbrev pub put : List ℕ → ℕ → List ℕ → List ℕ
-put ram k bytes = fold (λ ram (p : ℕ × ℕ). set ram p.0 p.1) ram (enumerate_from k bytes)
 
 put-append : (ram : List ℕ) (k : ℕ) (xs ys : List ℕ) → put ram k (xs ++ ys) ≡ put (put ram k xs) (k + length xs) ys
 put-append ram k [] ys = let same : k ≡ k + 0 = omega arith in ap (λ n. put ram n ys) same

@@ -24,7 +24,7 @@ use Rattle.mx_boot.proofs.Rows.{at_mapped}
 use Rattle.mx_machine.proofs.SmallLaws.{from-each}
 use Rattle.mx_audit.proofs.LiveLaws.{all-weaker}
 
--- the span of an area, and the word behind it
+-- the span of an area, and the word after it
 abbrev pub span_of : Area → Span
 span_of a = record { first = word_at a.address; count = a.count; perm = a.perm }
 
@@ -192,7 +192,7 @@ map_same : {A : Type 0} (f g : ℕ → A) (xs : List ℕ) → ((x : ℕ) → f x
 map_same f g [] h = refl
 map_same f g (x ∷ xs) h = ap (λ y. y ∷ map f xs) (h x) ∙ ap (λ ys. g x ∷ ys) (map_same f g xs h)
 
--- where no area begins at a word or behind it, the row is whole
+-- where no area begins at a word or after it, the row is whole
 pub row-end : (words to : ℕ) (areas : List Area) (row : List Span) → IsRowTo words to areas row → next_area to areas ≡ None → row_map words row ≡ map_of (map grant areas) words
 row-end words to areas row so_far none = map_same (at (map granted row)) (at (map grant areas)) (range_with_len 0 words) (λ w. elim (cases_lt w to) [
   | inl before ↦ so_far.done w before

@@ -71,7 +71,7 @@ module_of plan =
       dead = false;
     }
 
--- a module's stack address for a hart, which counts from 0: behind that hart's words; 0 where the module has no stack
+-- a module's stack address for a hart, which counts from 0: after that hart's words; 0 where the module has no stack
 abbrev pub stack_address : ℕ → ModulePlan → ℕ
 stack_address h plan =
     option_map_or (λ address. address + 4 * stack_words plan * (h + 1)) plan.stack 0

@@ -1,5 +1,5 @@
 -- The faults of a plan with its images, 10 to 17: all rows in the order in which they are tested, of which the first that applies decides.
--- The rules: docs/MANIFEST.md, "Faults".
+-- The rules: docs/COMMANDS.md, "The manifest".
 use Rattle.std.specs.Prelude.{ℕ, ◌+◌, ◌*◌, ◌/◌, ◌%◌, ◌==◌, Bool, true, false, not, ◌&&◌, nat_le, if◌then◌else◌, List, [], ◌∷◌, ◌++◌, length, find, Option, unwrap_or, Result, Ok, Err}
 use Rattle.std.specs.List.{enumerate_from, flat_map, list_any}
 use Rattle.std.specs.Option.{is_some, option_map_or}
@@ -67,14 +67,14 @@ image_rows h =
     if has_image h then image_row h ∷ flat_map (flags_rows h) (enumerate_from 0 (image h).segments)
     else []
 
--- the rows of each element in turn, judged behind what is kept of the earlier ones
+-- the rows of each element in turn, judged after what is kept of the earlier ones
 abbrev pub each_behind : {A B : Type 0} → (A → B) → (List B → A → List Fault) → List B → List A →
     List Fault
 each_behind keep rows earlier [] = []
 each_behind keep rows earlier (x ∷ xs) =
     rows earlier x ++ each_behind keep rows (earlier ++ keep x ∷ []) xs
 
--- step 6, of an area behind the earlier ones. Fault 12: it isn't wholly in a RAM of so many words; fault 13: it shares a word with an
+-- step 6, of an area after the earlier ones. Fault 12: it isn't wholly in a RAM of so many words; fault 13: it shares a word with an
 -- earlier area, the first of which the fault tells by its module
 abbrev pub is_in_ram : ℕ → Area → Bool
 is_in_ram words a =
@@ -110,7 +110,7 @@ entry_rows areas at domain address =
     ∷ (not (is_entry areas domain (unwrap_or address 0)), fault 15 at 0)
     ∷ []
 
--- step 7, of a gate behind the earlier ones, of which fault 16 is one with its domain and word, and fault 17: 256 are there
+-- step 7, of a gate after the earlier ones, of which fault 16 is one with its domain and word, and fault 17: 256 are there
 abbrev pub gate_rows : List Area → List Gate → Request → List Fault
 gate_rows areas earlier r =
     let at = at_module r.gate.target r.key in

@@ -19,7 +19,7 @@ abbrev pub Tells : Option BootFault → LayoutRefused → Type 0
 Tells first (Fault fault) = first ≡ Some fault
 Tells first NoMemory = Unit {0}
 
--- gates asked for behind earlier ones: all are added, and none has a fault; or this is the first fault
+-- gates asked for after earlier ones: all are added, and none has a fault; or this is the first fault
 abbrev pub gate_of : Request → Gate
 gate_of r = r.gate
 
@@ -45,7 +45,7 @@ IsStarted areas number domain address earlier later (Ok done) =
 IsStarted areas number domain address earlier later (Err refused) =
     Tells (first_row (entry_rows areas (at_hart number) domain address)) refused
 
--- all harts behind earlier ones
+-- all harts after earlier ones
 abbrev pub AreStarted : Said → List (List ℕ) → List ℕ → List ℕ → Result (Unit {0}) LayoutRefused →
     Type 0
 AreStarted plan images earlier later (Ok done) =

@@ -30,7 +30,7 @@ pub record ArePlaced (words : ℕ) (areas : List Area) : Type 0 where
   pub each : AllByRecursion (IsPlaced words) areas
   pub apart : AllByRecursion (IsApart areas) areas
 
--- of the area found so far and another one, that which begins first at a word or behind it
+-- of the area found so far and another one, that which begins first at a word or after it
 abbrev pub nearer : ℕ → Option Area → Area → Option Area
 nearer word None a = if nat_lt (word_at a.address) word then None else Some a
 nearer word (Some found) a =
@@ -38,7 +38,7 @@ nearer word (Some found) a =
     else if nat_le (word_at found.address) (word_at a.address) then Some found
     else Some a
 
--- of the areas that begin at a word or behind it, the one that begins first
+-- of the areas that begin at a word or after it, the one that begins first
 abbrev pub next_area : ℕ → List Area → Option Area
 next_area word areas = fold (nearer word) None areas
 

@@ -162,7 +162,7 @@ impl AnyMachine {
         each!(self, machine => machine.owner(word))
     }
 
-    /// The first word behind the run of words, round a word, that have its owner.
+    /// The first word after the run of words, round a word, that have its owner.
     pub fn owner_end(&self, word: u32) -> u32
         requires { word < (meaning self.now).core.size }
         ensures behind { word < result }

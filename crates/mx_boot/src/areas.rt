@@ -219,7 +219,7 @@ fn shared(earlier: &[Area], area: Area) -> Option<Area>
     None
 }
 
-/// Fault 12 or 13 of an area behind the earlier ones.
+/// Fault 12 or 13 of an area after the earlier ones.
 fn area_fault(words: u32, earlier: &[Area], area: Area) -> Option<BootFault>
     ensures { result ≡ first_row (area_rows words earlier.now area) }
 {

@@ -62,7 +62,7 @@ fn has_gate(gates: &[Gate], domain: u32, word: u32) -> bool
         .any(|gate| gate.domain == domain && gate.word == word)
 }
 
-/// Faults 14 to 17 of a gate behind the earlier ones.
+/// Faults 14 to 17 of a gate after the earlier ones.
 fn gate_fault(areas: &[Area], earlier: &[Gate], request: Request) -> Option<BootFault>
     ensures { result ≡ first_row (gate_rows areas.now earlier.now request) }
 {

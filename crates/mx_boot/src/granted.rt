@@ -31,7 +31,7 @@ fn granted_areas(alloc: Global, home: Home, harts: u32) -> Result<Vec<Area>, NoM
     Ok(areas)
 }
 
-/// Of the area found so far and another one, that which begins first at a word or behind it.
+/// Of the area found so far and another one, that which begins first at a word or after it.
 fn nearer(word: u32, found: Option<Area>, area: Area) -> Option<Area>
     ensures { result ≡ nearer word found area }
 {
@@ -45,7 +45,7 @@ fn nearer(word: u32, found: Option<Area>, area: Area) -> Option<Area>
     }
 }
 
-/// Of the areas that begin at a word or behind it, the one that begins first.
+/// Of the areas that begin at a word or after it, the one that begins first.
 fn next_area(areas: &[Area], word: u32) -> Option<Area>
     ensures { result ≡ next_area word areas.now }
 {

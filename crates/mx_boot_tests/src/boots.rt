@@ -34,7 +34,7 @@ fn perm(machine: &AnyMachine, domain: u32, word: u32) -> Option<Perm> {
     Some(machine.perm(domain, word))
 }
 
-/// The owner of a word and the first word behind its run, where there is such a word.
+/// The owner of a word and the first word after its run, where there is such a word.
 fn owner(machine: &AnyMachine, word: u32) -> Option<(u32, u32)> {
     if word >= machine.words() {
         return None;
@@ -118,7 +118,7 @@ const PERMS: [(u32, u32, Perm); 20] = [
     (2, 1033, Perm::None),
 ];
 
-/// The runs of owners: first word, owner, and the word behind.
+/// The runs of owners: first word, owner, and the word after.
 const OWNERS: [(u32, u32, u32); 11] = [
     (0, 1, 4),
     (4, 0, 1024),
@@ -133,7 +133,7 @@ const OWNERS: [(u32, u32, u32); 11] = [
     (4104, 0, 16384),
 ];
 
-/// Bytes of RAM: code, .data with zeros behind the file's five bytes, the inline words, .rodata, and what nothing gives.
+/// Bytes of RAM: code, .data with zeros after the file's five bytes, the inline words, .rodata, and what nothing gives.
 const BYTES: [(u32, u8); 17] = [
     (0, 55),
     (1, 17),

@@ -69,7 +69,7 @@ domain-again : (d : ℕ) (a b : Option ℕ) → (b ≡ a) ⊎ (b ≡ Some d) →
 domain-again d a b (inl e) h = subst (λ (o : Option ℕ). IfSome o (λ x. x ≡ d)) (sym e) h
 domain-again d a b (inr e) h = subst (λ (o : Option ℕ). IfSome o (λ x. x ≡ d)) (sym e) refl
 
--- behind a hart alone there is none
+-- after a hart alone there is none
 none-behind : (harts : List Kept) (h i : ℕ) → h < length harts → length harts ≡ 1 → i ≢ h → hart_at harts i ≡ no_hart
 none-behind harts h i there e ne = get_or_past harts i no_hart (omega (arith, there, e, ne))
 

@@ -19,7 +19,7 @@ pub enum Step {
     Call(u32, [u32; 4], u32),
     /// An exchange, which answers 0 and this word.
     Exchange([u32; 4], u32),
-    /// So many grants of permission none to domain 2, each of one word and 8 bytes behind the one before, from an address on. Each
+    /// So many grants of permission none to domain 2, each of one word and 8 bytes after the one before, from an address on. Each
     /// answers 0.
     Splits(u32, u32),
     /// An exit, which ends the hart with its code.

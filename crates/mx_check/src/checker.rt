@@ -16,7 +16,7 @@ use mx_table::{Change, PermTables};
 use mx_words::{Access, Perm};
 use std::marker::Model;
 
-/// Permission tables behind the caches of 1 to 4 harts, each with 32 places and a lookaside buffer of `N` entries, `N` at most 64.
+/// Permission tables with the caches of 1 to 4 harts before them, each with 32 places and a lookaside buffer of `N` entries, `N` at most 64.
 /// What it keeps is coherent: where a hart isn't halted, each span in its caches has its permission on each of its words in a
 /// domain's map as it is now (for an entry of the buffer its own domain, for a place the domain that the checks since the last
 /// `leave_domain` named), but for the words of the hart's own call in flight; and a hart that has heard another hart's call in

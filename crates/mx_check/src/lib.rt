@@ -1,4 +1,4 @@
-//! The checker of all accesses: permission tables behind a sidecar and a lookaside buffer for each hart, kept coherent while
+//! The checker of all accesses: permission tables with a sidecar and a lookaside buffer for each hart before them, kept coherent while
 //! announced calls change rights. A hart that has heard of a call keeps no span of its range, and a call takes effect only where
 //! every other running hart has heard it.
 #![tactic(auto)]

@@ -1,4 +1,4 @@
--- What a bus is: bytes behind a map, and what touches it.
+-- What a bus is: bytes that a map guards, and what touches it.
 use Rattle.std.specs.Prelude.{◌≡◌, ℕ, ◌-◌, Bool, List, [], ◌∷◌}
 use Rattle.mx_words.specs.declared.perm.Perm.{Perm}
 use Rattle.mx_words.specs.declared.perm.Access.{Access}

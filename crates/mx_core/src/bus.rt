@@ -10,7 +10,7 @@ ghost use Rattle.mx_core.specs.Bus.{denied, load_at, store_at};
 #[derive(Clone, Copy, PartialEq, Eq, Debug)]
 pub struct Denied;
 
-/// RAM behind a map of permissions. Each call is denied exactly where the map denies it, and
+/// RAM that a map of permissions guards. Each call is denied exactly where the map denies it, and
 /// touches the bus once; a denied call changes no byte. Addresses are those of the machine, whose
 /// RAM begins at 0x80000000; sizes are 1, 2 or 4 bytes; a place, 0 to 31, says which register the
 /// address came from, 0 for pc.

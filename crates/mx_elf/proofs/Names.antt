@@ -39,7 +39,7 @@ never true true e = refl
 never true false e = refl
 never false z e = refl
 
--- strings begin with a name exactly where its bytes stand there with a zero byte behind them
+-- strings begin with a name exactly where its bytes stand there with a zero byte after them
 pub begins_told : (strings name : List ℕ) → HasNoZero name →
     begins_with_name strings name ≡ (nat_lt (length name) (length strings) && ((get_or strings (length name) 0 == 0) && bytes_eq (take (length name) strings) name))
 begins_told [] [] h = refl

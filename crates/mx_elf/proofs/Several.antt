@@ -68,7 +68,7 @@ given name q value old w f y has is told = told ∙ by (bytes_eq name q) refl
         kept (Some None) = refl
         kept (Some (Some v)) = refl
 
--- the first symbol that is left, and those behind it
+-- the first symbol that is left, and those after it
 pub rest-next : (symbols strings name : List ℕ) (count k at : ℕ) → k < count → 0 + 16 * k ≡ at
     → rest_of symbols strings count k name ≡ option_or (value_here symbols strings name at) (rest_of symbols strings count (k + 1) name)
 rest-next symbols strings name count k at lt is =
@@ -106,7 +106,7 @@ pub some-or : (v : Option ℕ) (value : ℕ) → is_some v ≡ true → v ≡ op
 some-or None value some = absurd (let r : ⊥ = cc in r)
 some-or (Some w) value some = refl
 
--- the name at the first zero byte among so many bytes, behind which no name that is short enough begins
+-- the name at the first zero byte among so many bytes, after which no name that is short enough begins
 pub found-name : (strings name : List ℕ) (most longest : ℕ) → most ≤ length strings → length name ≤ longest → (most ≡ longest + 1) ⊎ (most ≡ length strings)
     → (r : Option ℕ) → IsFirstByte (is_byte 0) (take most strings) r → begins_with_name strings name ≡ option_map_or (λ end. bytes_eq (take end strings) name) r false
 found-name strings name most longest inside short ends (Some end) h =

@@ -89,7 +89,7 @@ const SECOND: usize = 84;
 
 const SEVENTEENTH: usize = 564;
 
-/// Two segments, and headers for 15 more behind them.
+/// Two segments, and headers for 15 more after them.
 fn file_of_segments() -> [u8; FILE_SIZE] {
     let mut file = [0u8; FILE_SIZE];
     write(&mut file, 0, b"\x7FELF\x01\x01\x01");

@@ -13,7 +13,7 @@ module _ (domain word : ℕ) (g h : Gate) where
   unfolding is_before
   before-trans p q = grind arith
 
-  -- what comes behind one that doesn't come before doesn't come before
+  -- what comes after one that doesn't come before doesn't come before
   pub before-behind : is_before h.domain h.word g ≡ true → is_before domain word g ≡ false → is_before domain word h ≡ false
   unfolding is_before
   before-behind p q = grind arith
@@ -28,7 +28,7 @@ pub at-before : (domain word : ℕ) (g : Gate) → is_before domain word g ≡ t
 unfolding is_before
 at-before domain word g p = grind arith
 
--- what stands elsewhere and doesn't come before comes behind
+-- what stands elsewhere and doesn't come before comes after
 pub before-total : (g h : Gate) → is_before g.domain g.word h ≡ false → is_at g.domain g.word h ≡ false → is_before h.domain h.word g ≡ true
 unfolding is_before
 before-total g h p q = grind arith
@@ -38,7 +38,7 @@ pub before-apart : (g h : Gate) → is_before h.domain h.word g ≡ true → is_
 unfolding is_before
 before-apart g h p = grind arith
 
--- a search by halves: all gates below come before, and none of those behind does
+-- a search by halves: all gates below come before, and none of those after does
 pub record Halves (domain word : ℕ) (sorted : List Gate) (low width : ℕ) : Type 0 where
   pub within : low + width ≤ length sorted
   pub before : (k : ℕ) → k < low → is_before domain word (get_or sorted k no_gate) ≡ true

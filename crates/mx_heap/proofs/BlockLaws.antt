@@ -5,7 +5,7 @@ use Rattle.mx_words.specs.FirstFit.{Area, with_block, without_block, block_words
 use Rattle.mx_words.specs.FirstFit.{AreApart}
 use Rattle.mx_words.proofs.AreaLaws.{apart_ordered}
 
--- a block goes between those below it and those behind it
+-- a block goes between those below it and those after it
 pub with_block_between : (low mid high : ℕ) (b : Area) (xs ys : List Area) → AreApart low mid xs → mid ≤ b.first → 0 < b.count →
     AreApart (b.first + b.count) high ys → with_block b (xs ++ ys) ≡ xs ++ b ∷ ys
 with_block_between low mid high b [] [] h le some k = refl

@@ -6,7 +6,7 @@ use Rattle.mx_heap.specs.declared.parts.Part.{Part}
 use Rattle.mx_words.specs.FirstFit.{AreApart}
 use Rattle.mx_heap.specs.Places.{Fill, blocks_of}
 
--- the word behind the last part
+-- the word after the last part
 abbrev pub end_of : ℕ → List Part → ℕ
 end_of low [] = low
 end_of low (p ∷ ps) = end_of (low + p.count) ps

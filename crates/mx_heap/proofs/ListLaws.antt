@@ -11,7 +11,7 @@ use Rattle.mx_heap.specs.declared.parts.Part.{Part}
 use Rattle.mx_heap.specs.Places.{listed_at, no_block, AreRising, AreStored}
 use Rattle.mx_heap.proofs.FillLaws.{Fill-apart}
 
--- a block is put before the first that begins behind it
+-- a block is put before the first that begins after it
 pub put_listed : (b : Block) (bs : List Block) → map area_of (insert bs (position_or_len (λ (x : Block). nat_lt b.first x.first) bs) b) ≡ with_block (area_of b) (map area_of bs)
 put_listed b [] = refl
 put_listed b (x ∷ bs) =

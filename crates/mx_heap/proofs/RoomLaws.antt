@@ -14,7 +14,7 @@ use Rattle.mx_words.specs.FirstFit.{AreApart}
 use Rattle.mx_heap.specs.Places.{Fill, blocks_of, part_at, is_hole_for, is_hole_around, wall}
 use Rattle.mx_heap.proofs.FillLaws.{end_of, last_live, Fill-left, Fill-right, Fill-le, Fill-apart, blocks-live, blocks-hole, blocks-append}
 
--- two ranges, the first below, behind and across the second
+-- two ranges, the first below, after and across the second
 pub overlap_below : (f c a n : ℕ) → 0 < c → f + c ≤ a → overlaps f c a n ≡ false
 overlap_below f c a n some le =
     let lt : f < a = omega arith in
@@ -98,7 +98,7 @@ not_around p x n free le e = ⊎_elim
     (and_cases (nat_le p.first x) (nat_le (x + n) (p.first + p.count)) f))
     (and_cases (not p.live) (nat_le p.first x && nat_le (x + n) (p.first + p.count)) e)
 
--- behind a hole that ends too early stands a block, or nothing
+-- after a hole that ends too early stands a block, or nothing
 pub next_met : (mid high : ℕ) (ps : List Part) (x n : ℕ) → Fill mid high false ps → 0 < n → x < mid → mid < x + n → x + n ≤ high → met x n (blocks_of ps) ≡ true
 next_met mid high [] x n h some lt over le = absurd (omega (arith, h))
 next_met mid high (q ∷ qs) x n h some lt over le =

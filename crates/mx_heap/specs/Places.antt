@@ -51,7 +51,7 @@ with_hole parts i first count = if nat_lt 0 count then insert parts i (hole firs
 abbrev pub without_hole : List Part → ℕ → ℕ → List Part
 without_hole parts i count = if nat_lt 0 count then remove parts i else parts
 
--- the parts with a block in the hole at place i, and what is left of the hole before and behind it
+-- the parts with a block in the hole at place i, and what is left of the hole before and after it
 abbrev pub split : List Part → ℕ → ℕ → ℕ → List Part
 split parts i first count =
     let h : Part = part_at parts i in

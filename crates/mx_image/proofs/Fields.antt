@@ -4,7 +4,7 @@ use Rattle.std.proofs.lemmas.List.{get_or-append-add}
 use Rattle.mx_words.specs.Bytes.{number_at}
 use Rattle.mx_elf.specs.Field.{half_at, word_at}
 
--- behind a part, the numbers of the rest
+-- after a part, the numbers of the rest
 pub number-behind : (part rest : List ℕ) (k size : ℕ) → number_at (part ++ rest) (length part + k) size ≡ number_at rest k size
 unfolding number_at
 number-behind part rest k zero = refl
@@ -14,7 +14,7 @@ number-behind part rest k (suc size) =
     let here : get_or (part ++ rest) (length part + k) 0 ≡ get_or rest k 0 = get_or-append-add part rest k 0 in
     rw (here, next) refl
 
--- a number of 4 bytes at a place behind a part
+-- a number of 4 bytes at a place after a part
 pub word-behind : (bytes part rest : List ℕ) (at k : ℕ) → bytes ≡ part ++ rest → at ≡ length part → word_at bytes (at + k) ≡ word_at rest k
 unfolding word_at
 word-behind bytes part rest at k is start = rw (is, start) (number-behind part rest k 4)
@@ -24,7 +24,7 @@ word-begins bytes part rest at is start =
     let same : at ≡ at + 0 = omega arith in
     ap (word_at bytes) same ∙ word-behind bytes part rest at 0 is start
 
--- a number of 2 bytes at a place behind a part
+-- a number of 2 bytes at a place after a part
 pub half-behind : (bytes part rest : List ℕ) (at k : ℕ) → bytes ≡ part ++ rest → at ≡ length part → half_at bytes (at + k) ≡ half_at rest k
 unfolding half_at
 half-behind bytes part rest at k is start = rw (is, start) (number-behind part rest k 2)

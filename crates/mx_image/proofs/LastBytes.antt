@@ -21,7 +21,7 @@ last_bytes-one (b ∷ bytes) s =
     last_bytes-one bytes (record s { bytes = s.bytes ++ b ∷ [] })
     ∙ ap (λ (all : List ℕ). record s { bytes = all } ∷ []) (append_assoc s.bytes (b ∷ []) bytes)
 
--- behind another
+-- after another
 last_bytes-behind : (bytes : List ℕ) (x : Segment) (segments : List Segment) → 0 < length segments
     → with_last_bytes bytes (x ∷ segments) ≡ x ∷ with_last_bytes bytes segments
 last_bytes-behind [] x segments some = refl

@@ -44,7 +44,7 @@ header-fields at s rest lt h = record {
   flags = four-bytes s.flags h.flags;
 }
 
--- behind a part
+-- after a part
 header-read : (bytes part rest : List ℕ) (place at : ℕ) (s : Segment) → bytes ≡ part ++ (program_header at s ++ rest) → place ≡ length part → at < 2 ^ 32
     → IsLoadable s → IsRead bytes place at s
 header-read bytes part rest place at s is start lt h =

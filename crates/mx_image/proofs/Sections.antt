@@ -32,7 +32,7 @@ string-section-fields : (at size : ℕ) → at < 2 ^ 32 → size < 2 ^ 32 → Is
 unfolding word_at number_at
 string-section-fields at size a c = record { type_is = refl; offset_is = four-bytes at a; size_is = four-bytes size c; link_is = refl }
 
--- behind a part
+-- after a part
 section-behind : (bytes part rest : List ℕ) (place type at size link : ℕ) → bytes ≡ part ++ rest → place ≡ length part
     → IsSection rest 0 type at size link → IsSection bytes place type at size link
 section-behind bytes part rest place type at size link is start r = record {

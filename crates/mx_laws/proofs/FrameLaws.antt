@@ -20,7 +20,7 @@ use Rattle.mx_laws.proofs.CallWalk.{CallLeaves, served-walk}
 use Rattle.mx_laws.proofs.Lawful.{IsLawful, AnyCall, OwnCall, lawful-any, lawful-turn, present}
 use Rattle.mx_laws.proofs.TurnParts.{apart, by-action}
 
--- the list with its last element behind it
+-- the list with its last element after it
 last-split : (x f : Frame) (xs : List Frame) → last_or (Some x) xs ≡ Some f → (x ∷ xs) ≡ take (length xs) (x ∷ xs) ++ f ∷ []
 last-split x f [] e = ap (λ (o : Option Frame). unwrap_or o f ∷ []) e
 last-split x f (y ∷ ys) e = ap (λ (zs : List Frame). x ∷ zs) (last-split y f ys e)

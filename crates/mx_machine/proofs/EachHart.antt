@@ -26,7 +26,7 @@ below-none i test = let e : i + 0 ≡ i = omega arith in ap (λ k. all_below k t
     by true = refl
     by false = refl
 
--- an equation of each element from place i on, behind the first
+-- an equation of each element from place i on, after the first
 module _ {X Y : Type 0} (f : ℕ → X → Y) (g : ℕ → Y) (d : X) where
   behind-first : (i : ℕ) (x : X) (xs : List X) → ((j : ℕ) → f (i + j) (get_or (x ∷ xs) j d) ≡ g (i + j)) →
       (j : ℕ) → f ((i + 1) + j) (get_or xs j d) ≡ g ((i + 1) + j)

@@ -40,4 +40,4 @@ pub halted-flight : (n : ℕ) (harts : List Hart) (kept : List Kept) (h : ℕ) �
 halted-flight zero harts kept h = refl
 halted-flight (suc n) harts kept h = flight-at (is_halted (hart_of harts n).progress) (halted_first n harts kept) n h ∙ halted-flight n harts kept h
 
--- the place behind one, and where a loop ends
+-- the place after one, and where a loop ends

@@ -67,7 +67,7 @@ module-kills m d f p = ap (λ (x : Module). x.kills) (module-is m d f p)
 pub module-dead : (m : Held) (d : ℕ) → Fits m → IsHere m d → (module_at (core_in m) d).dead ≡ get_or m.dead d false
 module-dead m d f p = ap (λ (x : Module). x.dead) (module-is m d f p)
 
--- the address behind a stack area
+-- the address after a stack area
 behind-told : (first words h : ℕ) → (if words == 0 then 0 else address_of (first + words * (h + 1)))
     ≡ (if words == 0 then 0 else address_of ((if words == 0 then 0 else first) + words * (h + 1)))
 behind-told first words h = elim (words == 0) as (λ b. cond b 0 (address_of (first + words * (h + 1))) ≡ cond b 0 (address_of (cond b 0 first + words * (h + 1)))) [ true ↦ refl | false ↦ refl ]

@@ -151,7 +151,7 @@ module _ (m : Held) (h : ℕ) (returns : Bool) (r : MayRun m h) (whole : length 
   abbrev pub looks_before : List Look
   looks_before = looks_of (core_in m) running_hart.domain (fetch_touch running_hart.pc ∷ touches_of (effect_in (reads_of m) (core_in m) running_hart))
 
-  -- the state behind the looks, with the instruction's bytes
+  -- the state after the looks, with the instruction's bytes
   abbrev pub behind_looks : Core
   behind_looks = record (core_in m) { ram = bytes_in (reads_of m) (core_in m) running_hart; caches = (looked_all (reads_of m) h looks_before (core_in m)).caches }
 
@@ -161,7 +161,7 @@ module _ (m : Held) (h : ℕ) (returns : Bool) (r : MayRun m h) (whole : length 
   at-running : is_return_at (core_in m) running_hart.domain running_hart.pc ≡ returns
   at-running = sym (turns_back ∙ ap (λ (s : Seen). is_return_at (core_in m) s.domain s.pc) (seen-running m h r))
 
-  -- what the instruction makes is what its answer makes behind the looks
+  -- what the instruction makes is what its answer makes after the looks
   pub made-behind : instruction m h ≡ acted (reads_of m) behind_looks h running_hart (action_of h running_hart regs_now (outcome_for m h returns))
   made-behind =
       let q = reads_of m in

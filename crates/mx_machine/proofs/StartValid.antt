@@ -118,7 +118,7 @@ module _ (m : Held) (f : Fits m) (v : HasValidParts m) where
     one_gate = v.one_gate;
   }
 
--- the address behind a stack area is a number of 32 bits
+-- the address after a stack area is a number of 32 bits
 behind-small : (a : StackArea) (h : ℕ) → (a.words ≡ 0) ⊎ (a.first + a.words * (h + 1) ≤ most_words) → cond (a.words == 0) 0 (address_of (a.first + a.words * (h + 1))) < 2 ^ 32
 behind-small a h (inl e) = subst (λ b. cond b 0 (address_of (a.first + a.words * (h + 1))) < 2 ^ 32) (sym (eq-eqb a.words 0 e)) (omega arith)
 behind-small a h (inr le) = elim (a.words == 0) as (λ b. cond b 0 (address_of (a.first + a.words * (h + 1))) < 2 ^ 32) [ true ↦ omega arith | false ↦ omega (arith, le) ]

@@ -1,4 +1,4 @@
--- Turns of one hart in a row: what holds behind some of them, and behind one more.
+-- Turns of one hart in a row: what holds after some of them, and after one more.
 use Rattle.std.proofs.Common.{◌≡◌, ◌≢◌, ℕ, suc, ◌+◌, ◌<◌, ◌⊎◌, inl, inr, Bool, true, false, not, set, refl, sym, ap, ◌∙◌, arith, get_or, get_or-set_same, Option, None, Some}
 use Rattle.std.specs.Prelude.{is_some}
 use Rattle.std.proofs.lemmas.Bool.{cases_eq}
@@ -29,7 +29,7 @@ turns-more h f n =
     let e : n + 1 ≡ suc n = omega arith in
     ap (turns_of h f) e
 
--- a hart that runs in a live domain does so behind an instruction
+-- a hart that runs in a live domain does so after an instruction
 pub alive-instruction : (m : Held) (h : ℕ) → MayRun m h → get_or m.dead (hart_of m.harts h).domain false ≡ false → RunsAlive (after_instruction h false m) h
 alive-instruction m h r alive =
     let x = hart_of m.harts h in
@@ -51,7 +51,7 @@ pub none-here : (o : Option ℕ) → is_some o ≡ false → o ≡ None
 none-here None e = refl
 none-here (Some t) e = absurd (let z : ⊥ = cc in z)
 
--- behind some turns of hart h from a flat state, each of which carried out an instruction
+-- after some turns of hart h from a flat state, each of which carried out an instruction
 pub record HasRunOn (f : Flat) (h n : ℕ) (m : Held) : Type 0 where
   pub whole : IsWhole m
   pub at : meaning m ≡ turns_of h f n

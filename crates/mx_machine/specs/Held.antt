@@ -23,7 +23,7 @@ pub record Held : Type 0 where
 abbrev pub told : StackArea → Stack
 told a = record { first = if a.words == 0 then 0 else a.first; words = a.words }
 
--- the stack area of domain d, and the address behind it for hart h, 0 where it has none
+-- the stack area of domain d, and the address after it for hart h, 0 where it has none
 abbrev pub no_area : StackArea
 no_area = record { first = 0; words = 0; kills = false }
 

@@ -29,7 +29,7 @@ use Rattle.mx_machine.specs.Ties.{HasRange}
 abbrev pub none_dead : List Bool
 none_dead = replicate 64 false
 
--- a hart starts at a pc in a domain, with all registers zero but x2, the address behind the domain's stack area for the hart
+-- a hart starts at a pc in a domain, with all registers zero but x2, the address after the domain's stack area for the hart
 abbrev pub started_hart : List StackArea → ℕ → HartStart → Hart
 started_hart stacks h s = record no_hart {
   regs = slice_set (replicate 32 0) 2 (behind stacks s.domain h);
@@ -117,7 +117,7 @@ pub record IsUnused (p : Parts) (harts h : ℕ) (s : HartState) (k : Kept) : Typ
   pub domain : k.domain ≡ None
   pub flight : FliesIfWaiting p harts h s s.status k.flight
 
--- what is read of a state behind the last
+-- what is read of a state after the last
 abbrev pub no_state : HartState
 no_state = record { status = V.Halted; domain = 0; pc = 0; regs = replicate 32 0; frames = [] }
 

@@ -56,7 +56,7 @@ waits x = record x { progress = G.Waiting }
 abbrev pub halts : Option ℕ → Hart → Hart
 halts code x = record x { progress = G.Halted code }
 
--- it goes on behind a served call with its answers
+-- it goes on after a served call with its answers
 abbrev pub takes_answer : ℕ → Option ℕ → Hart → Hart
 takes_answer a0 a1 x = goes (answered (seen_with Running x) a0 a1) (next x.pc) x
 

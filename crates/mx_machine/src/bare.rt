@@ -29,7 +29,7 @@ use std::marker::Model;
 /// The cause of a fault in a dead domain, which kills none.
 pub const DEAD: u32 = 20;
 
-/// The supervisor behind the bus, the harts, the modules' stack areas, by number which domains are dead, the number of turns made,
+/// The supervisor with the bus before it, the harts, the modules' stack areas, by number which domains are dead, the number of turns made,
 /// and whether some hart may wait.
 #[derive(Drop)]
 pub struct Bare<T: PermTables, const N: usize> {

@@ -1,4 +1,4 @@
-//! The bus of a hart's turn: RAM behind the checker.
+//! The bus of a hart's turn: RAM that the checker guards.
 ghost use Rattle.std.specs.Prelude.{◌≡◌, ◌<◌, not, true};
 ghost use Rattle.mx_core.specs.Bus.{denied};
 ghost use Rattle.mx_machine.specs.Bus.{perm_from, IsInRam, IsUsable, IsTouch};

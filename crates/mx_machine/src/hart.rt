@@ -141,7 +141,7 @@ impl Hart {
         self.progress = Progress::Running;
     }
 
-    /// Goes on behind a served call with its answers.
+    /// Goes on after a served call with its answers.
     pub fn answer(&mut self, a0: u32, a1: Option<u32>)
         ensures { self.new ≡ takes_answer a0 a1 self.old }
     {

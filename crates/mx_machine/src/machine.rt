@@ -49,7 +49,7 @@ impl<T: PermTables, const N: usize> Model for Machine<T, N> {
 }
 
 impl<T: PermTables, const N: usize> Machine<T, N> {
-    /// A machine that starts: its harts stand at their starts with all registers zero but x2, the address behind the stack area of
+    /// A machine that starts: its harts stand at their starts with all registers zero but x2, the address after the stack area of
     /// their domain for them. The supervisor's parts belong together, and each gate is for a word of RAM and between modules. There is
     /// one start for each hart of the checker, which has done nothing yet, and one stack area for each module.
     pub fn new(parts: Supervisor<T, N>, starts: &Starts, stacks: &Stacks) -> Machine<T, N>

@@ -88,7 +88,7 @@ impl<T: PermTables, const N: usize> Machine<T, N> {
         self.bare.bus.supervisor.owners.owner(word)
     }
 
-    /// The first word behind the run of words, round a word, that have its owner.
+    /// The first word after the run of words, round a word, that have its owner.
     pub fn owner_end(&self, word: u32) -> u32
         requires { word < self.now.core.size }
         ensures behind { word < result }

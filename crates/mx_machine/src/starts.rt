@@ -137,7 +137,7 @@ impl Stacks {
         }
     }
 
-    /// The address behind a domain's stack area for a hart, 0 where it has none. The area lies in RAM.
+    /// The address after a domain's stack area for a hart, 0 where it has none. The area lies in RAM.
     pub(crate) fn behind(&self, domain: u32, hart: u32) -> u32
         requires domain { 1 ≤ domain }
         requires area { ((area_of self.now domain).words ≡ 0)

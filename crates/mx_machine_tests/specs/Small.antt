@@ -12,7 +12,7 @@ use Rattle.mx_machine.specs.declared.views.HartStatus.{HartStatus}
 use Rattle.mx_machine.specs.declared.views.HartStatus.TheVariants as V
 use Rattle.mx_machine.specs.Starts.{IsStack}
 
--- code of so many words from a word on, and a stack area of so many words for each hart behind it, lie in RAM
+-- code of so many words from a word on, and a stack area of so many words for each hart after it, lie in RAM
 pub record IsPlaced (first code stack words : ℕ) : Type 0 where
   pub some : 1 ≤ code
   pub inside : first + code ≤ 16000

@@ -155,7 +155,7 @@ all-others-halted-maps : list_map (λ gs. runs_of same (map gs 64)) (by (1 ∷ 0
 unfolding decoded effect holds imm_result reg_result loaded number_at put_at cleared_at imm_i imm_s imm_b imm_u imm_j extended
 all-others-halted-maps = refl
 
--- an alloc announces the whole heap area, also the words that no block has: the second hart looks at word 35 in it and at word 40 behind it
+-- an alloc announces the whole heap area, also the words that no block has: the second hart looks at word 35 in it and at word 40 after it
 abbrev allocating : State
 allocating = small ((0, 115) ∷ (1, 0x00100073) ∷ (16, 0x0002A303) ∷ (17, 0x0003A303) ∷ (18, 0x0002A303) ∷ (19, 0x0003A303) ∷ (20, 0x0002A303) ∷ (21, 0x0003A303) ∷ [])
     (record no_module { heap = area 32 8; blocks = area 34 2 ∷ [] } ∷ no_module ∷ [])

@@ -72,7 +72,7 @@ abbrev tight : ℕ → ℕ → ℕ → ℕ → ℕ → ℕ
 tight number a0 a1 a2 a3 =
     let s = state (live ∷ []) (gate_on 2 16 1 ∷ []) 0 in (serve (reads s) s.core (call_in number false a0 a1 a2 a3)).a0
 
--- the same with 256 gates of module 2 behind the first, and with 1024 live blocks elsewhere
+-- the same with 256 gates of module 2 after the first, and with 1024 live blocks elsewhere
 abbrev crowded : ℕ → ℕ → ℕ → ℕ
 crowded number a0 a1 =
     let s = state (live ∷ []) (list_map (λ i. gate_on 2 (1000 + i) 1) (range_with_len 0 256)) 4 in

@@ -61,7 +61,7 @@ by-bytes : end (run (ByBytes (2 ∷ 2 ∷ 0 ∷ [])) 9 (looping Running))
 unfolding decoded effect holds imm_result reg_result loaded number_at put_at cleared_at imm_i imm_s imm_b imm_u imm_j extended
 by-bytes = refl
 
--- what a state answers of words inside RAM and behind it, in the two kinds of state
+-- what a state answers of words inside RAM and after it, in the two kinds of state
 abbrev answering : State
 answering = small [] (no_module ∷ no_module ∷ []) ((grant 0 100 P.Read ∷ grant 1 1 P.ReadWrite ∷ []) ∷ (grant 1 1 P.ExecuteRead ∷ []) ∷ []) (give 0 100 1 ∷ give 1 1 2 ∷ []) [] [] 8
 

@@ -85,7 +85,7 @@ transfer-to-supervisor : runs_of (λ a b. a == b) (owners (by (0 ∷ []) (servin
 unfolding decoded effect holds imm_result reg_result loaded number_at put_at cleared_at imm_i imm_s imm_b imm_u imm_j extended
 transfer-to-supervisor = refl
 
--- alloc at the lowest place: zeroed, read-write for the caller and nothing for the others; and behind a block
+-- alloc at the lowest place: zeroed, read-write for the caller and nothing for the others; and after a block
 alloc-one-maps : list_map (λ gs. runs_of same (map gs 64)) (by (0 ∷ []) (serving (6 ∷ 1 ∷ []))).grants
     ≡ (run_of 2 P.ExecuteRead ∷ run_of 14 P.None ∷ run_of 8 P.ReadWrite ∷ run_of 1 P.Read ∷ run_of 7 P.None ∷ run_of 1 P.ReadWrite ∷ run_of 1 P.None ∷ run_of 2 P.ReadWrite ∷ run_of 28 P.None ∷ []) ∷ (run_of 16 P.None ∷ run_of 16 P.Read ∷ run_of 2 P.None ∷ run_of 1 P.ReadWrite ∷ run_of 29 P.None ∷ []) ∷ (run_of 16 P.None ∷ run_of 2 P.ExecuteRead ∷ run_of 18 P.None ∷ run_of 1 P.ReadWrite ∷ run_of 27 P.None ∷ []) ∷ []
 unfolding decoded effect holds imm_result reg_result loaded number_at put_at cleared_at imm_i imm_s imm_b imm_u imm_j extended
@@ -135,7 +135,7 @@ free-two-harts : (by (0 ∷ []) (serving (7 ∷ 0x80000088 ∷ []))).core.harts 
 unfolding decoded effect holds imm_result reg_result loaded number_at put_at cleared_at imm_i imm_s imm_b imm_u imm_j extended
 free-two-harts = refl
 
--- a gate stands behind the others, and takes the place of one for its domain and word; it leads into the caller
+-- a gate stands after the others, and takes the place of one for its domain and word; it leads into the caller
 gate-added-gates : (by (0 ∷ []) (serving (8 ∷ 0x8000004C ∷ 2 ∷ []))).core.gates
     ≡ gate 2 16 3 ∷ gate 3 16 1 ∷ gate 1 18 1 ∷ gate 2 17 1 ∷ gate 2 19 1 ∷ []
 unfolding decoded effect holds imm_result reg_result loaded number_at put_at cleared_at imm_i imm_s imm_b imm_u imm_j extended

@@ -55,7 +55,7 @@ ready c h = hears h (counted c)
 heard-by-status : (c : Core) (h : ℕ) (s : Status) → (hart_at c h).status ≡ s → heard_first (counted c) h ≡ (if is_halted s then counted c else ready c h)
 heard-by-status c h s e = ap (λ (x : Status). if is_halted x then counted c else ready c h) e
 
--- a decided action done by a hart, behind its looks
+-- a decided action done by a hart, after its looks
 abbrev pub acts : Reads → Core → ℕ → Hart → Decided → Made
 acts r c h hart d = acted r (looked_all r h d.looks c) h hart d.action
 
@@ -175,7 +175,7 @@ pub fetches-by_effect : (r : Reads) (c : Core) (h : ℕ) (hart : Hart) (denied :
 fetches-by_effect r c h hart true = refl
 fetches-by_effect r c h hart false = by-word r c h hart (load_at c hart.pc 4) (decoded (load_at c hart.pc 4))
 
--- where no call gate stands, the effect of the fetched instruction decides, behind the look at pc
+-- where no call gate stands, the effect of the fetched instruction decides, after the look at pc
 pub runs-by_effect : (r : Reads) (c : Core) (h : ℕ) (hart : Hart) → runs_at r c h hart None
     ≡ after_look (looks_at c 0 hart.domain hart.pc) (by_effect r c h hart (effect_of_fetch c hart (is_denied r c hart.domain hart.pc A.Execute)))
 runs-by_effect r c h hart =

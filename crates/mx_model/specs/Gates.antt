@@ -42,7 +42,7 @@ is_return gates domain word =
 abbrev pub without_gate : ℕ → ℕ → List Gate → List Gate
 without_gate domain word gates = filter (λ g. not (is_at domain word g)) gates
 
--- a new gate behind the others; the old one of its domain and word is removed
+-- a new gate after the others; the old one of its domain and word is removed
 abbrev pub with_gate : Gate → List Gate → List Gate
 with_gate g gates = without_gate g.domain g.word gates ++ g ∷ []
 

@@ -203,7 +203,7 @@ saved regs = list_map (reg regs) saved_registers
 abbrev pub restored : List ℕ → List ℕ → List ℕ
 restored regs kept = fold (λ rs (p : ℕ × ℕ). slice_set rs p.0 p.1) regs (zip saved_registers kept)
 
--- the address behind a domain's stack area for a hart, 0 where it has none
+-- the address after a domain's stack area for a hart, 0 where it has none
 abbrev pub stack_address : Core → ℕ → ℕ → ℕ
 stack_address c d h =
     let stack = (module_at c d).stack in
@@ -306,7 +306,7 @@ acted r c h hart (Writes address size value) =
         (with_regs h hart hart.regs (next hart.pc)
         (record c { ram = put_at c.ram (address - ram_base) size value }))
 
--- the decided action done behind its looks
+-- the decided action done after its looks
 abbrev pub enacted : Reads → Core → ℕ → Decided → Made
 enacted r c h d = acted r (looked_all r h d.looks c) h (hart_at c h) d.action
 

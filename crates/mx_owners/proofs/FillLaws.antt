@@ -5,7 +5,7 @@ use Rattle.std.proofs.lemmas.List.{take-append-drop, drop_more, length-take-le}
 use Rattle.mx_owners.specs.declared.runs.Run.{Run}
 use Rattle.mx_owners.specs.OwnerRuns.{Fill, owner_in, run_at, no_run}
 
--- the word behind the last run, and the last owner
+-- the word after the last run, and the last owner
 abbrev pub end_of : ℕ → List Run → ℕ
 end_of low [] = low
 end_of low (r ∷ rs) = end_of r.end rs
@@ -51,7 +51,7 @@ rising low high before (r ∷ rs) zero (suc j) h le lt =
 rising low high before (r ∷ rs) (suc i) zero h le lt = absurd (omega arith)
 rising low high before (r ∷ rs) (suc i) (suc j) h le lt = rising r.end high r.owner rs i j h.2 (omega arith) (omega arith)
 
--- a word below the end of some runs has its owner among them, and one behind them among those that follow
+-- a word below the end of some runs has its owner among them, and one after them among those that follow
 pub owner_in-left : (low before : ℕ) (xs ys : List Run) (w : ℕ) → Fill low (end_of low xs) before xs → w < end_of low xs → low ≤ w → owner_in (xs ++ ys) w ≡ owner_in xs w
 owner_in-left low before [] ys w h lt le = absurd (omega arith)
 owner_in-left low before (r ∷ xs) ys w h lt le = ⊎_elim
@@ -90,7 +90,7 @@ around low high before rs i fill lt =
     }
 
 module _ (low high before : ℕ) (rs : List Run) (i : ℕ) (a : Around low high before rs i) where
-  -- the owners before a run, in it, and behind it
+  -- the owners before a run, in it, and after it
   pub owner_before : (w : ℕ) → low ≤ w → w < end_of low (take i rs) → owner_in rs w ≡ owner_in (take i rs) w
   owner_before w le lt = ap (λ (qs : List Run). owner_in qs w) a.cut ∙ owner_in-left low before (take i rs) (run_at rs i ∷ drop (i + 1) rs) w a.left lt le
 
@@ -103,7 +103,7 @@ module _ (low high before : ℕ) (rs : List Run) (i : ℕ) (a : Around low high 
   pub owner_behind : (w : ℕ) → (run_at rs i).end ≤ w → owner_in rs w ≡ owner_in (drop (i + 1) rs) w
   owner_behind w le = owner_from w (omega (arith, a.rises)) ∙ (rw (le-ltb w (run_at rs i).end le) refl)
 
-  -- the word behind a run has another owner
+  -- the word after a run has another owner
   pub next_differs : (run_at rs i).end < high → owner_in rs (run_at rs i).end ≢ (run_at rs i).owner
   next_differs lt e = first_differs (run_at rs i).end (run_at rs i).owner (drop (i + 1) rs) a.right (omega (arith, a.rises)) lt (sym (owner_behind (run_at rs i).end (omega arith)) ∙ e)
     where

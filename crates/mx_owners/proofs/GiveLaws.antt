@@ -28,7 +28,7 @@ pub record Before (rs : List Run) (owner first : ℕ) (xs : List Run) : Type 0 w
   pub differs : 0 < end_of 0 xs → owner ≢ last_owner 0 xs
   pub few : length xs ≤ place_of rs first + 1
 
--- runs that stay behind a give of the words to before `behind`, whose run ends at `end`
+-- runs that stay after a give of the words to before `behind`, whose run ends at `end`
 pub record Behind (rs : List Run) (high owner behind end : ℕ) (ys : List Run) : Type 0 where
   pub fill : Fill end high owner ys
   pub reach : behind ≤ end

@@ -11,7 +11,7 @@ use Rattle.mx_owners.proofs.FillLaws.{end_of, Fill-end, end_bounds, Around, arou
 pub place-le : (rs : List Run) (w : ℕ) → place_of rs w ≤ length rs
 place-le rs w = prefix_len-le-length (λ (r : Run). not (nat_lt w r.end)) rs
 
--- each run before the place ends at the word or before, and the one there ends behind it
+-- each run before the place ends at the word or before, and the one there ends after it
 pub ends_before : (rs : List Run) (w k : ℕ) → k < place_of rs w → (run_at rs k).end ≤ w
 ends_before rs w k lt = ltb-false w (run_at rs k).end (fails_before_first (λ (r : Run). nat_lt w r.end) rs k no_run lt)
 

@@ -1,4 +1,4 @@
--- Inner: how the owners of all words are stored, as maximal runs of equal owner, each by the word behind it. No contract of another crate cites this
+-- Inner: how the owners of all words are stored, as maximal runs of equal owner, each by the word after it. No contract of another crate cites this
 -- file; what owners mean is a list with one owner a word.
 use Rattle.std.specs.Prelude.{ℕ, ◌≡◌, ◌≢◌, ◌+◌, ◌-◌, ◌<◌, ◌≤◌, Bool, ◌==◌, ◌&&◌, nat_lt, List, [], ◌∷◌, ◌++◌, length, take, drop, slice_index_or, if◌then◌else◌}
 use Rattle.std.specs.List.{position_or_len}
@@ -13,7 +13,7 @@ no_run = record { end = 0; owner = 0 }
 abbrev pub run_at : List Run → ℕ → Run
 run_at runs i = slice_index_or runs i no_run
 
--- the owner of a word: that of the first run that ends behind it
+-- the owner of a word: that of the first run that ends after it
 abbrev pub owner_in : List Run → ℕ → ℕ
 owner_in [] w = 0
 owner_in (r ∷ rs) w = if nat_lt w r.end then r.owner else owner_in rs w
@@ -49,13 +49,13 @@ runs_before runs owner first =
     else if (run_at runs i).owner == owner then take i runs
     else take i runs ++ record { end = first; owner = (run_at runs i).owner } ∷ []
 
--- whether the run of the word behind a give has the same owner, and so is part of the give's run
+-- whether the run of the word after a give has the same owner, and so is part of the give's run
 abbrev pub goes_on : List Run → ℕ → ℕ → Bool
 goes_on runs owner behind =
     nat_lt (place_of runs behind) (length runs)
     && (run_at runs (place_of runs behind)).owner == owner
 
--- the end of the give's run, and the place of the first run that stays behind it
+-- the end of the give's run, and the place of the first run that stays after it
 abbrev pub end_behind : List Run → ℕ → ℕ → ℕ
 end_behind runs owner behind =
     if goes_on runs owner behind then (run_at runs (place_of runs behind)).end else behind

@@ -109,7 +109,7 @@ impl Owners {
         self.runs[run_place(&self.runs, word)].owner
     }
 
-    /// The first word behind the run of words, round a word of RAM, that have its owner.
+    /// The first word after the run of words, round a word of RAM, that have its owner.
     pub fn run_end(&self, word: u32) -> u32
         requires { word < length self.now }
         ensures behind { word < result }

@@ -8,7 +8,8 @@ use Rattle.mx_upper.specs.Codes.{value_code, start_code}
 
 -- the packed entry of a line's permissions with both reaches, and nothing where it has more than four runs
 abbrev pub pack_of : List Perm → ℕ → ℕ → Option ℕ
-pack_of perms left right = if nat_lt 4 (runs perms) then None else Some (mini_entry (runs_of same perms) left right)
+pack_of perms left right =
+    if nat_lt 4 (runs perms) then None else Some (mini_entry (runs_of same perms) left right)
 
 -- the permissions and the starts of the runs of some line
 pub record IsCoded (values starts : ℕ) : Type 0 where

@@ -20,7 +20,8 @@ fn lengthen(run: Span, line: u32, left: u32, right: u32) -> Span
     requires before { left ≤ line }
     requires behind { run.first + run.count ≤ line + line_words }
     requires room { line + line_words + right ≤ 2 ^ 24 }
-    ensures { result ≡ lengthened (if run.first == line then left else 0) (if run.first + run.count == line + line_words then right else 0) run }
+    ensures { result ≡ lengthened (if run.first == line then left else 0)
+        (if run.first + run.count == line + line_words then right else 0) run }
 {
     let before = if run.first == line { left } else { 0 };
     let behind = if run.first + run.count == line + 16 {

@@ -9,7 +9,7 @@ ghost use Rattle.mx_upper.specs.Codes.{value_code, start_code};
 
 use mx_words::{Perm, Span};
 
-/// What a packed entry says of a line: its 16 permissions, and how many words right before and right behind the line have the
+/// What a packed entry says of a line: its 16 permissions, and how many words right before and right after the line have the
 /// permission of its first and of its last word, 0 to 31 each.
 #[derive(Clone, Copy, PartialEq, Eq, Debug)]
 pub struct Unpacked {
@@ -86,7 +86,8 @@ fn perm_of(n: u32) -> Perm
 
 /// The permissions of a line from those of its runs and from the starts of the runs.
 pub(crate) fn line_of(values: u32, starts: u32) -> [Perm; 16]
-    ensures { (perms : List Perm) → length perms ≡ line_words → values ≡ value_code perms → starts ≡ start_code 0 perms → result ≡ perms }
+    ensures { (perms : List Perm) → length perms ≡ line_words →
+        values ≡ value_code perms → starts ≡ start_code 0 perms → result ≡ perms }
 {
     let mut line = [Perm::None; 16];
     let mut values_left = values;
@@ -102,13 +103,15 @@ pub(crate) fn line_of(values: u32, starts: u32) -> [Perm; 16]
 }
 
 /// The run of a word in its line, which begins at the word `line`, from the permissions of the line's runs and from their starts. The
-/// starts rise, and a start of 0 stands behind the last one.
+/// starts rise, and a start of 0 stands after the last one.
 pub(crate) fn run_of(values: u32, starts: u32, line: u32, word: u32) -> Span
     requires coded { IsCoded values starts }
     requires from { line ≤ word }
     requires below { word < line + line_words }
     requires room { line + line_words ≤ 2 ^ 24 }
-    ensures { (perms : List Perm) → length perms ≡ line_words → values ≡ value_code perms → starts ≡ start_code 0 perms → result ≡ placed line (line_run perms (word - line)) }
+    ensures { (perms : List Perm) → length perms ≡ line_words →
+        values ≡ value_code perms → starts ≡ start_code 0 perms →
+        result ≡ placed line (line_run perms (word - line)) }
 {
     let place = word - line;
     let mut first = 0;
@@ -133,7 +136,9 @@ pub fn unpack(entry: u32) -> Option<Unpacked>
     ensures packs { IfSome result (λ u. pack_of u.perms u.left u.right ≡ Some entry) }
     ensures left { IfSome result (λ u. u.left ≤ 31) }
     ensures right { IfSome result (λ u. u.right ≤ 31) }
-    ensures all { (perms : List Perm) (left right : ℕ) → length perms ≡ line_words → left ≤ 31 → right ≤ 31 → pack_of perms left right ≡ Some entry → result ≡ Some (record { perms = perms; left = left; right = right }) }
+    ensures all { (perms : List Perm) (left right : ℕ) →
+        length perms ≡ line_words → left ≤ 31 → right ≤ 31 → pack_of perms left right ≡ Some entry →
+        result ≡ Some (record { perms = perms; left = left; right = right }) }
 {
     let perms = line_of(entry / 4 % 0x100, entry / 0x400 % 0x1000);
     let left = entry / 0x800_0000;

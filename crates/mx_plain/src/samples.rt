@@ -8,7 +8,7 @@ use mx_table::{BuildRefused, Change, PermTables};
 use mx_words::{Need, NoMemory, Perm, Span, Spans};
 use std::alloc::Global;
 
-/// A row of `count` spans like `span`, each of which begins `step` words behind the one before.
+/// A row of `count` spans like `span`, each of which begins `step` words after the one before.
 pub fn row(alloc: Global, span: Span, step: u32, count: u32) -> Result<Spans, NoMemory>
     requires some { 0 < span.count }
     requires apart { span.count ≤ step }

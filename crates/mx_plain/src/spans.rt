@@ -106,7 +106,7 @@ pub(crate) fn left_reach(map: &PlainMap, line: u32) -> u32
     alike_before(map, map.at(line), 0, line).min(MOST_REACH)
 }
 
-/// How many words right behind the line that begins at a word have the permission of its last word, at most 31.
+/// How many words right after the line that begins at a word have the permission of its last word, at most 31.
 pub(crate) fn right_reach(map: &PlainMap, line: u32) -> u32
     requires line { line ≤ length map.now }
     requires small { length map.now ≤ most_words }

@@ -124,7 +124,7 @@ fn short_programs(rt: HostRuntime) -> Result<(), Fail> {
             answer: Outcome::Call,
             regs: &[(10, 5), (17, 1)],
         },
-        // a word of zeros behind the first instruction: no fetch
+        // a word of zeros after the first instruction: no fetch
         Case {
             words: &[0x0010_0893],
             turns: 9,

@@ -78,7 +78,7 @@ frame_fits size n total f e h =
     let next : f + 1 ≤ n = omega arith in
     omega (arith, mul-le-mul_right size next)
 
--- the words of another frame lie below or behind
+-- the words of another frame lie below or after
 pub frames_apart : (size f g k : ℕ) → g ≢ f → k < size → (g * size + k < f * size) ⊎ (f * size + size ≤ g * size + k)
 frames_apart size f g k ne h =
     ⊎_elim (λ lt. let next : g + 1 ≤ f = omega arith in inl (omega (arith, mul-le-mul_right size next)))

@@ -4,10 +4,12 @@ use Rattle.std.specs.Prelude.{ℕ, ◌≡◌, ◌<◌, ◌*◌, ◌^◌, Bool, f
 -- the frames in a flat store: `size` words for each, and none where it is not marked as taken
 unfoldable pub frames_of : ℕ → List ℕ → List Bool → List (Option (List ℕ))
 frames_of size words [] = []
-frames_of size words (t ∷ ts) = (if t then Some (take size words) else None) ∷ frames_of size (drop size words) ts
+frames_of size words (t ∷ ts) =
+    (if t then Some (take size words) else None) ∷ frames_of size (drop size words) ts
 
 -- the first `spare` entries of `free` are the frames that are not taken, each once
-pub record IsPool (size : ℕ) (words : List ℕ) (taken : List Bool) (free : List ℕ) (spare : ℕ) : Type 0 where
+pub record IsPool (size : ℕ) (words : List ℕ) (taken : List Bool) (free : List ℕ) (spare : ℕ)
+    : Type 0 where
   pub room : length words ≡ length taken * size
   pub stack : length free ≡ length taken
   pub small : length taken < 2 ^ 30

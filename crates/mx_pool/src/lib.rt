@@ -59,7 +59,8 @@ impl<const WORDS: usize> Pool<WORDS> {
         // The frame was free, and the calls to come find it zeroed.
         ensures was_free { IfSome result (λ f. frame_at self.old f ≡ None) }
         ensures here { IfSome result (λ f. frame_at self.new f ≡ Some (replicate WORDS 0)) }
-        ensures elsewhere { IfSome result (λ f. (g : ℕ) → g ≢ f → frame_at self.new g ≡ frame_at self.old g) }
+        ensures elsewhere { IfSome result (λ f. (g : ℕ) → g ≢ f →
+            frame_at self.new g ≡ frame_at self.old g) }
 
         ensures fewer { OnSome result (free_in self.new + 1 ≡ free_in self.old) }
         ensures total { length self.new ≡ length self.old }
@@ -102,7 +103,8 @@ impl<const WORDS: usize> Pool<WORDS> {
     pub fn set(&mut self, frame: u32, at: u32, value: u32)
         requires taken { IsTaken self.old frame }
         requires within { at < WORDS }
-        ensures frame { frame_at self.new frame ≡ Some (slice_set (words_of self.old frame) at value) }
+        ensures frame { frame_at self.new frame
+            ≡ Some (slice_set (words_of self.old frame) at value) }
         ensures elsewhere { (g : ℕ) → g ≢ frame → frame_at self.new g ≡ frame_at self.old g }
         ensures here { word_at self.new frame at ≡ value }
         ensures others { (k : ℕ) → k ≢ at → word_at self.new frame k ≡ word_at self.old frame k }
@@ -119,9 +121,11 @@ impl<const WORDS: usize> Pool<WORDS> {
         requires target { IsTaken self.old target }
         requires from { from + count ≤ WORDS }
         requires to { to + count ≤ WORDS }
-        ensures copied { (k : ℕ) → k < count → word_at self.new target (to + k) ≡ word_at self.old source (from + k) }
+        ensures copied { (k : ℕ) → k < count →
+            word_at self.new target (to + k) ≡ word_at self.old source (from + k) }
         ensures below { (k : ℕ) → k < to → word_at self.new target k ≡ word_at self.old target k }
-        ensures behind { (k : ℕ) → to + count ≤ k → k < WORDS → word_at self.new target k ≡ word_at self.old target k }
+        ensures behind { (k : ℕ) → to + count ≤ k → k < WORDS →
+            word_at self.new target k ≡ word_at self.old target k }
         ensures taken { IsTaken self.new target }
         ensures elsewhere { (g : ℕ) → g ≢ target → frame_at self.new g ≡ frame_at self.old g }
         ensures free { free_in self.new ≡ free_in self.old }
@@ -141,7 +145,8 @@ impl<const WORDS: usize> Pool<WORDS> {
         requires within { from + count ≤ WORDS }
         ensures filled { (k : ℕ) → from ≤ k → k < from + count → word_at self.new frame k ≡ value }
         ensures below { (k : ℕ) → k < from → word_at self.new frame k ≡ word_at self.old frame k }
-        ensures behind { (k : ℕ) → from + count ≤ k → k < WORDS → word_at self.new frame k ≡ word_at self.old frame k }
+        ensures behind { (k : ℕ) → from + count ≤ k → k < WORDS →
+            word_at self.new frame k ≡ word_at self.old frame k }
         ensures taken { IsTaken self.new frame }
         ensures elsewhere { (g : ℕ) → g ≢ frame → frame_at self.new g ≡ frame_at self.old g }
         ensures free { free_in self.new ≡ free_in self.old }
@@ -160,8 +165,10 @@ impl<const WORDS: usize> Pool<WORDS> {
         requires taken { IsTaken self.now frame }
         requires within { from + count ≤ WORDS }
         requires some { 0 < count }
-        ensures yes { result ≡ true → (k : ℕ) → k < count → word_at self.now frame (from + k) ≡ word_at self.now frame from }
-        ensures no { ((k : ℕ) → k < count → word_at self.now frame (from + k) ≡ word_at self.now frame from) → result ≡ true }
+        ensures yes { result ≡ true → (k : ℕ) → k < count →
+            word_at self.now frame (from + k) ≡ word_at self.now frame from }
+        ensures no { ((k : ℕ) → k < count →
+            word_at self.now frame (from + k) ≡ word_at self.now frame from) → result ≡ true }
     {
         are_alike(
             &self.words,
@@ -201,7 +208,8 @@ fn no_marks(alloc: Global, number: usize) -> Result<Vec<bool>, NoMemory>
 // The numbers of `frames` frames, the lowest last.
 fn downwards(alloc: Global, frames: u32) -> Result<Vec<u32>, NoMemory>
     ensures len { IfOk result (λ v. length v.items ≡ frames) }
-    ensures each { IfOk result (λ v. (i : ℕ) → i < frames → slice_index v.items i ≡ frames - 1 - i) }
+    ensures each { IfOk result (λ v. (i : ℕ) → i < frames →
+        slice_index v.items i ≡ frames - 1 - i) }
 {
     let mut free = zeros(alloc, frames as usize)?;
     for i in 0..frames {
@@ -216,7 +224,8 @@ fn fill_words(words: &mut [u32], first: usize, count: usize, value: u32)
     ensures total { length words.new ≡ length words.old }
     ensures inside { (i : ℕ) → first ≤ i → i < first + count → slice_index words.new i ≡ value }
     ensures below { (i : ℕ) → i < first → slice_index words.new i ≡ slice_index words.old i }
-    ensures behind { (i : ℕ) → first + count ≤ i → slice_index words.new i ≡ slice_index words.old i }
+    ensures behind { (i : ℕ) → first + count ≤ i →
+        slice_index words.new i ≡ slice_index words.old i }
 {
     let part = &mut words[first..first + count];
     part.fill(value);
@@ -226,8 +235,10 @@ fn fill_words(words: &mut [u32], first: usize, count: usize, value: u32)
 fn are_alike(words: &[u32], first: usize, count: usize) -> bool
     requires inside { first + count ≤ length words.now }
     requires some { 0 < count }
-    ensures yes { result ≡ true → (i : ℕ) → first ≤ i → i < first + count → slice_index words.now i ≡ slice_index words.now first }
-    ensures no { ((i : ℕ) → first ≤ i → i < first + count → slice_index words.now i ≡ slice_index words.now first) → result ≡ true }
+    ensures yes { result ≡ true → (i : ℕ) → first ≤ i → i < first + count →
+        slice_index words.now i ≡ slice_index words.now first }
+    ensures no { ((i : ℕ) → first ≤ i → i < first + count →
+        slice_index words.now i ≡ slice_index words.now first) → result ≡ true }
 {
     let word = words[first];
     let mut alike = true;
@@ -242,9 +253,11 @@ fn copy_words(words: &mut [u32], first: usize, place: usize, count: usize)
     requires from { first + count ≤ length words.old }
     requires to { place + count ≤ length words.old }
     ensures total { length words.new ≡ length words.old }
-    ensures copied { (i : ℕ) → i < count → slice_index words.new (place + i) ≡ slice_index words.old (first + i) }
+    ensures copied { (i : ℕ) → i < count →
+        slice_index words.new (place + i) ≡ slice_index words.old (first + i) }
     ensures below { (i : ℕ) → i < place → slice_index words.new i ≡ slice_index words.old i }
-    ensures behind { (i : ℕ) → place + count ≤ i → slice_index words.new i ≡ slice_index words.old i }
+    ensures behind { (i : ℕ) → place + count ≤ i →
+        slice_index words.new i ≡ slice_index words.old i }
 {
     words.copy_within(first..first + count, place);
 }

@@ -202,7 +202,7 @@ stored_round K.Segments m i lt = segment_round m i lt
 stored_round K.Multilevel m i lt = multilevel_round m i lt (region_test m i) (page_test m i) (line_test m i) refl refl refl
 stored_round K.Packed m i lt = packed_round m i lt (region_test m i) (page_test m i) (line_test m i) refl refl refl
 
--- the lines of the items from the first word of one on: its own, and those of the items behind it
+-- the lines of the items from the first word of one on: its own, and those of the items after it
 module _ (domain : ℕ) (kind : Kind) (m : List Perm) (w : ℕ) (lt : w < length m) (at : (stored kind m w).first ≡ w) where
   abbrev item : Shown
   item = stored kind m w
@@ -237,7 +237,7 @@ module _ (domain : ℕ) (kind : Kind) (m : List Perm) (w : ℕ) (lt : w < length
       ∙ ap (λ xs. shown_text domain m item ++ xs)
       (range_blank (item_text domain kind m) (w + 1) k (length m - next) (λ j lo hi. blank j lo (omega arith)) ∙ ap (λ a. texts a (length m - next)) behind)
 
-  -- an item begins behind an item
+  -- an item begins after an item
   pub next_begins : next < length m → (stored kind m next).first ≡ next
   next_begins more = by (cases_lt (stored kind m next).first next)
     where

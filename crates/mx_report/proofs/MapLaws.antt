@@ -91,7 +91,7 @@ no_right m first count none =
     let n = length-take count (drop first m) in
     get_or-take count (drop first m) i P.None (omega (arith, n)) ∙ get_or-drop first m i P.None ∙ none (first + i) (omega arith) (omega (arith, n)))
 
--- the words of a span without a permission, behind others
+-- the words of a span without a permission, after others
 pub none_more : (m : List Perm) (first word : ℕ) (s : Span) → ((w : ℕ) → first ≤ w → w < word → perm_at m w ≡ P.None) → IsUniformRound m word s → s.perm ≡ P.None →
     (w : ℕ) → first ≤ w → w < s.first + s.count → perm_at m w ≡ P.None
 none_more m first word s none r e w lo hi = by (cases_lt w word)

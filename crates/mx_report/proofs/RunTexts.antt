@@ -30,7 +30,7 @@ module _ {A : Type 0} (eq : A → A → Bool) (sound : (x y : A) → eq x y ≡ 
   before_same : (x : A) (n : ℕ) (rs : List (Run A)) → run_before eq x (record { count = n; value = x } ∷ rs) ≡ record { count = n + 1; value = x } ∷ rs
   before_same x n rs = ap (λ b. cond b (record { count = n + 1; value = x } ∷ rs) (record { count = 1; value = x } ∷ record { count = n; value = x } ∷ rs)) (alike x)
 
-  -- k + 1 equal elements in front, and another one behind them or none
+  -- k + 1 equal elements in front, and another one after them or none
   runs_front : (k : ℕ) (x : A) (ys : List A) → k ≤ length ys → ((i : ℕ) → i < k → get_or ys i d ≡ x) → (k < length ys → get_or ys k d ≢ x) →
       runs_of eq (x ∷ ys) ≡ record { count = k + 1; value = x } ∷ runs_of eq (drop k ys)
   runs_front zero x [] le equal other = refl
@@ -72,7 +72,7 @@ module _ {A : Type 0} (eq : A → A → Bool) (sound : (x y : A) → eq x y ≡ 
           ∙ ap (λ v. text a b v ++ run_texts text b (runs_of eq (drop k ys))) first
           ∙ ap (λ zs. text a b (get_or m a d) ++ run_texts text b (runs_of eq zs)) rest
 
-  -- behind the list there are none
+  -- after the list there are none
   pub texts_behind : (text : ℕ → ℕ → A → List ℕ) (m : List A) (a : ℕ) → length m ≤ a → run_texts text a (runs_of eq (drop a m)) ≡ []
   texts_behind text m a le = ap (λ zs. run_texts text a (runs_of eq zs)) (drop_all a m le)
 

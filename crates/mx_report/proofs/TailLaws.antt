@@ -112,7 +112,7 @@ pub push_full : {A E : Type 0} (b : List ℕ) (x : ℕ) {c : List ℕ} {s t : Si
 push_full b x {r = Ok a} n p e = record { left = puts_same (sym (sent_whole (b ++ x ∷ []) n)) p; kept = e ∙ sym (held_whole (b ++ x ∷ []) n) }
 push_full b x {r = Err f} n p e = record { left = puts_same (sym (sent_whole (b ++ x ∷ []) n)) p; kept = tt }
 
--- the bytes from place i on: that byte, and those behind it
+-- the bytes from place i on: that byte, and those after it
 pub one_more : (xs : List ℕ) (i x : ℕ) → i < length xs → x ≡ get_or xs i 0 → drop i xs ≡ (x ∷ []) ++ drop (i + 1) xs
 one_more xs i x h e = drop_more xs i 0 h ∙ ap (λ y. y ∷ drop (i + 1) xs) (sym e)
 

@@ -115,7 +115,7 @@ permission_name P.ExecuteRead = codes "rx"
 abbrev pub word_text : ℕ → List ℕ
 word_text word = hex_number (address_of word)
 
--- words from `first` up to `behind` with one permission: the first address, the address behind them, and the permission
+-- words from `first` up to `behind` with one permission: the first address, the address after them, and the permission
 unfoldable pub map_line : ℕ → ℕ → ℕ → Perm → List ℕ
 map_line domain first behind perm =
     concat (codes "map " ∷ decimal domain ∷ codes " " ∷ word_text first ∷ codes " "

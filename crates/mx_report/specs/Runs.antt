@@ -1,4 +1,4 @@
--- Texts of the maximal runs of a list, each with its first place and the place behind it.
+-- Texts of the maximal runs of a list, each with its first place and the place after it.
 use Rattle.std.specs.Prelude.{◌≡◌, ◌≢◌, ℕ, ◌+◌, ◌<◌, ◌≤◌, List, [], ◌∷◌, ◌++◌, length}
 use Rattle.mx_words.specs.declared.perm.Perm.{Perm}
 use Rattle.mx_words.specs.Rights.{perm_at}

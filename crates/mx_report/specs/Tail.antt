@@ -6,7 +6,7 @@ use Rattle.mx_io.specs.Sink.{SinkState, Puts}
 abbrev pub piece_bytes : ℕ
 piece_bytes = 4096
 
--- of bytes that were added one after another: those of the whole pieces, which have left, and those behind them, which are held
+-- of bytes that were added one after another: those of the whole pieces, which have left, and those after them, which are held
 unfoldable pub sent : List ℕ → List ℕ
 sent all = take (length all / piece_bytes * piece_bytes) all
 

@@ -101,7 +101,7 @@ fn put_maps<R: Sink, T: PermTables, const N: usize>(
     Ok(())
 }
 
-// The first word behind a domain's run of one permission, of which `word` is the first one or a later one. It goes from span to span.
+// The first word after a domain's run of one permission, of which `word` is the first one or a later one. It goes from span to span.
 fn run_end<T: PermTables, const N: usize>(machine: &Machine<T, N>, domain: u32, word: u32) -> u32
     requires domain { IsModule (length machine.now.core.modules) domain }
     requires word { word < machine.now.core.size }

@@ -38,7 +38,7 @@ impl Tail {
         }
     }
 
-    /// Adds the console bytes of a turn. Pieces of 4096 bytes leave for the sink, and what is behind them is held.
+    /// Adds the console bytes of a turn. Pieces of 4096 bytes leave for the sink, and what is after them is held.
     pub fn add<C: Sink>(&mut self, sink: &mut C, bytes: &Events) -> Result<(), Failed>
         ensures adds { Adds self.old (C.state sink.old) (C.state sink.new) self.new
             bytes.now.bytes result }

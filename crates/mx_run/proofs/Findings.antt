@@ -15,7 +15,7 @@ none_some e = cc
 some_same : {A : Type 0} {a b : A} → Some a ≡ Some b → a ≡ b
 some_same e = cc
 
--- one more part of a file behind those before
+-- one more part of a file after those before
 grown : (file got bytes : List ℕ) → got ≡ take (length got) file → bytes ≡ take (length bytes) (drop (length got) file) → (got ++ bytes) ≡ take (length (got ++ bytes)) file
 grown file got bytes front part =
     sym (ap (λ n. take n file) (length-append got bytes) ∙ take-add (length got) (length bytes) file

@@ -44,7 +44,7 @@ module _ {S : Type 0} (gives : S → Answer → S → Type 0) (number : ℕ) (m 
       subst (λ (o : Option (List ℕ)). Continues (image_step o number ms images rest) gives s t (sinks console r dump) (sinks console u dump) status) (sym is)
       (takes (λ bytes. after_images (number + 1) ms (images ++ bytes ∷ []) rest) console dump)
 
--- the item at a place, and those behind it
+-- the item at a place, and those after it
 pub drop_got : {A : Type 0} (xs : List A) (i : ℕ) (x : A) → slice_get xs i ≡ Some x → drop i xs ≡ x ∷ drop (i + 1) xs
 drop_got xs i x is =
     let h = slice_get_within xs i x is in

@@ -83,7 +83,7 @@ module _ {S : Type 0} (gives : S → Answer → S → Type 0) (name : List ℕ) 
 pub written_back : (n : ℕ) (now rest : List ℕ) → n ≡ length now → take n (now ++ rest) ≡ now
 written_back n now rest is = rw is (take-append_seam now rest)
 
--- what stands behind a place after a slice from there on was put back
+-- what stands after a place after a slice from there on was put back
 behind : (at k n : ℕ) (bytes into : List ℕ) → at ≤ length bytes → k ≤ length into → take k (drop at (put_mid at n bytes into)) ≡ take k into
 behind at k n bytes into within fits =
     let here : length (take at bytes) ≡ at = length-take-le at bytes within in

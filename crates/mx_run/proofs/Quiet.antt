@@ -1,4 +1,4 @@
--- A turn that neither traps nor calls adds nothing to the texts, and where some hart could go on before it one can go on behind it.
+-- A turn that neither traps nor calls adds nothing to the texts, and where some hart could go on before it one can go on after it.
 use Rattle.std.proofs.Common.{◌≡◌, ℕ, zero, suc, ◌+◌, ◌==◌, if◌then◌else◌, Bool, true, false, ◌&&◌, cond, List, [], ◌∷◌, refl, ap, ◌∙◌, None}
 use Rattle.std.proofs.Common.{map as list_map}
 use Rattle.std.specs.Prelude.{slice_set}

@@ -76,7 +76,7 @@ goes_on schedule s h halted e =
     let n = named_some (is_over schedule s.core.turns) (hart_of schedule s.core) h e in
     (both_go (all_halted s.core) (is_over schedule s.core.turns) halted n.0, n.1)
 
--- what is behind the texts of a state in those of a later one
+-- what is after the texts of a state in those of a later one
 pub record Grows (s f : State) : Type 0 where
   pub more : List ℕ
   pub console : f.console ≡ s.console ++ more
@@ -107,7 +107,7 @@ grows_run schedule (suc n) s =
       | false ↦ λ f. subst (λ (u : State). Grows s u) (sym (going schedule n s f)) (grows_turn s _ (hart_of schedule s.core) (grows_run schedule n (turn s (hart_of schedule s.core))))
     ] refl
 
--- a run of n turns goes on behind its first i turns
+-- a run of n turns goes on after its first i turns
 pub grows_on : (schedule : Schedule) (i n : ℕ) (s : State) → i ≤ n → Grows (run schedule i s) (run schedule n s)
 grows_on schedule i n s few =
     let whole : n ≡ i + (n - i) = omega (arith, few) in
@@ -240,7 +240,7 @@ module _ (schedule : Schedule) (i n : ℕ) (s : State) (m : Flat) (is : m ≡ fl
 
 -- turns of one hart in a row from a state of a run
 module _ (schedule : Schedule) (f : Flat) (going : all_halted f.core ≡ false) (h most turns : ℕ) (row : IsRow schedule f.core most h turns) where
-  -- each carries out an instruction: behind them some hart can go on
+  -- each carries out an instruction: after them some hart can go on
   pub going_along : (n : ℕ) → ((j : ℕ) → j < n → flat_kind (turns_of h f j) h ≡ K.Ran) → all_halted (turns_of h f n).core ≡ false
   going_along zero ran = going
   going_along (suc n) ran =

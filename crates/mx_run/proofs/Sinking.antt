@@ -110,7 +110,7 @@ module _ (held mid kept : List ℕ) (b m n : SinkState) (x y : List ℕ) where
         put = put_put b m n p.gone q.gone p.put q.put;
       }
 
-  -- behind a text that was put through a buffer, what was held and the next text couldn't be put
+  -- after a text that was put through a buffer, what was held and the next text couldn't be put
   pub moves_breaks : Moves held b m mid x → Breaks m n (mid ++ y) → Breaks b n (held ++ (x ++ y))
   moves_breaks p q =
       breaks_same b n (p.gone ++ (mid ++ y)) (held ++ (x ++ y))

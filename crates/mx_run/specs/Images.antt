@@ -8,7 +8,7 @@ use Rattle.mx_run.specs.Finding.{Finding}
 use Rattle.mx_run.specs.Outcome.{Next, after_images}
 use Rattle.mx_run.specs.Top.{sinks, Continues, Comes}
 
--- the image of a module was taken: the report is as it was, and the step goes on with the image behind those before; or the call ended
+-- the image of a module was taken: the report is as it was, and the step goes on with the image after those before; or the call ended
 abbrev pub TakesImage : {S : Type 0} → (S → Answer → S → Type 0) → ℕ → ModulePlan → S → S →
     SinkState → SinkState → Result (List ℕ) Status → Type 0
 TakesImage gives number m store stored before now (Ok image) =

@@ -77,7 +77,7 @@ abbrev pub unless : Wanted → Option Status → Next → Next
 unless file None whole = whole
 unless file (Some status) whole = End (refusal file.name status)
 
--- a file is read, and then the rest follows from its bytes and the findings behind it
+-- a file is read, and then the rest follows from its bytes and the findings after it
 abbrev pub after_file : Wanted → (List ℕ → List Finding → Next) → List Finding → Next
 after_file file rest [] = Read file
 after_file file rest (found ∷ more) = unless file (lack_of file found) (rest (bytes_of found) more)
@@ -126,7 +126,7 @@ schedule_file name = record {
 abbrev pub source_file : List ℕ → Wanted
 source_file name = record { role = Source; name = name; most = text_limit; large = AsmFault 0 11 }
 
--- the images of modules from a number on, in order, behind those that are there; a module of inline words has an empty one
+-- the images of modules from a number on, in order, after those that are there; a module of inline words has an empty one
 abbrev pub after_images : ℕ → List ModulePlan → List (List ℕ) →
     (List (List ℕ) → List Finding → Next) → List Finding → Next
 after_images number [] images rest found = rest images found

@@ -36,7 +36,7 @@ pub record Breaks (before now : SinkState) (text : List ℕ) : Type 0 where
   pub rose : Rose before.faults now.faults
   pub tight : length text ≤ before.room → ⊥
 
--- a text was put through a buffer, which held some bytes before it and holds some behind it
+-- a text was put through a buffer, which held some bytes before it and holds some after it
 pub record Moves (held : List ℕ) (before now : SinkState) (kept text : List ℕ) : Type 0 where
   pub gone : List ℕ
   pub parts : held ++ text ≡ gone ++ kept
@@ -86,7 +86,7 @@ abbrev pub IsNamed : Schedule → Core → ℕ → Option (ℕ × ℕ) → Type 
 IsNamed schedule c most None = named schedule c ≡ None
 IsNamed schedule c most (Some next) = IsRow schedule c most next.0 next.1
 
--- the next change of a schedule comes no sooner than behind so many turns
+-- the next change of a schedule comes no sooner than after so many turns
 abbrev pub Leaves : Pace → ℕ → Type 0
 Leaves pace.Alone turns = Unit {0}
 Leaves (pace.Quantum whole last hart left) turns = turns ≤ left
@@ -128,7 +128,7 @@ places console shown report told = record {
   told = told;
 }
 
--- a text was put through the console's buffer and lines through the report's; where a sink failed nothing was put behind that
+-- a text was put through the console's buffer and lines through the report's; where a sink failed nothing was put after that
 abbrev pub ShowsOrStops : {A : Type 0} → List ℕ → List ℕ → Places → Places → Result A Status →
     Type 0
 ShowsOrStops text lines before now (Ok a) =
@@ -173,7 +173,7 @@ may_tell K.Trapped = true
 may_tell K.Called = true
 may_tell kind = false
 
--- a turn that added nothing, and behind which some hart can go on if one could before
+-- a turn that added nothing, and after which some hart can go on if one could before
 pub record GoesOn (c : Core) (events : Events) (e : Core) : Type 0 where
   pub bytes : events.bytes ≡ []
   pub note : events.note ≡ None
@@ -200,7 +200,7 @@ pub record IsFresh (plan : Said) (f : Flat) : Type 0 where
   pub limit : f.core.limit ≡ limit_of plan
   pub modules : length f.core.modules ≡ length plan.modules
 
--- the three texts were put, one after another, or one of them couldn't be put and those behind it weren't
+-- the three texts were put, one after another, or one of them couldn't be put and those after it weren't
 abbrev pub Closes : List ℕ → List ℕ → List ℕ → Sinks → Sinks → Status → Type 0
 Closes shown told bytes before now result =
     ((result ≡ Ran) × Put before.console now.console shown × Put before.report now.report told

@@ -18,7 +18,7 @@ use mx_report::{EndState, Options, Tail, put_closing};
 use mx_table::PermTables;
 use mx_words::Need;
 
-/// Ends a run: what the buffers hold leaves, and behind it the report's closing lines; then the dump where it is asked.
+/// Ends a run: what the buffers hold leaves, and after it the report's closing lines; then the dump where it is asked.
 pub(crate) fn end_run<T: PermTables, const N: usize, C: Sink, R: Sink, D: Sink>(
     order: &Order<'_>,
     plan: &Plan,

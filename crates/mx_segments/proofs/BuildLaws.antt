@@ -46,7 +46,7 @@ free_moved fs ls fs' ls' row st st' keeps within =
     let c' = st'.counted in
     omega (arith, sums, whole)
 
--- one entry and zeros behind it are the chain of a map without permissions
+-- one entry and zeros after it are the chain of a map without permissions
 pub start_chain : (words frames : ℕ) (stored : ℕ → ℕ) → 1 ≤ words → frames ≡ 1 → stored 0 ≡ 2147483648 → ((k : ℕ) → 0 < k → k < 64 → stored k ≡ 0) →
     IsChain words frames stored (map [] words)
 start_chain words frames stored pos one first zeros =

@@ -10,6 +10,7 @@ use Rattle.mx_words.specs.Need.{segment_frames, within}
 use Rattle.mx_words.specs.Changes.{changed_map, changed_from}
 use Rattle.mx_words.proofs.CountingLaws.{count_below_after, list_below_is, sum_below-more, sum_by-list_below}
 use Rattle.mx_words.proofs.ChangeLaws.{length-changed_from, changed_from-at}
+use Rattle.mx_table.proofs.WithinLaws.{within-parts}
 use Rattle.mx_segments.specs.Store.{Frames, frames_in, word_in, KeepsOthers}
 use Rattle.mx_segments.specs.Entries.{IsChain}
 use Rattle.mx_segments.specs.Sound.{map_in, IsSound}
@@ -55,7 +56,7 @@ within_test leaf limit =
     last false = refl
 
 pub fit_of : (leaf : ℕ) (limit : Need) → within (record { upper = 0; leaf = leaf; spill = 0 }) limit ≡ true → leaf ≤ limit.leaf
-fit_of leaf limit e = let test : nat_le leaf limit.leaf ≡ true = sym (within_test leaf limit) ∙ e in grind (arith, nat_tests)
+fit_of leaf limit e = (within-parts (record { upper = 0; leaf = leaf; spill = 0 }) limit e).leaf
 
 -- where each row has its changed map, the maps are the changed ones
 pub changed_maps_in : (words : ℕ) (fs : Frames) (ls : List (List ℕ)) (fs' : Frames) (ls' : List (List ℕ)) (first count : ℕ) (given : ℕ → Option Perm) →

@@ -17,7 +17,7 @@ means_itself words frames stored m chain =
     let C : List Perm → Type 0 = λ x. IsChain words frames stored x in
     subst C (sym (means words frames stored m chain)) chain
 
--- the words before, with room, with the moved entries, with the first entry, with the second, with zeros behind, and trimmed
+-- the words before, with room, with the moved entries, with the first entry, with the second, with zeros after, and trimmed
 module _ (w0 w1 w2 w3 w4 w5 w6 : ℕ → ℕ) (f0 f1 f6 : ℕ) (first count : ℕ) (perm : Perm) (plan : Plan)
     (b1 : plan.before ≤ plan.behind) (b2 : plan.behind ≤ plan.all)
     (held : plan.all ≤ 64 * f0) (enough : total plan ≤ 64 * f1) (more : f0 ≤ f1) (frames_are : f6 ≡ (total plan + 63) / 64)

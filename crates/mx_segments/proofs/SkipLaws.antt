@@ -18,7 +18,7 @@ run_round m i run inside is =
     let R : Span → Type 0 = λ s. IsUniformRound m i s in
     subst R (sym is) (within_round m 0 (length m) i (omega arith) inside inside)
 
--- where the first word's run has the permission and ends behind the range, the range has it
+-- where the first word's run has the permission and ends after the range, the range has it
 pub run_has : (m : List Perm) (first count : ℕ) (p : Perm) (run : Span) → first < length m → run ≡ span K.Segments m first →
     number run.perm ≡ number p → first + count ≤ run.first + run.count → laid (grant_of first count p) m ≡ m
 run_has m first count p run inside is e far =

@@ -57,7 +57,7 @@ module _ (words : ℕ) (fs : Frames) (ls : List (List ℕ)) (row : ℕ) (sound :
     | inr h ↦ h
   ]
 
-  -- the count behind a word is that of its run, counted from 1
+  -- the count after a word is that of its run, counted from 1
   pub some_before : (i : ℕ) → i < words → 1 ≤ count_below (min (i + 1) words) (is_start map)
   some_before i lt =
       let e : min (i + 1) words ≡ i + 1 = omega arith in

@@ -35,15 +35,17 @@ entry_of m k = entry_word (run_start m k) (perm_at m (run_start m k))
 
 -- the permission that the words of `frames` frames give word i: that of the last entry that begins at it or before
 abbrev pub read_at : ℕ → (ℕ → ℕ) → ℕ → Perm
-read_at frames stored i = perm_of (stored (count_below (64 * frames) (λ k. begins_before (stored k) (i + 1)) - 1))
+read_at frames stored i =
+    perm_of (stored (count_below (64 * frames) (λ k. begins_before (stored k) (i + 1)) - 1))
 
 -- the map that they mean
 abbrev pub read_map : ℕ → ℕ → (ℕ → ℕ) → List Perm
 read_map words frames stored = list_below words (read_at frames stored)
 
--- the words of `frames` frames are the entries of a map's runs, in order and as few frames as hold them, and zeros behind
+-- the words of `frames` frames are the entries of a map's runs, in order and as few frames as hold them, and zeros after
 pub record IsChain (words frames : ℕ) (stored : ℕ → ℕ) (m : List Perm) : Type 0 where
   pub length_is : length m ≡ words
   pub frames_are : frames ≡ segment_frames m
-  pub entries : (i : ℕ) → i < words → is_start m i ≡ true → stored (count_below i (is_start m)) ≡ entry_word i (perm_at m i)
+  pub entries : (i : ℕ) → i < words → is_start m i ≡ true →
+      stored (count_below i (is_start m)) ≡ entry_word i (perm_at m i)
   pub rest : (k : ℕ) → runs m ≤ k → k < 64 * frames → stored k ≡ 0

@@ -14,7 +14,8 @@ maps_in words frames lists = list_below (length lists) (map_in words frames list
 
 -- each list's words are the entries of its map, in as few frames as hold them, and no frame serves two lists or two places; the
 -- frames are the limit's number and two for each domain, of which the lists have at most the limit's number, and memory for more
-pub record IsKept (frames : Frames) (lists : List (List ℕ)) (memory words : ℕ) (limit : Need) : Type 0 where
+pub record IsKept (frames : Frames) (lists : List (List ℕ)) (memory words : ℕ) (limit : Need)
+    : Type 0 where
   pub store : IsStore frames lists
   pub some_words : 1 ≤ words
   pub few_words : words ≤ most_words

@@ -9,7 +9,7 @@ use Rattle.mx_segments.specs.declared.plan.Plan.{Plan}
 use Rattle.mx_segments.specs.Entries.{entry_word}
 
 -- a plan counts the runs that begin before the range, those that begin before its end or right there, and all; and it tells
--- whether runs begin at the range and right behind it afterwards, and the permission of the word behind it
+-- whether runs begin at the range and right after it afterwards, and the permission of the word after it
 pub record IsPlan (m : List Perm) (first count : ℕ) (perm : Perm) (plan : Plan) : Type 0 where
   pub before : plan.before ≡ count_below first (is_start m)
   pub behind : plan.behind ≡ count_below (min (first + count + 1) (length m)) (is_start m)
@@ -27,10 +27,12 @@ abbrev pub total : Plan → ℕ
 total plan = plan.all + kept plan - plan.behind
 
 -- the words after a planned change of the entries, in as many frames as hold them
-pub record IsLaid (old : ℕ → ℕ) (frames : ℕ) (new : ℕ → ℕ) (first count : ℕ) (perm : Perm) (plan : Plan) : Type 0 where
+pub record IsLaid (old : ℕ → ℕ) (frames : ℕ) (new : ℕ → ℕ) (first count : ℕ) (perm : Perm)
+    (plan : Plan) : Type 0 where
   pub frames_are : frames ≡ (total plan + 63) / 64
   pub same : (k : ℕ) → k < plan.before → new k ≡ old k
   pub begins : plan.starts ≡ true → new plan.before ≡ entry_word first perm
-  pub ends : plan.ends ≡ true → new (plan.before + bit plan.starts) ≡ entry_word (first + count) plan.next
+  pub ends : plan.ends ≡ true →
+      new (plan.before + bit plan.starts) ≡ entry_word (first + count) plan.next
   pub moved : (k : ℕ) → plan.behind ≤ k → k < plan.all → new (k + kept plan - plan.behind) ≡ old k
   pub rest : (k : ℕ) → total plan ≤ k → k < 64 * frames → new k ≡ 0

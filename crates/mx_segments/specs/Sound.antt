@@ -10,4 +10,5 @@ map_in words frames lists row = read_map words (frames_in lists row) (word_in fr
 
 -- the words of the list at a row are the entries of its map
 abbrev pub IsSound : ℕ → Frames → List (List ℕ) → ℕ → Type 0
-IsSound words frames lists row = IsChain words (frames_in lists row) (word_in frames lists row) (map_in words frames lists row)
+IsSound words frames lists row =
+    IsChain words (frames_in lists row) (word_in frames lists row) (map_in words frames lists row)

@@ -27,11 +27,13 @@ pub record IsStore (frames : Frames) (lists : List (List ℕ)) : Type 0 where
   pub counted : free_in frames + sum_by length lists ≡ length frames
 
 -- a change of the list at one row leaves the lists at all others, and their words
-pub record KeepsOthers (frames : Frames) (lists : List (List ℕ)) (frames' : Frames) (lists' : List (List ℕ)) (row : ℕ) : Type 0 where
+pub record KeepsOthers (frames : Frames) (lists : List (List ℕ)) (frames' : Frames)
+    (lists' : List (List ℕ)) (row : ℕ) : Type 0 where
   pub rows : length lists' ≡ length lists
   pub total : length frames' ≡ length frames
   pub chains : (other : ℕ) → other ≢ row → list_at lists' other ≡ list_at lists other
-  pub words : (other i : ℕ) → other ≢ row → i < 64 * frames_in lists other → word_in frames' lists' other i ≡ word_in frames lists other i
+  pub words : (other i : ℕ) → other ≢ row → i < 64 * frames_in lists other →
+      word_in frames' lists' other i ≡ word_in frames lists other i
 
 -- words of the list at one row are written, and nothing else changes
 pub record IsRewritten (frames frames' : Frames) (lists : List (List ℕ)) (row : ℕ) : Type 0 where

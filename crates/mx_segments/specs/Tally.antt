@@ -20,14 +20,14 @@ pub record IsTally (words : ℕ) (m : List Perm) (tally : Tally) : Type 0 where
   pub most : tally.runs ≤ words
   pub last : 0 < tally.end → tally.last ≡ perm_at m (tally.end - 1)
 
--- how many runs begin before a word at the tally's end or behind it, and the permission of the word before
+-- how many runs begin before a word at the tally's end or after it, and the permission of the word before
 abbrev pub counted_before : Tally → ℕ → ℕ
 counted_before tally first = if nat_lt tally.end first then tally.runs else tally.before
 
 abbrev pub perm_before : Tally → ℕ → Perm
 perm_before tally first = if nat_lt tally.end first then P.None else tally.last
 
--- whether a run begins at a span, and whether one begins right behind it, where no word has a permission
+-- whether a run begins at a span, and whether one begins right after it, where no word has a permission
 abbrev pub begins_at : Tally → Span → Bool
 begins_at tally span = (span.first == 0) || not (same (perm_before tally span.first) span.perm)
 

@@ -86,15 +86,19 @@ pub(crate) fn lay_rows(leaf: &mut Pool<64>, chains: &mut Chains, words: u32, row
     requires small { words ≤ most_words }
     requires spans { All (IsRow words) rows.now }
     requires empty { (q : ℕ) → frames_in chains.old.lists q ≡ 0 }
-    requires spare { sum_by (λ row. segment_frames (row_map words row)) rows.now + 2 ≤ free_in leaf.old }
+    requires spare { sum_by (λ row. segment_frames (row_map words row)) rows.now + 2
+        ≤ free_in leaf.old }
     requires memory { HasRoom (length leaf.old) words chains.old.room }
     ensures store { IsStore leaf.new chains.new.lists }
     ensures same_room { chains.new.room ≡ chains.old.room }
     ensures count { length chains.new.lists ≡ length chains.old.lists }
     ensures total { length leaf.new ≡ length leaf.old }
-    ensures sound { (q : ℕ) → q < length chains.new.lists → IsSound words leaf.new chains.new.lists q }
-    ensures maps { (q : ℕ) → q < length chains.new.lists → map_in words leaf.new chains.new.lists q ≡ row_map words (slice_index_or rows.now q []) }
-    ensures free { free_in leaf.new + sum_by (λ row. segment_frames (row_map words row)) rows.now ≡ free_in leaf.old }
+    ensures sound { (q : ℕ) → q < length chains.new.lists →
+        IsSound words leaf.new chains.new.lists q }
+    ensures maps { (q : ℕ) → q < length chains.new.lists →
+        map_in words leaf.new chains.new.lists q ≡ row_map words (slice_index_or rows.now q []) }
+    ensures free { free_in leaf.new + sum_by (λ row. segment_frames (row_map words row)) rows.now
+        ≡ free_in leaf.old }
 {
     for row in 0..rows.len() {
         lay_row(leaf, chains, row as u32, words, &rows[row]);

@@ -24,7 +24,8 @@ impl Model for Chains {
 
     ghost view = { λ c. record { lists = map vec_items c.lists.items; room = c.room } };
 
-    ghost invariant = { λ c. (length c.lists.items ≤ 63) × ((c.room ≤ most_frames) × All (IsRoomy c.room) c.lists.items) };
+    ghost invariant = { λ c. (length c.lists.items ≤ 63)
+        × ((c.room ≤ most_frames) × All (IsRoomy c.room) c.lists.items) };
 }
 
 impl Chains {
@@ -77,7 +78,8 @@ impl Chains {
     pub(crate) fn push(&mut self, row: u32, frame: u32)
         requires row { row < length self.old.lists }
         requires room { length (list_at self.old.lists row) < self.old.room }
-        ensures lists { self.new.lists ≡ slice_set self.old.lists row (list_at self.old.lists row ++ frame ∷ []) }
+        ensures lists { self.new.lists
+            ≡ slice_set self.old.lists row (list_at self.old.lists row ++ frame ∷ []) }
         ensures same_room { self.new.room ≡ self.old.room }
     {
         append(&mut self.lists[row as usize], frame);
@@ -87,8 +89,10 @@ impl Chains {
     pub(crate) fn pop(&mut self, row: u32) -> u32
         requires row { row < length self.old.lists }
         requires some { 0 < length (list_at self.old.lists row) }
-        ensures frame { result ≡ slice_index (list_at self.old.lists row) (length (list_at self.old.lists row) - 1) }
-        ensures rest { self.new.lists ≡ slice_set self.old.lists row (take (length (list_at self.old.lists row) - 1) (list_at self.old.lists row)) }
+        ensures frame { result
+            ≡ slice_index (list_at self.old.lists row) (length (list_at self.old.lists row) - 1) }
+        ensures rest { self.new.lists ≡ slice_set self.old.lists row
+            (take (length (list_at self.old.lists row) - 1) (list_at self.old.lists row)) }
         ensures same_room { self.new.room ≡ self.old.room }
     {
         cut(&mut self.lists[row as usize])

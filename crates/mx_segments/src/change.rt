@@ -27,9 +27,14 @@ fn shift(leaf: &mut Pool<64>, chains: &Chains, row: u32, plan: &Plan)
     requires room { plan.now.all ≤ 64 * frames_in chains.now.lists row }
     requires enough { total plan.now ≤ 64 * frames_in chains.now.lists row }
     ensures rewritten { IsRewritten leaf.old leaf.new chains.now.lists row }
-    ensures moved { (k : ℕ) → plan.now.behind ≤ k → k < plan.now.all → word_in leaf.new chains.now.lists row (k + kept plan.now - plan.now.behind) ≡ word_in leaf.old chains.now.lists row k }
-    ensures same { (k : ℕ) → k < plan.now.before → word_in leaf.new chains.now.lists row k ≡ word_in leaf.old chains.now.lists row k }
-    ensures rest { (k : ℕ) → plan.now.all ≤ k → total plan.now ≤ k → k < 64 * frames_in chains.now.lists row → word_in leaf.new chains.now.lists row k ≡ word_in leaf.old chains.now.lists row k }
+    ensures moved { (k : ℕ) → plan.now.behind ≤ k → k < plan.now.all →
+        word_in leaf.new chains.now.lists row (k + kept plan.now - plan.now.behind)
+        ≡ word_in leaf.old chains.now.lists row k }
+    ensures same { (k : ℕ) → k < plan.now.before →
+        word_in leaf.new chains.now.lists row k ≡ word_in leaf.old chains.now.lists row k }
+    ensures rest { (k : ℕ) → plan.now.all ≤ k → total plan.now ≤ k →
+        k < 64 * frames_in chains.now.lists row →
+        word_in leaf.new chains.now.lists row k ≡ word_in leaf.old chains.now.lists row k }
 {
     let kept = plan.kept_count();
     if plan.behind < kept {
@@ -61,7 +66,8 @@ fn rewrite_row(
     ensures store { IsStore leaf.new chains.new.lists }
     ensures others { KeepsOthers leaf.old chains.old.lists leaf.new chains.new.lists row }
     ensures sound { IsSound words leaf.new chains.new.lists row }
-    ensures changed { map_in words leaf.new chains.new.lists row ≡ laid (grant_of first count perm) (map_in words leaf.old chains.old.lists row) }
+    ensures changed { map_in words leaf.new chains.new.lists row
+        ≡ laid (grant_of first count perm) (map_in words leaf.old chains.old.lists row) }
     ensures free { free_in leaf.old ≤ free_in leaf.new + 1 }
     ensures same_room { chains.new.room ≡ chains.old.room }
 {
@@ -105,7 +111,8 @@ pub(crate) fn change_row(
     ensures store { IsStore leaf.new chains.new.lists }
     ensures others { KeepsOthers leaf.old chains.old.lists leaf.new chains.new.lists row }
     ensures sound { IsSound words leaf.new chains.new.lists row }
-    ensures changed { map_in words leaf.new chains.new.lists row ≡ laid (grant_of first count perm) (map_in words leaf.old chains.old.lists row) }
+    ensures changed { map_in words leaf.new chains.new.lists row
+        ≡ laid (grant_of first count perm) (map_in words leaf.old chains.old.lists row) }
     ensures free { free_in leaf.old ≤ free_in leaf.new + 1 }
     ensures same_room { chains.new.room ≡ chains.old.room }
 {

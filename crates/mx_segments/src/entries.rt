@@ -45,7 +45,8 @@ pub(crate) fn runs_before(
     requires row { row < length chains.now.lists }
     requires small { words ≤ most_words }
     requires sound { IsSound words leaf.now chains.now.lists row }
-    ensures { result ≡ count_below (min before words) (is_start (map_in words leaf.now chains.now.lists row)) }
+    ensures { result
+        ≡ count_below (min before words) (is_start (map_in words leaf.now chains.now.lists row)) }
 {
     let before = before.min(words);
     let mut low = 0;
@@ -73,7 +74,8 @@ pub(crate) fn entry_at(
     requires row { row < length chains.now.lists }
     requires sound { IsSound words leaf.now chains.now.lists row }
     ensures none { IsNone result ↔ (runs (map_in words leaf.now chains.now.lists row) ≤ i) }
-    ensures entry { IfSome result (λ e. e ≡ entry_of (map_in words leaf.now chains.now.lists row) i) }
+    ensures entry { IfSome result
+        (λ e. e ≡ entry_of (map_in words leaf.now chains.now.lists row) i) }
 {
     if i / 64 >= chains.len_at(row) {
         return None;
@@ -146,7 +148,9 @@ pub(crate) fn has_already(
     requires sound { IsSound words leaf.now chains.now.lists row }
     requires some { 0 < count }
     requires inside { first + count ≤ words }
-    ensures { result ≡ true → laid (grant_of first count perm) (map_in words leaf.now chains.now.lists row) ≡ map_in words leaf.now chains.now.lists row }
+    ensures { result ≡ true →
+        laid (grant_of first count perm) (map_in words leaf.now chains.now.lists row)
+        ≡ map_in words leaf.now chains.now.lists row }
 {
     let run = run_in(leaf, chains, row, words, first);
     run.perm.number() == perm.number() && first + count <= run.first + run.count

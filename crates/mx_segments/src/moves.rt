@@ -24,7 +24,9 @@ fn copy_piece(leaf: &mut Pool<64>, chains: &Chains, row: u32, from: u32, to: u32
     requires one_source { from % 64 + count ≤ 64 }
     requires one_target { to % 64 + count ≤ 64 }
     ensures rewritten { IsRewritten leaf.old leaf.new chains.now.lists row }
-    ensures piece { IsPieceCopied (word_in leaf.old chains.now.lists row) (word_in leaf.new chains.now.lists row) from to count (64 * frames_in chains.now.lists row) }
+    ensures piece { IsPieceCopied
+        (word_in leaf.old chains.now.lists row) (word_in leaf.new chains.now.lists row)
+        from to count (64 * frames_in chains.now.lists row) }
 {
     let source = chains.frame_at(row, from / FRAME_WORDS);
     let target = chains.frame_at(row, to / FRAME_WORDS);
@@ -45,7 +47,7 @@ fn piece_begin(from: u32, end: u32, by: u32) -> u32
     from.max(source).max(target.saturating_sub(by))
 }
 
-// The place behind the first words from place `begin` on, before place `to`, that lie in one frame and still do `by` places lower.
+// The place after the first words from place `begin` on, before place `to`, that lie in one frame and still do `by` places lower.
 fn piece_end(begin: u32, to: u32, by: u32) -> u32
     requires some { begin < to }
     requires far { by ≤ begin }
@@ -68,9 +70,12 @@ pub(crate) fn move_up(leaf: &mut Pool<64>, chains: &Chains, row: u32, from: u32,
     requires room { to + by ≤ 64 * frames_in chains.now.lists row }
     requires most { to + by ≤ most_words }
     ensures rewritten { IsRewritten leaf.old leaf.new chains.now.lists row }
-    ensures moved { (j : ℕ) → from ≤ j → j < to → word_in leaf.new chains.now.lists row (j + by) ≡ word_in leaf.old chains.now.lists row j }
-    ensures below { (j : ℕ) → j < from + by → word_in leaf.new chains.now.lists row j ≡ word_in leaf.old chains.now.lists row j }
-    ensures behind { (j : ℕ) → to + by ≤ j → j < 64 * frames_in chains.now.lists row → word_in leaf.new chains.now.lists row j ≡ word_in leaf.old chains.now.lists row j }
+    ensures moved { (j : ℕ) → from ≤ j → j < to →
+        word_in leaf.new chains.now.lists row (j + by) ≡ word_in leaf.old chains.now.lists row j }
+    ensures below { (j : ℕ) → j < from + by →
+        word_in leaf.new chains.now.lists row j ≡ word_in leaf.old chains.now.lists row j }
+    ensures behind { (j : ℕ) → to + by ≤ j → j < 64 * frames_in chains.now.lists row →
+        word_in leaf.new chains.now.lists row j ≡ word_in leaf.old chains.now.lists row j }
 {
     let mut end = to;
     while from < end {
@@ -89,9 +94,12 @@ pub(crate) fn move_down(leaf: &mut Pool<64>, chains: &Chains, row: u32, from: u3
     requires room { to ≤ 64 * frames_in chains.now.lists row }
     requires most { to ≤ most_words }
     ensures rewritten { IsRewritten leaf.old leaf.new chains.now.lists row }
-    ensures moved { (j : ℕ) → from ≤ j → j < to → word_in leaf.new chains.now.lists row (j - by) ≡ word_in leaf.old chains.now.lists row j }
-    ensures below { (j : ℕ) → j < from - by → word_in leaf.new chains.now.lists row j ≡ word_in leaf.old chains.now.lists row j }
-    ensures behind { (j : ℕ) → to ≤ j → j < 64 * frames_in chains.now.lists row → word_in leaf.new chains.now.lists row j ≡ word_in leaf.old chains.now.lists row j }
+    ensures moved { (j : ℕ) → from ≤ j → j < to →
+        word_in leaf.new chains.now.lists row (j - by) ≡ word_in leaf.old chains.now.lists row j }
+    ensures below { (j : ℕ) → j < from - by →
+        word_in leaf.new chains.now.lists row j ≡ word_in leaf.old chains.now.lists row j }
+    ensures behind { (j : ℕ) → to ≤ j → j < 64 * frames_in chains.now.lists row →
+        word_in leaf.new chains.now.lists row j ≡ word_in leaf.old chains.now.lists row j }
 {
     let mut begin = from;
     while begin < to {
@@ -108,8 +116,10 @@ pub(crate) fn clear(leaf: &mut Pool<64>, chains: &Chains, row: u32, from: u32, t
     requires room { to ≤ 64 * frames_in chains.now.lists row }
     ensures rewritten { IsRewritten leaf.old leaf.new chains.now.lists row }
     ensures zeros { (j : ℕ) → from ≤ j → j < to → word_in leaf.new chains.now.lists row j ≡ 0 }
-    ensures below { (j : ℕ) → j < from → j < 64 * frames_in chains.now.lists row → word_in leaf.new chains.now.lists row j ≡ word_in leaf.old chains.now.lists row j }
-    ensures behind { (j : ℕ) → to ≤ j → j < 64 * frames_in chains.now.lists row → word_in leaf.new chains.now.lists row j ≡ word_in leaf.old chains.now.lists row j }
+    ensures below { (j : ℕ) → j < from → j < 64 * frames_in chains.now.lists row →
+        word_in leaf.new chains.now.lists row j ≡ word_in leaf.old chains.now.lists row j }
+    ensures behind { (j : ℕ) → to ≤ j → j < 64 * frames_in chains.now.lists row →
+        word_in leaf.new chains.now.lists row j ≡ word_in leaf.old chains.now.lists row j }
 {
     for i in from..to {
         put(leaf, chains, row, i, 0);
@@ -131,8 +141,11 @@ pub(crate) fn put_if(
     requires place { is_there ≡ true → at < 64 * frames_in chains.now.lists row }
     requires word { first ≤ most_words }
     ensures rewritten { IsRewritten leaf.old leaf.new chains.now.lists row }
-    ensures here { is_there ≡ true → word_in leaf.new chains.now.lists row at ≡ entry_word first perm }
-    ensures elsewhere { (j : ℕ) → (is_there ≡ true → j ≢ at) → j < 64 * frames_in chains.now.lists row → word_in leaf.new chains.now.lists row j ≡ word_in leaf.old chains.now.lists row j }
+    ensures here { is_there ≡ true →
+        word_in leaf.new chains.now.lists row at ≡ entry_word first perm }
+    ensures elsewhere { (j : ℕ) → (is_there ≡ true → j ≢ at) →
+        j < 64 * frames_in chains.now.lists row →
+        word_in leaf.new chains.now.lists row j ≡ word_in leaf.old chains.now.lists row j }
 {
     if is_there {
         put(leaf, chains, row, at, RAM_BASE + 4 * first + perm.number());
@@ -151,8 +164,10 @@ pub(crate) fn make_room(leaf: &mut Pool<64>, chains: &mut Chains, row: u32, need
     ensures others { KeepsOthers leaf.old chains.old.lists leaf.new chains.new.lists row }
     ensures enough { needed ≤ 64 * frames_in chains.new.lists row }
     ensures more { frames_in chains.old.lists row ≤ frames_in chains.new.lists row }
-    ensures words { (j : ℕ) → j < 64 * frames_in chains.old.lists row → word_in leaf.new chains.new.lists row j ≡ word_in leaf.old chains.old.lists row j }
-    ensures zeros { (j : ℕ) → 64 * frames_in chains.old.lists row ≤ j → j < 64 * frames_in chains.new.lists row → word_in leaf.new chains.new.lists row j ≡ 0 }
+    ensures words { (j : ℕ) → j < 64 * frames_in chains.old.lists row →
+        word_in leaf.new chains.new.lists row j ≡ word_in leaf.old chains.old.lists row j }
+    ensures zeros { (j : ℕ) → 64 * frames_in chains.old.lists row ≤ j →
+        j < 64 * frames_in chains.new.lists row → word_in leaf.new chains.new.lists row j ≡ 0 }
     ensures free { free_in leaf.old ≤ free_in leaf.new + 1 }
     ensures same_room { chains.new.room ≡ chains.old.room }
 {
@@ -169,7 +184,8 @@ pub(crate) fn trim(leaf: &mut Pool<64>, chains: &mut Chains, row: u32, frames: u
     ensures store { IsStore leaf.new chains.new.lists }
     ensures others { KeepsOthers leaf.old chains.old.lists leaf.new chains.new.lists row }
     ensures frames { frames_in chains.new.lists row ≡ frames }
-    ensures words { (j : ℕ) → j < 64 * frames → word_in leaf.new chains.new.lists row j ≡ word_in leaf.old chains.old.lists row j }
+    ensures words { (j : ℕ) → j < 64 * frames →
+        word_in leaf.new chains.new.lists row j ≡ word_in leaf.old chains.old.lists row j }
     ensures free { free_in leaf.old ≤ free_in leaf.new }
     ensures same_room { chains.new.room ≡ chains.old.room }
 {

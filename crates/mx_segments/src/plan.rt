@@ -27,9 +27,9 @@ pub(crate) struct Plan {
     pub all: u32,
     /// Whether a run begins at the range afterwards.
     pub starts: bool,
-    /// Whether a run begins right behind the range afterwards.
+    /// Whether a run begins right after the range afterwards.
     pub ends: bool,
-    /// The permission of the word behind the range.
+    /// The permission of the word after the range.
     pub next: Perm,
 }
 
@@ -42,7 +42,7 @@ impl Plan {
         self.before + u32::from(self.starts) + u32::from(self.ends)
     }
 
-    // The number of the run that begins right behind the range afterwards, if one does.
+    // The number of the run that begins right after the range afterwards, if one does.
     pub(crate) fn second(&self) -> u32
         requires { self.now.before + 1 < 2 ^ 32 }
         ensures { result ≡ self.now.before + bit self.now.starts }
@@ -68,14 +68,15 @@ pub(crate) fn differ(one: Perm, other: Perm) -> bool
     one.number() != other.number()
 }
 
-// Whether a run begins at a word that gets a permission, behind a word that keeps its own.
+// Whether a run begins at a word that gets a permission, after a word that keeps its own.
 fn starts_at(leaf: &Pool<64>, chains: &Chains, row: u32, words: u32, first: u32, perm: Perm) -> bool
     requires store { IsStore leaf.now chains.now.lists }
     requires row { row < length chains.now.lists }
     requires small { words ≤ most_words }
     requires sound { IsSound words leaf.now chains.now.lists row }
     requires word { first < words }
-    ensures { result ≡ ((first == 0) || not (same (perm_at (map_in words leaf.now chains.now.lists row) (first - 1)) perm)) }
+    ensures { result ≡ ((first == 0)
+        || not (same (perm_at (map_in words leaf.now chains.now.lists row) (first - 1)) perm)) }
 {
     if first == 0 {
         return true;
@@ -148,7 +149,8 @@ pub(crate) fn frames_after(
     requires sound { IsSound words leaf.now chains.now.lists row }
     requires some { 0 < count }
     requires inside { first + count ≤ words }
-    ensures frames { result ≡ (runs (laid (grant_of first count perm) (map_in words leaf.now chains.now.lists row)) + 63) / 64 }
+    ensures frames { result ≡ (runs
+        (laid (grant_of first count perm) (map_in words leaf.now chains.now.lists row)) + 63) / 64 }
     ensures most { result ≤ most_frames }
 {
     if has_already(leaf, chains, row, words, first, count, perm) {

@@ -39,7 +39,9 @@ fn change_one(leaf: &mut Pool<64>, chains: &mut Chains, row: u32, words: u32, ch
     ensures store { IsStore leaf.new chains.new.lists }
     ensures others { KeepsOthers leaf.old chains.old.lists leaf.new chains.new.lists row }
     ensures sound { IsSound words leaf.new chains.new.lists row }
-    ensures changed { map_in words leaf.new chains.new.lists row ≡ changed_map change.now.first change.now.count (given change.now (row + 1)) (map_in words leaf.old chains.old.lists row) }
+    ensures changed { map_in words leaf.new chains.new.lists row
+        ≡ changed_map change.now.first change.now.count (given change.now (row + 1))
+        (map_in words leaf.old chains.old.lists row) }
     ensures free { free_in leaf.old ≤ free_in leaf.new + 1 }
     ensures same_room { chains.new.room ≡ chains.old.room }
 {
@@ -53,7 +55,8 @@ pub(crate) fn change_all(leaf: &mut Pool<64>, chains: &mut Chains, words: u32, c
     requires store { IsStore leaf.old chains.old.lists }
     requires few { length chains.old.lists ≤ most_modules }
     requires small { words ≤ most_words }
-    requires sound { (q : ℕ) → q < length chains.old.lists → IsSound words leaf.old chains.old.lists q }
+    requires sound { (q : ℕ) → q < length chains.old.lists →
+        IsSound words leaf.old chains.old.lists q }
     requires some { 0 < change.now.count }
     requires inside { change.now.first + change.now.count ≤ words }
     requires spare { length chains.old.lists ≤ free_in leaf.old }
@@ -62,8 +65,12 @@ pub(crate) fn change_all(leaf: &mut Pool<64>, chains: &mut Chains, words: u32, c
     ensures rows { length chains.new.lists ≡ length chains.old.lists }
     ensures total { length leaf.new ≡ length leaf.old }
     ensures same_room { chains.new.room ≡ chains.old.room }
-    ensures sound { (q : ℕ) → q < length chains.new.lists → IsSound words leaf.new chains.new.lists q }
-    ensures changed { (q : ℕ) → q < length chains.old.lists → map_in words leaf.new chains.new.lists q ≡ changed_map change.now.first change.now.count (given change.now (q + 1)) (map_in words leaf.old chains.old.lists q) }
+    ensures sound { (q : ℕ) → q < length chains.new.lists →
+        IsSound words leaf.new chains.new.lists q }
+    ensures changed { (q : ℕ) → q < length chains.old.lists →
+        map_in words leaf.new chains.new.lists q
+        ≡ changed_map change.now.first change.now.count (given change.now (q + 1))
+        (map_in words leaf.old chains.old.lists q) }
 {
     let rows = chains.count();
     for row in 0..rows {
@@ -80,7 +87,9 @@ fn row_need(leaf: &Pool<64>, chains: &Chains, row: u32, words: u32, change: &Cha
     requires sound { IsSound words leaf.now chains.now.lists row }
     requires some { 0 < change.now.count }
     requires inside { change.now.first + change.now.count ≤ words }
-    ensures need { result ≡ segment_frames (changed_map change.now.first change.now.count (given change.now (row + 1)) (map_in words leaf.now chains.now.lists row)) }
+    ensures need { result
+        ≡ segment_frames (changed_map change.now.first change.now.count (given change.now (row + 1))
+        (map_in words leaf.now chains.now.lists row)) }
     ensures most { result ≤ most_frames }
 {
     match given_to(change, row + 1) {
@@ -94,10 +103,13 @@ pub(crate) fn need_after(leaf: &Pool<64>, chains: &Chains, words: u32, change: &
     requires store { IsStore leaf.now chains.now.lists }
     requires few { length chains.now.lists ≤ most_modules }
     requires small { words ≤ most_words }
-    requires sound { (q : ℕ) → q < length chains.now.lists → IsSound words leaf.now chains.now.lists q }
+    requires sound { (q : ℕ) → q < length chains.now.lists →
+        IsSound words leaf.now chains.now.lists q }
     requires some { 0 < change.now.count }
     requires inside { change.now.first + change.now.count ≤ words }
-    ensures { result ≡ sum_below (length chains.now.lists) (λ q. segment_frames (changed_map change.now.first change.now.count (given change.now (q + 1)) (map_in words leaf.now chains.now.lists q))) }
+    ensures { result ≡ sum_below (length chains.now.lists) (λ q. segment_frames
+        (changed_map change.now.first change.now.count (given change.now (q + 1))
+        (map_in words leaf.now chains.now.lists q))) }
 {
     let mut needed = 0;
     for row in 0..chains.count() {

@@ -44,8 +44,10 @@ impl Segments {
     /// in bits 1..0. `None` exactly where the map has no run `i`. Domains count from 1.
     pub fn entry(&self, domain: u32, i: u32) -> Option<u32>
         requires { IsDomain (maps_in self.now.words self.now.leaf self.now.chains.lists) domain }
-        ensures none { IsNone result ↔ (runs (map_of (maps_in self.now.words self.now.leaf self.now.chains.lists) domain) ≤ i) }
-        ensures entry { IfSome result (λ e. e ≡ entry_of (map_of (maps_in self.now.words self.now.leaf self.now.chains.lists) domain) i) }
+        ensures none { IsNone result ↔ (runs
+            (map_of (maps_in self.now.words self.now.leaf self.now.chains.lists) domain) ≤ i) }
+        ensures entry { IfSome result (λ e. e ≡ entry_of
+            (map_of (maps_in self.now.words self.now.leaf self.now.chains.lists) domain) i) }
     {
         entry_at(&self.leaf, &self.chains, domain - 1, self.words, i)
     }

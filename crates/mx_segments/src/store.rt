@@ -23,7 +23,8 @@ pub(crate) fn put(leaf: &mut Pool<64>, chains: &Chains, row: u32, i: u32, value:
     requires place { i < 64 * frames_in chains.now.lists row }
     ensures store { IsStore leaf.new chains.now.lists }
     ensures here { word_in leaf.new chains.now.lists row i ≡ value }
-    ensures elsewhere { (j : ℕ) → j < 64 * frames_in chains.now.lists row → j ≢ i → word_in leaf.new chains.now.lists row j ≡ word_in leaf.old chains.now.lists row j }
+    ensures elsewhere { (j : ℕ) → j < 64 * frames_in chains.now.lists row → j ≢ i →
+        word_in leaf.new chains.now.lists row j ≡ word_in leaf.old chains.now.lists row j }
     ensures others { KeepsOthers leaf.old chains.now.lists leaf.new chains.now.lists row }
     ensures free { free_in leaf.new ≡ free_in leaf.old }
 {
@@ -38,8 +39,10 @@ pub(crate) fn grow(leaf: &mut Pool<64>, chains: &mut Chains, row: u32)
     requires spare { 0 < free_in leaf.old }
     ensures store { IsStore leaf.new chains.new.lists }
     ensures frames { frames_in chains.new.lists row ≡ frames_in chains.old.lists row + 1 }
-    ensures zeros { (j : ℕ) → 64 * frames_in chains.old.lists row ≤ j → j < 64 * frames_in chains.new.lists row → word_in leaf.new chains.new.lists row j ≡ 0 }
-    ensures words { (j : ℕ) → j < 64 * frames_in chains.old.lists row → word_in leaf.new chains.new.lists row j ≡ word_in leaf.old chains.old.lists row j }
+    ensures zeros { (j : ℕ) → 64 * frames_in chains.old.lists row ≤ j →
+        j < 64 * frames_in chains.new.lists row → word_in leaf.new chains.new.lists row j ≡ 0 }
+    ensures words { (j : ℕ) → j < 64 * frames_in chains.old.lists row →
+        word_in leaf.new chains.new.lists row j ≡ word_in leaf.old chains.old.lists row j }
     ensures others { KeepsOthers leaf.old chains.old.lists leaf.new chains.new.lists row }
     ensures free { free_in leaf.new + 1 ≡ free_in leaf.old }
     ensures same_room { chains.new.room ≡ chains.old.room }
@@ -57,7 +60,8 @@ pub(crate) fn shrink(leaf: &mut Pool<64>, chains: &mut Chains, row: u32)
     requires some { 0 < frames_in chains.old.lists row }
     ensures store { IsStore leaf.new chains.new.lists }
     ensures frames { frames_in chains.new.lists row + 1 ≡ frames_in chains.old.lists row }
-    ensures words { (j : ℕ) → j < 64 * frames_in chains.new.lists row → word_in leaf.new chains.new.lists row j ≡ word_in leaf.old chains.old.lists row j }
+    ensures words { (j : ℕ) → j < 64 * frames_in chains.new.lists row →
+        word_in leaf.new chains.new.lists row j ≡ word_in leaf.old chains.old.lists row j }
     ensures others { KeepsOthers leaf.old chains.old.lists leaf.new chains.new.lists row }
     ensures free { free_in leaf.new ≡ free_in leaf.old + 1 }
     ensures same_room { chains.new.room ≡ chains.old.room }

@@ -12,7 +12,7 @@ use mx_words::{Perm, Span, Spans};
 /// The runs of the map of a row's first spans. From word `end` on the map has no permission.
 #[derive(Clone, Copy)]
 pub(crate) struct Tally {
-    /// The word behind the last span.
+    /// The word after the last span.
     pub end: u32,
     /// How many runs begin before it.
     pub before: u32,
@@ -22,7 +22,7 @@ pub(crate) struct Tally {
     pub last: Perm,
 }
 
-// How many runs begin before a word behind the spans.
+// How many runs begin before a word after the spans.
 fn count_before(tally: &Tally, first: u32) -> u32
     ensures { result ≡ counted_before tally.now first }
 {
@@ -33,7 +33,7 @@ fn count_before(tally: &Tally, first: u32) -> u32
     }
 }
 
-// The permission of the word before a word behind the spans.
+// The permission of the word before a word after the spans.
 fn perm_of_previous(tally: &Tally, first: u32) -> Perm
     ensures { result ≡ perm_before tally.now first }
 {
@@ -54,7 +54,7 @@ fn is_begun(tally: &Tally, span: Span) -> bool
     differ(perm_of_previous(tally, span.first), span.perm)
 }
 
-// Whether a run begins right behind the next span.
+// Whether a run begins right after the next span.
 fn is_ended(span: Span, words: u32) -> bool
     requires { span.first + span.count ≤ words }
     ensures { result ≡ begins_behind span words }
@@ -62,7 +62,7 @@ fn is_ended(span: Span, words: u32) -> bool
     span.first + span.count < words && differ(span.perm, Perm::None)
 }
 
-// The tally with span `n` of a row, which lies behind those before it.
+// The tally with span `n` of a row, which lies after those before it.
 fn with_span(tally: &Tally, row: &Spans, n: u32, words: u32) -> Tally
     requires row { IsRow words row.now }
     requires place { n < length row.now }

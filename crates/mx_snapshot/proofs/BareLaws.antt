@@ -238,7 +238,7 @@ acted-hart r c h hart (Returns rd frame) = refl
 acted-hart r c h hart (Runs regs pc) = refl
 acted-hart r c h hart (Writes address size value) = refl
 
--- a decided action, behind its looks
+-- a decided action, after its looks
 bare-enacted : (r : Reads) (c : Core) (h : ℕ) (d : Decided) → bare_made (enacted r c h d) ≡ bare_made (enacted r (bare c) h d)
 bare-enacted r c h d =
     bare-acted r (looked_all r h d.looks c) h (hart_at c h) d.action

@@ -97,7 +97,7 @@ run-behind schedule (suc n) bytes notes s = elim (is_stopped schedule s) as (λ 
   | false ↦ ap (run schedule n) (turn-behind bytes notes s (hart_of schedule s.core)) ∙ run-behind schedule n bytes notes (turn s (hart_of schedule s.core))
 ]
 
--- a run is that from the same state with neither, behind its console bytes and notes
+-- a run is that from the same state with neither, after its console bytes and notes
 pub run-silent : (schedule : Schedule) (n : ℕ) (s : State) → run schedule n s ≡ behind s.console s.notes (run schedule n (silent s))
 run-silent schedule n s = ap (run schedule n) (sym whole) ∙ run-behind schedule n s.console s.notes (silent s)
   where

@@ -32,7 +32,7 @@ use mx_words::word_range;
 /// none. Checker, RAM and owners have the same number of words.
 #[derive(Drop)]
 pub struct Supervisor<T: PermTables, const N: usize> {
-    /// The permission tables behind the harts' caches, and the calls in flight.
+    /// The permission tables after the harts' caches, and the calls in flight.
     pub checker: Checker<T, N>,
     /// RAM.
     pub ram: Ram,

@@ -3,3 +3,4 @@ pub mod ChangeLaws
 pub mod RowsBuilt
 pub mod NamedLaws
 pub mod ChangedMaps
+pub mod WithinLaws

@@ -61,7 +61,7 @@ module _ (words : ℕ) (row : List Span) (is : IsRow words row) where
   ends_within zero le = omega arith
   ends_within (suc n) le = is.inside n (omega arith)
 
-  -- behind the first n spans their map has no permission, and before their end it is the whole row's
+  -- after the first n spans their map has no permission, and before their end it is the whole row's
   none_behind : (n i : ℕ) → n ≤ length row → end_at row n ≤ i → at (list_map granted (take n row)) i ≡ P.None
   none_behind n i le from = kept_by_all i P.None (take n row) (λ k lt.
       let small : k < n = omega (arith, length-take n row) in

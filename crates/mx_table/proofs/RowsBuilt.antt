@@ -13,7 +13,7 @@ no_row words = record {
   inside = λ i lt. absurd (omega arith);
 }
 
--- a row of the words below n, and one more span from word n on or behind it
+-- a row of the words below n, and one more span from word n on or after it
 pub longer : (n m : ℕ) (row : List Span) (s : Span) → IsRow n row → n ≤ s.first → 0 < s.count → s.first + s.count ≤ m → IsRow m (row ++ s ∷ [])
 longer n m row s is behind some inside = record {
   some = λ i lt. some_at i lt (cases_lt i (length row));

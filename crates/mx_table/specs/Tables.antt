@@ -33,7 +33,8 @@ pub record IsLimit (limit : Need) : Type 0 where
   pub spill : limit.spill ≤ 1048576
 
 -- what the maps of tables always are: 1 to 63 of them, each with one permission for each of the words, and within the limit
-pub record IsShaped (kind : Kind) (words : ℕ) (limit : Need) (maps : List (List Perm)) : Type 0 where
+pub record IsShaped (kind : Kind) (words : ℕ) (limit : Need) (maps : List (List Perm))
+    : Type 0 where
   pub some_words : 1 ≤ words
   pub few_words : words ≤ most_words
   pub some_maps : 1 ≤ length maps
@@ -49,7 +50,7 @@ granted s = record { first = s.first; count = s.count; value = s.perm }
 abbrev pub row_map : ℕ → List Span → List Perm
 row_map words row = map (list_map granted row) words
 
--- what is read of a row behind its last span
+-- what is read of a row after its last span
 abbrev pub no_span : Span
 no_span = record { first = 0; count = 0; perm = P.None }
 
@@ -57,10 +58,13 @@ no_span = record { first = 0; count = 0; perm = P.None }
 pub record IsRow (words : ℕ) (row : List Span) : Type 0 where
   pub some : (i : ℕ) → i < length row → 0 < (slice_index_or row i no_span).count
   pub sorted : (i : ℕ) → i + 1 < length row →
-      (slice_index_or row i no_span).first + (slice_index_or row i no_span).count ≤ (slice_index_or row (i + 1) no_span).first
-  pub inside : (i : ℕ) → i < length row → (slice_index_or row i no_span).first + (slice_index_or row i no_span).count ≤ words
+      (slice_index_or row i no_span).first + (slice_index_or row i no_span).count
+      ≤ (slice_index_or row (i + 1) no_span).first
+  pub inside : (i : ℕ) → i < length row →
+      (slice_index_or row i no_span).first + (slice_index_or row i no_span).count ≤ words
 
 -- why tables for these maps aren't built: the need of the maps, which exceeds the limit, or want of memory for maps that fit
 abbrev pub IsRefused : Kind → Need → List (List Perm) → BuildRefused → Type 0
-IsRefused kind limit maps (TablesFull needed) = (needed ≡ need kind maps) × IsFalse (within needed limit)
+IsRefused kind limit maps (TablesFull needed) =
+    (needed ≡ need kind maps) × IsFalse (within needed limit)
 IsRefused kind limit maps NoMemory = IsTrue (fits kind limit maps)

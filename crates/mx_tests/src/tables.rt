@@ -168,7 +168,7 @@ fn a_full_packed_trie_takes_a_page_where_another_becomes_even(rt: HostRuntime) -
     Ok(())
 }
 
-// 32 words apart, with read, and what lies behind each: 64 runs, which fill a frame. One more such word makes 66 runs, one fewer 62.
+// 32 words apart, with read, and what lies after each: 64 runs, which fill a frame. One more such word makes 66 runs, one fewer 62.
 // Without word 0 there are 63, since the words from 0 on to the next one become the first run.
 #[test]
 fn full_segments_take_a_run_where_others_join(rt: HostRuntime) -> Result<(), Fail> {
@@ -357,7 +357,7 @@ fn in_root(tables: &Trie<Vector>, place: u32) -> u32
     tables.upper.get(root, place)
 }
 
-// Read on the first 2^20 words of RAM and read-write on as many behind them: RAM begins at 0x80000000, which is 512 times 4 MiB.
+// Read on the first 2^20 words of RAM and read-write on as many after them: RAM begins at 0x80000000, which is 512 times 4 MiB.
 #[test]
 fn a_root_entry_stands_at_the_place_of_its_addresses(rt: HostRuntime) -> Result<(), Fail> {
     let Ok(row) = two_regions(rt.alloc()) else {

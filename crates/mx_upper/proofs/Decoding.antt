@@ -64,7 +64,7 @@ starts-next : (perms : List Perm) (place j : ℕ) → place + 1 ≡ j → j < le
 starts-next perms place j next below short ne =
     let s = start_code-other perms place j next below ne in omega arith
 
--- whether a run begins right behind a word is told by the lowest start
+-- whether a run begins right after a word is told by the lowest start
 pub ends-there : (perms : List Perm) (place j : ℕ) → place + 1 ≡ j → j < length perms → length perms ≡ 16 →
     start_code place (drop place perms) % 16 ≡ j → number (perm_at perms place) ≢ number (perm_at perms j)
 ends-there perms place j next below whole at e =

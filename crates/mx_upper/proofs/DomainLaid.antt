@@ -8,22 +8,12 @@ use Rattle.mx_words.specs.Blocks.{is_broken}
 use Rattle.mx_upper.specs.Leaf.{IsTrieKind, form_reach}
 use Rattle.mx_upper.specs.Walk.{Frames, most_pages, most_lines, leaf_word, has_leaf, map_left, map_right, IsLine, IsTight}
 use Rattle.mx_upper.specs.Forest.{root_at, map_at, IsTables, IsLineKept}
+use Rattle.mx_upper.specs.Steps.{AreLinesReached}
 use Rattle.mx_upper.specs.Laying.{IsRangeLaid, IsCanonical, IsDomainLaid}
 use Rattle.mx_upper.proofs.MapReaches.{DifferOnRange, differ-laid, map_left-local, map_right-local, line-local, map_left-most, map_right-most}
 use Rattle.mx_upper.proofs.TightLaws.{broken-out}
 use Rattle.mx_upper.proofs.LineEntries.{line-stands}
 use Rattle.mx_upper.proofs.CanonicalLaws.{line-kept, reached-kept, canonical-kept}
-
--- the lines from `from` up to `to` of domain d that have entries have the reaches of the map, and nothing else changes
-pub record AreLinesReached (kind : Kind) (words : ℕ) (upper leaf spill leaf' : Frames) (roots : List ℕ) (d from to : ℕ) : Type 0 where
-  pub tables : IsTables kind words upper leaf' spill roots
-  pub maps : (e : ℕ) → e < length roots → map_at kind words upper leaf' spill roots e ≡ map_at kind words upper leaf spill roots e
-  pub here : (z : ℕ) → from ≤ z → z < to → has_leaf upper (root_at roots d) (z / 64) ≡ true →
-      IsLine kind spill (map_at kind words upper leaf spill roots d) z (map_left kind (map_at kind words upper leaf spill roots d) z)
-      (map_right kind (map_at kind words upper leaf spill roots d) z) (leaf_word upper leaf' (root_at roots d) z)
-  pub lines : (e z : ℕ) → e < length roots → z < most_lines → (e ≢ d) ⊎ ((z < from) ⊎ (to ≤ z)) → has_leaf upper (root_at roots e) (z / 64) ≡ true →
-      IsLineKept kind upper leaf spill upper leaf' spill (root_at roots e) z
-  pub total : length leaf' ≡ length leaf
 
 -- the lines before `from` and from `to` on that have entries have the reaches of the map
 pub record AreOuterReached (kind : Kind) (words : ℕ) (upper leaf spill : Frames) (roots : List ℕ) (d from to : ℕ) : Type 0 where
@@ -161,7 +151,7 @@ domain-plain kind words upper leaf spill upper' leaf' spill' roots d first end p
   spill_total = laid.spill_total;
 }
 
--- where lines are written anew from two lines before a range to two lines behind it, and on its first and last page where that had no
+-- where lines are written anew from two lines before a range to two lines after it, and on its first and last page where that had no
 -- leaf table
 module _ (upper : Frames) (root first end from to : ℕ) (order : first < end) (had_first had_last : Bool)
     (first_is : had_first ≡ has_leaf upper root (first / 1024)) (last_is : had_last ≡ has_leaf upper root ((end - 1) / 1024))

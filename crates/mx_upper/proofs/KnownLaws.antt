@@ -58,7 +58,7 @@ module _ (m : List Perm) (z : ℕ) (s : Span) (one : IsOne m s) (before : s.firs
       ∙ ap (λ a. leaf_entry kind (line_at m (z * line_words)) a right n) (sym (deep-left kind left l))
       ∙ ap (λ b. leaf_entry kind (line_at m (z * line_words)) (map_left kind m z) b n) (sym (deep-right kind right r))
 
--- a known span and the span right behind it, and one that begins elsewhere
+-- a known span and the span right after it, and one that begins elsewhere
 pub one-on : (m : List Perm) (known next : Span) (at : ℕ) → IsOne m known → at ≡ known.first + known.count → IsRound m at next → number next.perm ≡ number known.perm →
     IsOne m (record { first = known.first; count = next.first + next.count - known.first; perm = known.perm })
 one-on m known next at one here round same =

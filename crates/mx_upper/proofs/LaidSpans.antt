@@ -19,7 +19,7 @@ module _ (m : List Perm) (first count : ℕ) (p : Perm) (inside : first + count 
     alike = λ k lo hi. laid_in (grant_of first count p) m k P.None (omega arith) lo hi;
   }
 
-  -- a span before the range, and one behind it
+  -- a span before the range, and one after it
   pub before-round : (s : Span) (end : ℕ) → IsRound m word s → word < first → end ≡ min (s.first + s.count) first →
       IsRound (laid (grant_of first count p) m) word (record { first = s.first; count = end - s.first; perm = s.perm })
   before-round s end r below e =

@@ -11,7 +11,7 @@ use Rattle.mx_words.specs.Reach.{span_within, line_at}
 use Rattle.mx_words.proofs.RunLaws.{same_refl}
 use Rattle.mx_upper.proofs.RunBounds.{IsRunIn, span_within-is}
 
--- every word has a run: its first word, and the word behind it
+-- every word has a run: its first word, and the word after it
 pub record Run (m : List Perm) (low high i : ℕ) : Type 0 where
   pub first : ℕ
   pub last : ℕ
@@ -109,7 +109,7 @@ length-line m b =
     let short : length block ≤ line_words = omega (arith, length-take line_words (drop (b * line_words / line_words * line_words) m)) in
     omega (arith, length-append block (replicate (line_words - length block) P.None), length-replicate (line_words - length block) P.None)
 
--- none behind a list's end, however it is made longer with none
+-- none after a list's end, however it is made longer with none
 padded-at : (xs : List Perm) (n k : ℕ) → perm_at (xs ++ replicate n P.None) k ≡ perm_at xs k
 padded-at xs n k = cases (cases_lt k (length xs))
   where

@@ -64,6 +64,7 @@ pub mod ReachesWritten
 pub mod StandingLaws
 pub mod StandingAgain
 pub mod SkipLaws
+pub mod SpaciousLaws
 pub mod EdgeLaws
 pub mod ChangedRows
 pub mod RootLaws

@@ -29,7 +29,7 @@ regions-tight kind words upper leaf spill upper' leaf' spill' roots d x first c 
     outside k other (inl h) = inl (omega arith)
     outside k other (inr h) = inr (omega arith)
 
--- two steps of one range, with an edge of a page between them or nothing before it, where the pages are tight before, between and behind
+-- two steps of one range, with an edge of a page between them or nothing before it, where the pages are tight before, between and after
 module _ (kind : Kind) (words : ℕ) (upper leaf spill upper' leaf' spill' upper'' leaf'' spill'' : Frames) (roots : List ℕ) (d first c end : ℕ) (p : Perm)
     (domain : d < length roots) (from : first ≤ c) (to : c ≤ end) (edge : (c ≡ first) ⊎ (c ≡ c / 1024 * 1024))
     (once : IsRangeLaid kind words upper leaf spill upper' leaf' spill' roots d first c p) (then : IsRangeLaid kind words upper' leaf' spill' upper'' leaf'' spill'' roots d c end p)

@@ -110,6 +110,6 @@ range-ends kind words upper leaf spill upper' leaf' spill' roots d first first' 
     let E : ℕ → Type 0 = λ b. IsRangeLaid kind words upper leaf spill upper' leaf' spill' roots d first' b p in
     subst E f (subst F e laid)
 
--- the first word of a range that lies in block k or behind it, or the range's end
+-- the first word of a range that lies in block k or after it, or the range's end
 abbrev pub cut : ℕ → ℕ → ℕ → ℕ → ℕ
 cut size first end k = min end (max first (k * size))

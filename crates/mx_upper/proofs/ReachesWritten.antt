@@ -7,19 +7,18 @@ use Rattle.mx_words.specs.declared.tables.Kind.{Kind}
 use Rattle.mx_words.specs.Runs.{line_words}
 use Rattle.mx_words.specs.Counting.{bit}
 use Rattle.mx_words.specs.Reach.{packed, line_at}
-use Rattle.mx_pool.specs.Frames.{word_at}
+use Rattle.mx_pool.specs.Frames.{IsTaken, word_at}
 use Rattle.mx_upper.specs.Leaf.{IsTrieKind, form_reach, needs_spill, leaf_entry, spill_number}
 use Rattle.mx_upper.specs.Walk.{Frames, most_lines, target, mid_word, leaf_word, line_number, has_leaf, IsLine, map_left, map_right}
 use Rattle.mx_upper.specs.Forest.{root_at, map_at, IsTables, IsLineKept}
-use Rattle.mx_upper.specs.Steps.{IsEntryWritten, IsLineReached}
+use Rattle.mx_upper.specs.Steps.{IsEntryWritten, IsLineReached, AreLinesReached}
 use Rattle.mx_upper.proofs.EntryLaws.{named-by, line-made}
 use Rattle.mx_upper.proofs.ForestLaws.{DifferOnLine}
-use Rattle.mx_upper.proofs.LineEntries.{line-stands, line-named, spill-owner}
+use Rattle.mx_upper.proofs.LineEntries.{table-taken, line-stands, line-named, spill-owner}
 use Rattle.mx_upper.proofs.LineWriting.{AreSpillsKept, lines-kept, tables-written, map-written, maps-kept}
 use Rattle.mx_upper.proofs.MapReaches.{map_left-most, map_right-most, map_left-before, map_right-behind}
 use Rattle.mx_upper.proofs.MapsRead.{length-map_at}
 use Rattle.mx_upper.proofs.CanonicalLaws.{line-kept}
-use Rattle.mx_upper.proofs.DomainLaid.{AreLinesReached}
 use Rattle.mx_upper.proofs.RangeLaws.{kept-more, kept-none}
 
 module _ (kind : Kind) (words : ℕ) (upper leaf spill leaf' : Frames) (roots : List ℕ) (d z : ℕ) (k : IsTrieKind kind) (tables : IsTables kind words upper leaf spill roots)
@@ -90,9 +89,14 @@ module _ (kind : Kind) (words : ℕ) (upper leaf spill leaf' : Frames) (roots : 
           maps-kept kind words upper leaf spill leaf' spill roots d z entry k tables domain below leafed written spills (map_at kind words upper leaf spill roots d) left right differ line e inside h
 
 module _ (kind : Kind) (words : ℕ) (upper leaf spill leaf' : Frames) (roots : List ℕ) (d z : ℕ) (k : IsTrieKind kind) (tables : IsTables kind words upper leaf spill roots) (domain : d < length roots)
-    (below : z < most_lines) (leafed : has_leaf upper (root_at roots d) (z / 64) ≡ true) (page : ℕ) (at : page ≡ mid_word upper (root_at roots d) (z / 64)) where
+    (below : z < most_lines) (leafed : has_leaf upper (root_at roots d) (z / 64) ≡ true) (frame : ℕ) (at : frame ≡ target (mid_word upper (root_at roots d) (z / 64))) where
+  pub table-at : IsTaken leaf frame
+  table-at =
+      let T : ℕ → Type 0 = λ f. IsTaken leaf f in
+      subst T (sym at) (table-taken kind words upper leaf spill roots k tables d z domain below leafed)
+
   pub reach-written : (m perms : List Perm) (left right number entry : ℕ) → m ≡ map_at kind words upper leaf spill roots d → perms ≡ line_at m (z * line_words) → left ≡ map_left kind m z → right ≡ map_right kind m z →
-      number ≡ line_number kind (word_at leaf (page / 4) (z % 64)) → entry ≡ leaf_entry kind perms left right number → IsEntryWritten leaf leaf' (page / 4) (z % 64) entry →
+      number ≡ line_number kind (word_at leaf frame (z % 64)) → entry ≡ leaf_entry kind perms left right number → IsEntryWritten leaf leaf' frame (z % 64) entry →
       IsLineReached kind words upper leaf spill leaf' roots d z (map_left kind (map_at kind words upper leaf spill roots d) z) (map_right kind (map_at kind words upper leaf spill roots d) z)
   reach-written m perms left right number entry is lines lefts rights numbers made written =
       let n : List Perm = map_at kind words upper leaf spill roots d in
@@ -100,13 +104,13 @@ module _ (kind : Kind) (words : ℕ) (upper leaf spill leaf' : Frames) (roots : 
       let perms_are : perms ≡ line_at n (z * line_words) = lines ∙ ap (λ (x : List Perm). line_at x (z * line_words)) is in
       let left_is : left ≡ map_left kind n z = lefts ∙ ap (λ (x : List Perm). map_left kind x z) is in
       let right_is : right ≡ map_right kind n z = rights ∙ ap (λ (x : List Perm). map_right kind x z) is in
-      let number_is : number ≡ line_number kind (word_at leaf (target (mid_word upper (root_at roots d) (z / 64))) (z % 64)) = numbers ∙ ap (λ p. line_number kind (word_at leaf (p / 4) (z % 64))) at in
+      let number_is : number ≡ line_number kind (word_at leaf (target (mid_word upper (root_at roots d) (z / 64))) (z % 64)) = numbers ∙ ap (λ f. line_number kind (word_at leaf f (z % 64))) at in
       let entry_is : entry ≡ leaf_entry kind (line_at n (z * line_words)) (map_left kind n z) (map_right kind n z) (line_number kind (word_at leaf (target (mid_word upper (root_at roots d) (z / 64))) (z % 64))) =
       made ∙ ap (λ ps. leaf_entry kind ps left right number) perms_are ∙ ap (λ a. leaf_entry kind (line_at n (z * line_words)) a right number) left_is
       ∙ ap (λ b. leaf_entry kind (line_at n (z * line_words)) (map_left kind n z) b number) right_is
       ∙ ap (leaf_entry kind (line_at n (z * line_words)) (map_left kind n z) (map_right kind n z)) number_is in
       let E : ℕ → Type 0 = λ e. IsEntryWritten leaf leaf' (target (mid_word upper (root_at roots d) (z / 64))) (z % 64) e in
-      let P : ℕ → Type 0 = λ p. IsEntryWritten leaf leaf' (p / 4) (z % 64) entry in
+      let P : ℕ → Type 0 = λ f. IsEntryWritten leaf leaf' f (z % 64) entry in
       line-reached kind words upper leaf spill leaf' roots d z k tables domain below leafed (map_left kind n z) (map_right kind n z)
       (map_left-most kind n z) (map_right-most kind n z) (map_left-before kind n z) (map_right-behind kind n z few below)
       (subst E entry_is (subst P at written))
@@ -121,65 +125,78 @@ reached-none kind words upper leaf spill roots d from tables = record {
   total = refl;
 }
 
-module _ (kind : Kind) (words : ℕ) (upper leaf spill leaf' : Frames) (roots : List ℕ) (d from at : ℕ) (order : from ≤ at) (reached : AreLinesReached kind words upper leaf spill leaf' roots d from at) where
-  before : (e z : ℕ) → (e ≢ d) ⊎ ((z < from) ⊎ (at + 1 ≤ z)) → (e ≢ d) ⊎ ((z < from) ⊎ (at ≤ z))
+-- one line
+pub reached-one : (kind : Kind) (words : ℕ) (upper leaf spill leaf' : Frames) (roots : List ℕ) (d z : ℕ) →
+    IsLineReached kind words upper leaf spill leaf' roots d z (map_left kind (map_at kind words upper leaf spill roots d) z) (map_right kind (map_at kind words upper leaf spill roots d) z) →
+    AreLinesReached kind words upper leaf spill leaf' roots d z (z + 1)
+reached-one kind words upper leaf spill leaf' roots d z one = record {
+  tables = one.tables;
+  maps = one.maps;
+  here = λ k least below leafed.
+      (let T : ℕ → Type 0 = λ i. IsLine kind spill (map_at kind words upper leaf spill roots d) i (map_left kind (map_at kind words upper leaf spill roots d) i)
+      (map_right kind (map_at kind words upper leaf spill roots d) i) (leaf_word upper leaf' (root_at roots d) i) in
+      let same : z ≡ k = omega arith in
+      subst T same one.here);
+  lines = λ e k domain below side leafed. one.lines e k domain below (other e k side) leafed;
+  total = one.leaf_total;
+}
+  where
+    other : (e k : ℕ) → (e ≢ d) ⊎ ((k < z) ⊎ (z + 1 ≤ k)) → (e ≢ d) ⊎ (k ≢ z)
+    other e k (inl h) = inl h
+    other e k (inr (inl h)) = inr (λ same. omega arith)
+    other e k (inr (inr h)) = inr (λ same. omega arith)
+
+-- lines of a page that has no leaf table
+pub reached-pass : (kind : Kind) (words : ℕ) (upper leaf spill : Frames) (roots : List ℕ) (d from to : ℕ) → IsTables kind words upper leaf spill roots →
+    to ≤ from / 64 * 64 + 64 → has_leaf upper (root_at roots d) (from / 64) ≡ false → AreLinesReached kind words upper leaf spill leaf roots d from to
+reached-pass kind words upper leaf spill roots d from to tables within closed = record {
+  tables = tables;
+  maps = λ e domain. refl;
+  here = λ z least below leafed.
+      (let page : z / 64 ≡ from / 64 = omega arith in
+      absurd (let e : true ≡ false = sym leafed ∙ ap (has_leaf upper (root_at roots d)) page ∙ closed in cc));
+  lines = λ e z domain below side leafed. kept-none kind upper leaf spill (root_at roots e) z;
+  total = refl;
+}
+
+-- more lines after those that are written
+module _ (kind : Kind) (words : ℕ) (upper leaf spill leaf' leaf'' : Frames) (roots : List ℕ) (d from at to : ℕ) (k : IsTrieKind kind) (order : from ≤ at) (after : at ≤ to) (domain : d < length roots)
+    (reached : AreLinesReached kind words upper leaf spill leaf' roots d from at) (next : AreLinesReached kind words upper leaf' spill leaf'' roots d at to) where
+  before : (e z : ℕ) → (e ≢ d) ⊎ ((z < from) ⊎ (to ≤ z)) → (e ≢ d) ⊎ ((z < from) ⊎ (at ≤ z))
   before e z (inl h) = inl h
   before e z (inr (inl h)) = inr (inl h)
   before e z (inr (inr h)) = inr (inr (omega arith))
 
-  other : (e z : ℕ) → (e ≢ d) ⊎ ((z < from) ⊎ (at + 1 ≤ z)) → (e ≢ d) ⊎ (z ≢ at)
-  other e z (inl h) = inl h
-  other e z (inr (inl h)) = inr (λ same. omega arith)
-  other e z (inr (inr h)) = inr (λ same. omega arith)
+  behind : (e z : ℕ) → (e ≢ d) ⊎ ((z < from) ⊎ (to ≤ z)) → (e ≢ d) ⊎ ((z < at) ⊎ (to ≤ z))
+  behind e z (inl h) = inl h
+  behind e z (inr (inl h)) = inr (inl (omega arith))
+  behind e z (inr (inr h)) = inr (inr h)
 
-  -- a line that has no entry is passed over
-  pub reached-skip : has_leaf upper (root_at roots d) (at / 64) ≡ false → AreLinesReached kind words upper leaf spill leaf' roots d from (at + 1)
-  reached-skip closed = record {
-    tables = reached.tables;
-    maps = reached.maps;
-    here = λ z least below leafed.
-        elim (cases_eq z at) [
-          | inl h ↦ absurd (let e : true ≡ false = sym leafed ∙ ap (λ i. has_leaf upper (root_at roots d) (i / 64)) h ∙ closed in cc)
-          | inr h ↦ reached.here z least (omega arith) leafed
-        ];
-    lines = λ e z domain below side leafed. reached.lines e z domain below (before e z side) leafed;
-    total = reached.total;
+  here-joined : (z : ℕ) → z < most_lines → from ≤ z → z < to → has_leaf upper (root_at roots d) (z / 64) ≡ true → (z < at) ⊎ (at ≤ z) →
+      IsLine kind spill (map_at kind words upper leaf spill roots d) z (map_left kind (map_at kind words upper leaf spill roots d) z)
+      (map_right kind (map_at kind words upper leaf spill roots d) z) (leaf_word upper leaf'' (root_at roots d) z)
+  here-joined z below least most leafed (inl h) =
+      let m : List Perm = map_at kind words upper leaf spill roots d in
+      let loose = next.tables.shown d domain in
+      let there = line-stands kind words upper leaf'' spill roots k next.tables d z domain below leafed in
+      let S : List Perm → Type 0 = λ n. IsLine kind spill n z (loose.lefts z) (loose.rights z) (leaf_word upper leaf'' (root_at roots d) z) in
+      line-kept kind upper leaf' spill upper leaf'' spill (root_at roots d) z (next.lines d z domain below (inr (inl h)) leafed) m m refl (loose.lefts z) (loose.rights z)
+      (subst S (next.maps d domain ∙ reached.maps d domain) there)
+      (map_left kind m z) (map_right kind m z) (reached.here z least h leafed)
+  here-joined z below least most leafed (inr h) =
+      let S : List Perm → Type 0 = λ n. IsLine kind spill n z (map_left kind n z) (map_right kind n z) (leaf_word upper leaf'' (root_at roots d) z) in
+      subst S (reached.maps d domain) (next.here z h most leafed)
+
+  pub reached-joined : to ≤ most_lines → AreLinesReached kind words upper leaf spill leaf'' roots d from to
+  reached-joined inside = record {
+    tables = next.tables;
+    maps = λ e domain. next.maps e domain ∙ reached.maps e domain;
+    here = λ z least below leafed. here-joined z (omega arith) least below leafed (cases_lt z at);
+    lines = λ e z domain below side leafed.
+        kept-more kind upper leaf spill upper leaf' spill upper leaf'' spill (root_at roots e) z (reached.lines e z domain below (before e z side) leafed)
+        (next.lines e z domain below (behind e z side) leafed);
+    total = next.total ∙ reached.total;
   }
-
-  -- one more line
-  module _ (k : IsTrieKind kind) (domain : d < length roots) (inside : at < most_lines) (leaf'' : Frames)
-      (next : IsLineReached kind words upper leaf' spill leaf'' roots d at (map_left kind (map_at kind words upper leaf' spill roots d) at) (map_right kind (map_at kind words upper leaf' spill roots d) at)) where
-    same : map_at kind words upper leaf'' spill roots d ≡ map_at kind words upper leaf spill roots d
-    same = next.maps d domain ∙ reached.maps d domain
-
-    here-more : (z : ℕ) → z < most_lines → from ≤ z → has_leaf upper (root_at roots d) (z / 64) ≡ true → (z < at) ⊎ (z ≡ at) →
-        IsLine kind spill (map_at kind words upper leaf spill roots d) z (map_left kind (map_at kind words upper leaf spill roots d) z)
-        (map_right kind (map_at kind words upper leaf spill roots d) z) (leaf_word upper leaf'' (root_at roots d) z)
-    here-more z below least leafed (inl h) =
-        let m : List Perm = map_at kind words upper leaf spill roots d in
-        let loose = next.tables.shown d domain in
-        let there = line-stands kind words upper leaf'' spill roots k next.tables d z domain below leafed in
-        let S : List Perm → Type 0 = λ n. IsLine kind spill n z (loose.lefts z) (loose.rights z) (leaf_word upper leaf'' (root_at roots d) z) in
-        line-kept kind upper leaf' spill upper leaf'' spill (root_at roots d) z (next.lines d z domain below (inr (λ e. omega arith)) leafed) m m refl (loose.lefts z) (loose.rights z) (subst S same there)
-        (map_left kind m z) (map_right kind m z) (reached.here z least h leafed)
-    here-more z below least leafed (inr h) =
-        let S : List Perm → Type 0 = λ n. IsLine kind spill n at (map_left kind n at) (map_right kind n at) (leaf_word upper leaf'' (root_at roots d) at) in
-        let T : ℕ → Type 0 = λ i. IsLine kind spill (map_at kind words upper leaf spill roots d) i (map_left kind (map_at kind words upper leaf spill roots d) i)
-        (map_right kind (map_at kind words upper leaf spill roots d) i) (leaf_word upper leaf'' (root_at roots d) i) in
-        subst T (sym h) (subst S (reached.maps d domain) next.here)
-
-    pub reached-more : AreLinesReached kind words upper leaf spill leaf'' roots d from (at + 1)
-    reached-more = record {
-      tables = next.tables;
-      maps = λ e inside. next.maps e inside ∙ reached.maps e inside;
-      here = λ z least below leafed.
-          (let either : (z < at) ⊎ (z ≡ at) = elim (cases_lt z at) [ inl h ↦ inl h | inr h ↦ inr (omega arith) ] in
-          here-more z (omega arith) least leafed either);
-      lines = λ e z inside below side leafed.
-          kept-more kind upper leaf spill upper leaf' spill upper leaf'' spill (root_at roots e) z (reached.lines e z inside below (before e z side) leafed)
-          (next.lines e z inside below (other e z side) leafed);
-      total = next.leaf_total ∙ reached.total;
-    }
 
 -- the lines outside two bounds of which the second may lie before the first
 pub lines-outside : (kind : Kind) (words : ℕ) (upper leaf spill leaf' : Frames) (roots : List ℕ) (d from at : ℕ) → AreLinesReached kind words upper leaf spill leaf' roots d from at → (to : ℕ) → at ≤ max from to →

@@ -17,7 +17,7 @@ use Rattle.mx_upper.proofs.SpillLaws.{spill_lines-are}
 use Rattle.mx_upper.proofs.RoomLaws.{free-changed}
 use Rattle.mx_upper.proofs.RangeCounts.{broken-with_range, spill-with_range, tight-regions, tight-pages}
 
--- a first part of a range, with the block behind it counted as broken
+-- a first part of a range, with the block after it counted as broken
 first-part : (size part n : ℕ) (m : List Perm) (first c : ℕ) (p : Perm) → size / 8 ≡ part → size ≡ 8 * part → 0 < part → first ≤ c → c ≤ length m → length m ≤ n * size →
     count_below n (λ b. is_broken size (with_range first c p m) b || (b == c / size)) ≤ broken_blocks size m + 2
 first-part size part n m first c p is eight some from inside few =

@@ -46,7 +46,7 @@ module _ (kind : Kind) (words : ℕ) (upper leaf spill upper' leaf' spill' : Fra
       ∙ sym (ap (spill_lines kind) (laid.maps e below other))
       ∙ sym (spill_lines-are kind words upper' leaf' spill' roots k laid.tables e below))
 
-  -- room for a range is room for a part behind what was laid
+  -- room for a range is room for a part after what was laid
   pub room-from : (behind end : ℕ) → first ≤ c → behind ≤ end →
       IsRoomy kind upper leaf spill (root_at roots d) (map_at kind words upper leaf spill roots d) first end p →
       IsRoomy kind upper' leaf' spill' (root_at roots d) (map_at kind words upper' leaf' spill' roots d) c behind p

@@ -73,7 +73,7 @@ module _ (words : ℕ) (row : List Span) (is : IsRow words row) (n : ℕ) (below
         length-with_range (span_at row n).first c (span_at row n).perm (first_spans words row n) ∙ length-first words row is n
         ∙ sym (length-map_of (list_map granted row) words)
 
-    -- at most one block more than the whole row is broken, also where that of the word behind the part is counted as broken
+    -- at most one block more than the whole row is broken, also where that of the word after the part is counted as broken
     pub cut-broken : (size part blocks : ℕ) → size / 8 ≡ part → size ≡ 8 * part → 0 < part → words ≤ blocks * size →
         count_below blocks (λ b. is_broken size (with_range (span_at row n).first c (span_at row n).perm (first_spans words row n)) b || (b == c / size)) ≤ broken_blocks size (row_map words row) + 1
     cut-broken size part blocks eighth eight some few =

@@ -13,7 +13,7 @@ use Rattle.mx_table.specs.Rows.{span_at}
 use Rattle.mx_table.proofs.RowLaws.{ends_before, ends_up}
 use Rattle.mx_upper.specs.Views.{IsRound, IsBegun, IsBegin}
 
--- whether a word lies before a span or behind it
+-- whether a word lies before a span or after it
 abbrev IsOut : ℕ → Span → Type 0
 IsOut i s = (i < s.first) ⊎ (s.first + s.count ≤ i)
 
@@ -42,7 +42,7 @@ row-none words row i out = elim (cases_lt i words) [
 ]
 
 module _ (words : ℕ) (row : List Span) (sorted : IsRow words row) where
-  -- each span ends before those behind it begin
+  -- each span ends before those after it begin
   row-order : (j k : ℕ) → j < k → k < length row → (span_at row j).first + (span_at row j).count ≤ (span_at row k).first
   row-order j k above below = omega (arith, ends_up words row sorted (suc j) k (omega arith) (omega arith), ends_before words row sorted k below)
 

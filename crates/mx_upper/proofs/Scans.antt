@@ -26,7 +26,7 @@ same-other p q ne = ne_eqb (number p) (number q) (λ e. ne (sym e))
 pub round-perm : (m : List Perm) (word : ℕ) (s : Span) → IsRound m word s → perm_at m word ≡ s.perm
 round-perm m word s r = r.alike word r.from r.to
 
--- the words of a span round a word, from the word on, up to the word, and behind the word
+-- the words of a span round a word, from the word on, up to the word, and after the word
 pub alike-from : (m : List Perm) (word : ℕ) (s : Span) → IsRound m word s → IsAlike m word (s.first + s.count) s.perm
 alike-from m word s r = let from = r.from in record { alike = λ k le lt. r.alike k (omega arith) lt }
 
@@ -36,7 +36,7 @@ alike-to m word s r = let to = r.to in record { alike = λ k le lt. r.alike k le
 pub alike-behind : (m : List Perm) (word behind : ℕ) (s : Span) → word ≤ behind → IsRound m word s → IsAlike m behind (s.first + s.count) s.perm
 alike-behind m word behind s above r = let from = r.from in record { alike = λ k le lt. r.alike k (omega arith) lt }
 
--- a span round the word behind
+-- a span round the word after
 pub alike-on : (m : List Perm) (from to : ℕ) (p : Perm) (s : Span) → IsAlike m from to p → IsRound m to s → number s.perm ≡ number p →
     IsAlike m from (s.first + s.count) p
 alike-on m from to p s a r e = record {
@@ -113,7 +113,7 @@ module _ (m : List Perm) (line begin : ℕ) (p : Perm) (before : begin ≤ line)
       omega (arith, left-more)
   left-far (inr h) = omega (arith, left-more)
 
--- the words right behind a line that are like its last word
+-- the words right after a line that are like its last word
 module _ (m : List Perm) (line end : ℕ) (p : Perm) (last : perm_at m (line + line_words - 1) ≡ p) (a : IsAlike m (line + line_words) end p) where
   right-more : (to : ℕ) → line + line_words ≤ to → to ≤ end → to ≤ length m →
       prefix_len (same (perm_at m (line + line_words - 1))) (drop (line + line_words) m) ≡ (to - (line + line_words)) + prefix_len (same (perm_at m (line + line_words - 1))) (drop to m)

@@ -1,7 +1,5 @@
 -- What a change of all domains makes of tables that stand, and what it needs.
-use Rattle.std.proofs.Common.{◌≡◌, ℕ, ◌+◌, ◌*◌, ◌<◌, ◌≤◌, true, nat_le, ◌&&◌, List, [], length, get_or, Option, sym, ap, ◌∙◌, arith, subst, IsTrue}
-use Rattle.std.proofs.lemmas.Bool.{and_parts}
-use Rattle.std.proofs.lemmas.Bool.Decides.{nat_tests}
+use Rattle.std.proofs.Common.{◌≡◌, ℕ, ◌+◌, ◌*◌, ◌<◌, ◌≤◌, List, [], length, get_or, Option, sym, ap, ◌∙◌, arith, subst, IsTrue}
 use Rattle.std.proofs.lemmas.List.{same_lists, get_or_default}
 use Rattle.mx_words.specs.declared.perm.Perm.{Perm}
 use Rattle.mx_words.specs.declared.tables.Kind.{Kind}
@@ -13,6 +11,7 @@ use Rattle.mx_words.specs.Runs.{broken_blocks, page_words, region_words}
 use Rattle.mx_words.proofs.ChangeLaws.{length-changed_from, changed_from-at}
 use Rattle.mx_words.proofs.CountingLaws.{sum_below_agree}
 use Rattle.mx_table.specs.Tables.{most_words}
+use Rattle.mx_table.proofs.WithinLaws.{within-parts}
 use Rattle.mx_pool.specs.Frames.{free_in}
 use Rattle.mx_upper.specs.Leaf.{IsTrieKind}
 use Rattle.mx_upper.specs.Walk.{Frames}
@@ -26,21 +25,6 @@ use Rattle.mx_upper.proofs.NeedLaws.{IsNeedCounted, need-counted}
 use Rattle.mx_upper.proofs.StandingLaws.{map_at-read}
 use Rattle.mx_upper.proofs.FramesCounted.{tables-counted}
 use Rattle.mx_upper.proofs.MapsRead.{length-map_at}
-
--- each part of a need is within the limit
-pub record IsWithin (n limit : Need) : Type 0 where
-  pub upper : n.upper ≤ limit.upper
-  pub leaf : n.leaf ≤ limit.leaf
-  pub spill : n.spill ≤ limit.spill
-
-pub within-parts : (n limit : Need) → within n limit ≡ true → IsWithin n limit
-within-parts n limit e =
-    let outer = and_parts (nat_le n.upper limit.upper && nat_le n.leaf limit.leaf) (nat_le n.spill limit.spill) e in
-    let inner = and_parts (nat_le n.upper limit.upper) (nat_le n.leaf limit.leaf) outer.0 in
-    let a : nat_le n.upper limit.upper ≡ true = inner.0 in
-    let b : nat_le n.leaf limit.leaf ≡ true = inner.1 in
-    let c : nat_le n.spill limit.spill ≡ true = outer.1 in
-    record { upper = grind (arith, nat_tests); leaf = grind (arith, nat_tests); spill = grind (arith, nat_tests) }
 
 -- what the maps of tables that are no more than they need are counted as
 pub record IsNeedTold (n : Need) (domains : ℕ) (kind : Kind) (maps : ℕ → List Perm) : Type 0 where

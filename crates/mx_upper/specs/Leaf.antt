@@ -24,11 +24,13 @@ needs_spill kind perms = false
 
 -- a packed entry: the number of a spill word, or the runs and both reaches
 abbrev pub packed_entry : Bool → List Perm → ℕ → ℕ → ℕ → ℕ
-packed_entry crowded perms left right spill = if crowded then 3 + 4 * spill else mini_entry (runs_of same perms) left right
+packed_entry crowded perms left right spill =
+    if crowded then 3 + 4 * spill else mini_entry (runs_of same perms) left right
 
 -- the entry of a line with these permissions, reaches and spill word
 abbrev pub leaf_entry : Kind → List Perm → ℕ → ℕ → ℕ → ℕ
-leaf_entry K.Packed perms left right spill = packed_entry (needs_spill K.Packed perms) perms left right spill
+leaf_entry K.Packed perms left right spill =
+    packed_entry (needs_spill K.Packed perms) perms left right spill
 leaf_entry kind perms left right spill = packed perms
 
 -- the number of the spill word that an entry names
@@ -42,7 +44,8 @@ named_spill kind perms spill = if needs_spill kind perms then Some spill else No
 
 -- a span with its first word that many words earlier, and its last one that many words later
 abbrev pub lengthened : ℕ → ℕ → Span → Span
-lengthened left right s = record { first = s.first - left; count = left + s.count + right; perm = s.perm }
+lengthened left right s =
+    record { first = s.first - left; count = left + s.count + right; perm = s.perm }
 
 -- a span of the line's words, counted from the line's first, as RAM words
 abbrev pub placed : ℕ → Span → Span
@@ -58,7 +61,8 @@ abbrev pub left_of_run : Bool → Span → ℕ → ℕ
 left_of_run spilled s left = if spilled then 0 else if s.first == 0 then left else 0
 
 abbrev pub right_of_run : Bool → Span → ℕ → ℕ
-right_of_run spilled s right = if spilled then 0 else if s.first + s.count == line_words then right else 0
+right_of_run spilled s right =
+    if spilled then 0 else if s.first + s.count == line_words then right else 0
 
 -- the run of a word inside its line, lengthened by the reaches
 abbrev pub entry_run : Kind → List Perm → ℕ → ℕ → ℕ → ℕ → Span
@@ -68,7 +72,8 @@ entry_run kind perms left right line word =
     lengthened (left_of_run spilled s left) (right_of_run spilled s right) (placed line s)
 
 -- what stands stored for the line that begins at a word: an entry with its spill word, or 0 where it has none. The reaches stay in RAM
-pub record IsStored (kind : Kind) (perms : List Perm) (left right spill line : ℕ) (entry spilled : ℕ) : Type 0 where
+pub record IsStored (kind : Kind) (perms : List Perm) (left right spill line : ℕ)
+    (entry spilled : ℕ) : Type 0 where
   pub whole : length perms ≡ line_words
   pub left_most : left ≤ form_reach kind
   pub right_most : right ≤ form_reach kind

@@ -17,12 +17,15 @@ unfoldable pub codes_line : ℕ → ℕ → ℕ → ℕ → List Perm
 codes_line zero i values starts = []
 codes_line (suc n) i values starts =
     let ends : Bool = starts % 16 == i + 1 in
-    numbered (values % 4) ∷ codes_line n (i + 1) (if ends then values / 4 else values) (if ends then starts / 16 else starts)
+    numbered (values % 4) ∷
+    codes_line n (i + 1) (if ends then values / 4 else values)
+    (if ends then starts / 16 else starts)
 
 -- the permissions of a line, from its entry and its spill word
 abbrev pub packed_line : ℕ → ℕ → List Perm
 packed_line entry spilled =
-    if entry % 4 == 3 then plain_line spilled else codes_line 16 0 (entry / 4 % 256) (entry / 1024 % 4096)
+    if entry % 4 == 3 then plain_line spilled
+    else codes_line 16 0 (entry / 4 % 256) (entry / 1024 % 4096)
 
 abbrev pub read_line : Kind → ℕ → ℕ → List Perm
 read_line K.Packed entry spilled = packed_line entry spilled
@@ -30,12 +33,14 @@ read_line kind entry spilled = plain_line entry
 
 -- the permission that a domain's tables give word i
 abbrev pub leaf_perm : Kind → Frames → ℕ → ℕ → Perm
-leaf_perm kind spill entry i = perm_at (read_line kind entry (spilled_word kind spill entry)) (i % 16)
+leaf_perm kind spill entry i =
+    perm_at (read_line kind entry (spilled_word kind spill entry)) (i % 16)
 
 abbrev pub read_at : Kind → Frames → Frames → Frames → ℕ → ℕ → Perm
 read_at kind upper leaf spill root i =
     if has_mid upper root (i / 1048576) then
-    (if is_pointer (mid_word upper root (i / 1024)) then leaf_perm kind spill (leaf_word upper leaf root (i / 16)) i
+    (if is_pointer (mid_word upper root (i / 1024))
+    then leaf_perm kind spill (leaf_word upper leaf root (i / 16)) i
     else vector_perm (mid_word upper root (i / 1024)) (i / 128 % 8))
     else vector_perm (root_word upper root (i / 1048576)) (i / 131072 % 8)
 

@@ -16,6 +16,8 @@ pub record IsRootMade (upper upper' : Frames) (frame : ℕ) : Type 0 where
 -- each domain has a root table of its own, of vectors of no permission, and no other upper frame is taken
 pub record AreRoots (upper : Frames) (roots : List ℕ) : Type 0 where
   pub taken : (d : ℕ) → d < length roots → IsTaken upper (root_at roots d)
-  pub apart : (d e : ℕ) → d < length roots → e < length roots → root_at roots d ≡ root_at roots e → d ≡ e
-  pub vectors : (d x : ℕ) → d < length roots → x < most_regions → root_word upper (root_at roots d) x ≡ 1
+  pub apart : (d e : ℕ) → d < length roots → e < length roots → root_at roots d ≡ root_at roots e →
+      d ≡ e
+  pub vectors : (d x : ℕ) → d < length roots → x < most_regions →
+      root_word upper (root_at roots d) x ≡ 1
   pub count : free_in upper + length roots ≡ length upper

@@ -21,19 +21,27 @@ module _ (kind : Kind) (upper leaf spill : Frames) (words : ℕ) (roots : List �
   unfolding read_map
   length-read_map root = length-list_below words (read_at kind upper leaf spill root)
 
-  pub map_of-read : (d : ℕ) → 1 ≤ d → d ≤ length roots → map_of (read_maps kind upper leaf spill words roots) d ≡ read_map kind upper leaf spill words (root_of roots d)
+  pub map_of-read : (d : ℕ) → 1 ≤ d → d ≤ length roots →
+      map_of (read_maps kind upper leaf spill words roots) d ≡
+      read_map kind upper leaf spill words (root_of roots d)
   unfolding read_maps
-  map_of-read d first last = get_or-map (read_map kind upper leaf spill words) roots (d - 1) 0 [] (omega arith)
+  map_of-read d first last =
+      get_or-map (read_map kind upper leaf spill words) roots (d - 1) 0 [] (omega arith)
 
-pub length-map_of : (kind : Kind) (upper leaf spill : Frames) (words : ℕ) (roots : List ℕ) (d : ℕ) → 1 ≤ d → d ≤ length roots → length (map_of (read_maps kind upper leaf spill words roots) d) ≡ words
+pub length-map_of : (kind : Kind) (upper leaf spill : Frames) (words : ℕ) (roots : List ℕ) (d : ℕ) →
+    1 ≤ d → d ≤ length roots →
+    length (map_of (read_maps kind upper leaf spill words roots) d) ≡ words
 length-map_of kind upper leaf spill words roots d first last =
-    ap (λ (m : List Perm). length m) (map_of-read kind upper leaf spill words roots d first last) ∙ length-read_map kind upper leaf spill words roots (root_of roots d)
+    ap (λ (m : List Perm). length m) (map_of-read kind upper leaf spill words roots d first last) ∙
+    length-read_map kind upper leaf spill words roots (root_of roots d)
 
 -- tables that stand have maps of the shape that the trait promises
-shape_of-standing : (kind : Kind) (upper leaf spill : Frames) (roots : List ℕ) (words : ℕ) (limit : Need) → IsStanding kind upper leaf spill roots words limit →
+shape_of-standing : (kind : Kind) (upper leaf spill : Frames) (roots : List ℕ) (words : ℕ)
+    (limit : Need) → IsStanding kind upper leaf spill roots words limit →
     IsShaped kind words limit (read_maps kind upper leaf spill words roots)
 shape_of-standing kind upper leaf spill roots words limit stands =
-    let same : length (read_maps kind upper leaf spill words roots) ≡ length roots = length-read_maps kind upper leaf spill words roots in
+    let same : length (read_maps kind upper leaf spill words roots) ≡
+    length roots = length-read_maps kind upper leaf spill words roots in
     let some = stands.some_domains in
     let few = stands.few_domains in
     record {
@@ -44,15 +52,19 @@ shape_of-standing kind upper leaf spill roots words limit stands =
       each = λ d domain.
           (let first = domain.first in
           let last = domain.last in
-          length-map_of kind upper leaf spill words roots d (omega (arith, first)) (omega (arith, last, same)));
+          length-map_of kind upper leaf spill words roots d (omega (arith, first))
+          (omega (arith, last, same)));
       limited = stands.limited;
       fit = stands.fit;
     }
 
-is_shaped-prop : (kind : Kind) (words : ℕ) (limit : Need) (maps : List (List Perm)) → IsProp (IsShaped kind words limit maps)
+is_shaped-prop : (kind : Kind) (words : ℕ) (limit : Need) (maps : List (List Perm)) →
+    IsProp (IsShaped kind words limit maps)
 is_shaped-prop kind words limit maps = hlevel props
 
-pub shaped_of : (kind : Kind) (upper leaf spill : Frames) (roots : List ℕ) (words : ℕ) (limit : Need) → ∥ IsStanding kind upper leaf spill roots words limit ∥₁ →
+pub shaped_of : (kind : Kind) (upper leaf spill : Frames) (roots : List ℕ) (words : ℕ)
+    (limit : Need) → ∥ IsStanding kind upper leaf spill roots words limit ∥₁ →
     IsShaped kind words limit (read_maps kind upper leaf spill words roots)
 shaped_of kind upper leaf spill roots words limit kept =
-    ∥∥₁_elim kept (is_shaped-prop kind words limit (read_maps kind upper leaf spill words roots)) (shape_of-standing kind upper leaf spill roots words limit)
+    ∥∥₁_elim kept (is_shaped-prop kind words limit (read_maps kind upper leaf spill words roots))
+    (shape_of-standing kind upper leaf spill roots words limit)

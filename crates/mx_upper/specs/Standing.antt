@@ -15,7 +15,8 @@ root_of roots d = slice_index roots (d - 1)
 
 -- the tables stand for maps that fit the limit, each domain's are just those that its map needs, with the reaches of the map, and each
 -- pool has as many frames as the limit says, and two more for each domain
-pub record IsStanding (kind : Kind) (upper leaf spill : Frames) (roots : List ℕ) (words : ℕ) (limit : Need) : Type 0 where
+pub record IsStanding (kind : Kind) (upper leaf spill : Frames) (roots : List ℕ) (words : ℕ)
+    (limit : Need) : Type 0 where
   pub some_words : 1 ≤ words
   pub some_domains : 1 ≤ length roots
   pub few_domains : length roots ≤ most_modules

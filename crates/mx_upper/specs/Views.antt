@@ -1,5 +1,5 @@
 -- Maps that are read span by span.
-use Rattle.std.specs.Prelude.{◌≡◌, ℕ, ◌+◌, ◌*◌, ◌/◌, ◌%◌, ◌<◌, ◌≤◌, List, length}
+use Rattle.std.specs.Prelude.{◌≡◌, ℕ, ◌+◌, ◌-◌, ◌*◌, ◌/◌, ◌%◌, ◌<◌, ◌≤◌, List, length}
 use Rattle.mx_words.specs.declared.perm.Perm.{Perm}
 use Rattle.mx_words.specs.declared.perm.Span.{Span}
 use Rattle.mx_words.specs.declared.tables.Kind.{Kind}
@@ -21,14 +21,16 @@ pub record IsOne (m : List Perm) (s : Span) : Type 0 where
   pub whole : s.first + s.count ≤ most_words
   pub alike : (k : ℕ) → s.first ≤ k → k < s.first + s.count → perm_at m k ≡ s.perm
 
--- a span round a word that holds the word's block, and the eighth that is told by it: the eighth's blocks, as many as `places`, have
--- one entry in a frame
+-- a span round a word that holds the word's block, and what is told by it: the blocks from that one to the end of its eighth, which has
+-- as many as `places`, have one entry in a frame
 pub record IsWide (frames : Frames) (frame places block word : ℕ) (near far : Span) : Type 0 where
   pub from : near.first ≤ word / block * block
   pub to : word / block * block + block ≤ near.first + near.count
-  pub alike : (k : ℕ) → k < places → word_at frames frame (word / (places * block) % 8 * places + k) ≡ word_at frames frame (word / (places * block) % 8 * places)
-  pub first : far.first ≡ word / (places * block) * (places * block)
-  pub count : far.count ≡ places * block
+  pub alike : (k : ℕ) → k < places - word / block % places →
+      word_at frames frame (word / block % (8 * places) + k) ≡
+      word_at frames frame (word / block % (8 * places))
+  pub first : far.first ≡ word / block * block
+  pub count : far.count ≡ (places - word / block % places) * block
   pub perm : far.perm ≡ near.perm
 
 -- an entry of line z in the tables of some map

@@ -73,31 +73,46 @@ form_right kind m line = 0
 
 -- the reaches of line z's entry by the map; a line outside RAM has none
 abbrev pub map_left : Kind → List Perm → ℕ → ℕ
-map_left kind m z = if nat_lt (z * line_words) (length m) then form_left kind m (z * line_words) else 0
+map_left kind m z =
+    if nat_lt (z * line_words) (length m) then form_left kind m (z * line_words) else 0
 
 abbrev pub map_right : Kind → List Perm → ℕ → ℕ
-map_right kind m z = if nat_lt (z * line_words) (length m) then form_right kind m (z * line_words) else 0
+map_right kind m z =
+    if nat_lt (z * line_words) (length m) then form_right kind m (z * line_words) else 0
 
 -- the number of a leaf entry's spill word, or 0 where it has none
 abbrev pub line_number : Kind → ℕ → ℕ
 line_number kind entry = unwrap_or (spill_number kind entry) 0
 
 -- what stands for line z: an entry made with these reaches, and its spill word
-pub record IsLine (kind : Kind) (spill : Frames) (m : List Perm) (z left right entry : ℕ) : Type 0 where
-  pub stored : IsStored kind (line_at m (z * line_words)) left right (line_number kind entry) (z * line_words) entry (spilled_word kind spill entry)
-  pub spill_taken : needs_spill kind (line_at m (z * line_words)) ≡ true → IsTaken spill (line_number kind entry)
+pub record IsLine (kind : Kind) (spill : Frames) (m : List Perm) (z left right entry : ℕ) : Type 0
+  where
+    pub stored : IsStored kind (line_at m (z * line_words)) left right (line_number kind entry)
+        (z * line_words) entry (spilled_word kind spill entry)
+    pub spill_taken : needs_spill kind (line_at m (z * line_words)) ≡ true →
+        IsTaken spill (line_number kind entry)
 
 -- a domain's tables stand for its map: a block without a table is eighth-uniform and has its vector, and each line of a page with a leaf
 -- table has its entry, with the left and right reaches that are given by line number
-pub record IsShown (kind : Kind) (lefts rights : ℕ → ℕ) (upper leaf spill : Frames) (root : ℕ) (m : List Perm) : Type 0 where
+pub record IsShown (kind : Kind) (lefts rights : ℕ → ℕ) (upper leaf spill : Frames) (root : ℕ)
+    (m : List Perm) : Type 0 where
   pub root_taken : IsTaken upper root
-  pub region_even : (x : ℕ) → x < most_regions → has_mid upper root x ≡ false → IsEven m (x * region_words) 131072
-  pub region_vector : (x : ℕ) → x < most_regions → has_mid upper root x ≡ false → root_word upper root x ≡ vector region_words m (x * region_words)
-  pub mid_taken : (x : ℕ) → x < most_regions → has_mid upper root x ≡ true → IsTaken upper (target (root_word upper root x))
-  pub page_even : (y : ℕ) → y < most_pages → has_mid upper root (y / 1024) ≡ true → is_pointer (mid_word upper root y) ≡ false → IsEven m (y * page_words) 128
-  pub page_vector : (y : ℕ) → y < most_pages → has_mid upper root (y / 1024) ≡ true → is_pointer (mid_word upper root y) ≡ false → mid_word upper root y ≡ vector page_words m (y * page_words)
-  pub leaf_taken : (y : ℕ) → y < most_pages → has_mid upper root (y / 1024) ≡ true → is_pointer (mid_word upper root y) ≡ true → IsTaken leaf (target (mid_word upper root y))
-  pub line : (z : ℕ) → z < most_lines → has_mid upper root (z / 64 / 1024) ≡ true → is_pointer (mid_word upper root (z / 64)) ≡ true → IsLine kind spill m z (lefts z) (rights z) (leaf_word upper leaf root z)
+  pub region_even : (x : ℕ) → x < most_regions → has_mid upper root x ≡ false →
+      IsEven m (x * region_words) 131072
+  pub region_vector : (x : ℕ) → x < most_regions → has_mid upper root x ≡ false →
+      root_word upper root x ≡ vector region_words m (x * region_words)
+  pub mid_taken : (x : ℕ) → x < most_regions → has_mid upper root x ≡ true →
+      IsTaken upper (target (root_word upper root x))
+  pub page_even : (y : ℕ) → y < most_pages → has_mid upper root (y / 1024) ≡ true →
+      is_pointer (mid_word upper root y) ≡ false → IsEven m (y * page_words) 128
+  pub page_vector : (y : ℕ) → y < most_pages → has_mid upper root (y / 1024) ≡ true →
+      is_pointer (mid_word upper root y) ≡ false →
+      mid_word upper root y ≡ vector page_words m (y * page_words)
+  pub leaf_taken : (y : ℕ) → y < most_pages → has_mid upper root (y / 1024) ≡ true →
+      is_pointer (mid_word upper root y) ≡ true → IsTaken leaf (target (mid_word upper root y))
+  pub line : (z : ℕ) → z < most_lines → has_mid upper root (z / 64 / 1024) ≡ true →
+      is_pointer (mid_word upper root (z / 64)) ≡ true →
+      IsLine kind spill m z (lefts z) (rights z) (leaf_word upper leaf root z)
 
 -- the tables are no more than the map needs
 pub record IsTight (upper : Frames) (root : ℕ) (m : List Perm) : Type 0 where

@@ -31,7 +31,8 @@ fn regions_opened(upper: &Pool<1024>, roots: &Roots, row: u32, from: u32, to: u3
     requires to { to ≤ most_regions }
     requires row { row < length roots.now }
     requires taken { IsTaken upper.now (root_at roots.now row) }
-    ensures count { result ≡ count_below (to - from) (λ i. has_mid upper.now (root_at roots.now row) (from + i)) }
+    ensures count { result ≡
+        count_below (to - from) (λ i. has_mid upper.now (root_at roots.now row) (from + i)) }
     ensures most { result ≤ to - from }
 {
     let mut count = 0;
@@ -47,7 +48,8 @@ fn pages_opened(upper: &Pool<1024>, roots: &Roots, row: u32, from: u32, to: u32)
     requires to { to ≤ most_pages }
     requires row { row < length roots.now }
     requires taken { (y : ℕ) → y < most_pages → IsPathTaken upper.now (root_at roots.now row) y }
-    ensures count { result ≡ count_below (to - from) (λ i. has_leaf upper.now (root_at roots.now row) (from + i)) }
+    ensures count { result ≡
+        count_below (to - from) (λ i. has_leaf upper.now (root_at roots.now row) (from + i)) }
     ensures most { result ≤ to - from }
 {
     let mut count = 0;
@@ -65,7 +67,8 @@ fn is_spilled<L: LeafForm>(
     row: u32,
     line: u32,
 ) -> bool
-    requires tables { (words : ℕ) × ((spill : Frames) × IsTables L.kind words upper.now leaf.now spill roots.now) }
+    requires tables { (words : ℕ) ×
+        ((spill : Frames) × IsTables L.kind words upper.now leaf.now spill roots.now) }
     requires row { row < length roots.now }
     requires line { line < most_lines }
     ensures { result ≡ has_spill L.kind upper.now leaf.now (root_at roots.now row) line }
@@ -88,11 +91,14 @@ fn lines_spilled<L: LeafForm>(
     from: u32,
     to: u32,
 ) -> u32
-    requires tables { (words : ℕ) × ((spill : Frames) × IsTables L.kind words upper.now leaf.now spill roots.now) }
+    requires tables { (words : ℕ) ×
+        ((spill : Frames) × IsTables L.kind words upper.now leaf.now spill roots.now) }
     requires row { row < length roots.now }
     requires from { from ≤ to }
     requires to { to ≤ most_lines }
-    ensures count { result ≡ count_below (to - from) (λ i. has_spill L.kind upper.now leaf.now (root_at roots.now row) (from + i)) }
+    ensures count { result ≡
+        count_below (to - from)
+        (λ i. has_spill L.kind upper.now leaf.now (root_at roots.now row) (from + i)) }
     ensures most { result ≤ to - from }
 {
     let mut count = 0;
@@ -125,15 +131,25 @@ fn need_laid<L: LeafForm>(
     requires canonical { IsCanonical L.kind lay.now.words upper.now leaf.now spill.now roots.now lay.now.row }
     requires some { lay.now.first < lay.now.end }
     requires inside { lay.now.end ≤ lay.now.words }
-    requires upper { broken_blocks region_words (map_in L.kind upper.now leaf.now spill.now roots.now lay.now) ≤ need.upper }
-    requires leaf { broken_blocks page_words (map_in L.kind upper.now leaf.now spill.now roots.now lay.now) ≤ need.leaf }
-    requires spill { spill_lines L.kind (map_in L.kind upper.now leaf.now spill.now roots.now lay.now) ≤ need.spill }
+    requires upper { broken_blocks region_words (map_in L.kind upper.now leaf.now spill.now roots.now lay.now)
+        ≤ need.upper }
+    requires leaf { broken_blocks page_words (map_in L.kind upper.now leaf.now spill.now roots.now lay.now) ≤
+        need.leaf }
+    requires spill { spill_lines L.kind (map_in L.kind upper.now leaf.now spill.now roots.now lay.now) ≤
+        need.spill }
     requires few_upper { need.upper ≤ 67108864 }
     requires few_leaf { need.leaf ≤ 67108864 }
     requires few_spill { need.spill ≤ 67108864 }
-    ensures upper { let m = map_in L.kind upper.now leaf.now spill.now roots.now lay.now in result.upper + broken_blocks region_words m ≡ need.upper + broken_blocks region_words (with_range lay.now.first lay.now.end lay.now.perm m) }
-    ensures leaf { let m = map_in L.kind upper.now leaf.now spill.now roots.now lay.now in result.leaf + broken_blocks page_words m ≡ need.leaf + broken_blocks page_words (with_range lay.now.first lay.now.end lay.now.perm m) }
-    ensures spill { let m = map_in L.kind upper.now leaf.now spill.now roots.now lay.now in result.spill + spill_lines L.kind m ≡ need.spill + spill_lines L.kind (with_range lay.now.first lay.now.end lay.now.perm m) }
+    ensures upper { let m = map_in L.kind upper.now leaf.now spill.now roots.now lay.now in
+        result.upper + broken_blocks region_words m ≡
+        need.upper +
+        broken_blocks region_words (with_range lay.now.first lay.now.end lay.now.perm m) }
+    ensures leaf { let m = map_in L.kind upper.now leaf.now spill.now roots.now lay.now in
+        result.leaf + broken_blocks page_words m ≡
+        need.leaf + broken_blocks page_words (with_range lay.now.first lay.now.end lay.now.perm m) }
+    ensures spill { let m = map_in L.kind upper.now leaf.now spill.now roots.now lay.now in
+        result.spill + spill_lines L.kind m ≡
+        need.spill + spill_lines L.kind (with_range lay.now.first lay.now.end lay.now.perm m) }
 {
     let old = map_of::<L>(upper, leaf, spill, roots, lay);
     if has_perm(&old, lay.first, lay.end, lay.perm) {
@@ -172,16 +188,39 @@ pub(crate) fn need_after<L: LeafForm>(
     need: Need,
 ) -> Need
     requires tables { IsTables L.kind words upper.now leaf.now spill.now roots.now }
-    requires canonical { (d : ℕ) → d < length roots.now → IsCanonical L.kind words upper.now leaf.now spill.now roots.now d }
+    requires canonical { (d : ℕ) → d < length roots.now →
+        IsCanonical L.kind words upper.now leaf.now spill.now roots.now d }
     requires few { length roots.now ≤ most_modules }
     requires some { 0 < change.now.count }
     requires inside { change.now.first + change.now.count ≤ words }
-    requires upper { need.upper ≡ length roots.now + sum_below (length roots.now) (λ d. broken_blocks region_words (map_at L.kind words upper.now leaf.now spill.now roots.now d)) }
-    requires leaf { need.leaf ≡ sum_below (length roots.now) (λ d. broken_blocks page_words (map_at L.kind words upper.now leaf.now spill.now roots.now d)) }
-    requires spill { need.spill ≡ sum_below (length roots.now) (λ d. spill_lines L.kind (map_at L.kind words upper.now leaf.now spill.now roots.now d)) }
-    ensures upper { result.upper ≡ length roots.now + sum_below (length roots.now) (λ d. broken_blocks region_words (changed_map change.now.first change.now.count (given change.now (d + 1)) (map_at L.kind words upper.now leaf.now spill.now roots.now d))) }
-    ensures leaf { result.leaf ≡ sum_below (length roots.now) (λ d. broken_blocks page_words (changed_map change.now.first change.now.count (given change.now (d + 1)) (map_at L.kind words upper.now leaf.now spill.now roots.now d))) }
-    ensures spill { result.spill ≡ sum_below (length roots.now) (λ d. spill_lines L.kind (changed_map change.now.first change.now.count (given change.now (d + 1)) (map_at L.kind words upper.now leaf.now spill.now roots.now d))) }
+    requires upper { need.upper ≡
+        length roots.now +
+        sum_below (length roots.now)
+        (λ d. broken_blocks region_words
+        (map_at L.kind words upper.now leaf.now spill.now roots.now d)) }
+    requires leaf { need.leaf ≡
+        sum_below (length roots.now)
+        (λ d. broken_blocks page_words
+        (map_at L.kind words upper.now leaf.now spill.now roots.now d)) }
+    requires spill { need.spill ≡
+        sum_below (length roots.now)
+        (λ d. spill_lines L.kind (map_at L.kind words upper.now leaf.now spill.now roots.now d)) }
+    ensures upper { result.upper ≡
+        length roots.now +
+        sum_below (length roots.now)
+        (λ d. broken_blocks region_words
+        (changed_map change.now.first change.now.count (given change.now (d + 1))
+        (map_at L.kind words upper.now leaf.now spill.now roots.now d))) }
+    ensures leaf { result.leaf ≡
+        sum_below (length roots.now)
+        (λ d. broken_blocks page_words
+        (changed_map change.now.first change.now.count (given change.now (d + 1))
+        (map_at L.kind words upper.now leaf.now spill.now roots.now d))) }
+    ensures spill { result.spill ≡
+        sum_below (length roots.now)
+        (λ d. spill_lines L.kind
+        (changed_map change.now.first change.now.count (given change.now (d + 1))
+        (map_at L.kind words upper.now leaf.now spill.now roots.now d))) }
 {
     let mut need = need;
     for row in 0..roots.count() {

@@ -25,7 +25,8 @@ pub(crate) fn need_of_rows<L: LeafForm>(rows: &[Spans], words: u32) -> Need
     requires rows { All (IsRow words) rows.now }
     requires few { length rows.now ≤ most_modules }
     requires small { words ≤ most_words }
-    ensures upper { result.upper ≡ length rows.now + sum_by (λ row. broken_blocks region_words (row_map words row)) rows.now }
+    ensures upper { result.upper ≡
+        length rows.now + sum_by (λ row. broken_blocks region_words (row_map words row)) rows.now }
     ensures leaf { result.leaf ≡ sum_by (λ row. broken_blocks page_words (row_map words row)) rows.now }
     ensures spill { result.spill ≡ sum_by (λ row. spill_lines L.kind (row_map words row)) rows.now }
 {
@@ -93,17 +94,22 @@ fn lay_row<L: LeafForm>(
 )
     requires tables { IsTables L.kind words upper.old leaf.old spill.old roots.now }
     requires row { row < length roots.now }
-    requires canonical { (d : ℕ) → d < length roots.now → IsCanonical L.kind words upper.old leaf.old spill.old roots.now d }
+    requires canonical { (d : ℕ) → d < length roots.now →
+        IsCanonical L.kind words upper.old leaf.old spill.old roots.now d }
     requires spans { IsRow words spans.now }
     requires empty { map_at L.kind words upper.old leaf.old spill.old roots.now row ≡ map [] words }
     requires upper_room { broken_blocks region_words (row_map words spans.now) + 1 ≤ free_in upper.old }
     requires leaf_room { broken_blocks page_words (row_map words spans.now) + 1 ≤ free_in leaf.old }
     requires spill_room { spill_lines L.kind (row_map words spans.now) + 1 ≤ free_in spill.old }
     ensures tables { IsTables L.kind words upper.new leaf.new spill.new roots.now }
-    ensures canonical { (d : ℕ) → d < length roots.now → IsCanonical L.kind words upper.new leaf.new spill.new roots.now d }
+    ensures canonical { (d : ℕ) → d < length roots.now →
+        IsCanonical L.kind words upper.new leaf.new spill.new roots.now d }
     ensures laid { map_at L.kind words upper.new leaf.new spill.new roots.now row ≡ row_map words spans.now }
-    ensures same { (d : ℕ) → d < length roots.now → d ≢ row → map_at L.kind words upper.new leaf.new spill.new roots.now d ≡ map_at L.kind words upper.old leaf.old spill.old roots.now d }
-    ensures upper_free { free_in upper.new + broken_blocks region_words (row_map words spans.now) ≡ free_in upper.old }
+    ensures same { (d : ℕ) → d < length roots.now → d ≢ row →
+        map_at L.kind words upper.new leaf.new spill.new roots.now d ≡
+        map_at L.kind words upper.old leaf.old spill.old roots.now d }
+    ensures upper_free { free_in upper.new + broken_blocks region_words (row_map words spans.now) ≡
+        free_in upper.old }
     ensures leaf_free { free_in leaf.new + broken_blocks page_words (row_map words spans.now) ≡ free_in leaf.old }
     ensures spill_free { free_in spill.new + spill_lines L.kind (row_map words spans.now) ≡ free_in spill.old }
     ensures upper_total { length upper.new ≡ length upper.old }
@@ -135,15 +141,22 @@ pub(crate) fn lay_rows<L: LeafForm>(
     requires tables { IsTables L.kind words upper.old leaf.old spill.old roots.now }
     requires rows { length rows.now ≡ length roots.now }
     requires few { length rows.now ≤ most_modules }
-    requires canonical { (d : ℕ) → d < length roots.now → IsCanonical L.kind words upper.old leaf.old spill.old roots.now d }
+    requires canonical { (d : ℕ) → d < length roots.now →
+        IsCanonical L.kind words upper.old leaf.old spill.old roots.now d }
     requires spans { All (IsRow words) rows.now }
-    requires empty { (d : ℕ) → d < length roots.now → map_at L.kind words upper.old leaf.old spill.old roots.now d ≡ map [] words }
-    requires upper_room { sum_by (λ row. broken_blocks region_words (row_map words row)) rows.now + 1 ≤ free_in upper.old }
-    requires leaf_room { sum_by (λ row. broken_blocks page_words (row_map words row)) rows.now + 1 ≤ free_in leaf.old }
+    requires empty { (d : ℕ) → d < length roots.now →
+        map_at L.kind words upper.old leaf.old spill.old roots.now d ≡ map [] words }
+    requires upper_room { sum_by (λ row. broken_blocks region_words (row_map words row)) rows.now +
+        1 ≤ free_in upper.old }
+    requires leaf_room { sum_by (λ row. broken_blocks page_words (row_map words row)) rows.now +
+        1 ≤ free_in leaf.old }
     requires spill_room { sum_by (λ row. spill_lines L.kind (row_map words row)) rows.now + 1 ≤ free_in spill.old }
     ensures tables { IsTables L.kind words upper.new leaf.new spill.new roots.now }
-    ensures canonical { (d : ℕ) → d < length roots.now → IsCanonical L.kind words upper.new leaf.new spill.new roots.now d }
-    ensures laid { (d : ℕ) → d < length roots.now → map_at L.kind words upper.new leaf.new spill.new roots.now d ≡ row_map words (slice_index_or rows.now d []) }
+    ensures canonical { (d : ℕ) → d < length roots.now →
+        IsCanonical L.kind words upper.new leaf.new spill.new roots.now d }
+    ensures laid { (d : ℕ) → d < length roots.now →
+        map_at L.kind words upper.new leaf.new spill.new roots.now d ≡
+        row_map words (slice_index_or rows.now d []) }
     ensures upper_total { length upper.new ≡ length upper.old }
     ensures leaf_total { length leaf.new ≡ length leaf.old }
     ensures spill_total { length spill.new ≡ length spill.old }

@@ -48,7 +48,8 @@ fn change_one<L: LeafForm>(
     change: &Change,
 )
     requires tables { IsTables L.kind words upper.old leaf.old spill.old roots.now }
-    requires canonical { (d : ℕ) → d < length roots.now → IsCanonical L.kind words upper.old leaf.old spill.old roots.now d }
+    requires canonical { (d : ℕ) → d < length roots.now →
+        IsCanonical L.kind words upper.old leaf.old spill.old roots.now d }
     requires few { length roots.now ≤ most_modules }
     requires row { row < length roots.now }
     requires some { 0 < change.now.count }
@@ -57,9 +58,14 @@ fn change_one<L: LeafForm>(
     requires leaf_room { 2 ≤ free_in leaf.old }
     requires spill_room { 2 ≤ free_in spill.old }
     ensures tables { IsTables L.kind words upper.new leaf.new spill.new roots.now }
-    ensures canonical { (d : ℕ) → d < length roots.now → IsCanonical L.kind words upper.new leaf.new spill.new roots.now d }
-    ensures changed { map_at L.kind words upper.new leaf.new spill.new roots.now row ≡ changed_map change.now.first change.now.count (given change.now (row + 1)) (map_at L.kind words upper.old leaf.old spill.old roots.now row) }
-    ensures same { (d : ℕ) → d < length roots.now → d ≢ row → map_at L.kind words upper.new leaf.new spill.new roots.now d ≡ map_at L.kind words upper.old leaf.old spill.old roots.now d }
+    ensures canonical { (d : ℕ) → d < length roots.now →
+        IsCanonical L.kind words upper.new leaf.new spill.new roots.now d }
+    ensures changed { map_at L.kind words upper.new leaf.new spill.new roots.now row ≡
+        changed_map change.now.first change.now.count (given change.now (row + 1))
+        (map_at L.kind words upper.old leaf.old spill.old roots.now row) }
+    ensures same { (d : ℕ) → d < length roots.now → d ≢ row →
+        map_at L.kind words upper.new leaf.new spill.new roots.now d ≡
+        map_at L.kind words upper.old leaf.old spill.old roots.now d }
     ensures upper_free { free_in upper.old ≤ free_in upper.new + 2 }
     ensures leaf_free { free_in leaf.old ≤ free_in leaf.new + 2 }
     ensures spill_free { free_in spill.old ≤ free_in spill.new + 2 }
@@ -82,7 +88,8 @@ pub(crate) fn change_all<L: LeafForm>(
     change: &Change,
 )
     requires tables { IsTables L.kind words upper.old leaf.old spill.old roots.now }
-    requires canonical { (d : ℕ) → d < length roots.now → IsCanonical L.kind words upper.old leaf.old spill.old roots.now d }
+    requires canonical { (d : ℕ) → d < length roots.now →
+        IsCanonical L.kind words upper.old leaf.old spill.old roots.now d }
     requires few { length roots.now ≤ most_modules }
     requires some { 0 < change.now.count }
     requires inside { change.now.first + change.now.count ≤ words }
@@ -90,8 +97,12 @@ pub(crate) fn change_all<L: LeafForm>(
     requires leaf_room { 2 * length roots.now ≤ free_in leaf.old }
     requires spill_room { 2 * length roots.now ≤ free_in spill.old }
     ensures tables { IsTables L.kind words upper.new leaf.new spill.new roots.now }
-    ensures canonical { (d : ℕ) → d < length roots.now → IsCanonical L.kind words upper.new leaf.new spill.new roots.now d }
-    ensures changed { (d : ℕ) → d < length roots.now → map_at L.kind words upper.new leaf.new spill.new roots.now d ≡ changed_map change.now.first change.now.count (given change.now (d + 1)) (map_at L.kind words upper.old leaf.old spill.old roots.now d) }
+    ensures canonical { (d : ℕ) → d < length roots.now →
+        IsCanonical L.kind words upper.new leaf.new spill.new roots.now d }
+    ensures changed { (d : ℕ) → d < length roots.now →
+        map_at L.kind words upper.new leaf.new spill.new roots.now d ≡
+        changed_map change.now.first change.now.count (given change.now (d + 1))
+        (map_at L.kind words upper.old leaf.old spill.old roots.now d) }
     ensures upper_total { length upper.new ≡ length upper.old }
     ensures leaf_total { length leaf.new ≡ length leaf.old }
     ensures spill_total { length spill.new ≡ length spill.old }

@@ -20,7 +20,8 @@ pub(crate) fn regions_broken<V: View>(view: &V, from: u32, to: u32) -> u32
     requires lawful { V.lawful view.now }
     requires from { from ≤ to }
     requires to { to ≤ most_regions }
-    ensures count { result ≡ count_below (to - from) (λ i. is_broken region_words (V.map view.now) (from + i)) }
+    ensures count { result ≡
+        count_below (to - from) (λ i. is_broken region_words (V.map view.now) (from + i)) }
     ensures most { result ≤ to - from }
 {
     let mut count = 0;
@@ -50,7 +51,9 @@ pub(crate) fn lines_crowded<L: LeafForm, V: View>(view: &V, from: u32, to: u32) 
     requires lawful { V.lawful view.now }
     requires from { from ≤ to }
     requires to { to ≤ most_lines }
-    ensures count { result ≡ count_below (to - from) (λ i. needs_spill L.kind (line_at (V.map view.now) ((from + i) * line_words))) }
+    ensures count { result ≡
+        count_below (to - from)
+        (λ i. needs_spill L.kind (line_at (V.map view.now) ((from + i) * line_words))) }
     ensures most { result ≤ to - from }
 {
     let mut count = 0;
@@ -64,7 +67,9 @@ pub(crate) fn lines_crowded<L: LeafForm, V: View>(view: &V, from: u32, to: u32) 
 fn page_crowded<L: LeafForm, V: View>(view: &V, page: u32) -> u32
     requires lawful { V.lawful view.now }
     requires page { page < most_pages }
-    ensures count { result ≡ count_below 64 (λ i. needs_spill L.kind (line_at (V.map view.now) ((page * 64 + i) * line_words))) }
+    ensures count { result ≡
+        count_below 64
+        (λ i. needs_spill L.kind (line_at (V.map view.now) ((page * 64 + i) * line_words))) }
     ensures most { result ≤ 64 }
 {
     if is_page_even(view, page) {
@@ -78,7 +83,9 @@ fn page_crowded<L: LeafForm, V: View>(view: &V, page: u32) -> u32
 fn pages_crowded<L: LeafForm, V: View>(view: &V, pages: u32) -> u32
     requires lawful { V.lawful view.now }
     requires pages { pages ≤ most_pages }
-    ensures count { result ≡ count_below (pages * 64) (λ z. needs_spill L.kind (line_at (V.map view.now) (z * line_words))) }
+    ensures count { result ≡
+        count_below (pages * 64)
+        (λ z. needs_spill L.kind (line_at (V.map view.now) (z * line_words))) }
     ensures most { result ≤ pages * 64 }
 {
     let mut count = 0;

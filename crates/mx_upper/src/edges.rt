@@ -79,7 +79,8 @@ pub(crate) fn regions_broken_after<V: View>(
     requires odd { odd ≡ true → is_broken page_words (V.map view.now) (first / 1024) ≡ true }
     requires from { from ≤ to }
     requires to { to ≤ most_regions }
-    ensures count { result ≡ count_below (to - from) (λ i. is_broken region_words (V.map view.now) (from + i)) }
+    ensures count { result ≡
+        count_below (to - from) (λ i. is_broken region_words (V.map view.now) (from + i)) }
     ensures most { result ≤ to - from }
 {
     let mut count = 0;

@@ -13,7 +13,8 @@ use mx_pool::Pool;
 /// Fills a leaf table with the entries of the lines of a page that has this vector.
 pub(crate) fn fill_page<L: LeafForm>(leaf: &mut Pool<64>, frame: u32, entry: u32)
     requires { IsTaken leaf.old frame }
-    ensures lines { (k : ℕ) → k < 64 → word_at leaf.new frame k ≡ leaf_entry L.kind (flat_line (vector_perm entry (k / 8))) 0 0 0 }
+    ensures lines { (k : ℕ) → k < 64 →
+        word_at leaf.new frame k ≡ leaf_entry L.kind (flat_line (vector_perm entry (k / 8))) 0 0 0 }
     ensures elsewhere { (g : ℕ) → g ≢ frame → frame_at leaf.new g ≡ frame_at leaf.old g }
     ensures taken { IsTaken leaf.new frame }
     ensures free { free_in leaf.new ≡ free_in leaf.old }
@@ -37,7 +38,8 @@ fn flat(number: u32) -> u32
 /// Fills a mid table with the vectors of the pages of a region that has this vector.
 pub(crate) fn fill_region(upper: &mut Pool<1024>, frame: u32, entry: u32)
     requires { IsTaken upper.old frame }
-    ensures pages { (k : ℕ) → k < 1024 → word_at upper.new frame k ≡ flat_vector (digit (entry / 4) (k / 128)) }
+    ensures pages { (k : ℕ) → k < 1024 →
+        word_at upper.new frame k ≡ flat_vector (digit (entry / 4) (k / 128)) }
     ensures elsewhere { (g : ℕ) → g ≢ frame → frame_at upper.new g ≡ frame_at upper.old g }
     ensures taken { IsTaken upper.new frame }
     ensures free { free_in upper.new ≡ free_in upper.old }

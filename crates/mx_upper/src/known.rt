@@ -76,7 +76,7 @@ pub(crate) fn further<V: View>(view: &V, line: u32, known: Span) -> Span
 }
 
 /// Whether a span of RAM holds a line and as many words on either side of it as an entry can reach.
-fn is_deep(known: Span, words: u32, line: u32) -> bool
+pub(crate) fn is_deep(known: Span, words: u32, line: u32) -> bool
     requires whole { known.first + known.count ≤ most_words }
     requires line { line < most_lines }
     ensures before { result ≡ true → known.first + 31 ≤ line * 16 }
@@ -86,6 +86,21 @@ fn is_deep(known: Span, words: u32, line: u32) -> bool
     let first = line * LINE_WORDS;
     let behind = first + LINE_WORDS + MOST_REACH;
     known.first + MOST_REACH <= first && behind <= known.first + known.count && behind <= words
+}
+
+/// A span round the first word of a line: the known one where it holds that word.
+fn round_first<V: View>(view: &V, line: u32, known: Span) -> Span
+    requires lawful { V.lawful view.now }
+    requires line { line < most_lines }
+    requires known { IsOne (V.map view.now) known }
+    ensures { IsRound (V.map view.now) (line * line_words) result }
+{
+    let first = line * LINE_WORDS;
+    if known.first <= first && first < known.first + known.count {
+        known
+    } else {
+        view.around(first)
+    }
 }
 
 /// The entry of a line with the reaches of a map of `words` words of RAM, and the number of the line's spill word.
@@ -102,12 +117,14 @@ pub(crate) fn reached_entry<L: LeafForm, V: View>(
     requires few { words ≤ most_words }
     requires known { IsOne (V.map view.now) known }
     requires number { number < 2 ^ 30 }
-    ensures { result ≡ leaf_entry L.kind (line_at (V.map view.now) (line * line_words)) (map_left L.kind (V.map view.now) line) (map_right L.kind (V.map view.now) line) number }
+    ensures { result ≡
+        leaf_entry L.kind (line_at (V.map view.now) (line * line_words))
+        (map_left L.kind (V.map view.now) line) (map_right L.kind (V.map view.now) line) number }
 {
     if is_deep(known, words, line) {
         return L::flat(known.perm, L::REACH, L::REACH);
     }
-    let head = view.around(line * LINE_WORDS);
+    let head = round_first(view, line, known);
     let left = left_in::<L, V>(view, words, line, head);
     let behind = line * LINE_WORDS + LINE_WORDS;
     if behind <= head.first + head.count {

@@ -1,4 +1,4 @@
-//! A permission for a range of words of one domain, and what is written of it in one line, and taken away behind it.
+//! A permission for a range of words of one domain, and what is written of it in one line, and taken away after it.
 ghost use Rattle.std.specs.Prelude.{◌≡◌, ◌≢◌, ℕ, ◌*◌, ◌/◌, ◌<◌, ◌≤◌, ◌⊎◌, true, false, length};
 ghost use Rattle.mx_words.specs.Runs.{line_words, page_words, region_words};
 ghost use Rattle.mx_words.specs.Reach.{line_at};
@@ -48,8 +48,14 @@ pub(crate) fn lay_line<L: LeafForm>(
     requires leafed { has_leaf upper.now (root_at roots.now lay.now.row) (line / 64) ≡ true }
     requires meets { part_first lay.now.first line_words line < part_end lay.now.end line_words line }
     requires inside { lay.now.end ≤ lay.now.words }
-    requires room { needs_spill L.kind (line_at (with_range (part_first lay.now.first line_words line) (part_end lay.now.end line_words line) lay.now.perm (map_in L.kind upper.now leaf.old spill.old roots.now lay.now)) (line * line_words)) ≡ true → has_spill L.kind upper.now leaf.old (root_at roots.now lay.now.row) line ≡ false → 0 < free_in spill.old }
-    ensures { IsLaidIn L.kind upper.now leaf.old spill.old upper.now leaf.new spill.new roots.now lay.now (part_first lay.now.first line_words line) (part_end lay.now.end line_words line) }
+    requires room { needs_spill L.kind
+        (line_at (with_range (part_first lay.now.first line_words line)
+        (part_end lay.now.end line_words line) lay.now.perm
+        (map_in L.kind upper.now leaf.old spill.old roots.now lay.now)) (line * line_words)) ≡
+        true → has_spill L.kind upper.now leaf.old (root_at roots.now lay.now.row) line ≡ false →
+        0 < free_in spill.old }
+    ensures { IsLaidIn L.kind upper.now leaf.old spill.old upper.now leaf.new spill.new roots.now
+        lay.now (part_first lay.now.first line_words line) (part_end lay.now.end line_words line) }
 {
     let mid = root_entry(upper, roots.at(lay.row), line / REGION_LINES) / 4;
     let frame = upper.get(mid, line / PAGE_LINES % REGION_PAGES) / 4;
@@ -80,11 +86,20 @@ pub(crate) fn close_page<L: LeafForm>(
     requires page { page < most_pages }
     requires leafed { has_leaf upper.old (root_at roots.now lay.now.row) page ≡ true }
     ensures tables { IsTables L.kind lay.now.words upper.new leaf.new spill.now roots.now }
-    ensures maps { (e : ℕ) → e < length roots.now → map_at L.kind lay.now.words upper.new leaf.new spill.now roots.now e ≡ map_at L.kind lay.now.words upper.old leaf.old spill.now roots.now e }
-    ensures mids { (e k : ℕ) → e < length roots.now → k < most_regions → has_mid upper.new (root_at roots.now e) k ≡ has_mid upper.old (root_at roots.now e) k }
-    ensures here { has_leaf upper.new (root_at roots.now lay.now.row) page ≡ is_broken page_words (map_in L.kind upper.old leaf.old spill.now roots.now lay.now) page }
-    ensures leaves { (e k : ℕ) → e < length roots.now → k < most_pages → (e ≢ lay.now.row) ⊎ (k ≢ page) → has_leaf upper.new (root_at roots.now e) k ≡ has_leaf upper.old (root_at roots.now e) k }
-    ensures lines { (e z : ℕ) → e < length roots.now → z < most_lines → has_leaf upper.old (root_at roots.now e) (z / 64) ≡ true → has_leaf upper.new (root_at roots.now e) (z / 64) ≡ true → IsLineKept L.kind upper.old leaf.old spill.now upper.new leaf.new spill.now (root_at roots.now e) z }
+    ensures maps { (e : ℕ) → e < length roots.now →
+        map_at L.kind lay.now.words upper.new leaf.new spill.now roots.now e ≡
+        map_at L.kind lay.now.words upper.old leaf.old spill.now roots.now e }
+    ensures mids { (e k : ℕ) → e < length roots.now → k < most_regions →
+        has_mid upper.new (root_at roots.now e) k ≡ has_mid upper.old (root_at roots.now e) k }
+    ensures here { has_leaf upper.new (root_at roots.now lay.now.row) page ≡
+        is_broken page_words (map_in L.kind upper.old leaf.old spill.now roots.now lay.now) page }
+    ensures leaves { (e k : ℕ) → e < length roots.now → k < most_pages → (e ≢ lay.now.row) ⊎ (k ≢ page) →
+        has_leaf upper.new (root_at roots.now e) k ≡ has_leaf upper.old (root_at roots.now e) k }
+    ensures lines { (e z : ℕ) → e < length roots.now → z < most_lines →
+        has_leaf upper.old (root_at roots.now e) (z / 64) ≡ true →
+        has_leaf upper.new (root_at roots.now e) (z / 64) ≡ true →
+        IsLineKept L.kind upper.old leaf.old spill.now upper.new leaf.new spill.now
+        (root_at roots.now e) z }
     ensures upper_total { length upper.new ≡ length upper.old }
     ensures leaf_total { length leaf.new ≡ length leaf.old }
 {
@@ -110,13 +125,22 @@ pub(crate) fn close_region<L: LeafForm>(
     requires row { lay.now.row < length roots.now }
     requires region { region < most_regions }
     requires opened { has_mid upper.old (root_at roots.now lay.now.row) region ≡ true }
-    requires pages { ArePagesTight upper.old (root_at roots.now lay.now.row) (map_in L.kind upper.old leaf.now spill.now roots.now lay.now) }
+    requires pages { ArePagesTight upper.old (root_at roots.now lay.now.row)
+        (map_in L.kind upper.old leaf.now spill.now roots.now lay.now) }
     ensures tables { IsTables L.kind lay.now.words upper.new leaf.now spill.now roots.now }
-    ensures maps { (e : ℕ) → e < length roots.now → map_at L.kind lay.now.words upper.new leaf.now spill.now roots.now e ≡ map_at L.kind lay.now.words upper.old leaf.now spill.now roots.now e }
-    ensures here { has_mid upper.new (root_at roots.now lay.now.row) region ≡ is_broken region_words (map_in L.kind upper.old leaf.now spill.now roots.now lay.now) region }
-    ensures mids { (e k : ℕ) → e < length roots.now → k < most_regions → (e ≢ lay.now.row) ⊎ (k ≢ region) → has_mid upper.new (root_at roots.now e) k ≡ has_mid upper.old (root_at roots.now e) k }
-    ensures leaves { (e y : ℕ) → e < length roots.now → y < most_pages → has_leaf upper.new (root_at roots.now e) y ≡ has_leaf upper.old (root_at roots.now e) y }
-    ensures lines { (e z : ℕ) → e < length roots.now → z < most_lines → has_leaf upper.old (root_at roots.now e) (z / 64) ≡ true → IsLineKept L.kind upper.old leaf.now spill.now upper.new leaf.now spill.now (root_at roots.now e) z }
+    ensures maps { (e : ℕ) → e < length roots.now →
+        map_at L.kind lay.now.words upper.new leaf.now spill.now roots.now e ≡
+        map_at L.kind lay.now.words upper.old leaf.now spill.now roots.now e }
+    ensures here { has_mid upper.new (root_at roots.now lay.now.row) region ≡
+        is_broken region_words (map_in L.kind upper.old leaf.now spill.now roots.now lay.now) region }
+    ensures mids { (e k : ℕ) → e < length roots.now → k < most_regions → (e ≢ lay.now.row) ⊎ (k ≢ region) →
+        has_mid upper.new (root_at roots.now e) k ≡ has_mid upper.old (root_at roots.now e) k }
+    ensures leaves { (e y : ℕ) → e < length roots.now → y < most_pages →
+        has_leaf upper.new (root_at roots.now e) y ≡ has_leaf upper.old (root_at roots.now e) y }
+    ensures lines { (e z : ℕ) → e < length roots.now → z < most_lines →
+        has_leaf upper.old (root_at roots.now e) (z / 64) ≡ true →
+        IsLineKept L.kind upper.old leaf.now spill.now upper.new leaf.now spill.now
+        (root_at roots.now e) z }
     ensures total { length upper.new ≡ length upper.old }
 {
     let page = lay.first / PAGE_WORDS;

@@ -40,7 +40,9 @@ pub trait LeafForm {
     /// The number of the spill word that an entry names. `None` exactly where it names none.
     fn spill_of(entry: u32) -> Option<u32>
         ensures value { result ≡ spill_number kind entry }
-        ensures named { (perms : List Perm) (left right spill : ℕ) → entry ≡ leaf_entry kind perms left right spill → result ≡ named_spill kind perms spill };
+        ensures named { (perms : List Perm) (left right spill : ℕ) →
+            entry ≡ leaf_entry kind perms left right spill →
+            result ≡ named_spill kind perms spill };
 
     /// The run of a word inside its line, lengthened by the reaches that the entry was made with. `line` is the line's first word,
     /// `word` lies in the line, the entry's reaches stay in RAM, and `spilled` is its spill word, or 0 where it has none.
@@ -48,7 +50,9 @@ pub trait LeafForm {
         requires entry { IsEntry kind line entry spilled }
         requires from { line ≤ word }
         requires below { word < line + line_words }
-        ensures { (perms : List Perm) (left right spill : ℕ) → IsStored kind perms left right spill line entry spilled → result ≡ entry_run kind perms left right line word };
+        ensures { (perms : List Perm) (left right spill : ℕ) →
+            IsStored kind perms left right spill line entry spilled →
+            result ≡ entry_run kind perms left right line word };
 
     // The kind is one of the two kinds of tries, and the greatest reach is that kind's.
     ghost trie: { IsTrieKind kind };

@@ -21,7 +21,8 @@ fn put_spill(spill: &mut Pool<1>, old: Option<u32>, needs: bool, word: u32) -> u
     ensures reused { needs ≡ true → IfSome old (λ n. result ≡ n) }
     ensures fresh { needs ≡ true → old ≡ None → frame_at spill.old result ≡ None }
     ensures given { needs ≡ false → IfSome old (λ n. frame_at spill.new n ≡ None) }
-    ensures elsewhere { (g : ℕ) → (needs ≡ true → g ≢ result) → (old ≢ Some g) → frame_at spill.new g ≡ frame_at spill.old g }
+    ensures elsewhere { (g : ℕ) → (needs ≡ true → g ≢ result) → (old ≢ Some g) →
+        frame_at spill.new g ≡ frame_at spill.old g }
     ensures free { free_in spill.new + bit needs ≡ free_in spill.old + bit (is_some old) }
     ensures total { length spill.new ≡ length spill.old }
 {
@@ -63,8 +64,10 @@ pub(crate) fn set_line<L: LeafForm>(
     requires place { place < 64 }
     requires taken { IfSome (spill_number L.kind (word_at leaf.old frame place)) (λ n. IsTaken spill.old n) }
     requires few { IfSome (spill_number L.kind (word_at leaf.old frame place)) (λ n. n < 2 ^ 30) }
-    requires room { needs_spill L.kind perms.now ≡ true → spill_number L.kind (word_at leaf.old frame place) ≡ None → 0 < free_in spill.old }
-    ensures { IsLineWritten L.kind leaf.old spill.old leaf.new spill.new frame place perms.now result }
+    requires room { needs_spill L.kind perms.now ≡ true →
+        spill_number L.kind (word_at leaf.old frame place) ≡ None → 0 < free_in spill.old }
+    ensures { IsLineWritten L.kind leaf.old spill.old leaf.new spill.new frame place perms.now
+        result }
 {
     let old = L::spill_of(leaf.get(frame, place));
     let needs = L::needs_spill(perms);

@@ -38,7 +38,9 @@ pub(crate) fn open_page<L: LeafForm>(
     requires room { is_pointer (word_at upper.old mid place) ≡ false → 0 < free_in leaf.old }
     ensures same_upper { is_pointer (word_at upper.old mid place) ≡ true → upper.new ≡ upper.old }
     ensures same_leaf { is_pointer (word_at upper.old mid place) ≡ true → leaf.new ≡ leaf.old }
-    ensures made { is_pointer (word_at upper.old mid place) ≡ false → IsPageMade L.kind upper.old leaf.old upper.new leaf.new mid place (target (word_at upper.new mid place)) }
+    ensures made { is_pointer (word_at upper.old mid place) ≡ false →
+        IsPageMade L.kind upper.old leaf.old upper.new leaf.new mid place
+        (target (word_at upper.new mid place)) }
 {
     if upper.get(mid, place) % 4 != 0 {
         make_page::<L>(upper, leaf, mid, place);
@@ -68,7 +70,8 @@ pub(crate) fn open_region(upper: &mut Pool<1024>, root: u32, region: u32)
     requires region { region < most_regions }
     requires room { is_pointer (root_word upper.old root region) ≡ false → 0 < free_in upper.old }
     ensures same { is_pointer (root_word upper.old root region) ≡ true → upper.new ≡ upper.old }
-    ensures made { is_pointer (root_word upper.old root region) ≡ false → IsRegionMade upper.old upper.new root region (target (root_word upper.new root region)) }
+    ensures made { is_pointer (root_word upper.old root region) ≡ false →
+        IsRegionMade upper.old upper.new root region (target (root_word upper.new root region)) }
 {
     if root_entry(upper, root, region) % 4 != 0 {
         make_region(upper, root, region);

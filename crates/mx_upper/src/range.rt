@@ -30,8 +30,14 @@ fn lay_lines<L: LeafForm>(
     requires leafed { has_leaf upper.now (root_at roots.now lay.now.row) page ≡ true }
     requires meets { part_first lay.now.first page_words page < part_end lay.now.end page_words page }
     requires inside { lay.now.end ≤ lay.now.words }
-    requires room { (c : ℕ) → part_first lay.now.first page_words page ≤ c → c ≤ part_end lay.now.end page_words page → spill_lines L.kind (with_range (part_first lay.now.first page_words page) c lay.now.perm (map_in L.kind upper.now leaf.old spill.old roots.now lay.now)) ≤ count_below most_lines (has_spill L.kind upper.now leaf.old (root_at roots.now lay.now.row)) + free_in spill.old }
-    ensures { IsLaidIn L.kind upper.now leaf.old spill.old upper.now leaf.new spill.new roots.now lay.now (part_first lay.now.first page_words page) (part_end lay.now.end page_words page) }
+    requires room { (c : ℕ) → part_first lay.now.first page_words page ≤ c →
+        c ≤ part_end lay.now.end page_words page →
+        spill_lines L.kind
+        (with_range (part_first lay.now.first page_words page) c lay.now.perm
+        (map_in L.kind upper.now leaf.old spill.old roots.now lay.now)) ≤ count_below most_lines
+        (has_spill L.kind upper.now leaf.old (root_at roots.now lay.now.row)) + free_in spill.old }
+    ensures { IsLaidIn L.kind upper.now leaf.old spill.old upper.now leaf.new spill.new roots.now
+        lay.now (part_first lay.now.first page_words page) (part_end lay.now.end page_words page) }
 {
     let first = lay.first.max(page * PAGE_WORDS);
     let end = lay.end.min(page * PAGE_WORDS + PAGE_WORDS);
@@ -48,12 +54,15 @@ fn open_way<L: LeafForm>(
     row: u32,
     page: u32,
 )
-    requires tables { (words : ℕ) × ((spill : Frames) × IsTables L.kind words upper.old leaf.old spill roots.now) }
+    requires tables { (words : ℕ) ×
+        ((spill : Frames) × IsTables L.kind words upper.old leaf.old spill roots.now) }
     requires row { row < length roots.now }
     requires page { page < most_pages }
     requires upper_room { has_mid upper.old (root_at roots.now row) (page / 1024) ≡ false → 0 < free_in upper.old }
     requires leaf_room { has_leaf upper.old (root_at roots.now row) page ≡ false → 0 < free_in leaf.old }
-    ensures { (words : ℕ) (spill : Frames) → IsTables L.kind words upper.old leaf.old spill roots.now → IsWayOpened L.kind words upper.old leaf.old spill upper.new leaf.new roots.now row page }
+    ensures { (words : ℕ) (spill : Frames) →
+        IsTables L.kind words upper.old leaf.old spill roots.now →
+        IsWayOpened L.kind words upper.old leaf.old spill upper.new leaf.new roots.now row page }
 {
     let root = roots.at(row);
     open_region(upper, root, page / REGION_PAGES);
@@ -75,13 +84,20 @@ fn lay_page<L: LeafForm>(
     requires page { page < most_pages }
     requires meets { part_first lay.now.first page_words page < part_end lay.now.end page_words page }
     requires inside { lay.now.end ≤ lay.now.words }
-    requires pages { ArePagesTight upper.old (root_at roots.now lay.now.row) (map_in L.kind upper.old leaf.old spill.old roots.now lay.now) }
-    requires regions { AreRegionsTight upper.old (root_at roots.now lay.now.row) (map_in L.kind upper.old leaf.old spill.old roots.now lay.now) (page / 1024) }
-    requires room { IsRoomyIn L.kind upper.old leaf.old spill.old roots.now lay.now (part_first lay.now.first page_words page) (part_end lay.now.end page_words page) }
-    ensures laid { IsLaidIn L.kind upper.old leaf.old spill.old upper.new leaf.new spill.new roots.now lay.now (part_first lay.now.first page_words page) (part_end lay.now.end page_words page) }
-    ensures pages { ArePagesTight upper.new (root_at roots.now lay.now.row) (map_in L.kind upper.new leaf.new spill.new roots.now lay.now) }
+    requires pages { ArePagesTight upper.old (root_at roots.now lay.now.row)
+        (map_in L.kind upper.old leaf.old spill.old roots.now lay.now) }
+    requires regions { AreRegionsTight upper.old (root_at roots.now lay.now.row)
+        (map_in L.kind upper.old leaf.old spill.old roots.now lay.now) (page / 1024) }
+    requires room { IsRoomyIn L.kind upper.old leaf.old spill.old roots.now lay.now
+        (part_first lay.now.first page_words page) (part_end lay.now.end page_words page) }
+    ensures laid { IsLaidIn L.kind upper.old leaf.old spill.old upper.new leaf.new spill.new roots.now
+        lay.now (part_first lay.now.first page_words page) (part_end lay.now.end page_words page) }
+    ensures pages { ArePagesTight upper.new (root_at roots.now lay.now.row)
+        (map_in L.kind upper.new leaf.new spill.new roots.now lay.now) }
     ensures opened { has_mid upper.new (root_at roots.now lay.now.row) (page / 1024) ≡ true }
-    ensures mids { (k : ℕ) → k < most_regions → k ≢ page / 1024 → has_mid upper.new (root_at roots.now lay.now.row) k ≡ has_mid upper.old (root_at roots.now lay.now.row) k }
+    ensures mids { (k : ℕ) → k < most_regions → k ≢ page / 1024 →
+        has_mid upper.new (root_at roots.now lay.now.row) k ≡
+        has_mid upper.old (root_at roots.now lay.now.row) k }
 {
     open_way::<L>(upper, leaf, roots, lay.row, page);
     lay_lines::<L>(upper, leaf, spill, roots, lay, page);
@@ -103,8 +119,11 @@ fn lay_region<L: LeafForm>(
     requires meets { part_first lay.now.first region_words region < part_end lay.now.end region_words region }
     requires inside { lay.now.end ≤ lay.now.words }
     requires tight { IsTightIn L.kind upper.old leaf.old spill.old roots.now lay.now }
-    requires room { IsRoomyIn L.kind upper.old leaf.old spill.old roots.now lay.now (part_first lay.now.first region_words region) (part_end lay.now.end region_words region) }
-    ensures laid { IsLaidIn L.kind upper.old leaf.old spill.old upper.new leaf.new spill.new roots.now lay.now (part_first lay.now.first region_words region) (part_end lay.now.end region_words region) }
+    requires room { IsRoomyIn L.kind upper.old leaf.old spill.old roots.now lay.now
+        (part_first lay.now.first region_words region) (part_end lay.now.end region_words region) }
+    ensures laid { IsLaidIn L.kind upper.old leaf.old spill.old upper.new leaf.new spill.new roots.now
+        lay.now (part_first lay.now.first region_words region)
+        (part_end lay.now.end region_words region) }
     ensures tight { IsTightIn L.kind upper.new leaf.new spill.new roots.now lay.now }
 {
     let first = lay.first.max(region * REGION_WORDS);
@@ -129,7 +148,8 @@ pub(crate) fn lay_range<L: LeafForm>(
     requires inside { lay.now.end ≤ lay.now.words }
     requires tight { IsTightIn L.kind upper.old leaf.old spill.old roots.now lay.now }
     requires room { IsRoomyIn L.kind upper.old leaf.old spill.old roots.now lay.now lay.now.first lay.now.end }
-    ensures laid { IsLaidIn L.kind upper.old leaf.old spill.old upper.new leaf.new spill.new roots.now lay.now lay.now.first lay.now.end }
+    ensures laid { IsLaidIn L.kind upper.old leaf.old spill.old upper.new leaf.new spill.new roots.now
+        lay.now lay.now.first lay.now.end }
     ensures tight { IsTightIn L.kind upper.new leaf.new spill.new roots.now lay.now }
 {
     for region in lay.first / REGION_WORDS..(lay.end - 1) / REGION_WORDS + 1 {

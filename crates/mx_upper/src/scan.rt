@@ -26,7 +26,7 @@ fn is_uniform<V: View>(view: &V, first: u32, count: u32) -> bool
     let span = view.around_far(first);
     let mut at = span.first + span.count;
     while at < first + count {
-        let next = view.around(at);
+        let next = view.around_far(at);
         if next.perm.number() != span.perm.number() {
             return false;
         }
@@ -88,7 +88,7 @@ pub(crate) fn is_region_even<V: View>(view: &V, region: u32) -> bool
 }
 
 /// The permissions of the first words of the eight parts of `part` words from `first` on, two bits each, the first part's in the
-/// lowest bits, behind the bits 01.
+/// lowest bits, after the bits 01.
 fn vector_of<V: View>(view: &V, first: u32, part: u32) -> u32
     requires lawful { V.lawful view.now }
     requires inside { first + 8 * part ≤ most_words }
@@ -159,7 +159,7 @@ pub(crate) fn left_of<V: View>(view: &V, line: u32, span: Span) -> u32
     MOST_REACH.min(first - begin)
 }
 
-/// How many words of RAM right behind a line have the permission of its last word, at most 31. RAM has `words` words.
+/// How many words of RAM right after a line have the permission of its last word, at most 31. RAM has `words` words.
 /// `span` is round that word.
 pub(crate) fn right_of<V: View>(view: &V, words: u32, line: u32, span: Span) -> u32
     requires lawful { V.lawful view.now }

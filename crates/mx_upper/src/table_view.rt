@@ -35,7 +35,8 @@ fn around_in<L: LeafForm>(
 ) -> Span
     requires shown { (m : List Perm) × IsLoose L.kind upper.now leaf.now spill.now root m }
     requires word { word < most_words }
-    ensures { (m : List Perm) → IsLoose L.kind upper.now leaf.now spill.now root m → IsRound m word result }
+    ensures { (m : List Perm) → IsLoose L.kind upper.now leaf.now spill.now root m →
+        IsRound m word result }
 {
     let in_root = root_entry(upper, root, word / REGION_WORDS);
     if in_root % 4 != 0 {
@@ -52,7 +53,7 @@ fn around_in<L: LeafForm>(
     )
 }
 
-/// As `around_in`; where a whole eighth of the word's region or page has one entry, that eighth.
+/// As `around_in`; where the pages or lines to the end of the word's eighth have one entry, all of them.
 fn far_in<L: LeafForm>(
     upper: &Pool<1024>,
     leaf: &Pool<64>,
@@ -62,7 +63,8 @@ fn far_in<L: LeafForm>(
 ) -> Span
     requires shown { (m : List Perm) × IsLoose L.kind upper.now leaf.now spill.now root m }
     requires word { word < most_words }
-    ensures { (m : List Perm) → IsLoose L.kind upper.now leaf.now spill.now root m → IsRound m word result }
+    ensures { (m : List Perm) → IsLoose L.kind upper.now leaf.now spill.now root m →
+        IsRound m word result }
 {
     let near = around_in::<L>(upper, leaf, spill, root, word);
     let in_root = root_entry(upper, root, word / REGION_WORDS);
@@ -76,7 +78,8 @@ fn far_in<L: LeafForm>(
     wide_lines(leaf, in_mid / 4, near, word)
 }
 
-/// The eighth of a region where a span holds the word's page, and all the eighth's pages have one entry; else the span.
+/// The pages from the word's page to the end of its eighth of a region where a span holds the word's page, and they have one entry; else
+/// the span. Only at the first page of an eighth are the entries compared, so that a walk over pages doesn't compare them at each.
 fn wide_pages(upper: &Pool<1024>, mid: u32, near: Span, word: u32) -> Span
     requires taken { IsTaken upper.now mid }
     requires whole { near.first + near.count ≤ most_words }
@@ -84,20 +87,26 @@ fn wide_pages(upper: &Pool<1024>, mid: u32, near: Span, word: u32) -> Span
     ensures { (result ≡ near) ⊎ IsWide upper.now mid 128 page_words word near result }
 {
     let page = word / PAGE_WORDS * PAGE_WORDS;
+    if word % REGION_EIGHTH >= PAGE_WORDS {
+        return near;
+    }
     if page < near.first || near.first + near.count < page + PAGE_WORDS {
         return near;
     }
-    if !upper.is_alike(mid, word / REGION_EIGHTH % 8 * 128, 128) {
+    let place = word / PAGE_WORDS % REGION_PAGES;
+    let count = 128 - place % 128;
+    if !upper.is_alike(mid, place, count) {
         return near;
     }
     Span {
-        first: word / REGION_EIGHTH * REGION_EIGHTH,
-        count: REGION_EIGHTH,
+        first: page,
+        count: count * PAGE_WORDS,
         perm: near.perm,
     }
 }
 
-/// The eighth of a page where a span holds the word's line, and all the eighth's lines have one entry; else the span.
+/// The lines from the word's line to the end of its eighth of a page where a span holds the word's line, and they have one entry; else
+/// the span.
 fn wide_lines(leaf: &Pool<64>, frame: u32, near: Span, word: u32) -> Span
     requires taken { IsTaken leaf.now frame }
     requires whole { near.first + near.count ≤ most_words }
@@ -108,12 +117,14 @@ fn wide_lines(leaf: &Pool<64>, frame: u32, near: Span, word: u32) -> Span
     if line < near.first || near.first + near.count < line + LINE_WORDS {
         return near;
     }
-    if !leaf.is_alike(frame, word / PAGE_EIGHTH % 8 * 8, 8) {
+    let place = word / LINE_WORDS % PAGE_LINES;
+    let count = 8 - place % 8;
+    if !leaf.is_alike(frame, place, count) {
         return near;
     }
     Span {
-        first: word / PAGE_EIGHTH * PAGE_EIGHTH,
-        count: PAGE_EIGHTH,
+        first: line,
+        count: count * LINE_WORDS,
         perm: near.perm,
     }
 }
@@ -122,7 +133,8 @@ fn wide_lines(leaf: &Pool<64>, frame: u32, near: Span, word: u32) -> Span
 /// those of the block where all its parts have one permission.
 fn alike_in(entry: u32, part: u32) -> u32
     requires { part ≤ most_words }
-    ensures { (result ≡ part) ⊎ ((result ≡ 8 * part) × ((e : ℕ) → e < 8 → digit (entry / 4) e ≡ entry / 4 % 4)) }
+    ensures { (result ≡ part) ⊎
+        ((result ≡ 8 * part) × ((e : ℕ) → e < 8 → digit (entry / 4) e ≡ entry / 4 % 4)) }
 {
     let perms = entry / 4;
     if perms == 0x5555 * (perms % 4) {
@@ -150,7 +162,8 @@ fn part_of(entry: u32, part: u32, word: u32) -> Span
 fn around_line<L: LeafForm>(spill: &Pool<1>, entry: u32, word: u32) -> Span
     requires line { IsSomeLine L.kind spill.now (word / 16) entry }
     requires word { word < most_words }
-    ensures { (m : List Perm) (left right : ℕ) → IsLine L.kind spill.now m (word / 16) left right entry → IsRound m word result }
+    ensures { (m : List Perm) (left right : ℕ) →
+        IsLine L.kind spill.now m (word / 16) left right entry → IsRound m word result }
 {
     let spilled = match L::spill_of(entry) {
         Some(number) => spill.get(number, 0),
@@ -204,8 +217,10 @@ pub(crate) fn map_of<'a, L: LeafForm>(
     lay: &Laying,
 ) -> TableView<'a, L>
     requires { lay.now.row < length roots.now }
-    ensures map { ⟦<TableView<'static, L> as View>⟧.map result ≡ map_in L.kind upper.now leaf.now spill.now roots.now lay.now }
-    ensures lawful { IsTables L.kind lay.now.words upper.now leaf.now spill.now roots.now → ⟦<TableView<'static, L> as View>⟧.lawful result }
+    ensures map { ⟦<TableView<'static, L> as View>⟧.map result ≡
+        map_in L.kind upper.now leaf.now spill.now roots.now lay.now }
+    ensures lawful { IsTables L.kind lay.now.words upper.now leaf.now spill.now roots.now →
+        ⟦<TableView<'static, L> as View>⟧.lawful result }
 {
     TableView {
         upper,
@@ -220,7 +235,9 @@ pub(crate) fn map_of<'a, L: LeafForm>(
 impl<L: LeafForm> View for TableView<'_, L> {
     ghost map = { λ v. read_map L.kind v.upper.now v.leaf.now v.spill.now v.words v.root };
 
-    ghost lawful = { λ v. (v.words ≤ most_words) × IsLoose L.kind v.upper.now v.leaf.now v.spill.now v.root (read_map L.kind v.upper.now v.leaf.now v.spill.now v.words v.root) };
+    ghost lawful = { λ v. (v.words ≤ most_words) ×
+        IsLoose L.kind v.upper.now v.leaf.now v.spill.now v.root
+        (read_map L.kind v.upper.now v.leaf.now v.spill.now v.words v.root) };
 
     fn around(&self, word: u32) -> Span {
         around_in::<L>(self.upper, self.leaf, self.spill, self.root, word)

@@ -49,7 +49,7 @@ fn run_begin(entry: u32, i: u32) -> u32
     begin
 }
 
-/// The place behind the run round place `i`.
+/// The place after the run round place `i`.
 fn run_end(entry: u32, i: u32) -> u32
     requires { i < 16 }
     ensures ends { i < result }

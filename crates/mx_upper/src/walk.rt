@@ -1,4 +1,4 @@
-//! The walk of a domain's tables for one word: three indexed reads at most, and a decode.
+//! The walk of a domain's tables for one word: three indexed reads at most, a fourth of a spill word, and a decode.
 ghost use Rattle.std.specs.Prelude.{◌≡◌, ℕ, ◌+◌, ◌-◌, ◌*◌, ◌/◌, ◌%◌, ◌<◌, ◌≤◌, ◌^◌, List, length, min, true, false};
 ghost use Rattle.mx_words.specs.declared.perm.Perm.{Perm};
 ghost use Rattle.mx_words.specs.Rights.{number};
@@ -40,7 +40,9 @@ pub(crate) fn find<L: LeafForm>(
     root: u32,
     word: u32,
 ) -> Found
-    requires shown { let map = read_map L.kind upper.now leaf.now spill.now words root in IsShown L.kind (map_left L.kind map) (map_right L.kind map) upper.now leaf.now spill.now root map }
+    requires shown { let map = read_map L.kind upper.now leaf.now spill.now words root in
+        IsShown L.kind (map_left L.kind map) (map_right L.kind map) upper.now leaf.now spill.now
+        root map }
     requires tight { IsTight upper.now root (read_map L.kind upper.now leaf.now spill.now words root) }
     requires few { words ≤ 2 ^ 24 }
     requires inside { word < words }
@@ -92,7 +94,8 @@ fn cut(run: Span, words: u32) -> Span
 pub(crate) fn found_span<L: LeafForm>(found: Found, word: u32, words: u32) -> Span
     requires found { IsSomeFound L.kind word found }
     requires inside { word < words }
-    ensures { (map : List Perm) → IsFound L.kind map word found → length map ≡ words → result ≡ span L.kind map word }
+    ensures { (map : List Perm) → IsFound L.kind map word found → length map ≡ words →
+        result ≡ span L.kind map word }
 {
     let line = word / LINE_WORDS * LINE_WORDS;
     match found {
@@ -107,7 +110,13 @@ pub(crate) fn found_span<L: LeafForm>(found: Found, word: u32, words: u32) -> Sp
 fn block_item(level: Level, size: u32, word: u32, words: u32, stored: u32) -> Shown
     requires some { 0 < size }
     requires inside { word < words }
-    ensures { result ≡ record { level = level; first = first_in size word; count = min size (words - first_in size word); stored = stored } }
+    ensures { result ≡
+        record {
+          level = level;
+          first = first_in size word;
+          count = min size (words - first_in size word);
+          stored = stored;
+        } }
 {
     let first = word / size * size;
     Shown {
@@ -121,7 +130,8 @@ fn block_item(level: Level, size: u32, word: u32, words: u32, stored: u32) -> Sh
 /// The stored item that decides a word, by what a walk found.
 pub(crate) fn found_item<L: LeafForm>(found: Found, word: u32, words: u32) -> Shown
     requires { word < words }
-    ensures { (map : List Perm) → IsFound L.kind map word found → length map ≡ words → result ≡ stored L.kind map word }
+    ensures { (map : List Perm) → IsFound L.kind map word found → length map ≡ words →
+        result ≡ stored L.kind map word }
 {
     match found {
         Found::Root(entry) => block_item(Level::Root, REGION_WORDS, word, words, entry),

@@ -1,5 +1,5 @@
 -- What a change of one range does to the blocks of a map: at most two more are broken, and at most two more lines crowded, also where
--- only a first part of the range is laid over and the block behind it is counted as broken.
+-- only a first part of the range is laid over and the block after it is counted as broken.
 use Rattle.std.proofs.Common.{◌≡◌, ◌≢◌, ℕ, zero, suc, ◌+◌, ◌-◌, ◌*◌, ◌/◌, ◌<◌, ◌≤◌, ◌⊎◌, inl, inr, ◌==◌, ◌||◌, Bool, true, false, not, List, [], ◌∷◌, ◌++◌, length, drop, replicate, slice_index_or, refl, sym, ap, ◌∙◌, arith, eq-eqb, length-take, length-drop, length-append}
 use Rattle.std.proofs.lemmas.List.{get_or_append_left, length-replicate, get_or_past}
 use Rattle.std.proofs.Math.Nat.{div-mul-le_self, lt-div-mul-add, suc-mul}
@@ -36,7 +36,7 @@ module _ (m : List Perm) (first count : ℕ) (p : Perm) (inside : first + count 
   abbrev pub after : List Perm
   after = laid (grant_of first count p) m
 
-  -- a block that is neither the first nor the one behind the range is as before, or all of it has the permission
+  -- a block that is neither the first nor the one after the range is as before, or all of it has the permission
   pub block-either : (size b : ℕ) → 0 < size → b ≢ first / size → b ≢ (first + count) / size →
       ((k : ℕ) → k < size → perm_at after (b * size + k) ≡ perm_at m (b * size + k))
       ⊎ (((k : ℕ) → k < size → perm_at after (b * size + k) ≡ p) × (b * size + size ≤ length m))
@@ -132,7 +132,7 @@ whole-at block p long alike k below =
     let inside : k < length block = omega (arith, length-append block (replicate (line_words - length block) P.None), length-replicate (line_words - length block) P.None) in
     get_or_append_left block (replicate (line_words - length block) P.None) P.None k inside ∙ alike k (omega arith)
 
--- a change of one range, or of a first part of it, breaks at most two more blocks, with the block behind it counted as broken
+-- a change of one range, or of a first part of it, breaks at most two more blocks, with the block after it counted as broken
 module _ (m : List Perm) (first count : ℕ) (p : Perm) (inside : first + count ≤ length m) where
   pub broken-after : (size part k : ℕ) → size / 8 ≡ part → size ≡ 8 * part → 0 < part → length m ≤ k * size →
       count_below k (λ b. is_broken size (laid (grant_of first count p) m) b || (b == (first + count) / size)) ≤ broken_blocks size m + 2
@@ -175,7 +175,7 @@ module _ (m : List Perm) (first count : ℕ) (p : Perm) (inside : first + count 
       (λ b below other behind few. crowded-stays b other behind few) in
       omega (arith, more, crowded_lines-count m k within, crowded_lines-count (laid (grant_of first count p) m) k long)
 
--- words that have no permission, with more of them behind
+-- words that have no permission, with more of them after
 get_or-replicate_same : (n i : ℕ) (p : Perm) → slice_index_or (replicate n p) i p ≡ p
 get_or-replicate_same zero i p = get_or_past [] i p (omega arith)
 get_or-replicate_same (suc n) zero p = refl

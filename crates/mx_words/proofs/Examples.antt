@@ -34,7 +34,7 @@ segments-second = refl
 segments-third : (stored K.Segments segments 1028).stored ≡ 0x80001010
 segments-third = refl
 
--- after the second change the third entry stands behind the longer run, and there is no fourth
+-- after the second change the third entry stands after the longer run, and there is no fourth
 segments_more : List Perm
 segments_more = map_of (grant 1024 4 P.ReadWrite ∷ grant 1028 4 P.ReadWrite ∷ [])
 

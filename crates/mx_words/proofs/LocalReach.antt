@@ -1,4 +1,4 @@
--- A line's reaches are a function of the 31 words before it, its own, and the 31 words behind it.
+-- A line's reaches are a function of the 31 words before it, its own, and the 31 words after it.
 use Rattle.std.proofs.Common.{◌≡◌, ℕ, zero, suc, ◌+◌, ◌-◌, ◌<◌, ◌≤◌, ◌⊎◌, inl, inr, Bool, true, false, min, List, length, take, drop, refl, ap, ◌∙◌, arith}
 use Rattle.std.specs.List.{prefix_len, suffix_len}
 use Rattle.std.proofs.lemmas.Bool.{cases_lt}
@@ -64,7 +64,7 @@ left_reach-local m n line long within agree =
     (λ j least below.
     ap (λ p. same p (perm_at m j)) (agree line (omega arith) (omega arith)) ∙ ap (same (perm_at n line)) (agree j least (omega arith)))
 
--- the right reach depends on the line's last word and on the 31 words behind it
+-- the right reach depends on the line's last word and on the 31 words after it
 pub right_reach-local : (m n : List Perm) (line : ℕ) → length m ≡ length n →
     ((j : ℕ) → line + 15 ≤ j → j < line + 47 → perm_at m j ≡ perm_at n j) → right_reach m line ≡ right_reach n line
 right_reach-local m n line long agree =

@@ -11,7 +11,7 @@ pub length-changed_map : (first count : ℕ) (given : Option Perm) (m : List Per
 length-changed_map first count None m = refl
 length-changed_map first count (Some p) m = length-laid (grant_of first count p) m
 
--- behind word 0 a run starts where the permission differs from the one before
+-- after word 0 a run starts where the permission differs from the one before
 pub start_step : (m : List Perm) (i : ℕ) → 0 < i → is_start m i ≡ not (same (perm_at m (i - 1)) (perm_at m i))
 start_step m i some =
     let e : i - 1 + 1 ≡ i = omega arith in

@@ -71,7 +71,7 @@ pub laid_is : {A : Type 0} (e : Laid A) (xs ys : List A) → length ys ≡ lengt
 laid_is e xs ys len each = same_lists ys (laid e xs) (len ∙ sym (length-laid e xs))
     (λ i d lt. let below : i < length xs = omega (arith, len) in each i d below ∙ sym (laid-at e xs i d below))
 
--- the same value laid over a range, and then over the words behind it
+-- the same value laid over a range, and then over the words after it
 pub laid-more : {A : Type 0} (first c k : ℕ) (v : A) (xs : List A) →
     laid (record { first = first + c; count = k; value = v }) (laid (record { first = first; count = c; value = v }) xs) ≡ laid (record { first = first; count = c + k; value = v }) xs
 laid-more {A} first c k v xs =

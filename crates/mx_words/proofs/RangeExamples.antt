@@ -124,7 +124,7 @@ bytes-cleared : cleared_at (1 ∷ 2 ∷ 3 ∷ 4 ∷ 5 ∷ []) 1 3 ≡ 1 ∷ 0 �
 unfolding cleared_at
 bytes-cleared = refl
 
--- first fit in words 100 to 109: before, between and behind blocks, of the room's exact size, and no room at the end
+-- first fit in words 100 to 109: before, between and after blocks, of the room's exact size, and no room at the end
 abbrev area : Area
 area = record { first = 100; count = 10 }
 

@@ -59,7 +59,7 @@ module _ {A : Type 0} (eq : A → A → Bool) (default : A) where
           by_eq true = at_run (r.count + 1) y rs (eq x y)
           by_eq false = at_run 1 y (r ∷ rs) (eq x y)
 
-  -- a run begins at the first place, and behind it where the element differs from that before
+  -- a run begins at the first place, and after it where the element differs from that before
   pub begins_first : (xs : List A) → begins eq default xs 0 ≡ true
   begins_first xs = refl
 
@@ -121,7 +121,7 @@ is_start-behind m i = begins_behind same P.None m i
 pub no_start_same : (m : List Perm) (i : ℕ) → is_start m (i + 1) ≡ false → perm_at m i ≡ perm_at m (i + 1)
 no_start_same m i e = same_eq (perm_at m i) (perm_at m (i + 1)) (not-false (same (perm_at m i) (perm_at m (i + 1))) (sym (is_start-behind m i) ∙ e))
 
--- where no run begins behind word i up to word j, they have one permission
+-- where no run begins after word i up to word j, they have one permission
 pub no_start_between : (m : List Perm) (i k : ℕ) → ((x : ℕ) → i < x → x ≤ i + k → is_start m x ≡ false) → perm_at m i ≡ perm_at m (i + k)
 no_start_between m i zero none = let e : i ≡ i + 0 = omega arith in ap (perm_at m) e
 no_start_between m i (suc k) none =
@@ -134,7 +134,7 @@ same_in_run m i j le none =
     let e : i + (j - i) ≡ j = omega arith in
     no_start_between m i (j - i) (λ x lt most. none x lt (omega arith)) ∙ ap (perm_at m) e
 
--- where a run begins behind the first word, the word before has another permission
+-- where a run begins after the first word, the word before has another permission
 pub start_differs : (m : List Perm) (i : ℕ) → 0 < i → is_start m i ≡ true → same (perm_at m i) (perm_at m (i - 1)) ≡ false
 start_differs m i some e = by (same (perm_at m i) (perm_at m (i - 1))) refl
   where

@@ -47,7 +47,7 @@ frames-of-runs = refl
 frames-by-domain : need K.Segments (turns 65 ∷ turns 65 ∷ []) ≡ counts 0 4 0
 frames-by-domain = refl
 
--- a RAM of 17 words, of which the last may be read: the words behind it have no permission
+-- a RAM of 17 words, of which the last may be read: the words after it have no permission
 abbrev seventeen : List Perm
 seventeen = cells ((16, None) ∷ (1, Read) ∷ [])
 
@@ -84,7 +84,7 @@ stored-in-17-packed : list_map (stored K.Packed seventeen) (3 ∷ 16 ∷ [])
     ≡ shown L.Leaf 0 16 0x00000002 ∷ shown L.Leaf 16 1 0x00000406 ∷ []
 stored-in-17-packed = refl
 
--- all of 17 words may be read, which the words behind them may not
+-- all of 17 words may be read, which the words after them may not
 abbrev readable : List Perm
 readable = cells ((17, Read) ∷ [])
 
@@ -116,7 +116,7 @@ stored-bare = refl
 need-of-two : need K.Packed (seventeen ∷ bare ∷ []) ≡ counts 3 1 0
 need-of-two = refl
 
--- three runs in the last line, and the words behind RAM are the fourth
+-- three runs in the last line, and the words after RAM are the fourth
 abbrev three_runs : List Perm
 three_runs = cells ((16, None) ∷ (1, Read) ∷ (1, ReadWrite) ∷ (1, Read) ∷ [])
 
@@ -130,7 +130,7 @@ spans-three-runs : list_map (span K.Packed three_runs) (5 ∷ 16 ∷ 17 ∷ 18 �
     ≡ span_of 0 16 None ∷ span_of 16 1 Read ∷ span_of 17 1 ReadWrite ∷ span_of 18 1 Read ∷ []
 spans-three-runs = refl
 
--- four runs in the last line, and the words behind RAM are the fifth: a spill word
+-- four runs in the last line, and the words after RAM are the fifth: a spill word
 abbrev four_runs : List Perm
 four_runs = cells ((16, None) ∷ (1, Read) ∷ (1, ReadWrite) ∷ (1, Read) ∷ (1, ReadWrite) ∷ [])
 
@@ -184,7 +184,7 @@ stored-edges : list_map (stored K.Packed edges) (40 ∷ 60 ∷ [])
     ≡ shown L.Leaf 32 16 0x0D0320B6 ∷ shown L.Leaf 48 16 0x2100000A ∷ []
 stored-edges = refl
 
--- a page whose eighths have one permission each, and a line behind it
+-- a page whose eighths have one permission each, and a line after it
 abbrev eighths_of_page : List Perm
 eighths_of_page = cells ((128, Read) ∷ (128, ReadWrite) ∷ (128, ExecuteRead) ∷ (128, None) ∷ (128, Read) ∷ (128, ExecuteRead) ∷ (128, ReadWrite) ∷ (128, ReadWrite) ∷ (1, Read) ∷ (16, None) ∷ [])
 

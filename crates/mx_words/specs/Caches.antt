@@ -6,7 +6,7 @@ use Rattle.std.specs.Option.{option_map_or}
 use Rattle.mx_words.specs.declared.perm.Span.{Span}
 use Rattle.mx_words.specs.Ranges.{covers, overlaps}
 
--- a kept span, behind the domain for which the lookaside buffer keeps it
+-- a kept span, after the domain for which the lookaside buffer keeps it
 abbrev pub Entry : Type 0
 Entry = ℕ × Span
 

@@ -63,7 +63,7 @@ most_reach = 31
 abbrev pub left_reach : List Perm → ℕ → ℕ
 left_reach m line = min most_reach (suffix_len (same (perm_at m line)) (take line m))
 
--- how many words right behind the line all have the permission of its last word, at most 31
+-- how many words right after the line all have the permission of its last word, at most 31
 abbrev pub right_reach : List Perm → ℕ → ℕ
 right_reach m line =
     min most_reach

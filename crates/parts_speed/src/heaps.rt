@@ -4,7 +4,7 @@ use mx_heap::Heap;
 use std::alloc::Global;
 
 /// A heap of 4096 words with so many live blocks of one word, at the even words. The worst layout for a search of two words: a
-/// hole of one word stands behind each block but the last. `None` where there is no memory.
+/// hole of one word stands after each block but the last. `None` where there is no memory.
 pub fn with_holes(alloc: Global, blocks: u32) -> Option<Heap> {
     let mut heap = match Heap::new(alloc, 0, 4096) {
         Ok(heap) => heap,
@@ -16,7 +16,7 @@ pub fn with_holes(alloc: Global, blocks: u32) -> Option<Heap> {
     Some(heap)
 }
 
-/// Makes a block of two words behind the others and ends it, so often. The answer is how often there was one to end.
+/// Makes a block of two words after the others and ends it, so often. The answer is how often there was one to end.
 pub fn blocks_ended(heap: &mut Heap, rounds: u64) -> u64 {
     let mut ended = 0u64;
     for _ in 0..rounds {

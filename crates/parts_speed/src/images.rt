@@ -15,7 +15,7 @@ pub fn image(alloc: Global, symbols: u16, letters: u16) -> Option<Vec<u8>> {
     let symbol_bytes = SYMBOL * symbols as u32;
     let string_bytes = letters as u32 + 1;
     let mut bytes = Vec::new(alloc);
-    // The file header: no program headers, two section headers behind it.
+    // The file header: no program headers, two section headers after it.
     put_words(&mut bytes, &[0; 8])?;
     put_words(&mut bytes, &[52, 0, 0, 0x0028_0000, 2])?;
     // The symbols' section, whose names are in section 1, and the names' section.

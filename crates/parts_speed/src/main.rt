@@ -138,7 +138,7 @@ fn time_owners(
     Ok(())
 }
 
-/// `place`, `alloc` and `free`, `block` and `nth` of a heap with no block, and with 1023 and a hole of one word behind each.
+/// `place`, `alloc` and `free`, `block` and `nth` of a heap with no block, and with 1023 and a hole of one word after each.
 fn time_heaps(rt: &(impl Print + Eprint + CpuClock), alloc: Global, rounds: u64) -> io::Result<()> {
     for blocks in [0, 1023] {
         let Some(mut heap) = heaps::with_holes(alloc, blocks) else {

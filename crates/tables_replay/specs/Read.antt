@@ -10,8 +10,13 @@ use Rattle.tables_replay.specs.declared.sides.Reading.{Reading}
 -- what tables of a kind answer of a domain's word
 abbrev pub reading : Kind → List (List Perm) → ℕ → ℕ → Reading
 reading kind maps d word =
-    record { perm = perm_at (map_of maps d) word; span = span kind (map_of maps d) word; shown = stored kind (map_of maps d) word }
+    record {
+      perm = perm_at (map_of maps d) word;
+      span = span kind (map_of maps d) word;
+      shown = stored kind (map_of maps d) word;
+    }
 
 -- a word of which both sides answer the same, in every domain of the first
 abbrev pub IsSame : Kind → List (List Perm) → Kind → List (List Perm) → ℕ → Type 0
-IsSame kind maps other plain word = (d : ℕ) → IsDomain maps d → reading kind maps d word ≡ reading other plain d word
+IsSame kind maps other plain word =
+    (d : ℕ) → IsDomain maps d → reading kind maps d word ≡ reading other plain d word

@@ -56,7 +56,7 @@ fn row(
     Ok(row)
 }
 
-/// A span behind the end of the one before, not far from it: of a few words, or of eighths of pages or of regions.
+/// A span after the end of the one before, not far from it: of a few words, or of eighths of pages or of regions.
 fn span(numbers: &mut Numbers, mix: Mix, end: u32) -> Span
     requires { end ≤ most_words }
     ensures behind { end ≤ result.first }

@@ -81,8 +81,12 @@ impl<T: PermTables, P: PermTables> Sides<T, P> {
     /// Makes a change on both sides where it fits, and says whether it did.
     pub fn make(&mut self, change: &Change) -> Result<bool, Difference>
         requires { IsLawful change.now (T.size self.old.tables) (length (T.maps self.old.tables)) }
-        ensures tables { IfOk result (λ made. made ≡ fits T.kind (T.limits self.old.tables) (changed change.now (T.maps self.old.tables))) }
-        ensures plain { IfOk result (λ made. made ≡ fits P.kind (P.limits self.old.plain) (changed change.now (P.maps self.old.plain))) }
+        ensures tables { IfOk result
+            (λ made. made ≡
+            fits T.kind (T.limits self.old.tables) (changed change.now (T.maps self.old.tables))) }
+        ensures plain { IfOk result
+            (λ made. made ≡
+            fits P.kind (P.limits self.old.plain) (changed change.now (P.maps self.old.plain))) }
         ensures maps { length (T.maps self.new.tables) ≡ length (T.maps self.old.tables) }
         ensures size { T.size self.new.tables ≡ T.size self.old.tables }
     {
@@ -113,7 +117,9 @@ impl<T: PermTables, P: PermTables> Sides<T, P> {
     pub fn read(&mut self, domain: u32, word: u32) -> Result<(), Difference>
         requires domain { IsDomain (T.maps self.old.tables) domain }
         requires word { word < T.size self.old.tables }
-        ensures same { OnOk result (reading T.kind (T.maps self.old.tables) domain word ≡ reading P.kind (P.maps self.old.plain) domain word) }
+        ensures same { OnOk result
+            (reading T.kind (T.maps self.old.tables) domain word ≡
+            reading P.kind (P.maps self.old.plain) domain word) }
         ensures maps { T.maps self.new.tables ≡ T.maps self.old.tables }
         ensures plain_maps { P.maps self.new.plain ≡ P.maps self.old.plain }
         ensures size { T.size self.new.tables ≡ T.size self.old.tables }
@@ -136,7 +142,8 @@ impl<T: PermTables, P: PermTables> Sides<T, P> {
     /// Reads a word of every domain on both sides.
     pub fn read_all(&mut self, word: u32) -> Result<(), Difference>
         requires { word < T.size self.old.tables }
-        ensures same { OnOk result (IsSame T.kind (T.maps self.old.tables) P.kind (P.maps self.old.plain) word) }
+        ensures same { OnOk result
+            (IsSame T.kind (T.maps self.old.tables) P.kind (P.maps self.old.plain) word) }
         ensures maps { T.maps self.new.tables ≡ T.maps self.old.tables }
         ensures plain_maps { P.maps self.new.plain ≡ P.maps self.old.plain }
         ensures size { T.size self.new.tables ≡ T.size self.old.tables }

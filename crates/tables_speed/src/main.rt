@@ -60,7 +60,7 @@ fn time_kind<T: PermTables + Drop>(
 }
 
 /// Times changes of one word in a region full of so many spans, one in each `step` words: at its start, in its middle and at its end,
-/// each time in the middle of the words behind a span.
+/// each time in the middle of the words after a span.
 fn time_places<T: PermTables + Drop>(
     rt: &(impl Print + Eprint + CpuClock),
     alloc: Global,
@@ -149,7 +149,7 @@ fn time_loss<T: PermTables>(
 
 /// Times allocs of 16 words, 1 MiB and 64 MiB over tables of so many domains, each at a usual place and at a worst one: for 16 words the
 /// first page of a region and the last page of one of which all other pages are even; for more, whole regions' eighths and whole
-/// regions, and ranges that begin a few words behind.
+/// regions, and ranges that begin a few words after.
 fn time_domains<T: PermTables + Drop>(
     rt: &(impl Print + Eprint + CpuClock),
     alloc: Global,
@@ -252,7 +252,7 @@ fn time_size<T: PermTables + Drop>(
     Ok(())
 }
 
-/// `perm` and `lookup` at words in and behind each span.
+/// `perm` and `lookup` at words in and after each span.
 fn time_reads<T: PermTables>(
     rt: &(impl Print + Eprint + CpuClock),
     tables: &mut T,

@@ -7,9 +7,9 @@ use mx_table::PermTables;
 use mx_words::{Need, NoMemory, Perm, Span, Spans};
 use std::alloc::Global;
 
-/// What the tables may take.
+/// What the tables may take: just one upper frame more than they need, so that `fits` looks at the maps at each change.
 const LIMIT: Need = Need {
-    upper: 128,
+    upper: 3,
     leaf: 4096,
     spill: 4096,
 };

@@ -9,7 +9,7 @@ use std::alloc::Global;
 use std::test::Fail;
 
 /// A module with an image, whose .data is writable and executable by one byte of the file, with a heap area, and a stack area of three
-/// words for each hart; and one with inline words right behind the last word of .bss.
+/// words for each hart; and one with inline words right after the last word of .bss.
 pub(crate) const MODULES: &str = "[[module]]
 name = \"a\"
 image = \"a.elf\"

@@ -4,7 +4,7 @@ use super::{File, judge, manifest, refused};
 use mx_manifest::{Key, Part};
 use std::test::Fail;
 
-/// A module with an image, or with two inline words behind the image's, and a hart in it.
+/// A module with an image, or with two inline words after the image's, and a hart in it.
 const A: &str = "[[module]]\nname = \"a\"\nimage = \"a.elf\"\n";
 
 const B: &str = "[[module]]\nname = \"b\"\nat = 0x80008000\nperm = \"rx\"\nwords = [19, 19]\n";
@@ -127,7 +127,7 @@ const MODULES: [(&str, &str, File, File, u32, u32, Key, u32); 52] = [
         Key::Image,
         2,
     ),
-    // Areas that aren't wholly in RAM: before it, behind it, and over its end.
+    // Areas that aren't wholly in RAM: before it, after it, and over its end.
     (
         "",
         "",

@@ -4,7 +4,7 @@ use Rattle.mx_model.specs.Gates.{with_gate}
 use Rattle.mx_boot.proofs.Gating.{gate-next}
 use Rattle.mx_boot.proofs.joined.gates.Goals as goal
 
--- what is read behind the last gate
+-- what is read after the last gate
 abbrev none : Gate
 none = record { domain = 0; word = 0; target = 0 }
 

@@ -12,7 +12,7 @@ use Rattle.mx_boot.proofs.Giving.{give-fits, give-next, none-given}
 use Rattle.mx_boot.proofs.owners.give_all.Goals as goal
 use Rattle.mx_model.proofs.ListLaws.{all-in}
 
--- what is read behind the last area
+-- what is read after the last area
 abbrev none : Area
 none = record { domain = 0; key = key.Version; address = 0; count = 0; perm = P.None }
 

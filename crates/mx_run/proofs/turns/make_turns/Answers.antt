@@ -105,7 +105,7 @@ returns-in_err-end_turn-clause-runs g c =
     let stops = makes_stopped (Unit {0}) u h k events at now status last c.in_err-end_turn.ensures.shows in
     run_stops u (run schedule c.args.steps s) h (turns_of h f stretch.ran) k _ at now status reached (rw more at grows) stops)
 
--- turns behind which all harts are halted
+-- turns after which all harts are halted
 pub returns-then-branch-clause-keeps : goal.returns-then-branch-clause-keeps
 returns-then-branch-clause-keeps g c =
     let schedule = schedule_of c.args.schedule in

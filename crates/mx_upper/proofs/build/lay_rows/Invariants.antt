@@ -7,7 +7,7 @@ use Rattle.mx_upper.specs.Forest.{map_at, IsTables}
 use Rattle.mx_upper.specs.Laying.{spill_lines, IsCanonical}
 use Rattle.mx_upper.proofs.build.lay_rows.Given as goal
 
--- the domains so far have their rows' maps, and those behind them have no permissions; what is free is less by what the maps need
+-- the domains so far have their rows' maps, and those after them have no permissions; what is free is less by what the maps need
 abbrev pub invariant-loop-row : goal.invariant-loop-row
 invariant-loop-row g l = record {
   tables : IsTables g.L.LeafForm.kind l.words l.upper l.leaf l.spill l.roots;

@@ -10,13 +10,13 @@ returns-then-is_deep g c =
 
 pub right_in-right-requires-clause-span : goal.right_in-right-requires-clause-span
 right_in-right-requires-clause-span g c =
-    let r = c.around-head.ensures in
+    let r = c.round_first-head.ensures in
     let from = r.from in
     record { from = omega arith; to = omega arith; whole = r.whole; alike = r.alike }
 
 pub returns-then-behind-head : goal.returns-then-behind-head
 returns-then-behind-head g c =
-    flat-entry (g.V.View.map c.args.view.now) c.args.line c.around-head.result c.around-head.ensures (omega arith)
+    flat-entry (g.V.View.map c.args.view.now) c.args.line c.round_first-head.result c.round_first-head.ensures (omega arith)
     g.L.LeafForm.kind _ _ c.args.number _ c.left_in-left.ensures c.right_in-right.ensures (c.flat-then-behind-head.ensures c.args.number)
 
 pub returns : goal.returns

@@ -2,7 +2,7 @@ use Rattle.std.proofs.Common.{ℕ, ◌-◌, ◌<◌, ◌≤◌, length}
 use Rattle.mx_table.specs.Rows.{span_at}
 use Rattle.mx_upper.proofs.row_view.spans_up_to.Given as goal
 
--- the spans before `low` begin at the word or before it, those from `high` on behind it
+-- the spans before `low` begin at the word or before it, those from `high` on after it
 abbrev pub invariant-loop-low : goal.invariant-loop-low
 invariant-loop-low l = record {
   order : l.low ≤ l.high;

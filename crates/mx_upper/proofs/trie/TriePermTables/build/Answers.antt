@@ -1,6 +1,6 @@
 use Rattle.std.proofs.Common.{sym, ◌∙◌, arith, length, ◌*◌}
 use Rattle.mx_upper.proofs.EmptyTables.{tables-of-roots, maps-of-roots, canonical-of-roots}
-use Rattle.mx_upper.proofs.TrieLaws.{within-parts}
+use Rattle.mx_table.proofs.WithinLaws.{within-parts}
 use Rattle.mx_upper.proofs.BuiltLaws.{IsRowsNeed, rows-need, rows-fit, maps-built, fits-built, room-for}
 use Rattle.mx_upper.proofs.trie.TriePermTables.build.Goals as goal
 use Rattle.mx_upper.proofs.RootLaws.{fresh-length, fresh-free}

@@ -1,10 +1,11 @@
-use Rattle.std.proofs.Common.{ap, ◌∙◌, sym}
+use Rattle.std.proofs.Common.{ap, ◌∙◌, sym, arith}
 use Rattle.mx_words.specs.declared.tables.Need.{Need}
 use Rattle.mx_words.specs.Need.{need, within}
 use Rattle.mx_table.specs.Change.{given, changed}
 use Rattle.mx_upper.specs.Read.{read_maps}
 use Rattle.mx_upper.proofs.StandingAgain.{standing-again}
 use Rattle.mx_upper.proofs.StandingLaws.{need-is}
+use Rattle.mx_upper.proofs.SpaciousLaws.{spacious-fits}
 use Rattle.mx_upper.proofs.TrieLaws.{read-told, changed-told}
 use Rattle.mx_upper.proofs.trie.TriePermTables.fits.Goals as goal
 
@@ -43,6 +44,16 @@ need_after-need-requires-clause-spill g c =
     let stands = standing-again g.L.LeafForm.kind t.upper t.leaf t.spill t.roots t.words t.limit t.stands in
     ap (λ (n : Need). n.spill) c.used.ensures
     ∙ (read-told g.L.LeafForm.kind t.words t.upper t.leaf t.spill t.roots g.met.L.LeafForm.trie stands.tables.few_words).spill
+
+pub returns-then-is_spacious : goal.returns-then-is_spacious
+returns-then-is_spacious g c =
+    let t = c.args.self.now in
+    let change = c.args.change.now in
+    let stands = standing-again g.L.LeafForm.kind t.upper t.leaf t.spill t.roots t.words t.limit t.stands in
+    let e = c.is_spacious.ensures in
+    let reach = g.met.L.LeafForm.reach in
+    sym (spacious-fits g.L.LeafForm.kind t.words t.upper t.leaf t.spill t.roots t.limit g.met.L.LeafForm.trie stands change.first change.count (given change) c.requires.inside
+    (e.upper c.if-is_spacious.true) (e.leaf c.if-is_spacious.true) (λ some. e.spill c.if-is_spacious.true (omega (arith, reach, some))))
 
 pub returns : goal.returns
 returns g c =
