@@ -1,6 +1,6 @@
 -- Bytes and words put one after another.
 use Rattle.std.proofs.Common.{◌≡◌, ℕ, zero, suc, ◌+◌, ◌*◌, ◌/◌, ◌%◌, ◌<◌, List, [], ◌∷◌, ◌++◌, length, get_or, set, take, map, fold, slice_get, Some, refl, ap, ◌∙◌, sym, arith}
-use Rattle.std.specs.List.{enumerate_from, flat_map}
+use Rattle.std.specs.List.{flat_map}
 use Rattle.std.proofs.lemmas.Grind.{flat_map-append, fold-append}
 use Rattle.std.proofs.lemmas.List.{append-nil, length-take-le, map-append, take_more}
 use Rattle.mx_words.specs.Bytes.{put_at}
@@ -8,11 +8,9 @@ use Rattle.mx_boot.specs.Areas.{Content, word_bytes}
 use Rattle.mx_boot.specs.Boot.{with_content}
 use Rattle.mx_boot.proofs.Placing.{length-word_bytes}
 use Rattle.mx_boot.proofs.Rows.{take_at}
+use Rattle.mx_boot.proofs.RamBytes.{put}
 
--- bytes put from a place on
-abbrev pub put : List ℕ → ℕ → List ℕ → List ℕ
-put ram k bytes = fold (λ ram (p : ℕ × ℕ). set ram p.0 p.1) ram (enumerate_from k bytes)
-
+-- bytes put one after another
 put-append : (ram : List ℕ) (k : ℕ) (xs ys : List ℕ) → put ram k (xs ++ ys) ≡ put (put ram k xs) (k + length xs) ys
 put-append ram k [] ys = let same : k ≡ k + 0 = omega arith in ap (λ n. put ram n ys) same
 put-append ram k (x ∷ xs) ys = put-append (set ram k x) (k + 1) xs ys ∙ (let same : k + 1 + length xs ≡ k + suc (length xs) = omega arith in ap (λ n. put (put (set ram k x) (k + 1) xs) n ys) same)

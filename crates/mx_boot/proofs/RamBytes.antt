@@ -11,7 +11,6 @@ use Rattle.mx_boot.specs.Boot.{with_content, boot_ram}
 use Rattle.mx_boot.specs.Faults.{ram_words}
 use Rattle.mx_boot.specs.Images.{AreImages}
 use Rattle.mx_boot.proofs.Lists.{all_each, all_mapped, all_flat, all_numbered}
-use Rattle.mx_boot.proofs.Puts.{put}
 use Rattle.mx_audit.proofs.LiveLaws.{all-weaker}
 
 abbrev pub IsByte : ℕ → Type 0
@@ -42,6 +41,9 @@ all-drop P (suc n) [] h = tt
 all-drop P (suc n) (x ∷ xs) h = all-drop P n xs h.1
 
 -- bytes put from a place on
+abbrev pub put : List ℕ → ℕ → List ℕ → List ℕ
+put ram k bytes = fold (λ ram (p : ℕ × ℕ). set ram p.0 p.1) ram (enumerate_from k bytes)
+
 length-put : (ram : List ℕ) (k : ℕ) (bytes : List ℕ) → length (put ram k bytes) ≡ length ram
 length-put ram k [] = refl
 length-put ram k (b ∷ bytes) = length-put (set ram k b) (k + 1) bytes ∙ length-set ram k b

@@ -1,5 +1,5 @@
 use Rattle.std.proofs.Common.{◌≡◌, ◌-◌, take, length}
-use Rattle.mx_boot.proofs.Puts.{put}
+use Rattle.mx_boot.proofs.RamBytes.{put}
 use Rattle.mx_boot.proofs.ram.put_bytes.Given as goal
 
 abbrev pub invariant-bytes : goal.invariant-bytes

@@ -1,7 +1,7 @@
 use Rattle.std.proofs.Common.{◌≡◌, ◌-◌, take, length}
 use Rattle.std.specs.List.{flat_map}
 use Rattle.mx_boot.specs.Areas.{word_bytes}
-use Rattle.mx_boot.proofs.Puts.{put}
+use Rattle.mx_boot.proofs.RamBytes.{put}
 use Rattle.mx_boot.proofs.ram.put_words.Given as goal
 
 abbrev pub invariant-words : goal.invariant-words
