@@ -7,7 +7,7 @@ use Rattle.mx_words.specs.Runs.{line_words, page_words}
 use Rattle.mx_words.specs.Blocks.{is_broken}
 use Rattle.mx_upper.specs.Leaf.{IsTrieKind, form_reach}
 use Rattle.mx_upper.specs.Walk.{Frames, most_pages, most_lines, leaf_word, has_leaf, map_left, map_right, IsLine, IsTight}
-use Rattle.mx_upper.specs.Forest.{root_at, map_at, IsTables, IsLineKept}
+use Rattle.mx_upper.specs.Forest.{root_at, map_at, IsTables}
 use Rattle.mx_upper.specs.Steps.{AreLinesReached}
 use Rattle.mx_upper.specs.Laying.{IsRangeLaid, IsCanonical, IsDomainLaid}
 use Rattle.mx_upper.proofs.MapReaches.{DifferOnRange, differ-laid, map_left-local, map_right-local, line-local, map_left-most, map_right-most}

@@ -1,13 +1,10 @@
 -- Blocks that aren't eighth-uniform, told by two neighbours, or by one of their pages.
-use Rattle.std.proofs.Common.{◌≡◌, ◌≢◌, ℕ, ◌+◌, ◌-◌, ◌*◌, ◌/◌, ◌%◌, ◌==◌, Bool, true, false, not, List, refl, sym, ap, ◌∙◌, arith, subst, eq-eqb}
+use Rattle.std.proofs.Common.{◌≡◌, ◌≢◌, ℕ, ◌+◌, ◌-◌, ◌*◌, ◌/◌, ◌%◌, ◌==◌, Bool, true, false, not, List, refl, sym, ap, ◌∙◌, arith, eq-eqb}
 use Rattle.mx_words.specs.declared.perm.Perm.{Perm}
 use Rattle.mx_words.specs.declared.perm.Span.{Span}
 use Rattle.mx_words.specs.Rights.{number, perm_at}
 use Rattle.mx_words.specs.Runs.{page_words, region_words}
 use Rattle.mx_words.specs.Blocks.{is_broken, IsEven}
-use Rattle.mx_pool.specs.Frames.{IsTaken}
-use Rattle.mx_upper.specs.Walk.{Frames, root_word, has_mid}
-use Rattle.mx_upper.specs.Forest.{IsPathTaken}
 use Rattle.mx_upper.specs.Views.{IsRound}
 use Rattle.mx_upper.proofs.EvenLaws.{even-of, even-region-of, even-region-page}
 use Rattle.mx_upper.proofs.Scans.{round-perm}

@@ -1,5 +1,5 @@
 -- A line that lies deep in a span with one permission: its entry has that permission alone, and both reaches are full.
-use Rattle.std.proofs.Common.{◌≡◌, ℕ, ◌+◌, ◌-◌, ◌*◌, ◌<◌, ◌≤◌, inl, inr, min, List, length, replicate, refl, sym, ap, ◌∙◌, arith}
+use Rattle.std.proofs.Common.{◌≡◌, ℕ, ◌+◌, ◌-◌, ◌*◌, ◌<◌, ◌≤◌, inl, inr, min, List, length, sym, ap, ◌∙◌, arith}
 use Rattle.std.proofs.lemmas.Bool.{cases_lt}
 use Rattle.std.proofs.lemmas.List.{ext_get_or, get_or-replicate, length-replicate}
 use Rattle.mx_words.specs.declared.perm.Perm.{Perm}
@@ -17,7 +17,7 @@ use Rattle.mx_upper.specs.Walk.{map_left, map_right}
 use Rattle.mx_words.proofs.NumberLaws.{number-one_to_one}
 use Rattle.mx_upper.proofs.LeafSpans.{length-line, line-at}
 use Rattle.mx_upper.proofs.MapReaches.{map_left-cut, map_right-cut}
-use Rattle.mx_upper.proofs.Scans.{IsAlike, left-far, right-far}
+use Rattle.mx_upper.proofs.Scans.{left-far, right-far}
 
 form_reach-most : (kind : Kind) → form_reach kind ≤ 31
 form_reach-most K.Segments = omega arith

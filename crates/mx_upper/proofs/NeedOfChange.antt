@@ -12,7 +12,6 @@ use Rattle.mx_words.specs.Reach.{line_at}
 use Rattle.mx_words.specs.Blocks.{is_broken}
 use Rattle.mx_words.proofs.CountingLaws.{count_below-le, sum_below-zero, sum_below-more}
 use Rattle.mx_words.proofs.BlockLaws.{broken_blocks-count}
-use Rattle.mx_words.proofs.OverlayLaws.{length-laid}
 use Rattle.mx_words.proofs.MapLaws.{length-changed_map}
 use Rattle.mx_upper.specs.Leaf.{needs_spill}
 use Rattle.mx_upper.specs.Walk.{Frames, most_regions, most_pages, most_lines}

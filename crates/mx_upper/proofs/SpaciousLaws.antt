@@ -17,7 +17,7 @@ use Rattle.mx_upper.specs.Leaf.{IsTrieKind, form_reach}
 use Rattle.mx_upper.specs.Walk.{Frames, most_regions, most_pages}
 use Rattle.mx_upper.specs.Read.{read_maps}
 use Rattle.mx_upper.specs.Forest.{map_at}
-use Rattle.mx_upper.specs.Laying.{with_range, spill_lines}
+use Rattle.mx_upper.specs.Laying.{spill_lines}
 use Rattle.mx_upper.specs.Standing.{IsStanding}
 use Rattle.mx_upper.proofs.FramesCounted.{IsCounted, tables-counted}
 use Rattle.mx_upper.proofs.MapsRead.{length-map_at}

@@ -6,7 +6,7 @@ use Rattle.mx_words.specs.declared.tables.Kind.{Kind}
 use Rattle.mx_words.specs.declared.tables.Need.{Need}
 use Rattle.mx_words.specs.Changes.{changed_map, changed_from}
 use Rattle.mx_words.specs.Counting.{sum_below}
-use Rattle.mx_words.specs.Need.{need, within, fits}
+use Rattle.mx_words.specs.Need.{need, fits}
 use Rattle.mx_words.specs.Runs.{broken_blocks, page_words, region_words}
 use Rattle.mx_words.proofs.ChangeLaws.{length-changed_from, changed_from-at}
 use Rattle.mx_words.proofs.CountingLaws.{sum_below_agree}

@@ -1,7 +1,7 @@
-use Rattle.std.proofs.Common.{◌≡◌, ℕ, ◌*◌, ◌/◌, inl, inr, sym, ap, ◌∙◌, arith}
+use Rattle.std.proofs.Common.{◌≡◌, ◌*◌, ◌/◌, inl, inr, sym, ap, ◌∙◌, arith}
 use Rattle.std.proofs.lemmas.Bool.{cases_lt}
 use Rattle.mx_words.specs.declared.perm.Perm.{Perm}
-use Rattle.mx_upper.specs.Digits.{digit, numbered}
+use Rattle.mx_upper.specs.Digits.{numbered}
 use Rattle.mx_upper.specs.Filled.{flat_line}
 use Rattle.mx_upper.specs.Leaf.{leaf_entry}
 use Rattle.mx_upper.specs.Walk.{vector_perm}
