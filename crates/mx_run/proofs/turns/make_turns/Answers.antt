@@ -3,7 +3,9 @@ use Rattle.std.proofs.lemmas.Result.{err_from_is_err_and}
 use Rattle.mx_machine.proofs.SizeLaws.{fits-inside}
 use Rattle.mx_model.specs.Run.{run}
 use Rattle.mx_machine.specs.Turning.{turns_of}
-use Rattle.mx_run.specs.Running.{IsNamed, schedule_of, places}
+use Rattle.mx_run.specs.declared.pace.Pace.{Pace}
+use Rattle.mx_run.specs.declared.pace.Pace.TheVariants as pace
+use Rattle.mx_run.specs.Running.{IsNamed, Leaves, schedule_of, places}
 use Rattle.mx_run.proofs.RunTexts.{keeps_none, keeps_later, run_begins, run_makes, run_stops, grows_on, turn_goes_on, makes_quiet, makes_shown, makes_stopped, ends_after, ends_halted, ends_over, going_along, last_later, last_reached, last_is, last_next, last_more}
 use Rattle.mx_run.proofs.turns.make_turns.Goals as goal
 
@@ -33,8 +35,23 @@ returns-in_default-clause-runs g c =
     let over = subst (λ (o : Option (ℕ × ℕ)). IsNamed schedule f.core (c.args.steps - c.turns.made) o) c.in_default.is (c.next_hart.ensures.named schedule f.core c.turns.invariant.pace) in
     rw (ends_over schedule c.turns.made c.args.steps s f r.state c.turns.invariant.within over) r
 
+-- fewer turns than those before the next change of a schedule
+fewer : (p : Pace) (n m : ℕ) → n ≤ m → Leaves p m → Leaves p n
+fewer pace.Alone n m le l = tt
+fewer (pace.Quantum whole last hart left) n m le l = omega (arith, le, l)
+fewer (pace.Bytes bytes) n m le l = omega (arith, le, l)
+
+pub later-pace-requires-clause-leaves : goal.later-pace-requires-clause-leaves
+later-pace-requires-clause-leaves g c =
+    fewer c.turns.pace (c.run_on-stretch.result.ran + 1) c.in-Some.most (let few = c.run_on-stretch.ensures.few in omega (arith, few)) c.in-Some.ensures.leaves
+
+pub run_on-stretch-requires : goal.run_on-stretch-requires
+run_on-stretch-requires g c =
+    let row = c.in-Some.ensures.named (schedule_of c.args.schedule) c.turns.machine.core c.turns.invariant.pace in
+    (search (fits-inside, c.requires-raw), (row.some, omega (arith, row.few, c.turns.invariant.turns, c.turns.invariant.within, c.requires.few)))
+
 pub end_turn-requires : goal.end_turn-requires
-end_turn-requires g c = search fits-inside
+end_turn-requires g c = search (fits-inside, c.requires-raw)
 
 -- turns of which the last may add nothing
 pub turns-preserved-then-not-may_tell : goal.turns-preserved-then-not-may_tell
