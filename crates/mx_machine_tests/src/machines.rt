@@ -97,7 +97,7 @@ fn runs(machine: &Small) -> [(u32, u32); 6] {
 fn first_bytes(machine: &Small) -> [u8; 8] {
     let mut bytes = [0; 8];
     for i in 0..8 {
-        if i < 4 * machine.words() {
+        if i / 4 < machine.words() {
             bytes[i as usize] = machine.byte(i);
         }
     }
