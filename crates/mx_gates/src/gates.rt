@@ -34,9 +34,7 @@ impl Model for Gates {
 
     ghost view = { λ s. s.gates.items };
 
-    ghost invariant = {
-        λ s. AreSingle s.gates.items × Indexes s.gates.items s.sorted.items s.counts
-    };
+    ghost invariant = { λ s. AreSingle s.gates.items × Indexes s.gates.items s.sorted.items s.counts };
 }
 
 impl Gates {

@@ -63,10 +63,10 @@ border_of_effect r c hart (Stores p address size value) =
     if is_denied r c hart.domain address A.Write then Trap 7 address else Nothing
 border_of_effect r c hart Calls =
     Call (reg hart.regs 17) (reg hart.regs 10) (reg hart.regs 11) (reg hart.regs 12)
-        (reg hart.regs 13)
+    (reg hart.regs 13)
 border_of_effect r c hart (Jumps rd target) =
     if is_return_at c hart.domain hart.pc then Back hart.pc target
-        else by_target target Nothing (Trap 0 target)
+    else by_target target Nothing (Trap 0 target)
 
 abbrev pub border_of_word : Reads → Core → Hart → ℕ → Option Inst → Border
 border_of_word r c hart word None = Trap 2 word

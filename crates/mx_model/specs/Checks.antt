@@ -38,7 +38,7 @@ flight_range c choice (Halted code) = None
 abbrev pub ranges : Core → ℕ → (List Bool → ℕ × ℕ → Option (ℕ × ℕ)) → List (ℕ × ℕ)
 ranges c h choice =
     filter_map (λ (p : ℕ × Hart). if p.0 == h then None else flight_range c choice p.1.status)
-        (enumerate_from 0 c.harts)
+    (enumerate_from 0 c.harts)
 
 -- the ranges that hart h has heard, and those that it hasn't
 abbrev pub heard_ranges : Core → ℕ → List (ℕ × ℕ)
@@ -57,11 +57,11 @@ heard_by h (Halted code) = Halted code
 abbrev pub hears : ℕ → Core → Core
 hears h c =
     let cache = fold (λ cache (r : ℕ × ℕ). without_range r.0 r.1 cache) (cache_at c h)
-        (unheard_ranges c h) in
+    (unheard_ranges c h) in
     record c {
       harts = list_map
           (λ (p : ℕ × Hart).
-              if p.0 == h then p.1 else record p.1 { status = heard_by h p.1.status })
+          if p.0 == h then p.1 else record p.1 { status = heard_by h p.1.status })
           (enumerate_from 0 c.harts);
       caches = slice_set c.caches h cache;
     }
@@ -75,7 +75,7 @@ is_halted status = false
 abbrev pub is_ready : Core → ℕ → List Bool → Bool
 is_ready c h heard =
     list_all (λ (p : ℕ × Hart). lets_pass h heard p.0 (is_halted p.1.status))
-        (enumerate_from 0 c.harts)
+    (enumerate_from 0 c.harts)
 
 -- hart h's caches after a look
 abbrev pub looked : Reads → ℕ → Core → Look → Core

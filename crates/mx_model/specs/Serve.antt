@@ -120,7 +120,7 @@ serve_exit c call =
 abbrev pub write_outside : Core → Call → Bool
 write_outside c call =
     nat_lt 0 (arg call 1) &&
-        (nat_lt (arg call 0) ram_base || nat_lt (ram_base + 4 * c.size) (arg call 0 + arg call 1))
+    (nat_lt (arg call 0) ram_base || nat_lt (ram_base + 4 * c.size) (arg call 0 + arg call 1))
 
 -- the touched words
 abbrev pub write_words : Call → List ℕ
@@ -148,7 +148,7 @@ abbrev pub written_out : Reads → Core → Call → Served
 written_out r c call =
     let looked = looked_all r call.hart (write_looks r call) c in
     judged looked
-        (first_row ((not (list_all (may_read r call.domain) (write_words call)), 12) ∷ []))
+    (first_row ((not (list_all (may_read r call.domain) (write_words call)), 12) ∷ []))
     (record (answers looked (arg call 1)) { console = bytes_at c (arg call 0) (arg call 1) })
 
 abbrev pub write_from : Reads → Core → Call → Option ℕ → Served
@@ -224,7 +224,7 @@ allocated c call first =
     let cleared = record c { ram = cleared_at c.ram (4 * first) (4 * arg call 0) } in
     let block : Area = record { first = first; count = arg call 0 } in
     record (changes (with_blocks call (with_block block (module_at c call.domain).blocks) cleared)
-        (alloc_change first call)) {
+    (alloc_change first call)) {
       a0 = address_of first;
     }
 
@@ -256,7 +256,7 @@ serve_free r c call =
     (is_none (freed_count c call), 8)
     ∷ (not (r.fits (free_change c call)), 5) ∷ []))
     (changes (with_blocks call (without_block (arg_word call) (module_at c call.domain).blocks) c)
-        (free_change c call))
+    (free_change c call))
 
 -- whether the caller doesn't own the word of a0
 abbrev pub foreign_word : Reads → Call → Bool

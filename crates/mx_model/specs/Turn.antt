@@ -139,7 +139,7 @@ by_effect r c h hart (Stores p address size value) = record {
 by_effect r c h hart Calls = without_look (Asks (call_of h hart))
 by_effect r c h hart (Jumps rd target) = without_look (
     if is_return_at c hart.domain hart.pc then at_return hart rd target
-        else jump_action hart rd target)
+    else jump_action hart rd target)
 
 -- a fetched word that matches no row of the instruction table, or an instruction (case 6)
 abbrev pub by_word : Reads → Core → ℕ → Hart → ℕ → Option Inst → Decided
@@ -158,7 +158,7 @@ abbrev pub runs_at : Reads → Core → ℕ → Hart → Option ℕ → Decided
 runs_at r c h hart (Some target) = at_gate c hart target
 runs_at r c h hart None =
     after_look (looks_at c 0 hart.domain hart.pc)
-        (fetches r c h hart (is_denied r c hart.domain hart.pc A.Execute))
+    (fetches r c h hart (is_denied r c hart.domain hart.pc A.Execute))
 
 -- a running hart, in a dead domain or a live one (case 4)
 abbrev pub runs_in : Reads → Core → ℕ → Hart → Bool → Decided
@@ -213,7 +213,7 @@ stack_address c d h =
 abbrev pub crossed : Core → ℕ → Hart → ℕ → Core
 crossed c h hart target =
     let frame : Frame =
-        record { back = reg hart.regs 1; caller = hart.domain; kept = saved hart.regs } in
+    record { back = reg hart.regs 1; caller = hart.domain; kept = saved hart.regs } in
     let stack = unwrap_or (nearest hart.frames target) (stack_address c target h) in
     empties_places h (with_hart h (record hart {
       regs = slice_set hart.regs 2 stack;
@@ -303,8 +303,8 @@ acted r c h hart (Returns rd frame) =
 acted r c h hart (Runs regs pc) = made T.Ran (with_regs h hart regs pc c)
 acted r c h hart (Writes address size value) =
     made T.Ran
-        (with_regs h hart hart.regs (next hart.pc)
-        (record c { ram = put_at c.ram (address - ram_base) size value }))
+    (with_regs h hart hart.regs (next hart.pc)
+    (record c { ram = put_at c.ram (address - ram_base) size value }))
 
 -- the decided action done after its looks
 abbrev pub enacted : Reads → Core → ℕ → Decided → Made

@@ -15,10 +15,8 @@ pub fn flat_of_a_turn()
 
 /// A run of n turns followed by one of m is the run of n + m, by every schedule.
 pub fn run_after_a_run()
-    ensures {
-        (schedule : Schedule) (n m : ℕ) (s : State) →
-            run schedule (n + m) s ≡ run schedule m (run schedule n s)
-    }
+    ensures { (schedule : Schedule) (n m : ℕ) (s : State) →
+        run schedule (n + m) s ≡ run schedule m (run schedule n s) }
 {}
 
 /// What every turn keeps, whatever is answered of rights: in a valid state lengths, ranges and alignment stay valid.

@@ -111,5 +111,7 @@ left_domain c = record c { places = replicate place_count None }
 -- the spans that meet a range dropped
 abbrev pub without_range : ℕ → ℕ → Cache → Cache
 without_range first count c =
-    record c { places = places_without first count c.places;
-        kept = kept_without first count c.kept }
+    record c {
+      places = places_without first count c.places;
+      kept = kept_without first count c.kept;
+    }

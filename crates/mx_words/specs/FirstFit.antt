@@ -13,7 +13,7 @@ pub record Area : Type 0 where
 abbrev pub has_room : Area → List Area → ℕ → ℕ → Bool
 has_room area blocks n a =
     nat_le area.first a && nat_le (a + n) (area.first + area.count) &&
-        not (list_any (λ (b : Area). overlaps b.first b.count a n) blocks)
+    not (list_any (λ (b : Area). overlaps b.first b.count a n) blocks)
 
 -- the least word with room for n words, and nothing where there is none
 abbrev pub place : Area → List Area → ℕ → Option ℕ

@@ -19,17 +19,23 @@ upper_frames m = 1 + broken_blocks region_words m
 abbrev pub need : Kind → List (List Perm) → Need
 need K.Segments maps = record { upper = 0; leaf = sum_by segment_frames maps; spill = 0 }
 need K.Multilevel maps =
-    record { upper = sum_by upper_frames maps; leaf = sum_by (broken_blocks page_words) maps;
-    spill = 0 }
+    record {
+      upper = sum_by upper_frames maps;
+      leaf = sum_by (broken_blocks page_words) maps;
+      spill = 0;
+    }
 need K.Packed maps =
-    record { upper = sum_by upper_frames maps; leaf = sum_by (broken_blocks page_words) maps;
-        spill = sum_by crowded_lines maps }
+    record {
+      upper = sum_by upper_frames maps;
+      leaf = sum_by (broken_blocks page_words) maps;
+      spill = sum_by crowded_lines maps;
+    }
 
 -- whether a need is within a limit
 abbrev pub within : Need → Need → Bool
 within needed limit =
     nat_le needed.upper limit.upper && nat_le needed.leaf limit.leaf &&
-        nat_le needed.spill limit.spill
+    nat_le needed.spill limit.spill
 
 -- whether maps fit a limit
 abbrev pub fits : Kind → Need → List (List Perm) → Bool

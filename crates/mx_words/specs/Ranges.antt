@@ -35,7 +35,7 @@ word_of address words = if in_ram address words then Some ((address - ram_base) 
 abbrev pub is_range : ℕ → ℕ → ℕ → Bool
 is_range address size words =
     nat_lt 0 size && (address % 4 == 0) && nat_le ram_base address &&
-        nat_le (address + size) (ram_base + 4 * words)
+    nat_le (address + size) (ram_base + 4 * words)
 
 -- the words of a range, as its first word and their number, and nothing where it is no range
 abbrev pub word_range : ℕ → ℕ → ℕ → Option (ℕ × ℕ)

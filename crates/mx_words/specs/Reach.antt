@@ -67,7 +67,7 @@ left_reach m line = min most_reach (suffix_len (same (perm_at m line)) (take lin
 abbrev pub right_reach : List Perm → ℕ → ℕ
 right_reach m line =
     min most_reach
-        (prefix_len (same (perm_at m (line + line_words - 1))) (drop (line + line_words) m))
+    (prefix_len (same (perm_at m (line + line_words - 1))) (drop (line + line_words) m))
 
 -- a run of a line, lengthened by the reaches where it stands at the line's edges
 abbrev pub reached : List Perm → ℕ → Span → Span
@@ -114,7 +114,7 @@ mini_entry rs left right =
     let perms = list_map (λ (r : Run Perm). number r.value) rs in
     let starts = starts_from 0 rs in
     2 + 4 * slice_index perms 0 + 2 ^ 4 * slice_index perms 1 + 2 ^ 6 * slice_index perms 2 +
-        2 ^ 8 * slice_index perms 3
+    2 ^ 8 * slice_index perms 3
     + 2 ^ 10 * slice_index starts 1 + 2 ^ 14 * slice_index starts 2 + 2 ^ 18 * slice_index starts 3
     + 2 ^ 22 * right + 2 ^ 27 * left
 
@@ -135,8 +135,12 @@ shown_block l size m i word =
 
 abbrev pub shown_run : Span → Shown
 shown_run s =
-    record { level = L.Segment; first = s.first; count = s.count;
-    stored = address_of s.first + number s.perm }
+    record {
+      level = L.Segment;
+      first = s.first;
+      count = s.count;
+      stored = address_of s.first + number s.perm;
+    }
 
 -- the item at each level
 abbrev pub stored_at : Kind → Level → List Perm → ℕ → Shown
