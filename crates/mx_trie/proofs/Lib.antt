@@ -1,0 +1,38 @@
+-- entries and runs
+pub mod Digits
+pub mod RunBounds
+pub mod PlainRuns
+pub mod RunCodes
+pub mod MiniEntries
+pub mod Decoding
+pub mod EntryLaws
+pub mod LeafSpans
+pub mod Scans
+pub mod LinePerms
+-- frames and owners
+pub mod HeapLaws
+-- reaches
+pub mod Backs
+pub mod RangeLaws
+pub mod LaidReaches
+pub mod LineReaches
+pub mod Stored
+pub mod EntryCuts
+pub mod LineChanges
+pub mod LineReads
+pub mod LineCuts
+pub mod LineBeside
+pub mod Cuts
+pub mod PageLines
+pub mod FoundSpans
+pub mod FlatLaws
+pub mod VectorLines
+pub mod VectorEntries
+pub mod Vectors
+pub mod EvenTables
+pub mod PageMaking
+pub mod PageTables
+pub mod PageFrees
+pub mod EvenLines
+pub mod PageChanges
+pub mod RegionPages

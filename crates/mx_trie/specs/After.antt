@@ -1,0 +1,32 @@
+-- What is counted to tell a need after a change without making it.
+use Rattle.std.specs.Prelude.{◌≡◌, ℕ, ◌+◌, ◌-◌, ◌/◌, ◌≤◌, Bool, true, min, max, List}
+use Rattle.mx_words.specs.declared.perm.Perm.{Perm}
+use Rattle.mx_words.specs.declared.tables.Kind.{Kind}
+use Rattle.mx_words.specs.declared.tables.Need.{Need}
+use Rattle.mx_words.specs.Counting.{count_below}
+use Rattle.mx_pool.specs.Frames.{IsTaken}
+use Rattle.mx_trie.specs.declared.laying.Laying.{Laying}
+use Rattle.mx_trie.specs.Walk.{Frames, target, root_word, has_mid}
+use Rattle.mx_trie.specs.Read.{read_map}
+
+-- how many of the numbers from..to - 1 pass a test, and of those that lie among `count` numbers from `first` on
+abbrev pub count_from : ℕ → ℕ → (ℕ → Bool) → ℕ
+count_from from to test = count_below (to - from) (λ i. test (from + i))
+
+abbrev pub count_within : ℕ → ℕ → ℕ → ℕ → (ℕ → Bool) → ℕ
+count_within from to first count test = count_from (max from first) (min to (first + count)) test
+
+-- the tables on the way to page y's entry are taken
+pub record IsPathTaken (upper : Frames) (root y : ℕ) : Type 0 where
+  pub root_taken : IsTaken upper root
+  pub mid_taken : has_mid upper root (y / 1024) ≡ true → IsTaken upper (target (root_word upper root (y / 1024)))
+
+-- a need of which the parts can be summed
+pub record IsNeedSmall (need : Need) : Type 0 where
+  pub upper : need.upper ≤ 67108864
+  pub leaf : need.leaf ≤ 67108864
+  pub spill : need.spill ≤ 67108864
+
+-- the map of the domain of a laying
+abbrev pub map_in : Kind → Frames → Frames → Frames → ℕ → Laying → List Perm
+map_in kind upper leaf spill root lay = read_map kind upper leaf spill lay.words root

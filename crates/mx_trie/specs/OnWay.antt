@@ -1,0 +1,34 @@
+-- How far the loops of a change have come.
+use Rattle.std.specs.Prelude.{◌≡◌, ℕ, ◌+◌, ◌-◌, ◌*◌, ◌<◌, ◌≤◌, min, List, [], length}
+use Rattle.mx_words.specs.declared.perm.Perm.{Perm}
+use Rattle.mx_words.specs.declared.tables.Kind.{Kind}
+use Rattle.mx_words.specs.Runs.{line_words, page_words, region_words}
+use Rattle.mx_pool.specs.Frames.{word_at, free_in}
+use Rattle.mx_trie.specs.declared.laying.Laying.{Laying}
+use Rattle.mx_trie.specs.declared.laying.Beside.{Beside}
+use Rattle.mx_trie.specs.Walk.{Frames}
+use Rattle.mx_trie.specs.Heap.{heap, IsMove}
+use Rattle.mx_trie.specs.Owned.{LeafOwns, IsLeafTable, line_spills}
+use Rattle.mx_trie.specs.Shown.{IsLine, AreLines}
+use Rattle.mx_trie.specs.Laying.{laid_by, cuts, IsBeside}
+
+-- 1 where the range begins or ends inside the block of `size` words with number `next` or a later one, before word `stop`
+abbrev pub cut_left : ℕ → ℕ → ℕ → ℕ → ℕ
+cut_left size next stop word = min 1 (min (word - next * size) (stop - word))
+
+abbrev pub cuts_left : ℕ → ℕ → ℕ → Laying → ℕ
+cuts_left size next stop lay = cut_left size next stop lay.first + cut_left size next stop lay.end
+
+-- the lines of page y before line `next` are changed
+pub record AreLinesOnWay (kind : Kind) (leaf spill leaf' spill' : Frames) (lay : Laying) (beside : Beside) (y frame next : ℕ) : Type 0 where
+  pub table : IsLeafTable kind leaf' spill' frame
+  pub move : IsMove (heap [] leaf spill) (heap [] leaf' spill') (LeafOwns kind leaf frame) (LeafOwns kind leaf' frame)
+  pub done : (m : List Perm) → IsBeside kind m lay beside → AreLines kind leaf spill m y frame →
+      (k : ℕ) → k < 64 → y * 64 + k < next → IsLine kind spill' (laid_by lay m) (y * 64 + k) (word_at leaf' frame k)
+  pub ahead : (m : List Perm) → IsBeside kind m lay beside → AreLines kind leaf spill m y frame →
+      (k : ℕ) → k < 64 → next ≤ y * 64 + k → IsLine kind spill' m (y * 64 + k) (word_at leaf' frame k)
+  pub leaf_count : free_in leaf' ≡ free_in leaf
+  pub leaf_total : length leaf' ≡ length leaf
+  pub spill_count : free_in spill' + line_spills kind leaf' frame ≡ free_in spill + line_spills kind leaf frame
+  pub spill_room : free_in spill + cuts_left line_words next (y * page_words + page_words) lay ≤ free_in spill' + cuts page_words y lay
+  pub spill_total : length spill' ≡ length spill

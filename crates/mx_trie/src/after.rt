@@ -1,0 +1,292 @@
+//! What the maps need after a change, told without making it: what is taken, less what the blocks that meet the range take, and more
+//! by what its edges need afterwards.
+ghost use Rattle.std.specs.Prelude.{◌≡◌, ℕ, ◌+◌, ◌-◌, ◌*◌, ◌/◌, ◌<◌, ◌≤◌, true, List, length};
+ghost use Rattle.mx_words.specs.declared.perm.Perm.{Perm};
+ghost use Rattle.mx_words.specs.Blocks.{is_broken};
+ghost use Rattle.mx_words.specs.Changes.{changed_map};
+ghost use Rattle.mx_words.specs.Counting.{count_below, sum_below};
+ghost use Rattle.mx_words.specs.Reach.{line_at};
+ghost use Rattle.mx_words.specs.Runs.{page_words, region_words, broken_blocks};
+ghost use Rattle.mx_table.specs.Change.{given};
+ghost use Rattle.mx_table.specs.Tables.{most_words, most_modules};
+ghost use Rattle.mx_pool.specs.Frames.{IsTaken};
+ghost use Rattle.mx_trie.specs.Leaf.{needs_spill};
+ghost use Rattle.mx_trie.specs.Walk.{Frames, most_regions, most_pages, most_lines, is_pointer, root_word, has_leaf};
+ghost use Rattle.mx_trie.specs.Shown.{AreLines, IsDomain};
+ghost use Rattle.mx_trie.specs.Laying.{spill_lines, laid_by, IsLaid};
+ghost use Rattle.mx_trie.specs.Standing.{map_at, IsRead, IsTables};
+ghost use Rattle.mx_trie.specs.After.{count_from, count_within, IsPathTaken, IsNeedSmall, map_in};
+
+use crate::change::laying_of;
+use crate::changed_view::ChangedView;
+use crate::edges::{is_page_even_after, is_region_even_after};
+use crate::laying::Laying;
+use crate::root_table::root_entry;
+use crate::scan::{has_perm, line_perms};
+use crate::sizes::{LINE_WORDS, PAGE_LINES, PAGE_WORDS, REGION_PAGES, REGION_WORDS};
+use crate::table_view::map_of;
+use crate::view::View;
+use crate::{LeafForm, Roots};
+use mx_pool::Pool;
+use mx_table::Change;
+use mx_words::Need;
+
+/// How many of the regions `from` to `to - 1` have mid tables.
+fn regions_opened(upper: &Pool<1024>, root: u32, from: u32, to: u32) -> u32
+    requires from { from ≤ to }
+    requires to { to ≤ most_regions }
+    requires taken { IsTaken upper.now root }
+    ensures count { result ≡ count_below (to - from) (λ i. is_pointer (root_word upper.now root (from + i))) }
+    ensures most { result ≤ to - from }
+{
+    let mut count = 0;
+    for region in from..to {
+        count += u32::from(root_entry(upper, root, region) % 4 == 0);
+    }
+    count
+}
+
+/// Whether a page has a leaf table.
+fn has_table(upper: &Pool<1024>, root: u32, page: u32) -> bool
+    requires page { page < most_pages }
+    requires taken { IsPathTaken upper.now root page }
+    ensures { result ≡ has_leaf upper.now root page }
+{
+    let in_root = root_entry(upper, root, page / REGION_PAGES);
+    in_root % 4 == 0 && upper.get(in_root / 4, page % REGION_PAGES) % 4 == 0
+}
+
+/// How many of the pages `from` to `to - 1` have leaf tables.
+fn pages_opened(upper: &Pool<1024>, root: u32, from: u32, to: u32) -> u32
+    requires from { from ≤ to }
+    requires to { to ≤ most_pages }
+    requires taken { (y : ℕ) → y < most_pages → IsPathTaken upper.now root y }
+    ensures count { result ≡ count_below (to - from) (λ i. has_leaf upper.now root (from + i)) }
+    ensures most { result ≤ to - from }
+{
+    let mut count = 0;
+    for page in from..to {
+        count += u32::from(has_table(upper, root, page));
+    }
+    count
+}
+
+/// How many of the lines of a page that meet the range have spill words. The page has a leaf table.
+fn lines_spilled<L: LeafForm>(leaf: &Pool<64>, frame: u32, page: u32, lay: &Laying) -> u32
+    requires page { page < most_pages }
+    requires meets { page * 1024 < lay.now.end }
+    requires from { lay.now.first < page * 1024 + 1024 }
+    requires taken { IsTaken leaf.now frame }
+    ensures count { (spill : Frames) (m : List Perm) → AreLines L.kind leaf.now spill m page frame →
+        result ≡ count_within (lay.now.first / 16) ((lay.now.end - 1) / 16 + 1) (page * 64) 64
+        (λ z. needs_spill L.kind (line_at m (z * 16))) }
+    ensures most { result ≤ 64 }
+{
+    let from = (lay.first / LINE_WORDS).max(page * PAGE_LINES);
+    let to = ((lay.end - 1) / LINE_WORDS + 1).min(page * PAGE_LINES + PAGE_LINES);
+    let mut count = 0;
+    for line in from..to {
+        count += u32::from(L::spill_of(leaf.get(frame, line % PAGE_LINES)).is_some());
+    }
+    count
+}
+
+/// How many of the lines that meet the range have spill words.
+fn pages_spilled<L: LeafForm>(upper: &Pool<1024>, leaf: &Pool<64>, root: u32, lay: &Laying) -> u32
+    requires read { (spill : Frames) × IsRead L.kind lay.now.words upper.now leaf.now spill root }
+    ensures count { (spill : Frames) (m : List Perm) → IsDomain L.kind upper.now leaf.now spill m root →
+        result ≡ count_from (lay.now.first / 16) ((lay.now.end - 1) / 16 + 1)
+        (λ z. needs_spill L.kind (line_at m (z * 16))) }
+    ensures most { result ≤ most_lines }
+{
+    let mut count = 0;
+    for page in lay.first / PAGE_WORDS..(lay.end - 1) / PAGE_WORDS + 1 {
+        if has_table(upper, root, page) {
+            let mid = root_entry(upper, root, page / REGION_PAGES) / 4;
+            let frame = upper.get(mid, page % REGION_PAGES) / 4;
+            count += lines_spilled::<L>(leaf, frame, page, lay);
+        }
+    }
+    count
+}
+
+/// Whether a region isn't eighth-uniform after a change.
+fn is_region_broken<V: View>(new: &V, lay: &Laying, odd: bool, region: u32) -> bool
+    requires lawful { V.lawful new.now }
+    requires laid { IsLaid (V.map new.now) lay.now }
+    requires odd { odd ≡ true → is_broken page_words (V.map new.now) (lay.now.first / 1024) ≡ true }
+    requires region { region < most_regions }
+    ensures { result ≡ is_broken region_words (V.map new.now) region }
+{
+    !lay.covers(region * REGION_WORDS, region * REGION_WORDS + REGION_WORDS)
+        && !is_region_even_after(new, lay.first, lay.end, odd, region)
+}
+
+/// Whether a page isn't eighth-uniform after a change.
+fn is_page_broken<V: View>(new: &V, lay: &Laying, page: u32) -> bool
+    requires lawful { V.lawful new.now }
+    requires laid { IsLaid (V.map new.now) lay.now }
+    requires page { page < most_pages }
+    ensures { result ≡ is_broken page_words (V.map new.now) page }
+{
+    !lay.covers(page * PAGE_WORDS, page * PAGE_WORDS + PAGE_WORDS)
+        && !is_page_even_after(new, lay.first, lay.end, page)
+}
+
+/// Whether a line needs a spill word after a change.
+fn is_line_crowded<L: LeafForm, V: View>(new: &V, lay: &Laying, line: u32) -> bool
+    requires lawful { V.lawful new.now }
+    requires laid { IsLaid (V.map new.now) lay.now }
+    requires line { line < most_lines }
+    ensures { result ≡ needs_spill L.kind (line_at (V.map new.now) (line * 16)) }
+{
+    !lay.covers(line * LINE_WORDS, line * LINE_WORDS + LINE_WORDS)
+        && L::needs_spill(&line_perms(new, line))
+}
+
+/// How many of the regions that meet the range aren't eighth-uniform after a change: at most the first and the last one.
+fn regions_broken_at_edges<V: View>(new: &V, lay: &Laying, odd: bool) -> u32
+    requires lawful { V.lawful new.now }
+    requires laid { IsLaid (V.map new.now) lay.now }
+    requires odd { odd ≡ true → is_broken page_words (V.map new.now) (lay.now.first / 1024) ≡ true }
+    ensures count { result ≡ count_from (lay.now.first / region_words) ((lay.now.end - 1) / region_words + 1)
+        (is_broken region_words (V.map new.now)) }
+    ensures most { result ≤ 2 }
+{
+    let first = lay.first / REGION_WORDS;
+    let last = (lay.end - 1) / REGION_WORDS;
+    u32::from(is_region_broken(new, lay, odd, first))
+        + u32::from(first < last && is_region_broken(new, lay, odd, last))
+}
+
+/// The same of pages.
+fn pages_broken_at_edges<V: View>(new: &V, lay: &Laying) -> u32
+    requires lawful { V.lawful new.now }
+    requires laid { IsLaid (V.map new.now) lay.now }
+    ensures count { result ≡ count_from (lay.now.first / page_words) ((lay.now.end - 1) / page_words + 1)
+        (is_broken page_words (V.map new.now)) }
+    ensures most { result ≤ 2 }
+{
+    let first = lay.first / PAGE_WORDS;
+    let last = (lay.end - 1) / PAGE_WORDS;
+    u32::from(is_page_broken(new, lay, first))
+        + u32::from(first < last && is_page_broken(new, lay, last))
+}
+
+/// How many of the lines that meet the range need a spill word after a change.
+fn lines_crowded_at_edges<L: LeafForm, V: View>(new: &V, lay: &Laying) -> u32
+    requires lawful { V.lawful new.now }
+    requires laid { IsLaid (V.map new.now) lay.now }
+    ensures count { result ≡ count_from (lay.now.first / 16) ((lay.now.end - 1) / 16 + 1)
+        (λ z. needs_spill L.kind (line_at (V.map new.now) (z * 16))) }
+    ensures most { result ≤ 2 }
+{
+    let first = lay.first / LINE_WORDS;
+    let last = (lay.end - 1) / LINE_WORDS;
+    u32::from(is_line_crowded::<L, V>(new, lay, first))
+        + u32::from(first < last && is_line_crowded::<L, V>(new, lay, last))
+}
+
+/// Whether the range lies in one page, and that is broken. So many of the pages that meet the range are.
+fn is_one_broken(lay: &Laying, broken: u32) -> bool
+    ensures some { result ≡ true → 0 < broken }
+    ensures one { result ≡ true → lay.now.first / 1024 ≡ (lay.now.end - 1) / 1024 }
+{
+    broken > 0 && lay.first / PAGE_WORDS == (lay.end - 1) / PAGE_WORDS
+}
+
+/// What all maps need after a permission is laid over a range of the domain with a root table, where `need` is what they need before.
+fn need_laid<L: LeafForm>(
+    upper: &Pool<1024>,
+    leaf: &Pool<64>,
+    spill: &Pool<1>,
+    root: u32,
+    lay: &Laying,
+    need: Need,
+) -> Need
+    requires read { IsRead L.kind lay.now.words upper.now leaf.now spill.now root }
+    requires upper { let m = map_in L.kind upper.now leaf.now spill.now root lay.now in
+        broken_blocks region_words m ≤ need.upper }
+    requires leaf { let m = map_in L.kind upper.now leaf.now spill.now root lay.now in
+        broken_blocks page_words m ≤ need.leaf }
+    requires spill { let m = map_in L.kind upper.now leaf.now spill.now root lay.now in
+        spill_lines L.kind m ≤ need.spill }
+    requires few { IsNeedSmall need }
+    ensures upper { let m = map_in L.kind upper.now leaf.now spill.now root lay.now in
+        result.upper + broken_blocks region_words m
+        ≡ need.upper + broken_blocks region_words (laid_by lay.now m) }
+    ensures leaf { let m = map_in L.kind upper.now leaf.now spill.now root lay.now in
+        result.leaf + broken_blocks page_words m
+        ≡ need.leaf + broken_blocks page_words (laid_by lay.now m) }
+    ensures spill { let m = map_in L.kind upper.now leaf.now spill.now root lay.now in
+        result.spill + spill_lines L.kind m ≡ need.spill + spill_lines L.kind (laid_by lay.now m) }
+{
+    let old = map_of::<L>(upper, leaf, spill, root, lay.words);
+    if has_perm(&old, lay.first, lay.end, lay.perm) {
+        return need;
+    }
+    let new = ChangedView {
+        under: &old,
+        first: lay.first,
+        count: lay.end - lay.first,
+        perm: lay.perm,
+    };
+    let last = lay.end - 1;
+    let broken = pages_broken_at_edges(&new, lay);
+    let odd = is_one_broken(lay, broken);
+    Need {
+        upper: need.upper + regions_broken_at_edges(&new, lay, odd)
+            - regions_opened(
+                upper,
+                root,
+                lay.first / REGION_WORDS,
+                last / REGION_WORDS + 1,
+            ),
+        leaf: need.leaf + broken
+            - pages_opened(upper, root, lay.first / PAGE_WORDS, last / PAGE_WORDS + 1),
+        spill: need.spill + lines_crowded_at_edges::<L, _>(&new, lay)
+            - pages_spilled::<L>(upper, leaf, root, lay),
+    }
+}
+
+/// What all maps need after a lawful change, where `need` is what they need before.
+pub(crate) fn need_after<L: LeafForm>(
+    upper: &Pool<1024>,
+    leaf: &Pool<64>,
+    spill: &Pool<1>,
+    roots: &Roots,
+    words: u32,
+    change: &Change,
+    need: Need,
+) -> Need
+    requires tables { IsTables L.kind words upper.now leaf.now spill.now roots.now }
+    requires few { length roots.now ≤ most_modules }
+    requires some { 0 < change.now.count }
+    requires inside { change.now.first + change.now.count ≤ words }
+    requires upper { need.upper ≡ length roots.now + sum_below (length roots.now)
+        (λ d. broken_blocks region_words (map_at L.kind words upper.now leaf.now spill.now roots.now d)) }
+    requires leaf { need.leaf ≡ sum_below (length roots.now)
+        (λ d. broken_blocks page_words (map_at L.kind words upper.now leaf.now spill.now roots.now d)) }
+    requires spill { need.spill ≡ sum_below (length roots.now)
+        (λ d. spill_lines L.kind (map_at L.kind words upper.now leaf.now spill.now roots.now d)) }
+    ensures upper { result.upper ≡ length roots.now + sum_below (length roots.now)
+        (λ d. broken_blocks region_words
+        (changed_map change.now.first change.now.count (given change.now (d + 1))
+        (map_at L.kind words upper.now leaf.now spill.now roots.now d))) }
+    ensures leaf { result.leaf ≡ sum_below (length roots.now)
+        (λ d. broken_blocks page_words
+        (changed_map change.now.first change.now.count (given change.now (d + 1))
+        (map_at L.kind words upper.now leaf.now spill.now roots.now d))) }
+    ensures spill { result.spill ≡ sum_below (length roots.now)
+        (λ d. spill_lines L.kind
+        (changed_map change.now.first change.now.count (given change.now (d + 1))
+        (map_at L.kind words upper.now leaf.now spill.now roots.now d))) }
+{
+    let mut need = need;
+    for row in 0..roots.count() {
+        if let Some(lay) = laying_of(words, row, change) {
+            need = need_laid::<L>(upper, leaf, spill, roots.at(row), &lay, need);
+        }
+    }
+    need
+}
