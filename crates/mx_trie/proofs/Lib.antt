@@ -36,3 +36,6 @@ pub mod PageFrees
 pub mod EvenLines
 pub mod PageChanges
 pub mod RegionPages
+-- regions
+pub mod WideBlocks
+pub mod NodeLaws

@@ -28,16 +28,13 @@ use Rattle.mx_trie.specs.Laying.{laid_by, cuts, IsBeside}
 use Rattle.mx_trie.specs.Changed.{AreLinesChanged, IsPageChanged}
 use Rattle.mx_trie.specs.Steps.{IsPageOpened, IsPageClosed, IsPageFreed}
 use Rattle.mx_trie.proofs.HeapLaws.{move-then, move-none}
-use Rattle.mx_trie.proofs.EvenTables.{uniform-from}
-use Rattle.mx_trie.proofs.FlatLaws.{uniform-eighths, packed-flat}
+use Rattle.mx_trie.proofs.FlatLaws.{flat-closed}
+use Rattle.mx_trie.proofs.WideBlocks.{uniform-whole, uniform-vector}
 use Rattle.mx_trie.proofs.LineBeside.{few-known}
 use Rattle.mx_trie.proofs.RangeLaws.{with_range-below, with_range-in, with_range-behind, length-with_range}
 
-flat-closed : (n : ℕ) → is_pointer (flat_vector n) ≡ false
-flat-closed n = ne_eqb (flat_vector n % 4) 0 (λ h. omega arith)
-
 -- no spill words hang below a vector
-closed-spills : (kind : Kind) (leaf : Frames) (e : ℕ) → is_pointer e ≡ false → page_spills kind leaf e ≡ 0
+pub closed-spills : (kind : Kind) (leaf : Frames) (e : ℕ) → is_pointer e ≡ false → page_spills kind leaf e ≡ 0
 closed-spills kind leaf e closed = ap (λ (b : Bool). if b then line_spills kind leaf (target e) else 0) closed
 
 module _ (kind : Kind) (m : List Perm) (lay : Laying) (b : Beside) (known : IsBeside kind m lay b) (y : ℕ) where
@@ -49,18 +46,10 @@ module _ (kind : Kind) (m : List Perm) (lay : Laying) (b : Beside) (known : IsBe
     word : (k : ℕ) → k < 1024 → perm_at (laid_by lay m) (y * 1024 + k) ≡ lay.perm
     word k below = with_range-in lay.first lay.end lay.perm m (y * 1024 + k) fits (omega arith) (omega arith)
 
-    cover-whole : is_broken page_words (laid_by lay m) y ≡ false
-    cover-whole = whole-even 1024 128 (laid_by lay m) y refl refl (omega arith) (uniform-from (laid_by lay m) (y * 1024) 1024 lay.perm (omega arith) word)
-
-    cover-vector : flat_vector (number lay.perm) ≡ vector page_words (laid_by lay m) (y * page_words)
-    cover-vector =
-        packed-flat lay.perm (number lay.perm) refl
-        ∙ ap (λ (ps : List Perm). 1 + 4 * packed ps) (sym (uniform-eighths (laid_by lay m) (y * 1024) lay.perm (λ e below. word (128 * e) (omega arith))))
-
     pub cover-page : (leaf spill : Frames) → IsPage kind leaf spill (laid_by lay m) y (flat_vector (number lay.perm))
     cover-page leaf spill = record {
-      broken = flat-closed (number lay.perm) ∙ sym cover-whole;
-      vector_is = λ h. cover-vector;
+      broken = flat-closed (number lay.perm) ∙ sym (uniform-whole 1024 128 (laid_by lay m) y lay.perm refl refl (omega arith) word);
+      vector_is = λ h. uniform-vector 1024 128 (laid_by lay m) y lay.perm refl refl (omega arith) word;
       lines = λ pointer. absurd (let h = sym pointer ∙ flat-closed (number lay.perm) in cc);
     }
 
