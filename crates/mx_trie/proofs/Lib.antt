@@ -35,7 +35,9 @@ pub mod PageTables
 pub mod PageFrees
 pub mod EvenLines
 pub mod PageChanges
-pub mod RegionPages
 -- regions
 pub mod WideBlocks
 pub mod NodeLaws
+pub mod EntryPuts
+pub mod RegionFrames
+pub mod BlockChanges
