@@ -41,3 +41,4 @@ pub mod NodeLaws
 pub mod EntryPuts
 pub mod RegionFrames
 pub mod BlockChanges
+pub mod RegionPages
