@@ -42,3 +42,5 @@ pub mod EntryPuts
 pub mod RegionFrames
 pub mod BlockChanges
 pub mod RegionPages
+pub mod RegionTables
+pub mod RegionChanges

@@ -1,11 +1,13 @@
 -- How far the loops of a change have come.
-use Rattle.std.specs.Prelude.{◌≡◌, ℕ, ◌+◌, ◌-◌, ◌*◌, ◌<◌, ◌≤◌, min, false, List, [], length}
+use Rattle.std.specs.Prelude.{◌≡◌, ◌≢◌, ℕ, ◌+◌, ◌-◌, ◌*◌, ◌/◌, ◌<◌, ◌≤◌, min, false, List, [], length, None}
 use Rattle.mx_words.specs.declared.perm.Perm.{Perm}
 use Rattle.mx_words.specs.declared.tables.Kind.{Kind}
 use Rattle.mx_words.specs.Runs.{line_words, page_words, region_words}
-use Rattle.mx_pool.specs.Frames.{word_at, free_in}
+use Rattle.mx_pool.specs.Frames.{frame_at, IsTaken, word_at, free_in}
 use Rattle.mx_trie.specs.declared.laying.Laying.{Laying}
 use Rattle.mx_trie.specs.declared.laying.Beside.{Beside}
+use Rattle.mx_trie.specs.Digits.{digit}
+use Rattle.mx_trie.specs.Filled.{flat_vector}
 use Rattle.mx_trie.specs.Walk.{Frames, is_pointer}
 use Rattle.mx_trie.specs.Heap.{heap, IsMove}
 use Rattle.mx_trie.specs.Owned.{LeafOwns, MidOwns, IsLeafTable, IsMidTable, line_spills, region_spills, region_leaves}
@@ -58,3 +60,12 @@ pub record ArePagesOnWay (kind : Kind) (upper leaf spill upper' leaf' spill' : F
       (k : ℕ) → k < 1024 → next ≤ x * 1024 + k → IsPage kind leaf' spill' m (x * 1024 + k) (word_at upper' frame k)
   pub leaf_room : free_in leaf + cuts_left page_words next (x * region_words + region_words) lay ≤ free_in leaf' + cuts region_words x lay
   pub spill_room : free_in spill + cuts_left page_words next (x * region_words + region_words) lay ≤ free_in spill' + cuts region_words x lay
+
+-- a mid table in a frame that was free, with the vectors of the pages in the first eighths of a region that has vector e
+pub record IsRegionFilled (upper upper' : Frames) (e frame parts : ℕ) : Type 0 where
+  pub was_free : frame_at upper frame ≡ None
+  pub taken : IsTaken upper' frame
+  pub vectors : (k : ℕ) → k < 128 * parts → word_at upper' frame k ≡ flat_vector (digit (e / 4) (k / 128))
+  pub elsewhere : (g : ℕ) → g ≢ frame → frame_at upper' g ≡ frame_at upper g
+  pub free : free_in upper' + 1 ≡ free_in upper
+  pub total : length upper' ≡ length upper
