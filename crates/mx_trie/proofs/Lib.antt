@@ -35,4 +35,10 @@ pub mod PageTables
 pub mod PageFrees
 pub mod EvenLines
 pub mod PageChanges
+-- regions
+pub mod WideBlocks
+pub mod NodeLaws
+pub mod EntryPuts
+pub mod RegionFrames
+pub mod BlockChanges
 pub mod RegionPages
