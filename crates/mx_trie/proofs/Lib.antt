@@ -36,3 +36,13 @@ pub mod PageFrees
 pub mod EvenLines
 pub mod PageChanges
 pub mod RegionPages
+-- views
+pub mod FoundItems
+pub mod RowSpans
+pub mod LaidSpans
+-- what is read
+pub mod ReadLines
+pub mod VectorWords
+pub mod WalkWords
+pub mod MapsRead
+pub mod TableSpans
