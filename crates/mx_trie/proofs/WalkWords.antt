@@ -1,5 +1,5 @@
 -- The words on the way of a walk to some word: each stands for a block of the map, and the tables that they name are taken.
-use Rattle.std.proofs.Common.{◌≡◌, ◌≢◌, ℕ, ◌+◌, ◌*◌, ◌/◌, ◌%◌, ◌<◌, true, false, List, Some, refl, sym, ap, ◌∙◌, arith, subst, eq-eqb}
+use Rattle.std.proofs.Common.{◌≡◌, ◌≢◌, ℕ, ◌+◌, ◌*◌, ◌/◌, ◌%◌, ◌<◌, ◌≤◌, true, false, List, [], length, Some, refl, sym, ap, ◌∙◌, arith, subst, eq-eqb}
 use Rattle.std.proofs.lemmas.Bool.{ne_eqb}
 use Rattle.mx_words.specs.declared.perm.Perm.{Perm}
 use Rattle.mx_words.specs.declared.tables.Kind.{Kind}
@@ -8,7 +8,10 @@ use Rattle.mx_pool.specs.Frames.{IsTaken, word_at}
 use Rattle.mx_trie.specs.Leaf.{spill_number}
 use Rattle.mx_trie.specs.Walk.{Frames, is_pointer, target, root_word}
 use Rattle.mx_trie.specs.Owned.{IsLeafTable, IsMidTable, IsRootTable}
-use Rattle.mx_trie.specs.Shown.{IsLine, IsPage, IsRegion, IsDomain}
+use Rattle.mx_trie.specs.Read.{read_map}
+use Rattle.mx_trie.specs.Shape.{length-read_map}
+use Rattle.mx_trie.specs.Shown.{IsLine, IsSomeLine, IsPage, IsRegion, IsDomain}
+use Rattle.mx_trie.specs.Standing.{IsRead}
 
 -- whether an entry is a pointer, told by its lowest bits
 pub is-open : (e : ℕ) → e % 4 ≡ 0 → is_pointer e ≡ true
@@ -48,3 +51,34 @@ module _ (kind : Kind) (upper leaf spill : Frames) where
 
   pub walk-spill-taken : (frame k l g : ℕ) → IsLeafTable kind leaf spill frame → k < 64 → l ≡ word_at leaf frame k → spill_number kind l ≡ Some g → IsTaken spill g
   walk-spill-taken frame k l g table below e named = table.parts.taken k 2 g below (refl, sym (ap (spill_number kind) e) ∙ named)
+
+-- all of them for the map that is read
+module _ (kind : Kind) (upper leaf spill : Frames) (words root : ℕ) (read : IsRead kind words upper leaf spill root) (i : ℕ) (below : i < most_words) where
+  pub way-few : length (read_map kind upper leaf spill words root) ≤ most_words
+  way-few = let h = read.few_words in omega (arith, length-read_map kind upper leaf spill words [] root)
+
+  module _ (a : ℕ) (e : a ≡ root_word upper root (i / 1048576)) where
+    pub way-region : IsRegion kind upper leaf spill (read_map kind upper leaf spill words root) (i / 1048576) a
+    way-region = walk-region kind upper leaf spill (read_map kind upper leaf spill words root) i below root a read.shown e
+
+    module _ (hit : a % 4 ≡ 0) where
+      pub way-mid : IsMidTable kind upper leaf spill (a / 4)
+      way-mid = walk-mid-table kind upper leaf spill root (i / 1048576) a read.table (omega arith) e (is-open a hit)
+
+      module _ (b : ℕ) (f : b ≡ word_at upper (a / 4) (i / 1024 % 1024)) where
+        pub way-page : IsPage kind leaf spill (read_map kind upper leaf spill words root) (i / 1024) b
+        way-page = walk-page kind upper leaf spill (read_map kind upper leaf spill words root) i below a b way-region (is-open a hit) f
+
+        module _ (also : b % 4 ≡ 0) where
+          pub way-leaf : IsLeafTable kind leaf spill (b / 4)
+          way-leaf = walk-leaf-table kind upper leaf spill (a / 4) (i / 1024 % 1024) b way-mid (omega arith) f (is-open b also)
+
+          module _ (l : ℕ) (h : l ≡ word_at leaf (b / 4) (i / 16 % 64)) where
+            pub way-line : IsLine kind spill (read_map kind upper leaf spill words root) (i / 16) l
+            way-line = walk-line kind upper leaf spill (read_map kind upper leaf spill words root) i below b l way-page (is-open b also) h
+
+            pub way-spill : (g : ℕ) → spill_number kind l ≡ Some g → IsTaken spill g
+            way-spill g = walk-spill-taken kind upper leaf spill (b / 4) (i / 16 % 64) l g way-leaf (omega arith) h
+
+            pub way-some : IsSomeLine kind spill (i / 16) l
+            way-some = record { map = read_map kind upper leaf spill words root; few = way-few; line = way-line; taken = way-spill }
