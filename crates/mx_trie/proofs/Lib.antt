@@ -42,3 +42,13 @@ pub mod EntryPuts
 pub mod RegionFrames
 pub mod BlockChanges
 pub mod RegionPages
+-- views
+pub mod FoundItems
+pub mod RowSpans
+pub mod LaidSpans
+-- what is read
+pub mod ReadLines
+pub mod VectorWords
+pub mod WalkWords
+pub mod MapsRead
+pub mod TableSpans
