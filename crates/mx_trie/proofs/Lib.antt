@@ -36,3 +36,4 @@ pub mod PageFrees
 pub mod EvenLines
 pub mod PageChanges
 pub mod RegionPages
+pub mod Counted

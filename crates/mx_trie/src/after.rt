@@ -32,6 +32,7 @@ use mx_table::Change;
 use mx_words::Need;
 
 /// How many of the regions `from` to `to - 1` have mid tables.
+#[tactic(auto, using(crate::proofs::Counted::counted_none, crate::proofs::Counted::counted_more))]
 fn regions_opened(upper: &Pool<1024>, root: u32, from: u32, to: u32) -> u32
     requires from { from ≤ to }
     requires to { to ≤ most_regions }
