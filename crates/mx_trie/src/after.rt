@@ -58,6 +58,7 @@ fn has_table(upper: &Pool<1024>, root: u32, page: u32) -> bool
 }
 
 /// How many of the pages `from` to `to - 1` have leaf tables.
+#[tactic(auto, using(crate::proofs::Counted::counted_none, crate::proofs::Counted::counted_more))]
 fn pages_opened(upper: &Pool<1024>, root: u32, from: u32, to: u32) -> u32
     requires from { from ≤ to }
     requires to { to ≤ most_pages }
