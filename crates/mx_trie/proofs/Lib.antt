@@ -37,3 +37,4 @@ pub mod EvenLines
 pub mod PageChanges
 pub mod RegionPages
 pub mod Counted
+pub mod EdgeLaws

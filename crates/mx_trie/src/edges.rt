@@ -11,7 +11,6 @@ use crate::view::View;
 use mx_words::MOST_WORDS;
 
 /// Whether a word has another permission than the word before it, which lies in the same eighth of a page.
-#[tactic(none)]
 fn is_edge<V: View>(view: &V, at: u32) -> bool
     requires lawful { V.lawful view.now }
     ensures { result ≡ true → is_broken page_words (V.map view.now) (at / 1024) ≡ true }
@@ -25,7 +24,6 @@ fn is_edge<V: View>(view: &V, at: u32) -> bool
 }
 
 /// Whether a page is eighth-uniform. The edges of the words `first` to `end - 1` are looked at first.
-#[tactic(none)]
 pub(crate) fn is_page_even_after<V: View>(view: &V, first: u32, end: u32, page: u32) -> bool
     requires lawful { V.lawful view.now }
     requires page { page < most_pages }
@@ -42,7 +40,6 @@ pub(crate) fn is_page_even_after<V: View>(view: &V, first: u32, end: u32, page: 
 
 /// Whether a region is eighth-uniform by a map that has changed on the words `first` to `end - 1`. `odd` says that the page of the word
 /// `first` is known not to be eighth-uniform. All words are looked at only where neither that nor the range's edges tell.
-#[tactic(none)]
 pub(crate) fn is_region_even_after<V: View>(
     view: &V,
     first: u32,
