@@ -2,7 +2,7 @@
 use Rattle.std.proofs.Common.{◌≡◌, ℕ, ◌+◌, ◌-◌, ◌<◌, ◌≤◌, Bool, true, false, refl, sym, ap, ◌∙◌, arith}
 use mir.Val.{bool_byte}
 use Rattle.mx_words.specs.Counting.{bit, count_below}
-use Rattle.mx_words.proofs.CountingLaws.{count_below-zero, count_below-more, bit-le}
+use Rattle.mx_words.proofs.CountingLaws.{count_below-zero, count_below-more, count_below_still, bit-le}
 use Rattle.mx_trie.specs.After.{count_from}
 
 pub byte-bit : (b : Bool) → bool_byte b ≡ bit b
@@ -42,3 +42,21 @@ counted_more from at to count byte test told so below is here =
 
 pub counted_all : (from at to count : ℕ) (test : ℕ → Bool) → IsCountedTo from at to count test → to ≤ at → count ≡ count_from from to test
 counted_all from at to count test so end = let last : at ≡ to = omega (arith, so.within) in so.count_is ∙ ap (λ n. count_from from n test) last
+
+-- of the numbers first to last those between the two ends don't pass
+pub edges-one : (first last count : ℕ) (test : ℕ → Bool) (told : Bool) → first ≡ last → count ≡ bool_byte told → told ≡ test first → count ≡ count_from first (last + 1) test
+edges-one first last count test told same is here =
+    let none : count ≡ 0 + count = omega arith in
+    none
+    ∙ (counted_more first first (first + 1) 0 count test told (counted_none first (first + 1) test (omega arith)) (omega arith) is here).count_is
+    ∙ ap (λ n. count_from first (n + 1) test) same
+
+pub edges-two : (first last one two : ℕ) (test : ℕ → Bool) (told told' : Bool) → first < last → ((i : ℕ) → first < i → i < last → test i ≡ false) →
+    one ≡ bool_byte told → told ≡ test first → two ≡ bool_byte told' → told' ≡ test last → one + two ≡ count_from first (last + 1) test
+edges-two first last one two test told told' less inner is here is' there =
+    let before = edges-one first first one test told refl is here in
+    let still : count_from first last test ≡ count_from first (first + 1) test =
+    count_below_still (first + 1 - first) (last - first) (λ i. test (first + i)) (omega arith) (λ i from below. inner (first + i) (omega arith) (omega arith)) in
+    let so : IsCountedTo first last (last + 1) one test =
+    record { begun = omega arith; within = omega arith; count_is = before ∙ sym still; few = omega (arith, is, byte-bit told, bit-le told) } in
+    (counted_more first last (last + 1) one two test told' so (omega arith) is' there).count_is

@@ -9,6 +9,7 @@ use Rattle.mx_words.specs.Runs.{page_words, region_words, is_eighth_uniform}
 use Rattle.mx_words.specs.Reach.{line_at}
 use Rattle.mx_words.specs.Blocks.{block_of, is_broken, IsEven}
 use Rattle.mx_words.proofs.BlockLaws.{even_from, even_is, whole-even}
+use Rattle.mx_words.proofs.BrokenLaws.{block-below, block-above}
 use Rattle.mx_trie.specs.declared.laying.Laying.{Laying}
 use Rattle.mx_trie.specs.Leaf.{needs_spill}
 use Rattle.mx_trie.specs.Laying.{IsLaid}
@@ -68,8 +69,18 @@ module _ (m : List Perm) (lay : Laying) (is : IsLaid m lay) (b : ℕ) where
       whole-even size part m b eighth eight some
       (uniform-from m (b * size) size lay.perm (omega arith) (λ k below. is.laid (b * size + k) (omega arith) (omega arith)))
 
+  -- between the blocks of its two ends
+  pub inner-whole : (size part : ℕ) → size / 8 ≡ part → size ≡ 8 * part → 0 < part → lay.first / size < b → b < (lay.end - 1) / size → is_broken size m b ≡ false
+  inner-whole size part eighth eight some above below =
+      let from = block-above size b lay.first (omega arith) above in
+      let to = block-below size b (lay.end - 1) (omega arith) below in
+      laid-whole size part eighth eight some (omega arith) (omega arith)
+
   pub laid-needs : (kind : Kind) → lay.first ≤ b * 16 → b * 16 + 16 ≤ lay.end → needs_spill kind (line_at m (b * 16)) ≡ false
   laid-needs kind from to =
       ap (needs_spill kind)
       (line-is m b (flat_line lay.perm) (length-replicate 16 lay.perm) (λ k below. is.laid (b * 16 + k) (omega arith) (omega arith) ∙ sym (get_or-replicate 16 k lay.perm P.None below)))
       ∙ flat-needs kind lay.perm
+
+  pub inner-needs : (kind : Kind) → lay.first / 16 < b → b < (lay.end - 1) / 16 → needs_spill kind (line_at m (b * 16)) ≡ false
+  inner-needs kind above below = laid-needs kind (omega arith) (omega arith)
