@@ -52,3 +52,5 @@ pub mod VectorWords
 pub mod WalkWords
 pub mod MapsRead
 pub mod TableSpans
+pub mod Counted
+pub mod EdgeLaws
