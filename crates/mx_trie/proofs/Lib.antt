@@ -44,3 +44,15 @@ pub mod BlockChanges
 pub mod RegionPages
 pub mod RegionTables
 pub mod RegionChanges
+-- views
+pub mod FoundItems
+pub mod RowSpans
+pub mod LaidSpans
+-- what is read
+pub mod ReadLines
+pub mod VectorWords
+pub mod WalkWords
+pub mod MapsRead
+pub mod TableSpans
+pub mod Counted
+pub mod EdgeLaws
