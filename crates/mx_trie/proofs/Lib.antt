@@ -56,3 +56,6 @@ pub mod MapsRead
 pub mod TableSpans
 pub mod Counted
 pub mod EdgeLaws
+pub mod RootPlaces
+pub mod DomainRegions
+pub mod DomainChanges
