@@ -44,5 +44,6 @@ pub mod LaidSpans
 pub mod ReadLines
 pub mod VectorWords
 pub mod WalkWords
+pub mod WalkLaws
 pub mod MapsRead
 pub mod TableSpans
