@@ -47,3 +47,5 @@ pub mod WalkWords
 pub mod WalkLaws
 pub mod MapsRead
 pub mod TableSpans
+-- the trait
+pub mod StandingLaws
