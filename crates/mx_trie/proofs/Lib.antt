@@ -52,7 +52,10 @@ pub mod LaidSpans
 pub mod ReadLines
 pub mod VectorWords
 pub mod WalkWords
+pub mod WalkLaws
 pub mod MapsRead
 pub mod TableSpans
 pub mod Counted
 pub mod EdgeLaws
+-- the trait
+pub mod StandingLaws
