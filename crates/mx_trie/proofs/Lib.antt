@@ -36,3 +36,7 @@ pub mod PageFrees
 pub mod EvenLines
 pub mod PageChanges
 pub mod RegionPages
+-- the frame law of each level, and tables that are built
+pub mod FrameLaws
+pub mod BuiltTables
+pub mod BuiltBlocks
