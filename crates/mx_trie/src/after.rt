@@ -32,6 +32,7 @@ use mx_table::Change;
 use mx_words::Need;
 
 /// How many of the regions `from` to `to - 1` have mid tables.
+#[tactic(auto, using(crate::proofs::Counted::counted_none, crate::proofs::Counted::counted_more))]
 fn regions_opened(upper: &Pool<1024>, root: u32, from: u32, to: u32) -> u32
     requires from { from ≤ to }
     requires to { to ≤ most_regions }
@@ -57,6 +58,7 @@ fn has_table(upper: &Pool<1024>, root: u32, page: u32) -> bool
 }
 
 /// How many of the pages `from` to `to - 1` have leaf tables.
+#[tactic(auto, using(crate::proofs::Counted::counted_none, crate::proofs::Counted::counted_more))]
 fn pages_opened(upper: &Pool<1024>, root: u32, from: u32, to: u32) -> u32
     requires from { from ≤ to }
     requires to { to ≤ most_pages }
@@ -72,6 +74,7 @@ fn pages_opened(upper: &Pool<1024>, root: u32, from: u32, to: u32) -> u32
 }
 
 /// How many of the lines of a page that meet the range have spill words. The page has a leaf table.
+#[tactic(none)]
 fn lines_spilled<L: LeafForm>(leaf: &Pool<64>, frame: u32, page: u32, lay: &Laying) -> u32
     requires page { page < most_pages }
     requires meets { page * 1024 < lay.now.end }
@@ -92,6 +95,7 @@ fn lines_spilled<L: LeafForm>(leaf: &Pool<64>, frame: u32, page: u32, lay: &Layi
 }
 
 /// How many of the lines that meet the range have spill words.
+#[tactic(none)]
 fn pages_spilled<L: LeafForm>(upper: &Pool<1024>, leaf: &Pool<64>, root: u32, lay: &Laying) -> u32
     requires read { (spill : Frames) × IsRead L.kind lay.now.words upper.now leaf.now spill root }
     ensures count { (spill : Frames) (m : List Perm) → IsDomain L.kind upper.now leaf.now spill m root →
@@ -155,8 +159,11 @@ fn regions_broken_at_edges<V: View>(new: &V, lay: &Laying, odd: bool) -> u32
 {
     let first = lay.first / REGION_WORDS;
     let last = (lay.end - 1) / REGION_WORDS;
-    u32::from(is_region_broken(new, lay, odd, first))
-        + u32::from(first < last && is_region_broken(new, lay, odd, last))
+    let at_first = u32::from(is_region_broken(new, lay, odd, first));
+    if first == last {
+        return at_first;
+    }
+    at_first + u32::from(is_region_broken(new, lay, odd, last))
 }
 
 /// The same of pages.
@@ -169,8 +176,11 @@ fn pages_broken_at_edges<V: View>(new: &V, lay: &Laying) -> u32
 {
     let first = lay.first / PAGE_WORDS;
     let last = (lay.end - 1) / PAGE_WORDS;
-    u32::from(is_page_broken(new, lay, first))
-        + u32::from(first < last && is_page_broken(new, lay, last))
+    let at_first = u32::from(is_page_broken(new, lay, first));
+    if first == last {
+        return at_first;
+    }
+    at_first + u32::from(is_page_broken(new, lay, last))
 }
 
 /// How many of the lines that meet the range need a spill word after a change.
@@ -183,8 +193,11 @@ fn lines_crowded_at_edges<L: LeafForm, V: View>(new: &V, lay: &Laying) -> u32
 {
     let first = lay.first / LINE_WORDS;
     let last = (lay.end - 1) / LINE_WORDS;
-    u32::from(is_line_crowded::<L, V>(new, lay, first))
-        + u32::from(first < last && is_line_crowded::<L, V>(new, lay, last))
+    let at_first = u32::from(is_line_crowded::<L, V>(new, lay, first));
+    if first == last {
+        return at_first;
+    }
+    at_first + u32::from(is_line_crowded::<L, V>(new, lay, last))
 }
 
 /// Whether the range lies in one page, and that is broken. So many of the pages that meet the range are.
@@ -196,6 +209,7 @@ fn is_one_broken(lay: &Laying, broken: u32) -> bool
 }
 
 /// What all maps need after a permission is laid over a range of the domain with a root table, where `need` is what they need before.
+#[tactic(none)]
 fn need_laid<L: LeafForm>(
     upper: &Pool<1024>,
     leaf: &Pool<64>,
@@ -250,6 +264,7 @@ fn need_laid<L: LeafForm>(
 }
 
 /// What all maps need after a lawful change, where `need` is what they need before.
+#[tactic(none)]
 pub(crate) fn need_after<L: LeafForm>(
     upper: &Pool<1024>,
     leaf: &Pool<64>,

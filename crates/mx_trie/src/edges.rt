@@ -1,7 +1,6 @@
 //! Pages and regions after a change of a range: whether they are eighth-uniform is told at the range's edges first, and only then by all
 //! words.
-ghost use Rattle.std.specs.Prelude.{◌≡◌, ℕ, ◌+◌, ◌-◌, ◌/◌, ◌<◌, ◌≤◌, true, not};
-ghost use Rattle.mx_words.specs.Counting.{count_below};
+ghost use Rattle.std.specs.Prelude.{◌≡◌, ◌/◌, ◌<◌, true, not};
 ghost use Rattle.mx_words.specs.Runs.{page_words, region_words};
 ghost use Rattle.mx_words.specs.Blocks.{is_broken};
 ghost use Rattle.mx_trie.specs.Walk.{most_regions, most_pages};
@@ -63,43 +62,4 @@ pub(crate) fn is_region_even_after<V: View>(
         return false;
     }
     is_region_even(view, region)
-}
-
-/// How many of the regions `from` to `to - 1` aren't eighth-uniform by a map that has changed on the words `first` to `end - 1`. `odd` says
-/// that the page of the word `first` is known not to be eighth-uniform.
-pub(crate) fn regions_broken_after<V: View>(
-    view: &V,
-    first: u32,
-    end: u32,
-    odd: bool,
-    from: u32,
-    to: u32,
-) -> u32
-    requires lawful { V.lawful view.now }
-    requires odd { odd ≡ true → is_broken page_words (V.map view.now) (first / 1024) ≡ true }
-    requires from { from ≤ to }
-    requires to { to ≤ most_regions }
-    ensures count { result ≡ count_below (to - from) (λ i. is_broken region_words (V.map view.now) (from + i)) }
-    ensures most { result ≤ to - from }
-{
-    let mut count = 0;
-    for region in from..to {
-        count += u32::from(!is_region_even_after(view, first, end, odd, region));
-    }
-    count
-}
-
-/// How many of the pages `from` to `to - 1` aren't eighth-uniform by a map that has changed on the words `first` to `end - 1`.
-pub(crate) fn pages_broken_after<V: View>(view: &V, first: u32, end: u32, from: u32, to: u32) -> u32
-    requires lawful { V.lawful view.now }
-    requires from { from ≤ to }
-    requires to { to ≤ most_pages }
-    ensures count { result ≡ count_below (to - from) (λ i. is_broken page_words (V.map view.now) (from + i)) }
-    ensures most { result ≤ to - from }
-{
-    let mut count = 0;
-    for page in from..to {
-        count += u32::from(!is_page_even_after(view, first, end, page));
-    }
-    count
 }
