@@ -22,7 +22,8 @@ use Rattle.mx_trie.proofs.PageLines.{word-kept, line-kept}
 use Rattle.mx_trie.proofs.PageTables.{even-of, vector-closed}
 use Rattle.mx_trie.proofs.FlatLaws.{flat-needs, even-line, region-page-even}
 use Rattle.mx_trie.proofs.EvenTables.{whole-by}
-use Rattle.mx_trie.proofs.FrameLaws.{page-owned, page-table, page-shown, region-owned, region-table, region-shown, domain-owned, domain-table, domain-shown}
+use Rattle.mx_trie.proofs.RegionFrames.{page-owns-same, page-table-kept, page-kept, region-owns-same, region-table-kept, region-kept}
+use Rattle.mx_trie.proofs.DomainFrames.{domain-owns-same, domain-table-kept, domain-kept}
 use Rattle.mx_trie.proofs.BuiltTables.{IsSteady, own-taken, own-free, leaf-written, upper-written, built-none, are-node, built-more, table-built, vector-built}
 
 -- how many frames are taken
@@ -114,23 +115,23 @@ module _ (kind : Kind) (k : IsTrieKind kind) where
 
   pub pages-steady : (m : List Perm) → IsSteady (PagesOwning kind) (PageStands kind m)
   pages-steady m s s' y e page kept = (
-    page-owned kind k s.upper s.leaf s.spill s'.upper s'.leaf s'.spill e kept,
-    (page-table kind k s.upper s.leaf s.spill s'.upper s'.leaf s'.spill e kept page.0,
-    page-shown kind k s.upper s.leaf s.spill s'.upper s'.leaf s'.spill e kept m y page.1),
+    page-owns-same kind s.upper s.leaf s.spill s'.upper s'.leaf s'.spill e kept,
+    (page-table-kept kind s.upper s.leaf s.spill s'.upper s'.leaf s'.spill e kept page.0,
+    page-kept kind s.upper s.leaf s.spill s'.upper s'.leaf s'.spill e kept k m y page.1),
   )
 
   pub regions-steady : (m : List Perm) → IsSteady (RegionsOwning kind) (RegionStands kind m)
   regions-steady m s s' x e region kept = (
-    region-owned kind k s.upper s.leaf s.spill s'.upper s'.leaf s'.spill e kept,
-    (region-table kind k s.upper s.leaf s.spill s'.upper s'.leaf s'.spill e kept region.0,
-    region-shown kind k s.upper s.leaf s.spill s'.upper s'.leaf s'.spill e kept m x region.1),
+    region-owns-same kind s.upper s.leaf s.spill s'.upper s'.leaf s'.spill e kept,
+    (region-table-kept kind s.upper s.leaf s.spill s'.upper s'.leaf s'.spill e kept region.0,
+    region-kept kind s.upper s.leaf s.spill s'.upper s'.leaf s'.spill e kept k m x region.1),
   )
 
   pub domains-steady : (maps : ℕ → List Perm) → IsSteady (DomainsOwning kind) (DomainStands kind maps)
   domains-steady maps s s' d root domain kept = (
-    domain-owned kind k s.upper s.leaf s.spill s'.upper s'.leaf s'.spill root kept,
-    (domain-table kind k s.upper s.leaf s.spill s'.upper s'.leaf s'.spill root kept domain.0,
-    domain-shown kind k s.upper s.leaf s.spill s'.upper s'.leaf s'.spill root kept (maps d) domain.1),
+    domain-owns-same kind s.upper s.leaf s.spill s'.upper s'.leaf s'.spill root kept,
+    (domain-table-kept kind s.upper s.leaf s.spill s'.upper s'.leaf s'.spill root kept domain.0,
+    domain-kept kind s.upper s.leaf s.spill s'.upper s'.leaf s'.spill root kept k (maps d) domain.1),
   )
 
 -- the lines of a page

@@ -43,7 +43,7 @@ pub mod RegionFrames
 pub mod BlockChanges
 pub mod RegionPages
 -- the frame law of each level, and tables that are built
-pub mod FrameLaws
+pub mod DomainFrames
 pub mod BuiltTables
 pub mod BuiltBlocks
 -- views
