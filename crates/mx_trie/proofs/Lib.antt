@@ -58,3 +58,4 @@ pub mod MapsRead
 pub mod TableSpans
 pub mod Counted
 pub mod EdgeLaws
+pub mod ShownCounts
