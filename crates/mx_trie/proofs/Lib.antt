@@ -44,6 +44,10 @@ pub mod BlockChanges
 pub mod RegionPages
 pub mod RegionTables
 pub mod RegionChanges
+-- the frame law of each level, and tables that are built
+pub mod DomainFrames
+pub mod BuiltTables
+pub mod BuiltBlocks
 -- views
 pub mod FoundItems
 pub mod RowSpans
@@ -59,3 +63,4 @@ pub mod Counted
 pub mod EdgeLaws
 -- the trait
 pub mod StandingLaws
+pub mod ShownCounts
