@@ -38,3 +38,5 @@ pub mod PageChanges
 pub mod RegionPages
 pub mod Counted
 pub mod EdgeLaws
+pub mod DomainPages
+pub mod SpillCounts

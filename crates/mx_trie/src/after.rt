@@ -74,7 +74,7 @@ fn pages_opened(upper: &Pool<1024>, root: u32, from: u32, to: u32) -> u32
 }
 
 /// How many of the lines of a page that meet the range have spill words. The page has a leaf table.
-#[tactic(none)]
+#[tactic(auto, using(crate::proofs::Counted::counted_none, crate::proofs::Counted::counted_more))]
 fn lines_spilled<L: LeafForm>(leaf: &Pool<64>, frame: u32, page: u32, lay: &Laying) -> u32
     requires page { page < most_pages }
     requires meets { page * 1024 < lay.now.end }
@@ -94,8 +94,26 @@ fn lines_spilled<L: LeafForm>(leaf: &Pool<64>, frame: u32, page: u32, lay: &Layi
     count
 }
 
+/// How many of the lines of a page that meet the range have spill words, where the page may have no leaf table.
+fn page_spilled<L: LeafForm>(upper: &Pool<1024>, leaf: &Pool<64>, root: u32, page: u32, lay: &Laying) -> u32
+    requires read { (spill : Frames) × IsRead L.kind lay.now.words upper.now leaf.now spill root }
+    requires page { page < most_pages }
+    requires meets { page * 1024 < lay.now.end }
+    requires from { lay.now.first < page * 1024 + 1024 }
+    ensures count { (spill : Frames) (m : List Perm) → IsDomain L.kind upper.now leaf.now spill m root →
+        result ≡ count_within (lay.now.first / 16) ((lay.now.end - 1) / 16 + 1) (page * 64) 64
+        (λ z. needs_spill L.kind (line_at m (z * 16))) }
+    ensures most { result ≤ 64 }
+{
+    if !has_table(upper, root, page) {
+        return 0;
+    }
+    let mid = root_entry(upper, root, page / REGION_PAGES) / 4;
+    let frame = upper.get(mid, page % REGION_PAGES) / 4;
+    lines_spilled::<L>(leaf, frame, page, lay)
+}
+
 /// How many of the lines that meet the range have spill words.
-#[tactic(none)]
 fn pages_spilled<L: LeafForm>(upper: &Pool<1024>, leaf: &Pool<64>, root: u32, lay: &Laying) -> u32
     requires read { (spill : Frames) × IsRead L.kind lay.now.words upper.now leaf.now spill root }
     ensures count { (spill : Frames) (m : List Perm) → IsDomain L.kind upper.now leaf.now spill m root →
@@ -105,11 +123,7 @@ fn pages_spilled<L: LeafForm>(upper: &Pool<1024>, leaf: &Pool<64>, root: u32, la
 {
     let mut count = 0;
     for page in lay.first / PAGE_WORDS..(lay.end - 1) / PAGE_WORDS + 1 {
-        if has_table(upper, root, page) {
-            let mid = root_entry(upper, root, page / REGION_PAGES) / 4;
-            let frame = upper.get(mid, page % REGION_PAGES) / 4;
-            count += lines_spilled::<L>(leaf, frame, page, lay);
-        }
+        count += page_spilled::<L>(upper, leaf, root, page, lay);
     }
     count
 }
