@@ -40,3 +40,5 @@ pub mod Counted
 pub mod EdgeLaws
 pub mod DomainPages
 pub mod SpillCounts
+pub mod NeedOfRange
+pub mod NeedOfChange
