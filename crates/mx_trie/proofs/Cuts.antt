@@ -20,38 +20,34 @@ end-within b s stop x fits = omega arith
 end-start : (b from stop x : ℕ) → b ≤ from → min 1 (min (x - from) (stop - x)) ≤ min 1 (min (x - b) (stop - x))
 end-start b from stop x le = omega arith
 
-module _ (lay : Laying) (y next : ℕ) (from : y * 64 ≤ next) (to : next < y * 64 + 64) where
-  line-fits : next * 16 + 16 ≤ y * 1024 + 1024
-  line-fits = omega arith
+both : (p q r s : ℕ) → p ≤ r → q ≤ s → p + q ≤ r + s
+both p q r s a b = omega arith
 
-  on : (next + 1) * 16 ≡ next * 16 + 16
-  on = omega arith
-
-  step : (x : ℕ) → cut 16 next x + cut_left 16 (next + 1) (y * 1024 + 1024) x ≤ cut_left 16 next (y * 1024 + 1024) x
-  step x =
-      let same : cut_left 16 (next + 1) (y * 1024 + 1024) x ≡ min 1 (min (x - (next * 16 + 16)) (y * 1024 + 1024 - x)) = ap (λ b. min 1 (min (x - b) (y * 1024 + 1024 - x))) on in
-      let h = end-step (next * 16) 16 (y * 1024 + 1024) x line-fits in
+-- the ends of a range in block `next`, and in the later ones before `stop`
+module _ (size next stop : ℕ) (lay : Laying) (fits : next * size + size ≤ stop) where
+  step : (next + 1) * size ≡ next * size + size → (x : ℕ) → cut size next x + cut_left size (next + 1) stop x ≤ cut_left size next stop x
+  step on x =
+      let same : cut_left size (next + 1) stop x ≡ min 1 (min (x - (next * size + size)) (stop - x)) = ap (λ b. min 1 (min (x - b) (stop - x))) on in
+      let h = end-step (next * size) size stop x fits in
       omega (arith, same, h)
 
-  pub line-cuts-step : cuts 16 next lay + cuts_left 16 (next + 1) (y * 1024 + 1024) lay ≤ cuts_left 16 next (y * 1024 + 1024) lay
-  line-cuts-step = let a = step lay.first in let b = step lay.end in sums _ _ _ _ _ _ a b
+  pub cuts-step : (next + 1) * size ≡ next * size + size → cuts size next lay + cuts_left size (next + 1) stop lay ≤ cuts_left size next stop lay
+  cuts-step on = let a = step on lay.first in let b = step on lay.end in sums _ _ _ _ _ _ a b
     where
       sums : (p q r s t u : ℕ) → p + q ≤ r → s + t ≤ u → p + s + (q + t) ≤ r + u
       sums p q r s t u a b = omega arith
 
-  pub line-cuts-within : cuts 16 next lay ≤ cuts_left 16 next (y * 1024 + 1024) lay
-  line-cuts-within = let a = end-within (next * 16) 16 (y * 1024 + 1024) lay.first line-fits in let b = end-within (next * 16) 16 (y * 1024 + 1024) lay.end line-fits in both _ _ _ _ a b
-    where
-      both : (p q r s : ℕ) → p ≤ r → q ≤ s → p + q ≤ r + s
-      both p q r s a b = omega arith
+  pub cuts-within : cuts size next lay ≤ cuts_left size next stop lay
+  cuts-within = both _ _ _ _ (end-within (next * size) size stop lay.first fits) (end-within (next * size) size stop lay.end fits)
 
-pub line-cuts-start : (lay : Laying) (y next : ℕ) → y * 64 ≤ next → cuts_left 16 next (y * 1024 + 1024) lay ≤ cuts 1024 y lay
-line-cuts-start lay y next from =
-    let b : y * 1024 ≤ next * 16 = omega arith in
-    both _ _ _ _ (end-start (y * 1024) (next * 16) (y * 1024 + 1024) lay.first b) (end-start (y * 1024) (next * 16) (y * 1024 + 1024) lay.end b)
-  where
-    both : (p q r s : ℕ) → p ≤ r → q ≤ s → p + q ≤ r + s
-    both p q r s a b = omega arith
+-- the ends from block `next` on before the end of a greater block
+pub cuts-start : (size next big y : ℕ) (lay : Laying) → y * big ≤ next * size → cuts_left size next (y * big + big) lay ≤ cuts big y lay
+cuts-start size next big y lay b =
+    both _ _ _ _ (end-start (y * big) (next * size) (y * big + big) lay.first b) (end-start (y * big) (next * size) (y * big + big) lay.end b)
+
+-- there are two ends
+pub cuts-two : (size next stop : ℕ) (lay : Laying) → cuts_left size next stop lay ≤ 2
+cuts-two size next stop lay = omega arith
 
 -- frames: what is counted so far, and what is still to come
 pub room-more : (free free' free'' all left left' used : ℕ) → free + left ≤ free' + all → free' ≤ free'' + used → used + left' ≤ left → free + left' ≤ free'' + all

@@ -1,6 +1,7 @@
 -- Lines and pages of one permission, as the parts of a page and of a region that have a vector.
 use Rattle.std.proofs.Common.{◌≡◌, ℕ, ◌+◌, ◌*◌, ◌/◌, ◌%◌, ◌<◌, Bool, false, List, replicate, Option, Some, None, unwrap_or, if◌then◌else◌, refl, sym, ap, ◌∙◌, arith, subst}
 use Rattle.std.proofs.Math.Nat.{mul_comm}
+use Rattle.std.proofs.lemmas.Bool.{ne_eqb}
 use Rattle.std.proofs.lemmas.List.{ext_get_or, get_or-replicate}
 use Rattle.std.proofs.lemmas.List.FromFn.{get_or-map-range_with_len, length-map-range_with_len}
 use Rattle.mx_words.specs.declared.perm.Perm.{Perm}
@@ -15,7 +16,7 @@ use Rattle.mx_words.proofs.BlockLaws.{uniform-even}
 use Rattle.mx_trie.specs.Digits.{digit, numbered}
 use Rattle.mx_trie.specs.Filled.{flat_line, flat_vector}
 use Rattle.mx_trie.specs.Leaf.{IsTrieKind, needs_spill, leaf_entry, spill_number}
-use Rattle.mx_trie.specs.Walk.{Frames, vector_perm, line_number, map_left, map_right}
+use Rattle.mx_trie.specs.Walk.{Frames, is_pointer, vector_perm, line_number, map_left, map_right}
 use Rattle.mx_trie.specs.Shown.{IsLine}
 use Rattle.mx_trie.specs.Found.{IsVector}
 use Rattle.mx_words.proofs.NumberLaws.{from_number-number}
@@ -86,15 +87,22 @@ page-part m y part entry below even entry_is =
     ∙ from_number-number (perm_at m (y * 1024 + part * 128 + 0))
     ∙ ap (perm_at m) place
 
--- the vector of a page of one permission
-pub uniform-eighths : (m : List Perm) (first : ℕ) (p : Perm) → ((e : ℕ) → e < 8 → perm_at m (first + 128 * e) ≡ p) → eighths page_words m first ≡ replicate 8 p
-uniform-eighths m first p alike =
-    ext_get_or P.None (eighths page_words m first) (replicate 8 p) (length-map-range_with_len (λ e. perm_at m (first + 1024 / 8 * e)) 0 8)
+-- the vector of a block of one permission
+pub eighths-alike : (size : ℕ) (m : List Perm) (first : ℕ) (p : Perm) → ((e : ℕ) → e < 8 → perm_at m (first + size / 8 * e) ≡ p) → eighths size m first ≡ replicate 8 p
+eighths-alike size m first p alike =
+    ext_get_or P.None (eighths size m first) (replicate 8 p) (length-map-range_with_len (λ e. perm_at m (first + size / 8 * e)) 0 8)
     (λ e below.
-    let inside : e < 8 = omega (arith, length-map-range_with_len (λ e. perm_at m (first + 1024 / 8 * e)) 0 8) in
-    get_or-map-range_with_len (λ j. perm_at m (first + 1024 / 8 * j)) 0 8 e e P.None inside (omega arith)
+    let inside : e < 8 = omega (arith, length-map-range_with_len (λ e. perm_at m (first + size / 8 * e)) 0 8) in
+    get_or-map-range_with_len (λ j. perm_at m (first + size / 8 * j)) 0 8 e e P.None inside (omega arith)
     ∙ alike e inside
     ∙ sym (get_or-replicate 8 e p P.None inside))
+
+pub uniform-eighths : (m : List Perm) (first : ℕ) (p : Perm) → ((e : ℕ) → e < 8 → perm_at m (first + 128 * e) ≡ p) → eighths page_words m first ≡ replicate 8 p
+uniform-eighths m first p alike = eighths-alike 1024 m first p alike
+
+-- it is no pointer
+pub flat-closed : (n : ℕ) → is_pointer (flat_vector n) ≡ false
+flat-closed n = ne_eqb (flat_vector n % 4) 0 (λ h. omega arith)
 
 pub packed-flat : (p : Perm) (n : ℕ) → n ≡ number p → flat_vector n ≡ 1 + 4 * packed (replicate 8 p)
 packed-flat p n is = omega arith

@@ -35,7 +35,23 @@ pub mod PageTables
 pub mod PageFrees
 pub mod EvenLines
 pub mod PageChanges
+-- regions
+pub mod WideBlocks
+pub mod NodeLaws
+pub mod EntryPuts
+pub mod RegionFrames
+pub mod BlockChanges
 pub mod RegionPages
+-- views
+pub mod FoundItems
+pub mod RowSpans
+pub mod LaidSpans
+-- what is read
+pub mod ReadLines
+pub mod VectorWords
+pub mod WalkWords
+pub mod MapsRead
+pub mod TableSpans
 pub mod Counted
 pub mod EdgeLaws
 pub mod DomainPages

@@ -28,63 +28,23 @@ use Rattle.mx_trie.specs.Laying.{laid_by, cuts, IsBeside}
 use Rattle.mx_trie.specs.Changed.{AreLinesChanged, IsPageChanged}
 use Rattle.mx_trie.specs.Steps.{IsPageOpened, IsPageClosed, IsPageFreed}
 use Rattle.mx_trie.proofs.HeapLaws.{move-then, move-none}
-use Rattle.mx_trie.proofs.EvenTables.{uniform-from}
-use Rattle.mx_trie.proofs.FlatLaws.{uniform-eighths, packed-flat}
+use Rattle.mx_trie.proofs.FlatLaws.{flat-closed}
+use Rattle.mx_trie.proofs.BlockChanges.{cover-whole, cover-vector, apart-broken, apart-vector}
 use Rattle.mx_trie.proofs.LineBeside.{few-known}
 use Rattle.mx_trie.proofs.RangeLaws.{with_range-below, with_range-in, with_range-behind, length-with_range}
 
-flat-closed : (n : ℕ) → is_pointer (flat_vector n) ≡ false
-flat-closed n = ne_eqb (flat_vector n % 4) 0 (λ h. omega arith)
-
 -- no spill words hang below a vector
-closed-spills : (kind : Kind) (leaf : Frames) (e : ℕ) → is_pointer e ≡ false → page_spills kind leaf e ≡ 0
+pub closed-spills : (kind : Kind) (leaf : Frames) (e : ℕ) → is_pointer e ≡ false → page_spills kind leaf e ≡ 0
 closed-spills kind leaf e closed = ap (λ (b : Bool). if b then line_spills kind leaf (target e) else 0) closed
 
-module _ (kind : Kind) (m : List Perm) (lay : Laying) (b : Beside) (known : IsBeside kind m lay b) (y : ℕ) where
-  fits : lay.end ≤ length m
-  fits = let h = lay.inside in let long = known.long in omega arith
-
-  -- a page of which all words lie in the range
-  module _ (from : lay.first ≤ y * 1024) (to : y * 1024 + 1024 ≤ lay.end) where
-    word : (k : ℕ) → k < 1024 → perm_at (laid_by lay m) (y * 1024 + k) ≡ lay.perm
-    word k below = with_range-in lay.first lay.end lay.perm m (y * 1024 + k) fits (omega arith) (omega arith)
-
-    cover-whole : is_broken page_words (laid_by lay m) y ≡ false
-    cover-whole = whole-even 1024 128 (laid_by lay m) y refl refl (omega arith) (uniform-from (laid_by lay m) (y * 1024) 1024 lay.perm (omega arith) word)
-
-    cover-vector : flat_vector (number lay.perm) ≡ vector page_words (laid_by lay m) (y * page_words)
-    cover-vector =
-        packed-flat lay.perm (number lay.perm) refl
-        ∙ ap (λ (ps : List Perm). 1 + 4 * packed ps) (sym (uniform-eighths (laid_by lay m) (y * 1024) lay.perm (λ e below. word (128 * e) (omega arith))))
-
-    pub cover-page : (leaf spill : Frames) → IsPage kind leaf spill (laid_by lay m) y (flat_vector (number lay.perm))
-    cover-page leaf spill = record {
-      broken = flat-closed (number lay.perm) ∙ sym cover-whole;
-      vector_is = λ h. cover-vector;
-      lines = λ pointer. absurd (let h = sym pointer ∙ flat-closed (number lay.perm) in cc);
-    }
-
-  -- a page beside the range is as it was
-  module _ (apart : IsApart lay.first lay.end (y * 1024) (y * 1024 + 1024)) where
-    same : (k : ℕ) → k < 1024 → perm_at (laid_by lay m) (y * 1024 + k) ≡ perm_at m (y * 1024 + k)
-    same k below = elim apart [
-      | inl h ↦ with_range-below lay.first lay.end lay.perm m (y * 1024 + k) (omega arith)
-      | inr h ↦ (let some = lay.some in with_range-behind lay.first lay.end lay.perm m (y * 1024 + k) (omega arith) (omega arith))
-    ]
-
-    pub apart-broken : is_broken page_words (laid_by lay m) y ≡ is_broken page_words m y
-    apart-broken = is_broken-same page_words (laid_by lay m) m y (length-with_range lay.first lay.end lay.perm m) same
-
-    pub apart-vector : vector page_words (laid_by lay m) (y * page_words) ≡ vector page_words m (y * page_words)
-    apart-vector =
-        ap (λ (ps : List Perm). 1 + 4 * packed ps)
-        (ext_get_or P.None (eighths page_words (laid_by lay m) (y * 1024)) (eighths page_words m (y * 1024))
-        (length-map-range_with_len (λ e. perm_at (laid_by lay m) (y * 1024 + 1024 / 8 * e)) 0 8 ∙ sym (length-map-range_with_len (λ e. perm_at m (y * 1024 + 1024 / 8 * e)) 0 8))
-        (λ e below.
-        let inside : e < 8 = omega (arith, length-map-range_with_len (λ e. perm_at (laid_by lay m) (y * 1024 + 1024 / 8 * e)) 0 8) in
-        get_or-map-range_with_len (λ j. perm_at (laid_by lay m) (y * 1024 + 1024 / 8 * j)) 0 8 e e P.None inside (omega arith)
-        ∙ same (1024 / 8 * e) (omega arith)
-        ∙ sym (get_or-map-range_with_len (λ j. perm_at m (y * 1024 + 1024 / 8 * j)) 0 8 e e P.None inside (omega arith))))
+-- a page of which all words lie in the range
+pub cover-page : (kind : Kind) (m : List Perm) (lay : Laying) (b : Beside) → IsBeside kind m lay b → (y : ℕ) → lay.first ≤ y * 1024 → y * 1024 + 1024 ≤ lay.end → (leaf spill : Frames) →
+    IsPage kind leaf spill (laid_by lay m) y (flat_vector (number lay.perm))
+cover-page kind m lay b known y from to leaf spill = record {
+  broken = flat-closed (number lay.perm) ∙ sym (cover-whole kind m lay b known 1024 128 y refl refl (omega arith) from to);
+  vector_is = λ h. cover-vector kind m lay b known 1024 128 y refl refl (omega arith) from to;
+  lines = λ pointer. absurd (let h = sym pointer ∙ flat-closed (number lay.perm) in cc);
+}
 
 module _ (kind : Kind) (leaf spill : Frames) (lay : Laying) (b : Beside) (y e : ℕ) where
   -- the range covers the page
@@ -145,7 +105,7 @@ module _ (kind : Kind) (leaf spill : Frames) (lay : Laying) (b : Beside) (y e : 
           none = λ a g there not own. lines.move.none a g there (λ was. not (pointer, was)) own.1;
         };
         shown = λ m known page. record {
-          broken = page.broken ∙ sym (apart-broken kind m lay b known y apart);
+          broken = page.broken ∙ sym (apart-broken lay m 1024 y apart);
           vector_is = λ closed. absurd (let h = sym pointer ∙ closed in cc);
           lines = λ h. lines.shown m known (page.lines pointer);
         };
@@ -162,8 +122,8 @@ module _ (kind : Kind) (leaf spill : Frames) (lay : Laying) (b : Beside) (y e : 
     table = λ pointer. absurd (let h = sym pointer ∙ closed in cc);
     move = move-none (heap [] leaf spill) (PageOwns kind leaf e) (PageOwns kind leaf e) (λ a g own. own);
     shown = λ m known page. record {
-      broken = page.broken ∙ sym (apart-broken kind m lay b known y apart);
-      vector_is = λ h. page.vector_is closed ∙ sym (apart-vector kind m lay b known y apart);
+      broken = page.broken ∙ sym (apart-broken lay m 1024 y apart);
+      vector_is = λ h. page.vector_is closed ∙ sym (apart-vector lay m 1024 128 y apart refl refl (omega arith));
       lines = λ pointer. absurd (let h = sym pointer ∙ closed in cc);
     };
     leaf_count = refl;

@@ -24,7 +24,7 @@ use Rattle.mx_trie.proofs.HeapLaws.{move-then, move-none, node-put, node-move}
 use Rattle.mx_trie.proofs.Stored.{line-named}
 use Rattle.mx_trie.proofs.LineReaches.{left-before, right-behind, left-far, right-far}
 use Rattle.mx_trie.proofs.LineCuts.{apart-perms}
-use Rattle.mx_trie.proofs.Cuts.{line-cuts-step, line-cuts-start, room-more, room-start, room-end}
+use Rattle.mx_trie.proofs.Cuts.{cuts-step, cuts-start, room-more, room-start, room-end}
 
 -- a frame that holds what it held
 pub word-kept : (frames frames' : Frames) (f place : ℕ) → frame_at frames' f ≡ frame_at frames f → word_at frames' f place ≡ word_at frames f place
@@ -154,7 +154,7 @@ module _ (kind : Kind) (k : IsTrieKind kind) (leaf spill leaf' spill' leaf'' spi
     leaf_total = written.total ∙ way.leaf_total;
     spill_count = (let a = place-spills kind leaf' spill' leaf'' spill'' frame (next % 64) e' within way.table written line.move line.taken line.count in a ∙ way.spill_count);
     spill_room = room-more (free_in spill) (free_in spill') (free_in spill'') (cuts 1024 y lay) (cuts_left 16 next (y * 1024 + 1024) lay) (cuts_left 16 (next + 1) (y * 1024 + 1024) lay) (cuts 16 next lay)
-        way.spill_room line.room (line-cuts-step lay y next from to);
+        way.spill_room line.room (cuts-step 16 next (y * 1024 + 1024) lay (omega arith) (omega arith));
     spill_total = line.total ∙ way.spill_total;
   }
 
@@ -183,7 +183,7 @@ module _ (kind : Kind) (k : IsTrieKind kind) (leaf spill : Frames) (lay : Laying
     leaf_count = refl;
     leaf_total = refl;
     spill_count = refl;
-    spill_room = room-start (free_in spill) (cuts 1024 y lay) (cuts_left 16 next (y * 1024 + 1024) lay) (line-cuts-start lay y next from);
+    spill_room = room-start (free_in spill) (cuts 1024 y lay) (cuts_left 16 next (y * 1024 + 1024) lay) (cuts-start 16 next 1024 y lay (omega arith));
     spill_total = refl;
   }
 

@@ -1,40 +1,32 @@
 -- What spans round words tell of a map: which words are alike, and how far they reach.
-use Rattle.std.proofs.Common.{◌≡◌, ◌≢◌, ℕ, zero, suc, ◌+◌, ◌-◌, ◌<◌, ◌≤◌, ◌⊎◌, inl, inr, Bool, true, false, min, List, length, take, drop, sym, ap, ◌∙◌, arith}
-use Rattle.std.specs.List.{prefix_len, suffix_len}
-use Rattle.std.proofs.lemmas.Bool.{cases_lt, ne_eqb}
-use Rattle.std.proofs.lemmas.List.Sums.{suffix_len-take_yes, suffix_len-take_no, prefix_len-drop_yes, prefix_len-drop_no, prefix_len-drop_all}
+use Rattle.std.proofs.Common.{◌≡◌, ◌≢◌, ℕ, ◌+◌, ◌-◌, ◌*◌, ◌/◌, ◌<◌, ◌≤◌, ◌⊎◌, inl, inr, min, Bool, true, false, not, List, length, refl, sym, ap, ◌∙◌, arith}
+use Rattle.std.proofs.lemmas.Bool.{cases_lt}
 use Rattle.mx_words.specs.declared.perm.Perm.{Perm}
-use Rattle.mx_words.specs.declared.perm.Perm.TheVariants as P
 use Rattle.mx_words.specs.declared.perm.Span.{Span}
-use Rattle.mx_words.specs.Rights.{number, same, perm_at}
-use Rattle.mx_words.specs.Runs.{line_words}
-use Rattle.mx_words.specs.Reach.{left_reach, right_reach}
-use Rattle.mx_words.specs.Blocks.{IsUniform}
-use Rattle.mx_words.proofs.RunLaws.{same_from}
-use Rattle.mx_trie.specs.Views.{IsRound}
+use Rattle.mx_words.specs.Rights.{number, perm_at}
+use Rattle.mx_words.specs.Runs.{is_eighth_uniform}
+use Rattle.mx_words.specs.Blocks.{block_of, is_broken, IsUniform, IsEven}
+use Rattle.mx_words.proofs.BlockLaws.{even_from, even_is}
 use Rattle.mx_words.proofs.NumberLaws.{number-one_to_one}
+use Rattle.mx_trie.specs.Laying.{back, ahead}
+use Rattle.mx_trie.specs.Views.{IsRound}
+use Rattle.mx_trie.proofs.Backs.{back-is, ahead-is}
 
 -- the words from `from` up to `to` have one permission
 pub record IsAlike (m : List Perm) (from to : ℕ) (p : Perm) : Type 0 where
   pub alike : (k : ℕ) → from ≤ k → k < to → perm_at m k ≡ p
 
--- permissions of different numbers
-pub same-other : (p q : Perm) → number q ≢ number p → same p q ≡ false
-same-other p q ne = ne_eqb (number p) (number q) (λ e. ne (sym e))
+-- no words
+pub alike-none : (m : List Perm) (at : ℕ) (p : Perm) → IsAlike m at at p
+alike-none m at p = record { alike = λ k le lt. absurd (omega arith) }
 
 -- a span round a word has the word's permission
 pub round-perm : (m : List Perm) (word : ℕ) (s : Span) → IsRound m word s → perm_at m word ≡ s.perm
 round-perm m word s r = r.alike word r.from r.to
 
--- the words of a span round a word, from the word on, up to the word, and behind the word
+-- the words of a span round a word, from the word on
 pub alike-from : (m : List Perm) (word : ℕ) (s : Span) → IsRound m word s → IsAlike m word (s.first + s.count) s.perm
 alike-from m word s r = let from = r.from in record { alike = λ k le lt. r.alike k (omega arith) lt }
-
-pub alike-to : (m : List Perm) (word : ℕ) (s : Span) → IsRound m word s → IsAlike m s.first word s.perm
-alike-to m word s r = let to = r.to in record { alike = λ k le lt. r.alike k le (omega arith) }
-
-pub alike-behind : (m : List Perm) (word behind : ℕ) (s : Span) → word ≤ behind → IsRound m word s → IsAlike m behind (s.first + s.count) s.perm
-alike-behind m word behind s above r = let from = r.from in record { alike = λ k le lt. r.alike k (omega arith) lt }
 
 -- a span round the word behind
 pub alike-on : (m : List Perm) (from to : ℕ) (p : Perm) (s : Span) → IsAlike m from to p → IsRound m to s → number s.perm ≡ number p →
@@ -69,83 +61,43 @@ uniform-same m first count at s t u le lt r q =
     let e : perm_at m at ≡ perm_at m first = ap (perm_at m) (sym there) ∙ u.alike (at - first) (omega arith) in
     ap number (sym (round-perm m at t q) ∙ e ∙ round-perm m first s r)
 
--- n words right before a word that pass a test
-suffix-more : (test : Perm → Bool) (m : List Perm) (n i : ℕ) → n ≤ i → i ≤ length m → ((j : ℕ) → i ≤ j + n → j < i → test (perm_at m j) ≡ true) →
-    suffix_len test (take i m) ≡ n + suffix_len test (take (i - n) m)
-suffix-more test m zero i within inside passes = let e : i ≡ i - 0 = omega arith in let f : suffix_len test (take i m) ≡ suffix_len test (take (i - 0) m) = ap (λ x. suffix_len test (take x m)) e in omega arith
-suffix-more test m (suc n) i within inside passes =
-    let here : suffix_len test (take i m) ≡ 1 + suffix_len test (take (i - 1) m) = suffix_len-take_yes test m i P.None (omega arith) inside (passes (i - 1) (omega arith) (omega arith)) in
-    let rest : suffix_len test (take (i - 1) m) ≡ n + suffix_len test (take (i - 1 - n) m) = suffix-more test m n (i - 1) (omega arith) (omega arith) (λ j least below. passes j (omega arith) (omega arith)) in
-    let at : i - 1 - n ≡ i - suc n = omega arith in
-    let same_rest : suffix_len test (take (i - 1 - n) m) ≡ suffix_len test (take (i - suc n) m) = ap (λ x. suffix_len test (take x m)) at in
-    omega arith
+-- how many words beside a place have a permission: up to a span of another one, or as far as one looks
+module _ (most : ℕ) (p : Perm) (m : List Perm) (at : ℕ) where
+  other : (i j : ℕ) (s : Span) → IsRound m i s → number s.perm ≢ number p → j ≡ i → perm_at m j ≢ p
+  other i j s r ne same e = ne (ap number (sym (round-perm m i s r) ∙ ap (perm_at m) (sym same) ∙ e))
 
--- n words from a word on that pass a test
-prefix-more : (test : Perm → Bool) (m : List Perm) (n i : ℕ) → i + n ≤ length m → ((j : ℕ) → i ≤ j → j < i + n → test (perm_at m j) ≡ true) →
-    prefix_len test (drop i m) ≡ n + prefix_len test (drop (i + n) m)
-prefix-more test m zero i within passes = let e : i ≡ i + 0 = omega arith in let f : prefix_len test (drop i m) ≡ prefix_len test (drop (i + 0) m) = ap (λ x. prefix_len test (drop x m)) e in omega arith
-prefix-more test m (suc n) i within passes =
-    let here : prefix_len test (drop i m) ≡ 1 + prefix_len test (drop (i + 1) m) = prefix_len-drop_yes test m i P.None (omega arith) (passes i (omega arith) (omega arith)) in
-    let rest : prefix_len test (drop (i + 1) m) ≡ n + prefix_len test (drop (i + 1 + n) m) = prefix-more test m n (i + 1) (omega arith) (λ j least below. passes j (omega arith) (omega arith)) in
-    let at : i + 1 + n ≡ i + suc n = omega arith in
-    let same_rest : prefix_len test (drop (i + 1 + n) m) ≡ prefix_len test (drop (i + suc n) m) = ap (λ x. prefix_len test (drop x m)) at in
-    omega arith
+  module _ (begin : ℕ) (before : begin ≤ at) (inside : at ≤ length m) (a : IsAlike m begin at p) where
+    pub back-ended : (s : Span) → 0 < begin → at - begin < most → IsRound m (begin - 1) s → number s.perm ≢ number p → at - begin ≡ back most p m at
+    back-ended s some few r ne =
+        back-is most p m at (at - begin) inside
+        (record { few = omega arith; within = omega arith; alike = λ k far lt. a.alike k (omega arith) lt; stop = λ x y. other (begin - 1) (at - 1 - (at - begin)) s r ne (omega arith) })
 
--- the words right before a line that are like its first word
-module _ (m : List Perm) (line begin : ℕ) (p : Perm) (before : begin ≤ line) (inside : line < length m) (first : perm_at m line ≡ p) (a : IsAlike m begin line p) where
-  left-more : suffix_len (same (perm_at m line)) (take line m) ≡ (line - begin) + suffix_len (same (perm_at m line)) (take begin m)
-  left-more =
-      let at : line - (line - begin) ≡ begin = omega arith in
-      suffix-more (same (perm_at m line)) m (line - begin) line (omega arith) (omega arith)
-      (λ j least below. same_from (perm_at m line) (perm_at m j) (first ∙ sym (a.alike j (omega arith) below)))
-      ∙ ap (λ x. (line - begin) + suffix_len (same (perm_at m line)) (take x m)) at
+    pub back-far : (begin ≡ 0) ⊎ (most ≤ at - begin) → min (at - begin) most ≡ back most p m at
+    back-far why =
+        let stop : min (at - begin) most < most → min (at - begin) most < at → ⊥ = elim why [ inl h ↦ λ x y. omega arith | inr h ↦ λ x y. omega arith ] in
+        back-is most p m at (min (at - begin) most) inside
+        (record { few = omega arith; within = omega arith; alike = λ k far lt. a.alike k (omega arith) lt; stop = λ x y. absurd (stop x y) })
 
-  pub left-ended : (s : Span) → 0 < begin → line - begin < 31 → IsRound m (begin - 1) s → number s.perm ≢ number p → line - begin ≡ left_reach m line
-  left-ended s some few r ne =
-      let other : same (perm_at m line) (perm_at m (begin - 1)) ≡ false =
-      ap (λ q. same q (perm_at m (begin - 1))) first ∙ ap (same p) (round-perm m (begin - 1) s r) ∙ same-other p s.perm ne in
-      let none : suffix_len (same (perm_at m line)) (take begin m) ≡ 0 = suffix_len-take_no (same (perm_at m line)) m begin P.None some (omega arith) other in
-      omega (arith, left-more)
+  module _ (end : ℕ) (behind : at ≤ end) (a : IsAlike m at end p) where
+    pub ahead-ended : (s : Span) → end < length m → end - at < most → IsRound m end s → number s.perm ≢ number p → end - at ≡ ahead most p m at
+    ahead-ended s inside few r ne =
+        ahead-is most p m at (end - at)
+        (record { few = omega arith; within = omega arith; alike = λ k le lt. a.alike k le (omega arith); stop = λ x y. other end (at + (end - at)) s r ne (omega arith) })
 
-  pub left-far : (begin ≡ 0) ⊎ (31 ≤ line - begin) → min 31 (line - begin) ≡ left_reach m line
-  left-far (inl e) =
-      let none : suffix_len (same (perm_at m line)) (take begin m) ≡ 0 = ap (λ x. suffix_len (same (perm_at m line)) (take x m)) e in
-      omega (arith, left-more)
-  left-far (inr h) = omega (arith, left-more)
+    pub ahead-far : (length m ≤ end) ⊎ (most ≤ end - at) → min (min end (length m) - at) most ≡ ahead most p m at
+    ahead-far why =
+        let stop : min (min end (length m) - at) most < most → at + min (min end (length m) - at) most < length m → ⊥ =
+        elim why [ inl h ↦ λ x y. omega arith | inr h ↦ λ x y. omega arith ] in
+        ahead-is most p m at (min (min end (length m) - at) most)
+        (record { few = omega arith; within = omega arith; alike = λ k le lt. a.alike k le (omega arith); stop = λ x y. absurd (stop x y) })
 
--- the words right behind a line that are like its last word
-module _ (m : List Perm) (line end : ℕ) (p : Perm) (last : perm_at m (line + line_words - 1) ≡ p) (a : IsAlike m (line + line_words) end p) where
-  right-more : (to : ℕ) → line + line_words ≤ to → to ≤ end → to ≤ length m →
-      prefix_len (same (perm_at m (line + line_words - 1))) (drop (line + line_words) m) ≡ (to - (line + line_words)) + prefix_len (same (perm_at m (line + line_words - 1))) (drop to m)
-  right-more to least within inside =
-      let at : line + line_words + (to - (line + line_words)) ≡ to = omega arith in
-      prefix-more (same (perm_at m (line + line_words - 1))) m (to - (line + line_words)) (line + line_words) (omega arith)
-      (λ j from below. same_from (perm_at m (line + line_words - 1)) (perm_at m j) (last ∙ sym (a.alike j from (omega arith))))
-      ∙ ap (λ x. (to - (line + line_words)) + prefix_len (same (perm_at m (line + line_words - 1))) (drop x m)) at
+-- whether a block is eighth-uniform, told by a test of its parts
+tests-agree : (a b : Bool) → (a ≡ true → b ≡ true) → (b ≡ true → a ≡ true) → a ≡ not (not b)
+tests-agree true b f g = ap (λ v. not (not v)) (sym (f refl))
+tests-agree false true f g = g refl
+tests-agree false false f g = refl
 
-  pub right-ended : (s : Span) → line + line_words ≤ end → end < length m → end - (line + line_words) < 31 → IsRound m end s → number s.perm ≢ number p →
-      end - (line + line_words) ≡ right_reach m line
-  right-ended s least inside few r ne =
-      let other : same (perm_at m (line + line_words - 1)) (perm_at m end) ≡ false =
-      ap (λ q. same q (perm_at m end)) last ∙ ap (same p) (round-perm m end s r) ∙ same-other p s.perm ne in
-      let none : prefix_len (same (perm_at m (line + line_words - 1))) (drop end m) ≡ 0 = prefix_len-drop_no (same (perm_at m (line + line_words - 1))) m end P.None inside other in
-      omega (arith, right-more end least (omega arith) (omega arith))
-
-  right-all : line + line_words ≤ end → length m ≤ end → min 31 (min end (length m) - (line + line_words)) ≡ right_reach m line
-  right-all least h = cases (cases_lt (line + line_words) (length m))
-    where
-      cases : (line + line_words < length m) ⊎ (length m ≤ line + line_words) → min 31 (min end (length m) - (line + line_words)) ≡ right_reach m line
-      cases (inl g) =
-          let none : prefix_len (same (perm_at m (line + line_words - 1))) (drop (length m) m) ≡ 0 = prefix_len-drop_all (same (perm_at m (line + line_words - 1))) m (length m) (omega arith) in
-          omega (arith, right-more (length m) (omega arith) h (omega arith))
-      cases (inr g) =
-          let none : prefix_len (same (perm_at m (line + line_words - 1))) (drop (line + line_words) m) ≡ 0 = prefix_len-drop_all (same (perm_at m (line + line_words - 1))) m (line + line_words) g in
-          omega arith
-
-  pub right-far : line + line_words ≤ end → (length m ≤ end) ⊎ (31 ≤ end - (line + line_words)) → min 31 (min end (length m) - (line + line_words)) ≡ right_reach m line
-  right-far least (inl h) = right-all least h
-  right-far least (inr h) = cases (cases_lt end (length m))
-    where
-      cases : (end < length m) ⊎ (length m ≤ end) → min 31 (min end (length m) - (line + line_words)) ≡ right_reach m line
-      cases (inl g) = omega (arith, right-more end least (omega arith) (omega arith))
-      cases (inr g) = right-all least g
+pub even-tells : (size part : ℕ) (m : List Perm) (b : ℕ) (told : Bool) → size / 8 ≡ part → size ≡ 8 * part → 0 < part →
+    (told ≡ true → IsEven m (b * size) part) → (IsEven m (b * size) part → told ≡ true) → told ≡ not (is_broken size m b)
+even-tells size part m b told is eight some from to =
+    tests-agree told (is_eighth_uniform size (block_of size m b)) (λ e. even_is size part m b is eight some (from e)) (λ e. to (even_from size part m b is eight some e))

@@ -1,15 +1,15 @@
 -- How far the loops of a change have come.
-use Rattle.std.specs.Prelude.{◌≡◌, ℕ, ◌+◌, ◌-◌, ◌*◌, ◌<◌, ◌≤◌, min, List, [], length}
+use Rattle.std.specs.Prelude.{◌≡◌, ℕ, ◌+◌, ◌-◌, ◌*◌, ◌<◌, ◌≤◌, min, false, List, [], length}
 use Rattle.mx_words.specs.declared.perm.Perm.{Perm}
 use Rattle.mx_words.specs.declared.tables.Kind.{Kind}
 use Rattle.mx_words.specs.Runs.{line_words, page_words, region_words}
 use Rattle.mx_pool.specs.Frames.{word_at, free_in}
 use Rattle.mx_trie.specs.declared.laying.Laying.{Laying}
 use Rattle.mx_trie.specs.declared.laying.Beside.{Beside}
-use Rattle.mx_trie.specs.Walk.{Frames}
+use Rattle.mx_trie.specs.Walk.{Frames, is_pointer}
 use Rattle.mx_trie.specs.Heap.{heap, IsMove}
-use Rattle.mx_trie.specs.Owned.{LeafOwns, IsLeafTable, line_spills}
-use Rattle.mx_trie.specs.Shown.{IsLine, AreLines}
+use Rattle.mx_trie.specs.Owned.{LeafOwns, MidOwns, IsLeafTable, IsMidTable, line_spills, region_spills, region_leaves}
+use Rattle.mx_trie.specs.Shown.{IsLine, AreLines, IsPage, ArePages}
 use Rattle.mx_trie.specs.Laying.{laid_by, cuts, IsBeside}
 
 -- 1 where the range begins or ends inside the block of `size` words with number `next` or a later one, before word `stop`
@@ -32,3 +32,29 @@ pub record AreLinesOnWay (kind : Kind) (leaf spill leaf' spill' : Frames) (lay :
   pub spill_count : free_in spill' + line_spills kind leaf' frame ≡ free_in spill + line_spills kind leaf frame
   pub spill_room : free_in spill + cuts_left line_words next (y * page_words + page_words) lay ≤ free_in spill' + cuts page_words y lay
   pub spill_total : length spill' ≡ length spill
+
+-- the pages of a mid table are exchanged, with what they own
+pub record ArePagesMoved (kind : Kind) (upper leaf spill upper' leaf' spill' : Frames) (frame : ℕ) : Type 0 where
+  pub table : IsMidTable kind upper' leaf' spill' frame
+  pub move : IsMove (heap upper leaf spill) (heap upper' leaf' spill') (MidOwns kind upper leaf frame) (MidOwns kind upper' leaf' frame)
+  pub upper_count : free_in upper' ≡ free_in upper
+  pub upper_total : length upper' ≡ length upper
+  pub leaf_count : free_in leaf' + region_leaves upper' (4 * frame) ≡ free_in leaf + region_leaves upper (4 * frame)
+  pub leaf_total : length leaf' ≡ length leaf
+  pub spill_count : free_in spill' + region_spills kind upper' leaf' (4 * frame) ≡ free_in spill + region_spills kind upper leaf (4 * frame)
+  pub spill_total : length spill' ≡ length spill
+
+-- the first pages of a mid table have no tables any more
+pub record ArePagesEmptied (kind : Kind) (upper leaf spill upper' leaf' spill' : Frames) (frame next : ℕ) : Type 0 where
+  pub moved : ArePagesMoved kind upper leaf spill upper' leaf' spill' frame
+  pub closed : (k : ℕ) → k < next → is_pointer (word_at upper' frame k) ≡ false
+
+-- the pages of region x before page `next` are changed
+pub record ArePagesOnWay (kind : Kind) (upper leaf spill upper' leaf' spill' : Frames) (lay : Laying) (beside : Beside) (x frame next : ℕ) : Type 0 where
+  pub moved : ArePagesMoved kind upper leaf spill upper' leaf' spill' frame
+  pub done : (m : List Perm) → IsBeside kind m lay beside → ArePages kind upper leaf spill m x frame →
+      (k : ℕ) → k < 1024 → x * 1024 + k < next → IsPage kind leaf' spill' (laid_by lay m) (x * 1024 + k) (word_at upper' frame k)
+  pub ahead : (m : List Perm) → IsBeside kind m lay beside → ArePages kind upper leaf spill m x frame →
+      (k : ℕ) → k < 1024 → next ≤ x * 1024 + k → IsPage kind leaf' spill' m (x * 1024 + k) (word_at upper' frame k)
+  pub leaf_room : free_in leaf + cuts_left page_words next (x * region_words + region_words) lay ≤ free_in leaf' + cuts region_words x lay
+  pub spill_room : free_in spill + cuts_left page_words next (x * region_words + region_words) lay ≤ free_in spill' + cuts region_words x lay

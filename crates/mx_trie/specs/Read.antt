@@ -6,7 +6,8 @@ use Rattle.mx_words.specs.declared.tables.Kind.TheVariants as K
 use Rattle.mx_words.specs.Rights.{perm_at}
 use Rattle.mx_words.specs.Counting.{list_below}
 use Rattle.mx_trie.specs.Digits.{digit, numbered}
-use Rattle.mx_trie.specs.Walk.{Frames, has_mid, is_pointer, root_word, mid_word, leaf_word, spilled_word, vector_perm}
+use Rattle.mx_pool.specs.Frames.{word_at}
+use Rattle.mx_trie.specs.Walk.{Frames, is_pointer, target, root_word, spilled_word, vector_perm}
 
 -- the permissions of a plain entry
 abbrev pub plain_line : ℕ → List Perm
@@ -28,16 +29,21 @@ abbrev pub read_line : Kind → ℕ → ℕ → List Perm
 read_line K.Packed entry spilled = packed_line entry spilled
 read_line kind entry spilled = plain_line entry
 
--- the permission that a domain's tables give word i
+-- the permission that a leaf entry, a mid entry, a root entry and a domain's tables give word i
 abbrev pub leaf_perm : Kind → Frames → ℕ → ℕ → Perm
 leaf_perm kind spill entry i = perm_at (read_line kind entry (spilled_word kind spill entry)) (i % 16)
 
+abbrev pub mid_perm : Kind → Frames → Frames → ℕ → ℕ → Perm
+mid_perm kind leaf spill entry i =
+    if is_pointer entry then leaf_perm kind spill (word_at leaf (target entry) (i / 16 % 64)) i else vector_perm entry (i / 128 % 8)
+
+abbrev pub root_perm : Kind → Frames → Frames → Frames → ℕ → ℕ → Perm
+root_perm kind upper leaf spill entry i =
+    if is_pointer entry then mid_perm kind leaf spill (word_at upper (target entry) (i / 1024 % 1024)) i
+    else vector_perm entry (i / 131072 % 8)
+
 abbrev pub read_at : Kind → Frames → Frames → Frames → ℕ → ℕ → Perm
-read_at kind upper leaf spill root i =
-    if has_mid upper root (i / 1048576) then
-    (if is_pointer (mid_word upper root (i / 1024)) then leaf_perm kind spill (leaf_word upper leaf root (i / 16)) i
-    else vector_perm (mid_word upper root (i / 1024)) (i / 128 % 8))
-    else vector_perm (root_word upper root (i / 1048576)) (i / 131072 % 8)
+read_at kind upper leaf spill root i = root_perm kind upper leaf spill (root_word upper root (i / 1048576)) i
 
 -- a domain's map, and the maps of all domains
 unfoldable pub read_map : Kind → Frames → Frames → Frames → ℕ → ℕ → List Perm

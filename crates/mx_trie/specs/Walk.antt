@@ -36,15 +36,12 @@ target entry = entry / 4
 unfoldable pub root_place : ℕ → ℕ
 root_place x = address_of (x * region_words) / (4 * region_words)
 
--- the entry of region x in a root table, of page y in the mid table of its region, and of line z in the leaf table of its page
+-- the entry of region x in a root table, and of page y in the mid table of its region
 abbrev pub root_word : Frames → ℕ → ℕ → ℕ
 root_word upper root x = word_at upper root (root_place x)
 
 abbrev pub mid_word : Frames → ℕ → ℕ → ℕ
 mid_word upper root y = word_at upper (target (root_word upper root (y / 1024))) (y % 1024)
-
-abbrev pub leaf_word : Frames → Frames → ℕ → ℕ → ℕ
-leaf_word upper leaf root z = word_at leaf (target (mid_word upper root (z / 64))) (z % 64)
 
 -- the spill word of a leaf entry, or 0 where it has none
 abbrev pub spilled_word : Kind → Frames → ℕ → ℕ

@@ -1,19 +1,15 @@
 //! What is asked of a map that is read span by span.
-ghost use Rattle.std.specs.Prelude.{◌≡◌, ℕ, ◌+◌, ◌-◌, ◌*◌, ◌<◌, ◌≤◌, true, not, length};
+ghost use Rattle.std.specs.Prelude.{◌≡◌, ℕ, ◌+◌, ◌*◌, ◌<◌, ◌≤◌, true, not};
 ghost use Rattle.mx_words.specs.Rights.{perm_at};
 ghost use Rattle.mx_words.specs.Runs.{line_words, page_words, region_words};
-ghost use Rattle.mx_words.specs.Reach.{vector, line_at, left_reach, right_reach};
+ghost use Rattle.mx_words.specs.Reach.{vector, line_at};
 ghost use Rattle.mx_words.specs.Blocks.{is_broken, IsUniform, IsEven};
 ghost use Rattle.mx_table.specs.Tables.{most_words};
-ghost use Rattle.mx_trie.specs.Views.{IsRound};
 ghost use Rattle.mx_trie.specs.Walk.{most_regions, most_pages, most_lines};
 
 use crate::sizes::{LINE_WORDS, PAGE_EIGHTH, PAGE_WORDS, REGION_EIGHTH, REGION_WORDS};
 use crate::view::View;
-use mx_words::{Perm, Span};
-
-/// The greatest reach of an entry.
-pub(crate) const MOST_REACH: u32 = 31;
+use mx_words::Perm;
 
 /// Whether `count` words from `first` on have one permission.
 fn is_uniform<V: View>(view: &V, first: u32, count: u32) -> bool
@@ -136,47 +132,4 @@ pub(crate) fn line_perms<V: View>(view: &V, line: u32) -> [Perm; 16]
         perms[place as usize] = span.perm;
     }
     perms
-}
-
-/// How many words right before a line of RAM have the permission of its first word, at most 31.
-/// `span` is round that word.
-pub(crate) fn left_of<V: View>(view: &V, line: u32, span: Span) -> u32
-    requires lawful { V.lawful view.now }
-    requires line { line < most_lines }
-    requires inside { line * line_words < length (V.map view.now) }
-    requires span { IsRound (V.map view.now) (line * line_words) span }
-    ensures { result ≡ left_reach (V.map view.now) (line * line_words) }
-{
-    let first = line * LINE_WORDS;
-    let mut begin = span.first;
-    while 0 < begin && first - begin < MOST_REACH {
-        let before = view.around(begin - 1);
-        if before.perm.number() != span.perm.number() {
-            return first - begin;
-        }
-        begin = before.first;
-    }
-    MOST_REACH.min(first - begin)
-}
-
-/// How many words of RAM right behind a line have the permission of its last word, at most 31. RAM has `words` words.
-/// `span` is round that word.
-pub(crate) fn right_of<V: View>(view: &V, words: u32, line: u32, span: Span) -> u32
-    requires lawful { V.lawful view.now }
-    requires line { line < most_lines }
-    requires words { words ≡ length (V.map view.now) }
-    requires few { words ≤ most_words }
-    requires span { IsRound (V.map view.now) (line * line_words + line_words - 1) span }
-    ensures { result ≡ right_reach (V.map view.now) (line * line_words) }
-{
-    let behind = line * LINE_WORDS + LINE_WORDS;
-    let mut end = span.first + span.count;
-    while end < words && end - behind < MOST_REACH {
-        let next = view.around(end);
-        if next.perm.number() != span.perm.number() {
-            return end - behind;
-        }
-        end = next.first + next.count;
-    }
-    MOST_REACH.min(end.min(words).saturating_sub(behind))
 }

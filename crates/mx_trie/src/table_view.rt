@@ -1,13 +1,10 @@
 //! A domain's map as its tables tell it.
-ghost use Rattle.std.specs.Prelude.{◌≡◌, ℕ, ◌+◌, ◌*◌, ◌/◌, ◌%◌, ◌<◌, ◌≤◌, min, max, ◌⊎◌, List, length};
-ghost use Rattle.mx_words.specs.declared.perm.Perm.{Perm};
+ghost use Rattle.std.specs.Prelude.{◌≡◌, ℕ, ◌+◌, ◌*◌, ◌/◌, ◌%◌, ◌<◌, ◌≤◌, ◌⊎◌};
 ghost use Rattle.mx_words.specs.Rights.{number};
 ghost use Rattle.mx_words.specs.Runs.{line_words, page_words};
 ghost use Rattle.mx_pool.specs.Frames.{IsTaken};
 ghost use Rattle.mx_table.specs.Tables.{most_words};
 ghost use Rattle.mx_trie.specs.Digits.{digit};
-ghost use Rattle.mx_trie.specs.Owned.{IsRootTable};
-ghost use Rattle.mx_trie.specs.Shown.{IsDomain};
 ghost use Rattle.mx_trie.specs.Read.{read_map};
 ghost use Rattle.mx_trie.specs.Standing.{IsRead};
 ghost use Rattle.mx_trie.specs.Views.{IsRound, IsWide};
@@ -33,11 +30,10 @@ fn around_in<L: LeafForm>(
     root: u32,
     word: u32,
 ) -> Span
-    requires table { IsRootTable L.kind upper.now leaf.now spill.now root }
-    requires shown { (m : List Perm) × IsDomain L.kind upper.now leaf.now spill.now m root }
+    requires read { (words : ℕ) × IsRead L.kind words upper.now leaf.now spill.now root }
     requires word { word < most_words }
-    ensures { (m : List Perm) → IsDomain L.kind upper.now leaf.now spill.now m root →
-        IsRound m word result }
+    ensures { (words : ℕ) → IsRead L.kind words upper.now leaf.now spill.now root →
+        IsRound (read_map L.kind upper.now leaf.now spill.now words root) word result }
 {
     let in_root = root_entry(upper, root, word / REGION_WORDS);
     if in_root % 4 != 0 {
@@ -59,11 +55,10 @@ fn far_in<L: LeafForm>(
     root: u32,
     word: u32,
 ) -> Span
-    requires table { IsRootTable L.kind upper.now leaf.now spill.now root }
-    requires shown { (m : List Perm) × IsDomain L.kind upper.now leaf.now spill.now m root }
+    requires read { (words : ℕ) × IsRead L.kind words upper.now leaf.now spill.now root }
     requires word { word < most_words }
-    ensures { (m : List Perm) → IsDomain L.kind upper.now leaf.now spill.now m root →
-        IsRound m word result }
+    ensures { (words : ℕ) → IsRead L.kind words upper.now leaf.now spill.now root →
+        IsRound (read_map L.kind upper.now leaf.now spill.now words root) word result }
 {
     let near = around_in::<L>(upper, leaf, spill, root, word);
     let in_root = root_entry(upper, root, word / REGION_WORDS);

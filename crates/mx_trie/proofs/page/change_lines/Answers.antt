@@ -3,7 +3,7 @@ use Rattle.mx_trie.specs.Leaf.{form_reach}
 use Rattle.mx_pool.specs.Frames.{free_in}
 use Rattle.mx_trie.specs.Laying.{cuts}
 use Rattle.mx_trie.specs.OnWay.{cuts_left}
-use Rattle.mx_trie.proofs.Cuts.{line-cuts-within, room-left}
+use Rattle.mx_trie.proofs.Cuts.{cuts-within, room-left}
 use Rattle.mx_trie.proofs.PageLines.{lines-none, lines-more, lines-all, next-line}
 use Rattle.mx_trie.proofs.VectorLines.{reach-small}
 use Rattle.mx_trie.proofs.page.change_lines.Goals as goal
@@ -26,7 +26,7 @@ pub change_line-new-requires-clause-room : goal.change_line-new-requires-clause-
 change_line-new-requires-clause-room g c =
     let below : c.loop-line.line < c.args.page * 64 + 64 = omega (arith, c.loop-line-test.true, c.min-to.ensures) in
     room-left (free_in c.args.spill.now) (free_in c.loop-line.spill) (cuts 1024 c.args.page c.args.lay.now) (cuts_left 16 c.loop-line.line (c.args.page * 1024 + 1024) c.args.lay.now) (cuts 16 c.loop-line.line c.args.lay.now)
-    c.loop-line.invariant.1.spill_room c.requires.room (line-cuts-within c.args.lay.now c.args.page c.loop-line.line c.loop-line.invariant.0 below)
+    c.loop-line.invariant.1.spill_room c.requires.room (cuts-within 16 c.loop-line.line (c.args.page * 1024 + 1024) c.args.lay.now (omega (arith, below, c.loop-line.invariant.0)))
 
 pub loop-line-preserved : goal.loop-line-preserved
 loop-line-preserved g c = (
