@@ -64,3 +64,7 @@ pub mod EdgeLaws
 -- the trait
 pub mod StandingLaws
 pub mod ShownCounts
+pub mod DomainPages
+pub mod SpillCounts
+pub mod NeedOfRange
+pub mod NeedOfChange
