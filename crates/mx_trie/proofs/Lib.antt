@@ -68,3 +68,6 @@ pub mod DomainPages
 pub mod SpillCounts
 pub mod NeedOfRange
 pub mod NeedOfChange
+pub mod RootPlaces
+pub mod DomainRegions
+pub mod DomainChanges
