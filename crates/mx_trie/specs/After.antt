@@ -1,13 +1,15 @@
 -- What is counted to tell a need after a change without making it.
-use Rattle.std.specs.Prelude.{◌≡◌, ℕ, ◌+◌, ◌-◌, ◌/◌, ◌≤◌, Bool, true, min, max, List}
+use Rattle.std.specs.Prelude.{◌≡◌, ℕ, ◌+◌, ◌-◌, ◌/◌, ◌≤◌, Bool, true, nat_lt, if◌then◌else◌, min, max, List}
 use Rattle.mx_words.specs.declared.perm.Perm.{Perm}
 use Rattle.mx_words.specs.declared.tables.Kind.{Kind}
 use Rattle.mx_words.specs.declared.tables.Need.{Need}
-use Rattle.mx_words.specs.Counting.{count_below}
+use Rattle.mx_words.specs.Counting.{count_below, sum_below}
+use Rattle.mx_words.specs.Runs.{broken_blocks, page_words, region_words}
 use Rattle.mx_pool.specs.Frames.{IsTaken}
 use Rattle.mx_trie.specs.declared.laying.Laying.{Laying}
 use Rattle.mx_trie.specs.Walk.{Frames, target, root_word, has_mid}
 use Rattle.mx_trie.specs.Read.{read_map}
+use Rattle.mx_trie.specs.Laying.{spill_lines}
 
 -- how many of the numbers from..to - 1 pass a test, and of those that lie among `count` numbers from `first` on
 abbrev pub count_from : ℕ → ℕ → (ℕ → Bool) → ℕ
@@ -30,3 +32,25 @@ pub record IsNeedSmall (need : Need) : Type 0 where
 -- the map of the domain of a laying
 abbrev pub map_in : Kind → Frames → Frames → Frames → ℕ → Laying → List Perm
 map_in kind upper leaf spill root lay = read_map kind upper leaf spill lay.words root
+
+-- the need of the maps of n domains
+pub record IsNeedOf (kind : Kind) (n : ℕ) (maps : ℕ → List Perm) (need : Need) : Type 0 where
+  pub upper : need.upper ≡ n + sum_below n (λ d. broken_blocks region_words (maps d))
+  pub leaf : need.leaf ≡ sum_below n (λ d. broken_blocks page_words (maps d))
+  pub spill : need.spill ≡ sum_below n (λ d. spill_lines kind (maps d))
+
+-- a need with a part for a map m
+pub record IsNeedWith (kind : Kind) (m : List Perm) (need : Need) : Type 0 where
+  pub upper : broken_blocks region_words m ≤ need.upper
+  pub leaf : broken_blocks page_words m ≤ need.leaf
+  pub spill : spill_lines kind m ≤ need.spill
+
+-- a need with a part for a map n in place of that for m
+pub record IsNeedMoved (kind : Kind) (m n : List Perm) (before after : Need) : Type 0 where
+  pub upper : after.upper + broken_blocks region_words m ≡ before.upper + broken_blocks region_words n
+  pub leaf : after.leaf + broken_blocks page_words m ≡ before.leaf + broken_blocks page_words n
+  pub spill : after.spill + spill_lines kind m ≡ before.spill + spill_lines kind n
+
+-- the maps of the domains before `row` are the new ones, and the others the old ones
+abbrev pub maps_until : ℕ → (ℕ → List Perm) → (ℕ → List Perm) → ℕ → List Perm
+maps_until row old new d = if nat_lt d row then new d else old d

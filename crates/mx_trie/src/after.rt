@@ -15,7 +15,9 @@ ghost use Rattle.mx_trie.specs.Walk.{Frames, most_regions, most_pages, most_line
 ghost use Rattle.mx_trie.specs.Shown.{AreLines, IsDomain};
 ghost use Rattle.mx_trie.specs.Laying.{spill_lines, laid_by, IsLaid};
 ghost use Rattle.mx_trie.specs.Standing.{map_at, IsRead, IsTables};
-ghost use Rattle.mx_trie.specs.After.{count_from, count_within, IsPathTaken, IsNeedSmall, map_in};
+ghost use Rattle.mx_trie.specs.After.{
+    count_from, count_within, IsPathTaken, IsNeedOf, IsNeedWith, IsNeedSmall, IsNeedMoved, map_in,
+};
 
 use crate::change::laying_of;
 use crate::changed_view::ChangedView;
@@ -74,7 +76,7 @@ fn pages_opened(upper: &Pool<1024>, root: u32, from: u32, to: u32) -> u32
 }
 
 /// How many of the lines of a page that meet the range have spill words. The page has a leaf table.
-#[tactic(none)]
+#[tactic(auto, using(crate::proofs::Counted::counted_none, crate::proofs::Counted::counted_more))]
 fn lines_spilled<L: LeafForm>(leaf: &Pool<64>, frame: u32, page: u32, lay: &Laying) -> u32
     requires page { page < most_pages }
     requires meets { page * 1024 < lay.now.end }
@@ -94,8 +96,26 @@ fn lines_spilled<L: LeafForm>(leaf: &Pool<64>, frame: u32, page: u32, lay: &Layi
     count
 }
 
+/// How many of the lines of a page that meet the range have spill words, where the page may have no leaf table.
+fn page_spilled<L: LeafForm>(upper: &Pool<1024>, leaf: &Pool<64>, root: u32, page: u32, lay: &Laying) -> u32
+    requires read { (spill : Frames) × IsRead L.kind lay.now.words upper.now leaf.now spill root }
+    requires page { page < most_pages }
+    requires meets { page * 1024 < lay.now.end }
+    requires from { lay.now.first < page * 1024 + 1024 }
+    ensures count { (spill : Frames) (m : List Perm) → IsDomain L.kind upper.now leaf.now spill m root →
+        result ≡ count_within (lay.now.first / 16) ((lay.now.end - 1) / 16 + 1) (page * 64) 64
+        (λ z. needs_spill L.kind (line_at m (z * 16))) }
+    ensures most { result ≤ 64 }
+{
+    if !has_table(upper, root, page) {
+        return 0;
+    }
+    let mid = root_entry(upper, root, page / REGION_PAGES) / 4;
+    let frame = upper.get(mid, page % REGION_PAGES) / 4;
+    lines_spilled::<L>(leaf, frame, page, lay)
+}
+
 /// How many of the lines that meet the range have spill words.
-#[tactic(none)]
 fn pages_spilled<L: LeafForm>(upper: &Pool<1024>, leaf: &Pool<64>, root: u32, lay: &Laying) -> u32
     requires read { (spill : Frames) × IsRead L.kind lay.now.words upper.now leaf.now spill root }
     ensures count { (spill : Frames) (m : List Perm) → IsDomain L.kind upper.now leaf.now spill m root →
@@ -105,11 +125,7 @@ fn pages_spilled<L: LeafForm>(upper: &Pool<1024>, leaf: &Pool<64>, root: u32, la
 {
     let mut count = 0;
     for page in lay.first / PAGE_WORDS..(lay.end - 1) / PAGE_WORDS + 1 {
-        if has_table(upper, root, page) {
-            let mid = root_entry(upper, root, page / REGION_PAGES) / 4;
-            let frame = upper.get(mid, page % REGION_PAGES) / 4;
-            count += lines_spilled::<L>(leaf, frame, page, lay);
-        }
+        count += page_spilled::<L>(upper, leaf, root, page, lay);
     }
     count
 }
@@ -209,7 +225,6 @@ fn is_one_broken(lay: &Laying, broken: u32) -> bool
 }
 
 /// What all maps need after a permission is laid over a range of the domain with a root table, where `need` is what they need before.
-#[tactic(none)]
 fn need_laid<L: LeafForm>(
     upper: &Pool<1024>,
     leaf: &Pool<64>,
@@ -219,21 +234,10 @@ fn need_laid<L: LeafForm>(
     need: Need,
 ) -> Need
     requires read { IsRead L.kind lay.now.words upper.now leaf.now spill.now root }
-    requires upper { let m = map_in L.kind upper.now leaf.now spill.now root lay.now in
-        broken_blocks region_words m ≤ need.upper }
-    requires leaf { let m = map_in L.kind upper.now leaf.now spill.now root lay.now in
-        broken_blocks page_words m ≤ need.leaf }
-    requires spill { let m = map_in L.kind upper.now leaf.now spill.now root lay.now in
-        spill_lines L.kind m ≤ need.spill }
+    requires part { IsNeedWith L.kind (map_in L.kind upper.now leaf.now spill.now root lay.now) need }
     requires few { IsNeedSmall need }
-    ensures upper { let m = map_in L.kind upper.now leaf.now spill.now root lay.now in
-        result.upper + broken_blocks region_words m
-        ≡ need.upper + broken_blocks region_words (laid_by lay.now m) }
-    ensures leaf { let m = map_in L.kind upper.now leaf.now spill.now root lay.now in
-        result.leaf + broken_blocks page_words m
-        ≡ need.leaf + broken_blocks page_words (laid_by lay.now m) }
-    ensures spill { let m = map_in L.kind upper.now leaf.now spill.now root lay.now in
-        result.spill + spill_lines L.kind m ≡ need.spill + spill_lines L.kind (laid_by lay.now m) }
+    ensures { let m = map_in L.kind upper.now leaf.now spill.now root lay.now in
+        IsNeedMoved L.kind m (laid_by lay.now m) need result }
 {
     let old = map_of::<L>(upper, leaf, spill, root, lay.words);
     if has_perm(&old, lay.first, lay.end, lay.perm) {
@@ -264,7 +268,6 @@ fn need_laid<L: LeafForm>(
 }
 
 /// What all maps need after a lawful change, where `need` is what they need before.
-#[tactic(none)]
 pub(crate) fn need_after<L: LeafForm>(
     upper: &Pool<1024>,
     leaf: &Pool<64>,
@@ -278,24 +281,11 @@ pub(crate) fn need_after<L: LeafForm>(
     requires few { length roots.now ≤ most_modules }
     requires some { 0 < change.now.count }
     requires inside { change.now.first + change.now.count ≤ words }
-    requires upper { need.upper ≡ length roots.now + sum_below (length roots.now)
-        (λ d. broken_blocks region_words (map_at L.kind words upper.now leaf.now spill.now roots.now d)) }
-    requires leaf { need.leaf ≡ sum_below (length roots.now)
-        (λ d. broken_blocks page_words (map_at L.kind words upper.now leaf.now spill.now roots.now d)) }
-    requires spill { need.spill ≡ sum_below (length roots.now)
-        (λ d. spill_lines L.kind (map_at L.kind words upper.now leaf.now spill.now roots.now d)) }
-    ensures upper { result.upper ≡ length roots.now + sum_below (length roots.now)
-        (λ d. broken_blocks region_words
-        (changed_map change.now.first change.now.count (given change.now (d + 1))
-        (map_at L.kind words upper.now leaf.now spill.now roots.now d))) }
-    ensures leaf { result.leaf ≡ sum_below (length roots.now)
-        (λ d. broken_blocks page_words
-        (changed_map change.now.first change.now.count (given change.now (d + 1))
-        (map_at L.kind words upper.now leaf.now spill.now roots.now d))) }
-    ensures spill { result.spill ≡ sum_below (length roots.now)
-        (λ d. spill_lines L.kind
-        (changed_map change.now.first change.now.count (given change.now (d + 1))
-        (map_at L.kind words upper.now leaf.now spill.now roots.now d))) }
+    requires need { IsNeedOf L.kind (length roots.now)
+        (map_at L.kind words upper.now leaf.now spill.now roots.now) need }
+    ensures { IsNeedOf L.kind (length roots.now)
+        (λ d. changed_map change.now.first change.now.count (given change.now (d + 1))
+        (map_at L.kind words upper.now leaf.now spill.now roots.now d)) result }
 {
     let mut need = need;
     for row in 0..roots.count() {

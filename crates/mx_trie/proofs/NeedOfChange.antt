@@ -1,0 +1,86 @@
+-- What all maps need after a change, counted on from what they need before it, one domain after the other.
+use Rattle.std.proofs.Common.{◌≡◌, ◌≢◌, ℕ, zero, suc, ◌+◌, ◌-◌, ◌*◌, ◌<◌, ◌≤◌, ◌⊎◌, inl, inr, Bool, nat_lt, if◌then◌else◌, List, length, Option, Some, None, refl, sym, ap, ◌∙◌, arith, subst}
+use Rattle.std.proofs.Math.Nat.{suc-mul}
+use Rattle.std.proofs.lemmas.Bool.{lt-ltb, le-ltb, cases_lt}
+use Rattle.mx_words.specs.declared.perm.Perm.{Perm}
+use Rattle.mx_words.specs.declared.tables.Kind.{Kind}
+use Rattle.mx_words.specs.declared.tables.Need.{Need}
+use Rattle.mx_words.specs.Counting.{sum_below}
+use Rattle.mx_words.specs.Runs.{broken_blocks, page_words, region_words}
+use Rattle.mx_words.specs.Reach.{line_at}
+use Rattle.mx_words.specs.Blocks.{is_broken}
+use Rattle.mx_words.proofs.CountingLaws.{cases_below, count_below-le, sum_below_agree, sum_below_changed}
+use Rattle.mx_words.proofs.BlockLaws.{broken_blocks-count}
+use Rattle.mx_table.specs.Tables.{most_words}
+use Rattle.mx_trie.specs.Leaf.{needs_spill}
+use Rattle.mx_trie.specs.Walk.{most_regions, most_pages, most_lines}
+use Rattle.mx_trie.specs.Laying.{spill_lines}
+use Rattle.mx_trie.specs.After.{IsNeedOf, IsNeedWith, IsNeedMoved, IsNeedSmall, maps_until}
+
+-- a summand, and the greatest sum
+sum-part : (n k : ℕ) (f : ℕ → ℕ) → k < n → f k ≤ sum_below n f
+unfolding sum_below
+sum-part zero k f below = absurd (omega arith)
+sum-part (suc n) k f below = elim (cases_below k n below) [
+  | inl h ↦ omega (arith, sum-part n k f h)
+  | inr h ↦ (let e : f k ≡ f n = ap f h in omega arith)
+]
+
+sum-most : (n most : ℕ) (f : ℕ → ℕ) → ((i : ℕ) → i < n → f i ≤ most) → sum_below n f ≤ n * most
+unfolding sum_below
+sum-most zero most f few = omega arith
+sum-most (suc n) most f few = omega (arith, sum-most n most f (λ i below. few i (omega arith)), few n (omega arith), suc-mul n most)
+
+module _ (old new : ℕ → List Perm) where
+  pub until-new : (row d : ℕ) → d < row → maps_until row old new d ≡ new d
+  until-new row d below = ap (λ (b : Bool). if b then new d else old d) (lt-ltb d row below)
+
+  pub until-old : (row d : ℕ) → row ≤ d → maps_until row old new d ≡ old d
+  until-old row d from = ap (λ (b : Bool). if b then new d else old d) (le-ltb row d from)
+
+  pub until-next : (row d : ℕ) → d ≢ row → maps_until row old new d ≡ maps_until (row + 1) old new d
+  until-next row d ne = elim (cases_lt d row) [
+    | inl h ↦ until-new row d h ∙ sym (until-new (row + 1) d (omega arith))
+    | inr h ↦ until-old row d h ∙ sym (until-old (row + 1) d (omega arith))
+  ]
+
+module _ (kind : Kind) (n : ℕ) where
+  pub need-agree : (maps maps' : ℕ → List Perm) (need : Need) → ((d : ℕ) → d < n → maps d ≡ maps' d) → IsNeedOf kind n maps need → IsNeedOf kind n maps' need
+  need-agree maps maps' need same is = record {
+    upper = omega (arith, is.upper, sum_below_agree n (λ d. broken_blocks region_words (maps d)) (λ d. broken_blocks region_words (maps' d)) (λ d below. ap (broken_blocks region_words) (same d below)));
+    leaf = is.leaf ∙ sum_below_agree n (λ d. broken_blocks page_words (maps d)) (λ d. broken_blocks page_words (maps' d)) (λ d below. ap (broken_blocks page_words) (same d below));
+    spill = is.spill ∙ sum_below_agree n (λ d. spill_lines kind (maps d)) (λ d. spill_lines kind (maps' d)) (λ d below. ap (spill_lines kind) (same d below));
+  }
+
+  -- one domain more
+  pub need-next : (old new : ℕ → List Perm) (row : ℕ) (need need' : Need) → row < n → IsNeedOf kind n (maps_until row old new) need → IsNeedMoved kind (old row) (new row) need need' →
+      IsNeedOf kind n (maps_until (row + 1) old new) need'
+  need-next old new row need need' below is moved = record {
+    upper = omega (arith, is.upper, moved.upper, changed (broken_blocks region_words));
+    leaf = omega (arith, is.leaf, moved.leaf, changed (broken_blocks page_words));
+    spill = omega (arith, is.spill, moved.spill, changed (spill_lines kind));
+  }
+    where
+      changed : (f : List Perm → ℕ) → sum_below n (λ d. f (maps_until (row + 1) old new d)) + f (old row) ≡ sum_below n (λ d. f (maps_until row old new d)) + f (new row)
+      changed f =
+          ap (λ m. sum_below n (λ d. f (maps_until (row + 1) old new d)) + f m) (sym (until-old old new row row (omega arith)))
+          ∙ sum_below_changed n row (λ d. f (maps_until row old new d)) (λ d. f (maps_until (row + 1) old new d)) below (λ d within ne. ap f (until-next old new row d ne))
+          ∙ ap (λ m. sum_below n (λ d. f (maps_until row old new d)) + f m) (until-new old new (row + 1) row (omega arith))
+
+  -- each map's need is a part, and the whole is small
+  pub need-part : (maps : ℕ → List Perm) (d : ℕ) (need : Need) → d < n → IsNeedOf kind n maps need → IsNeedWith kind (maps d) need
+  need-part maps d need below is = record {
+    upper = omega (arith, is.upper, sum-part n d (λ e. broken_blocks region_words (maps e)) below);
+    leaf = omega (arith, is.leaf, sum-part n d (λ e. broken_blocks page_words (maps e)) below);
+    spill = omega (arith, is.spill, sum-part n d (λ e. spill_lines kind (maps e)) below);
+  }
+
+  pub need-small : (maps : ℕ → List Perm) (need : Need) → n ≤ 63 → ((d : ℕ) → d < n → length (maps d) ≤ most_words) → IsNeedOf kind n maps need → IsNeedSmall need
+  need-small maps need few short is = record {
+    upper = omega (arith, is.upper, sum-most n 16 (λ d. broken_blocks region_words (maps d)) (λ d below.
+        omega (arith, broken_blocks-count region_words (maps d) most_regions (omega arith) (short d below), count_below-le most_regions (is_broken region_words (maps d)))));
+    leaf = omega (arith, is.leaf, sum-most n 16384 (λ d. broken_blocks page_words (maps d)) (λ d below.
+        omega (arith, broken_blocks-count page_words (maps d) most_pages (omega arith) (short d below), count_below-le most_pages (is_broken page_words (maps d)))));
+    spill = omega (arith, is.spill, sum-most n 1048576 (λ d. spill_lines kind (maps d)) (λ d below.
+        count_below-le most_lines (λ z. needs_spill kind (line_at (maps d) (z * 16)))));
+  }

@@ -1,0 +1,74 @@
+-- The lines of a range that need a spill word, page by page.
+use Rattle.std.proofs.Common.{◌≡◌, ℕ, ◌+◌, ◌-◌, ◌*◌, ◌/◌, ◌%◌, ◌<◌, ◌≤◌, ◌⊎◌, inl, inr, Bool, true, false, min, max, List, is_some, refl, sym, ap, ◌∙◌, arith, subst}
+use Rattle.std.proofs.lemmas.Bool.{cases_lt}
+use Rattle.mx_words.specs.declared.perm.Perm.{Perm}
+use Rattle.mx_words.specs.declared.tables.Kind.{Kind}
+use Rattle.mx_words.specs.Counting.{count_below}
+use Rattle.mx_words.specs.Reach.{line_at}
+use Rattle.mx_words.specs.Runs.{page_words}
+use Rattle.mx_words.specs.Blocks.{is_broken}
+use Rattle.mx_words.proofs.CountingLaws.{count_below_agree, count_below_none, count_below-plus, count_below-zero, count_below-le}
+use Rattle.mx_pool.specs.Frames.{word_at}
+use Rattle.mx_trie.specs.Leaf.{IsTrieKind, needs_spill, spill_number}
+use Rattle.mx_trie.specs.Walk.{Frames, line_number}
+use Rattle.mx_trie.specs.Shown.{IsLine, AreLines}
+use Rattle.mx_trie.specs.After.{count_from, count_within}
+use Rattle.mx_trie.proofs.EdgeLaws.{even-needs}
+use Rattle.mx_trie.proofs.EntryLaws.{some-named}
+use Rattle.mx_trie.proofs.Stored.{line-named}
+
+-- a line of a leaf table has a spill word just where it needs one
+pub spill-needed : (kind : Kind) → IsTrieKind kind → (spill : Frames) (m : List Perm) (z e : ℕ) → IsLine kind spill m z e → is_some (spill_number kind e) ≡ needs_spill kind (line_at m (z * 16))
+spill-needed kind k spill m z e line = some-named (needs_spill kind (line_at m (z * 16))) (spill_number kind e) (line_number kind e) (line-named kind k spill m z e line)
+
+pub lines-needed : (kind : Kind) → IsTrieKind kind → (leaf spill : Frames) (m : List Perm) (y frame first last from to : ℕ) → AreLines kind leaf spill m y frame →
+    from ≡ max first (y * 64) → to ≡ min last (y * 64 + 64) →
+    count_from from to (λ z. is_some (spill_number kind (word_at leaf frame (z % 64)))) ≡ count_within first last (y * 64) 64 (λ z. needs_spill kind (line_at m (z * 16)))
+lines-needed kind k leaf spill m y frame first last from to lines begin end =
+    count_below_agree (to - from) (λ i. is_some (spill_number kind (word_at leaf frame ((from + i) % 64)))) (λ i. needs_spill kind (line_at m ((from + i) * 16)))
+    (λ i below.
+    let at : y * 64 + (from + i) % 64 ≡ from + i = omega arith in
+    spill-needed kind k spill m (from + i) (word_at leaf frame ((from + i) % 64))
+    (subst (λ z. IsLine kind spill m z (word_at leaf frame ((from + i) % 64))) at (lines ((from + i) % 64) (omega arith))))
+    ∙ ap (λ n. count_from n to (λ z. needs_spill kind (line_at m (z * 16)))) begin
+    ∙ ap (λ n. count_from (max first (y * 64)) n (λ z. needs_spill kind (line_at m (z * 16)))) end
+
+-- the lines up to the next page, and those in a page
+pub count-none : (from to : ℕ) (test : ℕ → Bool) → to ≤ from → 0 ≡ count_from from to test
+count-none from to test le = let none : to - from ≡ 0 = omega arith in sym (ap (λ n. count_below n (λ i. test (from + i))) none ∙ count_below-zero (λ i. test (from + i)))
+
+pub count-within : (from to page : ℕ) (test : ℕ → Bool) → page * 64 < to → from < page * 64 + 64 → from < to →
+    count_from from (min to (page * 64)) test + count_within from to (page * 64) 64 test ≡ count_from from (min to ((page + 1) * 64)) test
+count-within from to page test here behind some = by (cases_lt from (page * 64))
+  where
+    end : ℕ
+    end = min to (page * 64 + 64)
+
+    next : (page + 1) * 64 ≡ page * 64 + 64
+    next = omega arith
+
+    by : (from < page * 64) ⊎ (page * 64 ≤ from) → count_from from (min to (page * 64)) test + count_within from to (page * 64) 64 test ≡ count_from from (min to ((page + 1) * 64)) test
+    by (inl lt) =
+        let at : min to (page * 64) ≡ page * 64 = omega arith in
+        let first : max from (page * 64) ≡ page * 64 = omega arith in
+        let split : min to (page * 64 + 64) - from ≡ page * 64 - from + (min to (page * 64 + 64) - page * 64) = omega arith in
+        let place : from + (page * 64 - from) ≡ page * 64 = omega arith in
+        let plus = count_below-plus (page * 64 - from) (min to (page * 64 + 64) - page * 64) (λ i. test (from + i)) in
+        ap (λ n. count_from from n test + count_within from to (page * 64) 64 test) at
+        ∙ ap (λ n. count_from from (page * 64) test + count_from n (min to (page * 64 + 64)) test) first
+        ∙ ap (λ n. count_from from (page * 64) test + n) (shifted (min to (page * 64 + 64) - page * 64) place)
+        ∙ sym plus ∙ ap (λ n. count_below n (λ i. test (from + i))) (sym split) ∙ ap (λ n. count_from from (min to n) test) (sym next)
+      where
+        shifted : (n : ℕ) → from + (page * 64 - from) ≡ page * 64 → count_below n (λ i. test (page * 64 + i)) ≡ count_below n (λ i. test (from + (page * 64 - from + i)))
+        shifted n place = count_below_agree n (λ i. test (page * 64 + i)) (λ i. test (from + (page * 64 - from + i))) (λ i below. let e : page * 64 + i ≡ from + (page * 64 - from + i) = omega arith in ap test e)
+    by (inr ge) =
+        let first : max from (page * 64) ≡ from = omega arith in
+        ap (λ n. n + count_within from to (page * 64) 64 test) (sym (count-none from (min to (page * 64)) test (omega arith)))
+        ∙ (let plain : 0 + count_within from to (page * 64) 64 test ≡ count_within from to (page * 64) 64 test = omega arith in plain)
+        ∙ ap (λ n. count_from n (min to (page * 64 + 64)) test) first ∙ ap (λ n. count_from from (min to n) test) (sym next)
+
+-- no line of a page that isn't broken needs a spill word
+pub even-within : (kind : Kind) (m : List Perm) (from to page : ℕ) → is_broken page_words m page ≡ false → 0 ≡ count_within from to (page * 64) 64 (λ z. needs_spill kind (line_at m (z * 16)))
+even-within kind m from to page whole =
+    sym (count_below_none (min to (page * 64 + 64) - max from (page * 64)) (λ i. needs_spill kind (line_at m ((max from (page * 64) + i) * 16)))
+    (λ i below. even-needs kind m page (max from (page * 64) + i) (omega arith) whole))
