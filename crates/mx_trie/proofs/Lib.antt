@@ -68,3 +68,6 @@ pub mod DomainPages
 pub mod SpillCounts
 pub mod NeedOfRange
 pub mod NeedOfChange
+pub mod NeedLaws
+pub mod BuiltRows
+pub mod RootPlaces
