@@ -58,3 +58,6 @@ pub mod DomainPages
 pub mod SpillCounts
 pub mod NeedOfRange
 pub mod NeedOfChange
+pub mod NeedLaws
+pub mod DomainFrames
+pub mod StandingAgain

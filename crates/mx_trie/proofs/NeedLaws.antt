@@ -1,0 +1,66 @@
+-- What the maps of all domains need in a trie, counted domain by domain.
+use Rattle.std.proofs.Common.{◌≡◌, ℕ, zero, suc, ◌+◌, ◌*◌, ◌/◌, ◌<◌, ◌≤◌, inl, inr, nat_lt, List, [], length, get_or, sum_by, refl, sym, ap, ◌∙◌, arith}
+use Rattle.std.proofs.Math.Nat.{suc-mul}
+use Rattle.std.proofs.lemmas.List.{get_or_default}
+use Rattle.mx_words.specs.declared.perm.Perm.{Perm}
+use Rattle.mx_words.specs.declared.tables.Kind.{Kind}
+use Rattle.mx_words.specs.declared.tables.Kind.TheVariants as K
+use Rattle.mx_words.specs.declared.tables.Need.{Need}
+use Rattle.mx_words.specs.Counting.{sum_below, list_below}
+use Rattle.mx_words.specs.Runs.{runs, broken_blocks, crowded_lines, is_crowded, whole_line, line_words, page_words}
+use Rattle.mx_words.specs.Reach.{line_at}
+use Rattle.mx_words.specs.Blocks.{block_of}
+use Rattle.mx_words.specs.Need.{need, upper_frames}
+use Rattle.mx_words.proofs.CountingLaws.{count_below_agree, count_below_none, sum_below_agree, list_below_is, sum_by-list_below}
+use Rattle.mx_words.proofs.BlockLaws.{crowded_lines-count}
+use Rattle.mx_table.specs.Tables.{most_words}
+use Rattle.mx_trie.specs.Leaf.{IsTrieKind, needs_spill}
+use Rattle.mx_trie.specs.Walk.{most_lines}
+use Rattle.mx_trie.specs.Laying.{spill_lines}
+use Rattle.mx_trie.specs.After.{IsNeedOf}
+
+-- the lines that need a spill word are the crowded ones in packed tables, and none in plain ones
+pub spill_lines-plain : (m : List Perm) → spill_lines K.Multilevel m ≡ 0
+spill_lines-plain m = count_below_none most_lines (λ z. needs_spill K.Multilevel (line_at m (z * line_words))) (λ z below. refl)
+
+pub spill_lines-packed : (m : List Perm) → length m ≤ most_words → spill_lines K.Packed m ≡ crowded_lines m
+spill_lines-packed m few =
+    count_below_agree most_lines (λ z. needs_spill K.Packed (line_at m (z * line_words))) (λ b. is_crowded (block_of line_words m b))
+    (λ z below. (let at : z * 16 / 16 ≡ z = omega arith in ap (λ b. nat_lt 4 (runs (whole_line (block_of line_words m b)))) at))
+    ∙ sym (crowded_lines-count m most_lines few)
+
+-- a sum over a list, by index
+sum_by-below : {A : Type 0} (f : A → ℕ) (xs : List A) (x : A) → sum_by f xs ≡ sum_below (length xs) (λ i. f (get_or xs i x))
+sum_by-below {A} f xs x =
+    let same : list_below (length xs) (λ i. get_or xs i x) ≡ xs = list_below_is (length xs) (λ i. get_or xs i x) xs refl (λ i d below. get_or_default xs i d x below) in
+    ap (sum_by f) (sym same) ∙ sum_by-list_below f (length xs) (λ i. get_or xs i x)
+
+-- so many more for each number
+pub sum_below-each : (n more : ℕ) (f : ℕ → ℕ) → sum_below n (λ i. more + f i) ≡ n * more + sum_below n f
+unfolding sum_below
+sum_below-each zero more f = omega arith
+sum_below-each (suc n) more f = omega (arith, sum_below-each n more f, suc-mul n more)
+
+sum_below-none : (n : ℕ) (f : ℕ → ℕ) → ((i : ℕ) → f i ≡ 0) → sum_below n f ≡ 0
+unfolding sum_below
+sum_below-none zero f none = refl
+sum_below-none (suc n) f none = omega (arith, none n, sum_below-none n f none)
+
+-- the need of a list of maps: a root table per domain and a mid table per broken region, a leaf table per broken page, and a spill word
+-- per line that needs one
+pub need-of-list : (kind : Kind) → IsTrieKind kind → (maps : List (List Perm)) → ((d : ℕ) → d < length maps → length (get_or maps d []) ≤ most_words) →
+    IsNeedOf kind (length maps) (λ d. get_or maps d []) (need kind maps)
+need-of-list K.Segments (inl e) maps few = absurd (cc)
+need-of-list K.Segments (inr e) maps few = absurd (cc)
+need-of-list K.Multilevel k maps few = record {
+  upper = omega (arith, sum_by-below upper_frames maps [], sum_below-each (length maps) 1 (λ d. broken_blocks 1048576 (get_or maps d [])));
+  leaf = sum_by-below (broken_blocks page_words) maps [];
+  spill = sym (sum_below-none (length maps) (λ d. spill_lines K.Multilevel (get_or maps d [])) (λ d. spill_lines-plain (get_or maps d [])));
+}
+need-of-list K.Packed k maps few = record {
+  upper = omega (arith, sum_by-below upper_frames maps [], sum_below-each (length maps) 1 (λ d. broken_blocks 1048576 (get_or maps d [])));
+  leaf = sum_by-below (broken_blocks page_words) maps [];
+  spill = sum_by-below crowded_lines maps []
+      ∙ sum_below_agree (length maps) (λ d. crowded_lines (get_or maps d [])) (λ d. spill_lines K.Packed (get_or maps d []))
+      (λ d below. sym (spill_lines-packed (get_or maps d []) (few d below)));
+}
