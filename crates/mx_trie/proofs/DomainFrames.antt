@@ -1,144 +1,57 @@
--- The frame law of a domain, and the tables of all domains where one of them is changed.
-use Rattle.std.proofs.Common.{◌≡◌, ◌≢◌, ℕ, ◌+◌, ◌<◌, ◌≤◌, ◌⊎◌, inl, inr, true, List, length, slice_index, refl, sym, ap, ◌∙◌, arith, subst}
-use Rattle.std.proofs.lemmas.Bool.{cases_eq}
+-- The frame law of a domain: where its frames stay, it owns the same, and stands for the same maps.
+use Rattle.std.proofs.Common.{◌≡◌, ℕ, ◌<◌, ◌⊎◌, inl, inr, true, List, refl, sym, ap, ◌∙◌, subst}
 use Rattle.mx_words.specs.declared.perm.Perm.{Perm}
 use Rattle.mx_words.specs.declared.tables.Kind.{Kind}
-use Rattle.mx_words.specs.Counting.{sum_below}
-use Rattle.mx_words.proofs.CountingLaws.{count_below_agree, sum_below_agree, sum_below_changed}
-use Rattle.mx_table.specs.Tables.{most_words}
-use Rattle.mx_trie.specs.declared.laying.Laying.{Laying}
+use Rattle.mx_words.proofs.CountingLaws.{count_below_agree, sum_below_agree}
 use Rattle.mx_trie.specs.Leaf.{IsTrieKind}
-use Rattle.mx_trie.specs.Walk.{Frames, most_regions, is_pointer, target, root_word, root_place}
-use Rattle.mx_trie.specs.Heap.{heap, NodeOwns}
-use Rattle.mx_trie.specs.Owned.{RegionOwns, RegionsOwn, DomainOwns, IsMidTable, IsRootTable, IsForest, region_leaves, region_spills, domain_mids, domain_leaves, domain_spills}
+use Rattle.mx_trie.specs.Walk.{Frames, most_regions, is_pointer, target, root_place, root_word}
+use Rattle.mx_trie.specs.Heap.{heap}
+use Rattle.mx_trie.specs.Owned.{RegionOwns, RegionsOwn, DomainOwns, IsMidTable, IsRootTable, region_leaves, region_spills, domain_mids, domain_leaves, domain_spills}
 use Rattle.mx_trie.specs.Shown.{IsRegion, IsDomain}
-use Rattle.mx_trie.specs.Laying.{laid_by}
-use Rattle.mx_trie.specs.Changed.{IsDomainChanged}
-use Rattle.mx_trie.specs.Standing.{root_at, map_at, IsRead, IsTables}
-use Rattle.mx_trie.specs.Shape.{length-read_map}
-use Rattle.mx_trie.proofs.HeapLaws.{family-put}
-use Rattle.mx_trie.proofs.NodeLaws.{node-taken, node-kept}
-use Rattle.mx_trie.proofs.PageLines.{word-kept}
 use Rattle.mx_trie.proofs.EntryPuts.{IsKept}
+use Rattle.mx_trie.proofs.NodeLaws.{node-kept}
+use Rattle.mx_trie.proofs.PageLines.{word-kept}
 use Rattle.mx_trie.proofs.RegionFrames.{region-owns-same, region-table-kept, region-kept, region_leaves-same, region_spills-same}
-use Rattle.mx_trie.proofs.RangeLaws.{length-with_range}
-use Rattle.mx_trie.proofs.MapsRead.{read_map-is}
 
--- a domain whose frames stay is what it was
-module _ (kind : Kind) (upper leaf spill upper' leaf' spill' : Frames) (root : ℕ) (kept : IsKept (λ u l r. DomainOwns kind u l r) upper leaf spill upper' leaf' spill' root) where
-  words-kept : (x : ℕ) → root_word upper' root x ≡ root_word upper root x
-  words-kept x = word-kept upper upper' root (root_place x) (kept 0 root (inl (refl, refl)))
+module _ (kind : Kind) (upper leaf spill upper' leaf' spill' : Frames) (root : ℕ) (kept : IsKept (DomainOwns kind) upper leaf spill upper' leaf' spill' root) where
+  root-word : (x : ℕ) → root_word upper' root x ≡ root_word upper root x
+  root-word x = word-kept upper upper' root (root_place x) (kept 0 root (inl (refl, refl)))
 
-  regions-kept : (x : ℕ) → x < most_regions → IsKept (RegionOwns kind) upper leaf spill upper' leaf' spill' (root_word upper root x)
-  regions-kept x below a g own = kept a g (inr (x, (below, own)))
+  regions-stay : (x : ℕ) → x < most_regions → IsKept (RegionOwns kind) upper leaf spill upper' leaf' spill' (root_word upper root x)
+  regions-stay x below a g own = kept a g (inr (x, (below, own)))
 
-  regions-own-same : (x a g : ℕ) → x < most_regions → RegionsOwn kind upper' leaf' root x a g → RegionsOwn kind upper leaf root x a g
-  regions-own-same x a g below own =
-      region-owns-same kind upper leaf spill upper' leaf' spill' (root_word upper root x) (regions-kept x below) a g (subst (λ w. RegionOwns kind upper' leaf' w a g) (words-kept x) own)
+  regions-owned : (x a g : ℕ) → x < most_regions → RegionsOwn kind upper' leaf' root x a g → RegionsOwn kind upper leaf root x a g
+  regions-owned x a g below own =
+      region-owns-same kind upper leaf spill upper' leaf' spill' (root_word upper root x) (regions-stay x below) a g
+      (subst (λ w. RegionOwns kind upper' leaf' w a g) (root-word x) own)
 
   pub domain-owns-same : (a g : ℕ) → DomainOwns kind upper' leaf' root a g → DomainOwns kind upper leaf root a g
-  domain-owns-same a g own = elim own [ inl h ↦ inl h | inr h ↦ inr (h.0, (h.1.0, regions-own-same h.0 a g h.1.0 h.1.1)) ]
+  domain-owns-same a g own = elim own [ | inl h ↦ inl h | inr h ↦ inr (h.0, (h.1.0, regions-owned h.0 a g h.1.0 h.1.1)) ]
 
   pub domain-table-kept : IsRootTable kind upper leaf spill root → IsRootTable kind upper' leaf' spill' root
   domain-table-kept table = record {
-    node =
-        node-kept (heap upper leaf spill) (heap upper' leaf' spill') 0 root most_regions (RegionsOwn kind upper leaf root) (RegionsOwn kind upper' leaf' root) table.node kept regions-own-same;
-    tables = λ x below.
+    node = node-kept (heap upper leaf spill) (heap upper' leaf' spill') 0 root most_regions (RegionsOwn kind upper leaf root) (RegionsOwn kind upper' leaf' root) table.node kept regions-owned;
+    tables = λ x below pointer.
         let T : ℕ → Type 0 = λ w. is_pointer w ≡ true → IsMidTable kind upper' leaf' spill' (target w) in
-        subst T (sym (words-kept x))
-        (region-table-kept kind upper leaf spill upper' leaf' spill' (root_word upper root x) (regions-kept x below) (table.tables x below));
+        subst T (sym (root-word x))
+        (region-table-kept kind upper leaf spill upper' leaf' spill' (root_word upper root x) (regions-stay x below) (table.tables x below)) pointer;
   }
 
   pub domain-kept : IsTrieKind kind → (m : List Perm) → IsDomain kind upper leaf spill m root → IsDomain kind upper' leaf' spill' m root
-  domain-kept k m shown x below =
-      subst (λ w. IsRegion kind upper' leaf' spill' m x w) (sym (words-kept x))
-      (region-kept kind upper leaf spill upper' leaf' spill' (root_word upper root x) (regions-kept x below) k m x (shown x below))
+  domain-kept k m domain x below =
+      subst (λ w. IsRegion kind upper' leaf' spill' m x w) (sym (root-word x))
+      (region-kept kind upper leaf spill upper' leaf' spill' (root_word upper root x) (regions-stay x below) k m x (domain x below))
 
   pub domain_mids-same : domain_mids upper root ≡ domain_mids upper' root
   domain_mids-same =
-      count_below_agree most_regions (λ x. is_pointer (root_word upper root x)) (λ x. is_pointer (root_word upper' root x)) (λ x below. ap is_pointer (sym (words-kept x)))
+      count_below_agree most_regions (λ x. is_pointer (root_word upper root x)) (λ x. is_pointer (root_word upper' root x)) (λ x below. ap is_pointer (sym (root-word x)))
 
   pub domain_leaves-same : domain_leaves upper root ≡ domain_leaves upper' root
   domain_leaves-same =
       sum_below_agree most_regions (λ x. region_leaves upper (root_word upper root x)) (λ x. region_leaves upper' (root_word upper' root x))
-      (λ x below. sym (ap (region_leaves upper') (words-kept x) ∙ region_leaves-same kind upper leaf spill upper' leaf' spill' (root_word upper root x) (regions-kept x below)))
+      (λ x below. sym (ap (region_leaves upper') (root-word x) ∙ region_leaves-same kind upper leaf spill upper' leaf' spill' (root_word upper root x) (regions-stay x below)))
 
   pub domain_spills-same : domain_spills kind upper leaf root ≡ domain_spills kind upper' leaf' root
   domain_spills-same =
       sum_below_agree most_regions (λ x. region_spills kind upper leaf (root_word upper root x)) (λ x. region_spills kind upper' leaf' (root_word upper' root x))
-      (λ x below. sym (ap (region_spills kind upper' leaf') (words-kept x) ∙ region_spills-same kind upper leaf spill upper' leaf' spill' (root_word upper root x) (regions-kept x below)))
-
--- the tables of one domain of all
-pub tables-read : (kind : Kind) (words w : ℕ) (upper leaf spill : Frames) (roots : List ℕ) (d root : ℕ) → IsTables kind words upper leaf spill roots → d < length roots → w ≡ words → root ≡ root_at roots d →
-    IsRead kind w upper leaf spill root
-tables-read kind words w upper leaf spill roots d root tables below same at =
-    subst (λ n. IsRead kind n upper leaf spill root) (sym same)
-    (subst (λ r. IsRead kind words upper leaf spill r) (sym at)
-    (record { few_words = tables.few_words; table = tables.forest.tables d below; shown = tables.shown d below }))
-
--- what a domain has, and what is free, where it alone has changed
-count-changed : (n d free free' total total' : ℕ) (f g : ℕ → ℕ) → d < n → ((e : ℕ) → e < n → e ≢ d → f e ≡ g e) → free' + g d ≡ free + f d → total' ≡ total → free + sum_below n f ≡ total →
-    free' + sum_below n g ≡ total'
-count-changed n d free free' total total' f g below same moved long before = omega (arith, before, moved, long, sum_below_changed n d f g below same)
-
-module _ (kind : Kind) (k : IsTrieKind kind) (words : ℕ) (upper leaf spill upper' leaf' spill' : Frames) (roots : List ℕ) (tables : IsTables kind words upper leaf spill roots) (d : ℕ) (below : d < length roots)
-    (lay : Laying) (same : lay.words ≡ words) (changed : IsDomainChanged kind upper leaf spill upper' leaf' spill' (λ m. length m ≡ lay.words) lay (root_at roots d)) where
-  abbrev pub map_old : ℕ → List Perm
-  map_old = map_at kind words upper leaf spill roots
-
-  long : (e : ℕ) → length (map_old e) ≡ words
-  long e = length-read_map kind upper leaf spill words roots (root_at roots e)
-
-  others-kept : (e : ℕ) → e < length roots → e ≢ d → IsKept (λ u l r. DomainOwns kind u l r) upper leaf spill upper' leaf' spill' (root_at roots e)
-  others-kept e inside ne a g own =
-      changed.move.stays a g (tables.forest.family.taken e a g inside own) (λ mine. ne (tables.forest.family.apart e d a g inside below own mine))
-
-  pub forest-changed : IsForest kind upper' leaf' spill' roots
-  forest-changed = record {
-    family =
-        family-put (heap upper leaf spill) (heap upper' leaf' spill') (length roots) (λ e. DomainOwns kind upper leaf (root_at roots e)) (λ e. DomainOwns kind upper' leaf' (root_at roots e))
-        d below tables.forest.family
-        (λ e a g inside ne own. domain-owns-same kind upper leaf spill upper' leaf' spill' (root_at roots e) (others-kept e inside ne) a g own)
-        (λ e a g inside ne own. others-kept e inside ne a g own) changed.move.none
-        (λ a g own. node-taken (heap upper' leaf' spill') 0 (root_at roots d) most_regions (RegionsOwn kind upper' leaf' (root_at roots d)) changed.table.node a g own);
-    tables = λ e inside. elim (cases_eq e d) [
-      | inl h ↦ subst (λ x. IsRootTable kind upper' leaf' spill' (root_at roots x)) (sym h) changed.table
-      | inr h ↦ domain-table-kept kind upper leaf spill upper' leaf' spill' (root_at roots e) (others-kept e inside h) (tables.forest.tables e inside)
-    ];
-  }
-
-  laid-shown : IsDomain kind upper' leaf' spill' (laid_by lay (map_old d)) (root_at roots d)
-  laid-shown = changed.shown (map_old d) (long d ∙ sym same) (tables.shown d below)
-
-  pub map-changed : map_at kind words upper' leaf' spill' roots d ≡ laid_by lay (map_old d)
-  map-changed =
-      let whole = length-with_range lay.first lay.end lay.perm (map_old d) ∙ long d in
-      read_map-is kind k upper' leaf' spill' (laid_by lay (map_old d)) (let h = tables.few_words in omega (arith, whole)) (root_at roots d) words laid-shown whole
-
-  other-shown : (e : ℕ) → e < length roots → e ≢ d → IsDomain kind upper' leaf' spill' (map_old e) (root_at roots e)
-  other-shown e inside ne = domain-kept kind upper leaf spill upper' leaf' spill' (root_at roots e) (others-kept e inside ne) k (map_old e) (tables.shown e inside)
-
-  pub map-others : (e : ℕ) → e < length roots → e ≢ d → map_at kind words upper' leaf' spill' roots e ≡ map_old e
-  map-others e inside ne =
-      read_map-is kind k upper' leaf' spill' (map_old e) (let h = tables.few_words in omega (arith, long e)) (root_at roots e) words (other-shown e inside ne) (long e)
-
-  pub tables-changed : IsTables kind words upper' leaf' spill' roots
-  tables-changed = record {
-    few_words = tables.few_words;
-    forest = forest-changed;
-    shown = λ e inside. elim (cases_eq e d) [
-      | inl h ↦ subst (λ x. IsDomain kind upper' leaf' spill' (map_at kind words upper' leaf' spill' roots x) (root_at roots x)) (sym h)
-          (subst (λ (m : List Perm). IsDomain kind upper' leaf' spill' m (root_at roots d)) (sym map-changed) laid-shown)
-      | inr h ↦ subst (λ (m : List Perm). IsDomain kind upper' leaf' spill' m (root_at roots e)) (sym (map-others e inside h)) (other-shown e inside h)
-    ];
-    upper_count =
-        (let up = changed.upper_count in
-        count-changed (length roots) d _ _ (length upper) (length upper') (λ e. domain_mids upper (root_at roots e)) (λ e. domain_mids upper' (root_at roots e)) below
-        (λ e inside ne. domain_mids-same kind upper leaf spill upper' leaf' spill' (root_at roots e) (others-kept e inside ne)) (omega arith) changed.upper_total tables.upper_count);
-    leaf_count =
-        count-changed (length roots) d _ _ (length leaf) (length leaf') (λ e. domain_leaves upper (root_at roots e)) (λ e. domain_leaves upper' (root_at roots e)) below
-        (λ e inside ne. domain_leaves-same kind upper leaf spill upper' leaf' spill' (root_at roots e) (others-kept e inside ne)) changed.leaf_count changed.leaf_total tables.leaf_count;
-    spill_count =
-        count-changed (length roots) d _ _ (length spill) (length spill') (λ e. domain_spills kind upper leaf (root_at roots e)) (λ e. domain_spills kind upper' leaf' (root_at roots e)) below
-        (λ e inside ne. domain_spills-same kind upper leaf spill upper' leaf' spill' (root_at roots e) (others-kept e inside ne)) changed.spill_count changed.spill_total tables.spill_count;
-  }
+      (λ x below. sym (ap (region_spills kind upper' leaf') (root-word x) ∙ region_spills-same kind upper leaf spill upper' leaf' spill' (root_word upper root x) (regions-stay x below)))

@@ -42,6 +42,12 @@ pub mod EntryPuts
 pub mod RegionFrames
 pub mod BlockChanges
 pub mod RegionPages
+pub mod RegionTables
+pub mod RegionChanges
+-- the frame law of each level, and tables that are built
+pub mod DomainFrames
+pub mod BuiltTables
+pub mod BuiltBlocks
 -- views
 pub mod FoundItems
 pub mod RowSpans
@@ -50,14 +56,21 @@ pub mod LaidSpans
 pub mod ReadLines
 pub mod VectorWords
 pub mod WalkWords
+pub mod WalkLaws
 pub mod MapsRead
 pub mod TableSpans
 pub mod Counted
 pub mod EdgeLaws
+-- the trait
+pub mod StandingLaws
+pub mod ShownCounts
 pub mod DomainPages
 pub mod SpillCounts
 pub mod NeedOfRange
 pub mod NeedOfChange
 pub mod NeedLaws
-pub mod DomainFrames
+pub mod DomainsChanged
 pub mod StandingAgain
+pub mod RootPlaces
+pub mod DomainRegions
+pub mod DomainChanges

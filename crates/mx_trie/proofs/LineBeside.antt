@@ -25,17 +25,19 @@ pub line-beside : (kind : Kind) → IsTrieKind kind → (spill : Frames) (lay : 
     ((m : List Perm) → IsBeside kind m lay b → IsLine kind spill m z e → map_right kind (laid_by lay m) z ≡ right) → IsLineChanged kind spill spill lay b z e e'
 line-beside kind k spill lay b z e e' perms left right none some told is same left_is right_is =
     line-changed kind k spill spill lay b z e e' (record {
-      perms = perms;
-      left = left;
-      right = right;
-      number = 0;
-      word = 0;
-      needs = false;
-      needs_is = sym (ap (needs_spill kind) (told some.map some.few some.line)
-          ∙ named-none (needs_spill kind (line_at some.map (z * 16))) (line_number kind e) (sym none ∙ line-named kind k spill some.map z e some.line));
-      put = put-none spill (spill_number kind e) none;
-      word_is = λ h. absurd (cc);
-      entry_is = is;
+      made = record {
+        perms = perms;
+        left = left;
+        right = right;
+        number = 0;
+        word = 0;
+        needs = false;
+        needs_is = sym (ap (needs_spill kind) (told some.map some.few some.line)
+            ∙ named-none (needs_spill kind (line_at some.map (z * 16))) (line_number kind e) (sym none ∙ line-named kind k spill some.map z e some.line));
+        put = put-none spill (spill_number kind e) none;
+        word_is = λ h. absurd (cc);
+        entry_is = is;
+      };
       room = λ h. absurd (cc);
       perms_are = λ m known line. same m known ∙ sym (told m (few-known kind m lay b known) line);
       left_is = left_is;

@@ -51,8 +51,8 @@ pub if-some : (P : ℕ → Type 0) (o p : Option ℕ) → o ≡ p → ((n : ℕ)
 if-some P None p e h = tt
 if-some P (Some n) p e h = h n (sym e)
 
--- an entry made of permissions, reaches and a spill word, which are those of line z after the change
-pub record IsLineMade (kind : Kind) (spill spill' : Frames) (lay : Laying) (beside : Beside) (z e e' : ℕ) : Type 0 where
+-- an entry made of permissions, reaches and a spill word, where `old` is the spill word of the entry before
+pub record IsEntryMade (kind : Kind) (spill spill' : Frames) (old : Option ℕ) (e' : ℕ) : Type 0 where
   pub perms : List Perm
   pub left : ℕ
   pub right : ℕ
@@ -60,46 +60,37 @@ pub record IsLineMade (kind : Kind) (spill spill' : Frames) (lay : Laying) (besi
   pub word : ℕ
   pub needs : Bool
   pub needs_is : needs ≡ needs_spill kind perms
-  pub put : IsSpillPut spill spill' (spill_number kind e) needs word number
+  pub put : IsSpillPut spill spill' old needs word number
   pub word_is : needs ≡ true → word ≡ packed perms
   pub entry_is : e' ≡ leaf_entry kind perms left right number
-  pub room : needs ≡ true → 1 ≤ cuts 16 z lay
-  pub perms_are : (m : List Perm) → IsBeside kind m lay beside → IsLine kind spill m z e → line_at (laid_by lay m) (z * 16) ≡ perms
-  pub left_is : (m : List Perm) → IsBeside kind m lay beside → IsLine kind spill m z e → map_left kind (laid_by lay m) z ≡ left
-  pub right_is : (m : List Perm) → IsBeside kind m lay beside → IsLine kind spill m z e → map_right kind (laid_by lay m) z ≡ right
 
 -- another frame than the one that a line's spill word had, or that was free
 apart-number : (o : Option ℕ) (spill : Frames) (number g : ℕ) → ((n : ℕ) → o ≡ Some n → number ≡ n) → (o ≡ None → frame_at spill number ≡ None) → IsTaken spill g → o ≢ Some g → g ≢ number
 apart-number None spill number g reused fresh taken ne = taken-differs spill g number taken (fresh refl)
 apart-number (Some r) spill number g reused fresh taken ne = λ same. ne (ap (λ (n : ℕ). Some n) (sym (reused r refl) ∙ sym same))
 
-module _ (kind : Kind) (k : IsTrieKind kind) (spill spill' : Frames) (lay : Laying) (beside : Beside) (z e e' : ℕ) (made : IsLineMade kind spill spill' lay beside z e e') where
+module _ (kind : Kind) (k : IsTrieKind kind) (spill spill' : Frames) (old : Option ℕ) (e' : ℕ) (made : IsEntryMade kind spill spill' old e') where
   named : spill_number kind e' ≡ (if made.needs then Some made.number else None)
   named =
       named-by kind k made.perms made.left made.right made.number e' made.entry_is
       ∙ ap (λ (b : Bool). if b then Some made.number else None) (sym made.needs_is)
 
-  clash : (g : ℕ) → IsTaken spill g → spill_number kind e ≢ Some g → made.needs ≡ true → g ≢ made.number
-  clash g taken ne needs = apart-number (spill_number kind e) spill made.number g (made.put.reused needs) (made.put.fresh needs) taken ne
+  clash : (g : ℕ) → IsTaken spill g → old ≢ Some g → made.needs ≡ true → g ≢ made.number
+  clash g taken ne needs = apart-number old spill made.number g (made.put.reused needs) (made.put.fresh needs) taken ne
 
-  stays : (a g : ℕ) → IsSome (heap [] [] spill a g) → (LineOwns kind e a g → ⊥) → heap [] [] spill' a g ≡ heap [] [] spill a g
-  stays zero g taken not = refl
-  stays (suc zero) g taken not = refl
-  stays (suc (suc zero)) g taken not = made.put.elsewhere g (clash g taken (λ f. not (refl, f))) (λ f. not (refl, f))
-  stays (suc (suc (suc a))) g taken not = refl
+  pub entry-stays : (g : ℕ) → IsTaken spill g → old ≢ Some g → frame_at spill' g ≡ frame_at spill g
+  entry-stays g taken ne = made.put.elsewhere g (clash g taken ne) ne
 
-  none : (a g : ℕ) → IsSome (heap [] [] spill a g) → (LineOwns kind e a g → ⊥) → LineOwns kind e' a g → ⊥
-  none zero g taken not own = absurd (let h = own.0 in omega arith)
-  none (suc zero) g taken not own = absurd (let h = own.0 in omega arith)
-  none (suc (suc zero)) g taken not own =
-      let both = named-some made.needs made.number g (sym own.1 ∙ named) in
-      clash g taken (λ f. not (refl, f)) both.0 both.1
-  none (suc (suc (suc a))) g taken not own = absurd (let h = own.0 in omega arith)
+  pub entry-fresh : (g : ℕ) → IsTaken spill g → old ≢ Some g → spill_number kind e' ≡ Some g → ⊥
+  entry-fresh g taken ne is = let both = named-some made.needs made.number g (sym is ∙ named) in clash g taken ne both.0 both.1
 
-  taken-now : (g : ℕ) → spill_number kind e' ≡ Some g → IsTaken spill' g
-  taken-now g is =
+  pub entry-taken : (g : ℕ) → spill_number kind e' ≡ Some g → IsTaken spill' g
+  entry-taken g is =
       let both = named-some made.needs made.number g (sym is ∙ named) in
       subst (λ n. IsTaken spill' n) (sym both.1) (made.put.stored both.0)
+
+  pub entry-some : is_some (spill_number kind e') ≡ made.needs
+  entry-some = some-named made.needs (spill_number kind e') made.number named
 
   number-is : line_number kind e' ≡ (if made.needs then made.number else 0)
   number-is = number-named made.needs (spill_number kind e') made.number named
@@ -111,32 +102,53 @@ module _ (kind : Kind) (k : IsTrieKind kind) (spill spill' : Frames) (lay : Layi
   small true = made.put.small
   small false = omega arith
 
-  shown-now : (m : List Perm) → IsBeside kind m lay beside → IsLine kind spill m z e → IsLine kind spill' (laid_by lay m) z e'
-  shown-now m known line =
-      let perms = made.perms_are m known line in
-      let needed : needs_spill kind (line_at (laid_by lay m) (z * 16)) ≡ true → made.needs ≡ true = λ h. made.needs_is ∙ sym (ap (needs_spill kind) perms) ∙ h in
+  pub entry-shown : (n : List Perm) (z : ℕ) → line_at n (z * 16) ≡ made.perms → map_left kind n z ≡ made.left → map_right kind n z ≡ made.right → IsLine kind spill' n z e'
+  entry-shown n z perms left right =
+      let needed : needs_spill kind (line_at n (z * 16)) ≡ true → made.needs ≡ true = λ h. made.needs_is ∙ sym (ap (needs_spill kind) perms) ∙ h in
       record {
         entry = made.entry_is
             ∙ entry-renumbered kind k made.perms made.left made.right made.number (line_number kind e') (λ h. sym (number-needed (made.needs_is ∙ h)))
             ∙ ap (λ (ps : List Perm). leaf_entry kind ps made.left made.right (line_number kind e')) (sym perms)
-            ∙ ap (λ l. leaf_entry kind (line_at (laid_by lay m) (z * 16)) l made.right (line_number kind e')) (sym (made.left_is m known line))
-            ∙ ap (λ r. leaf_entry kind (line_at (laid_by lay m) (z * 16)) (map_left kind (laid_by lay m) z) r (line_number kind e')) (sym (made.right_is m known line));
+            ∙ ap (λ l. leaf_entry kind (line_at n (z * 16)) l made.right (line_number kind e')) (sym left)
+            ∙ ap (λ r. leaf_entry kind (line_at n (z * 16)) (map_left kind n z) r (line_number kind e')) (sym right);
         spilled = λ h. ap (λ n. word_at spill' n 0) (number-needed (needed h)) ∙ made.put.word_is (needed h) ∙ made.word_is (needed h) ∙ ap packed (sym perms);
         numbered = omega (arith, number-is, small made.needs);
       }
 
-  room-now : (b : Bool) → made.needs ≡ b → bit made.needs ≤ cuts 16 z lay
-  room-now true h = omega (arith, made.room h, bit-le made.needs)
-  room-now false h = let none : bit made.needs ≡ 0 = ap bit h in omega arith
+-- the entry of line z after a change
+pub record IsLineMade (kind : Kind) (spill spill' : Frames) (lay : Laying) (beside : Beside) (z e e' : ℕ) : Type 0 where
+  pub made : IsEntryMade kind spill spill' (spill_number kind e) e'
+  pub room : made.needs ≡ true → 1 ≤ cuts 16 z lay
+  pub perms_are : (m : List Perm) → IsBeside kind m lay beside → IsLine kind spill m z e → line_at (laid_by lay m) (z * 16) ≡ made.perms
+  pub left_is : (m : List Perm) → IsBeside kind m lay beside → IsLine kind spill m z e → map_left kind (laid_by lay m) z ≡ made.left
+  pub right_is : (m : List Perm) → IsBeside kind m lay beside → IsLine kind spill m z e → map_right kind (laid_by lay m) z ≡ made.right
+
+module _ (kind : Kind) (k : IsTrieKind kind) (spill spill' : Frames) (lay : Laying) (beside : Beside) (z e e' : ℕ) (line : IsLineMade kind spill spill' lay beside z e e') where
+  stays : (a g : ℕ) → IsSome (heap [] [] spill a g) → (LineOwns kind e a g → ⊥) → heap [] [] spill' a g ≡ heap [] [] spill a g
+  stays zero g taken not = refl
+  stays (suc zero) g taken not = refl
+  stays (suc (suc zero)) g taken not = entry-stays kind k spill spill' (spill_number kind e) e' line.made g taken (λ f. not (refl, f))
+  stays (suc (suc (suc a))) g taken not = refl
+
+  none : (a g : ℕ) → IsSome (heap [] [] spill a g) → (LineOwns kind e a g → ⊥) → LineOwns kind e' a g → ⊥
+  none zero g taken not own = absurd (let h = own.0 in omega arith)
+  none (suc zero) g taken not own = absurd (let h = own.0 in omega arith)
+  none (suc (suc zero)) g taken not own = entry-fresh kind k spill spill' (spill_number kind e) e' line.made g taken (λ f. not (refl, f)) own.1
+  none (suc (suc (suc a))) g taken not own = absurd (let h = own.0 in omega arith)
+
+  room-now : (b : Bool) → line.made.needs ≡ b → bit line.made.needs ≤ cuts 16 z lay
+  room-now true h = omega (arith, line.room h, bit-le line.made.needs)
+  room-now false h = let none : bit line.made.needs ≡ 0 = ap bit h in omega arith
 
   pub line-changed : IsLineChanged kind spill spill' lay beside z e e'
   line-changed =
-      let some : is_some (spill_number kind e') ≡ made.needs = some-named made.needs (spill_number kind e') made.number named in
-      let same : bit (is_some (spill_number kind e')) ≡ bit made.needs = ap bit some in
+      let made = line.made in
+      let same : bit (is_some (spill_number kind e')) ≡ bit made.needs = ap bit (entry-some kind k spill spill' (spill_number kind e) e' made) in
       record {
         move = record { stays = stays; none = none };
-        taken = taken-now;
-        shown = shown-now;
+        taken = entry-taken kind k spill spill' (spill_number kind e) e' made;
+        shown = λ m known was.
+            entry-shown kind k spill spill' (spill_number kind e) e' made (laid_by lay m) z (line.perms_are m known was) (line.left_is m known was) (line.right_is m known was);
         count = omega (arith, same, made.put.free);
         room = omega (arith, made.put.free, room-now made.needs refl);
         total = made.put.total;

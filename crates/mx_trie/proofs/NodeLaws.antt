@@ -34,16 +34,12 @@ module _ (h h' : Heap) (pool frame n : ℕ) (Owns Owns' : ℕ → ℕ → ℕ �
     other = λ i below own. node.other i below (same i pool frame below own);
   }
 
--- of n parts, from the one with number `from` on, those before number `next` are done and the others aren't yet: one more is done
-module _ (n from next : ℕ) (Done Ahead Done' Ahead' : ℕ → Type 0)
-    (done : (k : ℕ) → k < n → from + k < next → Done k) (ahead : (k : ℕ) → k < n → next ≤ from + k → Ahead k)
-    (done-kept : (k : ℕ) → k < n → from + k ≢ next → Done k → Done' k) (ahead-kept : (k : ℕ) → k < n → from + k ≢ next → Ahead k → Ahead' k)
-    (step : (k : ℕ) → k < n → from + k ≡ next → Ahead k → Done' k) where
-  pub done-more : (k : ℕ) → k < n → from + k < next + 1 → Done' k
-  done-more k below lt = elim (cases_lt (from + k) next) [
-    | inl h ↦ done-kept k below (λ e. omega arith) (done k below h)
-    | inr h ↦ step k below (omega arith) (ahead k below h)
-  ]
-
-  pub ahead-more : (k : ℕ) → k < n → next + 1 ≤ from + k → Ahead' k
-  ahead-more k below le = ahead-kept k below (λ e. omega arith) (ahead k below (omega arith))
+-- of n parts by their numbers those before number `next` are done and the others aren't yet: one more is done
+pub done-more : (n next : ℕ) (number : ℕ → ℕ) (Done Ahead Done' : ℕ → Type 0) →
+    ((k : ℕ) → k < n → number k < next → Done k) → ((k : ℕ) → k < n → next ≤ number k → Ahead k) →
+    ((k : ℕ) → k < n → number k ≢ next → Done k → Done' k) → ((k : ℕ) → k < n → number k ≡ next → Ahead k → Done' k) →
+    (k : ℕ) → k < n → number k < next + 1 → Done' k
+done-more n next number Done Ahead Done' done ahead kept step k below lt = elim (cases_lt (number k) next) [
+  | inl h ↦ kept k below (λ e. omega arith) (done k below h)
+  | inr h ↦ step k below (omega arith) (ahead k below h)
+]

@@ -103,11 +103,11 @@ module _ (kind : Kind) (leaf spill leaf' : Frames) (lay : Laying) (beside : Besi
       }
 
 -- what the told entry of a page says
-told-some : (b : Bool) (v e : ℕ) → Some e ≡ (if b then None else Some v) → (b ≡ false) × (e ≡ v)
+pub told-some : (b : Bool) (v e : ℕ) → Some e ≡ (if b then None else Some v) → (b ≡ false) × (e ≡ v)
 told-some true v e h = absurd (cc)
 told-some false v e h = (refl, cc)
 
-told-none : (b : Bool) (v : ℕ) → None ≡ (if b then None else Some v) → b ≡ true
+pub told-none : (b : Bool) (v : ℕ) → None ≡ (if b then None else Some v) → b ≡ true
 told-none true v h = refl
 told-none false v h = cc
 

@@ -4,13 +4,14 @@ use Rattle.std.proofs.lemmas.Bool.{cases_lt}
 use Rattle.mx_words.specs.declared.perm.Perm.{Perm}
 use Rattle.mx_words.specs.declared.tables.Kind.{Kind}
 use Rattle.mx_words.specs.Counting.{bit, count_below, sum_below}
-use Rattle.mx_words.proofs.CountingLaws.{cases_below, count_below_none, sum_below_agree}
+use Rattle.mx_words.proofs.CountingLaws.{cases_below, count_below_none}
 use Rattle.mx_table.specs.Tables.{most_words}
 use Rattle.mx_pool.specs.Frames.{word_at, free_in}
 use Rattle.mx_trie.specs.declared.laying.Laying.{Laying}
 use Rattle.mx_trie.specs.declared.laying.Beside.{Beside}
 use Rattle.mx_trie.specs.Leaf.{IsTrieKind, form_reach}
-use Rattle.mx_trie.specs.Walk.{Frames, most_regions, is_pointer, target}
+use Rattle.mx_trie.specs.Ranges.{IsApart}
+use Rattle.mx_trie.specs.Walk.{Frames, most_pages, most_regions, is_pointer, target}
 use Rattle.mx_trie.specs.Heap.{heap, IsMove}
 use Rattle.mx_trie.specs.Owned.{PlacesOwn, PageOwns, MidOwns, IsLeafTable, IsMidTable, line_spills, page_spills, region_spills, region_leaves}
 use Rattle.mx_trie.specs.Shown.{IsPage, ArePages}
@@ -19,7 +20,7 @@ use Rattle.mx_trie.specs.Changed.{IsPageChanged, ArePagesChanged}
 use Rattle.mx_trie.specs.Steps.{IsPlaceWritten, IsPageFreed, ArePagesFreed, IsSomePage, AreSomePages}
 use Rattle.mx_trie.specs.OnWay.{cuts_left, ArePagesMoved, ArePagesEmptied, ArePagesOnWay}
 use Rattle.mx_trie.proofs.HeapLaws.{move-then, move-none}
-use Rattle.mx_trie.proofs.NodeLaws.{node-taken, done-more, ahead-more}
+use Rattle.mx_trie.proofs.NodeLaws.{node-taken, done-more}
 use Rattle.mx_trie.proofs.EntryPuts.{IsLevel, IsEntryPut, entry-node, entry-move, entry-count, entry-sum, holds-all, holds-other}
 use Rattle.mx_trie.proofs.RegionFrames.{PageOf, page-owns-same, page-table-kept, page-kept, page_spills-same}
 use Rattle.mx_trie.proofs.PageLines.{word-kept, far-before, far-behind}
@@ -169,10 +170,10 @@ module _ (kind : Kind) (upper leaf spill upper' leaf' spill' upper'' leaf'' spil
     closed = λ k lt. elim (cases_below k next (omega arith)) [ inl h ↦ way.closed k h | inr h ↦ ap (λ i. is_pointer (word_at upper' frame i)) h ∙ closed ];
   }
 
-sum_below-none : (n : ℕ) → sum_below n (λ k. 0) ≡ 0
+pub sum_below-none : (n : ℕ) (f : ℕ → ℕ) → ((i : ℕ) → i < n → f i ≡ 0) → sum_below n f ≡ 0
 unfolding sum_below
-sum_below-none zero = refl
-sum_below-none (suc n) = omega (arith, sum_below-none n)
+sum_below-none zero f none = refl
+sum_below-none (suc n) f none = omega (arith, none n (omega arith), sum_below-none n f (λ i below. none i (omega arith)))
 
 -- no page of a mid table has a table
 module _ (kind : Kind) (upper leaf : Frames) (frame : ℕ) (closed : (k : ℕ) → k < 1024 → is_pointer (word_at upper frame k) ≡ false) where
@@ -182,8 +183,7 @@ module _ (kind : Kind) (upper leaf : Frames) (frame : ℕ) (closed : (k : ℕ) �
   pub no-spills : region_spills kind upper leaf (4 * frame) ≡ 0
   no-spills =
       spills-below kind upper leaf frame
-      ∙ sum_below_agree 1024 (λ k. page_spills kind leaf (word_at upper frame k)) (λ k. 0) (λ k below. closed-spills kind leaf (word_at upper frame k) (closed k below))
-      ∙ sum_below-none 1024
+      ∙ sum_below-none 1024 (λ k. page_spills kind leaf (word_at upper frame k)) (λ k below. closed-spills kind leaf (word_at upper frame k) (closed k below))
 
 pub pages-freed : (kind : Kind) (upper leaf spill upper' leaf' spill' : Frames) (frame : ℕ) → ArePagesEmptied kind upper leaf spill upper' leaf' spill' frame 1024 →
     ArePagesFreed kind upper leaf spill upper' leaf' spill' frame
@@ -201,3 +201,109 @@ pages-freed kind upper leaf spill upper' leaf' spill' frame way =
       spill_count = omega (arith, sc, no-spills kind upper' leaf' frame way.closed);
       spill_total = moved.spill_total;
     }
+
+-- a page far from the range
+pub far-page : (kind : Kind) (leaf spill : Frames) (m : List Perm) (lay : Laying) (b : Beside) → IsBeside kind m lay b → (y e : ℕ) → y < most_pages →
+    (y < (lay.first - form_reach kind) / 1024) ⊎ (min (lay.end - 1 + form_reach kind) (most_words - 1) / 1024 < y) → IsPage kind leaf spill m y e → IsPage kind leaf spill (laid_by lay m) y e
+far-page kind leaf spill m lay b known y e below far page =
+    let some = lay.some in
+    let apart : IsApart lay.first lay.end (y * 1024) (y * 1024 + 1024) = elim far [ inl h ↦ inl (omega arith) | inr h ↦ inr (omega arith) ] in
+    record {
+      broken = page.broken ∙ sym (apart-broken lay m 1024 y apart);
+      vector_is = λ closed. page.vector_is closed ∙ sym (apart-vector lay m 1024 128 y apart refl refl (omega arith));
+      lines = λ pointer i inside. elim far [
+        | inl h ↦ far-before kind spill m lay b known (y * 64 + i) (word_at leaf (target e) i) (omega arith) (omega arith) (page.lines pointer i inside)
+        | inr h ↦ far-behind kind spill m lay b known (y * 64 + i) (word_at leaf (target e) i) (omega arith) (omega arith) (page.lines pointer i inside)
+      ];
+    }
+
+module _ (kind : Kind) (k : IsTrieKind kind) (upper leaf spill : Frames) (lay : Laying) (beside : Beside) (x frame : ℕ) (below : x < most_regions) where
+  -- nothing is changed yet
+  pub pages-none : (next : ℕ) → IsMidTable kind upper leaf spill frame → x * 1024 ≤ next → ((k : ℕ) → k < 1024 → x * 1024 + k < next → x * 1024 + k < (lay.first - form_reach kind) / 1024) →
+      ArePagesOnWay kind upper leaf spill upper leaf spill lay beside x frame next
+  pages-none next table from far = record {
+    moved = pages-same kind upper leaf spill frame table;
+    done = λ m known pages i inside lt. far-page kind leaf spill m lay beside known (x * 1024 + i) (word_at upper frame i) (omega arith) (inl (far i inside lt)) (pages i inside);
+    ahead = λ m known pages i inside le. pages i inside;
+    leaf_room = room-start (free_in leaf) (cuts 1048576 x lay) (cuts_left 1024 next (x * 1048576 + 1048576) lay) (cuts-start 1024 next 1048576 x lay (omega arith));
+    spill_room = room-start (free_in spill) (cuts 1048576 x lay) (cuts_left 1024 next (x * 1048576 + 1048576) lay) (cuts-start 1024 next 1048576 x lay (omega arith));
+  }
+
+  module _ (upper' leaf' spill' : Frames) (next : ℕ) (way : ArePagesOnWay kind upper leaf spill upper' leaf' spill' lay beside x frame next) where
+    -- all pages are changed that may be
+    pub pages-all : ((k : ℕ) → k < 1024 → next ≤ x * 1024 + k → min (lay.end - 1 + form_reach kind) (most_words - 1) / 1024 < x * 1024 + k) →
+        ArePagesChanged kind upper leaf spill upper' leaf' spill' lay beside x frame
+    pages-all far =
+        let moved = way.moved in
+        record {
+          table = moved.table;
+          move = moved.move;
+          shown = λ m known pages i inside. elim (cases_lt (x * 1024 + i) next) [
+            | inl h ↦ way.done m known pages i inside h
+            | inr h ↦ far-page kind leaf' spill' m lay beside known (x * 1024 + i) (word_at upper' frame i) (omega arith) (inr (far i inside h)) (way.ahead m known pages i inside h)
+          ];
+          upper_count = moved.upper_count;
+          upper_total = moved.upper_total;
+          leaf_count = moved.leaf_count;
+          leaf_room = room-end (free_in leaf) (free_in leaf') (cuts 1048576 x lay) (cuts_left 1024 next (x * 1048576 + 1048576) lay) way.leaf_room;
+          leaf_total = moved.leaf_total;
+          spill_count = moved.spill_count;
+          spill_room = room-end (free_in spill) (free_in spill') (cuts 1048576 x lay) (cuts_left 1024 next (x * 1048576 + 1048576) lay) way.spill_room;
+          spill_total = moved.spill_total;
+        }
+
+    module _ (from : x * 1024 ≤ next) (to : next < x * 1024 + 1024) (e : ℕ) (is : e ≡ word_at upper' frame (next % 1024)) where
+      within : next % 1024 < 1024
+      within = omega arith
+
+      -- the next page's entry
+      at-next : (m : List Perm) → IsBeside kind m lay beside → ArePages kind upper leaf spill m x frame → IsPage kind leaf' spill' m next e
+      at-next m known pages =
+          let at : x * 1024 + next % 1024 ≡ next = omega arith in
+          let T : ℕ → Type 0 = λ y. IsPage kind leaf' spill' m y (word_at upper' frame (next % 1024)) in
+          subst (λ w. IsPage kind leaf' spill' m next w) (sym is) (subst T at (way.ahead m known pages (next % 1024) within (omega arith)))
+
+      pub next-page : AreSomePages kind upper leaf spill lay beside x frame → IsSomePage kind leaf' spill' lay beside next e
+      next-page some = record { map = some.map; known = some.known; page = at-next some.map some.known some.pages }
+
+      pub next-table : is_pointer e ≡ true → IsLeafTable kind leaf' spill' (target e)
+      next-table = page-at kind upper' leaf' spill' frame (next % 1024) e within is way.moved.table
+
+      -- one more page is changed
+      module _ (upper'' leaf'' spill'' : Frames) (e' : ℕ) (told : IsPageChanged kind leaf' spill' leaf'' spill'' lay beside next e e') (written : IsPlaceWritten upper' upper'' frame (next % 1024) e') where
+        page : IsPageMoved kind leaf' spill' leaf'' spill'' (word_at upper' frame (next % 1024)) e'
+        page =
+            let T : ℕ → Type 0 = λ w. IsPageMoved kind leaf' spill' leaf'' spill'' w e' in
+            subst T is (record {
+              table = told.table;
+              move = told.move;
+              leaf_count = told.leaf_count;
+              leaf_total = told.leaf_total;
+              spill_count = told.spill_count;
+              spill_total = told.spill_total;
+            })
+
+        other : (m : List Perm) (i : ℕ) → i < 1024 → x * 1024 + i ≢ next → IsPage kind leaf' spill' m (x * 1024 + i) (word_at upper' frame i) → IsPage kind leaf'' spill'' m (x * 1024 + i) (word_at upper'' frame i)
+        other m i inside ne = page-other kind upper' leaf' spill' leaf'' spill'' upper'' frame (next % 1024) e' within way.moved.table page written k m (x * 1024 + i) i inside (λ h. ne (omega arith))
+
+        step : (m : List Perm) → IsBeside kind m lay beside → ArePages kind upper leaf spill m x frame → (i : ℕ) → i < 1024 → x * 1024 + i ≡ next → IsPage kind leaf'' spill'' (laid_by lay m) (x * 1024 + i) (word_at upper'' frame i)
+        step m known pages i inside at =
+            let place : i ≡ next % 1024 = omega arith in
+            let w : word_at upper'' frame i ≡ e' = ap (word_at upper'' frame) place ∙ written.here in
+            let T : ℕ → Type 0 = λ y. IsPage kind leaf'' spill'' (laid_by lay m) y (word_at upper'' frame i) in
+            subst T (sym at) (subst (λ v. IsPage kind leaf'' spill'' (laid_by lay m) next v) (sym w) (told.shown m known (at-next m known pages)))
+
+        pub pages-more : ArePagesOnWay kind upper leaf spill upper'' leaf'' spill'' lay beside x frame (next + 1)
+        pages-more =
+            let less = cuts-step 1024 next (x * 1048576 + 1048576) lay (omega arith) (omega arith) in
+            record {
+              moved = pages-moved kind upper' leaf' spill' leaf'' spill'' upper'' frame (next % 1024) e' within way.moved.table page written upper leaf spill way.moved;
+              done = λ m known pages.
+                  done-more 1024 next (λ i. x * 1024 + i) (λ i. IsPage kind leaf' spill' (laid_by lay m) (x * 1024 + i) (word_at upper' frame i)) (λ i. IsPage kind leaf' spill' m (x * 1024 + i) (word_at upper' frame i))
+                  (λ i. IsPage kind leaf'' spill'' (laid_by lay m) (x * 1024 + i) (word_at upper'' frame i)) (way.done m known pages) (way.ahead m known pages) (other (laid_by lay m)) (λ i inside at was. step m known pages i inside at);
+              ahead = λ m known pages i inside le. other m i inside (λ h. omega arith) (way.ahead m known pages i inside (omega arith));
+              leaf_room = room-more (free_in leaf) (free_in leaf') (free_in leaf'') (cuts 1048576 x lay) (cuts_left 1024 next (x * 1048576 + 1048576) lay) (cuts_left 1024 (next + 1) (x * 1048576 + 1048576) lay) (cuts 1024 next lay)
+                  way.leaf_room told.leaf_room less;
+              spill_room = room-more (free_in spill) (free_in spill') (free_in spill'') (cuts 1048576 x lay) (cuts_left 1024 next (x * 1048576 + 1048576) lay) (cuts_left 1024 (next + 1) (x * 1048576 + 1048576) lay) (cuts 1024 next lay)
+                  way.spill_room told.spill_room less;
+            }

@@ -20,7 +20,7 @@ module _ (kind : Kind) (upper leaf spill : Frames) (m : List Perm) (b entry : �
       vector-part 1024 128 m b (i / 128 % 8) (i % 128) entry refl (omega arith) (omega arith) (omega arith) (even-of m b (sym page.broken ∙ closed)) (page.vector_is closed)
       ∙ ap (λ n. number (perm_at m n)) here
 
-  region-even : IsRegion kind upper leaf spill m b entry → IsEven m (b * region_words) 131072
+  pub region-even : IsRegion kind upper leaf spill m b entry → IsEven m (b * region_words) 131072
   region-even region = even_from 1048576 131072 m b refl refl (omega arith) (not-false (is_eighth_uniform region_words (block_of region_words m b)) (sym region.broken ∙ closed))
 
   pub region-word : IsRegion kind upper leaf spill m b entry → (i : ℕ) → i / 1048576 ≡ b → digit (entry / 4) (i / 131072 % 8) ≡ number (perm_at m i)

@@ -1,7 +1,5 @@
 -- The maps of tables have the shape that the trait promises.
 use Rattle.std.proofs.Common.{◌≡◌, ℕ, ◌-◌, ◌≤◌, List, [], length, ap, ◌∙◌, arith}
-use Rattle.std.proofs.Props.{props}
-use Rattle.std.proofs.Math.Logic.{∥∥₁_elim}
 use Rattle.std.proofs.lemmas.List.{get_or-map, length-map}
 use Rattle.mx_words.specs.declared.perm.Perm.{Perm}
 use Rattle.mx_words.specs.declared.tables.Kind.{Kind}
@@ -30,9 +28,9 @@ length-map_of kind upper leaf spill words roots d first last =
     ap (λ (m : List Perm). length m) (map_of-read kind upper leaf spill words roots d first last) ∙ length-read_map kind upper leaf spill words roots (root_of roots d)
 
 -- tables that stand have maps of the shape that the trait promises
-shape_of-standing : (kind : Kind) (upper leaf spill : Frames) (roots : List ℕ) (words : ℕ) (limit : Need) → IsStanding kind upper leaf spill roots words limit →
+pub shaped_of : (kind : Kind) (upper leaf spill : Frames) (roots : List ℕ) (words : ℕ) (limit : Need) → IsStanding kind upper leaf spill roots words limit →
     IsShaped kind words limit (read_maps kind upper leaf spill words roots)
-shape_of-standing kind upper leaf spill roots words limit stands =
+shaped_of kind upper leaf spill roots words limit stands =
     let same : length (read_maps kind upper leaf spill words roots) ≡ length roots = length-read_maps kind upper leaf spill words roots in
     let some = stands.some_domains in
     let few = stands.few_domains in
@@ -48,11 +46,3 @@ shape_of-standing kind upper leaf spill roots words limit stands =
       limited = stands.limited;
       fit = stands.fit;
     }
-
-is_shaped-prop : (kind : Kind) (words : ℕ) (limit : Need) (maps : List (List Perm)) → IsProp (IsShaped kind words limit maps)
-is_shaped-prop kind words limit maps = hlevel props
-
-pub shaped_of : (kind : Kind) (upper leaf spill : Frames) (roots : List ℕ) (words : ℕ) (limit : Need) → ∥ IsStanding kind upper leaf spill roots words limit ∥₁ →
-    IsShaped kind words limit (read_maps kind upper leaf spill words roots)
-shaped_of kind upper leaf spill roots words limit kept =
-    ∥∥₁_elim kept (is_shaped-prop kind words limit (read_maps kind upper leaf spill words roots)) (shape_of-standing kind upper leaf spill roots words limit)

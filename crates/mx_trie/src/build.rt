@@ -1,16 +1,14 @@
 //! Tables built from rows of spans.
 ghost use Rattle.std.specs.Prelude.{◌≡◌, ℕ, ◌+◌, ◌*◌, ◌<◌, ◌≤◌, ◌^◌, [], true, length, replicate, None, sum_by, All, IfOk, slice_index_or};
 ghost use Rattle.mx_words.specs.Blocks.{is_broken};
-ghost use Rattle.mx_words.specs.Counting.{bit};
-ghost use Rattle.mx_words.specs.Reach.{line_at};
+ghost use Rattle.mx_words.specs.Counting.{bit, sum_below};
 ghost use Rattle.mx_words.specs.Runs.{page_words, region_words, broken_blocks};
 ghost use Rattle.mx_pool.specs.Frames.{free_in};
 ghost use Rattle.mx_table.specs.Tables.{most_words, most_modules, row_map, IsRow};
-ghost use Rattle.mx_trie.specs.Leaf.{needs_spill};
 ghost use Rattle.mx_trie.specs.Walk.{most_regions, most_pages, most_lines};
 ghost use Rattle.mx_trie.specs.Laying.{spill_lines};
 ghost use Rattle.mx_trie.specs.Standing.{map_at, IsTables};
-ghost use Rattle.mx_trie.specs.Built.{page_crowd, region_broken, region_crowd, IsLineBuilt, AreLinesBuilt, IsPageBuilt, ArePagesBuilt, IsRegionBuilt, IsRootBuilt};
+ghost use Rattle.mx_trie.specs.Built.{line_crowd, page_crowd, region_broken, region_crowd, IsLineBuilt, AreLinesBuilt, IsPageBuilt, ArePagesBuilt, IsRegionBuilt, AreRegionsBuilt};
 
 use crate::beside::{line_left, line_right};
 use crate::counts::need_of;
@@ -22,7 +20,7 @@ use crate::sizes::{PAGE_LINES, REGION_PAGES};
 use crate::view::View;
 use crate::{LeafForm, Roots, Vector};
 use mx_pool::Pool;
-use mx_words::{Need, NoMemory, Perm, Spans};
+use mx_words::{Need, NoMemory, Spans};
 use std::alloc::Global;
 
 /// What all rows' maps need.
@@ -57,7 +55,7 @@ fn build_line<L: LeafForm, V: View>(spill: &mut Pool<1>, view: &V, words: u32, l
     requires words { words ≡ length (V.map view.now) }
     requires few { words ≤ most_words }
     requires line { line < most_lines }
-    requires room { needs_spill L.kind (line_at (V.map view.now) (line * 16)) ≡ true → 0 < free_in spill.old }
+    requires room { line_crowd L.kind (V.map view.now) line ≤ free_in spill.old }
     ensures { IsLineBuilt L.kind spill.old spill.new (V.map view.now) line result }
 {
     let perms = line_perms(view, line);
@@ -83,13 +81,12 @@ fn build_lines<L: LeafForm, V: View>(
     requires leaf_room { 0 < free_in leaf.old }
     requires spill_room { page_crowd L.kind (V.map view.now) page ≤ free_in spill.old }
     ensures small { result < 2 ^ 30 }
-    ensures built { AreLinesBuilt L.kind leaf.old spill.old leaf.new spill.new (V.map view.now) page result }
+    ensures built { AreLinesBuilt L.kind leaf.old spill.old leaf.new spill.new (V.map view.now) page result 64 }
 {
     let frame = match leaf.take() {
         Some(frame) => frame,
         None => unreachable!(),
     };
-    leaf.fill(frame, 0, PAGE_LINES, L::flat(Perm::None, 0, 0));
     for line in 0..PAGE_LINES {
         let entry = build_line::<L, V>(spill, view, words, page * PAGE_LINES + line);
         leaf.set(frame, line, entry);
@@ -138,13 +135,12 @@ fn build_pages<L: LeafForm, V: View>(
     requires spill_room { region_crowd L.kind (V.map view.now) region ≤ free_in spill.old }
     ensures small { result < 2 ^ 30 }
     ensures built { ArePagesBuilt L.kind upper.old leaf.old spill.old upper.new leaf.new spill.new
-        (V.map view.now) region result }
+        (V.map view.now) region result 1024 }
 {
     let frame = match upper.take() {
         Some(frame) => frame,
         None => unreachable!(),
     };
-    upper.fill(frame, 0, REGION_PAGES, 1);
     for page in 0..REGION_PAGES {
         let entry = build_page::<L, V>(leaf, spill, view, words, region * REGION_PAGES + page);
         upper.set(frame, page, entry);
@@ -189,17 +185,17 @@ fn build_root<L: LeafForm, V: View>(
     requires lawful { V.lawful view.now }
     requires words { words ≡ length (V.map view.now) }
     requires few { words ≤ most_words }
-    requires upper_room { 1 + broken_blocks region_words (V.map view.now) ≤ free_in upper.old }
-    requires leaf_room { broken_blocks page_words (V.map view.now) ≤ free_in leaf.old }
-    requires spill_room { spill_lines L.kind (V.map view.now) ≤ free_in spill.old }
-    ensures { IsRootBuilt L.kind upper.old leaf.old spill.old upper.new leaf.new spill.new
-        (V.map view.now) result }
+    requires upper_room { 1 + sum_below most_regions (λ x. bit (is_broken region_words (V.map view.now) x))
+        ≤ free_in upper.old }
+    requires leaf_room { sum_below most_regions (region_broken (V.map view.now)) ≤ free_in leaf.old }
+    requires spill_room { sum_below most_regions (region_crowd L.kind (V.map view.now)) ≤ free_in spill.old }
+    ensures { AreRegionsBuilt L.kind upper.old leaf.old spill.old upper.new leaf.new spill.new
+        (V.map view.now) result most_regions }
 {
     let root = match upper.take() {
         Some(frame) => frame,
         None => unreachable!(),
     };
-    upper.fill(root, 0, 1024, 1);
     for region in 0..16 {
         let entry = build_region::<L, V>(upper, leaf, spill, view, words, region);
         set_root_entry(upper, root, region, entry);

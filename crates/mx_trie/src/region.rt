@@ -105,6 +105,7 @@ fn open_region(upper: &mut Pool<1024>, entry: u32) -> u32
 /// The entry of a region with a mid table after its pages were changed: the table, or a vector where the region is eighth-uniform,
 /// and then the table is given back.
 fn close_region(upper: &mut Pool<1024>, region: u32, frame: u32, lay: &Laying) -> u32
+    requires region { region < most_regions }
     requires frame { frame < 2 ^ 30 }
     requires taken { IsTaken upper.old frame }
     ensures { (kind : Kind) (leaf spill : Frames) → IsClosableRegion kind upper.old leaf spill region frame →

@@ -39,7 +39,7 @@ pub struct Trie<L: LeafForm> {
     pub lookups: u64,
     /// The form of the leaf entries.
     pub form: PhantomData<L>,
-    pub ghost stands: { ∥ IsStanding L.kind upper leaf spill roots words limit ∥₁ },
+    pub ghost stands: { IsStanding L.kind upper leaf spill roots words limit },
 }
 
 impl<L: LeafForm> Trie<L> {

@@ -8,7 +8,7 @@ use Rattle.mx_trie.specs.Standing.{root_at, map_at}
 use Rattle.mx_trie.specs.After.{IsNeedWith, IsNeedMoved, maps_until}
 use Rattle.mx_trie.specs.Read.{read_map}
 use Rattle.mx_trie.specs.Shape.{length-read_map}
-use Rattle.mx_trie.proofs.DomainFrames.{tables-read}
+use Rattle.mx_trie.proofs.DomainsChanged.{tables-read}
 use Rattle.mx_trie.proofs.NeedOfChange.{until-new, until-old, until-short, need-agree, need-next, need-part, need-small}
 use Rattle.mx_trie.proofs.after.need_after.Goals as goal
 

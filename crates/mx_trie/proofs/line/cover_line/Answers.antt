@@ -22,16 +22,18 @@ returns g c =
     let to = c.requires.to in
     line-changed g.L.LeafForm.kind g.met.L.LeafForm.trie c.args.spill.now c.put_spill.new.spill c.args.lay.now c.args.beside.now c.args.line c.args.entry c.flat.result
     (record {
-      perms = flat_line c.args.lay.now.perm;
-      left = c.min-left.result;
-      right = c.min-right.result;
-      number = c.put_spill.result;
-      word = 0;
-      needs = false;
-      needs_is = sym (flat-needs g.L.LeafForm.kind c.args.lay.now.perm);
-      put = subst (λ (o : Option ℕ). IsSpillPut c.args.spill.now c.put_spill.new.spill o false 0 c.put_spill.result) c.spill_of.ensures.value c.put_spill.ensures;
-      word_is = λ h. absurd (cc);
-      entry_is = c.flat.ensures c.put_spill.result;
+      made = record {
+        perms = flat_line c.args.lay.now.perm;
+        left = c.min-left.result;
+        right = c.min-right.result;
+        number = c.put_spill.result;
+        word = 0;
+        needs = false;
+        needs_is = sym (flat-needs g.L.LeafForm.kind c.args.lay.now.perm);
+        put = subst (λ (o : Option ℕ). IsSpillPut c.args.spill.now c.put_spill.new.spill o false 0 c.put_spill.result) c.spill_of.ensures.value c.put_spill.ensures;
+        word_is = λ h. absurd (cc);
+        entry_is = c.flat.ensures c.put_spill.result;
+      };
       room = λ h. absurd (cc);
       perms_are = λ m known line. cover-perms g.L.LeafForm.kind m c.args.lay.now c.args.beside.now known c.args.line c.requires.line from to;
       left_is = λ m known line.

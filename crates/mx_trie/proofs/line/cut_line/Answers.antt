@@ -12,16 +12,18 @@ pub returns : goal.returns
 returns g c =
     line-changed g.L.LeafForm.kind g.met.L.LeafForm.trie c.args.spill.now c.put_spill-number.new.spill c.args.lay.now c.args.beside.now c.args.line c.args.entry c.entry.result
     (record {
-      perms = c.lay_over-new.result;
-      left = c.min-2.result;
-      right = c.min-3.result;
-      number = c.put_spill-number.result;
-      word = c.entry-word.result;
-      needs = c.needs_spill.result;
-      needs_is = c.needs_spill.ensures;
-      put = subst (λ (o : Option ℕ). IsSpillPut c.args.spill.now c.put_spill-number.new.spill o c.needs_spill.result c.entry-word.result c.put_spill-number.result) c.spill_of.ensures.value c.put_spill-number.ensures;
-      word_is = λ h. c.entry-word.ensures;
-      entry_is = c.entry.ensures;
+      made = record {
+        perms = c.lay_over-new.result;
+        left = c.min-2.result;
+        right = c.min-3.result;
+        number = c.put_spill-number.result;
+        word = c.entry-word.result;
+        needs = c.needs_spill.result;
+        needs_is = c.needs_spill.ensures;
+        put = subst (λ (o : Option ℕ). IsSpillPut c.args.spill.now c.put_spill-number.new.spill o c.needs_spill.result c.entry-word.result c.put_spill-number.result) c.spill_of.ensures.value c.put_spill-number.ensures;
+        word_is = λ h. c.entry-word.ensures;
+        entry_is = c.entry.ensures;
+      };
       room = λ h. (let before = c.requires.before in let behind = c.requires.behind in elim c.requires.part [ inl x ↦ omega arith | inr x ↦ omega arith ]);
       perms_are = λ m known line.
           (let long = known.long in let few = c.args.lay.now.few in

@@ -1,0 +1,25 @@
+use Rattle.std.proofs.Common.{◌+◌, ◌*◌, [], IsSome, refl, sym, subst, arith}
+use Rattle.mx_trie.specs.Built.{line_crowd}
+use Rattle.mx_trie.proofs.BuiltBlocks.{lines-begun, lines-built-more, taken-left}
+use Rattle.mx_trie.proofs.build.build_lines.Goals as goal
+
+pub loop-line-init : goal.loop-line-init
+loop-line-init g c =
+    let e = c.in-Some.ensures in
+    lines-begun g.L.LeafForm.kind g.met.L.LeafForm.trie (g.V.View.map c.args.view.now) c.args.page c.args.leaf.now c.args.spill.now c.take.new.self c.in-Some.frame
+    e.was_free (subst (λ o. IsSome o) (sym e.here) refl) e.elsewhere (record { count = e.fewer; total = e.total })
+
+pub build_line-entry-requires-clause-room : goal.build_line-entry-requires-clause-room
+build_line-entry-requires-clause-room g c =
+    taken-left c.args.spill.now c.loop-line.spill c.loop-line.line 64 (λ i. line_crowd g.L.LeafForm.kind (g.V.View.map c.args.view.now) (c.args.page * 64 + i))
+    c.loop-line.invariant.spill_taken (omega (arith, c.loop-line-test.true)) c.requires.spill_room
+
+pub set-requires : goal.set-requires
+set-requires g c = (omega arith, ((c.loop-line.invariant.built []).self 1 c.in-Some.frame (refl, refl), omega (arith, c.loop-line-test.true)))
+
+pub loop-line-preserved : goal.loop-line-preserved
+loop-line-preserved g c =
+    let e = c.set.ensures in
+    lines-built-more g.L.LeafForm.kind g.met.L.LeafForm.trie (g.V.View.map c.args.view.now) c.args.page c.args.leaf.now c.args.spill.now c.loop-line.leaf c.loop-line.spill
+    c.set.new.self c.build_line-entry.new.spill c.in-Some.frame c.loop-line.line c.build_line-entry.result c.loop-line.invariant c.build_line-entry.ensures
+    (record { taken = subst (λ o. IsSome o) (sym e.frame) refl; here = e.here; others = e.others; elsewhere = e.elsewhere; free = e.free; total = e.total })
