@@ -68,6 +68,9 @@ pub mod DomainPages
 pub mod SpillCounts
 pub mod NeedOfRange
 pub mod NeedOfChange
+pub mod NeedLaws
+pub mod DomainsChanged
+pub mod StandingAgain
 pub mod RootPlaces
 pub mod DomainRegions
 pub mod DomainChanges
