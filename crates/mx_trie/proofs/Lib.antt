@@ -71,3 +71,6 @@ pub mod NeedOfChange
 pub mod NeedLaws
 pub mod BuiltRows
 pub mod RootPlaces
+pub mod RootPlaces
+pub mod DomainRegions
+pub mod DomainChanges

@@ -1,7 +1,7 @@
 -- More laws of tables as nodes of a heap: what a table owns is taken, a table whose parts own nothing, and one whose frames stay.
-use Rattle.std.proofs.Common.{◌≡◌, ◌≢◌, ℕ, ◌+◌, ◌<◌, ◌≤◌, ◌⊎◌, inl, inr, IsSome, refl, sym, ◌∙◌, subst, arith}
-use Rattle.std.proofs.lemmas.Bool.{cases_eq, cases_lt}
-use Rattle.mx_trie.specs.Heap.{Heap, IsFamily, IsNode, NodeOwns}
+use Rattle.std.proofs.Common.{◌≡◌, ◌≢◌, ℕ, ◌+◌, ◌<◌, ◌≤◌, inl, inr, IsSome, refl, sym, subst, arith}
+use Rattle.std.proofs.lemmas.Bool.{cases_lt}
+use Rattle.mx_trie.specs.Heap.{Heap, IsNode, NodeOwns}
 use Rattle.mx_trie.proofs.HeapLaws.{taken-on}
 
 module _ (h : Heap) (pool frame n : ℕ) (Owns : ℕ → ℕ → ℕ → Type 0) where
@@ -34,12 +34,12 @@ module _ (h h' : Heap) (pool frame n : ℕ) (Owns Owns' : ℕ → ℕ → ℕ �
     other = λ i below own. node.other i below (same i pool frame below own);
   }
 
--- of n parts, from the one with number `from` on, those before number `next` are done and the others aren't yet: one more is done
-pub done-more : (n from next : ℕ) (Done Ahead Done' : ℕ → Type 0) →
-    ((k : ℕ) → k < n → from + k < next → Done k) → ((k : ℕ) → k < n → next ≤ from + k → Ahead k) →
-    ((k : ℕ) → k < n → from + k ≢ next → Done k → Done' k) → ((k : ℕ) → k < n → from + k ≡ next → Ahead k → Done' k) →
-    (k : ℕ) → k < n → from + k < next + 1 → Done' k
-done-more n from next Done Ahead Done' done ahead kept step k below lt = elim (cases_lt (from + k) next) [
+-- of n parts by their numbers those before number `next` are done and the others aren't yet: one more is done
+pub done-more : (n next : ℕ) (number : ℕ → ℕ) (Done Ahead Done' : ℕ → Type 0) →
+    ((k : ℕ) → k < n → number k < next → Done k) → ((k : ℕ) → k < n → next ≤ number k → Ahead k) →
+    ((k : ℕ) → k < n → number k ≢ next → Done k → Done' k) → ((k : ℕ) → k < n → number k ≡ next → Ahead k → Done' k) →
+    (k : ℕ) → k < n → number k < next + 1 → Done' k
+done-more n next number Done Ahead Done' done ahead kept step k below lt = elim (cases_lt (number k) next) [
   | inl h ↦ kept k below (λ e. omega arith) (done k below h)
   | inr h ↦ step k below (omega arith) (ahead k below h)
 ]

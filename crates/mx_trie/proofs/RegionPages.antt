@@ -13,7 +13,7 @@ use Rattle.mx_trie.specs.Leaf.{IsTrieKind, form_reach}
 use Rattle.mx_trie.specs.Ranges.{IsApart}
 use Rattle.mx_trie.specs.Walk.{Frames, most_pages, most_regions, is_pointer, target}
 use Rattle.mx_trie.specs.Heap.{heap, IsMove}
-use Rattle.mx_trie.specs.Owned.{PlacesOwn, PageOwns, MidOwns, IsLeafTable, IsMidTable, line_spills, page_spills, region_spills, region_leaves}
+use Rattle.mx_trie.specs.Owned.{PlacesOwn, PageOwns, MidOwns, IsLeafTable, IsMidTable, page_spills, region_spills, region_leaves}
 use Rattle.mx_trie.specs.Shown.{IsPage, ArePages}
 use Rattle.mx_trie.specs.Laying.{laid_by, cuts, IsBeside}
 use Rattle.mx_trie.specs.Changed.{IsPageChanged, ArePagesChanged}
@@ -203,7 +203,7 @@ pages-freed kind upper leaf spill upper' leaf' spill' frame way =
     }
 
 -- a page far from the range
-far-page : (kind : Kind) (leaf spill : Frames) (m : List Perm) (lay : Laying) (b : Beside) → IsBeside kind m lay b → (y e : ℕ) → y < most_pages →
+pub far-page : (kind : Kind) (leaf spill : Frames) (m : List Perm) (lay : Laying) (b : Beside) → IsBeside kind m lay b → (y e : ℕ) → y < most_pages →
     (y < (lay.first - form_reach kind) / 1024) ⊎ (min (lay.end - 1 + form_reach kind) (most_words - 1) / 1024 < y) → IsPage kind leaf spill m y e → IsPage kind leaf spill (laid_by lay m) y e
 far-page kind leaf spill m lay b known y e below far page =
     let some = lay.some in
@@ -299,7 +299,7 @@ module _ (kind : Kind) (k : IsTrieKind kind) (upper leaf spill : Frames) (lay : 
             record {
               moved = pages-moved kind upper' leaf' spill' leaf'' spill'' upper'' frame (next % 1024) e' within way.moved.table page written upper leaf spill way.moved;
               done = λ m known pages.
-                  done-more 1024 (x * 1024) next (λ i. IsPage kind leaf' spill' (laid_by lay m) (x * 1024 + i) (word_at upper' frame i)) (λ i. IsPage kind leaf' spill' m (x * 1024 + i) (word_at upper' frame i))
+                  done-more 1024 next (λ i. x * 1024 + i) (λ i. IsPage kind leaf' spill' (laid_by lay m) (x * 1024 + i) (word_at upper' frame i)) (λ i. IsPage kind leaf' spill' m (x * 1024 + i) (word_at upper' frame i))
                   (λ i. IsPage kind leaf'' spill'' (laid_by lay m) (x * 1024 + i) (word_at upper'' frame i)) (way.done m known pages) (way.ahead m known pages) (other (laid_by lay m)) (λ i inside at was. step m known pages i inside at);
               ahead = λ m known pages i inside le. other m i inside (λ h. omega arith) (way.ahead m known pages i inside (omega arith));
               leaf_room = room-more (free_in leaf) (free_in leaf') (free_in leaf'') (cuts 1048576 x lay) (cuts_left 1024 next (x * 1048576 + 1048576) lay) (cuts_left 1024 (next + 1) (x * 1048576 + 1048576) lay) (cuts 1024 next lay)

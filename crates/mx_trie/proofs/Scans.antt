@@ -1,13 +1,11 @@
 -- What spans round words tell of a map: which words are alike, and how far they reach.
 use Rattle.std.proofs.Common.{◌≡◌, ◌≢◌, ℕ, ◌+◌, ◌-◌, ◌*◌, ◌/◌, ◌<◌, ◌≤◌, ◌⊎◌, inl, inr, min, Bool, true, false, not, List, length, refl, sym, ap, ◌∙◌, arith}
-use Rattle.std.proofs.lemmas.Bool.{cases_lt}
 use Rattle.mx_words.specs.declared.perm.Perm.{Perm}
 use Rattle.mx_words.specs.declared.perm.Span.{Span}
 use Rattle.mx_words.specs.Rights.{number, perm_at}
 use Rattle.mx_words.specs.Runs.{is_eighth_uniform}
 use Rattle.mx_words.specs.Blocks.{block_of, is_broken, IsUniform, IsEven}
 use Rattle.mx_words.proofs.BlockLaws.{even_from, even_is}
-use Rattle.mx_words.proofs.NumberLaws.{number-one_to_one}
 use Rattle.mx_trie.specs.Laying.{back, ahead}
 use Rattle.mx_trie.specs.Views.{IsRound}
 use Rattle.mx_trie.proofs.Backs.{back-is, ahead-is}
@@ -23,35 +21,6 @@ alike-none m at p = record { alike = λ k le lt. absurd (omega arith) }
 -- a span round a word has the word's permission
 pub round-perm : (m : List Perm) (word : ℕ) (s : Span) → IsRound m word s → perm_at m word ≡ s.perm
 round-perm m word s r = r.alike word r.from r.to
-
--- the words of a span round a word, from the word on
-pub alike-from : (m : List Perm) (word : ℕ) (s : Span) → IsRound m word s → IsAlike m word (s.first + s.count) s.perm
-alike-from m word s r = let from = r.from in record { alike = λ k le lt. r.alike k (omega arith) lt }
-
--- a span round the word behind
-pub alike-on : (m : List Perm) (from to : ℕ) (p : Perm) (s : Span) → IsAlike m from to p → IsRound m to s → number s.perm ≡ number p →
-    IsAlike m from (s.first + s.count) p
-alike-on m from to p s a r e = record {
-  alike = λ k le lt. elim (cases_lt k to) [
-    | inl h ↦ a.alike k le h
-    | inr h ↦ (let first = r.from in r.alike k (omega arith) lt ∙ number-one_to_one s.perm p e)
-  ];
-}
-
--- a span round the word before
-pub alike-back : (m : List Perm) (from to : ℕ) (p : Perm) (s : Span) → 0 < from → IsAlike m from to p → IsRound m (from - 1) s → number s.perm ≡ number p →
-    IsAlike m s.first to p
-alike-back m from to p s some a r e = record {
-  alike = λ k le lt. elim (cases_lt k from) [
-    | inl h ↦ (let behind = r.to in r.alike k le (omega arith) ∙ number-one_to_one s.perm p e)
-    | inr h ↦ a.alike k h lt
-  ];
-}
-
-pub alike-uniform : (m : List Perm) (first count to : ℕ) (p : Perm) → 0 < count → first + count ≤ to → IsAlike m first to p → IsUniform m first count
-alike-uniform m first count to p some within a = record {
-  alike = λ k below. a.alike (first + k) (omega arith) (omega arith) ∙ sym (a.alike first (omega arith) (omega arith));
-}
 
 -- spans round two words of a uniform range have one permission
 pub uniform-same : (m : List Perm) (first count at : ℕ) (s t : Span) → IsUniform m first count → first ≤ at → at < first + count →

@@ -8,10 +8,10 @@ use Rattle.mx_trie.specs.declared.laying.Laying.{Laying}
 use Rattle.mx_trie.specs.declared.laying.Beside.{Beside}
 use Rattle.mx_trie.specs.Digits.{digit}
 use Rattle.mx_trie.specs.Filled.{flat_vector}
-use Rattle.mx_trie.specs.Walk.{Frames, is_pointer}
+use Rattle.mx_trie.specs.Walk.{Frames, most_regions, is_pointer, root_word}
 use Rattle.mx_trie.specs.Heap.{heap, IsMove}
-use Rattle.mx_trie.specs.Owned.{LeafOwns, MidOwns, IsLeafTable, IsMidTable, line_spills, region_spills, region_leaves}
-use Rattle.mx_trie.specs.Shown.{IsLine, AreLines, IsPage, ArePages}
+use Rattle.mx_trie.specs.Owned.{LeafOwns, MidOwns, DomainOwns, IsLeafTable, IsMidTable, IsRootTable, line_spills, region_spills, region_leaves, domain_mids, domain_leaves, domain_spills}
+use Rattle.mx_trie.specs.Shown.{IsLine, AreLines, IsPage, ArePages, IsRegion, IsDomain}
 use Rattle.mx_trie.specs.Laying.{laid_by, cuts, IsBeside}
 
 -- 1 where the range begins or ends inside the block of `size` words with number `next` or a later one, before word `stop`
@@ -69,3 +69,21 @@ pub record IsRegionFilled (upper upper' : Frames) (e frame parts : ℕ) : Type 0
   pub elsewhere : (g : ℕ) → g ≢ frame → frame_at upper' g ≡ frame_at upper g
   pub free : free_in upper' + 1 ≡ free_in upper
   pub total : length upper' ≡ length upper
+
+-- the regions of a domain before region `next` are changed
+pub record AreRegionsOnWay (kind : Kind) (upper leaf spill upper' leaf' spill' : Frames) (lay : Laying) (beside : Beside) (root next : ℕ) : Type 0 where
+  pub table : IsRootTable kind upper' leaf' spill' root
+  pub move : IsMove (heap upper leaf spill) (heap upper' leaf' spill') (DomainOwns kind upper leaf root) (DomainOwns kind upper' leaf' root)
+  pub done : (m : List Perm) → IsBeside kind m lay beside → IsDomain kind upper leaf spill m root →
+      (x : ℕ) → x < most_regions → x < next → IsRegion kind upper' leaf' spill' (laid_by lay m) x (root_word upper' root x)
+  pub ahead : (m : List Perm) → IsBeside kind m lay beside → IsDomain kind upper leaf spill m root →
+      (x : ℕ) → x < most_regions → next ≤ x → IsRegion kind upper' leaf' spill' m x (root_word upper' root x)
+  pub upper_count : free_in upper' + domain_mids upper' root ≡ free_in upper + domain_mids upper root
+  pub upper_room : free_in upper + cuts_left region_words next (most_regions * region_words) lay ≤ free_in upper' + 2
+  pub upper_total : length upper' ≡ length upper
+  pub leaf_count : free_in leaf' + domain_leaves upper' root ≡ free_in leaf + domain_leaves upper root
+  pub leaf_room : free_in leaf + cuts_left region_words next (most_regions * region_words) lay ≤ free_in leaf' + 2
+  pub leaf_total : length leaf' ≡ length leaf
+  pub spill_count : free_in spill' + domain_spills kind upper' leaf' root ≡ free_in spill + domain_spills kind upper leaf root
+  pub spill_room : free_in spill + cuts_left region_words next (most_regions * region_words) lay ≤ free_in spill' + 2
+  pub spill_total : length spill' ≡ length spill

@@ -15,11 +15,6 @@ pub record IsRound (m : List Perm) (word : ℕ) (s : Span) : Type 0 where
   pub whole : s.first + s.count ≤ most_words
   pub alike : (k : ℕ) → s.first ≤ k → k < s.first + s.count → perm_at m k ≡ s.perm
 
--- a span, which may be empty, on which the map has one permission
-pub record IsOne (m : List Perm) (s : Span) : Type 0 where
-  pub whole : s.first + s.count ≤ most_words
-  pub alike : (k : ℕ) → s.first ≤ k → k < s.first + s.count → perm_at m k ≡ s.perm
-
 -- a span round a word that holds the word's block, and the eighth that is told by it: the eighth's blocks, as many as `places`, have
 -- one entry in a frame
 pub record IsWide (frames : Frames) (frame places block word : ℕ) (near far : Span) : Type 0 where

@@ -1,4 +1,4 @@
-use Rattle.std.proofs.Common.{◌≡◌, ◌+◌, ◌-◌, ◌*◌, ◌/◌, ◌%◌, ◌<◌, ◌≤◌, inl, inr, true, false, refl, sym, arith, eq-eqb}
+use Rattle.std.proofs.Common.{◌%◌, ◌≤◌, inl, inr, arith, eq-eqb}
 use Rattle.std.proofs.lemmas.Bool.{ne_eqb}
 use Rattle.mx_trie.specs.Laying.{laid_by, cuts}
 use Rattle.mx_trie.proofs.RegionChanges.{region-covered, region-cut, region-beside, region-stays}
@@ -51,7 +51,7 @@ returns-then-meets g c =
 pub returns-then-entry-eq0 : goal.returns-then-entry-eq0
 returns-then-entry-eq0 g c =
     region-beside g.L.LeafForm.kind c.args.upper.now c.args.leaf.now c.args.spill.now c.args.lay.now c.args.beside.now c.args.region c.args.entry
-    c.change_pages-2.new.upper c.change_pages-2.new.leaf c.change_pages-2.new.spill (c.meets.ensures.no c.if-meets.false) (eq-eqb (c.args.entry % 4) 0 c.if-entry-eq0.true) c.change_pages-2.ensures
+    c.change_pages-then-entry-eq0.new.upper c.change_pages-then-entry-eq0.new.leaf c.change_pages-then-entry-eq0.new.spill (c.meets.ensures.no c.if-meets.false) (eq-eqb (c.args.entry % 4) 0 c.if-entry-eq0.true) c.change_pages-then-entry-eq0.ensures
 
 pub returns-else-entry-eq0 : goal.returns-else-entry-eq0
 returns-else-entry-eq0 g c =
