@@ -70,7 +70,7 @@ pub mod NeedOfRange
 pub mod NeedOfChange
 pub mod NeedLaws
 pub mod DomainsChanged
-pub mod StandingAgain
 pub mod RootPlaces
 pub mod DomainRegions
 pub mod DomainChanges
+pub mod StandingNeeds
