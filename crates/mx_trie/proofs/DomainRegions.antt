@@ -1,5 +1,5 @@
 -- The regions of a domain, changed one by one in its root table.
-use Rattle.std.proofs.Common.{◌≡◌, ◌≢◌, ℕ, ◌+◌, ◌-◌, ◌*◌, ◌/◌, ◌%◌, ◌<◌, ◌≤◌, ◌⊎◌, inl, inr, true, false, min, List, length, IsSome, refl, sym, ap, ◌∙◌, arith, subst}
+use Rattle.std.proofs.Common.{◌≡◌, ◌≢◌, ℕ, ◌+◌, ◌-◌, ◌*◌, ◌/◌, ◌<◌, ◌≤◌, ◌⊎◌, inl, inr, true, min, List, length, refl, sym, ap, ◌∙◌, arith, subst}
 use Rattle.std.proofs.lemmas.Bool.{cases_lt}
 use Rattle.mx_words.specs.declared.perm.Perm.{Perm}
 use Rattle.mx_words.specs.declared.tables.Kind.{Kind}
@@ -10,7 +10,7 @@ use Rattle.mx_trie.specs.declared.laying.Beside.{Beside}
 use Rattle.mx_trie.specs.Leaf.{IsTrieKind, form_reach}
 use Rattle.mx_trie.specs.Ranges.{IsApart}
 use Rattle.mx_trie.specs.Walk.{Frames, most_regions, root_place, is_pointer, target, root_word}
-use Rattle.mx_trie.specs.Heap.{heap, IsMove}
+use Rattle.mx_trie.specs.Heap.{heap}
 use Rattle.mx_trie.specs.Owned.{PagesOwn, RegionOwns, DomainOwns, IsMidTable, IsRootTable, region_spills, region_leaves, domain_mids}
 use Rattle.mx_trie.specs.Shown.{IsRegion, IsDomain}
 use Rattle.mx_trie.specs.Laying.{laid_by, cuts, IsBeside}

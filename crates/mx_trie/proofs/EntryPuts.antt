@@ -7,7 +7,7 @@ use Rattle.mx_words.proofs.CountingLaws.{count_below_changed, sum_below_changed}
 use Rattle.mx_pool.specs.Frames.{frame_at, IsTaken}
 use Rattle.mx_trie.specs.Walk.{Frames}
 use Rattle.mx_trie.specs.Heap.{heap, IsMove, IsNode, NodeOwns}
-use Rattle.mx_trie.proofs.HeapLaws.{taken-on, move-then, node-put, node-move}
+use Rattle.mx_trie.proofs.HeapLaws.{taken-on, node-put, node-move}
 
 -- what an entry owns stays in all pools
 abbrev pub IsKept : (Frames → Frames → ℕ → ℕ → ℕ → Type 0) → Frames → Frames → Frames → Frames → Frames → Frames → ℕ → Type 0

@@ -1,7 +1,7 @@
 -- More laws of tables as nodes of a heap: what a table owns is taken, a table whose parts own nothing, and one whose frames stay.
-use Rattle.std.proofs.Common.{◌≡◌, ◌≢◌, ℕ, ◌+◌, ◌<◌, ◌≤◌, ◌⊎◌, inl, inr, IsSome, refl, sym, ◌∙◌, subst, arith}
-use Rattle.std.proofs.lemmas.Bool.{cases_eq, cases_lt}
-use Rattle.mx_trie.specs.Heap.{Heap, IsFamily, IsNode, NodeOwns}
+use Rattle.std.proofs.Common.{◌≡◌, ◌≢◌, ℕ, ◌+◌, ◌<◌, ◌≤◌, inl, inr, IsSome, refl, sym, subst, arith}
+use Rattle.std.proofs.lemmas.Bool.{cases_lt}
+use Rattle.mx_trie.specs.Heap.{Heap, IsNode, NodeOwns}
 use Rattle.mx_trie.proofs.HeapLaws.{taken-on}
 
 module _ (h : Heap) (pool frame n : ℕ) (Owns : ℕ → ℕ → ℕ → Type 0) where

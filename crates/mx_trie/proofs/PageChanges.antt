@@ -1,28 +1,18 @@
 -- The entry of a page after a change, by the three ways in which the page can lie to the range.
-use Rattle.std.proofs.Common.{◌≡◌, ◌≢◌, ℕ, zero, suc, ◌+◌, ◌-◌, ◌*◌, ◌/◌, ◌%◌, ◌<◌, ◌≤◌, ◌⊎◌, inl, inr, Bool, true, false, min, List, [], length, if◌then◌else◌, replicate, Option, IsSome, refl, sym, ap, ◌∙◌, arith, subst}
-use Rattle.std.proofs.lemmas.Bool.{ne_eqb}
-use Rattle.std.proofs.lemmas.List.{ext_get_or}
-use Rattle.std.proofs.lemmas.List.FromFn.{get_or-map-range_with_len, length-map-range_with_len}
+use Rattle.std.proofs.Common.{◌≡◌, ℕ, ◌+◌, ◌*◌, ◌≤◌, Bool, true, false, List, [], if◌then◌else◌, refl, sym, ap, ◌∙◌, arith, subst}
 use Rattle.mx_words.specs.declared.perm.Perm.{Perm}
-use Rattle.mx_words.specs.declared.perm.Perm.TheVariants as P
 use Rattle.mx_words.specs.declared.tables.Kind.{Kind}
-use Rattle.mx_words.specs.Rights.{number, perm_at}
+use Rattle.mx_words.specs.Rights.{number}
 use Rattle.mx_words.specs.Counting.{bit}
-use Rattle.mx_words.specs.Reach.{vector, eighths, packed}
 use Rattle.mx_words.specs.Runs.{page_words}
-use Rattle.mx_words.specs.Blocks.{is_broken, IsUniform}
-use Rattle.mx_words.proofs.BlockLaws.{whole-even, is_broken-same}
 use Rattle.mx_words.proofs.CountingLaws.{bit-le}
-use Rattle.mx_table.specs.Tables.{most_words}
-use Rattle.mx_pool.specs.Frames.{free_in}
 use Rattle.mx_trie.specs.declared.laying.Laying.{Laying}
 use Rattle.mx_trie.specs.declared.laying.Beside.{Beside}
 use Rattle.mx_trie.specs.Filled.{flat_vector}
-use Rattle.mx_trie.specs.Leaf.{IsTrieKind}
-use Rattle.mx_trie.specs.Ranges.{IsInside, IsApart}
+use Rattle.mx_trie.specs.Ranges.{IsApart}
 use Rattle.mx_trie.specs.Walk.{Frames, is_pointer, target}
-use Rattle.mx_trie.specs.Heap.{heap, IsMove}
-use Rattle.mx_trie.specs.Owned.{LeafOwns, PageOwns, IsLeafTable, line_spills, page_spills}
+use Rattle.mx_trie.specs.Heap.{heap}
+use Rattle.mx_trie.specs.Owned.{LeafOwns, PageOwns, line_spills, page_spills}
 use Rattle.mx_trie.specs.Shown.{IsPage}
 use Rattle.mx_trie.specs.Laying.{laid_by, cuts, IsBeside}
 use Rattle.mx_trie.specs.Changed.{AreLinesChanged, IsPageChanged}
@@ -31,7 +21,7 @@ use Rattle.mx_trie.proofs.HeapLaws.{move-then, move-none}
 use Rattle.mx_trie.proofs.FlatLaws.{flat-closed}
 use Rattle.mx_trie.proofs.BlockChanges.{cover-whole, cover-vector, apart-broken, apart-vector}
 use Rattle.mx_trie.proofs.LineBeside.{few-known}
-use Rattle.mx_trie.proofs.RangeLaws.{with_range-below, with_range-in, with_range-behind, length-with_range}
+use Rattle.mx_trie.proofs.RangeLaws.{length-with_range}
 
 -- no spill words hang below a vector
 pub closed-spills : (kind : Kind) (leaf : Frames) (e : ℕ) → is_pointer e ≡ false → page_spills kind leaf e ≡ 0

@@ -1,12 +1,9 @@
 -- The entry of a region after a change, by the three ways in which the region can lie to the range.
-use Rattle.std.proofs.Common.{◌≡◌, ◌≢◌, ℕ, ◌+◌, ◌-◌, ◌*◌, ◌/◌, ◌%◌, ◌<◌, ◌≤◌, ◌⊎◌, inl, inr, Bool, true, false, List, length, refl, sym, ap, ◌∙◌, arith, subst}
-use Rattle.mx_words.specs.declared.perm.Perm.{Perm}
+use Rattle.std.proofs.Common.{◌≡◌, ℕ, ◌+◌, ◌*◌, ◌≤◌, true, false, refl, sym, ap, ◌∙◌, arith, subst}
 use Rattle.mx_words.specs.declared.tables.Kind.{Kind}
 use Rattle.mx_words.specs.Rights.{number}
 use Rattle.mx_words.specs.Counting.{bit}
-use Rattle.mx_words.specs.Reach.{vector}
 use Rattle.mx_words.specs.Runs.{region_words}
-use Rattle.mx_words.specs.Blocks.{is_broken}
 use Rattle.mx_words.proofs.CountingLaws.{bit-le}
 use Rattle.mx_pool.specs.Frames.{free_in}
 use Rattle.mx_trie.specs.declared.laying.Laying.{Laying}
@@ -14,10 +11,9 @@ use Rattle.mx_trie.specs.declared.laying.Beside.{Beside}
 use Rattle.mx_trie.specs.Filled.{flat_vector}
 use Rattle.mx_trie.specs.Ranges.{IsApart}
 use Rattle.mx_trie.specs.Walk.{Frames, is_pointer, target}
-use Rattle.mx_trie.specs.Heap.{heap, IsMove}
-use Rattle.mx_trie.specs.Owned.{MidOwns, RegionOwns, IsMidTable, region_spills, region_leaves}
-use Rattle.mx_trie.specs.Shown.{IsRegion}
-use Rattle.mx_trie.specs.Laying.{laid_by, cuts, IsBeside}
+use Rattle.mx_trie.specs.Heap.{heap}
+use Rattle.mx_trie.specs.Owned.{MidOwns, RegionOwns, region_spills, region_leaves}
+use Rattle.mx_trie.specs.Laying.{laid_by, cuts}
 use Rattle.mx_trie.specs.Changed.{ArePagesChanged, IsRegionChanged}
 use Rattle.mx_trie.specs.Steps.{IsRegionOpened, IsRegionClosed, IsRegionFreed}
 use Rattle.mx_trie.proofs.HeapLaws.{move-then, move-none}

@@ -1,5 +1,5 @@
 -- The frame laws of pages and regions: where the frames of an entry stay, it owns the same, stands for the same maps, and counts the same.
-use Rattle.std.proofs.Common.{◌≡◌, ◌≢◌, ℕ, zero, suc, ◌+◌, ◌*◌, ◌<◌, ◌⊎◌, inl, inr, Bool, true, false, List, [], if◌then◌else◌, Option, Some, IsSome, is_some, unwrap_or, slice_index, refl, sym, ap, ◌∙◌, arith, subst}
+use Rattle.std.proofs.Common.{◌≡◌, ℕ, zero, suc, ◌+◌, ◌*◌, ◌<◌, inl, inr, Bool, true, false, List, [], if◌then◌else◌, is_some, refl, sym, ap, ◌∙◌, subst}
 use Rattle.mx_words.specs.declared.perm.Perm.{Perm}
 use Rattle.mx_words.specs.declared.tables.Kind.{Kind}
 use Rattle.mx_words.specs.Counting.{count_below, sum_below}
@@ -7,9 +7,9 @@ use Rattle.mx_words.proofs.CountingLaws.{count_below_agree, sum_below_agree}
 use Rattle.mx_pool.specs.Frames.{frame_at, word_at}
 use Rattle.mx_trie.specs.Leaf.{IsTrieKind, spill_number}
 use Rattle.mx_trie.specs.Walk.{Frames, is_pointer, target}
-use Rattle.mx_trie.specs.Heap.{heap, IsMove, IsNode, NodeOwns}
-use Rattle.mx_trie.specs.Owned.{PlacesOwn, LeafOwns, PageOwns, PagesOwn, MidOwns, RegionOwns, IsLeafTable, IsMidTable, line_spills, page_spills, region_spills, region_leaves}
-use Rattle.mx_trie.specs.Shown.{IsLine, AreLines, IsPage, ArePages, IsRegion}
+use Rattle.mx_trie.specs.Heap.{heap}
+use Rattle.mx_trie.specs.Owned.{PlacesOwn, LeafOwns, PageOwns, PagesOwn, RegionOwns, IsLeafTable, IsMidTable, line_spills, page_spills, region_spills, region_leaves}
+use Rattle.mx_trie.specs.Shown.{IsLine, IsPage, IsRegion}
 use Rattle.mx_trie.proofs.EntryPuts.{IsKept}
 use Rattle.mx_trie.proofs.NodeLaws.{node-kept}
 use Rattle.mx_trie.proofs.PageLines.{word-kept, line-kept}

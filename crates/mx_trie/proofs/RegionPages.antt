@@ -13,7 +13,7 @@ use Rattle.mx_trie.specs.Leaf.{IsTrieKind, form_reach}
 use Rattle.mx_trie.specs.Ranges.{IsApart}
 use Rattle.mx_trie.specs.Walk.{Frames, most_pages, most_regions, is_pointer, target}
 use Rattle.mx_trie.specs.Heap.{heap, IsMove}
-use Rattle.mx_trie.specs.Owned.{PlacesOwn, PageOwns, MidOwns, IsLeafTable, IsMidTable, line_spills, page_spills, region_spills, region_leaves}
+use Rattle.mx_trie.specs.Owned.{PlacesOwn, PageOwns, MidOwns, IsLeafTable, IsMidTable, page_spills, region_spills, region_leaves}
 use Rattle.mx_trie.specs.Shown.{IsPage, ArePages}
 use Rattle.mx_trie.specs.Laying.{laid_by, cuts, IsBeside}
 use Rattle.mx_trie.specs.Changed.{IsPageChanged, ArePagesChanged}

@@ -1,5 +1,5 @@
 -- The mid table of a region: made, kept or given back.
-use Rattle.std.proofs.Common.{◌≡◌, ◌≢◌, ℕ, zero, suc, ◌+◌, ◌*◌, ◌/◌, ◌%◌, ◌<◌, ◌≤◌, ◌⊎◌, inl, inr, Bool, true, false, not, List, [], length, if◌then◌else◌, Option, Some, None, IsSome, refl, sym, ap, ◌∙◌, arith, subst}
+use Rattle.std.proofs.Common.{◌≡◌, ◌≢◌, ℕ, zero, suc, ◌+◌, ◌*◌, ◌/◌, ◌%◌, ◌<◌, inl, inr, Bool, true, false, not, List, length, if◌then◌else◌, Some, None, IsSome, refl, sym, ap, ◌∙◌, arith, subst}
 use Rattle.std.proofs.lemmas.Bool.{eqb-true, not-false}
 use Rattle.mx_words.specs.declared.perm.Perm.{Perm}
 use Rattle.mx_words.specs.declared.tables.Kind.{Kind}
@@ -8,13 +8,13 @@ use Rattle.mx_words.specs.Reach.{vector}
 use Rattle.mx_words.specs.Runs.{page_words, region_words, is_eighth_uniform}
 use Rattle.mx_words.specs.Blocks.{block_of, is_broken, IsEven}
 use Rattle.mx_words.proofs.BlockLaws.{even_from, even_is}
-use Rattle.mx_pool.specs.Frames.{frame_at, IsTaken, word_at, free_in}
+use Rattle.mx_pool.specs.Frames.{frame_at, word_at, free_in}
 use Rattle.mx_trie.specs.Digits.{digit}
 use Rattle.mx_trie.specs.Filled.{flat_vector}
 use Rattle.mx_trie.specs.Walk.{Frames, is_pointer, target}
-use Rattle.mx_trie.specs.Heap.{heap, IsMove, IsNode}
-use Rattle.mx_trie.specs.Owned.{PageOwns, PagesOwn, MidOwns, RegionOwns, IsMidTable, page_spills, region_spills, region_leaves}
-use Rattle.mx_trie.specs.Shown.{IsPage, ArePages, IsRegion}
+use Rattle.mx_trie.specs.Heap.{heap}
+use Rattle.mx_trie.specs.Owned.{PagesOwn, MidOwns, RegionOwns, IsMidTable, page_spills, region_spills, region_leaves}
+use Rattle.mx_trie.specs.Shown.{ArePages, IsRegion}
 use Rattle.mx_trie.specs.Steps.{IsEntryOf, IsRegionOpened, IsClosableRegion, IsRegionClosed, IsRegionFreed, ArePagesFreed}
 use Rattle.mx_trie.specs.OnWay.{IsRegionFilled}
 use Rattle.mx_trie.proofs.HeapLaws.{move-none}

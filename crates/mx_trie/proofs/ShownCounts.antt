@@ -1,12 +1,14 @@
 -- A domain that stands for a map has as many tables and spill words as the map needs.
-use Rattle.std.proofs.Common.{◌≡◌, ℕ, zero, suc, ◌+◌, ◌*◌, ◌/◌, ◌<◌, ◌≤◌, Bool, true, false, List, length, if◌then◌else◌, refl, sym, ap, ◌∙◌, arith}
+use Rattle.std.proofs.Common.{◌≡◌, ℕ, zero, suc, ◌+◌, ◌-◌, ◌*◌, ◌/◌, ◌<◌, ◌≤◌, Bool, true, false, List, length, if◌then◌else◌, refl, sym, ap, ◌∙◌, arith}
+use Rattle.std.proofs.lemmas.List.{get_or_past}
 use Rattle.mx_words.specs.declared.perm.Perm.{Perm}
+use Rattle.mx_words.specs.declared.perm.Perm.TheVariants as P
 use Rattle.mx_words.specs.declared.tables.Kind.{Kind}
-use Rattle.mx_words.specs.Blocks.{is_broken}
+use Rattle.mx_words.specs.Blocks.{is_broken, IsEven}
 use Rattle.mx_words.specs.Counting.{bit, count_below, sum_below}
 use Rattle.mx_words.specs.Reach.{line_at}
 use Rattle.mx_words.specs.Runs.{page_words, region_words, broken_blocks}
-use Rattle.mx_words.proofs.CountingLaws.{count_below_agree, sum_below_agree}
+use Rattle.mx_words.proofs.CountingLaws.{sum_below-more, sum_below_agree}
 use Rattle.mx_words.proofs.BlockLaws.{broken_blocks-count}
 use Rattle.mx_table.specs.Tables.{most_words}
 use Rattle.mx_pool.specs.Frames.{word_at}
@@ -19,7 +21,15 @@ use Rattle.mx_trie.specs.Built.{line_crowd, page_crowd, region_crowd, region_bro
 use Rattle.mx_trie.proofs.EntryLaws.{some-named}
 use Rattle.mx_trie.proofs.Stored.{line-named}
 use Rattle.mx_trie.proofs.PageTables.{even-of}
-use Rattle.mx_trie.proofs.BuiltBlocks.{even-crowd, even-broken, even-crowds}
+use Rattle.mx_trie.proofs.BuiltBlocks.{sum-none, even-crowd, even-broken, even-crowds}
+
+-- a page outside RAM has no permission
+out-even : (m : List Perm) (page : ℕ) → length m ≤ page * page_words → IsEven m (page * page_words) 128
+out-even m page out = record {
+  parts = λ e below. record {
+    alike = λ k inside. get_or_past m (page * page_words + e * 128 + k) P.None (omega arith) ∙ sym (get_or_past m (page * page_words + e * 128) P.None (omega arith));
+  };
+}
 
 -- a count is a sum, and a sum over blocks is the sum of the blocks' sums
 pub count-sum : (n : ℕ) (p : ℕ → Bool) → count_below n p ≡ sum_below n (λ i. bit (p i))
@@ -42,22 +52,41 @@ sum-blocks (suc n) size f =
     let e : suc n * size ≡ n * size + size = omega arith in
     ap (λ k. sum_below k f) e ∙ sum-plus (n * size) size f ∙ ap (λ x. x + sum_below size (λ k. f (n * size + k))) (sum-blocks n size f)
 
--- what a map needs, region by region
-module _ (kind : Kind) (m : List Perm) (few : length m ≤ most_words) where
-  pub regions-broken : count_below most_regions (is_broken region_words m) ≡ broken_blocks region_words m
-  regions-broken = sym (broken_blocks-count region_words m most_regions (omega arith) (omega arith))
+-- one number more
+pub sum-next : (n count byte : ℕ) (f : ℕ → ℕ) → count ≡ sum_below n f → byte ≡ f n → count + byte ≡ sum_below (n + 1) f
+sum-next n count byte f is here = omega (arith, is, here, sum_below-more n f)
 
-  pub pages-broken : sum_below most_regions (region_broken m) ≡ broken_blocks page_words m
-  pages-broken =
-      sym (sum-blocks most_regions 1024 (λ y. bit (is_broken page_words m y)))
-      ∙ sym (count-sum most_pages (is_broken page_words m))
-      ∙ sym (broken_blocks-count page_words m most_pages (omega arith) (omega arith))
+pub sum-ended : (n end count : ℕ) (f : ℕ → ℕ) → count ≡ sum_below n f → n ≤ end → end ≤ n → count ≡ sum_below end f
+sum-ended n end count f is within last = let e : n ≡ end = omega arith in is ∙ ap (λ k. sum_below k f) e
 
-  pub lines-crowded : sum_below most_regions (region_crowd kind m) ≡ spill_lines kind m
-  lines-crowded =
-      sym (sum-blocks most_regions 1024 (page_crowd kind m))
-      ∙ sym (sum-blocks most_pages 64 (line_crowd kind m))
-      ∙ sym (count-sum most_lines (λ z. needs_spill kind (line_at m (z * 16))))
+-- the blocks that take in RAM are all that may be broken
+pub blocks-broken : (size : ℕ) (m : List Perm) (n : ℕ) → 0 < size → length m ≤ n * size → sum_below n (λ b. bit (is_broken size m b)) ≡ broken_blocks size m
+blocks-broken size m n some within = sym (count-sum n (is_broken size m)) ∙ sym (broken_blocks-count size m n some within)
+
+-- what a map needs, page by page, and region by region
+module _ (kind : Kind) (m : List Perm) where
+  pub lines-crowded : sum_below most_pages (page_crowd kind m) ≡ spill_lines kind m
+  lines-crowded = sym (sum-blocks most_pages 64 (line_crowd kind m)) ∙ sym (count-sum most_lines (λ z. needs_spill kind (line_at m (z * 16))))
+
+  pub pages-crowded : (pages : ℕ) → length m ≤ pages * page_words → pages ≤ most_pages → sum_below pages (page_crowd kind m) ≡ spill_lines kind m
+  pages-crowded pages within few =
+      let all : pages + (most_pages - pages) ≡ most_pages = omega arith in
+      let none : sum_below (most_pages - pages) (λ i. page_crowd kind m (pages + i)) ≡ 0 =
+      sum-none (most_pages - pages) (λ i. page_crowd kind m (pages + i)) (λ i below. even-crowd kind m (pages + i) (out-even m (pages + i) (omega arith))) in
+      let plus : sum_below (pages + (most_pages - pages)) (page_crowd kind m) ≡ sum_below pages (page_crowd kind m) + sum_below (most_pages - pages) (λ i. page_crowd kind m (pages + i)) =
+      sum-plus pages (most_pages - pages) (page_crowd kind m) in
+      (let e : sum_below pages (page_crowd kind m) ≡ sum_below (pages + (most_pages - pages)) (page_crowd kind m) = omega (arith, plus, none) in e)
+      ∙ ap (λ n. sum_below n (page_crowd kind m)) all ∙ lines-crowded
+
+  module _ (few : length m ≤ most_words) where
+    pub regions-broken : sum_below most_regions (λ x. bit (is_broken region_words m x)) ≡ broken_blocks region_words m
+    regions-broken = blocks-broken region_words m most_regions (omega arith) (omega arith)
+
+    pub pages-broken : sum_below most_regions (region_broken m) ≡ broken_blocks page_words m
+    pages-broken = sym (sum-blocks most_regions 1024 (λ y. bit (is_broken page_words m y))) ∙ blocks-broken page_words m most_pages (omega arith) (omega arith)
+
+    pub regions-crowded : sum_below most_regions (region_crowd kind m) ≡ spill_lines kind m
+    regions-crowded = sym (sum-blocks most_regions 1024 (page_crowd kind m)) ∙ lines-crowded
 
 by-pointer : (b : Bool) (x y : ℕ) → (b ≡ true → x ≡ y) → (b ≡ false → y ≡ 0) → (if b then x else 0) ≡ y
 by-pointer true x y same none = same refl
@@ -87,10 +116,10 @@ module _ (kind : Kind) (k : IsTrieKind kind) (upper leaf spill : Frames) (m : Li
 
   module _ (few : length m ≤ most_words) (root : ℕ) (domain : IsDomain kind upper leaf spill m root) where
     pub mids-shown : domain_mids upper root ≡ broken_blocks region_words m
-    mids-shown = count_below_agree most_regions _ (is_broken region_words m) (λ x below. (domain x below).broken) ∙ regions-broken kind m few
+    mids-shown = count-sum most_regions _ ∙ sum_below_agree most_regions _ _ (λ x below. ap bit (domain x below).broken) ∙ regions-broken kind m few
 
     pub leaves-shown : domain_leaves upper root ≡ broken_blocks page_words m
     leaves-shown = sum_below_agree most_regions _ (region_broken m) (λ x below. region-leaves x (root_word upper root x) (domain x below)) ∙ pages-broken kind m few
 
     pub spills-shown : domain_spills kind upper leaf root ≡ spill_lines kind m
-    spills-shown = sum_below_agree most_regions _ (region_crowd kind m) (λ x below. region-spills x (root_word upper root x) (domain x below)) ∙ lines-crowded kind m few
+    spills-shown = sum_below_agree most_regions _ (region_crowd kind m) (λ x below. region-spills x (root_word upper root x) (domain x below)) ∙ regions-crowded kind m few

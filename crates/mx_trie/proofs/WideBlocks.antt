@@ -1,12 +1,12 @@
 -- Blocks of which all words have one permission, and eighths of a region, told by the entries of its pages.
-use Rattle.std.proofs.Common.{◌≡◌, ℕ, suc, ◌+◌, ◌-◌, ◌*◌, ◌/◌, ◌%◌, ◌^◌, ◌<◌, ◌≤◌, false, List, replicate, Some, refl, sym, ap, ◌∙◌, arith, subst}
+use Rattle.std.proofs.Common.{◌≡◌, ℕ, suc, ◌+◌, ◌*◌, ◌/◌, ◌%◌, ◌^◌, ◌<◌, ◌≤◌, false, List, Some, refl, sym, ap, ◌∙◌, arith, subst}
 use Rattle.std.proofs.Math.Pow.{pow_mono}
 use Rattle.std.proofs.Math.Nat.{pow-suc, mul_comm}
 use Rattle.std.proofs.lemmas.Nat.{mul-add-lt}
 use Rattle.mx_words.specs.declared.perm.Perm.{Perm}
 use Rattle.mx_words.specs.declared.tables.Kind.{Kind}
 use Rattle.mx_words.specs.Rights.{number, perm_at}
-use Rattle.mx_words.specs.Reach.{vector, eighths, packed}
+use Rattle.mx_words.specs.Reach.{vector, packed}
 use Rattle.mx_words.specs.Runs.{page_words}
 use Rattle.mx_words.specs.Blocks.{is_broken}
 use Rattle.mx_words.proofs.BlockLaws.{whole-even}

@@ -1,7 +1,9 @@
 -- Tables built for maps in frames that were free, and how many frames that takes.
-use Rattle.std.specs.Prelude.{◌≡◌, ℕ, ◌+◌, ◌*◌, ◌<◌, ◌⊎◌, true, List, length, IsSome}
+use Rattle.std.specs.Prelude.{◌≡◌, ℕ, ◌+◌, ◌*◌, ◌<◌, ◌≤◌, ◌⊎◌, true, List, [], length, slice_index_or, IsSome}
 use Rattle.mx_words.specs.declared.perm.Perm.{Perm}
+use Rattle.mx_words.specs.declared.perm.Span.{Span}
 use Rattle.mx_words.specs.declared.tables.Kind.{Kind}
+use Rattle.mx_words.specs.declared.tables.Need.{Need}
 use Rattle.mx_words.specs.Blocks.{is_broken}
 use Rattle.mx_words.specs.Counting.{bit, sum_below}
 use Rattle.mx_words.specs.Reach.{line_at}
@@ -11,7 +13,10 @@ use Rattle.mx_trie.specs.Leaf.{needs_spill}
 use Rattle.mx_trie.specs.Walk.{Frames, is_pointer, target, root_word}
 use Rattle.mx_trie.specs.Heap.{Heap, heap, IsFamily}
 use Rattle.mx_trie.specs.Owned.{LineOwns, PageOwns, RegionOwns, DomainOwns, IsLeafTable, IsMidTable, IsRootTable}
+use Rattle.mx_table.specs.Tables.{row_map}
 use Rattle.mx_trie.specs.Shown.{IsLine, IsPage, IsRegion, IsDomain}
+use Rattle.mx_trie.specs.After.{IsNeedOf}
+use Rattle.mx_trie.specs.Standing.{map_at, IsTables}
 
 -- 1 where a line needs a spill word; how many of page y do, and how many of region x; how many pages of region x are broken
 abbrev pub line_crowd : Kind → List Perm → ℕ → ℕ
@@ -128,3 +133,27 @@ pub record AreRegionsBuilt (kind : Kind) (upper leaf spill upper' leaf' spill' :
   pub upper_taken : AreTaken upper upper' (1 + sum_below n (λ x. bit (is_broken region_words m x)))
   pub leaf_taken : AreTaken leaf leaf' (sum_below n (region_broken m))
   pub spill_taken : AreTaken spill spill' (sum_below n (region_crowd kind m))
+
+-- the map of row d
+abbrev pub rows_map : ℕ → List (List Span) → ℕ → List Perm
+rows_map words rows d = row_map words (slice_index_or rows d [])
+
+-- all frames are free, and as many as the maps of n domains need
+pub record IsRoomFor (kind : Kind) (n : ℕ) (maps : ℕ → List Perm) (upper leaf spill : Frames) : Type 0 where
+  pub need : Need
+  pub told : IsNeedOf kind n maps need
+  pub upper_free : free_in upper ≡ length upper
+  pub upper_room : need.upper ≤ length upper
+  pub leaf_free : free_in leaf ≡ length leaf
+  pub leaf_room : need.leaf ≤ length leaf
+  pub spill_free : free_in spill ≡ length spill
+  pub spill_room : need.spill ≤ length spill
+
+-- the tables of n domains
+pub record AreDomainsBuilt (kind : Kind) (words n : ℕ) (maps : ℕ → List Perm) (upper leaf spill upper' leaf' spill' : Frames) (roots : List ℕ) : Type 0 where
+  pub count : length roots ≡ n
+  pub tables : IsTables kind words upper' leaf' spill' roots
+  pub read : (d : ℕ) → d < n → map_at kind words upper' leaf' spill' roots d ≡ maps d
+  pub upper_total : length upper' ≡ length upper
+  pub leaf_total : length leaf' ≡ length leaf
+  pub spill_total : length spill' ≡ length spill

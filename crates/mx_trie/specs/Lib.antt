@@ -20,8 +20,8 @@ pub mod Laying
 pub mod Changed
 pub mod Steps
 pub mod OnWay
-pub mod Built
 pub mod After
 -- the trait
 pub mod Standing
+pub mod Built
 pub mod Shape

@@ -1,14 +1,13 @@
 //! Tables built from rows of spans.
-ghost use Rattle.std.specs.Prelude.{◌≡◌, ℕ, ◌+◌, ◌*◌, ◌<◌, ◌≤◌, ◌^◌, [], true, length, replicate, None, sum_by, All, IfOk, slice_index_or};
+ghost use Rattle.std.specs.Prelude.{◌≡◌, ℕ, ◌+◌, ◌*◌, ◌<◌, ◌≤◌, ◌^◌, length, All, IfOk};
 ghost use Rattle.mx_words.specs.Blocks.{is_broken};
 ghost use Rattle.mx_words.specs.Counting.{bit, sum_below};
-ghost use Rattle.mx_words.specs.Runs.{page_words, region_words, broken_blocks};
+ghost use Rattle.mx_words.specs.Runs.{page_words, region_words};
 ghost use Rattle.mx_pool.specs.Frames.{free_in};
-ghost use Rattle.mx_table.specs.Tables.{most_words, most_modules, row_map, IsRow};
+ghost use Rattle.mx_table.specs.Tables.{most_words, most_modules, IsRow};
 ghost use Rattle.mx_trie.specs.Walk.{most_regions, most_pages, most_lines};
-ghost use Rattle.mx_trie.specs.Laying.{spill_lines};
-ghost use Rattle.mx_trie.specs.Standing.{map_at, IsTables};
-ghost use Rattle.mx_trie.specs.Built.{line_crowd, page_crowd, region_broken, region_crowd, IsLineBuilt, AreLinesBuilt, IsPageBuilt, ArePagesBuilt, IsRegionBuilt, AreRegionsBuilt};
+ghost use Rattle.mx_trie.specs.After.{IsNeedOf};
+ghost use Rattle.mx_trie.specs.Built.{line_crowd, page_crowd, region_broken, region_crowd, rows_map, IsLineBuilt, AreLinesBuilt, IsPageBuilt, ArePagesBuilt, IsRegionBuilt, AreRegionsBuilt, IsRoomFor, AreDomainsBuilt};
 
 use crate::beside::{line_left, line_right};
 use crate::counts::need_of;
@@ -28,10 +27,7 @@ pub(crate) fn need_of_rows<L: LeafForm>(rows: &[Spans], words: u32) -> Need
     requires rows { All (IsRow words) rows.now }
     requires few { length rows.now ≤ most_modules }
     requires small { words ≤ most_words }
-    ensures upper { result.upper
-        ≡ length rows.now + sum_by (λ row. broken_blocks region_words (row_map words row)) rows.now }
-    ensures leaf { result.leaf ≡ sum_by (λ row. broken_blocks page_words (row_map words row)) rows.now }
-    ensures spill { result.spill ≡ sum_by (λ row. spill_lines L.kind (row_map words row)) rows.now }
+    ensures { IsNeedOf L.kind (length rows.now) (rows_map words rows.now) result }
 {
     let mut all = Need {
         upper: 0,
@@ -215,21 +211,9 @@ pub(crate) fn build_rows<L: LeafForm>(
     requires rows { All (IsRow words) rows.now }
     requires few { length rows.now ≤ most_modules }
     requires small { words ≤ most_words }
-    requires fresh_upper { upper.old ≡ replicate (length upper.old) None }
-    requires fresh_leaf { leaf.old ≡ replicate (length leaf.old) None }
-    requires fresh_spill { spill.old ≡ replicate (length spill.old) None }
-    requires upper_room { length rows.now + sum_by (λ row. broken_blocks region_words (row_map words row)) rows.now
-        ≤ length upper.old }
-    requires leaf_room { sum_by (λ row. broken_blocks page_words (row_map words row)) rows.now ≤ length leaf.old }
-    requires spill_room { sum_by (λ row. spill_lines L.kind (row_map words row)) rows.now ≤ length spill.old }
-    ensures count { IfOk result (λ r. length r ≡ length rows.now) }
-    ensures tables { IfOk result (λ r. IsTables L.kind words upper.new leaf.new spill.new r) }
-    ensures maps { IfOk result (λ r. (d : ℕ) → d < length rows.now →
-        map_at L.kind words upper.new leaf.new spill.new r d
-        ≡ row_map words (slice_index_or rows.now d [])) }
-    ensures upper_total { length upper.new ≡ length upper.old }
-    ensures leaf_total { length leaf.new ≡ length leaf.old }
-    ensures spill_total { length spill.new ≡ length spill.old }
+    requires room { IsRoomFor L.kind (length rows.now) (rows_map words rows.now) upper.old leaf.old spill.old }
+    ensures { IfOk result (AreDomainsBuilt L.kind words (length rows.now) (rows_map words rows.now)
+        upper.old leaf.old spill.old upper.new leaf.new spill.new) }
 {
     let mut roots = Roots::new(alloc);
     for row in rows {

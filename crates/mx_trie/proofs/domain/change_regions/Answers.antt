@@ -1,4 +1,4 @@
-use Rattle.std.proofs.Common.{◌≡◌, ◌+◌, ◌-◌, ◌*◌, ◌/◌, ◌%◌, ◌<◌, ◌≤◌, min, refl, sym, arith}
+use Rattle.std.proofs.Common.{arith}
 use Rattle.mx_pool.specs.Frames.{free_in}
 use Rattle.mx_trie.proofs.DomainRegions.{regions-none, regions-more, regions-all, next-region, next-table, next-room, root-taken}
 use Rattle.mx_trie.proofs.domain.change_regions.Goals as goal

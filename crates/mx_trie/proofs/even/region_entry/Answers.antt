@@ -1,6 +1,6 @@
-use Rattle.std.proofs.Common.{◌≡◌, ℕ, ◌+◌, ◌-◌, ◌*◌, ◌/◌, ◌%◌, ◌<◌, ◌≤◌, inl, inr, refl, sym, ap, ◌∙◌, subst, arith}
+use Rattle.std.proofs.Common.{◌≡◌, ℕ, ◌+◌, ◌-◌, ◌*◌, ◌/◌, ◌%◌, inl, inr, refl, sym, ap, ◌∙◌, subst, arith}
 use Rattle.std.proofs.lemmas.Bool.{cases_lt}
-use Rattle.mx_words.specs.Rights.{number, perm_at}
+use Rattle.mx_words.specs.Rights.{perm_at}
 use Rattle.mx_words.specs.Blocks.{IsUniform}
 use Rattle.mx_words.proofs.NumberLaws.{number-small}
 use Rattle.mx_trie.proofs.Vectors.{part-none, part-more, part-whole}

@@ -1,4 +1,4 @@
-use Rattle.std.proofs.Common.{◌≡◌, ◌+◌, ◌*◌, ◌/◌, ◌<◌, ◌≤◌, true, false, List, Some, None, refl, sym, ap, ◌∙◌, arith}
+use Rattle.std.proofs.Common.{◌≡◌, ◌+◌, ◌*◌, ◌/◌, true, false, sym, ap, ◌∙◌, arith}
 use Rattle.mx_words.specs.Rights.{number, perm_at}
 use Rattle.mx_words.proofs.NumberLaws.{number-small}
 use Rattle.mx_pool.specs.Frames.{word_at}

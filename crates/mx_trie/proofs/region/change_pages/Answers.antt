@@ -1,4 +1,4 @@
-use Rattle.std.proofs.Common.{◌≡◌, ◌+◌, ◌-◌, ◌*◌, ◌/◌, ◌%◌, ◌<◌, ◌≤◌, min, List, ℕ, Option, IsSome, refl, sym, subst, arith}
+use Rattle.std.proofs.Common.{List, ℕ, Option, IsSome, refl, sym, subst, arith}
 use Rattle.mx_trie.proofs.RegionPages.{pages-none, pages-more, pages-all, next-page, next-table}
 use Rattle.mx_trie.proofs.region.change_pages.Goals as goal
 

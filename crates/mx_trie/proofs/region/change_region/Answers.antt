@@ -1,4 +1,4 @@
-use Rattle.std.proofs.Common.{◌≡◌, ◌+◌, ◌-◌, ◌*◌, ◌/◌, ◌%◌, ◌<◌, ◌≤◌, inl, inr, true, false, refl, sym, arith, eq-eqb}
+use Rattle.std.proofs.Common.{◌%◌, ◌≤◌, inl, inr, arith, eq-eqb}
 use Rattle.std.proofs.lemmas.Bool.{ne_eqb}
 use Rattle.mx_trie.specs.Laying.{laid_by, cuts}
 use Rattle.mx_trie.proofs.RegionChanges.{region-covered, region-cut, region-beside, region-stays}
