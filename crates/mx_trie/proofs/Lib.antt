@@ -70,10 +70,10 @@ pub mod NeedOfRange
 pub mod NeedOfChange
 pub mod NeedLaws
 pub mod DomainsChanged
-pub mod StandingAgain
 pub mod RootPlaces
 pub mod DomainRegions
 pub mod DomainChanges
+pub mod StandingNeeds
 pub mod NeedLaws
 pub mod BuiltRows
 pub mod RootPlaces
