@@ -1,9 +1,10 @@
 -- Laws of labels in the map.
-use Rattle.std.proofs.Common.{◌≡◌, ℕ, Bool, true, false, cond, List, [], ◌∷◌, ◌++◌, map, Option, None, Some, option_map, is_some, refl, ap, sym, ◌∙◌, bytes_eq}
+use Rattle.std.proofs.Common.{◌≡◌, ℕ, Bool, true, false, cond, List, [], ◌∷◌, ◌++◌, map, Option, Some, option_map, is_some, refl, ap, sym, ◌∙◌, bytes_eq}
 use Rattle.std.specs.Borrow.{Bor}
 use Rattle.std.specs.Map.{lookup}
 use Rattle.std.proofs.lemmas.Slice.Eq.{bytes_eq-Decides}
 use Rattle.indexmap.specs.IndexMap.{insert_entry}
+use Rattle.mx_words.proofs.OptionLaws.{is_some-map}
 use Rattle.mx_asm.specs.declared.labels.LabelPlace.{LabelPlace}
 use Rattle.mx_asm.specs.Labels.{definition_of, with_name}
 use Rattle.mx_asm.specs.LabelViews.{definition_view, entry_view}
@@ -35,10 +36,6 @@ pub insert-labels : (k : Bor (List ℕ)) (v : LabelPlace) (es : List (Bor (List 
 unfolding definition_of
 insert-labels k v [] new = refl
 insert-labels k v (e ∷ es) new = new_at k v e es (insert-labels k v es) (bytes_eq k.now e.0.now) new
-
-pub is_some-map : {A B : Type 0} (f : A → B) (o : Option A) → is_some (option_map f o) ≡ is_some o
-is_some-map f None = refl
-is_some-map f (Some a) = refl
 
 -- where the map finds nothing, the name is added
 pub with_name-new : (k : Bor (List ℕ)) (v : LabelPlace) (es : List (Bor (List ℕ) × LabelPlace)) (found : Option LabelPlace)

@@ -20,7 +20,8 @@ use Rattle.mx_asm.specs.Places.{start, place_after, address_of}
 use Rattle.mx_asm.specs.Labels.{Definition, definition_of, with_name, labels_from}
 use Rattle.mx_asm.specs.Faults.{label_fault, fault_from, offset_from}
 use Rattle.mx_asm.specs.Denoted.{bytes_of, with_listed, with_statement, with_defined, with_line, program_from, program_of, first_fault, labels_of_source}
-use Rattle.mx_asm.proofs.PlaceLaws.{no_fault}
+use Rattle.mx_words.proofs.OptionLaws.{some_of, withheld}
+use Rattle.mx_words.proofs.ElementLaws.{all_push}
 use Rattle.mx_asm.proofs.LineLaws.{length-lines}
 use Rattle.mx_asm.proofs.Placed.{IsPlaced, begun_labels, bytes_labels, laid_all, label_here, start_placed}
 use Rattle.mx_asm.proofs.Sources.{line_next, fault_parts, first_none, definition_below}
@@ -70,10 +71,6 @@ added_name : (labels : List Definition) (name : List ℕ) (address line : ℕ) �
 unfolding with_name
 added_name labels name address line = added_at (is_some (definition_of labels name)) labels name address line refl
 
-some_of : {A : Type 0} (o : Option A) → IsSome o → (a : A) × (o ≡ Some a)
-some_of None h = cc
-some_of (Some a) h = (a, refl)
-
 defined_here : (place : Place) (number : ℕ) (labels : List Definition) (text : List ℕ) (rest : List (List ℕ)) (name : List ℕ) → (line_of text).label ≡ Some name
     → (d : Definition) × (definition_of (labels_from place number labels (text ∷ rest)) name ≡ Some d)
 unfolding labels_from
@@ -97,10 +94,6 @@ defined_later labels number [] h = tt
 defined_later labels number (l ∷ ls) h =
     (record { name = h.0.name; lawful = h.0.lawful; definition = h.0.definition; is = h.0.is; earlier = omega (arith, h.0.earlier) }, defined_later labels number ls h.1)
 
-all_push : {A : Type 0} (P : A → Type 0) (xs : List A) (x : A) → AllByRecursion P xs → P x → AllByRecursion P (xs ++ x ∷ [])
-all_push P [] x h p = (p, tt)
-all_push P (y ∷ xs) x h p = (h.0, all_push P xs x h.1 p)
-
 distinct_push : (ls : List Label) (l : Label) → AreDistinct ls → AllByRecursion (λ m. m.name ≢ l.name) ls → AreDistinct (ls ++ l ∷ [])
 distinct_push [] l h f = (tt, tt)
 distinct_push (m ∷ ls) l h f = (all_push (λ x. m.name ≢ x.name) ls l h.0 f.0, distinct_push ls l h.1 f.1)
@@ -118,7 +111,7 @@ pub record AreLawful (labels : List Definition) (number : ℕ) (ls : List Label)
 
 same_line : (labels : List Definition) (number : ℕ) (name : List ℕ) (d : Definition) → label_fault labels number (Some name) ≡ None → definition_of labels name ≡ Some d → d.line ≡ number
 unfolding label_fault
-same_line labels number name d none is = eqb-true d.line number (no_fault (d.line == number) 5 (rw is at none))
+same_line labels number name d none is = eqb-true d.line number (withheld {A = ℕ} (d.line == number) 5 (rw is at none))
 
 lawful_label : (labels : List Definition) (number here : ℕ) (label : Option (List ℕ)) (p : Program) → IsNamed label → (IsSome label → here < 2 ^ 32) → label_fault labels number label ≡ None
     → ((name : List ℕ) → label ≡ Some name → (d : Definition) × (definition_of labels name ≡ Some d)) → AreLawful labels number p.labels → AreLawful labels (number + 1) (with_defined label here p).labels

@@ -16,11 +16,7 @@ use Rattle.mx_asm.specs.Labels.{Definition}
 use Rattle.mx_asm.specs.Faults.{kind_fault, address_fault, operand_fault, is_full, place_fault, begins_segment, is_misplaced}
 use Rattle.mx_asm.specs.Denoted.{bytes_of, pair_words, inst_word, word_of_value, byte_of_number}
 use Rattle.mx_asm.proofs.FaultLaws.{kind_some}
-use Rattle.mx_elf.proofs.Sound.{row_none}
-
-pub no_fault : (t : Bool) (n : ℕ) → cond t None (Some n) ≡ None → t ≡ true
-no_fault true n h = refl
-no_fault false n h = cc
+use Rattle.mx_words.proofs.OptionLaws.{row_none, withheld}
 
 -- what the rows of a statement's place say where none applies
 pub record IsPlain (label : Option (List ℕ)) (keyword : Keyword) (operands : List (List ℕ)) (place : Place) : Type 0 where
@@ -46,7 +42,7 @@ below_at false m h = omega arith
 -- an address without fault
 number_below : (found : Option Number) → kind_fault (λ n. cond (fits address_range n) None (Some 3)) found ≡ None → option_map_or (λ n. n.magnitude) found 0 < 2 ^ 32
 number_below None h = cc
-number_below (Some n) h = below_at n.negative n.magnitude (leb-true n.magnitude (cond n.negative 0 0xFFFFFFFF) (and_parts (nat_le n.magnitude (cond n.negative 0 0xFFFFFFFF)) true (no_fault (fits address_range n) 3 h)).0)
+number_below (Some n) h = below_at n.negative n.magnitude (leb-true n.magnitude (cond n.negative 0 0xFFFFFFFF) (and_parts (nat_le n.magnitude (cond n.negative 0 0xFFFFFFFF)) true (withheld (fits address_range n) 3 h)).0)
 
 pub address_below : (operands : List (List ℕ)) → address_fault operands ≡ None → address_of operands < 2 ^ 32
 unfolding address_of

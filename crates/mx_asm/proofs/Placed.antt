@@ -18,8 +18,8 @@ use Rattle.mx_asm.specs.Faults.{operand_fault, begins_segment, is_aligned, place
 use Rattle.mx_asm.specs.Denoted.{bytes_of, with_begun, with_listed, with_statement, with_defined}
 use Rattle.mx_asm.specs.Ready.{IsReady, IsReadyFor}
 use Rattle.mx_asm.proofs.ProgramLaws.{grown}
-use Rattle.mx_asm.proofs.PlaceLaws.{no_fault, IsPlain, place_plain, address_below, length-bytes_of}
-use Rattle.mx_elf.proofs.Sound.{neither, row_none}
+use Rattle.mx_asm.proofs.PlaceLaws.{IsPlain, place_plain, address_below, length-bytes_of}
+use Rattle.mx_words.proofs.OptionLaws.{neither, row_none, withheld}
 
 -- a segment at a multiple of 4, of code or of data
 pub record IsBegun (s : Segment) : Type 0 where
@@ -209,7 +209,7 @@ statement_step labels number place label Unlisted p h off is = cc
 statement_step labels number place label (Listed keyword operands) p h off is =
     let o = neither (operand_fault labels keyword operands) (option_or (label_fault labels number label) (place_fault label keyword operands place)) h in
     let q = neither (label_fault labels number label) (place_fault label keyword operands place) o.1 in
-    listed_step labels label operands place p is keyword o.0 (no_fault (offset_fits labels place.here keyword operands) 3 off) (place_plain label keyword operands place q.1)
+    listed_step labels label operands place p is keyword o.0 (withheld (offset_fits labels place.here keyword operands) 3 off) (place_plain label keyword operands place q.1)
 
 below_end : (some : Bool) (here : ℕ) → (some && nat_le (2 ^ 32) here) ≡ false → some ≡ true → here < 2 ^ 32
 below_end true here h e = leb-false (2 ^ 32) here h

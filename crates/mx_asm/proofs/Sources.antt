@@ -15,7 +15,7 @@ use Rattle.mx_asm.specs.Faults.{at_line, line_fault, offset_fault, fault_from, o
 use Rattle.mx_asm.specs.Denoted.{with_line, with_defined, with_start, program_from, program_of, first_fault, labels_of_source}
 use Rattle.mx_asm.proofs.LineLaws.{IsLineAt}
 use Rattle.mx_asm.proofs.Placed.{IsPlaced, IsStep, statement_step, label_below, label_placed}
-use Rattle.mx_elf.proofs.Sound.{neither}
+use Rattle.mx_words.proofs.OptionLaws.{neither}
 
 line_none : (number : ℕ) (fault : Option ℕ) → at_line number fault ≡ None → fault ≡ None
 line_none number None h = refl

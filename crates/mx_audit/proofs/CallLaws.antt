@@ -2,8 +2,8 @@
 -- no give covers it. And no give covers a word of a heap area.
 use Rattle.std.proofs.Common.{◌≡◌, ◌≢◌, inl, inr, ⊎_elim, ℕ, zero, suc, ◌+◌, ◌-◌, ◌*◌, ◌<◌, ◌≤◌, Bool, true, false, not, cond, nat_lt, nat_le, ◌==◌, ◌&&◌, ◌||◌, List, [], ◌∷◌, length, set, refl, sym, ◌∙◌, ap, subst, arith, eqb-true, IsTrue, if◌then◌else◌, Option, Some, None, unwrap_or, is_none}
 use Rattle.std.specs.Prelude.{IfSome, slice_index, slice_index_or, option_map, find}
-use Rattle.std.specs.List.{AllByRecursion, list_all, range_with_len}
-use Rattle.std.proofs.lemmas.Bool.{ltb-true, ltb-false, lt-ltb, leb-true, eqb-false, not-false, and_parts, or_parts}
+use Rattle.std.specs.List.{AllByRecursion, range_with_len}
+use Rattle.std.proofs.lemmas.Bool.{ltb-true, ltb-false, lt-ltb, leb-true, not-false, and_parts, or_parts}
 use Rattle.mx_words.specs.declared.perm.Perm.{Perm}
 use Rattle.mx_words.specs.declared.perm.Perm.TheVariants as P
 use Rattle.mx_words.specs.declared.perm.Access.TheVariants as A
@@ -15,6 +15,7 @@ use Rattle.mx_words.specs.Newest.{Give}
 use Rattle.mx_words.specs.Ranges.{covers, overlaps}
 use Rattle.mx_words.specs.Rights.{allows}
 use Rattle.mx_words.proofs.OverlayLaws.{covers_in, covers_from}
+use Rattle.mx_words.proofs.RangeTests.{each_passes}
 use Rattle.mx_model.specs.declared.values.Call.{Call}
 use Rattle.mx_model.specs.declared.values.Gate.{Gate}
 use Rattle.mx_model.specs.Checks.{Look, arg, call_range, drops, looked_all}
@@ -101,20 +102,10 @@ keeps-either L w ram modules e None s p q = q
 keeps-either L w ram modules e (Some n) s p q = p
 
 -- each word of a range whose words the caller owns is the caller's
-all-range : (test : ℕ → Bool) (first count v : ℕ) → list_all test (range_with_len first count) ≡ true → first ≤ v → v < first + count → test v ≡ true
-all-range test first zero v e l u = absurd (let q : ⊥ = omega (arith, l, u) in q)
-all-range test first (suc count) v e l u =
-    let p = and_parts (test first) (list_all test (range_with_len (first + 1) count)) e in
-    elim (first == v) as (λ b. (first == v) ≡ b → test v ≡ true) [
-      | true ↦ λ t. subst (λ n. test n ≡ true) (eqb-true first v t) p.0
-      | false ↦ λ t. let n = eqb-false first v t in
-          let a : first + 1 ≤ v = omega (arith, l, n) in let b : v < first + 1 + count = omega (arith, u) in all-range test (first + 1) count v p.1 a b
-    ] refl
-
 owned-by : (r : Reads) (call : Call) (range : ℕ × ℕ) (v : ℕ) → owns r call range ≡ true → covers range.0 range.1 v ≡ true → r.owner v ≡ call.domain
 owned-by r call range v e p =
     let q = covers_from range.0 range.1 v p in
-    eqb-true (r.owner v) call.domain (all-range (λ w. r.owner w == call.domain) range.0 range.1 v e q.0 q.1)
+    eqb-true (r.owner v) call.domain (each_passes (λ w. r.owner w == call.domain) range.0 range.1 e v q.0 q.1)
 
 -- a word with an owner outside the set isn't covered where all covered words are of an owner in the set
 spared-by : (L : ℕ → Type 0) (r : Reads) (w d first count : ℕ) → IsSpared L r w → L d → (covers first count w ≡ true → r.owner w ≡ d) → covers first count w ≡ false

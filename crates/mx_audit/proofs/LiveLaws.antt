@@ -8,6 +8,7 @@ use Rattle.std.proofs.lemmas.List.{append-nil}
 use Rattle.mx_words.specs.declared.perm.Perm.{Perm}
 use Rattle.mx_words.specs.declared.perm.Perm.TheVariants as P
 use Rattle.mx_words.specs.Rights.{same}
+use Rattle.mx_words.proofs.ElementLaws.{all_pass, each_passes}
 use Rattle.mx_model.specs.declared.values.Frame.{Frame}
 use Rattle.mx_model.specs.declared.values.Gate.{Gate}
 use Rattle.mx_model.specs.Reads.{Reads}
@@ -214,14 +215,6 @@ abbrev is_kept : Reads → ℕ → ℕ → Bool
 is_kept r word d = not (same (r.perm d word) P.ReadWrite)
 
 -- a word that passes the test by rounds is sealed, and a sealed one passes
-all-true : (test : ℕ → Bool) (xs : List ℕ) → list_all test xs ≡ true → AllByRecursion (λ d. test d ≡ true) xs
-all-true test [] e = tt
-all-true test (x ∷ xs) e = let q = and_parts (test x) (list_all test xs) e in (q.0, all-true test xs q.1)
-
-true-all : (test : ℕ → Bool) (xs : List ℕ) → AllByRecursion (λ d. test d ≡ true) xs → list_all test xs ≡ true
-true-all test [] h = refl
-true-all test (x ∷ xs) h = and_from (test x) (list_all test xs) h.0 (true-all test xs h.1)
-
 pub all-weaker : {X : Type 0} (P Q : X → Type 0) (xs : List X) → ((x : X) → P x → Q x) → AllByRecursion P xs → AllByRecursion Q xs
 all-weaker P Q [] f h = tt
 all-weaker P Q (x ∷ xs) f h = (f x h.0, all-weaker P Q xs f h.1)
@@ -236,7 +229,7 @@ from-rounds r c word e =
       in_ram = ltb-true word c.size q.0;
       owner = λ k. both_ways (is_in (live c) (r.owner word)) (not-true (is_in (live c) (r.owner word)) q.1) ((live-rounds c (r.owner word)).1 k);
       rights = λ d k w. both_ways (same (r.perm d word) P.ReadWrite) (not-true (same (r.perm d word) P.ReadWrite)
-          (in-all (λ x. is_kept r word x ≡ true) (live c) d (all-true (is_kept r word) (live c) p.1) ((live-rounds c d).1 k)))
+          (in-all (λ x. is_kept r word x ≡ true) (live c) d (each_passes (is_kept r word) (live c) p.1) ((live-rounds c d).1 k)))
           (ap (λ x. same x P.ReadWrite) w);
     }
 
@@ -248,7 +241,7 @@ to-rounds r c word s =
     and_from (nat_lt word c.size && owned) kept
     (and_from (nat_lt word c.size) owned (lt-ltb word c.size s.in_ram)
     (not_from_false owner_live (false_from_ne_true owner_live (λ k. s.owner ((live-rounds c (r.owner word)).0 k)))))
-    (true-all (is_kept r word) (live c) (all-weaker (IsLive c) (λ x. is_kept r word x ≡ true) (live c)
+    (all_pass (is_kept r word) (live c) (all-weaker (IsLive c) (λ x. is_kept r word x ≡ true) (live c)
     (λ d k. not_from_false (same (r.perm d word) P.ReadWrite) (false_from_ne_true (same (r.perm d word) P.ReadWrite) (λ w. s.rights d k (same-is (r.perm d word) w)))) (rounds-live c)))
 
 pub sealed-rounds : (r : Reads) (c : Core) (word : ℕ) → IsTrue (is_sealed r c word) ↔ IsSealed r c word

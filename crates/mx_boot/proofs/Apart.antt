@@ -1,5 +1,5 @@
 -- Areas of a plan without a fault: they lie in RAM and share no word.
-use Rattle.std.proofs.Common.{◌≡◌, ◌⊎◌, inl, inr, ℕ, zero, suc, ◌+◌, ◌/◌, ◌≤◌, Bool, true, false, not, cond, nat_le, ◌&&◌, List, [], ◌∷◌, ◌++◌, length, find, slice_get, Option, Some, None, refl, ◌∙◌, sym, arith}
+use Rattle.std.proofs.Common.{◌≡◌, ◌⊎◌, inl, inr, ℕ, zero, suc, ◌+◌, ◌/◌, ◌≤◌, true, false, not, nat_le, ◌&&◌, List, [], ◌∷◌, ◌++◌, length, find, slice_get, Option, Some, None, refl, ◌∙◌, sym, arith}
 use Rattle.std.specs.List.{AllByRecursion}
 use Rattle.std.specs.Option.{is_some}
 use Rattle.std.proofs.lemmas.Bool.Decides.{nat_tests}
@@ -8,18 +8,12 @@ use Rattle.std.proofs.lemmas.Bool.{not-false}
 use Rattle.mx_words.specs.FirstRow.{first_row}
 use Rattle.mx_words.specs.Ranges.{ram_base, covers, overlaps}
 use Rattle.mx_words.proofs.FirstRowLaws.{first_row-append}
-use Rattle.mx_manifest.specs.declared.fault.BootFault.{BootFault}
-use Rattle.mx_manifest.proofs.Clear.{neither}
+use Rattle.mx_words.proofs.OptionLaws.{neither, row_none}
 use Rattle.mx_boot.specs.declared.area.Area.{Area}
 use Rattle.mx_boot.specs.Entries.{word_at}
 use Rattle.mx_boot.specs.Faults.{is_in_ram, shares_word, area_rows, areas_rows}
 use Rattle.mx_boot.proofs.Lists.{all_at, find_none}
 use Rattle.mx_audit.proofs.LiveLaws.{all-weaker}
-
--- a row that doesn't apply, and the rows after it
-pub row_fails : (test : Bool) (fault : BootFault) (rest : Option BootFault) → cond test (Some fault) rest ≡ None → (test ≡ false) × (rest ≡ None)
-row_fails true fault rest h = absurd cc
-row_fails false fault rest h = (refl, h)
 
 none_from : {A : Type 0} (o : Option A) → is_some o ≡ false → o ≡ None
 none_from None h = refl
@@ -32,8 +26,8 @@ pub record IsClear (words : ℕ) (earlier : List Area) (a : Area) : Type 0 where
 
 area_clear : (words : ℕ) (earlier : List Area) (a : Area) → first_row (area_rows words earlier a) ≡ None → IsClear words earlier a
 area_clear words earlier a h =
-    let first = row_fails (not (is_in_ram words a)) _ _ h in
-    let second = row_fails (is_some (find (shares_word a) earlier)) _ _ first.1 in
+    let first = row_none (not (is_in_ram words a)) _ _ h in
+    let second = row_none (is_some (find (shares_word a) earlier)) _ _ first.1 in
     record {
       inside = not-false (is_in_ram words a) first.0;
       apart = find_none (shares_word a) earlier (none_from (find (shares_word a) earlier) second.0);

@@ -7,7 +7,8 @@ use Rattle.mx_words.proofs.FirstRowLaws.{first_row-append}
 use Rattle.mx_manifest.specs.declared.fault.BootFault.{BootFault}
 use Rattle.mx_boot.specs.declared.area.Area.{Area}
 use Rattle.mx_boot.specs.Faults.{Fault, each_behind, area_rows, areas_rows}
-use Rattle.mx_boot.proofs.Rows.{drop_at, take_at}
+use Rattle.mx_words.proofs.ElementLaws.{drop_at}
+use Rattle.mx_boot.proofs.Rows.{take_at}
 
 pub behind-append : {A B : Type 0} (keep : A → B) (rows : List B → A → List Fault) (earlier : List B) (xs ys : List A)
     → each_behind keep rows earlier (xs ++ ys) ≡ each_behind keep rows earlier xs ++ each_behind keep rows (earlier ++ map keep xs) ys

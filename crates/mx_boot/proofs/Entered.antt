@@ -10,7 +10,8 @@ use Rattle.mx_manifest.specs.declared.fault.Place.{Place}
 use Rattle.mx_boot.specs.declared.area.Area.{Area}
 use Rattle.mx_boot.specs.Entries.{word_at}
 use Rattle.mx_boot.specs.Faults.{is_in_ram, holds_entry, is_entry, entry_rows}
-use Rattle.mx_boot.proofs.Apart.{in_ram, row_fails}
+use Rattle.mx_words.proofs.OptionLaws.{row_none}
+use Rattle.mx_boot.proofs.Apart.{in_ram}
 use Rattle.mx_boot.proofs.Lists.{all_at, any_some}
 
 -- an aligned address in RAM
@@ -51,6 +52,6 @@ pub record IsEntered (all : List Area) (domain : ℕ) (address : Option ℕ) : T
 
 pub entry_clear : (all : List Area) (place : Place) (domain : ℕ) (address : Option ℕ) → first_row (entry_rows all place domain address) ≡ None → IsEntered all domain address
 entry_clear all place domain address h =
-    let first = row_fails (not (is_some address)) _ _ h in
-    let second = row_fails (not (is_entry all domain (unwrap_or address 0))) _ _ first.1 in
+    let first = row_none (not (is_some address)) _ _ h in
+    let second = row_none (not (is_entry all domain (unwrap_or address 0))) _ _ first.1 in
     record { there = not-false (is_some address) first.0; entry = not-false (is_entry all domain (unwrap_or address 0)) second.0 }

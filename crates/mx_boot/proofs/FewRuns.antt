@@ -1,13 +1,14 @@
 -- Each give adds at most two runs of owners: a run begins only where one begins or ends.
 use Rattle.std.proofs.Common.{◌≡◌, ℕ, zero, suc, ◌+◌, ◌-◌, ◌*◌, ◌<◌, ◌≤◌, Bool, true, false, not, cond, ◌==◌, ◌||◌, List, [], ◌∷◌, length, get_or, refl, ap, ◌∙◌, sym, arith}
 use Rattle.std.specs.List.{flat_map, list_any}
-use Rattle.std.proofs.lemmas.Bool.{eq-eqb, or_parts, or_right}
+use Rattle.std.proofs.lemmas.Bool.{eq-eqb, ne_eqb, or_from, or_parts, or_right}
 use Rattle.std.proofs.lemmas.Bool.Decides.{nat_tests}
 use Rattle.mx_words.specs.Counting.{bit, count_below}
 use Rattle.mx_words.specs.Newest.{Give, laid_at, newest, owner, owners}
 use Rattle.mx_words.specs.Ranges.{covers}
 use Rattle.mx_words.specs.Runs.{owner_runs}
 use Rattle.mx_words.specs.Starts.{is_owner_start}
+use Rattle.mx_words.proofs.BrokenLaws.{count_one_more}
 use Rattle.mx_words.proofs.CountingLaws.{count_below_none}
 use Rattle.mx_words.proofs.OverlayLaws.{length-owners, owners-at}
 use Rattle.mx_words.proofs.RunLaws.{owner_runs-count}
@@ -19,12 +20,6 @@ bit-le-bit true b f = rw (f refl) (omega arith)
 bit-le-bit false true f = omega arith
 bit-le-bit false false f = omega arith
 
-bit-or : (a b : Bool) → bit (a || b) ≤ bit a + bit b
-bit-or true true = omega arith
-bit-or true false = omega arith
-bit-or false true = omega arith
-bit-or false false = omega arith
-
 count-mono : (n : ℕ) (p q : ℕ → Bool) → ((i : ℕ) → i < n → p i ≡ true → q i ≡ true) → count_below n p ≤ count_below n q
 unfolding count_below
 count-mono zero p q f = omega arith
@@ -33,29 +28,16 @@ count-mono (suc n) p q f =
     let here = bit-le-bit (p n) (q n) (f n (omega arith)) in
     omega (arith, rest, here)
 
-count-or : (n : ℕ) (p q : ℕ → Bool) → count_below n (λ i. p i || q i) ≤ count_below n p + count_below n q
-unfolding count_below
-count-or zero p q = omega arith
-count-or (suc n) p q =
-    let rest = count-or n p q in
-    let here = bit-or (p n) (q n) in
-    omega (arith, rest, here)
-
-count-one : (n b : ℕ) → count_below n (λ i. b == i) ≤ 1
-unfolding count_below
-count-one zero b = omega arith
-count-one (suc n) b = elim (b == n) as (λ t. (b == n) ≡ t → count_below n (λ i. b == i) + bit t ≤ 1) [
-  | true ↦ λ e. let none : count_below n (λ i. b == i) ≡ 0 = count_below_none n (λ i. b == i) (λ i lt. grind (arith, nat_tests)) in omega (arith, none)
-  | false ↦ λ e. let rest = count-one n b in omega (arith, rest)
-] refl
+-- one number more than pass another test
+count-more : (n b : ℕ) (p : ℕ → Bool) → count_below n (λ i. (b == i) || p i) ≤ count_below n p + 1
+count-more n b p = count_one_more n b p (λ i. (b == i) || p i) (λ i lt ne none. or_from (b == i) (p i) (ne_eqb b i (λ e. ne (sym e))) none)
 
 count-any : (n : ℕ) (bs : List ℕ) → count_below n (λ i. list_any (λ b. b == i) bs) ≤ length bs
 count-any n [] = let none : count_below n (λ i. false) ≡ 0 = count_below_none n (λ i. false) (λ i lt. refl) in omega (arith, none)
 count-any n (b ∷ bs) =
-    let both = count-or n (λ i. b == i) (λ i. list_any (λ c. c == i) bs) in
-    let one = count-one n b in
+    let more = count-more n b (λ i. list_any (λ c. c == i) bs) in
     let rest = count-any n bs in
-    omega (arith, both, one, rest)
+    omega (arith, more, rest)
 
 -- where a give begins or ends
 abbrev bounds : Give → List ℕ
@@ -103,10 +85,9 @@ runs-at-most gives words =
     let counted = owner_runs-count (owners gives words) in
     let long = length-owners gives words in
     let at_most : count_below words (is_owner_start (owners gives words)) ≤ count_below words (may-begin gives) = count-mono words (is_owner_start (owners gives words)) (may-begin gives) (starts gives words) in
-    let both : count_below words (may-begin gives) ≤ count_below words (λ i. 0 == i) + count_below words (λ i. list_any (λ b. b == i) (flat_map bounds gives)) =
-    count-or words (λ i. 0 == i) (λ i. list_any (λ b. b == i) (flat_map bounds gives)) in
-    let one = count-one words 0 in
+    let more : count_below words (may-begin gives) ≤ count_below words (λ i. list_any (λ b. b == i) (flat_map bounds gives)) + 1 =
+    count-more words 0 (λ i. list_any (λ b. b == i) (flat_map bounds gives)) in
     let rest = count-any words (flat_map bounds gives) in
     let few = length-flat_at_most bounds 2 gives (all_each (λ g. length (bounds g) ≤ 2) gives (λ g. omega arith)) in
     let same : count_below (length (owners gives words)) (is_owner_start (owners gives words)) ≡ count_below words (is_owner_start (owners gives words)) = ap (λ n. count_below n (is_owner_start (owners gives words))) long in
-    omega (arith, counted, same, at_most, both, one, rest, few)
+    omega (arith, counted, same, at_most, more, rest, few)

@@ -18,14 +18,13 @@ use Rattle.mx_manifest.specs.declared.parts.ModulePlan.{ModulePlan}
 use Rattle.mx_manifest.specs.InRange.{IsInRange}
 use Rattle.mx_manifest.specs.InRange as range
 use Rattle.mx_manifest.specs.Plan.{Said}
-use Rattle.mx_manifest.proofs.Clear.{neither}
+use Rattle.mx_words.proofs.OptionLaws.{neither, row_none}
 use Rattle.mx_boot.specs.declared.area.Area.{Area}
 use Rattle.mx_boot.specs.declared.gates.Request.{Request}
 use Rattle.mx_boot.specs.Areas.{Home, home, homes}
 use Rattle.mx_boot.specs.Entries.{word_at, request, call_requests, return_request, requests_of, requests}
 use Rattle.mx_boot.specs.Faults.{Fault, is_in_ram, at_module, fault, entry_rows, gate_rows, gates_rows}
 use Rattle.mx_boot.specs.Laid.{gate_of}
-use Rattle.mx_boot.proofs.Apart.{row_fails}
 use Rattle.mx_boot.proofs.Entered.{IsEntered, entry_inside, entry_clear}
 use Rattle.mx_boot.proofs.Lists.{all_both, all_each, all_mapped, all_flat, all_numbered, any_none}
 use Rattle.mx_machine.proofs.SmallLaws.{from-each}
@@ -44,8 +43,8 @@ gate_clear all earlier r h =
     let twice : Fault = (has_gate earlier r.gate.domain r.gate.word, fault 16 place 0) in
     let last : Fault = (length earlier == most_gates, fault 17 place 0) in
     let both = neither (first_row entry) (first_row (twice ∷ last ∷ [])) (sym (first_row-append entry (twice ∷ last ∷ [])) ∙ h) in
-    let first = row_fails (has_gate earlier r.gate.domain r.gate.word) (fault 16 place 0) (first_row (last ∷ [])) both.1 in
-    let second = row_fails (length earlier == most_gates) (fault 17 place 0) None first.1 in
+    let first = row_none (has_gate earlier r.gate.domain r.gate.word) (fault 16 place 0) (first_row (last ∷ [])) both.1 in
+    let second = row_none (length earlier == most_gates) (fault 17 place 0) None first.1 in
     record { entered = entry_clear all place r.gate.target r.address both.0; fresh = first.0; room = second.0 }
 
 abbrev pub AreClear : List Area → List Gate → List Request → Type 0

@@ -11,7 +11,7 @@ use Rattle.mx_manifest.specs.declared.parts.HartPlan.{HartPlan}
 use Rattle.mx_manifest.specs.declared.parts.ModulePlan.{ModulePlan}
 use Rattle.mx_manifest.specs.InRange.{IsInRange}
 use Rattle.mx_manifest.specs.Plan.{Said}
-use Rattle.mx_manifest.proofs.Clear.{neither}
+use Rattle.mx_words.proofs.OptionLaws.{neither}
 use Rattle.mx_boot.specs.Areas.{Home, home, pieces, heaps, stacks, stack_words, stack_area, areas}
 use Rattle.mx_boot.specs.Boot.{stack_address, hart_of}
 use Rattle.mx_boot.specs.Entries.{hart_start}

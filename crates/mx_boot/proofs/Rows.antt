@@ -6,11 +6,8 @@ use Rattle.std.proofs.lemmas.List.{drop_more, take_more, append-nil, map-append,
 use Rattle.std.proofs.lemmas.Grind.{flat_map-append}
 use Rattle.std.proofs.lemmas.Option.{same_Some, slice_get-map, slice_get_within, get_or_from_slice_get}
 use Rattle.mx_words.specs.FirstRow.{Row, first_row}
+use Rattle.mx_words.proofs.ElementLaws.{drop_at}
 use Rattle.mx_words.proofs.FirstRowLaws.{first_row-append}
-
--- an element and what is left after it
-pub drop_at : {A : Type 0} (xs : List A) (i : ℕ) (x : A) → slice_get xs i ≡ Some x → drop i xs ≡ x ∷ drop (i + 1) xs
-drop_at xs i x e = drop_more xs i x (slice_get_within xs i x e) ∙ ap (λ z. z ∷ drop (i + 1) xs) (get_or_from_slice_get xs i x x e)
 
 -- the elements before a place and the element there
 pub take_at : {A : Type 0} (xs : List A) (i : ℕ) (x : A) → slice_get xs i ≡ Some x → take (i + 1) xs ≡ take i xs ++ x ∷ []

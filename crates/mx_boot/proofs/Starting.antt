@@ -7,6 +7,7 @@ use Rattle.std.proofs.lemmas.List.{length-map}
 use Rattle.std.proofs.lemmas.Option.{get_or_from_slice_get}
 use Rattle.mx_words.specs.Caches.{Cache, no_cache}
 use Rattle.mx_words.specs.Ranges.{address_of}
+use Rattle.mx_table.proofs.NamedLaws.{everywhere}
 use Rattle.mx_check.specs.Calls.{new_harts}
 use Rattle.mx_check.specs.Harts.{Kept, new_hart}
 use Rattle.mx_model.specs.State.{Core, Flat, Hart, Module, Stack, Running, flat, module_at, no_module}
@@ -72,12 +73,6 @@ stack_behind words harts h of (Some address) e whole between aligned inside =
 kills_told : (m : ModulePlan) (o : Option ℕ) → (let a : StackArea = option_map_or (λ address. record { first = word_at address; words = stack_words m; kills = m.kills }) o (record { first = 0; words = 0; kills = m.kills }) in a.kills) ≡ m.kills
 kills_told m None = refl
 kills_told m (Some address) = refl
-
--- no domain is dead
-dead_none : (n d : ℕ) → get_or (replicate n false) d false ≡ false
-dead_none zero d = refl
-dead_none (suc n) zero = refl
-dead_none (suc n) (suc d) = dead_none n d
 
 caches_none : (n : ℕ) → map (λ (k : Kept). k.cache) (replicate n new_hart) ≡ replicate n no_cache
 caches_none zero = refl
@@ -147,7 +142,7 @@ module _ (plan : Said) (images : List (List ℕ)) (in_range : IsInRange plan) (n
       ∙ get_or_from_slice_get (homes_from none_dead 1 (stack_areas plan)) j (home none_dead (1 + j) (stack_area_of m)) no_module (homes_at 1 j (stack_areas plan) (stack_area_of m) (area_is j m at))
       ∙ ap (λ k. (let x : Module = record no_module { stack = told (stack_area_of m); kills = k; dead = get_or none_dead (1 + j) false } in x)) (kills_told m m.stack)
       ∙ ap (λ s. (let x : Module = record no_module { stack = s; kills = m.kills; dead = get_or none_dead (1 + j) false } in x)) ((has_stack 0 j m at).stack)
-      ∙ ap (λ b. (let x : Module = record no_module { stack = stack_of m; kills = m.kills; dead = b } in x)) (dead_none 64 (1 + j))
+      ∙ ap (λ b. (let x : Module = record no_module { stack = stack_of m; kills = m.kills; dead = b } in x)) (everywhere 64 (1 + j) false)
 
   hart_is : (j : ℕ) (x : HartPlan) → slice_get plan.harts j ≡ Some x → behind (stack_areas plan) x.module (0 + j) ≡ option_map_or (stack_address (0 + j)) (slice_get plan.modules (x.module - 1)) 0
   hart_is j x at =

@@ -4,6 +4,7 @@ use Rattle.std.specs.List.{flat_map}
 use Rattle.std.specs.Option.{option_or}
 use Rattle.mx_words.specs.FirstRow.{first_row}
 use Rattle.mx_words.proofs.FirstRowLaws.{first_row-append}
+use Rattle.mx_words.proofs.OptionLaws.{neither}
 use Rattle.mx_model.specs.declared.values.Gate.{Gate}
 use Rattle.mx_manifest.specs.declared.fault.BootFault.{BootFault}
 use Rattle.mx_manifest.specs.Plan.{Said}
@@ -89,10 +90,6 @@ module _ (plan : Said) (images : List (List ℕ)) where
   unfolding harts_found
   harts_tell refused e = e
 
-none_of_two : (a b : Option BootFault) → option_or a b ≡ None → (a ≡ None) × (b ≡ None)
-none_of_two None b h = (refl, h)
-none_of_two (Some x) b h = absurd cc
-
 -- a plan without a fault has none at each step
 pub parts_clear : (plan : Said) (images : List (List ℕ)) → first_fault plan images ≡ None
     → (first_row (areas_rows (ram_words plan) [] (areas plan images)) ≡ None)
@@ -100,7 +97,7 @@ pub parts_clear : (plan : Said) (images : List (List ℕ)) → first_fault plan 
     × (first_row (harts_rows plan images) ≡ None)
 unfolding images_found areas_found gates_found harts_found
 parts_clear plan images e =
-    let last = none_of_two (option_or (option_or (images_found plan images) (areas_found plan images)) (gates_found plan images)) (harts_found plan images) (sym (first_is plan images) ∙ e) in
-    let next = none_of_two (option_or (images_found plan images) (areas_found plan images)) (gates_found plan images) last.0 in
-    let first = none_of_two (images_found plan images) (areas_found plan images) next.0 in
+    let last = neither (option_or (option_or (images_found plan images) (areas_found plan images)) (gates_found plan images)) (harts_found plan images) (sym (first_is plan images) ∙ e) in
+    let next = neither (option_or (images_found plan images) (areas_found plan images)) (gates_found plan images) last.0 in
+    let first = neither (images_found plan images) (areas_found plan images) next.0 in
     (first.1, next.1, last.1)

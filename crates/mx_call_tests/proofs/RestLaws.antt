@@ -1,5 +1,5 @@
 -- A hart alone: its announced call is ready at once, and it is at rest again when the call was served.
-use Rattle.std.proofs.Common.{◌≡◌, ◌≢◌, ℕ, ◌<◌, ◌≤◌, ◌⊎◌, inl, inr, true, false, List, length, Option, Some, None, refl, sym, ap, subst, ◌∙◌, arith, length-set, get_or-set_same}
+use Rattle.std.proofs.Common.{◌≡◌, ◌≢◌, ℕ, ◌<◌, ◌≤◌, inl, inr, true, false, List, length, Option, Some, None, refl, sym, ap, subst, ◌∙◌, arith, length-set, get_or-set_same}
 use Rattle.std.specs.Prelude.{IfSome}
 use Rattle.std.proofs.lemmas.List.{get_or_past}
 use Rattle.mx_words.specs.declared.perm.Perm.{Perm}
@@ -9,6 +9,7 @@ use Rattle.mx_words.specs.Counting.{all_below}
 use Rattle.mx_words.specs.Hearing.{is_in, nobody}
 use Rattle.mx_words.specs.Ranges.{word_of}
 use Rattle.mx_words.specs.Reach.{span}
+use Rattle.mx_words.proofs.OptionLaws.{if_some_after}
 use Rattle.mx_check.specs.declared.flight.Flight.{Flight}
 use Rattle.mx_check.specs.Calls.{ready_with, hart_lets_pass}
 use Rattle.mx_check.specs.Conditions.{MayLook, MayAnnounce}
@@ -64,11 +65,6 @@ may-ready q call is h = record { announced = λ e. h; other = λ e. absurd (let 
 pub may-other : (q : Parts) (call : Call) → is_announced call.number ≡ false → MayLook call.hart call.domain q.harts → MayServe q call
 may-other q call is h = record { announced = λ e. absurd (let z : ⊥ = cc (e, is) in z); other = λ e. h }
 
--- the domain of its looks is the caller's or none
-domain-again : (d : ℕ) (a b : Option ℕ) → (b ≡ a) ⊎ (b ≡ Some d) → IfSome a (λ x. x ≡ d) → IfSome b (λ x. x ≡ d)
-domain-again d a b (inl e) h = subst (λ (o : Option ℕ). IfSome o (λ x. x ≡ d)) (sym e) h
-domain-again d a b (inr e) h = subst (λ (o : Option ℕ). IfSome o (λ x. x ≡ d)) (sym e) refl
-
 -- after a hart alone there is none
 none-behind : (harts : List Kept) (h i : ℕ) → h < length harts → length harts ≡ 1 → i ≢ h → hart_at harts i ≡ no_hart
 none-behind harts h i there e ne = get_or_past harts i no_hart (omega (arith, there, e, ne))
@@ -91,8 +87,8 @@ rest-again call p q t r rest harts modules keeps sizes sound =
         running = keeps.halted ∙ ap (λ (k : Kept). k.halted) own ∙ rest.may.running;
         free = keeps.flight;
         heard = λ i ne. subst (λ (k : Kept). IfSome k.flight (λ f. is_in f.heard call.hart ≡ true)) (sym (none-behind t.harts call.hart i there count ne)) tt;
-        same_domain = domain-again call.domain (hart_at p.harts call.hart).domain (hart_at t.harts call.hart).domain
-            (elim keeps.domain [ inl e ↦ inl (e ∙ ap (λ (k : Kept). k.domain) own) | inr e ↦ inr e ]) rest.may.same_domain;
+        same_domain = if_some_after (λ x. x ≡ call.domain) call.domain (hart_at p.harts call.hart).domain (hart_at t.harts call.hart).domain
+            (elim keeps.domain [ inl e ↦ inl (e ∙ ap (λ (k : Kept). k.domain) own) | inr e ↦ inr e ]) refl rest.may.same_domain;
       };
     }
 

@@ -1,11 +1,12 @@
 -- A check that walks: what is asked of the caches first, and what the walk does to them then.
-use Rattle.std.proofs.Common.{◌≡◌, ◌≢◌, ℕ, zero, suc, ◌<◌, ◌⊎◌, inl, inr, ◌==◌, ◌&&◌, Bool, true, not, List, length, set, Option, Some, None, refl, sym, ap, ◌∙◌, arith, length-set, get_or-set_same, get_or-set_other, eq-eqb}
-use Rattle.std.specs.Option.{option_map, option_or}
+use Rattle.std.proofs.Common.{◌≡◌, ◌≢◌, ℕ, zero, suc, ◌<◌, ◌⊎◌, inl, inr, ◌==◌, ◌&&◌, Bool, true, not, List, length, set, Option, None, refl, sym, ap, ◌∙◌, arith, length-set, get_or-set_same, get_or-set_other, eq-eqb}
+use Rattle.std.specs.Option.{option_map}
 use Rattle.std.proofs.lemmas.Bool.{cases_eq}
 use Rattle.std.proofs.lemmas.List.{set-set}
 use Rattle.mx_words.specs.declared.perm.Span.{Span}
 use Rattle.mx_words.specs.Counting.{all_below}
 use Rattle.mx_words.specs.Caches.{found_in_place, found_kept}
+use Rattle.mx_words.proofs.OptionLaws.{neither, unmapped}
 use Rattle.mx_check.specs.Harts.{Kept, no_hart, hart_at, at_hart}
 use Rattle.mx_check.specs.Looks.{flight_forbids, hart_forbids, is_forbidden, found, after_caches, after_walk, looks}
 
@@ -34,7 +35,7 @@ at_hart-twice harts h f g there =
     ∙ ap (λ (k : Kept). set harts h (f k)) (hart_at-same harts h g there)
 
 -- whether a hart's call bars a span, after a step that leaves the calls in flight
-hart_forbids-other : (h : ℕ) (s : Span) (harts other : List Kept) (i : ℕ) → ((i ≢ h) → (hart_at other i).flight ≡ (hart_at harts i).flight) →
+pub hart_forbids-other : (h : ℕ) (s : Span) (harts other : List Kept) (i : ℕ) → ((i ≢ h) → (hart_at other i).flight ≡ (hart_at harts i).flight) →
     hart_forbids h s other i ≡ hart_forbids h s harts i
 hart_forbids-other h s harts other i same = by (cases_eq i h)
   where
@@ -51,15 +52,6 @@ is_forbidden-same h s harts step =
     ∙ ap not (all_below_agree (length harts) (λ i. not (hart_forbids h s other i)) (λ i. not (hart_forbids h s harts i))
     (λ i lt. ap not (hart_forbids-other h s harts other i (λ ne. ap (λ (k : Kept). k.flight) (hart_at-other harts h step i ne)))))
 
--- where neither the place nor the list answers, neither holds the word
-pub no_permission : (o : Option Span) → None ≡ option_map (λ (s : Span). s.perm) o → o ≡ None
-no_permission None e = refl
-no_permission (Some s) e = cc
-
-neither : (a b : Option Span) → option_or a b ≡ None → (a ≡ None) × (b ≡ None)
-neither None b e = (refl, e)
-neither (Some s) b e = cc
-
 -- a walk after the asking is the whole check
 asked_walked : (most place domain word : ℕ) (s : Span) (barred : Bool) (k : Kept) (a b : Option Span) → a ≡ None → b ≡ None →
     a ≡ found_in_place k.cache.places place word → b ≡ found_kept k.cache.kept domain word →
@@ -75,7 +67,7 @@ pub walk_is_look : (most h place domain word : ℕ) (s : Span) (harts : List Kep
     ≡ at_hart h (looks most place domain word s (is_forbidden h s harts)) harts
 walk_is_look most h place domain word s harts there miss =
     let k = hart_at harts h in
-    let none : found place domain word k.cache ≡ None = no_permission (found place domain word k.cache) miss in
+    let none : found place domain word k.cache ≡ None = unmapped (λ (s : Span). s.perm) (found place domain word k.cache) (sym miss) in
     let parts = neither (found_in_place k.cache.places place word) (found_kept k.cache.kept domain word) none in
     ap (λ (b : Bool). at_hart h (after_walk most place domain s b) (at_hart h (after_caches place domain word) harts)) (is_forbidden-same h s harts (after_caches place domain word))
     ∙ at_hart-twice harts h (after_walk most place domain s (is_forbidden h s harts)) (after_caches place domain word) there

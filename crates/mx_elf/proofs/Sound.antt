@@ -1,9 +1,8 @@
 -- A file without a fault has sound segments, and at most 16 of them.
-use Rattle.std.proofs.Common.{◌≡◌, ℕ, ◌+◌, ◌%◌, ◌<◌, ◌≤◌, Bool, true, false, cond, List, [], ◌∷◌, length, refl, sym, ap, ◌∙◌, arith, ◌==◌, nat_lt}
+use Rattle.std.proofs.Common.{◌≡◌, ℕ, ◌+◌, ◌%◌, ◌<◌, ◌≤◌, true, false, List, [], ◌∷◌, length, refl, sym, ap, ◌∙◌, arith, ◌==◌, nat_lt}
 use Rattle.std.specs.Prelude.{Option, Some, None, Ok, not, ◌&&◌, map, filter}
 use Rattle.std.proofs.lemmas.Bool.{cond_both}
 use Rattle.std.proofs.lemmas.Bool.Decides.{nat_tests}
-use Rattle.std.specs.Option.{option_or}
 use Rattle.std.specs.List.{AllByRecursion}
 use Rattle.mx_elf.specs.declared.image.Image.{Image}
 use Rattle.mx_elf.specs.declared.segment.Seg.{Seg}
@@ -11,17 +10,8 @@ use Rattle.mx_elf.specs.Field.{places}
 use Rattle.mx_elf.specs.Header.{e_entry, e_phoff, e_phnum, p_memsz}
 use Rattle.mx_elf.specs.Image.{first_fault, header_rows, segment_rows, rows_from, rows_of, is_loaded, segment_at, segments_at, segments_of, image_of, unless, IsSound}
 use Rattle.mx_words.proofs.FirstRowLaws.{first_row-append}
+use Rattle.mx_words.proofs.OptionLaws.{neither, row_none}
 use Rattle.mx_elf.proofs.Loading.{faults-here}
-
--- where neither of two has a value
-pub neither : {A : Type 0} (a b : Option A) → option_or a b ≡ None → (a ≡ None) × (b ≡ None)
-neither None b e = (refl, e)
-neither (Some a) b e = absurd cc
-
--- a row that doesn't apply
-pub row_none : (b : Bool) (n : ℕ) (o : Option ℕ) → cond b (Some n) o ≡ None → (b ≡ false) × (o ≡ None)
-row_none true n o e = absurd cc
-row_none false n o e = (refl, e)
 
 -- the tests of a segment, as facts
 inside-fits : (size : ℕ) (s : Seg) → (not (s.file == 0) && nat_lt size (s.offset + s.file)) ≡ false → 0 < s.file → s.offset + s.file ≤ size

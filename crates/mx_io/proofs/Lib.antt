@@ -3,3 +3,4 @@ pub mod Lookup
 pub mod SinkLaws
 pub mod Talks
 pub mod Text
+pub mod Puts

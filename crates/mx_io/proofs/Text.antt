@@ -1,10 +1,11 @@
 -- Texts put on a sink part by part: what holds between two parts, and what follows at each exit.
-use Rattle.std.proofs.Common.{◌≡◌, ℕ, ◌+◌, ◌<◌, ◌≤◌, List, [], ◌++◌, length, take, drop, refl, sym, ap, subst, ◌∙◌, inl, inr, arith, min, append_assoc, length-append, Option, None, Some, Result, Ok, Err, IsOk, T, flat_map, get_or, add-one}
+use Rattle.std.proofs.Common.{◌≡◌, ℕ, ◌+◌, ◌<◌, ◌≤◌, List, [], ◌++◌, length, take, drop, refl, sym, ap, ◌∙◌, inl, inr, arith, min, append_assoc, length-append, Option, None, Some, Result, Ok, Err, flat_map, get_or, add-one}
 use Rattle.std.proofs.lemmas.List.{take-append-drop, append-nil, length-drop, take-append-le, take_min, drop_all}
 use Rattle.std.proofs.Math.Seq.{drop-cons, take-append_seam, take-append-add}
 use Rattle.mx_io.specs.Count.{Rose, Stays}
 use Rattle.mx_io.specs.Texts.{appended}
 use Rattle.mx_io.specs.Sink.{SinkState, Writes, Puts}
+use Rattle.mx_io.proofs.Puts.{not_ok}
 
 pub appended-nil : (written : Option (List ℕ)) → appended written [] ≡ written
 unfolding appended
@@ -41,9 +42,6 @@ pub record Left (before now : SinkState) (text rest : List ℕ) : Type 0 where
 -- nothing was put yet
 pub left_all : (before : SinkState) (text : List ℕ) → Left before before text text
 left_all before text = record { later = omega arith; done = []; parts = refl; written = sym (appended-nil before.written); room = λ _. (refl, omega arith) }
-
-not_ok : (A : Type 0) {E : Type 0} (e : E) → IsOk {T = A} (Err e) → ⊥
-not_ok A e h = subst T (sym h) tt
 
 -- what a prefix of a part is in the whole
 prefix_of_part : (done part rest : List ℕ) (n : ℕ) → take (length done + min n (length part)) (done ++ (part ++ rest)) ≡ done ++ take n part

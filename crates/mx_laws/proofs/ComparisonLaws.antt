@@ -6,14 +6,16 @@ use Rattle.std.specs.Cmp.Lexicographic.{pointwise_decides}
 use Rattle.std.specs.List.{AllByRecursion, list_all, range_with_len}
 use Rattle.std.specs.Option.{option_eq}
 use Rattle.std.proofs.Math.ListN.{get_or-eq_default}
-use Rattle.std.proofs.lemmas.Bool.{and_from, and_parts, eqb-false, le-ltb, ltb-true, ltb-false}
+use Rattle.std.proofs.lemmas.Bool.{and_from, and_parts, le-ltb, ltb-true, ltb-false}
 use Rattle.std.proofs.lemmas.Bool.Decides.{Decides-and, Decides-eqb, Decides-like}
 use Rattle.mx_words.specs.declared.perm.Perm.{Perm}
 use Rattle.mx_words.specs.declared.perm.Perm.TheVariants as P
 use Rattle.mx_words.specs.declared.perm.Access.TheVariants as A
 use Rattle.mx_words.specs.Rights.{allows, number, same}
 use Rattle.mx_words.specs.Newest.{at, map}
+use Rattle.mx_words.proofs.ElementLaws as elements
 use Rattle.mx_words.proofs.OverlayLaws.{length-map_of}
+use Rattle.mx_words.proofs.RangeTests.{all_pass, each_passes}
 use Rattle.mx_words.proofs.RunLaws.{same_eq}
 use Rattle.mx_model.specs.declared.values.Gate.{Gate}
 use Rattle.mx_model.specs.Agreement.{Agrees, Standing, Runs, Waits, Ended, standing, target_at}
@@ -52,10 +54,6 @@ decides-target (Some x) None = (λ e. absurd (let q : ⊥ = cc in q), λ p. absu
 decides-target (Some x) (Some y) = Decides-like (nat_eq x y) (λ e. ap (λ (n : ℕ). Some n) e) (λ e. let q : x ≡ y = cc in q) (Decides-eqb x y)
 
 -- a test of all elements
-all-of : (p : Gate → Bool) (xs : List Gate) → list_all p xs ≡ true → AllByRecursion (λ x. p x ≡ true) xs
-all-of p [] e = tt
-all-of p (x ∷ xs) e = let both = and_parts (p x) (list_all p xs) e in (both.0, all-of p xs both.1)
-
 all-from : (p : Gate → Bool) (xs : List Gate) → ((x : Gate) → p x ≡ true) → list_all p xs ≡ true
 all-from p [] k = refl
 all-from p (x ∷ xs) k = and_from (p x) (list_all p xs) (k x) (all-from p xs k)
@@ -68,29 +66,15 @@ pub all-second : {X : Type 0} (P : X → Type 0) (xs ys : List X) → AllByRecur
 all-second P [] ys p = p
 all-second P (x ∷ xs) ys p = all-second P xs ys p.1
 
--- a test of the words from a on
-range-at : (p : ℕ → Bool) (count a i : ℕ) → list_all p (range_with_len a count) ≡ true → a ≤ i → i < a + count → p i ≡ true
-range-at p zero a i e l m = absurd (let q : ⊥ = omega (arith, l, m) in q)
-range-at p (suc count) a i e l m =
-    let both = and_parts (p a) (list_all p (range_with_len (a + 1) count)) e in
-    elim (a == i) as (λ b. (a == i) ≡ b → p i ≡ true) [
-      | true ↦ λ t. subst (λ (n : ℕ). p n ≡ true) (eqb-true a i t) both.0
-      | false ↦ λ t. let n = eqb-false a i t in range-at p count (a + 1) i both.1 (omega (arith, l, n)) (omega (arith, m))
-    ] refl
-
-range-from : (p : ℕ → Bool) (count a : ℕ) → ((i : ℕ) → p i ≡ true) → list_all p (range_with_len a count) ≡ true
-range-from p zero a k = refl
-range-from p (suc count) a k = and_from (p a) (list_all p (range_with_len (a + 1) count)) (k a) (range-from p count (a + 1) k)
-
 -- a fact of the words of RAM that holds outside RAM anyway
 decides-words : (p : ℕ → Bool) (size : ℕ) (W : ℕ → Type 0) → ((i : ℕ) → Decides (p i) (W i)) → ((i : ℕ) → size ≤ i → W i) →
     Decides (list_all p (range_with_len 0 size)) ((i : ℕ) → W i)
 decides-words p size W d out = (
   λ e i. elim (nat_lt i size) as (λ b. nat_lt i size ≡ b → W i) [
-    | true ↦ λ t. let l = ltb-true i size t in (d i).0 (range-at p size 0 i e (omega arith) (omega (arith, l)))
+    | true ↦ λ t. let l = ltb-true i size t in (d i).0 (each_passes p 0 size e i (omega arith) (omega (arith, l)))
     | false ↦ λ t. out i (ltb-false i size t)
   ] refl,
-  λ k. range-from p size 0 (λ i. (d i).1 (k i)),
+  λ k. all_pass p 0 size (λ i _ _. (d i).1 (k i)),
 )
 
 -- four tests, and a test that is asked where another holds
@@ -145,7 +129,7 @@ module _ (c e : Core) (d : ℕ) where
 
   targets-same : list_all same_at (c.gates ++ e.gates) ≡ true → (i : ℕ) → target_at c d i ≡ target_at e d i
   targets-same t i =
-      let all = all-of same_at (c.gates ++ e.gates) t in
+      let all = elements.each_passes same_at (c.gates ++ e.gates) t in
       target-found i (gate_at c.gates d i) (gate_at e.gates d i) refl refl
       (all-find (λ g. same_at g ≡ true) (is_at d i) c.gates (all-first (λ g. same_at g ≡ true) c.gates e.gates all))
       (all-find (λ g. same_at g ≡ true) (is_at d i) e.gates (all-second (λ g. same_at g ≡ true) c.gates e.gates all))

@@ -7,6 +7,7 @@ use Rattle.mx_words.specs.declared.perm.Span.{Span}
 use Rattle.mx_words.specs.Announced.{announced, is_announced}
 use Rattle.mx_words.specs.Counting.{list_below}
 use Rattle.mx_words.specs.Ranges.{range_words, word_range}
+use Rattle.mx_table.proofs.NamedLaws.{everywhere}
 use Rattle.mx_check.specs.declared.flight.Flight.{Flight}
 use Rattle.mx_check.specs.Calls.{waiting_hart, waiting_harts}
 use Rattle.mx_check.specs.Conditions.{IsResumable}
@@ -23,13 +24,8 @@ use Rattle.mx_machine.specs.Starts.{IsHartState, IsStack, IsUnused, MayResume, n
 use Rattle.mx_machine_tests.specs.Small.{AreLaid, IsLeft, left_state, left_states, unheard}
 
 -- none of a list of false is true
-none-true : (n i : ℕ) → get_or (replicate n false) i false ≡ false
-none-true zero i = refl
-none-true (suc n) zero = refl
-none-true (suc n) (suc i) = none-true n i
-
 no-one : {A : Type 0} (n i : ℕ) → get_or (replicate n false) i false ≡ true → A
-no-one n i e = let f = none-true n i in absurd (let q : ⊥ = cc in q)
+no-one n i e = let f = everywhere n i false in absurd (let q : ⊥ = cc in q)
 
 -- the call in flight may stand in a checker
 pub may-fly : (first count size : ℕ) → size ≡ 16384 → first + count ≤ 16384 → All (IsResumable 3 size) (unheard first count ∷ [])

@@ -1,9 +1,10 @@
 -- What a table keeps that has no fault.
-use Rattle.std.proofs.Common.{◌≡◌, ℕ, ◌<◌, ◌≤◌, suc, zero, Bool, true, false, not, nat_le, List, [], ◌∷◌, length, get_or, map, Option, Some, None, option_map, refl, ap, arith, if◌then◌else◌}
+use Rattle.std.proofs.Common.{◌≡◌, ℕ, ◌<◌, ◌≤◌, suc, zero, Bool, true, false, not, nat_le, List, [], ◌∷◌, length, get_or, map, Option, Some, None, refl, ap, arith, if◌then◌else◌}
 use Rattle.std.proofs.lemmas.Bool.{and_parts}
 use Rattle.std.proofs.lemmas.Bool.Decides.{nat_tests}
-use Rattle.std.specs.Option.{option_or, option_map_or}
+use Rattle.std.specs.Option.{option_map_or}
 use Rattle.toml.specs.Data.{Data, get}
+use Rattle.mx_words.proofs.OptionLaws.{neither, unmapped}
 use Rattle.mx_manifest.specs.declared.fault.Key.{Key}
 use Rattle.mx_manifest.specs.declared.fault.Key.TheVariants as key
 use Rattle.mx_manifest.specs.declared.row.Row.{Row}
@@ -18,14 +19,6 @@ use Rattle.mx_manifest.specs.Reads.{elements, elements_at}
 use Rattle.mx_manifest.specs.Forms.{is_within, is_typed, is_ranged}
 use Rattle.mx_manifest.specs.Rows.{most, row, top_rows}
 use Rattle.mx_manifest.specs.Faults.{first_of, is_asked, value_fault, row_fault, rows_fault, table_fault}
-
-pub neither : {F : Type 0} (a b : Option F) → option_or a b ≡ None → (a ≡ None) × (b ≡ None)
-neither None b h = (refl, h)
-neither (Some x) b h = cc
-
-pub unmapped : {A B : Type 0} (f : A → B) (o : Option A) → option_map f o ≡ None → o ≡ None
-unmapped f None h = refl
-unmapped f (Some x) h = cc
 
 -- each test of a list finds nothing where the first of them all finds nothing
 pub clear_at : {A F : Type 0} (test : A → Option F) (xs : List A) (i : ℕ) (d : A) → first_of (map test xs) ≡ None → i < length xs → test (get_or xs i d) ≡ None

@@ -10,7 +10,8 @@ use Rattle.mx_manifest.specs.declared.reading.ManifestFault.TheVariants.{Fault, 
 use Rattle.mx_manifest.specs.declared.row.Version.{Version}
 use Rattle.mx_manifest.specs.Faults.{each_fault, modules, harts, module_name, module_names, version_of, tables_fault, repeat_fault, from_fault, hart_fault, names_fault, first_fault, first_of}
 use Rattle.mx_manifest.specs.Judged.{Tells}
-use Rattle.mx_manifest.proofs.Clear.{neither, unmapped, few_modules, few_harts}
+use Rattle.mx_words.proofs.OptionLaws.{neither, unmapped}
+use Rattle.mx_manifest.proofs.Clear.{few_modules, few_harts}
 use Rattle.mx_manifest.proofs.Values.{length-data}
 
 -- a list is no longer than its data

@@ -1,6 +1,6 @@
 -- What the ranges say of each element of a list.
 use Rattle.std.proofs.Common.{◌≡◌, ◌≢◌, ℕ, ◌+◌, ◌<◌, ◌≤◌, suc, zero, Bool, true, false, not, ◌||◌, ◌==◌, nat_lt, cond, List, [], ◌∷◌, length, map, take, Option, Some, None, slice_get, unwrap_or, ℤ, pos, negsuc, refl, ap, ◌∙◌, subst, arith, if◌then◌else◌}
-use Rattle.std.proofs.lemmas.Bool.{and_parts, eq-eqb, or_right}
+use Rattle.std.proofs.lemmas.Bool.{and_parts, eq-eqb, eqb-false, not-true, or_right}
 use Rattle.std.proofs.lemmas.Bool.Decides.{nat_tests}
 use Rattle.std.proofs.lemmas.List.Sums.{prefix_len-le-length}
 use Rattle.std.proofs.lemmas.Option.{same_Some}
@@ -15,7 +15,8 @@ use Rattle.mx_manifest.specs.Forms.{is_entry}
 use Rattle.mx_manifest.specs.InRange.{IsBetween, IsEntry, Each, EachNumbered}
 use Rattle.mx_manifest.specs.Plan.{entry_plan}
 use Rattle.mx_manifest.specs.Faults.{first_of, numbered_fault, each_fault, domain_of, is_other, module_name}
-use Rattle.mx_manifest.proofs.Clear.{neither, unmapped, within_parts}
+use Rattle.mx_words.proofs.OptionLaws.{neither, unmapped}
+use Rattle.mx_manifest.proofs.Clear.{within_parts}
 
 -- each element of a list that passes a test
 pub each_mapped : {A B : Type 0} (test : A → Bool) (f : A → B) (P : B → Type 0) (xs : List A) → list_all test xs ≡ true → ((x : A) → test x ≡ true → P (f x)) → Each P (map f xs)
@@ -96,13 +97,10 @@ domain_at_most names name = domain_found (position_or_len (bytes_eq name) names)
 not_zero : (n : ℕ) → not (n == 0) ≡ true → 1 ≤ n
 not_zero n h = grind (arith, nat_tests)
 
-not_same : (n m : ℕ) → not (n == m) ≡ true → n ≢ m
-not_same n m h = λ e. grind (arith, nat_tests)
-
 pub other_in_range : (names : List (List ℕ)) (own : ℕ) (name : List ℕ) → is_other names own name ≡ true → IsBetween 1 (length names) (domain_of names name) × (domain_of names name ≢ own)
 other_in_range names own name h =
     let parts = and_parts _ _ h in
-    ((not_zero _ parts.0, domain_at_most names name), not_same _ own parts.1)
+    ((not_zero _ parts.0, domain_at_most names name), eqb-false _ own (not-true _ parts.1))
 
 pub home_in_range : (names : List (List ℕ)) (name : List ℕ) → (domain_of names name == 0) ≡ false → IsBetween 1 (length names) (domain_of names name)
 home_in_range names name h = (grind (arith, nat_tests), domain_at_most names name)

@@ -28,13 +28,10 @@ use Rattle.mx_manifest.specs.InRange.{IsBetween, IsAligned, IsName, IsFileName, 
 use Rattle.mx_manifest.specs.Plan.{perm_named, entry_plan, gate_plan, word_list, module_plan, hart_plan}
 use Rattle.mx_manifest.specs.Rows.{most, row, early_rows, late_rows, gate_rows, hart_rows}
 use Rattle.mx_manifest.specs.Faults.{is_asked, row_fault, rows_fault, table_fault, gate_fault, gates_fault, image_fault, module_fault, domain_of, from_texts, is_other, is_from_others, from_fault, hart_fault}
-use Rattle.mx_manifest.proofs.Clear.{neither, unmapped, clear_at, value_fits, key_there, within_parts, table_clear, most_at_most, any_row}
+use Rattle.mx_words.proofs.OptionLaws.{neither, unmapped, is_some-map}
+use Rattle.mx_manifest.proofs.Clear.{clear_at, value_fits, key_there, within_parts, table_clear, most_at_most, any_row}
 use Rattle.mx_manifest.proofs.Lists.{each_mapped, numbered_mapped, first_clear, all_at, holds_not, fails, entry_in_range, other_in_range, home_in_range}
 use Rattle.mx_manifest.proofs.Ranges.{integer_key, aligned_key, text_key, or_any, if_weaker}
-
-is_some-map : {A B : Type 0} (f : A → B) (o : Option A) → is_some (option_map f o) ≡ is_some o
-is_some-map f None = refl
-is_some-map f (Some x) = refl
 
 -- a key that is required is there
 has_asked : (t : Data) (key : Key) (asked : Asked) (form : Form) → row_fault t (row key asked form) ≡ None → is_asked asked t ≡ true → has key t ≡ true

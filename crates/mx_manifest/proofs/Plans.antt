@@ -15,7 +15,8 @@ use Rattle.mx_manifest.specs.InRange.{IsBetween, IsModule, IsHart, IsInRange, Ha
 use Rattle.mx_manifest.specs.Plan.{module_plan, hart_plan, version_number, plan_of}
 use Rattle.mx_manifest.specs.Rows.{most, top_rows, hart_rows}
 use Rattle.mx_manifest.specs.Faults.{row_fault, table_fault, module_fault, modules, harts, module_name, module_names, version_of, each_fault, repeat_fault, from_fault, hart_fault, tables_fault, names_fault, first_of, first_fault}
-use Rattle.mx_manifest.proofs.Clear.{neither, unmapped, clear_at, table_clear, most_at_most, any_row, few_modules, few_harts}
+use Rattle.mx_words.proofs.OptionLaws.{neither, unmapped}
+use Rattle.mx_manifest.proofs.Clear.{clear_at, table_clear, most_at_most, any_row, few_modules, few_harts}
 use Rattle.mx_manifest.proofs.Lists.{numbered_mapped, each_clear, fails, found_before, from_mapped}
 use Rattle.mx_manifest.proofs.Modules.{module_in_range, hart_in_range}
 use Rattle.mx_manifest.proofs.Ranges.{integer_key, aligned_key, choice_key, or_default, if_weaker}

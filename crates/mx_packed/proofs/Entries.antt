@@ -4,7 +4,7 @@ use Rattle.std.proofs.lemmas.Bool.{ltb-true, ltb-false}
 use Rattle.mx_words.specs.declared.perm.Perm.{Perm}
 use Rattle.mx_words.specs.Rights.{same}
 use Rattle.mx_words.specs.Runs.{runs, runs_of}
-use Rattle.mx_words.specs.Reach.{mini_entry}
+use Rattle.mx_words.specs.Reach.{mini_entry, most_reach}
 use Rattle.mx_upper.proofs.MiniEntries.{IsMade, mini-made}
 use Rattle.mx_packed.specs.Pack.{pack_of}
 
@@ -16,7 +16,7 @@ pack_of-few perms left right few =
       | false ↦ λ no. refl
     ] refl
 
-pub pack_of-made : (perms : List Perm) (left right entry : ℕ) → length perms ≤ 16 → left ≤ 31 → right ≤ 31 →
+pub pack_of-made : (perms : List Perm) (left right entry : ℕ) → length perms ≤ 16 → left ≤ most_reach → right ≤ most_reach →
     pack_of perms left right ≡ Some entry → IsMade perms left right entry
 pack_of-made perms left right entry short l r =
     elim (nat_lt 4 (runs perms)) as (λ b. nat_lt 4 (runs perms) ≡ b → (if b then None else Some (mini_entry (runs_of same perms) left right)) ≡ Some entry → IsMade perms left right entry) [

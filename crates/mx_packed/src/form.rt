@@ -2,6 +2,7 @@
 ghost use Rattle.std.specs.Prelude.{◌≡◌, ◌≢◌, ℕ, ◌+◌, ◌-◌, ◌*◌, ◌/◌, ◌%◌, ◌<◌, ◌≤◌, ◌^◌, ◌==◌, refl, ◌⊎◌, if◌then◌else◌};
 ghost use Rattle.std.proofs.Common.{inr};
 ghost use Rattle.mx_words.specs.declared.tables.Kind.TheVariants as K;
+ghost use Rattle.mx_words.specs.Reach.{most_reach};
 ghost use Rattle.mx_words.specs.Runs.{line_words};
 ghost use Rattle.mx_upper.specs.Leaf.{lengthened};
 
@@ -39,7 +40,7 @@ fn lengthen(run: Span, line: u32, left: u32, right: u32) -> Span
 impl LeafForm for Packed {
     ghost kind = { K.Packed };
 
-    ghost REACH = { 31 };
+    ghost REACH = { most_reach };
 
     const REACH: u32 = 31;
 

@@ -2,6 +2,7 @@
 ghost use Rattle.std.specs.Prelude.{◌≡◌, ◌≢◌, ℕ, ◌+◌, ◌-◌, ◌*◌, ◌/◌, ◌%◌, ◌<◌, ◌≤◌, ◌^◌, List, length, Option, Some, IfSome};
 ghost use Rattle.mx_words.specs.declared.perm.Perm.{Perm};
 ghost use Rattle.mx_words.specs.Rights.{number};
+ghost use Rattle.mx_words.specs.Reach.{most_reach};
 ghost use Rattle.mx_words.specs.Runs.{runs, line_words};
 ghost use Rattle.mx_upper.specs.Leaf.{form_reach, placed, line_run};
 ghost use Rattle.mx_packed.specs.Pack.{pack_of, IsCoded};
@@ -39,8 +40,8 @@ pub(crate) fn run_count(perms: &[Perm; 16]) -> u32
 
 /// The packed entry of a line's permissions with both reaches, 0 to 31. `None` exactly for more than four runs.
 pub fn pack(perms: &[Perm; 16], left: u32, right: u32) -> Option<u32>
-    requires left { left ≤ 31 }
-    requires right { right ≤ 31 }
+    requires left { left ≤ most_reach }
+    requires right { right ≤ most_reach }
     ensures { result ≡ pack_of perms.now left right }
 {
     if run_count(perms) > 4 {
@@ -134,10 +135,11 @@ pub(crate) fn run_of(values: u32, starts: u32, line: u32, word: u32) -> Span
 /// The arguments for which `pack` gives an entry. `None` exactly where it gives it for none.
 pub fn unpack(entry: u32) -> Option<Unpacked>
     ensures packs { IfSome result (λ u. pack_of u.perms u.left u.right ≡ Some entry) }
-    ensures left { IfSome result (λ u. u.left ≤ 31) }
-    ensures right { IfSome result (λ u. u.right ≤ 31) }
+    ensures left { IfSome result (λ u. u.left ≤ most_reach) }
+    ensures right { IfSome result (λ u. u.right ≤ most_reach) }
     ensures all { (perms : List Perm) (left right : ℕ) →
-        length perms ≡ line_words → left ≤ 31 → right ≤ 31 → pack_of perms left right ≡ Some entry →
+        length perms ≡ line_words → left ≤ most_reach → right ≤ most_reach →
+        pack_of perms left right ≡ Some entry →
         result ≡ Some (record { perms = perms; left = left; right = right }) }
 {
     let perms = line_of(entry / 4 % 0x100, entry / 0x400 % 0x1000);

@@ -5,8 +5,9 @@ use Rattle.std.specs.List.{range_with_len}
 use Rattle.mx_io.specs.Sink.{SinkState, Puts}
 use Rattle.mx_io.specs.declared.Failed.{Failed}
 use Rattle.mx_io.proofs.Text.{flat_map-drop}
+use Rattle.mx_io.proofs.Puts.{puts_same}
 use Rattle.mx_report.specs.Tail.{sent, held, Adds, Passes}
-use Rattle.mx_report.proofs.TailLaws.{sent_held, puts_same, puts_nothing, puts_next, puts_stop}
+use Rattle.mx_report.proofs.TailLaws.{sent_held, puts_nothing, puts_next, puts_stop}
 
 pub passes_same : {A E : Type 0} {b c : List ℕ} {s t : SinkState} {text other : List ℕ} {r : Result A E} → text ≡ other → Passes b s t c text r → Passes b s t c other r
 passes_same {A} {E} {b} {c} {s} {t} {r = r} e p = subst (λ (xs : List ℕ). Passes {A = A} {E = E} b s t c xs r) e p

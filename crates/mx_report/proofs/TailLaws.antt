@@ -2,6 +2,7 @@
 use Rattle.std.proofs.Common.{◌≡◌, ℕ, ◌+◌, ◌*◌, ◌/◌, ◌<◌, List, [], ◌∷◌, ◌++◌, length, get_or, take, drop, refl, sym, ap, ◌∙◌, subst, arith, append_assoc, length-append, length-take, length-drop, Result, Ok, Err}
 use Rattle.std.proofs.lemmas.List.{take-append-drop, append-nil, drop_all, drop_more}
 use Rattle.std.proofs.Math.Seq.{take-append-add, drop-append-add}
+use Rattle.mx_io.proofs.Puts.{puts_same}
 use Rattle.mx_io.specs.Sink.{SinkState, Puts}
 use Rattle.mx_io.proofs.Text.{left_all, left_next, left_stop, left_end, left_none}
 use Rattle.mx_io.specs.declared.Failed.{Failed}
@@ -51,9 +52,6 @@ pub held_more : (all more : List ℕ) → held (all ++ more) ≡ held (held all 
 held_more all more = ap held (regrouped all more) ∙ held_behind (sent all) (held all ++ more) (length all / 4096) (length-sent all)
 
 -- texts put on a sink one after another
-pub puts_same : {A E : Type 0} {before now : SinkState} {text other : List ℕ} {result : Result A E} → text ≡ other → Puts before now text result → Puts before now other result
-puts_same {A} {E} {before} {now} {text} {other} {result} same puts = subst (λ (t : List ℕ). Puts {A = A} {E = E} before now t result) same puts
-
 pub puts_nothing : {A E : Type 0} (s : SinkState) {a : A} → Puts {A = A} {E = E} s s [] (Ok a)
 puts_nothing s = left_none (left_all s [])
 

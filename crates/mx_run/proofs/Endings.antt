@@ -1,14 +1,12 @@
 -- How a call of the program ends.
-use Rattle.std.proofs.Common.{◌≡◌, ℕ, ◌<◌, ◌≤◌, List, [], ◌∷◌, length, Option, Ok, Err, IsOk, T, refl, sym, subst, inl, inr, arith}
+use Rattle.std.proofs.Common.{◌≡◌, ℕ, ◌<◌, ◌≤◌, List, [], ◌∷◌, length, Option, Ok, Err, refl, sym, inl, inr, arith}
 use Rattle.mx_io.specs.Texts.{AppendsWhole, AppendsPrefix}
 use Rattle.mx_io.specs.Sink.{SinkState, Puts}
+use Rattle.mx_io.proofs.Puts.{not_ok}
 use Rattle.mx_io.proofs.Text.{appended-nil}
 use Rattle.mx_run.specs.declared.status.Status.TheVariants.{ConsoleFault, ReportFault}
 use Rattle.mx_run.specs.Outcome.{Outcome}
 use Rattle.mx_run.specs.Top.{sinks, Holds, Ends}
-
-not_ok : (A : Type 0) {E : Type 0} (e : E) → IsOk {T = A} (Err e) → ⊥
-not_ok A e h = subst T (sym h) tt
 
 -- a sink that got no text
 nothing : (written : Option (List ℕ)) (text : List ℕ) → text ≡ [] → AppendsWhole written written text

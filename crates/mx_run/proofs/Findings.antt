@@ -2,18 +2,14 @@
 use Rattle.std.proofs.Common.{◌≡◌, ℕ, ◌-◌, ◌<◌, ◌≤◌, ◌⊎◌, List, [], ◌∷◌, ◌++◌, length, take, drop, Option, Some, None, option_map, unwrap_or, refl, sym, ap, subst, ◌∙◌, inl, inr, arith, length-append}
 use Rattle.std.proofs.lemmas.Bool.{lt-ltb, le-ltb}
 use Rattle.std.proofs.lemmas.List.{take_all}
+use Rattle.std.proofs.lemmas.Option.{none-some, same_Some}
 use Rattle.std.proofs.Math.Seq.{take-add}
 use Rattle.std.specs.FinMap.{get}
+use Rattle.mx_words.proofs.OptionLaws.{unmapped}
 use Rattle.mx_io.specs.Store.{FileMap, file_bytes}
 use Rattle.mx_io.specs.Answer.{Answer, Sized, Gave, HasSucceeded, IsOf, IsPart}
 use Rattle.mx_io.proofs.Talks.{Each}
 use Rattle.mx_run.specs.Finding.{Finding, Large, Short, Broken, Whole, EndsEarly, Completes, FindsSized, Finds, found_file, found_in}
-
-none_some : {A : Type 0} {a : A} → None ≡ Some a → ⊥
-none_some e = cc
-
-some_same : {A : Type 0} {a b : A} → Some a ≡ Some b → a ≡ b
-some_same e = cc
 
 -- one more part of a file after those before
 grown : (file got bytes : List ℕ) → got ≡ take (length got) file → bytes ≡ take (length bytes) (drop (length got) file) → (got ++ bytes) ≡ take (length (got ++ bytes)) file
@@ -48,13 +44,9 @@ completes_over files name told size got (a ∷ more) found front ok of c =
           absurd (not_early files name told (length got) (told - length got) found c.1 done given (omega (arith, c.0)) (omega (arith, size, c.0)) h.0)
     ]
 
-absent : (o : Option (List ℕ)) → None ≡ option_map length o → o ≡ None
-absent None e = refl
-absent (Some bytes) e = absurd (none_some e)
-
 present : (o : Option (List ℕ)) (told : ℕ) → Some told ≡ option_map length o → (bytes : List ℕ) × (o ≡ Some bytes) × (length bytes ≡ told)
-present None told e = absurd (none_some (sym e))
-present (Some bytes) told e = (bytes, refl, sym (some_same e))
+present None told e = absurd (none-some told (sym e))
+present (Some bytes) told e = (bytes, refl, sym (same_Some told (length bytes) e))
 
 found_large : (most : ℕ) (bytes : List ℕ) → most < length bytes → found_file most (Some bytes) ≡ Large
 found_large most bytes h = rw (lt-ltb most (length bytes) h) refl
@@ -65,7 +57,7 @@ found_small most bytes h = rw (le-ltb most (length bytes) h) refl
 sized_over : (files : FileMap) (name : List ℕ) (most : ℕ) (size : Option (Option ℕ)) (more : List Answer) (found : Finding) → HasSucceeded (Sized name size) → IsOf files (Sized name size)
     → Each HasSucceeded more → Each (IsOf files) more → FindsSized most name size more found → found ≡ found_in files most name
 sized_over files name most None more found ok of oks ofs f = absurd ok
-sized_over files name most (Some None) more found ok of oks ofs f = f.0 ∙ sym (ap (found_file most) (absent (get files name) of))
+sized_over files name most (Some None) more found ok of oks ofs f = f.0 ∙ sym (ap (found_file most) (unmapped length (get files name) (sym of)))
 sized_over files name most (Some (Some told)) more found ok of oks ofs f =
     let p = present (get files name) told of in
     let bytes : file_bytes files name ≡ p.0 = ap (λ o. unwrap_or o []) p.1 in
@@ -91,7 +83,7 @@ After name told got part more found =
     ⊎ (EndsEarly part told (length got) found × (more ≡ []))
 
 after_failed : (name : List ℕ) (told : ℕ) (got : List ℕ) (more : List Answer) (found : Finding) → After name told got None more found → (found ≡ Broken) × (more ≡ [])
-after_failed name told got more found a = elim a [ inl h ↦ absurd (none_some h.1) | inr h ↦ (h.0, h.1) ]
+after_failed name told got more found a = elim a [ inl h ↦ absurd (none-some _ h.1) | inr h ↦ (h.0, h.1) ]
 
 no_bytes : (bytes : List ℕ) → Some [] ≡ Some bytes → 0 < length bytes → ⊥
 no_bytes [] is more = omega (arith, more)
@@ -103,7 +95,7 @@ after_end name told got more found a = elim a [ inl h ↦ absurd (no_bytes h.0 h
 after_part : (name : List ℕ) (told : ℕ) (got : List ℕ) (byte : ℕ) (bytes : List ℕ) (more : List Answer) (found : Finding) → After name told got (Some (byte ∷ bytes)) more found
     → Completes name told (got ++ byte ∷ bytes) more found
 after_part name told got byte bytes more found a =
-    elim a [ inl h ↦ subst (λ (bs : List ℕ). Completes name told (got ++ bs) more found) (sym (some_same h.1)) h.3 | inr h ↦ absurd h.0 ]
+    elim a [ inl h ↦ subst (λ (bs : List ℕ). Completes name told (got ++ bs) more found) (sym (same_Some _ _ h.1)) h.3 | inr h ↦ absurd h.0 ]
 
 after_decided : (name : List ℕ) (told : ℕ) (got : List ℕ) (xs ys : List Answer) (f g : Finding)
     → ((bytes : List ℕ) → Completes name told (got ++ bytes) xs f → Completes name told (got ++ bytes) ys g → (f ≡ g) × (xs ≡ ys))

@@ -1,7 +1,5 @@
 -- The images of a plan's modules, one after another.
-use Rattle.std.proofs.Common.{◌≡◌, ℕ, suc, ◌+◌, List, [], ◌∷◌, ◌++◌, drop, slice_get, Some, None, Option, Vec, Global, Ok, Err, add-one, refl, sym, ap, subst, ◌∙◌}
-use Rattle.std.proofs.lemmas.Option.{slice_get_within, get_or_from_slice_get}
-use Rattle.std.proofs.Math.Seq.{drop-cons}
+use Rattle.std.proofs.Common.{◌≡◌, ℕ, ◌+◌, List, [], ◌∷◌, ◌++◌, Some, None, Option, Vec, Global, Ok, Err, refl, sym, subst}
 use Rattle.mx_io.specs.Sink.{SinkState}
 use Rattle.mx_io.specs.Answer.{Answer}
 use Rattle.mx_manifest.specs.declared.parts.ModulePlan.{ModulePlan}
@@ -43,9 +41,3 @@ module _ {S : Type 0} (gives : S → Answer → S → Type 0) (number : ℕ) (m 
   takes_err name is status takes ms images rest console dump =
       subst (λ (o : Option (List ℕ)). Continues (image_step o number ms images rest) gives s t (sinks console r dump) (sinks console u dump) status) (sym is)
       (takes (λ bytes. after_images (number + 1) ms (images ++ bytes ∷ []) rest) console dump)
-
--- the item at a place, and those after it
-pub drop_got : {A : Type 0} (xs : List A) (i : ℕ) (x : A) → slice_get xs i ≡ Some x → drop i xs ≡ x ∷ drop (i + 1) xs
-drop_got xs i x is =
-    let h = slice_get_within xs i x is in
-    rw add-one (drop-cons xs i x h ∙ ap (λ y. y ∷ drop (suc i) xs) (get_or_from_slice_get xs i x x is))

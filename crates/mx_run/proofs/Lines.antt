@@ -1,11 +1,8 @@
 -- Texts of lines put on a sink.
-use Rattle.std.proofs.Common.{◌≡◌, ℕ, List, [], ◌∷◌, ◌++◌, flat_map, Result, sym, subst}
+use Rattle.std.proofs.Common.{ℕ, List, [], ◌∷◌, ◌++◌, flat_map, Result, sym}
 use Rattle.std.proofs.lemmas.List.{append-nil}
 use Rattle.mx_io.specs.Sink.{SinkState, Puts}
-
--- the text that was put, by an equal text
-pub puts_same : {A E : Type 0} {before now : SinkState} {text other : List ℕ} {result : Result A E} → text ≡ other → Puts before now text result → Puts before now other result
-puts_same {A} {E} {before} {now} {text} {other} {result} same puts = subst (λ (t : List ℕ). Puts {A = A} {E = E} before now t result) same puts
+use Rattle.mx_io.proofs.Puts.{puts_same}
 
 -- the text of a list of one item
 pub puts_single : {X A E : Type 0} {before now : SinkState} (f : X → List ℕ) (x : X) {result : Result A E} → Puts before now (f x) result → Puts before now (flat_map f (x ∷ [])) result

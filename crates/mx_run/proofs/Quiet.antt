@@ -3,6 +3,7 @@ use Rattle.std.proofs.Common.{◌≡◌, ℕ, zero, suc, ◌+◌, ◌==◌, if�
 use Rattle.std.proofs.Common.{map as list_map}
 use Rattle.std.specs.Prelude.{slice_set}
 use Rattle.std.specs.List.{list_all, enumerate_from}
+use Rattle.std.proofs.lemmas.Bool.{and_left}
 use Rattle.mx_model.specs.Checks.{hears, heard_by, is_halted, looked_all}
 use Rattle.mx_model.specs.Reads.{Reads}
 use Rattle.mx_model.specs.Run.{all_halted}
@@ -20,11 +21,7 @@ pub record IsQuiet (c : Core) (m : Made) : Type 0 where
 abbrev rests : Hart → Bool
 rests x = is_halted x.status
 
--- both of them
-and_false : (a b : Bool) → a ≡ false → (a && b) ≡ false
-and_false true b e = cc
-and_false false b e = refl
-
+-- another second test
 and_rest : (a b c : Bool) → (b ≡ false → c ≡ false) → (a && b) ≡ false → (a && c) ≡ false
 and_rest true b c f e = f e
 and_rest false b c f e = refl
@@ -32,7 +29,7 @@ and_rest false b c f e = refl
 -- another hart in a place, which can go on
 going_set : (xs : List Hart) (h : ℕ) (x : Hart) → rests x ≡ false → list_all rests xs ≡ false → list_all rests (slice_set xs h x) ≡ false
 going_set [] h x e all = all
-going_set (y ∷ ys) zero x e all = and_false (rests x) (list_all rests ys) e
+going_set (y ∷ ys) zero x e all = and_left (rests x) (list_all rests ys) e
 going_set (y ∷ ys) (suc h) x e all = and_rest (rests y) (list_all rests ys) (list_all rests (slice_set ys h x)) (going_set ys h x e) all
 
 -- hearing halts no hart and wakes none

@@ -1,7 +1,9 @@
 -- Runs turn by turn, and their texts through the buffers.
-use Rattle.std.proofs.Common.{◌≡◌, ℕ, zero, suc, ◌+◌, ◌-◌, ◌<◌, ◌≤◌, Bool, true, false, ◌||◌, List, [], ◌++◌, option_to_list, Some, None, Ok, Err, cond, refl, sym, ap, subst, ◌∙◌, inl, inr, append_assoc, arith}
+use Rattle.std.proofs.Common.{◌≡◌, ℕ, zero, suc, ◌+◌, ◌-◌, ◌<◌, ◌≤◌, Bool, true, false, List, [], ◌++◌, option_to_list, Some, None, Ok, Err, cond, refl, sym, ap, subst, ◌∙◌, inl, inr, append_assoc, arith}
+use Rattle.std.proofs.lemmas.Bool.{or_from, or_left, or_right}
 use Rattle.std.proofs.lemmas.List.{append-nil}
 use Rattle.std.proofs.lemmas.Grind.{flat_map-append}
+use Rattle.mx_words.proofs.OptionLaws.{withheld}
 use Rattle.mx_model.specs.Events.{Events}
 use Rattle.mx_model.specs.declared.values.TurnKind.{TurnKind}
 use Rattle.mx_model.specs.declared.values.TurnKind.TheVariants as K
@@ -45,36 +47,20 @@ pub run_more : (schedule : Schedule) (i : ℕ) (s : State) (h : ℕ) → is_stop
 run_more schedule i s h e is = run-add schedule i 1 s ∙ going schedule zero (run schedule i s) e ∙ ap (turn (run schedule i s)) (sym is)
 
 -- whether a run has stopped
-halted_stops : (a b : Bool) → a ≡ true → (a || b) ≡ true
-halted_stops true b e = refl
-halted_stops false b e = cc
-
-over_stops : (a b : Bool) → b ≡ true → (a || b) ≡ true
-over_stops true b e = refl
-over_stops false b e = e
-
-both_go : (a b : Bool) → a ≡ false → b ≡ false → (a || b) ≡ false
-both_go true b e f = cc
-both_go false b e f = f
-
 pub stops_halted : (schedule : Schedule) (s : State) → all_halted s.core ≡ true → is_stopped schedule s ≡ true
-stops_halted schedule s e = halted_stops (all_halted s.core) (is_over schedule s.core.turns) e
-
-named_none : (b : Bool) (h : ℕ) → cond b None (Some h) ≡ None → b ≡ true
-named_none true h e = refl
-named_none false h e = cc
+stops_halted schedule s e = or_left (all_halted s.core) (is_over schedule s.core.turns) e
 
 named_some : (b : Bool) (h k : ℕ) → cond b None (Some h) ≡ Some k → (b ≡ false) × (k ≡ h)
 named_some true h k e = cc
 named_some false h k e = (refl, cc)
 
 pub stops_over : (schedule : Schedule) (s : State) → named schedule s.core ≡ None → is_stopped schedule s ≡ true
-stops_over schedule s e = over_stops (all_halted s.core) (is_over schedule s.core.turns) (named_none (is_over schedule s.core.turns) (hart_of schedule s.core) e)
+stops_over schedule s e = or_right (all_halted s.core) (is_over schedule s.core.turns) (withheld (is_over schedule s.core.turns) (hart_of schedule s.core) e)
 
 pub goes_on : (schedule : Schedule) (s : State) (h : ℕ) → all_halted s.core ≡ false → named schedule s.core ≡ Some h → (is_stopped schedule s ≡ false) × (h ≡ hart_of schedule s.core)
 goes_on schedule s h halted e =
     let n = named_some (is_over schedule s.core.turns) (hart_of schedule s.core) h e in
-    (both_go (all_halted s.core) (is_over schedule s.core.turns) halted n.0, n.1)
+    (or_from (all_halted s.core) (is_over schedule s.core.turns) halted n.0, n.1)
 
 -- what is after the texts of a state in those of a later one
 pub record Grows (s f : State) : Type 0 where

@@ -1,15 +1,13 @@
 -- Texts that were put on a sink one after another, or of which one couldn't be put.
-use Rattle.std.proofs.Common.{◌≡◌, ℕ, ◌+◌, ◌<◌, ◌≤◌, List, [], ◌∷◌, ◌++◌, length, take, min, refl, sym, ap, subst, ◌∙◌, append_assoc, length-append, arith, Ok, Err, IsOk, T}
+use Rattle.std.proofs.Common.{◌≡◌, ℕ, ◌+◌, ◌<◌, ◌≤◌, List, [], ◌∷◌, ◌++◌, length, take, min, refl, sym, ap, subst, ◌∙◌, append_assoc, length-append, arith, Ok, Err}
 use Rattle.std.proofs.lemmas.List.{append-nil, take-append-le, take_min}
 use Rattle.std.proofs.Math.Seq.{take-append_seam, take-append-add}
 use Rattle.mx_io.specs.Texts.{appended, AppendsPrefix}
 use Rattle.mx_io.specs.Sink.{SinkState, Puts}
+use Rattle.mx_io.proofs.Puts.{not_ok}
 use Rattle.mx_io.proofs.Text.{appended-nil, appended-appended, Rose-earlier}
 use Rattle.mx_report.specs.Tail.{Passes}
 use Rattle.mx_run.specs.Running.{Put, Breaks, Moves}
-
-not_ok : (A : Type 0) {E : Type 0} (e : E) → IsOk {T = A} (Err e) → ⊥
-not_ok A e h = subst T (sym h) tt
 
 -- what a prefix of a part is in the whole
 prefix_of_part : (x y : List ℕ) (n : ℕ) → take (length x + min n (length y)) (x ++ y) ≡ x ++ take n y

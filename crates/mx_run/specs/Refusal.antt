@@ -5,8 +5,7 @@ use Rattle.mx_words.specs.declared.tables.Need.{Need}
 use Rattle.mx_manifest.specs.declared.fault.BootFault.{BootFault}
 use Rattle.mx_manifest.specs.declared.fault.Part.{Part}
 use Rattle.mx_manifest.specs.declared.fault.Part.TheVariants as part
-use Rattle.mx_manifest.specs.declared.fault.Key.{Key}
-use Rattle.mx_manifest.specs.declared.fault.Key.TheVariants as key
+use Rattle.mx_manifest.specs.Keys.{key_text}
 use Rattle.mx_run.specs.declared.status.Status.{Status}
 use Rattle.mx_run.specs.declared.status.Status.TheVariants.{Ran, Usage, Refused, TablesFull, StoreFault, ShortFile, NoFile, ConsoleFault, ReportFault, DumpFault, WantOfMemory, AsmFault, Unlike, NoDomain, SecondRefused, SecondTablesFull, SnapshotFault}
 
@@ -16,35 +15,6 @@ place_text part.Manifest index = concat (codes "manifest" ∷ [])
 place_text part.Module index = concat (codes "module." ∷ decimal index ∷ [])
 place_text part.Hart index = concat (codes "hart." ∷ decimal index ∷ [])
 place_text part.Schedule index = concat (codes "schedule" ∷ [])
-
--- the name of a key, or `-` for none
-abbrev pub key_name : Key → List ℕ
-key_name key.Version = codes "version"
-key_name key.RamKib = codes "ram_kib"
-key_name key.Tables = codes "tables"
-key_name key.Upper = codes "upper"
-key_name key.Leaf = codes "leaf"
-key_name key.Spill = codes "spill"
-key_name key.Lookaside = codes "lookaside"
-key_name key.Quantum = codes "quantum"
-key_name key.Module = codes "module"
-key_name key.Hart = codes "hart"
-key_name key.Name = codes "name"
-key_name key.Image = codes "image"
-key_name key.At = codes "at"
-key_name key.Perm = codes "perm"
-key_name key.Words = codes "words"
-key_name key.Wx = codes "wx"
-key_name key.Heap = codes "heap"
-key_name key.HeapWords = codes "heap_words"
-key_name key.Stack = codes "stack"
-key_name key.StackWords = codes "stack_words"
-key_name key.Gates = codes "gates"
-key_name key.Returns = codes "returns"
-key_name key.OnFault = codes "on_fault"
-key_name key.Seal = codes "seal"
-key_name key.Entry = codes "entry"
-key_name key.NoKey = codes "-"
 
 -- the number of a fault
 unfoldable pub fault_text : ℕ → List ℕ
@@ -59,7 +29,7 @@ detail_text name detail = concat (codes " key=" ∷ name ∷ codes " detail=" �
 unfoldable pub refused_line : BootFault → List ℕ
 refused_line fault =
     concat (fault_text fault.number ∷ place_text fault.place.part fault.place.index
-    ∷ detail_text (key_name fault.place.key) fault.detail ∷ [])
+    ∷ detail_text (key_text fault.place.key) fault.detail ∷ [])
 
 -- the words have no meaning
 unfoldable pub usage_line : List ℕ

@@ -2,13 +2,13 @@
 
 ghost use Rattle.std.specs.Prelude.{◌≡◌, [], unwrap_or};
 ghost use Rattle.mx_io.specs.Sink.{SinkState, Puts};
-ghost use Rattle.mx_run.specs.Refusal.{line_of, refused_line, fault_text, place_text, detail_text, key_name, tables_full_line, short_file_line, no_file_line, usage_line, store_fault_line, asm_fault_line};
+ghost use Rattle.mx_run.specs.Refusal.{line_of, refused_line, fault_text, place_text, detail_text, tables_full_line, short_file_line, no_file_line, usage_line, store_fault_line, asm_fault_line};
 ghost use Rattle.mx_run.specs.Outcome.{refusal};
 ghost use Rattle.mx_run.specs.Top.{sinks, Ends};
 
 use crate::status::Status;
 use mx_io::{Failed, Piece, Sink, put_all, put_pieces};
-use mx_manifest::{BootFault, Key, Part};
+use mx_manifest::{BootFault, Part};
 use mx_words::Need;
 
 /// Ends a call that refuses: its line is the whole report, or the report's fault is the status. The other
@@ -133,7 +133,7 @@ fn put_refused<R: Sink>(report: &mut R, fault: &BootFault) -> Result<(), Failed>
 {
     put_number(report, fault.number)?;
     put_place(report, fault.place.part, fault.place.index)?;
-    put_detail(report, key_name(fault.place.key), fault.detail)
+    put_detail(report, fault.place.key.name(), fault.detail)
 }
 
 #[tactic(auto, unfolding(crate::specs::Refusal::fault_text))]
@@ -179,38 +179,4 @@ fn put_detail<R: Sink>(report: &mut R, name: &str, detail: u32) -> Result<(), Fa
             Piece::Text("\n"),
         ],
     )
-}
-
-/// The name of a key as the manifest has it, `-` for none.
-fn key_name(key: Key) -> &'static str
-    ensures { result.now ≡ key_name key }
-{
-    match key {
-        Key::Version => "version",
-        Key::RamKib => "ram_kib",
-        Key::Tables => "tables",
-        Key::Upper => "upper",
-        Key::Leaf => "leaf",
-        Key::Spill => "spill",
-        Key::Lookaside => "lookaside",
-        Key::Quantum => "quantum",
-        Key::Module => "module",
-        Key::Hart => "hart",
-        Key::Name => "name",
-        Key::Image => "image",
-        Key::At => "at",
-        Key::Perm => "perm",
-        Key::Words => "words",
-        Key::Wx => "wx",
-        Key::Heap => "heap",
-        Key::HeapWords => "heap_words",
-        Key::Stack => "stack",
-        Key::StackWords => "stack_words",
-        Key::Gates => "gates",
-        Key::Returns => "returns",
-        Key::OnFault => "on_fault",
-        Key::Seal => "seal",
-        Key::Entry => "entry",
-        Key::NoKey => "-",
-    }
 }

@@ -137,10 +137,6 @@ pub none-of : (o : Option ℕ) → IsNone o → o ≡ None
 none-of None h = refl
 none-of (Some x) h = absurd (let q : ⊥ = cc in q)
 
-pub some-of : (o : Option ℕ) → IsSome o → (x : ℕ) × (o ≡ Some x)
-some-of None h = absurd (let q : ⊥ = cc in q)
-some-of (Some x) h = (x, refl)
-
 -- a heap that isn't full, by what its place told
 pub not-full : (o : Option ℕ) (n first : ℕ) → n ≤ most_blocks → o ≡ Some first → (IsSome o × (n ≡ most_blocks) → ⊥) → n < most_blocks
 not-full o n first few e out = ⊎_elim (λ (h : n < most_blocks). h)

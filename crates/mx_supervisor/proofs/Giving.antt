@@ -1,8 +1,9 @@
 -- Arrays of what each domain gets, as they are filled from domain 1 on.
 use Rattle.std.proofs.Common.{◌≡◌, ◌≢◌, ℕ, ◌+◌, ◌<◌, ◌≤◌, ◌==◌, cond, List, length, get_or, set, replicate, refl, sym, ◌∙◌, ap, subst, arith, ◌⊎◌, ⊎_elim, inl, inr, Option, Some, None}
 use Rattle.std.proofs.lemmas.Bool.{cases_eq, cases_lt, ne_eqb, eq-eqb}
-use Rattle.std.proofs.lemmas.List.{get_or_past, length-set, length-replicate, get_or-replicate, get_or-set_same, get_or-set_other}
+use Rattle.std.proofs.lemmas.List.{length-set, length-replicate, get_or-set_same, get_or-set_other}
 use Rattle.mx_words.specs.declared.perm.Perm.{Perm}
+use Rattle.mx_table.proofs.NamedLaws.{everywhere}
 use Rattle.mx_model.specs.Serve.{to_one}
 use Rattle.mx_supervisor.specs.Rights.{Gives}
 
@@ -12,17 +13,10 @@ pub record IsFilled (perms : List (Option Perm)) (end : ℕ) (f : ℕ → Option
   pub rest : (d : ℕ) → (d ≡ 0) ⊎ (end ≤ d) → get_or perms d None ≡ None
   pub filled : (d : ℕ) → 1 ≤ d → d < end → get_or perms d None ≡ f d
 
-get_or-none : (n d : ℕ) → get_or (replicate {A = Option Perm} n None) d None ≡ None
-get_or-none n d = by (cases_lt d n)
-  where
-    by : (d < n) ⊎ (n ≤ d) → get_or (replicate {A = Option Perm} n None) d None ≡ None
-    by (inl l) = get_or-replicate n d None None l
-    by (inr l) = get_or_past (replicate {A = Option Perm} n None) d None (let e = length-replicate {A = Option Perm} n None in omega (arith, l, e))
-
 pub filled-start : (f : ℕ → Option Perm) → IsFilled (replicate 64 None) 1 f
 filled-start f = record {
   places = length-replicate {A = Option Perm} 64 None;
-  rest = λ d h. get_or-none 64 d;
+  rest = λ d h. everywhere 64 d None;
   filled = λ d l m. absurd (let q : ⊥ = omega (arith, l, m) in q);
 }
 
@@ -60,7 +54,7 @@ one-gives perms first count domain modules p l m n e = record {
   count = refl;
   named = λ d h.
       let ne : d ≢ domain = ⊎_elim (λ z q. let r : ⊥ = omega (arith, z, q, l) in r) (λ u q. let r : ⊥ = omega (arith, u, q, n) in r) h in
-      ap (λ (ps : List (Option Perm)). get_or ps d None) e ∙ get_or-set_other (replicate 64 None) domain d (Some p) None ne ∙ get_or-none 64 d;
+      ap (λ (ps : List (Option Perm)). get_or ps d None) e ∙ get_or-set_other (replicate 64 None) domain d (Some p) None ne ∙ everywhere 64 d None;
   given = λ d a b. ap (λ (ps : List (Option Perm)). get_or ps d None) e ∙ at d (cases_eq d domain);
 }
   where
@@ -68,4 +62,4 @@ one-gives perms first count domain modules p l m n e = record {
     at d (inl same) = subst (λ (i : ℕ). get_or (set (replicate 64 None) domain (Some p)) i None ≡ cond (i == domain) (Some p) None) (sym same)
         (get_or-set_same (replicate 64 None) domain (Some p) None (let c = length-replicate {A = Option Perm} 64 None in omega (arith, m, c))
         ∙ sym (ap (λ b. cond b (Some p) None) (eq-eqb domain domain refl)))
-    at d (inr ne) = get_or-set_other (replicate 64 None) domain d (Some p) None ne ∙ get_or-none 64 d ∙ sym (ap (λ b. cond b (Some p) None) (ne_eqb d domain ne))
+    at d (inr ne) = get_or-set_other (replicate 64 None) domain d (Some p) None ne ∙ everywhere 64 d None ∙ sym (ap (λ b. cond b (Some p) None) (ne_eqb d domain ne))

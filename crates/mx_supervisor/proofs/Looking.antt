@@ -1,9 +1,9 @@
 -- One look at a word: what the checker keeps afterwards is what the model's look leaves.
-use Rattle.std.proofs.Common.{◌≡◌, ◌≢◌, ℕ, ◌-◌, ◌*◌, ◌/◌, ◌<◌, ◌⊎◌, inl, inr, true, not, ◌==◌, ◌&&◌, nat_lt, nat_le, List, length, set, Option, Some, refl, sym, ap, subst, ◌∙◌, arith, length-set, get_or-set_same, get_or-set_other, eq-eqb}
+use Rattle.std.proofs.Common.{◌≡◌, ◌≢◌, ℕ, ◌-◌, ◌*◌, ◌/◌, ◌<◌, inl, inr, true, not, nat_lt, nat_le, List, length, set, Option, Some, refl, sym, ap, subst, ◌∙◌, arith, length-set, get_or-set_same, get_or-set_other}
 use Rattle.std.proofs.Common.{map as list_map}
 use Rattle.std.specs.Prelude.{IfSome}
 use Rattle.std.proofs.Math.ListN.{get_or-map}
-use Rattle.std.proofs.lemmas.Bool.{cases_eq, le-leb, lt-ltb}
+use Rattle.std.proofs.lemmas.Bool.{le-leb, lt-ltb}
 use Rattle.std.proofs.lemmas.List.{map-set}
 use Rattle.mx_words.specs.declared.perm.Perm.{Perm}
 use Rattle.mx_words.specs.declared.perm.Span.{Span}
@@ -14,13 +14,14 @@ use Rattle.mx_words.specs.declared.perm.Access.{Access}
 use Rattle.mx_words.specs.Rights.{allows, denies, perm, perm_at}
 use Rattle.mx_words.specs.Ranges.{ram_base, address_of, word_of}
 use Rattle.mx_words.specs.Reach.{span}
+use Rattle.mx_words.proofs.OptionLaws.{if_some_after}
 use Rattle.mx_table.specs.Tables.{map_of, IsDomain}
 use Rattle.mx_check.specs.declared.flight.Flight.{Flight}
 use Rattle.mx_check.specs.Conditions.{MayLook}
 use Rattle.mx_check.specs.Harts.{Kept, no_hart, hart_at, at_hart}
-use Rattle.mx_check.specs.Looks.{flight_forbids, hart_forbids, is_forbidden, looks}
+use Rattle.mx_check.specs.Looks.{hart_forbids, is_forbidden, looks}
 use Rattle.mx_check.specs.Looks.{looked as looked_harts}
-use Rattle.mx_check.proofs.LookLaws.{all_below_agree}
+use Rattle.mx_check.proofs.LookLaws.{all_below_agree, hart_forbids-other}
 use Rattle.mx_model.specs.declared.values.Call.{Call}
 use Rattle.mx_model.specs.Checks.{looked}
 use Rattle.mx_model.specs.Reads.{flat_reads, map_in}
@@ -40,21 +41,12 @@ word-of-address w size lt =
     rw (low, high, round)
 
 -- whether a span is barred, from what else is kept of the other harts
-hart-kept : (h : ℕ) (s : Span) (old new : List Kept) (i : ℕ) → (i ≢ h → hart_at new i ≡ hart_at old i) → hart_forbids h s new i ≡ hart_forbids h s old i
-hart-kept h s old new i same = by (cases_eq i h)
-  where
-    by : (i ≡ h) ⊎ (i ≢ h) → hart_forbids h s new i ≡ hart_forbids h s old i
-    by (inl e) =
-        let own : (i == h) ≡ true = eq-eqb i h e in
-        ap (λ b. not b && flight_forbids h s (hart_at new i).flight) own ∙ sym (ap (λ b. not b && flight_forbids h s (hart_at old i).flight) own)
-    by (inr ne) = ap (λ (k : Kept). not (i == h) && flight_forbids h s k.flight) (same ne)
-
 pub barred-kept : (h : ℕ) (s : Span) (old new : List Kept) → length new ≡ length old → ((i : ℕ) → i ≢ h → hart_at new i ≡ hart_at old i) →
     is_forbidden h s new ≡ is_forbidden h s old
 barred-kept h s old new count same =
     ap (λ n. not (all_below n (λ i. not (hart_forbids h s new i)))) count
     ∙ ap not (all_below_agree (length old) (λ i. not (hart_forbids h s new i)) (λ i. not (hart_forbids h s old i))
-    (λ i lt. ap not (hart-kept h s old new i (same i))))
+    (λ i lt. ap not (hart_forbids-other h s old new i (λ ne. ap (λ (k : Kept). k.flight) (same i ne)))))
 
 -- the parts with other harts that keep the calls in flight
 pub bars-kept : (rest : Core) (p : Parts) (call : Call) (flight : Option Flight) (harts : List Kept) → KeepsHarts call flight p.harts harts →
@@ -136,10 +128,6 @@ keeps-both call a b c x y = record {
   domain = elim y.domain [ inl same ↦ elim x.domain [ inl before ↦ inl (same ∙ before) | inr named ↦ inr (same ∙ named) ] | inr named ↦ inr named ];
 }
 
-kept-domain : (d : ℕ) (a b : Option ℕ) → (b ≡ a) ⊎ (b ≡ Some d) → IfSome a (λ x. x ≡ d) → IfSome b (λ x. x ≡ d)
-kept-domain d a b (inl e) p = subst (λ (o : Option ℕ). IfSome o (λ x. x ≡ d)) (sym e) p
-kept-domain d a b (inr e) p = subst (λ (o : Option ℕ). IfSome o (λ x. x ≡ d)) (sym e) refl
-
 pub may-again : (call : Call) (flight : Option Flight) (a b : List Kept) → flight ≡ (hart_at a call.hart).flight → KeepsHarts call flight a b →
     MayLook call.hart call.domain a → MayLook call.hart call.domain b
 may-again call flight a b same keeps may = record {
@@ -147,5 +135,5 @@ may-again call flight a b same keeps may = record {
   running = keeps.halted ∙ may.running;
   free = keeps.flight ∙ same ∙ may.free;
   heard = λ i ne. subst (λ (k : Kept). IfSome k.flight (λ f. is_in f.heard call.hart ≡ true)) (sym (keeps.others i ne)) (may.heard i ne);
-  same_domain = kept-domain call.domain (hart_at a call.hart).domain (hart_at b call.hart).domain keeps.domain may.same_domain;
+  same_domain = if_some_after (λ x. x ≡ call.domain) call.domain (hart_at a call.hart).domain (hart_at b call.hart).domain keeps.domain refl may.same_domain;
 }

@@ -18,3 +18,6 @@ pub mod FirstRowLaws
 pub mod NumberLaws
 pub mod Borrow
 pub mod MapLaws
+pub mod OptionLaws
+pub mod ElementLaws
+pub mod RangeTests

@@ -7,7 +7,7 @@ use Rattle.mx_source.specs.Lines.{line_of}
 use Rattle.mx_source.specs.LineViews.{line_view}
 use Rattle.mx_asm.specs.Denoted.{program_from}
 use Rattle.mx_asm.specs.LabelViews.{labels_view}
-use Rattle.mx_asm.proofs.LabelLaws.{is_some-map}
+use Rattle.mx_words.proofs.OptionLaws.{is_some-map}
 use Rattle.mx_asm.proofs.LineLaws.{line_at}
 use Rattle.mx_asm.proofs.Placed.{start_placed}
 use Rattle.mx_asm.proofs.Sources.{next_at, program_at, first_none, definition_below, found_place, program_done}

@@ -7,7 +7,7 @@ use Rattle.toml.specs.View.{view}
 use Rattle.mx_manifest.specs.declared.fault.Key.TheVariants as key
 use Rattle.mx_manifest.specs.declared.fault.Part.TheVariants as part
 use Rattle.mx_manifest.specs.Faults.{fault_where, module_name, placed, repeat_fault}
-use Rattle.mx_manifest.proofs.Clear.{unmapped}
+use Rattle.mx_words.proofs.OptionLaws.{unmapped}
 use Rattle.mx_manifest.proofs.Loops.{each_next, each_here}
 use Rattle.mx_manifest.proofs.names.read_names.Goals as goal
 use mathlib.Core.Bool.{not-not}

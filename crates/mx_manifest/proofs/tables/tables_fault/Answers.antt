@@ -2,7 +2,8 @@ use Rattle.std.proofs.Common.{◌≡◌, ◌∙◌, None, sym}
 use Rattle.mx_manifest.specs.Faults.{table_fault}
 use Rattle.mx_manifest.specs.Rows.{top_rows}
 use Rattle.mx_manifest.specs.Section.{section_view}
-use Rattle.mx_manifest.proofs.Clear.{unmapped, few_modules, few_harts}
+use Rattle.mx_words.proofs.OptionLaws.{unmapped}
+use Rattle.mx_manifest.proofs.Clear.{few_modules, few_harts}
 use Rattle.mx_manifest.proofs.Judging.{at_most}
 use Rattle.mx_manifest.proofs.tables.tables_fault.Goals as goal
 

@@ -1,17 +1,17 @@
 use Rattle.std.proofs.Common.{ℕ, ◌+◌, List, drop, refl, ◌∙◌, arith}
 use Rattle.std.proofs.lemmas.List.{drop_all}
+use Rattle.mx_words.proofs.ElementLaws.{drop_at}
 use Rattle.mx_boot.specs.Boot.{boot_of}
 use Rattle.mx_run.specs.Asked.{order_of}
 use Rattle.mx_run.specs.Outcome.{booted}
 use Rattle.mx_run.proofs.Continued.{continues_wanting}
-use Rattle.mx_run.proofs.ImageSteps.{drop_got}
 use Rattle.mx_run.proofs.booting.with_plan.Goals as goal
 
 pub returns-in-Err-push : goal.returns-in-Err-push
 returns-in-Err-push g c =
     let rest = λ (images : List (List ℕ)). booted (order_of c.args.order.now) c.args.plan.now (boot_of c.args.plan.now images) in
     let modules = c.args.plan.now.modules in
-    let behind = drop_got modules c.modules.i c.module.result.now c.module.ensures.value in
+    let behind = drop_at modules c.modules.i c.module.result.now c.module.ensures.value in
     let comes = rw behind at (c.modules.invariant.comes rest) in
     let takes = c.in-Ok.ensures in
     comes _ _ _ _
@@ -22,7 +22,7 @@ pub returns-in-Err : goal.returns-in-Err
 returns-in-Err g c =
     let rest = λ (images : List (List ℕ)). booted (order_of c.args.order.now) c.args.plan.now (boot_of c.args.plan.now images) in
     let modules = c.args.plan.now.modules in
-    let behind = drop_got modules c.modules.i c.module.result.now c.module.ensures.value in
+    let behind = drop_at modules c.modules.i c.module.result.now c.module.ensures.value in
     let comes = rw behind at (c.modules.invariant.comes rest) in
     let takes = rw c.modules.invariant.report at c.in-Err.ensures in
     comes _ _ _ _ (takes (drop (c.modules.i + 1) modules) c.modules.images.items rest (g.C.Sink.state c.args.console.now) (g.D.Sink.state c.args.dump.now))
@@ -30,7 +30,7 @@ returns-in-Err g c =
 pub modules-preserved : goal.modules-preserved
 modules-preserved g c =
     let modules = c.args.plan.now.modules in
-    let behind = drop_got modules c.modules.i c.module.result.now c.module.ensures.value in
+    let behind = drop_at modules c.modules.i c.module.result.now c.module.ensures.value in
     let takes = c.in-Ok.ensures in
     record {
       report = takes.0 ∙ c.modules.invariant.report;

@@ -1,8 +1,9 @@
 use Rattle.std.proofs.Common.{ap}
 use Rattle.std.proofs.lemmas.Result.{err_from_is_err_and}
+use Rattle.mx_io.proofs.Puts.{puts_same}
 use Rattle.mx_io.proofs.Text.{left_all, left_next, left_stop, left_end}
 use Rattle.mx_run.specs.Refusal.{refused_line, detail_text}
-use Rattle.mx_run.proofs.Lines.{puts_same, puts_last}
+use Rattle.mx_run.proofs.Lines.{puts_last}
 use Rattle.mx_run.proofs.refusal.put_refused.Goals as goal
 
 pub returns-in_err-put_number : goal.returns-in_err-put_number
@@ -21,4 +22,4 @@ pub returns : goal.returns
 unfolding refused_line
 returns g c =
     left_end (left_next (left_next (left_all _ _) c.in_ok-put_number.ensures) c.in_ok-put_place.ensures)
-    (puts_last (puts_same (ap (λ name. detail_text name c.args.fault.now.detail) c.key_name.ensures) c.put_detail.ensures))
+    (puts_last (puts_same (ap (λ name. detail_text name c.args.fault.now.detail) c.name.ensures) c.put_detail.ensures))

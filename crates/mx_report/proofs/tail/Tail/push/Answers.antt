@@ -1,5 +1,6 @@
 use Rattle.std.proofs.Common.{◌≡◌, ◌<◌, [], ◌∷◌, ◌++◌, length, length-append, ap, ◌∙◌, arith}
-use Rattle.mx_report.proofs.TailLaws.{puts_same, push_held, push_full}
+use Rattle.mx_io.proofs.Puts.{puts_same}
+use Rattle.mx_report.proofs.TailLaws.{push_held, push_full}
 use Rattle.mx_report.proofs.tail.Tail.push.Goals as goal
 
 pub returns-then-len-lt-PIECE-clause-adds : goal.returns-then-len-lt-PIECE-clause-adds

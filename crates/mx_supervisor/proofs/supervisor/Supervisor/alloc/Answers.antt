@@ -6,12 +6,13 @@ use Rattle.std.proofs.lemmas.Bool.{ne_eqb, le-leb, lt-leb}
 use Rattle.mx_words.specs.Announced.{names_range}
 use Rattle.mx_words.specs.FirstFit.{place, with_block, most_blocks}
 use Rattle.mx_words.specs.Bytes.{cleared_at}
+use Rattle.mx_words.proofs.OptionLaws.{some_of}
 use Rattle.mx_model.specs.Checks.{arg}
 use Rattle.mx_model.specs.Serve.{serve_alloc, own_alone}
 use Rattle.mx_supervisor.specs.Heaps.{heap_at, with_blocks_at}
 use Rattle.mx_supervisor.specs.Parts.{Parts, parts_of, core_of, flat_of}
 use Rattle.mx_supervisor.proofs.Answering.{refuses, refuses-after}
-use Rattle.mx_supervisor.proofs.Blocks.{alloc-done, alloc-none, alloc-full, alloc-unfit, alloc-fit, place-in, blocks-in, none-of, some-of, not-full}
+use Rattle.mx_supervisor.proofs.Blocks.{alloc-done, alloc-none, alloc-full, alloc-unfit, alloc-fit, place-in, blocks-in, none-of, not-full}
 use Rattle.mx_supervisor.proofs.Changes.{lawful-of, in-of, range-heap, gives-in}
 use Rattle.mx_supervisor.proofs.supervisor.Supervisor.alloc.Goals as goal
 
@@ -33,7 +34,7 @@ pub returns-in-Err-BlocksFull : goal.returns-in-Err-BlocksFull
 returns-in-Err-BlocksFull g c =
     let p = parts_of g.T.PermTables.kind g.T.PermTables.maps g.T.PermTables.size g.T.PermTables.limits g.row.N c.args.self.now in
     let full = c.in-Err-BlocksFull.ensures.full.0 (ap err c.in-Err-BlocksFull.field-0-is) in
-    let some = some-of _ full.0 in
+    let some = some_of _ full.0 in
     refuses serve_alloc c.args.call.now _ 7 _ c.requires.sound c.refused-in-Err-BlocksFull.ensures
     (λ rest. alloc-full (flat_reads (flat_of rest p)) (core_of rest p) c.args.call.now some.0 (ne_eqb _ _ c.if-words-eq0.false) (place-in rest p c.args.call.now ∙ some.1)
     (le-leb _ _ (let n = blocks-in rest p c.args.call.now in let m = full.1 in omega (arith, n, m))))
