@@ -3,7 +3,7 @@
 mod moves;
 mod sums;
 
-use crate::{Cond, ImmOp, Inst, StoreWidth, decode, encode, is_valid};
+use mx_isa::{Cond, ImmOp, Inst, StoreWidth, decode, encode, is_valid};
 
 // Reserved values of f3 and f7, other opcodes, and words beside ECALL and EBREAK.
 static ILLEGAL: [u32; 26] = [

@@ -1,9 +1,9 @@
 //! Short programs through `exec` over the plain bus; what they must do is worked out by hand.
 ghost use Rattle.std.specs.Prelude.{◌≡◌, ◌≤◌, length, IfOk};
 
-use crate::PlainBus;
 use mx_core::{Outcome, Regs, exec};
 use mx_model::Fault;
+use mx_plain::PlainBus;
 use mx_words::{NoMemory, Perm};
 use std::alloc::Global;
 use std::test::Fail;

@@ -1,6 +1,11 @@
-//! Results at the corners of 32 bits, as qemu-riscv32 7.2 gives them.
-use crate::results::{of_registers, with_immediate};
-use mx_isa::{ImmOp, RegOp};
+//! Results at the corners of 32 bits, as qemu-riscv32 7.2 gives them, each by one instruction.
+use mx_core::{Outcome, Regs, exec};
+use mx_isa::{ImmOp, Inst, RegOp, encode, is_valid};
+use mx_plain::PlainBus;
+use mx_words::{NoMemory, Perm};
+use std::alloc::Global;
+use std::process::Abort;
+use std::test::Fail;
 
 // 0, 1, -1, -2^31 and 2^31 - 1.
 static CORNERS: [u32; 5] = [0, 1, 0xFFFF_FFFF, 0x8000_0000, 0x7FFF_FFFF];
@@ -177,24 +182,64 @@ static BY_AMOUNTS: [(ImmOp, [[u32; 3]; 5]); 3] = [
     ),
 ];
 
+const START: u32 = 0x8000_0000;
+
+/// What x3 holds after one instruction, before which x1 and x2 hold these operands.
+fn carried_out(
+    rt: &impl Abort,
+    alloc: Global,
+    inst: Inst,
+    operands: (u32, u32),
+) -> Result<u32, NoMemory> {
+    assert!(rt; is_valid(&inst));
+    let mut bus = PlainBus::new(alloc, 1)?;
+    bus.permit(0, 1, Perm::ExecuteRead);
+    bus.put(START, encode(&inst));
+    let mut regs = Regs::new();
+    regs.set(1, operands.0);
+    regs.set(2, operands.1);
+    let outcome = exec(&mut bus, &mut regs, START, false);
+    assert_eq!(rt; outcome, Outcome::Next(START + 4));
+    Ok(regs.get(3))
+}
+
+/// An operation on x1 and x2.
+fn of_registers(op: RegOp) -> Inst {
+    Inst::Op {
+        op,
+        rd: 3,
+        rs1: 1,
+        rs2: 2,
+    }
+}
+
+/// A shift of x1 by an amount.
+fn by_amount(op: ImmOp, amount: u32) -> Inst {
+    Inst::OpImm {
+        op,
+        rd: 3,
+        rs1: 1,
+        imm: amount,
+    }
+}
+
 #[test]
-fn results_at_the_corners(rt: HostRuntime) {
+fn results_at_the_corners(rt: HostRuntime) -> Result<(), Fail> {
     for (op, rows) in &OF_REGISTERS {
         for (a, row) in CORNERS.iter().zip(rows) {
             for (b, want) in CORNERS.iter().zip(row) {
-                assert_eq!(rt; of_registers(*op, *a, *b), *want, "{op:?} {a} {b}");
+                let result = carried_out(&rt, rt.alloc(), of_registers(*op), (*a, *b))?;
+                assert_eq!(rt; result, *want, "{op:?} {a} {b}");
             }
         }
     }
     for (op, rows) in &BY_AMOUNTS {
         for (a, row) in CORNERS.iter().zip(rows) {
             for (amount, want) in [0, 1, 31].iter().zip(row) {
-                assert_eq!(rt;
-                    with_immediate(*op, *a, *amount),
-                    *want,
-                    "{op:?} {a} {amount}"
-                );
+                let result = carried_out(&rt, rt.alloc(), by_amount(*op, *amount), (*a, 0))?;
+                assert_eq!(rt; result, *want, "{op:?} {a} {amount}");
             }
         }
     }
+    Ok(())
 }

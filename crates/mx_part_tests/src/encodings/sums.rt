@@ -1,5 +1,5 @@
 //! Operations, fences and the two system instructions.
-use crate::{ImmOp, Inst, RegOp};
+use mx_isa::{ImmOp, Inst, RegOp};
 
 pub static WORDS: [(u32, Inst); 44] = [
     (

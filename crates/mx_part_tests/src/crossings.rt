@@ -1,4 +1,6 @@
-use super::*;
+//! Gates, and the frames of a hart.
+use mx_gates::{CrossStack, Full, Gates, GatesFull};
+use mx_model::{Frame, Gate};
 use std::test::Fail;
 
 fn gate(domain: u32, word: u32, target: u32) -> Gate {
@@ -54,5 +56,36 @@ fn gates_at_their_limit(rt: HostRuntime) -> Result<(), Fail> {
     assert_eq!(rt; gates.target(1, 6), Some(1));
     assert_eq!(rt; gates.get(254), Some(gate(1, 255, 2)));
     assert_eq!(rt; gates.get(255), None);
+    Ok(())
+}
+
+fn frame(caller: u32, x2: u32) -> Frame {
+    let mut kept = [0; 15];
+    kept[0] = x2;
+    Frame {
+        back: 0x8000_0010,
+        caller,
+        kept,
+    }
+}
+
+#[test]
+fn frames_come_back_from_the_top(rt: HostRuntime) -> Result<(), Fail> {
+    let mut stack = CrossStack::new();
+    assert_eq!(rt; stack.top(), None);
+    assert_eq!(rt; stack.pop(), None);
+    for i in 0..64 {
+        assert_eq!(rt; stack.push(frame(1 + i % 2, i)), Ok(()));
+    }
+    assert_eq!(rt; stack.push(frame(3, 64)), Err(Full));
+    assert_eq!(rt; stack.depth(), 64);
+    assert_eq!(rt; stack.nearest(1), Some(62));
+    assert_eq!(rt; stack.nearest(3), None);
+    assert_eq!(rt; stack.frame(0), Some(frame(1, 0)));
+    assert_eq!(rt; stack.frame(64), None);
+    assert_eq!(rt; stack.top(), Some(frame(2, 63)));
+    assert_eq!(rt; stack.pop(), Some(frame(2, 63)));
+    assert_eq!(rt; stack.nearest(2), Some(61));
+    assert_eq!(rt; stack.depth(), 63);
     Ok(())
 }

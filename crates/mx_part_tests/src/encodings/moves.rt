@@ -1,5 +1,5 @@
 //! Upper immediates, jumps, branches, loads and stores.
-use crate::{Cond, Inst, LoadWidth, StoreWidth};
+use mx_isa::{Cond, Inst, LoadWidth, StoreWidth};
 
 pub static WORDS: [(u32, Inst); 56] = [
     (0x000002b7, Inst::Lui { rd: 5, imm: 0 }),
