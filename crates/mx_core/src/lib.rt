@@ -13,6 +13,3 @@ pub use laws::instructions_are_turns;
 pub use outcome::Outcome;
 pub use regs::Regs;
 pub use step::exec;
-
-#[cfg(test)]
-mod tests;

@@ -93,6 +93,3 @@ impl CrossStack {
         self.frames.as_slice().get(i as usize).copied()
     }
 }
-
-#[cfg(test)]
-mod tests;

@@ -169,6 +169,3 @@ impl Gates {
         self.counts[bucket(gate.domain, gate.word)] += 1;
     }
 }
-
-#[cfg(test)]
-mod tests;

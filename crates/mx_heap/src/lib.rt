@@ -8,6 +8,3 @@ mod parts;
 
 pub use block::{Block, HeapError};
 pub use heap::Heap;
-
-#[cfg(test)]
-mod tests;

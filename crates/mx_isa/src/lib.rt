@@ -10,6 +10,3 @@ pub use decoder::decode;
 pub use encoder::encode;
 pub use inst::{Cond, ImmOp, Inst, LoadWidth, RegOp, StoreWidth};
 pub use ranges::is_valid;
-
-#[cfg(test)]
-mod tests;

@@ -102,6 +102,3 @@ fn answers(entry: &(u32, Span), domain: u32, word: u32) -> bool
 {
     entry.0 == domain && entry.1.covers(word)
 }
-
-#[cfg(test)]
-mod tests;

@@ -5,6 +5,3 @@ mod owners;
 mod runs;
 
 pub use owners::{Owners, OwnersFull};
-
-#[cfg(test)]
-mod tests;

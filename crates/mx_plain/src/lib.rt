@@ -12,8 +12,5 @@ mod stored;
 mod tables;
 
 pub use bus::PlainBus;
-pub use samples::{grant, one_domain, row, try_change};
+pub use samples::{grant, one_domain, row, try_change, two_domains};
 pub use tables::{AsMultilevel, AsPacked, AsSegments, PlainKind, PlainTables};
-
-#[cfg(test)]
-mod tests;

@@ -48,6 +48,40 @@ pub fn one_domain<T: PermTables>(
     T::build(alloc, words, &[row], limit)
 }
 
+/// Tables of two domains over 64 KiB of RAM: domain 1 has the first span's permission on its words, and domain 2 the second's.
+pub fn two_domains<T: PermTables>(
+    alloc: Global,
+    first: Span,
+    second: Span,
+) -> Result<T, BuildRefused>
+    requires some_first { 0 < first.count }
+    requires inside_first { first.first + first.count ≤ 16384 }
+    requires some_second { 0 < second.count }
+    requires inside_second { second.first + second.count ≤ 16384 }
+    ensures two { IfOk result (λ t. length (T.maps t) ≡ 2) }
+    ensures size { IfOk result (λ t. T.size t ≡ 16384) }
+{
+    let rows = [one_span(alloc, first)?, one_span(alloc, second)?];
+    let limit = Need {
+        upper: 128,
+        leaf: 4096,
+        spill: 4096,
+    };
+    T::build(alloc, 16384, &rows, limit)
+}
+
+/// A row of one span, which lies in 64 KiB of RAM.
+fn one_span(alloc: Global, span: Span) -> Result<Spans, BuildRefused>
+    requires some { 0 < span.count }
+    requires inside { span.first + span.count ≤ 16384 }
+    ensures { IfOk result (IsRow 16384) }
+{
+    match row(alloc, span, span.count, 1) {
+        Ok(row) => Ok(row),
+        Err(_) => Err(BuildRefused::NoMemory),
+    }
+}
+
 /// A permission for domain 1 on a range.
 pub fn grant(first: u32, count: u32, perm: Perm) -> Change
     requires some { 0 < count }

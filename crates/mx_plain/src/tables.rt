@@ -190,6 +190,3 @@ impl<K: PlainKind> PermTables for PlainTables<K> {
 
     ghost shaped = { λ t. t.kept };
 }
-
-#[cfg(test)]
-mod tests;

@@ -81,6 +81,3 @@ impl Sidecars {
         }
     }
 }
-
-#[cfg(test)]
-mod tests;

@@ -1,5 +1,0 @@
-use Rattle.std.proofs.Common.{◌≡◌, ◌%◌}
-use Rattle.mx_plain.proofs.tests.carry_out.Given as goal
-
-abbrev pub invariant-loop-made : goal.invariant-loop-made
-invariant-loop-made l = l.pc % 4 ≡ 0
