@@ -111,7 +111,7 @@ pub record AreLawful (labels : List Definition) (number : ℕ) (ls : List Label)
 
 same_line : (labels : List Definition) (number : ℕ) (name : List ℕ) (d : Definition) → label_fault labels number (Some name) ≡ None → definition_of labels name ≡ Some d → d.line ≡ number
 unfolding label_fault
-same_line labels number name d none is = eqb-true d.line number (withheld (d.line == number) 5 (rw is at none))
+same_line labels number name d none is = eqb-true d.line number (withheld {A = ℕ} (d.line == number) 5 (rw is at none))
 
 lawful_label : (labels : List Definition) (number here : ℕ) (label : Option (List ℕ)) (p : Program) → IsNamed label → (IsSome label → here < 2 ^ 32) → label_fault labels number label ≡ None
     → ((name : List ℕ) → label ≡ Some name → (d : Definition) × (definition_of labels name ≡ Some d)) → AreLawful labels number p.labels → AreLawful labels (number + 1) (with_defined label here p).labels

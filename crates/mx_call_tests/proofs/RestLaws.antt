@@ -88,7 +88,7 @@ rest-again call p q t r rest harts modules keeps sizes sound =
         free = keeps.flight;
         heard = λ i ne. subst (λ (k : Kept). IfSome k.flight (λ f. is_in f.heard call.hart ≡ true)) (sym (none-behind t.harts call.hart i there count ne)) tt;
         same_domain = if_some_after (λ x. x ≡ call.domain) call.domain (hart_at p.harts call.hart).domain (hart_at t.harts call.hart).domain
-            (elim keeps.domain [ inl e ↦ inl (e ∙ ap (λ (k : Kept). k.domain) own) | inr e ↦ inr e ]) rest.may.same_domain;
+            (elim keeps.domain [ inl e ↦ inl (e ∙ ap (λ (k : Kept). k.domain) own) | inr e ↦ inr e ]) refl rest.may.same_domain;
       };
     }
 

@@ -164,8 +164,8 @@ mod tests {
 
     // A line with its reaches is stored as this entry, and read back from it.
     fn stands_for(rt: &impl Abort, perms: [Perm; 16], left: u32, right: u32, entry: u32)
-        requires left { left ≤ most_reach }
-        requires right { right ≤ most_reach }
+        requires left { left ≤ 31 }
+        requires right { right ≤ 31 }
     {
         assert_eq!(rt; pack(&perms, left, right), Some(entry));
         assert_eq!(rt; unpack(entry), Some(Unpacked { perms, left, right }));

@@ -1,6 +1,7 @@
 -- What a write, a take and a give show afterwards, in terms of what the pool showed before.
-use Rattle.std.proofs.Common.{ℕ, ◌≡◌, ◌≢◌, ◌+◌, ◌*◌, ◌-◌, ◌<◌, ◌≤◌, Bool, true, false, not, List, [], Option, None, Some, IsSome, is_none, unwrap_or, length, take, drop, set, replicate, get_or, refl, sym, ◌∙◌, ap, arith, length-take, length-drop, get_or-set_other, get_or-set_same}
+use Rattle.std.proofs.Common.{ℕ, ◌≡◌, ◌≢◌, ◌+◌, ◌*◌, ◌-◌, ◌<◌, ◌≤◌, Bool, true, false, not, List, [], None, Some, IsSome, is_none, unwrap_or, length, take, drop, set, replicate, get_or, refl, sym, ◌∙◌, ap, arith, length-take, length-drop, get_or-set_other, get_or-set_same}
 use Rattle.std.specs.List.{count_by}
+use Rattle.mx_pool.specs.Frames.{Frames}
 use Rattle.mx_pool.specs.Stored.{IsPool, frames_of}
 use Rattle.mx_pool.proofs.StoredFrames.{SameOutside, set_inside, word_shown, is_marked, marked_below, marked_shows, unmarked_shows, shown_elsewhere, zeroed_shows, length-frames_of, free_in-frames_of, count-mark, count-unmark, frame_fits}
 use Rattle.mx_pool.proofs.FreeList.{frame_room, top_within, top_unmarked}
@@ -20,20 +21,20 @@ pub record IsFilled (size : ℕ) (ws us : List ℕ) (f from count value : ℕ) :
   pub behind : (k : ℕ) → f * size + from + count ≤ k → get_or us k 0 ≡ get_or ws k 0
 
 module _ (size : ℕ) (ws : List ℕ) (ts : List Bool) (free : List ℕ) (spare : ℕ) (pool : IsPool size ws ts free spare)
-    (frames : List (Option (List ℕ))) (view : frames_of size ws ts ≡ frames) where
+    (frames : Frames) (view : frames_of size ws ts ≡ frames) where
   -- another frame after a change of frame f
   pub elsewhere : (f g : ℕ) (us : List ℕ) (ss : List Bool) → SameOutside size f ws us → g ≢ f → get_or ss g false ≡ get_or ts g false →
       get_or (frames_of size us ss) g None ≡ get_or frames g None
-  elsewhere f g us ss same ne mark = shown_elsewhere size f g ws us ts ss same ne mark ∙ ap (λ (fs : List (Option (List ℕ))). get_or fs g None) view
+  elsewhere f g us ss same ne mark = shown_elsewhere size f g ws us ts ss same ne mark ∙ ap (λ (fs : Frames). get_or fs g None) view
 
   pub word-now : (f at : ℕ) → IsSome (get_or frames f None) → at < size → get_or (unwrap_or (get_or frames f None) []) at 0 ≡ get_or ws (f * size + at) 0
   word-now f at h lt = word_shown size ws ts frames view f at h lt
 
   pub total : (us : List ℕ) (ss : List Bool) → length ss ≡ length ts → length (frames_of size us ss) ≡ length frames
-  total us ss len = length-frames_of size us ss ∙ len ∙ sym (length-frames_of size ws ts) ∙ ap (λ (fs : List (Option (List ℕ))). length fs) view
+  total us ss len = length-frames_of size us ss ∙ len ∙ sym (length-frames_of size ws ts) ∙ ap (λ (fs : Frames). length fs) view
 
   pub free_now : count_by is_none frames ≡ spare
-  free_now = ap (λ (fs : List (Option (List ℕ))). count_by is_none fs) (sym view) ∙ free_in-frames_of size ws ts ∙ sym pool.counted
+  free_now = ap (λ (fs : Frames). count_by is_none fs) (sym view) ∙ free_in-frames_of size ws ts ∙ sym pool.counted
 
   -- a write at a place of a taken frame
   words_are : (f : ℕ) → IsSome (get_or frames f None) → unwrap_or (get_or frames f None) [] ≡ take size (drop (f * size) ws)

@@ -1,9 +1,10 @@
 -- What making a pool, taking, giving and writing leave of what stays true of it.
-use Rattle.std.proofs.Common.{ℕ, zero, suc, ◌≡◌, ◌≢◌, ◌+◌, ◌*◌, ◌-◌, ◌^◌, ◌<◌, ◌≤◌, ⊎_elim, Bool, true, false, not, cond, List, ◌∷◌, length, set, replicate, get_or, None, IsSome, refl, sym, ◌∙◌, Option, arith, length-set, get_or-set_other, get_or-set_same}
+use Rattle.std.proofs.Common.{ℕ, zero, suc, ◌≡◌, ◌≢◌, ◌+◌, ◌*◌, ◌-◌, ◌^◌, ◌<◌, ◌≤◌, ⊎_elim, Bool, true, false, not, cond, List, ◌∷◌, length, set, replicate, get_or, None, IsSome, refl, sym, ◌∙◌, arith, length-set, get_or-set_other, get_or-set_same}
 use Rattle.std.proofs.lemmas.List.{get_or-replicate, length-replicate}
 use Rattle.std.proofs.lemmas.List.Sums.{sum_by-cons, count_by-le-length}
 use Rattle.std.proofs.lemmas.Bool.{cases_lt, cases_eq}
 use Rattle.std.specs.List.{count_by}
+use Rattle.mx_pool.specs.Frames.{Frames}
 use Rattle.mx_pool.specs.Stored.{IsPool, frames_of}
 use Rattle.mx_pool.proofs.StoredFrames.{count-mark, count-unmark, marked_below, is_marked, frame_fits}
 
@@ -109,5 +110,5 @@ module _ (size : ℕ) (ws : List ℕ) (ts : List Bool) (free : List ℕ) (spare 
   }
 
   -- the words of a frame that shows words lie in the store
-  pub frame_room : (frames : List (Option (List ℕ))) → frames_of size ws ts ≡ frames → (f : ℕ) → IsSome (get_or frames f None) → f * size + size ≤ length ws
+  pub frame_room : (frames : Frames) → frames_of size ws ts ≡ frames → (f : ℕ) → IsSome (get_or frames f None) → f * size + size ≤ length ws
   frame_room frames view f h = frame_fits size (length ts) (length ws) f pool.room (marked_below ts f (is_marked size ws ts frames view f h))

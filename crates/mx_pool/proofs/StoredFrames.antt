@@ -6,6 +6,8 @@ use Rattle.std.proofs.lemmas.List.Sums.{sum_by-cons, sum_by-set}
 use Rattle.std.proofs.lemmas.Bool.{cases_lt}
 use Rattle.std.specs.List.{count_by}
 use Rattle.std.proofs.Math.Nat.{mul-le-mul_right}
+use Rattle.std.proofs.SliceLists.{take-set}
+use Rattle.mx_pool.specs.Frames.{Frames}
 use Rattle.mx_pool.specs.Stored.{frames_of}
 
 -- frame f is its words or none, by its mark
@@ -41,10 +43,10 @@ free_in-frames_of size ws (t ∷ ts) =
 pub frames_of-unmarked : (size n : ℕ) (ws : List ℕ) → frames_of size ws (replicate n false) ≡ replicate n None
 unfolding frames_of
 frames_of-unmarked size zero ws = refl
-frames_of-unmarked size (suc n) ws = ap (λ (fs : List (Option (List ℕ))). None ∷ fs) (frames_of-unmarked size n (drop size ws))
+frames_of-unmarked size (suc n) ws = ap (λ (fs : Frames). None ∷ fs) (frames_of-unmarked size n (drop size ws))
 
 -- a frame that shows words has its mark
-pub is_marked : (size : ℕ) (ws : List ℕ) (ts : List Bool) (frames : List (Option (List ℕ))) → frames_of size ws ts ≡ frames →
+pub is_marked : (size : ℕ) (ws : List ℕ) (ts : List Bool) (frames : Frames) → frames_of size ws ts ≡ frames →
     (f : ℕ) → IsSome (get_or frames f None) → get_or ts f false ≡ true
 is_marked size ws ts frames view f h =
     let shown : IsSome (get_or (frames_of size ws ts) f None) = rw view h in
@@ -67,7 +69,7 @@ pub unmarked_shows : (size : ℕ) (ws : List ℕ) (ts : List Bool) (f : ℕ) →
 unmarked_shows size ws ts f h = rw (get_or-frames_of, h) refl
 
 -- a word of a frame that shows words
-pub word_shown : (size : ℕ) (ws : List ℕ) (ts : List Bool) (frames : List (Option (List ℕ))) → frames_of size ws ts ≡ frames →
+pub word_shown : (size : ℕ) (ws : List ℕ) (ts : List Bool) (frames : Frames) → frames_of size ws ts ≡ frames →
     (f at : ℕ) → IsSome (get_or frames f None) → at < size → get_or (unwrap_or (get_or frames f None) []) at 0 ≡ get_or ws (f * size + at) 0
 word_shown size ws ts frames view f at h lt =
     rw (← view, marked_shows size ws ts f (is_marked size ws ts frames view f h), get_or-take size (drop (f * size) ws) at 0 lt, get_or-drop (f * size) ws at 0) refl
@@ -115,15 +117,9 @@ set_outside size f at v ws h = record {
   behind = λ i b. get_or-set_other ws (f * size + at) i v 0 (λ e. omega arith);
 }
 
-pub take-set_any : (n i v : ℕ) (xs : List ℕ) → take n (set xs i v) ≡ set (take n xs) i v
-take-set_any zero i v xs = refl
-take-set_any (suc n) i v [] = refl
-take-set_any (suc n) zero v (x ∷ xs) = refl
-take-set_any (suc n) (suc i) v (x ∷ xs) = ap (λ (ys : List ℕ). x ∷ ys) (take-set_any n i v xs)
-
 pub set_inside : (size f at v : ℕ) (ws : List ℕ) →
     take size (drop (f * size) (set ws (f * size + at) v)) ≡ set (take size (drop (f * size) ws)) at v
-set_inside size f at v ws = rw (drop-set-add (f * size) ws at v) (take-set_any size at v (drop (f * size) ws))
+set_inside size f at v ws = rw (drop-set-add (f * size) ws at v) (take-set (drop (f * size) ws) size at v)
 
 -- the words of frame f are all 0
 pub zeroed_shows : (size f : ℕ) (us : List ℕ) → f * size + size ≤ length us → ((i : ℕ) → f * size ≤ i → i < f * size + size → get_or us i 0 ≡ 0) →

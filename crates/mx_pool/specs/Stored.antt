@@ -1,8 +1,9 @@
 -- How a pool stores its frames, and what stays true of it.
-use Rattle.std.specs.Prelude.{ℕ, ◌≡◌, ◌<◌, ◌*◌, ◌^◌, Bool, false, not, if◌then◌else◌, List, [], ◌∷◌, Option, None, Some, length, take, drop, slice_index, slice_index_or, count_by}
+use Rattle.std.specs.Prelude.{ℕ, ◌≡◌, ◌<◌, ◌*◌, ◌^◌, Bool, false, not, if◌then◌else◌, List, [], ◌∷◌, None, Some, length, take, drop, slice_index, slice_index_or, count_by}
+use Rattle.mx_pool.specs.Frames.{Frames}
 
 -- the frames in a flat store: `size` words for each, and none where it is not marked as taken
-unfoldable pub frames_of : ℕ → List ℕ → List Bool → List (Option (List ℕ))
+unfoldable pub frames_of : ℕ → List ℕ → List Bool → Frames
 frames_of size words [] = []
 frames_of size words (t ∷ ts) =
     (if t then Some (take size words) else None) ∷ frames_of size (drop size words) ts

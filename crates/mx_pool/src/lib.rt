@@ -20,10 +20,10 @@ pub struct Pool<const WORDS: usize> {
 }
 
 impl<const WORDS: usize> Model for Pool<WORDS> {
-    ghost use Rattle.std.specs.Prelude.{ℕ, List, Option};
+    ghost use Rattle.mx_pool.specs.Frames.{Frames};
     ghost use Rattle.mx_pool.specs.Stored.{frames_of, IsPool};
 
-    ghost Value = { List (Option (List ℕ)) };
+    ghost Value = { Frames };
 
     ghost view = { λ p. frames_of WORDS p.words.items p.taken.items };
 

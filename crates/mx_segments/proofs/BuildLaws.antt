@@ -17,9 +17,9 @@ use Rattle.mx_table.specs.Tables.{row_map, IsRow}
 use Rattle.mx_table.specs.Rows.{first_spans}
 use Rattle.mx_table.proofs.RowLaws.{length-first, tail_none}
 use Rattle.mx_table.proofs.RowsBuilt.{no_row}
-use Rattle.mx_pool.specs.Frames.{free_in}
+use Rattle.mx_pool.specs.Frames.{Frames, free_in}
 use Rattle.mx_segments.specs.Lists.{list_at}
-use Rattle.mx_segments.specs.Store.{Frames, frames_in, IsStore, KeepsOthers}
+use Rattle.mx_segments.specs.Store.{frames_in, IsStore, KeepsOthers}
 use Rattle.mx_segments.specs.Entries.{IsChain, entry_word}
 use Rattle.mx_segments.specs.Sound.{map_in}
 use Rattle.mx_segments.specs.Kept.{maps_in}

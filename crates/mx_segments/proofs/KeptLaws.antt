@@ -11,7 +11,8 @@ use Rattle.mx_words.specs.Changes.{changed_map, changed_from}
 use Rattle.mx_words.proofs.CountingLaws.{count_below_after, list_below_is, sum_below-more, sum_by-list_below}
 use Rattle.mx_words.proofs.ChangeLaws.{length-changed_from, changed_from-at}
 use Rattle.mx_table.proofs.WithinLaws.{within-parts}
-use Rattle.mx_segments.specs.Store.{Frames, frames_in, word_in, KeepsOthers}
+use Rattle.mx_pool.specs.Frames.{Frames}
+use Rattle.mx_segments.specs.Store.{frames_in, word_in, KeepsOthers}
 use Rattle.mx_segments.specs.Entries.{IsChain}
 use Rattle.mx_segments.specs.Sound.{map_in, IsSound}
 use Rattle.mx_segments.specs.Kept.{maps_in}

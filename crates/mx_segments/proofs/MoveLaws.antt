@@ -1,7 +1,8 @@
 -- How changes of one row follow one another.
 use Rattle.std.proofs.Common.{◌≡◌, ℕ, zero, suc, ◌≤◌, List, [], ◌∷◌, sum_by, length, refl, ◌∙◌, ap, arith}
 use Rattle.std.proofs.lemmas.List.Sums.{sum_by-cons}
-use Rattle.mx_segments.specs.Store.{Frames, frames_in, IsStore, KeepsOthers, IsRewritten}
+use Rattle.mx_pool.specs.Frames.{Frames}
+use Rattle.mx_segments.specs.Store.{frames_in, IsStore, KeepsOthers, IsRewritten}
 
 pub keeps_refl : (fs : Frames) (ls : List (List ℕ)) (row : ℕ) → KeepsOthers fs ls fs ls row
 keeps_refl fs ls row = record { rows = refl; total = refl; chains = λ other ne. refl; words = λ other i ne lt. refl }

@@ -1,8 +1,8 @@
 -- Words that are moved piece by piece.
 use Rattle.std.proofs.Common.{◌≡◌, ◌≢◌, ℕ, ◌+◌, ◌-◌, ◌*◌, ◌/◌, ◌%◌, ◌<◌, ◌≤◌, inl, inr, List, sym, ap, ◌∙◌, arith}
 use Rattle.std.proofs.lemmas.Bool.{cases_lt, cases_eq}
-use Rattle.mx_pool.specs.Frames.{word_at, frame_at}
-use Rattle.mx_segments.specs.Store.{Frames, frames_in, frame_in, word_in, IsStore, IsPieceCopied}
+use Rattle.mx_pool.specs.Frames.{Frames, word_at, frame_at}
+use Rattle.mx_segments.specs.Store.{frames_in, frame_in, word_in, IsStore, IsPieceCopied}
 use Rattle.mx_segments.proofs.StoreLaws.{word_still, place_within}
 
 -- a piece of a frame is copied into a frame

@@ -14,7 +14,8 @@ use Rattle.mx_words.specs.Reach.{stored as stored_item}
 use Rattle.mx_words.specs.Starts.{is_start}
 use Rattle.mx_words.proofs.CountingLaws.{IsCounted, count_below-mono, count_below_after}
 use Rattle.mx_words.proofs.RunLaws.{IsRound, span_within_is}
-use Rattle.mx_segments.specs.Store.{Frames, frames_in, word_in}
+use Rattle.mx_pool.specs.Frames.{Frames}
+use Rattle.mx_segments.specs.Store.{frames_in, word_in}
 use Rattle.mx_segments.specs.Entries.{perm_of, word_of_entry, begins_before, run_start, entry_of, entry_word}
 use Rattle.mx_segments.specs.Sound.{map_in, IsSound}
 use Rattle.mx_segments.proofs.EntryLaws.{runs_are, runs_held, before_passes, behind_fails, run_at, round, run_start_is, run_start_end, stored_entry, stored_some, stored_run, perm_of-entry, word_of-entry}

@@ -3,9 +3,9 @@ use Rattle.std.proofs.Common.{◌≡◌, ◌≢◌, ℕ, ◌+◌, ◌-◌, ◌*�
 use Rattle.std.proofs.lemmas.Bool.{cases_lt, cases_eq}
 use Rattle.std.proofs.lemmas.List.{get_or_append_left, get_or_push, get_or_past, get_or-replicate, length_push}
 use Rattle.std.proofs.lemmas.List.Sums.{sum_by-set}
-use Rattle.mx_pool.specs.Frames.{frame_at, IsTaken, word_at, free_in}
+use Rattle.mx_pool.specs.Frames.{Frames, frame_at, IsTaken, word_at, free_in}
 use Rattle.mx_segments.specs.Lists.{list_at}
-use Rattle.mx_segments.specs.Store.{Frames, frames_in, frame_in, word_in, IsStore, KeepsOthers}
+use Rattle.mx_segments.specs.Store.{frames_in, frame_in, word_in, IsStore, KeepsOthers}
 
 -- a row that has frames is one of the rows
 pub row_within : (lists : List (List ℕ)) (row i : ℕ) → i < frames_in lists row → row < length lists

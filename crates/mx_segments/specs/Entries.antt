@@ -9,7 +9,8 @@ use Rattle.mx_words.specs.Runs.{runs}
 use Rattle.mx_words.specs.Need.{segment_frames}
 use Rattle.mx_words.specs.Starts.{is_start}
 
--- the entry of a run that begins at a word with a permission: the word's address, with the permission in bits 1..0
+-- the entry of a run that begins at a word with a permission: the word's address, with the permission in bits 1..0.
+-- The item that is shown of a run, `shown_run`, holds the same word; here the run's length isn't known
 abbrev pub entry_word : ℕ → Perm → ℕ
 entry_word word p = address_of word + number p
 

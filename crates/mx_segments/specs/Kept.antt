@@ -4,8 +4,9 @@ use Rattle.mx_words.specs.declared.perm.Perm.{Perm}
 use Rattle.mx_words.specs.declared.tables.Need.{Need}
 use Rattle.mx_words.specs.Counting.{list_below}
 use Rattle.mx_table.specs.Tables.{most_words, most_modules, IsLimit}
+use Rattle.mx_pool.specs.Frames.{Frames}
 use Rattle.mx_segments.specs.Lists.{HasRoom}
-use Rattle.mx_segments.specs.Store.{Frames, IsStore}
+use Rattle.mx_segments.specs.Store.{IsStore}
 use Rattle.mx_segments.specs.Sound.{map_in, IsSound}
 
 -- the maps of all domains, which count from 1 while rows count from 0

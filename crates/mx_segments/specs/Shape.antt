@@ -8,7 +8,7 @@ use Rattle.mx_words.specs.Need.{segment_frames, within}
 use Rattle.mx_words.proofs.CountingLaws.{length-list_below, list_below-at}
 use Rattle.mx_table.specs.Tables.{map_of, IsDomain, IsShaped}
 use Rattle.mx_table.proofs.WithinLaws.{within-whole}
-use Rattle.mx_segments.specs.Store.{Frames}
+use Rattle.mx_pool.specs.Frames.{Frames}
 use Rattle.mx_segments.specs.Sound.{map_in, IsSound}
 use Rattle.mx_segments.specs.Kept.{maps_in, IsKept}
 

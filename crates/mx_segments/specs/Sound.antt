@@ -1,7 +1,8 @@
 -- The map that the list at a row means, and when its words are the map's entries.
 use Rattle.std.specs.Prelude.{ℕ, List}
 use Rattle.mx_words.specs.declared.perm.Perm.{Perm}
-use Rattle.mx_segments.specs.Store.{Frames, frames_in, word_in}
+use Rattle.mx_pool.specs.Frames.{Frames}
+use Rattle.mx_segments.specs.Store.{frames_in, word_in}
 use Rattle.mx_segments.specs.Entries.{read_map, IsChain}
 
 -- the map of the list at a row, for a RAM of `words` words

@@ -1,11 +1,7 @@
 -- The words of the lists' frames. A list's words are those of its frames, 64 in each, one frame after the other.
-use Rattle.std.specs.Prelude.{ℕ, ◌≡◌, ◌≢◌, ◌+◌, ◌*◌, ◌/◌, ◌%◌, ◌<◌, ◌≤◌, List, Option, length, slice_index, sum_by}
-use Rattle.mx_pool.specs.Frames.{IsTaken, word_at, free_in}
+use Rattle.std.specs.Prelude.{ℕ, ◌≡◌, ◌≢◌, ◌+◌, ◌*◌, ◌/◌, ◌%◌, ◌<◌, ◌≤◌, List, length, slice_index, sum_by}
+use Rattle.mx_pool.specs.Frames.{Frames, IsTaken, word_at, free_in}
 use Rattle.mx_segments.specs.Lists.{list_at}
-
--- what a pool shows
-abbrev pub Frames : Type 0
-Frames = List (Option (List ℕ))
 
 -- how many frames the list at a row has
 abbrev pub frames_in : List (List ℕ) → ℕ → ℕ

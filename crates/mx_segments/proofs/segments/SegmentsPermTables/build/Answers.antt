@@ -2,7 +2,8 @@ use Rattle.std.proofs.Common.{◌≡◌, ℕ, List, [], length, replicate, sum_b
 use Rattle.std.proofs.lemmas.List.{length-replicate}
 use Rattle.mx_words.specs.declared.perm.Perm.{Perm}
 use Rattle.mx_words.specs.Need.{segment_frames}
-use Rattle.mx_segments.specs.Store.{Frames, IsStore}
+use Rattle.mx_pool.specs.Frames.{Frames}
+use Rattle.mx_segments.specs.Store.{IsStore}
 use Rattle.mx_segments.specs.Kept.{maps_in}
 use Rattle.mx_segments.specs.Shape.{within_is}
 use Rattle.mx_segments.proofs.BuildLaws.{maps_of_rows, need_of_rows, empty_store}
