@@ -16,6 +16,11 @@ pub mod FlatLaws
 pub mod RunLaws
 pub mod RegisterLaws
 pub mod ListLaws
+pub mod JoinLaws
+pub mod SetLaws
+pub mod AlignedLaws
+pub mod TestLaws
+pub mod RunSteps
 pub mod GatesAt
 pub mod TurnCases
 pub mod ApartLaws

@@ -15,6 +15,7 @@ use Rattle.mx_model.specs.Reads.{flat_reads}
 use Rattle.mx_model.specs.Run.{flat_turn}
 use Rattle.mx_model.specs.State.{Core, State, Flat, flat}
 use Rattle.mx_model.proofs.RunLaws.{run-add}
+use Rattle.mx_model.proofs.RunSteps.{run-going, run-stopped}
 use Rattle.mx_model.proofs.KeepLaws.{keeps-turned}
 use Rattle.mx_report.specs.Lines.{note_line}
 use Rattle.mx_run.specs.declared.status.Status.{Status}
@@ -22,29 +23,16 @@ use Rattle.mx_run.specs.Running.{named, Places, Moves, HasRun, Stops, Begins, Is
 use Rattle.mx_run.proofs.Quiet.{quiet_turned}
 use Rattle.mx_run.proofs.Sinking.{moves_nothing, moves_moves, moves_breaks, moves_front, breaks_more, breaks_same}
 
--- what a run of one turn more is, where it has stopped, or hasn't
-abbrev next_of : Schedule → ℕ → State → Bool → State
-next_of schedule n s b = elim b [ true ↦ s | false ↦ run schedule n (turn s (hart_of schedule s.core)) ]
-
--- a run that has stopped makes no further turn
-stopped : (schedule : Schedule) (n : ℕ) (s : State) → is_stopped schedule s ≡ true → run schedule n s ≡ s
-stopped schedule zero s e = refl
-stopped schedule (suc n) s e = ap (next_of schedule n s) e
-
--- one more turn
-going : (schedule : Schedule) (n : ℕ) (s : State) → is_stopped schedule s ≡ false → run schedule (suc n) s ≡ run schedule n (turn s (hart_of schedule s.core))
-going schedule n s e = ap (next_of schedule n s) e
-
 -- a run of n turns, of which i made it stop
 pub run_ends : (schedule : Schedule) (i n : ℕ) (s : State) → i ≤ n → is_stopped schedule (run schedule i s) ≡ true → run schedule n s ≡ run schedule i s
 run_ends schedule i n s few e =
     let whole : n ≡ i + (n - i) = omega (arith, few) in
-    ap (λ k. run schedule k s) whole ∙ run-add schedule i (n - i) s ∙ stopped schedule (n - i) (run schedule i s) e
+    ap (λ k. run schedule k s) whole ∙ run-add schedule i (n - i) s ∙ run-stopped schedule (n - i) (run schedule i s) e
 
 -- a run of one turn more
 pub run_more : (schedule : Schedule) (i : ℕ) (s : State) (h : ℕ) → is_stopped schedule (run schedule i s) ≡ false → h ≡ hart_of schedule (run schedule i s).core
     → run schedule (i + 1) s ≡ turn (run schedule i s) h
-run_more schedule i s h e is = run-add schedule i 1 s ∙ going schedule zero (run schedule i s) e ∙ ap (turn (run schedule i s)) (sym is)
+run_more schedule i s h e is = run-add schedule i 1 s ∙ run-going schedule zero (run schedule i s) e ∙ ap (turn (run schedule i s)) (sym is)
 
 -- whether a run has stopped
 pub stops_halted : (schedule : Schedule) (s : State) → all_halted s.core ≡ true → is_stopped schedule s ≡ true
@@ -89,8 +77,8 @@ grows_run : (schedule : Schedule) (n : ℕ) (s : State) → Grows s (run schedul
 grows_run schedule zero s = grows_none s
 grows_run schedule (suc n) s =
     elim (is_stopped schedule s) as (λ b. is_stopped schedule s ≡ b → Grows s (run schedule (suc n) s)) [
-      | true ↦ λ t. subst (λ (f : State). Grows s f) (sym (stopped schedule (suc n) s t)) (grows_none s)
-      | false ↦ λ f. subst (λ (u : State). Grows s u) (sym (going schedule n s f)) (grows_turn s _ (hart_of schedule s.core) (grows_run schedule n (turn s (hart_of schedule s.core))))
+      | true ↦ λ t. subst (λ (f : State). Grows s f) (sym (run-stopped schedule (suc n) s t)) (grows_none s)
+      | false ↦ λ f. subst (λ (u : State). Grows s u) (sym (run-going schedule n s f)) (grows_turn s _ (hart_of schedule s.core) (grows_run schedule n (turn s (hart_of schedule s.core))))
     ] refl
 
 -- a run of n turns goes on after its first i turns

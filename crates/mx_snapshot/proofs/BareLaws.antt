@@ -20,6 +20,7 @@ use Rattle.mx_model.specs.Reads.{Reads}
 use Rattle.mx_model.specs.Serve.{Served, Service, Exit, Write, Grant, RevokeAll, Transfer, Alloc, Free, AddGate, RemoveGate, AddReturnGate, Query, Self, Exchange, Unknown, judged, answers, code, serve, served_by, service, ended, write_from, written_out, write_looks, exchange_from, exchanged, look_of, arg_word, alloc_place, alloc_from, bytes_at, changes, grant_change, revoke_change, give_of, with_blocks, free_change, adds, serve_self}
 use Rattle.mx_model.specs.State.{Core, Hart, Status, Running, Waiting, Halted, no_hart, hart_at, with_hart, with_module, module_at}
 use Rattle.mx_model.specs.Turn.{Action, Rests, Waits, Serves, Asks, Traps, Bounces, Crosses, Returns, Runs, Writes, Decided, Made, acted, asked, served, done, trapped, given_up, killed, enacted, decide, by_status, heard_first, counted, turned, is_served_now, made, without_look}
+use Rattle.mx_model.proofs.ValidParts.{hearing}
 use Rattle.mx_snapshot.specs.Same.{without_code, bare_hart, bare}
 
 -- harts without exit codes
@@ -253,9 +254,6 @@ bare-decided : (r : Reads) (c : Core) (h : ℕ) → bare_made (decided r c h) �
 bare-decided r c h = bare-enacted r c h (decide r c h) ∙ ap (λ (d : Decided). bare_made (enacted r (bare c) h d)) (sym (decide-bare r c h))
 
 -- hearing
-abbrev hearing : ℕ → ℕ × Hart → Hart
-hearing h p = if p.0 == h then p.1 else record p.1 { status = heard_by h p.1.status }
-
 heard-bare : (h : ℕ) (s : Status) → heard_by h (without_code s) ≡ without_code (heard_by h s)
 heard-bare h Running = refl
 heard-bare h (Waiting call heard) = refl

@@ -1,5 +1,5 @@
 -- Turns and runs of states that are the same, and what runs add to console and notes.
-use Rattle.std.proofs.Common.{◌≡◌, ℕ, zero, suc, ◌+◌, ◌/◌, ◌%◌, ◌&&◌, ◌||◌, Bool, true, false, List, [], ◌∷◌, ◌++◌, refl, sym, ◌∙◌, ap, subst}
+use Rattle.std.proofs.Common.{◌≡◌, ℕ, zero, suc, ◌+◌, ◌/◌, ◌%◌, ◌&&◌, ◌||◌, true, false, List, [], ◌∷◌, ◌++◌, refl, sym, ◌∙◌, ap, subst}
 use Rattle.std.proofs.Common.{map as list_map}
 use Rattle.std.specs.Prelude.{option_to_list}
 use Rattle.std.specs.List.{list_all}
@@ -12,6 +12,7 @@ use Rattle.mx_model.specs.State.{Core, Hart, State, Flat, flat}
 use Rattle.mx_model.specs.Turn.{Made}
 use Rattle.mx_model.proofs.FlatLaws.{flat-turn, made-flat}
 use Rattle.mx_model.proofs.RunLaws.{run-add}
+use Rattle.mx_model.proofs.RunSteps.{next_of}
 use Rattle.mx_snapshot.specs.Same.{bare_hart, bare, bare_flat, AreSame, silent, TakesUp}
 use Rattle.mx_snapshot.proofs.BareLaws.{bare_made, bare-turned, halted-bare}
 
@@ -65,10 +66,6 @@ match-turn s t h p =
       console = ap (λ (xs : List ℕ). xs ++ (made_of s h).console) p.console ∙ ap (λ (m : Made). t.console ++ m.console) q;
       notes = ap (λ (xs : List Note). xs ++ option_to_list (made_of s h).note) p.notes ∙ ap (λ (m : Made). t.notes ++ option_to_list m.note) q;
     }
-
--- a run of one turn more, where it has stopped, or hasn't
-abbrev next_of : Schedule → ℕ → State → Bool → State
-next_of schedule n s b = elim b [ true ↦ s | false ↦ run schedule n (turn s (hart_of schedule s.core)) ]
 
 match-run : (schedule : Schedule) (n : ℕ) (s t : State) → Match s t → Match (run schedule n s) (run schedule n t)
 match-run schedule zero s t p = p
