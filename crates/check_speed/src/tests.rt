@@ -4,7 +4,7 @@ use crate::runs::{two_domains, withdrawal, withdrawn};
 use crate::tables::tables;
 use mx_check::{Checker, Counts, Flight, Flights};
 use mx_packed::Packed;
-use mx_upper::{Trie, Vector};
+use mx_trie::{Trie, Vector};
 use mx_words::{Perm, Span};
 use std::test::Fail;
 

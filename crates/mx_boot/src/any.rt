@@ -23,7 +23,7 @@ use mx_model::{Events, Frame, Gate, TurnKind};
 use mx_packed::Packed;
 use mx_segments::Segments;
 use mx_table::PermTables;
-use mx_upper::{Trie, Vector};
+use mx_trie::{Trie, Vector};
 use mx_words::{Need, Perm, Shown, Span};
 
 /// A machine over one of the three kinds of tables, with one of the three sizes of lookaside buffers.

@@ -12,7 +12,7 @@ use crate::refused::{BootRefused, LayoutRefused};
 use mx_manifest::Plan;
 use mx_packed::Packed;
 use mx_segments::Segments;
-use mx_upper::{Trie, Vector};
+use mx_trie::{Trie, Vector};
 use mx_words::{Blob, Kind};
 use std::alloc::Global;
 

@@ -9,7 +9,7 @@ use mx_heap::Block;
 use mx_model::Gate;
 use mx_packed::Packed;
 use mx_segments::Segments;
-use mx_upper::{Trie, Vector};
+use mx_trie::{Trie, Vector};
 use mx_words::{Need, NoMemory, Perm, Span};
 use std::alloc::Global;
 use std::test::Fail;

@@ -18,7 +18,7 @@ use mx_owners::Owners;
 use mx_packed::Packed;
 use mx_supervisor::{Heaps, Supervisor};
 use mx_table::{PermTables, shape_of};
-use mx_upper::Trie;
+use mx_trie::Trie;
 use mx_words::{Need, NoMemory, Perm, RAM_BASE, Span, Spans, word_range};
 use std::alloc::Global;
 

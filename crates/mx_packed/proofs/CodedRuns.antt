@@ -5,10 +5,10 @@ use Rattle.mx_words.specs.declared.perm.Perm.{Perm}
 use Rattle.mx_words.specs.declared.perm.Span.{Span}
 use Rattle.mx_words.specs.Rights.{number, same, perm_at}
 use Rattle.mx_words.proofs.RunLaws.{IsRound, span_within_is}
-use Rattle.mx_upper.specs.Codes.{value_code, start_code}
-use Rattle.mx_upper.specs.Leaf.{placed, line_run}
+use Rattle.mx_trie.specs.Codes.{value_code, start_code}
+use Rattle.mx_trie.specs.Leaf.{placed, line_run}
 use Rattle.mx_words.proofs.NumberLaws.{number-one_to_one, number-small}
-use Rattle.mx_upper.proofs.RunCodes.{value_code-same, value_code-other, start_code-same, start_code-other, start_code-last}
+use Rattle.mx_trie.proofs.RunCodes.{value_code-same, value_code-other, start_code-same, start_code-other, start_code-last}
 
 -- the words from place i on have one permission up to the next start, or to the line's end where that is 0
 pub record IsRunAt (perms : List Perm) (i next : ℕ) : Type 0 where

@@ -5,7 +5,7 @@ use Rattle.mx_words.specs.declared.perm.Perm.{Perm}
 use Rattle.mx_words.specs.Rights.{same}
 use Rattle.mx_words.specs.Runs.{runs, runs_of}
 use Rattle.mx_words.specs.Reach.{mini_entry, most_reach}
-use Rattle.mx_upper.proofs.MiniEntries.{IsMade, mini-made}
+use Rattle.mx_trie.proofs.MiniEntries.{IsMade, mini-made}
 use Rattle.mx_packed.specs.Pack.{pack_of}
 
 -- a line is packed exactly where it has at most four runs

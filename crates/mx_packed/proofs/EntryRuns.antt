@@ -11,9 +11,9 @@ use Rattle.mx_words.specs.Rights.{same, perm_at}
 use Rattle.mx_words.specs.Runs.{runs, line_words}
 use Rattle.mx_words.specs.Reach.{packed}
 use Rattle.mx_words.proofs.NumberLaws.{shift-first}
-use Rattle.mx_upper.specs.Leaf.{IsStored, IsEntry, needs_spill, packed_entry, line_run, placed, lengthened, left_of_run, right_of_run, entry_run}
-use Rattle.mx_upper.proofs.PlainRuns.{left_of_run-none, right_of_run-none, lengthened-none}
-use Rattle.mx_upper.proofs.MiniEntries.{IsMade, mini-made}
+use Rattle.mx_trie.specs.Leaf.{IsStored, IsEntry, needs_spill, packed_entry, line_run, placed, lengthened, left_of_run, right_of_run, entry_run}
+use Rattle.mx_trie.proofs.PlainRuns.{left_of_run-none, right_of_run-none, lengthened-none}
+use Rattle.mx_trie.proofs.MiniEntries.{IsMade, mini-made}
 
 -- what stands stored for a line, by whether it needs a spill word
 stored-crowded : (perms : List Perm) (left right spill line entry spilled : ℕ) → IsStored K.Packed perms left right spill line entry spilled →

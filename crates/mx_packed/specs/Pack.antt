@@ -4,7 +4,7 @@ use Rattle.mx_words.specs.declared.perm.Perm.{Perm}
 use Rattle.mx_words.specs.Rights.{same}
 use Rattle.mx_words.specs.Runs.{runs, runs_of, line_words}
 use Rattle.mx_words.specs.Reach.{mini_entry}
-use Rattle.mx_upper.specs.Codes.{value_code, start_code}
+use Rattle.mx_trie.specs.Codes.{value_code, start_code}
 
 -- the packed entry of a line's permissions with both reaches, and nothing where it has more than four runs
 abbrev pub pack_of : List Perm → ℕ → ℕ → Option ℕ

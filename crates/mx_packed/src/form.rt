@@ -4,10 +4,10 @@ ghost use Rattle.std.proofs.Common.{inr};
 ghost use Rattle.mx_words.specs.declared.tables.Kind.TheVariants as K;
 ghost use Rattle.mx_words.specs.Reach.{most_reach};
 ghost use Rattle.mx_words.specs.Runs.{line_words};
-ghost use Rattle.mx_upper.specs.Leaf.{lengthened};
+ghost use Rattle.mx_trie.specs.Leaf.{lengthened};
 
 use crate::mini::{pack, run_count, run_of};
-use mx_upper::{LeafForm, Vector};
+use mx_trie::{LeafForm, Vector};
 use mx_words::{Perm, Span};
 
 /// Packed leaf entries: up to four runs in the entry, which reaches up to 31 words over each edge of the line; a line with more

@@ -4,9 +4,9 @@ ghost use Rattle.mx_words.specs.declared.perm.Perm.{Perm};
 ghost use Rattle.mx_words.specs.Rights.{number};
 ghost use Rattle.mx_words.specs.Reach.{most_reach};
 ghost use Rattle.mx_words.specs.Runs.{runs, line_words};
-ghost use Rattle.mx_upper.specs.Leaf.{form_reach, placed, line_run};
+ghost use Rattle.mx_trie.specs.Leaf.{form_reach, placed, line_run};
 ghost use Rattle.mx_packed.specs.Pack.{pack_of, IsCoded};
-ghost use Rattle.mx_upper.specs.Codes.{value_code, start_code};
+ghost use Rattle.mx_trie.specs.Codes.{value_code, start_code};
 
 use mx_words::{Perm, Span};
 

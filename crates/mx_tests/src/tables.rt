@@ -2,13 +2,13 @@
 ghost use Rattle.std.specs.Prelude.{◌≡◌, ◌+◌, ◌*◌, ◌<◌, ◌≤◌, length, IfOk};
 ghost use Rattle.mx_words.specs.declared.tables.Kind.TheVariants as K;
 ghost use Rattle.mx_table.specs.Tables.{IsRow, IsLimit};
-ghost use Rattle.mx_upper.specs.Read.{read_maps};
+ghost use Rattle.mx_trie.specs.Read.{read_maps};
 
 use mx_packed::Packed;
 use mx_plain::{grant, row, try_change};
 use mx_segments::Segments;
 use mx_table::{BuildRefused, PermTables};
-use mx_upper::{Trie, Vector};
+use mx_trie::{Trie, Vector};
 use mx_words::{Level, Need, NoMemory, Perm, Shown, Span, Spans};
 use std::alloc::Global;
 use std::test::Fail;

@@ -16,7 +16,7 @@ mod owners;
 use mx_packed::Packed;
 use mx_supervisor::Supervisor;
 use mx_table::PermTables;
-use mx_upper::Trie;
+use mx_trie::Trie;
 use std::alloc::Global;
 use std::time::{CpuClock, Duration};
 use std::{env, io};

@@ -20,7 +20,7 @@ use mx_packed::Packed;
 use mx_plain::{AsMultilevel, AsPacked, AsSegments, PlainTables};
 use mx_segments::Segments;
 use mx_table::PermTables;
-use mx_upper::{Trie, Vector};
+use mx_trie::{Trie, Vector};
 use mx_words::Need;
 use replay::Replay;
 use std::alloc::Global;

@@ -13,7 +13,7 @@ use calls::Range;
 use mx_packed::Packed;
 use mx_segments::Segments;
 use mx_table::PermTables;
-use mx_upper::{Trie, Vector};
+use mx_trie::{Trie, Vector};
 use mx_words::{Kind, Perm};
 use std::alloc::Global;
 use std::time::{CpuClock, Duration};

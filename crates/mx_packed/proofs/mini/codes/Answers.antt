@@ -1,8 +1,8 @@
 use Rattle.std.proofs.Common.{◌≡◌, ◌≢◌, ◌+◌, ◌-◌, ◌*◌, ◌^◌, ◌<◌, length, drop, sym, ap, ◌∙◌, arith, length-drop}
 use Rattle.mx_words.specs.Rights.{number, perm_at}
 use Rattle.mx_words.proofs.NumberLaws.{number-small}
-use Rattle.mx_upper.specs.Codes.{value_code, start_code}
-use Rattle.mx_upper.proofs.RunCodes.{value_code-same, value_code-other, value_code-last, value_code-below, start_code-same, start_code-other, start_code-last, start_code-below, runs-drop}
+use Rattle.mx_trie.specs.Codes.{value_code, start_code}
+use Rattle.mx_trie.proofs.RunCodes.{value_code-same, value_code-other, value_code-last, value_code-below, start_code-same, start_code-other, start_code-last, start_code-below, runs-drop}
 use Rattle.mx_packed.proofs.mini.codes.Goals as goal
 
 pub loop-place-init : goal.loop-place-init

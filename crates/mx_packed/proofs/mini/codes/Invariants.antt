@@ -1,5 +1,5 @@
 use Rattle.std.proofs.Common.{◌≡◌, ◌≤◌, drop}
-use Rattle.mx_upper.specs.Codes.{value_code, start_code}
+use Rattle.mx_trie.specs.Codes.{value_code, start_code}
 use Rattle.mx_packed.proofs.mini.codes.Given as goal
 
 abbrev pub invariant-loop-place : goal.invariant-loop-place

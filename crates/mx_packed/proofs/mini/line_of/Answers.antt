@@ -1,6 +1,6 @@
 use Rattle.std.proofs.Common.{◌≡◌, ◌∙◌, arith}
 use Rattle.std.proofs.Math.ListN.{length-set}
-use Rattle.mx_upper.proofs.Decoding.{decoded-ended, decoded-going, decoded-whole}
+use Rattle.mx_trie.proofs.Decoding.{decoded-ended, decoded-going, decoded-whole}
 use Rattle.mx_packed.proofs.mini.line_of.Goals as goal
 use Rattle.mx_packed.proofs.mini.line_of.Goals.{then-starts_left-place, else-starts_left-place}
 

@@ -1,7 +1,7 @@
 use Rattle.std.proofs.Common.{◌≡◌, length, List}
 use Rattle.mx_words.specs.declared.perm.Perm.{Perm}
-use Rattle.mx_upper.specs.Codes.{value_code, start_code}
-use Rattle.mx_upper.specs.Decoded.{IsDecoded}
+use Rattle.mx_trie.specs.Codes.{value_code, start_code}
+use Rattle.mx_trie.specs.Decoded.{IsDecoded}
 use Rattle.mx_packed.proofs.mini.line_of.Given as goal
 
 abbrev pub invariant-loop-place : goal.invariant-loop-place

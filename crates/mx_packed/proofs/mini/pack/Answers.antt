@@ -2,7 +2,7 @@ use Rattle.std.proofs.Common.{◌≡◌, ◌≤◌, ◌+◌, ◌*◌, Some, sym,
 use Rattle.mx_words.specs.Rights.{same}
 use Rattle.mx_words.specs.Runs.{runs, runs_of}
 use Rattle.mx_words.specs.Reach.{mini_entry}
-use Rattle.mx_upper.proofs.RunCodes.{mini-codes}
+use Rattle.mx_trie.proofs.RunCodes.{mini-codes}
 use Rattle.mx_packed.proofs.Entries.{pack_of-few}
 use Rattle.mx_packed.proofs.mini.pack.Goals as goal
 

@@ -1,6 +1,6 @@
 use Rattle.std.proofs.Common.{◌≡◌, ◌≢◌, ◌+◌, ◌-◌, ◌<◌, length, sym, ap, ◌∙◌, arith}
 use Rattle.mx_words.specs.Rights.{number, perm_at}
-use Rattle.mx_upper.proofs.RunCodes.{runs-other, runs-same, runs-last}
+use Rattle.mx_trie.proofs.RunCodes.{runs-other, runs-same, runs-last}
 use Rattle.mx_packed.proofs.mini.run_count.Goals as goal
 
 pub loop-place-init : goal.loop-place-init

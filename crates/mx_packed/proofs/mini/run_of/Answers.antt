@@ -1,8 +1,8 @@
 use Rattle.std.proofs.Common.{◌≡◌, ◌-◌, ◌%◌, List, length, refl, ◌∙◌, ap, arith}
 use Rattle.mx_words.specs.declared.perm.Perm.{Perm}
-use Rattle.mx_upper.specs.Codes.{value_code, start_code}
+use Rattle.mx_trie.specs.Codes.{value_code, start_code}
 use Rattle.mx_words.proofs.NumberLaws.{number-one_to_one}
-use Rattle.mx_upper.proofs.Decoding.{value_code-first}
+use Rattle.mx_trie.proofs.Decoding.{value_code-first}
 use Rattle.mx_packed.proofs.CodedRuns.{IsEnd, begun-more, end-at, end-last, run-between}
 use Rattle.mx_packed.proofs.mini.run_of.Goals as goal
 use Rattle.mx_packed.proofs.mini.run_of.Goals.{After-perm_of, then-next-eq0, else-next-eq0, then-loop-starts_left-test+else-starts_left-place, else-loop-starts_left-test}

@@ -1,6 +1,6 @@
 use Rattle.std.proofs.Common.{◌≡◌, length, List}
 use Rattle.mx_words.specs.declared.perm.Perm.{Perm}
-use Rattle.mx_upper.specs.Codes.{value_code, start_code}
+use Rattle.mx_trie.specs.Codes.{value_code, start_code}
 use Rattle.mx_packed.proofs.CodedRuns.{IsBegun}
 use Rattle.mx_packed.proofs.mini.run_of.Given as goal
 

@@ -1,8 +1,8 @@
 use Rattle.std.proofs.Common.{◌≤◌, length, lit<, arith}
 use Rattle.mx_words.specs.declared.tables.Kind.TheVariants as K
-use Rattle.mx_upper.specs.Shape.{length-read_maps}
-use Rattle.mx_upper.proofs.StandingAgain.{standing-again}
-use Rattle.mx_upper.proofs.StandingLaws.{standing-shown}
+use Rattle.mx_trie.specs.Shape.{length-read_maps}
+use Rattle.mx_trie.proofs.StandingAgain.{standing-again}
+use Rattle.mx_trie.proofs.StandingLaws.{standing-shown}
 use Rattle.mx_tests.proofs.tables.in_root.Goals as goal
 
 pub get-root-requires-clause-last : goal.get-root-requires-clause-last

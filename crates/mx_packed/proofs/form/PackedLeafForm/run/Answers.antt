@@ -1,5 +1,5 @@
 use Rattle.std.proofs.Common.{◌≡◌, ◌-◌, ◌/◌, ◌%◌, ◌∙◌, arith}
-use Rattle.mx_upper.specs.Leaf.{placed, line_run}
+use Rattle.mx_trie.specs.Leaf.{placed, line_run}
 use Rattle.mx_packed.proofs.EntryRuns.{spill-entry, spill-run, stored-mini, read-made, can-lengthen, CanLengthen, mini-run}
 use Rattle.mx_packed.proofs.form.PackedLeafForm.run.Goals as goal
 use Rattle.mx_packed.proofs.form.PackedLeafForm.run.Goals.{After-run_of-run}

@@ -1,6 +1,0 @@
-use Rattle.std.proofs.Common.{refl, arith}
-use Rattle.mx_upper.proofs.EvenLaws.{even-tells}
-use Rattle.mx_upper.proofs.scan.is_page_even.Goals as goal
-
-pub returns : goal.returns
-returns g c = even-tells 1024 128 (g.V.View.map c.args.view.now) c.args.page c.is_even.result refl refl (omega arith) c.is_even.ensures.yes c.is_even.ensures.no

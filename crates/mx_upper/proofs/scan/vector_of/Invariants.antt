@@ -1,5 +1,0 @@
-use Rattle.mx_upper.proofs.Vectors.{IsPartVector}
-use Rattle.mx_upper.proofs.scan.vector_of.Given as goal
-
-abbrev pub invariant-loop-e : goal.invariant-loop-e
-invariant-loop-e g l = IsPartVector (g.V.View.map l.view) l.first l.part l.e l.entry

@@ -1,5 +1,0 @@
-use Rattle.mx_upper.proofs.Digits.{masked}
-use Rattle.mx_upper.proofs.vector.digit.Goals as goal
-
-pub returns-clause-value : goal.returns-clause-value
-returns-clause-value c = masked c.args.entry c.args.i
