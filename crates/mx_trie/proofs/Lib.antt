@@ -71,6 +71,7 @@ pub mod NeedOfChange
 pub mod NeedLaws
 pub mod BuiltRows
 pub mod RootPlaces
-pub mod RootPlaces
 pub mod DomainRegions
 pub mod DomainChanges
+pub mod ListedMaps
+pub mod BuiltTrie
