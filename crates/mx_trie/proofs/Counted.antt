@@ -51,6 +51,14 @@ edges-one first last count test told same is here =
     ∙ (counted_more first first (first + 1) 0 count test told (counted_none first (first + 1) test (omega arith)) (omega arith) is here).count_is
     ∙ ap (λ n. count_from first (n + 1) test) same
 
+-- the one number of a range that has some passes
+pub one-counted : (first last count : ℕ) (test : ℕ → Bool) → first ≡ last → count ≡ count_from first (last + 1) test → 0 < count → test first ≡ true
+one-counted first last count test same is some = by (test first) refl
+  where
+    by : (b : Bool) → test first ≡ b → test first ≡ true
+    by true e = e
+    by false e = absurd (let none = edges-one first last 0 test false same refl (sym e) in omega arith)
+
 pub edges-two : (first last one two : ℕ) (test : ℕ → Bool) (told told' : Bool) → first < last → ((i : ℕ) → first < i → i < last → test i ≡ false) →
     one ≡ bool_byte told → told ≡ test first → two ≡ bool_byte told' → told' ≡ test last → one + two ≡ count_from first (last + 1) test
 edges-two first last one two test told told' less inner is here is' there =

@@ -1,16 +1,17 @@
 -- The frame law of a domain: where its frames stay, it owns the same, and stands for the same maps.
-use Rattle.std.proofs.Common.{◌≡◌, ℕ, ◌<◌, ◌⊎◌, inl, inr, true, List, refl, sym, subst}
+use Rattle.std.proofs.Common.{◌≡◌, ℕ, ◌<◌, ◌⊎◌, inl, inr, true, List, refl, sym, ap, ◌∙◌, subst}
 use Rattle.mx_words.specs.declared.perm.Perm.{Perm}
 use Rattle.mx_words.specs.declared.tables.Kind.{Kind}
+use Rattle.mx_words.proofs.CountingLaws.{count_below_agree, sum_below_agree}
 use Rattle.mx_trie.specs.Leaf.{IsTrieKind}
 use Rattle.mx_trie.specs.Walk.{Frames, most_regions, is_pointer, target, root_place, root_word}
 use Rattle.mx_trie.specs.Heap.{heap}
-use Rattle.mx_trie.specs.Owned.{RegionOwns, RegionsOwn, DomainOwns, IsMidTable, IsRootTable}
+use Rattle.mx_trie.specs.Owned.{RegionOwns, RegionsOwn, DomainOwns, IsMidTable, IsRootTable, region_leaves, region_spills, domain_mids, domain_leaves, domain_spills}
 use Rattle.mx_trie.specs.Shown.{IsRegion, IsDomain}
 use Rattle.mx_trie.proofs.EntryPuts.{IsKept}
 use Rattle.mx_trie.proofs.NodeLaws.{node-kept}
 use Rattle.mx_trie.proofs.PageLines.{word-kept}
-use Rattle.mx_trie.proofs.RegionFrames.{region-owns-same, region-table-kept, region-kept}
+use Rattle.mx_trie.proofs.RegionFrames.{region-owns-same, region-table-kept, region-kept, region_leaves-same, region_spills-same}
 
 module _ (kind : Kind) (upper leaf spill upper' leaf' spill' : Frames) (root : ℕ) (kept : IsKept (DomainOwns kind) upper leaf spill upper' leaf' spill' root) where
   root-word : (x : ℕ) → root_word upper' root x ≡ root_word upper root x
@@ -40,3 +41,17 @@ module _ (kind : Kind) (upper leaf spill upper' leaf' spill' : Frames) (root : �
   domain-kept k m domain x below =
       subst (λ w. IsRegion kind upper' leaf' spill' m x w) (sym (root-word x))
       (region-kept kind upper leaf spill upper' leaf' spill' (root_word upper root x) (regions-stay x below) k m x (domain x below))
+
+  pub domain_mids-same : domain_mids upper root ≡ domain_mids upper' root
+  domain_mids-same =
+      count_below_agree most_regions (λ x. is_pointer (root_word upper root x)) (λ x. is_pointer (root_word upper' root x)) (λ x below. ap is_pointer (sym (root-word x)))
+
+  pub domain_leaves-same : domain_leaves upper root ≡ domain_leaves upper' root
+  domain_leaves-same =
+      sum_below_agree most_regions (λ x. region_leaves upper (root_word upper root x)) (λ x. region_leaves upper' (root_word upper' root x))
+      (λ x below. sym (ap (region_leaves upper') (root-word x) ∙ region_leaves-same kind upper leaf spill upper' leaf' spill' (root_word upper root x) (regions-stay x below)))
+
+  pub domain_spills-same : domain_spills kind upper leaf root ≡ domain_spills kind upper' leaf' root
+  domain_spills-same =
+      sum_below_agree most_regions (λ x. region_spills kind upper leaf (root_word upper root x)) (λ x. region_spills kind upper' leaf' (root_word upper' root x))
+      (λ x below. sym (ap (region_spills kind upper' leaf') (root-word x) ∙ region_spills-same kind upper leaf spill upper' leaf' spill' (root_word upper root x) (regions-stay x below)))

@@ -69,9 +69,11 @@ pub mod SpillCounts
 pub mod NeedOfRange
 pub mod NeedOfChange
 pub mod NeedLaws
-pub mod BuiltRows
+pub mod DomainsChanged
 pub mod RootPlaces
 pub mod DomainRegions
 pub mod DomainChanges
+pub mod StandingNeeds
+pub mod BuiltRows
 pub mod ListedMaps
 pub mod BuiltTrie

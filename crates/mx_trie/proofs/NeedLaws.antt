@@ -1,11 +1,13 @@
 -- What the maps of all domains need in a trie, counted domain by domain.
-use Rattle.std.proofs.Common.{◌≡◌, ℕ, zero, suc, ◌+◌, ◌*◌, ◌/◌, ◌<◌, ◌≤◌, inl, inr, nat_lt, List, [], length, get_or, sum_by, refl, sym, ap, ◌∙◌, arith}
+use Rattle.std.proofs.Common.{◌≡◌, ℕ, zero, suc, ◌+◌, ◌*◌, ◌/◌, ◌<◌, ◌≤◌, inl, inr, nat_lt, List, [], length, get_or, sum_by, refl, sym, ap, ◌∙◌, arith, subst}
 use Rattle.std.proofs.Math.Nat.{suc-mul}
 use Rattle.std.proofs.lemmas.List.{get_or_default}
 use Rattle.mx_words.specs.declared.perm.Perm.{Perm}
 use Rattle.mx_words.specs.declared.tables.Kind.{Kind}
 use Rattle.mx_words.specs.declared.tables.Kind.TheVariants as K
 use Rattle.mx_words.specs.declared.tables.Need.{Need}
+use Rattle.mx_words.specs.Changes.{grant_of}
+use Rattle.mx_words.specs.Newest.{laid}
 use Rattle.mx_words.specs.Counting.{sum_below, list_below}
 use Rattle.mx_words.specs.Runs.{runs, broken_blocks, crowded_lines, is_crowded, whole_line, line_words, page_words}
 use Rattle.mx_words.specs.Reach.{line_at}
@@ -13,11 +15,14 @@ use Rattle.mx_words.specs.Blocks.{block_of}
 use Rattle.mx_words.specs.Need.{need, upper_frames}
 use Rattle.mx_words.proofs.CountingLaws.{count_below_agree, count_below_none, sum_below_agree, list_below_is, sum_by-list_below}
 use Rattle.mx_words.proofs.BlockLaws.{crowded_lines-count}
+use Rattle.mx_words.proofs.BrokenLaws.{crowded_lines-after}
+use Rattle.mx_words.proofs.OverlayLaws.{length-laid}
 use Rattle.mx_table.specs.Tables.{most_words}
 use Rattle.mx_trie.specs.Leaf.{IsTrieKind, needs_spill}
 use Rattle.mx_trie.specs.Walk.{most_lines}
 use Rattle.mx_trie.specs.Laying.{spill_lines}
 use Rattle.mx_trie.specs.After.{IsNeedOf}
+use Rattle.mx_trie.proofs.NeedOfChange.{need-agree}
 
 -- the lines that need a spill word are the crowded ones in packed tables, and none in plain ones
 pub spill_lines-plain : (m : List Perm) → spill_lines K.Multilevel m ≡ 0
@@ -46,9 +51,19 @@ unfolding sum_below
 sum_below-none zero f none = refl
 sum_below-none (suc n) f none = omega (arith, none n, sum_below-none n f none)
 
+-- a permission laid over a range makes at most two more lines need a spill word
+pub spill-two : (kind : Kind) → IsTrieKind kind → (m : List Perm) (first count : ℕ) (p : Perm) → first + count ≤ length m → length m ≤ most_words →
+    spill_lines kind (laid (grant_of first count p) m) ≤ spill_lines kind m + 2
+spill-two K.Segments (inl e) m first count p inside few = absurd (cc)
+spill-two K.Segments (inr e) m first count p inside few = absurd (cc)
+spill-two K.Multilevel k m first count p inside few = omega (arith, spill_lines-plain (laid (grant_of first count p) m))
+spill-two K.Packed k m first count p inside few =
+    let long = length-laid (grant_of first count p) m in
+    omega (arith, crowded_lines-after m first count p inside most_lines few, spill_lines-packed m few, spill_lines-packed (laid (grant_of first count p) m) (omega (arith, long)))
+
 -- the need of a list of maps: a root table per domain and a mid table per broken region, a leaf table per broken page, and a spill word
 -- per line that needs one
-pub need-of-list : (kind : Kind) → IsTrieKind kind → (maps : List (List Perm)) → ((d : ℕ) → d < length maps → length (get_or maps d []) ≤ most_words) →
+need-of-list : (kind : Kind) → IsTrieKind kind → (maps : List (List Perm)) → ((d : ℕ) → d < length maps → length (get_or maps d []) ≤ most_words) →
     IsNeedOf kind (length maps) (λ d. get_or maps d []) (need kind maps)
 need-of-list K.Segments (inl e) maps few = absurd (cc)
 need-of-list K.Segments (inr e) maps few = absurd (cc)
@@ -64,3 +79,20 @@ need-of-list K.Packed k maps few = record {
       ∙ sum_below_agree (length maps) (λ d. crowded_lines (get_or maps d [])) (λ d. spill_lines K.Packed (get_or maps d []))
       (λ d below. sym (spill_lines-packed (get_or maps d []) (few d below)));
 }
+
+pub need-listed : (kind : Kind) → IsTrieKind kind → (n : ℕ) (maps : ℕ → List Perm) (list : List (List Perm)) → length list ≡ n → ((d : ℕ) → d < n → get_or list d [] ≡ maps d) →
+    ((d : ℕ) → d < n → length (maps d) ≤ most_words) → IsNeedOf kind n maps (need kind list)
+need-listed kind k n maps list long at short =
+    need-agree kind n (λ d. get_or list d []) maps (need kind list) at
+    (subst (λ j. IsNeedOf kind j (λ d. get_or list d []) (need kind list)) long
+    (need-of-list kind k list (λ d below. let inside : d < n = omega (arith, long) in subst (λ (m : List Perm). length m ≤ most_words) (sym (at d inside)) (short d inside))))
+
+-- needs with the same parts, as two counts of the same maps are
+pub need-is : (a b : Need) → a.upper ≡ b.upper → a.leaf ≡ b.leaf → a.spill ≡ b.spill → a ≡ b
+need-is a b u l s =
+    ap (λ (i : ℕ). record { upper = i; leaf = a.leaf; spill = a.spill }) u
+    ∙ ap (λ (i : ℕ). record { upper = b.upper; leaf = i; spill = a.spill }) l
+    ∙ ap (λ (i : ℕ). record { upper = b.upper; leaf = b.leaf; spill = i }) s
+
+pub need-same : (kind : Kind) (n : ℕ) (maps : ℕ → List Perm) (a b : Need) → IsNeedOf kind n maps a → IsNeedOf kind n maps b → a ≡ b
+need-same kind n maps a b x y = need-is a b (x.upper ∙ sym y.upper) (x.leaf ∙ sym y.leaf) (x.spill ∙ sym y.spill)

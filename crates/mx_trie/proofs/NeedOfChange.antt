@@ -5,6 +5,8 @@ use Rattle.std.proofs.lemmas.Bool.{lt-ltb, le-ltb, cases_lt}
 use Rattle.mx_words.specs.declared.perm.Perm.{Perm}
 use Rattle.mx_words.specs.declared.tables.Kind.{Kind}
 use Rattle.mx_words.specs.declared.tables.Need.{Need}
+use Rattle.mx_words.specs.Changes.{changed_map, grant_of}
+use Rattle.mx_words.specs.Newest.{laid}
 use Rattle.mx_words.specs.Counting.{sum_below}
 use Rattle.mx_words.specs.Runs.{broken_blocks, page_words, region_words}
 use Rattle.mx_words.specs.Reach.{line_at}
@@ -12,10 +14,30 @@ use Rattle.mx_words.specs.Blocks.{is_broken}
 use Rattle.mx_words.proofs.CountingLaws.{cases_below, count_below-le, sum_below_agree, sum_below_changed}
 use Rattle.mx_words.proofs.BlockLaws.{broken_blocks-count}
 use Rattle.mx_table.specs.Tables.{most_words}
+use Rattle.mx_trie.specs.declared.laying.Laying.{Laying}
 use Rattle.mx_trie.specs.Leaf.{needs_spill}
-use Rattle.mx_trie.specs.Walk.{most_regions, most_pages, most_lines}
-use Rattle.mx_trie.specs.Laying.{spill_lines}
-use Rattle.mx_trie.specs.After.{IsNeedOf, IsNeedWith, IsNeedMoved, IsNeedSmall, maps_until}
+use Rattle.mx_trie.specs.Read.{read_map}
+use Rattle.mx_trie.specs.Walk.{Frames, most_regions, most_pages, most_lines}
+use Rattle.mx_trie.specs.Laying.{spill_lines, laid_by}
+use Rattle.mx_trie.specs.After.{IsNeedOf, IsNeedWith, IsNeedMoved, IsNeedSmall, map_in, maps_until}
+
+-- a map after a change that names its domain, or doesn't
+module _ (kind : Kind) (upper leaf spill : Frames) (root words first count : ℕ) (given : Option Perm) (need : Need) where
+  pub moved-named : (lay : Laying) (need' : Need) → lay.words ≡ words → lay.first ≡ first → lay.end ≡ first + count → given ≡ Some lay.perm →
+      IsNeedMoved kind (map_in kind upper leaf spill root lay) (laid_by lay (map_in kind upper leaf spill root lay)) need need' →
+      IsNeedMoved kind (read_map kind upper leaf spill words root) (changed_map first count given (read_map kind upper leaf spill words root)) need need'
+  moved-named lay need' same from to named moved =
+      let size : lay.end - lay.first ≡ count = omega arith in
+      let m : List Perm = read_map kind upper leaf spill words root in
+      let is : laid_by lay m ≡ changed_map first count given m =
+      ap (λ n. laid (grant_of lay.first n lay.perm) m) size ∙ ap (λ n. laid (grant_of n count lay.perm) m) from ∙ sym (ap (λ (o : Option Perm). changed_map first count o m) named) in
+      subst (λ (n : List Perm). IsNeedMoved kind m n need need') is
+      (subst (λ n. IsNeedMoved kind (read_map kind upper leaf spill n root) (laid_by lay (read_map kind upper leaf spill n root)) need need') same moved)
+
+  pub moved-unnamed : given ≡ None → IsNeedMoved kind (read_map kind upper leaf spill words root) (changed_map first count given (read_map kind upper leaf spill words root)) need need
+  moved-unnamed named =
+      let m : List Perm = read_map kind upper leaf spill words root in
+      subst (λ (o : Option Perm). IsNeedMoved kind m (changed_map first count o m) need need) (sym named) (record { upper = refl; leaf = refl; spill = refl })
 
 -- a summand, and the greatest sum
 sum-part : (n k : ℕ) (f : ℕ → ℕ) → k < n → f k ≤ sum_below n f
@@ -36,12 +58,18 @@ module _ (old new : ℕ → List Perm) where
   until-new row d below = ap (λ (b : Bool). if b then new d else old d) (lt-ltb d row below)
 
   pub until-old : (row d : ℕ) → row ≤ d → maps_until row old new d ≡ old d
-  until-old row d from = ap (λ (b : Bool). if b then new d else old d) (le-ltb row d from)
+  until-old row d from = ap (λ (b : Bool). if b then new d else old d) (le-ltb d row from)
 
   pub until-next : (row d : ℕ) → d ≢ row → maps_until row old new d ≡ maps_until (row + 1) old new d
   until-next row d ne = elim (cases_lt d row) [
     | inl h ↦ until-new row d h ∙ sym (until-new (row + 1) d (omega arith))
     | inr h ↦ until-old row d h ∙ sym (until-old (row + 1) d (omega arith))
+  ]
+
+  pub until-short : (most row d : ℕ) → length (old d) ≤ most → length (new d) ≤ most → length (maps_until row old new d) ≤ most
+  until-short most row d few few' = elim (cases_lt d row) [
+    | inl h ↦ rw (until-new row d h) few'
+    | inr h ↦ rw (until-old row d h) few
   ]
 
 module _ (kind : Kind) (n : ℕ) where

@@ -1,14 +1,17 @@
 -- What is counted to tell a need after a change without making it.
-use Rattle.std.specs.Prelude.{◌≡◌, ℕ, ◌+◌, ◌-◌, ◌/◌, ◌≤◌, Bool, true, nat_lt, if◌then◌else◌, min, max, List}
+use Rattle.std.specs.Prelude.{◌≡◌, ℕ, ◌+◌, ◌-◌, ◌*◌, ◌/◌, ◌≤◌, Bool, true, nat_lt, if◌then◌else◌, min, max, List}
 use Rattle.mx_words.specs.declared.perm.Perm.{Perm}
 use Rattle.mx_words.specs.declared.tables.Kind.{Kind}
 use Rattle.mx_words.specs.declared.tables.Need.{Need}
 use Rattle.mx_words.specs.Counting.{count_below, sum_below}
 use Rattle.mx_words.specs.Runs.{broken_blocks, page_words, region_words}
+use Rattle.mx_words.specs.Reach.{line_at}
+use Rattle.mx_words.specs.Blocks.{is_broken}
 use Rattle.mx_pool.specs.Frames.{IsTaken}
 use Rattle.mx_trie.specs.declared.laying.Laying.{Laying}
 use Rattle.mx_trie.specs.Walk.{Frames, target, root_word, has_mid}
 use Rattle.mx_trie.specs.Read.{read_map}
+use Rattle.mx_trie.specs.Leaf.{needs_spill}
 use Rattle.mx_trie.specs.Laying.{spill_lines}
 
 -- how many of the numbers from..to - 1 pass a test, and of those that lie among `count` numbers from `first` on
@@ -38,6 +41,12 @@ pub record IsNeedOf (kind : Kind) (n : ℕ) (maps : ℕ → List Perm) (need : N
   pub upper : need.upper ≡ n + sum_below n (λ d. broken_blocks region_words (maps d))
   pub leaf : need.leaf ≡ sum_below n (λ d. broken_blocks page_words (maps d))
   pub spill : need.spill ≡ sum_below n (λ d. spill_lines kind (maps d))
+
+-- what the blocks that meet a range need by a map
+pub record IsRangeNeed (kind : Kind) (lay : Laying) (m : List Perm) (need : Need) : Type 0 where
+  pub upper : need.upper ≡ count_from (lay.first / region_words) ((lay.end - 1) / region_words + 1) (is_broken region_words m)
+  pub leaf : need.leaf ≡ count_from (lay.first / page_words) ((lay.end - 1) / page_words + 1) (is_broken page_words m)
+  pub spill : need.spill ≡ count_from (lay.first / 16) ((lay.end - 1) / 16 + 1) (λ z. needs_spill kind (line_at m (z * 16)))
 
 -- a need with a part for a map m
 pub record IsNeedWith (kind : Kind) (m : List Perm) (need : Need) : Type 0 where

@@ -14,9 +14,10 @@ ghost use Rattle.mx_trie.specs.Leaf.{needs_spill};
 ghost use Rattle.mx_trie.specs.Walk.{Frames, most_regions, most_pages, most_lines, is_pointer, root_word, has_leaf};
 ghost use Rattle.mx_trie.specs.Shown.{AreLines, IsDomain};
 ghost use Rattle.mx_trie.specs.Laying.{spill_lines, laid_by, IsLaid};
+ghost use Rattle.mx_trie.specs.Read.{read_map};
 ghost use Rattle.mx_trie.specs.Standing.{map_at, IsRead, IsTables};
 ghost use Rattle.mx_trie.specs.After.{
-    count_from, count_within, IsPathTaken, IsNeedOf, IsNeedWith, IsNeedSmall, IsNeedMoved, map_in,
+    count_from, count_within, IsPathTaken, IsNeedOf, IsRangeNeed, IsNeedWith, IsNeedSmall, IsNeedMoved, map_in,
 };
 
 use crate::change::laying_of;
@@ -224,6 +225,74 @@ fn is_one_broken(lay: &Laying, broken: u32) -> bool
     broken > 0 && lay.first / PAGE_WORDS == (lay.end - 1) / PAGE_WORDS
 }
 
+/// What the blocks that meet the range need before a change: the tables and spill words that they have.
+fn need_in_range<L: LeafForm>(upper: &Pool<1024>, leaf: &Pool<64>, root: u32, lay: &Laying) -> Need
+    requires read { (spill : Frames) × IsRead L.kind lay.now.words upper.now leaf.now spill root }
+    ensures { (spill : Frames) (m : List Perm) → IsDomain L.kind upper.now leaf.now spill m root →
+        IsRangeNeed L.kind lay.now m result }
+{
+    let last = lay.end - 1;
+    Need {
+        upper: regions_opened(
+            upper,
+            root,
+            lay.first / REGION_WORDS,
+            last / REGION_WORDS + 1,
+        ),
+        leaf: pages_opened(upper, root, lay.first / PAGE_WORDS, last / PAGE_WORDS + 1),
+        spill: pages_spilled::<L>(upper, leaf, root, lay),
+    }
+}
+
+/// What they need afterwards, which is what those at the range's two edges need.
+fn need_at_edges<L: LeafForm, V: View>(new: &V, lay: &Laying) -> Need
+    requires lawful { V.lawful new.now }
+    requires laid { IsLaid (V.map new.now) lay.now }
+    ensures need { IsRangeNeed L.kind lay.now (V.map new.now) result }
+    ensures few { IsNeedSmall result }
+{
+    let leaf = pages_broken_at_edges(new, lay);
+    Need {
+        upper: regions_broken_at_edges(new, lay, is_one_broken(lay, leaf)),
+        leaf,
+        spill: lines_crowded_at_edges::<L, V>(new, lay),
+    }
+}
+
+/// A need with one part of it in place of another.
+fn need_moved(need: Need, before: Need, after: Need) -> Need
+    requires upper { before.upper ≤ need.upper + after.upper }
+    requires leaf { before.leaf ≤ need.leaf + after.leaf }
+    requires spill { before.spill ≤ need.spill + after.spill }
+    requires few { IsNeedSmall need }
+    requires few_after { IsNeedSmall after }
+    ensures upper { result.upper + before.upper ≡ need.upper + after.upper }
+    ensures leaf { result.leaf + before.leaf ≡ need.leaf + after.leaf }
+    ensures spill { result.spill + before.spill ≡ need.spill + after.spill }
+{
+    Need {
+        upper: need.upper + after.upper - before.upper,
+        leaf: need.leaf + after.leaf - before.leaf,
+        spill: need.spill + after.spill - before.spill,
+    }
+}
+
+/// The map of a view with a permission laid over a range.
+fn laid_over<'a, V: View>(old: &'a V, lay: &Laying) -> ChangedView<'a, V>
+    requires lawful { V.lawful old.now }
+    requires long { length (V.map old.now) ≡ lay.now.words }
+    ensures lawful { ⟦<ChangedView<'static, V> as View>⟧.lawful result }
+    ensures map { ⟦<ChangedView<'static, V> as View>⟧.map result ≡ laid_by lay.now (V.map old.now) }
+    ensures laid { IsLaid (⟦<ChangedView<'static, V> as View>⟧.map result) lay.now }
+{
+    ChangedView {
+        under: old,
+        first: lay.first,
+        count: lay.end - lay.first,
+        perm: lay.perm,
+    }
+}
+
 /// What all maps need after a permission is laid over a range of the domain with a root table, where `need` is what they need before.
 fn need_laid<L: LeafForm>(
     upper: &Pool<1024>,
@@ -243,27 +312,35 @@ fn need_laid<L: LeafForm>(
     if has_perm(&old, lay.first, lay.end, lay.perm) {
         return need;
     }
-    let new = ChangedView {
-        under: &old,
-        first: lay.first,
-        count: lay.end - lay.first,
-        perm: lay.perm,
-    };
-    let last = lay.end - 1;
-    let broken = pages_broken_at_edges(&new, lay);
-    let odd = is_one_broken(lay, broken);
-    Need {
-        upper: need.upper + regions_broken_at_edges(&new, lay, odd)
-            - regions_opened(
-                upper,
-                root,
-                lay.first / REGION_WORDS,
-                last / REGION_WORDS + 1,
-            ),
-        leaf: need.leaf + broken
-            - pages_opened(upper, root, lay.first / PAGE_WORDS, last / PAGE_WORDS + 1),
-        spill: need.spill + lines_crowded_at_edges::<L, _>(&new, lay)
-            - pages_spilled::<L>(upper, leaf, root, lay),
+    let new = laid_over(&old, lay);
+    let before = need_in_range::<L>(upper, leaf, root, lay);
+    let after = need_at_edges::<L, _>(&new, lay);
+    need_moved(need, before, after)
+}
+
+/// What all maps need after a change of one domain's map, where `need` is what they need before.
+fn need_changed<L: LeafForm>(
+    upper: &Pool<1024>,
+    leaf: &Pool<64>,
+    spill: &Pool<1>,
+    root: u32,
+    words: u32,
+    row: u32,
+    change: &Change,
+    need: Need,
+) -> Need
+    requires read { IsRead L.kind words upper.now leaf.now spill.now root }
+    requires row { row < 63 }
+    requires some { 0 < change.now.count }
+    requires inside { change.now.first + change.now.count ≤ words }
+    requires part { IsNeedWith L.kind (read_map L.kind upper.now leaf.now spill.now words root) need }
+    requires few { IsNeedSmall need }
+    ensures { let m = read_map L.kind upper.now leaf.now spill.now words root in
+        IsNeedMoved L.kind m (changed_map change.now.first change.now.count (given change.now (row + 1)) m) need result }
+{
+    match laying_of(words, row, change) {
+        Some(lay) => need_laid::<L>(upper, leaf, spill, root, &lay, need),
+        None => need,
     }
 }
 
@@ -289,9 +366,7 @@ pub(crate) fn need_after<L: LeafForm>(
 {
     let mut need = need;
     for row in 0..roots.count() {
-        if let Some(lay) = laying_of(words, row, change) {
-            need = need_laid::<L>(upper, leaf, spill, roots.at(row), &lay, need);
-        }
+        need = need_changed::<L>(upper, leaf, spill, roots.at(row), words, row, change, need);
     }
     need
 }

@@ -1,7 +1,8 @@
 //! Tables of permissions as tries.
-ghost use Rattle.std.specs.Prelude.{◌≡◌, ℕ, ◌+◌, ◌-◌, ◌<◌, ◌≤◌, List, length, All, IsTrue, IfOk};
+ghost use Rattle.std.specs.Prelude.{◌≡◌, ℕ, ◌+◌, ◌-◌, ◌*◌, ◌<◌, ◌≤◌, true, List, length, All, IsTrue, IfOk};
 ghost use Rattle.std.specs.Prelude.{map as list_map};
 ghost use Rattle.mx_words.specs.Need.{within, fits};
+ghost use Rattle.mx_pool.specs.Frames.{free_in};
 ghost use Rattle.mx_table.specs.Tables.{most_words, most_modules, map_of, IsRow, IsLimit, row_map};
 ghost use Rattle.mx_trie.specs.Read.{read_maps};
 ghost use Rattle.mx_trie.specs.Standing.{IsStanding};
@@ -59,6 +60,20 @@ impl<L: LeafForm> Trie<L> {
             self.roots.get(domain),
             word,
         )
+    }
+
+    /// Whether any change fits: whether each pool has four free frames for each domain, two that a change may take, and two that aren't
+    /// counted as room.
+    fn is_spacious(&self) -> bool
+        ensures upper { result ≡ true → 4 * length self.now.roots ≤ free_in self.now.upper }
+        ensures leaf { result ≡ true → 4 * length self.now.roots ≤ free_in self.now.leaf }
+        ensures spill { result ≡ true → 0 < L.REACH → 4 * length self.now.roots ≤ free_in self.now.spill }
+    {
+        let four = 4 * self.roots.count();
+        if four > self.upper.free_frames() || four > self.leaf.free_frames() {
+            return false;
+        }
+        L::REACH == 0 || four <= self.spill.free_frames()
     }
 }
 
@@ -143,6 +158,9 @@ impl<L: LeafForm> PermTables for Trie<L> {
     }
 
     fn fits(&self, change: &Change) -> bool {
+        if self.is_spacious() {
+            return true;
+        }
         let need = need_after::<L>(
             &self.upper,
             &self.leaf,
