@@ -18,7 +18,8 @@ use Rattle.mx_trie.specs.After.{IsNeedOf}
 use Rattle.mx_trie.specs.Standing.{IsStanding}
 use Rattle.mx_trie.specs.Built.{rows_map, IsRoomFor, AreDomainsBuilt}
 use Rattle.mx_trie.proofs.BuiltRows.{length-row}
-use Rattle.mx_trie.proofs.ListedMaps.{need-same, need-told, read-as}
+use Rattle.mx_trie.proofs.NeedLaws.{need-listed, need-same}
+use Rattle.mx_trie.proofs.ListedMaps.{read-as}
 
 -- frames of which none is taken
 fresh-length : (frames : Frames) (n : ℕ) → frames ≡ replicate n None → length frames ≡ n
@@ -35,7 +36,7 @@ module _ (kind : Kind) (k : IsTrieKind kind) (words : ℕ) (few : words ≤ most
 
   told : IsNeedOf kind (length rows) (rows_map words rows) (need kind (list_map (row_map words) rows))
   told =
-      need-told kind (length rows) (rows_map words rows) (list_map (row_map words) rows) (length-map rows (row_map words)) rows-at k
+      need-listed kind k (length rows) (rows_map words rows) (list_map (row_map words) rows) (length-map rows (row_map words)) rows-at
       (λ d below. omega (arith, few, length-row words (get_or rows d [])))
 
   -- what is told by the rows is the need of their maps
@@ -65,7 +66,8 @@ module _ (kind : Kind) (k : IsTrieKind kind) (words : ℕ) (few : words ≤ most
     module _ (upper' leaf' spill' : Frames) (roots : List ℕ) (built : AreDomainsBuilt kind words (length rows) (rows_map words rows) upper leaf spill upper' leaf' spill' roots) where
       pub rows-read : read_maps kind upper' leaf' spill' words roots ≡ list_map (row_map words) rows
       rows-read =
-          read-as kind (length rows) (rows_map words rows) (list_map (row_map words) rows) (length-map rows (row_map words)) rows-at words upper' leaf' spill' roots built.count built.read
+          read-as kind words upper' leaf' spill' roots (list_map (row_map words) rows) (length-map rows (row_map words) ∙ sym built.count)
+          (λ d below. let inside : d < length rows = omega (arith, built.count, below) in built.read d inside ∙ sym (rows-at d inside))
 
       pub rows-stand : 1 ≤ words → 1 ≤ length rows → length rows ≤ most_modules → IsLimit limit → IsStanding kind upper' leaf' spill' roots words limit
       rows-stand some_words some_rows few_rows limited =
