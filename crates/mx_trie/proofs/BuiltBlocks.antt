@@ -1,5 +1,5 @@
 -- Lines, pages, regions and domains built for a map: the laws of BuiltTables at each level, and the frames that they take.
-use Rattle.std.proofs.Common.{◌≡◌, ◌≢◌, ℕ, zero, suc, ◌+◌, ◌-◌, ◌*◌, ◌/◌, ◌<◌, ◌≤◌, Bool, true, false, List, [], length, if◌then◌else◌, Option, Some, None, IsSome, is_some, refl, sym, ap, ◌∙◌, subst, arith}
+use Rattle.std.proofs.Common.{◌≡◌, ◌≢◌, ℕ, zero, suc, ◌+◌, ◌-◌, ◌*◌, ◌/◌, ◌<◌, ◌≤◌, Bool, true, false, List, [], length, None, IsSome, refl, sym, ap, ◌∙◌, subst, arith}
 use Rattle.mx_words.specs.declared.perm.Perm.{Perm}
 use Rattle.mx_words.specs.declared.tables.Kind.{Kind}
 use Rattle.mx_words.specs.Blocks.{is_broken, IsEven, block_of}
@@ -10,13 +10,11 @@ use Rattle.mx_words.specs.Runs.{page_words, region_words, is_eighth_uniform}
 use Rattle.mx_words.proofs.BlockLaws.{even_from}
 use Rattle.mx_words.proofs.CountingLaws.{sum_below-zero, sum_below-more}
 use Rattle.mx_pool.specs.Frames.{frame_at, IsTaken, word_at, free_in}
-use Rattle.mx_trie.specs.Leaf.{IsTrieKind, needs_spill, spill_number}
+use Rattle.mx_trie.specs.Leaf.{IsTrieKind, needs_spill}
 use Rattle.mx_trie.specs.Walk.{Frames, is_pointer, target, root_place, root_word, map_left, map_right}
 use Rattle.mx_trie.specs.Heap.{heap}
-use Rattle.mx_trie.specs.Owned.{LineOwns, PlacesOwn, IsLeafTable}
-use Rattle.mx_trie.specs.Shown.{IsLine, IsPage}
 use Rattle.mx_trie.specs.Steps.{IsPlaceWritten}
-use Rattle.mx_trie.specs.Built.{line_crowd, page_crowd, region_crowd, region_broken, AreTaken, Pools, pools, heap_of, LinesOwn, LineStands, PagesOwning, PageStands, RegionsOwning, RegionStands, DomainsOwning, DomainStands, Own, IsBuilt, AreBuilt, IsLineBuilt, AreLinesBuilt, IsPageBuilt, ArePagesBuilt, IsRegionBuilt, AreRegionsBuilt}
+use Rattle.mx_trie.specs.Built.{line_crowd, page_crowd, region_crowd, region_broken, AreTaken, pools, LinesOwn, LineStands, PagesOwning, PageStands, RegionsOwning, RegionStands, DomainsOwning, DomainStands, Own, IsLineBuilt, AreLinesBuilt, IsPageBuilt, ArePagesBuilt, IsRegionBuilt, AreRegionsBuilt}
 use Rattle.mx_trie.proofs.LineChanges.{IsEntryMade, entry-stays, entry-fresh, entry-taken, entry-shown}
 use Rattle.mx_trie.proofs.PageLines.{word-kept, line-kept}
 use Rattle.mx_trie.proofs.PageTables.{even-of, vector-closed}

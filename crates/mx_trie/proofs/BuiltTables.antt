@@ -3,7 +3,7 @@ use Rattle.std.proofs.Common.{◌≡◌, ◌≢◌, ℕ, zero, suc, ◌+◌, ◌
 use Rattle.mx_words.proofs.CountingLaws.{cases_below}
 use Rattle.mx_pool.specs.Frames.{frame_at}
 use Rattle.mx_trie.specs.Walk.{Frames}
-use Rattle.mx_trie.specs.Heap.{Heap, heap, IsFamily, IsNode}
+use Rattle.mx_trie.specs.Heap.{Heap, heap, IsNode}
 use Rattle.mx_trie.specs.Built.{Pools, heap_of, Owning, Standing, IsBuilt, AreBuilt, Own}
 use Rattle.mx_trie.proofs.HeapLaws.{taken-on}
 
