@@ -107,12 +107,13 @@ module _ (kind : Kind) (k : IsTrieKind kind) (maps : ℕ → List Perm) (upper l
       one : IsBuilt (DomainsOwning kind) (DomainStands kind maps) (pools upper' leaf' spill') (pools upper'' leaf'' spill'') n root
       one =
           table-built (RegionsOwning kind) (DomainsOwning kind) (RegionStands kind m) (DomainStands kind maps) (pools upper' leaf' spill') (pools upper'' leaf'' spill'') (Own 0 root) (λ x. x) most_regions
-          (root_word upper'' root) n root domain.built (λ a g own. own)
-          (record {
-            node = are-node (RegionsOwning kind) (RegionStands kind m) (pools upper' leaf' spill') (pools upper'' leaf'' spill'') 0 root (λ x. x) most_regions (root_word upper'' root) domain.built;
-            tables = λ x below. (domain.built.stand x below).0;
-          },
-          subst (λ (p : List Perm). IsDomain kind upper'' leaf'' spill'' p root) is (λ x below. (domain.built.stand x below).1))
+          (root_word upper'' root) n root domain.built (λ a g own. own) (
+            record {
+              node = are-node (RegionsOwning kind) (RegionStands kind m) (pools upper' leaf' spill') (pools upper'' leaf'' spill'') 0 root (λ x. x) most_regions (root_word upper'' root) domain.built;
+              tables = λ x below. (domain.built.stand x below).0;
+            },
+            subst (λ (p : List Perm). IsDomain kind upper'' leaf'' spill'' p root) is (λ x below. (domain.built.stand x below).1),
+          )
 
       pub rows-more : (roots' : List ℕ) → roots' ≡ roots ++ root ∷ [] → AreRowsBuilt kind maps upper leaf spill upper'' leaf'' spill'' roots' (n + 1)
       rows-more roots' pushed = record {
