@@ -21,17 +21,19 @@ use Rattle.mx_trie.specs.Walk.{Frames, most_regions, most_pages, most_lines}
 use Rattle.mx_trie.specs.Laying.{spill_lines, laid_by}
 use Rattle.mx_trie.specs.After.{IsNeedOf, IsNeedWith, IsNeedMoved, IsNeedSmall, map_in, maps_until}
 
--- a map after a change that names its domain, or doesn't
+-- a map after a change that names its domain
+pub laid-named : (first count : ℕ) (given : Option Perm) (m : List Perm) (lay : Laying) → lay.first ≡ first → lay.end ≡ first + count → given ≡ Some lay.perm → laid_by lay m ≡ changed_map first count given m
+laid-named first count given m lay from to named =
+    let size : lay.end - lay.first ≡ count = omega arith in
+    ap (λ n. laid (grant_of lay.first n lay.perm) m) size ∙ ap (λ n. laid (grant_of n count lay.perm) m) from ∙ sym (ap (λ (o : Option Perm). changed_map first count o m) named)
+
 module _ (kind : Kind) (upper leaf spill : Frames) (root words first count : ℕ) (given : Option Perm) (need : Need) where
   pub moved-named : (lay : Laying) (need' : Need) → lay.words ≡ words → lay.first ≡ first → lay.end ≡ first + count → given ≡ Some lay.perm →
       IsNeedMoved kind (map_in kind upper leaf spill root lay) (laid_by lay (map_in kind upper leaf spill root lay)) need need' →
       IsNeedMoved kind (read_map kind upper leaf spill words root) (changed_map first count given (read_map kind upper leaf spill words root)) need need'
   moved-named lay need' same from to named moved =
-      let size : lay.end - lay.first ≡ count = omega arith in
       let m : List Perm = read_map kind upper leaf spill words root in
-      let is : laid_by lay m ≡ changed_map first count given m =
-      ap (λ n. laid (grant_of lay.first n lay.perm) m) size ∙ ap (λ n. laid (grant_of n count lay.perm) m) from ∙ sym (ap (λ (o : Option Perm). changed_map first count o m) named) in
-      subst (λ (n : List Perm). IsNeedMoved kind m n need need') is
+      subst (λ (n : List Perm). IsNeedMoved kind m n need need') (laid-named first count given m lay from to named)
       (subst (λ n. IsNeedMoved kind (read_map kind upper leaf spill n root) (laid_by lay (read_map kind upper leaf spill n root)) need need') same moved)
 
   pub moved-unnamed : given ≡ None → IsNeedMoved kind (read_map kind upper leaf spill words root) (changed_map first count given (read_map kind upper leaf spill words root)) need need
