@@ -1,7 +1,7 @@
 -- What all maps need after a change, counted on from what they need before it, one domain after the other.
 use Rattle.std.proofs.Common.{◌≡◌, ◌≢◌, ℕ, zero, suc, ◌+◌, ◌-◌, ◌*◌, ◌<◌, ◌≤◌, ◌⊎◌, inl, inr, Bool, nat_lt, if◌then◌else◌, List, length, Option, Some, None, refl, sym, ap, ◌∙◌, arith, subst}
 use Rattle.std.proofs.Math.Nat.{suc-mul}
-use Rattle.std.proofs.lemmas.Bool.{lt-ltb, le-ltb, cases_lt}
+use Rattle.std.proofs.lemmas.Bool.{lt-ltb, le-ltb, cases_lt, cases_eq}
 use Rattle.mx_words.specs.declared.perm.Perm.{Perm}
 use Rattle.mx_words.specs.declared.tables.Kind.{Kind}
 use Rattle.mx_words.specs.declared.tables.Need.{Need}
@@ -73,6 +73,16 @@ module _ (old new : ℕ → List Perm) where
     | inl h ↦ rw (until-new row d h) few'
     | inr h ↦ rw (until-old row d h) few
   ]
+
+-- the map of domain `row` is changed, and domain d's map is known
+pub maps-next : (first count : ℕ) (given : ℕ → Option Perm) (old now now' : ℕ → List Perm) (row d : ℕ) → let new = λ (e : ℕ). changed_map first count (given (e + 1)) (old e) in
+    now d ≡ maps_until row old new d → now' row ≡ changed_map first count (given (row + 1)) (now row) → (d ≢ row → now' d ≡ now d) → now' d ≡ maps_until (row + 1) old new d
+maps-next first count given old now now' row d was changed same = elim (cases_eq d row) [
+  | inl h ↦ (let new : ℕ → List Perm = λ e. changed_map first count (given (e + 1)) (old e) in
+      let before : now row ≡ old row = ap now (sym h) ∙ was ∙ ap (maps_until row old new) h ∙ until-old old new row row (omega arith) in
+      ap now' h ∙ changed ∙ ap (changed_map first count (given (row + 1))) before ∙ sym (until-new old new (row + 1) row (omega arith)) ∙ ap (maps_until (row + 1) old new) (sym h))
+  | inr h ↦ same h ∙ was ∙ until-next old (λ e. changed_map first count (given (e + 1)) (old e)) row d h
+]
 
 module _ (kind : Kind) (n : ℕ) where
   pub need-agree : (maps maps' : ℕ → List Perm) (need : Need) → ((d : ℕ) → d < n → maps d ≡ maps' d) → IsNeedOf kind n maps need → IsNeedOf kind n maps' need
