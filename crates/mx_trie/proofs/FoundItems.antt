@@ -1,18 +1,14 @@
 -- What a walk's end gives, put together from its parts.
-use Rattle.std.proofs.Common.{◌≡◌, ℕ, ◌+◌, ◌-◌, ◌*◌, ◌/◌, ◌%◌, ◌<◌, inl, inr, Bool, true, false, min, List, length, if◌then◌else◌, refl, sym, ap, ◌∙◌, arith}
+use Rattle.std.proofs.Common.{◌≡◌, ℕ, ◌+◌, ◌-◌, ◌*◌, ◌/◌, ◌%◌, ◌<◌, min, List, length, refl, sym, ap, ◌∙◌, arith}
 use Rattle.mx_words.specs.declared.perm.Perm.{Perm}
 use Rattle.mx_words.specs.declared.perm.Span.{Span}
 use Rattle.mx_words.specs.declared.tables.Kind.{Kind}
-use Rattle.mx_words.specs.declared.tables.Kind.TheVariants as K
-use Rattle.mx_words.specs.declared.tables.Level.{Level}
 use Rattle.mx_words.specs.declared.tables.Level.TheVariants as L
-use Rattle.mx_words.specs.declared.tables.Shown.{Shown}
-use Rattle.mx_words.specs.Rights.{number, same, perm_at}
-use Rattle.mx_words.specs.Runs.{runs_of, line_words, page_words, region_words}
-use Rattle.mx_words.specs.Reach.{level, span, span_at, stored, stored_at, line_at, line_entry, first_in, block_span, left_reach, packed, mini_entry, vector, shown_block}
+use Rattle.mx_words.specs.Rights.{number, perm_at}
+use Rattle.mx_words.specs.Runs.{page_words, region_words}
+use Rattle.mx_words.specs.Reach.{level, span, span_at, first_in, block_span}
 use Rattle.mx_trie.specs.Digits.{digit}
-use Rattle.mx_trie.specs.Leaf.{IsTrieKind, IsEntry, packed_entry}
-use Rattle.mx_trie.specs.Found.{IsVector, IsLeaf}
+use Rattle.mx_trie.specs.Found.{IsVector}
 use Rattle.mx_words.proofs.NumberLaws.{number-one_to_one}
 use Rattle.mx_trie.proofs.FoundSpans.{vector-digit}
 

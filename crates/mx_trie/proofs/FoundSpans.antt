@@ -1,17 +1,15 @@
 -- The span and the item that a walk's end gives are those of the map.
-use Rattle.std.proofs.Common.{◌≡◌, ◌≢◌, ℕ, ◌+◌, ◌-◌, ◌*◌, ◌/◌, ◌<◌, ◌≤◌, ◌⊎◌, inl, inr, ◌==◌, Bool, true, false, min, List, length, take, drop, if◌then◌else◌, sym, ap, ◌∙◌, arith, eq-eqb, length-drop, length-take}
+use Rattle.std.proofs.Common.{◌≡◌, ◌≢◌, ℕ, ◌+◌, ◌-◌, ◌*◌, ◌/◌, ◌<◌, ◌≤◌, ◌⊎◌, inl, inr, ◌==◌, Bool, true, false, min, List, length, if◌then◌else◌, sym, ap, ◌∙◌, arith}
 use Rattle.std.proofs.Math.Nat.{mul_comm}
-use Rattle.std.proofs.lemmas.Bool.{ne_eqb}
 use Rattle.std.proofs.lemmas.Bool.Decides.{eqb_tells}
 use Rattle.std.proofs.lemmas.List.FromFn.{get_or-map-range_with_len}
-use Rattle.std.proofs.lemmas.List.Sums.{suffix_len-le-length, prefix_len-le-length}
 use Rattle.mx_words.specs.declared.perm.Perm.{Perm}
 use Rattle.mx_words.specs.declared.perm.Perm.TheVariants as P
 use Rattle.mx_words.specs.declared.perm.Span.{Span}
 use Rattle.mx_words.specs.declared.tables.Kind.{Kind}
 use Rattle.mx_words.specs.declared.tables.Kind.TheVariants as K
 use Rattle.mx_words.specs.declared.tables.Level.TheVariants as L
-use Rattle.mx_words.specs.Rights.{number, same, perm_at}
+use Rattle.mx_words.specs.Rights.{number, perm_at}
 use Rattle.mx_words.specs.Runs.{line_words}
 use Rattle.mx_words.specs.Reach.{level, span, span_at, span_within, line_span, line_at, first_in, left_reach, right_reach, reached, packed, eighths}
 use Rattle.mx_words.proofs.NumberLaws.{shift-first}

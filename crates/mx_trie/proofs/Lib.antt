@@ -77,3 +77,6 @@ pub mod StandingNeeds
 pub mod NeedLaws
 pub mod BuiltRows
 pub mod RootPlaces
+pub mod RootPlaces
+pub mod DomainRegions
+pub mod DomainChanges

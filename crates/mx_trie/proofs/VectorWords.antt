@@ -1,17 +1,14 @@
 -- The words of a page and of a region that have a vector, by the vector's digits.
-use Rattle.std.proofs.Common.{◌≡◌, ℕ, ◌+◌, ◌*◌, ◌/◌, ◌%◌, ◌<◌, false, List, refl, sym, ap, ◌∙◌, arith}
-use Rattle.std.proofs.lemmas.Bool.{not-false}
+use Rattle.std.proofs.Common.{◌≡◌, ℕ, ◌+◌, ◌*◌, ◌/◌, ◌%◌, false, List, refl, sym, ap, ◌∙◌, arith}
 use Rattle.mx_words.specs.declared.perm.Perm.{Perm}
 use Rattle.mx_words.specs.declared.tables.Kind.{Kind}
 use Rattle.mx_words.specs.Rights.{number, perm_at}
-use Rattle.mx_words.specs.Runs.{is_eighth_uniform, page_words, region_words}
-use Rattle.mx_words.specs.Blocks.{block_of, IsEven}
-use Rattle.mx_words.proofs.BlockLaws.{even_from}
 use Rattle.mx_trie.specs.Digits.{digit}
 use Rattle.mx_trie.specs.Walk.{Frames, is_pointer}
 use Rattle.mx_trie.specs.Shown.{IsPage, IsRegion}
 use Rattle.mx_trie.proofs.FlatLaws.{vector-part}
 use Rattle.mx_trie.proofs.PageTables.{even-of}
+use Rattle.mx_trie.proofs.RegionTables.{region-even-of}
 
 module _ (kind : Kind) (upper leaf spill : Frames) (m : List Perm) (b entry : ℕ) (closed : is_pointer entry ≡ false) where
   pub page-word : IsPage kind leaf spill m b entry → (i : ℕ) → i / 1024 ≡ b → digit (entry / 4) (i / 128 % 8) ≡ number (perm_at m i)
@@ -20,11 +17,8 @@ module _ (kind : Kind) (upper leaf spill : Frames) (m : List Perm) (b entry : �
       vector-part 1024 128 m b (i / 128 % 8) (i % 128) entry refl (omega arith) (omega arith) (omega arith) (even-of m b (sym page.broken ∙ closed)) (page.vector_is closed)
       ∙ ap (λ n. number (perm_at m n)) here
 
-  pub region-even : IsRegion kind upper leaf spill m b entry → IsEven m (b * region_words) 131072
-  region-even region = even_from 1048576 131072 m b refl refl (omega arith) (not-false (is_eighth_uniform region_words (block_of region_words m b)) (sym region.broken ∙ closed))
-
   pub region-word : IsRegion kind upper leaf spill m b entry → (i : ℕ) → i / 1048576 ≡ b → digit (entry / 4) (i / 131072 % 8) ≡ number (perm_at m i)
   region-word region i at =
       let here : b * 1048576 + i / 131072 % 8 * 131072 + i % 131072 ≡ i = omega arith in
-      vector-part 1048576 131072 m b (i / 131072 % 8) (i % 131072) entry refl (omega arith) (omega arith) (omega arith) (region-even region) (region.vector_is closed)
+      vector-part 1048576 131072 m b (i / 131072 % 8) (i % 131072) entry refl (omega arith) (omega arith) (omega arith) (region-even-of m b (sym region.broken ∙ closed)) (region.vector_is closed)
       ∙ ap (λ n. number (perm_at m n)) here

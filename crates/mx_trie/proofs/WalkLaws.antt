@@ -1,5 +1,5 @@
 -- What a walk for a word finds in tables that stand for their map.
-use Rattle.std.proofs.Common.{◌≡◌, ◌≢◌, ℕ, ◌+◌, ◌*◌, ◌/◌, ◌%◌, ◌^◌, ◌<◌, ◌≤◌, inl, inr, Bool, true, false, nat_lt, not, List, [], length, Some, None, is_some, if◌then◌else◌, refl, sym, ap, ◌∙◌, arith, lt-ltb, subst}
+use Rattle.std.proofs.Common.{◌≡◌, ◌≢◌, ℕ, ◌*◌, ◌/◌, ◌%◌, ◌^◌, ◌<◌, ◌≤◌, inl, inr, Bool, true, false, nat_lt, not, List, [], length, Some, None, is_some, if◌then◌else◌, refl, sym, ap, ◌∙◌, arith, lt-ltb, subst}
 use Rattle.std.specs.Option.{option_map_or}
 use Rattle.mx_words.specs.declared.perm.Perm.{Perm}
 use Rattle.mx_words.specs.declared.tables.Kind.{Kind}
@@ -12,7 +12,7 @@ use Rattle.mx_words.specs.Blocks.{block_of, is_broken}
 use Rattle.mx_pool.specs.Frames.{word_at}
 use Rattle.mx_trie.specs.declared.walk.Found.TheVariants as F
 use Rattle.mx_trie.specs.Leaf.{IsTrieKind, needs_spill, spill_number, IsStored}
-use Rattle.mx_trie.specs.Walk.{form_left, form_right, Frames, is_pointer, root_word, spilled_word, map_left, map_right, line_number}
+use Rattle.mx_trie.specs.Walk.{form_left, form_right, Frames, root_word, spilled_word, map_left, map_right, line_number}
 use Rattle.mx_trie.specs.Read.{read_map}
 use Rattle.mx_trie.specs.Shape.{length-read_map}
 use Rattle.mx_trie.specs.Shown.{IsLine, IsPage, IsRegion}
@@ -20,8 +20,8 @@ use Rattle.mx_trie.specs.Standing.{IsRead}
 use Rattle.mx_trie.specs.Found.{IsLeaf, IsFound}
 use Rattle.mx_trie.proofs.EntryLaws.{some-named}
 use Rattle.mx_trie.proofs.PageTables.{even-of}
+use Rattle.mx_trie.proofs.RegionTables.{region-even-of}
 use Rattle.mx_trie.proofs.Stored.{line-named, line-stored}
-use Rattle.mx_trie.proofs.VectorWords.{region-even}
 use Rattle.mx_trie.proofs.WalkWords.{is-open, is-closed, way-few, way-region, way-page, way-line}
 
 -- the level at which a word is decided, by whether its region and its page are broken and its line needs a spill word
@@ -96,7 +96,7 @@ module _ (kind : Kind) (k : IsTrieKind kind) (upper leaf spill : Frames) (words 
     end-root miss =
         let closed = is-closed a miss in (
           level-by kind k _ i false _ _ (sym region.broken ∙ closed) refl refl,
-          record { even = region-even kind upper leaf spill _ (i / 1048576) a closed region; entry_is = region.vector_is closed },
+          record { even = region-even-of _ (i / 1048576) (sym region.broken ∙ closed); entry_is = region.vector_is closed },
         )
 
     module _ (hit : a % 4 ≡ 0) (b : ℕ) (f : b ≡ word_at upper (a / 4) (i / 1024 % 1024)) where

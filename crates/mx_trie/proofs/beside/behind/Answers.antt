@@ -1,4 +1,4 @@
-use Rattle.std.proofs.Common.{◌≡◌, ◌-◌, ◌≤◌, ◌⊎◌, inl, inr, length, arith, ◌∙◌}
+use Rattle.std.proofs.Common.{◌-◌, ◌≤◌, ◌⊎◌, inl, inr, length, arith, ◌∙◌}
 use Rattle.mx_trie.proofs.Scans.{alike-none, ahead-ended, ahead-far}
 use Rattle.mx_trie.proofs.beside.behind.Goals as goal
 use Rattle.mx_trie.proofs.beside.behind.Goals.{then-loop-end-test+else-end-at, else-loop-end-test}

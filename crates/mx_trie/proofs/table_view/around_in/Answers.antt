@@ -1,4 +1,3 @@
-use Rattle.std.proofs.Common.{◌/◌}
 use Rattle.mx_trie.specs.Read.{read_map}
 use Rattle.mx_trie.proofs.TableSpans.{region-round, page-round}
 use Rattle.mx_trie.proofs.WalkWords.{is-closed, way-few, way-region, way-page, way-line, way-some}

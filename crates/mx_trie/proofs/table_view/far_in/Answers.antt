@@ -1,4 +1,4 @@
-use Rattle.std.proofs.Common.{◌/◌, rules, inl, inr, sym, subst}
+use Rattle.std.proofs.Common.{inl, inr, sym, subst}
 use Rattle.mx_words.specs.declared.perm.Span.{Span}
 use Rattle.mx_trie.specs.Read.{read_map}
 use Rattle.mx_trie.specs.Views.{IsRound}

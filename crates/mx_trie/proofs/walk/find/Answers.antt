@@ -1,6 +1,6 @@
-use Rattle.std.proofs.Common.{◌/◌, ◌∙◌, sym, arith}
+use Rattle.std.proofs.Common.{◌∙◌, sym, arith}
 use Rattle.mx_trie.proofs.WalkLaws.{end-root, end-mid, end-leaf, end-spill}
-use Rattle.mx_trie.proofs.WalkWords.{way-mid, way-leaf, way-spill}
+use Rattle.mx_trie.proofs.WalkWords.{way-mid, way-spill}
 use Rattle.mx_trie.proofs.walk.find.Goals as goal
 
 pub returns-then-in_root-ne0 : goal.returns-then-in_root-ne0
