@@ -117,10 +117,22 @@ module _ (kind : Kind) (n : ℕ) where
 
   pub need-small : (maps : ℕ → List Perm) (need : Need) → n ≤ 63 → ((d : ℕ) → d < n → length (maps d) ≤ most_words) → IsNeedOf kind n maps need → IsNeedSmall need
   need-small maps need few short is = record {
-    upper = omega (arith, is.upper, sum-most n 16 (λ d. broken_blocks region_words (maps d)) (λ d below.
-        omega (arith, broken_blocks-count region_words (maps d) most_regions (omega arith) (short d below), count_below-le most_regions (is_broken region_words (maps d)))));
-    leaf = omega (arith, is.leaf, sum-most n 16384 (λ d. broken_blocks page_words (maps d)) (λ d below.
-        omega (arith, broken_blocks-count page_words (maps d) most_pages (omega arith) (short d below), count_below-le most_pages (is_broken page_words (maps d)))));
-    spill = omega (arith, is.spill, sum-most n 1048576 (λ d. spill_lines kind (maps d)) (λ d below.
-        count_below-le most_lines (λ z. needs_spill kind (line_at (maps d) (z * 16)))));
+    upper = omega (
+      arith,
+      is.upper,
+      sum-most n 16 (λ d. broken_blocks region_words (maps d)) (λ d below.
+          omega (arith, broken_blocks-count region_words (maps d) most_regions (omega arith) (short d below), count_below-le most_regions (is_broken region_words (maps d)))),
+    );
+    leaf = omega (
+      arith,
+      is.leaf,
+      sum-most n 16384 (λ d. broken_blocks page_words (maps d)) (λ d below.
+          omega (arith, broken_blocks-count page_words (maps d) most_pages (omega arith) (short d below), count_below-le most_pages (is_broken page_words (maps d)))),
+    );
+    spill = omega (
+      arith,
+      is.spill,
+      sum-most n 1048576 (λ d. spill_lines kind (maps d)) (λ d below.
+          count_below-le most_lines (λ z. needs_spill kind (line_at (maps d) (z * 16)))),
+    );
   }
