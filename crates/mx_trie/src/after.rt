@@ -19,7 +19,7 @@ ghost use Rattle.mx_trie.specs.After.{count_from, count_within, IsPathTaken, IsN
 
 use crate::change::laying_of;
 use crate::changed_view::ChangedView;
-use crate::edges::{is_page_even_after, is_region_even_after};
+use crate::edges::{is_page_broken, is_region_broken};
 use crate::laying::Laying;
 use crate::root_table::root_entry;
 use crate::scan::{has_perm, line_perms};
@@ -134,38 +134,13 @@ fn pages_spilled<L: LeafForm>(upper: &Pool<1024>, leaf: &Pool<64>, root: u32, la
     count
 }
 
-/// Whether a region isn't eighth-uniform after a change.
-fn is_region_broken<V: View>(new: &V, lay: &Laying, odd: bool, region: u32) -> bool
-    requires lawful { V.lawful new.now }
-    requires laid { IsLaid (V.map new.now) lay.now }
-    requires odd { odd ≡ true → is_broken page_words (V.map new.now) (lay.now.first / 1024) ≡ true }
-    requires region { region < most_regions }
-    ensures { result ≡ is_broken region_words (V.map new.now) region }
-{
-    !lay.covers(region * REGION_WORDS, region * REGION_WORDS + REGION_WORDS)
-        && !is_region_even_after(new, lay.first, lay.end, odd, region)
-}
-
-/// Whether a page isn't eighth-uniform after a change.
-fn is_page_broken<V: View>(new: &V, lay: &Laying, page: u32) -> bool
-    requires lawful { V.lawful new.now }
-    requires laid { IsLaid (V.map new.now) lay.now }
-    requires page { page < most_pages }
-    ensures { result ≡ is_broken page_words (V.map new.now) page }
-{
-    !lay.covers(page * PAGE_WORDS, page * PAGE_WORDS + PAGE_WORDS)
-        && !is_page_even_after(new, lay.first, lay.end, page)
-}
-
-/// Whether a line needs a spill word after a change.
-fn is_line_crowded<L: LeafForm, V: View>(new: &V, lay: &Laying, line: u32) -> bool
-    requires lawful { V.lawful new.now }
-    requires laid { IsLaid (V.map new.now) lay.now }
+/// Whether a line needs a spill word.
+fn is_line_crowded<L: LeafForm, V: View>(view: &V, line: u32) -> bool
+    requires lawful { V.lawful view.now }
     requires line { line < most_lines }
-    ensures { result ≡ needs_spill L.kind (line_at (V.map new.now) (line * 16)) }
+    ensures { result ≡ needs_spill L.kind (line_at (V.map view.now) (line * 16)) }
 {
-    !lay.covers(line * LINE_WORDS, line * LINE_WORDS + LINE_WORDS)
-        && L::needs_spill(&line_perms(new, line))
+    L::needs_spill(&line_perms(view, line))
 }
 
 /// How many of the regions that meet the range aren't eighth-uniform after a change: at most the first and the last
@@ -181,11 +156,11 @@ fn regions_broken_at_edges<V: View>(new: &V, lay: &Laying, odd: bool) -> u32
 {
     let first = lay.first / REGION_WORDS;
     let last = (lay.end - 1) / REGION_WORDS;
-    let at_first = u32::from(is_region_broken(new, lay, odd, first));
+    let at_first = u32::from(is_region_broken(new, lay.first, lay.end, odd, first));
     if first == last {
         return at_first;
     }
-    at_first + u32::from(is_region_broken(new, lay, odd, last))
+    at_first + u32::from(is_region_broken(new, lay.first, lay.end, odd, last))
 }
 
 /// The same of pages.
@@ -199,11 +174,11 @@ fn pages_broken_at_edges<V: View>(new: &V, lay: &Laying) -> u32
 {
     let first = lay.first / PAGE_WORDS;
     let last = (lay.end - 1) / PAGE_WORDS;
-    let at_first = u32::from(is_page_broken(new, lay, first));
+    let at_first = u32::from(is_page_broken(new, lay.first, lay.end, first));
     if first == last {
         return at_first;
     }
-    at_first + u32::from(is_page_broken(new, lay, last))
+    at_first + u32::from(is_page_broken(new, lay.first, lay.end, last))
 }
 
 /// How many of the lines that meet the range need a spill word after a change.
@@ -216,11 +191,11 @@ fn lines_crowded_at_edges<L: LeafForm, V: View>(new: &V, lay: &Laying) -> u32
 {
     let first = lay.first / LINE_WORDS;
     let last = (lay.end - 1) / LINE_WORDS;
-    let at_first = u32::from(is_line_crowded::<L, V>(new, lay, first));
+    let at_first = u32::from(is_line_crowded::<L, V>(new, first));
     if first == last {
         return at_first;
     }
-    at_first + u32::from(is_line_crowded::<L, V>(new, lay, last))
+    at_first + u32::from(is_line_crowded::<L, V>(new, last))
 }
 
 /// Whether the range lies in one page, and that is broken. So many of the pages that meet the range are.

@@ -20,18 +20,6 @@ loop-row-init g c =
       spill_total = refl;
     }
 
-pub change_one-requires-clause-tables : goal.change_one-requires-clause-tables
-change_one-requires-clause-tables g c = c.loop-row.invariant.tables
-
-pub change_one-requires-clause-upper_room : goal.change_one-requires-clause-upper_room
-change_one-requires-clause-upper_room g c = omega (arith, c.loop-row.invariant.upper_free)
-
-pub change_one-requires-clause-leaf_room : goal.change_one-requires-clause-leaf_room
-change_one-requires-clause-leaf_room g c = omega (arith, c.loop-row.invariant.leaf_free)
-
-pub change_one-requires-clause-spill_room : goal.change_one-requires-clause-spill_room
-change_one-requires-clause-spill_room g c = omega (arith, c.loop-row.invariant.spill_free)
-
 pub loop-row-preserved : goal.loop-row-preserved
 loop-row-preserved g c =
     let old = map_at g.L.LeafForm.kind c.args.words c.args.upper.now c.args.leaf.now c.args.spill.now c.args.roots.now in
@@ -49,9 +37,6 @@ loop-row-preserved g c =
       leaf_total = e.leaf_total ∙ so.leaf_total;
       spill_total = e.spill_total ∙ so.spill_total;
     }
-
-pub returns-clause-tables : goal.returns-clause-tables
-returns-clause-tables g c = c.loop-row.invariant.tables
 
 pub returns-clause-changed : goal.returns-clause-changed
 returns-clause-changed g c d below =
