@@ -62,12 +62,13 @@ impl<L: LeafForm> Trie<L> {
         )
     }
 
-    /// Whether any change fits: whether each pool has four free frames for each domain, two that a change may take, and two that aren't
-    /// counted as room.
+    /// Whether any change fits: whether each pool has four free frames for each domain, two that a change may take, and
+    /// two that aren't counted as room.
     fn is_spacious(&self) -> bool
         ensures upper { result ≡ true → 4 * length self.now.roots ≤ free_in self.now.upper }
         ensures leaf { result ≡ true → 4 * length self.now.roots ≤ free_in self.now.leaf }
-        ensures spill { result ≡ true → 0 < L.REACH → 4 * length self.now.roots ≤ free_in self.now.spill }
+        ensures spill { result ≡ true → 0 < L.REACH →
+            4 * length self.now.roots ≤ free_in self.now.spill }
     {
         let four = 4 * self.roots.count();
         if four > self.upper.free_frames() || four > self.leaf.free_frames() {
