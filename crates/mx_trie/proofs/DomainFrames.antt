@@ -26,7 +26,7 @@ module _ (kind : Kind) (upper leaf spill upper' leaf' spill' : Frames) (root : �
       (subst (λ w. RegionOwns kind upper' leaf' w a g) (root-word x) own)
 
   pub domain-owns-same : (a g : ℕ) → DomainOwns kind upper' leaf' root a g → DomainOwns kind upper leaf root a g
-  domain-owns-same a g own = elim own [ | inl h ↦ inl h | inr h ↦ inr (h.0, (h.1.0, regions-owned h.0 a g h.1.0 h.1.1)) ]
+  domain-owns-same a g own = elim own [ inl h ↦ inl h | inr h ↦ inr (h.0, (h.1.0, regions-owned h.0 a g h.1.0 h.1.1)) ]
 
   pub domain-table-kept : IsRootTable kind upper leaf spill root → IsRootTable kind upper' leaf' spill' root
   domain-table-kept table = record {

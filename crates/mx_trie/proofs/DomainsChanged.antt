@@ -37,7 +37,10 @@ count-changed : (n d free free' total total' : ℕ) (f g : ℕ → ℕ) → d < 
 count-changed n d free free' total total' f g below same moved long before = omega (arith, before, moved, long, sum_below_changed n d f g below same)
 
 module _ (kind : Kind) (k : IsTrieKind kind) (words : ℕ) (upper leaf spill upper' leaf' spill' : Frames) (roots : List ℕ) (tables : IsTables kind words upper leaf spill roots) (d : ℕ) (below : d < length roots)
-    (lay : Laying) (same : lay.words ≡ words) (changed : IsDomainChanged kind upper leaf spill upper' leaf' spill' (λ m. length m ≡ lay.words) lay (root_at roots d)) where
+    (lay : Laying) (same : lay.words ≡ words) (root : ℕ) (at : root ≡ root_at roots d) (moved : IsDomainChanged kind upper leaf spill upper' leaf' spill' (λ m. length m ≡ lay.words) lay root) where
+  changed : IsDomainChanged kind upper leaf spill upper' leaf' spill' (λ m. length m ≡ lay.words) lay (root_at roots d)
+  changed = subst (λ r. IsDomainChanged kind upper leaf spill upper' leaf' spill' (λ m. length m ≡ lay.words) lay r) at moved
+
   abbrev pub map_old : ℕ → List Perm
   map_old = map_at kind words upper leaf spill roots
 

@@ -31,12 +31,12 @@ pub even-page : (m : List Perm) (x y : ℕ) → y / 1024 ≡ x → is_broken reg
 even-page m x y at whole =
     ap not (even_is 1024 128 m y refl refl (omega arith) (region-page-even m x y at (even-of 1048576 131072 m x refl refl (omega arith) whole)))
 
-pub broken-region : (m : List Perm) (x y : ℕ) → y / 1024 ≡ x → is_broken page_words m y ≡ true → is_broken region_words m x ≡ true
-broken-region m x y at broken = by (is_broken region_words m x) refl
+pub broken_region : (m : List Perm) (x at : ℕ) → at / 1048576 ≡ x → is_broken page_words m (at / 1024) ≡ true → true ≡ is_broken region_words m x
+broken_region m x at inside broken = by (is_broken region_words m x) refl
   where
-    by : (b : Bool) → is_broken region_words m x ≡ b → is_broken region_words m x ≡ true
-    by true e = e
-    by false e = absurd (let no : true ≡ false = sym broken ∙ even-page m x y at e in cc)
+    by : (b : Bool) → is_broken region_words m x ≡ b → true ≡ is_broken region_words m x
+    by true e = sym e
+    by false e = absurd (let whole : true ≡ false = sym broken ∙ even-page m x (at / 1024) (omega arith) e in cc)
 
 -- no line of a page that isn't broken needs a spill word
 pub even-needs : (kind : Kind) (m : List Perm) (y z : ℕ) → z / 64 ≡ y → is_broken page_words m y ≡ false → needs_spill kind (line_at m (z * 16)) ≡ false
@@ -57,10 +57,6 @@ edge-page m at before here within last first other = by (is_broken page_words m 
         let same : perm_at m at ≡ perm_at m (at - 1) =
         sym (ap (perm_at m) here_is) ∙ part.alike (at % 128) (omega arith) ∙ sym (part.alike (at % 128 - 1) (omega arith)) ∙ ap (perm_at m) before_is in
         absurd (other (ap number (sym (round-perm m at here first) ∙ same ∙ round-perm m (at - 1) before last)))
-
--- a region of which such a page is broken
-pub edge-region : (m : List Perm) (x at : ℕ) → at / 1048576 ≡ x → is_broken page_words m (at / 1024) ≡ true → false ≡ not (is_broken region_words m x)
-edge-region m x at inside broken = let region : at / 1024 / 1024 ≡ x = omega arith in sym (ap not (broken-region m x (at / 1024) region broken))
 
 -- blocks of which all words lie in a range that has one permission
 module _ (m : List Perm) (lay : Laying) (is : IsLaid m lay) (b : ℕ) where

@@ -74,9 +74,6 @@ pub mod RootPlaces
 pub mod DomainRegions
 pub mod DomainChanges
 pub mod StandingNeeds
-pub mod NeedLaws
 pub mod BuiltRows
-pub mod RootPlaces
-pub mod RootPlaces
-pub mod DomainRegions
-pub mod DomainChanges
+pub mod ListedMaps
+pub mod BuiltTrie

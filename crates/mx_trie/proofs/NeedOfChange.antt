@@ -1,7 +1,7 @@
 -- What all maps need after a change, counted on from what they need before it, one domain after the other.
 use Rattle.std.proofs.Common.{◌≡◌, ◌≢◌, ℕ, zero, suc, ◌+◌, ◌-◌, ◌*◌, ◌<◌, ◌≤◌, ◌⊎◌, inl, inr, Bool, nat_lt, if◌then◌else◌, List, length, Option, Some, None, refl, sym, ap, ◌∙◌, arith, subst}
 use Rattle.std.proofs.Math.Nat.{suc-mul}
-use Rattle.std.proofs.lemmas.Bool.{lt-ltb, le-ltb, cases_lt}
+use Rattle.std.proofs.lemmas.Bool.{lt-ltb, le-ltb, cases_lt, cases_eq}
 use Rattle.mx_words.specs.declared.perm.Perm.{Perm}
 use Rattle.mx_words.specs.declared.tables.Kind.{Kind}
 use Rattle.mx_words.specs.declared.tables.Need.{Need}
@@ -21,17 +21,19 @@ use Rattle.mx_trie.specs.Walk.{Frames, most_regions, most_pages, most_lines}
 use Rattle.mx_trie.specs.Laying.{spill_lines, laid_by}
 use Rattle.mx_trie.specs.After.{IsNeedOf, IsNeedWith, IsNeedMoved, IsNeedSmall, map_in, maps_until}
 
--- a map after a change that names its domain, or doesn't
+-- a map after a change that names its domain
+pub laid-named : (first count : ℕ) (given : Option Perm) (m : List Perm) (lay : Laying) → lay.first ≡ first → lay.end ≡ first + count → given ≡ Some lay.perm → laid_by lay m ≡ changed_map first count given m
+laid-named first count given m lay from to named =
+    let size : lay.end - lay.first ≡ count = omega arith in
+    ap (λ n. laid (grant_of lay.first n lay.perm) m) size ∙ ap (λ n. laid (grant_of n count lay.perm) m) from ∙ sym (ap (λ (o : Option Perm). changed_map first count o m) named)
+
 module _ (kind : Kind) (upper leaf spill : Frames) (root words first count : ℕ) (given : Option Perm) (need : Need) where
   pub moved-named : (lay : Laying) (need' : Need) → lay.words ≡ words → lay.first ≡ first → lay.end ≡ first + count → given ≡ Some lay.perm →
       IsNeedMoved kind (map_in kind upper leaf spill root lay) (laid_by lay (map_in kind upper leaf spill root lay)) need need' →
       IsNeedMoved kind (read_map kind upper leaf spill words root) (changed_map first count given (read_map kind upper leaf spill words root)) need need'
   moved-named lay need' same from to named moved =
-      let size : lay.end - lay.first ≡ count = omega arith in
       let m : List Perm = read_map kind upper leaf spill words root in
-      let is : laid_by lay m ≡ changed_map first count given m =
-      ap (λ n. laid (grant_of lay.first n lay.perm) m) size ∙ ap (λ n. laid (grant_of n count lay.perm) m) from ∙ sym (ap (λ (o : Option Perm). changed_map first count o m) named) in
-      subst (λ (n : List Perm). IsNeedMoved kind m n need need') is
+      subst (λ (n : List Perm). IsNeedMoved kind m n need need') (laid-named first count given m lay from to named)
       (subst (λ n. IsNeedMoved kind (read_map kind upper leaf spill n root) (laid_by lay (read_map kind upper leaf spill n root)) need need') same moved)
 
   pub moved-unnamed : given ≡ None → IsNeedMoved kind (read_map kind upper leaf spill words root) (changed_map first count given (read_map kind upper leaf spill words root)) need need
@@ -72,6 +74,16 @@ module _ (old new : ℕ → List Perm) where
     | inr h ↦ rw (until-old row d h) few
   ]
 
+-- the map of domain `row` is changed, and domain d's map is known
+pub maps-next : (first count : ℕ) (given : ℕ → Option Perm) (old now now' : ℕ → List Perm) (row d : ℕ) → let new = λ (e : ℕ). changed_map first count (given (e + 1)) (old e) in
+    now d ≡ maps_until row old new d → now' row ≡ changed_map first count (given (row + 1)) (now row) → (d ≢ row → now' d ≡ now d) → now' d ≡ maps_until (row + 1) old new d
+maps-next first count given old now now' row d was changed same = elim (cases_eq d row) [
+  | inl h ↦ (let new : ℕ → List Perm = λ e. changed_map first count (given (e + 1)) (old e) in
+      let before : now row ≡ old row = ap now (sym h) ∙ was ∙ ap (maps_until row old new) h ∙ until-old old new row row (omega arith) in
+      ap now' h ∙ changed ∙ ap (changed_map first count (given (row + 1))) before ∙ sym (until-new old new (row + 1) row (omega arith)) ∙ ap (maps_until (row + 1) old new) (sym h))
+  | inr h ↦ same h ∙ was ∙ until-next old (λ e. changed_map first count (given (e + 1)) (old e)) row d h
+]
+
 module _ (kind : Kind) (n : ℕ) where
   pub need-agree : (maps maps' : ℕ → List Perm) (need : Need) → ((d : ℕ) → d < n → maps d ≡ maps' d) → IsNeedOf kind n maps need → IsNeedOf kind n maps' need
   need-agree maps maps' need same is = record {
@@ -105,10 +117,22 @@ module _ (kind : Kind) (n : ℕ) where
 
   pub need-small : (maps : ℕ → List Perm) (need : Need) → n ≤ 63 → ((d : ℕ) → d < n → length (maps d) ≤ most_words) → IsNeedOf kind n maps need → IsNeedSmall need
   need-small maps need few short is = record {
-    upper = omega (arith, is.upper, sum-most n 16 (λ d. broken_blocks region_words (maps d)) (λ d below.
-        omega (arith, broken_blocks-count region_words (maps d) most_regions (omega arith) (short d below), count_below-le most_regions (is_broken region_words (maps d)))));
-    leaf = omega (arith, is.leaf, sum-most n 16384 (λ d. broken_blocks page_words (maps d)) (λ d below.
-        omega (arith, broken_blocks-count page_words (maps d) most_pages (omega arith) (short d below), count_below-le most_pages (is_broken page_words (maps d)))));
-    spill = omega (arith, is.spill, sum-most n 1048576 (λ d. spill_lines kind (maps d)) (λ d below.
-        count_below-le most_lines (λ z. needs_spill kind (line_at (maps d) (z * 16)))));
+    upper = omega (
+      arith,
+      is.upper,
+      sum-most n 16 (λ d. broken_blocks region_words (maps d)) (λ d below.
+          omega (arith, broken_blocks-count region_words (maps d) most_regions (omega arith) (short d below), count_below-le most_regions (is_broken region_words (maps d)))),
+    );
+    leaf = omega (
+      arith,
+      is.leaf,
+      sum-most n 16384 (λ d. broken_blocks page_words (maps d)) (λ d below.
+          omega (arith, broken_blocks-count page_words (maps d) most_pages (omega arith) (short d below), count_below-le most_pages (is_broken page_words (maps d)))),
+    );
+    spill = omega (
+      arith,
+      is.spill,
+      sum-most n 1048576 (λ d. spill_lines kind (maps d)) (λ d below.
+          count_below-le most_lines (λ z. needs_spill kind (line_at (maps d) (z * 16)))),
+    );
   }

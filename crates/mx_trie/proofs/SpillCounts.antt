@@ -1,6 +1,5 @@
 -- The lines of a range that need a spill word, page by page.
-use Rattle.std.proofs.Common.{◌≡◌, ℕ, ◌+◌, ◌-◌, ◌*◌, ◌/◌, ◌%◌, ◌<◌, ◌≤◌, ◌⊎◌, inl, inr, Bool, true, false, min, max, List, is_some, refl, sym, ap, ◌∙◌, arith, subst}
-use Rattle.std.proofs.lemmas.Bool.{cases_lt}
+use Rattle.std.proofs.Common.{◌≡◌, ℕ, ◌+◌, ◌-◌, ◌*◌, ◌/◌, ◌%◌, ◌<◌, ◌≤◌, Bool, true, false, min, max, List, is_some, refl, sym, ap, ◌∙◌, arith, subst}
 use Rattle.mx_words.specs.declared.perm.Perm.{Perm}
 use Rattle.mx_words.specs.declared.tables.Kind.{Kind}
 use Rattle.mx_words.specs.Counting.{count_below}
@@ -37,35 +36,22 @@ lines-needed kind k leaf spill m y frame first last from to lines begin end =
 pub count-none : (from to : ℕ) (test : ℕ → Bool) → to ≤ from → 0 ≡ count_from from to test
 count-none from to test le = let none : to - from ≡ 0 = omega arith in sym (ap (λ n. count_below n (λ i. test (from + i))) none ∙ count_below-zero (λ i. test (from + i)))
 
+count-plus : (a b c : ℕ) (test : ℕ → Bool) → a ≤ b → b ≤ c → count_from a c test ≡ count_from a b test + count_from b c test
+count-plus a b c test le le' =
+    let size : c - a ≡ b - a + (c - b) = omega arith in
+    ap (λ n. count_below n (λ i. test (a + i))) size
+    ∙ count_below-plus (b - a) (c - b) (λ i. test (a + i))
+    ∙ ap (λ n. count_from a b test + n)
+    (count_below_agree (c - b) (λ i. test (a + (b - a + i))) (λ i. test (b + i)) (λ i below. let at : a + (b - a + i) ≡ b + i = omega arith in ap test at))
+
 pub count-within : (from to page : ℕ) (test : ℕ → Bool) → page * 64 < to → from < page * 64 + 64 → from < to →
     count_from from (min to (page * 64)) test + count_within from to (page * 64) 64 test ≡ count_from from (min to ((page + 1) * 64)) test
-count-within from to page test here behind some = by (cases_lt from (page * 64))
-  where
-    end : ℕ
-    end = min to (page * 64 + 64)
-
-    next : (page + 1) * 64 ≡ page * 64 + 64
-    next = omega arith
-
-    by : (from < page * 64) ⊎ (page * 64 ≤ from) → count_from from (min to (page * 64)) test + count_within from to (page * 64) 64 test ≡ count_from from (min to ((page + 1) * 64)) test
-    by (inl lt) =
-        let at : min to (page * 64) ≡ page * 64 = omega arith in
-        let first : max from (page * 64) ≡ page * 64 = omega arith in
-        let split : min to (page * 64 + 64) - from ≡ page * 64 - from + (min to (page * 64 + 64) - page * 64) = omega arith in
-        let place : from + (page * 64 - from) ≡ page * 64 = omega arith in
-        let plus = count_below-plus (page * 64 - from) (min to (page * 64 + 64) - page * 64) (λ i. test (from + i)) in
-        ap (λ n. count_from from n test + count_within from to (page * 64) 64 test) at
-        ∙ ap (λ n. count_from from (page * 64) test + count_from n (min to (page * 64 + 64)) test) first
-        ∙ ap (λ n. count_from from (page * 64) test + n) (shifted (min to (page * 64 + 64) - page * 64) place)
-        ∙ sym plus ∙ ap (λ n. count_below n (λ i. test (from + i))) (sym split) ∙ ap (λ n. count_from from (min to n) test) (sym next)
-      where
-        shifted : (n : ℕ) → from + (page * 64 - from) ≡ page * 64 → count_below n (λ i. test (page * 64 + i)) ≡ count_below n (λ i. test (from + (page * 64 - from + i)))
-        shifted n place = count_below_agree n (λ i. test (page * 64 + i)) (λ i. test (from + (page * 64 - from + i))) (λ i below. let e : page * 64 + i ≡ from + (page * 64 - from + i) = omega arith in ap test e)
-    by (inr ge) =
-        let first : max from (page * 64) ≡ from = omega arith in
-        ap (λ n. n + count_within from to (page * 64) 64 test) (sym (count-none from (min to (page * 64)) test (omega arith)))
-        ∙ (let plain : 0 + count_within from to (page * 64) 64 test ≡ count_within from to (page * 64) 64 test = omega arith in plain)
-        ∙ ap (λ n. count_from n (min to (page * 64 + 64)) test) first ∙ ap (λ n. count_from from (min to n) test) (sym next)
+count-within from to page test here behind some =
+    let next : min to ((page + 1) * 64) ≡ min to (page * 64 + 64) = omega arith in
+    let before : min to (page * 64) - from ≡ max from (page * 64) - from = omega arith in
+    ap (λ n. count_below n (λ i. test (from + i)) + count_within from to (page * 64) 64 test) before
+    ∙ sym (count-plus from (max from (page * 64)) (min to (page * 64 + 64)) test (omega arith) (omega arith))
+    ∙ ap (λ n. count_from from n test) (sym next)
 
 -- no line of a page that isn't broken needs a spill word
 pub even-within : (kind : Kind) (m : List Perm) (from to page : ℕ) → is_broken page_words m page ≡ false → 0 ≡ count_within from to (page * 64) 64 (λ z. needs_spill kind (line_at m (z * 16)))

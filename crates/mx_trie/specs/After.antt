@@ -44,9 +44,12 @@ pub record IsNeedOf (kind : Kind) (n : ℕ) (maps : ℕ → List Perm) (need : N
 
 -- what the blocks that meet a range need by a map
 pub record IsRangeNeed (kind : Kind) (lay : Laying) (m : List Perm) (need : Need) : Type 0 where
-  pub upper : need.upper ≡ count_from (lay.first / region_words) ((lay.end - 1) / region_words + 1) (is_broken region_words m)
-  pub leaf : need.leaf ≡ count_from (lay.first / page_words) ((lay.end - 1) / page_words + 1) (is_broken page_words m)
-  pub spill : need.spill ≡ count_from (lay.first / 16) ((lay.end - 1) / 16 + 1) (λ z. needs_spill kind (line_at m (z * 16)))
+  pub upper : need.upper ≡
+      count_from (lay.first / region_words) ((lay.end - 1) / region_words + 1) (is_broken region_words m)
+  pub leaf : need.leaf ≡
+      count_from (lay.first / page_words) ((lay.end - 1) / page_words + 1) (is_broken page_words m)
+  pub spill : need.spill ≡
+      count_from (lay.first / 16) ((lay.end - 1) / 16 + 1) (λ z. needs_spill kind (line_at m (z * 16)))
 
 -- a need with a part for a map m
 pub record IsNeedWith (kind : Kind) (m : List Perm) (need : Need) : Type 0 where

@@ -1,28 +1,25 @@
-//! What the maps need after a change, told without making it: what is taken, less what the blocks that meet the range take, and more
-//! by what its edges need afterwards.
+//! What the maps need after a change, told without making it: what is taken, less what the blocks that meet the range
+//! take, and more by what its edges need afterwards.
 ghost use Rattle.std.specs.Prelude.{◌≡◌, ℕ, ◌+◌, ◌-◌, ◌*◌, ◌/◌, ◌<◌, ◌≤◌, true, List, length};
 ghost use Rattle.mx_words.specs.declared.perm.Perm.{Perm};
 ghost use Rattle.mx_words.specs.Blocks.{is_broken};
 ghost use Rattle.mx_words.specs.Changes.{changed_map};
-ghost use Rattle.mx_words.specs.Counting.{count_below, sum_below};
 ghost use Rattle.mx_words.specs.Reach.{line_at};
-ghost use Rattle.mx_words.specs.Runs.{page_words, region_words, broken_blocks};
+ghost use Rattle.mx_words.specs.Runs.{page_words, region_words};
 ghost use Rattle.mx_table.specs.Change.{given};
-ghost use Rattle.mx_table.specs.Tables.{most_words, most_modules};
+ghost use Rattle.mx_table.specs.Tables.{most_modules};
 ghost use Rattle.mx_pool.specs.Frames.{IsTaken};
 ghost use Rattle.mx_trie.specs.Leaf.{needs_spill};
-ghost use Rattle.mx_trie.specs.Walk.{Frames, most_regions, most_pages, most_lines, is_pointer, root_word, has_leaf};
+ghost use Rattle.mx_trie.specs.Walk.{Frames, most_regions, most_pages, most_lines, has_mid, has_leaf};
 ghost use Rattle.mx_trie.specs.Shown.{AreLines, IsDomain};
-ghost use Rattle.mx_trie.specs.Laying.{spill_lines, laid_by, IsLaid};
+ghost use Rattle.mx_trie.specs.Laying.{laid_by, IsLaid};
 ghost use Rattle.mx_trie.specs.Read.{read_map};
 ghost use Rattle.mx_trie.specs.Standing.{map_at, IsRead, IsTables};
-ghost use Rattle.mx_trie.specs.After.{
-    count_from, count_within, IsPathTaken, IsNeedOf, IsRangeNeed, IsNeedWith, IsNeedSmall, IsNeedMoved, map_in,
-};
+ghost use Rattle.mx_trie.specs.After.{count_from, count_within, IsPathTaken, IsNeedOf, IsRangeNeed, IsNeedWith, IsNeedSmall, IsNeedMoved, map_in};
 
 use crate::change::laying_of;
 use crate::changed_view::ChangedView;
-use crate::edges::{is_page_even_after, is_region_even_after};
+use crate::edges::{is_page_broken, is_region_broken};
 use crate::laying::Laying;
 use crate::root_table::root_entry;
 use crate::scan::{has_perm, line_perms};
@@ -40,7 +37,7 @@ fn regions_opened(upper: &Pool<1024>, root: u32, from: u32, to: u32) -> u32
     requires from { from ≤ to }
     requires to { to ≤ most_regions }
     requires taken { IsTaken upper.now root }
-    ensures count { result ≡ count_below (to - from) (λ i. is_pointer (root_word upper.now root (from + i))) }
+    ensures count { result ≡ count_from from to (has_mid upper.now root) }
     ensures most { result ≤ to - from }
 {
     let mut count = 0;
@@ -66,7 +63,7 @@ fn pages_opened(upper: &Pool<1024>, root: u32, from: u32, to: u32) -> u32
     requires from { from ≤ to }
     requires to { to ≤ most_pages }
     requires taken { (y : ℕ) → y < most_pages → IsPathTaken upper.now root y }
-    ensures count { result ≡ count_below (to - from) (λ i. has_leaf upper.now root (from + i)) }
+    ensures count { result ≡ count_from from to (has_leaf upper.now root) }
     ensures most { result ≤ to - from }
 {
     let mut count = 0;
@@ -98,7 +95,13 @@ fn lines_spilled<L: LeafForm>(leaf: &Pool<64>, frame: u32, page: u32, lay: &Layi
 }
 
 /// How many of the lines of a page that meet the range have spill words, where the page may have no leaf table.
-fn page_spilled<L: LeafForm>(upper: &Pool<1024>, leaf: &Pool<64>, root: u32, page: u32, lay: &Laying) -> u32
+fn page_spilled<L: LeafForm>(
+    upper: &Pool<1024>,
+    leaf: &Pool<64>,
+    root: u32,
+    page: u32,
+    lay: &Laying,
+) -> u32
     requires read { (spill : Frames) × IsRead L.kind lay.now.words upper.now leaf.now spill root }
     requires page { page < most_pages }
     requires meets { page * 1024 < lay.now.end }
@@ -131,73 +134,51 @@ fn pages_spilled<L: LeafForm>(upper: &Pool<1024>, leaf: &Pool<64>, root: u32, la
     count
 }
 
-/// Whether a region isn't eighth-uniform after a change.
-fn is_region_broken<V: View>(new: &V, lay: &Laying, odd: bool, region: u32) -> bool
-    requires lawful { V.lawful new.now }
-    requires laid { IsLaid (V.map new.now) lay.now }
-    requires odd { odd ≡ true → is_broken page_words (V.map new.now) (lay.now.first / 1024) ≡ true }
-    requires region { region < most_regions }
-    ensures { result ≡ is_broken region_words (V.map new.now) region }
-{
-    !lay.covers(region * REGION_WORDS, region * REGION_WORDS + REGION_WORDS)
-        && !is_region_even_after(new, lay.first, lay.end, odd, region)
-}
-
-/// Whether a page isn't eighth-uniform after a change.
-fn is_page_broken<V: View>(new: &V, lay: &Laying, page: u32) -> bool
-    requires lawful { V.lawful new.now }
-    requires laid { IsLaid (V.map new.now) lay.now }
-    requires page { page < most_pages }
-    ensures { result ≡ is_broken page_words (V.map new.now) page }
-{
-    !lay.covers(page * PAGE_WORDS, page * PAGE_WORDS + PAGE_WORDS)
-        && !is_page_even_after(new, lay.first, lay.end, page)
-}
-
-/// Whether a line needs a spill word after a change.
-fn is_line_crowded<L: LeafForm, V: View>(new: &V, lay: &Laying, line: u32) -> bool
-    requires lawful { V.lawful new.now }
-    requires laid { IsLaid (V.map new.now) lay.now }
+/// Whether a line needs a spill word.
+fn is_line_crowded<L: LeafForm, V: View>(view: &V, line: u32) -> bool
+    requires lawful { V.lawful view.now }
     requires line { line < most_lines }
-    ensures { result ≡ needs_spill L.kind (line_at (V.map new.now) (line * 16)) }
+    ensures { result ≡ needs_spill L.kind (line_at (V.map view.now) (line * 16)) }
 {
-    !lay.covers(line * LINE_WORDS, line * LINE_WORDS + LINE_WORDS)
-        && L::needs_spill(&line_perms(new, line))
+    L::needs_spill(&line_perms(view, line))
 }
 
-/// How many of the regions that meet the range aren't eighth-uniform after a change: at most the first and the last one.
+/// How many of the regions that meet the range aren't eighth-uniform after a change: at most the first and the last
+/// one.
 fn regions_broken_at_edges<V: View>(new: &V, lay: &Laying, odd: bool) -> u32
     requires lawful { V.lawful new.now }
     requires laid { IsLaid (V.map new.now) lay.now }
     requires odd { odd ≡ true → is_broken page_words (V.map new.now) (lay.now.first / 1024) ≡ true }
-    ensures count { result ≡ count_from (lay.now.first / region_words) ((lay.now.end - 1) / region_words + 1)
+    ensures count { result
+        ≡ count_from (lay.now.first / region_words) ((lay.now.end - 1) / region_words + 1)
         (is_broken region_words (V.map new.now)) }
     ensures most { result ≤ 2 }
 {
     let first = lay.first / REGION_WORDS;
     let last = (lay.end - 1) / REGION_WORDS;
-    let at_first = u32::from(is_region_broken(new, lay, odd, first));
+    let at_first = u32::from(is_region_broken(new, lay.first, lay.end, odd, first));
     if first == last {
         return at_first;
     }
-    at_first + u32::from(is_region_broken(new, lay, odd, last))
+    at_first + u32::from(is_region_broken(new, lay.first, lay.end, odd, last))
 }
 
 /// The same of pages.
 fn pages_broken_at_edges<V: View>(new: &V, lay: &Laying) -> u32
     requires lawful { V.lawful new.now }
     requires laid { IsLaid (V.map new.now) lay.now }
-    ensures count { result ≡ count_from (lay.now.first / page_words) ((lay.now.end - 1) / page_words + 1)
+    ensures count { result
+        ≡ count_from (lay.now.first / page_words) ((lay.now.end - 1) / page_words + 1)
         (is_broken page_words (V.map new.now)) }
     ensures most { result ≤ 2 }
 {
     let first = lay.first / PAGE_WORDS;
     let last = (lay.end - 1) / PAGE_WORDS;
-    let at_first = u32::from(is_page_broken(new, lay, first));
+    let at_first = u32::from(is_page_broken(new, lay.first, lay.end, first));
     if first == last {
         return at_first;
     }
-    at_first + u32::from(is_page_broken(new, lay, last))
+    at_first + u32::from(is_page_broken(new, lay.first, lay.end, last))
 }
 
 /// How many of the lines that meet the range need a spill word after a change.
@@ -210,11 +191,11 @@ fn lines_crowded_at_edges<L: LeafForm, V: View>(new: &V, lay: &Laying) -> u32
 {
     let first = lay.first / LINE_WORDS;
     let last = (lay.end - 1) / LINE_WORDS;
-    let at_first = u32::from(is_line_crowded::<L, V>(new, lay, first));
+    let at_first = u32::from(is_line_crowded::<L, V>(new, first));
     if first == last {
         return at_first;
     }
-    at_first + u32::from(is_line_crowded::<L, V>(new, lay, last))
+    at_first + u32::from(is_line_crowded::<L, V>(new, last))
 }
 
 /// Whether the range lies in one page, and that is broken. So many of the pages that meet the range are.
@@ -293,7 +274,8 @@ fn laid_over<'a, V: View>(old: &'a V, lay: &Laying) -> ChangedView<'a, V>
     }
 }
 
-/// What all maps need after a permission is laid over a range of the domain with a root table, where `need` is what they need before.
+/// What all maps need after a permission is laid over a range of the domain with a root table, where `need` is what
+/// they need before.
 fn need_laid<L: LeafForm>(
     upper: &Pool<1024>,
     leaf: &Pool<64>,
@@ -336,7 +318,8 @@ fn need_changed<L: LeafForm>(
     requires part { IsNeedWith L.kind (read_map L.kind upper.now leaf.now spill.now words root) need }
     requires few { IsNeedSmall need }
     ensures { let m = read_map L.kind upper.now leaf.now spill.now words root in
-        IsNeedMoved L.kind m (changed_map change.now.first change.now.count (given change.now (row + 1)) m) need result }
+        IsNeedMoved L.kind m
+        (changed_map change.now.first change.now.count (given change.now (row + 1)) m) need result }
 {
     match laying_of(words, row, change) {
         Some(lay) => need_laid::<L>(upper, leaf, spill, root, &lay, need),

@@ -1,6 +1,6 @@
-//! Pages and regions after a change of a range: whether they are eighth-uniform is told at the range's edges first, and only then by all
-//! words.
-ghost use Rattle.std.specs.Prelude.{◌≡◌, ◌/◌, ◌<◌, true, not};
+//! Pages and regions after a change of a range: whether they are broken, not eighth-uniform, is told at the range's edges first, and
+//! only then by all words.
+ghost use Rattle.std.specs.Prelude.{◌≡◌, ◌/◌, ◌<◌, true};
 ghost use Rattle.mx_words.specs.Runs.{page_words, region_words};
 ghost use Rattle.mx_words.specs.Blocks.{is_broken};
 ghost use Rattle.mx_trie.specs.Walk.{most_regions, most_pages};
@@ -23,24 +23,26 @@ fn is_edge<V: View>(view: &V, at: u32) -> bool
     here.perm.number() != before.perm.number()
 }
 
-/// Whether a page is eighth-uniform. The edges of the words `first` to `end - 1` are looked at first.
-pub(crate) fn is_page_even_after<V: View>(view: &V, first: u32, end: u32, page: u32) -> bool
+/// Whether a page isn't eighth-uniform. The edges of the words `first` to `end - 1` are looked at first.
+pub(crate) fn is_page_broken<V: View>(view: &V, first: u32, end: u32, page: u32) -> bool
     requires lawful { V.lawful view.now }
     requires page { page < most_pages }
-    ensures { result ≡ not (is_broken page_words (V.map view.now) page) }
+    ensures { result ≡ is_broken page_words (V.map view.now) page }
 {
     if first / PAGE_WORDS == page && is_edge(view, first) {
-        return false;
+        return true;
     }
     if end / PAGE_WORDS == page && is_edge(view, end) {
-        return false;
+        return true;
     }
-    is_page_even(view, page)
+    !is_page_even(view, page)
 }
 
-/// Whether a region is eighth-uniform by a map that has changed on the words `first` to `end - 1`. `odd` says that the page of the word
-/// `first` is known not to be eighth-uniform. All words are looked at only where neither that nor the range's edges tell.
-pub(crate) fn is_region_even_after<V: View>(
+/// Whether a region isn't eighth-uniform by a map that has changed on the words `first` to `end - 1`. `odd` says that
+/// the page of the word `first` is known not to be eighth-uniform. All words are looked at only where neither that nor
+/// the range's edges tell.
+#[tactic(auto, using(crate::proofs::EdgeLaws::broken_region))]
+pub(crate) fn is_region_broken<V: View>(
     view: &V,
     first: u32,
     end: u32,
@@ -50,16 +52,16 @@ pub(crate) fn is_region_even_after<V: View>(
     requires lawful { V.lawful view.now }
     requires odd { odd ≡ true → is_broken page_words (V.map view.now) (first / 1024) ≡ true }
     requires region { region < most_regions }
-    ensures { result ≡ not (is_broken region_words (V.map view.now) region) }
+    ensures { result ≡ is_broken region_words (V.map view.now) region }
 {
     if first / REGION_WORDS == region && is_edge(view, first) {
-        return false;
+        return true;
     }
     if end / REGION_WORDS == region && is_edge(view, end) {
-        return false;
+        return true;
     }
     if odd && first / REGION_WORDS == region {
-        return false;
+        return true;
     }
-    is_region_even(view, region)
+    !is_region_even(view, region)
 }

@@ -1,0 +1,8 @@
+use Rattle.std.proofs.Common.{not, ap, ◌∙◌}
+use Rattle.std.proofs.Math.Bool.{not-not}
+use Rattle.mx_words.specs.Blocks.{is_broken}
+use Rattle.mx_words.specs.Runs.{page_words}
+use Rattle.mx_trie.proofs.edges.is_page_broken.Goals as goal
+
+pub returns : goal.returns
+returns g c = ap not c.is_page_even.ensures ∙ not-not (is_broken page_words (g.V.View.map c.args.view.now) c.args.page)
