@@ -1,13 +1,13 @@
 -- How many words right before a word have a permission, and how many from a word on, told by those words alone.
-use Rattle.std.proofs.Common.{◌≡◌, ◌≢◌, ℕ, zero, suc, ◌+◌, ◌-◌, ◌<◌, ◌≤◌, ◌⊎◌, inl, inr, Bool, true, false, min, List, length, take, drop, refl, sym, ap, ◌∙◌, arith, subst}
-use Rattle.std.specs.List.{prefix_len, suffix_len}
+use Rattle.std.proofs.Common.{◌≡◌, ◌≢◌, ℕ, zero, suc, ◌+◌, ◌-◌, ◌<◌, ◌≤◌, ◌⊎◌, inl, inr, Bool, true, false, min, List, length, take, refl, sym, ap, ◌∙◌, arith, subst}
+use Rattle.std.specs.List.{suffix_len}
 use Rattle.std.proofs.lemmas.Bool.{cases_lt}
 use Rattle.std.proofs.lemmas.List.Sums.{suffix_len-take_yes, suffix_len-take_no, prefix_len-drop_yes, prefix_len-drop_no, prefix_len-drop_all}
 use Rattle.mx_words.specs.declared.perm.Perm.{Perm}
 use Rattle.mx_words.specs.declared.perm.Perm.TheVariants as P
 use Rattle.mx_words.specs.Rights.{same, perm_at}
 use Rattle.mx_words.proofs.CountingLaws.{cases_below}
-use Rattle.mx_words.proofs.RunLaws.{same_eq, same_from, same_refl}
+use Rattle.mx_words.proofs.RunLaws.{same_eq, same_from}
 use Rattle.mx_trie.specs.Laying.{back, ahead}
 
 -- r words right before word `at` have permission p, and the one before them has another, where there is one to look at

@@ -30,9 +30,9 @@ laid-already lay m inside has =
     elim (cases_lt i lay.first) [
       | inl h ↦ with_range-below lay.first lay.end lay.perm m i h
       | inr h ↦ elim (cases_lt i lay.end) [
-          | inl g ↦ with_range-in lay.first lay.end lay.perm m i inside h g ∙ sym (has i h g)
-          | inr g ↦ with_range-behind lay.first lay.end lay.perm m i (omega arith) g
-        ]
+        | inl g ↦ with_range-in lay.first lay.end lay.perm m i inside h g ∙ sym (has i h g)
+        | inr g ↦ with_range-behind lay.first lay.end lay.perm m i (omega arith) g
+      ]
     ])
 
 module _ (kind : Kind) (k : IsTrieKind kind) (upper leaf spill : Frames) (lay : Laying) (root : ℕ) (read : IsRead kind lay.words upper leaf spill root) where

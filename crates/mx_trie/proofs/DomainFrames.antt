@@ -1,5 +1,5 @@
 -- The frame law of a domain: where its frames stay, it owns the same, and stands for the same maps.
-use Rattle.std.proofs.Common.{◌≡◌, ℕ, ◌<◌, ◌⊎◌, inl, inr, true, List, refl, sym, ap, ◌∙◌, subst}
+use Rattle.std.proofs.Common.{◌≡◌, ℕ, ◌<◌, inl, inr, true, List, refl, sym, ap, ◌∙◌, subst}
 use Rattle.mx_words.specs.declared.perm.Perm.{Perm}
 use Rattle.mx_words.specs.declared.tables.Kind.{Kind}
 use Rattle.mx_words.proofs.CountingLaws.{count_below_agree, sum_below_agree}

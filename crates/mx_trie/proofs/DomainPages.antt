@@ -1,13 +1,13 @@
 -- The tables of a domain, page by page.
-use Rattle.std.proofs.Common.{◌≡◌, ℕ, ◌+◌, ◌*◌, ◌/◌, ◌%◌, ◌<◌, ◌==◌, ◌&&◌, Bool, true, false, List, refl, sym, ap, ◌∙◌, arith, subst}
+use Rattle.std.proofs.Common.{◌≡◌, ℕ, ◌+◌, ◌*◌, ◌/◌, ◌%◌, ◌<◌, ◌&&◌, Bool, true, false, List, refl, sym, ap, ◌∙◌, arith, subst}
 use Rattle.std.proofs.lemmas.Bool.{and_parts}
 use Rattle.mx_words.specs.declared.perm.Perm.{Perm}
 use Rattle.mx_words.specs.declared.tables.Kind.{Kind}
-use Rattle.mx_words.specs.Runs.{page_words, region_words}
+use Rattle.mx_words.specs.Runs.{page_words}
 use Rattle.mx_words.specs.Blocks.{is_broken}
 use Rattle.mx_pool.specs.Frames.{IsTaken, word_at}
-use Rattle.mx_trie.specs.Walk.{Frames, most_pages, is_pointer, target, root_word, mid_word, has_mid, has_leaf}
-use Rattle.mx_trie.specs.Owned.{IsLeafTable, IsRootTable}
+use Rattle.mx_trie.specs.Walk.{Frames, most_pages, is_pointer, root_word, mid_word, has_mid, has_leaf}
+use Rattle.mx_trie.specs.Owned.{IsRootTable}
 use Rattle.mx_trie.specs.Shown.{AreLines, IsPage, IsDomain}
 use Rattle.mx_trie.specs.After.{IsPathTaken}
 use Rattle.mx_trie.proofs.EdgeLaws.{even-page}

@@ -1,17 +1,16 @@
 -- The tables of all domains where one of them is changed.
-use Rattle.std.proofs.Common.{◌≡◌, ◌≢◌, ℕ, ◌+◌, ◌<◌, ◌≤◌, ◌⊎◌, inl, inr, true, List, length, slice_index, refl, sym, ap, ◌∙◌, arith, subst}
+use Rattle.std.proofs.Common.{◌≡◌, ◌≢◌, ℕ, ◌+◌, ◌<◌, inl, inr, List, length, sym, ◌∙◌, arith, subst}
 use Rattle.std.proofs.lemmas.Bool.{cases_eq}
 use Rattle.mx_words.specs.declared.perm.Perm.{Perm}
 use Rattle.mx_words.specs.declared.tables.Kind.{Kind}
 use Rattle.mx_words.specs.Counting.{sum_below}
 use Rattle.mx_words.proofs.CountingLaws.{sum_below_changed}
-use Rattle.mx_table.specs.Tables.{most_words}
 use Rattle.mx_trie.specs.declared.laying.Laying.{Laying}
 use Rattle.mx_trie.specs.Leaf.{IsTrieKind}
-use Rattle.mx_trie.specs.Walk.{Frames, most_regions, is_pointer, target, root_word, root_place}
-use Rattle.mx_trie.specs.Heap.{heap, NodeOwns}
-use Rattle.mx_trie.specs.Owned.{RegionOwns, RegionsOwn, DomainOwns, IsMidTable, IsRootTable, IsForest, region_leaves, region_spills, domain_mids, domain_leaves, domain_spills}
-use Rattle.mx_trie.specs.Shown.{IsRegion, IsDomain}
+use Rattle.mx_trie.specs.Walk.{Frames, most_regions}
+use Rattle.mx_trie.specs.Heap.{heap}
+use Rattle.mx_trie.specs.Owned.{RegionsOwn, DomainOwns, IsRootTable, IsForest, domain_mids, domain_leaves, domain_spills}
+use Rattle.mx_trie.specs.Shown.{IsDomain}
 use Rattle.mx_trie.specs.Laying.{laid_by}
 use Rattle.mx_trie.specs.Changed.{IsDomainChanged}
 use Rattle.mx_trie.specs.Standing.{root_at, map_at, IsRead, IsTables}

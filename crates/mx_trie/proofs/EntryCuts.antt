@@ -1,5 +1,5 @@
 -- The run that an entry gives, cut to its line, is a span of the map.
-use Rattle.std.proofs.Common.{◌≡◌, ◌≢◌, ℕ, ◌+◌, ◌-◌, ◌*◌, ◌/◌, ◌%◌, ◌^◌, ◌<◌, ◌≤◌, ◌⊎◌, inl, inr, ◌==◌, Bool, true, false, min, max, List, length, if◌then◌else◌, refl, sym, ap, ◌∙◌, subst, arith}
+use Rattle.std.proofs.Common.{◌≡◌, ℕ, ◌+◌, ◌-◌, ◌*◌, ◌^◌, ◌<◌, ◌≤◌, ◌⊎◌, inl, inr, ◌==◌, Bool, true, false, min, max, List, length, if◌then◌else◌, refl, sym, ap, ◌∙◌, subst, arith}
 use Rattle.std.proofs.lemmas.Bool.Decides.{eqb_tells}
 use Rattle.mx_words.specs.declared.perm.Perm.{Perm}
 use Rattle.mx_words.specs.declared.perm.Span.{Span}
@@ -12,7 +12,7 @@ use Rattle.mx_trie.specs.Leaf.{IsTrieKind, needs_spill, line_run, left_of_run, r
 use Rattle.mx_trie.specs.Views.{IsRound}
 use Rattle.mx_trie.specs.Walk.{Frames, spilled_word, line_number, map_left, map_right, most_lines}
 use Rattle.mx_trie.specs.Shown.{IsLine, IsSomeLine}
-use Rattle.mx_trie.proofs.LeafSpans.{line-at, length-line}
+use Rattle.mx_trie.proofs.LeafSpans.{line-at}
 use Rattle.mx_trie.proofs.Stored.{line-stored}
 
 -- a run that can be cut to its word's line

@@ -1,5 +1,5 @@
 -- Whether the words of a line, and of an eighth of a page, have one permission, told by leaf entries.
-use Rattle.std.proofs.Common.{◌≡◌, ◌≢◌, ℕ, ◌+◌, ◌-◌, ◌*◌, ◌/◌, ◌%◌, ◌<◌, ◌≤◌, ◌⊎◌, inl, inr, ◌==◌, Bool, true, false, List, length, if◌then◌else◌, Option, Some, None, is_some, refl, sym, ap, ◌∙◌, arith, subst}
+use Rattle.std.proofs.Common.{◌≡◌, ℕ, ◌+◌, ◌-◌, ◌*◌, ◌/◌, ◌%◌, ◌<◌, ◌≤◌, ◌==◌, Bool, true, false, List, length, if◌then◌else◌, Option, Some, None, is_some, refl, sym, ap, ◌∙◌, arith, subst}
 use Rattle.std.proofs.lemmas.List.{length-replicate, get_or-replicate}
 use Rattle.mx_words.specs.declared.perm.Perm.{Perm}
 use Rattle.mx_words.specs.declared.perm.Perm.TheVariants as P
@@ -7,18 +7,17 @@ use Rattle.mx_words.specs.declared.perm.Span.{Span}
 use Rattle.mx_words.specs.declared.tables.Kind.{Kind}
 use Rattle.mx_words.specs.Rights.{perm_at}
 use Rattle.mx_words.specs.Reach.{line_at}
-use Rattle.mx_words.proofs.CountingLaws.{cases_below}
 use Rattle.mx_table.specs.Tables.{most_words}
 use Rattle.mx_pool.specs.Frames.{word_at}
 use Rattle.mx_trie.specs.Filled.{flat_line}
 use Rattle.mx_trie.specs.Leaf.{IsTrieKind, needs_spill, spill_number, line_run, left_of_run, entry_run, IsStored}
 use Rattle.mx_trie.specs.Walk.{Frames, most_lines, line_number, map_left, map_right}
-use Rattle.mx_trie.specs.Shown.{IsLine, IsLineOfSome, AreLines}
+use Rattle.mx_trie.specs.Shown.{IsLine, IsLineOfSome}
 use Rattle.mx_trie.specs.Steps.{IsPermOf, AreLinesOfSome}
 use Rattle.mx_trie.proofs.EntryLaws.{some-named}
 use Rattle.mx_trie.proofs.EntryCuts.{IsCut, entry-cut}
 use Rattle.mx_trie.proofs.FlatLaws.{flat-needs}
-use Rattle.mx_trie.proofs.LeafSpans.{length-line, line-at}
+use Rattle.mx_trie.proofs.LeafSpans.{line-at}
 use Rattle.mx_trie.proofs.LineCuts.{line-is}
 use Rattle.mx_trie.proofs.LineReads.{stored-plain}
 use Rattle.mx_trie.proofs.Stored.{line-named}

@@ -1,10 +1,10 @@
 -- Reaches by a map with a permission laid over a range, told by the old map's and by what lies beside the range.
-use Rattle.std.proofs.Common.{◌≡◌, ◌≢◌, ℕ, ◌+◌, ◌-◌, ◌*◌, ◌/◌, ◌<◌, ◌≤◌, ◌⊎◌, inl, inr, min, List, length, sym, ap, ◌∙◌, arith}
+use Rattle.std.proofs.Common.{◌≡◌, ◌≢◌, ℕ, ◌+◌, ◌-◌, ◌<◌, ◌≤◌, inl, inr, min, List, length, sym, ap, ◌∙◌, arith}
 use Rattle.std.proofs.lemmas.Bool.{cases_lt}
 use Rattle.mx_words.specs.declared.perm.Perm.{Perm}
 use Rattle.mx_words.specs.Rights.{perm_at}
 use Rattle.mx_trie.specs.Laying.{with_range, back, ahead}
-use Rattle.mx_trie.proofs.Backs.{IsBack, IsAhead, is-back, is-ahead, back-is, ahead-is}
+use Rattle.mx_trie.proofs.Backs.{is-back, is-ahead, back-is, ahead-is}
 use Rattle.mx_trie.proofs.RangeLaws.{with_range-below, with_range-in, with_range-behind, length-with_range}
 
 module _ (m : List Perm) (first end : ℕ) (p : Perm) (order : first < end) (inside : end ≤ length m) (most : ℕ) where

@@ -1,5 +1,5 @@
 -- The reaches of a line's entry by a map, as numbers of words beside the line, before and after a change.
-use Rattle.std.proofs.Common.{◌≡◌, ◌≢◌, ℕ, ◌+◌, ◌-◌, ◌*◌, ◌/◌, ◌<◌, ◌≤◌, ◌⊎◌, inl, inr, min, Bool, nat_lt, List, length, if◌then◌else◌, refl, sym, ap, ◌∙◌, arith, lt-ltb}
+use Rattle.std.proofs.Common.{◌≡◌, ◌≢◌, ℕ, ◌+◌, ◌-◌, ◌*◌, ◌<◌, ◌≤◌, ◌⊎◌, inl, inr, min, Bool, List, length, if◌then◌else◌, refl, sym, ap, ◌∙◌, arith, lt-ltb}
 use Rattle.std.proofs.lemmas.Bool.{cases_lt, le-ltb}
 use Rattle.mx_words.specs.declared.perm.Perm.{Perm}
 use Rattle.mx_words.specs.declared.tables.Kind.{Kind}
@@ -10,7 +10,7 @@ use Rattle.mx_trie.specs.declared.laying.Laying.{Laying}
 use Rattle.mx_trie.specs.declared.laying.Beside.{Beside}
 use Rattle.mx_trie.specs.Leaf.{form_reach}
 use Rattle.mx_trie.specs.Walk.{form_left, form_right, map_left, map_right}
-use Rattle.mx_trie.specs.Laying.{with_range, laid_by, back, ahead, IsBeside}
+use Rattle.mx_trie.specs.Laying.{laid_by, back, ahead, IsBeside}
 use Rattle.mx_trie.proofs.Backs.{is-back, is-ahead}
 use Rattle.mx_trie.proofs.RangeLaws.{with_range-below, with_range-in, with_range-behind, length-with_range}
 use Rattle.mx_trie.proofs.LaidReaches.{back-kept, back-through, back-short, back-other, ahead-kept, ahead-through, ahead-short, ahead-other}

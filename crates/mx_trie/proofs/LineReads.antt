@@ -1,5 +1,5 @@
 -- The reaches of a line, read from the runs that its entry gives.
-use Rattle.std.proofs.Common.{◌≡◌, ℕ, ◌+◌, ◌-◌, ◌*◌, ◌^◌, ◌<◌, ◌≤◌, ◌⊎◌, inl, inr, ◌==◌, Bool, true, false, List, length, if◌then◌else◌, Option, Some, None, refl, sym, ap, ◌∙◌, arith, subst, eq-eqb}
+use Rattle.std.proofs.Common.{◌≡◌, ℕ, ◌+◌, ◌-◌, ◌*◌, ◌<◌, ◌≤◌, ◌==◌, Bool, true, false, List, length, if◌then◌else◌, None, refl, sym, ap, ◌∙◌, arith, subst, eq-eqb}
 use Rattle.std.specs.Option.{option_map_or}
 use Rattle.mx_words.specs.declared.perm.Perm.{Perm}
 use Rattle.mx_words.specs.declared.perm.Span.{Span}
@@ -8,8 +8,8 @@ use Rattle.mx_words.specs.Reach.{line_at}
 use Rattle.mx_words.proofs.ReachLaws.{within_round, within_high}
 use Rattle.mx_table.specs.Tables.{most_words}
 use Rattle.mx_pool.specs.Frames.{word_at}
-use Rattle.mx_trie.specs.Leaf.{IsTrieKind, form_reach, needs_spill, spill_number, line_run, left_of_run, right_of_run, entry_run, IsStored, IsEntry}
-use Rattle.mx_trie.specs.Walk.{Frames, most_lines, spilled_word, line_number, map_left, map_right}
+use Rattle.mx_trie.specs.Leaf.{IsTrieKind, needs_spill, spill_number, line_run, left_of_run, right_of_run, entry_run, IsStored, IsEntry}
+use Rattle.mx_trie.specs.Walk.{Frames, most_lines, line_number, map_left, map_right}
 use Rattle.mx_trie.specs.Shown.{IsLine, IsLineOfSome}
 use Rattle.mx_trie.proofs.Stored.{line-stored, line-named}
 use Rattle.mx_trie.proofs.LineChanges.{named-none}

@@ -1,14 +1,13 @@
 -- The frames of a page given back: the spill words of its lines, and its leaf table.
-use Rattle.std.proofs.Common.{◌≡◌, ◌≢◌, ℕ, zero, suc, ◌+◌, ◌*◌, ◌<◌, ◌≤◌, ◌⊎◌, inl, inr, Bool, true, false, List, [], length, if◌then◌else◌, Option, Some, None, IsSome, is_some, refl, sym, ap, ◌∙◌, arith, subst}
-use Rattle.std.proofs.lemmas.Bool.{cases_eq}
+use Rattle.std.proofs.Common.{◌≡◌, ◌≢◌, ℕ, zero, suc, ◌+◌, ◌<◌, inl, inr, Bool, true, false, [], length, if◌then◌else◌, Option, Some, None, IsSome, is_some, refl, sym, ap, ◌∙◌, arith}
 use Rattle.mx_words.specs.declared.tables.Kind.{Kind}
-use Rattle.mx_words.specs.Counting.{bit, count_below}
+use Rattle.mx_words.specs.Counting.{bit}
 use Rattle.mx_words.proofs.CountingLaws.{cases_below}
 use Rattle.mx_pool.specs.Frames.{frame_at, IsTaken, word_at, free_in}
 use Rattle.mx_trie.specs.Leaf.{IsTrieKind, form_reach, spill_number}
 use Rattle.mx_trie.specs.Walk.{Frames, is_pointer, target}
-use Rattle.mx_trie.specs.Heap.{heap, IsMove, IsNode}
-use Rattle.mx_trie.specs.Owned.{LineOwns, PlacesOwn, LeafOwns, PageOwns, IsLeafTable, line_spills, page_spills}
+use Rattle.mx_trie.specs.Heap.{heap}
+use Rattle.mx_trie.specs.Owned.{LineOwns, LeafOwns, PageOwns, IsLeafTable, line_spills, page_spills}
 use Rattle.mx_trie.specs.Steps.{IsPlaceWritten, IsLineFreed, AreLinesFreed, IsPageFreed}
 use Rattle.mx_trie.proofs.HeapLaws.{move-then, move-none}
 use Rattle.mx_trie.proofs.PageLines.{place-table, place-move, place-spills}

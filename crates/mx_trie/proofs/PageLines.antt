@@ -1,10 +1,9 @@
 -- The lines of a page, changed one by one in its leaf table.
-use Rattle.std.proofs.Common.{◌≡◌, ◌≢◌, ℕ, zero, suc, ◌+◌, ◌-◌, ◌*◌, ◌/◌, ◌%◌, ◌<◌, ◌≤◌, ◌⊎◌, inl, inr, Bool, true, false, min, List, [], length, if◌then◌else◌, Option, Some, None, IsSome, is_some, unwrap_or, slice_index, refl, sym, ap, ◌∙◌, arith, subst}
+use Rattle.std.proofs.Common.{◌≡◌, ◌≢◌, ℕ, zero, suc, ◌+◌, ◌-◌, ◌*◌, ◌/◌, ◌%◌, ◌<◌, ◌≤◌, ◌⊎◌, inl, inr, Bool, min, List, [], if◌then◌else◌, Option, Some, None, IsSome, is_some, unwrap_or, slice_index, refl, sym, ap, ◌∙◌, arith, subst}
 use Rattle.std.proofs.lemmas.Bool.{cases_eq, cases_lt}
 use Rattle.mx_words.specs.declared.perm.Perm.{Perm}
 use Rattle.mx_words.specs.declared.tables.Kind.{Kind}
-use Rattle.mx_words.specs.Rights.{perm_at}
-use Rattle.mx_words.specs.Counting.{bit, count_below}
+use Rattle.mx_words.specs.Counting.{bit}
 use Rattle.mx_words.specs.Reach.{packed, line_at}
 use Rattle.mx_words.proofs.CountingLaws.{count_below_changed}
 use Rattle.mx_pool.specs.Frames.{frame_at, IsTaken, word_at, free_in}
@@ -13,7 +12,7 @@ use Rattle.mx_trie.specs.declared.laying.Beside.{Beside}
 use Rattle.mx_table.specs.Tables.{most_words}
 use Rattle.mx_trie.specs.Leaf.{IsTrieKind, form_reach, needs_spill, leaf_entry, spill_number}
 use Rattle.mx_trie.specs.Walk.{Frames, most_pages, most_lines, line_number, map_left, map_right}
-use Rattle.mx_trie.specs.Heap.{heap, IsMove, IsNode}
+use Rattle.mx_trie.specs.Heap.{heap, IsMove}
 use Rattle.mx_trie.specs.Owned.{LineOwns, PlacesOwn, LeafOwns, IsLeafTable, line_spills}
 use Rattle.mx_trie.specs.Shown.{IsLine, IsSomeLine, AreLines}
 use Rattle.mx_trie.specs.Steps.{AreSomeLines, IsPlaceWritten}

@@ -1,13 +1,12 @@
 -- A leaf table that is filled line by line, for a page that has a vector.
-use Rattle.std.proofs.Common.{◌≡◌, ◌≢◌, ℕ, ◌+◌, ◌*◌, ◌<◌, ◌⊎◌, inl, inr, List, length, Option, Some, None, IsSome, refl, sym, ap, ◌∙◌, arith, subst}
-use Rattle.std.proofs.lemmas.Bool.{cases_eq}
+use Rattle.std.proofs.Common.{◌≡◌, ℕ, ◌+◌, ◌*◌, inl, inr, List, length, None, sym, ap, ◌∙◌, arith, subst}
 use Rattle.mx_words.specs.declared.perm.Perm.{Perm}
 use Rattle.mx_words.specs.declared.tables.Kind.{Kind}
 use Rattle.mx_words.specs.Blocks.{IsEven}
 use Rattle.mx_words.specs.Reach.{vector}
 use Rattle.mx_words.specs.Runs.{page_words}
 use Rattle.mx_words.proofs.CountingLaws.{cases_below}
-use Rattle.mx_pool.specs.Frames.{frame_at, IsTaken, word_at, free_in}
+use Rattle.mx_pool.specs.Frames.{word_at}
 use Rattle.mx_trie.specs.declared.laying.Outer.{Outer}
 use Rattle.mx_trie.specs.Leaf.{spill_number}
 use Rattle.mx_trie.specs.Walk.{Frames}

@@ -1,9 +1,9 @@
 -- The leaf table of a page, made and given back.
-use Rattle.std.proofs.Common.{◌≡◌, ◌≢◌, ℕ, zero, suc, ◌+◌, ◌*◌, ◌/◌, ◌%◌, ◌<◌, ◌≤◌, ◌⊎◌, inl, inr, ◌==◌, Bool, true, false, List, [], length, if◌then◌else◌, Option, Some, None, IsSome, is_some, refl, sym, ap, ◌∙◌, arith, subst, eq-eqb}
-use Rattle.std.proofs.lemmas.Bool.{cases_eq, ne_eqb}
+use Rattle.std.proofs.Common.{◌≡◌, ◌≢◌, ℕ, zero, suc, ◌+◌, ◌*◌, ◌/◌, ◌%◌, ◌<◌, ◌≤◌, inl, inr, Bool, true, false, List, [], length, if◌then◌else◌, Some, None, IsSome, is_some, refl, sym, ap, ◌∙◌, arith, subst, eq-eqb}
+use Rattle.std.proofs.lemmas.Bool.{ne_eqb}
 use Rattle.mx_words.specs.declared.perm.Perm.{Perm}
 use Rattle.mx_words.specs.declared.tables.Kind.{Kind}
-use Rattle.mx_words.specs.Counting.{bit, count_below}
+use Rattle.mx_words.specs.Counting.{bit}
 use Rattle.mx_words.specs.Reach.{vector, line_at}
 use Rattle.mx_words.specs.Runs.{page_words}
 use Rattle.mx_words.specs.Blocks.{is_broken, IsEven, block_of}
@@ -18,9 +18,9 @@ use Rattle.mx_trie.specs.declared.laying.Beside.{Beside}
 use Rattle.mx_trie.specs.declared.laying.Outer.{Outer}
 use Rattle.mx_trie.specs.Leaf.{IsTrieKind, needs_spill, spill_number}
 use Rattle.mx_trie.specs.Walk.{Frames, is_pointer, target, line_number}
-use Rattle.mx_trie.specs.Heap.{heap, IsMove, IsNode}
-use Rattle.mx_trie.specs.Owned.{LineOwns, PlacesOwn, LeafOwns, PageOwns, IsLeafTable, line_spills, page_spills}
-use Rattle.mx_trie.specs.Shown.{IsLine, AreLines, IsPage}
+use Rattle.mx_trie.specs.Heap.{heap}
+use Rattle.mx_trie.specs.Owned.{PlacesOwn, LeafOwns, PageOwns, IsLeafTable, line_spills}
+use Rattle.mx_trie.specs.Shown.{AreLines}
 use Rattle.mx_trie.specs.Laying.{IsBeside, IsOuter}
 use Rattle.mx_trie.specs.Steps.{IsEntryOf, IsPageMade, IsPageOpened, IsClosable, IsPageClosed}
 use Rattle.mx_trie.proofs.HeapLaws.{move-none}

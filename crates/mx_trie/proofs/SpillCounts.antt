@@ -1,12 +1,12 @@
 -- The lines of a range that need a spill word, page by page.
-use Rattle.std.proofs.Common.{◌≡◌, ℕ, ◌+◌, ◌-◌, ◌*◌, ◌/◌, ◌%◌, ◌<◌, ◌≤◌, Bool, true, false, min, max, List, is_some, refl, sym, ap, ◌∙◌, arith, subst}
+use Rattle.std.proofs.Common.{◌≡◌, ℕ, ◌+◌, ◌-◌, ◌*◌, ◌%◌, ◌<◌, ◌≤◌, Bool, false, min, max, List, is_some, sym, ap, ◌∙◌, arith, subst}
 use Rattle.mx_words.specs.declared.perm.Perm.{Perm}
 use Rattle.mx_words.specs.declared.tables.Kind.{Kind}
 use Rattle.mx_words.specs.Counting.{count_below}
 use Rattle.mx_words.specs.Reach.{line_at}
 use Rattle.mx_words.specs.Runs.{page_words}
 use Rattle.mx_words.specs.Blocks.{is_broken}
-use Rattle.mx_words.proofs.CountingLaws.{count_below_agree, count_below_none, count_below-plus, count_below-zero, count_below-le}
+use Rattle.mx_words.proofs.CountingLaws.{count_below_agree, count_below_none, count_below-plus, count_below-zero}
 use Rattle.mx_pool.specs.Frames.{word_at}
 use Rattle.mx_trie.specs.Leaf.{IsTrieKind, needs_spill, spill_number}
 use Rattle.mx_trie.specs.Walk.{Frames, line_number}

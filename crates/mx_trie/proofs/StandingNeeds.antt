@@ -1,5 +1,5 @@
 -- What tables that stand take, and what they need after a change.
-use Rattle.std.proofs.Common.{◌≡◌, ℕ, ◌+◌, ◌-◌, ◌*◌, ◌<◌, ◌≤◌, ◌⊎◌, inl, inr, true, List, [], length, get_or, Option, Some, None, IsTrue, refl, sym, ap, ◌∙◌, arith, subst}
+use Rattle.std.proofs.Common.{◌≡◌, ℕ, ◌+◌, ◌*◌, ◌<◌, ◌≤◌, inl, inr, true, List, [], length, get_or, Option, Some, None, IsTrue, refl, sym, ap, ◌∙◌, arith, subst}
 use Rattle.std.proofs.lemmas.Bool.{cases_lt}
 use Rattle.std.proofs.lemmas.List.{get_or-map, get_or_default, same_lists}
 use Rattle.mx_words.specs.declared.perm.Perm.{Perm}
@@ -9,7 +9,7 @@ use Rattle.mx_words.specs.declared.tables.Need.{Need}
 use Rattle.mx_words.specs.Changes.{changed_map, grant_of}
 use Rattle.mx_words.specs.Newest.{laid}
 use Rattle.mx_words.specs.Counting.{sum_below}
-use Rattle.mx_words.specs.Need.{need, within, fits}
+use Rattle.mx_words.specs.Need.{need, fits}
 use Rattle.mx_words.specs.Runs.{broken_blocks, page_words, region_words}
 use Rattle.mx_words.proofs.BrokenLaws.{broken_blocks-after}
 use Rattle.mx_words.proofs.CountingLaws.{sum_below_agree, sum_below_at_most}

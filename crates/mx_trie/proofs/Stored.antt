@@ -1,7 +1,6 @@
 -- What stands stored for a line of a map, as the leaf form's calls ask for it.
-use Rattle.std.proofs.Common.{◌≡◌, ℕ, ◌+◌, ◌-◌, ◌*◌, ◌^◌, ◌<◌, ◌≤◌, ◌⊎◌, inl, inr, min, Bool, true, false, List, length, take, drop, if◌then◌else◌, Option, Some, None, refl, sym, ap, ◌∙◌, arith, length-take, length-drop}
+use Rattle.std.proofs.Common.{◌≡◌, ℕ, ◌+◌, ◌*◌, ◌^◌, ◌<◌, ◌≤◌, ◌⊎◌, inl, inr, Bool, true, false, List, length, if◌then◌else◌, Option, Some, None, refl, ap, ◌∙◌, arith}
 use Rattle.std.specs.Option.{option_map_or}
-use Rattle.std.specs.List.{prefix_len, suffix_len}
 use Rattle.std.proofs.lemmas.Bool.{cases_lt}
 use Rattle.mx_words.specs.declared.perm.Perm.{Perm}
 use Rattle.mx_words.specs.declared.tables.Kind.{Kind}
@@ -12,11 +11,10 @@ use Rattle.mx_pool.specs.Frames.{word_at}
 use Rattle.mx_trie.specs.Leaf.{IsTrieKind, form_reach, needs_spill, IsStored}
 use Rattle.mx_trie.specs.Walk.{Frames, most_lines, spilled_word, line_number, map_left, map_right}
 use Rattle.mx_trie.specs.Shown.{IsLine}
-use Rattle.mx_trie.specs.Laying.{back, ahead}
 use Rattle.mx_trie.proofs.Backs.{is-back, is-ahead}
 use Rattle.mx_trie.proofs.LineReaches.{left-back, left-out, right-ahead, right-out}
 use Rattle.mx_trie.proofs.LeafSpans.{length-line}
-use Rattle.mx_trie.proofs.EntryLaws.{named-by, some-named}
+use Rattle.mx_trie.proofs.EntryLaws.{named-by}
 use Rattle.mx_trie.specs.Leaf.{spill_number}
 
 -- both reaches of a line by the map

@@ -1,5 +1,5 @@
 -- The entry that is made for a line of a page that has a vector stands for the line.
-use Rattle.std.proofs.Common.{◌≡◌, ℕ, ◌+◌, ◌-◌, ◌*◌, ◌/◌, ◌%◌, ◌<◌, ◌≤◌, min, List, length, refl, sym, ap, ◌∙◌, arith}
+use Rattle.std.proofs.Common.{◌≡◌, ℕ, ◌+◌, ◌-◌, ◌*◌, ◌/◌, ◌%◌, ◌<◌, ◌≤◌, min, List, length, sym, ap, ◌∙◌, arith}
 use Rattle.mx_words.specs.declared.perm.Perm.{Perm}
 use Rattle.mx_words.specs.declared.tables.Kind.{Kind}
 use Rattle.mx_words.specs.Rights.{perm_at}
@@ -9,7 +9,7 @@ use Rattle.mx_words.specs.Blocks.{IsEven}
 use Rattle.mx_trie.specs.declared.laying.Outer.{Outer}
 use Rattle.mx_trie.specs.Filled.{flat_line}
 use Rattle.mx_trie.specs.Leaf.{IsTrieKind, form_reach, leaf_entry}
-use Rattle.mx_trie.specs.Walk.{Frames, vector_perm, map_left, map_right}
+use Rattle.mx_trie.specs.Walk.{Frames, vector_perm}
 use Rattle.mx_trie.specs.Shown.{IsLine}
 use Rattle.mx_trie.specs.Laying.{IsOuter}
 use Rattle.mx_trie.specs.Steps.{IsBeforeEighth, IsBehindEighth}

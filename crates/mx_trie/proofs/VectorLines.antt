@@ -1,20 +1,20 @@
 -- The lines of a page that has a vector: their permissions and their reaches.
-use Rattle.std.proofs.Common.{◌≡◌, ◌≢◌, ℕ, ◌+◌, ◌-◌, ◌*◌, ◌/◌, ◌%◌, ◌<◌, ◌≤◌, ◌⊎◌, inl, inr, min, List, length, refl, sym, ap, ◌∙◌, arith}
+use Rattle.std.proofs.Common.{◌≡◌, ◌≢◌, ℕ, ◌+◌, ◌-◌, ◌*◌, ◌/◌, ◌%◌, ◌<◌, ◌≤◌, ◌⊎◌, inl, inr, min, List, length, sym, ap, ◌∙◌, arith}
 use Rattle.std.proofs.lemmas.Bool.{cases_eq, cases_lt}
 use Rattle.mx_words.specs.declared.perm.Perm.{Perm}
 use Rattle.mx_words.specs.declared.tables.Kind.{Kind}
 use Rattle.mx_words.specs.Rights.{number, perm_at}
 use Rattle.mx_words.specs.Runs.{page_words}
 use Rattle.mx_words.specs.Reach.{vector}
-use Rattle.mx_words.specs.Blocks.{IsUniform, IsEven}
+use Rattle.mx_words.specs.Blocks.{IsEven}
 use Rattle.mx_words.proofs.NumberLaws.{number-one_to_one}
 use Rattle.mx_trie.specs.declared.laying.Outer.{Outer}
 use Rattle.mx_trie.specs.Leaf.{IsTrieKind, form_reach}
-use Rattle.mx_trie.specs.Walk.{most_lines, map_left, map_right, vector_perm}
+use Rattle.mx_trie.specs.Walk.{map_left, map_right, vector_perm}
 use Rattle.mx_trie.specs.Laying.{back, ahead, IsOuter}
 use Rattle.mx_trie.specs.Steps.{IsBeforeEighth, IsBehindEighth}
 use Rattle.mx_trie.proofs.Backs.{IsAhead, is-ahead, back-along, back-other, ahead-along, ahead-other}
-use Rattle.mx_trie.proofs.LineReaches.{left-back, left-out, right-ahead, right-out}
+use Rattle.mx_trie.proofs.LineReaches.{left-back, right-ahead}
 use Rattle.mx_trie.proofs.FlatLaws.{page-part}
 
 -- the greatest reach of an entry is less than an eighth of a page

@@ -73,8 +73,8 @@ module _ (kind : Kind) (upper leaf spill : Frames) (m : List Perm) (x frame part
       let y : ℕ = x * 1024 + (128 * part + j) in
       let p : Perm = perm_at m (x * 1048576 + part * 131072) in
       let words : (k : ℕ) → k < 1024 → perm_at m (y * 1024 + k) ≡ p = λ k low.
-          (let at : (x * 1024 + (128 * part + j)) * 1024 + k ≡ x * 1048576 + part * 131072 + (j * 1024 + k) = omega arith in
-          ap (perm_at m) at ∙ alike (j * 1024 + k) (omega arith)) in
+      (let at : (x * 1024 + (128 * part + j)) * 1024 + k ≡ x * 1048576 + part * 131072 + (j * 1024 + k) = omega arith in
+      ap (perm_at m) at ∙ alike (j * 1024 + k) (omega arith)) in
       let page = pages (128 * part + j) (omega arith) in
       page.vector_is (page.broken ∙ uniform-whole 1024 128 m y p refl refl (omega arith) words) ∙ sym (uniform-vector 1024 128 m y p refl refl (omega arith) words)
 

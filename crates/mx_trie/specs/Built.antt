@@ -18,7 +18,8 @@ use Rattle.mx_trie.specs.Shown.{IsLine, IsPage, IsRegion, IsDomain}
 use Rattle.mx_trie.specs.After.{IsNeedOf}
 use Rattle.mx_trie.specs.Standing.{map_at, IsTables}
 
--- 1 where a line needs a spill word; how many lines of page y and of region x do; how many pages of region x are broken
+-- 1 where a line needs a spill word; how many lines of page y and of region x do; how many pages of region x
+-- are broken
 abbrev pub line_crowd : Kind → List Perm → ℕ → ℕ
 line_crowd kind m z = bit (needs_spill kind (line_at m (z * 16)))
 
@@ -110,7 +111,8 @@ pub record IsLineBuilt (kind : Kind) (spill spill' : Frames) (m : List Perm) (z 
       IsBuilt (LinesOwn kind) (LineStands kind m) (pools upper leaf spill) (pools upper leaf spill') z e
   pub spill_taken : AreTaken spill spill' (line_crowd kind m z)
 
-pub record AreLinesBuilt (kind : Kind) (leaf spill leaf' spill' : Frames) (m : List Perm) (y frame n : ℕ) : Type 0 where
+pub record AreLinesBuilt (kind : Kind) (leaf spill leaf' spill' : Frames) (m : List Perm) (y frame n : ℕ)
+    : Type 0 where
   pub built : (upper : Frames) →
       AreBuilt (LinesOwn kind) (LineStands kind m) (pools upper leaf spill) (pools upper leaf' spill') (Own 1 frame)
       (λ k. y * 64 + k) n (word_at leaf' frame)
@@ -123,10 +125,12 @@ pub record IsPageBuilt (kind : Kind) (leaf spill leaf' spill' : Frames) (m : Lis
   pub leaf_taken : AreTaken leaf leaf' (bit (is_broken page_words m y))
   pub spill_taken : AreTaken spill spill' (page_crowd kind m y)
 
-pub record ArePagesBuilt (kind : Kind) (upper leaf spill upper' leaf' spill' : Frames) (m : List Perm) (x frame n : ℕ)
+pub record ArePagesBuilt (kind : Kind) (upper leaf spill upper' leaf' spill' : Frames) (m : List Perm)
+    (x frame n : ℕ)
     : Type 0 where
   pub built :
-      AreBuilt (PagesOwning kind) (PageStands kind m) (pools upper leaf spill) (pools upper' leaf' spill') (Own 0 frame)
+      AreBuilt (PagesOwning kind) (PageStands kind m) (pools upper leaf spill) (pools upper' leaf' spill')
+      (Own 0 frame)
       (λ k. x * 1024 + k) n (word_at upper' frame)
   pub upper_taken : AreTaken upper upper' 1
   pub leaf_taken : AreTaken leaf leaf' (sum_below n (λ k. bit (is_broken page_words m (x * 1024 + k))))
@@ -140,7 +144,8 @@ pub record IsRegionBuilt (kind : Kind) (upper leaf spill upper' leaf' spill' : F
   pub leaf_taken : AreTaken leaf leaf' (region_broken m x)
   pub spill_taken : AreTaken spill spill' (region_crowd kind m x)
 
-pub record AreRegionsBuilt (kind : Kind) (upper leaf spill upper' leaf' spill' : Frames) (m : List Perm) (root n : ℕ)
+pub record AreRegionsBuilt (kind : Kind) (upper leaf spill upper' leaf' spill' : Frames) (m : List Perm)
+    (root n : ℕ)
     : Type 0 where
   pub built :
       AreBuilt (RegionsOwning kind) (RegionStands kind m) (pools upper leaf spill) (pools upper' leaf' spill')

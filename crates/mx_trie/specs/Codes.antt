@@ -18,7 +18,8 @@ abbrev pub start_step : Perm → List Perm → ℕ → ℕ → ℕ
 start_step p [] i code = 0
 start_step p (q ∷ qs) i code = if same p q then code else i + 16 * code
 
--- the starts of the runs but the first, four bits each, the second run's in the lowest bits; the first word stands at place i
+-- the starts of the runs but the first, four bits each, the second run's in the lowest bits; the first word
+-- stands at place i
 unfoldable pub start_code : ℕ → List Perm → ℕ
 start_code i [] = 0
 start_code i (p ∷ ps) = start_step p ps (i + 1) (start_code (i + 1) ps)

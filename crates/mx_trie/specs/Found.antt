@@ -24,7 +24,8 @@ pub record IsLeaf (kind : Kind) (crowded : Bool) (m : List Perm) (i entry spille
   pub number : ℕ
   pub left_is : left ≡ form_left kind m (first_in line_words i)
   pub right_is : right ≡ form_right kind m (first_in line_words i)
-  pub stored : IsStored kind (line_at m (first_in line_words i)) left right number (first_in line_words i) entry spilled
+  pub stored : IsStored kind (line_at m (first_in line_words i)) left right number
+      (first_in line_words i) entry spilled
 
 -- a walk for word i ends at the level that decides it, with the word that stands there
 abbrev pub IsFound : Kind → List Perm → ℕ → Found → Type 0

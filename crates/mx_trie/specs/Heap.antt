@@ -14,7 +14,8 @@ heap upper leaf spill (suc zero) = frame_at leaf
 heap upper leaf spill (suc (suc zero)) = frame_at spill
 heap upper leaf spill (suc (suc (suc a))) = λ g. None
 
--- a step from the frames that were owned to those that are: all other frames stay, and what was another's isn't owned
+-- a step from the frames that were owned to those that are: all other frames stay, and what was another's isn't
+-- owned
 pub record IsMove (h h' : Heap) (Owns Owns' : ℕ → ℕ → Type 0) : Type 0 where
   pub stays : (a g : ℕ) → IsSome (h a g) → (Owns a g → ⊥) → h' a g ≡ h a g
   pub none : (a g : ℕ) → IsSome (h a g) → (Owns a g → ⊥) → Owns' a g → ⊥

@@ -1,4 +1,5 @@
--- One permission laid over a range of words of one domain: which blocks it cuts, and what is known of the words beside it.
+-- One permission laid over a range of words of one domain: which blocks it cuts, and what is known of the words
+-- beside it.
 use Rattle.std.specs.Prelude.{◌≡◌, ℕ, ◌+◌, ◌-◌, ◌*◌, ◌/◌, ◌<◌, ◌≤◌, min, List, length, take, drop}
 use Rattle.std.specs.List.{prefix_len, suffix_len}
 use Rattle.mx_words.specs.declared.perm.Perm.{Perm}

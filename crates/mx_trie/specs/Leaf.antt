@@ -24,7 +24,8 @@ needs_spill kind perms = false
 
 -- a packed entry: the number of a spill word, or the runs and both reaches
 abbrev pub packed_entry : Bool → List Perm → ℕ → ℕ → ℕ → ℕ
-packed_entry crowded perms left right spill = if crowded then 3 + 4 * spill else mini_entry (runs_of same perms) left right
+packed_entry crowded perms left right spill = if crowded then 3
+    + 4 * spill else mini_entry (runs_of same perms) left right
 
 -- the entry of a line with these permissions, reaches and spill word
 abbrev pub leaf_entry : Kind → List Perm → ℕ → ℕ → ℕ → ℕ
@@ -52,8 +53,8 @@ placed line s = record { first = line + s.first; count = s.count; perm = s.perm 
 abbrev pub line_run : List Perm → ℕ → Span
 line_run perms i = span_within perms 0 line_words i
 
--- how far an entry's reaches go beyond a run: the left one where it begins the line, the right one where it ends it, and neither in
--- a line with a spill word
+-- how far an entry's reaches go beyond a run: the left one where it begins the line, the right one where it
+-- ends it, and neither in a line with a spill word
 abbrev pub left_of_run : Bool → Span → ℕ → ℕ
 left_of_run spilled s left = if spilled then 0 else if s.first == 0 then left else 0
 
@@ -67,7 +68,8 @@ entry_run kind perms left right line word =
     let spilled : Bool = needs_spill kind perms in
     lengthened (left_of_run spilled s left) (right_of_run spilled s right) (placed line s)
 
--- what stands stored for the line that begins at a word: an entry with its spill word, or 0 where it has none. The reaches stay in RAM
+-- what stands stored for the line that begins at a word: an entry with its spill word, or 0 where it has none.
+-- The reaches stay in RAM
 pub record IsStored (kind : Kind) (perms : List Perm) (left right spill line : ℕ) (entry spilled : ℕ) : Type 0 where
   pub whole : length perms ≡ line_words
   pub left_most : left ≤ form_reach kind

@@ -1,4 +1,5 @@
--- Whose a frame is, computed from the entries: what lines, pages, regions and domains own, and that each frame has one owner.
+-- Whose a frame is, computed from the entries: what lines, pages, regions and domains own, and that each frame
+-- has one owner.
 use Rattle.std.specs.Prelude.{◌≡◌, ℕ, ◌<◌, true, List, [], length, slice_index, Some, if◌then◌else◌, is_some}
 use Rattle.mx_words.specs.declared.tables.Kind.{Kind}
 use Rattle.mx_words.specs.Counting.{count_below, sum_below}
@@ -55,7 +56,8 @@ pub record IsRootTable (kind : Kind) (upper leaf spill : Frames) (root : ℕ) : 
 
 -- the tables of all domains
 pub record IsForest (kind : Kind) (upper leaf spill : Frames) (roots : List ℕ) : Type 0 where
-  pub family : IsFamily (heap upper leaf spill) (length roots) (λ d. DomainOwns kind upper leaf (slice_index roots d))
+  pub family : IsFamily (heap upper leaf spill) (length roots)
+      (λ d. DomainOwns kind upper leaf (slice_index roots d))
   pub tables : (d : ℕ) → d < length roots → IsRootTable kind upper leaf spill (slice_index roots d)
 
 -- how many spill words the lines of a leaf table have, and the lines below a mid entry, and below a root entry
@@ -81,4 +83,5 @@ abbrev pub domain_leaves : Frames → ℕ → ℕ
 domain_leaves upper root = sum_below most_regions (λ x. region_leaves upper (root_word upper root x))
 
 abbrev pub domain_spills : Kind → Frames → Frames → ℕ → ℕ
-domain_spills kind upper leaf root = sum_below most_regions (λ x. region_spills kind upper leaf (root_word upper root x))
+domain_spills kind upper leaf root = sum_below most_regions
+    (λ x. region_spills kind upper leaf (root_word upper root x))

@@ -18,7 +18,8 @@ unfoldable pub codes_line : ℕ → ℕ → ℕ → ℕ → List Perm
 codes_line zero i values starts = []
 codes_line (suc n) i values starts =
     let ends : Bool = starts % 16 == i + 1 in
-    numbered (values % 4) ∷ codes_line n (i + 1) (if ends then values / 4 else values) (if ends then starts / 16 else starts)
+    numbered (values % 4) ∷ codes_line n (i + 1) (if ends then values / 4 else values)
+    (if ends then starts / 16 else starts)
 
 -- the permissions of a line, from its entry and its spill word
 abbrev pub packed_line : ℕ → ℕ → List Perm
@@ -35,7 +36,8 @@ leaf_perm kind spill entry i = perm_at (read_line kind entry (spilled_word kind 
 
 abbrev pub mid_perm : Kind → Frames → Frames → ℕ → ℕ → Perm
 mid_perm kind leaf spill entry i =
-    if is_pointer entry then leaf_perm kind spill (word_at leaf (target entry) (i / 16 % 64)) i else vector_perm entry (i / 128 % 8)
+    if is_pointer entry then leaf_perm kind spill
+    (word_at leaf (target entry) (i / 16 % 64)) i else vector_perm entry (i / 128 % 8)
 
 abbrev pub root_perm : Kind → Frames → Frames → Frames → ℕ → ℕ → Perm
 root_perm kind upper leaf spill entry i =

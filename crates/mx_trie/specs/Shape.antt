@@ -19,19 +19,26 @@ module _ (kind : Kind) (upper leaf spill : Frames) (words : ℕ) (roots : List �
   unfolding read_map
   length-read_map root = length-list_below words (read_at kind upper leaf spill root)
 
-  pub map_of-read : (d : ℕ) → 1 ≤ d → d ≤ length roots → map_of (read_maps kind upper leaf spill words roots) d ≡ read_map kind upper leaf spill words (root_of roots d)
+  pub map_of-read : (d : ℕ) → 1 ≤ d → d ≤ length roots →
+      map_of (read_maps kind upper leaf spill words roots) d
+      ≡ read_map kind upper leaf spill words (root_of roots d)
   unfolding read_maps
   map_of-read d first last = get_or-map (read_map kind upper leaf spill words) roots (d - 1) 0 [] (omega arith)
 
-pub length-map_of : (kind : Kind) (upper leaf spill : Frames) (words : ℕ) (roots : List ℕ) (d : ℕ) → 1 ≤ d → d ≤ length roots → length (map_of (read_maps kind upper leaf spill words roots) d) ≡ words
+pub length-map_of : (kind : Kind) (upper leaf spill : Frames) (words : ℕ) (roots : List ℕ) (d : ℕ) → 1 ≤ d →
+    d ≤ length roots → length (map_of (read_maps kind upper leaf spill words roots) d) ≡ words
 length-map_of kind upper leaf spill words roots d first last =
-    ap (λ (m : List Perm). length m) (map_of-read kind upper leaf spill words roots d first last) ∙ length-read_map kind upper leaf spill words roots (root_of roots d)
+    ap (λ (m : List Perm). length m)
+    (map_of-read kind upper leaf spill words roots d first last) ∙ length-read_map kind upper leaf spill
+    words roots (root_of roots d)
 
 -- tables that stand have maps of the shape that the trait promises
-pub shaped_of : (kind : Kind) (upper leaf spill : Frames) (roots : List ℕ) (words : ℕ) (limit : Need) → IsStanding kind upper leaf spill roots words limit →
+pub shaped_of : (kind : Kind) (upper leaf spill : Frames) (roots : List ℕ) (words : ℕ) (limit : Need) →
+    IsStanding kind upper leaf spill roots words limit →
     IsShaped kind words limit (read_maps kind upper leaf spill words roots)
 shaped_of kind upper leaf spill roots words limit stands =
-    let same : length (read_maps kind upper leaf spill words roots) ≡ length roots = length-read_maps kind upper leaf spill words roots in
+    let same : length (read_maps kind upper leaf spill words roots)
+    ≡ length roots = length-read_maps kind upper leaf spill words roots in
     let some = stands.some_domains in
     let few = stands.few_domains in
     record {

@@ -1,4 +1,5 @@
--- How stored words stand for a map: each block has a pointer exactly where it isn't eighth-uniform, else its vector, else its parts.
+-- How stored words stand for a map: each block has a pointer exactly where it isn't eighth-uniform, else its
+-- vector, else its parts.
 use Rattle.std.specs.Prelude.{◌≡◌, ℕ, ◌+◌, ◌*◌, ◌^◌, ◌<◌, ◌≤◌, true, false, List, length, Some}
 use Rattle.mx_words.specs.declared.perm.Perm.{Perm}
 use Rattle.mx_words.specs.declared.tables.Kind.{Kind}
@@ -10,10 +11,12 @@ use Rattle.mx_pool.specs.Frames.{IsTaken, word_at}
 use Rattle.mx_trie.specs.Leaf.{leaf_entry, needs_spill, spill_number}
 use Rattle.mx_trie.specs.Walk.{Frames, most_regions, is_pointer, target, root_word, line_number, map_left, map_right}
 
--- a leaf entry stands for line z: its permissions, and its reaches by the map, with a spill word where the line needs one
+-- a leaf entry stands for line z: its permissions, and its reaches by the map, with a spill word where the line
+-- needs one
 pub record IsLine (kind : Kind) (spill : Frames) (m : List Perm) (z e : ℕ) : Type 0 where
   pub entry : e ≡ leaf_entry kind (line_at m (z * 16)) (map_left kind m z) (map_right kind m z) (line_number kind e)
-  pub spilled : needs_spill kind (line_at m (z * 16)) ≡ true → word_at spill (line_number kind e) 0 ≡ packed (line_at m (z * 16))
+  pub spilled : needs_spill kind (line_at m (z * 16)) ≡ true →
+      word_at spill (line_number kind e) 0 ≡ packed (line_at m (z * 16))
   pub numbered : line_number kind e < 2 ^ 30
 
 -- an entry of line z of some map
@@ -41,7 +44,8 @@ pub record IsPage (kind : Kind) (leaf spill : Frames) (m : List Perm) (y e : ℕ
 
 -- the entries of a mid table stand for the pages of region x
 abbrev pub ArePages : Kind → Frames → Frames → Frames → List Perm → ℕ → ℕ → Type 0
-ArePages kind upper leaf spill m x frame = (k : ℕ) → k < 1024 → IsPage kind leaf spill m (x * 1024 + k) (word_at upper frame k)
+ArePages kind upper leaf spill m x frame = (k : ℕ) → k < 1024 →
+    IsPage kind leaf spill m (x * 1024 + k) (word_at upper frame k)
 
 -- a root entry stands for region x
 pub record IsRegion (kind : Kind) (upper leaf spill : Frames) (m : List Perm) (x e : ℕ) : Type 0 where
@@ -51,4 +55,5 @@ pub record IsRegion (kind : Kind) (upper leaf spill : Frames) (m : List Perm) (x
 
 -- a root table stands for a domain's map
 abbrev pub IsDomain : Kind → Frames → Frames → Frames → List Perm → ℕ → Type 0
-IsDomain kind upper leaf spill m root = (x : ℕ) → x < most_regions → IsRegion kind upper leaf spill m x (root_word upper root x)
+IsDomain kind upper leaf spill m root = (x : ℕ) → x < most_regions →
+    IsRegion kind upper leaf spill m x (root_word upper root x)

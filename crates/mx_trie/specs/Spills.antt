@@ -1,5 +1,5 @@
 -- The spill word of a line, put where the line needs one and given back where it needs none.
-use Rattle.std.specs.Prelude.{◌≡◌, ◌≢◌, ℕ, ◌+◌, ◌<◌, ◌^◌, Bool, true, false, length, Option, None, Some, IfSome, is_some}
+use Rattle.std.specs.Prelude.{◌≡◌, ◌≢◌, ℕ, ◌+◌, ◌<◌, ◌^◌, Bool, true, length, Option, None, Some, is_some}
 use Rattle.mx_words.specs.Counting.{bit}
 use Rattle.mx_pool.specs.Frames.{frame_at, IsTaken, word_at, free_in}
 use Rattle.mx_trie.specs.Walk.{Frames}

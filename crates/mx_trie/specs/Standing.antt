@@ -29,18 +29,24 @@ pub record IsRead (kind : Kind) (words : ℕ) (upper leaf spill : Frames) (root 
   pub table : IsRootTable kind upper leaf spill root
   pub shown : IsDomain kind upper leaf spill (read_map kind upper leaf spill words root) root
 
--- the tables of all domains: each frame has one owner, each domain's tables stand for its map, and the frames that are taken are those
--- that the tables name
+-- the tables of all domains: each frame has one owner, each domain's tables stand for its map, and the frames
+-- that are taken are those that the tables name
 pub record IsTables (kind : Kind) (words : ℕ) (upper leaf spill : Frames) (roots : List ℕ) : Type 0 where
   pub few_words : words ≤ most_words
   pub forest : IsForest kind upper leaf spill roots
-  pub shown : (d : ℕ) → d < length roots → IsDomain kind upper leaf spill (map_at kind words upper leaf spill roots d) (root_at roots d)
-  pub upper_count : free_in upper + length roots + sum_below (length roots) (λ d. domain_mids upper (root_at roots d)) ≡ length upper
-  pub leaf_count : free_in leaf + sum_below (length roots) (λ d. domain_leaves upper (root_at roots d)) ≡ length leaf
-  pub spill_count : free_in spill + sum_below (length roots) (λ d. domain_spills kind upper leaf (root_at roots d)) ≡ length spill
+  pub shown : (d : ℕ) → d < length roots →
+      IsDomain kind upper leaf spill (map_at kind words upper leaf spill roots d) (root_at roots d)
+  pub upper_count : free_in upper + length roots
+      + sum_below (length roots) (λ d. domain_mids upper (root_at roots d)) ≡ length upper
+  pub leaf_count : free_in leaf + sum_below (length roots) (λ d. domain_leaves upper (root_at roots d))
+      ≡ length leaf
+  pub spill_count : free_in spill
+      + sum_below (length roots) (λ d. domain_spills kind upper leaf (root_at roots d)) ≡ length spill
 
--- the tables stand for maps that fit the limit, and each pool has as many frames as the limit says, and two more for each domain
-pub record IsStanding (kind : Kind) (upper leaf spill : Frames) (roots : List ℕ) (words : ℕ) (limit : Need) : Type 0 where
+-- the tables stand for maps that fit the limit, and each pool has as many frames as the limit says, and two
+-- more for each domain
+pub record IsStanding (kind : Kind) (upper leaf spill : Frames) (roots : List ℕ) (words : ℕ) (limit : Need)
+    : Type 0 where
   pub some_words : 1 ≤ words
   pub some_domains : 1 ≤ length roots
   pub few_domains : length roots ≤ most_modules

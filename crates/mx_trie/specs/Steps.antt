@@ -1,5 +1,5 @@
 -- What single steps of a change do: a table is opened, closed or given back. And what they rely on.
-use Rattle.std.specs.Prelude.{◌≡◌, ◌≢◌, ℕ, ◌+◌, ◌-◌, ◌*◌, ◌/◌, ◌<◌, ◌≤◌, true, false, List, [], length, Option, Some, None, is_some, if◌then◌else◌}
+use Rattle.std.specs.Prelude.{◌≡◌, ◌≢◌, ℕ, ◌+◌, ◌-◌, ◌*◌, ◌<◌, ◌≤◌, true, List, [], length, Option, Some, None, is_some, if◌then◌else◌}
 use Rattle.mx_words.specs.declared.perm.Perm.{Perm}
 use Rattle.mx_words.specs.declared.tables.Kind.{Kind}
 use Rattle.mx_words.specs.Blocks.{is_broken, IsEven}
@@ -7,7 +7,7 @@ use Rattle.mx_words.specs.Counting.{bit}
 use Rattle.mx_words.specs.Ranges.{most_words}
 use Rattle.mx_words.specs.Reach.{vector}
 use Rattle.mx_words.specs.Rights.{perm_at}
-use Rattle.mx_words.specs.Runs.{page_words, region_words}
+use Rattle.mx_words.specs.Runs.{page_words}
 use Rattle.mx_pool.specs.Frames.{frame_at, IsTaken, word_at, free_in}
 use Rattle.mx_trie.specs.declared.laying.Laying.{Laying}
 use Rattle.mx_trie.specs.declared.laying.Beside.{Beside}
@@ -20,7 +20,8 @@ use Rattle.mx_trie.specs.Shown.{IsLine, AreLines, IsPage, ArePages, IsRegion, Is
 use Rattle.mx_trie.specs.Laying.{IsBeside, IsOuter}
 
 -- entries that stand for some map, of which it is known what lies beside the range
-pub record AreSomeLines (kind : Kind) (leaf spill : Frames) (lay : Laying) (beside : Beside) (y frame : ℕ) : Type 0 where
+pub record AreSomeLines (kind : Kind) (leaf spill : Frames) (lay : Laying) (beside : Beside) (y frame : ℕ)
+    : Type 0 where
   pub map : List Perm
   pub known : IsBeside kind map lay beside
   pub lines : AreLines kind leaf spill map y frame
@@ -30,17 +31,20 @@ pub record IsSomePage (kind : Kind) (leaf spill : Frames) (lay : Laying) (beside
   pub known : IsBeside kind map lay beside
   pub page : IsPage kind leaf spill map y e
 
-pub record AreSomePages (kind : Kind) (upper leaf spill : Frames) (lay : Laying) (beside : Beside) (x frame : ℕ) : Type 0 where
+pub record AreSomePages (kind : Kind) (upper leaf spill : Frames) (lay : Laying) (beside : Beside)
+    (x frame : ℕ) : Type 0 where
   pub map : List Perm
   pub known : IsBeside kind map lay beside
   pub pages : ArePages kind upper leaf spill map x frame
 
-pub record IsSomeRegion (kind : Kind) (upper leaf spill : Frames) (lay : Laying) (beside : Beside) (x e : ℕ) : Type 0 where
+pub record IsSomeRegion (kind : Kind) (upper leaf spill : Frames) (lay : Laying) (beside : Beside) (x e : ℕ)
+    : Type 0 where
   pub map : List Perm
   pub known : IsBeside kind map lay beside
   pub region : IsRegion kind upper leaf spill map x e
 
-pub record AreSomeRegions (kind : Kind) (upper leaf spill : Frames) (lay : Laying) (beside : Beside) (root : ℕ) : Type 0 where
+pub record AreSomeRegions (kind : Kind) (upper leaf spill : Frames) (lay : Laying) (beside : Beside)
+    (root : ℕ) : Type 0 where
   pub map : List Perm
   pub known : IsBeside kind map lay beside
   pub regions : IsDomain kind upper leaf spill map root
@@ -80,8 +84,10 @@ pub record IsPlaceWritten (frames frames' : Frames) (frame place entry : ℕ) : 
   pub free : free_in frames' ≡ free_in frames
   pub total : length frames' ≡ length frames
 
--- a leaf table in a frame that was free, with the entries of the first lines of a page that has a vector; they name no spill words
-pub record IsPageMade (kind : Kind) (words : ℕ) (leaf leaf' : Frames) (outer : Outer) (y e frame count : ℕ) : Type 0 where
+-- a leaf table in a frame that was free, with the entries of the first lines of a page that has a vector; they
+-- name no spill words
+pub record IsPageMade (kind : Kind) (words : ℕ) (leaf leaf' : Frames) (outer : Outer) (y e frame count : ℕ)
+    : Type 0 where
   pub was_free : frame_at leaf frame ≡ None
   pub taken : IsTaken leaf' frame
   pub none : (k : ℕ) → k < count → spill_number kind (word_at leaf' frame k) ≡ None
@@ -93,10 +99,12 @@ pub record IsPageMade (kind : Kind) (words : ℕ) (leaf leaf' : Frames) (outer :
   pub total : length leaf' ≡ length leaf
 
 -- page y has a leaf table
-pub record IsPageOpened (kind : Kind) (leaf spill leaf' : Frames) (lay : Laying) (beside : Beside) (y e frame : ℕ) : Type 0 where
+pub record IsPageOpened (kind : Kind) (leaf spill leaf' : Frames) (lay : Laying) (beside : Beside)
+    (y e frame : ℕ) : Type 0 where
   pub table : IsLeafTable kind leaf' spill frame
   pub move : IsMove (heap [] leaf spill) (heap [] leaf' spill) (PageOwns kind leaf e) (LeafOwns kind leaf' frame)
-  pub shown : (m : List Perm) → IsBeside kind m lay beside → IsPage kind leaf spill m y e → AreLines kind leaf' spill m y frame
+  pub shown : (m : List Perm) → IsBeside kind m lay beside → IsPage kind leaf spill m y e →
+      AreLines kind leaf' spill m y frame
   pub count : free_in leaf' + 1 ≡ free_in leaf + bit (is_pointer e)
   pub total : length leaf' ≡ length leaf
   pub spills : line_spills kind leaf' frame ≡ page_spills kind leaf e
@@ -110,7 +118,8 @@ pub record IsClosable (kind : Kind) (leaf spill : Frames) (y frame : ℕ) : Type
 pub record IsPageClosed (kind : Kind) (leaf spill leaf' : Frames) (y frame e' : ℕ) : Type 0 where
   pub table : is_pointer e' ≡ true → IsLeafTable kind leaf' spill (target e')
   pub move : IsMove (heap [] leaf spill) (heap [] leaf' spill) (LeafOwns kind leaf frame) (PageOwns kind leaf' e')
-  pub shown : (m : List Perm) → length m ≤ most_words → AreLines kind leaf spill m y frame → IsPage kind leaf' spill m y e'
+  pub shown : (m : List Perm) → length m ≤ most_words → AreLines kind leaf spill m y frame →
+      IsPage kind leaf' spill m y e'
   pub count : free_in leaf' + bit (is_pointer e') ≡ free_in leaf + 1
   pub total : length leaf' ≡ length leaf
   pub spills : page_spills kind leaf' e' ≡ line_spills kind leaf frame
@@ -127,7 +136,8 @@ pub record IsPageFreed (kind : Kind) (leaf spill leaf' spill' : Frames) (e : ℕ
 pub record IsLineFreed (kind : Kind) (leaf spill leaf' spill' : Frames) (frame place : ℕ) : Type 0 where
   pub written : IsPlaceWritten leaf leaf' frame place (word_at leaf' frame place)
   pub none : spill_number kind (word_at leaf' frame place) ≡ None
-  pub move : IsMove (heap [] [] spill) (heap [] [] spill') (LineOwns kind (word_at leaf frame place)) (LineOwns kind (word_at leaf' frame place))
+  pub move : IsMove (heap [] [] spill) (heap [] [] spill') (LineOwns kind (word_at leaf frame place))
+      (LineOwns kind (word_at leaf' frame place))
   pub count : free_in spill' ≡ free_in spill + bit (is_some (spill_number kind (word_at leaf frame place)))
   pub total : length spill' ≡ length spill
 
@@ -135,7 +145,8 @@ pub record IsLineFreed (kind : Kind) (leaf spill leaf' spill' : Frames) (frame p
 pub record AreLinesFreed (kind : Kind) (leaf spill leaf' spill' : Frames) (frame count : ℕ) : Type 0 where
   pub table : IsLeafTable kind leaf' spill' frame
   pub none : (k : ℕ) → k < count → spill_number kind (word_at leaf' frame k) ≡ None
-  pub move : IsMove (heap [] leaf spill) (heap [] leaf' spill') (LeafOwns kind leaf frame) (LeafOwns kind leaf' frame)
+  pub move : IsMove (heap [] leaf spill) (heap [] leaf' spill') (LeafOwns kind leaf frame)
+      (LeafOwns kind leaf' frame)
   pub leaf_count : free_in leaf' ≡ free_in leaf
   pub leaf_total : length leaf' ≡ length leaf
   pub spill_count : free_in spill' + line_spills kind leaf' frame ≡ free_in spill + line_spills kind leaf frame
@@ -144,8 +155,10 @@ pub record AreLinesFreed (kind : Kind) (leaf spill leaf' spill' : Frames) (frame
 -- a region has a mid table
 pub record IsRegionOpened (kind : Kind) (upper leaf spill upper' : Frames) (e frame : ℕ) : Type 0 where
   pub table : IsMidTable kind upper' leaf spill frame
-  pub move : IsMove (heap upper leaf spill) (heap upper' leaf spill) (RegionOwns kind upper leaf e) (MidOwns kind upper' leaf frame)
-  pub shown : (m : List Perm) (x : ℕ) → IsRegion kind upper leaf spill m x e → ArePages kind upper' leaf spill m x frame
+  pub move : IsMove (heap upper leaf spill) (heap upper' leaf spill) (RegionOwns kind upper leaf e)
+      (MidOwns kind upper' leaf frame)
+  pub shown : (m : List Perm) (x : ℕ) → IsRegion kind upper leaf spill m x e →
+      ArePages kind upper' leaf spill m x frame
   pub count : free_in upper' + 1 ≡ free_in upper + bit (is_pointer e)
   pub total : length upper' ≡ length upper
   pub leaves : region_leaves upper' (4 * frame) ≡ region_leaves upper e
@@ -160,7 +173,8 @@ pub record IsClosableRegion (kind : Kind) (upper leaf spill : Frames) (x frame :
 -- region x keeps its mid table exactly where it is broken
 pub record IsRegionClosed (kind : Kind) (upper leaf spill upper' : Frames) (x frame e' : ℕ) : Type 0 where
   pub table : is_pointer e' ≡ true → IsMidTable kind upper' leaf spill (target e')
-  pub move : IsMove (heap upper leaf spill) (heap upper' leaf spill) (MidOwns kind upper leaf frame) (RegionOwns kind upper' leaf e')
+  pub move : IsMove (heap upper leaf spill) (heap upper' leaf spill) (MidOwns kind upper leaf frame)
+      (RegionOwns kind upper' leaf e')
   pub shown : (m : List Perm) → ArePages kind upper leaf spill m x frame → IsRegion kind upper' leaf spill m x e'
   pub count : free_in upper' + bit (is_pointer e') ≡ free_in upper + 1
   pub total : length upper' ≡ length upper
@@ -180,7 +194,8 @@ pub record IsRegionFreed (kind : Kind) (upper leaf spill upper' leaf' spill' : F
 -- the frames below a mid table are given back
 pub record ArePagesFreed (kind : Kind) (upper leaf spill upper' leaf' spill' : Frames) (frame : ℕ) : Type 0 where
   pub taken : IsTaken upper' frame
-  pub move : IsMove (heap upper leaf spill) (heap upper' leaf' spill') (MidOwns kind upper leaf frame) (MidOwns kind upper' leaf' frame)
+  pub move : IsMove (heap upper leaf spill) (heap upper' leaf' spill') (MidOwns kind upper leaf frame)
+      (MidOwns kind upper' leaf' frame)
   pub upper_count : free_in upper' ≡ free_in upper
   pub upper_total : length upper' ≡ length upper
   pub leaf_count : free_in leaf' ≡ free_in leaf + region_leaves upper (4 * frame)

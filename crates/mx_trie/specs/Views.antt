@@ -15,12 +15,14 @@ pub record IsRound (m : List Perm) (word : ℕ) (s : Span) : Type 0 where
   pub whole : s.first + s.count ≤ most_words
   pub alike : (k : ℕ) → s.first ≤ k → k < s.first + s.count → perm_at m k ≡ s.perm
 
--- a span round a word that holds the word's block, and the eighth that is told by it: the eighth's blocks, as many as `places`, have
--- one entry in a frame
+-- a span round a word that holds the word's block, and the eighth that is told by it: the eighth's blocks, as
+-- many as `places`, have one entry in a frame
 pub record IsWide (frames : Frames) (frame places block word : ℕ) (near far : Span) : Type 0 where
   pub from : near.first ≤ word / block * block
   pub to : word / block * block + block ≤ near.first + near.count
-  pub alike : (k : ℕ) → k < places → word_at frames frame (word / (places * block) % 8 * places + k) ≡ word_at frames frame (word / (places * block) % 8 * places)
+  pub alike : (k : ℕ) → k < places →
+      word_at frames frame (word / (places * block) % 8 * places + k)
+      ≡ word_at frames frame (word / (places * block) % 8 * places)
   pub first : far.first ≡ word / (places * block) * (places * block)
   pub count : far.count ≡ places * block
   pub perm : far.perm ≡ near.perm

@@ -32,7 +32,8 @@ is_pointer entry = entry % 4 == 0
 abbrev pub target : ℕ → ℕ
 target entry = entry / 4
 
--- the place of region x in a root table: an entry there maps 4 MiB of the address space, and RAM doesn't begin at address 0
+-- the place of region x in a root table: an entry there maps 4 MiB of the address space, and RAM doesn't begin
+-- at address 0
 unfoldable pub root_place : ℕ → ℕ
 root_place x = address_of (x * region_words) / (4 * region_words)
 

@@ -1,5 +1,5 @@
-//! What the maps need after a change, told without making it: what is taken, less what the blocks that meet the range
-//! take, and more by what its edges need afterwards.
+//! What the maps need after a change, told without making it: what is taken, less what the blocks that meet the
+//! range take, and more by what its edges need afterwards.
 ghost use Rattle.std.specs.Prelude.{◌≡◌, ℕ, ◌+◌, ◌-◌, ◌*◌, ◌/◌, ◌<◌, ◌≤◌, true, List, length};
 ghost use Rattle.mx_words.specs.declared.perm.Perm.{Perm};
 ghost use Rattle.mx_words.specs.Blocks.{is_broken};

@@ -17,8 +17,8 @@ use crate::sizes::REGION_WORDS;
 use crate::table_view::map_of;
 use mx_pool::Pool;
 
-/// Lays a permission over a range of words of the domain with a root table. Where the domain has the permission on the whole range
-/// already, the tables are only read.
+/// Lays a permission over a range of words of the domain with a root table. Where the domain has the permission
+/// on the whole range already, the tables are only read.
 pub(crate) fn change_domain<L: LeafForm>(
     upper: &mut Pool<1024>,
     leaf: &mut Pool<64>,

@@ -1,5 +1,5 @@
-//! Pages and regions after a change of a range: whether they are broken, not eighth-uniform, is told at the range's edges first, and
-//! only then by all words.
+//! Pages and regions after a change of a range: whether they are broken, not eighth-uniform, is told at the
+//! range's edges first, and only then by all words.
 ghost use Rattle.std.specs.Prelude.{◌≡◌, ◌/◌, ◌<◌, true};
 ghost use Rattle.mx_words.specs.Runs.{page_words, region_words};
 ghost use Rattle.mx_words.specs.Blocks.{is_broken};
@@ -38,9 +38,9 @@ pub(crate) fn is_page_broken<V: View>(view: &V, first: u32, end: u32, page: u32)
     !is_page_even(view, page)
 }
 
-/// Whether a region isn't eighth-uniform by a map that has changed on the words `first` to `end - 1`. `odd` says that
-/// the page of the word `first` is known not to be eighth-uniform. All words are looked at only where neither that nor
-/// the range's edges tell.
+/// Whether a region isn't eighth-uniform by a map that has changed on the words `first` to `end - 1`. `odd`
+/// says that the page of the word `first` is known not to be eighth-uniform. All words are looked at only where
+/// neither that nor the range's edges tell.
 #[tactic(auto, using(crate::proofs::EdgeLaws::broken_region))]
 pub(crate) fn is_region_broken<V: View>(
     view: &V,

@@ -50,7 +50,8 @@ fn is_line_of<L: LeafForm>(entry: u32, line: u32, perm: Perm) -> bool
     }
 }
 
-/// The permission of all words of an eighth of a page, by the page's leaf table. `None` where they have more than one.
+/// The permission of all words of an eighth of a page, by the page's leaf table. `None` where they have more
+/// than one.
 fn eighth_perm<L: LeafForm>(leaf: &Pool<64>, page: u32, frame: u32, part: u32) -> Option<Perm>
     requires page { page < most_pages }
     requires part { part < 8 }
@@ -70,7 +71,8 @@ fn eighth_perm<L: LeafForm>(leaf: &Pool<64>, page: u32, frame: u32, part: u32) -
     Some(perm)
 }
 
-/// The vector of a page, by its leaf table. `None` where it isn't eighth-uniform. The eighth of the word `near` is looked at first.
+/// The vector of a page, by its leaf table. `None` where it isn't eighth-uniform. The eighth of the word `near`
+/// is looked at first.
 pub(crate) fn page_entry<L: LeafForm>(
     leaf: &Pool<64>,
     page: u32,
@@ -93,7 +95,8 @@ pub(crate) fn page_entry<L: LeafForm>(
     Some(1 + 4 * entry)
 }
 
-/// The permission of all words of an eighth of a region, by the region's mid table. `None` where they have more than one.
+/// The permission of all words of an eighth of a region, by the region's mid table. `None` where they have more
+/// than one.
 fn wide_perm(upper: &Pool<1024>, frame: u32, part: u32) -> Option<Perm>
     requires part { part < 8 }
     requires taken { IsTaken upper.now frame }
@@ -109,7 +112,8 @@ fn wide_perm(upper: &Pool<1024>, frame: u32, part: u32) -> Option<Perm>
     Some(perm)
 }
 
-/// The vector of a region, by its mid table. `None` where it isn't eighth-uniform. The eighth of the word `near` is looked at first.
+/// The vector of a region, by its mid table. `None` where it isn't eighth-uniform. The eighth of the word
+/// `near` is looked at first.
 pub(crate) fn region_entry(upper: &Pool<1024>, frame: u32, near: u32) -> Option<u32>
     requires taken { IsTaken upper.now frame }
     ensures { (kind : Kind) (leaf spill : Frames) (m : List Perm) (x : ℕ) →

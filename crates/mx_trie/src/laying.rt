@@ -1,4 +1,5 @@
-//! A permission for a range of words of one domain, and what is known of the words beside the range before it is laid.
+//! A permission for a range of words of one domain, and what is known of the words beside the range before it
+//! is laid.
 ghost use Rattle.std.specs.Prelude.{◌≡◌, ℕ, ◌+◌, ◌-◌, ◌*◌, ◌<◌, ◌≤◌, true, false, min, List, length};
 ghost use Rattle.mx_words.specs.declared.perm.Perm.{Perm};
 ghost use Rattle.mx_words.specs.Ranges.{most_words};

@@ -23,15 +23,16 @@ pub trait LeafForm {
     fn needs_spill(perms: &[Perm; 16]) -> bool
         ensures { result ≡ needs_spill kind perms.now };
 
-    /// The entry of a line with these permissions, both reaches at most `REACH`, and the number of its spill word, below 2^30, which
-    /// counts only where one is needed.
+    /// The entry of a line with these permissions, both reaches at most `REACH`, and the number of its spill
+    /// word, below 2^30, which counts only where one is needed.
     fn entry(perms: &[Perm; 16], left: u32, right: u32, spill: u32) -> u32
         requires left { left ≤ REACH }
         requires right { right ≤ REACH }
         requires spill { spill < 2 ^ 30 }
         ensures { result ≡ leaf_entry kind perms.now left right spill };
 
-    /// The entry of a line of which all words have one permission, both reaches at most `REACH`. It names no spill word.
+    /// The entry of a line of which all words have one permission, both reaches at most `REACH`. It names no
+    /// spill word.
     fn flat(perm: Perm, left: u32, right: u32) -> u32
         requires left { left ≤ REACH }
         requires right { right ≤ REACH }
@@ -42,8 +43,9 @@ pub trait LeafForm {
         ensures value { result ≡ spill_number kind entry }
         ensures named { (perms : List Perm) (left right spill : ℕ) → entry ≡ leaf_entry kind perms left right spill → result ≡ named_spill kind perms spill };
 
-    /// The run of a word inside its line, lengthened by the reaches that the entry was made with. `line` is the line's first word,
-    /// `word` lies in the line, the entry's reaches stay in RAM, and `spilled` is its spill word, or 0 where it has none.
+    /// The run of a word inside its line, lengthened by the reaches that the entry was made with. `line` is the
+    /// line's first word, `word` lies in the line, the entry's reaches stay in RAM, and `spilled` is its spill
+    /// word, or 0 where it has none.
     fn run(entry: u32, spilled: u32, line: u32, word: u32) -> Span
         requires entry { IsEntry kind line entry spilled }
         requires from { line ≤ word }

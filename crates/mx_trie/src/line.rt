@@ -21,8 +21,8 @@ use crate::{LeafForm, Vector};
 use mx_pool::Pool;
 use mx_words::Perm;
 
-/// Puts a spill word where a line needs one, in the frame that it had or in a new one, and gives its frame back where it needs none.
-/// Answers the number of its spill word, or 0.
+/// Puts a spill word where a line needs one, in the frame that it had or in a new one, and gives its frame back
+/// where it needs none. Answers the number of its spill word, or 0.
 pub(crate) fn put_spill(spill: &mut Pool<1>, old: Option<u32>, needs: bool, word: u32) -> u32
     requires taken { IfSome old (λ n. IsTaken spill.old n) }
     requires few { IfSome old (λ n. n < 2 ^ 30) }
@@ -67,8 +67,8 @@ fn lay_over(old: &[Perm; 16], from: u32, to: u32, perm: Perm) -> [Perm; 16]
     new
 }
 
-/// The left reach, at most `most`, that a line behind the range has after a change. It has the left reach `old` by the old map, and
-/// `perm` is the permission of its first word.
+/// The left reach, at most `most`, that a line behind the range has after a change. It has the left reach `old`
+/// by the old map, and `perm` is the permission of its first word.
 fn left_behind(lay: &Laying, beside: &Beside, most: u32, line: u32, old: u32, perm: Perm) -> u32
     requires line { line < most_lines }
     requires behind { lay.now.end ≤ line * 16 }
@@ -88,8 +88,8 @@ fn left_behind(lay: &Laying, beside: &Beside, most: u32, line: u32, old: u32, pe
     (begin - lay.first + beside.before).min(most)
 }
 
-/// The right reach, at most `most`, that a line before the range has after a change. It has the right reach `old` by the old map, and
-/// `perm` is the permission of its last word.
+/// The right reach, at most `most`, that a line before the range has after a change. It has the right reach
+/// `old` by the old map, and `perm` is the permission of its last word.
 fn right_before(lay: &Laying, beside: &Beside, most: u32, line: u32, old: u32, perm: Perm) -> u32
     requires before { line * 16 + 16 ≤ lay.now.first }
     ensures few { result ≤ max old most }

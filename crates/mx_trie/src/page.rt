@@ -1,4 +1,5 @@
-//! One page of a change: its entry in a mid table before and after, with the leaf table that is made for it or given back.
+//! One page of a change: its entry in a mid table before and after, with the leaf table that is made for it or
+//! given back.
 ghost use Rattle.std.specs.Prelude.{◌≡◌, ◌≢◌, ℕ, ◌+◌, ◌-◌, ◌*◌, ◌/◌, ◌<◌, ◌≤◌, ◌^◌, ◌⊎◌, List, length, true, false, None};
 ghost use Rattle.mx_words.specs.declared.perm.Perm.{Perm};
 ghost use Rattle.mx_words.specs.Blocks.{IsEven};
@@ -23,7 +24,8 @@ use crate::vector::perm_in;
 use mx_pool::Pool;
 use mx_words::Perm;
 
-/// The entry of a page after a change. The page meets the range, or lies so near to it that reaches of its lines may change.
+/// The entry of a page after a change. The page meets the range, or lies so near to it that reaches of its
+/// lines may change.
 pub(crate) fn change_page<L: LeafForm>(
     leaf: &mut Pool<64>,
     spill: &mut Pool<1>,
@@ -195,8 +197,8 @@ fn line_of_vector<L: LeafForm>(entry: u32, page: u32, k: u32, words: u32, outer:
     L::flat(perm, left, right.min(rest))
 }
 
-/// The entry of a page with a leaf table after its lines were changed: the table, or a vector where the page is eighth-uniform, and
-/// then the table is given back.
+/// The entry of a page with a leaf table after its lines were changed: the table, or a vector where the page is
+/// eighth-uniform, and then the table is given back.
 fn close_page<L: LeafForm>(leaf: &mut Pool<64>, page: u32, frame: u32, lay: &Laying) -> u32
     requires page { page < most_pages }
     requires frame { frame < 2 ^ 30 }
@@ -236,7 +238,8 @@ fn free_lines<L: LeafForm>(leaf: &mut Pool<64>, spill: &mut Pool<1>, frame: u32)
     }
 }
 
-/// Gives the spill word of a line back, where it has one, and then its entry becomes that of a line without permission.
+/// Gives the spill word of a line back, where it has one, and then its entry becomes that of a line without
+/// permission.
 fn free_line<L: LeafForm>(leaf: &mut Pool<64>, spill: &mut Pool<1>, frame: u32, place: u32)
     requires place { place < 64 }
     requires table { IsLeafTable L.kind leaf.old spill.old frame }

@@ -1,4 +1,5 @@
-//! One region of a change: its entry in a root table before and after, with the mid table that is made for it or given back.
+//! One region of a change: its entry in a root table before and after, with the mid table that is made for it
+//! or given back.
 ghost use Rattle.std.specs.Prelude.{◌≡◌, ℕ, ◌<◌, ◌≤◌, ◌^◌, true, false};
 ghost use Rattle.mx_words.specs.declared.tables.Kind.{Kind};
 ghost use Rattle.mx_words.specs.Runs.{region_words};
@@ -18,7 +19,8 @@ use crate::sizes::{PAGE_WORDS, REGION_PAGES, REGION_WORDS};
 use crate::vector::perm_in;
 use mx_pool::Pool;
 
-/// The entry of a region after a change. The region meets the range, or lies so near to it that reaches of its lines may change.
+/// The entry of a region after a change. The region meets the range, or lies so near to it that reaches of its
+/// lines may change.
 pub(crate) fn change_region<L: LeafForm>(
     upper: &mut Pool<1024>,
     leaf: &mut Pool<64>,
@@ -102,8 +104,8 @@ fn open_region(upper: &mut Pool<1024>, entry: u32) -> u32
     frame
 }
 
-/// The entry of a region with a mid table after its pages were changed: the table, or a vector where the region is eighth-uniform,
-/// and then the table is given back.
+/// The entry of a region with a mid table after its pages were changed: the table, or a vector where the region
+/// is eighth-uniform, and then the table is given back.
 fn close_region(upper: &mut Pool<1024>, region: u32, frame: u32, lay: &Laying) -> u32
     requires region { region < most_regions }
     requires frame { frame < 2 ^ 30 }
@@ -136,7 +138,8 @@ fn free_region<L: LeafForm>(
     }
 }
 
-/// Gives all tables and spill words below a mid table back, whose entries become the vectors of pages without permission.
+/// Gives all tables and spill words below a mid table back, whose entries become the vectors of pages without
+/// permission.
 fn free_pages<L: LeafForm>(
     upper: &mut Pool<1024>,
     leaf: &mut Pool<64>,

@@ -1,4 +1,5 @@
-//! The entries of a root table. A region's entry stands at the place of the region's addresses, so the first one isn't at place 0.
+//! The entries of a root table. A region's entry stands at the place of the region's addresses, so the first
+//! one isn't at place 0.
 ghost use Rattle.std.specs.Prelude.{◌≡◌, ◌≢◌, ℕ, ◌<◌, length};
 ghost use Rattle.mx_pool.specs.Frames.{frame_at, IsTaken, free_in};
 ghost use Rattle.mx_trie.specs.Walk.{most_regions, root_place, root_word};

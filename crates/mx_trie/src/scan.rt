@@ -83,8 +83,8 @@ pub(crate) fn is_region_even<V: View>(view: &V, region: u32) -> bool
     is_even(view, region * REGION_WORDS, REGION_EIGHTH)
 }
 
-/// The permissions of the first words of the eight parts of `part` words from `first` on, two bits each, the first part's in the
-/// lowest bits, behind the bits 01.
+/// The permissions of the first words of the eight parts of `part` words from `first` on, two bits each, the
+/// first part's in the lowest bits, behind the bits 01.
 fn vector_of<V: View>(view: &V, first: u32, part: u32) -> u32
     requires lawful { V.lawful view.now }
     requires inside { first + 8 * part ≤ most_words }

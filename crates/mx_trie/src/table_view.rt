@@ -21,8 +21,8 @@ use mx_pool::Pool;
 use mx_words::Span;
 use std::marker::PhantomData;
 
-/// A span round a word on which a domain's tables have one permission: an eighth of a block that has a vector, or the whole block
-/// where its eighths have one permission, or the run in a line.
+/// A span round a word on which a domain's tables have one permission: an eighth of a block that has a vector,
+/// or the whole block where its eighths have one permission, or the run in a line.
 fn around_in<L: LeafForm>(
     upper: &Pool<1024>,
     leaf: &Pool<64>,
@@ -72,7 +72,8 @@ fn far_in<L: LeafForm>(
     wide_lines(leaf, in_mid / 4, near, word)
 }
 
-/// The eighth of a region where a span holds the word's page, and all the eighth's pages have one entry; else the span.
+/// The eighth of a region where a span holds the word's page, and all the eighth's pages have one entry; else
+/// the span.
 fn wide_pages(upper: &Pool<1024>, mid: u32, near: Span, word: u32) -> Span
     requires taken { IsTaken upper.now mid }
     requires whole { near.first + near.count ≤ most_words }
@@ -93,7 +94,8 @@ fn wide_pages(upper: &Pool<1024>, mid: u32, near: Span, word: u32) -> Span
     }
 }
 
-/// The eighth of a page where a span holds the word's line, and all the eighth's lines have one entry; else the span.
+/// The eighth of a page where a span holds the word's line, and all the eighth's lines have one entry; else the
+/// span.
 fn wide_lines(leaf: &Pool<64>, frame: u32, near: Span, word: u32) -> Span
     requires taken { IsTaken leaf.now frame }
     requires whole { near.first + near.count ≤ most_words }
@@ -114,8 +116,8 @@ fn wide_lines(leaf: &Pool<64>, frame: u32, near: Span, word: u32) -> Span
     }
 }
 
-/// How many words, aligned in blocks of their number, have one permission by a vector of parts of `part` words: those of a part, or
-/// those of the block where all its parts have one permission.
+/// How many words, aligned in blocks of their number, have one permission by a vector of parts of `part` words:
+/// those of a part, or those of the block where all its parts have one permission.
 fn alike_in(entry: u32, part: u32) -> u32
     requires { part ≤ most_words }
     ensures { (result ≡ part) ⊎ ((result ≡ 8 * part) × ((e : ℕ) → e < 8 → digit (entry / 4) e ≡ entry / 4 % 4)) }

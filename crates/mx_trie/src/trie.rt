@@ -21,8 +21,9 @@ use mx_words::{Need, NoMemory, Perm, Shown, Span, Spans};
 use std::alloc::Global;
 use std::marker::PhantomData;
 
-/// The permissions of all domains as tries: per domain a root table, whose entries stand for regions of 2^20 words, and below it mid
-/// tables, whose entries stand for pages of 1024 words, and leaf tables, whose entries stand for lines of 16 words.
+/// The permissions of all domains as tries: per domain a root table, whose entries stand for regions of 2^20
+/// words, and below it mid tables, whose entries stand for pages of 1024 words, and leaf tables, whose entries
+/// stand for lines of 16 words.
 #[derive(Drop)]
 pub struct Trie<L: LeafForm> {
     /// Root and mid tables.
@@ -62,8 +63,8 @@ impl<L: LeafForm> Trie<L> {
         )
     }
 
-    /// Whether any change fits: whether each pool has four free frames for each domain, two that a change may take, and
-    /// two that aren't counted as room.
+    /// Whether any change fits: whether each pool has four free frames for each domain, two that a change may
+    /// take, and two that aren't counted as room.
     fn is_spacious(&self) -> bool
         ensures upper { result ≡ true → 4 * length self.now.roots ≤ free_in self.now.upper }
         ensures leaf { result ≡ true → 4 * length self.now.roots ≤ free_in self.now.leaf }

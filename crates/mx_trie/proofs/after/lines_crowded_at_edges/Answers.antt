@@ -1,4 +1,4 @@
-use Rattle.std.proofs.Common.{◌*◌, ◌/◌, ◌-◌, refl, arith}
+use Rattle.std.proofs.Common.{◌*◌, ◌/◌, ◌-◌, arith}
 use Rattle.mx_words.specs.Reach.{line_at}
 use Rattle.mx_trie.specs.Leaf.{needs_spill}
 use Rattle.mx_trie.proofs.Counted.{edges-one, edges-two}

@@ -1,4 +1,4 @@
-use Rattle.std.proofs.Common.{◌≡◌, ℕ, ◌+◌, List, length, sym, refl, subst, arith}
+use Rattle.std.proofs.Common.{ℕ, ◌+◌, List, length, sym, refl, subst, arith}
 use Rattle.mx_words.specs.declared.perm.Perm.{Perm}
 use Rattle.mx_words.specs.Changes.{changed_map}
 use Rattle.mx_words.proofs.MapLaws.{length-changed_map}

@@ -1,4 +1,4 @@
-use Rattle.std.proofs.Common.{◌≡◌, ◌+◌, ◌-◌, List, [], length, ap, ◌∙◌, arith}
+use Rattle.std.proofs.Common.{List, [], length, ap, ◌∙◌, arith}
 use Rattle.mx_words.specs.declared.perm.Perm.{Perm}
 use Rattle.mx_trie.specs.Laying.{laid_by}
 use Rattle.mx_trie.specs.After.{map_in, IsNeedMoved}

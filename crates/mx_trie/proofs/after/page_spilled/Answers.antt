@@ -1,5 +1,4 @@
-use Rattle.std.proofs.Common.{◌≡◌, ◌+◌, ◌-◌, ◌*◌, ◌/◌, true, sym, ◌∙◌, arith}
-use Rattle.mx_trie.specs.Walk.{has_leaf}
+use Rattle.std.proofs.Common.{◌+◌, ◌-◌, ◌/◌, sym, ◌∙◌, arith}
 use Rattle.mx_trie.proofs.DomainPages.{path-taken, mid-taken, leaf-taken, leaf-broken, leaf-lines}
 use Rattle.mx_trie.proofs.SpillCounts.{even-within}
 use Rattle.mx_trie.proofs.after.page_spilled.Goals as goal

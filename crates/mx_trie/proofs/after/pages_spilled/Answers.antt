@@ -1,7 +1,7 @@
 use Rattle.std.proofs.Common.{◌≡◌, ℕ, ◌+◌, ◌-◌, ◌*◌, ◌/◌, min, ap, ◌∙◌, arith}
 use Rattle.mx_words.specs.Reach.{line_at}
 use Rattle.mx_trie.specs.Leaf.{needs_spill}
-use Rattle.mx_trie.specs.After.{count_from, count_within}
+use Rattle.mx_trie.specs.After.{count_from}
 use Rattle.mx_trie.proofs.SpillCounts.{count-none, count-within}
 use Rattle.mx_trie.proofs.after.pages_spilled.Goals as goal
 

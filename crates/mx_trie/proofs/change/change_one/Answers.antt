@@ -1,4 +1,4 @@
-use Rattle.std.proofs.Common.{◌+◌, ◌∙◌, subst, arith}
+use Rattle.std.proofs.Common.{◌+◌, ◌∙◌}
 use Rattle.mx_table.specs.Change.{given}
 use Rattle.mx_trie.specs.Standing.{map_at}
 use Rattle.mx_trie.proofs.DomainsChanged.{tables-read, tables-changed, map-changed, map-others}

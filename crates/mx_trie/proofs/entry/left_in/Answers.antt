@@ -1,5 +1,4 @@
-use Rattle.std.proofs.Common.{◌+◌, ◌*◌, ◌≤◌, arith}
-use Rattle.mx_trie.specs.Leaf.{form_reach}
+use Rattle.std.proofs.Common.{arith}
 use Rattle.mx_trie.proofs.LineReads.{first-run, entry-plain}
 use Rattle.mx_trie.proofs.VectorLines.{reach-small}
 use Rattle.mx_trie.proofs.Stored.{reaches-fit}

@@ -1,4 +1,4 @@
-use Rattle.std.proofs.Common.{◌≡◌, ◌+◌, ◌*◌, ◌≤◌, None, is_some, sym, ap, ◌∙◌, arith}
+use Rattle.std.proofs.Common.{◌≡◌, ◌*◌, None, is_some, sym, ap, ◌∙◌, arith}
 use Rattle.mx_trie.specs.Leaf.{spill_number}
 use Rattle.mx_trie.proofs.EvenLines.{some-none, perm-none, perm-some, mixed-crowded, mixed-short, run-whole, alike-run}
 use Rattle.mx_trie.proofs.LineReads.{entry-plain}

@@ -1,10 +1,8 @@
-use Rattle.std.proofs.Common.{◌≡◌, ℕ, ◌+◌, ◌-◌, ◌*◌, ◌/◌, ◌%◌, ◌<◌, ◌≤◌, ◌⊎◌, inl, inr, Option, Some, None, refl, sym, ap, ◌∙◌, subst, arith}
+use Rattle.std.proofs.Common.{◌≡◌, ℕ, ◌+◌, ◌-◌, ◌*◌, ◌/◌, ◌%◌, inl, inr, refl, sym, ap, ◌∙◌, subst, arith}
 use Rattle.std.proofs.lemmas.Bool.{cases_lt}
-use Rattle.mx_words.specs.Rights.{number, perm_at}
+use Rattle.mx_words.specs.Rights.{perm_at}
 use Rattle.mx_words.specs.Blocks.{IsUniform}
-use Rattle.mx_words.specs.Runs.{page_words}
 use Rattle.mx_words.proofs.NumberLaws.{number-small}
-use Rattle.mx_trie.specs.Steps.{IsEntryOf}
 use Rattle.mx_trie.proofs.Vectors.{part-none, part-more, part-small, part-whole}
 use Rattle.mx_trie.proofs.EvenTables.{uniform-from, broken-by, entry-none, whole-by, entry-some}
 use Rattle.mx_trie.proofs.even.page_entry.Goals as goal

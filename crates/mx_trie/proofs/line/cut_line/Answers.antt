@@ -1,9 +1,8 @@
-use Rattle.std.proofs.Common.{◌≡◌, ℕ, ◌+◌, ◌-◌, ◌*◌, ◌^◌, ◌<◌, ◌≤◌, inl, inr, min, List, length, Option, sym, ◌∙◌, subst, arith}
+use Rattle.std.proofs.Common.{◌≡◌, ℕ, ◌+◌, ◌-◌, ◌*◌, ◌≤◌, inl, inr, min, length, Option, ◌∙◌, subst, arith}
 use Rattle.mx_table.specs.Tables.{most_words}
-use Rattle.mx_pool.specs.Frames.{IsTaken}
 use Rattle.mx_trie.specs.Leaf.{form_reach}
 use Rattle.mx_trie.specs.Spills.{IsSpillPut}
-use Rattle.mx_trie.proofs.LineChanges.{if-some, spill-small, line-changed}
+use Rattle.mx_trie.proofs.LineChanges.{line-changed}
 use Rattle.mx_trie.proofs.LineCuts.{cut-perms, cut-left-kept, cut-left-new, cut-right-kept, cut-right-new}
 use Rattle.mx_trie.proofs.line.cut_line.Goals as goal
 use Rattle.mx_trie.proofs.line.cut_line.Goals.{then-begin-lay, else-begin-lay, then-lay-end, else-lay-end}

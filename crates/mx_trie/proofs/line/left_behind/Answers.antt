@@ -1,5 +1,4 @@
-use Rattle.std.proofs.Common.{◌≡◌, ◌≢◌, ◌*◌, ◌<◌, ◌≤◌, List, length, sym, ap, ◌∙◌, arith}
-use Rattle.mx_words.specs.declared.perm.Perm.{Perm}
+use Rattle.std.proofs.Common.{◌*◌, ◌<◌, length, sym, ap, ◌∙◌, arith}
 use Rattle.mx_words.specs.Rights.{number}
 use Rattle.mx_words.proofs.NumberLaws.{number-one_to_one}
 use Rattle.mx_trie.proofs.LineReaches.{left-outside, left-short, left-other, left-same}

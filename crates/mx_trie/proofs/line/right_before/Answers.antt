@@ -1,4 +1,4 @@
-use Rattle.std.proofs.Common.{◌≡◌, ◌≢◌, ◌≤◌, sym, ap, ◌∙◌, arith}
+use Rattle.std.proofs.Common.{sym, ap, ◌∙◌, arith}
 use Rattle.mx_words.specs.Rights.{number}
 use Rattle.mx_words.proofs.NumberLaws.{number-one_to_one}
 use Rattle.mx_trie.proofs.LineReaches.{right-short, right-other, right-same}

@@ -1,11 +1,9 @@
-use Rattle.std.proofs.Common.{◌≡◌, ◌+◌, ◌-◌, ◌*◌, ◌/◌, ◌<◌, ◌≤◌, min, List, ℕ, Option, IsSome, refl, sym, subst, arith}
-use Rattle.mx_trie.specs.Leaf.{form_reach}
+use Rattle.std.proofs.Common.{◌+◌, ◌*◌, ◌<◌, IsSome, refl, sym, subst, arith}
 use Rattle.mx_pool.specs.Frames.{free_in}
 use Rattle.mx_trie.specs.Laying.{cuts}
 use Rattle.mx_trie.specs.OnWay.{cuts_left}
 use Rattle.mx_trie.proofs.Cuts.{cuts-within, room-left}
 use Rattle.mx_trie.proofs.PageLines.{lines-none, lines-more, lines-all, next-line}
-use Rattle.mx_trie.proofs.VectorLines.{reach-small}
 use Rattle.mx_trie.proofs.page.change_lines.Goals as goal
 
 pub loop-line-init : goal.loop-line-init

@@ -1,9 +1,6 @@
-use Rattle.std.proofs.Common.{◌≡◌, ◌+◌, ◌-◌, ◌*◌, ◌/◌, ◌%◌, ◌<◌, ◌≤◌, inl, inr, true, false, List, length, refl, sym, ap, ◌∙◌, arith, eq-eqb}
+use Rattle.std.proofs.Common.{◌%◌, ◌≤◌, inl, inr, arith, eq-eqb}
 use Rattle.std.proofs.lemmas.Bool.{ne_eqb}
-use Rattle.mx_table.specs.Tables.{most_words}
-use Rattle.mx_trie.specs.Walk.{is_pointer, target}
 use Rattle.mx_trie.specs.Laying.{laid_by, cuts}
-use Rattle.mx_trie.specs.Steps.{AreSomeLines, AreLinesOfSome, IsClosable, IsPageOpened}
 use Rattle.mx_trie.proofs.LineBeside.{few-known}
 use Rattle.mx_trie.proofs.RangeLaws.{length-with_range}
 use Rattle.mx_trie.proofs.PageChanges.{page-covered, page-cut, page-beside, page-stays}

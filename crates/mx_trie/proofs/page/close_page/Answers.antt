@@ -1,4 +1,4 @@
-use Rattle.std.proofs.Common.{◌≡◌, sym, ◌∙◌, arith}
+use Rattle.std.proofs.Common.{sym, ◌∙◌, arith}
 use Rattle.mx_trie.proofs.PageTables.{page-open, page-closed}
 use Rattle.mx_trie.proofs.page.close_page.Goals as goal
 

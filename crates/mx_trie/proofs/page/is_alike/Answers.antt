@@ -1,8 +1,8 @@
-use Rattle.std.proofs.Common.{◌≡◌, ◌/◌, true, false, sym, ap, ◌∙◌, eq-eqb}
+use Rattle.std.proofs.Common.{◌≡◌, true, false, sym, ap, ◌∙◌, eq-eqb}
 use Rattle.std.proofs.lemmas.Bool.{eqb-true}
 use Rattle.mx_words.specs.Rights.{number}
 use Rattle.mx_words.proofs.NumberLaws.{from_number-number}
-use Rattle.mx_trie.specs.Digits.{digit, numbered}
+use Rattle.mx_trie.specs.Digits.{numbered}
 use Rattle.mx_trie.specs.Walk.{vector_perm}
 use Rattle.mx_trie.proofs.page.is_alike.Goals as goal
 

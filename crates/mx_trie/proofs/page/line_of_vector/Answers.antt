@@ -1,7 +1,6 @@
-use Rattle.std.proofs.Common.{◌≡◌, ◌+◌, ◌-◌, ◌*◌, ◌/◌, ◌%◌, ◌<◌, ◌≤◌, ℕ, min, List, length, sym, ap, ◌∙◌, subst, arith}
-use Rattle.mx_words.specs.declared.perm.Perm.{Perm}
+use Rattle.std.proofs.Common.{◌≡◌, ◌+◌, ◌-◌, ◌*◌, ◌/◌, ◌%◌, ◌<◌, ◌≤◌, ℕ, min, length, sym, ap, ◌∙◌, subst, arith}
 use Rattle.mx_words.proofs.NumberLaws.{from_number-number}
-use Rattle.mx_trie.specs.Digits.{digit, numbered}
+use Rattle.mx_trie.specs.Digits.{numbered}
 use Rattle.mx_trie.specs.Leaf.{form_reach}
 use Rattle.mx_trie.specs.Walk.{vector_perm}
 use Rattle.mx_trie.specs.Steps.{IsBeforeEighth, IsBehindEighth}

@@ -1,4 +1,4 @@
-use Rattle.std.proofs.Common.{List, ℕ, Option, IsSome, refl, sym, subst}
+use Rattle.std.proofs.Common.{IsSome, refl, sym, subst}
 use Rattle.mx_trie.proofs.PageMaking.{making-more}
 use Rattle.mx_trie.proofs.page.make_page.Goals as goal
 

@@ -1,5 +1,4 @@
-use Rattle.std.proofs.Common.{◌+◌, List, length, ap, ◌∙◌, sym, arith, subst}
-use Rattle.mx_words.specs.declared.perm.Perm.{Perm}
+use Rattle.std.proofs.Common.{◌+◌, length, ap, ◌∙◌, sym, arith, subst}
 use Rattle.mx_words.specs.declared.tables.Need.{Need}
 use Rattle.mx_words.specs.Changes.{changed_map}
 use Rattle.mx_words.specs.Need.{need, within}
