@@ -44,9 +44,9 @@ even-needs kind m y z at whole =
     ap (needs_spill kind) (even-line m y z at (even-of 1024 128 m y refl refl (omega arith) whole)) ∙ flat-needs kind (perm_at m (y * page_words + z % 64 / 8 * 128))
 
 -- a page in which two neighbours of one eighth differ
-pub edge-page : (m : List Perm) (at : ℕ) (before here : Span) → at % 128 ≢ 0 → IsRound m (at - 1) before → IsRound m at here →
+pub edge_page : (m : List Perm) (at : ℕ) (before here : Span) → at % 128 ≢ 0 → IsRound m (at - 1) before → IsRound m at here →
     number here.perm ≢ number before.perm → is_broken page_words m (at / 1024) ≡ true
-edge-page m at before here within last first other = by (is_broken page_words m (at / 1024)) refl
+edge_page m at before here within last first other = by (is_broken page_words m (at / 1024)) refl
   where
     by : (b : Bool) → is_broken page_words m (at / 1024) ≡ b → is_broken page_words m (at / 1024) ≡ true
     by true e = e
