@@ -1,5 +1,5 @@
 -- Lines, pages, regions and domains built for a map: the laws of BuiltTables at each level, and the frames that they take.
-use Rattle.std.proofs.Common.{◌≡◌, ◌≢◌, ℕ, zero, suc, ◌+◌, ◌-◌, ◌*◌, ◌/◌, ◌<◌, ◌≤◌, Bool, true, false, List, [], length, if◌then◌else◌, Option, Some, None, IsSome, is_some, refl, sym, ap, ◌∙◌, subst, arith}
+use Rattle.std.proofs.Common.{◌≡◌, ◌≢◌, ℕ, zero, suc, ◌+◌, ◌-◌, ◌*◌, ◌/◌, ◌<◌, ◌≤◌, Bool, true, false, List, [], length, None, IsSome, refl, sym, ap, ◌∙◌, subst, arith}
 use Rattle.mx_words.specs.declared.perm.Perm.{Perm}
 use Rattle.mx_words.specs.declared.tables.Kind.{Kind}
 use Rattle.mx_words.specs.Blocks.{is_broken, IsEven, block_of}
@@ -10,13 +10,11 @@ use Rattle.mx_words.specs.Runs.{page_words, region_words, is_eighth_uniform}
 use Rattle.mx_words.proofs.BlockLaws.{even_from}
 use Rattle.mx_words.proofs.CountingLaws.{sum_below-zero, sum_below-more}
 use Rattle.mx_pool.specs.Frames.{frame_at, IsTaken, word_at, free_in}
-use Rattle.mx_trie.specs.Leaf.{IsTrieKind, needs_spill, spill_number}
+use Rattle.mx_trie.specs.Leaf.{IsTrieKind, needs_spill}
 use Rattle.mx_trie.specs.Walk.{Frames, is_pointer, target, root_place, root_word, map_left, map_right}
 use Rattle.mx_trie.specs.Heap.{heap}
-use Rattle.mx_trie.specs.Owned.{LineOwns, PlacesOwn, IsLeafTable}
-use Rattle.mx_trie.specs.Shown.{IsLine, IsPage}
 use Rattle.mx_trie.specs.Steps.{IsPlaceWritten}
-use Rattle.mx_trie.specs.Built.{line_crowd, page_crowd, region_crowd, region_broken, AreTaken, Pools, pools, heap_of, LinesOwn, LineStands, PagesOwning, PageStands, RegionsOwning, RegionStands, DomainsOwning, DomainStands, Own, IsBuilt, AreBuilt, IsLineBuilt, AreLinesBuilt, IsPageBuilt, ArePagesBuilt, IsRegionBuilt, AreRegionsBuilt}
+use Rattle.mx_trie.specs.Built.{line_crowd, page_crowd, region_crowd, region_broken, AreTaken, pools, LinesOwn, LineStands, PagesOwning, PageStands, RegionsOwning, RegionStands, DomainsOwning, DomainStands, Own, IsLineBuilt, AreLinesBuilt, IsPageBuilt, ArePagesBuilt, IsRegionBuilt, AreRegionsBuilt}
 use Rattle.mx_trie.proofs.LineChanges.{IsEntryMade, entry-stays, entry-fresh, entry-taken, entry-shown}
 use Rattle.mx_trie.proofs.PageLines.{word-kept, line-kept}
 use Rattle.mx_trie.proofs.PageTables.{even-of, vector-closed}
@@ -116,22 +114,28 @@ module _ (kind : Kind) (k : IsTrieKind kind) where
   pub pages-steady : (m : List Perm) → IsSteady (PagesOwning kind) (PageStands kind m)
   pages-steady m s s' y e page kept = (
     page-owns-same kind s.upper s.leaf s.spill s'.upper s'.leaf s'.spill e kept,
-    (page-table-kept kind s.upper s.leaf s.spill s'.upper s'.leaf s'.spill e kept page.0,
-    page-kept kind s.upper s.leaf s.spill s'.upper s'.leaf s'.spill e kept k m y page.1),
+    (
+      page-table-kept kind s.upper s.leaf s.spill s'.upper s'.leaf s'.spill e kept page.0,
+      page-kept kind s.upper s.leaf s.spill s'.upper s'.leaf s'.spill e kept k m y page.1,
+    ),
   )
 
   pub regions-steady : (m : List Perm) → IsSteady (RegionsOwning kind) (RegionStands kind m)
   regions-steady m s s' x e region kept = (
     region-owns-same kind s.upper s.leaf s.spill s'.upper s'.leaf s'.spill e kept,
-    (region-table-kept kind s.upper s.leaf s.spill s'.upper s'.leaf s'.spill e kept region.0,
-    region-kept kind s.upper s.leaf s.spill s'.upper s'.leaf s'.spill e kept k m x region.1),
+    (
+      region-table-kept kind s.upper s.leaf s.spill s'.upper s'.leaf s'.spill e kept region.0,
+      region-kept kind s.upper s.leaf s.spill s'.upper s'.leaf s'.spill e kept k m x region.1,
+    ),
   )
 
   pub domains-steady : (maps : ℕ → List Perm) → IsSteady (DomainsOwning kind) (DomainStands kind maps)
   domains-steady maps s s' d root domain kept = (
     domain-owns-same kind s.upper s.leaf s.spill s'.upper s'.leaf s'.spill root kept,
-    (domain-table-kept kind s.upper s.leaf s.spill s'.upper s'.leaf s'.spill root kept domain.0,
-    domain-kept kind s.upper s.leaf s.spill s'.upper s'.leaf s'.spill root kept k (maps d) domain.1),
+    (
+      domain-table-kept kind s.upper s.leaf s.spill s'.upper s'.leaf s'.spill root kept domain.0,
+      domain-kept kind s.upper s.leaf s.spill s'.upper s'.leaf s'.spill root kept k (maps d) domain.1,
+    ),
   )
 
 -- the lines of a page
@@ -163,13 +167,14 @@ module _ (kind : Kind) (k : IsTrieKind kind) (m : List Perm) (y : ℕ) where
   page-built leaf spill leaf' spill' e pointer broken lines = record {
     built = λ upper.
         table-built (LinesOwn kind) (PagesOwning kind) (LineStands kind m) (PageStands kind m) (pools upper leaf spill) (pools upper leaf' spill') (Own 1 (target e)) (λ i. y * 64 + i) 64
-        (word_at leaf' (target e)) y e (lines.built upper) (λ a g own. own.1)
-        (λ p. are-node (LinesOwn kind) (LineStands kind m) (pools [] leaf spill) (pools [] leaf' spill') 1 (target e) (λ i. y * 64 + i) 64 (word_at leaf' (target e)) (lines.built []),
-        record {
-          broken = pointer ∙ sym broken;
-          vector_is = λ closed. absurd (let h = sym pointer ∙ closed in cc);
-          lines = λ p. (lines.built []).stand;
-        });
+        (word_at leaf' (target e)) y e (lines.built upper) (λ a g own. own.1) (
+          λ p. are-node (LinesOwn kind) (LineStands kind m) (pools [] leaf spill) (pools [] leaf' spill') 1 (target e) (λ i. y * 64 + i) 64 (word_at leaf' (target e)) (lines.built []),
+          record {
+            broken = pointer ∙ sym broken;
+            vector_is = λ closed. absurd (let h = sym pointer ∙ closed in cc);
+            lines = λ p. (lines.built []).stand;
+          },
+        );
     leaf_taken = subst (λ n. AreTaken leaf leaf' n) (sym (ap bit broken)) lines.leaf_taken;
     spill_taken = lines.spill_taken;
   }
@@ -218,16 +223,17 @@ module _ (kind : Kind) (k : IsTrieKind kind) (m : List Perm) (x : ℕ) where
   region-built upper leaf spill upper' leaf' spill' e pointer broken pages = record {
     built =
         table-built (PagesOwning kind) (RegionsOwning kind) (PageStands kind m) (RegionStands kind m) (pools upper leaf spill) (pools upper' leaf' spill') (Own 0 (target e)) (λ i. x * 1024 + i) 1024
-        (word_at upper' (target e)) x e pages.built (λ a g own. own.1)
-        (λ p. record {
-          node = are-node (PagesOwning kind) (PageStands kind m) (pools upper leaf spill) (pools upper' leaf' spill') 0 (target e) (λ i. x * 1024 + i) 1024 (word_at upper' (target e)) pages.built;
-          tables = λ i below. (pages.built.stand i below).0;
-        },
-        record {
-          broken = pointer ∙ sym broken;
-          vector_is = λ closed. absurd (let h = sym pointer ∙ closed in cc);
-          pages = λ p i below. (pages.built.stand i below).1;
-        });
+        (word_at upper' (target e)) x e pages.built (λ a g own. own.1) (
+          λ p. record {
+            node = are-node (PagesOwning kind) (PageStands kind m) (pools upper leaf spill) (pools upper' leaf' spill') 0 (target e) (λ i. x * 1024 + i) 1024 (word_at upper' (target e)) pages.built;
+            tables = λ i below. (pages.built.stand i below).0;
+          },
+          record {
+            broken = pointer ∙ sym broken;
+            vector_is = λ closed. absurd (let h = sym pointer ∙ closed in cc);
+            pages = λ p i below. (pages.built.stand i below).1;
+          },
+        );
     upper_taken = subst (λ n. AreTaken upper upper' n) (sym (ap bit broken)) pages.upper_taken;
     leaf_taken = pages.leaf_taken;
     spill_taken = pages.spill_taken;

@@ -1,5 +1,5 @@
 -- The tables of all rows, built one after the other.
-use Rattle.std.proofs.Common.{◌≡◌, ℕ, ◌+◌, ◌*◌, ◌<◌, ◌≤◌, true, List, [], ◌∷◌, ◌++◌, length, get_or, slice_index, IsSome, refl, sym, ap, ◌∙◌, subst, arith, length-append}
+use Rattle.std.proofs.Common.{◌≡◌, ℕ, ◌+◌, ◌*◌, ◌<◌, ◌≤◌, List, [], ◌∷◌, ◌++◌, length, refl, sym, ap, ◌∙◌, subst, arith, length-append}
 use Rattle.std.proofs.Common.{map as list_map}
 use Rattle.std.proofs.lemmas.List.{get_or_append_left, get_or_push}
 use Rattle.mx_words.specs.declared.perm.Perm.{Perm}
@@ -21,7 +21,7 @@ use Rattle.mx_trie.specs.Shown.{IsDomain}
 use Rattle.mx_trie.specs.Laying.{spill_lines}
 use Rattle.mx_trie.specs.After.{IsNeedOf}
 use Rattle.mx_trie.specs.Standing.{root_at, map_at}
-use Rattle.mx_trie.specs.Built.{rows_map, region_broken, region_crowd, AreTaken, pools, RegionsOwning, RegionStands, DomainsOwning, DomainStands, Own, IsBuilt, AreBuilt, AreRegionsBuilt, IsRoomFor, AreDomainsBuilt}
+use Rattle.mx_trie.specs.Built.{region_broken, region_crowd, AreTaken, pools, RegionsOwning, RegionStands, DomainsOwning, DomainStands, Own, IsBuilt, AreBuilt, AreRegionsBuilt, IsRoomFor, AreDomainsBuilt}
 use Rattle.mx_trie.proofs.BuiltTables.{built-none, are-node, built-more, table-built}
 use Rattle.mx_trie.proofs.BuiltBlocks.{taken-none, taken-more, taken-left, domains-steady}
 use Rattle.mx_trie.proofs.ShownCounts.{regions-broken, pages-broken, regions-crowded, mids-shown, leaves-shown, spills-shown}
@@ -107,12 +107,13 @@ module _ (kind : Kind) (k : IsTrieKind kind) (maps : ℕ → List Perm) (upper l
       one : IsBuilt (DomainsOwning kind) (DomainStands kind maps) (pools upper' leaf' spill') (pools upper'' leaf'' spill'') n root
       one =
           table-built (RegionsOwning kind) (DomainsOwning kind) (RegionStands kind m) (DomainStands kind maps) (pools upper' leaf' spill') (pools upper'' leaf'' spill'') (Own 0 root) (λ x. x) most_regions
-          (root_word upper'' root) n root domain.built (λ a g own. own)
-          (record {
-            node = are-node (RegionsOwning kind) (RegionStands kind m) (pools upper' leaf' spill') (pools upper'' leaf'' spill'') 0 root (λ x. x) most_regions (root_word upper'' root) domain.built;
-            tables = λ x below. (domain.built.stand x below).0;
-          },
-          subst (λ (p : List Perm). IsDomain kind upper'' leaf'' spill'' p root) is (λ x below. (domain.built.stand x below).1))
+          (root_word upper'' root) n root domain.built (λ a g own. own) (
+            record {
+              node = are-node (RegionsOwning kind) (RegionStands kind m) (pools upper' leaf' spill') (pools upper'' leaf'' spill'') 0 root (λ x. x) most_regions (root_word upper'' root) domain.built;
+              tables = λ x below. (domain.built.stand x below).0;
+            },
+            subst (λ (p : List Perm). IsDomain kind upper'' leaf'' spill'' p root) is (λ x below. (domain.built.stand x below).1),
+          )
 
       pub rows-more : (roots' : List ℕ) → roots' ≡ roots ++ root ∷ [] → AreRowsBuilt kind maps upper leaf spill upper'' leaf'' spill'' roots' (n + 1)
       rows-more roots' pushed = record {

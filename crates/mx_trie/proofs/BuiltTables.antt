@@ -3,7 +3,7 @@ use Rattle.std.proofs.Common.{◌≡◌, ◌≢◌, ℕ, zero, suc, ◌+◌, ◌
 use Rattle.mx_words.proofs.CountingLaws.{cases_below}
 use Rattle.mx_pool.specs.Frames.{frame_at}
 use Rattle.mx_trie.specs.Walk.{Frames}
-use Rattle.mx_trie.specs.Heap.{Heap, heap, IsFamily, IsNode}
+use Rattle.mx_trie.specs.Heap.{Heap, heap, IsNode}
 use Rattle.mx_trie.specs.Built.{Pools, heap_of, Owning, Standing, IsBuilt, AreBuilt, Own}
 use Rattle.mx_trie.proofs.HeapLaws.{taken-on}
 
@@ -46,7 +46,7 @@ built-none Owns Stands s s' Self block entry write free self = record {
   self = self;
   other = λ k a g below mine own. absurd (omega arith);
   stays = λ a g there. write a g (free a g there);
-  fresh = λ a g there own. elim own [ | inl mine ↦ free a g there mine | inr h ↦ absurd (let below = h.1.0 in omega arith) ];
+  fresh = λ a g there own. elim own [ inl mine ↦ free a g there mine | inr h ↦ absurd (let below = h.1.0 in omega arith) ];
   stand = λ k below. absurd (omega arith);
 }
 
@@ -137,7 +137,7 @@ pub table-built : (Owns Owns' : Owning) (Stands Stands' : Standing) (s s' : Pool
 table-built Owns Owns' Stands Stands' s s' Self block n entry b e are fewer stands = record {
   stays = are.stays;
   fresh = λ a g there own. are.fresh a g there (fewer a g own);
-  taken = λ a g own. elim (fewer a g own) [ | inl mine ↦ are.self a g mine | inr h ↦ are.parts.taken h.0 a g h.1.0 h.1.1 ];
+  taken = λ a g own. elim (fewer a g own) [ inl mine ↦ are.self a g mine | inr h ↦ are.parts.taken h.0 a g h.1.0 h.1.1 ];
   stands = stands;
 }
 

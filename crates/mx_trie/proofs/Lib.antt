@@ -75,7 +75,5 @@ pub mod DomainRegions
 pub mod DomainChanges
 pub mod StandingNeeds
 pub mod BuiltRows
-pub mod RootPlaces
-pub mod RootPlaces
-pub mod DomainRegions
-pub mod DomainChanges
+pub mod ListedMaps
+pub mod BuiltTrie

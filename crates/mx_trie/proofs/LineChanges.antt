@@ -1,5 +1,5 @@
 -- The entry of a line after a change, with its spill word put in place.
-use Rattle.std.proofs.Common.{◌≡◌, ◌≢◌, ℕ, zero, suc, ◌+◌, ◌*◌, ◌/◌, ◌%◌, ◌^◌, ◌<◌, ◌≤◌, ◌==◌, IfSome, Bool, true, false, List, [], if◌then◌else◌, Option, Some, None, IsSome, is_some, refl, sym, ap, ◌∙◌, arith, subst, true≢false}
+use Rattle.std.proofs.Common.{◌≡◌, ◌≢◌, ℕ, zero, suc, ◌*◌, ◌/◌, ◌%◌, ◌^◌, ◌<◌, ◌≤◌, ◌==◌, IfSome, Bool, true, false, List, [], if◌then◌else◌, Option, Some, None, IsSome, is_some, refl, sym, ap, ◌∙◌, arith, subst, true≢false}
 use Rattle.mx_words.specs.declared.perm.Perm.{Perm}
 use Rattle.mx_words.specs.declared.tables.Kind.{Kind}
 use Rattle.mx_words.specs.declared.tables.Kind.TheVariants as K
@@ -11,7 +11,7 @@ use Rattle.mx_trie.specs.declared.laying.Laying.{Laying}
 use Rattle.mx_trie.specs.declared.laying.Beside.{Beside}
 use Rattle.mx_trie.specs.Leaf.{IsTrieKind, needs_spill, leaf_entry, packed_entry, spill_number}
 use Rattle.mx_trie.specs.Walk.{Frames, line_number, map_left, map_right}
-use Rattle.mx_trie.specs.Heap.{heap, IsMove}
+use Rattle.mx_trie.specs.Heap.{heap}
 use Rattle.mx_trie.specs.Owned.{LineOwns}
 use Rattle.mx_trie.specs.Shown.{IsLine}
 use Rattle.mx_trie.specs.Spills.{IsSpillPut}

@@ -1,5 +1,5 @@
 -- A domain that stands for a map has as many tables and spill words as the map needs.
-use Rattle.std.proofs.Common.{◌≡◌, ℕ, zero, suc, ◌+◌, ◌-◌, ◌*◌, ◌/◌, ◌<◌, ◌≤◌, Bool, true, false, List, length, if◌then◌else◌, refl, sym, ap, ◌∙◌, arith}
+use Rattle.std.proofs.Common.{◌≡◌, ℕ, zero, suc, ◌+◌, ◌-◌, ◌*◌, ◌<◌, ◌≤◌, Bool, true, false, List, length, if◌then◌else◌, refl, sym, ap, ◌∙◌, arith}
 use Rattle.std.proofs.lemmas.List.{get_or_past}
 use Rattle.mx_words.specs.declared.perm.Perm.{Perm}
 use Rattle.mx_words.specs.declared.perm.Perm.TheVariants as P
@@ -12,10 +12,10 @@ use Rattle.mx_words.proofs.CountingLaws.{sum_below-more, sum_below_agree}
 use Rattle.mx_words.proofs.BlockLaws.{broken_blocks-count}
 use Rattle.mx_table.specs.Tables.{most_words}
 use Rattle.mx_pool.specs.Frames.{word_at}
-use Rattle.mx_trie.specs.Leaf.{IsTrieKind, needs_spill, spill_number}
+use Rattle.mx_trie.specs.Leaf.{IsTrieKind, needs_spill}
 use Rattle.mx_trie.specs.Walk.{Frames, most_regions, most_pages, most_lines, is_pointer, target, root_word, line_number}
 use Rattle.mx_trie.specs.Owned.{line_spills, page_spills, region_spills, region_leaves, domain_mids, domain_leaves, domain_spills}
-use Rattle.mx_trie.specs.Shown.{IsLine, AreLines, IsPage, IsRegion, IsDomain}
+use Rattle.mx_trie.specs.Shown.{IsPage, IsRegion, IsDomain}
 use Rattle.mx_trie.specs.Laying.{spill_lines}
 use Rattle.mx_trie.specs.Built.{line_crowd, page_crowd, region_crowd, region_broken}
 use Rattle.mx_trie.proofs.EntryLaws.{some-named}

@@ -7,7 +7,9 @@ ghost use Rattle.mx_pool.specs.Frames.{free_in};
 ghost use Rattle.mx_table.specs.Tables.{most_words, most_modules, IsRow};
 ghost use Rattle.mx_trie.specs.Walk.{most_regions, most_pages, most_lines};
 ghost use Rattle.mx_trie.specs.After.{IsNeedOf};
-ghost use Rattle.mx_trie.specs.Built.{line_crowd, page_crowd, region_broken, region_crowd, rows_map, IsLineBuilt, AreLinesBuilt, IsPageBuilt, ArePagesBuilt, IsRegionBuilt, AreRegionsBuilt, IsRoomFor, AreDomainsBuilt};
+ghost use Rattle.mx_trie.specs.Built.{line_crowd, page_crowd, region_broken, region_crowd, rows_map};
+ghost use Rattle.mx_trie.specs.Built.{IsLineBuilt, AreLinesBuilt, IsPageBuilt, ArePagesBuilt, IsRegionBuilt};
+ghost use Rattle.mx_trie.specs.Built.{AreRegionsBuilt, IsRoomFor, AreDomainsBuilt};
 
 use crate::beside::{line_left, line_right};
 use crate::counts::need_of;
@@ -77,7 +79,8 @@ fn build_lines<L: LeafForm, V: View>(
     requires leaf_room { 0 < free_in leaf.old }
     requires spill_room { page_crowd L.kind (V.map view.now) page ≤ free_in spill.old }
     ensures small { result < 2 ^ 30 }
-    ensures built { AreLinesBuilt L.kind leaf.old spill.old leaf.new spill.new (V.map view.now) page result 64 }
+    ensures built { AreLinesBuilt L.kind leaf.old spill.old leaf.new spill.new
+        (V.map view.now) page result 64 }
 {
     let frame = match leaf.take() {
         Some(frame) => frame,
@@ -104,7 +107,8 @@ fn build_page<L: LeafForm, V: View>(
     requires page { page < most_pages }
     requires leaf_room { bit (is_broken page_words (V.map view.now) page) ≤ free_in leaf.old }
     requires spill_room { page_crowd L.kind (V.map view.now) page ≤ free_in spill.old }
-    ensures { IsPageBuilt L.kind leaf.old spill.old leaf.new spill.new (V.map view.now) page result }
+    ensures { IsPageBuilt L.kind leaf.old spill.old leaf.new spill.new
+        (V.map view.now) page result }
 {
     if is_page_even(view, page) {
         page_vector(view, page)
@@ -181,10 +185,12 @@ fn build_root<L: LeafForm, V: View>(
     requires lawful { V.lawful view.now }
     requires words { words ≡ length (V.map view.now) }
     requires few { words ≤ most_words }
-    requires upper_room { 1 + sum_below most_regions (λ x. bit (is_broken region_words (V.map view.now) x))
-        ≤ free_in upper.old }
-    requires leaf_room { sum_below most_regions (region_broken (V.map view.now)) ≤ free_in leaf.old }
-    requires spill_room { sum_below most_regions (region_crowd L.kind (V.map view.now)) ≤ free_in spill.old }
+    requires upper_room { 1 + sum_below most_regions
+        (λ x. bit (is_broken region_words (V.map view.now) x)) ≤ free_in upper.old }
+    requires leaf_room { sum_below most_regions (region_broken (V.map view.now))
+        ≤ free_in leaf.old }
+    requires spill_room { sum_below most_regions (region_crowd L.kind (V.map view.now))
+        ≤ free_in spill.old }
     ensures { AreRegionsBuilt L.kind upper.old leaf.old spill.old upper.new leaf.new spill.new
         (V.map view.now) result most_regions }
 {
@@ -211,7 +217,8 @@ pub(crate) fn build_rows<L: LeafForm>(
     requires rows { All (IsRow words) rows.now }
     requires few { length rows.now ≤ most_modules }
     requires small { words ≤ most_words }
-    requires room { IsRoomFor L.kind (length rows.now) (rows_map words rows.now) upper.old leaf.old spill.old }
+    requires room { IsRoomFor L.kind (length rows.now) (rows_map words rows.now)
+        upper.old leaf.old spill.old }
     ensures { IfOk result (AreDomainsBuilt L.kind words (length rows.now) (rows_map words rows.now)
         upper.old leaf.old spill.old upper.new leaf.new spill.new) }
 {

@@ -1,4 +1,4 @@
-//! What a map needs in tables: how many of its regions and pages are broken, and how many of its lines need a spill word.
+//! What a map needs in tables, counted block by block.
 ghost use Rattle.std.specs.Prelude.{◌≡◌, ℕ, ◌+◌, ◌*◌, ◌/◌, ◌<◌, ◌≤◌, length};
 ghost use Rattle.mx_words.specs.Counting.{bit, sum_below};
 ghost use Rattle.mx_words.specs.Runs.{page_words, region_words, broken_blocks};
@@ -18,7 +18,8 @@ use mx_words::Need;
 fn regions_broken<V: View>(view: &V, regions: u32) -> u32
     requires lawful { V.lawful view.now }
     requires regions { regions ≤ most_regions }
-    ensures count { result ≡ sum_below regions (λ x. bit (is_broken region_words (V.map view.now) x)) }
+    ensures count { result
+        ≡ sum_below regions (λ x. bit (is_broken region_words (V.map view.now) x)) }
     ensures most { result ≤ regions }
 {
     let mut count = 0;

@@ -1,8 +1,9 @@
 //! Tables of permissions as tries.
-ghost use Rattle.std.specs.Prelude.{◌≡◌, ◌+◌, ◌-◌, ◌*◌, ◌<◌, ◌≤◌, true, length};
-ghost use Rattle.mx_words.specs.Need.{within};
+ghost use Rattle.std.specs.Prelude.{◌≡◌, ℕ, ◌+◌, ◌-◌, ◌*◌, ◌<◌, ◌≤◌, true, List, length, All, IsTrue, IfOk};
+ghost use Rattle.std.specs.Prelude.{map as list_map};
+ghost use Rattle.mx_words.specs.Need.{within, fits};
 ghost use Rattle.mx_pool.specs.Frames.{free_in};
-ghost use Rattle.mx_table.specs.Tables.{map_of};
+ghost use Rattle.mx_table.specs.Tables.{most_words, most_modules, map_of, IsRow, IsLimit, row_map};
 ghost use Rattle.mx_trie.specs.Read.{read_maps};
 ghost use Rattle.mx_trie.specs.Standing.{IsStanding};
 ghost use Rattle.mx_trie.specs.Shape.{shaped_of};
@@ -16,7 +17,7 @@ use crate::roots::Roots;
 use crate::walk::{Found, find, found_item, found_span};
 use mx_pool::Pool;
 use mx_table::{BuildRefused, Change, PermTables};
-use mx_words::{Need, Perm, Shown, Span, Spans};
+use mx_words::{Need, NoMemory, Perm, Shown, Span, Spans};
 use std::alloc::Global;
 use std::marker::PhantomData;
 
@@ -84,6 +85,43 @@ fn is_within(need: Need, limit: Need) -> bool
     need.upper <= limit.upper && need.leaf <= limit.leaf && need.spill <= limit.spill
 }
 
+/// The tables of rows whose maps fit the limit.
+fn tables_of<L: LeafForm>(
+    alloc: Global,
+    words: u32,
+    rows: &[Spans],
+    limit: Need,
+) -> Result<Trie<L>, NoMemory>
+    requires some_words { 1 ≤ words }
+    requires few_words { words ≤ most_words }
+    requires some_rows { 1 ≤ length rows.now }
+    requires few_rows { length rows.now ≤ most_modules }
+    requires each { All (IsRow words) rows.now }
+    requires limited { IsLimit limit }
+    requires fits { IsTrue (fits L.kind limit (list_map (row_map words) rows.now)) }
+    ensures maps { IfOk result (λ t. read_maps L.kind t.upper t.leaf t.spill t.words t.roots
+        ≡ list_map (row_map words) rows.now) }
+    ensures words { IfOk result (λ t. t.words ≡ words) }
+    ensures limit { IfOk result (λ t. t.limit ≡ limit) }
+    ensures lookups { IfOk result (λ t. t.lookups ≡ 0) }
+{
+    let spare = 2 * rows.len() as u32;
+    let mut upper = Pool::new(alloc, limit.upper + spare)?;
+    let mut leaf = Pool::new(alloc, limit.leaf + spare)?;
+    let mut spill = Pool::new(alloc, limit.spill + spare)?;
+    let roots = build_rows::<L>(alloc, &mut upper, &mut leaf, &mut spill, words, rows)?;
+    Ok(Trie {
+        upper,
+        leaf,
+        spill,
+        roots,
+        words,
+        limit,
+        lookups: 0,
+        form: PhantomData,
+    })
+}
+
 impl<L: LeafForm> PermTables for Trie<L> {
     ghost kind = { L.kind };
 
@@ -100,30 +138,10 @@ impl<L: LeafForm> PermTables for Trie<L> {
         if !is_within(need, limit) {
             return Err(BuildRefused::TablesFull { need });
         }
-        let spare = 2 * rows.len() as u32;
-        let Ok(mut upper) = Pool::new(alloc, limit.upper + spare) else {
-            return Err(BuildRefused::NoMemory);
-        };
-        let Ok(mut leaf) = Pool::new(alloc, limit.leaf + spare) else {
-            return Err(BuildRefused::NoMemory);
-        };
-        let Ok(mut spill) = Pool::new(alloc, limit.spill + spare) else {
-            return Err(BuildRefused::NoMemory);
-        };
-        let Ok(roots) = build_rows::<L>(alloc, &mut upper, &mut leaf, &mut spill, words, rows)
-        else {
-            return Err(BuildRefused::NoMemory);
-        };
-        Ok(Trie {
-            upper,
-            leaf,
-            spill,
-            roots,
-            words,
-            limit,
-            lookups: 0,
-            form: PhantomData,
-        })
+        match tables_of::<L>(alloc, words, rows, limit) {
+            Ok(tables) => Ok(tables),
+            Err(_) => Err(BuildRefused::NoMemory),
+        }
     }
 
     fn lookup(&mut self, domain: u32, word: u32) -> Span {

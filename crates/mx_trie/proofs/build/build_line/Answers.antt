@@ -1,4 +1,4 @@
-use Rattle.std.proofs.Common.{◌≡◌, ◌≤◌, List, length, sym, ap, subst, ◌∙◌, arith}
+use Rattle.std.proofs.Common.{◌≡◌, ◌≤◌, length, sym, ap, ◌∙◌, arith}
 use Rattle.mx_words.specs.Counting.{bit}
 use Rattle.mx_table.specs.Tables.{most_words}
 use Rattle.mx_trie.specs.Leaf.{needs_spill}

@@ -1,4 +1,4 @@
-use Rattle.std.proofs.Common.{◌*◌, ◌/◌, ◌≤◌, ◌≡◌, ℕ, not, true, sym, ap, ◌∙◌, subst, arith}
+use Rattle.std.proofs.Common.{◌*◌, ◌≡◌, ℕ, not, sym, ap, ◌∙◌, subst, arith}
 use Rattle.std.proofs.Math.Bool.{not-not}
 use Rattle.mx_words.specs.Blocks.{is_broken}
 use Rattle.mx_words.specs.Runs.{region_words}

@@ -1,9 +1,8 @@
-use Rattle.std.proofs.Common.{◌≤◌, ◌+◌, IsSome, refl, sym, subst, arith}
+use Rattle.std.proofs.Common.{IsSome, refl, sym, subst, arith}
 use Rattle.mx_words.specs.Blocks.{is_broken}
 use Rattle.mx_words.specs.Counting.{bit}
 use Rattle.mx_words.specs.Runs.{region_words}
-use Rattle.mx_pool.specs.Frames.{free_in}
-use Rattle.mx_trie.specs.Built.{AreTaken, region_broken, region_crowd}
+use Rattle.mx_trie.specs.Built.{region_broken, region_crowd}
 use Rattle.mx_trie.proofs.BuiltBlocks.{regions-begun, regions-built-more, taken-left, one-more-left}
 use Rattle.mx_trie.proofs.build.build_root.Goals as goal
 

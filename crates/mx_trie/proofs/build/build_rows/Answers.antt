@@ -1,7 +1,6 @@
-use Rattle.std.proofs.Common.{◌≡◌, ◌≤◌, ℕ, [], List, length, get_or, ap, sym, ◌∙◌, subst, arith}
+use Rattle.std.proofs.Common.{◌≡◌, ℕ, [], length, get_or, ap, sym, ◌∙◌, subst, arith}
 use Rattle.std.proofs.lemmas.List.{get_or_default}
-use Rattle.mx_words.specs.declared.perm.Perm.{Perm}
-use Rattle.mx_table.specs.Tables.{most_words, row_map}
+use Rattle.mx_table.specs.Tables.{row_map}
 use Rattle.mx_trie.specs.Built.{rows_map}
 use Rattle.mx_trie.proofs.BuiltRows.{AreRowsBuilt, length-row, rows-none, upper-left, leaf-left, spill-left, rows-more, rows-built}
 use Rattle.mx_trie.proofs.build.build_rows.Goals as goal

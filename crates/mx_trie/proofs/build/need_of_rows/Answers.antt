@@ -1,7 +1,6 @@
 use Rattle.std.proofs.Common.{◌+◌, ◌≡◌, ℕ, [], length, sym, ap, ◌∙◌, subst, arith}
 use Rattle.std.proofs.lemmas.List.{get_or_default}
 use Rattle.mx_words.specs.Runs.{page_words, region_words, broken_blocks}
-use Rattle.mx_words.proofs.CountingLaws.{sum_below-zero}
 use Rattle.mx_table.specs.Tables.{row_map}
 use Rattle.mx_trie.specs.Laying.{spill_lines}
 use Rattle.mx_trie.specs.After.{IsNeedOf}

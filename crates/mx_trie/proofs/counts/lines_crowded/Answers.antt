@@ -12,7 +12,8 @@ loop-line-init g c = (sym (sum_below-zero (λ k. line_crowd g.L.LeafForm.kind (g
 
 pub loop-line-preserved : goal.loop-line-preserved
 loop-line-preserved g c =
-    let told = c.from-count.ensures ∙ byte-bit c.needs_spill.result in
-    (sum-next c.loop-line.line c.loop-line.count c.from-count.result (λ k. line_crowd g.L.LeafForm.kind (g.V.View.map c.args.view.now) (c.args.page * 64 + k))
-    c.loop-line.invariant.0 (told ∙ ap bit (c.needs_spill.ensures ∙ ap (needs_spill g.L.LeafForm.kind) c.line_perms.ensures)),
-    omega (arith, c.loop-line.invariant.1, told, bit-le c.needs_spill.result))
+    let told = c.from-count.ensures ∙ byte-bit c.needs_spill.result in (
+      sum-next c.loop-line.line c.loop-line.count c.from-count.result (λ k. line_crowd g.L.LeafForm.kind (g.V.View.map c.args.view.now) (c.args.page * 64 + k))
+          c.loop-line.invariant.0 (told ∙ ap bit (c.needs_spill.ensures ∙ ap (needs_spill g.L.LeafForm.kind) c.line_perms.ensures)),
+      omega (arith, c.loop-line.invariant.1, told, bit-le c.needs_spill.result),
+    )

@@ -13,7 +13,8 @@ loop-region-init g c = (sym (sum_below-zero (λ x. bit (is_broken region_words (
 
 pub loop-region-preserved : goal.loop-region-preserved
 loop-region-preserved g c =
-    let told = c.from-count.ensures ∙ byte-bit (not c.is_region_even.result) in
-    (sum-next c.loop-region.region c.loop-region.count c.from-count.result (λ x. bit (is_broken region_words (g.V.View.map c.args.view.now) x))
-    c.loop-region.invariant.0 (told ∙ ap bit (ap not c.is_region_even.ensures ∙ not-not _)),
-    omega (arith, c.loop-region.invariant.1, told, bit-le (not c.is_region_even.result)))
+    let told = c.from-count.ensures ∙ byte-bit (not c.is_region_even.result) in (
+      sum-next c.loop-region.region c.loop-region.count c.from-count.result (λ x. bit (is_broken region_words (g.V.View.map c.args.view.now) x))
+          c.loop-region.invariant.0 (told ∙ ap bit (ap not c.is_region_even.ensures ∙ not-not _)),
+      omega (arith, c.loop-region.invariant.1, told, bit-le (not c.is_region_even.result)),
+    )
