@@ -15,7 +15,8 @@ ghost use Rattle.mx_trie.specs.Shown.{AreLines, IsDomain};
 ghost use Rattle.mx_trie.specs.Laying.{laid_by, IsLaid};
 ghost use Rattle.mx_trie.specs.Read.{read_map};
 ghost use Rattle.mx_trie.specs.Standing.{map_at, IsRead, IsTables};
-ghost use Rattle.mx_trie.specs.After.{count_from, count_within, IsPathTaken, IsNeedOf, IsRangeNeed, IsNeedWith, IsNeedSmall, IsNeedMoved, map_in, maps_after};
+ghost use Rattle.mx_trie.specs.After.{count_from, count_within, map_in, maps_after, IsPathTaken};
+ghost use Rattle.mx_trie.specs.After.{IsNeedOf, IsRangeNeed, IsNeedWith, IsNeedSmall, IsNeedMoved};
 
 use crate::change::laying_of;
 use crate::changed_view::ChangedView;

@@ -1,5 +1,5 @@
-//! Pages and regions after a change of a range: whether they are broken, not eighth-uniform, is told at the range's edges first, and
-//! only then by all words.
+//! Pages and regions after a change of a range: whether they are broken, which is not eighth-uniform, is told at the
+//! range's edges first, and only then by all words.
 ghost use Rattle.std.specs.Prelude.{◌≡◌, ◌/◌, ◌<◌, true};
 ghost use Rattle.mx_words.specs.Runs.{page_words, region_words};
 ghost use Rattle.mx_words.specs.Blocks.{is_broken};

@@ -21,8 +21,9 @@ use mx_words::{Need, NoMemory, Perm, Shown, Span, Spans};
 use std::alloc::Global;
 use std::marker::PhantomData;
 
-/// The permissions of all domains as tries: per domain a root table, whose entries stand for regions of 2^20 words, and below it mid
-/// tables, whose entries stand for pages of 1024 words, and leaf tables, whose entries stand for lines of 16 words.
+/// The permissions of all domains as tries: per domain a root table, whose entries stand for regions of 2^20 words, and
+/// below it mid tables, whose entries stand for pages of 1024 words, and leaf tables, whose entries stand for lines of 16
+/// words.
 #[derive(Drop)]
 pub struct Trie<L: LeafForm> {
     /// Root and mid tables.
@@ -50,7 +51,9 @@ impl<L: LeafForm> Trie<L> {
         requires first { 1 ≤ domain }
         requires last { domain ≤ length self.now.roots }
         requires inside { word < self.now.words }
-        ensures { IsFound L.kind (map_of (read_maps L.kind self.now.upper self.now.leaf self.now.spill self.now.words self.now.roots) domain) word result }
+        ensures { IsFound L.kind
+            (map_of (read_maps L.kind self.now.upper self.now.leaf self.now.spill self.now.words
+            self.now.roots) domain) word result }
     {
         find::<L>(
             &self.upper,
