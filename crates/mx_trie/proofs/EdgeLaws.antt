@@ -1,14 +1,13 @@
 -- Blocks that aren't eighth-uniform, told by two neighbours, or by one of their pages; and those that a range covers.
 use Rattle.std.proofs.Common.{◌≡◌, ◌≢◌, ℕ, ◌+◌, ◌-◌, ◌*◌, ◌/◌, ◌%◌, ◌<◌, ◌≤◌, Bool, true, false, not, List, refl, sym, ap, ◌∙◌, arith}
-use Rattle.std.proofs.lemmas.Bool.{not-false}
 use Rattle.mx_words.specs.declared.perm.Perm.{Perm}
 use Rattle.mx_words.specs.declared.perm.Span.{Span}
 use Rattle.mx_words.specs.declared.tables.Kind.{Kind}
 use Rattle.mx_words.specs.Rights.{number, perm_at}
-use Rattle.mx_words.specs.Runs.{page_words, region_words, is_eighth_uniform}
+use Rattle.mx_words.specs.Runs.{page_words, region_words}
 use Rattle.mx_words.specs.Reach.{line_at}
-use Rattle.mx_words.specs.Blocks.{block_of, is_broken, IsEven}
-use Rattle.mx_words.proofs.BlockLaws.{even_from, even_is, whole-even}
+use Rattle.mx_words.specs.Blocks.{is_broken}
+use Rattle.mx_words.proofs.BlockLaws.{even_is, whole-even}
 use Rattle.mx_words.proofs.BrokenLaws.{block-below, block-above}
 use Rattle.mx_trie.specs.declared.laying.Laying.{Laying}
 use Rattle.mx_trie.specs.Leaf.{needs_spill}
@@ -16,20 +15,18 @@ use Rattle.mx_trie.specs.Laying.{IsLaid}
 use Rattle.mx_trie.specs.Views.{IsRound}
 use Rattle.mx_trie.proofs.Scans.{round-perm}
 use Rattle.mx_trie.proofs.EvenTables.{uniform-from}
-use Rattle.mx_trie.proofs.FlatLaws.{even-line, flat-needs, region-page-even}
+use Rattle.mx_trie.proofs.FlatLaws.{flat-needs, region-page-even}
+use Rattle.mx_trie.proofs.PageTables.{even-of}
+use Rattle.mx_trie.proofs.RegionTables.{region-even-of}
 use Rattle.mx_trie.proofs.LineCuts.{line-is}
 use Rattle.mx_trie.specs.Filled.{flat_line}
 use Rattle.std.proofs.lemmas.List.{get_or-replicate, length-replicate}
 use Rattle.mx_words.specs.declared.perm.Perm.TheVariants as P
 
--- a block that isn't broken is even
-pub even-of : (size part : ℕ) (m : List Perm) (b : ℕ) → size / 8 ≡ part → size ≡ 8 * part → 0 < part → is_broken size m b ≡ false → IsEven m (b * size) part
-even-of size part m b is eight some whole = even_from size part m b is eight some (not-false (is_eighth_uniform size (block_of size m b)) whole)
-
 -- a page of a region that isn't broken isn't either
 pub even-page : (m : List Perm) (x y : ℕ) → y / 1024 ≡ x → is_broken region_words m x ≡ false → is_broken page_words m y ≡ false
 even-page m x y at whole =
-    ap not (even_is 1024 128 m y refl refl (omega arith) (region-page-even m x y at (even-of 1048576 131072 m x refl refl (omega arith) whole)))
+    ap not (even_is 1024 128 m y refl refl (omega arith) (region-page-even m x y at (region-even-of m x whole)))
 
 pub broken_region : (m : List Perm) (x at : ℕ) → at / 1048576 ≡ x → is_broken page_words m (at / 1024) ≡ true → true ≡ is_broken region_words m x
 broken_region m x at inside broken = by (is_broken region_words m x) refl
@@ -38,20 +35,15 @@ broken_region m x at inside broken = by (is_broken region_words m x) refl
     by true e = sym e
     by false e = absurd (let whole : true ≡ false = sym broken ∙ even-page m x (at / 1024) (omega arith) e in cc)
 
--- no line of a page that isn't broken needs a spill word
-pub even-needs : (kind : Kind) (m : List Perm) (y z : ℕ) → z / 64 ≡ y → is_broken page_words m y ≡ false → needs_spill kind (line_at m (z * 16)) ≡ false
-even-needs kind m y z at whole =
-    ap (needs_spill kind) (even-line m y z at (even-of 1024 128 m y refl refl (omega arith) whole)) ∙ flat-needs kind (perm_at m (y * page_words + z % 64 / 8 * 128))
-
 -- a page in which two neighbours of one eighth differ
-pub edge-page : (m : List Perm) (at : ℕ) (before here : Span) → at % 128 ≢ 0 → IsRound m (at - 1) before → IsRound m at here →
+pub edge_page : (m : List Perm) (at : ℕ) (before here : Span) → at % 128 ≢ 0 → IsRound m (at - 1) before → IsRound m at here →
     number here.perm ≢ number before.perm → is_broken page_words m (at / 1024) ≡ true
-edge-page m at before here within last first other = by (is_broken page_words m (at / 1024)) refl
+edge_page m at before here within last first other = by (is_broken page_words m (at / 1024)) refl
   where
     by : (b : Bool) → is_broken page_words m (at / 1024) ≡ b → is_broken page_words m (at / 1024) ≡ true
     by true e = e
     by false e =
-        let part = (even-of 1024 128 m (at / 1024) refl refl (omega arith) e).parts (at % 1024 / 128) (omega arith) in
+        let part = (even-of m (at / 1024) e).parts (at % 1024 / 128) (omega arith) in
         let here_is : at / 1024 * page_words + at % 1024 / 128 * 128 + at % 128 ≡ at = omega arith in
         let before_is : at / 1024 * page_words + at % 1024 / 128 * 128 + (at % 128 - 1) ≡ at - 1 = omega arith in
         let same : perm_at m at ≡ perm_at m (at - 1) =

@@ -13,13 +13,16 @@ use Rattle.mx_words.specs.Reach.{line_at}
 use Rattle.mx_words.specs.Blocks.{is_broken}
 use Rattle.mx_words.proofs.CountingLaws.{cases_below, count_below-le, sum_below_agree, sum_below_changed}
 use Rattle.mx_words.proofs.BlockLaws.{broken_blocks-count}
+use Rattle.mx_words.proofs.MapLaws.{length-changed_map}
+use Rattle.mx_table.specs.declared.change.Change.{Change}
+use Rattle.mx_table.specs.Change.{given}
 use Rattle.mx_table.specs.Tables.{most_words}
 use Rattle.mx_trie.specs.declared.laying.Laying.{Laying}
 use Rattle.mx_trie.specs.Leaf.{needs_spill}
 use Rattle.mx_trie.specs.Read.{read_map}
 use Rattle.mx_trie.specs.Walk.{Frames, most_regions, most_pages, most_lines}
 use Rattle.mx_trie.specs.Laying.{spill_lines, laid_by}
-use Rattle.mx_trie.specs.After.{IsNeedOf, IsNeedWith, IsNeedMoved, IsNeedSmall, map_in, maps_until}
+use Rattle.mx_trie.specs.After.{IsNeedOf, IsNeedWith, IsNeedMoved, IsNeedSmall, map_in, maps_after, maps_until}
 
 -- a map after a change that names its domain
 pub laid-named : (first count : ℕ) (given : Option Perm) (m : List Perm) (lay : Laying) → lay.first ≡ first → lay.end ≡ first + count → given ≡ Some lay.perm → laid_by lay m ≡ changed_map first count given m
@@ -55,34 +58,34 @@ unfolding sum_below
 sum-most zero most f few = omega arith
 sum-most (suc n) most f few = omega (arith, sum-most n most f (λ i below. few i (omega arith)), few n (omega arith), suc-mul n most)
 
-module _ (old new : ℕ → List Perm) where
-  pub until-new : (row d : ℕ) → d < row → maps_until row old new d ≡ new d
-  until-new row d below = ap (λ (b : Bool). if b then new d else old d) (lt-ltb d row below)
+module _ (change : Change) (old : ℕ → List Perm) where
+  pub until-new : (row d : ℕ) → d < row → maps_until row change old d ≡ maps_after change old d
+  until-new row d below = ap (λ (b : Bool). if b then maps_after change old d else old d) (lt-ltb d row below)
 
-  pub until-old : (row d : ℕ) → row ≤ d → maps_until row old new d ≡ old d
-  until-old row d from = ap (λ (b : Bool). if b then new d else old d) (le-ltb d row from)
+  pub until-old : (row d : ℕ) → row ≤ d → maps_until row change old d ≡ old d
+  until-old row d from = ap (λ (b : Bool). if b then maps_after change old d else old d) (le-ltb d row from)
 
-  pub until-next : (row d : ℕ) → d ≢ row → maps_until row old new d ≡ maps_until (row + 1) old new d
+  until-next : (row d : ℕ) → d ≢ row → maps_until row change old d ≡ maps_until (row + 1) change old d
   until-next row d ne = elim (cases_lt d row) [
     | inl h ↦ until-new row d h ∙ sym (until-new (row + 1) d (omega arith))
     | inr h ↦ until-old row d h ∙ sym (until-old (row + 1) d (omega arith))
   ]
 
-  pub until-short : (most row d : ℕ) → length (old d) ≤ most → length (new d) ≤ most → length (maps_until row old new d) ≤ most
-  until-short most row d few few' = elim (cases_lt d row) [
-    | inl h ↦ rw (until-new row d h) few'
+  pub until-short : (most row d : ℕ) → length (old d) ≤ most → length (maps_until row change old d) ≤ most
+  until-short most row d few = elim (cases_lt d row) [
+    | inl h ↦ rw (until-new row d h) (omega (arith, length-changed_map change.first change.count (given change (d + 1)) (old d)))
     | inr h ↦ rw (until-old row d h) few
   ]
 
--- the map of domain `row` is changed, and domain d's map is known
-pub maps-next : (first count : ℕ) (given : ℕ → Option Perm) (old now now' : ℕ → List Perm) (row d : ℕ) → let new = λ (e : ℕ). changed_map first count (given (e + 1)) (old e) in
-    now d ≡ maps_until row old new d → now' row ≡ changed_map first count (given (row + 1)) (now row) → (d ≢ row → now' d ≡ now d) → now' d ≡ maps_until (row + 1) old new d
-maps-next first count given old now now' row d was changed same = elim (cases_eq d row) [
-  | inl h ↦ (let new : ℕ → List Perm = λ e. changed_map first count (given (e + 1)) (old e) in
-      let before : now row ≡ old row = ap now (sym h) ∙ was ∙ ap (maps_until row old new) h ∙ until-old old new row row (omega arith) in
-      ap now' h ∙ changed ∙ ap (changed_map first count (given (row + 1))) before ∙ sym (until-new old new (row + 1) row (omega arith)) ∙ ap (maps_until (row + 1) old new) (sym h))
-  | inr h ↦ same h ∙ was ∙ until-next old (λ e. changed_map first count (given (e + 1)) (old e)) row d h
-]
+  -- the map of domain `row` is changed, and domain d's map is known
+  pub maps-next : (now now' : ℕ → List Perm) (row d : ℕ) → now d ≡ maps_until row change old d → now' row ≡ maps_after change now row → (d ≢ row → now' d ≡ now d) →
+      now' d ≡ maps_until (row + 1) change old d
+  maps-next now now' row d was changed same = elim (cases_eq d row) [
+    | inl h ↦ (let before : now row ≡ old row = ap now (sym h) ∙ was ∙ ap (maps_until row change old) h ∙ until-old row row (omega arith) in
+        ap now' h ∙ changed ∙ ap (changed_map change.first change.count (given change (row + 1))) before
+        ∙ sym (until-new (row + 1) row (omega arith)) ∙ ap (maps_until (row + 1) change old) (sym h))
+    | inr h ↦ same h ∙ was ∙ until-next row d h
+  ]
 
 module _ (kind : Kind) (n : ℕ) where
   pub need-agree : (maps maps' : ℕ → List Perm) (need : Need) → ((d : ℕ) → d < n → maps d ≡ maps' d) → IsNeedOf kind n maps need → IsNeedOf kind n maps' need
@@ -93,19 +96,20 @@ module _ (kind : Kind) (n : ℕ) where
   }
 
   -- one domain more
-  pub need-next : (old new : ℕ → List Perm) (row : ℕ) (need need' : Need) → row < n → IsNeedOf kind n (maps_until row old new) need → IsNeedMoved kind (old row) (new row) need need' →
-      IsNeedOf kind n (maps_until (row + 1) old new) need'
-  need-next old new row need need' below is moved = record {
+  pub need-next : (change : Change) (old : ℕ → List Perm) (row : ℕ) (need need' : Need) → row < n → IsNeedOf kind n (maps_until row change old) need →
+      IsNeedMoved kind (old row) (maps_after change old row) need need' → IsNeedOf kind n (maps_until (row + 1) change old) need'
+  need-next change old row need need' below is moved = record {
     upper = omega (arith, is.upper, moved.upper, changed (broken_blocks region_words));
     leaf = omega (arith, is.leaf, moved.leaf, changed (broken_blocks page_words));
     spill = omega (arith, is.spill, moved.spill, changed (spill_lines kind));
   }
     where
-      changed : (f : List Perm → ℕ) → sum_below n (λ d. f (maps_until (row + 1) old new d)) + f (old row) ≡ sum_below n (λ d. f (maps_until row old new d)) + f (new row)
+      changed : (f : List Perm → ℕ) → sum_below n (λ d. f (maps_until (row + 1) change old d)) + f (old row) ≡ sum_below n (λ d. f (maps_until row change old d)) + f (maps_after change old row)
       changed f =
-          ap (λ m. sum_below n (λ d. f (maps_until (row + 1) old new d)) + f m) (sym (until-old old new row row (omega arith)))
-          ∙ sum_below_changed n row (λ d. f (maps_until row old new d)) (λ d. f (maps_until (row + 1) old new d)) below (λ d within ne. ap f (until-next old new row d ne))
-          ∙ ap (λ m. sum_below n (λ d. f (maps_until row old new d)) + f m) (until-new old new (row + 1) row (omega arith))
+          let was : f (maps_until row change old row) ≡ f (old row) = ap f (until-old change old row row (omega arith)) in
+          let now : f (maps_until (row + 1) change old row) ≡ f (maps_after change old row) = ap f (until-new change old (row + 1) row (omega arith)) in
+          let step = sum_below_changed n row (λ d. f (maps_until row change old d)) (λ d. f (maps_until (row + 1) change old d)) below (λ d within ne. ap f (until-next change old row d ne)) in
+          omega (arith, was, now, step)
 
   -- each map's need is a part, and the whole is small
   pub need-part : (maps : ℕ → List Perm) (d : ℕ) (need : Need) → d < n → IsNeedOf kind n maps need → IsNeedWith kind (maps d) need

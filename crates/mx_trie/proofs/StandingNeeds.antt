@@ -25,7 +25,7 @@ use Rattle.mx_trie.specs.Walk.{Frames, most_regions, most_pages}
 use Rattle.mx_trie.specs.Read.{read_map, read_maps}
 use Rattle.mx_trie.specs.Owned.{domain_mids, domain_leaves, domain_spills}
 use Rattle.mx_trie.specs.Laying.{spill_lines}
-use Rattle.mx_trie.specs.After.{IsNeedOf}
+use Rattle.mx_trie.specs.After.{IsNeedOf, maps_after}
 use Rattle.mx_trie.specs.Standing.{root_at, map_at, IsTables, IsStanding}
 use Rattle.mx_trie.specs.Shape.{length-read_map, length-read_maps}
 use Rattle.mx_trie.proofs.NeedLaws.{spill-two, sum_below-each, need-listed}
@@ -68,10 +68,10 @@ module _ (kind : Kind) (upper leaf spill : Frames) (words : ℕ) (roots : List �
     need-read =
         need-listed kind k (length roots) (map_at kind words upper leaf spill roots) (read_maps kind upper leaf spill words roots) list-long map-read (λ d below. omega (arith, few, long d))
 
-    pub need-changed : (change : Change) → IsNeedOf kind (length roots) (λ d. changed_map change.first change.count (given change (d + 1)) (map_at kind words upper leaf spill roots d))
+    pub need-changed : (change : Change) → IsNeedOf kind (length roots) (maps_after change (map_at kind words upper leaf spill roots))
         (need kind (changed change (read_maps kind upper leaf spill words roots)))
     need-changed change =
-        need-listed kind k (length roots) (λ d. changed_map change.first change.count (given change (d + 1)) (map_at kind words upper leaf spill roots d))
+        need-listed kind k (length roots) (maps_after change (map_at kind words upper leaf spill roots))
         (changed change (read_maps kind upper leaf spill words roots)) (changed-long change) (changed-read change)
         (λ d below. omega (arith, few, long d, length-changed_map change.first change.count (given change (d + 1)) (map_at kind words upper leaf spill roots d)))
 

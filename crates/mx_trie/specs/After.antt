@@ -3,10 +3,13 @@ use Rattle.std.specs.Prelude.{◌≡◌, ℕ, ◌+◌, ◌-◌, ◌*◌, ◌/◌
 use Rattle.mx_words.specs.declared.perm.Perm.{Perm}
 use Rattle.mx_words.specs.declared.tables.Kind.{Kind}
 use Rattle.mx_words.specs.declared.tables.Need.{Need}
+use Rattle.mx_words.specs.Changes.{changed_map}
 use Rattle.mx_words.specs.Counting.{count_below, sum_below}
 use Rattle.mx_words.specs.Runs.{broken_blocks, page_words, region_words}
 use Rattle.mx_words.specs.Reach.{line_at}
 use Rattle.mx_words.specs.Blocks.{is_broken}
+use Rattle.mx_table.specs.declared.change.Change.{Change}
+use Rattle.mx_table.specs.Change.{given}
 use Rattle.mx_pool.specs.Frames.{IsTaken}
 use Rattle.mx_trie.specs.declared.laying.Laying.{Laying}
 use Rattle.mx_trie.specs.Walk.{Frames, target, root_word, has_mid}
@@ -63,6 +66,9 @@ pub record IsNeedMoved (kind : Kind) (m n : List Perm) (before after : Need) : T
   pub leaf : after.leaf + broken_blocks page_words m ≡ before.leaf + broken_blocks page_words n
   pub spill : after.spill + spill_lines kind m ≡ before.spill + spill_lines kind n
 
--- the maps of the domains before `row` are the new ones, and the others the old ones
-abbrev pub maps_until : ℕ → (ℕ → List Perm) → (ℕ → List Perm) → ℕ → List Perm
-maps_until row old new d = if nat_lt d row then new d else old d
+-- the maps after a change of all domains, and of the domains before `row` alone
+abbrev pub maps_after : Change → (ℕ → List Perm) → ℕ → List Perm
+maps_after change old d = changed_map change.first change.count (given change (d + 1)) (old d)
+
+abbrev pub maps_until : ℕ → Change → (ℕ → List Perm) → ℕ → List Perm
+maps_until row change old d = if nat_lt d row then maps_after change old d else old d

@@ -15,7 +15,8 @@ ghost use Rattle.mx_trie.specs.Shown.{AreLines, IsDomain};
 ghost use Rattle.mx_trie.specs.Laying.{laid_by, IsLaid};
 ghost use Rattle.mx_trie.specs.Read.{read_map};
 ghost use Rattle.mx_trie.specs.Standing.{map_at, IsRead, IsTables};
-ghost use Rattle.mx_trie.specs.After.{count_from, count_within, IsPathTaken, IsNeedOf, IsRangeNeed, IsNeedWith, IsNeedSmall, IsNeedMoved, map_in};
+ghost use Rattle.mx_trie.specs.After.{count_from, count_within, map_in, maps_after, IsPathTaken};
+ghost use Rattle.mx_trie.specs.After.{IsNeedOf, IsRangeNeed, IsNeedWith, IsNeedSmall, IsNeedMoved};
 
 use crate::change::laying_of;
 use crate::changed_view::ChangedView;
@@ -344,8 +345,7 @@ pub(crate) fn need_after<L: LeafForm>(
     requires need { IsNeedOf L.kind (length roots.now)
         (map_at L.kind words upper.now leaf.now spill.now roots.now) need }
     ensures { IsNeedOf L.kind (length roots.now)
-        (λ d. changed_map change.now.first change.now.count (given change.now (d + 1))
-        (map_at L.kind words upper.now leaf.now spill.now roots.now d)) result }
+        (maps_after change.now (map_at L.kind words upper.now leaf.now spill.now roots.now)) result }
 {
     let mut need = need;
     for row in 0..roots.count() {

@@ -1,5 +1,5 @@
-//! Pages and regions after a change of a range: whether they are broken, not eighth-uniform, is told at the
-//! range's edges first, and only then by all words.
+//! Pages and regions after a change of a range: whether they are broken, which is not eighth-uniform, is told
+//! at the range's edges first, and only then by all words.
 ghost use Rattle.std.specs.Prelude.{◌≡◌, ◌/◌, ◌<◌, true};
 ghost use Rattle.mx_words.specs.Runs.{page_words, region_words};
 ghost use Rattle.mx_words.specs.Blocks.{is_broken};
@@ -11,6 +11,7 @@ use crate::view::View;
 use mx_words::MOST_WORDS;
 
 /// Whether a word has another permission than the word before it, which lies in the same eighth of a page.
+#[tactic(auto, using(crate::proofs::EdgeLaws::edge_page))]
 fn is_edge<V: View>(view: &V, at: u32) -> bool
     requires lawful { V.lawful view.now }
     ensures { result ≡ true → is_broken page_words (V.map view.now) (at / 1024) ≡ true }

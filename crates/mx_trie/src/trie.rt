@@ -51,7 +51,9 @@ impl<L: LeafForm> Trie<L> {
         requires first { 1 ≤ domain }
         requires last { domain ≤ length self.now.roots }
         requires inside { word < self.now.words }
-        ensures { IsFound L.kind (map_of (read_maps L.kind self.now.upper self.now.leaf self.now.spill self.now.words self.now.roots) domain) word result }
+        ensures { IsFound L.kind
+            (map_of (read_maps L.kind self.now.upper self.now.leaf self.now.spill self.now.words
+            self.now.roots) domain) word result }
     {
         find::<L>(
             &self.upper,

@@ -1,11 +1,10 @@
 use Rattle.std.proofs.Common.{ℕ, ◌+◌, List, length, sym, refl, subst, arith}
 use Rattle.mx_words.specs.declared.perm.Perm.{Perm}
 use Rattle.mx_words.specs.Changes.{changed_map}
-use Rattle.mx_words.proofs.MapLaws.{length-changed_map}
 use Rattle.mx_table.specs.Change.{given}
 use Rattle.mx_table.specs.Tables.{most_words}
 use Rattle.mx_trie.specs.Standing.{root_at, map_at}
-use Rattle.mx_trie.specs.After.{IsNeedWith, IsNeedMoved, maps_until}
+use Rattle.mx_trie.specs.After.{IsNeedWith, IsNeedMoved, maps_after, maps_until}
 use Rattle.mx_trie.specs.Read.{read_map}
 use Rattle.mx_trie.specs.Shape.{length-read_map}
 use Rattle.mx_trie.proofs.DomainsChanged.{tables-read}
@@ -15,8 +14,7 @@ use Rattle.mx_trie.proofs.after.need_after.Goals as goal
 pub loop-row-init : goal.loop-row-init
 loop-row-init g c =
     let old = map_at g.L.LeafForm.kind c.args.words c.args.upper.now c.args.leaf.now c.args.spill.now c.args.roots.now in
-    let new = λ (d : ℕ). changed_map c.args.change.now.first c.args.change.now.count (given c.args.change.now (d + 1)) (old d) in
-    need-agree g.L.LeafForm.kind (length c.args.roots.now) old (maps_until 0 old new) c.args.need (λ d below. sym (until-old old new 0 d (omega arith))) c.requires.need
+    need-agree g.L.LeafForm.kind (length c.args.roots.now) old (maps_until 0 c.args.change.now old) c.args.need (λ d below. sym (until-old c.args.change.now old 0 d (omega arith))) c.requires.need
 
 pub need_changed-need-requires-clause-read : goal.need_changed-need-requires-clause-read
 need_changed-need-requires-clause-read g c =
@@ -25,28 +23,23 @@ need_changed-need-requires-clause-read g c =
 pub need_changed-need-requires-clause-part : goal.need_changed-need-requires-clause-part
 need_changed-need-requires-clause-part g c =
     let old = map_at g.L.LeafForm.kind c.args.words c.args.upper.now c.args.leaf.now c.args.spill.now c.args.roots.now in
-    let new = λ (d : ℕ). changed_map c.args.change.now.first c.args.change.now.count (given c.args.change.now (d + 1)) (old d) in
     subst (λ r. IsNeedWith g.L.LeafForm.kind (read_map g.L.LeafForm.kind c.args.upper.now c.args.leaf.now c.args.spill.now c.args.words r) c.loop-row.need) (sym c.at.ensures)
-    (subst (λ (m : List Perm). IsNeedWith g.L.LeafForm.kind m c.loop-row.need) (until-old old new c.loop-row.row c.loop-row.row (omega arith))
-    (need-part g.L.LeafForm.kind (length c.args.roots.now) (maps_until c.loop-row.row old new) c.loop-row.row c.loop-row.need (omega arith) c.loop-row.invariant))
+    (subst (λ (m : List Perm). IsNeedWith g.L.LeafForm.kind m c.loop-row.need) (until-old c.args.change.now old c.loop-row.row c.loop-row.row (omega arith))
+    (need-part g.L.LeafForm.kind (length c.args.roots.now) (maps_until c.loop-row.row c.args.change.now old) c.loop-row.row c.loop-row.need (omega arith) c.loop-row.invariant))
 
 pub need_changed-need-requires-clause-few : goal.need_changed-need-requires-clause-few
 need_changed-need-requires-clause-few g c =
     let old = map_at g.L.LeafForm.kind c.args.words c.args.upper.now c.args.leaf.now c.args.spill.now c.args.roots.now in
-    let new = λ (d : ℕ). changed_map c.args.change.now.first c.args.change.now.count (given c.args.change.now (d + 1)) (old d) in
-    need-small g.L.LeafForm.kind (length c.args.roots.now) (maps_until c.loop-row.row old new) c.loop-row.need (omega arith)
-    (λ d below.
     let few = c.requires.tables.few_words in
-    let long = length-read_map g.L.LeafForm.kind c.args.upper.now c.args.leaf.now c.args.spill.now c.args.words c.args.roots.now (root_at c.args.roots.now d) in
-    until-short old new most_words c.loop-row.row d (omega (arith, long))
-    (omega (arith, long, length-changed_map c.args.change.now.first c.args.change.now.count (given c.args.change.now (d + 1)) (old d))))
+    need-small g.L.LeafForm.kind (length c.args.roots.now) (maps_until c.loop-row.row c.args.change.now old) c.loop-row.need (omega arith)
+    (λ d below. until-short c.args.change.now old most_words c.loop-row.row d
+    (omega (arith, length-read_map g.L.LeafForm.kind c.args.upper.now c.args.leaf.now c.args.spill.now c.args.words c.args.roots.now (root_at c.args.roots.now d))))
     c.loop-row.invariant
 
 pub loop-row-preserved : goal.loop-row-preserved
 loop-row-preserved g c =
     let old = map_at g.L.LeafForm.kind c.args.words c.args.upper.now c.args.leaf.now c.args.spill.now c.args.roots.now in
-    let new = λ (d : ℕ). changed_map c.args.change.now.first c.args.change.now.count (given c.args.change.now (d + 1)) (old d) in
-    need-next g.L.LeafForm.kind (length c.args.roots.now) old new c.loop-row.row c.loop-row.need c.need_changed-need.result (omega arith) c.loop-row.invariant
+    need-next g.L.LeafForm.kind (length c.args.roots.now) c.args.change.now old c.loop-row.row c.loop-row.need c.need_changed-need.result (omega arith) c.loop-row.invariant
     (subst (λ r. let m = read_map g.L.LeafForm.kind c.args.upper.now c.args.leaf.now c.args.spill.now c.args.words r in
     IsNeedMoved g.L.LeafForm.kind m (changed_map c.args.change.now.first c.args.change.now.count (given c.args.change.now (c.loop-row.row + 1)) m) c.loop-row.need c.need_changed-need.result)
     c.at.ensures c.need_changed-need.ensures)
@@ -54,5 +47,5 @@ loop-row-preserved g c =
 pub returns : goal.returns
 returns g c =
     let old = map_at g.L.LeafForm.kind c.args.words c.args.upper.now c.args.leaf.now c.args.spill.now c.args.roots.now in
-    let new = λ (d : ℕ). changed_map c.args.change.now.first c.args.change.now.count (given c.args.change.now (d + 1)) (old d) in
-    need-agree g.L.LeafForm.kind (length c.args.roots.now) (maps_until c.loop-row.row old new) new c.loop-row.need (λ d below. until-new old new c.loop-row.row d (omega arith)) c.loop-row.invariant
+    need-agree g.L.LeafForm.kind (length c.args.roots.now) (maps_until c.loop-row.row c.args.change.now old) (maps_after c.args.change.now old) c.loop-row.need
+    (λ d below. until-new c.args.change.now old c.loop-row.row d (omega arith)) c.loop-row.invariant

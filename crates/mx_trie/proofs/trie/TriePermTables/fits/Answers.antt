@@ -1,11 +1,10 @@
 use Rattle.std.proofs.Common.{◌+◌, length, ap, ◌∙◌, sym, arith, subst}
 use Rattle.mx_words.specs.declared.tables.Need.{Need}
-use Rattle.mx_words.specs.Changes.{changed_map}
 use Rattle.mx_words.specs.Need.{need, within}
-use Rattle.mx_table.specs.Change.{given, changed}
+use Rattle.mx_table.specs.Change.{changed}
 use Rattle.mx_trie.specs.Read.{read_maps}
 use Rattle.mx_trie.specs.Standing.{map_at}
-use Rattle.mx_trie.specs.After.{IsNeedOf}
+use Rattle.mx_trie.specs.After.{IsNeedOf, maps_after}
 use Rattle.mx_trie.proofs.NeedLaws.{need-same}
 use Rattle.mx_trie.proofs.StandingNeeds.{need-read, need-changed, spacious-fits}
 use Rattle.mx_trie.proofs.trie.TriePermTables.fits.Goals as goal
@@ -27,9 +26,8 @@ need_after-need-requires-clause-need g c =
 pub returns : goal.returns
 returns g c =
     let t = c.args.self.now in
-    let change = c.args.change.now in
     c.is_within.ensures
     ∙ ap (λ (n : Need). within n t.limit)
-    (need-same g.L.LeafForm.kind (length t.roots) (λ d. changed_map change.first change.count (given change (d + 1)) (map_at g.L.LeafForm.kind t.words t.upper t.leaf t.spill t.roots d)) _
-    (need g.L.LeafForm.kind (changed change (read_maps g.L.LeafForm.kind t.upper t.leaf t.spill t.words t.roots))) c.need_after-need.ensures
-    (need-changed g.L.LeafForm.kind t.upper t.leaf t.spill t.words t.roots g.met.L.LeafForm.trie t.stands.tables.few_words change))
+    (need-same g.L.LeafForm.kind (length t.roots) (maps_after c.args.change.now (map_at g.L.LeafForm.kind t.words t.upper t.leaf t.spill t.roots)) _
+    (need g.L.LeafForm.kind (changed c.args.change.now (read_maps g.L.LeafForm.kind t.upper t.leaf t.spill t.words t.roots))) c.need_after-need.ensures
+    (need-changed g.L.LeafForm.kind t.upper t.leaf t.spill t.words t.roots g.met.L.LeafForm.trie t.stands.tables.few_words c.args.change.now))
