@@ -14,7 +14,7 @@ use Rattle.mx_boot.specs.declared.area.Area.{Area}
 use Rattle.mx_boot.specs.Entries.{word_at}
 use Rattle.mx_boot.specs.Faults.{is_in_ram, shares_word, area_rows, areas_rows}
 use Rattle.mx_boot.proofs.Lists.{all_at, find_none}
-use Rattle.mx_audit.proofs.LiveLaws.{all-weaker}
+use Rattle.mx_model.proofs.JoinLaws.{all-weaker}
 
 -- a row that doesn't apply, and the rows after it
 pub row_fails : (test : Bool) (fault : BootFault) (rest : Option BootFault) → cond test (Some fault) rest ≡ None → (test ≡ false) × (rest ≡ None)

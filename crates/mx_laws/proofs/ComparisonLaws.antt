@@ -21,6 +21,7 @@ use Rattle.mx_model.specs.Gates.{gate_at, is_at}
 use Rattle.mx_model.specs.Reads.{Reads, reads, flat_reads, grants_of, map_in}
 use Rattle.mx_model.specs.State.{Core, State, Flat, hart_at, module_at}
 use Rattle.mx_model.specs.Valid.{IsFlat}
+use Rattle.mx_model.proofs.JoinLaws.{all-first, all-second}
 use Rattle.mx_model.proofs.ListLaws.{all-at, all-find, found-passes}
 use Rattle.mx_laws.specs.Comparison.{AreFit, IsBounded, agrees, same_flag, same_if_read, same_right, same_standing, same_target, same_word}
 
@@ -59,14 +60,6 @@ all-of p (x ∷ xs) e = let both = and_parts (p x) (list_all p xs) e in (both.0,
 all-from : (p : Gate → Bool) (xs : List Gate) → ((x : Gate) → p x ≡ true) → list_all p xs ≡ true
 all-from p [] k = refl
 all-from p (x ∷ xs) k = and_from (p x) (list_all p xs) (k x) (all-from p xs k)
-
-pub all-first : {X : Type 0} (P : X → Type 0) (xs ys : List X) → AllByRecursion P (xs ++ ys) → AllByRecursion P xs
-all-first P [] ys p = tt
-all-first P (x ∷ xs) ys p = (p.0, all-first P xs ys p.1)
-
-pub all-second : {X : Type 0} (P : X → Type 0) (xs ys : List X) → AllByRecursion P (xs ++ ys) → AllByRecursion P ys
-all-second P [] ys p = p
-all-second P (x ∷ xs) ys p = all-second P xs ys p.1
 
 -- a test of the words from a on
 range-at : (p : ℕ → Bool) (count a i : ℕ) → list_all p (range_with_len a count) ≡ true → a ≤ i → i < a + count → p i ≡ true
