@@ -1,5 +1,5 @@
 -- What a hart decides keeps inside a closed set of domains, and a store is one that its domain may make.
-use Rattle.std.proofs.Common.{◌≡◌, inl, inr, ℕ, ◌%◌, Bool, true, false, not, cond, nat_le, ◌==◌, List, length, refl, sym, subst, eqb-true, if◌then◌else◌, Option, Some, None}
+use Rattle.std.proofs.Common.{◌≡◌, ℕ, ◌%◌, Bool, true, false, not, cond, nat_le, ◌==◌, List, length, refl, sym, subst, eqb-true, if◌then◌else◌, Option, Some, None}
 use Rattle.std.specs.Prelude.{IfSome}
 use Rattle.std.specs.Option.{option_map_or}
 use Rattle.std.specs.List.{AllByRecursion}
@@ -8,63 +8,20 @@ use Rattle.mx_words.specs.declared.perm.Access.TheVariants as A
 use Rattle.mx_words.specs.Bytes.{IsSize}
 use Rattle.mx_words.specs.Ranges.{word_of}
 use Rattle.mx_isa.specs.declared.inst.Inst.{Inst}
-use Rattle.mx_isa.specs.declared.inst.Inst.TheVariants.{Lui, Auipc, Jal, Jalr, Branch, Load, Store, OpImm, Op, Fence, Ecall, Ebreak}
-use Rattle.mx_isa.specs.declared.inst.StoreWidth.{StoreWidth}
-use Rattle.mx_isa.specs.declared.inst.StoreWidth.TheVariants.{Sb, Sh, Sw}
 use Rattle.mx_isa.specs.Table.{decoded}
 use Rattle.mx_model.specs.declared.values.Call.{Call}
 use Rattle.mx_model.specs.declared.values.Frame.{Frame}
 use Rattle.mx_model.specs.declared.values.Gate.{Gate}
 use Rattle.mx_model.specs.Checks.{is_ready}
-use Rattle.mx_model.specs.Effect.{Effect, Goes, Faults, Loads, Stores, Calls, Jumps, effect, reg, written, next, plus, load_size, loaded, store_size, holds, taken}
+use Rattle.mx_model.specs.Effect.{Effect, Goes, Faults, Loads, Stores, Calls, Jumps, effect, reg, written, next, load_size, loaded}
 use Rattle.mx_model.specs.Gates.{call_gate, call_target, gate_at, is_at, most_frames, top}
 use Rattle.mx_model.specs.Reads.{Reads}
 use Rattle.mx_model.specs.State.{Core, Hart, Status, Running, Waiting, Halted, hart_at, module_at}
 use Rattle.mx_model.specs.Turn.{Action, Rests, Waits, Serves, Asks, Traps, Bounces, Crosses, Returns, Runs, Writes, Decided, without_look, traps, is_denied, call_gate_at, is_return_at, load_at, at_gate, returned_over, at_return, jump_action, by_effect, by_word, fetches, runs_at, runs_in, by_status, decide}
 use Rattle.mx_model.specs.Valid.{IsStatus}
+use Rattle.mx_model.proofs.AlignedLaws.{IsAligned, aligned-effect}
 use Rattle.mx_model.proofs.ListLaws.{all-find, all-last, found-passes}
 use Rattle.mx_audit.proofs.LiveLaws.{IsHome, Leads}
-
--- an effect's store is aligned
-abbrev IsAligned : Effect → Type 0
-IsAligned (Goes regs pc) = Unit {0}
-IsAligned (Faults cause value) = Unit {0}
-IsAligned (Loads p address width rd) = Unit {0}
-IsAligned (Stores p address size value) = IsSize size × (address % size ≡ 0)
-IsAligned Calls = Unit {0}
-IsAligned (Jumps rd target) = Unit {0}
-
-aligned-choice : (b : Bool) (e f : Effect) → (b ≡ true → IsAligned e) → IsAligned f → IsAligned (cond b e f)
-aligned-choice true e f p q = p refl
-aligned-choice false e f p q = q
-
-size-store : (width : StoreWidth) → IsSize (store_size width)
-size-store Sb = inl refl
-size-store Sh = inr (inl refl)
-size-store Sw = inr (inr refl)
-
-aligned-taken : (regs : List ℕ) (target : ℕ) → IsAligned (taken regs target)
-aligned-taken regs target = aligned-choice (target % 4 == 0) (Goes regs target) (Faults 0 target) (λ e. tt) tt
-
-aligned-effect : (inst : Inst) (regs : List ℕ) (pc : ℕ) → IsAligned (effect inst regs pc)
-unfolding effect
-aligned-effect (Lui rd imm) regs pc = tt
-aligned-effect (Auipc rd imm) regs pc = tt
-aligned-effect (Jal rd imm) regs pc = tt
-aligned-effect (Jalr rd rs1 imm) regs pc = tt
-aligned-effect (Branch c rs1 rs2 imm) regs pc =
-    aligned-choice (holds c (reg regs rs1) (reg regs rs2)) (taken regs (plus pc imm)) (Goes regs (next pc)) (λ e. aligned-taken regs (plus pc imm)) tt
-aligned-effect (Load width rd rs1 imm) regs pc =
-    aligned-choice (plus (reg regs rs1) imm % load_size width == 0) (Loads rs1 (plus (reg regs rs1) imm) width rd) (Faults 4 (plus (reg regs rs1) imm)) (λ e. tt) tt
-aligned-effect (Store width rs1 rs2 imm) regs pc =
-    let address = plus (reg regs rs1) imm in
-    aligned-choice (address % store_size width == 0) (Stores rs1 address (store_size width) (reg regs rs2)) (Faults 6 address)
-    (λ e. (size-store width, eqb-true (address % store_size width) 0 e)) tt
-aligned-effect (OpImm op rd rs1 imm) regs pc = tt
-aligned-effect (Op op rd rs1 rs2) regs pc = tt
-aligned-effect (Fence fields) regs pc = tt
-aligned-effect Ecall regs pc = tt
-aligned-effect Ebreak regs pc = tt
 
 -- a store that a domain may make: it isn't denied, it has a size of an access, and it is aligned
 abbrev pub IsStore : Reads → Core → ℕ → ℕ → ℕ → Type 0

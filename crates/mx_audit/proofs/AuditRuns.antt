@@ -17,11 +17,12 @@ use Rattle.mx_model.specs.Turn.{Made}
 use Rattle.mx_model.specs.Valid.{IsModule, IsFrame, IsGate, IsValid}
 use Rattle.mx_model.proofs.KeepLaws.{keeps-turned as same-turned, size-turned}
 use Rattle.mx_model.proofs.TurnLaws.{valid-turned}
+use Rattle.mx_model.proofs.JoinLaws.{all-weaker}
 use Rattle.mx_audit.specs.Live.{IsLive}
 use Rattle.mx_audit.specs.Sealed.{IsSealed, IsAudited}
 use Rattle.mx_audit.proofs.AuditTurns.{keeps-turned}
 use Rattle.mx_audit.proofs.CallLaws.{Stands, IsSpared, SparesChange, SparesGive, heap_in}
-use Rattle.mx_audit.proofs.LiveLaws.{IsHome, Leads, IsClosed, all-each, all-weaker, live-least, live-closed}
+use Rattle.mx_audit.proofs.LiveLaws.{IsHome, Leads, IsClosed, all-each, live-least, live-closed}
 
 -- a grant that doesn't cover a word leaves its permission
 at-changed : (first count : ℕ) (o : Option Perm) (g : List Grant) (w : ℕ) → covers first count w ≡ false → at (changed_grants first count o g) w ≡ at g w

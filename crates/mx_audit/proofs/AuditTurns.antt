@@ -20,16 +20,17 @@ use Rattle.mx_model.specs.Effect.{written, next}
 use Rattle.mx_model.specs.Gates.{top}
 use Rattle.mx_model.specs.Reads.{Reads, Change}
 use Rattle.mx_model.specs.Serve.{Served, serve}
-use Rattle.mx_model.specs.State.{Core, Hart, Module, no_hart, hart_at, with_hart, with_cache, with_module, module_at}
+use Rattle.mx_model.specs.State.{Core, Hart, Module, no_hart, no_module, hart_at, with_hart, with_cache, with_module, module_at}
 use Rattle.mx_model.specs.Turn.{Action, Rests, Waits, Serves, Asks, Traps, Bounces, Crosses, Returns, Runs, Writes, Decided, Made, is_denied, acted, asked, served, done, trapped, given_up, killed, over_frame, enacted, decide, by_status, counted, turned, is_served_now, fault_answer}
 use Rattle.mx_model.specs.Valid.{IsValid}
+use Rattle.mx_model.proofs.SetLaws.{part-set}
 use Rattle.mx_model.proofs.ListLaws.{all-append, all-in, all-last, all-set, all-take}
 use Rattle.mx_model.proofs.TurnLaws.{valid-heard_first}
 use Rattle.mx_model.proofs.ValidParts.{valid-turns, valid-looked_all, hearing}
 use Rattle.mx_model.proofs.TurnCases.{looked_all-caches}
 use Rattle.mx_audit.proofs.ActionLaws.{IsInside, IsStore, inside-decide}
 use Rattle.mx_audit.proofs.ByteLaws.{put-outside, store-outside}
-use Rattle.mx_audit.proofs.CallLaws.{Stands, IsSpared, Keeps, keeps-core, keeps-serve, heap-set, other-word}
+use Rattle.mx_audit.proofs.CallLaws.{Stands, IsSpared, Keeps, keeps-core, keeps-serve, other-word}
 use Rattle.mx_audit.proofs.LiveLaws.{IsHome, IsClosed}
 
 -- a core with one hart, or one hart's caches changed
@@ -88,7 +89,7 @@ keeps-killed L w d cause c p = elim ((module_at c d).kills && not (cause == 20))
       | true ↦ record {
         closed = record { harts = p.harts; gates = p.gates };
         bytes = λ k l. refl;
-        heaps = λ e. heap-set c.modules (d - 1) (e - 1) _ refl;
+        heaps = λ e. part-set (λ (m : Module). m.heap) c.modules (d - 1) (e - 1) _ no_module refl;
         rights = tt;
         owner = tt;
         owners = λ e v m k. tt;

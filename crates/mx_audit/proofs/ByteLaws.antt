@@ -1,10 +1,11 @@
 -- A store, and cleared bytes, leave the bytes of other words as they were.
-use Rattle.std.proofs.Common.{◌≡◌, ◌≢◌, ◌⊎◌, inl, inr, ⊎_elim, ℕ, zero, suc, ◌+◌, ◌-◌, ◌*◌, ◌/◌, ◌%◌, ◌<◌, ◌≤◌, true, false, nat_lt, List, length, get_or, set, refl, ◌∙◌, arith, subst}
+use Rattle.std.proofs.Common.{◌≡◌, ◌≢◌, ◌⊎◌, inl, inr, ⊎_elim, ℕ, zero, suc, ◌+◌, ◌-◌, ◌*◌, ◌/◌, ◌%◌, ◌<◌, ◌≤◌, true, false, nat_lt, List, length, get_or, set, refl, ◌∙◌, arith}
 use Rattle.std.proofs.lemmas.List.{get_or-set_other}
 use Rattle.std.proofs.lemmas.Bool.{ltb-true, ltb-false}
 use Rattle.std.proofs.lemmas.Grind.{common_steps}
 use Rattle.mx_words.specs.Bytes.{put_at, cleared_at, IsSize}
 use Rattle.mx_words.specs.Ranges.{ram_base}
+use Rattle.mx_model.proofs.AlignedLaws.{in-word}
 
 -- a place outside `size` places from k on
 abbrev pub IsOutside : ℕ → ℕ → ℕ → Type 0
@@ -28,20 +29,7 @@ cleared-outside xs k n j l p = ⊎_elim (λ e. below e) (λ e. behind e) p
     behind : k + n ≤ j → get_or (cleared_at xs k n) j 0 ≡ get_or xs j 0
     behind e = grind (arith, common_steps)
 
--- an aligned access lies in one word
-in-word : (size address : ℕ) → IsSize size → address % size ≡ 0 → ram_base ≤ address → (address - ram_base) % 4 + size ≤ 4
-in-word size address s a b = ⊎_elim (λ e. one e) (⊎_elim (λ e. two (subst (λ (n : ℕ). address % n ≡ 0) e a) e) (λ e. four (subst (λ (n : ℕ). address % n ≡ 0) e a) e)) s
-  where
-    one : size ≡ 1 → (address - ram_base) % 4 + size ≤ 4
-    one e = omega (arith, e)
-
-    two : address % 2 ≡ 0 → size ≡ 2 → (address - ram_base) % 4 + size ≤ 4
-    two p e = omega (arith, p, e, b)
-
-    four : address % 4 ≡ 0 → size ≡ 4 → (address - ram_base) % 4 + size ≤ 4
-    four p e = omega (arith, p, e, b)
-
--- so it is outside every other word
+-- an aligned store is outside every word but one
 pub store-outside : (size address w k : ℕ) → IsSize size → address % size ≡ 0 → ram_base ≤ address → w ≢ (address - ram_base) / 4 → k < 4 →
     IsOutside (address - ram_base) size (4 * w + k)
 store-outside size address w k s a b n l = elim (nat_lt w ((address - ram_base) / 4)) as (λ t. nat_lt w ((address - ram_base) / 4) ≡ t → IsOutside (address - ram_base) size (4 * w + k)) [

@@ -1,6 +1,6 @@
 -- A served call of a domain of a closed set spares a word that no domain of the set owns or may write: its bytes stay, and no change of rights and
 -- no give covers it. And no give covers a word of a heap area.
-use Rattle.std.proofs.Common.{◌≡◌, ◌≢◌, inl, inr, ⊎_elim, ℕ, zero, suc, ◌+◌, ◌-◌, ◌*◌, ◌<◌, ◌≤◌, Bool, true, false, not, cond, nat_lt, nat_le, ◌==◌, ◌&&◌, ◌||◌, List, [], ◌∷◌, length, set, refl, sym, ◌∙◌, ap, subst, arith, eqb-true, IsTrue, if◌then◌else◌, Option, Some, None, unwrap_or, is_none}
+use Rattle.std.proofs.Common.{◌≡◌, ◌≢◌, inl, inr, ⊎_elim, ℕ, zero, suc, ◌+◌, ◌-◌, ◌*◌, ◌<◌, ◌≤◌, Bool, true, false, not, cond, nat_lt, nat_le, ◌==◌, ◌&&◌, ◌||◌, List, [], ◌∷◌, length, refl, sym, ◌∙◌, ap, subst, arith, eqb-true, IsTrue, Option, Some, None, unwrap_or, is_none}
 use Rattle.std.specs.Prelude.{IfSome, slice_index, slice_index_or, option_map, find}
 use Rattle.std.specs.List.{AllByRecursion, range_with_len}
 use Rattle.std.proofs.lemmas.Bool.{ltb-true, ltb-false, lt-ltb, leb-true, not-false, and_parts, or_parts}
@@ -24,6 +24,8 @@ use Rattle.mx_model.specs.Reads.{Reads, Change}
 use Rattle.mx_model.specs.Serve.{Served, Service, Exit, Write, Grant, RevokeAll, Transfer, Alloc, Free, AddGate, RemoveGate, AddReturnGate, Query, Self, Exchange, Unknown, judged, serve, served_by, service, ended, arg_range, no_range, meets_heap, owns, give_of, grant_change, revoke_change, write_from, written_out, write_looks, exchange_from, exchanged, look_of, arg_word, is_word, alloc_place, alloc_change, allocated, alloc_from, freed_count, free_change}
 use Rattle.mx_model.specs.State.{Core, Module, no_module, module_at, is_module}
 use Rattle.mx_model.specs.Valid.{IsModule, IsValid}
+use Rattle.mx_model.proofs.SetLaws.{part-set}
+use Rattle.mx_model.proofs.TestLaws.{first-passes, found-some}
 use Rattle.mx_model.proofs.ListLaws.{all-append, all-filter, found-passes}
 use Rattle.mx_model.proofs.ValidParts.{home-at}
 use Rattle.mx_model.proofs.TurnCases.{looked_all-caches}
@@ -80,10 +82,7 @@ keeps-looked L w r h looks c p =
 -- rows of which none applies
 rows-pass : {A : Type 0} (rows : List (Row A)) → first_row rows ≡ None → AllByRecursion (λ (t : Row A). t.0 ≡ false) rows
 rows-pass [] e = tt
-rows-pass (t ∷ ts) e = elim t.0 as (λ b. (if b then Some t.1 else first_row ts) ≡ None → (b ≡ false) × AllByRecursion (λ (x : Row _). x.0 ≡ false) ts) [
-  | true ↦ λ f. absurd (let q : ⊥ = cc in q)
-  | false ↦ λ f. (refl, rows-pass ts f)
-] e
+rows-pass (t ∷ ts) e = let p = first-passes t ts e in (p.0, rows-pass ts p.1)
 
 keeps-judged : (L : ℕ → Type 0) (w : ℕ) (ram : List ℕ) (modules : List Module) (e : Core) (rows : List (Row ℕ)) (s : Served) → Keeps L w ram modules e None None →
     (AllByRecursion (λ (t : Row ℕ). t.0 ≡ false) rows → Keeps L w ram modules s.core s.change s.give) →
@@ -147,25 +146,12 @@ keeps-change : (L : ℕ → Type 0) (w : ℕ) (c : Core) (change : Change) → I
     Keeps L w c.ram c.modules c (Some change) None
 keeps-change L w c change p q = record { closed = p; bytes = λ k l. refl; heaps = λ d. refl; rights = q; owner = tt; owners = λ d v m h. tt }
 
--- a module with another heap area in no place
-pub heap-set : (ms : List Module) (i j : ℕ) (m : Module) → m.heap ≡ (slice_index_or ms i no_module).heap →
-    (slice_index_or (set ms i m) j no_module).heap ≡ (slice_index_or ms j no_module).heap
-heap-set [] i j m e = refl
-heap-set (x ∷ xs) zero zero m e = e
-heap-set (x ∷ xs) zero (suc j) m e = refl
-heap-set (x ∷ xs) (suc i) zero m e = refl
-heap-set (x ∷ xs) (suc i) (suc j) m e = heap-set xs i j m e
-
 -- alloc
 room-low : (a : Area) (blocks : List Area) (n first : ℕ) → has_room a blocks n first ≡ true → (a.first ≤ first) × (first + n ≤ a.first + a.count)
 room-low a blocks n first e =
     let p = and_parts (nat_le a.first first && nat_le (first + n) (a.first + a.count)) _ e in
     let q = and_parts (nat_le a.first first) (nat_le (first + n) (a.first + a.count)) p.0 in
     (leb-true a.first first q.0, leb-true (first + n) (a.first + a.count) q.1)
-
-of-some : (o : Option ℕ) (Q : ℕ → Type 0) → IfSome o Q → is_none o ≡ false → Q (unwrap_or o 0)
-of-some None Q p e = absurd (let q : ⊥ = cc in q)
-of-some (Some a) Q p e = p
 
 keeps-allocated : (L : ℕ → Type 0) (w : ℕ) (r : Reads) (c : Core) (call : Call) (first : ℕ) → Stands L r c → IsSpared L r w → L call.domain →
     has_room (module_at c call.domain).heap (module_at c call.domain).blocks (arg call 0) first ≡ true → KeepsServed L w c (allocated c call first)
@@ -179,7 +165,7 @@ keeps-allocated L w r c call first s sp p e =
     record {
       closed = record { harts = s.closed.harts; gates = s.closed.gates };
       bytes = λ k l. cleared-outside c.ram (4 * first) (4 * arg call 0) (4 * w + k) inside (outside-bytes first (arg call 0) w k (outside-range first (arg call 0) w free) l);
-      heaps = λ d. heap-set c.modules (call.domain - 1) (d - 1) _ refl;
+      heaps = λ d. part-set (λ (m : Module). m.heap) c.modules (call.domain - 1) (d - 1) _ no_module refl;
       rights = free;
       owner = tt;
       owners = λ d v m h. tt;
@@ -198,7 +184,7 @@ keeps-alloc L w r c call s sp p =
     let first = unwrap_or (alloc_place c call) 0 in
     keeps-alloc_from L w r c call first ((arg call 0 == 0, 1) ∷ (is_none (alloc_place c call), 6) ∷ (nat_le most_blocks (length m.blocks), 7)
     ∷ (not (r.fits (alloc_change first call)), 5) ∷ []) s (λ t.
-    keeps-allocated L w r c call first s sp p (of-some (alloc_place c call) (λ a. has_room m.heap m.blocks (arg call 0) a ≡ true)
+    keeps-allocated L w r c call first s sp p (found-some (alloc_place c call) (λ a. has_room m.heap m.blocks (arg call 0) a ≡ true)
     (found-passes (has_room m.heap m.blocks (arg call 0)) (range_with_len m.heap.first m.heap.count)) t.1.0))
 
 -- free: a live block lies in its heap area
@@ -228,11 +214,11 @@ keeps-free : (L : ℕ → Type 0) (w : ℕ) (r : Reads) (c : Core) (call : Call)
 keeps-free L w r c call s sp p =
     let a = (module_at c call.domain).heap in
     keeps-judged L w c.ram c.modules c ((is_none (freed_count c call), 8) ∷ (not (r.fits (free_change c call)), 5) ∷ []) _ (keeps-core L w c s.closed) (λ t.
-    let q = of-some (freed_count c call) (λ n. (a.first ≤ arg_word call) × (arg_word call + n ≤ a.first + a.count)) (freed-in c call s.valid) t.0 in
+    let q = found-some (freed_count c call) (λ n. (a.first ≤ arg_word call) × (arg_word call + n ≤ a.first + a.count)) (freed-in c call s.valid) t.0 in
     record {
       closed = record { harts = s.closed.harts; gates = s.closed.gates };
       bytes = λ k l. refl;
-      heaps = λ d. heap-set c.modules (call.domain - 1) (d - 1) _ refl;
+      heaps = λ d. part-set (λ (m : Module). m.heap) c.modules (call.domain - 1) (d - 1) _ no_module refl;
       rights = spared-heap L r c w call.domain (arg_word call) (unwrap_or (freed_count c call) 0) s sp p q.0 q.1;
       owner = tt;
       owners = λ d v m h. tt;

@@ -13,6 +13,7 @@ use Rattle.mx_model.specs.declared.values.Frame.{Frame}
 use Rattle.mx_model.specs.declared.values.Gate.{Gate}
 use Rattle.mx_model.specs.Reads.{Reads}
 use Rattle.mx_model.specs.State.{Core, Hart}
+use Rattle.mx_model.proofs.JoinLaws.{all-weaker, all-join, all-first, all-second}
 use Rattle.mx_model.proofs.ListLaws.{all-in, all-filter, length-filter-lt}
 use Rattle.mx_audit.specs.Live.{IsLive, HasHart, HasFrame, IsTarget, is_in, domains_of, passed, not_passed, rounds, live}
 use Rattle.mx_audit.specs.Sealed.{IsSealed, is_sealed}
@@ -78,11 +79,7 @@ in-all P (x ∷ xs) d h p = elim (x == d) as (λ b. (x == d) ≡ b → (b || is_
   | false ↦ λ e q. in-all P xs d h.1 q
 ] refl p
 
--- all elements of two lists, of a map and of a flat map
-pub all-join : {X : Type 0} (P : X → Type 0) (xs ys : List X) → AllByRecursion P xs → AllByRecursion P ys → AllByRecursion P (xs ++ ys)
-all-join P [] ys h k = k
-all-join P (x ∷ xs) ys h k = (h.0, all-join P xs ys h.1 k)
-
+-- all elements of a map and of a flat map
 all-callers : (P : ℕ → Type 0) (fs : List Frame) → AllByRecursion (λ (f : Frame). P f.caller) fs → AllByRecursion P (list_map (λ (f : Frame). f.caller) fs)
 all-callers P [] h = tt
 all-callers P (f ∷ fs) h = (h.0, all-callers P fs h.1)
@@ -179,17 +176,15 @@ rounds-lead (suc n) gates live l = elim (list_any (is_passed live) gates) as
     ] refl
 
 -- the domains with which the rounds begin
-all-parts : {X : Type 0} (P : X → Type 0) (xs ys : List X) → AllByRecursion P (xs ++ ys) → AllByRecursion P xs × AllByRecursion P ys
-all-parts P [] ys h = (tt, h)
-all-parts P (x ∷ xs) ys h = let q = all-parts P xs ys h.1 in ((h.0, q.0), q.1)
-
 callers-of : (P : ℕ → Type 0) (fs : List Frame) → AllByRecursion P (list_map (λ (f : Frame). f.caller) fs) → AllByRecursion (λ (f : Frame). P f.caller) fs
 callers-of P [] h = tt
 callers-of P (f ∷ fs) h = (h.0, callers-of P fs h.1)
 
 homes-of : (P : ℕ → Type 0) (hs : List Hart) → AllByRecursion P (flat_map domains_of hs) → AllByRecursion (IsHome P) hs
 homes-of P [] h = tt
-homes-of P (x ∷ xs) h = let q = all-parts P (domains_of x) (flat_map domains_of xs) h in ((q.0.0, callers-of P x.frames q.0.1), homes-of P xs q.1)
+homes-of P (x ∷ xs) h =
+    let own = all-first P (domains_of x) (flat_map domains_of xs) h in
+    ((own.0, callers-of P x.frames own.1), homes-of P xs (all-second P (domains_of x) (flat_map domains_of xs) h))
 
 rounds-closed : (c : Core) → IsClosed (In (live c)) c
 rounds-closed c = record {
@@ -215,10 +210,6 @@ abbrev is_kept : Reads → ℕ → ℕ → Bool
 is_kept r word d = not (same (r.perm d word) P.ReadWrite)
 
 -- a word that passes the test by rounds is sealed, and a sealed one passes
-pub all-weaker : {X : Type 0} (P Q : X → Type 0) (xs : List X) → ((x : X) → P x → Q x) → AllByRecursion P xs → AllByRecursion Q xs
-all-weaker P Q [] f h = tt
-all-weaker P Q (x ∷ xs) f h = (f x h.0, all-weaker P Q xs f h.1)
-
 from-rounds : (r : Reads) (c : Core) (word : ℕ) → IsTrue (is_sealed r c word) → IsSealed r c word
 from-rounds r c word e =
     let owned = not (is_in (live c) (r.owner word)) in

@@ -13,7 +13,7 @@ use Rattle.mx_boot.specs.declared.area.Area.{Area}
 use Rattle.mx_boot.specs.Entries.{word_at}
 use Rattle.mx_boot.specs.Faults.{is_in_ram, shares_word, area_rows, areas_rows}
 use Rattle.mx_boot.proofs.Lists.{all_at, find_none}
-use Rattle.mx_audit.proofs.LiveLaws.{all-weaker}
+use Rattle.mx_model.proofs.JoinLaws.{all-weaker}
 
 none_from : {A : Type 0} (o : Option A) → is_some o ≡ false → o ≡ None
 none_from None h = refl

@@ -28,7 +28,7 @@ use Rattle.mx_boot.specs.Laid.{gate_of}
 use Rattle.mx_boot.proofs.Entered.{IsEntered, entry_inside, entry_clear}
 use Rattle.mx_boot.proofs.Lists.{all_both, all_each, all_mapped, all_flat, all_numbered, any_none}
 use Rattle.mx_machine.proofs.SmallLaws.{from-each}
-use Rattle.mx_audit.proofs.LiveLaws.{all-weaker, all-join}
+use Rattle.mx_model.proofs.JoinLaws.{all-weaker, all-join}
 
 -- a gate after earlier ones
 pub record IsClear (all : List Area) (earlier : List Gate) (r : Request) : Type 0 where

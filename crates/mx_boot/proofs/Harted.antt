@@ -22,7 +22,7 @@ use Rattle.mx_boot.proofs.Homes.{hart_domain}
 use Rattle.mx_boot.proofs.Housed.{Inside, home_inside}
 use Rattle.mx_boot.proofs.Lists.{there}
 use Rattle.mx_boot.proofs.Rows.{at_numbered}
-use Rattle.mx_laws.proofs.ComparisonLaws.{all-second}
+use Rattle.mx_model.proofs.JoinLaws.{all-second}
 
 -- where none of the rows of elements applies, none of those of each applies
 pub each_clear : {A : Type 0} (rows : A → List Fault) (xs : List A) (i : ℕ) (x : A) → first_row (flat_map rows xs) ≡ None → slice_get xs i ≡ Some x → first_row (rows x) ≡ None

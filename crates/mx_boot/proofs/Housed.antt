@@ -26,8 +26,7 @@ use Rattle.mx_boot.proofs.Apart.{in_ram, end_is}
 use Rattle.mx_boot.proofs.Homes.{home_is, length-homes}
 use Rattle.mx_boot.proofs.Lists.{all_at, all_parts, all_flat, all_mapped, all_numbered, all_each, length-flat_at_most}
 use Rattle.mx_machine.proofs.SmallLaws.{from-each}
-use Rattle.mx_audit.proofs.LiveLaws.{all-weaker, all-join}
-use Rattle.mx_laws.proofs.ComparisonLaws.{all-first, all-second}
+use Rattle.mx_model.proofs.JoinLaws.{all-weaker, all-join, all-first, all-second}
 
 abbrev pub Inside : ℕ → List area.Area → Type 0
 Inside words all = AllByRecursion (λ a. is_in_ram words a ≡ true) all

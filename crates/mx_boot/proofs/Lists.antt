@@ -5,8 +5,7 @@ use Rattle.std.proofs.lemmas.List.{length-append}
 use Rattle.std.proofs.lemmas.Option.{same_Some}
 use Rattle.std.proofs.lemmas.Bool.{or_parts, or_left, or_right}
 use Rattle.std.proofs.lemmas.List.Folds.{list_any-append}
-use Rattle.mx_audit.proofs.LiveLaws.{all-join}
-use Rattle.mx_laws.proofs.ComparisonLaws.{all-first, all-second}
+use Rattle.mx_model.proofs.JoinLaws.{all-join, all-first, all-second}
 
 pub all_each : {X : Type 0} (P : X → Type 0) (xs : List X) → ((x : X) → P x) → AllByRecursion P xs
 all_each P [] f = tt

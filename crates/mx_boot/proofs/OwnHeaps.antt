@@ -25,8 +25,7 @@ use Rattle.mx_boot.proofs.Housed.{Inside, home_inside}
 use Rattle.mx_boot.proofs.Lists.{all_both, all_mapped, all_flat, all_parts, all_at, any_flat, there}
 use Rattle.mx_boot.proofs.Owning.{is_over, newest_is}
 use Rattle.mx_boot.proofs.Rows.{at_mapped}
-use Rattle.mx_audit.proofs.LiveLaws.{all-weaker, all-join}
-use Rattle.mx_laws.proofs.ComparisonLaws.{all-first, all-second}
+use Rattle.mx_model.proofs.JoinLaws.{all-weaker, all-join, all-first, all-second}
 
 -- an element of a list
 abbrev Has : {X : Type 0} → List X → X → Type 0

@@ -23,8 +23,7 @@ use Rattle.mx_boot.proofs.Homes.{home_is}
 use Rattle.mx_boot.proofs.Housed.{has_words}
 use Rattle.mx_boot.proofs.Lists.{all_at, all_both, all_flat, all_mapped, all_numbered, all_parts, all_unmapped}
 use Rattle.mx_machine.proofs.SmallLaws.{from-each}
-use Rattle.mx_audit.proofs.LiveLaws.{all-weaker, all-join}
-use Rattle.mx_laws.proofs.ComparisonLaws.{all-first, all-second}
+use Rattle.mx_model.proofs.JoinLaws.{all-weaker, all-join, all-first, all-second}
 
 -- what holds of all areas holds of those of a module, of those with rights and of its own
 pub home_all : (P : Area → Type 0) (plan : Said) (images : List (List ℕ)) (i : ℕ) (m : ModulePlan) → AllByRecursion P (areas plan images) → slice_get plan.modules i ≡ Some m

@@ -22,7 +22,7 @@ use Rattle.mx_boot.proofs.Nearest.{next-is, next-from, next-least, next-none}
 use Rattle.mx_boot.proofs.Owning.{is_over, newest_is}
 use Rattle.mx_boot.proofs.Rows.{at_mapped}
 use Rattle.mx_machine.proofs.SmallLaws.{from-each}
-use Rattle.mx_audit.proofs.LiveLaws.{all-weaker}
+use Rattle.mx_model.proofs.JoinLaws.{all-weaker}
 
 -- the span of an area, and the word after it
 abbrev pub span_of : Area → Span

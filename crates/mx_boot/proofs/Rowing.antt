@@ -12,7 +12,7 @@ use Rattle.mx_boot.specs.Areas.{Home, homes}
 use Rattle.mx_boot.specs.Boot.{boot_state, grants_of}
 use Rattle.mx_boot.specs.Faults.{ram_words}
 use Rattle.mx_boot.proofs.Rows.{grown_by_one}
-use Rattle.mx_audit.proofs.LiveLaws.{all-join}
+use Rattle.mx_model.proofs.JoinLaws.{all-join}
 
 -- a module's map
 abbrev pub home_map : Said → Home → List Perm

@@ -38,7 +38,7 @@ use Rattle.mx_boot.proofs.Housed.{Inside, has_words, home_inside, modules_valid}
 use Rattle.mx_boot.proofs.Joining.{length-maps}
 use Rattle.mx_boot.proofs.Lists.{all_mapped, all_at, there}
 use Rattle.mx_boot.proofs.Rows.{at_mapped}
-use Rattle.mx_laws.proofs.ComparisonLaws.{all-second}
+use Rattle.mx_model.proofs.JoinLaws.{all-second}
 
 -- what a plan without a fault says of a module's stack
 pub record HasStack (h : ℕ) (m : ModulePlan) : Type 0 where

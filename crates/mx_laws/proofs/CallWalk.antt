@@ -1,6 +1,5 @@
 -- What a served call leaves of a state: one walk over the calls, with a predicate on the state after.
-use Rattle.std.proofs.Common.{◌≡◌, ℕ, ◌*◌, true, false, not, cond, ◌==◌, nat_le, List, [], ◌∷◌, length, refl, if◌then◌else◌, Option, Some, None, unwrap_or, is_none}
-use Rattle.std.specs.Prelude.{IfSome}
+use Rattle.std.proofs.Common.{◌≡◌, ℕ, ◌*◌, true, false, not, cond, ◌==◌, nat_le, List, [], ◌∷◌, length, refl, Option, Some, None, unwrap_or, is_none}
 use Rattle.std.specs.List.{range_with_len}
 use Rattle.std.proofs.lemmas.Bool.{not-false}
 use Rattle.mx_words.specs.declared.perm.Access.TheVariants as A
@@ -17,6 +16,7 @@ use Rattle.mx_model.specs.Reads.{Reads}
 use Rattle.mx_model.specs.Serve.{Served, Service, Exit, Write, Grant, RevokeAll, Transfer, Alloc, Free, AddGate, RemoveGate, AddReturnGate, Query, Self, Exchange, Unknown, judged, answers, serve, served_by, service, ended, write_from, written_out, write_looks, exchange_from, exchanged, look_of, arg_word, alloc_place, alloc_change, allocated, alloc_from, serve_alloc}
 use Rattle.mx_model.specs.State.{Core, Module, module_at}
 use Rattle.mx_model.proofs.ListLaws.{found-passes}
+use Rattle.mx_model.proofs.TestLaws.{first-passes, found-some}
 
 -- what is to be shown of the states after a call: of the state before, whatever the caches are; with other modules or gates; of an exchange; and of
 -- an alloc that finds room
@@ -28,13 +28,6 @@ pub record CallLeaves (r : Reads) (c : Core) (call : Call) (Q : Core → Type 0)
   pub exchange : allows (r.perm call.domain (arg_word call)) A.Write ≡ true → Q (record c { ram = put_at c.ram (4 * arg_word call) 4 (arg call 1) })
   pub alloc : service call.number ≡ Alloc → (first : ℕ) → has_room (module_at c call.domain).heap (module_at c call.domain).blocks (arg call 0) first ≡ true →
       Q (allocated c call first).core
-
--- tests of which none fails
-first-passes : (t : Row ℕ) (ts : List (Row ℕ)) → first_row (t ∷ ts) ≡ None → (t.0 ≡ false) × (first_row ts ≡ None)
-first-passes t ts e = elim t.0 as (λ b. (if b then Some t.1 else first_row ts) ≡ None → (b ≡ false) × (first_row ts ≡ None)) [
-  | true ↦ λ f. absurd (let q : ⊥ = cc in q)
-  | false ↦ λ f. (refl, f)
-] e
 
 module _ (r : Reads) (c : Core) (call : Call) (Q : Core → Type 0) (k : CallLeaves r c call Q) where
   judged-leaf : (e : Core) (o : Option ℕ) (s : Served) → Q e → (o ≡ None → Q s.core) → Q (judged e o s).core
@@ -79,10 +72,6 @@ module _ (r : Reads) (c : Core) (call : Call) (Q : Core → Type 0) (k : CallLea
   alloc-leaf first (Some n) q = k.none
   alloc-leaf first None q = q refl
 
-  found-room : (o : Option ℕ) (P : ℕ → Type 0) → IfSome o P → is_none o ≡ false → P (unwrap_or o 0)
-  found-room None P p e = absurd (let q : ⊥ = cc in q)
-  found-room (Some a) P p e = p
-
   served-alloc : service call.number ≡ Alloc → Q (serve_alloc r c call).core
   served-alloc s =
       let m = module_at c call.domain in
@@ -93,7 +82,7 @@ module _ (r : Reads) (c : Core) (call : Call) (Q : Core → Type 0) (k : CallLea
       let t4 : Row ℕ = (not (r.fits (alloc_change first call)), 5) in
       alloc-leaf first (first_row (t1 ∷ t2 ∷ t3 ∷ t4 ∷ [])) (λ e.
       let n : is_none (alloc_place c call) ≡ false = (first-passes t2 (t3 ∷ t4 ∷ []) (first-passes t1 (t2 ∷ t3 ∷ t4 ∷ []) e).1).0 in
-      k.alloc s first (found-room (alloc_place c call) (λ a. has_room m.heap m.blocks (arg call 0) a ≡ true)
+      k.alloc s first (found-some (alloc_place c call) (λ a. has_room m.heap m.blocks (arg call 0) a ≡ true)
       (found-passes (has_room m.heap m.blocks (arg call 0)) (range_with_len m.heap.first m.heap.count)) n))
 
   served-leaf : (s : Service) → service call.number ≡ s → Q (served_by s r c call).core

@@ -23,6 +23,7 @@ use Rattle.mx_model.specs.Gates.{gate_at, is_at}
 use Rattle.mx_model.specs.Reads.{Reads, reads, flat_reads, grants_of, map_in}
 use Rattle.mx_model.specs.State.{Core, State, Flat, hart_at, module_at}
 use Rattle.mx_model.specs.Valid.{IsFlat}
+use Rattle.mx_model.proofs.JoinLaws.{all-first, all-second}
 use Rattle.mx_model.proofs.ListLaws.{all-at, all-find, found-passes}
 use Rattle.mx_laws.specs.Comparison.{AreFit, IsBounded, agrees, same_flag, same_if_read, same_right, same_standing, same_target, same_word}
 
@@ -57,14 +58,6 @@ decides-target (Some x) (Some y) = Decides-like (nat_eq x y) (λ e. ap (λ (n : 
 all-from : (p : Gate → Bool) (xs : List Gate) → ((x : Gate) → p x ≡ true) → list_all p xs ≡ true
 all-from p [] k = refl
 all-from p (x ∷ xs) k = and_from (p x) (list_all p xs) (k x) (all-from p xs k)
-
-pub all-first : {X : Type 0} (P : X → Type 0) (xs ys : List X) → AllByRecursion P (xs ++ ys) → AllByRecursion P xs
-all-first P [] ys p = tt
-all-first P (x ∷ xs) ys p = (p.0, all-first P xs ys p.1)
-
-pub all-second : {X : Type 0} (P : X → Type 0) (xs ys : List X) → AllByRecursion P (xs ++ ys) → AllByRecursion P ys
-all-second P [] ys p = p
-all-second P (x ∷ xs) ys p = all-second P xs ys p.1
 
 -- a fact of the words of RAM that holds outside RAM anyway
 decides-words : (p : ℕ → Bool) (size : ℕ) (W : ℕ → Type 0) → ((i : ℕ) → Decides (p i) (W i)) → ((i : ℕ) → size ≤ i → W i) →

@@ -22,10 +22,11 @@ use Rattle.mx_model.specs.Serve.{Served, Alloc, service, serve, allocated, arg_w
 use Rattle.mx_model.specs.State.{Core, Hart, Module, hart_at, module_at, with_module, no_module}
 use Rattle.mx_model.specs.Turn.{Action, Rests, Waits, Serves, Asks, Traps, Bounces, Crosses, Returns, Runs, Writes, Made, acted, answered, asked, by_status, call_of, done, given_up, halted, is_denied, is_served_now, killed, served, trapped, turned, with_regs}
 use Rattle.mx_model.specs.Valid.{IsValid}
+use Rattle.mx_model.proofs.AlignedLaws.{in-word}
 use Rattle.mx_model.proofs.ValidParts.{home-at}
 use Rattle.mx_laws.specs.After.{domain_at}
 use Rattle.mx_laws.specs.Foreign.{heap_of, IsForeign, ForeignAfter, AllKept, AllButBlock}
-use Rattle.mx_laws.proofs.ReadLaws.{allowed-if, inside-word}
+use Rattle.mx_laws.proofs.ReadLaws.{allowed-if}
 use Rattle.mx_laws.proofs.CallWalk.{CallLeaves, served-walk}
 use Rattle.mx_laws.proofs.Lawful.{IsLawful, OwnCall, lawful-turn, present}
 use Rattle.mx_laws.proofs.TurnParts.{apart, by-action}
@@ -96,7 +97,7 @@ module _ (r : Reads) (c : Core) (h : ℕ) where
       let may = allowed-if r c (domain_at c h) address A.Write n in
       let offset = (address - ram_base) % 4 in
       let place : 4 * ((address - ram_base) / 4) + offset ≡ address - ram_base = omega arith in
-      kept-store e ((address - ram_base) / 4) offset size value (inside-word address size may.low s a) may.right
+      kept-store e ((address - ram_base) / 4) offset size value (in-word size address s a may.low) may.right
       (i ∙ ap (λ (k : ℕ). put_at c.ram k size value) (sym place))
 
 -- room for a block

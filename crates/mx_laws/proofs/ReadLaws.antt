@@ -1,5 +1,5 @@
 -- Where two states agree for a hart, its turn reads the same in both.
-use Rattle.std.proofs.Common.{◌≡◌, ℕ, zero, suc, ◌+◌, ◌-◌, ◌*◌, ◌/◌, ◌%◌, ◌<◌, ◌≤◌, Bool, true, false, not, nat_le, nat_lt, List, get_or, refl, sym, ◌∙◌, ap, subst, arith, if◌then◌else◌, Option, Some, None, ⊎_elim, inl, inr}
+use Rattle.std.proofs.Common.{◌≡◌, ℕ, zero, suc, ◌+◌, ◌-◌, ◌*◌, ◌/◌, ◌%◌, ◌<◌, ◌≤◌, Bool, true, false, not, nat_le, nat_lt, List, get_or, refl, sym, ◌∙◌, ap, subst, arith, if◌then◌else◌, Option, Some, None, inl, inr}
 use Rattle.std.specs.Option.{option_map_or}
 use Rattle.std.proofs.lemmas.Bool.{and_parts, leb-true, ltb-true, not-false}
 use Rattle.mx_words.specs.declared.perm.Perm.{Perm}
@@ -18,6 +18,7 @@ use Rattle.mx_model.specs.Reads.{Reads}
 use Rattle.mx_model.specs.State.{Core, Hart, Status, hart_at}
 use Rattle.mx_model.specs.Turn.{perm_of, is_denied, call_gate_at, is_return_at, load_at}
 use Rattle.mx_model.proofs.GatesAt.{called_domain, call-gate-at, is_own, return-gate-at, target_from}
+use Rattle.mx_model.proofs.AlignedLaws.{in-word}
 use Rattle.mx_laws.specs.Twins.{AreTwins}
 use Rattle.mx_laws.proofs.Walk.{SameReadings, other}
 
@@ -70,19 +71,6 @@ read-allowed P.Read access e = refl
 read-allowed P.ReadWrite access e = refl
 read-allowed P.ExecuteRead access e = refl
 
--- an aligned access lies in one word
-pub inside-word : (address size : ℕ) → ram_base ≤ address → IsSize size → address % size ≡ 0 → (address - ram_base) % 4 + size ≤ 4
-inside-word address size l s a = ⊎_elim (λ e. one e a) (⊎_elim (λ e. two e a) (λ e. four e a)) s
-  where
-    one : size ≡ 1 → address % size ≡ 0 → (address - ram_base) % 4 + size ≤ 4
-    one e a = omega (arith, e)
-
-    two : size ≡ 2 → address % size ≡ 0 → (address - ram_base) % 4 + size ≤ 4
-    two e a = let b : address % 2 ≡ 0 = subst (λ (n : ℕ). address % n ≡ 0) e a in omega (arith, e, b, l)
-
-    four : size ≡ 4 → address % size ≡ 0 → (address - ram_base) % 4 + size ≤ 4
-    four e a = let b : address % 4 ≡ 0 = subst (λ (n : ℕ). address % n ≡ 0) e a in omega (arith, e, b, l)
-
 -- numbers of the same bytes
 number-same : (size : ℕ) (xs ys : List ℕ) (k : ℕ) → ((j : ℕ) → j < size → get_or xs (k + j) 0 ≡ get_or ys (k + j) 0) → number_at xs k size ≡ number_at ys k size
 unfolding number_at
@@ -112,7 +100,7 @@ module _ (r : Reads) (c : Core) (q : Reads) (e : Core) (h : ℕ) (t : AreTwins r
       let d = (hart_at c h).domain in
       let may = allowed-if r c d address access n in
       let word = (address - ram_base) / 4 in
-      let inside = inside-word address size may.low s a in
+      let inside = in-word size address s a may.low in
       number-same size c.ram e.ram (address - ram_base) (λ j l.
       let k = (address - ram_base) % 4 + j in
       let place : 4 * word + k ≡ (address - ram_base) + j = omega arith in

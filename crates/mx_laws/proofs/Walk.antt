@@ -1,23 +1,21 @@
 -- What a running hart meets and does, by the cases of its turn: one walk over border and action, in two states at once whose readings are the
 -- same. With one state twice it is a walk over one.
-use Rattle.std.proofs.Common.{◌≡◌, ℕ, ◌-◌, ◌/◌, ◌%◌, Bool, true, false, not, cond, ◌==◌, nat_le, List, length, refl, subst, eqb-true, if◌then◌else◌, Option, Some, None, inl, inr}
+use Rattle.std.proofs.Common.{◌≡◌, ℕ, ◌-◌, ◌/◌, ◌%◌, Bool, true, false, not, cond, ◌==◌, nat_le, List, length, refl, subst, if◌then◌else◌, Option, Some, None}
 use Rattle.mx_words.specs.declared.perm.Access.{Access}
 use Rattle.mx_words.specs.declared.perm.Access.TheVariants as A
 use Rattle.mx_words.specs.Bytes.{IsSize}
 use Rattle.mx_words.specs.Ranges.{ram_base}
 use Rattle.mx_isa.specs.declared.inst.Inst.{Inst}
-use Rattle.mx_isa.specs.declared.inst.Inst.TheVariants.{Lui, Auipc, Jal, Jalr, Branch, Load, Store, OpImm, Op, Fence, Ecall, Ebreak}
 use Rattle.mx_isa.specs.declared.inst.LoadWidth.{LoadWidth}
-use Rattle.mx_isa.specs.declared.inst.StoreWidth.{StoreWidth}
-use Rattle.mx_isa.specs.declared.inst.StoreWidth.TheVariants.{Sb, Sh, Sw}
 use Rattle.mx_isa.specs.Table.{decoded}
 use Rattle.mx_model.specs.declared.values.Frame.{Frame}
 use Rattle.mx_model.specs.Agreement.{Border, Trap, AtGate, Back, Call, Nothing, border_of_effect, border_of_word, border_of_fetch, border_of_gate, border_in}
-use Rattle.mx_model.specs.Effect.{Effect, Goes, Faults, Loads, Stores, Calls, Jumps, effect, reg, written, next, load_size, store_size, loaded, plus, taken, holds}
+use Rattle.mx_model.specs.Effect.{Effect, Goes, Faults, Loads, Stores, Calls, Jumps, effect, reg, written, next, load_size, loaded}
 use Rattle.mx_model.specs.Gates.{top, most_frames}
 use Rattle.mx_model.specs.Reads.{Reads}
 use Rattle.mx_model.specs.State.{Core, Hart, Status, module_at}
 use Rattle.mx_model.specs.Turn.{Action, Asks, Traps, Bounces, Crosses, Returns, Runs, Writes, Decided, without_look, traps, is_denied, call_gate_at, is_return_at, load_at, at_gate, returned_over, at_return, call_of, jump_action, by_effect, by_word, fetches, runs_at, runs_in}
+use Rattle.mx_model.proofs.AlignedLaws.{IsAligned, aligned-effect}
 use Rattle.std.specs.Option.{option_map_or}
 
 -- hart x with other frames and another status
@@ -43,46 +41,6 @@ same-self r c x = record {
   fetch = λ e. refl;
   load = λ address width a e. refl;
 }
-
--- an access of an instruction is aligned
-abbrev pub IsAligned : Effect → Type 0
-IsAligned (Goes regs pc) = Unit {0}
-IsAligned (Faults cause value) = Unit {0}
-IsAligned (Loads p address width rd) = address % load_size width ≡ 0
-IsAligned (Stores p address size value) = IsSize size × (address % size ≡ 0)
-IsAligned Calls = Unit {0}
-IsAligned (Jumps rd target) = Unit {0}
-
-aligned-choice : (b : Bool) (e f : Effect) → (b ≡ true → IsAligned e) → IsAligned f → IsAligned (cond b e f)
-aligned-choice true e f p q = p refl
-aligned-choice false e f p q = q
-
-size-store : (width : StoreWidth) → IsSize (store_size width)
-size-store Sb = inl refl
-size-store Sh = inr (inl refl)
-size-store Sw = inr (inr refl)
-
-aligned-effect : (inst : Inst) (regs : List ℕ) (pc : ℕ) → IsAligned (effect inst regs pc)
-unfolding effect
-aligned-effect (Lui rd imm) regs pc = tt
-aligned-effect (Auipc rd imm) regs pc = tt
-aligned-effect (Jal rd imm) regs pc = tt
-aligned-effect (Jalr rd rs1 imm) regs pc = tt
-aligned-effect (Branch c rs1 rs2 imm) regs pc =
-    aligned-choice (holds c (reg regs rs1) (reg regs rs2)) (taken regs (plus pc imm)) (Goes regs (next pc))
-    (λ e. aligned-choice (plus pc imm % 4 == 0) (Goes regs (plus pc imm)) (Faults 0 (plus pc imm)) (λ f. tt) tt) tt
-aligned-effect (Load width rd rs1 imm) regs pc =
-    let address = plus (reg regs rs1) imm in
-    aligned-choice (address % load_size width == 0) (Loads rs1 address width rd) (Faults 4 address) (λ e. eqb-true (address % load_size width) 0 e) tt
-aligned-effect (Store width rs1 rs2 imm) regs pc =
-    let address = plus (reg regs rs1) imm in
-    aligned-choice (address % store_size width == 0) (Stores rs1 address (store_size width) (reg regs rs2)) (Faults 6 address)
-    (λ e. (size-store width, eqb-true (address % store_size width) 0 e)) tt
-aligned-effect (OpImm op rd rs1 imm) regs pc = tt
-aligned-effect (Op op rd rs1 rs2) regs pc = tt
-aligned-effect (Fence fields) regs pc = tt
-aligned-effect Ecall regs pc = tt
-aligned-effect Ebreak regs pc = tt
 
 -- what a hart does at a call gate, and at a return gate
 pub data IsPassing : Action → Type 0 where

@@ -32,6 +32,7 @@ use Rattle.mx_machine.specs.Actions.{counted, heard}
 use Rattle.mx_machine.specs.Harts.{hart_of, hearers, own_call, status_by}
 use Rattle.mx_machine.specs.Held.{Held, meaning, rest_of}
 use Rattle.mx_machine.specs.Made.{core_in, deed, doing, hart_in, instruction, reads_of}
+use Rattle.mx_machine.specs.AtGate.{IsAtGate, gate_here}
 use Rattle.mx_machine.specs.Ties.{Fits, MayRun}
 use Rattle.mx_machine.proofs.DeedLaws.{here}
 use Rattle.mx_machine.proofs.HartsAt.{hart-in, length-seen}
@@ -57,14 +58,19 @@ doing-dead m h pc r e p =
     ∙ ap (λ (n : ℕ). deed m h (Traps 20 n)) (ap (λ (y : Seen). y.pc) (seen-running m h r) ∙ sym p)
 
 -- the gate at its pc, as the machine looks it up
-abbrev pub gate_here : Held → ℕ → ℕ → Option ℕ
-gate_here m d pc = option_map_or (gate_target m.parts.gates d) (word_of pc m.parts.size) None
-
 gate-is : (m : Held) (h d pc : ℕ) (o : Option ℕ) → MayRun m h → d ≡ (hart_of m.harts h).domain → pc ≡ (hart_of m.harts h).pc → gate_here m d pc ≡ o →
     target_from (core_in m) (hart_in m h).domain (hart_in m h).pc ≡ o
 gate-is m h d pc o r ed ep e =
     ap (λ (y : Seen). target_from (core_in m) y.domain y.pc) (seen-running m h r)
     ∙ ap (λ n. gate_here m n (hart_of m.harts h).pc) (sym ed) ∙ ap (λ n. gate_here m d n) (sym ep) ∙ e
+
+pub at-gate-here : (m : Held) (h d pc t : ℕ) → MayRun m h → d ≡ (hart_of m.harts h).domain → pc ≡ (hart_of m.harts h).pc → get_or m.dead d false ≡ false → gate_here m d pc ≡ Some t →
+    IsAtGate m h t
+at-gate-here m h d pc t r ed ep alive e = record {
+  run = r;
+  alive = ap (λ n. get_or m.dead n false) (sym ed) ∙ alive;
+  gate = ap (λ n. gate_here m n (hart_of m.harts h).pc) (sym ed) ∙ ap (λ n. gate_here m d n) (sym ep) ∙ e;
+}
 
 -- the gate leads into a module
 target-module : (m : Held) (d pc t : ℕ) → IsValid (core_in m) → gate_here m d pc ≡ Some t → IsModule (length (core_in m).modules) t
@@ -83,7 +89,7 @@ target-domain m d pc t v f e =
     let p = target-module m d pc t v e in
     record { first = p.first; last = omega (arith, p.last, length-modules (rest_of m) 1 m.parts.heaps, f.sound.heaps) }
 
--- no gate, or a return gate
+-- no gate, a return gate, and a call gate
 pub doing-plain : (m : Held) (h d pc : ℕ) → MayRun m h → d ≡ (hart_of m.harts h).domain → pc ≡ (hart_of m.harts h).pc → get_or m.dead d false ≡ false → gate_here m d pc ≡ None →
     (doing m h ≡ instruction m h) × (false ≡ is_return_at (core_in m) (hart_in m h).domain (hart_in m h).pc)
 doing-plain m h d pc r ed ep alive e =
@@ -93,17 +99,16 @@ doing-plain m h d pc r ed ep alive e =
       sym g.1,
     )
 
-pub doing-return : (m : Held) (h d pc t : ℕ) → MayRun m h → d ≡ (hart_of m.harts h).domain → pc ≡ (hart_of m.harts h).pc → get_or m.dead d false ≡ false → gate_here m d pc ≡ Some t → t ≡ d →
+pub doing-return : (m : Held) (h t : ℕ) → IsAtGate m h t → t ≡ (hart_of m.harts h).domain →
     (doing m h ≡ instruction m h) × (true ≡ is_return_at (core_in m) (hart_in m h).domain (hart_in m h).pc)
-doing-return m h d pc t r ed ep alive e own =
-    let own' : t ≡ (hart_in m h).domain = own ∙ ed ∙ sym (ap (λ (y : Seen). y.domain) (seen-running m h r)) in
-    let g = at-return-gate (core_in m) (hart_in m h).domain (hart_in m h).pc t (gate-is m h d pc (Some t) r ed ep e) own' in (
-      runs-as m h false r (ap (λ n. get_or m.dead n false) (sym ed) ∙ alive)
-          ∙ ap (λ (o : Option ℕ). enacted (reads_of m) (core_in m) h (runs_at (reads_of m) (core_in m) h (hart_in m h) o)) g.0,
+doing-return m h t a own =
+    let x = hart_of m.harts h in
+    let own' : t ≡ (hart_in m h).domain = own ∙ sym (ap (λ (y : Seen). y.domain) (seen-running m h a.run)) in
+    let g = at-return-gate (core_in m) (hart_in m h).domain (hart_in m h).pc t (gate-is m h x.domain x.pc (Some t) a.run refl refl a.gate) own' in (
+      runs-as m h false a.run a.alive ∙ ap (λ (o : Option ℕ). enacted (reads_of m) (core_in m) h (runs_at (reads_of m) (core_in m) h (hart_in m h) o)) g.0,
       sym g.1,
     )
 
--- a call gate
 at-gate-looks : (c : Core) (s : Seen) (t : ℕ) → (at_gate c s t).looks ≡ []
 at-gate-looks c s t =
     elim (reg s.regs 1 % 4 == 0) as (λ a. (cond (not a) (traps 19 (reg s.regs 1)) (cond (module_at c t).dead (without_look Bounces) (cond (nat_le most_frames (length s.frames)) (traps 16 s.pc) (without_look (Crosses t))))).looks ≡ []) [
@@ -114,13 +119,13 @@ at-gate-looks c s t =
       | false ↦ refl
     ]
 
-pub doing-gate : (m : Held) (h d pc t : ℕ) → MayRun m h → d ≡ (hart_of m.harts h).domain → pc ≡ (hart_of m.harts h).pc → get_or m.dead d false ≡ false → gate_here m d pc ≡ Some t → t ≢ d →
-    doing m h ≡ deed m h (at_gate (core_in m) (hart_in m h) t).action
-doing-gate m h d pc t r ed ep alive e other =
+pub doing-gate : (m : Held) (h t : ℕ) → IsAtGate m h t → t ≢ (hart_of m.harts h).domain → doing m h ≡ deed m h (at_gate (core_in m) (hart_in m h) t).action
+doing-gate m h t a other =
     let s = hart_in m h in
-    let other' : t ≢ s.domain = λ q. other (q ∙ ap (λ (y : Seen). y.domain) (seen-running m h r) ∙ sym ed) in
-    let g = at-call-gate (core_in m) s.domain s.pc t (gate-is m h d pc (Some t) r ed ep e) other' in
-    runs-as m h false r (ap (λ n. get_or m.dead n false) (sym ed) ∙ alive)
+    let x = hart_of m.harts h in
+    let other' : t ≢ s.domain = λ q. other (q ∙ ap (λ (y : Seen). y.domain) (seen-running m h a.run)) in
+    let g = at-call-gate (core_in m) s.domain s.pc t (gate-is m h x.domain x.pc (Some t) a.run refl refl a.gate) other' in
+    runs-as m h false a.run a.alive
     ∙ ap (λ (o : Option ℕ). enacted (reads_of m) (core_in m) h (runs_at (reads_of m) (core_in m) h s o)) g.0
     ∙ ap (λ (ls : List Look). acted (reads_of m) (looked_all (reads_of m) h ls (core_in m)) h s (at_gate (core_in m) s t).action) (at-gate-looks (core_in m) s t)
 

@@ -1,8 +1,7 @@
 -- A served call: the machine after it is the state after the model's call, and fits.
 use Rattle.std.proofs.Common.{◌≡◌, ◌≢◌, ℕ, ◌-◌, ◌<◌, ◌≤◌, ◌⊎◌, inl, inr, Bool, true, false, cond, List, [], ◌∷◌, length, get_or, set, refl, sym, ap, subst, ◌∙◌, arith, Option, Some, None}
 use Rattle.std.specs.Prelude.{IfSome}
-use Rattle.std.proofs.lemmas.Bool.{cases_eq, cases_lt}
-use Rattle.std.proofs.Math.ListN.{get_or-eq_default}
+use Rattle.std.proofs.lemmas.Bool.{cases_eq}
 use Rattle.std.proofs.lemmas.List.{get_or-set_same, get_or-set_other, length-set}
 use Rattle.mx_words.specs.Announced.{announced, is_announced}
 use Rattle.mx_words.specs.FirstFit.{Area}
@@ -13,6 +12,7 @@ use Rattle.mx_model.specs.Checks.{Look, arg, looked_all}
 use Rattle.mx_model.specs.Reads.{Reads}
 use Rattle.mx_model.specs.Serve.{Served, Service, Exit, Write, Grant, RevokeAll, Transfer, Alloc, Free, AddGate, RemoveGate, AddReturnGate, Query, Self, Exchange, Unknown, judged, serve, served_by, service, write_from, write_looks, exchange_from, with_blocks, look_of, arg_word, alloc_from}
 use Rattle.mx_model.specs.State.{Core, Module, no_module, module_at}
+use Rattle.mx_model.proofs.SetLaws.{part-set}
 use Rattle.mx_model.proofs.ValidParts.{same-modules-looked_all}
 use Rattle.mx_model.specs.State.{Running, Halted, with_hart}
 use Rattle.mx_model.specs.State.{Hart as Seen}
@@ -52,22 +52,8 @@ heaps-judged : (c e : Core) (o : Option ℕ) (s : Served) → SameHeaps c e → 
 heaps-judged c e (Some n) s p q = p
 heaps-judged c e None s p q = q
 
-heap-set : (ms : List Module) (i j : ℕ) (m : Module) → m.heap ≡ (get_or ms i no_module).heap → (get_or (set ms i m) j no_module).heap ≡ (get_or ms j no_module).heap
-heap-set ms i j m e = by (cases_eq j i)
-  where
-    there : (i < length ms) ⊎ (length ms ≤ i) → j ≡ i → (get_or (set ms i m) j no_module).heap ≡ (get_or ms j no_module).heap
-    there (inl l) q =
-        ap (λ k. (get_or (set ms i m) k no_module).heap) q ∙ ap (λ (x : Module). x.heap) (get_or-set_same ms i m no_module l) ∙ e ∙ ap (λ k. (get_or ms k no_module).heap) (sym q)
-    there (inr l) q =
-        ap (λ (x : Module). x.heap) (get_or-eq_default (set ms i m) no_module (subst (λ n. n ≤ j) (sym (length-set ms i m)) (subst (λ k. length ms ≤ k) (sym q) l)))
-        ∙ sym (ap (λ (x : Module). x.heap) (get_or-eq_default ms no_module (subst (λ k. length ms ≤ k) (sym q) l)))
-
-    by : (j ≡ i) ⊎ (j ≢ i) → (get_or (set ms i m) j no_module).heap ≡ (get_or ms j no_module).heap
-    by (inl q) = there (cases_lt i (length ms)) q
-    by (inr ne) = ap (λ (x : Module). x.heap) (get_or-set_other ms i j m no_module ne)
-
 heaps-blocks : (call : Call) (blocks : List Area) (c : Core) → SameHeaps c (with_blocks call blocks c)
-heaps-blocks call blocks c d = heap-set c.modules (call.domain - 1) (d - 1) (record (module_at c call.domain) { blocks = blocks }) refl
+heaps-blocks call blocks c d = part-set (λ (m : Module). m.heap) c.modules (call.domain - 1) (d - 1) (record (module_at c call.domain) { blocks = blocks }) no_module refl
 
 heaps-alloc : (c : Core) (call : Call) (first : ℕ) (o : Option ℕ) → SameHeaps c (alloc_from c call first o).core
 heaps-alloc c call first (Some n) d = refl

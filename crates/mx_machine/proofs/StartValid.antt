@@ -1,5 +1,5 @@
 -- A machine that starts or resumes is valid.
-use Rattle.std.proofs.Common.{◌≡◌, ◌≢◌, ℕ, zero, suc, ◌+◌, ◌-◌, ◌*◌, ◌^◌, ◌<◌, ◌≤◌, ◌⊎◌, inl, inr, ◌==◌, Bool, true, false, cond, List, [], ◌∷◌, length, get_or, set, replicate, refl, sym, ap, subst, ◌∙◌, arith, eq-eqb, Option, Some, None}
+use Rattle.std.proofs.Common.{◌≡◌, ◌≢◌, ℕ, zero, suc, ◌+◌, ◌-◌, ◌*◌, ◌^◌, ◌<◌, ◌≤◌, ◌⊎◌, inl, inr, ◌==◌, Bool, true, false, cond, List, [], ◌∷◌, length, get_or, replicate, refl, sym, ap, subst, ◌∙◌, arith, eq-eqb, Option, Some, None}
 use Rattle.std.proofs.Common.{map as list_map}
 use Rattle.std.specs.Prelude.{slice_get, slice_index, IfSome}
 use Rattle.std.specs.List.{AllByRecursion}
@@ -20,7 +20,9 @@ use Rattle.mx_model.specs.State.{Module, no_module}
 use Rattle.mx_model.specs.State.{Hart as Seen}
 use Rattle.mx_model.specs.State.{no_hart as nobody_seen}
 use Rattle.mx_model.specs.Valid.{IsFrame, IsGate, IsHart, IsHome, IsModule, IsPc, IsRegisters, IsValid}
+use Rattle.mx_model.proofs.JoinLaws.{all-weaker}
 use Rattle.mx_model.proofs.ListLaws.{all-at, all-in}
+use Rattle.mx_model.proofs.SetLaws.{set-below}
 use Rattle.mx_supervisor.specs.Heaps.{heap_at}
 use Rattle.mx_supervisor.specs.Told.{IsTold}
 use Rattle.mx_supervisor.specs.Parts.{IsSound, Parts, core_of, flat_of, with_heap}
@@ -123,13 +125,6 @@ behind-small : (a : StackArea) (h : ℕ) → (a.words ≡ 0) ⊎ (a.first + a.wo
 behind-small a h (inl e) = subst (λ b. cond b 0 (address_of (a.first + a.words * (h + 1))) < 2 ^ 32) (sym (eq-eqb a.words 0 e)) (omega arith)
 behind-small a h (inr le) = elim (a.words == 0) as (λ b. cond b 0 (address_of (a.first + a.words * (h + 1))) < 2 ^ 32) [ true ↦ omega arith | false ↦ omega (arith, le) ]
 
-set-small : (xs : List ℕ) (k v : ℕ) → ((i : ℕ) → get_or xs i 0 < 2 ^ 32) → v < 2 ^ 32 → (i : ℕ) → get_or (set xs k v) i 0 < 2 ^ 32
-set-small [] k v h p i = h i
-set-small (x ∷ xs) zero v h p zero = p
-set-small (x ∷ xs) zero v h p (suc i) = h (suc i)
-set-small (x ∷ xs) (suc k) v h p zero = h zero
-set-small (x ∷ xs) (suc k) v h p (suc i) = set-small xs k v (λ j. h (suc j)) p i
-
 zeros-small : (n i : ℕ) → get_or {A = ℕ} (replicate n 0) i 0 < 2 ^ 32
 zeros-small zero i = omega arith
 zeros-small (suc n) zero = omega arith
@@ -145,7 +140,7 @@ pub hart-starts : (p : Parts) (stacks : List StackArea) (n h : ℕ) (s : HartSta
 hart-starts p stacks n h s k is small a = record {
   regs = record {
     count = length-set (replicate 32 0) 2 (behind stacks s.domain h);
-    small = set-small (replicate 32 0) 2 (behind stacks s.domain h) (zeros-small 32) (behind-small (area_of stacks s.domain) h a);
+    small = set-below (2 ^ 32) (replicate 32 0) 2 (behind stacks s.domain h) (zeros-small 32) (behind-small (area_of stacks s.domain) h a);
     x0 = refl;
   };
   pc = record { aligned = is.pc; small = small };
@@ -208,10 +203,6 @@ module _ (p : Parts) (n h : ℕ) (s : HartState) (is : IsHartState p s) (small :
 
   pub hart-resumes : (k : Kept) → FliesIfWaiting p n h s s.status k.flight → IfSome k.flight IsSet → IsHart (length p.maps) n h (seen h (resumed_hart s) k)
   hart-resumes k t q = resumes-as s.status k.flight t q
-
-all-weaker : {X : Type 0} (P Q : X → Type 0) (xs : List X) → ((x : X) → P x → Q x) → AllByRecursion P xs → AllByRecursion Q xs
-all-weaker P Q [] f h = tt
-all-weaker P Q (x ∷ xs) f h = (f x h.0, all-weaker P Q xs f h.1)
 
 -- stack areas of a machine, also of a domain that isn't there
 pub stack-at : (size n most d : ℕ) (stacks : List StackArea) → size ≤ most → AllByRecursion (IsStack size n) stacks →

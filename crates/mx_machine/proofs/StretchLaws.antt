@@ -1,6 +1,5 @@
 -- Turns of one hart in a row: what holds after some of them, and after one more.
-use Rattle.std.proofs.Common.{◌≡◌, ◌≢◌, ℕ, suc, ◌+◌, ◌<◌, ◌⊎◌, inl, inr, Bool, true, false, not, set, refl, sym, ap, ◌∙◌, arith, get_or, get_or-set_same, Option, None, Some}
-use Rattle.std.specs.Prelude.{is_some}
+use Rattle.std.proofs.Common.{◌≡◌, ◌≢◌, ℕ, suc, ◌+◌, ◌<◌, ◌⊎◌, inl, inr, Bool, true, false, not, set, refl, sym, ap, ◌∙◌, arith, get_or, get_or-set_same}
 use Rattle.std.proofs.lemmas.Bool.{cases_eq}
 use Rattle.mx_model.specs.declared.values.TurnKind.{TurnKind}
 use Rattle.mx_model.specs.declared.values.TurnKind.TheVariants as T
@@ -45,11 +44,6 @@ alive-now m n h r is = ap (λ (k : Held). get_or k.dead (hart_of k.harts h).doma
 pub live-of : (b : Bool) → not b ≡ true → b ≡ false
 live-of true e = absurd (let z : ⊥ = cc in z)
 live-of false e = refl
-
--- no gate stands there
-pub none-here : (o : Option ℕ) → is_some o ≡ false → o ≡ None
-none-here None e = refl
-none-here (Some t) e = absurd (let z : ⊥ = cc in z)
 
 -- after some turns of hart h from a flat state, each of which carried out an instruction
 pub record HasRunOn (f : Flat) (h n : ℕ) (m : Held) : Type 0 where

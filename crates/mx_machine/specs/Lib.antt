@@ -5,6 +5,8 @@ pub mod Steps
 pub mod Bus
 pub mod Actions
 pub mod Made
+pub mod AtGate
+pub mod Goings
 pub mod Serving
 pub mod Starts
 pub mod Readings

@@ -1,18 +1,17 @@
 //! What a machine holds, and the parts of a turn, each as one step of it.
 ghost use Rattle.std.specs.Prelude.{◌≡◌, ℕ, ◌+◌, ◌%◌, ◌<◌, ◌≤◌, ◌⊎◌, ◌*◌, true, false, length, slice_index_or, None};
-ghost use Rattle.std.specs.Option.{option_map_or};
 ghost use Rattle.mx_words.specs.Announced.{is_announced};
-ghost use Rattle.mx_words.specs.Ranges.{most_words, word_of};
+ghost use Rattle.mx_words.specs.Ranges.{most_words};
 ghost use Rattle.mx_table.specs.Tables.{IsDomain};
 ghost use Rattle.mx_check.specs.Calls.{is_ready};
 ghost use Rattle.mx_check.specs.Conditions.{HasHeardAll, MayLook, MayAnnounce, IsWithin};
 ghost use Rattle.mx_check.specs.Harts.{hart_at, announced};
 ghost use Rattle.mx_core.specs.Exec.{HasCause};
 ghost use Rattle.mx_model.specs.declared.values.Note.TheVariants as Notes;
-ghost use Rattle.mx_model.specs.Gates.{gate_target};
 ghost use Rattle.mx_supervisor.specs.Parts.{IsSound};
 ghost use Rattle.mx_supervisor.specs.Served.{range_of};
 ghost use Rattle.mx_machine.specs.Actions.{after_instruction, crossed, halted_first, fallen, heard, killed, outcome_for, returned, with_kept, with_step};
+ghost use Rattle.mx_machine.specs.AtGate.{gate_here};
 ghost use Rattle.mx_machine.specs.Halting.{halted_at};
 ghost use Rattle.mx_machine.specs.Harts.{hart_of, is_halted};
 ghost use Rattle.mx_machine.specs.Held.{area_of};
@@ -62,9 +61,7 @@ impl<T: PermTables, const N: usize> Bare<T, N> {
     /// The target of the gate that stands for a domain at an address.
     pub fn gate(&self, domain: u32, pc: u32) -> Option<u32>
         requires { self.now.parts.size ≤ most_words }
-        ensures { result
-            ≡ option_map_or (gate_target self.now.parts.gates domain)
-            (word_of pc self.now.parts.size) None }
+        ensures { result ≡ gate_here self.now domain pc }
     {
         let supervisor = &self.bus.supervisor;
         match word_of(pc, supervisor.checker.tables().words()) {

@@ -1,19 +1,19 @@
 //! Turns of one hart in a row. While they carry out instructions and no more, the hart runs on in its domain: only the gate at its
 //! pc is asked about before each.
-ghost use Rattle.std.specs.Prelude.{◌≡◌, ◌+◌, ◌-◌, ◌^◌, ◌<◌, ◌≤◌, None, true, unwrap_or};
+ghost use Rattle.std.specs.Prelude.{◌≡◌, ◌+◌, ◌-◌, ◌^◌, ◌<◌, ◌≤◌, true};
 ghost use Rattle.mx_model.specs.Events.{no_events};
 ghost use Rattle.mx_model.specs.Run.{flat_made};
+ghost use Rattle.mx_machine.specs.Goings.{kind_of};
 ghost use Rattle.mx_machine.specs.Held.{meaning};
 ghost use Rattle.mx_machine.specs.Made.{IsMade};
 ghost use Rattle.mx_machine.specs.Ties.{Fits, IsWhole, RunsAlive};
 ghost use Rattle.mx_machine.specs.Turning.{IsStretch};
-ghost use Rattle.mx_model.specs.declared.values.TurnKind.{TurnKind};
 
 use crate::Stretch;
 use crate::bare::Bare;
 use crate::hart::Progress;
-use crate::turns::clear;
-use mx_model::{Events, TurnKind, turns_keep_validity};
+use crate::turns::{Going, clear};
+use mx_model::{Events, turns_keep_validity};
 use mx_table::PermTables;
 
 impl<T: PermTables, const N: usize> Bare<T, N> {
@@ -29,8 +29,9 @@ impl<T: PermTables, const N: usize> Bare<T, N> {
         clear(out);
         let room = self.before_last(hart, most);
         'turns: for ran in 0..room {
-            if let Some(last) = self.turn_on(hart, out) {
-                return Stretch { ran, last };
+            match self.turn_on(hart, out) {
+                Going::On => {}
+                Going::Ended(last) => return Stretch { ran, last },
             }
         }
         let last = self.step(hart, out);
@@ -63,25 +64,25 @@ impl<T: PermTables, const N: usize> Bare<T, N> {
         }
     }
 
-    /// One turn of a hart that runs in a live domain. `None` where it carried out an instruction and goes on so.
+    /// One turn of a hart that runs in a live domain.
     #[inline(always)]
-    fn turn_on(&mut self, hart: u32, out: &mut Events) -> Option<TurnKind>
+    fn turn_on(&mut self, hart: u32, out: &mut Events) -> Going
         requires whole { IsWhole self.old }
         requires alive { RunsAlive self.old hart }
         requires few { self.old.steps < 2 ^ 64 - 1 }
         requires empty { out.old ≡ no_events }
-        ensures made { IsMade self.old self.new out.new (unwrap_or result TurnKind.Ran)
+        ensures made { IsMade self.old self.new out.new (kind_of result)
             (flat_made (meaning self.old) hart) }
         ensures fits { Fits self.new }
-        ensures on { result ≡ None → RunsAlive self.new hart × (out.new ≡ no_events) }
+        ensures on { result ≡ Going.On → RunsAlive self.new hart × (out.new ≡ no_events) }
     {
         self.steps += 1;
         self.hear(hart);
         let domain = self.harts.domain(hart);
         let pc = self.harts.pc(hart);
-        if self.gate(domain, pc).is_some() {
-            return Some(self.run(hart, out));
+        match self.gate(domain, pc) {
+            None => self.execute(hart, false, out),
+            Some(target) => Going::Ended(self.at_gate(hart, target, out)),
         }
-        self.execute(hart, false, out)
     }
 }

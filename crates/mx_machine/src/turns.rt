@@ -1,11 +1,13 @@
 //! A turn by its cases (docs/MACHINE.md, "One turn").
-ghost use Rattle.std.specs.Prelude.{◌≡◌, ◌-◌, ◌^◌, ◌<◌, None, unwrap_or};
+ghost use Rattle.std.specs.Prelude.{◌≡◌, ◌-◌, ◌^◌, ◌<◌};
 ghost use Rattle.mx_table.specs.Tables.{IsDomain};
 ghost use Rattle.mx_model.specs.Events.{no_events};
 ghost use Rattle.mx_model.specs.Run.{flat_made};
 ghost use Rattle.mx_model.specs.Turn.{Asks, Traps, at_gate, at_return, call_of, is_return_at, served};
 ghost use Rattle.mx_model.specs.Valid.{IsValid};
 ghost use Rattle.mx_machine.specs.Actions.{after_instruction};
+ghost use Rattle.mx_machine.specs.AtGate.{IsAtGate};
+ghost use Rattle.mx_machine.specs.Goings.{kind_of};
 ghost use Rattle.mx_machine.specs.Harts.{hart_of};
 ghost use Rattle.mx_machine.specs.Held.{meaning};
 ghost use Rattle.mx_machine.specs.Made.{IsMade, core_in, hart_in, reads_of, deed, instruction, doing};
@@ -37,6 +39,27 @@ pub fn clear(out: &mut Events)
         return;
     }
     out.clear();
+}
+
+/// How a running hart goes on after a turn.
+#[derive(Clone, Copy)]
+pub enum Going {
+    /// It carried out an instruction, and goes on in its domain.
+    On,
+    /// It made a turn of this kind, and is looked at anew before its next.
+    Ended(TurnKind),
+}
+
+impl Going {
+    /// What the turn was.
+    pub fn kind(self) -> TurnKind
+        ensures { result ≡ kind_of self }
+    {
+        match self {
+            Going::On => TurnKind::Ran,
+            Going::Ended(kind) => kind,
+        }
+    }
 }
 
 impl<T: PermTables, const N: usize> Bare<T, N> {
@@ -81,7 +104,7 @@ impl<T: PermTables, const N: usize> Bare<T, N> {
     }
 
     /// A running hart: dead domain, gate, or instruction.
-    pub fn run(&mut self, hart: u32, out: &mut Events) -> TurnKind
+    fn run(&mut self, hart: u32, out: &mut Events) -> TurnKind
         requires valid { IsValid (meaning self.old).core }
         requires run { MayRun self.old hart }
         requires empty { out.old ≡ no_events }
@@ -94,14 +117,24 @@ impl<T: PermTables, const N: usize> Bare<T, N> {
             return self.trap(hart, DEAD, pc, out);
         }
         match self.gate(domain, pc) {
-            None => self.execute(hart, false, out).unwrap_or(TurnKind::Ran),
-            Some(target) => {
-                if target == domain {
-                    self.execute(hart, true, out).unwrap_or(TurnKind::Ran)
-                } else {
-                    self.pass(hart, target, out)
-                }
-            }
+            None => self.execute(hart, false, out).kind(),
+            Some(target) => self.at_gate(hart, target, out),
+        }
+    }
+
+    /// A running hart at a gate: a call gate leads into another domain, and a return gate back out of its own.
+    pub fn at_gate(&mut self, hart: u32, target: u32, out: &mut Events) -> TurnKind
+        requires valid { IsValid (meaning self.old).core }
+        requires at { IsAtGate self.old hart target }
+        requires empty { out.old ≡ no_events }
+        ensures made { IsMade self.old self.new out.new result (doing self.old hart) }
+        ensures fits { Fits self.new }
+    {
+        let domain = self.harts.domain(hart);
+        if target == domain {
+            self.execute(hart, true, out).kind()
+        } else {
+            self.pass(hart, target, out)
         }
     }
 
@@ -131,26 +164,26 @@ impl<T: PermTables, const N: usize> Bare<T, N> {
         TurnKind::Crossed
     }
 
-    /// A running hart at an instruction, where no call gate stands. `None` where it carried it out and goes on.
+    /// A running hart at an instruction, where no call gate stands.
     #[inline(always)]
-    pub fn execute(&mut self, hart: u32, returns: bool, out: &mut Events) -> Option<TurnKind>
+    pub fn execute(&mut self, hart: u32, returns: bool, out: &mut Events) -> Going
         requires valid { IsValid (meaning self.old).core }
         requires run { MayRun self.old hart }
         requires returns { returns
             ≡ is_return_at (core_in self.old) (hart_in self.old hart).domain
             (hart_in self.old hart).pc }
         requires empty { out.old ≡ no_events }
-        ensures made { IsMade self.old self.new out.new (unwrap_or result TurnKind.Ran)
+        ensures made { IsMade self.old self.new out.new (kind_of result)
             (instruction self.old hart) }
         ensures fits { Fits self.new }
-        ensures on { result ≡ None → (self.new ≡ after_instruction hart returns self.old)
+        ensures on { result ≡ Going.On → (self.new ≡ after_instruction hart returns self.old)
             × (out.new ≡ no_events) }
     {
         match self.instruct(hart, returns) {
-            Outcome::Next(_) => None,
-            Outcome::Trap(fault) => Some(self.trap(hart, fault.cause, fault.value, out)),
-            Outcome::Call => Some(self.ask(hart, out)),
-            Outcome::Back { rd, target } => Some(self.go_back(hart, rd, target, out)),
+            Outcome::Next(_) => Going::On,
+            Outcome::Trap(fault) => Going::Ended(self.trap(hart, fault.cause, fault.value, out)),
+            Outcome::Call => Going::Ended(self.ask(hart, out)),
+            Outcome::Back { rd, target } => Going::Ended(self.go_back(hart, rd, target, out)),
         }
     }
 

@@ -14,6 +14,7 @@ use Rattle.mx_heap.specs.HeapState.{HeapState}
 use Rattle.mx_model.specs.declared.values.Gate.{Gate}
 use Rattle.mx_model.specs.Gates.{with_gate, without_gate}
 use Rattle.mx_model.specs.Valid.{IsGate}
+use Rattle.mx_model.proofs.JoinLaws.{all-weaker}
 use Rattle.mx_model.proofs.ListLaws.{all-append, all-at, all-filter}
 use Rattle.mx_supervisor.specs.Heaps.{heap_at, no_area, no_heap, told_heap}
 use Rattle.mx_supervisor.specs.Parts.{Parts, IsSound}
@@ -58,11 +59,6 @@ told-area heap inside = elim (heap.area.count == 0) as (λ (b : Bool). (cond b n
   | true ↦ omega arith
   | false ↦ inside
 ]
-
--- what holds of all of a list, where it follows from what holds of all
-pub all-weaker : {X : Type 0} (P Q : X → Type 0) (xs : List X) → ((x : X) → P x → Q x) → AllByRecursion P xs → AllByRecursion Q xs
-all-weaker P Q [] f h = tt
-all-weaker P Q (x ∷ xs) f h = (f x h.0, all-weaker P Q xs f h.1)
 
 -- gates of so many modules
 pub small-gates : (count modules words : ℕ) (gates : List Gate) → modules ≡ count → words ≡ 16384 → AllByRecursion (IsGate count 16384) gates → AllByRecursion (IsGate modules words) gates

@@ -1,5 +1,11 @@
-use Rattle.std.proofs.Common.{◌≡◌, ◌+◌}
+use Rattle.std.proofs.Common.{◌≡◌, ◌+◌, ◌-◌, ◌≤◌}
 use Rattle.machine_speed.proofs.turns.make.Given as goal
 
-abbrev pub invariant-loop-i : goal.invariant-loop-i
-invariant-loop-i l = l.machine.core.turns ≡ l.fn.machine.core.turns + l._i
+abbrev pub invariant-rows : goal.invariant-rows
+invariant-rows l = record {
+  within : l.made ≤ l.turns;
+  turns : l.machine.core.turns ≡ l.fn.machine.core.turns + l.made;
+}
+
+abbrev pub decreases-rows : goal.decreases-rows
+decreases-rows l = l.turns - l.made

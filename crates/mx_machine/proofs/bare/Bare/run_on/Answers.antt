@@ -1,5 +1,6 @@
-use Rattle.std.proofs.Common.{◌≡◌, ℕ, ◌<◌, refl, subst, arith, Option, unwrap_or}
-use Rattle.mx_model.specs.declared.values.TurnKind.{TurnKind}
+use Rattle.std.proofs.Common.{◌≡◌, ℕ, ◌<◌, refl, subst, arith}
+use Rattle.mx_machine.specs.declared.turns.Going.{Going}
+use Rattle.mx_machine.specs.Goings.{kind_of}
 use Rattle.mx_model.specs.declared.values.TurnKind.TheVariants as T
 use Rattle.mx_model.specs.Run.{flat_made}
 use Rattle.mx_machine.specs.Held.{meaning}
@@ -20,8 +21,8 @@ turns-preserved g c =
     let m = c.turns.self in
     let k = c.turn_on.new.self in
     let h = c.args.hart in
-    let on = c.turn_on.ensures.on c.in_default.is in
-    let made = subst (λ (o : Option TurnKind). IsMade m k c.turn_on.new.out (unwrap_or o T.Ran) (flat_made (meaning m) h)) c.in_default.is c.turn_on.ensures.made in
+    let on = c.turn_on.ensures.on c.in-On.is in
+    let made = subst (λ (going : Going). IsMade m k c.turn_on.new.out (kind_of going) (flat_made (meaning m) h)) c.in-On.is c.turn_on.ensures.made in
     record {
       run = run-more (meaning c.args.self.now) h c.turns.ran m k c.turn_on.new.out T.Ran c.turns.invariant.run made c.turns_keep_validity.ensures c.turn_on.ensures.fits refl;
       empty = on.1;
@@ -29,16 +30,16 @@ turns-preserved g c =
     }
 
 -- a turn ended the run
-pub returns-in-Some-clause-stretch : goal.returns-in-Some-clause-stretch
-returns-in-Some-clause-stretch g c =
+pub returns-in-Ended-clause-stretch : goal.returns-in-Ended-clause-stretch
+returns-in-Ended-clause-stretch g c =
     let below : c.turns.ran < c.args.most = omega (arith, c.turns-test.true, c.before_last-room.ensures.below) in
-    run-stretch (meaning c.args.self.now) c.args.hart c.turns.ran c.turns.self c.turn_on.new.self c.turn_on.new.out c.in-Some.last c.turns.invariant.run c.in-Some.ensures.made
+    run-stretch (meaning c.args.self.now) c.args.hart c.turns.ran c.turns.self c.turn_on.new.self c.turn_on.new.out c.in-Ended.last c.turns.invariant.run c.in-Ended.ensures.made
     c.args.most below
 
-pub returns-in-Some-clause-whole : goal.returns-in-Some-clause-whole
-returns-in-Some-clause-whole g c =
-    whole-is c.turns.self c.turn_on.new.self c.args.hart c.turn_on.new.out c.in-Some.last c.in-Some.ensures.made c.turns_keep_validity.ensures c.turns.invariant.run.whole
-    c.in-Some.ensures.fits
+pub returns-in-Ended-clause-whole : goal.returns-in-Ended-clause-whole
+returns-in-Ended-clause-whole g c =
+    whole-is c.turns.self c.turn_on.new.self c.args.hart c.turn_on.new.out c.in-Ended.last c.in-Ended.ensures.made c.turns_keep_validity.ensures c.turns.invariant.run.whole
+    c.in-Ended.ensures.fits
 
 -- the last turn
 pub returns-clause-stretch : goal.returns-clause-stretch

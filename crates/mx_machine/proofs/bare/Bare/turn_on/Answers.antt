@@ -1,14 +1,14 @@
-use Rattle.std.proofs.Common.{◌≡◌, false, sym, subst, ◌∙◌, ap, refl, get_or, unwrap_or}
-use Rattle.mx_model.specs.declared.values.TurnKind.TheVariants as T
+use Rattle.std.proofs.Common.{◌≡◌, false, sym, subst, ◌∙◌, ap, refl, get_or}
+use Rattle.mx_machine.specs.Goings.{kind_of}
 use Rattle.mx_machine.specs.declared.hart.Progress.TheVariants as G
 use Rattle.mx_machine.specs.Actions.{counted, heard}
 use Rattle.mx_machine.specs.Harts.{hart_of}
 use Rattle.mx_machine.specs.Held.{Held}
 use Rattle.mx_machine.specs.Made.{IsMade}
 use Rattle.mx_machine.specs.Ties.{MayRun, RunsAlive}
-use Rattle.mx_machine.proofs.CaseLaws.{doing-plain, turn-running}
+use Rattle.mx_machine.proofs.CaseLaws.{at-gate-here, doing-plain, turn-running}
 use Rattle.mx_machine.proofs.MayLaws.{acts-now, hart-there, made-now, may-hear, stands-now, valid-now}
-use Rattle.mx_machine.proofs.StretchLaws.{alive-instruction, alive-now, none-here}
+use Rattle.mx_machine.proofs.StretchLaws.{alive-instruction, alive-now}
 use Rattle.mx_machine.proofs.bare.Bare.turn_on.Goals as goal
 
 pub hear-requires : goal.hear-requires
@@ -25,8 +25,8 @@ gate-requires g c =
     let run : MayRun n h = record { act = acts-now m h w G.Running at refl n is c.hear.ensures.all; runs = stands-now m h w G.Running at refl n is } in
     (assumption c, run.act.fits.sound.few_words)
 
-pub run-requires : goal.run-requires
-run-requires g c =
+pub at_gate-requires : goal.at_gate-requires
+at_gate-requires g c =
     let m = c.args.self.now in
     let h = c.args.hart in
     let w = c.requires.whole in
@@ -34,22 +34,25 @@ run-requires g c =
     let n = c.hear.new.self in
     let is : n ≡ heard h (counted m) = c.hear.ensures.after ∙ ap (λ (k : Held). heard h (counted k)) c.self.view_is in
     let run : MayRun n h = record { act = acts-now m h w G.Running at refl n is c.hear.ensures.all; runs = stands-now m h w G.Running at refl n is } in
-    (assumption c, (valid-now m h w G.Running at refl n is, (run, c.requires.empty)))
+    let d : c.domain-domain.result ≡ (hart_of n.harts h).domain = c.domain-domain.ensures ∙ ap (λ (k : Held). (hart_of k.harts h).domain) c.self-2.view_is in
+    let p : c.pc-pc.result ≡ (hart_of n.harts h).pc = c.pc-pc.ensures ∙ ap (λ (k : Held). (hart_of k.harts h).pc) c.self-2.view_is in
+    let alive : get_or n.dead c.domain-domain.result false ≡ false = ap (λ x. get_or n.dead x false) d ∙ alive-now m n h c.requires.alive is in
+    let gate = at-gate-here n h c.domain-domain.result c.pc-pc.result c.in-Some.target run d p alive (sym c.in-Some.ensures) in
+    (assumption c, (valid-now m h w G.Running at refl n is, (gate, c.requires.empty)))
 
-pub returns-then-is_some : goal.returns-then-is_some
-returns-then-is_some g c =
+pub returns-in-Some : goal.returns-in-Some
+returns-in-Some g c =
     let m = c.args.self.now in
     let h = c.args.hart in
     let w = c.requires.whole in
     let at = c.requires.alive.runs in
     let n = c.hear.new.self in
     let is : n ≡ heard h (counted m) = c.hear.ensures.after ∙ ap (λ (k : Held). heard h (counted k)) c.self.view_is in
-    let run : MayRun n h = record { act = acts-now m h w G.Running at refl n is c.hear.ensures.all; runs = stands-now m h w G.Running at refl n is } in
     record {
-      made = made-now m h w G.Running at refl n is c.run.new.self c.run.new.out c.run.result
-          (turn-running m h w.fits (hart-there m h w G.Running at refl) at) c.run.ensures.made;
-      fits = c.run.ensures.fits;
-      on = λ none. absurd (let z : ⊥ = cc in z);
+      made = made-now m h w G.Running at refl n is c.at_gate.new.self c.at_gate.new.out c.at_gate.result
+          (turn-running m h w.fits (hart-there m h w G.Running at refl) at) c.at_gate.ensures.made;
+      fits = c.at_gate.ensures.fits;
+      on = λ on. absurd (let z : ⊥ = cc in z);
     }
 
 pub execute-requires : goal.execute-requires
@@ -65,12 +68,11 @@ execute-requires g c =
     let p : c.pc-pc.result ≡ (hart_of n.harts h).pc = c.pc-pc.ensures ∙ ap (λ (k : Held). (hart_of k.harts h).pc) c.self-2.view_is in
     let live = alive-now m n h c.requires.alive is in
     let alive : get_or n.dead c.domain-domain.result false ≡ false = ap (λ x. get_or n.dead x false) d ∙ live in
-    let none = none-here c.gate.result (sym c.is_some.ensures ∙ c.if-is_some.false) in
-    let plain = doing-plain n h c.domain-domain.result c.pc-pc.result run d p alive (sym c.gate.ensures ∙ none) in
+    let plain = doing-plain n h c.domain-domain.result c.pc-pc.result run d p alive (sym c.in-None.ensures) in
     (assumption c, (valid-now m h w G.Running at refl n is, (run, (plain.1, c.requires.empty))))
 
-pub returns : goal.returns
-returns g c =
+pub returns-in-None : goal.returns-in-None
+returns-in-None g c =
     let m = c.args.self.now in
     let h = c.args.hart in
     let w = c.requires.whole in
@@ -82,14 +84,13 @@ returns g c =
     let p : c.pc-pc.result ≡ (hart_of n.harts h).pc = c.pc-pc.ensures ∙ ap (λ (k : Held). (hart_of k.harts h).pc) c.self-2.view_is in
     let live = alive-now m n h c.requires.alive is in
     let alive : get_or n.dead c.domain-domain.result false ≡ false = ap (λ x. get_or n.dead x false) d ∙ live in
-    let none = none-here c.gate.result (sym c.is_some.ensures ∙ c.if-is_some.false) in
-    let plain = doing-plain n h c.domain-domain.result c.pc-pc.result run d p alive (sym c.gate.ensures ∙ none) in
+    let plain = doing-plain n h c.domain-domain.result c.pc-pc.result run d p alive (sym c.in-None.ensures) in
     record {
-      made = made-now m h w G.Running at refl n is c.execute.new.self c.execute.new.out (unwrap_or c.execute.result T.Ran)
+      made = made-now m h w G.Running at refl n is c.execute.new.self c.execute.new.out (kind_of c.execute.result)
           (turn-running m h w.fits (hart-there m h w G.Running at refl) at)
-          (subst (λ e. IsMade n c.execute.new.self c.execute.new.out (unwrap_or c.execute.result T.Ran) e) (sym plain.0) c.execute.ensures.made);
+          (subst (λ e. IsMade n c.execute.new.self c.execute.new.out (kind_of c.execute.result) e) (sym plain.0) c.execute.ensures.made);
       fits = c.execute.ensures.fits;
-      on = λ none.
-          let e = c.execute.ensures.on none in
+      on = λ on.
+          let e = c.execute.ensures.on on in
           (subst (λ (k : Held). RunsAlive k h) (sym e.0) (alive-instruction n h run live), e.1);
     }

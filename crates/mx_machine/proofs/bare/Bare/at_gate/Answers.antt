@@ -1,0 +1,44 @@
+use Rattle.std.proofs.Common.{sym, subst, ◌∙◌, ap}
+use Rattle.mx_machine.specs.Goings.{kind_of}
+use Rattle.mx_machine.specs.Harts.{hart_of}
+use Rattle.mx_machine.specs.Held.{Held}
+use Rattle.mx_machine.specs.Made.{IsMade}
+use Rattle.mx_machine.proofs.CaseLaws.{doing-gate, doing-return, target-domain}
+use Rattle.mx_machine.proofs.bare.Bare.at_gate.Goals as goal
+
+pub execute-requires : goal.execute-requires
+execute-requires g c =
+    let m = c.args.self.now in
+    let h = c.args.hart in
+    let at = c.requires.at in
+    let d = c.domain-domain.ensures ∙ ap (λ (k : Held). (hart_of k.harts h).domain) c.self.view_is in
+    (assumption c, (c.requires.valid, (at.run, ((doing-return m h c.args.target at (c.if-target-domain.true ∙ d)).1, c.requires.empty))))
+
+pub returns-then-target-domain : goal.returns-then-target-domain
+returns-then-target-domain g c =
+    let m = c.args.self.now in
+    let h = c.args.hart in
+    let d = c.domain-domain.ensures ∙ ap (λ (k : Held). (hart_of k.harts h).domain) c.self.view_is in
+    let back = doing-return m h c.args.target c.requires.at (c.if-target-domain.true ∙ d) in
+    record {
+      made = rw c.kind.ensures (subst (λ e. IsMade m c.execute.new.self c.execute.new.out (kind_of c.execute.result) e) (sym back.0) c.execute.ensures.made);
+      fits = c.execute.ensures.fits;
+    }
+
+pub pass-requires : goal.pass-requires
+pass-requires g c =
+    let m = c.args.self.now in
+    let x = hart_of m.harts c.args.hart in
+    let at = c.requires.at in
+    (assumption c, (c.requires.valid, (at.run, (target-domain m x.domain x.pc c.args.target c.requires.valid at.run.act.fits at.gate, c.requires.empty))))
+
+pub returns-else-target-domain : goal.returns-else-target-domain
+returns-else-target-domain g c =
+    let m = c.args.self.now in
+    let h = c.args.hart in
+    let d = c.domain-domain.ensures ∙ ap (λ (k : Held). (hart_of k.harts h).domain) c.self.view_is in
+    let gate = doing-gate m h c.args.target c.requires.at (λ e. c.if-target-domain.false (e ∙ sym d)) in
+    record {
+      made = subst (λ e. IsMade m c.pass.new.self c.pass.new.out c.pass.result e) (sym gate) c.pass.ensures.made;
+      fits = c.pass.ensures.fits;
+    }
