@@ -22,12 +22,12 @@ use Rattle.mx_machine.specs.declared.hart.Progress.TheVariants as G
 use Rattle.mx_machine.specs.Actions.{with_kept}
 use Rattle.mx_machine.specs.Harts.{no_hart, hart_of, is_halted, own_call, seen, seen_with, status_by}
 use Rattle.mx_machine.specs.Held.{Held, rest_of}
-use Rattle.mx_machine.specs.Made.{IsMade, core_in, deed, hart_in, reads_of}
+use Rattle.mx_machine.specs.Made.{IsMade, core_in, made_by, hart_in, reads_of}
 use Rattle.mx_machine.specs.Serving.{IsServing}
 use Rattle.mx_machine.specs.Steps.{waits}
 use Rattle.mx_machine.specs.Ties.{Fits, FliesWhileWaiting, IsFlying, IsTied, MayAct, MayRun}
 use Rattle.mx_machine.proofs.CoreLaws.{core-kept, core-step}
-use Rattle.mx_machine.proofs.DeedLaws.{kept-there, may-look, running-kept}
+use Rattle.mx_machine.proofs.MadeLaws.{kept-there, may-look, running-kept}
 use Rattle.mx_machine.proofs.FitLaws.{IsChange, changed, count-step, fits-change, others-step, own-step}
 use Rattle.mx_machine.proofs.HearLaws.{bars-alike, ready-now}
 use Rattle.mx_machine.proofs.InstructLaws.{seen-running}
@@ -190,20 +190,20 @@ module _ (m : Held) (h : ℕ) (r : MayRun m h) where
       ∙ ap (λ (z : Bool). not b || z) (ready-now m h range_now.0 range_now.1 r.act.fits r.act.there ∙ ec)
 
   asks-as : (z : Bool) → is_served_now (core_in m) h (own_call h (hart_of m.harts h)) ≡ z →
-      deed m h (Asks (call_of h (hart_in m h))) ≡ asked (reads_of m) (core_in m) h (hart_in m h) (own_call h (hart_of m.harts h)) z
+      made_by m h (Asks (call_of h (hart_in m h))) ≡ asked (reads_of m) (core_in m) h (hart_in m h) (own_call h (hart_of m.harts h)) z
   asks-as z e =
       ap (λ (c : Call). asked (reads_of m) (core_in m) h (hart_in m h) c (is_served_now (core_in m) h c)) (call-is m h r)
       ∙ ap (λ (b : Bool). asked (reads_of m) (core_in m) h (hart_in m h) (own_call h (hart_of m.harts h)) b) e
 
   pub made-waiting : is_announced (own_call h (hart_of m.harts h)).number ≡ true → is_ready h now_announced.parts.harts ≡ false →
-      IsMade m now_waiting no_events T.Called (deed m h (Asks (call_of h (hart_in m h))))
+      IsMade m now_waiting no_events T.Called (made_by m h (Asks (call_of h (hart_in m h))))
   made-waiting n e =
       subst (λ d. IsMade m now_waiting no_events T.Called d) (sym (asks-as false (served-if true false n e)))
       (record { core = waiting-core; maps = refl; owners = refl; console = refl; note = refl; kind = refl })
 
   -- served at once, announced or not
   pub made-served : (b c : Bool) → is_announced (own_call h (hart_of m.harts h)).number ≡ b → is_ready h now_announced.parts.harts ≡ c → (not b || c) ≡ true →
-      deed m h (Asks (call_of h (hart_in m h))) ≡ served (reads_of m) (core_in m) h (hart_in m h) (own_call h (hart_of m.harts h))
+      made_by m h (Asks (call_of h (hart_in m h))) ≡ served (reads_of m) (core_in m) h (hart_in m h) (own_call h (hart_of m.harts h))
   made-served b c eb ec t = asks-as true (served-if b c eb ec ∙ t)
 
   -- from the machine in which the call was announced

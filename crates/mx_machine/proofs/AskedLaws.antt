@@ -13,11 +13,11 @@ use Rattle.mx_supervisor.specs.Served.{range_of}
 use Rattle.mx_machine.specs.Actions.{with_kept}
 use Rattle.mx_machine.specs.Harts.{hart_of, own_call}
 use Rattle.mx_machine.specs.Held.{Held}
-use Rattle.mx_machine.specs.Made.{IsMade, core_in, deed, hart_in, reads_of}
+use Rattle.mx_machine.specs.Made.{IsMade, core_in, made_by, hart_in, reads_of}
 use Rattle.mx_machine.specs.Serving.{IsServing}
 use Rattle.mx_machine.specs.Ties.{MayRun}
 use Rattle.mx_machine.proofs.AskLaws.{from-announced, made-served, now_announced, serving-announced, serving-plain}
-use Rattle.mx_machine.proofs.DeedLaws.{kept-there, running-free, running-kept}
+use Rattle.mx_machine.proofs.MadeLaws.{kept-there, running-free, running-kept}
 
 -- what is made is made of equal machines, with equal events, and is an equal thing
 pub made-moved : (m n n' : Held) (e e' : Events) (k : TurnKind) (d d' : Made) → n ≡ n' → e ≡ e' → d ≡ d' → IsMade m n e k d → IsMade m n' e' k d'
@@ -47,7 +47,7 @@ module _ (m s : Held) (h : ℕ) (call : Call) (r : MayRun m h) (own : call ≡ o
       (subst (λ (n : Held). IsServing n h (own_call h (hart_of m.harts h))) (sym now) (serving-announced m h r must' ready'))
 
   pub asked-made : (n : Held) (e : Events) → IsMade s n e T.Called (served (reads_of s) (core_in s) h (hart_in s h) call) →
-      IsMade m n e T.Called (deed m h (Asks (call_of h (hart_in m h))))
+      IsMade m n e T.Called (made_by m h (Asks (call_of h (hart_in m h))))
   asked-made n e i =
       subst (λ (d : Made). IsMade m n e T.Called d) (sym (made-served m h r true true must' ready' refl))
       (from-announced m h r n e
@@ -64,7 +64,7 @@ module _ (m s : Held) (h : ℕ) (call : Call) (r : MayRun m h) (own : call ≡ o
       subst (λ (k : Call). IsServing s h k) (sym own) (subst (λ (n : Held). IsServing n h (own_call h (hart_of m.harts h))) (sym same) (serving-plain m h r plain'))
 
   pub plain-made : (n : Held) (e : Events) → IsMade s n e T.Called (served (reads_of s) (core_in s) h (hart_in s h) call) →
-      IsMade m n e T.Called (deed m h (Asks (call_of h (hart_in m h))))
+      IsMade m n e T.Called (made_by m h (Asks (call_of h (hart_in m h))))
   plain-made n e i =
       subst (λ (d : Made). IsMade m n e T.Called d) (sym (made-served m h r false _ plain' refl refl))
       (subst (λ (t : Held). IsMade t n e T.Called (served (reads_of t) (core_in t) h (hart_in t h) (own_call h (hart_of m.harts h)))) same

@@ -31,10 +31,10 @@ use Rattle.mx_machine.specs.declared.hart.Progress.TheVariants as G
 use Rattle.mx_machine.specs.Actions.{counted, heard}
 use Rattle.mx_machine.specs.Harts.{hart_of, hearers, own_call, status_by}
 use Rattle.mx_machine.specs.Held.{Held, meaning, rest_of}
-use Rattle.mx_machine.specs.Made.{core_in, deed, doing, hart_in, instruction, reads_of}
+use Rattle.mx_machine.specs.Made.{core_in, made_by, made_after_hearing, hart_in, instruction, reads_of}
 use Rattle.mx_machine.specs.AtGate.{IsAtGate, gate_here}
 use Rattle.mx_machine.specs.Ties.{Fits, MayRun}
-use Rattle.mx_machine.proofs.DeedLaws.{here}
+use Rattle.mx_machine.proofs.MadeLaws.{here}
 use Rattle.mx_machine.proofs.HartsAt.{hart-in, length-seen}
 use Rattle.mx_machine.proofs.HearLaws.{core-heard}
 use Rattle.mx_machine.proofs.HomeLaws.{module-dead, modules-beside}
@@ -42,7 +42,7 @@ use Rattle.mx_machine.proofs.InstructLaws.{seen-running}
 
 -- a running hart, in a dead domain or in a live one
 runs-as : (m : Held) (h : ℕ) (b : Bool) → MayRun m h → get_or m.dead (hart_of m.harts h).domain false ≡ b →
-    doing m h ≡ enacted (reads_of m) (core_in m) h (runs_in (reads_of m) (core_in m) h (hart_in m h) b)
+    made_after_hearing m h ≡ enacted (reads_of m) (core_in m) h (runs_in (reads_of m) (core_in m) h (hart_in m h) b)
 runs-as m h b r e =
     let q = reads_of m in
     let c = core_in m in
@@ -52,10 +52,10 @@ runs-as m h b r e =
     ∙ ap (λ (d : Bool). enacted q c h (runs_in q c h s d))
     (ap (λ (y : Seen). (module_at c y.domain).dead) (seen-running m h r) ∙ module-dead m x.domain r.act.fits (here m x.domain r.act.fits r.act.domain) ∙ e)
 
-pub doing-dead : (m : Held) (h pc : ℕ) → MayRun m h → get_or m.dead (hart_of m.harts h).domain false ≡ true → pc ≡ (hart_of m.harts h).pc → doing m h ≡ deed m h (Traps 20 pc)
-doing-dead m h pc r e p =
+pub acts-dead : (m : Held) (h pc : ℕ) → MayRun m h → get_or m.dead (hart_of m.harts h).domain false ≡ true → pc ≡ (hart_of m.harts h).pc → made_after_hearing m h ≡ made_by m h (Traps 20 pc)
+acts-dead m h pc r e p =
     runs-as m h true r e
-    ∙ ap (λ (n : ℕ). deed m h (Traps 20 n)) (ap (λ (y : Seen). y.pc) (seen-running m h r) ∙ sym p)
+    ∙ ap (λ (n : ℕ). made_by m h (Traps 20 n)) (ap (λ (y : Seen). y.pc) (seen-running m h r) ∙ sym p)
 
 -- the gate at its pc, as the machine looks it up
 gate-is : (m : Held) (h d pc : ℕ) (o : Option ℕ) → MayRun m h → d ≡ (hart_of m.harts h).domain → pc ≡ (hart_of m.harts h).pc → gate_here m d pc ≡ o →
@@ -90,18 +90,18 @@ target-domain m d pc t v f e =
     record { first = p.first; last = omega (arith, p.last, length-modules (rest_of m) 1 m.parts.heaps, f.sound.heaps) }
 
 -- no gate, a return gate, and a call gate
-pub doing-plain : (m : Held) (h d pc : ℕ) → MayRun m h → d ≡ (hart_of m.harts h).domain → pc ≡ (hart_of m.harts h).pc → get_or m.dead d false ≡ false → gate_here m d pc ≡ None →
-    (doing m h ≡ instruction m h) × (false ≡ is_return_at (core_in m) (hart_in m h).domain (hart_in m h).pc)
-doing-plain m h d pc r ed ep alive e =
+pub acts-plain : (m : Held) (h d pc : ℕ) → MayRun m h → d ≡ (hart_of m.harts h).domain → pc ≡ (hart_of m.harts h).pc → get_or m.dead d false ≡ false → gate_here m d pc ≡ None →
+    (made_after_hearing m h ≡ instruction m h) × (false ≡ is_return_at (core_in m) (hart_in m h).domain (hart_in m h).pc)
+acts-plain m h d pc r ed ep alive e =
     let g = at-no-gate (core_in m) (hart_in m h).domain (hart_in m h).pc (gate-is m h d pc None r ed ep e) in (
       runs-as m h false r (ap (λ n. get_or m.dead n false) (sym ed) ∙ alive)
           ∙ ap (λ (o : Option ℕ). enacted (reads_of m) (core_in m) h (runs_at (reads_of m) (core_in m) h (hart_in m h) o)) g.0,
       sym g.1,
     )
 
-pub doing-return : (m : Held) (h t : ℕ) → IsAtGate m h t → t ≡ (hart_of m.harts h).domain →
-    (doing m h ≡ instruction m h) × (true ≡ is_return_at (core_in m) (hart_in m h).domain (hart_in m h).pc)
-doing-return m h t a own =
+pub acts-return : (m : Held) (h t : ℕ) → IsAtGate m h t → t ≡ (hart_of m.harts h).domain →
+    (made_after_hearing m h ≡ instruction m h) × (true ≡ is_return_at (core_in m) (hart_in m h).domain (hart_in m h).pc)
+acts-return m h t a own =
     let x = hart_of m.harts h in
     let own' : t ≡ (hart_in m h).domain = own ∙ sym (ap (λ (y : Seen). y.domain) (seen-running m h a.run)) in
     let g = at-return-gate (core_in m) (hart_in m h).domain (hart_in m h).pc t (gate-is m h x.domain x.pc (Some t) a.run refl refl a.gate) own' in (
@@ -119,8 +119,8 @@ at-gate-looks c s t =
       | false ↦ refl
     ]
 
-pub doing-gate : (m : Held) (h t : ℕ) → IsAtGate m h t → t ≢ (hart_of m.harts h).domain → doing m h ≡ deed m h (at_gate (core_in m) (hart_in m h) t).action
-doing-gate m h t a other =
+pub acts-gate : (m : Held) (h t : ℕ) → IsAtGate m h t → t ≢ (hart_of m.harts h).domain → made_after_hearing m h ≡ made_by m h (at_gate (core_in m) (hart_in m h) t).action
+acts-gate m h t a other =
     let s = hart_in m h in
     let x = hart_of m.harts h in
     let other' : t ≢ s.domain = λ q. other (q ∙ ap (λ (y : Seen). y.domain) (seen-running m h a.run)) in
@@ -148,25 +148,25 @@ gate-by m h t a b f r dom ea eb ef =
     ∙ ap (λ (z : Bool). (cond (not a) one (cond b two (cond z three four))).action) (ap (λ (y : Seen). nat_le most_frames (length y.frames)) (seen-running m h r) ∙ ef)
 
 pub gate-crooked : (m : Held) (h t link : ℕ) → MayRun m h → IsDomain m.parts.maps t → link ≡ reg (hart_of m.harts h).regs 1 → (link % 4 == 0) ≡ false →
-    deed m h (at_gate (core_in m) (hart_in m h) t).action ≡ deed m h (Traps 19 link)
+    made_by m h (at_gate (core_in m) (hart_in m h) t).action ≡ made_by m h (Traps 19 link)
 gate-crooked m h t link r dom el e =
-    ap (deed m h) (gate-by m h t false _ _ r dom (ap (λ n. n % 4 == 0) (sym el) ∙ e) refl refl)
-    ∙ ap (λ n. deed m h (Traps 19 n)) (ap (λ (y : Seen). reg y.regs 1) (seen-running m h r) ∙ sym el)
+    ap (made_by m h) (gate-by m h t false _ _ r dom (ap (λ n. n % 4 == 0) (sym el) ∙ e) refl refl)
+    ∙ ap (λ n. made_by m h (Traps 19 n)) (ap (λ (y : Seen). reg y.regs 1) (seen-running m h r) ∙ sym el)
 
 pub gate-bounces : (m : Held) (h t link : ℕ) → MayRun m h → IsDomain m.parts.maps t → link ≡ reg (hart_of m.harts h).regs 1 → (link % 4 == 0) ≡ true → get_or m.dead t false ≡ true →
-    deed m h (at_gate (core_in m) (hart_in m h) t).action ≡ deed m h Bounces
-gate-bounces m h t link r dom el e d = ap (deed m h) (gate-by m h t true true _ r dom (ap (λ n. n % 4 == 0) (sym el) ∙ e) d refl)
+    made_by m h (at_gate (core_in m) (hart_in m h) t).action ≡ made_by m h Bounces
+gate-bounces m h t link r dom el e d = ap (made_by m h) (gate-by m h t true true _ r dom (ap (λ n. n % 4 == 0) (sym el) ∙ e) d refl)
 
 pub gate-full : (m : Held) (h t link pc : ℕ) → MayRun m h → IsDomain m.parts.maps t → link ≡ reg (hart_of m.harts h).regs 1 → (link % 4 == 0) ≡ true → get_or m.dead t false ≡ false →
     nat_le most_frames (length (hart_of m.harts h).frames) ≡ true → pc ≡ (hart_of m.harts h).pc →
-    deed m h (at_gate (core_in m) (hart_in m h) t).action ≡ deed m h (Traps 16 pc)
+    made_by m h (at_gate (core_in m) (hart_in m h) t).action ≡ made_by m h (Traps 16 pc)
 gate-full m h t link pc r dom el e d f ep =
-    ap (deed m h) (gate-by m h t true false true r dom (ap (λ n. n % 4 == 0) (sym el) ∙ e) d f)
-    ∙ ap (λ n. deed m h (Traps 16 n)) (ap (λ (y : Seen). y.pc) (seen-running m h r) ∙ sym ep)
+    ap (made_by m h) (gate-by m h t true false true r dom (ap (λ n. n % 4 == 0) (sym el) ∙ e) d f)
+    ∙ ap (λ n. made_by m h (Traps 16 n)) (ap (λ (y : Seen). y.pc) (seen-running m h r) ∙ sym ep)
 
 pub gate-crosses : (m : Held) (h t link : ℕ) → MayRun m h → IsDomain m.parts.maps t → link ≡ reg (hart_of m.harts h).regs 1 → (link % 4 == 0) ≡ true → get_or m.dead t false ≡ false →
-    nat_le most_frames (length (hart_of m.harts h).frames) ≡ false → deed m h (at_gate (core_in m) (hart_in m h) t).action ≡ deed m h (Crosses t)
-gate-crosses m h t link r dom el e d f = ap (deed m h) (gate-by m h t true false false r dom (ap (λ n. n % 4 == 0) (sym el) ∙ e) d f)
+    nat_le most_frames (length (hart_of m.harts h).frames) ≡ false → made_by m h (at_gate (core_in m) (hart_in m h) t).action ≡ made_by m h (Crosses t)
+gate-crosses m h t link r dom el e d f = ap (made_by m h) (gate-by m h t true false false r dom (ap (λ n. n % 4 == 0) (sym el) ∙ e) d f)
 
 -- a waiting hart
 seen-waiting : (m : Held) (h : ℕ) → (hart_of m.harts h).progress ≡ G.Waiting →
@@ -175,11 +175,11 @@ seen-waiting m h w =
     let x = hart_of m.harts h in
     ap (λ (s : Seen). s.status) (hart-in m h) ∙ ap (λ (p : Progress). status_by (own_call h x) (kept_at m.parts.harts h).flight p) w
 
-pub doing-waiting : (m : Held) (h : ℕ) (b : Bool) → (hart_of m.harts h).progress ≡ G.Waiting → is_ready (core_in m) h (hearers (kept_at m.parts.harts h).flight) ≡ b →
-    doing m h ≡ deed m h (if b then Serves (own_call h (hart_of m.harts h)) else Waits)
-doing-waiting m h b w e =
+pub acts-waiting : (m : Held) (h : ℕ) (b : Bool) → (hart_of m.harts h).progress ≡ G.Waiting → is_ready (core_in m) h (hearers (kept_at m.parts.harts h).flight) ≡ b →
+    made_after_hearing m h ≡ made_by m h (if b then Serves (own_call h (hart_of m.harts h)) else Waits)
+acts-waiting m h b w e =
     ap (λ (t : Status). enacted (reads_of m) (core_in m) h (by_status (reads_of m) (core_in m) h (hart_in m h) t)) (seen-waiting m h w)
-    ∙ ap (λ (z : Bool). deed m h (if z then Serves (own_call h (hart_of m.harts h)) else Waits)) e
+    ∙ ap (λ (z : Bool). made_by m h (if z then Serves (own_call h (hart_of m.harts h)) else Waits)) e
 
 -- the turn is counted
 pub core-counted : (m : Held) → core_in (counted m) ≡ counted_in (core_in m)
@@ -210,16 +210,16 @@ halted-by call m h p e w q =
     ∙ ap (λ (g : Progress). is_halted_in (status_by (own_call h (hart_of m.harts h)) (kept_at m.parts.harts h).flight g)) w
     ∙ ap (λ (c : Call). is_halted_in (status_by c (kept_at m.parts.harts h).flight p)) (sym q) ∙ e
 
-heard-turn : (m : Held) (h : ℕ) → Fits m → h < length m.harts → is_halted_in (hart_in m h).status ≡ false → flat_made (meaning m) h ≡ doing (heard h (counted m)) h
+heard-turn : (m : Held) (h : ℕ) → Fits m → h < length m.harts → is_halted_in (hart_in m h).status ≡ false → flat_made (meaning m) h ≡ made_after_hearing (heard h (counted m)) h
 heard-turn m h f l e =
     awake (reads_of m) (core_in m) h e
     ∙ sym (ap (λ (c : Core). enacted (reads_of m) c h (decide (reads_of m) c h))
     (core-heard (counted m) h (fits-counted m f) l ∙ ap (hears h) (core-counted m)))
 
-pub turn-running : (m : Held) (h : ℕ) → Fits m → h < length m.harts → (hart_of m.harts h).progress ≡ G.Running → flat_made (meaning m) h ≡ doing (heard h (counted m)) h
+pub turn-running : (m : Held) (h : ℕ) → Fits m → h < length m.harts → (hart_of m.harts h).progress ≡ G.Running → flat_made (meaning m) h ≡ made_after_hearing (heard h (counted m)) h
 turn-running m h f l w = heard-turn m h f l (halted-by (own_call h (hart_of m.harts h)) m h G.Running refl w refl)
 
-pub turn-waiting : (m : Held) (h : ℕ) → Fits m → h < length m.harts → (hart_of m.harts h).progress ≡ G.Waiting → flat_made (meaning m) h ≡ doing (heard h (counted m)) h
+pub turn-waiting : (m : Held) (h : ℕ) → Fits m → h < length m.harts → (hart_of m.harts h).progress ≡ G.Waiting → flat_made (meaning m) h ≡ made_after_hearing (heard h (counted m)) h
 turn-waiting m h f l w = heard-turn m h f l (halted-by (own_call h (hart_of m.harts h)) m h G.Waiting refl w refl)
 
 pub turn-halted : (m : Held) (h : ℕ) (code : Option ℕ) → (hart_of m.harts h).progress ≡ G.Halted code → flat_made (meaning m) h ≡ made T.Idle (counted_in (core_in m))

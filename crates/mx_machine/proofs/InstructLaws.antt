@@ -31,11 +31,11 @@ use Rattle.mx_machine.specs.declared.hart.Progress.{Progress}
 use Rattle.mx_machine.specs.Actions.{after_instruction, effect_for, outcome_for, perm_for}
 use Rattle.mx_machine.specs.Harts.{no_hart, hart_of, is_waiting, own_call, seen, seen_with, status_by}
 use Rattle.mx_machine.specs.Held.{Held, rest_of}
-use Rattle.mx_machine.specs.Made.{IsMade, core_in, deed, hart_in, instruction, reads_of}
+use Rattle.mx_machine.specs.Made.{IsMade, core_in, made_by, hart_in, instruction, reads_of}
 use Rattle.mx_machine.specs.Steps.{instructed, pc_after}
 use Rattle.mx_machine.specs.Ties.{Fits, FliesWhileWaiting, MayRun}
 use Rattle.mx_machine.proofs.CoreLaws.{core-step}
-use Rattle.mx_machine.proofs.DeedLaws.{kept-there, running-free}
+use Rattle.mx_machine.proofs.MadeLaws.{kept-there, running-free}
 use Rattle.mx_machine.proofs.FitLaws.{IsChange, fits-change}
 use Rattle.mx_machine.proofs.HartsAt.{hart-in}
 use Rattle.mx_machine.proofs.HearLaws.{bars-alike}
@@ -215,7 +215,7 @@ module _ (m : Held) (h : ℕ) (returns : Bool) (r : MayRun m h) (whole : length 
       ∙ ap (λ (hs : List Seen). record behind_looks { harts = hs }) (set-get_or (core_in m).harts h nobody_seen)
 
   pub made-stopped : (regs : List ℕ) → Stops (outcome_for m h returns) →
-      instruction m h ≡ deed (after_instruction h returns m) h (action_of h (hart_in (after_instruction h returns m) h) regs (outcome_for m h returns))
+      instruction m h ≡ made_by (after_instruction h returns m) h (action_of h (hart_in (after_instruction h returns m) h) regs (outcome_for m h returns))
   made-stopped regs st =
       let n = after_instruction h returns m in
       let o = outcome_for m h returns in
@@ -228,10 +228,10 @@ module _ (m : Held) (h : ℕ) (returns : Bool) (r : MayRun m h) (whole : length 
 
   -- what is made after it stopped is what the instruction makes
   pub from-instruction : (new : Held) (events : Events) (answer : TurnKind) (o : Outcome) → outcome_for m h returns ≡ o → Stops o →
-      IsMade (after_instruction h returns m) new events answer (deed (after_instruction h returns m) h (action_of h (hart_in (after_instruction h returns m) h) [] o)) →
+      IsMade (after_instruction h returns m) new events answer (made_by (after_instruction h returns m) h (action_of h (hart_in (after_instruction h returns m) h) [] o)) →
       IsMade m new events answer (instruction m h)
   from-instruction new events answer o e st i =
       let n = after_instruction h returns m in
-      let is = made-stopped [] (subst (λ (p : Outcome). Stops p) (sym e) st) ∙ ap (λ (p : Outcome). deed n h (action_of h (hart_in n h) [] p)) e in
+      let is = made-stopped [] (subst (λ (p : Outcome). Stops p) (sym e) st) ∙ ap (λ (p : Outcome). made_by n h (action_of h (hart_in n h) [] p)) e in
       subst (λ d. IsMade m new events answer d) (sym is)
       (record { core = i.core; maps = i.maps; owners = i.owners; console = i.console; note = i.note; kind = i.kind })

@@ -10,7 +10,7 @@ pub mod TouchLaws
 pub mod HomeLaws
 pub mod CoreLaws
 pub mod FitLaws
-pub mod DeedLaws
+pub mod MadeLaws
 pub mod LookLaws
 pub mod InstructLaws
 pub mod ServeLaws

@@ -17,7 +17,7 @@ use Rattle.mx_machine.specs.declared.hart.Progress.TheVariants as G
 use Rattle.mx_machine.specs.Actions.{counted, heard}
 use Rattle.mx_machine.specs.Harts.{hart_of, is_halted, is_waiting, own_call}
 use Rattle.mx_machine.specs.Held.{Held, meaning, rest_of}
-use Rattle.mx_machine.specs.Made.{IsMade, core_in, doing}
+use Rattle.mx_machine.specs.Made.{IsMade, core_in, made_after_hearing}
 use Rattle.mx_machine.specs.Ties.{Fits, FliesWhileWaiting, IsWhole, MayAct}
 use Rattle.mx_machine.proofs.CaseLaws.{core-counted, fits-counted, turn-halted, valid-counted, valid-heard}
 use Rattle.mx_machine.proofs.HartsAt.{hart-in, length-seen}
@@ -98,9 +98,9 @@ module _ (m : Held) (h : ℕ) (w : IsWhole m) (p : Progress) (at : (hart_of m.ha
     stands-now = ap (λ (n : Held). (hart_of n.harts h).progress) is ∙ at
 
     -- what it makes then is what the turn makes
-    pub made-now : (new : Held) (events : Events) (answer : TurnKind) → flat_made (meaning m) h ≡ doing (heard h (counted m)) h →
-        IsMade old new events answer (doing old h) → IsMade m new events answer (flat_made (meaning m) h)
+    pub made-now : (new : Held) (events : Events) (answer : TurnKind) → flat_made (meaning m) h ≡ made_after_hearing (heard h (counted m)) h →
+        IsMade old new events answer (made_after_hearing old h) → IsMade m new events answer (flat_made (meaning m) h)
     made-now new events answer turn i =
-        let j = subst (λ (n : Held). IsMade n new events answer (doing n h)) is i in
+        let j = subst (λ (n : Held). IsMade n new events answer (made_after_hearing n h)) is i in
         subst (λ d. IsMade m new events answer d) (sym turn)
         (record { core = j.core; maps = j.maps; owners = j.owners; console = j.console; note = j.note; kind = j.kind })

@@ -16,15 +16,15 @@ use Rattle.mx_machine.specs.declared.hart.Progress.{Progress}
 use Rattle.mx_machine.specs.declared.hart.Progress.TheVariants as G
 use Rattle.mx_machine.specs.Harts.{no_hart, hart_of, hearers, is_waiting, own_call, status_by}
 use Rattle.mx_machine.specs.Held.{Held}
-use Rattle.mx_machine.specs.Made.{IsMade, core_in, doing, hart_in, reads_of}
+use Rattle.mx_machine.specs.Made.{IsMade, core_in, made_after_hearing, hart_in, reads_of}
 use Rattle.mx_machine.specs.Ties.{Fits, MayAct}
-use Rattle.mx_machine.proofs.CaseLaws.{doing-waiting}
+use Rattle.mx_machine.proofs.CaseLaws.{acts-waiting}
 use Rattle.mx_machine.proofs.HartsAt.{hart-in, length-seen}
 use Rattle.mx_machine.proofs.HearLaws.{ready-alike}
 
-pub made-waits : (m : Held) (h : ℕ) → MayAct m h → (hart_of m.harts h).progress ≡ G.Waiting → is_ready h m.parts.harts ≡ false → IsMade m m no_events T.Waited (doing m h)
+pub made-waits : (m : Held) (h : ℕ) → MayAct m h → (hart_of m.harts h).progress ≡ G.Waiting → is_ready h m.parts.harts ≡ false → IsMade m m no_events T.Waited (made_after_hearing m h)
 made-waits m h a w e =
-    subst (λ d. IsMade m m no_events T.Waited d) (sym (doing-waiting m h false w (ready-alike m h a.fits a.there w ∙ e)))
+    subst (λ d. IsMade m m no_events T.Waited d) (sym (acts-waiting m h false w (ready-alike m h a.fits a.there w ∙ e)))
     (record { core = refl; maps = refl; owners = refl; console = refl; note = refl; kind = refl })
 
 -- a waiting hart of a valid state waits on an announced call
@@ -58,7 +58,7 @@ fits-settled n f = record {
 
 pub made-settled : (m n : Held) (h : ℕ) (w : Bool) (events : Events) → MayAct m h → (hart_of m.harts h).progress ≡ G.Waiting → is_ready h m.parts.harts ≡ true →
     IsMade m n events T.Called (served (reads_of m) (core_in m) h (hart_in m h) (own_call h (hart_of m.harts h))) →
-    IsMade m (record n { waiting = w }) events T.Called (doing m h)
+    IsMade m (record n { waiting = w }) events T.Called (made_after_hearing m h)
 made-settled m n h w events a p e i =
-    subst (λ d. IsMade m (record n { waiting = w }) events T.Called d) (sym (doing-waiting m h true p (ready-alike m h a.fits a.there p ∙ e)))
+    subst (λ d. IsMade m (record n { waiting = w }) events T.Called d) (sym (acts-waiting m h true p (ready-alike m h a.fits a.there p ∙ e)))
     (record { core = i.core; maps = i.maps; owners = i.owners; console = i.console; note = i.note; kind = i.kind })

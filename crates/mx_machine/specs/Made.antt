@@ -28,8 +28,8 @@ abbrev pub hart_in : Held → ℕ → Hart
 hart_in m h = hart_at (core_in m) h
 
 -- what an action of hart h makes of a machine
-abbrev pub deed : Held → ℕ → Action → Made
-deed m h action = acted (reads_of m) (core_in m) h (hart_in m h) action
+abbrev pub made_by : Held → ℕ → Action → Made
+made_by m h action = acted (reads_of m) (core_in m) h (hart_in m h) action
 
 -- what an instruction of hart h makes, where no call gate stands at its pc
 abbrev pub instruction : Held → ℕ → Made
@@ -37,5 +37,5 @@ instruction m h =
     enacted (reads_of m) (core_in m) h (runs_at (reads_of m) (core_in m) h (hart_in m h) None)
 
 -- what hart h makes that has heard the others' calls
-abbrev pub doing : Held → ℕ → Made
-doing m h = enacted (reads_of m) (core_in m) h (decide (reads_of m) (core_in m) h)
+abbrev pub made_after_hearing : Held → ℕ → Made
+made_after_hearing m h = enacted (reads_of m) (core_in m) h (decide (reads_of m) (core_in m) h)

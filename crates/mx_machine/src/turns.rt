@@ -10,7 +10,7 @@ ghost use Rattle.mx_machine.specs.AtGate.{IsAtGate};
 ghost use Rattle.mx_machine.specs.Goings.{kind_of};
 ghost use Rattle.mx_machine.specs.Harts.{hart_of};
 ghost use Rattle.mx_machine.specs.Held.{meaning};
-ghost use Rattle.mx_machine.specs.Made.{IsMade, core_in, hart_in, reads_of, deed, instruction, doing};
+ghost use Rattle.mx_machine.specs.Made.{IsMade, core_in, hart_in, reads_of, made_by, instruction, made_after_hearing};
 ghost use Rattle.mx_machine.specs.Serving.{IsServing};
 ghost use Rattle.mx_machine.specs.Ties.{Fits, IsWhole, MayAct, MayRun};
 ghost use Rattle.mx_machine.specs.declared.hart.Progress.TheVariants as G;
@@ -91,7 +91,7 @@ impl<T: PermTables, const N: usize> Bare<T, N> {
         requires act { MayAct self.old hart }
         requires waits { (hart_of self.old.harts hart).progress ≡ G.Waiting }
         requires empty { out.old ≡ no_events }
-        ensures made { IsMade self.old self.new out.new result (doing self.old hart) }
+        ensures made { IsMade self.old self.new out.new result (made_after_hearing self.old hart) }
         ensures fits { Fits self.new }
     {
         if !self.bus.supervisor.checker.ready(hart) {
@@ -108,7 +108,7 @@ impl<T: PermTables, const N: usize> Bare<T, N> {
         requires valid { IsValid (meaning self.old).core }
         requires run { MayRun self.old hart }
         requires empty { out.old ≡ no_events }
-        ensures made { IsMade self.old self.new out.new result (doing self.old hart) }
+        ensures made { IsMade self.old self.new out.new result (made_after_hearing self.old hart) }
         ensures fits { Fits self.new }
     {
         let domain = self.harts.domain(hart);
@@ -127,7 +127,7 @@ impl<T: PermTables, const N: usize> Bare<T, N> {
         requires valid { IsValid (meaning self.old).core }
         requires at { IsAtGate self.old hart target }
         requires empty { out.old ≡ no_events }
-        ensures made { IsMade self.old self.new out.new result (doing self.old hart) }
+        ensures made { IsMade self.old self.new out.new result (made_after_hearing self.old hart) }
         ensures fits { Fits self.new }
     {
         let domain = self.harts.domain(hart);
@@ -144,7 +144,7 @@ impl<T: PermTables, const N: usize> Bare<T, N> {
         requires run { MayRun self.old hart }
         requires target { IsDomain self.old.parts.maps target }
         requires empty { out.old ≡ no_events }
-        ensures made { IsMade self.old self.new out.new result (deed self.old hart
+        ensures made { IsMade self.old self.new out.new result (made_by self.old hart
             (at_gate (core_in self.old) (hart_in self.old hart) target).action) }
         ensures fits { Fits self.new }
     {
@@ -193,7 +193,7 @@ impl<T: PermTables, const N: usize> Bare<T, N> {
         requires cause { cause < 256 }
         requires empty { out.old ≡ no_events }
         ensures made { IsMade self.old self.new out.new result
-            (deed self.old hart (Traps cause value)) }
+            (made_by self.old hart (Traps cause value)) }
         ensures fits { Fits self.new }
     {
         let domain = self.harts.domain(hart);
@@ -210,7 +210,7 @@ impl<T: PermTables, const N: usize> Bare<T, N> {
         requires rd { rd < 32 }
         requires empty { out.old ≡ no_events }
         ensures made { IsMade self.old self.new out.new result
-            (deed self.old hart (at_return (hart_in self.old hart) rd target)) }
+            (made_by self.old hart (at_return (hart_in self.old hart) rd target)) }
         ensures fits { Fits self.new }
     {
         match self.harts.back(hart) {
@@ -231,7 +231,7 @@ impl<T: PermTables, const N: usize> Bare<T, N> {
         requires run { MayRun self.old hart }
         requires empty { out.old ≡ no_events }
         ensures made { IsMade self.old self.new out.new result
-            (deed self.old hart (Asks (call_of hart (hart_in self.old hart)))) }
+            (made_by self.old hart (Asks (call_of hart (hart_in self.old hart)))) }
         ensures fits { Fits self.new }
     {
         let call = self.harts.call(hart);

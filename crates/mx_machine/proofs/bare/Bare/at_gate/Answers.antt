@@ -3,7 +3,7 @@ use Rattle.mx_machine.specs.Goings.{kind_of}
 use Rattle.mx_machine.specs.Harts.{hart_of}
 use Rattle.mx_machine.specs.Held.{Held}
 use Rattle.mx_machine.specs.Made.{IsMade}
-use Rattle.mx_machine.proofs.CaseLaws.{doing-gate, doing-return, target-domain}
+use Rattle.mx_machine.proofs.CaseLaws.{acts-gate, acts-return, target-domain}
 use Rattle.mx_machine.proofs.bare.Bare.at_gate.Goals as goal
 
 pub execute-requires : goal.execute-requires
@@ -12,14 +12,14 @@ execute-requires g c =
     let h = c.args.hart in
     let at = c.requires.at in
     let d = c.domain-domain.ensures ∙ ap (λ (k : Held). (hart_of k.harts h).domain) c.self.view_is in
-    (assumption c, (c.requires.valid, (at.run, ((doing-return m h c.args.target at (c.if-target-domain.true ∙ d)).1, c.requires.empty))))
+    (assumption c, (c.requires.valid, (at.run, ((acts-return m h c.args.target at (c.if-target-domain.true ∙ d)).1, c.requires.empty))))
 
 pub returns-then-target-domain : goal.returns-then-target-domain
 returns-then-target-domain g c =
     let m = c.args.self.now in
     let h = c.args.hart in
     let d = c.domain-domain.ensures ∙ ap (λ (k : Held). (hart_of k.harts h).domain) c.self.view_is in
-    let back = doing-return m h c.args.target c.requires.at (c.if-target-domain.true ∙ d) in
+    let back = acts-return m h c.args.target c.requires.at (c.if-target-domain.true ∙ d) in
     record {
       made = rw c.kind.ensures (subst (λ e. IsMade m c.execute.new.self c.execute.new.out (kind_of c.execute.result) e) (sym back.0) c.execute.ensures.made);
       fits = c.execute.ensures.fits;
@@ -37,7 +37,7 @@ returns-else-target-domain g c =
     let m = c.args.self.now in
     let h = c.args.hart in
     let d = c.domain-domain.ensures ∙ ap (λ (k : Held). (hart_of k.harts h).domain) c.self.view_is in
-    let gate = doing-gate m h c.args.target c.requires.at (λ e. c.if-target-domain.false (e ∙ sym d)) in
+    let gate = acts-gate m h c.args.target c.requires.at (λ e. c.if-target-domain.false (e ∙ sym d)) in
     record {
       made = subst (λ e. IsMade m c.pass.new.self c.pass.new.out c.pass.result e) (sym gate) c.pass.ensures.made;
       fits = c.pass.ensures.fits;

@@ -3,7 +3,7 @@ use Rattle.mx_core.specs.declared.outcome.Outcome.{Outcome}
 use Rattle.mx_core.specs.declared.outcome.Outcome.TheVariants as O
 use Rattle.mx_core.specs.Exec.{HasCause}
 use Rattle.mx_machine.specs.Harts.{hart_of}
-use Rattle.mx_machine.proofs.DeedLaws.{may-look}
+use Rattle.mx_machine.proofs.MadeLaws.{may-look}
 use Rattle.mx_machine.proofs.InstructLaws.{fits-instruction, from-instruction, made-next, runs-instruction}
 use Rattle.mx_machine.proofs.MayLaws.{aligned-pc}
 use Rattle.mx_machine.proofs.bare.Bare.execute.Goals as goal

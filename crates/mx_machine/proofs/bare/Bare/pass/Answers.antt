@@ -10,7 +10,7 @@ use Rattle.mx_machine.specs.Steps.{goes}
 use Rattle.mx_machine.specs.Ties.{Fits}
 use Rattle.mx_machine.proofs.AskedLaws.{made-moved}
 use Rattle.mx_machine.proofs.CaseLaws.{gate-bounces, gate-crooked, gate-crosses, gate-full}
-use Rattle.mx_machine.proofs.DeedLaws.{fits-bounce, fits-cross, here, kept-there, made-bounce, made-cross}
+use Rattle.mx_machine.proofs.MadeLaws.{fits-bounce, fits-cross, here, kept-there, made-bounce, made-cross}
 use Rattle.mx_machine.proofs.PassLaws.{area-inside, full, room}
 use Rattle.mx_machine.proofs.bare.Bare.pass.Goals as goal
 

@@ -3,7 +3,7 @@ use Rattle.mx_machine.specs.Goings.{kind_of}
 use Rattle.mx_machine.specs.Harts.{hart_of}
 use Rattle.mx_machine.specs.Held.{Held}
 use Rattle.mx_machine.specs.Made.{IsMade}
-use Rattle.mx_machine.proofs.CaseLaws.{at-gate-here, doing-dead, doing-plain}
+use Rattle.mx_machine.proofs.CaseLaws.{at-gate-here, acts-dead, acts-plain}
 use Rattle.mx_machine.proofs.bare.Bare.run.Goals as goal
 
 pub gate-requires : goal.gate-requires
@@ -19,7 +19,7 @@ execute-requires g c =
     let d = c.domain-domain.ensures ∙ ap (λ (m : Held). (hart_of m.harts h).domain) c.self.view_is in
     let p = c.pc-pc.ensures ∙ ap (λ (m : Held). (hart_of m.harts h).pc) c.self.view_is in
     let alive = sym c.is_dead.ensures ∙ c.if-is_dead.false in
-    let plain = doing-plain m h c.domain-domain.result c.pc-pc.result c.requires.run d p alive (sym c.in-None.ensures) in
+    let plain = acts-plain m h c.domain-domain.result c.pc-pc.result c.requires.run d p alive (sym c.in-None.ensures) in
     (assumption c, (c.requires.valid, (c.requires.run, (plain.1, c.requires.empty))))
 
 pub returns-in-None : goal.returns-in-None
@@ -29,7 +29,7 @@ returns-in-None g c =
     let d = c.domain-domain.ensures ∙ ap (λ (m : Held). (hart_of m.harts h).domain) c.self.view_is in
     let p = c.pc-pc.ensures ∙ ap (λ (m : Held). (hart_of m.harts h).pc) c.self.view_is in
     let alive = sym c.is_dead.ensures ∙ c.if-is_dead.false in
-    let plain = doing-plain m h c.domain-domain.result c.pc-pc.result c.requires.run d p alive (sym c.in-None.ensures) in
+    let plain = acts-plain m h c.domain-domain.result c.pc-pc.result c.requires.run d p alive (sym c.in-None.ensures) in
     record {
       made = rw c.kind.ensures (subst (λ e. IsMade m c.execute.new.self c.execute.new.out (kind_of c.execute.result) e) (sym plain.0) c.execute.ensures.made);
       fits = c.execute.ensures.fits;
@@ -43,7 +43,7 @@ returns-then-is_dead g c =
     let p = c.pc-pc.ensures ∙ ap (λ (m : Held). (hart_of m.harts h).pc) c.self.view_is in
     let dead = ap (λ (n : ℕ). get_or m.dead n false) (sym d) ∙ sym c.is_dead.ensures ∙ c.if-is_dead.true in
     record {
-      made = subst (λ e. IsMade m c.trap.new.self c.trap.new.out c.trap.result e) (sym (doing-dead m h c.pc-pc.result c.requires.run dead p)) c.trap.ensures.made;
+      made = subst (λ e. IsMade m c.trap.new.self c.trap.new.out c.trap.result e) (sym (acts-dead m h c.pc-pc.result c.requires.run dead p)) c.trap.ensures.made;
       fits = c.trap.ensures.fits;
     }
 

@@ -5,7 +5,7 @@ use Rattle.mx_model.specs.Events.{Events}
 use Rattle.mx_machine.specs.Actions.{fallen, killed}
 use Rattle.mx_machine.specs.Harts.{hart_of}
 use Rattle.mx_machine.specs.Held.{Held}
-use Rattle.mx_machine.proofs.DeedLaws.{fits-trap, kept-there, made-trap, running-free}
+use Rattle.mx_machine.proofs.MadeLaws.{fits-trap, kept-there, made-trap, running-free}
 use Rattle.mx_machine.proofs.bare.Bare.trap.Goals as goal
 
 pub fall-requires : goal.fall-requires

@@ -6,7 +6,7 @@ use Rattle.mx_machine.specs.Harts.{hart_of}
 use Rattle.mx_machine.specs.Held.{Held}
 use Rattle.mx_machine.specs.Made.{IsMade}
 use Rattle.mx_machine.specs.Ties.{MayRun, RunsAlive}
-use Rattle.mx_machine.proofs.CaseLaws.{at-gate-here, doing-plain, turn-running}
+use Rattle.mx_machine.proofs.CaseLaws.{at-gate-here, acts-plain, turn-running}
 use Rattle.mx_machine.proofs.MayLaws.{acts-now, hart-there, made-now, may-hear, stands-now, valid-now}
 use Rattle.mx_machine.proofs.StretchLaws.{alive-instruction, alive-now}
 use Rattle.mx_machine.proofs.bare.Bare.turn_on.Goals as goal
@@ -68,7 +68,7 @@ execute-requires g c =
     let p : c.pc-pc.result ≡ (hart_of n.harts h).pc = c.pc-pc.ensures ∙ ap (λ (k : Held). (hart_of k.harts h).pc) c.self-2.view_is in
     let live = alive-now m n h c.requires.alive is in
     let alive : get_or n.dead c.domain-domain.result false ≡ false = ap (λ x. get_or n.dead x false) d ∙ live in
-    let plain = doing-plain n h c.domain-domain.result c.pc-pc.result run d p alive (sym c.in-None.ensures) in
+    let plain = acts-plain n h c.domain-domain.result c.pc-pc.result run d p alive (sym c.in-None.ensures) in
     (assumption c, (valid-now m h w G.Running at refl n is, (run, (plain.1, c.requires.empty))))
 
 pub returns-in-None : goal.returns-in-None
@@ -84,7 +84,7 @@ returns-in-None g c =
     let p : c.pc-pc.result ≡ (hart_of n.harts h).pc = c.pc-pc.ensures ∙ ap (λ (k : Held). (hart_of k.harts h).pc) c.self-2.view_is in
     let live = alive-now m n h c.requires.alive is in
     let alive : get_or n.dead c.domain-domain.result false ≡ false = ap (λ x. get_or n.dead x false) d ∙ live in
-    let plain = doing-plain n h c.domain-domain.result c.pc-pc.result run d p alive (sym c.in-None.ensures) in
+    let plain = acts-plain n h c.domain-domain.result c.pc-pc.result run d p alive (sym c.in-None.ensures) in
     record {
       made = made-now m h w G.Running at refl n is c.execute.new.self c.execute.new.out (kind_of c.execute.result)
           (turn-running m h w.fits (hart-there m h w G.Running at refl) at)

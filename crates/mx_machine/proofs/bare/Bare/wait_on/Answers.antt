@@ -8,12 +8,12 @@ use Rattle.mx_model.specs.Turn.{served}
 use Rattle.mx_machine.specs.declared.hart.Hart.{Hart}
 use Rattle.mx_machine.specs.Harts.{hart_of, is_waiting, own_call}
 use Rattle.mx_machine.specs.Held.{Held}
-use Rattle.mx_machine.specs.Made.{IsMade, core_in, doing, hart_in, reads_of}
+use Rattle.mx_machine.specs.Made.{IsMade, core_in, made_after_hearing, hart_in, reads_of}
 use Rattle.mx_machine.specs.Serving.{IsServing}
 use Rattle.mx_machine.specs.Ties.{Fits}
 use Rattle.mx_machine.proofs.AskLaws.{serving-waiting}
 use Rattle.mx_machine.proofs.AskedLaws.{made-moved}
-use Rattle.mx_machine.proofs.DeedLaws.{kept-there}
+use Rattle.mx_machine.proofs.MadeLaws.{kept-there}
 use Rattle.mx_machine.proofs.WaitLaws.{fits-settled, made-settled, made-waits, waiting-announced}
 use Rattle.mx_machine.proofs.bare.Bare.wait_on.Goals as goal
 
@@ -27,7 +27,7 @@ returns-then-not-ready-clause-made g c =
     let h = c.args.hart in
     let late : is_ready h m.parts.harts ≡ false =
     ap (λ (n : Held). is_ready h n.parts.harts) (sym c.self.view_is) ∙ sym c.ready.ensures.ready ∙ c.if-not-ready.true in
-    subst (λ (e : Events). IsMade m m e T.Waited (doing m h)) (sym c.requires.empty) (made-waits m h c.requires.act c.requires.waits late)
+    subst (λ (e : Events). IsMade m m e T.Waited (made_after_hearing m h)) (sym c.requires.empty) (made-waits m h c.requires.act c.requires.waits late)
 
 pub returns-then-not-ready-clause-fits : goal.returns-then-not-ready-clause-fits
 returns-then-not-ready-clause-fits g c = c.requires.act.fits

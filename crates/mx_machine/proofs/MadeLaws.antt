@@ -22,7 +22,7 @@ use Rattle.mx_machine.specs.declared.hart.Progress.{Progress}
 use Rattle.mx_machine.specs.Actions.{crossed, dead_after, fallen, gives_up_kept, killed, kills_by, returned, with_step}
 use Rattle.mx_machine.specs.Harts.{hart_of, is_halted, is_waiting, own_call, seen}
 use Rattle.mx_machine.specs.Held.{Held, behind, rest_of}
-use Rattle.mx_machine.specs.Made.{IsMade, core_in, deed}
+use Rattle.mx_machine.specs.Made.{IsMade, core_in, made_by}
 use Rattle.mx_machine.specs.Steps.{enters, gives_up_over, goes, returns_by}
 use Rattle.mx_machine.specs.Ties.{Fits, FliesWhileWaiting, IsTied, MayAct, MayRun}
 use Rattle.mx_machine.proofs.CoreLaws.{FlyAlike, core-kept, core-left, core-step}
@@ -119,7 +119,7 @@ fall-core m h cause (Some f) r =
 pub made-trap : (m : Held) (h cause value : ℕ) → MayRun m h →
     let x = hart_of m.harts h in
     IsMade m (fallen h cause (killed x.domain cause m))
-    (record { bytes = []; note = Some (N.Fault m.steps h x.domain x.pc (record { cause = cause; value = value })) }) T.Trapped (deed m h (Traps cause value))
+    (record { bytes = []; note = Some (N.Fault m.steps h x.domain x.pc (record { cause = cause; value = value })) }) T.Trapped (made_by m h (Traps cause value))
 made-trap m h cause value r =
     let x = hart_of m.harts h in
     let e = hart-in m h in
@@ -150,7 +150,7 @@ fits-bounce m h pc value r =
     fits-change m h (goes (slice_set x.regs 10 value) pc x) m.parts.harts m.parts.ram m.dead m.waiting c
 
 pub made-bounce : (m : Held) (h link : ℕ) → MayRun m h → link ≡ reg (hart_of m.harts h).regs 1 →
-    IsMade m (with_step h (goes (slice_set (hart_of m.harts h).regs 10 (fault_answer 20)) link) m) (record { bytes = []; note = None }) T.Returned (deed m h Bounces)
+    IsMade m (with_step h (goes (slice_set (hart_of m.harts h).regs 10 (fault_answer 20)) link) m) (record { bytes = []; note = None }) T.Returned (made_by m h Bounces)
 made-bounce m h link r l =
     let x = hart_of m.harts h in
     let y = goes (slice_set x.regs 10 (fault_answer 20)) link x in
@@ -173,7 +173,7 @@ fits-cross m h target r =
     step-fits m h (enters target stack x) leaves_domain m.dead r.act r.act.fits.dead (record { halted = running-kept m h r; flight = running-free m h r; domain = tt }) refl
 
 pub made-cross : (m : Held) (h target : ℕ) → MayRun m h → IsDomain m.parts.maps target →
-    IsMade m (crossed h target m) (record { bytes = []; note = None }) T.Crossed (deed m h (Crosses target))
+    IsMade m (crossed h target m) (record { bytes = []; note = None }) T.Crossed (made_by m h (Crosses target))
 made-cross m h target r t =
     let x = hart_of m.harts h in
     let own = behind m.stacks target h in
@@ -200,7 +200,7 @@ fits-return m h rd f r e =
     (step-fits m h (returns_by rd x (Some f)) leaves_domain m.dead r.act r.act.fits.dead (record { halted = running-kept m h r; flight = running-free m h r; domain = tt }) refl)
 
 pub made-return : (m : Held) (h rd : ℕ) (f : Frame) → MayRun m h → top (hart_of m.harts h).frames ≡ Some f →
-    IsMade m (returned h rd m) (record { bytes = []; note = None }) T.Returned (deed m h (Returns rd f))
+    IsMade m (returned h rd m) (record { bytes = []; note = None }) T.Returned (made_by m h (Returns rd f))
 made-return m h rd f r e =
     let x = hart_of m.harts h in
     let y = returns_by rd x (Some f) in
