@@ -1,7 +1,8 @@
+//! Images that are written of programs, and what the loader reads of them.
 ghost use Rattle.std.specs.Prelude.{◌≡◌, ◌≤◌, length, IfOk};
 
-use crate::{ProgramBuilder, Segment, write};
 use mx_elf::{Seg, read_image, symbol};
+use mx_image::{ProgramBuilder, Segment, write};
 use mx_words::{Blob, NoMemory};
 use std::alloc::Global;
 use std::test::Fail;

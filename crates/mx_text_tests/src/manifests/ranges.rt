@@ -1,7 +1,7 @@
 //! Both ends of each range, the defaults, and what a plan tells.
 
 use super::{HART, MODULE, ONE, TWO, joined, judge};
-use crate::{
+use mx_manifest::{
     BootFault, Entries, EntryPlan, GatePlans, Key, ManifestFault, ModulePlan, Numbers, Part, Place,
     Plan,
 };

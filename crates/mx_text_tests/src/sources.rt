@@ -1,4 +1,5 @@
-use crate::{AsmRefused, assemble};
+//! Sources that are assembled, and the first fault of each.
+use mx_asm::{AsmRefused, assemble};
 use mx_elf::{read_image, symbol};
 use mx_words::Blob;
 use std::alloc::Global;

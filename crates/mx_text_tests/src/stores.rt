@@ -1,4 +1,5 @@
-use crate::{
+//! Stores and sinks, in memory and real, and lines that are put together from pieces.
+use mx_io::{
     Bytes, Failed, FileSink, Files, FolderStore, Loose, Piece, Sink, StderrSink, StdoutSink, Store,
     put_all, put_pieces,
 };

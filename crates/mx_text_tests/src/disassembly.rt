@@ -1,6 +1,7 @@
-use crate::disassemble;
+//! The text of each instruction.
 use mx_io::Bytes;
 use mx_isa::decode;
+use mx_trace::disassemble;
 use std::test::Fail;
 
 mod texts;

@@ -1,4 +1,5 @@
-use crate::{Seg, Symbols, read_image, symbol};
+//! Images that are read: that of a linker, the first fault of each, and their symbols.
+use mx_elf::{Seg, Symbols, read_image, symbol};
 use std::test::Fail;
 
 mod sums;

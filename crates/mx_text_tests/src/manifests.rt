@@ -1,6 +1,6 @@
 //! What the reader answers, over texts of manifests.
 
-use crate::{ManifestFault, Plan, read_manifest};
+use mx_manifest::{ManifestFault, Plan, read_manifest};
 use std::alloc::Global;
 use std::test::Fail;
 

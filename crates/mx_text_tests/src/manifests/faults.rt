@@ -2,7 +2,7 @@
 //! and then lines of a manifest with semicolons between.
 
 use super::{HART, MODULE, ONE, TWO, judge};
-use crate::{BootFault, ManifestFault, Part};
+use mx_manifest::{BootFault, ManifestFault, Part};
 use std::alloc::Global;
 use std::process::Abort;
 use std::test::Fail;
