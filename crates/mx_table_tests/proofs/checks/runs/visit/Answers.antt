@@ -1,6 +1,6 @@
 use Rattle.std.proofs.Common.{lit<, arith}
 use Rattle.mx_check.proofs.MayLaws.{leave_may}
-use Rattle.check_speed.proofs.runs.visit.Goals as goal
+use Rattle.mx_table_tests.proofs.checks.runs.visit.Goals as goal
 
 pub returns-clause-free : goal.returns-clause-free
 returns-clause-free g c = λ d. rw c.leave_domain.ensures (leave_may _ 0 c.args.domain d c.may-answer.ensures.again)

@@ -1,5 +1,5 @@
 use Rattle.std.proofs.Common.{lit<, lit≤, arith}
-use Rattle.check_speed.proofs.runs.two_domains.Goals as goal
+use Rattle.mx_table_tests.proofs.checks.runs.visits.Goals as goal
 
 pub may-third-requires : goal.may-third-requires
 may-third-requires g c =

@@ -1,6 +1,6 @@
 use Rattle.std.proofs.Common.{length, ap, ◌∙◌}
 use Rattle.mx_table.proofs.ChangedMaps.{length-changed}
-use Rattle.check_speed.proofs.runs.withdraw.Goals as goal
+use Rattle.mx_table_tests.proofs.checks.runs.withdraw.Goals as goal
 
 pub returns-in-Ok-clause-two : goal.returns-in-Ok-clause-two
 returns-in-Ok-clause-two g c =

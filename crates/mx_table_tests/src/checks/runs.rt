@@ -3,7 +3,7 @@ ghost use Rattle.std.specs.Prelude.{◌≡◌, ℕ, ◌≤◌, length, true, Som
 ghost use Rattle.mx_check.specs.Calls.{is_ready};
 ghost use Rattle.mx_check.specs.Conditions.{MayLook};
 ghost use Rattle.mx_table.specs.Change.{IsLawful};
-ghost use Rattle.check_speed.specs.Revoke.{called, IsReader};
+ghost use Rattle.mx_table_tests.specs.Revoke.{called, IsReader};
 
 use mx_check::{Checker, Counts};
 use mx_table::{Change, PermTables};
@@ -29,9 +29,7 @@ fn visit<T: PermTables, const N: usize>(
 
 /// What hart 0 finds at place 5 for word 0: domain 1 may not write it, domain 2 may write it, and domain 1 may read it and not write
 /// it. Then the hart's counts.
-pub fn two_domains<T: PermTables, const N: usize>(
-    checker: &mut Checker<T, N>,
-) -> ([bool; 4], Counts)
+pub fn visits<T: PermTables, const N: usize>(checker: &mut Checker<T, N>) -> ([bool; 4], Counts)
     requires free { (d : ℕ) → MayLook 0 d checker.old.harts }
     requires two { length (T.maps checker.old.tables) ≡ 2 }
 {

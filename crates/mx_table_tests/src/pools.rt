@@ -1,4 +1,5 @@
-use super::*;
+//! Frames that tables take and give back.
+use mx_pool::Pool;
 use std::test::Fail;
 
 #[test]

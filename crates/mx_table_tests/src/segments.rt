@@ -1,17 +1,21 @@
-ghost use Rattle.std.specs.Prelude.{◌≡◌, ◌≢◌, ℕ, ◌+◌, ◌<◌, ◌≤◌, None, [], ◌∷◌, length, IfOk};
-ghost use Rattle.mx_table.specs.Change.{given};
-ghost use Rattle.mx_table.specs.Tables.{IsRow, IsDomain};
-ghost use Rattle.mx_segments.specs.Kept.{maps_in};
+//! Segment tables: the stored entries, and the trait's calls.
+ghost use Rattle.std.specs.Prelude.{◌≡◌, ◌+◌, ◌<◌, ◌≤◌, length, IfOk};
+ghost use Rattle.mx_table.specs.Tables.{IsRow};
 
-use super::*;
-use mx_words::{Level, NoMemory};
+use crate::shapes::of_segments;
+use mx_plain::{grant, try_change};
+use mx_segments::Segments;
+use mx_table::{BuildRefused, PermTables};
+use mx_words::{Level, Need, NoMemory, Perm, Shown, Span, Spans};
+use std::alloc::Global;
 use std::test::Fail;
 
 // Tables of one domain over 16384 words.
 fn one_domain(alloc: Global, row: Spans, leaf: u32) -> Result<Segments, BuildRefused>
     requires row { IsRow 16384 row }
     requires leaf { leaf ≤ 1000 }
-    ensures one { IfOk result (λ t. length (maps_in t.words t.leaf t.chains.lists) ≡ 1) }
+    ensures one { IfOk result
+        (λ t. length (⟦<Segments as PermTables>⟧.maps t) ≡ 1) }
     ensures words { IfOk result (λ t. t.words ≡ 16384) }
 {
     let limit = Need {
@@ -19,7 +23,7 @@ fn one_domain(alloc: Global, row: Spans, leaf: u32) -> Result<Segments, BuildRef
         leaf,
         spill: 0,
     };
-    Segments::build(alloc, 16384, &[row], limit)
+    mx_plain::one_domain(alloc, 16384, row, limit)
 }
 
 // A row with read-write on words 1024 to 1027.
@@ -35,24 +39,20 @@ fn four_words(alloc: Global) -> Result<Spans, NoMemory>
     Ok(row)
 }
 
-// A permission for domain 1 on a range.
-fn grant(first: u32, count: u32, perm: Perm) -> Change
-    ensures first { result.first ≡ first }
-    ensures count { result.count ≡ count }
-    ensures others { (d : ℕ) → d ≢ 1 → given result d ≡ None }
+// Gives domain 1 a permission on a range, if the tables have room for it. The answer is whether they have.
+fn granted<T: PermTables>(tables: &mut T, first: u32, count: u32, perm: Perm) -> bool
+    requires one { length (T.maps tables.old) ≡ 1 }
+    requires some { 0 < count }
+    requires inside { first + count ≤ T.size tables.old }
+    ensures one { length (T.maps tables.new) ≡ 1 }
+    ensures same_size { T.size tables.new ≡ T.size tables.old }
 {
-    let mut perms = [None; 64];
-    perms[1] = Some(perm);
-    Change {
-        first,
-        count,
-        perms,
-    }
+    try_change(tables, &grant(first, count, perm))
 }
 
 // The first four entries of domain 1.
 fn entries(tables: &Segments) -> [Option<u32>; 4]
-    requires { length (maps_in tables.now.words tables.now.leaf tables.now.chains.lists) ≡ 1 }
+    requires { length (⟦<Segments as PermTables>⟧.maps tables.now) ≡ 1 }
 {
     [
         tables.entry(1, 0),
@@ -64,7 +64,7 @@ fn entries(tables: &Segments) -> [Option<u32>; 4]
 
 // How many frames the entries of domain 1 stand in, and the first two words of the first of them.
 fn first_frame(tables: &Segments) -> Option<(u32, u32, u32)>
-    requires { length (maps_in tables.now.words tables.now.leaf tables.now.chains.lists) ≡ 1 }
+    requires { length (⟦<Segments as PermTables>⟧.maps tables.now) ≡ 1 }
 {
     let frames = tables.chains.frames(1);
     if frames == 0 {
@@ -91,18 +91,6 @@ fn readings<T: PermTables>(tables: &T, word: u32) -> (u32, u32, Need, Need, Show
     )
 }
 
-// The number of words and the count of lookups, taken from a value by just its field names.
-fn counts(tables: &Segments) -> (u32, u64) {
-    let Segments {
-        leaf: _,
-        chains: _,
-        words,
-        limit: _,
-        lookups,
-    } = tables;
-    (*words, *lookups)
-}
-
 type Seen = (
     [Option<u32>; 4],
     [Option<u32>; 4],
@@ -114,11 +102,9 @@ fn before_and_after(alloc: Global) -> Option<Seen> {
     let row = four_words(alloc).ok()?;
     let mut tables = one_domain(alloc, row, 1).ok()?;
     let before = entries(&tables);
-    let change = grant(1028, 4, Perm::ReadWrite);
-    if !tables.fits(&change) {
+    if !granted(&mut tables, 1028, 4, Perm::ReadWrite) {
         return None;
     }
-    tables.apply(&change);
     let after = entries(&tables);
     let readings = readings(&tables, 1025);
     Some((before, after, readings))
@@ -131,7 +117,7 @@ fn looked_up(alloc: Global) -> Option<(Perm, Perm, Span, (u32, u64))> {
     let inside = tables.perm(1, 1027);
     let behind = tables.perm(1, 1028);
     let span = tables.lookup(1, 16383);
-    Some((inside, behind, span, counts(&tables)))
+    Some((inside, behind, span, of_segments(&tables)))
 }
 
 // The frames of domain 1.

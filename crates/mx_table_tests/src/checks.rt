@@ -1,14 +1,17 @@
 //! Worked runs of a checker over tables that count what they are asked, and over tries.
-use crate::counted::Counted;
-use crate::runs::{two_domains, withdrawal, withdrawn};
-use crate::tables::tables;
+mod counted;
+mod runs;
+
+use counted::Counted;
 use mx_check::{Checker, Counts, Flight, Flights};
 use mx_packed::Packed;
+use mx_plain::two_domains;
 use mx_upper::{Trie, Vector};
 use mx_words::{Perm, Span};
+use runs::{visits, withdrawal, withdrawn};
 use std::test::Fail;
 
-/// What `two_domains` answers.
+/// What `visits` answers.
 const TWO_DOMAINS: ([bool; 4], Counts) = (
     [false, true, true, false],
     Counts {
@@ -41,11 +44,11 @@ const SHARED: Span = Span {
 
 #[test]
 fn entries_belong_to_a_domain(rt: HostRuntime) -> Result<(), Fail> {
-    let Ok(tables) = tables::<Counted>(rt.alloc(), OWN, OTHER) else {
+    let Ok(tables) = two_domains::<Counted>(rt.alloc(), OWN, OTHER) else {
         return Err("no tables")?;
     };
     let mut checker = Checker::<Counted, 8>::new(tables, 1);
-    let seen = two_domains(&mut checker);
+    let seen = visits(&mut checker);
     assert_eq!(rt; seen, TWO_DOMAINS);
     assert_eq!(rt; checker.tables().inner.lookups, 2);
     assert_eq!(rt; checker.tables().questions(), 0);
@@ -54,11 +57,11 @@ fn entries_belong_to_a_domain(rt: HostRuntime) -> Result<(), Fail> {
 
 #[test]
 fn entries_belong_to_a_domain_over_a_multilevel_trie(rt: HostRuntime) -> Result<(), Fail> {
-    let Ok(tables) = tables::<Trie<Vector>>(rt.alloc(), OWN, OTHER) else {
+    let Ok(tables) = two_domains::<Trie<Vector>>(rt.alloc(), OWN, OTHER) else {
         return Err("no tables")?;
     };
     let mut checker = Checker::<Trie<Vector>, 8>::new(tables, 1);
-    let seen = two_domains(&mut checker);
+    let seen = visits(&mut checker);
     assert_eq!(rt; seen, TWO_DOMAINS);
     assert_eq!(rt; checker.tables().lookups, 2);
     Ok(())
@@ -66,11 +69,11 @@ fn entries_belong_to_a_domain_over_a_multilevel_trie(rt: HostRuntime) -> Result<
 
 #[test]
 fn entries_belong_to_a_domain_over_a_packed_trie(rt: HostRuntime) -> Result<(), Fail> {
-    let Ok(tables) = tables::<Trie<Packed>>(rt.alloc(), OWN, OTHER) else {
+    let Ok(tables) = two_domains::<Trie<Packed>>(rt.alloc(), OWN, OTHER) else {
         return Err("no tables")?;
     };
     let mut checker = Checker::<Trie<Packed>, 8>::new(tables, 1);
-    let seen = two_domains(&mut checker);
+    let seen = visits(&mut checker);
     assert_eq!(rt; seen, TWO_DOMAINS);
     assert_eq!(rt; checker.tables().lookups, 2);
     Ok(())
@@ -88,7 +91,7 @@ fn a_call_waits_for_the_other_hart(rt: HostRuntime) -> Result<(), Fail> {
         count: 1,
         perm: Perm::Read,
     };
-    let Ok(tables) = tables::<Counted>(rt.alloc(), own, other) else {
+    let Ok(tables) = two_domains::<Counted>(rt.alloc(), own, other) else {
         return Err("no tables")?;
     };
     let mut checker = Checker::<Counted, 8>::new(tables, 2);
@@ -109,7 +112,7 @@ fn a_call_waits_for_the_other_hart(rt: HostRuntime) -> Result<(), Fail> {
 #[test]
 #[tactic(auto, unfolding(mx_words::specs::Counting::list_below))]
 fn a_heard_call_takes_effect(rt: HostRuntime) -> Result<(), Fail> {
-    let Ok(tables) = tables::<Counted>(rt.alloc(), OWN, SHARED) else {
+    let Ok(tables) = two_domains::<Counted>(rt.alloc(), OWN, SHARED) else {
         return Err("no tables")?;
     };
     let mut flights = Flights::new();
@@ -156,7 +159,7 @@ fn withdrawn_when_heard() -> Option<[(bool, Counts); 5]> {
 
 #[test]
 fn a_withdrawal_reaches_the_other_hart(rt: HostRuntime) -> Result<(), Fail> {
-    let Ok(tables) = tables::<Counted>(rt.alloc(), OWN, SHARED) else {
+    let Ok(tables) = two_domains::<Counted>(rt.alloc(), OWN, SHARED) else {
         return Err("no tables")?;
     };
     let mut checker = Checker::<Counted, 8>::new(tables, 2);
@@ -168,7 +171,7 @@ fn a_withdrawal_reaches_the_other_hart(rt: HostRuntime) -> Result<(), Fail> {
 
 #[test]
 fn a_withdrawal_reaches_the_other_hart_over_a_multilevel_trie(rt: HostRuntime) -> Result<(), Fail> {
-    let Ok(tables) = tables::<Trie<Vector>>(rt.alloc(), OWN, SHARED) else {
+    let Ok(tables) = two_domains::<Trie<Vector>>(rt.alloc(), OWN, SHARED) else {
         return Err("no tables")?;
     };
     let mut checker = Checker::<Trie<Vector>, 8>::new(tables, 2);
@@ -180,7 +183,7 @@ fn a_withdrawal_reaches_the_other_hart_over_a_multilevel_trie(rt: HostRuntime) -
 
 #[test]
 fn a_withdrawal_reaches_the_other_hart_over_a_packed_trie(rt: HostRuntime) -> Result<(), Fail> {
-    let Ok(tables) = tables::<Trie<Packed>>(rt.alloc(), OWN, SHARED) else {
+    let Ok(tables) = two_domains::<Trie<Packed>>(rt.alloc(), OWN, SHARED) else {
         return Err("no tables")?;
     };
     let mut checker = Checker::<Trie<Packed>, 8>::new(tables, 2);
