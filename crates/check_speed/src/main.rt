@@ -2,15 +2,9 @@
 //! stderr the processor time that the checks took.
 #![tactic(auto)]
 
-#[cfg(test)]
-mod counted;
 mod hits;
-#[cfg(test)]
-mod runs;
-mod tables;
-#[cfg(test)]
-mod tests;
 
+use mx_plain::two_domains;
 use mx_segments::Segments;
 use mx_words::{Perm, Span};
 use std::time::CpuClock;
@@ -30,7 +24,7 @@ fn main(rt: HostRuntime) -> io::Result<()> {
         count: 1024,
         perm: Perm::ReadWrite,
     };
-    let (Some(rounds), Ok(tables)) = (rounds, tables::tables::<Segments>(rt.alloc(), own, other))
+    let (Some(rounds), Ok(tables)) = (rounds, two_domains::<Segments>(rt.alloc(), own, other))
     else {
         return eprintln!(rt; "check_speed ROUNDS, or no memory");
     };

@@ -15,6 +15,3 @@ mod refusal;
 
 pub use assembly::{assemble, program_is_lawful};
 pub use refusal::AsmRefused;
-
-#[cfg(test)]
-mod tests;

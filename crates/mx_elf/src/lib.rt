@@ -15,6 +15,3 @@ pub use reading::read_image;
 pub use segment::Seg;
 pub use symbols::symbol;
 pub use together::Symbols;
-
-#[cfg(test)]
-mod tests;

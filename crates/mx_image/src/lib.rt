@@ -16,6 +16,3 @@ pub use laws::{image_is_read, labels_are_found};
 pub use parts::write;
 pub use program::ProgramBuilder;
 pub use segment::Segment;
-
-#[cfg(test)]
-mod tests;

@@ -26,6 +26,3 @@ pub use streams::{FileSink, StderrSink, StdoutSink};
 /// A call of a store or a sink failed. Comes only where the count of faults of that object rose in the call.
 #[derive(Clone, Copy, PartialEq, Eq, Debug)]
 pub struct Failed;
-
-#[cfg(test)]
-mod tests;

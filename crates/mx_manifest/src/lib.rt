@@ -20,6 +20,3 @@ pub use parts::{Entries, EntryPlan, GatePlan, GatePlans, HartPlan, ModulePlan};
 pub use plan::Plan;
 pub use reading::{ManifestFault, read_manifest};
 pub use text::{Numbers, Text};
-
-#[cfg(test)]
-mod tests;

@@ -79,32 +79,3 @@ impl LeafForm for Packed {
         lengthen(run, line, entry / 0x800_0000, entry / 0x40_0000 % 0x20)
     }
 }
-
-#[cfg(test)]
-mod tests {
-    use super::*;
-
-    const N: Perm = Perm::None;
-
-    const R: Perm = Perm::Read;
-
-    const W: Perm = Perm::ReadWrite;
-
-    // The entry of the line, its spill word, and the run of a word, through the bound.
-    fn stored<L: LeafForm>(perms: &[Perm; 16]) -> (u32, Option<u32>) {
-        let entry = L::entry(perms, 0, 0, 9);
-        (entry, L::spill_of(entry))
-    }
-
-    #[test]
-    fn forms_of_a_line(rt: HostRuntime) {
-        let four_runs = [N, R, W, N, N, N, N, N, N, N, N, N, N, N, N, N];
-        let five_runs = [N, R, W, N, N, N, N, N, N, N, N, N, N, N, N, R];
-        assert!(rt; !Packed::needs_spill(&four_runs));
-        assert!(rt; Packed::needs_spill(&five_runs));
-        assert!(rt; !Vector::needs_spill(&five_runs));
-        assert_eq!(rt; stored::<Packed>(&five_runs), (0x27, Some(9)));
-        assert_eq!(rt; stored::<Packed>(&four_runs), (0x000C_8492, None));
-        assert_eq!(rt; stored::<Vector>(&five_runs), (0x4000_0024, None));
-    }
-}

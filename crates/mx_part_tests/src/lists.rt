@@ -1,39 +1,61 @@
 //! Lists of spans, of bytes and of a turn's events.
 use mx_model::{Events, Note};
-use mx_words::{Blob, Perm, Span, Spans};
+use mx_words::{Blob, NoMemory, Perm, Span, Spans};
+use std::alloc::Global;
 use std::test::Fail;
 
-#[test]
-fn lists_hold_what_was_pushed(rt: HostRuntime) -> Result<(), Fail> {
-    let mut spans = Spans::new(rt.alloc());
-    let mut blob = Blob::new(rt.alloc());
-    let span = Span {
-        first: 3,
-        count: 2,
-        perm: Perm::Read,
-    };
-    assert_eq!(rt; spans.push(span), Ok(()));
-    assert_eq!(rt; blob.push(7), Ok(()));
-    assert_eq!(rt; (spans.len(), blob.len()), (1, 1));
-    assert_eq!(rt; blob.as_slice(), [7].as_slice());
-    Ok(())
+/// A span of two words.
+const SPAN: Span = Span {
+    first: 3,
+    count: 2,
+    perm: Perm::Read,
+};
+
+/// What a list of spans and one of bytes answer when the span and the byte 7 are pushed, how long they are then, and whether the bytes
+/// are just 7.
+fn pushed(alloc: Global) -> ([Result<(), NoMemory>; 2], [u32; 2], bool) {
+    let mut spans = Spans::new(alloc);
+    let mut blob = Blob::new(alloc);
+    let answers = [spans.push(SPAN), blob.push(7)];
+    (
+        answers,
+        [spans.len(), blob.len()],
+        blob.as_slice() == [7].as_slice(),
+    )
 }
 
 #[test]
-fn events_hold_bytes_and_a_note(rt: HostRuntime) -> Result<(), Fail> {
-    let note = Note::Exit {
-        step: 3,
-        hart: 0,
-        domain: 1,
-        code: 5,
-    };
-    let mut events = Events::new();
-    assert_eq!(rt; (events.len(), events.note()), (0, None));
-    events.push(104);
-    events.set_note(note);
-    assert_eq!(rt; (events.len(), events.note()), (1, Some(note)));
-    assert_eq!(rt; events.byte(0), 104);
-    events.clear();
-    assert_eq!(rt; (events.len(), events.note()), (0, None));
+fn lists_hold_what_was_pushed(rt: HostRuntime) -> Result<(), Fail> {
+    let (answers, lengths, is_seven) = pushed(rt.alloc());
+    assert_eq!(rt; answers, [Ok(()), Ok(())]);
+    assert_eq!(rt; lengths, [1, 1]);
+    assert!(rt; is_seven);
     Ok(())
+}
+
+/// An exit with code 5.
+const EXIT: Note = Note::Exit {
+    step: 3,
+    hart: 0,
+    domain: 1,
+    code: 5,
+};
+
+/// How many bytes events hold, and their note: at first, with a byte and a note, and when they are cleared. Then the byte.
+fn told() -> ([(u32, Option<Note>); 3], u8) {
+    let mut events = Events::new();
+    let empty = (events.len(), events.note());
+    events.push(104);
+    events.set_note(EXIT);
+    let filled = (events.len(), events.note());
+    let byte = events.byte(0);
+    events.clear();
+    ([empty, filled, (events.len(), events.note())], byte)
+}
+
+#[test]
+fn events_hold_bytes_and_a_note(rt: HostRuntime) {
+    let (held, byte) = told();
+    assert_eq!(rt; held, [(0, None), (1, Some(EXIT)), (0, None)]);
+    assert_eq!(rt; byte, 104);
 }

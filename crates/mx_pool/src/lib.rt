@@ -261,6 +261,3 @@ fn copy_words(words: &mut [u32], first: usize, place: usize, count: usize)
 {
     words.copy_within(first..first + count, place);
 }
-
-#[cfg(test)]
-mod tests;

@@ -12,4 +12,3 @@ mod SpanLaws
 mod TallyLaws
 mod BuildLaws
 mod SkipLaws
-mod TestLaws

@@ -154,6 +154,3 @@ impl PermTables for Segments {
 
     ghost shaped = { λ t. shaped_of t.words t.leaf t.chains.lists t.chains.room t.limit t.kept };
 }
-
-#[cfg(test)]
-mod tests;

@@ -6,6 +6,3 @@ mod text;
 
 pub use law::text_is_assembled;
 pub use text::disassemble;
-
-#[cfg(test)]
-mod tests;

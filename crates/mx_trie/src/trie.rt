@@ -215,24 +215,3 @@ impl<L: LeafForm> PermTables for Trie<L> {
 
     ghost shaped = { λ t. shaped_of L.kind t.upper t.leaf t.spill t.roots t.words t.limit t.stands };
 }
-
-#[cfg(test)]
-mod tests {
-    use super::Trie;
-    use crate::Vector;
-
-    // Tables have these fields and no others.
-    fn fields(tables: &Trie<Vector>) -> (u32, u64) {
-        let Trie {
-            upper: _,
-            leaf: _,
-            spill: _,
-            roots: _,
-            words,
-            limit: _,
-            lookups,
-            form: _,
-        } = tables;
-        (*words, *lookups)
-    }
-}

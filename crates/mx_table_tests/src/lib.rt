@@ -1,0 +1,15 @@
+//! Tests of permission tables: their frames, their stored entries, the plain tables, and the checks of accesses over them.
+#![tactic(auto)]
+
+#[cfg(test)]
+mod checks;
+#[cfg(test)]
+mod packed;
+#[cfg(test)]
+mod plain_tables;
+#[cfg(test)]
+mod pools;
+#[cfg(test)]
+mod segments;
+#[cfg(test)]
+mod shapes;

@@ -1,0 +1,198 @@
+//! Segment tables: the stored entries, and the trait's calls.
+ghost use Rattle.std.specs.Prelude.{◌≡◌, ◌+◌, ◌<◌, ◌≤◌, length, IfOk};
+ghost use Rattle.mx_table.specs.Tables.{IsRow};
+
+use crate::shapes::of_segments;
+use mx_plain::{grant, try_change};
+use mx_segments::Segments;
+use mx_table::{BuildRefused, PermTables};
+use mx_words::{Level, Need, NoMemory, Perm, Shown, Span, Spans};
+use std::alloc::Global;
+use std::test::Fail;
+
+// Tables of one domain over 16384 words.
+fn one_domain(alloc: Global, row: Spans, leaf: u32) -> Result<Segments, BuildRefused>
+    requires row { IsRow 16384 row }
+    requires leaf { leaf ≤ 1000 }
+    ensures one { IfOk result
+        (λ t. length (⟦<Segments as PermTables>⟧.maps t) ≡ 1) }
+    ensures words { IfOk result (λ t. t.words ≡ 16384) }
+{
+    let limit = Need {
+        upper: 0,
+        leaf,
+        spill: 0,
+    };
+    mx_plain::one_domain(alloc, 16384, row, limit)
+}
+
+// A row with read-write on words 1024 to 1027.
+fn four_words(alloc: Global) -> Result<Spans, NoMemory>
+    ensures { IfOk result (IsRow 16384) }
+{
+    let mut row = Spans::new(alloc);
+    row.push(Span {
+        first: 1024,
+        count: 4,
+        perm: Perm::ReadWrite,
+    })?;
+    Ok(row)
+}
+
+// Gives domain 1 a permission on a range, if the tables have room for it. The answer is whether they have.
+fn granted<T: PermTables>(tables: &mut T, first: u32, count: u32, perm: Perm) -> bool
+    requires one { length (T.maps tables.old) ≡ 1 }
+    requires some { 0 < count }
+    requires inside { first + count ≤ T.size tables.old }
+    ensures one { length (T.maps tables.new) ≡ 1 }
+    ensures same_size { T.size tables.new ≡ T.size tables.old }
+{
+    try_change(tables, &grant(first, count, perm))
+}
+
+// The first four entries of domain 1.
+fn entries(tables: &Segments) -> [Option<u32>; 4]
+    requires { length (⟦<Segments as PermTables>⟧.maps tables.now) ≡ 1 }
+{
+    [
+        tables.entry(1, 0),
+        tables.entry(1, 1),
+        tables.entry(1, 2),
+        tables.entry(1, 3),
+    ]
+}
+
+// How many frames the entries of domain 1 stand in, and the first two words of the first of them.
+fn first_frame(tables: &Segments) -> Option<(u32, u32, u32)>
+    requires { length (⟦<Segments as PermTables>⟧.maps tables.now) ≡ 1 }
+{
+    let frames = tables.chains.frames(1);
+    if frames == 0 {
+        return None;
+    }
+    let frame = tables.chains.get(1, 0);
+    let first = tables.leaf.get(frame, 0);
+    let second = tables.leaf.get(frame, 1);
+    Some((frames, first, second))
+}
+
+// What the trait's readers tell of tables of one domain, and of a word of them.
+fn readings<T: PermTables>(tables: &T, word: u32) -> (u32, u32, Need, Need, Shown)
+    requires domain { length (T.maps tables.now) ≡ 1 }
+    requires word { word < T.size tables.now }
+{
+    let shown = tables.shown(1, word);
+    (
+        tables.words(),
+        tables.modules(),
+        tables.limit(),
+        tables.used(),
+        shown,
+    )
+}
+
+type Seen = (
+    [Option<u32>; 4],
+    [Option<u32>; 4],
+    (u32, u32, Need, Need, Shown),
+);
+
+// The entries of domain 1 before and after read-write on words 1028 to 1031, and what is read then.
+fn before_and_after(alloc: Global) -> Option<Seen> {
+    let row = four_words(alloc).ok()?;
+    let mut tables = one_domain(alloc, row, 1).ok()?;
+    let before = entries(&tables);
+    if !granted(&mut tables, 1028, 4, Perm::ReadWrite) {
+        return None;
+    }
+    let after = entries(&tables);
+    let readings = readings(&tables, 1025);
+    Some((before, after, readings))
+}
+
+// Two permissions, a span and the counts after its lookup.
+fn looked_up(alloc: Global) -> Option<(Perm, Perm, Span, (u32, u64))> {
+    let row = four_words(alloc).ok()?;
+    let mut tables = one_domain(alloc, row, 1).ok()?;
+    let inside = tables.perm(1, 1027);
+    let behind = tables.perm(1, 1028);
+    let span = tables.lookup(1, 16383);
+    Some((inside, behind, span, of_segments(&tables)))
+}
+
+// The frames of domain 1.
+fn frames_of_four_words(alloc: Global) -> Option<(u32, u32, u32)> {
+    let row = four_words(alloc).ok()?;
+    first_frame(&one_domain(alloc, row, 1).ok()?)
+}
+
+// What refuses tables without a leaf frame.
+fn without_frames(alloc: Global) -> Option<BuildRefused> {
+    let row = four_words(alloc).ok()?;
+    one_domain(alloc, row, 0).err()
+}
+
+#[test]
+fn segment_entries(rt: HostRuntime) -> Result<(), Fail> {
+    let (before, after, readings) = before_and_after(rt.alloc()).ok_or("memory")?;
+    let first = [
+        Some(0x8000_0000),
+        Some(0x8000_1002),
+        Some(0x8000_1010),
+        None,
+    ];
+    assert_eq!(rt; before, first);
+    let second = [
+        Some(0x8000_0000),
+        Some(0x8000_1002),
+        Some(0x8000_1020),
+        None,
+    ];
+    assert_eq!(rt; after, second);
+    let need = Need {
+        upper: 0,
+        leaf: 1,
+        spill: 0,
+    };
+    let shown = Shown {
+        level: Level::Segment,
+        first: 1024,
+        count: 8,
+        stored: 0x8000_1002,
+    };
+    assert_eq!(rt; readings, (16384, 1, need, need, shown));
+    Ok(())
+}
+
+#[test]
+fn entries_stand_in_a_domain_s_frames(rt: HostRuntime) -> Result<(), Fail> {
+    let seen = frames_of_four_words(rt.alloc()).ok_or("memory")?;
+    assert_eq!(rt; seen, (1, 0x8000_0000, 0x8000_1002));
+    Ok(())
+}
+
+#[test]
+fn lookups_are_counted(rt: HostRuntime) -> Result<(), Fail> {
+    let seen = looked_up(rt.alloc()).ok_or("memory")?;
+    let span = Span {
+        first: 1028,
+        count: 15356,
+        perm: Perm::None,
+    };
+    assert_eq!(rt; seen, (Perm::ReadWrite, Perm::None, span, (16384, 1)));
+    Ok(())
+}
+
+#[test]
+fn full_tables_are_refused(rt: HostRuntime) -> Result<(), Fail> {
+    let need = Need {
+        upper: 0,
+        leaf: 1,
+        spill: 0,
+    };
+    assert_eq!(rt;
+        without_frames(rt.alloc()),
+        Some(BuildRefused::TablesFull { need })
+    );
+    Ok(())
+}
