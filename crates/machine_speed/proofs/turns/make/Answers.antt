@@ -1,4 +1,4 @@
-use Rattle.std.proofs.Common.{◌≡◌, ℕ, zero, suc, ◌+◌, ◌-◌, ◌∙◌, ap, arith}
+use Rattle.std.proofs.Common.{◌≡◌, ℕ, zero, suc, ◌+◌, ◌∙◌, ap, arith}
 use Rattle.mx_model.specs.Reads.{flat_reads}
 use Rattle.mx_model.specs.Run.{flat_turn}
 use Rattle.mx_model.specs.State.{Flat}
