@@ -347,22 +347,32 @@ fn blocks(machine: &Small) -> Option<(Block, Option<Block>, Option<Block>)> {
     }
 }
 
-#[test]
-fn the_readers_tell_blocks_and_heap_areas(rt: HostRuntime) -> Result<(), Fail> {
-    let heap = Block {
-        first: 4096,
-        count: 64,
-    };
+/// A heap area of 64 words.
+const HEAP: Block = Block {
+    first: 4096,
+    count: 64,
+};
+
+/// The blocks of a machine whose module has allocated three words.
+fn blocks_after_an_alloc(
+    alloc: Global,
+) -> Result<Option<(Block, Option<Block>, Option<Block>)>, Fail> {
     let module = Module {
-        heap,
+        heap: HEAP,
         ..code(0, &[0x0030_0513, 0x0060_0893, 0x0000_0073, 0x0010_0073])
     };
-    let played = play(rt.alloc(), &[module], &[], &[start(1, 0x8000_0000)], 4)?;
+    let played = play(alloc, &[module], &[], &[start(1, 0x8000_0000)], 4)?;
+    Ok(blocks(&played.machine))
+}
+
+#[test]
+fn the_readers_tell_blocks_and_heap_areas(rt: HostRuntime) -> Result<(), Fail> {
+    let blocks = blocks_after_an_alloc(rt.alloc())?;
     let block = Block {
         first: 4096,
         count: 3,
     };
-    assert_eq!(rt; blocks(&played.machine), Some((heap, Some(block), None)));
+    assert_eq!(rt; blocks, Some((HEAP, Some(block), None)));
     Ok(())
 }
 

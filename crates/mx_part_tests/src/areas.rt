@@ -56,8 +56,8 @@ fn the_lowest_hole_that_fits_is_taken(rt: HostRuntime) -> Result<(), Fail> {
     Ok(())
 }
 
-/// Whether 1024 allocs of one word in a heap of so many words from 0 on gave them in order, and what the heap answers then: another
-/// such alloc, a free of word 512, and an alloc once more.
+/// Whether 1024 allocs of one word in a heap of so many words from 0 on gave them in order, and what the heap answers
+/// then: another such alloc, a free of word 512, and an alloc once more.
 fn most_blocks(
     alloc: Global,
     words: u32,

@@ -22,8 +22,8 @@ struct Most {
     listed: [Option<Gate>; 3],
 }
 
-/// Adds gates of domain 1 at words 0 to 255, in turn return gates and gates into domain 2, then two too many, and then another one at
-/// word 7.
+/// Adds gates of domain 1 at words 0 to 255, in turn return gates and gates into domain 2, then two too many, and then
+/// another one at word 7.
 fn add_most(gates: &mut Gates) -> Most {
     let before = gates.get(0);
     let mut are_added = true;

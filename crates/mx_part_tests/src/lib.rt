@@ -1,4 +1,5 @@
-//! Tests of the parts of the machine below its tables: lists, instructions, memory, heaps, owners, gates, frames and caches.
+//! Tests of the parts of the machine below its tables: lists, instructions, memory, heaps, owners, gates, frames and
+//! caches.
 #![tactic(auto)]
 
 #[cfg(test)]

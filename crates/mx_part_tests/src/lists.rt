@@ -11,8 +11,8 @@ const SPAN: Span = Span {
     perm: Perm::Read,
 };
 
-/// What a list of spans and one of bytes answer when the span and the byte 7 are pushed, how long they are then, and whether the bytes
-/// are just 7.
+/// What a list of spans and one of bytes answer when the span and the byte 7 are pushed, how long they are then, and
+/// whether the bytes are just 7.
 fn pushed(alloc: Global) -> ([Result<(), NoMemory>; 2], [u32; 2], bool) {
     let mut spans = Spans::new(alloc);
     let mut blob = Blob::new(alloc);
@@ -41,7 +41,8 @@ const EXIT: Note = Note::Exit {
     code: 5,
 };
 
-/// How many bytes events hold, and their note: at first, with a byte and a note, and when they are cleared. Then the byte.
+/// How many bytes events hold, and their note: at first, with a byte and a note, and when they are cleared. Then the
+/// byte.
 fn told() -> ([(u32, Option<Note>); 3], u8) {
     let mut events = Events::new();
     let empty = (events.len(), events.note());

@@ -1,4 +1,5 @@
-//! Tests of permission tables: their frames, their stored entries, the plain tables, and the checks of accesses over them.
+//! Tests of permission tables: their frames, their stored entries, the plain tables, and the checks of accesses over
+//! them.
 #![tactic(auto)]
 
 #[cfg(test)]

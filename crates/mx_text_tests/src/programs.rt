@@ -7,9 +7,9 @@ use mx_words::{Blob, NoMemory};
 use std::alloc::Global;
 use std::test::Fail;
 
-// The image of `.text 0x80000000`, `start: jal x0, start`, `.text 0x80000800`, `.data 0x80001000` and `k: .byte 1`, one per
-// line, byte by byte from the format's rule. `readelf -hlSs` lists its entry, its two segments at 116 and 120, its sections
-// at 124 and 172, and its two symbols.
+// The image of `.text 0x80000000`, `start: jal x0, start`, `.text 0x80000800`, `.data 0x80001000` and `k: .byte 1`,
+// one per line, byte by byte from the format's rule. `readelf -hlSs` lists its entry, its two segments at 116 and 120,
+// its sections at 124 and 172, and its two symbols.
 const TWO_SEGMENTS: &[u8] = b"\
     \x7f\x45\x4c\x46\x01\x01\x01\x00\x00\x00\x00\x00\x00\x00\x00\x00\
     \x02\x00\xf3\x00\x01\x00\x00\x00\x00\x00\x00\x80\x34\x00\x00\x00\
@@ -106,7 +106,8 @@ fn the_loader_reads_what_was_written(rt: HostRuntime) -> Result<(), Fail> {
     Ok(())
 }
 
-// `.text 0x80000000`, `li a7, 1`, `ecall`: `lui a7, 0`, `addi a7, a7, 1` and `ecall`, right after the one program header.
+// `.text 0x80000000`, `li a7, 1`, `ecall`: `lui a7, 0`, `addi a7, a7, 1` and `ecall`, right after the one program
+// header.
 #[test]
 fn the_loader_reads_a_program_without_labels(rt: HostRuntime) -> Result<(), Fail> {
     let file = one_segment(rt.alloc()).ok().ok_or("no memory")?;

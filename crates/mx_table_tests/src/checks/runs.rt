@@ -27,8 +27,8 @@ fn visit<T: PermTables, const N: usize>(
     answer
 }
 
-/// What hart 0 finds at place 5 for word 0: domain 1 may not write it, domain 2 may write it, and domain 1 may read it and not write
-/// it. Then the hart's counts.
+/// What hart 0 finds at place 5 for word 0: domain 1 may not write it, domain 2 may write it, and domain 1 may read it
+/// and not write it. Then the hart's counts.
 pub fn visits<T: PermTables, const N: usize>(checker: &mut Checker<T, N>) -> ([bool; 4], Counts)
     requires free { (d : ℕ) → MayLook 0 d checker.old.harts }
     requires two { length (T.maps checker.old.tables) ≡ 2 }
@@ -93,7 +93,8 @@ fn call<T: PermTables, const N: usize>(checker: &mut Checker<T, N>)
     checker.announce(0, 1024, 4);
 }
 
-/// The ready call of hart 0 withdraws domain 2's rights on its words and ends. The answer is whether the tables had room.
+/// The ready call of hart 0 withdraws domain 2's rights on its words and ends. The answer is whether the tables had
+/// room.
 fn withdraw<T: PermTables, const N: usize>(checker: &mut Checker<T, N>) -> bool
     requires reader { IsReader checker.old.harts }
     requires may { MayLook 1 2 checker.old.harts }
@@ -115,8 +116,9 @@ fn withdraw<T: PermTables, const N: usize>(checker: &mut Checker<T, N>) -> bool
     }
 }
 
-/// What hart 1 finds at five checks of word 1024, and its counts after each: before hart 0's call is announced, twice while it is in
-/// flight and heard, and twice after hart 0 withdrew the right. `None` where the call isn't ready or the tables have no room.
+/// What hart 1 finds at five checks of word 1024, and its counts after each: before hart 0's call is announced, twice
+/// while it is in flight and heard, and twice after hart 0 withdrew the right. `None` where the call isn't ready or
+/// the tables have no room.
 pub fn withdrawn<T: PermTables, const N: usize>(
     checker: &mut Checker<T, N>,
 ) -> Option<[(bool, Counts); 5]>

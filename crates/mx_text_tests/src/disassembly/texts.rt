@@ -1,5 +1,5 @@
-//! Words, and what `riscv64-unknown-elf-objdump -d -M no-aliases,numeric` prints for them, in the assembler's style: numbers in
-//! decimal, offsets in place of targets, a space after commas, and `fence` with its fields.
+//! Words, and what `riscv64-unknown-elf-objdump -d -M no-aliases,numeric` prints for them, in the assembler's style:
+//! numbers in decimal, offsets in place of targets, a space after commas, and `fence` with its fields.
 
 pub(super) const TEXTS: [(u32, &str); 54] = [
     (0xFFFF_F2B7, "lui x5, 1048575"),

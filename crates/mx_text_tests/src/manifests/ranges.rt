@@ -229,25 +229,51 @@ fn judge_second(
     Ok(judge(alloc, text.as_str()))
 }
 
+/// The number that a key has in a manifest of these first lines.
+fn number_of(alloc: Global, top: &str, key: Key) -> Result<u32, Fail> {
+    let text = joined(alloc, top, MODULE, HART)?;
+    let plan = judge(alloc, text.as_str()).ok().ok_or("refused")?;
+    Ok(number(&plan, key))
+}
+
+/// The kind of tables in a manifest with this first line besides.
+fn kind_of(alloc: Global, line: &str) -> Result<Kind, Fail> {
+    let text = joined(alloc, ONE, line, MODULE)?;
+    let text = joined(alloc, text.as_str(), HART, "")?;
+    let plan = judge(alloc, text.as_str()).ok().ok_or("refused")?;
+    Ok(plan.tables())
+}
+
+/// Why a manifest is refused with a second module of these lines.
+fn refusal_of(alloc: Global, top: &str, lines: &str) -> Result<Option<ManifestFault>, Fail> {
+    let modules = joined(alloc, MODULE, "[[module]]\n", lines)?;
+    let text = joined(alloc, top, modules.as_str(), HART)?;
+    Ok(judge(alloc, text.as_str()).err())
+}
+
 #[test]
 fn accepts_both_ends_of_each_range(rt: HostRuntime) -> Result<(), Fail> {
-    let alloc = rt.alloc();
     for (top, key, value) in TOPS {
-        let text = joined(alloc, top, MODULE, HART)?;
-        let plan = judge(alloc, text.as_str()).ok().ok_or("refused")?;
-        assert_eq!(rt; number(&plan, key), value, "{top}");
+        let number = number_of(rt.alloc(), top, key)?;
+        assert_eq!(rt; number, value, "{top}");
     }
+    Ok(())
+}
+
+#[test]
+fn accepts_each_kind_of_tables(rt: HostRuntime) -> Result<(), Fail> {
     for (line, kind) in KINDS {
-        let top = joined(alloc, ONE, line, "")?;
-        let text = joined(alloc, top.as_str(), MODULE, HART)?;
-        let plan = judge(alloc, text.as_str()).ok().ok_or("refused")?;
-        assert_eq!(rt; plan.tables(), kind, "{line}");
+        let tables = kind_of(rt.alloc(), line)?;
+        assert_eq!(rt; tables, kind, "{line}");
     }
+    Ok(())
+}
+
+#[test]
+fn accepts_both_ends_of_each_range_of_a_module(rt: HostRuntime) -> Result<(), Fail> {
     for (top, lines) in MODULES {
-        let module = joined(alloc, "[[module]]\n", lines, "")?;
-        let modules = joined(alloc, MODULE, module.as_str(), "")?;
-        let text = joined(alloc, top, modules.as_str(), HART)?;
-        assert_eq!(rt; judge(alloc, text.as_str()).err(), None, "{lines}");
+        let refusal = refusal_of(rt.alloc(), top, lines)?;
+        assert_eq!(rt; refusal, None, "{lines}");
     }
     Ok(())
 }

@@ -1,7 +1,8 @@
-//! Statements with the words that `riscv64-unknown-elf-as -march=rv32im` gives for them, and sources with what the rules say.
+//! Statements with the words that `riscv64-unknown-elf-as -march=rv32im` gives for them, and sources with what the
+//! rules say.
 
-/// A statement and its word. GNU as writes an offset from the present address as `.+8`, and `fence 261120` as `fence`; the two last
-/// words of `fence` are those of its fields.
+/// A statement and its word. GNU as writes an offset from the present address as `.+8`, and `fence 261120` as `fence`;
+/// the two last words of `fence` are those of its fields.
 pub(super) const STATEMENTS: [(&str, u32); 55] = [
     ("lui x5, 1048575", 0xFFFF_F2B7),
     ("lui a0, 0", 0x0000_0537),
