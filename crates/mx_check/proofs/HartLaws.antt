@@ -1,15 +1,9 @@
 -- A list of harts in the first places of an array: what a read and a write of one of them say of the list.
 use Rattle.std.proofs.Common.{◌≡◌, ℕ, zero, suc, ◌<◌, ◌≤◌, List, [], ◌∷◌, length, get_or, set, take, replicate, refl, sym, ap, ◌∙◌, arith, length-take, get_or-take}
 use Rattle.std.proofs.lemmas.List.{get_or_default}
+use Rattle.std.proofs.SliceLists.{take-set}
 use Rattle.mx_words.specs.Counting.{list_below}
 use Rattle.mx_check.specs.Harts.{Kept, no_hart, hart_at, at_hart}
-
--- the first elements of a list with a write
-pub take-written : {X : Type 0} (n : ℕ) (xs : List X) (i : ℕ) (x : X) → take n (set xs i x) ≡ set (take n xs) i x
-take-written zero xs i x = refl
-take-written (suc n) [] i x = refl
-take-written (suc n) (y ∷ ys) zero x = refl
-take-written (suc n) (y ∷ ys) (suc i) x = ap (λ zs. y ∷ zs) (take-written n ys i x)
 
 module _ (n : ℕ) (parts : List Kept) (harts : List Kept) (h : ℕ) (d : Kept) (view : take n parts ≡ harts) (there : h < length harts) where
   -- the part that is read is the hart's
@@ -23,7 +17,7 @@ module _ (n : ℕ) (parts : List Kept) (harts : List Kept) (h : ℕ) (d : Kept) 
   -- a part that is written is the hart's step
   pub hart_written : (step : Kept → Kept) (k : Kept) → k ≡ step (get_or parts h d) → take n (set parts h k) ≡ at_hart h step harts
   hart_written step k e =
-      take-written n parts h k
+      take-set parts n h k
       ∙ ap (λ (hs : List Kept). set hs h k) view
       ∙ ap (λ (x : Kept). set harts h x) (e ∙ ap step hart_read)
 

@@ -1,9 +1,9 @@
 -- A list of harts in the first places of an array: what a read and a write of one of them say of the list.
 use Rattle.std.proofs.Common.{◌≡◌, ℕ, ◌<◌, List, length, get_or, set, take, sym, ap, ◌∙◌, arith, length-take, get_or-take}
 use Rattle.std.proofs.lemmas.List.{get_or_default}
+use Rattle.std.proofs.SliceLists.{take-set}
 use Rattle.mx_machine.specs.declared.hart.Hart.{Hart}
 use Rattle.mx_machine.specs.Harts.{no_hart, hart_of, stepped}
-use Rattle.mx_check.proofs.HartLaws.{take-written}
 
 module _ (n : ℕ) (items : List Hart) (harts : List Hart) (h : ℕ) (d : Hart) (view : take n items ≡ harts) (there : h < length harts) where
   -- the part that is read is the hart
@@ -17,6 +17,6 @@ module _ (n : ℕ) (items : List Hart) (harts : List Hart) (h : ℕ) (d : Hart) 
   -- a part that is written is the hart after a step
   pub hart_written : (step : Hart → Hart) (x : Hart) → x ≡ step (get_or items h d) → take n (set items h x) ≡ stepped h step harts
   hart_written step x e =
-      take-written n items h x
+      take-set items n h x
       ∙ ap (λ (hs : List Hart). set hs h x) view
       ∙ ap (λ (y : Hart). set harts h y) (e ∙ ap step hart_read)

@@ -1,5 +1,5 @@
 -- Turns of one hart in a row: what holds after some of them, and after one more.
-use Rattle.std.proofs.Common.{◌≡◌, ◌≢◌, ℕ, suc, ◌+◌, ◌<◌, ◌⊎◌, inl, inr, Bool, true, false, not, set, refl, sym, ap, ◌∙◌, arith, get_or, get_or-set_same}
+use Rattle.std.proofs.Common.{◌≡◌, ◌≢◌, ℕ, suc, ◌+◌, ◌<◌, ◌⊎◌, inl, inr, false, set, refl, sym, ap, ◌∙◌, arith, get_or, get_or-set_same}
 use Rattle.std.proofs.lemmas.Bool.{cases_eq}
 use Rattle.mx_model.specs.declared.values.TurnKind.{TurnKind}
 use Rattle.mx_model.specs.declared.values.TurnKind.TheVariants as T
@@ -40,10 +40,6 @@ alive-instruction m h r alive =
 
 pub alive-now : (m n : Held) (h : ℕ) → RunsAlive m h → n ≡ heard h (counted m) → get_or n.dead (hart_of n.harts h).domain false ≡ false
 alive-now m n h r is = ap (λ (k : Held). get_or k.dead (hart_of k.harts h).domain false) is ∙ r.alive
-
-pub live-of : (b : Bool) → not b ≡ true → b ≡ false
-live-of true e = absurd (let z : ⊥ = cc in z)
-live-of false e = refl
 
 -- after some turns of hart h from a flat state, each of which carried out an instruction
 pub record HasRunOn (f : Flat) (h n : ℕ) (m : Held) : Type 0 where

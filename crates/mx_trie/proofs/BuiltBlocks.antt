@@ -2,12 +2,10 @@
 use Rattle.std.proofs.Common.{◌≡◌, ◌≢◌, ℕ, zero, suc, ◌+◌, ◌-◌, ◌*◌, ◌/◌, ◌<◌, ◌≤◌, Bool, true, false, List, [], length, None, IsSome, refl, sym, ap, ◌∙◌, subst, arith}
 use Rattle.mx_words.specs.declared.perm.Perm.{Perm}
 use Rattle.mx_words.specs.declared.tables.Kind.{Kind}
-use Rattle.mx_words.specs.Blocks.{is_broken, IsEven, block_of}
+use Rattle.mx_words.specs.Blocks.{is_broken, IsEven}
 use Rattle.mx_words.specs.Counting.{bit, sum_below}
 use Rattle.mx_words.specs.Reach.{vector, line_at}
-use Rattle.std.proofs.lemmas.Bool.{not-false}
-use Rattle.mx_words.specs.Runs.{page_words, region_words, is_eighth_uniform}
-use Rattle.mx_words.proofs.BlockLaws.{even_from}
+use Rattle.mx_words.specs.Runs.{page_words, region_words}
 use Rattle.mx_words.proofs.CountingLaws.{sum_below-zero, sum_below-more}
 use Rattle.mx_pool.specs.Frames.{frame_at, IsTaken, word_at, free_in}
 use Rattle.mx_trie.specs.Leaf.{IsTrieKind, needs_spill}
@@ -17,9 +15,10 @@ use Rattle.mx_trie.specs.Steps.{IsPlaceWritten}
 use Rattle.mx_trie.specs.Built.{line_crowd, page_crowd, region_crowd, region_broken, AreTaken, pools, LinesOwn, LineStands, PagesOwning, PageStands, RegionsOwning, RegionStands, DomainsOwning, DomainStands, Own, IsLineBuilt, AreLinesBuilt, IsPageBuilt, ArePagesBuilt, IsRegionBuilt, AreRegionsBuilt}
 use Rattle.mx_trie.proofs.LineChanges.{IsEntryMade, entry-stays, entry-fresh, entry-taken, entry-shown}
 use Rattle.mx_trie.proofs.PageLines.{word-kept, line-kept}
-use Rattle.mx_trie.proofs.PageTables.{even-of, vector-closed}
+use Rattle.mx_trie.proofs.PageTables.{vector-closed}
 use Rattle.mx_trie.proofs.FlatLaws.{flat-needs, even-line, region-page-even}
-use Rattle.mx_trie.proofs.EvenTables.{whole-by}
+use Rattle.mx_trie.proofs.EvenTables.{even-of, whole-by}
+use Rattle.mx_trie.proofs.RegionPages.{sum_below-none}
 use Rattle.mx_trie.proofs.RegionFrames.{page-owns-same, page-table-kept, page-kept, region-owns-same, region-table-kept, region-kept}
 use Rattle.mx_trie.proofs.DomainFrames.{domain-owns-same, domain-table-kept, domain-kept}
 use Rattle.mx_trie.proofs.BuiltTables.{IsSteady, own-taken, own-free, leaf-written, upper-written, built-none, are-node, built-more, table-built, vector-built}
@@ -70,18 +69,12 @@ taken-left frames frames' n most f taken below room =
 pub one-more-left : (frames frames' : Frames) (n most : ℕ) (f : ℕ → ℕ) → AreTaken frames frames' (1 + sum_below n f) → n < most → 1 + sum_below most f ≤ free_in frames → f n ≤ free_in frames'
 one-more-left frames frames' n most f taken below room = part-left frames frames' 1 n most f taken.count below room
 
--- a sum of nothing
-pub sum-none : (n : ℕ) (f : ℕ → ℕ) → ((i : ℕ) → i < n → f i ≡ 0) → sum_below n f ≡ 0
-unfolding sum_below
-sum-none zero f none = refl
-sum-none (suc n) f none = omega (arith, none n (omega arith), sum-none n f (λ i below. none i (omega arith)))
-
 -- no line of an even page needs a spill word
 pub even-needs : (kind : Kind) (m : List Perm) (y z : ℕ) → z / 64 ≡ y → IsEven m (y * page_words) 128 → needs_spill kind (line_at m (z * 16)) ≡ false
 even-needs kind m y z at even = ap (needs_spill kind) (even-line m y z at even) ∙ flat-needs kind _
 
 pub even-crowd : (kind : Kind) (m : List Perm) (y : ℕ) → IsEven m (y * page_words) 128 → page_crowd kind m y ≡ 0
-even-crowd kind m y even = sum-none 64 (λ i. line_crowd kind m (y * 64 + i)) (λ i below. ap bit (even-needs kind m y (y * 64 + i) (omega arith) even))
+even-crowd kind m y even = sum_below-none 64 (λ i. line_crowd kind m (y * 64 + i)) (λ i below. ap bit (even-needs kind m y (y * 64 + i) (omega arith) even))
 
 -- one line
 module _ (kind : Kind) (k : IsTrieKind kind) (spill spill' : Frames) (m : List Perm) (z e : ℕ) (made : IsEntryMade kind spill spill' None e)
@@ -189,7 +182,7 @@ page-even kind m y leaf spill e whole is =
           vector-built (PagesOwning kind) (PageStands kind m) (pools upper leaf spill) y e (λ a g own. let h = sym own.0 ∙ closed in cc)
           (λ p. absurd (let h = sym p ∙ closed in cc), record { broken = closed ∙ sym whole; vector_is = λ h. is; lines = λ p. absurd (let h = sym p ∙ closed in cc) });
       leaf_taken = taken-none leaf _ (ap bit whole);
-      spill_taken = taken-none spill _ (even-crowd kind m y (even-of m y whole));
+      spill_taken = taken-none spill _ (even-crowd kind m y (even-of 1024 128 m y refl refl (omega arith) whole));
     }
 
 -- the pages of a region
@@ -242,16 +235,16 @@ module _ (kind : Kind) (k : IsTrieKind kind) (m : List Perm) (x : ℕ) where
 -- the pages of an even region
 module _ (kind : Kind) (m : List Perm) (x : ℕ) (whole : is_broken region_words m x ≡ false) where
   even : IsEven m (x * region_words) 131072
-  even = even_from 1048576 131072 m x refl refl (omega arith) (not-false (is_eighth_uniform region_words (block_of region_words m x)) whole)
+  even = even-of 1048576 131072 m x refl refl (omega arith) whole
 
   page : (i : ℕ) → i < 1024 → IsEven m ((x * 1024 + i) * page_words) 128
   page i below = region-page-even m x (x * 1024 + i) (omega arith) even
 
   pub even-broken : region_broken m x ≡ 0
-  even-broken = sum-none 1024 (λ i. bit (is_broken page_words m (x * 1024 + i))) (λ i below. ap bit (whole-by 1024 128 m (x * 1024 + i) refl refl (omega arith) (page i below).parts))
+  even-broken = sum_below-none 1024 (λ i. bit (is_broken page_words m (x * 1024 + i))) (λ i below. ap bit (whole-by 1024 128 m (x * 1024 + i) refl refl (omega arith) (page i below).parts))
 
   pub even-crowds : region_crowd kind m x ≡ 0
-  even-crowds = sum-none 1024 (λ i. page_crowd kind m (x * 1024 + i)) (λ i below. even-crowd kind m (x * 1024 + i) (page i below))
+  even-crowds = sum_below-none 1024 (λ i. page_crowd kind m (x * 1024 + i)) (λ i below. even-crowd kind m (x * 1024 + i) (page i below))
 
   pub region-even : (upper leaf spill : Frames) (e : ℕ) → e ≡ vector region_words m (x * region_words) → IsRegionBuilt kind upper leaf spill upper leaf spill m x e
   region-even upper leaf spill e is =

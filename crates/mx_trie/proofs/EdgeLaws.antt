@@ -14,10 +14,8 @@ use Rattle.mx_trie.specs.Leaf.{needs_spill}
 use Rattle.mx_trie.specs.Laying.{IsLaid}
 use Rattle.mx_trie.specs.Views.{IsRound}
 use Rattle.mx_trie.proofs.Scans.{round-perm}
-use Rattle.mx_trie.proofs.EvenTables.{uniform-from}
+use Rattle.mx_trie.proofs.EvenTables.{even-of, uniform-from}
 use Rattle.mx_trie.proofs.FlatLaws.{flat-needs, region-page-even}
-use Rattle.mx_trie.proofs.PageTables.{even-of}
-use Rattle.mx_trie.proofs.RegionTables.{region-even-of}
 use Rattle.mx_trie.proofs.LineCuts.{line-is}
 use Rattle.mx_trie.specs.Filled.{flat_line}
 use Rattle.std.proofs.lemmas.List.{get_or-replicate, length-replicate}
@@ -26,7 +24,7 @@ use Rattle.mx_words.specs.declared.perm.Perm.TheVariants as P
 -- a page of a region that isn't broken isn't either
 pub even-page : (m : List Perm) (x y : ℕ) → y / 1024 ≡ x → is_broken region_words m x ≡ false → is_broken page_words m y ≡ false
 even-page m x y at whole =
-    ap not (even_is 1024 128 m y refl refl (omega arith) (region-page-even m x y at (region-even-of m x whole)))
+    ap not (even_is 1024 128 m y refl refl (omega arith) (region-page-even m x y at (even-of 1048576 131072 m x refl refl (omega arith) whole)))
 
 pub broken_region : (m : List Perm) (x at : ℕ) → at / 1048576 ≡ x → is_broken page_words m (at / 1024) ≡ true → true ≡ is_broken region_words m x
 broken_region m x at inside broken = by (is_broken region_words m x) refl
@@ -43,7 +41,7 @@ edge_page m at before here within last first other = by (is_broken page_words m 
     by : (b : Bool) → is_broken page_words m (at / 1024) ≡ b → is_broken page_words m (at / 1024) ≡ true
     by true e = e
     by false e =
-        let part = (even-of m (at / 1024) e).parts (at % 1024 / 128) (omega arith) in
+        let part = (even-of 1024 128 m (at / 1024) refl refl (omega arith) e).parts (at % 1024 / 128) (omega arith) in
         let here_is : at / 1024 * page_words + at % 1024 / 128 * 128 + at % 128 ≡ at = omega arith in
         let before_is : at / 1024 * page_words + at % 1024 / 128 * 128 + (at % 128 - 1) ≡ at - 1 = omega arith in
         let same : perm_at m at ≡ perm_at m (at - 1) =

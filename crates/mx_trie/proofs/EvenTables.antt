@@ -16,15 +16,17 @@ uniform-from m first count p some alike =
     record { alike = λ k below. alike k below ∙ sym (ap (perm_at m) (sym zero_more) ∙ alike 0 some) }
 
 module _ (size part : ℕ) (m : List Perm) (b : ℕ) (is : size / 8 ≡ part) (eight : size ≡ 8 * part) (some : 0 < part) where
+  -- a block that isn't broken is even
+  pub even-of : is_broken size m b ≡ false → IsEven m (b * size) part
+  even-of whole = even_from size part m b is eight some (not-false (is_eighth_uniform size (block_of size m b)) whole)
+
   -- a part with more than one permission
   pub broken-by : (e : ℕ) (told : Option Perm) → e < 8 → IsPermOf m (b * size + e * part) part told → told ≡ None → is_broken size m b ≡ true
   broken-by e told below t none = by (is_broken size m b) refl
     where
       by : (v : Bool) → is_broken size m b ≡ v → is_broken size m b ≡ true
       by true h = h
-      by false h =
-          let even : IsEven m (b * size) part = even_from size part m b is eight some (not-false (is_eighth_uniform size (block_of size m b)) h) in
-          absurd (t.mixed none (λ k inside. (even.parts e below).alike k inside))
+      by false h = absurd (t.mixed none (λ k inside. ((even-of h).parts e below).alike k inside))
 
   pub entry-none : (told : Option ℕ) → is_broken size m b ≡ true → told ≡ None → IsEntryOf size m b told
   entry-none told broken none = none ∙ sym (ap (λ (v : Bool). if v then None else Some (vector size m (b * size))) broken)

@@ -4,7 +4,7 @@ use Rattle.std.proofs.lemmas.Bool.{cases_lt, le-ltb}
 use Rattle.mx_words.specs.declared.perm.Perm.{Perm}
 use Rattle.mx_words.specs.declared.tables.Kind.{Kind}
 use Rattle.mx_words.specs.declared.tables.Kind.TheVariants as K
-use Rattle.mx_words.specs.Rights.{number, perm_at}
+use Rattle.mx_words.specs.Rights.{perm_at}
 use Rattle.mx_words.specs.Runs.{line_words}
 use Rattle.mx_trie.specs.declared.laying.Laying.{Laying}
 use Rattle.mx_trie.specs.declared.laying.Beside.{Beside}
@@ -39,10 +39,6 @@ right-ahead kind m z inside =
 
 pub right-out : (kind : Kind) (m : List Perm) (z : ℕ) → length m ≤ z * 16 → map_right kind m z ≡ 0
 right-out kind m z past = ap (λ (b : Bool). if b then form_right kind m (z * 16) else 0) (le-ltb (z * 16) (length m) past)
-
--- a permission of another number is another
-pub number-other : (p q : Perm) → number p ≢ number q → p ≢ q
-number-other p q ne e = ne (ap number e)
 
 -- the reaches of line z after a change
 module _ (kind : Kind) (m : List Perm) (lay : Laying) (b : Beside) (known : IsBeside kind m lay b) (z : ℕ) where

@@ -1,5 +1,5 @@
 -- Tables that stand for a map are read as this map.
-use Rattle.std.proofs.Common.{◌≡◌, ℕ, ◌+◌, ◌*◌, ◌/◌, ◌%◌, ◌<◌, ◌≤◌, true, false, List, length, if◌then◌else◌, refl, sym, ap, ◌∙◌, arith, subst}
+use Rattle.std.proofs.Common.{◌≡◌, ℕ, ◌+◌, ◌*◌, ◌/◌, ◌%◌, ◌<◌, ◌≤◌, true, false, List, length, if◌then◌else◌, refl, sym, ap, ◌∙◌, arith}
 use Rattle.std.proofs.lemmas.List.{get_or_default}
 use Rattle.mx_words.specs.declared.perm.Perm.{Perm}
 use Rattle.mx_words.specs.declared.perm.Perm.TheVariants as P
@@ -14,9 +14,7 @@ use Rattle.mx_trie.specs.Digits.{numbered}
 use Rattle.mx_trie.specs.Leaf.{IsTrieKind}
 use Rattle.mx_trie.specs.Walk.{Frames, is_pointer, target, root_word, spilled_word, line_number, map_left, map_right, vector_perm}
 use Rattle.mx_trie.specs.Read.{leaf_perm, mid_perm, root_perm, read_at, read_map}
-use Rattle.mx_trie.specs.Owned.{IsRootTable}
 use Rattle.mx_trie.specs.Shown.{IsLine, IsPage, IsRegion, IsDomain}
-use Rattle.mx_trie.specs.Standing.{IsRead}
 use Rattle.mx_trie.proofs.LeafSpans.{line-at}
 use Rattle.mx_trie.proofs.ReadLines.{read_line-is}
 use Rattle.mx_trie.proofs.Stored.{line-stored}
@@ -58,11 +56,3 @@ module _ (kind : Kind) (k : IsTrieKind kind) (upper leaf spill : Frames) (m : Li
         let inside : i < most_words = omega (arith, few, long) in
         get_or_default m i d P.None (omega arith)
         ∙ sym (region-read i inside (root_word upper root (i / 1048576)) (walk-region kind upper leaf spill m i inside root _ shown refl)))
-
-    -- tables that stand for some map stand for the one that is read
-    pub read-from : IsRootTable kind upper leaf spill root → IsRead kind words upper leaf spill root
-    read-from table = record {
-      few_words = omega (arith, few, long);
-      table = table;
-      shown = subst (λ (n : List Perm). IsDomain kind upper leaf spill n root) (sym read_map-is) shown;
-    }

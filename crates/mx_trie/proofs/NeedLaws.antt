@@ -22,6 +22,7 @@ use Rattle.mx_trie.specs.Leaf.{IsTrieKind, needs_spill}
 use Rattle.mx_trie.specs.Walk.{most_lines}
 use Rattle.mx_trie.specs.Laying.{spill_lines}
 use Rattle.mx_trie.specs.After.{IsNeedOf}
+use Rattle.mx_trie.proofs.RegionPages.{sum_below-none}
 use Rattle.mx_trie.proofs.NeedOfChange.{need-agree}
 
 -- the lines that need a spill word are the crowded ones in packed tables, and none in plain ones
@@ -46,11 +47,6 @@ unfolding sum_below
 sum_below-each zero more f = omega arith
 sum_below-each (suc n) more f = omega (arith, sum_below-each n more f, suc-mul n more)
 
-sum_below-none : (n : ℕ) (f : ℕ → ℕ) → ((i : ℕ) → f i ≡ 0) → sum_below n f ≡ 0
-unfolding sum_below
-sum_below-none zero f none = refl
-sum_below-none (suc n) f none = omega (arith, none n, sum_below-none n f none)
-
 -- a permission laid over a range makes at most two more lines need a spill word
 pub spill-two : (kind : Kind) → IsTrieKind kind → (m : List Perm) (first count : ℕ) (p : Perm) → first + count ≤ length m → length m ≤ most_words →
     spill_lines kind (laid (grant_of first count p) m) ≤ spill_lines kind m + 2
@@ -70,7 +66,7 @@ need-of-list K.Segments (inr e) maps few = absurd (cc)
 need-of-list K.Multilevel k maps few = record {
   upper = omega (arith, sum_by-below upper_frames maps [], sum_below-each (length maps) 1 (λ d. broken_blocks 1048576 (get_or maps d [])));
   leaf = sum_by-below (broken_blocks page_words) maps [];
-  spill = sym (sum_below-none (length maps) (λ d. spill_lines K.Multilevel (get_or maps d [])) (λ d. spill_lines-plain (get_or maps d [])));
+  spill = sym (sum_below-none (length maps) (λ d. spill_lines K.Multilevel (get_or maps d [])) (λ d below. spill_lines-plain (get_or maps d [])));
 }
 need-of-list K.Packed k maps few = record {
   upper = omega (arith, sum_by-below upper_frames maps [], sum_below-each (length maps) 1 (λ d. broken_blocks 1048576 (get_or maps d [])));

@@ -13,24 +13,6 @@ use Rattle.mx_trie.proofs.HeapLaws.{move-then, move-none}
 use Rattle.mx_trie.proofs.PageLines.{place-table, place-move, place-spills}
 use Rattle.mx_trie.proofs.PageTables.{plain-spills}
 
--- a line without spill word stays
-pub line-free : (kind : Kind) (leaf spill : Frames) (frame place : ℕ) → IsLeafTable kind leaf spill frame → spill_number kind (word_at leaf frame place) ≡ None →
-    IsLineFreed kind leaf spill leaf spill frame place
-line-free kind leaf spill frame place table none = record {
-  written = record {
-    taken = table.self;
-    here = refl;
-    others = λ k ne. refl;
-    elsewhere = λ g ne. refl;
-    free = refl;
-    total = refl;
-  };
-  none = none;
-  move = move-none (heap [] [] spill) (LineOwns kind (word_at leaf frame place)) (LineOwns kind (word_at leaf frame place)) (λ a g own. own);
-  count = (let zero_is : bit (is_some (spill_number kind (word_at leaf frame place))) ≡ 0 = ap (λ (o : Option ℕ). bit (is_some o)) none in omega arith);
-  total = refl;
-}
-
 -- a line's spill word is given back, and then an entry without one is written
 module _ (kind : Kind) (leaf spill leaf' spill' : Frames) (frame place number : ℕ) (was : spill_number kind (word_at leaf frame place) ≡ Some number)
     (written : IsPlaceWritten leaf leaf' frame place (word_at leaf' frame place)) (none : spill_number kind (word_at leaf' frame place) ≡ None)

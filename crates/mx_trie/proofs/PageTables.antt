@@ -6,11 +6,8 @@ use Rattle.mx_words.specs.declared.tables.Kind.{Kind}
 use Rattle.mx_words.specs.Counting.{bit}
 use Rattle.mx_words.specs.Reach.{vector, line_at}
 use Rattle.mx_words.specs.Runs.{page_words}
-use Rattle.mx_words.specs.Blocks.{is_broken, IsEven, block_of}
-use Rattle.mx_words.specs.Runs.{is_eighth_uniform}
-use Rattle.mx_words.proofs.BlockLaws.{even_from}
+use Rattle.mx_words.specs.Blocks.{is_broken}
 use Rattle.mx_words.proofs.CountingLaws.{count_below_none}
-use Rattle.std.proofs.lemmas.Bool.{not-false}
 use Rattle.mx_table.specs.Tables.{most_words}
 use Rattle.mx_pool.specs.Frames.{frame_at, IsTaken, word_at, free_in}
 use Rattle.mx_trie.specs.declared.laying.Laying.{Laying}
@@ -27,10 +24,7 @@ use Rattle.mx_trie.proofs.HeapLaws.{move-none}
 use Rattle.mx_trie.proofs.LineChanges.{taken-differs}
 use Rattle.mx_trie.proofs.Stored.{line-named}
 use Rattle.mx_trie.proofs.FlatLaws.{flat-needs, even-line}
-
--- a page that isn't broken is even
-pub even-of : (m : List Perm) (y : ℕ) → is_broken page_words m y ≡ false → IsEven m (y * page_words) 128
-even-of m y whole = even_from 1024 128 m y refl refl (omega arith) (not-false (is_eighth_uniform page_words (block_of page_words m y)) whole)
+use Rattle.mx_trie.proofs.EvenTables.{even-of}
 
 -- a vector is no pointer
 pub vector-closed : (size : ℕ) (m : List Perm) (first entry : ℕ) → entry ≡ vector size m first → is_pointer entry ≡ false
@@ -96,7 +90,7 @@ module _ (kind : Kind) (leaf spill leaf' : Frames) (lay : Laying) (beside : Besi
         move = record { stays = stays; none = fresh };
         shown = λ m known page. λ k below.
             let whole : is_broken page_words m y ≡ false = sym page.broken ∙ closed in
-            made.lines k below m spill known.long (outer_is m known) (even-of m y whole) (page.vector_is closed);
+            made.lines k below m spill known.long (outer_is m known) (even-of 1024 128 m y refl refl (omega arith) whole) (page.vector_is closed);
         count = omega (arith, made.free, zero_is);
         total = made.total;
         spills = plain-spills kind leaf' spill frame made.none ∙ sym (ap (λ (b : Bool). if b then line_spills kind leaf (target e) else 0) closed);
@@ -157,7 +151,7 @@ module _ (kind : Kind) (k : IsTrieKind kind) (leaf spill leaf' : Frames) (y fram
   none i below =
       let m = closable.stands.map in
       let page : (y * 64 + i) / 64 ≡ y = omega arith in
-      let flat = even-line m y (y * 64 + i) page (even-of m y some.0) in
+      let flat = even-line m y (y * 64 + i) page (even-of 1024 128 m y refl refl (omega arith) some.0) in
       let few : needs_spill kind (line_at m ((y * 64 + i) * 16)) ≡ false = ap (needs_spill kind) flat ∙ flat-needs kind _ in
       line-named kind k spill m (y * 64 + i) (word_at leaf frame i) (closable.stands.lines i below)
       ∙ ap (λ (b : Bool). if b then Some (line_number kind (word_at leaf frame i)) else None) few

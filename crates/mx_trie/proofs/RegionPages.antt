@@ -170,6 +170,7 @@ module _ (kind : Kind) (upper leaf spill upper' leaf' spill' upper'' leaf'' spil
     closed = λ k lt. elim (cases_below k next (omega arith)) [ inl h ↦ way.closed k h | inr h ↦ ap (λ i. is_pointer (word_at upper' frame i)) h ∙ closed ];
   }
 
+-- a sum of nothing
 pub sum_below-none : (n : ℕ) (f : ℕ → ℕ) → ((i : ℕ) → i < n → f i ≡ 0) → sum_below n f ≡ 0
 unfolding sum_below
 sum_below-none zero f none = refl

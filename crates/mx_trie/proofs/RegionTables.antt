@@ -1,13 +1,13 @@
 -- The mid table of a region: made, kept or given back.
 use Rattle.std.proofs.Common.{◌≡◌, ◌≢◌, ℕ, zero, suc, ◌+◌, ◌*◌, ◌/◌, ◌%◌, ◌<◌, inl, inr, Bool, true, false, not, List, length, if◌then◌else◌, Some, None, IsSome, refl, sym, ap, ◌∙◌, arith, subst}
-use Rattle.std.proofs.lemmas.Bool.{eqb-true, not-false}
+use Rattle.std.proofs.lemmas.Bool.{eqb-true}
 use Rattle.mx_words.specs.declared.perm.Perm.{Perm}
 use Rattle.mx_words.specs.declared.tables.Kind.{Kind}
 use Rattle.mx_words.specs.Counting.{bit, count_below, sum_below}
 use Rattle.mx_words.specs.Reach.{vector}
-use Rattle.mx_words.specs.Runs.{page_words, region_words, is_eighth_uniform}
-use Rattle.mx_words.specs.Blocks.{block_of, is_broken, IsEven}
-use Rattle.mx_words.proofs.BlockLaws.{even_from, even_is}
+use Rattle.mx_words.specs.Runs.{page_words, region_words}
+use Rattle.mx_words.specs.Blocks.{is_broken, IsEven}
+use Rattle.mx_words.proofs.BlockLaws.{even_is}
 use Rattle.mx_pool.specs.Frames.{frame_at, word_at, free_in}
 use Rattle.mx_trie.specs.Digits.{digit}
 use Rattle.mx_trie.specs.Filled.{flat_vector}
@@ -21,16 +21,13 @@ use Rattle.mx_trie.proofs.HeapLaws.{move-none}
 use Rattle.mx_trie.proofs.NodeLaws.{node-plain}
 use Rattle.mx_trie.proofs.LineChanges.{taken-differs}
 use Rattle.mx_trie.proofs.FlatLaws.{flat-closed, region-page-even, region-page-vector}
+use Rattle.mx_trie.proofs.EvenTables.{even-of}
 use Rattle.mx_trie.proofs.PageTables.{vector-closed, pointer-open, told-some, told-none}
 use Rattle.mx_trie.proofs.RegionPages.{no-leaves, no-spills}
 
 -- a pointer is four times its frame
 pub target-of : (e : ℕ) → is_pointer e ≡ true → 4 * target e ≡ e
 target-of e pointer = let h = eqb-true (e % 4) 0 pointer in omega arith
-
--- a region that isn't broken is even
-pub region-even-of : (m : List Perm) (x : ℕ) → is_broken region_words m x ≡ false → IsEven m (x * region_words) 131072
-region-even-of m x whole = even_from 1048576 131072 m x refl refl (omega arith) (not-false (is_eighth_uniform region_words (block_of region_words m x)) whole)
 
 -- nothing hangs below a vector
 pub closed-leaves : (upper : Frames) (e : ℕ) → is_pointer e ≡ false → region_leaves upper e ≡ 0
@@ -119,7 +116,7 @@ module _ (kind : Kind) (upper leaf spill upper' : Frames) (e frame : ℕ) (close
 
   shown : (m : List Perm) (x : ℕ) → IsRegion kind upper leaf spill m x e → ArePages kind upper' leaf spill m x frame
   shown m x region k below =
-      let even = region-even-of m x (sym region.broken ∙ closed) in
+      let even = even-of 1048576 131072 m x refl refl (omega arith) (sym region.broken ∙ closed) in
       let at : (x * 1024 + k) / 1024 ≡ x = omega arith in
       let part : k / 128 ≡ (x * 1024 + k) % 1024 / 128 = omega arith in
       record {
@@ -182,7 +179,7 @@ module _ (kind : Kind) (upper leaf spill upper' : Frames) (x frame e : ℕ) (clo
   plain : (k : ℕ) → k < 1024 → is_pointer (word_at upper frame k) ≡ false
   plain k below =
       let at : (x * 1024 + k) / 1024 ≡ x = omega arith in
-      (closable.stands k below).broken ∙ page-whole closable.map x (x * 1024 + k) at (region-even-of closable.map x some.0)
+      (closable.stands k below).broken ∙ page-whole closable.map x (x * 1024 + k) at (even-of 1048576 131072 closable.map x refl refl (omega arith) some.0)
 
   closed-stays : (a g : ℕ) → IsSome (heap upper leaf spill a g) → (MidOwns kind upper leaf frame a g → ⊥) → heap upper' leaf spill a g ≡ heap upper leaf spill a g
   closed-stays zero g there not = elsewhere g (λ h. not (inl (refl, h)))

@@ -20,8 +20,9 @@ use Rattle.mx_trie.specs.Laying.{spill_lines}
 use Rattle.mx_trie.specs.Built.{line_crowd, page_crowd, region_crowd, region_broken}
 use Rattle.mx_trie.proofs.EntryLaws.{some-named}
 use Rattle.mx_trie.proofs.Stored.{line-named}
-use Rattle.mx_trie.proofs.PageTables.{even-of}
-use Rattle.mx_trie.proofs.BuiltBlocks.{sum-none, even-crowd, even-broken, even-crowds}
+use Rattle.mx_trie.proofs.EvenTables.{even-of}
+use Rattle.mx_trie.proofs.RegionPages.{sum_below-none}
+use Rattle.mx_trie.proofs.BuiltBlocks.{even-crowd, even-broken, even-crowds}
 
 -- a page outside RAM has no permission
 out-even : (m : List Perm) (page : ℕ) → length m ≤ page * page_words → IsEven m (page * page_words) 128
@@ -72,7 +73,7 @@ module _ (kind : Kind) (m : List Perm) where
   pages-crowded pages within few =
       let all : pages + (most_pages - pages) ≡ most_pages = omega arith in
       let none : sum_below (most_pages - pages) (λ i. page_crowd kind m (pages + i)) ≡ 0 =
-      sum-none (most_pages - pages) (λ i. page_crowd kind m (pages + i)) (λ i below. even-crowd kind m (pages + i) (out-even m (pages + i) (omega arith))) in
+      sum_below-none (most_pages - pages) (λ i. page_crowd kind m (pages + i)) (λ i below. even-crowd kind m (pages + i) (out-even m (pages + i) (omega arith))) in
       let plus : sum_below (pages + (most_pages - pages)) (page_crowd kind m) ≡ sum_below pages (page_crowd kind m) + sum_below (most_pages - pages) (λ i. page_crowd kind m (pages + i)) =
       sum-plus pages (most_pages - pages) (page_crowd kind m) in
       (let e : sum_below pages (page_crowd kind m) ≡ sum_below (pages + (most_pages - pages)) (page_crowd kind m) = omega (arith, plus, none) in e)
@@ -100,7 +101,7 @@ module _ (kind : Kind) (k : IsTrieKind kind) (upper leaf spill : Frames) (m : Li
       (λ pointer. count-sum 64 _ ∙ sum_below_agree 64 _ (λ i. line_crowd kind m (y * 64 + i))
       (λ i below. ap bit (some-named (needs_spill kind (line_at m ((y * 64 + i) * 16))) _ (line_number kind (word_at leaf (target e) i))
       (line-named kind k spill m (y * 64 + i) (word_at leaf (target e) i) (page.lines pointer i below)))))
-      (λ closed. even-crowd kind m y (even-of m y (sym page.broken ∙ closed)))
+      (λ closed. even-crowd kind m y (even-of 1024 128 m y refl refl (omega arith) (sym page.broken ∙ closed)))
 
   region-spills : (x e : ℕ) → IsRegion kind upper leaf spill m x e → region_spills kind upper leaf e ≡ region_crowd kind m x
   region-spills x e region =

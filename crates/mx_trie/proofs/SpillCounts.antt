@@ -1,5 +1,5 @@
 -- The lines of a range that need a spill word, page by page.
-use Rattle.std.proofs.Common.{◌≡◌, ℕ, ◌+◌, ◌-◌, ◌*◌, ◌%◌, ◌<◌, ◌≤◌, Bool, false, min, max, List, is_some, sym, ap, ◌∙◌, arith, subst}
+use Rattle.std.proofs.Common.{◌≡◌, ℕ, ◌+◌, ◌-◌, ◌*◌, ◌%◌, ◌<◌, ◌≤◌, Bool, false, min, max, List, is_some, sym, ap, ◌∙◌, arith, subst, refl}
 use Rattle.mx_words.specs.declared.perm.Perm.{Perm}
 use Rattle.mx_words.specs.declared.tables.Kind.{Kind}
 use Rattle.mx_words.specs.Counting.{count_below}
@@ -12,7 +12,7 @@ use Rattle.mx_trie.specs.Leaf.{IsTrieKind, needs_spill, spill_number}
 use Rattle.mx_trie.specs.Walk.{Frames, line_number}
 use Rattle.mx_trie.specs.Shown.{IsLine, AreLines}
 use Rattle.mx_trie.specs.After.{count_from, count_within}
-use Rattle.mx_trie.proofs.PageTables.{even-of}
+use Rattle.mx_trie.proofs.EvenTables.{even-of}
 use Rattle.mx_trie.proofs.BuiltBlocks.{even-needs}
 use Rattle.mx_trie.proofs.EntryLaws.{some-named}
 use Rattle.mx_trie.proofs.Stored.{line-named}
@@ -58,4 +58,4 @@ count-within from to page test here behind some =
 pub even-within : (kind : Kind) (m : List Perm) (from to page : ℕ) → is_broken page_words m page ≡ false → 0 ≡ count_within from to (page * 64) 64 (λ z. needs_spill kind (line_at m (z * 16)))
 even-within kind m from to page whole =
     sym (count_below_none (min to (page * 64 + 64) - max from (page * 64)) (λ i. needs_spill kind (line_at m ((max from (page * 64) + i) * 16)))
-    (λ i below. even-needs kind m page (max from (page * 64) + i) (omega arith) (even-of m page whole)))
+    (λ i below. even-needs kind m page (max from (page * 64) + i) (omega arith) (even-of 1024 128 m page refl refl (omega arith) whole)))

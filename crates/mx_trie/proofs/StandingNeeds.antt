@@ -1,7 +1,7 @@
 -- What tables that stand take, and what they need after a change.
 use Rattle.std.proofs.Common.{◌≡◌, ℕ, ◌+◌, ◌*◌, ◌<◌, ◌≤◌, inl, inr, true, List, [], length, get_or, Option, Some, None, IsTrue, refl, sym, ap, ◌∙◌, arith, subst}
 use Rattle.std.proofs.lemmas.Bool.{cases_lt}
-use Rattle.std.proofs.lemmas.List.{get_or-map, get_or_default, same_lists}
+use Rattle.std.proofs.lemmas.List.{get_or-map}
 use Rattle.mx_words.specs.declared.perm.Perm.{Perm}
 use Rattle.mx_words.specs.declared.tables.Kind.{Kind}
 use Rattle.mx_words.specs.declared.tables.Kind.TheVariants as K
@@ -28,6 +28,7 @@ use Rattle.mx_trie.specs.Laying.{spill_lines}
 use Rattle.mx_trie.specs.After.{IsNeedOf, maps_after}
 use Rattle.mx_trie.specs.Standing.{root_at, map_at, IsTables, IsStanding}
 use Rattle.mx_trie.specs.Shape.{length-read_map, length-read_maps}
+use Rattle.mx_trie.proofs.ListedMaps.{read-as}
 use Rattle.mx_trie.proofs.NeedLaws.{spill-two, sum_below-each, need-listed}
 use Rattle.mx_trie.proofs.ShownCounts.{mids-shown, leaves-shown, spills-shown}
 
@@ -148,13 +149,8 @@ module _ (kind : Kind) (k : IsTrieKind kind) (upper leaf spill : Frames) (words 
       (each : (d : ℕ) → d < length roots → map_at kind words upper' leaf' spill' roots d ≡ changed_map change.first change.count (given change (d + 1)) (map_at kind words upper leaf spill roots d)) where
     pub maps-changed : read_maps kind upper' leaf' spill' words roots ≡ changed change (read_maps kind upper leaf spill words roots)
     maps-changed =
-        same_lists (read_maps kind upper' leaf' spill' words roots) (changed change (read_maps kind upper leaf spill words roots))
-        (list-long kind upper' leaf' spill' words roots ∙ sym (changed-long kind upper leaf spill words roots change))
-        (λ d x below.
-        let here : d < length roots = omega (arith, list-long kind upper' leaf' spill' words roots) in
-        get_or_default (read_maps kind upper' leaf' spill' words roots) d x [] below
-        ∙ map-read kind upper' leaf' spill' words roots d here ∙ each d here ∙ sym (changed-read kind upper leaf spill words roots change d here)
-        ∙ sym (get_or_default (changed change (read_maps kind upper leaf spill words roots)) d x [] (omega (arith, changed-long kind upper leaf spill words roots change))))
+        read-as kind words upper' leaf' spill' roots (changed change (read_maps kind upper leaf spill words roots)) (changed-long kind upper leaf spill words roots change)
+        (λ d below. each d below ∙ sym (changed-read kind upper leaf spill words roots change d below))
 
     pub standing-changed : IsTables kind words upper' leaf' spill' roots → length upper' ≡ length upper → length leaf' ≡ length leaf → length spill' ≡ length spill →
         IsTrue (fits kind limit (changed change (read_maps kind upper leaf spill words roots))) → IsStanding kind upper' leaf' spill' roots words limit

@@ -19,8 +19,7 @@ use Rattle.mx_trie.specs.Shown.{IsLine, IsPage, IsRegion}
 use Rattle.mx_trie.specs.Standing.{IsRead}
 use Rattle.mx_trie.specs.Found.{IsLeaf, IsFound}
 use Rattle.mx_trie.proofs.EntryLaws.{some-named}
-use Rattle.mx_trie.proofs.PageTables.{even-of}
-use Rattle.mx_trie.proofs.RegionTables.{region-even-of}
+use Rattle.mx_trie.proofs.EvenTables.{even-of}
 use Rattle.mx_trie.proofs.Stored.{line-named, line-stored}
 use Rattle.mx_trie.proofs.WalkWords.{is-open, is-closed, way-few, way-region, way-page, way-line}
 
@@ -96,7 +95,7 @@ module _ (kind : Kind) (k : IsTrieKind kind) (upper leaf spill : Frames) (words 
     end-root miss =
         let closed = is-closed a miss in (
           level-by kind k _ i false _ _ (sym region.broken ∙ closed) refl refl,
-          record { even = region-even-of _ (i / 1048576) (sym region.broken ∙ closed); entry_is = region.vector_is closed },
+          record { even = even-of 1048576 131072 _ (i / 1048576) refl refl (omega arith) (sym region.broken ∙ closed); entry_is = region.vector_is closed },
         )
 
     module _ (hit : a % 4 ≡ 0) (b : ℕ) (f : b ≡ word_at upper (a / 4) (i / 1024 % 1024)) where
@@ -107,7 +106,7 @@ module _ (kind : Kind) (k : IsTrieKind kind) (upper leaf spill : Frames) (words 
       end-mid miss =
           let closed = is-closed b miss in (
             level-by kind k _ i true false _ (sym region.broken ∙ is-open a hit) (sym page.broken ∙ closed) refl,
-            record { even = even-of _ (i / 1024) (sym page.broken ∙ closed); entry_is = page.vector_is closed },
+            record { even = even-of 1024 128 _ (i / 1024) refl refl (omega arith) (sym page.broken ∙ closed); entry_is = page.vector_is closed },
           )
 
       module _ (also : b % 4 ≡ 0) (l : ℕ) (h : l ≡ word_at leaf (b / 4) (i / 16 % 64)) where

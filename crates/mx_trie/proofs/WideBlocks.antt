@@ -19,9 +19,8 @@ use Rattle.mx_trie.specs.Shown.{IsPage, ArePages}
 use Rattle.mx_trie.specs.Steps.{IsPermOf}
 use Rattle.mx_trie.proofs.Digits.{flat-digits}
 use Rattle.mx_trie.proofs.EvenLines.{perm-some}
-use Rattle.mx_trie.proofs.EvenTables.{uniform-from}
+use Rattle.mx_trie.proofs.EvenTables.{even-of, uniform-from}
 use Rattle.mx_trie.proofs.FlatLaws.{flat-closed, packed-flat, eighths-alike, vector-part}
-use Rattle.mx_trie.proofs.PageTables.{even-of}
 
 -- a block of one permission
 module _ (size part : ℕ) (m : List Perm) (b : ℕ) (p : Perm) (is : size / 8 ≡ part) (eight : size ≡ 8 * part) (some : 0 < part)
@@ -50,7 +49,7 @@ pub flat-page : (m : List Perm) (y : ℕ) (p : Perm) → is_broken page_words m 
 flat-page m y p whole is k below =
     let at : y * 1024 + k ≡ y * 1024 + k / 128 * 128 + k % 128 = omega arith in
     let here : (y * 1024 + k / 128 * 128 + k % 128) / 1024 ≡ y = omega arith in
-    let told = vector-part 1024 128 m y (k / 128) (k % 128) (flat_vector (number p)) refl here (omega arith) (omega arith) (even-of m y whole) is in
+    let told = vector-part 1024 128 m y (k / 128) (k % 128) (flat_vector (number p)) refl here (omega arith) (omega arith) (even-of 1024 128 m y refl refl (omega arith) whole) is in
     ap (perm_at m) at ∙ number-one_to_one _ p (sym told ∙ flat-digit (number p) (k / 128) (number-small p) (omega arith))
 
 -- an eighth of a region

@@ -1,20 +1,9 @@
-use Rattle.std.proofs.Common.{ℕ, ◌+◌, ◌*◌, refl, sym, subst, arith}
+use Rattle.std.proofs.Common.{ℕ, ◌+◌, ◌*◌, sym, subst, arith}
 use Rattle.mx_trie.specs.Views.{IsRound}
 use Rattle.mx_trie.proofs.Scans.{round-perm}
 use Rattle.mx_trie.proofs.LinePerms.{told-more, told-all, along-round, round-along}
 use Rattle.mx_trie.proofs.entry.perms_in.Goals as goal
 use Rattle.mx_trie.proofs.entry.perms_in.Goals.{then-span-word, else-span-word}
-
-pub loop-place-init : goal.loop-place-init
-loop-place-init g c = λ m few line. (
-  record { long = refl; told = λ k lt. absurd (omega arith) },
-  along-round m (c.args.line * 16) (c.args.line * 16 + 0) c.around_line-span.result (c.around_line-span.ensures m few line) (omega arith),
-)
-
-pub overflow_add-span : goal.overflow_add-span
-overflow_add-span g c =
-    let some = c.requires.stands in
-    let h = (c.loop-place.invariant some.map some.few some.line).1.whole in record { fits = omega arith }
 
 pub loop-place-preserved : goal.loop-place-preserved
 loop-place-preserved g c = λ m few line.

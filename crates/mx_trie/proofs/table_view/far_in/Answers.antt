@@ -3,20 +3,14 @@ use Rattle.mx_words.specs.declared.perm.Span.{Span}
 use Rattle.mx_trie.specs.Read.{read_map}
 use Rattle.mx_trie.specs.Views.{IsRound}
 use Rattle.mx_trie.proofs.TableSpans.{wide-pages, wide-lines}
-use Rattle.mx_trie.proofs.WalkWords.{is-open, is-closed, way-few, way-region, way-mid, way-page, way-leaf}
+use Rattle.mx_trie.proofs.WalkWords.{is-open, is-closed, way-few, way-region, way-page}
 use Rattle.mx_trie.proofs.table_view.far_in.Goals as goal
 
-pub wide_pages-requires : goal.wide_pages-requires
-wide_pages-requires g c =
-    let table = way-mid g.L.LeafForm.kind c.args.upper.now c.args.leaf.now c.args.spill.now c.requires.read.0 c.args.root c.requires.read.1 c.args.word c.requires.word
-    c.root_entry-in_root.result c.root_entry-in_root.ensures c.if-in_root-ne0.false in
-    record { taken = table.node.self; whole = (c.around_in-near.ensures c.requires.read.0 c.requires.read.1).whole; word = c.requires.word }
+pub wide_pages-requires-clause-whole : goal.wide_pages-requires-clause-whole
+wide_pages-requires-clause-whole g c = (c.around_in-near.ensures c.requires.read.0 c.requires.read.1).whole
 
-pub wide_lines-requires : goal.wide_lines-requires
-wide_lines-requires g c =
-    let table = way-leaf g.L.LeafForm.kind c.args.upper.now c.args.leaf.now c.args.spill.now c.requires.read.0 c.args.root c.requires.read.1 c.args.word c.requires.word
-    c.root_entry-in_root.result c.root_entry-in_root.ensures c.if-in_root-ne0.false c.get-in_mid.result c.get-in_mid.ensures c.if-in_mid-ne0.false in
-    record { taken = table.self; whole = (c.around_in-near.ensures c.requires.read.0 c.requires.read.1).whole; word = c.requires.word }
+pub wide_lines-requires-clause-whole : goal.wide_lines-requires-clause-whole
+wide_lines-requires-clause-whole g c = (c.around_in-near.ensures c.requires.read.0 c.requires.read.1).whole
 
 pub returns-then-in_mid-ne0 : goal.returns-then-in_mid-ne0
 returns-then-in_mid-ne0 g c = λ words read.

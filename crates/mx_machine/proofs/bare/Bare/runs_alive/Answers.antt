@@ -1,9 +1,9 @@
 use Rattle.std.proofs.Common.{◌≡◌, ℕ, false, refl, sym, ap, ◌∙◌, get_or}
+use Rattle.std.proofs.lemmas.Bool.{not-true}
 use Rattle.mx_machine.specs.declared.hart.Progress.TheVariants as G
 use Rattle.mx_machine.specs.Harts.{hart_of}
 use Rattle.mx_machine.specs.Held.{Held}
 use Rattle.mx_machine.proofs.MayLaws.{hart-there}
-use Rattle.mx_machine.proofs.StretchLaws.{live-of}
 use Rattle.mx_machine.proofs.bare.Bare.runs_alive.Goals as goal
 
 pub returns-in-Running : goal.returns-in-Running
@@ -16,5 +16,5 @@ returns-in-Running g c = λ live.
     record {
       there = hart-there m h c.requires.whole G.Running at refl;
       runs = at;
-      alive = ap (λ (n : ℕ). get_or m.dead n false) (sym d) ∙ sym c.is_dead.ensures ∙ live-of c.is_dead.result live;
+      alive = ap (λ (n : ℕ). get_or m.dead n false) (sym d) ∙ sym c.is_dead.ensures ∙ not-true c.is_dead.result live;
     }
