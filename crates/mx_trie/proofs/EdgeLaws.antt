@@ -1,9 +1,9 @@
 -- Blocks that aren't eighth-uniform, told by two neighbours, or by one of their pages; and those that a range covers.
-use Rattle.std.proofs.Common.{◌≡◌, ◌≢◌, ℕ, ◌+◌, ◌-◌, ◌*◌, ◌/◌, ◌%◌, ◌<◌, ◌≤◌, Bool, true, false, not, List, refl, sym, ap, ◌∙◌, arith}
+use Rattle.std.proofs.Common.{◌≡◌, ◌≢◌, ℕ, ◌-◌, ◌*◌, ◌/◌, ◌%◌, ◌<◌, true, false, List, refl, sym, arith}
 use Rattle.mx_words.specs.declared.perm.Perm.{Perm}
 use Rattle.mx_words.specs.declared.perm.Span.{Span}
 use Rattle.mx_words.specs.declared.tables.Kind.{Kind}
-use Rattle.mx_words.specs.Rights.{number, perm_at}
+use Rattle.mx_words.specs.Rights.{number}
 use Rattle.mx_words.specs.Runs.{page_words, region_words}
 use Rattle.mx_words.specs.Reach.{line_at}
 use Rattle.mx_words.specs.Blocks.{is_broken}
@@ -14,59 +14,40 @@ use Rattle.mx_trie.specs.Leaf.{needs_spill}
 use Rattle.mx_trie.specs.Laying.{IsLaid}
 use Rattle.mx_trie.specs.Views.{IsRound}
 use Rattle.mx_trie.proofs.Scans.{round-perm}
+use Rattle.std.proofs.lemmas.Bool.{true_from_ne_false}
 use Rattle.mx_trie.proofs.EvenTables.{even-of, uniform-from}
 use Rattle.mx_trie.proofs.FlatLaws.{flat-needs, region-page-even}
 use Rattle.mx_trie.proofs.LineCuts.{line-is}
 use Rattle.mx_trie.specs.Filled.{flat_line}
 use Rattle.std.proofs.lemmas.List.{get_or-replicate, length-replicate}
-use Rattle.mx_words.specs.declared.perm.Perm.TheVariants as P
 
 -- a page of a region that isn't broken isn't either
-pub even-page : (m : List Perm) (x y : ℕ) → y / 1024 ≡ x → is_broken region_words m x ≡ false → is_broken page_words m y ≡ false
+pub even-page : (m : List Perm) (x y : ℕ) → y / 1024 ≡ x → is_broken region_words m x ≡ false →
+    is_broken page_words m y ≡ false
 even-page m x y at whole =
-    ap not (even_is 1024 128 m y refl refl (omega arith) (region-page-even m x y at (even-of 1048576 131072 m x refl refl (omega arith) whole)))
+    search (arith, even_is 1024 128 m y refl refl (omega arith), region-page-even m x y at, even-of 1048576 131072 m x refl refl (omega arith) whole)
 
-pub broken_region : (m : List Perm) (x at : ℕ) → at / 1048576 ≡ x → is_broken page_words m (at / 1024) ≡ true → true ≡ is_broken region_words m x
-broken_region m x at inside broken = by (is_broken region_words m x) refl
-  where
-    by : (b : Bool) → is_broken region_words m x ≡ b → true ≡ is_broken region_words m x
-    by true e = sym e
-    by false e = absurd (let whole : true ≡ false = sym broken ∙ even-page m x (at / 1024) (omega arith) e in cc)
+pub broken_region : (m : List Perm) (x at : ℕ) → at / 1048576 ≡ x → is_broken page_words m (at / 1024) ≡ true →
+    true ≡ is_broken region_words m x
+broken_region m x at inside broken =
+    sym (true_from_ne_false _ (λ e. cc (broken, even-page m x (at / 1024) (omega arith) e)))
 
 -- a page in which two neighbours of one eighth differ
-pub edge_page : (m : List Perm) (at : ℕ) (before here : Span) → at % 128 ≢ 0 → IsRound m (at - 1) before → IsRound m at here →
+pub edge_page : (m : List Perm) (at : ℕ) (before here : Span) → at % 128 ≢ 0 → IsRound m (at - 1) before →
+    IsRound m at here →
     number here.perm ≢ number before.perm → is_broken page_words m (at / 1024) ≡ true
-edge_page m at before here within last first other = by (is_broken page_words m (at / 1024)) refl
-  where
-    by : (b : Bool) → is_broken page_words m (at / 1024) ≡ b → is_broken page_words m (at / 1024) ≡ true
-    by true e = e
-    by false e =
-        let part = (even-of 1024 128 m (at / 1024) refl refl (omega arith) e).parts (at % 1024 / 128) (omega arith) in
-        let here_is : at / 1024 * page_words + at % 1024 / 128 * 128 + at % 128 ≡ at = omega arith in
-        let before_is : at / 1024 * page_words + at % 1024 / 128 * 128 + (at % 128 - 1) ≡ at - 1 = omega arith in
-        let same : perm_at m at ≡ perm_at m (at - 1) =
-        sym (ap (perm_at m) here_is) ∙ part.alike (at % 128) (omega arith) ∙ sym (part.alike (at % 128 - 1) (omega arith)) ∙ ap (perm_at m) before_is in
-        absurd (other (ap number (sym (round-perm m at here first) ∙ same ∙ round-perm m (at - 1) before last)))
+edge_page m at before here within last first other = true_from_ne_false _ (λ e. let part = (even-of 1024 128 m (at / 1024) refl refl (omega arith) e).parts (at % 1024 / 128) (omega arith) in
+    grind (arith, part.alike (at % 128), part.alike (at % 128 - 1), round-perm m at here first, round-perm m (at - 1) before last))
 
 -- blocks of which all words lie in a range that has one permission
 module _ (m : List Perm) (lay : Laying) (is : IsLaid m lay) (b : ℕ) where
-  pub laid-whole : (size part : ℕ) → size / 8 ≡ part → size ≡ 8 * part → 0 < part → lay.first ≤ b * size → b * size + size ≤ lay.end → is_broken size m b ≡ false
-  laid-whole size part eighth eight some from to =
-      whole-even size part m b eighth eight some
-      (uniform-from m (b * size) size lay.perm (omega arith) (λ k below. is.laid (b * size + k) (omega arith) (omega arith)))
-
   -- between the blocks of its two ends
-  pub inner-whole : (size part : ℕ) → size / 8 ≡ part → size ≡ 8 * part → 0 < part → lay.first / size < b → b < (lay.end - 1) / size → is_broken size m b ≡ false
+  pub inner-whole : (size part : ℕ) → size / 8 ≡ part → size ≡ 8 * part → 0 < part → lay.first / size < b →
+      b < (lay.end - 1) / size → is_broken size m b ≡ false
   inner-whole size part eighth eight some above below =
-      let from = block-above size b lay.first (omega arith) above in
-      let to = block-below size b (lay.end - 1) (omega arith) below in
-      laid-whole size part eighth eight some (omega arith) (omega arith)
+      search (arith, block-above, lay.first, block-below, lay.end, whole-even, uniform-from, lay.perm, is.laid)
 
-  pub laid-needs : (kind : Kind) → lay.first ≤ b * 16 → b * 16 + 16 ≤ lay.end → needs_spill kind (line_at m (b * 16)) ≡ false
-  laid-needs kind from to =
-      ap (needs_spill kind)
-      (line-is m b (flat_line lay.perm) (length-replicate 16 lay.perm) (λ k below. is.laid (b * 16 + k) (omega arith) (omega arith) ∙ sym (get_or-replicate 16 k lay.perm P.None below)))
-      ∙ flat-needs kind lay.perm
-
-  pub inner-needs : (kind : Kind) → lay.first / 16 < b → b < (lay.end - 1) / 16 → needs_spill kind (line_at m (b * 16)) ≡ false
-  inner-needs kind above below = laid-needs kind (omega arith) (omega arith)
+  pub inner-needs : (kind : Kind) → lay.first / 16 < b → b < (lay.end - 1) / 16 →
+      needs_spill kind (line_at m (b * 16)) ≡ false
+  inner-needs kind above below =
+      search (arith, flat-needs kind lay.perm, line-is m b (flat_line lay.perm) (length-replicate 16 lay.perm), is.laid, get_or-replicate)

@@ -1,6 +1,7 @@
 -- Tables of which each domain is read as a map of a list.
-use Rattle.std.proofs.Common.{◌≡◌, ℕ, ◌<◌, List, [], length, get_or, sym, ◌∙◌, arith}
-use Rattle.std.proofs.lemmas.List.{same_lists, get_or_default, get_or-map}
+use Rattle.std.proofs.Common.{◌≡◌, ℕ, ◌<◌, List, [], length, get_or, arith}
+use Rattle.std.proofs.lemmas.List.{get_or-map}
+use Rattle.std.proofs.lemmas.List.{ext_get_or}
 use Rattle.mx_words.specs.declared.perm.Perm.{Perm}
 use Rattle.mx_words.specs.declared.tables.Kind.{Kind}
 use Rattle.mx_trie.specs.Walk.{Frames}
@@ -8,14 +9,10 @@ use Rattle.mx_trie.specs.Read.{read_map, read_maps}
 use Rattle.mx_trie.specs.Standing.{map_at}
 use Rattle.mx_trie.specs.Shape.{length-read_maps}
 
-pub read-as : (kind : Kind) (words : ℕ) (upper leaf spill : Frames) (roots : List ℕ) (list : List (List Perm)) → length list ≡ length roots →
-    ((d : ℕ) → d < length roots → map_at kind words upper leaf spill roots d ≡ get_or list d []) → read_maps kind upper leaf spill words roots ≡ list
+pub read-as : (kind : Kind) (words : ℕ) (upper leaf spill : Frames) (roots : List ℕ) (list : List (List Perm)) →
+    length list ≡ length roots →
+    ((d : ℕ) → d < length roots → map_at kind words upper leaf spill roots d ≡ get_or list d []) →
+    read_maps kind upper leaf spill words roots ≡ list
 unfolding read_maps
 read-as kind words upper leaf spill roots list long each =
-    same_lists (read_maps kind upper leaf spill words roots) list (length-read_maps kind upper leaf spill words roots ∙ sym long)
-    (λ d x below.
-    let inside : d < length roots = omega (arith, length-read_maps kind upper leaf spill words roots) in
-    get_or_default (read_maps kind upper leaf spill words roots) d x [] below
-    ∙ get_or-map (read_map kind upper leaf spill words) roots d 0 [] inside
-    ∙ each d inside
-    ∙ sym (get_or_default list d x [] (omega (arith, long, inside))))
+    search (arith, ext_get_or {A = List Perm} [], length-read_maps, get_or-map (read_map kind upper leaf spill words) roots, each)

@@ -1,5 +1,5 @@
 -- The parts of a packed entry.
-use Rattle.std.proofs.Common.{◌≡◌, ℕ, ◌+◌, ◌*◌, ◌/◌, ◌%◌, ◌^◌, ◌<◌, ◌≤◌, List, length, ◌∙◌, arith}
+use Rattle.std.proofs.Common.{◌≡◌, ℕ, ◌/◌, ◌%◌, ◌≤◌, List, length, arith}
 use Rattle.mx_words.specs.declared.perm.Perm.{Perm}
 use Rattle.mx_words.specs.Rights.{same}
 use Rattle.mx_words.specs.Runs.{runs, runs_of}
@@ -17,18 +17,8 @@ pub record IsMade (perms : List Perm) (left right entry : ℕ) : Type 0 where
   pub tagged : entry % 4 ≡ 2
   pub entry_is : entry ≡ mini_entry (runs_of same perms) left right
 
-pub mini-made : (perms : List Perm) (left right entry : ℕ) → length perms ≤ 16 → left ≤ 31 → right ≤ 31 → runs perms ≤ 4 →
+pub mini-made : (perms : List Perm) (left right entry : ℕ) → length perms ≤ 16 → left ≤ 31 → right ≤ 31 →
+    runs perms ≤ 4 →
     entry ≡ mini_entry (runs_of same perms) left right → IsMade perms left right entry
 mini-made perms left right entry short l r few e =
-    let v : value_code perms < 4 ^ 4 = value_code-below perms 4 few in
-    let s : start_code 0 perms < 16 ^ 3 = start_code-below 0 perms 3 (omega arith) (omega arith) in
-    let is : entry ≡ 2 + 4 * value_code perms + 1024 * start_code 0 perms + 4194304 * right + 134217728 * left = e ∙ mini-codes perms left right few in
-    record {
-      few = few;
-      values = omega arith;
-      starts = omega arith;
-      left_is = omega arith;
-      right_is = omega arith;
-      tagged = omega arith;
-      entry_is = e;
-    }
+    omega (arith, mini-codes perms left right few, value_code-below perms 4 few, start_code-below 0 perms 3 (omega arith) (omega arith))

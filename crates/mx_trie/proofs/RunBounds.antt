@@ -1,5 +1,5 @@
 -- A run of equal permissions, given by the same permission inside and another one at both edges.
-use Rattle.std.proofs.Common.{◌≡◌, ℕ, ◌-◌, ◌<◌, ◌≤◌, true, false, List, length}
+use Rattle.std.proofs.Common.{◌≡◌, ℕ, ◌-◌, ◌<◌, ◌≤◌, true, false, List, length, arith}
 use Rattle.mx_words.specs.declared.perm.Perm.{Perm}
 use Rattle.mx_words.specs.Rights.{same, perm_at}
 use Rattle.mx_words.specs.Reach.{span_within}
@@ -18,14 +18,4 @@ pub record IsRunIn (m : List Perm) (low high i first last : ℕ) : Type 0 where
 
 pub span_within-is : (m : List Perm) (low high i first last : ℕ) → IsRunIn m low high i first last →
     span_within m low high i ≡ record { first = first; count = last - first; perm = perm_at m i }
-span_within-is m low high i first last r =
-    span_within_is m low high first last i r.in_map
-    (record {
-      from = r.from;
-      left = r.begun;
-      right = r.ended;
-      to = r.up_to;
-      inside = λ k least below. same_eq (perm_at m i) (perm_at m k) (r.inside k least below);
-      before = r.before;
-      after = r.behind;
-    })
+span_within-is m low high i first last r = search (arith, span_within_is, same_eq, r.inside, r.before, r.behind)

@@ -1,10 +1,9 @@
 -- What tables that stand take, and what they need after a change.
-use Rattle.std.proofs.Common.{◌≡◌, ℕ, ◌+◌, ◌*◌, ◌<◌, ◌≤◌, inl, inr, true, List, [], length, get_or, Option, Some, None, IsTrue, refl, sym, ap, ◌∙◌, arith, subst}
+use Rattle.std.proofs.Common.{◌≡◌, ℕ, ◌+◌, ◌*◌, ◌<◌, ◌≤◌, true, List, [], length, get_or, IsTrue, refl, arith}
 use Rattle.std.proofs.lemmas.Bool.{cases_lt}
 use Rattle.std.proofs.lemmas.List.{get_or-map}
 use Rattle.mx_words.specs.declared.perm.Perm.{Perm}
 use Rattle.mx_words.specs.declared.tables.Kind.{Kind}
-use Rattle.mx_words.specs.declared.tables.Kind.TheVariants as K
 use Rattle.mx_words.specs.declared.tables.Need.{Need}
 use Rattle.mx_words.specs.Changes.{changed_map, grant_of}
 use Rattle.mx_words.specs.Newest.{laid}
@@ -21,7 +20,7 @@ use Rattle.mx_table.proofs.ChangedMaps.{length-changed, changed-at}
 use Rattle.mx_table.proofs.WithinLaws.{within-parts, within-whole}
 use Rattle.mx_pool.specs.Frames.{free_in}
 use Rattle.mx_trie.specs.Leaf.{IsTrieKind, form_reach}
-use Rattle.mx_trie.specs.Walk.{Frames, most_regions, most_pages}
+use Rattle.mx_trie.specs.Walk.{Frames}
 use Rattle.mx_trie.specs.Read.{read_map, read_maps}
 use Rattle.mx_trie.specs.Owned.{domain_mids, domain_leaves, domain_spills}
 use Rattle.mx_trie.specs.Laying.{spill_lines}
@@ -32,49 +31,25 @@ use Rattle.mx_trie.proofs.ListedMaps.{read-as}
 use Rattle.mx_trie.proofs.NeedLaws.{spill-two, sum_below-each, need-listed}
 use Rattle.mx_trie.proofs.ShownCounts.{mids-shown, leaves-shown, spills-shown}
 
--- a kind whose entries have no reach has no spill words
-no-spills : (kind : Kind) → IsTrieKind kind → (maps : List (List Perm)) → form_reach kind ≤ 0 → (need kind maps).spill ≡ 0
-no-spills K.Segments k maps none = refl
-no-spills K.Multilevel k maps none = refl
-no-spills K.Packed k maps none = absurd (omega arith)
-
--- what counts at most two more after a permission is laid over a range
-changed-two : (first count : ℕ) (f : List Perm → ℕ) (o : Option Perm) (m : List Perm) → ((p : Perm) → f (laid (grant_of first count p) m) ≤ f m + 2) → f (changed_map first count o m) ≤ 2 + f m
-changed-two first count f None m more = omega arith
-changed-two first count f (Some p) m more = omega (arith, more p)
-
 module _ (kind : Kind) (upper leaf spill : Frames) (words : ℕ) (roots : List ℕ) where
-  pub map-read : (d : ℕ) → d < length roots → get_or (read_maps kind upper leaf spill words roots) d [] ≡ map_at kind words upper leaf spill roots d
+  pub map-read : (d : ℕ) → d < length roots →
+      get_or (read_maps kind upper leaf spill words roots) d [] ≡ map_at kind words upper leaf spill roots d
   unfolding read_maps
   map-read d below = get_or-map (read_map kind upper leaf spill words) roots d 0 [] below
 
   pub long : (d : ℕ) → length (map_at kind words upper leaf spill roots d) ≡ words
   long d = length-read_map kind upper leaf spill words roots (root_at roots d)
 
-  list-long : length (read_maps kind upper leaf spill words roots) ≡ length roots
-  list-long = length-read_maps kind upper leaf spill words roots
-
-  module _ (change : Change) where
-    changed-read : (d : ℕ) → d < length roots →
-        get_or (changed change (read_maps kind upper leaf spill words roots)) d [] ≡ changed_map change.first change.count (given change (d + 1)) (map_at kind words upper leaf spill roots d)
-    changed-read d below =
-        changed-at change (read_maps kind upper leaf spill words roots) d (omega (arith, list-long))
-        ∙ ap (changed_map change.first change.count (given change (d + 1))) (map-read d below)
-
-    changed-long : length (changed change (read_maps kind upper leaf spill words roots)) ≡ length roots
-    changed-long = length-changed change (read_maps kind upper leaf spill words roots) ∙ list-long
-
   module _ (k : IsTrieKind kind) (few : words ≤ most_words) where
-    pub need-read : IsNeedOf kind (length roots) (map_at kind words upper leaf spill roots) (need kind (read_maps kind upper leaf spill words roots))
-    need-read =
-        need-listed kind k (length roots) (map_at kind words upper leaf spill roots) (read_maps kind upper leaf spill words roots) list-long map-read (λ d below. omega (arith, few, long d))
+    pub need-read : IsNeedOf kind (length roots) (map_at kind words upper leaf spill roots)
+        (need kind (read_maps kind upper leaf spill words roots))
+    need-read = search (arith, need-listed, length-read_maps, map-read, long)
 
-    pub need-changed : (change : Change) → IsNeedOf kind (length roots) (maps_after change (map_at kind words upper leaf spill roots))
+    pub need-changed : (change : Change) →
+        IsNeedOf kind (length roots) (maps_after change (map_at kind words upper leaf spill roots))
         (need kind (changed change (read_maps kind upper leaf spill words roots)))
     need-changed change =
-        need-listed kind k (length roots) (maps_after change (map_at kind words upper leaf spill roots))
-        (changed change (read_maps kind upper leaf spill words roots)) (changed-long change) (changed-read change)
-        (λ d below. omega (arith, few, long d, length-changed_map change.first change.count (given change (d + 1)) (map_at kind words upper leaf spill roots d)))
+        search (arith, need-listed, length-changed, length-read_maps, changed-at, map-read, long, length-changed_map)
 
 -- the frames that are free, and those that the maps need, are all frames; and two for each domain are free
 pub record IsCounted (n : ℕ) (upper leaf spill : Frames) (limit needed : Need) : Type 0 where
@@ -85,83 +60,58 @@ pub record IsCounted (n : ℕ) (upper leaf spill : Frames) (limit needed : Need)
   pub leaf_room : 2 * n ≤ free_in leaf
   pub spill_room : 2 * n ≤ free_in spill
 
-module _ (kind : Kind) (k : IsTrieKind kind) (upper leaf spill : Frames) (words : ℕ) (roots : List ℕ) (limit : Need) (stands : IsStanding kind upper leaf spill roots words limit) where
-  maps : ℕ → List Perm
+module _ (kind : Kind) (k : IsTrieKind kind) (upper leaf spill : Frames) (words : ℕ) (roots : List ℕ) (limit : Need)
+    (stands : IsStanding kind upper leaf spill roots words limit) where
+  abbrev maps : ℕ → List Perm
   maps = map_at kind words upper leaf spill roots
 
   pub frames-counted : IsCounted (length roots) upper leaf spill limit (need kind (read_maps kind upper leaf spill words roots))
-  unfolding maps
   frames-counted =
       let is = need-read kind upper leaf spill words roots k stands.tables.few_words in
       let most = within-parts (need kind (read_maps kind upper leaf spill words roots)) limit stands.fit in
-      let short : (d : ℕ) → length (maps d) ≤ most_words = λ d. omega (arith, stands.tables.few_words, long kind upper leaf spill words roots d) in
-      let mids = sum_below_agree (length roots) (λ d. domain_mids upper (root_at roots d)) (λ d. broken_blocks region_words (maps d))
-      (λ d below. mids-shown kind k upper leaf spill (maps d) (short d) (root_at roots d) (stands.tables.shown d below)) in
-      let leaves = sum_below_agree (length roots) (λ d. domain_leaves upper (root_at roots d)) (λ d. broken_blocks page_words (maps d))
-      (λ d below. leaves-shown kind k upper leaf spill (maps d) (short d) (root_at roots d) (stands.tables.shown d below)) in
-      let spills = sum_below_agree (length roots) (λ d. domain_spills kind upper leaf (root_at roots d)) (λ d. spill_lines kind (maps d))
-      (λ d below. spills-shown kind k upper leaf spill (maps d) (short d) (root_at roots d) (stands.tables.shown d below)) in
-      record {
-        upper_free = omega (arith, mids, is.upper, stands.tables.upper_count, stands.upper_total);
-        leaf_free = omega (arith, leaves, is.leaf, stands.tables.leaf_count, stands.leaf_total);
-        spill_free = omega (arith, spills, is.spill, stands.tables.spill_count, stands.spill_total);
-        upper_room = omega (arith, mids, is.upper, stands.tables.upper_count, stands.upper_total, most.upper);
-        leaf_room = omega (arith, leaves, is.leaf, stands.tables.leaf_count, stands.leaf_total, most.leaf);
-        spill_room = omega (arith, spills, is.spill, stands.tables.spill_count, stands.spill_total, most.spill);
-      }
+      let t = stands.tables in let n : ℕ = length roots in
+      let short : (d : ℕ) → length (maps d) ≤ most_words =
+      λ d. omega (arith, t.few_words, long kind upper leaf spill words roots d) in
+      let u = sum_below_agree n (λ d. domain_mids upper (root_at roots d)) (λ d. broken_blocks region_words (maps d)) (λ d b. mids-shown kind k upper leaf spill _ (short d) _ (t.shown d b)) in
+      let l = sum_below_agree n (λ d. domain_leaves upper (root_at roots d)) (λ d. broken_blocks page_words (maps d)) (λ d b. leaves-shown kind k upper leaf spill _ (short d) _ (t.shown d b)) in
+      let s = sum_below_agree n (λ d. domain_spills kind upper leaf (root_at roots d)) (λ d. spill_lines kind (maps d)) (λ d b. spills-shown kind k upper leaf spill _ (short d) _ (t.shown d b)) in
+      search arith
 
   -- a change takes at most two more frames of each sort for each domain, so it fits where there are as many beside the spare ones
   module _ (change : Change) (inside : change.first + change.count ≤ words) where
-    sum-two : (f : List Perm → ℕ) → ((d : ℕ) (p : Perm) → f (laid (grant_of change.first change.count p) (maps d)) ≤ f (maps d) + 2) →
-        sum_below (length roots) (λ d. f (changed_map change.first change.count (given change (d + 1)) (maps d))) ≤ sum_below (length roots) (λ d. f (maps d)) + 2 * length roots
+    sum-two : (f : List Perm → ℕ) → ((d : ℕ) (p : Perm) →
+        f (laid (grant_of change.first change.count p) (maps d)) ≤ f (maps d) + 2) →
+        sum_below (length roots)
+        (λ d. f (changed_map change.first change.count (given change (d + 1)) (maps d))) ≤ sum_below (length roots)
+        (λ d. f (maps d)) + 2 * length roots
     sum-two f more =
-        let le = sum_below_at_most (length roots) (λ d. f (changed_map change.first change.count (given change (d + 1)) (maps d))) (λ d. 2 + f (maps d))
-        (λ d below. changed-two change.first change.count f (given change (d + 1)) (maps d) (more d)) in
+        let le = sum_below_at_most (length roots) (λ d. f (changed_map change.first change.count (given change (d + 1)) (maps d))) (λ d. 2 + f (maps d)) (λ d below. grind (arith, more)) in
         omega (arith, le, sum_below-each (length roots) 2 (λ d. f (maps d)))
 
-    pub spacious-fits : 4 * length roots ≤ free_in upper → 4 * length roots ≤ free_in leaf → (0 < form_reach kind → 4 * length roots ≤ free_in spill) →
+    pub spacious-fits : 4 * length roots ≤ free_in upper → 4 * length roots ≤ free_in leaf →
+        (0 < form_reach kind → 4 * length roots ≤ free_in spill) →
         fits kind limit (changed change (read_maps kind upper leaf spill words roots)) ≡ true
-    unfolding maps
     spacious-fits upper_room leaf_room spill_room =
         let few = stands.tables.few_words in
+        let all = frames-counted in let len = long kind upper leaf spill words roots in
         let is = need-read kind upper leaf spill words roots k few in
         let new = need-changed kind upper leaf spill words roots k few change in
-        let all = frames-counted in
-        let short : (d : ℕ) → length (maps d) ≤ most_words = λ d. omega (arith, few, long kind upper leaf spill words roots d) in
-        let fit : (d : ℕ) → change.first + change.count ≤ length (maps d) = λ d. omega (arith, inside, long kind upper leaf spill words roots d) in
-        within-whole (need kind (changed change (read_maps kind upper leaf spill words roots))) limit (record {
-          upper = (let more = sum-two (broken_blocks region_words)
-              (λ d p. broken_blocks-after (maps d) change.first change.count p (fit d) region_words 131072 most_regions refl refl (omega arith) (short d)) in
-              omega (arith, more, is.upper, new.upper, all.upper_free));
-          leaf = (let more = sum-two (broken_blocks page_words)
-              (λ d p. broken_blocks-after (maps d) change.first change.count p (fit d) page_words 128 most_pages refl refl (omega arith) (short d)) in
-              omega (arith, more, is.leaf, new.leaf, all.leaf_free));
-          spill = elim (cases_lt 0 (form_reach kind)) [
-            | inl some ↦ (let more = sum-two (spill_lines kind) (λ d p. spill-two kind k (maps d) change.first change.count p (fit d) (short d)) in
-                let room = spill_room some in
-                omega (arith, more, is.spill, new.spill, all.spill_free))
-            | inr none ↦ omega (arith, no-spills kind k (changed change (read_maps kind upper leaf spill words roots)) none)
-          ];
-        })
+        let u = sum-two (broken_blocks region_words) (λ d p. broken_blocks-after (maps d) _ _ p (omega (arith, len d)) region_words 131072 16 refl refl (omega arith) (omega (arith, len d))) in
+        let l = sum-two (broken_blocks page_words) (λ d p. broken_blocks-after (maps d) _ _ p (omega (arith, len d)) page_words 128 16384 refl refl (omega arith) (omega (arith, len d))) in
+        let s = sum-two (spill_lines kind) (λ d p. spill-two kind k (maps d) change.first change.count p (omega (arith, len d)) (omega (arith, len d))) in
+        search (arith, within-whole, cases_lt 0 (form_reach kind), spill_room)
 
   -- tables that stand for the changed maps are read as these, and stand where they fit
   module _ (change : Change) (upper' leaf' spill' : Frames)
-      (each : (d : ℕ) → d < length roots → map_at kind words upper' leaf' spill' roots d ≡ changed_map change.first change.count (given change (d + 1)) (map_at kind words upper leaf spill roots d)) where
+      (each : (d : ℕ) → d < length roots →
+      map_at kind words upper' leaf' spill' roots d ≡ changed_map change.first change.count (given change (d + 1))
+      (map_at kind words upper leaf spill roots d)) where
     pub maps-changed : read_maps kind upper' leaf' spill' words roots ≡ changed change (read_maps kind upper leaf spill words roots)
     maps-changed =
-        read-as kind words upper' leaf' spill' roots (changed change (read_maps kind upper leaf spill words roots)) (changed-long kind upper leaf spill words roots change)
-        (λ d below. each d below ∙ sym (changed-read kind upper leaf spill words roots change d below))
+        search (arith, read-as, length-changed, length-read_maps, changed-at, map-read, change.first, change.count)
 
-    pub standing-changed : IsTables kind words upper' leaf' spill' roots → length upper' ≡ length upper → length leaf' ≡ length leaf → length spill' ≡ length spill →
-        IsTrue (fits kind limit (changed change (read_maps kind upper leaf spill words roots))) → IsStanding kind upper' leaf' spill' roots words limit
-    standing-changed tables upper_same leaf_same spill_same fit = record {
-      some_words = stands.some_words;
-      some_domains = stands.some_domains;
-      few_domains = stands.few_domains;
-      limited = stands.limited;
-      tables = tables;
-      upper_total = upper_same ∙ stands.upper_total;
-      leaf_total = leaf_same ∙ stands.leaf_total;
-      spill_total = spill_same ∙ stands.spill_total;
-      fit = subst (λ (ms : List (List Perm)). IsTrue (fits kind limit ms)) (sym maps-changed) fit;
-    }
+    pub standing-changed : IsTables kind words upper' leaf' spill' roots → length upper' ≡ length upper →
+        length leaf' ≡ length leaf → length spill' ≡ length spill →
+        IsTrue (fits kind limit (changed change (read_maps kind upper leaf spill words roots))) →
+        IsStanding kind upper' leaf' spill' roots words limit
+    standing-changed tables upper_same leaf_same spill_same fit = search (arith, maps-changed)

@@ -5,4 +5,5 @@ use Rattle.mx_trie.proofs.Counted.{IsCountedTo}
 use Rattle.mx_trie.proofs.after.lines_spilled.Given as goal
 
 abbrev pub invariant-loop-line : goal.invariant-loop-line
-invariant-loop-line g l = IsCountedTo l.from l.line l.to l.count (λ z. is_some (spill_number g.L.LeafForm.kind (word_at l.leaf l.frame (z % 64))))
+invariant-loop-line g l =
+    IsCountedTo l.from l.line l.to l.count (λ z. is_some (spill_number g.L.LeafForm.kind (word_at l.leaf l.frame (z % 64))))

@@ -1,5 +1,5 @@
-use Rattle.std.proofs.Common.{◌+◌, ◌-◌, ◌/◌, sym, ◌∙◌, arith}
-use Rattle.mx_trie.proofs.DomainPages.{path-taken, mid-taken, leaf-taken, leaf-broken, leaf-lines}
+use Rattle.std.proofs.Common.{◌+◌, ◌-◌, ◌/◌, sym, ◌∙◌}
+use Rattle.mx_trie.proofs.DomainPages.{path-taken, leaf-taken, leaf-broken, leaf-lines}
 use Rattle.mx_trie.proofs.SpillCounts.{even-within}
 use Rattle.mx_trie.proofs.after.page_spilled.Goals as goal
 
@@ -11,15 +11,6 @@ pub returns-then-not-has_table-clause-count : goal.returns-then-not-has_table-cl
 returns-then-not-has_table-clause-count g c spill m shown =
     even-within g.L.LeafForm.kind m (c.args.lay.now.first / 16) ((c.args.lay.now.end - 1) / 16 + 1) c.args.page
     (sym (leaf-broken g.L.LeafForm.kind c.args.upper.now c.args.leaf.now spill c.args.root c.args.page c.requires.page m shown) ∙ sym c.has_table.ensures ∙ c.if-not-has_table.true)
-
-pub get-frame-requires : goal.get-frame-requires
-get-frame-requires g c = (
-  omega arith,
-  (
-    mid-taken g.L.LeafForm.kind c.args.upper.now c.args.leaf.now c.requires.read.0 c.args.root c.args.page c.requires.page c.requires.read.1.table c.root_entry-mid.result c.root_entry-mid.ensures (sym c.has_table.ensures ∙ c.if-not-has_table.false),
-    omega arith,
-  ),
-)
 
 pub lines_spilled-requires-clause-taken : goal.lines_spilled-requires-clause-taken
 lines_spilled-requires-clause-taken g c =

@@ -6,10 +6,7 @@ use Rattle.mx_trie.proofs.SpillCounts.{count-none, count-within}
 use Rattle.mx_trie.proofs.after.pages_spilled.Goals as goal
 
 pub loop-page-init : goal.loop-page-init
-loop-page-init g c = record {
-  counted = λ spill m shown. count-none (c.args.lay.now.first / 16) (min ((c.args.lay.now.end - 1) / 16 + 1) (c.args.lay.now.first / 1024 * 64)) (λ z. needs_spill g.L.LeafForm.kind (line_at m (z * 16))) (omega arith);
-  few = omega arith;
-}
+loop-page-init g c = search (arith, count-none, c.args.lay.now.first, c.args.lay.now.end, g.L.LeafForm.kind)
 
 pub loop-page-preserved : goal.loop-page-preserved
 loop-page-preserved g c =
@@ -28,6 +25,6 @@ loop-page-preserved g c =
 
 pub returns-clause-count : goal.returns-clause-count
 returns-clause-count g c spill m shown =
-    let behind = c.loop-page-test.false in
-    let all : min ((c.args.lay.now.end - 1) / 16 + 1) (c.loop-page.page * 64) ≡ (c.args.lay.now.end - 1) / 16 + 1 = omega arith in
+    let all : min ((c.args.lay.now.end - 1) / 16 + 1) (c.loop-page.page * 64) ≡ (c.args.lay.now.end - 1) / 16 + 1 =
+    omega arith in
     c.loop-page.invariant.counted spill m shown ∙ ap (λ n. count_from (c.args.lay.now.first / 16) n (λ z. needs_spill g.L.LeafForm.kind (line_at m (z * 16)))) all

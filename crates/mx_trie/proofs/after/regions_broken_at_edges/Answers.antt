@@ -12,6 +12,6 @@ returns-then-first-last-clause-count g c =
 pub returns-clause-count : goal.returns-clause-count
 returns-clause-count g c =
     edges-two (c.args.lay.now.first / region_words) ((c.args.lay.now.end - 1) / region_words) _ _ (is_broken region_words (g.V.View.map c.args.new.now)) _ _
-    (let some = c.args.lay.now.some in let apart = c.if-first-last.false in omega arith)
+    (omega arith)
     (λ i above below. inner-whole (g.V.View.map c.args.new.now) c.args.lay.now c.requires.laid i region_words 131072 refl refl (omega arith) above below)
     c.from-at_first.ensures c.is_region_broken.ensures c.from.ensures c.is_region_broken-2.ensures

@@ -1,21 +1,18 @@
-use Rattle.std.proofs.Common.{◌+◌, ◌*◌, [], IsSome, refl, sym, subst, arith}
-use Rattle.mx_trie.specs.Built.{line_crowd}
+use Rattle.std.proofs.Common.{[], IsSome, refl, sym, subst, arith}
 use Rattle.mx_trie.proofs.BuiltBlocks.{lines-begun, lines-built-more, taken-left}
 use Rattle.mx_trie.proofs.build.build_lines.Goals as goal
 
 pub loop-line-init : goal.loop-line-init
 loop-line-init g c =
-    let e = c.in-Some.ensures in
-    lines-begun g.L.LeafForm.kind g.met.L.LeafForm.trie (g.V.View.map c.args.view.now) c.args.page c.args.leaf.now c.args.spill.now c.take.new.self c.in-Some.frame
-    e.was_free (subst (λ o. IsSome o) (sym e.here) refl) e.elsewhere (record { count = e.fewer; total = e.total })
+    search (arith, lines-begun, g.L.LeafForm.kind, g.met.L.LeafForm.trie, g.V.View.map, c.args.page, c.args.leaf.now, c.args.spill.now, c.take.new.self, c.in-Some.frame)
 
 pub build_line-entry-requires-clause-room : goal.build_line-entry-requires-clause-room
 build_line-entry-requires-clause-room g c =
-    taken-left c.args.spill.now c.loop-line.spill c.loop-line.line 64 (λ i. line_crowd g.L.LeafForm.kind (g.V.View.map c.args.view.now) (c.args.page * 64 + i))
-    c.loop-line.invariant.spill_taken (omega (arith, c.loop-line-test.true)) c.requires.spill_room
+    search (arith, taken-left, c.args.spill.now, c.loop-line.spill, c.loop-line.line, g.L.LeafForm.kind, g.V.View.map, c.args.page, c.loop-line.invariant.spill_taken)
 
 pub set-requires : goal.set-requires
-set-requires g c = (omega arith, ((c.loop-line.invariant.built []).self 1 c.in-Some.frame (refl, refl), omega (arith, c.loop-line-test.true)))
+set-requires g c =
+    (omega arith, ((c.loop-line.invariant.built []).self 1 c.in-Some.frame (refl, refl), omega (arith, c.loop-line-test.true)))
 
 pub loop-line-preserved : goal.loop-line-preserved
 loop-line-preserved g c =

@@ -1,7 +1,5 @@
 use Rattle.std.proofs.Common.{◌*◌, ◌≡◌, ℕ, not, sym, ap, ◌∙◌, subst, arith}
 use Rattle.std.proofs.Math.Bool.{not-not}
-use Rattle.mx_words.specs.Blocks.{is_broken}
-use Rattle.mx_words.specs.Runs.{page_words}
 use Rattle.mx_trie.specs.Built.{AreLinesBuilt}
 use Rattle.mx_trie.specs.Walk.{target}
 use Rattle.mx_trie.proofs.PageTables.{pointer-open}
@@ -14,8 +12,7 @@ returns-then-is_page_even g c =
     (sym (not-not _) ∙ ap not (sym c.is_page_even.ensures ∙ c.if-is_page_even.true)) c.page_vector.ensures
 
 pub build_lines-requires-clause-leaf_room : goal.build_lines-requires-clause-leaf_room
-build_lines-requires-clause-leaf_room g c =
-    broken-room (is_broken page_words (g.V.View.map c.args.view.now) c.args.page) _ (sym (not-not _) ∙ ap not (sym c.is_page_even.ensures ∙ c.if-is_page_even.false)) c.requires.leaf_room
+build_lines-requires-clause-leaf_room g c = search (arith, broken-room, g.V.View.map, not-not)
 
 pub returns-else-is_page_even : goal.returns-else-is_page_even
 returns-else-is_page_even g c =

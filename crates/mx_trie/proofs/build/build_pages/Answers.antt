@@ -23,7 +23,8 @@ build_page-entry-requires-clause-spill_room g c =
     c.loop-page.invariant.spill_taken (omega (arith, c.loop-page-test.true)) c.requires.spill_room
 
 pub set-requires : goal.set-requires
-set-requires g c = (omega arith, (c.loop-page.invariant.built.self 0 c.in-Some.frame (refl, refl), omega (arith, c.loop-page-test.true)))
+set-requires g c =
+    (omega arith, (c.loop-page.invariant.built.self 0 c.in-Some.frame (refl, refl), omega (arith, c.loop-page-test.true)))
 
 pub loop-page-preserved : goal.loop-page-preserved
 loop-page-preserved g c =

@@ -36,9 +36,6 @@ build_root-root-requires-clause-spill_room g c =
     (ap (row_map c.args.words) (c.row-item.is ∙ get_or_default c.args.rows.now c.loop-row.row-index item [] c.loop-row-test.true)) (omega (arith, length-row c.args.words item, c.requires.small))
     (length c.args.rows.now) c.loop-row-test.true c.requires.room
 
-pub push-requires : goal.push-requires
-push-requires g c = omega (arith, c.loop-row.invariant.count, c.loop-row-test.true, c.requires.few)
-
 pub loop-row-preserved : goal.loop-row-preserved
 loop-row-preserved g c =
     let item = c.row-item.result in
@@ -50,7 +47,9 @@ loop-row-preserved g c =
 
 pub returns : goal.returns
 returns g c =
-    let e : c.loop-row.row-index ≡ length c.args.rows.now = omega (arith, c.loop-row.auto.row-index-end, c.loop-row-test.false) in
-    let T : ℕ → Type 0 = λ i. AreRowsBuilt g.L.LeafForm.kind (rows_map c.args.words c.args.rows.now) c.args.upper.now c.args.leaf.now c.args.spill.now c.loop-row.upper c.loop-row.leaf c.loop-row.spill c.loop-row.roots i in
+    let e : c.loop-row.row-index ≡ length c.args.rows.now =
+    omega (arith, c.loop-row.auto.row-index-end, c.loop-row-test.false) in
+    let T : ℕ → Type 0 =
+    λ i. AreRowsBuilt g.L.LeafForm.kind (rows_map c.args.words c.args.rows.now) c.args.upper.now c.args.leaf.now c.args.spill.now c.loop-row.upper c.loop-row.leaf c.loop-row.spill c.loop-row.roots i in
     rows-built g.L.LeafForm.kind g.met.L.LeafForm.trie c.args.words c.requires.small (rows_map c.args.words c.args.rows.now) (λ d. length-row c.args.words (get_or c.args.rows.now d [])) c.args.upper.now c.args.leaf.now c.args.spill.now
     c.loop-row.upper c.loop-row.leaf c.loop-row.spill c.loop-row.roots (length c.args.rows.now) c.requires.room (subst T e c.loop-row.invariant)

@@ -1,15 +1,15 @@
-use Rattle.std.proofs.Common.{◌+◌, ◌≡◌, ℕ, [], length, sym, ap, ◌∙◌, subst, arith}
+use Rattle.std.proofs.Common.{◌+◌, [], sym, ap, ◌∙◌, arith}
 use Rattle.std.proofs.lemmas.List.{get_or_default}
 use Rattle.mx_words.specs.Runs.{page_words, region_words, broken_blocks}
 use Rattle.mx_table.specs.Tables.{row_map}
 use Rattle.mx_trie.specs.Laying.{spill_lines}
-use Rattle.mx_trie.specs.After.{IsNeedOf}
 use Rattle.mx_trie.specs.Built.{rows_map}
 use Rattle.mx_trie.proofs.BuiltRows.{length-row, need-none, need-more}
 use Rattle.mx_trie.proofs.build.need_of_rows.Goals as goal
 
 pub loop-row-init : goal.loop-row-init
-loop-row-init g c = record { told = need-none g.L.LeafForm.kind (rows_map c.args.words c.args.rows.now); few_upper = omega arith; few_leaf = omega arith; few_spill = omega arith }
+loop-row-init g c =
+    record { told = need-none g.L.LeafForm.kind (rows_map c.args.words c.args.rows.now); few_upper = omega arith; few_leaf = omega arith; few_spill = omega arith }
 
 pub need_of-need-requires-clause-words : goal.need_of-need-requires-clause-words
 need_of-need-requires-clause-words g c = sym (length-row c.args.words c.row-item.result)
@@ -26,9 +26,3 @@ loop-row-preserved g c =
       few_leaf = omega (arith, i.few_leaf, e.few_leaf);
       few_spill = omega (arith, i.few_spill, e.few_spill);
     }
-
-pub returns : goal.returns
-returns g c =
-    let e : c.loop-row.row-index ≡ length c.args.rows.now = omega (arith, c.loop-row.auto.row-index-end, c.loop-row-test.false) in
-    let T : ℕ → Type 0 = λ i. IsNeedOf g.L.LeafForm.kind i (rows_map c.args.words c.args.rows.now) c.loop-row.all in
-    subst T e c.loop-row.invariant.told

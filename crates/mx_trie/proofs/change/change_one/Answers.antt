@@ -1,18 +1,13 @@
-use Rattle.std.proofs.Common.{◌+◌, ◌∙◌}
+use Rattle.std.proofs.Common.{◌+◌, ◌∙◌, arith}
 use Rattle.mx_table.specs.Change.{given}
 use Rattle.mx_trie.specs.Standing.{map_at}
-use Rattle.mx_trie.proofs.DomainsChanged.{tables-read, tables-changed, map-changed, map-others}
+use Rattle.mx_trie.proofs.DomainsChanged.{tables-changed, map-changed, map-others}
 use Rattle.mx_trie.proofs.NeedOfChange.{laid-named}
 use Rattle.mx_trie.proofs.change.change_one.Goals as goal
 
-pub change_domain-requires-clause-read : goal.change_domain-requires-clause-read
-change_domain-requires-clause-read g c =
-    tables-read g.L.LeafForm.kind c.args.words c.in-Some.lay.words c.args.upper.now c.args.leaf.now c.args.spill.now c.args.roots.now c.args.row c.at.result c.requires.tables c.requires.row c.in-Some.ensures.words c.at.ensures
-
 pub returns-in-Some-clause-tables : goal.returns-in-Some-clause-tables
 returns-in-Some-clause-tables g c =
-    tables-changed g.L.LeafForm.kind g.met.L.LeafForm.trie c.args.words c.args.upper.now c.args.leaf.now c.args.spill.now c.change_domain.new.upper c.change_domain.new.leaf c.change_domain.new.spill
-    c.args.roots.now c.requires.tables c.args.row c.requires.row c.in-Some.lay c.in-Some.ensures.words c.at.result c.at.ensures c.change_domain.ensures
+    search (arith, tables-changed, g.met.L.LeafForm.trie, c.requires.tables, c.requires.row, c.in-Some.lay, c.in-Some.ensures.words, c.at.ensures)
 
 pub returns-in-Some-clause-changed : goal.returns-in-Some-clause-changed
 returns-in-Some-clause-changed g c =
@@ -24,5 +19,4 @@ returns-in-Some-clause-changed g c =
 
 pub returns-in-Some-clause-same : goal.returns-in-Some-clause-same
 returns-in-Some-clause-same g c =
-    map-others g.L.LeafForm.kind g.met.L.LeafForm.trie c.args.words c.args.upper.now c.args.leaf.now c.args.spill.now c.change_domain.new.upper c.change_domain.new.leaf c.change_domain.new.spill
-    c.args.roots.now c.requires.tables c.args.row c.requires.row c.in-Some.lay c.in-Some.ensures.words c.at.result c.at.ensures c.change_domain.ensures
+    search (arith, map-others, g.met.L.LeafForm.trie, c.requires.tables, c.requires.row, c.in-Some.lay, c.in-Some.ensures.words, c.at.ensures)

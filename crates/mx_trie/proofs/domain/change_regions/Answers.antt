@@ -1,40 +1,11 @@
 use Rattle.std.proofs.Common.{arith}
-use Rattle.mx_pool.specs.Frames.{free_in}
-use Rattle.mx_trie.proofs.DomainRegions.{regions-none, regions-more, regions-all, next-region, next-table, next-room, root-taken}
+use Rattle.mx_trie.proofs.DomainRegions.{regions-none, regions-more, regions-all, root-taken}
 use Rattle.mx_trie.proofs.domain.change_regions.Goals as goal
 
 pub loop-region-init : goal.loop-region-init
 loop-region-init g c =
     regions-none g.L.LeafForm.kind g.met.L.LeafForm.trie c.args.upper.now c.args.leaf.now c.args.spill.now c.args.lay.now c.args.beside.now c.args.root
     _ c.requires.table (omega (arith, c.near_first-from.ensures, c.REACH.ensures, g.met.L.LeafForm.reach))
-
-pub change_region-new-requires-clause-table : goal.change_region-new-requires-clause-table
-change_region-new-requires-clause-table g c =
-    next-table g.L.LeafForm.kind g.met.L.LeafForm.trie c.args.upper.now c.args.leaf.now c.args.spill.now c.args.lay.now c.args.beside.now c.args.root
-    c.loop-region.upper c.loop-region.leaf c.loop-region.spill c.loop-region.region c.loop-region.invariant (omega (arith, c.loop-region-test.true, c.near_last.ensures)) c.root_entry-old.result c.root_entry-old.ensures
-
-pub change_region-new-requires-clause-stands : goal.change_region-new-requires-clause-stands
-change_region-new-requires-clause-stands g c =
-    next-region g.L.LeafForm.kind g.met.L.LeafForm.trie c.args.upper.now c.args.leaf.now c.args.spill.now c.args.lay.now c.args.beside.now c.args.root
-    c.loop-region.upper c.loop-region.leaf c.loop-region.spill c.loop-region.region c.loop-region.invariant (omega (arith, c.loop-region-test.true, c.near_last.ensures)) c.root_entry-old.result c.root_entry-old.ensures c.requires.stands
-
-pub change_region-new-requires-clause-upper_room : goal.change_region-new-requires-clause-upper_room
-change_region-new-requires-clause-upper_room g c =
-    next-room g.L.LeafForm.kind g.met.L.LeafForm.trie c.args.upper.now c.args.leaf.now c.args.spill.now c.args.lay.now c.args.beside.now c.args.root
-    c.loop-region.upper c.loop-region.leaf c.loop-region.spill c.loop-region.region c.loop-region.invariant (omega (arith, c.loop-region-test.true, c.near_last.ensures)) c.root_entry-old.result c.root_entry-old.ensures
-    (free_in c.args.upper.now) (free_in c.loop-region.upper) c.requires.upper_room c.loop-region.invariant.upper_room
-
-pub change_region-new-requires-clause-leaf_room : goal.change_region-new-requires-clause-leaf_room
-change_region-new-requires-clause-leaf_room g c =
-    next-room g.L.LeafForm.kind g.met.L.LeafForm.trie c.args.upper.now c.args.leaf.now c.args.spill.now c.args.lay.now c.args.beside.now c.args.root
-    c.loop-region.upper c.loop-region.leaf c.loop-region.spill c.loop-region.region c.loop-region.invariant (omega (arith, c.loop-region-test.true, c.near_last.ensures)) c.root_entry-old.result c.root_entry-old.ensures
-    (free_in c.args.leaf.now) (free_in c.loop-region.leaf) c.requires.leaf_room c.loop-region.invariant.leaf_room
-
-pub change_region-new-requires-clause-spill_room : goal.change_region-new-requires-clause-spill_room
-change_region-new-requires-clause-spill_room g c =
-    next-room g.L.LeafForm.kind g.met.L.LeafForm.trie c.args.upper.now c.args.leaf.now c.args.spill.now c.args.lay.now c.args.beside.now c.args.root
-    c.loop-region.upper c.loop-region.leaf c.loop-region.spill c.loop-region.region c.loop-region.invariant (omega (arith, c.loop-region-test.true, c.near_last.ensures)) c.root_entry-old.result c.root_entry-old.ensures
-    (free_in c.args.spill.now) (free_in c.loop-region.spill) c.requires.spill_room c.loop-region.invariant.spill_room
 
 pub set_root_entry-requires-clause-root : goal.set_root_entry-requires-clause-root
 set_root_entry-requires-clause-root g c =

@@ -19,4 +19,5 @@ loop-place-preserved g c = λ m few line.
     )
 
 pub returns : goal.returns
-returns g c = λ m few line. told-all m c.args.line c.loop-place.place c.loop-place.perms c.loop-place-test.false (c.loop-place.invariant m few line).0
+returns g c =
+    λ m few line. told-all m c.args.line c.loop-place.place c.loop-place.perms c.loop-place-test.false (c.loop-place.invariant m few line).0

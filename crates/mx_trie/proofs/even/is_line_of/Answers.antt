@@ -11,8 +11,10 @@ returns-in-Some-clause-yes g c = λ spill m few line told k inside.
 
 pub returns-in-Some-clause-no : goal.returns-in-Some-clause-no
 returns-in-Some-clause-no g c = λ spill m few line told alike.
-    let same : c.in-Some.found ≡ c.args.perm = sym ((c.line_perm.ensures spill m few line).alike c.in-Some.found c.in-Some.is 0 (omega arith)) ∙ alike 0 (omega arith) in
-    let equal : c.number.result ≡ c.number-in-Some.result = c.number.ensures ∙ ap number same ∙ sym c.number-in-Some.ensures in
+    let same : c.in-Some.found ≡ c.args.perm =
+    sym ((c.line_perm.ensures spill m few line).alike c.in-Some.found c.in-Some.is 0 (omega arith)) ∙ alike 0 (omega arith) in
+    let equal : c.number.result ≡ c.number-in-Some.result =
+    c.number.ensures ∙ ap number same ∙ sym c.number-in-Some.ensures in
     let no : true ≡ false = sym (eq-eqb _ _ equal) ∙ told in
     cc
 

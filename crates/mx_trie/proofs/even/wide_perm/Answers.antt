@@ -16,7 +16,8 @@ returns-then-entry-flat_vector c = λ kind leaf spill m x pages.
     let words = wide-word kind c.args.upper.now leaf spill m x c.args.frame c.args.part c.requires.part pages alike in
     let n = number (perm_at m (x * 1048576 + c.args.part * 131072)) in
     let at : 128 * c.args.part ≡ 128 * c.args.part + 0 = omega arith in
-    let entry_is : c.get-entry.result ≡ flat_vector n = c.get-entry.ensures ∙ ap (word_at c.args.upper.now c.args.frame) at ∙ words 0 (omega arith) in
+    let entry_is : c.get-entry.result ≡ flat_vector n =
+    c.get-entry.ensures ∙ ap (word_at c.args.upper.now c.args.frame) at ∙ words 0 (omega arith) in
     elim c.then-entry-flat_vector.branch [
       | then-entry-flat_vector-via-then-entry-flat_vector w ↦
           (let told : number c.perm_in-perm.result ≡ n =

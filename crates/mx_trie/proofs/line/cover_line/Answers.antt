@@ -1,23 +1,15 @@
-use Rattle.std.proofs.Common.{◌≡◌, ℕ, ◌+◌, ◌-◌, ◌*◌, ◌^◌, ◌<◌, false, min, Option, sym, ◌∙◌, subst, arith}
-use Rattle.mx_pool.specs.Frames.{IsTaken}
+use Rattle.std.proofs.Common.{◌≡◌, ℕ, ◌+◌, ◌-◌, ◌*◌, false, min, Option, sym, ◌∙◌, subst, arith}
 use Rattle.mx_trie.specs.Filled.{flat_line}
 use Rattle.mx_trie.specs.Leaf.{form_reach}
 use Rattle.mx_trie.specs.Spills.{IsSpillPut}
 use Rattle.mx_trie.proofs.FlatLaws.{flat-needs}
-use Rattle.mx_trie.proofs.LineChanges.{if-some, spill-small, line-changed}
+use Rattle.mx_trie.proofs.LineChanges.{line-changed}
 use Rattle.mx_trie.proofs.LineCuts.{cover-perms}
 use Rattle.mx_trie.proofs.LineReaches.{left-in, right-in}
 use Rattle.mx_trie.proofs.line.cover_line.Goals as goal
 
-pub put_spill-requires-clause-taken : goal.put_spill-requires-clause-taken
-put_spill-requires-clause-taken g c = if-some (λ n. IsTaken c.args.spill.now n) _ _ c.spill_of.ensures.value c.requires.taken
-
-pub put_spill-requires-clause-few : goal.put_spill-requires-clause-few
-put_spill-requires-clause-few g c = if-some (λ n. n < 2 ^ 30) _ _ c.spill_of.ensures.value (λ n is. spill-small g.L.LeafForm.kind c.args.entry n c.ranges.entry.fits is)
-
 pub returns : goal.returns
 returns g c =
-    let lay = c.args.lay.now in
     let from = c.requires.from in
     let to = c.requires.to in
     line-changed g.L.LeafForm.kind g.met.L.LeafForm.trie c.args.spill.now c.put_spill.new.spill c.args.lay.now c.args.beside.now c.args.line c.args.entry c.flat.result
@@ -38,8 +30,7 @@ returns g c =
       perms_are = λ m known line. cover-perms g.L.LeafForm.kind m c.args.lay.now c.args.beside.now known c.args.line c.requires.line from to;
       left_is = λ m known line.
           left-in g.L.LeafForm.kind m c.args.lay.now c.args.beside.now known c.args.line from (omega arith)
-          ∙ let e : min (form_reach g.L.LeafForm.kind) (c.args.line * 16 - c.args.lay.now.first + c.args.beside.now.before) ≡ c.min-left.result =
-          omega (arith, c.min-left.ensures, c.REACH.ensures, g.met.L.LeafForm.reach) in e;
+          ∙ (omega (arith, c.min-left.ensures, c.REACH.ensures, g.met.L.LeafForm.reach));
       right_is = λ m known line.
           right-in g.L.LeafForm.kind m c.args.lay.now c.args.beside.now known c.args.line (omega arith) to
           ∙ let e : min (form_reach g.L.LeafForm.kind) (c.args.lay.now.end - (c.args.line * 16 + 16) + c.args.beside.now.behind) ≡ c.min-right.result =

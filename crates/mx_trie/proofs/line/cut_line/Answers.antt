@@ -1,7 +1,6 @@
-use Rattle.std.proofs.Common.{◌≡◌, ℕ, ◌+◌, ◌-◌, ◌*◌, ◌≤◌, inl, inr, min, length, Option, ◌∙◌, subst, arith}
+use Rattle.std.proofs.Common.{◌≡◌, ◌+◌, ◌-◌, ◌*◌, ◌≤◌, inl, inr, min, length, ◌∙◌, arith}
 use Rattle.mx_table.specs.Tables.{most_words}
 use Rattle.mx_trie.specs.Leaf.{form_reach}
-use Rattle.mx_trie.specs.Spills.{IsSpillPut}
 use Rattle.mx_trie.proofs.LineChanges.{line-changed}
 use Rattle.mx_trie.proofs.LineCuts.{cut-perms, cut-left-kept, cut-left-new, cut-right-kept, cut-right-new}
 use Rattle.mx_trie.proofs.line.cut_line.Goals as goal
@@ -11,18 +10,7 @@ pub returns : goal.returns
 returns g c =
     line-changed g.L.LeafForm.kind g.met.L.LeafForm.trie c.args.spill.now c.put_spill-number.new.spill c.args.lay.now c.args.beside.now c.args.line c.args.entry c.entry.result
     (record {
-      made = record {
-        perms = c.lay_over-new.result;
-        left = c.min-2.result;
-        right = c.min-3.result;
-        number = c.put_spill-number.result;
-        word = c.entry-word.result;
-        needs = c.needs_spill.result;
-        needs_is = c.needs_spill.ensures;
-        put = subst (λ (o : Option ℕ). IsSpillPut c.args.spill.now c.put_spill-number.new.spill o c.needs_spill.result c.entry-word.result c.put_spill-number.result) c.spill_of.ensures.value c.put_spill-number.ensures;
-        word_is = λ h. c.entry-word.ensures;
-        entry_is = c.entry.ensures;
-      };
+      made = search (arith, c.args.spill.now, c.put_spill-number.new.spill, c.needs_spill.result, c.entry-word.result, c.spill_of.ensures.value);
       room = λ h. (let before = c.requires.before in let behind = c.requires.behind in elim c.requires.part [ inl x ↦ omega arith | inr x ↦ omega arith ]);
       perms_are = λ m known line.
           (let long = known.long in let few = c.args.lay.now.few in

@@ -7,17 +7,15 @@ use Rattle.mx_trie.proofs.line.left_behind.Goals.{then-begin-lay-via-then-begin-
 
 pub returns-then-begin-lay-clause-value : goal.returns-then-begin-lay-clause-value
 returns-then-begin-lay-clause-value c kind m known most old perm =
-    let long = known.long in
     elim c.then-begin-lay.branch [
       | then-begin-lay-via-then-begin-lay w ↦
-          old ∙ left-outside kind m c.args.lay.now c.args.beside.now known c.args.line c.requires.behind (let h = w.if-begin-lay.true in omega arith)
+          old ∙ left-outside kind m c.args.lay.now c.args.beside.now known c.args.line c.requires.behind (omega arith)
       | then-begin-lay-via-else-begin-lay+then-old-gap w ↦
-          left-short kind m c.args.lay.now c.args.beside.now known c.args.line c.requires.behind (let h = w.if-begin-lay.false in omega arith) c.args.old old w.if-old-gap.true
+          left-short kind m c.args.lay.now c.args.beside.now known c.args.line c.requires.behind (omega arith) c.args.old old w.if-old-gap.true
     ]
 
 pub returns-then-number-clause-value : goal.returns-then-number-clause-value
 returns-then-number-clause-value c kind m known most old perm =
-    let long = known.long in
     let inside : c.args.line * 16 < length m = (let h = c.if-begin-lay.false in omega arith) in
     left-other kind m c.args.lay.now c.args.beside.now known c.args.line c.requires.behind inside c.args.old old c.if-old-gap.false
     (λ e. c.if-number.true (c.number.ensures ∙ ap number (perm ∙ sym e) ∙ sym c.number-2.ensures))

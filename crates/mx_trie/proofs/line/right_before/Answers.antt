@@ -6,7 +6,7 @@ use Rattle.mx_trie.proofs.line.right_before.Goals as goal
 
 pub returns-then-old-gap-clause-value : goal.returns-then-old-gap-clause-value
 returns-then-old-gap-clause-value c kind m known most old perm =
-    right-short kind m c.args.lay.now c.args.beside.now known c.args.line c.requires.before c.args.old old c.if-old-gap.true
+    search (arith, right-short, c.args.lay.now, c.args.beside.now, c.requires.before)
 
 pub returns-then-number-clause-value : goal.returns-then-number-clause-value
 returns-then-number-clause-value c kind m known most old perm =

@@ -1,4 +1,4 @@
-use Rattle.std.proofs.Common.{◌%◌, ◌≤◌, inl, inr, arith, eq-eqb}
+use Rattle.std.proofs.Common.{◌≤◌, inl, inr, arith, eq-eqb}
 use Rattle.std.proofs.lemmas.Bool.{ne_eqb}
 use Rattle.mx_trie.specs.Laying.{laid_by, cuts}
 use Rattle.mx_trie.proofs.LineBeside.{few-known}
@@ -6,20 +6,9 @@ use Rattle.mx_trie.proofs.RangeLaws.{length-with_range}
 use Rattle.mx_trie.proofs.PageChanges.{page-covered, page-cut, page-beside, page-stays}
 use Rattle.mx_trie.proofs.page.change_page.Goals as goal
 
-pub open_page-frame-requires-clause-edge : goal.open_page-frame-requires-clause-edge
-open_page-frame-requires-clause-edge g c =
-    let meets = c.meets.ensures.yes c.if-meets.true in
-    let before = meets.0 in
-    let behind = meets.1 in
-    elim (c.covers.ensures.no c.if-covers.false) [ inl h ↦ inl (omega arith) | inr h ↦ inr (omega arith) ]
-
 pub open_page-frame-requires-clause-room : goal.open_page-frame-requires-clause-room
-open_page-frame-requires-clause-room g c = λ closed.
-    let meets = c.meets.ensures.yes c.if-meets.true in
-    let before = meets.0 in
-    let behind = meets.1 in
-    let one : 1 ≤ cuts 1024 c.args.page c.args.lay.now = elim (c.covers.ensures.no c.if-covers.false) [ inl h ↦ omega arith | inr h ↦ omega arith ] in
-    omega (arith, one, c.requires.leaf_room)
+open_page-frame-requires-clause-room g c =
+    search (arith, c.meets.ensures.yes, c.args.page, c.args.lay.now, c.covers.ensures.no)
 
 pub change_lines-requires-clause-table : goal.change_lines-requires-clause-table
 change_lines-requires-clause-table g c = (c.open_page-frame.ensures.opened c.args.spill.now c.requires.table).table
@@ -57,7 +46,8 @@ returns-then-meets g c =
     let meets = c.meets.ensures.yes c.if-meets.true in
     let before = meets.0 in
     let behind = meets.1 in
-    let one : 1 ≤ cuts 1024 c.args.page c.args.lay.now = elim (c.covers.ensures.no c.if-covers.false) [ inl h ↦ omega arith | inr h ↦ omega arith ] in
+    let one : 1 ≤ cuts 1024 c.args.page c.args.lay.now =
+    elim (c.covers.ensures.no c.if-covers.false) [ inl h ↦ omega arith | inr h ↦ omega arith ] in
     let opened = c.open_page-frame.ensures.opened c.args.spill.now c.requires.table in
     let few = few-known g.L.LeafForm.kind some.map c.args.lay.now c.args.beside.now some.known in
     page-cut g.L.LeafForm.kind c.args.leaf.now c.args.spill.now c.args.lay.now c.args.beside.now c.args.page c.args.entry
@@ -72,11 +62,7 @@ returns-then-meets g c =
     }))
 
 pub returns-then-entry-ne0 : goal.returns-then-entry-ne0
-returns-then-entry-ne0 g c =
-    page-stays g.L.LeafForm.kind c.args.leaf.now c.args.spill.now c.args.lay.now c.args.beside.now c.args.page c.args.entry
-    (c.meets.ensures.no c.if-meets.false) (ne_eqb (c.args.entry % 4) 0 c.if-entry-ne0.true)
+returns-then-entry-ne0 g c = search (arith, page-stays, c.args.lay.now, c.args.beside.now, c.meets.ensures.no, ne_eqb)
 
 pub returns : goal.returns
-returns g c =
-    page-beside g.L.LeafForm.kind c.args.leaf.now c.args.spill.now c.args.lay.now c.args.beside.now c.args.page c.args.entry c.change_lines-2.new.leaf c.change_lines-2.new.spill
-    (c.meets.ensures.no c.if-meets.false) (eq-eqb (c.args.entry % 4) 0 c.if-entry-ne0.false) c.change_lines-2.ensures
+returns g c = search (arith, page-beside, c.args.lay.now, c.args.beside.now, c.meets.ensures.no, eq-eqb)

@@ -1,15 +1,6 @@
-use Rattle.std.proofs.Common.{sym, ◌∙◌, arith}
+use Rattle.std.proofs.Common.{sym, ◌∙◌}
 use Rattle.mx_trie.proofs.PageTables.{page-open, page-closed}
 use Rattle.mx_trie.proofs.page.close_page.Goals as goal
-
-pub page_entry-requires-clause-taken : goal.page_entry-requires-clause-taken
-page_entry-requires-clause-taken g c = c.requires.table.1.table.self
-
-pub page_entry-requires-clause-stands : goal.page_entry-requires-clause-stands
-page_entry-requires-clause-stands g c = (c.requires.table.0, c.requires.table.1.stands)
-
-pub give-requires : goal.give-requires
-give-requires g c = (omega arith, c.requires.table.1.table.self)
 
 pub returns-in-Some : goal.returns-in-Some
 returns-in-Some g c = λ spill closable.

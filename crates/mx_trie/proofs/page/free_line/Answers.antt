@@ -1,4 +1,4 @@
-use Rattle.std.proofs.Common.{◌≡◌, ℕ, List, Option, Some, IsSome, refl, sym, ap, ◌∙◌, subst, arith}
+use Rattle.std.proofs.Common.{◌≡◌, Some, refl, sym, ap, ◌∙◌, arith}
 use Rattle.mx_words.specs.declared.perm.Perm.TheVariants as P
 use Rattle.mx_pool.specs.Frames.{word_at}
 use Rattle.mx_trie.specs.Leaf.{spill_number}
@@ -17,13 +17,6 @@ returns-in-Some g c =
     let named : spill_number g.L.LeafForm.kind (word_at c.args.leaf.now c.args.frame c.args.place) ≡ Some c.in-Some.number =
     ap (spill_number g.L.LeafForm.kind) (sym c.get.ensures) ∙ sym c.spill_of.ensures.value ∙ c.in-Some.is in
     line-given g.L.LeafForm.kind c.args.leaf.now c.args.spill.now c.set.new.self c.give.new.self c.args.frame c.args.place c.in-Some.number named
-    (record {
-      taken = subst (λ (o : Option (List ℕ)). IsSome o) (sym c.set.ensures.frame) refl;
-      here = refl;
-      others = c.set.ensures.others;
-      elsewhere = c.set.ensures.elsewhere;
-      free = c.set.ensures.free;
-      total = c.set.ensures.total;
-    })
+    (search arith)
     (ap (spill_number g.L.LeafForm.kind) c.set.ensures.here ∙ flat-spill g.L.LeafForm.kind g.met.L.LeafForm.trie P.None 0 0 0 c.flat.result (c.flat.ensures 0))
     c.give.ensures.elsewhere c.give.ensures.more c.give.ensures.total

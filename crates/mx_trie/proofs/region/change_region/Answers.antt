@@ -10,12 +10,14 @@ open_region-frame-requires g c = record {
       let meets = c.meets.ensures.yes c.if-meets.true in
       let before = meets.0 in
       let behind = meets.1 in
-      let one : 1 ≤ cuts 1048576 c.args.region c.args.lay.now = elim (c.covers.ensures.no c.if-covers.false) [ inl h ↦ omega arith | inr h ↦ omega arith ] in
+      let one : 1 ≤ cuts 1048576 c.args.region c.args.lay.now =
+      elim (c.covers.ensures.no c.if-covers.false) [ inl h ↦ omega arith | inr h ↦ omega arith ] in
       omega (arith, one, c.requires.upper_room);
 }
 
 pub change_pages-requires-clause-table : goal.change_pages-requires-clause-table
-change_pages-requires-clause-table g c = (c.open_region-frame.ensures.opened g.L.LeafForm.kind c.args.leaf.now c.args.spill.now c.requires.table).table
+change_pages-requires-clause-table g c =
+    (c.open_region-frame.ensures.opened g.L.LeafForm.kind c.args.leaf.now c.args.spill.now c.requires.table).table
 
 pub change_pages-requires-clause-stands : goal.change_pages-requires-clause-stands
 change_pages-requires-clause-stands g c =
@@ -38,7 +40,8 @@ returns-then-meets g c =
     let meets = c.meets.ensures.yes c.if-meets.true in
     let before = meets.0 in
     let behind = meets.1 in
-    let one : 1 ≤ cuts 1048576 c.args.region c.args.lay.now = elim (c.covers.ensures.no c.if-covers.false) [ inl h ↦ omega arith | inr h ↦ omega arith ] in
+    let one : 1 ≤ cuts 1048576 c.args.region c.args.lay.now =
+    elim (c.covers.ensures.no c.if-covers.false) [ inl h ↦ omega arith | inr h ↦ omega arith ] in
     let opened = c.open_region-frame.ensures.opened g.L.LeafForm.kind c.args.leaf.now c.args.spill.now c.requires.table in
     region-cut g.L.LeafForm.kind c.args.upper.now c.args.leaf.now c.args.spill.now c.args.lay.now c.args.beside.now c.args.region c.args.entry
     c.open_region-frame.new.upper c.change_pages.new.upper c.change_pages.new.leaf c.change_pages.new.spill c.close_region.new.upper c.open_region-frame.result c.close_region.result one opened c.change_pages.ensures

@@ -3,28 +3,17 @@ use Rattle.std.proofs.lemmas.Bool.{ne_eqb}
 use Rattle.mx_trie.specs.Walk.{Frames, is_pointer}
 use Rattle.mx_trie.specs.OnWay.{ArePagesEmptied}
 use Rattle.mx_trie.specs.Steps.{IsPageFreed}
-use Rattle.mx_trie.proofs.RegionPages.{page-at, pages-same, pages-emptied, pages-passed, pages-freed}
+use Rattle.mx_trie.proofs.RegionPages.{pages-emptied, pages-passed, pages-freed}
 use Rattle.mx_trie.proofs.region.free_pages.Goals as goal
 use Rattle.mx_trie.proofs.region.free_pages.Goals.{then-old-eq0, else-old-eq0}
-
-pub loop-place-init : goal.loop-place-init
-loop-place-init g c = record {
-  moved = pages-same g.L.LeafForm.kind c.args.upper.now c.args.leaf.now c.args.spill.now c.args.frame c.requires;
-  closed = λ k lt. absurd (omega arith);
-}
-
-pub get-old-requires : goal.get-old-requires
-get-old-requires g c = (omega arith, (c.loop-place.invariant.moved.table.node.self, c.loop-place-test.true))
-
-pub free_page-requires : goal.free_page-requires
-free_page-requires g c = page-at g.L.LeafForm.kind c.loop-place.upper c.loop-place.leaf c.loop-place.spill c.args.frame c.loop-place.place c.get-old.result c.loop-place-test.true c.get-old.ensures c.loop-place.invariant.moved.table
 
 pub set-requires : goal.set-requires
 set-requires g c = (omega arith, (c.loop-place.invariant.moved.table.node.self, c.loop-place-test.true))
 
 pub loop-place-preserved : goal.loop-place-preserved
 loop-place-preserved g c =
-    let T : Frames → Frames → Frames → Type 0 = λ u l s. ArePagesEmptied g.L.LeafForm.kind c.args.upper.now c.args.leaf.now c.args.spill.now u l s c.args.frame (c.loop-place.place + 1) in
+    let T : Frames → Frames → Frames → Type 0 =
+    λ u l s. ArePagesEmptied g.L.LeafForm.kind c.args.upper.now c.args.leaf.now c.args.spill.now u l s c.args.frame (c.loop-place.place + 1) in
     elim c.if-old-eq0.branch [
       | then-old-eq0 w ↦
           subst (λ u. T u c.if-old-eq0.leaf c.if-old-eq0.spill) (sym w.upper-is)
@@ -52,6 +41,7 @@ loop-place-preserved g c =
 
 pub returns : goal.returns
 returns g c =
-    let T : ℕ → Type 0 = λ n. ArePagesEmptied g.L.LeafForm.kind c.args.upper.now c.args.leaf.now c.args.spill.now c.loop-place.upper c.loop-place.leaf c.loop-place.spill c.args.frame n in
+    let T : ℕ → Type 0 =
+    λ n. ArePagesEmptied g.L.LeafForm.kind c.args.upper.now c.args.leaf.now c.args.spill.now c.loop-place.upper c.loop-place.leaf c.loop-place.spill c.args.frame n in
     let end : c.loop-place.place ≡ 1024 = omega (arith, c.loop-place-test.false, c.loop-place.auto.place-end) in
     pages-freed g.L.LeafForm.kind c.args.upper.now c.args.leaf.now c.args.spill.now c.loop-place.upper c.loop-place.leaf c.loop-place.spill c.args.frame (subst T end c.loop-place.invariant)

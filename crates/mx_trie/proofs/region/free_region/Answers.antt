@@ -15,4 +15,5 @@ returns-then-entry-eq0 g c =
     c.args.entry (eq-eqb (c.args.entry % 4) 0 c.if-entry-eq0.true) c.free_pages.ensures c.give.ensures.elsewhere c.give.ensures.more c.give.ensures.total
 
 pub returns-else-entry-eq0 : goal.returns-else-entry-eq0
-returns-else-entry-eq0 g c = region-empty g.L.LeafForm.kind c.args.upper.now c.args.leaf.now c.args.spill.now c.args.entry (ne_eqb (c.args.entry % 4) 0 c.if-entry-eq0.false)
+returns-else-entry-eq0 g c =
+    region-empty g.L.LeafForm.kind c.args.upper.now c.args.leaf.now c.args.spill.now c.args.entry (ne_eqb (c.args.entry % 4) 0 c.if-entry-eq0.false)

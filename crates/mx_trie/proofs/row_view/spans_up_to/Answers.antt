@@ -10,7 +10,8 @@ pub loop-low-preserved-then-get-word : goal.loop-low-preserved-then-get-word
 loop-low-preserved-then-get-word c =
     let i = c.loop-low.invariant in
     let middle : ℕ = c.loop-low.low + (c.loop-low.high - c.loop-low.low) / 2 in
-    let is : c.get.result.first ≡ (span_at c.args.row.now middle).first = ap (λ (s : Span). s.first) (got c.args.row.now middle c.get.result no_span c.get.ensures) in
+    let is : c.get.result.first ≡ (span_at c.args.row.now middle).first =
+    ap (λ (s : Span). s.first) (got c.args.row.now middle c.get.result no_span c.get.ensures) in
     record {
       order = omega (arith, c.loop-low-test.true);
       within = i.within;
@@ -22,7 +23,8 @@ pub loop-low-preserved : goal.loop-low-preserved
 loop-low-preserved c =
     let i = c.loop-low.invariant in
     let middle : ℕ = c.loop-low.low + (c.loop-low.high - c.loop-low.low) / 2 in
-    let is : c.get.result.first ≡ (span_at c.args.row.now middle).first = ap (λ (s : Span). s.first) (got c.args.row.now middle c.get.result no_span c.get.ensures) in
+    let is : c.get.result.first ≡ (span_at c.args.row.now middle).first =
+    ap (λ (s : Span). s.first) (got c.args.row.now middle c.get.result no_span c.get.ensures) in
     record {
       order = omega arith;
       within = omega (arith, i.within, c.loop-low-test.true);

@@ -14,7 +14,8 @@ wide_lines-requires-clause-whole g c = (c.around_in-near.ensures c.requires.read
 
 pub returns-then-in_mid-ne0 : goal.returns-then-in_mid-ne0
 returns-then-in_mid-ne0 g c = λ words read.
-    let kind = g.L.LeafForm.kind in let upper = c.args.upper.now in let leaf = c.args.leaf.now in let spill = c.args.spill.now in
+    let kind = g.L.LeafForm.kind in let upper = c.args.upper.now in let leaf = c.args.leaf.now in
+    let spill = c.args.spill.now in
     let a = c.root_entry-in_root in let b = c.get-in_mid in
     let round = c.around_in-near.ensures words read in
     elim c.wide_pages.ensures [
@@ -26,7 +27,8 @@ returns-then-in_mid-ne0 g c = λ words read.
 
 pub returns : goal.returns
 returns g c = λ words read.
-    let kind = g.L.LeafForm.kind in let upper = c.args.upper.now in let leaf = c.args.leaf.now in let spill = c.args.spill.now in
+    let kind = g.L.LeafForm.kind in let upper = c.args.upper.now in let leaf = c.args.leaf.now in
+    let spill = c.args.spill.now in
     let a = c.root_entry-in_root in let b = c.get-in_mid in
     let round = c.around_in-near.ensures words read in
     elim c.wide_lines.ensures [

@@ -1,24 +1,15 @@
+use Rattle.std.proofs.Common.{arith}
 use Rattle.mx_trie.proofs.BuiltTrie.{rows-room, rows-read, rows-stand}
 use Rattle.mx_trie.proofs.trie.tables_of.Goals as goal
 
 pub build_rows-requires-clause-room : goal.build_rows-requires-clause-room
 build_rows-requires-clause-room g c =
-    rows-room g.L.LeafForm.kind g.met.L.LeafForm.trie c.args.words c.requires.few_words c.args.rows.now c.args.limit c.requires.fits
-    c.in_ok-upper.upper c.in_ok-leaf.leaf c.in_ok-spill.spill c.in_ok-upper.ensures c.in_ok-leaf.ensures c.in_ok-spill.ensures
+    search (arith, rows-room, g.L.LeafForm.kind, g.met.L.LeafForm.trie, c.args.words, c.requires.few_words, c.args.rows.now, c.args.limit, c.requires.fits, c.in_ok-upper.upper, c.in_ok-leaf.leaf, c.in_ok-spill.spill, c.in_ok-upper.ensures, c.in_ok-leaf.ensures)
 
 pub invariant_of-result : goal.invariant_of-result
 invariant_of-result g c =
-    let n = c.build_rows.new in
-    let q = c.requires in
-    record {
-      stands = rows-stand g.L.LeafForm.kind g.met.L.LeafForm.trie c.args.words q.few_words c.args.rows.now c.args.limit q.fits
-          c.in_ok-upper.upper c.in_ok-leaf.leaf c.in_ok-spill.spill c.in_ok-upper.ensures c.in_ok-leaf.ensures c.in_ok-spill.ensures
-          n.upper n.leaf n.spill c.in_ok-roots.roots c.in_ok-roots.ensures q.some_words q.some_rows q.few_rows q.limited;
-    }
+    search (arith, rows-stand, g.met.L.LeafForm.trie, c.args.limit, c.in_ok-upper.ensures, c.in_ok-leaf.ensures, c.in_ok-spill.ensures, c.in_ok-roots.ensures)
 
 pub returns-clause-maps : goal.returns-clause-maps
 returns-clause-maps g c =
-    let n = c.build_rows.new in
-    rows-read g.L.LeafForm.kind g.met.L.LeafForm.trie c.args.words c.requires.few_words c.args.rows.now c.args.limit c.requires.fits
-    c.in_ok-upper.upper c.in_ok-leaf.leaf c.in_ok-spill.spill c.in_ok-upper.ensures c.in_ok-leaf.ensures c.in_ok-spill.ensures
-    n.upper n.leaf n.spill c.in_ok-roots.roots c.in_ok-roots.ensures
+    search (arith, rows-read, g.L.LeafForm.kind, g.met.L.LeafForm.trie, c.args.words, c.requires.few_words, c.args.rows.now, c.args.limit, c.requires.fits, c.in_ok-upper.upper, c.in_ok-leaf.leaf, c.in_ok-spill.spill, c.in_ok-upper.ensures, c.in_ok-leaf.ensures, c.in_ok-spill.ensures, c.in_ok-roots.roots)

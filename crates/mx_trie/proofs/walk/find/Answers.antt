@@ -5,8 +5,7 @@ use Rattle.mx_trie.proofs.walk.find.Goals as goal
 
 pub returns-then-in_root-ne0 : goal.returns-then-in_root-ne0
 returns-then-in_root-ne0 g c =
-    end-root g.L.LeafForm.kind g.met.L.LeafForm.trie c.args.upper.now c.args.leaf.now c.args.spill.now c.args.words c.args.root c.requires.read c.args.word c.requires.inside
-    c.root_entry-in_root.result c.root_entry-in_root.ensures c.if-in_root-ne0.true
+    search (arith, end-root, g.met.L.LeafForm.trie, c.requires.read, c.requires.inside, c.root_entry-in_root.ensures)
 
 pub get-in_mid-requires : goal.get-in_mid-requires
 get-in_mid-requires g c =

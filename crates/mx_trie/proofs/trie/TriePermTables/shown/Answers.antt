@@ -1,3 +1,4 @@
+use Rattle.std.proofs.Common.{arith}
 use Rattle.mx_table.specs.Tables.{map_of}
 use Rattle.mx_trie.specs.Read.{read_maps}
 use Rattle.mx_trie.specs.Shape.{length-map_of}
@@ -13,4 +14,4 @@ returns g c =
 
 pub find_word-requires-clause-last : goal.find_word-requires-clause-last
 find_word-requires-clause-last g c =
-    domain-from g.L.LeafForm.kind c.args.self.now.upper c.args.self.now.leaf c.args.self.now.spill c.args.self.now.words c.args.self.now.roots c.args.domain c.requires.domain
+    search (arith, domain-from, g.L.LeafForm.kind, c.args.self.now.upper, c.args.self.now.leaf, c.args.self.now.spill, c.args.self.now.words, c.args.self.now.roots, c.args.domain)
