@@ -1,9 +1,9 @@
 //! Segment tables: the stored entries, and the trait's calls.
-ghost use Rattle.std.specs.Prelude.{◌≡◌, ◌+◌, ◌<◌, ◌≤◌, length, IfOk};
+ghost use Rattle.std.specs.Prelude.{◌≡◌, ◌<◌, ◌≤◌, length, IfOk};
 ghost use Rattle.mx_table.specs.Tables.{IsRow};
 
+use crate::examples::granted;
 use crate::shapes::of_segments;
-use mx_plain::{grant, try_change};
 use mx_segments::Segments;
 use mx_table::{BuildRefused, PermTables};
 use mx_words::{Level, Need, NoMemory, Perm, Shown, Span, Spans};
@@ -37,17 +37,6 @@ fn four_words(alloc: Global) -> Result<Spans, NoMemory>
         perm: Perm::ReadWrite,
     })?;
     Ok(row)
-}
-
-// Gives domain 1 a permission on a range, if the tables have room for it. The answer is whether they have.
-fn granted<T: PermTables>(tables: &mut T, first: u32, count: u32, perm: Perm) -> bool
-    requires one { length (T.maps tables.old) ≡ 1 }
-    requires some { 0 < count }
-    requires inside { first + count ≤ T.size tables.old }
-    ensures one { length (T.maps tables.new) ≡ 1 }
-    ensures same_size { T.size tables.new ≡ T.size tables.old }
-{
-    try_change(tables, &grant(first, count, perm))
 }
 
 // The first four entries of domain 1.

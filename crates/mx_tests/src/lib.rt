@@ -1,4 +1,4 @@
-//! Tests that cross crates: the top call over files and sinks in memory, and tables of each kind.
+//! Tests that cross crates: the top call over files and sinks in memory.
 #![tactic(auto)]
 
 #[cfg(test)]
@@ -21,7 +21,5 @@ mod outside;
 mod packet_runs;
 #[cfg(test)]
 mod packets;
-#[cfg(test)]
-mod tables;
 #[cfg(test)]
 mod two_modules;

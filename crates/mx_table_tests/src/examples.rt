@@ -55,7 +55,7 @@ fn one_domain<T: PermTables>(alloc: Global, row: Spans, limit: Need) -> Result<T
 }
 
 /// Gives domain 1 a permission on a range, if the tables have room for it. The answer is whether they have.
-fn granted<T: PermTables>(tables: &mut T, first: u32, count: u32, perm: Perm) -> bool
+pub(crate) fn granted<T: PermTables>(tables: &mut T, first: u32, count: u32, perm: Perm) -> bool
     requires one { length (T.maps tables.old) ≡ 1 }
     requires some { 0 < count }
     requires inside { first + count ≤ T.size tables.old }
@@ -140,55 +140,53 @@ const ONE_PAGE_AT_A_TIME: [(bool, Need); 4] = [
     (true, ONE_PAGE),
 ];
 
-#[test]
-fn a_full_multilevel_trie_takes_a_page_where_another_becomes_even(
-    rt: HostRuntime,
-) -> Result<(), Fail> {
-    let Ok(row) = single_words(rt.alloc(), 1, 1) else {
-        return Err("no row")?;
-    };
-    let Ok(mut tables) = one_domain::<Trie<Vector>>(rt.alloc(), row, ONE_PAGE) else {
-        return Err("no tables")?;
-    };
-    let seen = one_page_at_a_time(&mut tables);
-    assert_eq!(rt; seen, ONE_PAGE_AT_A_TIME);
-    Ok(())
+/// The same of a trie that is full then.
+fn full_trie<T: PermTables + Drop>(alloc: Global) -> Option<[(bool, Need); 4]> {
+    let row = single_words(alloc, 1, 1).ok()?;
+    let mut tables = one_domain::<T>(alloc, row, ONE_PAGE).ok()?;
+    Some(one_page_at_a_time(&mut tables))
 }
 
 #[test]
-fn a_full_packed_trie_takes_a_page_where_another_becomes_even(rt: HostRuntime) -> Result<(), Fail> {
-    let Ok(row) = single_words(rt.alloc(), 1, 1) else {
-        return Err("no row")?;
-    };
-    let Ok(mut tables) = one_domain::<Trie<Packed>>(rt.alloc(), row, ONE_PAGE) else {
-        return Err("no tables")?;
-    };
-    let seen = one_page_at_a_time(&mut tables);
-    assert_eq!(rt; seen, ONE_PAGE_AT_A_TIME);
+fn a_full_trie_takes_a_page_where_another_becomes_even(rt: HostRuntime) -> Result<(), Fail> {
+    let multilevel = full_trie::<Trie<Vector>>(rt.alloc()).ok_or("no tables")?;
+    assert_eq!(rt; multilevel, ONE_PAGE_AT_A_TIME);
+    let packed = full_trie::<Trie<Packed>>(rt.alloc()).ok_or("no tables")?;
+    assert_eq!(rt; packed, ONE_PAGE_AT_A_TIME);
     Ok(())
 }
+
+/// What segments take of which domain 1 may read 32 words, each two words after the one before, and then whether each of five grants
+/// had room and what is taken after it: read on the word after these, none on word 0, the first once more, none on the second of the
+/// words, and the first once more.
+fn one_run_at_a_time(alloc: Global) -> Option<[(bool, Need); 6]> {
+    let row = single_words(alloc, 2, 32).ok()?;
+    let mut tables = one_domain::<Segments>(alloc, row, ONE_FRAME).ok()?;
+    let start = tables.used();
+    let beyond = step(&mut tables, 64, Perm::Read);
+    let first = step(&mut tables, 0, Perm::None);
+    let still = step(&mut tables, 64, Perm::Read);
+    let second = step(&mut tables, 2, Perm::None);
+    let room = step(&mut tables, 64, Perm::Read);
+    Some([(true, start), beyond, first, still, second, room])
+}
+
+/// The grant of the thirty-third word has no room until two others have lost theirs.
+const ONE_RUN_AT_A_TIME: [(bool, Need); 6] = [
+    (true, ONE_FRAME),
+    (false, ONE_FRAME),
+    (true, ONE_FRAME),
+    (false, ONE_FRAME),
+    (true, ONE_FRAME),
+    (true, ONE_FRAME),
+];
 
 // 32 words apart, with read, and what lies after each: 64 runs, which fill a frame. One more such word makes 66 runs, one fewer 62.
 // Without word 0 there are 63, since the words from 0 on to the next one become the first run.
 #[test]
 fn full_segments_take_a_run_where_others_join(rt: HostRuntime) -> Result<(), Fail> {
-    let Ok(row) = single_words(rt.alloc(), 2, 32) else {
-        return Err("no row")?;
-    };
-    let Ok(mut tables) = one_domain::<Segments>(rt.alloc(), row, ONE_FRAME) else {
-        return Err("no tables")?;
-    };
-    assert_eq!(rt; tables.used(), ONE_FRAME);
-    let beyond = step(&mut tables, 64, Perm::Read);
-    assert_eq!(rt; beyond, (false, ONE_FRAME));
-    let first = step(&mut tables, 0, Perm::None);
-    assert_eq!(rt; first, (true, ONE_FRAME));
-    let still = step(&mut tables, 64, Perm::Read);
-    assert_eq!(rt; still, (false, ONE_FRAME));
-    let second = step(&mut tables, 2, Perm::None);
-    assert_eq!(rt; second, (true, ONE_FRAME));
-    let room = step(&mut tables, 64, Perm::Read);
-    assert_eq!(rt; room, (true, ONE_FRAME));
+    let seen = one_run_at_a_time(rt.alloc()).ok_or("no tables")?;
+    assert_eq!(rt; seen, ONE_RUN_AT_A_TIME);
     Ok(())
 }
 
@@ -240,52 +238,69 @@ fn line(first: u32, stored: u32) -> Shown {
     }
 }
 
+/// The entries of two lines at the end of a page and the beginning of the next, of which domain 1 may read words up to that end's
+/// line: the first line's, whether read on the first word of the second had room, and both lines' after it.
+fn over_a_page(alloc: Global) -> Option<(Shown, bool, [Shown; 2])> {
+    let row = one_span(alloc, 976, 37, Perm::Read).ok()?;
+    let mut tables = one_domain::<Trie<Packed>>(alloc, row, AMPLE).ok()?;
+    let before = tables.shown(1, 1008);
+    let room = granted(&mut tables, 1024, 1, Perm::Read);
+    Some((before, room, [tables.shown(1, 1008), tables.shown(1, 1024)]))
+}
+
 #[test]
 fn an_entry_reaches_over_a_page(rt: HostRuntime) -> Result<(), Fail> {
-    let Ok(row) = one_span(rt.alloc(), 976, 37, Perm::Read) else {
-        return Err("no row")?;
-    };
-    let Ok(mut tables) = one_domain::<Trie<Packed>>(rt.alloc(), row, AMPLE) else {
-        return Err("no tables")?;
-    };
-    assert_eq!(rt; tables.shown(1, 1008), line(1008, 0xFFC0_1406));
-    let granted = granted(&mut tables, 1024, 1, Perm::Read);
-    assert!(rt; granted);
-    assert_eq!(rt; tables.shown(1, 1008), line(1008, 0xF800_1406));
-    assert_eq!(rt; tables.shown(1, 1024), line(1024, 0x07C0_0406));
+    let seen = over_a_page(rt.alloc()).ok_or("no tables")?;
+    let after = [line(1008, 0xF800_1406), line(1024, 0x07C0_0406)];
+    assert_eq!(rt; seen, (line(1008, 0xFFC0_1406), true, after));
     Ok(())
+}
+
+/// Gives domain 1 a permission on a word of the line from word 16 on. The answer is whether there was room, the item that decides the
+/// line then, and how many spill words are taken.
+fn spilled<T: PermTables>(tables: &mut T, word: u32, perm: Perm) -> (bool, Shown, u32)
+    requires one { length (T.maps tables.old) ≡ 1 }
+    requires size { T.size tables.old ≡ 16384 }
+    requires word { word < 16384 }
+    ensures one { length (T.maps tables.new) ≡ 1 }
+    ensures size { T.size tables.new ≡ 16384 }
+{
+    let room = granted(tables, word, 1, perm);
+    (room, tables.shown(1, 16), tables.used().spill)
+}
+
+/// What `spilled` answers of a line that gets a third run and a fourth, then a fifth, and loses that again. The line had one run of
+/// no permission before.
+fn spilled_and_back(alloc: Global) -> Option<[(bool, Shown, u32); 4]> {
+    let mut tables = one_domain::<Trie<Packed>>(alloc, Spans::new(alloc), AMPLE).ok()?;
+    let third = spilled(&mut tables, 17, Perm::Read);
+    let fourth = spilled(&mut tables, 18, Perm::ReadWrite);
+    let fifth = spilled(&mut tables, 31, Perm::Read);
+    let back = spilled(&mut tables, 31, Perm::None);
+    Some([third, fourth, fifth, back])
 }
 
 #[test]
 fn a_line_of_five_runs_has_a_spill_word(rt: HostRuntime) -> Result<(), Fail> {
-    let Ok(mut tables) = one_domain::<Trie<Packed>>(rt.alloc(), Spans::new(rt.alloc()), AMPLE)
-    else {
-        return Err("no tables")?;
-    };
-    let first = granted(&mut tables, 17, 1, Perm::Read);
-    let second = granted(&mut tables, 18, 1, Perm::ReadWrite);
-    assert!(rt; first && second);
-    assert_eq!(rt; tables.shown(1, 16), line(16, 0x87CC_8492));
-    assert_eq!(rt; tables.used().spill, 0);
-    let fifth = granted(&mut tables, 31, 1, Perm::Read);
-    assert!(rt; fifth);
-    let spilled = Shown {
+    let [third, fourth, fifth, back] = spilled_and_back(rt.alloc()).ok_or("no tables")?;
+    let spill = Shown {
         level: Level::Spill,
         first: 16,
         count: 16,
         stored: 0x4000_0024,
     };
-    assert_eq!(rt; tables.shown(1, 16), spilled);
-    assert_eq!(rt; tables.used().spill, 1);
-    let back = granted(&mut tables, 31, 1, Perm::None);
-    assert!(rt; back);
-    assert_eq!(rt; tables.shown(1, 16), line(16, 0x87CC_8492));
-    assert_eq!(rt; tables.used().spill, 0);
+    assert!(rt; third.0);
+    assert_eq!(rt; fourth, (true, line(16, 0x87CC_8492), 0));
+    assert_eq!(rt; fifth, (true, spill, 1));
+    assert_eq!(rt; back, fourth);
     Ok(())
 }
 
+/// The numbers of words and of modules, the limit and what is taken, and the items that decide two words.
+type Readings = (u32, u32, Need, Need, [Shown; 2]);
+
 /// What the readers tell of tables of one domain, and of two of its words.
-fn readings<T: PermTables>(tables: &T) -> (u32, u32, Need, Need, [Shown; 2])
+fn readings<T: PermTables>(tables: &T) -> Readings
     requires one { length (T.maps tables.now) ≡ 1 }
     requires size { T.size tables.now ≡ 16384 }
 {
@@ -299,6 +314,13 @@ fn readings<T: PermTables>(tables: &T) -> (u32, u32, Need, Need, [Shown; 2])
     )
 }
 
+/// The same of tables with read-write on words 1024 to 1027, the first of a page.
+fn readings_of_four_words<T: PermTables + Drop>(alloc: Global) -> Option<Readings> {
+    let row = one_span(alloc, 1024, 4, Perm::ReadWrite).ok()?;
+    let tables = one_domain::<T>(alloc, row, AMPLE).ok()?;
+    Some(readings(&tables))
+}
+
 /// The vector of a page without rights.
 const EVEN_PAGE: Shown = Shown {
     level: Level::Mid,
@@ -307,36 +329,19 @@ const EVEN_PAGE: Shown = Shown {
     stored: 1,
 };
 
-// Read-write on words 1024 to 1027, the first of a page.
 #[test]
 fn tries_tell_what_they_hold(rt: HostRuntime) -> Result<(), Fail> {
-    let Ok(row) = one_span(rt.alloc(), 1024, 4, Perm::ReadWrite) else {
-        return Err("no row")?;
-    };
-    let Ok(tables) = one_domain::<Trie<Vector>>(rt.alloc(), row, AMPLE) else {
-        return Err("no tables")?;
-    };
+    let multilevel = readings_of_four_words::<Trie<Vector>>(rt.alloc()).ok_or("no tables")?;
     let items = [line(1024, 0x0000_00AA), EVEN_PAGE];
-    assert_eq!(rt; readings(&tables), (16384, 1, AMPLE, ONE_PAGE, items));
-    let Ok(row) = one_span(rt.alloc(), 1024, 4, Perm::ReadWrite) else {
-        return Err("no row")?;
-    };
-    let Ok(tables) = one_domain::<Trie<Packed>>(rt.alloc(), row, AMPLE) else {
-        return Err("no tables")?;
-    };
+    assert_eq!(rt; multilevel, (16384, 1, AMPLE, ONE_PAGE, items));
+    let packed = readings_of_four_words::<Trie<Packed>>(rt.alloc()).ok_or("no tables")?;
     let items = [line(1024, 0x07C0_100A), EVEN_PAGE];
-    assert_eq!(rt; readings(&tables), (16384, 1, AMPLE, ONE_PAGE, items));
+    assert_eq!(rt; packed, (16384, 1, AMPLE, ONE_PAGE, items));
     Ok(())
 }
 
 #[test]
 fn segments_tell_what_they_hold(rt: HostRuntime) -> Result<(), Fail> {
-    let Ok(row) = one_span(rt.alloc(), 1024, 4, Perm::ReadWrite) else {
-        return Err("no row")?;
-    };
-    let Ok(tables) = one_domain::<Segments>(rt.alloc(), row, AMPLE) else {
-        return Err("no tables")?;
-    };
     let run = |first, count, stored| Shown {
         level: Level::Segment,
         first,
@@ -344,7 +349,8 @@ fn segments_tell_what_they_hold(rt: HostRuntime) -> Result<(), Fail> {
         stored,
     };
     let items = [run(1024, 4, 0x8000_1002), run(1028, 15356, 0x8000_1010)];
-    assert_eq!(rt; readings(&tables), (16384, 1, AMPLE, ONE_FRAME, items));
+    let segments = readings_of_four_words::<Segments>(rt.alloc()).ok_or("no tables")?;
+    assert_eq!(rt; segments, (16384, 1, AMPLE, ONE_FRAME, items));
     Ok(())
 }
 
@@ -357,17 +363,22 @@ fn in_root(tables: &Trie<Vector>, place: u32) -> u32
     tables.upper.get(root, place)
 }
 
-// Read on the first 2^20 words of RAM and read-write on as many after them: RAM begins at 0x80000000, which is 512 times 4 MiB.
+/// The words at three places of a root table: of the first 2^20 words of RAM, on which domain 1 has read, of as many after them, on
+/// which it has read-write, and at place 0.
+fn in_root_of_two_regions(alloc: Global) -> Option<[u32; 3]> {
+    let row = two_regions(alloc).ok()?;
+    let tables = mx_plain::one_domain::<Trie<Vector>>(alloc, 0x20_0000, row, AMPLE).ok()?;
+    Some([
+        in_root(&tables, 512),
+        in_root(&tables, 513),
+        in_root(&tables, 0),
+    ])
+}
+
+// RAM begins at 0x80000000, which is 512 times 4 MiB.
 #[test]
 fn a_root_entry_stands_at_the_place_of_its_addresses(rt: HostRuntime) -> Result<(), Fail> {
-    let Ok(row) = two_regions(rt.alloc()) else {
-        return Err("no row")?;
-    };
-    let Ok(tables) = mx_plain::one_domain::<Trie<Vector>>(rt.alloc(), 0x20_0000, row, AMPLE) else {
-        return Err("no tables")?;
-    };
-    assert_eq!(rt; in_root(&tables, 512), 0x0001_5555);
-    assert_eq!(rt; in_root(&tables, 513), 0x0002_AAA9);
-    assert_eq!(rt; in_root(&tables, 0), 0);
+    let words = in_root_of_two_regions(rt.alloc()).ok_or("no tables")?;
+    assert_eq!(rt; words, [0x0001_5555, 0x0002_AAA9, 0]);
     Ok(())
 }

@@ -2,7 +2,7 @@ use Rattle.std.proofs.Common.{ℕ, ◌<◌, length, IsSome, lit<, sym, subst, ar
 use Rattle.mx_words.specs.declared.tables.Kind.TheVariants as K
 use Rattle.mx_trie.specs.Heap.{heap}
 use Rattle.mx_trie.specs.Shape.{length-read_maps}
-use Rattle.mx_tests.proofs.tables.in_root.Goals as goal
+use Rattle.mx_table_tests.proofs.examples.in_root.Goals as goal
 
 pub get-root-requires-clause-last : goal.get-root-requires-clause-last
 get-root-requires-clause-last c =
