@@ -4,7 +4,7 @@ use Rattle.mx_model.specs.Run.{flat_turn}
 use Rattle.mx_model.specs.State.{Flat}
 use Rattle.mx_model.proofs.KeepLaws.{keeps-turned}
 use Rattle.mx_machine.specs.Turning.{turns_of}
-use Rattle.machine_speed.proofs.turns.make.Goals as goal
+use Rattle.machine_speed.proofs.turns.make_rows.Goals as goal
 
 -- each turn is counted
 one-more : (f : Flat) → (flat_turn f 0).core.turns ≡ f.core.turns + 1
