@@ -113,8 +113,8 @@ fn idle(first: u32) -> Module<'static> {
     }
 }
 
-/// The machine of a program, whose first module has a heap of 4096 words. `None` where memory is wanting.
-pub fn machine_of(alloc: Global, program: Program) -> Option<Small> {
+/// The modules: that of a program, which has a heap of 4096 words, the one that it calls, and 13 that make no turn.
+fn modules(program: Program) -> [Module<'static>; 15] {
     let first = Module {
         words: program.words(),
         stack: stack(1024),
@@ -129,7 +129,7 @@ pub fn machine_of(alloc: Global, program: Program) -> Option<Small> {
         stack: stack(12352),
         ..idle(12288)
     };
-    let modules = [
+    [
         first,
         second,
         idle(13312),
@@ -145,20 +145,28 @@ pub fn machine_of(alloc: Global, program: Program) -> Option<Small> {
         idle(13472),
         idle(13488),
         idle(13504),
-    ];
-    let call = Gate {
+    ]
+}
+
+/// The first module's gate into the second, and the second's return gate.
+const THERE_AND_BACK: [Gate; 2] = [
+    Gate {
         domain: 1,
         word: 12288,
         target: 2,
-    };
-    let back = Gate {
+    },
+    Gate {
         domain: 2,
         word: 12289,
         target: 2,
-    };
+    },
+];
+
+/// The machine of a program. `None` where memory is wanting.
+pub fn machine_of(alloc: Global, program: Program) -> Option<Small> {
     let start = HartStart {
         domain: 1,
         pc: 0x8000_0000,
     };
-    machine(alloc, &modules, &[call, back], &[start])
+    machine(alloc, &modules(program), &THERE_AND_BACK, &[start])
 }
