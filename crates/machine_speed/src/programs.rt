@@ -168,5 +168,6 @@ pub fn machine_of(alloc: Global, program: Program) -> Option<Small> {
         domain: 1,
         pc: 0x8000_0000,
     };
-    machine(alloc, &modules(program), &THERE_AND_BACK, &[start])
+    let modules = modules(program);
+    machine(alloc, &modules, &THERE_AND_BACK, &[start])
 }
