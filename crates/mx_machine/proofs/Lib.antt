@@ -32,3 +32,4 @@ pub mod PassLaws
 pub mod SmallLaws
 pub mod StartValid
 pub mod ReadLaws
+pub mod KindLaws

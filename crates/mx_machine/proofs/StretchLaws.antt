@@ -1,5 +1,5 @@
 -- Turns of one hart in a row: what holds after some of them, and after one more.
-use Rattle.std.proofs.Common.{◌≡◌, ◌≢◌, ℕ, suc, ◌+◌, ◌<◌, ◌⊎◌, inl, inr, false, set, refl, sym, ap, ◌∙◌, arith, get_or, get_or-set_same}
+use Rattle.std.proofs.Common.{◌≡◌, ◌≢◌, ℕ, suc, ◌+◌, ◌<◌, ◌⊎◌, inl, inr, Bool, false, set, refl, sym, ap, ◌∙◌, arith, get_or, get_or-set_same}
 use Rattle.std.proofs.lemmas.Bool.{cases_eq}
 use Rattle.mx_model.specs.declared.values.TurnKind.{TurnKind}
 use Rattle.mx_model.specs.declared.values.TurnKind.TheVariants as T
@@ -29,13 +29,14 @@ turns-more h f n =
     ap (turns_of h f) e
 
 -- a hart that runs in a live domain does so after an instruction
-pub alive-instruction : (m : Held) (h : ℕ) → MayRun m h → get_or m.dead (hart_of m.harts h).domain false ≡ false → RunsAlive (after_instruction h false m) h
-alive-instruction m h r alive =
+pub alive-instruction : (m : Held) (h : ℕ) (returns : Bool) → MayRun m h → get_or m.dead (hart_of m.harts h).domain false ≡ false →
+    RunsAlive (after_instruction h returns m) h
+alive-instruction m h returns r alive =
     let x = hart_of m.harts h in
-    let regs = regs_after (perm_for m x) m.parts.ram x.regs x.pc false (effect_for m x) in
-    let y : Hart = instructed regs (outcome_for m h false) x in
+    let regs = regs_after (perm_for m x) m.parts.ram x.regs x.pc returns (effect_for m x) in
+    let y : Hart = instructed regs (outcome_for m h returns) x in
     let own : hart_of (set m.harts h y) h ≡ y = get_or-set_same m.harts h y no_hart r.act.there in
-    let n = runs-instruction m h false r in
+    let n = runs-instruction m h returns r in
     record { there = n.act.there; runs = n.runs; alive = ap (λ (z : Hart). get_or m.dead z.domain false) own ∙ alive }
 
 pub alive-now : (m n : Held) (h : ℕ) → RunsAlive m h → n ≡ heard h (counted m) → get_or n.dead (hart_of n.harts h).domain false ≡ false
@@ -62,8 +63,8 @@ module _ (f : Flat) (h n : ℕ) (m k : Held) (events : Events) (answer : TurnKin
   pub run-kind : answer ≡ flat_kind (turns_of h f n) h
   run-kind = i.kind ∙ ap (λ (g : Flat). flat_kind g h) r.at
 
-  pub run-stretch : (most : ℕ) → n < most → IsStretch f h most (meaning k) events (record { ran = n; last = answer })
-  run-stretch most below =
+  pub run-stretch : (most : ℕ) → n < most → (answer ≡ T.Ran → n + 1 ≡ most) → IsStretch f h most (meaning k) events (record { ran = n; last = answer })
+  run-stretch most below full =
       let t = told-is m k h events answer i in
       record {
         few = below;
@@ -71,6 +72,7 @@ module _ (f : Flat) (h n : ℕ) (m k : Held) (events : Events) (answer : TurnKin
         turn = run-turn;
         told = record { bytes = t.bytes ∙ ap (λ (g : Flat). (flat_made g h).console) r.at; note = t.note ∙ ap (λ (g : Flat). (flat_made g h).note) r.at };
         kind = run-kind;
+        full = full;
       }
 
   pub run-more : Law → Fits k → answer ≡ T.Ran → HasRunOn f h (n + 1) k

@@ -1,5 +1,5 @@
 -- A call of `step`, as a turn of the abstract machine, and one of `run_on`, as turns of it.
-use Rattle.std.specs.Prelude.{◌≡◌, ◌⊎◌, ℕ, zero, suc, ◌<◌}
+use Rattle.std.specs.Prelude.{◌≡◌, ◌⊎◌, ℕ, zero, suc, ◌+◌, ◌<◌}
 use Rattle.mx_model.specs.declared.values.TurnKind.{TurnKind}
 use Rattle.mx_model.specs.declared.values.TurnKind.TheVariants as T
 use Rattle.mx_model.specs.Events.{Events}
@@ -37,3 +37,5 @@ pub record IsStretch (f : Flat) (h most : ℕ) (new : Flat) (events : Events)
   pub turn : new ≡ flat_turn (turns_of h f answer.ran) h
   pub told : IsTold (flat_made (turns_of h f answer.ran) h) events
   pub kind : answer.last ≡ flat_kind (turns_of h f answer.ran) h
+  -- fewer than so many are made only where the last doesn't just carry out an instruction
+  pub full : answer.last ≡ T.Ran → answer.ran + 1 ≡ most

@@ -1,8 +1,9 @@
 //! Turns of one hart in a row. While they carry out instructions and no more, the hart runs on in its domain: only the gate at its
 //! pc is asked about before each.
-ghost use Rattle.std.specs.Prelude.{◌≡◌, ◌+◌, ◌-◌, ◌^◌, ◌<◌, ◌≤◌, true};
+ghost use Rattle.std.specs.Prelude.{◌≡◌, ◌↔◌, ◌+◌, ◌-◌, ◌^◌, ◌<◌, ◌≤◌, true};
 ghost use Rattle.mx_model.specs.Events.{no_events};
 ghost use Rattle.mx_model.specs.Run.{flat_made};
+ghost use Rattle.mx_model.specs.declared.values.TurnKind.{TurnKind};
 ghost use Rattle.mx_machine.specs.Goings.{kind_of};
 ghost use Rattle.mx_machine.specs.Held.{meaning};
 ghost use Rattle.mx_machine.specs.Made.{IsMade};
@@ -38,12 +39,14 @@ impl<T: PermTables, const N: usize> Bare<T, N> {
         Stretch { ran: room, last }
     }
 
-    /// How many turns before the last of so many a hart makes, if none of them ends its run.
+    /// How many turns before the last of so many a hart makes, if none of them ends its run: all of them where it runs in a live
+    /// domain, and none where it doesn't.
     fn before_last(&self, hart: u32, most: u64) -> u64
         requires whole { IsWhole self.now }
         requires some { 1 ≤ most }
         ensures below { result < most }
         ensures alive { 0 < result → RunsAlive self.now hart }
+        ensures all { RunsAlive self.now hart → result + 1 ≡ most }
     {
         if most > 1 && self.runs_alive(hart) {
             most - 1
@@ -55,7 +58,7 @@ impl<T: PermTables, const N: usize> Bare<T, N> {
     /// Whether a hart runs in a live domain.
     fn runs_alive(&self, hart: u32) -> bool
         requires whole { IsWhole self.now }
-        ensures { result ≡ true → RunsAlive self.now hart }
+        ensures { (result ≡ true) ↔ RunsAlive self.now hart }
     {
         match self.harts.progress(hart) {
             Progress::Running => !self.is_dead(self.harts.domain(hart)),
@@ -75,6 +78,7 @@ impl<T: PermTables, const N: usize> Bare<T, N> {
             (flat_made (meaning self.old) hart) }
         ensures fits { Fits self.new }
         ensures on { result ≡ Going.On → RunsAlive self.new hart × (out.new ≡ no_events) }
+        ensures ran { kind_of result ≡ TurnKind.Ran → result ≡ Going.On }
     {
         self.steps += 1;
         self.hear(hart);
@@ -82,7 +86,7 @@ impl<T: PermTables, const N: usize> Bare<T, N> {
         let pc = self.harts.pc(hart);
         match self.gate(domain, pc) {
             None => self.execute(hart, false, out),
-            Some(target) => Going::Ended(self.at_gate(hart, target, out)),
+            Some(target) => self.at_gate(hart, target, out),
         }
     }
 }

@@ -12,7 +12,7 @@ ghost use Rattle.mx_machine.specs.Harts.{hart_of};
 ghost use Rattle.mx_machine.specs.Held.{meaning};
 ghost use Rattle.mx_machine.specs.Made.{IsMade, core_in, hart_in, reads_of, made_by, instruction, made_after_hearing};
 ghost use Rattle.mx_machine.specs.Serving.{IsServing};
-ghost use Rattle.mx_machine.specs.Ties.{Fits, IsWhole, MayAct, MayRun};
+ghost use Rattle.mx_machine.specs.Ties.{Fits, IsWhole, MayAct, MayRun, RunsAlive};
 ghost use Rattle.mx_machine.specs.declared.hart.Progress.TheVariants as G;
 ghost use Rattle.mx_model.specs.declared.values.TurnKind.{TurnKind};
 
@@ -46,7 +46,7 @@ pub fn clear(out: &mut Events)
 pub enum Going {
     /// It carried out an instruction, and goes on in its domain.
     On,
-    /// It made a turn of this kind, and is looked at anew before its next.
+    /// It made a turn of this kind, which isn't `Ran`, and is looked at anew before its next.
     Ended(TurnKind),
 }
 
@@ -118,23 +118,27 @@ impl<T: PermTables, const N: usize> Bare<T, N> {
         }
         match self.gate(domain, pc) {
             None => self.execute(hart, false, out).kind(),
-            Some(target) => self.at_gate(hart, target, out),
+            Some(target) => self.at_gate(hart, target, out).kind(),
         }
     }
 
-    /// A running hart at a gate: a call gate leads into another domain, and a return gate back out of its own.
-    pub fn at_gate(&mut self, hart: u32, target: u32, out: &mut Events) -> TurnKind
+    /// A running hart at a gate: a call gate leads into another domain, and a return gate back out of its own; at a return gate an
+    /// instruction that doesn't return is carried out as anywhere, and the hart goes on.
+    pub fn at_gate(&mut self, hart: u32, target: u32, out: &mut Events) -> Going
         requires valid { IsValid (meaning self.old).core }
         requires at { IsAtGate self.old hart target }
         requires empty { out.old ≡ no_events }
-        ensures made { IsMade self.old self.new out.new result (made_after_hearing self.old hart) }
+        ensures made { IsMade self.old self.new out.new (kind_of result)
+            (made_after_hearing self.old hart) }
         ensures fits { Fits self.new }
+        ensures on { result ≡ Going.On → RunsAlive self.new hart × (out.new ≡ no_events) }
+        ensures ran { kind_of result ≡ TurnKind.Ran → result ≡ Going.On }
     {
         let domain = self.harts.domain(hart);
         if target == domain {
-            self.execute(hart, true, out).kind()
+            self.execute(hart, true, out)
         } else {
-            self.pass(hart, target, out)
+            Going::Ended(self.pass(hart, target, out))
         }
     }
 
@@ -178,6 +182,7 @@ impl<T: PermTables, const N: usize> Bare<T, N> {
         ensures fits { Fits self.new }
         ensures on { result ≡ Going.On → (self.new ≡ after_instruction hart returns self.old)
             × (out.new ≡ no_events) }
+        ensures ran { kind_of result ≡ TurnKind.Ran → result ≡ Going.On }
     {
         match self.instruct(hart, returns) {
             Outcome::Next(_) => Going::On,

@@ -1,9 +1,12 @@
-use Rattle.std.proofs.Common.{sym, subst, ◌∙◌, ap}
+use Rattle.std.proofs.Common.{true, sym, subst, ◌∙◌, ap}
 use Rattle.mx_machine.specs.Goings.{kind_of}
 use Rattle.mx_machine.specs.Harts.{hart_of}
 use Rattle.mx_machine.specs.Held.{Held}
 use Rattle.mx_machine.specs.Made.{IsMade}
+use Rattle.mx_machine.specs.Ties.{RunsAlive}
 use Rattle.mx_machine.proofs.CaseLaws.{acts-gate, acts-return, target-domain}
+use Rattle.mx_machine.proofs.KindLaws.{gate-ended}
+use Rattle.mx_machine.proofs.StretchLaws.{alive-instruction}
 use Rattle.mx_machine.proofs.bare.Bare.at_gate.Goals as goal
 
 pub execute-requires : goal.execute-requires
@@ -20,9 +23,14 @@ returns-then-target-domain g c =
     let h = c.args.hart in
     let d = c.domain-domain.ensures ∙ ap (λ (k : Held). (hart_of k.harts h).domain) c.self.view_is in
     let back = acts-return m h c.args.target c.requires.at (c.if-target-domain.true ∙ d) in
+    let at = c.requires.at in
     record {
-      made = rw c.kind.ensures (subst (λ e. IsMade m c.execute.new.self c.execute.new.out (kind_of c.execute.result) e) (sym back.0) c.execute.ensures.made);
+      made = subst (λ e. IsMade m c.execute.new.self c.execute.new.out (kind_of c.execute.result) e) (sym back.0) c.execute.ensures.made;
       fits = c.execute.ensures.fits;
+      on = λ on.
+          let e = c.execute.ensures.on on in
+          (subst (λ (k : Held). RunsAlive k h) (sym e.0) (alive-instruction m h true at.run at.alive), e.1);
+      ran = c.execute.ensures.ran;
     }
 
 pub pass-requires : goal.pass-requires
@@ -41,4 +49,6 @@ returns-else-target-domain g c =
     record {
       made = subst (λ e. IsMade m c.pass.new.self c.pass.new.out c.pass.result e) (sym gate) c.pass.ensures.made;
       fits = c.pass.ensures.fits;
+      on = λ on. absurd (let z : ⊥ = cc in z);
+      ran = λ ran. absurd (gate-ended m h c.args.target (sym c.pass.ensures.made.kind ∙ ran));
     }

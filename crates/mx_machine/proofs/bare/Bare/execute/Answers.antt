@@ -1,10 +1,13 @@
-use Rattle.std.proofs.Common.{sym, subst, ◌∙◌, arith}
+use Rattle.std.proofs.Common.{refl, sym, subst, ◌∙◌, arith}
 use Rattle.mx_core.specs.declared.outcome.Outcome.{Outcome}
 use Rattle.mx_core.specs.declared.outcome.Outcome.TheVariants as O
 use Rattle.mx_core.specs.Exec.{HasCause}
+use Rattle.mx_model.specs.Turn.{call_of}
 use Rattle.mx_machine.specs.Harts.{hart_of}
+use Rattle.mx_machine.specs.Made.{hart_in}
 use Rattle.mx_machine.proofs.MadeLaws.{may-look}
 use Rattle.mx_machine.proofs.InstructLaws.{fits-instruction, from-instruction, made-next, runs-instruction}
+use Rattle.mx_machine.proofs.KindLaws.{asks-ended, return-ended, trapped-ended}
 use Rattle.mx_machine.proofs.MayLaws.{aligned-pc}
 use Rattle.mx_machine.proofs.bare.Bare.execute.Goals as goal
 
@@ -47,6 +50,7 @@ returns-in-Next g c =
           (made-next m h c.args.returns r (r.act.fits.sound.maps (hart_of m.harts h).domain r.act.domain) c.requires.returns _ e);
       fits = rw c.instruct.ensures.after (fits-instruction m h c.args.returns r);
       on = λ none. (c.instruct.ensures.after, c.requires.empty);
+      ran = λ ran. refl;
     }
 
 pub returns-in-Trap : goal.returns-in-Trap
@@ -61,6 +65,7 @@ returns-in-Trap g c =
           c.trap.new.self c.trap.new.out c.trap.result (O.Trap c.in-Trap.fault) e tt made;
       fits = c.trap.ensures.fits;
       on = λ none. absurd (let z : ⊥ = cc in z);
+      ran = λ ran. absurd (trapped-ended (sym c.trap.ensures.made.kind ∙ ran));
     }
 
 pub returns-in-Call : goal.returns-in-Call
@@ -75,6 +80,7 @@ returns-in-Call g c =
           c.ask.new.self c.ask.new.out c.ask.result O.Call e tt made;
       fits = c.ask.ensures.fits;
       on = λ none. absurd (let z : ⊥ = cc in z);
+      ran = λ ran. absurd (asks-ended c.instruct.new.self h (call_of h (hart_in c.instruct.new.self h)) (sym c.ask.ensures.made.kind ∙ ran));
     }
 
 pub returns-in-Back : goal.returns-in-Back
@@ -89,4 +95,5 @@ returns-in-Back g c =
           c.go_back.new.self c.go_back.new.out c.go_back.result (O.Back c.in-Back.rd c.in-Back.target) e tt made;
       fits = c.go_back.ensures.fits;
       on = λ none. absurd (let z : ⊥ = cc in z);
+      ran = λ ran. absurd (return-ended c.instruct.new.self h c.in-Back.rd c.in-Back.target (sym c.go_back.ensures.made.kind ∙ ran));
     }

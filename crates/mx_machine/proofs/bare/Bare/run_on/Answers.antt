@@ -1,12 +1,14 @@
-use Rattle.std.proofs.Common.{◌≡◌, ℕ, ◌<◌, refl, subst, arith}
+use Rattle.std.proofs.Common.{◌≡◌, ℕ, ◌<◌, refl, sym, subst, ◌∙◌, arith}
 use Rattle.mx_machine.specs.declared.turns.Going.{Going}
+use Rattle.mx_machine.specs.declared.turns.Going.TheVariants as G
 use Rattle.mx_machine.specs.Goings.{kind_of}
 use Rattle.mx_model.specs.declared.values.TurnKind.TheVariants as T
 use Rattle.mx_model.specs.Run.{flat_made}
 use Rattle.mx_machine.specs.Held.{meaning}
 use Rattle.mx_machine.specs.Made.{IsMade}
+use Rattle.mx_machine.proofs.KindLaws.{ran-first}
 use Rattle.mx_machine.proofs.StepLaws.{whole-is}
-use Rattle.mx_machine.proofs.StretchLaws.{HasRunOn, run-more, run-none, run-stretch}
+use Rattle.mx_machine.proofs.StretchLaws.{HasRunOn, run-kind, run-more, run-none, run-stretch}
 use Rattle.mx_machine.proofs.bare.Bare.run_on.Goals as goal
 
 pub turns-init : goal.turns-init
@@ -34,7 +36,7 @@ pub returns-in-Ended-clause-stretch : goal.returns-in-Ended-clause-stretch
 returns-in-Ended-clause-stretch g c =
     let below : c.turns.ran < c.args.most = omega (arith, c.turns-test.true, c.before_last-room.ensures.below) in
     run-stretch (meaning c.args.self.now) c.args.hart c.turns.ran c.turns.self c.turn_on.new.self c.turn_on.new.out c.in-Ended.last c.turns.invariant.run c.in-Ended.ensures.made
-    c.args.most below
+    c.args.most below (λ ran. let on : G.Ended c.in-Ended.last ≡ G.On = c.in-Ended.ensures.ran ran in absurd (let z : ⊥ = cc in z))
 
 pub returns-in-Ended-clause-whole : goal.returns-in-Ended-clause-whole
 returns-in-Ended-clause-whole g c =
@@ -46,8 +48,16 @@ pub returns-clause-stretch : goal.returns-clause-stretch
 returns-clause-stretch g c =
     let all : c.turns.ran ≡ c.before_last-room.result = omega (arith, c.turns-test.false, c.turns.auto.ran-end) in
     let f = meaning c.args.self.now in
-    run-stretch f c.args.hart c.before_last-room.result c.turns.self c.step-last.new.self c.step-last.new.out c.step-last.result
-    (subst (λ (n : ℕ). HasRunOn f c.args.hart n c.turns.self) all c.turns.invariant.run) c.step-last.ensures.made c.args.most c.before_last-room.ensures.below
+    let h = c.args.hart in
+    let room = c.before_last-room.result in
+    let m = c.turns.self in
+    let k = c.step-last.new.self in
+    let events = c.step-last.new.out in
+    let last = c.step-last.result in
+    let run : HasRunOn f h room m = subst (λ (n : ℕ). HasRunOn f h n m) all c.turns.invariant.run in
+    let kind = run-kind f h room m k events last run c.step-last.ensures.made in
+    run-stretch f h room m k events last run c.step-last.ensures.made c.args.most c.before_last-room.ensures.below
+    (λ ran. c.before_last-room.ensures.all (ran-first c.args.self.now h room c.requires.whole c.before_last-room.ensures.alive (sym kind ∙ ran)))
 
 pub returns-clause-whole : goal.returns-clause-whole
 returns-clause-whole g c =

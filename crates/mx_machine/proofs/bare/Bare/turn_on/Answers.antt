@@ -49,10 +49,11 @@ returns-in-Some g c =
     let n = c.hear.new.self in
     let is : n ≡ heard h (counted m) = c.hear.ensures.after ∙ ap (λ (k : Held). heard h (counted k)) c.self.view_is in
     record {
-      made = made-now m h w G.Running at refl n is c.at_gate.new.self c.at_gate.new.out c.at_gate.result
+      made = made-now m h w G.Running at refl n is c.at_gate.new.self c.at_gate.new.out (kind_of c.at_gate.result)
           (turn-running m h w.fits (hart-there m h w G.Running at refl) at) c.at_gate.ensures.made;
       fits = c.at_gate.ensures.fits;
-      on = λ on. absurd (let z : ⊥ = cc in z);
+      on = c.at_gate.ensures.on;
+      ran = c.at_gate.ensures.ran;
     }
 
 pub execute-requires : goal.execute-requires
@@ -92,5 +93,6 @@ returns-in-None g c =
       fits = c.execute.ensures.fits;
       on = λ on.
           let e = c.execute.ensures.on on in
-          (subst (λ (k : Held). RunsAlive k h) (sym e.0) (alive-instruction n h run live), e.1);
+          (subst (λ (k : Held). RunsAlive k h) (sym e.0) (alive-instruction n h false run live), e.1);
+      ran = c.execute.ensures.ran;
     }
