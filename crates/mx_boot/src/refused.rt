@@ -5,6 +5,7 @@ ghost use Rattle.mx_boot.specs.Faults.{at_hart, at_module, fault};
 
 use mx_manifest::{BootFault, Key, Part, Place};
 use mx_words::Need;
+use thiserror::Error;
 
 /// Why a plan is not laid out.
 #[derive(Clone, Copy, PartialEq, Eq, Debug)]
@@ -16,11 +17,13 @@ pub enum LayoutRefused {
 }
 
 /// Why a plan doesn't boot.
-#[derive(Clone, Copy, PartialEq, Eq, Debug)]
+#[derive(Clone, Copy, PartialEq, Eq, Debug, Drop, Error)]
 pub enum BootRefused {
     /// It has this first fault, of number 10 to 17.
+    #[error("fault {} of the plan", .0.number)]
     Fault(BootFault),
     /// The maps of its modules need more than the tables may take.
+    #[error("the maps of the plan's modules need more than the tables may take")]
     TablesFull {
         /// What they need.
         need: Need,
@@ -28,6 +31,7 @@ pub enum BootRefused {
         limit: Need,
     },
     /// An allocation was refused.
+    #[error("no memory for the plan's machine")]
     NoMemory,
 }
 
