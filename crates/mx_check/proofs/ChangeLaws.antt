@@ -122,7 +122,7 @@ module _ (maps : List (List Perm)) (harts : List Kept) (h : ℕ) (c : Change) (f
   change-keeps = record {
     agree = λ i running. agrees_there i running (cases_eq i h) (cases_lt i (length harts));
     dropped = keeps.dropped;
-    sets = keeps.sets;
+    hearers = keeps.hearers;
     few = keeps.few;
   }
 

@@ -11,7 +11,7 @@ use Rattle.mx_check.specs.declared.flight.Flight.{Flight}
 use Rattle.mx_words.specs.Hearing.{is_in}
 use Rattle.mx_check.specs.Harts.{Kept, no_hart, hart_at, at_hart, marked, heard_by, drops}
 use Rattle.mx_check.specs.Calls.{unheard_of, unheard, hears_range, hears_one, hears_first, hears}
-use Rattle.mx_check.specs.Flights.{IsSet}
+use Rattle.mx_check.specs.Flights.{AreHearers, IsHeardByOthers}
 use Rattle.mx_check.specs.Coherence.{Agrees, IsClear, HasDropped, Keeps}
 use Rattle.mx_check.specs.Conditions.{HasHeardAll, SameButCaches}
 use Rattle.mx_check.proofs.LookLaws.{length-at_hart, hart_at-same, hart_at-other}
@@ -37,19 +37,27 @@ marked-agrees : (h : ℕ) (own : Option Flight) (m : List Perm) (s : Span) → A
 marked-agrees h None m s a = a
 marked-agrees h (Some f) m s a = record { at = λ word inside spared. a.at word inside spared }
 
-marked-set : (h : ℕ) (own : Option Flight) → IfSome own IsSet → IfSome (option_map (marked h) own) IsSet
-marked-set h None p = tt
-marked-set h (Some f) p = length-set f.heard h true ∙ p
+marked-others : (n i h : ℕ) (f : Flight) → h < n → h ≢ i → IsHeardByOthers n i f → IsHeardByOthers n i (marked h f)
+marked-others n i h f there apart others j hit = by (cases_eq j h)
+  where
+    by : (j ≡ h) ⊎ (j ≢ h) → (j < n) × (j ≢ i)
+    by (inl e) = (subst (λ k. k < n) (sym e) there, λ x. apart (sym e ∙ x))
+    by (inr ne) = others j (sym (marked-other h j f ne) ∙ hit)
+
+marked-hearers : (n i h : ℕ) (own : Option Flight) → h < n → h ≢ i → IfSome own (AreHearers n i) → IfSome (option_map (marked h) own) (AreHearers n i)
+marked-hearers n i h None there apart p = tt
+marked-hearers n i h (Some f) there apart p =
+    record { places = length-set f.heard h true ∙ p.places; others = marked-others n i h f there apart p.others }
 
 -- hart h has heard the call of hart i, of whose range it keeps no span
-module _ (maps : List (List Perm)) (harts : List Kept) (h i : ℕ) (f : Flight) (keeps : Keeps maps harts) (there : i < length harts)
-    (flying : (hart_at harts i).flight ≡ Some f)
+module _ (maps : List (List Perm)) (harts : List Kept) (h i : ℕ) (f : Flight) (keeps : Keeps maps harts) (hearing : h < length harts) (there : i < length harts)
+    (apart : i ≢ h) (flying : (hart_at harts i).flight ≡ Some f)
     (clear : (hart_at harts h).halted ≡ false → IsClear f.first f.count (hart_at harts h).cache) where
   others : (j : ℕ) → (hart_at harts j).halted ≡ false → j ≢ i → (j ≡ h) ⊎ (j ≢ h) → HasDropped j (hart_at harts j).cache (marked h f)
-  others j running apart (inl e) hit =
+  others j running other (inl e) hit =
       subst (λ (n : ℕ). (hart_at harts n).halted ≡ false → IsClear f.first f.count (hart_at harts n).cache) (sym e) clear running
-  others j running apart (inr ne) hit =
-      some_is (HasDropped j (hart_at harts j).cache) (hart_at harts i).flight f flying (keeps.dropped j i running (λ e. apart (sym e)))
+  others j running other (inr ne) hit =
+      some_is (HasDropped j (hart_at harts j).cache) (hart_at harts i).flight f flying (keeps.dropped j i running (λ e. other (sym e)))
       (sym (marked-other h j f ne) ∙ hit)
 
   pub mark-keeps : Keeps maps (at_hart i (heard_by h) harts)
@@ -58,9 +66,9 @@ module _ (maps : List (List Perm)) (harts : List Kept) (h i : ℕ) (f : Flight) 
       let flown : option_map (marked h) k.flight ≡ Some (marked h f) = ap (option_map (marked h)) flying in
       keeps_step maps harts i (heard_by h) keeps there
       (λ running. current_weaker maps k.flight (option_map (marked h) k.flight) k.domain k.cache (marked-agrees h k.flight) (keeps.agree i running))
-      (λ j running apart. keeps.dropped i j running apart)
-      (λ j running apart. some_has (HasDropped j (hart_at harts j).cache) (option_map (marked h) k.flight) (marked h f) flown (others j running apart (cases_eq j h)))
-      (marked-set h k.flight (keeps.sets i))
+      (λ j running other. keeps.dropped i j running other)
+      (λ j running other. some_has (HasDropped j (hart_at harts j).cache) (option_map (marked h) k.flight) (marked h f) flown (others j running other (cases_eq j h)))
+      (marked-hearers (length harts) i h k.flight hearing (λ e. apart (sym e)) (keeps.hearers i))
 
 -- what an unheard range of a call says of the call
 pub record IsUnheard (h : ℕ) (o : Option Flight) (r : ℕ × ℕ) : Type 0 where
@@ -136,7 +144,8 @@ module _ (maps : List (List Perm)) (harts : List Kept) (h i : ℕ) (keeps : Keep
       subst (λ (x : Kept). x.halted ≡ false → IsClear n.flight.first n.flight.count x.cache) (sym own)
       (λ running. subst (λ (a : ℕ). IsClear a n.flight.count (without_range r.0 r.1 k.cache)) n.first
       (subst (λ (a : ℕ). IsClear r.0 a (without_range r.0 r.1 k.cache)) n.count (each_clear r.0 r.1 k.cache (keeps.agree h running)))) in
-      mark-keeps maps dropped h i n.flight (drop-keeps maps harts h keeps there r.0 r.1) (omega (arith, length-at_hart harts h (drops r.0 r.1))) flying clear
+      mark-keeps maps dropped h i n.flight (drop-keeps maps harts h keeps there r.0 r.1) (omega (arith, length-at_hart harts h (drops r.0 r.1)))
+      (omega (arith, length-at_hart harts h (drops r.0 r.1))) apart flying clear
 
   by_unheard : (o : Option (ℕ × ℕ)) → unheard h i harts ≡ o → Keeps maps (hears_range h i o harts)
   by_unheard None e = keeps
@@ -182,9 +191,9 @@ heard_after h (Some f) e = by (is_in f.heard h) refl e
     by true is e = is
     by false is e = cc
 
-heard_marked : (h : ℕ) (o : Option Flight) → h < 4 → IfSome o IsSet → IfSome (option_map (marked h) o) (λ f. is_in f.heard h ≡ true)
-heard_marked h None lt p = tt
-heard_marked h (Some f) lt p = marked-same h f (omega (arith, p))
+heard_marked : (n i h : ℕ) (o : Option Flight) → h < 4 → IfSome o (AreHearers n i) → IfSome (option_map (marked h) o) (λ f. is_in f.heard h ≡ true)
+heard_marked n i h None lt p = tt
+heard_marked n i h (Some f) lt p = marked-same h f (omega (arith, p.places))
 
 module _ (maps : List (List Perm)) (harts : List Kept) (h n : ℕ) (keeps : Keeps maps harts) (there : h < length harts) (other : n < length harts) (apart : n ≢ h) where
   heard_unheard : (o : Option (ℕ × ℕ)) → unheard h n harts ≡ o → IfSome (hart_at (hears_range h n o harts) n).flight (λ f. is_in f.heard h ≡ true)
@@ -198,7 +207,7 @@ module _ (maps : List (List Perm)) (harts : List Kept) (h n : ℕ) (keeps : Keep
       let now : (hart_at (at_hart n (heard_by h) dropped) n).flight ≡ option_map (marked h) (hart_at harts n).flight =
       ap (λ (k : Kept). k.flight) (hart_at-same dropped n (heard_by h) long) ∙ ap (option_map (marked h)) flights in
       subst (λ (o : Option Flight). IfSome o (λ f. is_in f.heard h ≡ true)) (sym now)
-      (heard_marked h (hart_at harts n).flight (omega (arith, keeps.few)) (keeps.sets n))
+      (heard_marked (length harts) n h (hart_at harts n).flight (omega (arith, keeps.few)) (keeps.hearers n))
 
   pub heard_one : IfSome (hart_at (hears_one h n harts) n).flight (λ f. is_in f.heard h ≡ true)
   heard_one = heard_unheard (unheard h n harts) refl

@@ -10,7 +10,7 @@ use Rattle.mx_table.specs.Tables.{map_of}
 use Rattle.mx_check.specs.declared.flight.Flight.{Flight}
 use Rattle.mx_words.specs.Hearing.{is_in, nobody}
 use Rattle.mx_check.specs.Harts.{Kept, hart_at, at_hart, announced, drops, ended, finished, leaves_domain, halts}
-use Rattle.mx_check.specs.Flights.{IsSet}
+use Rattle.mx_check.specs.Flights.{AreHearers}
 use Rattle.mx_check.specs.Coherence.{EachSpan, Agrees, AgreesIn, AreCurrent, IsClear, HasDropped, Keeps}
 use Rattle.mx_check.proofs.LookLaws.{length-at_hart, hart_at-same, hart_at-other}
 use Rattle.mx_check.proofs.SpanLaws.{each_weaker, each_left, each_without, each_dropped, outside_range}
@@ -20,7 +20,7 @@ module _ (maps : List (List Perm)) (harts : List Kept) (h : ℕ) (step : Kept �
     (own : (step (hart_at harts h)).halted ≡ false → AreCurrent maps (step (hart_at harts h)))
     (own_dropped : (i : ℕ) → (step (hart_at harts h)).halted ≡ false → i ≢ h → IfSome (hart_at harts i).flight (HasDropped h (step (hart_at harts h)).cache))
     (others_dropped : (i : ℕ) → (hart_at harts i).halted ≡ false → i ≢ h → IfSome (step (hart_at harts h)).flight (HasDropped i (hart_at harts i).cache))
-    (set_there : IfSome (step (hart_at harts h)).flight IsSet) where
+    (own_hearers : IfSome (step (hart_at harts h)).flight (AreHearers (length harts) h)) where
   same : hart_at (at_hart h step harts) h ≡ step (hart_at harts h)
   same = hart_at-same harts h step there
 
@@ -55,17 +55,21 @@ module _ (maps : List (List Perm)) (harts : List Kept) (h : ℕ) (step : Kept �
       (subst (λ (o : Kept). (hart_at harts j).halted ≡ false → IfSome o.flight (HasDropped j (hart_at harts j).cache)) (sym isi)
       (λ running. keeps.dropped j i running apart))
 
-  sets_there : (i : ℕ) → (i ≡ h) ⊎ (i ≢ h) → IfSome (hart_at (at_hart h step harts) i).flight IsSet
-  sets_there i (inl e) =
+  hearers_there : (i : ℕ) → (i ≡ h) ⊎ (i ≢ h) → IfSome (hart_at (at_hart h step harts) i).flight (AreHearers (length harts) i)
+  hearers_there i (inl e) =
       let is : hart_at (at_hart h step harts) i ≡ step (hart_at harts h) = ap (hart_at (at_hart h step harts)) e ∙ same in
-      subst (λ (k : Kept). IfSome k.flight IsSet) (sym is) set_there
-  sets_there i (inr ne) = subst (λ (k : Kept). IfSome k.flight IsSet) (sym (hart_at-other harts h step i ne)) (keeps.sets i)
+      subst (λ (k : Kept). IfSome k.flight (AreHearers (length harts) i)) (sym is)
+      (subst (λ (n : ℕ). IfSome (step (hart_at harts h)).flight (AreHearers (length harts) n)) (sym e) own_hearers)
+  hearers_there i (inr ne) =
+      subst (λ (k : Kept). IfSome k.flight (AreHearers (length harts) i)) (sym (hart_at-other harts h step i ne)) (keeps.hearers i)
 
   pub keeps_step : Keeps maps (at_hart h step harts)
   keeps_step = record {
     agree = λ i. agree_there i (cases_eq i h);
     dropped = λ j i running apart. fact_there j i apart (cases_eq j h) (cases_eq i h) running;
-    sets = λ i. sets_there i (cases_eq i h);
+    hearers = λ i.
+        subst (λ (n : ℕ). IfSome (hart_at (at_hart h step harts) i).flight (AreHearers n i)) (sym (length-at_hart harts h step))
+        (hearers_there i (cases_eq i h));
     few = omega (arith, length-at_hart harts h step, keeps.few);
   }
 
@@ -110,7 +114,7 @@ module _ (maps : List (List Perm)) (harts : List Kept) (h : ℕ) (keeps : Keeps 
       (agrees_from_none (hart_at harts h).flight f free) (keeps.agree h running))
       (λ i running apart. keeps.dropped h i running apart)
       (λ i running apart hit. let clash : true ≡ false = sym hit ∙ nobody_in i in cc)
-      refl
+      (record { places = refl; others = λ i hit. let clash : true ≡ false = sym hit ∙ nobody_in i in absurd (cc) })
 
   pub halt-keeps : Keeps maps (at_hart h halts harts)
   halt-keeps =
@@ -118,7 +122,7 @@ module _ (maps : List (List Perm)) (harts : List Kept) (h : ℕ) (keeps : Keeps 
       (λ running. let clash : true ≡ false = running in cc)
       (λ i running apart. let clash : true ≡ false = running in cc)
       (λ i running apart. keeps.dropped i h running (λ e. apart (sym e)))
-      (keeps.sets h)
+      (keeps.hearers h)
 
   pub leave-keeps : Keeps maps (at_hart h leaves_domain harts)
   leave-keeps =
@@ -128,7 +132,7 @@ module _ (maps : List (List Perm)) (harts : List Kept) (h : ℕ) (keeps : Keeps 
       (λ i running apart. some_weaker (HasDropped h k.cache) (HasDropped h (leaves_domain k).cache)
       (λ f p hit. each_left (λ s. meets s f.first f.count ≡ false) k.cache (p hit)) (hart_at harts i).flight (keeps.dropped h i running apart))
       (λ i running apart. keeps.dropped i h running (λ e. apart (sym e)))
-      (keeps.sets h)
+      (keeps.hearers h)
 
   pub drop-keeps : (first count : ℕ) → Keeps maps (at_hart h (drops first count) harts)
   drop-keeps first count =
@@ -138,7 +142,7 @@ module _ (maps : List (List Perm)) (harts : List Kept) (h : ℕ) (keeps : Keeps 
       (λ i running apart. some_weaker (HasDropped h k.cache) (HasDropped h (drops first count k).cache)
       (λ f p hit. each_without first count k.cache (p hit)) (hart_at harts i).flight (keeps.dropped h i running apart))
       (λ i running apart. keeps.dropped i h running (λ e. apart (sym e)))
-      (keeps.sets h)
+      (keeps.hearers h)
 
   -- once its call has ended, the caller's spans agree without exemption, since none meets the range
   agrees_ended : (f : Flight) (m : List Perm) (s : Span) → Agrees m (Some f) s → meets s f.first f.count ≡ false → Agrees m None s

@@ -75,7 +75,7 @@ module _ (kind : Kind) (maps : List (List Perm)) (harts : List Kept) (h domain :
       (λ running. current_now)
       (λ i running apart. keeps.dropped h i running apart)
       (λ i running apart. keeps.dropped i h running (λ e. apart (sym e)))
-      (keeps.sets h)
+      (keeps.hearers h)
 
   module _ (most place word : ℕ) (s : Span) (round : IsUniformRound (map_of maps domain) word s) where
     clear_looked : (i : ℕ) → i ≢ h → (f : Flight) → (hart_at harts i).flight ≡ Some f → HasDropped h (hart_at harts h).cache f →
@@ -97,7 +97,7 @@ module _ (kind : Kind) (maps : List (List Perm)) (harts : List Kept) (h domain :
         (λ free. uniform_agrees (map_of maps domain) k.flight word s round))
         (λ i running apart. dropped_looked i apart (hart_at harts i).flight refl (keeps.dropped h i running apart))
         (λ i running apart. keeps.dropped i h running (λ e. apart (sym e)))
-        (keeps.sets h)
+        (keeps.hearers h)
 
     -- what decides is the map's permission
     unexempt : (t : Span) → Agrees (map_of maps domain) (hart_at harts h).flight t → covers_word t word ≡ true → t.perm ≡ perm_at (map_of maps domain) word

@@ -1,7 +1,7 @@
 -- Coherence at the start: empty caches keep both facts, whoever has heard what.
-use Rattle.std.proofs.Common.{◌≡◌, ℕ, ◌<◌, ◌≤◌, ◌⊎◌, inl, inr, Bool, true, false, cond, List, [], ◌∷◌, length, Option, Some, None, sym, ap, subst, arith}
+use Rattle.std.proofs.Common.{◌≡◌, ℕ, ◌<◌, ◌≤◌, ◌⊎◌, inl, inr, Bool, true, false, cond, List, [], ◌∷◌, length, Option, Some, None, refl, sym, ap, subst, arith}
 use Rattle.std.specs.Prelude.{All, IfSome}
-use Rattle.std.proofs.lemmas.Bool.{cases_lt}
+use Rattle.std.proofs.lemmas.Bool.{cases_lt, eqb-true}
 use Rattle.std.proofs.lemmas.List.{get_or_past, get_or-replicate, length-replicate}
 use Rattle.std.proofs.lemmas.List.Elements.{All-head, All-tail}
 use Rattle.mx_words.specs.declared.perm.Perm.{Perm}
@@ -9,17 +9,17 @@ use Rattle.mx_words.specs.Caches.{no_cache, meets}
 use Rattle.mx_words.proofs.CountingLaws.{length-list_below, list_below-at}
 use Rattle.mx_table.specs.Tables.{map_of}
 use Rattle.mx_check.specs.declared.flight.Flight.{Flight}
-use Rattle.mx_check.specs.Flights.{is_of, flight_of, IsSet}
+use Rattle.mx_check.specs.Flights.{is_of, flight_of, IsSet, IsHeardByOthers, AreHearers}
 use Rattle.mx_words.specs.Hearing.{is_in}
 use Rattle.mx_check.specs.Harts.{Kept, new_hart, no_hart, hart_at}
-use Rattle.mx_check.specs.Conditions.{MayLook}
+use Rattle.mx_check.specs.Conditions.{MayLook, IsResumable}
 use Rattle.mx_check.specs.Calls.{new_harts, waiting_hart, waiting_harts}
 use Rattle.mx_check.specs.Coherence.{EachSpan, Agrees, AgreesIn, IsClear, HasDropped, Keeps}
 use Rattle.mx_check.proofs.SpanLaws.{each_none}
 
 -- harts whose caches are empty
-module _ (maps : List (List Perm)) (harts : List Kept) (empty : (i : ℕ) → (hart_at harts i).cache ≡ no_cache) (sets : (i : ℕ) → IfSome (hart_at harts i).flight IsSet)
-    (few : length harts ≤ 4) where
+module _ (maps : List (List Perm)) (harts : List Kept) (empty : (i : ℕ) → (hart_at harts i).cache ≡ no_cache)
+    (hearers : (i : ℕ) → IfSome (hart_at harts i).flight (AreHearers (length harts) i)) (few : length harts ≤ 4) where
   dropped_from : (h : ℕ) (o : Option Flight) → IfSome o (HasDropped h (hart_at harts h).cache)
   dropped_from h None = tt
   dropped_from h (Some f) =
@@ -32,7 +32,7 @@ module _ (maps : List (List Perm)) (harts : List Kept) (empty : (i : ℕ) → (h
         subst (λ c. EachSpan (λ d s. Agrees (map_of maps d) k.flight s) (AgreesIn maps k.flight k.domain) c) (sym (empty h))
         (each_none (λ d s. Agrees (map_of maps d) k.flight s) (AgreesIn maps k.flight k.domain));
     dropped = λ h i running apart. dropped_from h (hart_at harts i).flight;
-    sets = sets;
+    hearers = hearers;
     few = few;
   }
 
@@ -46,31 +46,39 @@ module _ (maps : List (List Perm)) (n : ℕ) (few : n ≤ 4) where
   pub new-keeps : Keeps maps (new_harts n)
   new-keeps =
       empty-keeps maps (new_harts n) (λ i. (new_at i (cases_lt i n)).0)
-      (λ i. subst (λ (o : Option Flight). IfSome o IsSet) (sym (new_at i (cases_lt i n)).1) tt)
+      (λ i. subst (λ (o : Option Flight). IfSome o (AreHearers (length (new_harts n)) i)) (sym (new_at i (cases_lt i n)).1) tt)
       (omega (arith, length-replicate n new_hart))
 
--- a call in a list of calls
-flight_of-all : (P : Flight → Type 0) (flights : List Flight) (h : ℕ) → All P flights → IfSome (flight_of flights h) P
-flight_of-all P [] h all = tt
-flight_of-all P (f ∷ fs) h all = by (flight_of-all P fs h (All-tail P f fs all)) (is_of h f)
+-- who has heard the call of a hart in a list of calls
+flight_of-hearers : (n words h : ℕ) (flights : List Flight) → All IsSet flights → All (IsResumable n words) flights → IfSome (flight_of flights h) (AreHearers n h)
+flight_of-hearers n words h [] sets all = tt
+flight_of-hearers n words h (f ∷ fs) sets all =
+    by (flight_of-hearers n words h fs (All-tail IsSet f fs sets) (All-tail (IsResumable n words) f fs all)) (is_of h f) refl
   where
-    by : IfSome (flight_of fs h) P → (b : Bool) → IfSome (cond b (Some f) (flight_of fs h)) P
-    by rest true = All-head P f fs all
-    by rest false = rest
+    by : IfSome (flight_of fs h) (AreHearers n h) → (b : Bool) → is_of h f ≡ b → IfSome (cond b (Some f) (flight_of fs h)) (AreHearers n h)
+    by rest true e = record {
+      places = All-head IsSet f fs sets;
+      others = subst (λ j. IsHeardByOthers n j f) (eqb-true f.hart h e) (All-head (IsResumable n words) f fs all).heard;
+    }
+    by rest false e = rest
 
-module _ (maps : List (List Perm)) (flights : List Flight) (n : ℕ) (few : n ≤ 4) (all : All IsSet flights) where
-  waiting_at : (i : ℕ) → (i < n) ⊎ (n ≤ i) → ((hart_at (waiting_harts flights n) i).cache ≡ no_cache) × IfSome (hart_at (waiting_harts flights n) i).flight IsSet
+module _ (maps : List (List Perm)) (flights : List Flight) (n words : ℕ) (few : n ≤ 4) (sets : All IsSet flights) (all : All (IsResumable n words) flights) where
+  as_many : length (waiting_harts flights n) ≡ n
+  as_many = length-list_below n (waiting_hart flights)
+
+  waiting_at : (i : ℕ) → (i < n) ⊎ (n ≤ i) → ((hart_at (waiting_harts flights n) i).cache ≡ no_cache) × IfSome (hart_at (waiting_harts flights n) i).flight (AreHearers n i)
   waiting_at i (inl lt) =
       let e = list_below-at n i (waiting_hart flights) no_hart lt in
-      (ap (λ (k : Kept). k.cache) e, subst (λ (k : Kept). IfSome k.flight IsSet) (sym e) (flight_of-all IsSet flights i all))
+      (ap (λ (k : Kept). k.cache) e, subst (λ (k : Kept). IfSome k.flight (AreHearers n i)) (sym e) (flight_of-hearers n words i flights sets all))
   waiting_at i (inr le) =
-      let e = get_or_past (waiting_harts flights n) i no_hart (omega (arith, length-list_below n (waiting_hart flights))) in
-      (ap (λ (k : Kept). k.cache) e, subst (λ (k : Kept). IfSome k.flight IsSet) (sym e) tt)
+      let e = get_or_past (waiting_harts flights n) i no_hart (omega (arith, as_many)) in
+      (ap (λ (k : Kept). k.cache) e, subst (λ (k : Kept). IfSome k.flight (AreHearers n i)) (sym e) tt)
 
   pub waiting-keeps : Keeps maps (waiting_harts flights n)
   waiting-keeps =
-      empty-keeps maps (waiting_harts flights n) (λ i. (waiting_at i (cases_lt i n)).0) (λ i. (waiting_at i (cases_lt i n)).1)
-      (omega (arith, length-list_below n (waiting_hart flights)))
+      empty-keeps maps (waiting_harts flights n) (λ i. (waiting_at i (cases_lt i n)).0)
+      (λ i. subst (λ k. IfSome (hart_at (waiting_harts flights n) i).flight (AreHearers k i)) (sym as_many) (waiting_at i (cases_lt i n)).1)
+      (omega (arith, as_many))
 
 -- a hart that has done nothing yet may check in any domain
 new_flight : (n i : ℕ) → (i < n) ⊎ (n ≤ i) → (hart_at (new_harts n) i).flight ≡ None

@@ -7,7 +7,7 @@ use Rattle.mx_words.specs.Ranges.{covers}
 use Rattle.mx_words.specs.Rights.{perm_at}
 use Rattle.mx_table.specs.Tables.{map_of}
 use Rattle.mx_check.specs.declared.flight.Flight.{Flight}
-use Rattle.mx_check.specs.Flights.{IsSet}
+use Rattle.mx_check.specs.Flights.{AreHearers}
 use Rattle.mx_words.specs.Hearing.{is_in}
 use Rattle.mx_check.specs.Harts.{Kept, hart_at}
 use Rattle.std.specs.Prelude.{length}
@@ -51,5 +51,5 @@ pub record Keeps (maps : List (List Perm)) (harts : List Kept) : Type 0 where
   pub agree : (h : ℕ) → (hart_at harts h).halted ≡ false → AreCurrent maps (hart_at harts h)
   pub dropped : (h i : ℕ) → (hart_at harts h).halted ≡ false → i ≢ h →
       IfSome (hart_at harts i).flight (HasDropped h (hart_at harts h).cache)
-  pub sets : (h : ℕ) → IfSome (hart_at harts h).flight IsSet
+  pub hearers : (h : ℕ) → IfSome (hart_at harts h).flight (AreHearers (length harts) h)
   pub few : length harts ≤ 4

@@ -2,6 +2,7 @@
 use Rattle.std.specs.Prelude.{◌≡◌, ◌≢◌, ℕ, ◌+◌, ◌<◌, ◌≤◌, ◌⊎◌, true, false, List, length, IfSome, None}
 use Rattle.mx_table.specs.declared.change.Change.{Change}
 use Rattle.mx_check.specs.declared.flight.Flight.{Flight}
+use Rattle.mx_check.specs.Flights.{IsHeardByOthers}
 use Rattle.mx_words.specs.Hearing.{is_in}
 use Rattle.mx_check.specs.Harts.{Kept, hart_at}
 use Rattle.mx_check.specs.Calls.{is_ready}
@@ -50,4 +51,4 @@ pub record MayChange (h : ℕ) (c : Change) (harts : List Kept) : Type 0 where
 pub record IsResumable (harts words : ℕ) (f : Flight) : Type 0 where
   pub hart : f.hart < harts
   pub range : IsWithin f.first f.count words
-  pub heard : (i : ℕ) → is_in f.heard i ≡ true → (i < harts) × (i ≢ f.hart)
+  pub heard : IsHeardByOthers harts f.hart f

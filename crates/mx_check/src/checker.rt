@@ -4,7 +4,7 @@ ghost use Rattle.mx_words.specs.Need.{fits};
 ghost use Rattle.mx_words.specs.Rights.{perm_at, perm, denies};
 ghost use Rattle.mx_table.specs.Change.{IsLawful, changed};
 ghost use Rattle.mx_table.specs.Tables.{IsDomain, map_of};
-ghost use Rattle.mx_check.specs.Flights.{IsSet};
+ghost use Rattle.mx_check.specs.Flights.{AreHearers};
 ghost use Rattle.mx_check.specs.Harts.{hart_at, at_hart, announced, finished, leaves_domain, halts, has_heard};
 ghost use Rattle.mx_check.specs.Looks.{lookups_after, looked};
 ghost use Rattle.mx_check.specs.Calls.{hears, is_ready, new_harts, waiting_harts};
@@ -20,7 +20,7 @@ use std::marker::Model;
 /// What it keeps is coherent: where a hart isn't halted, each span in its caches has its permission on each of its words in a
 /// domain's map as it is now (for an entry of the buffer its own domain, for a place the domain that the checks since the last
 /// `leave_domain` named), but for the words of the hart's own call in flight; and a hart that has heard another hart's call in
-/// flight keeps no span that meets the call's range.
+/// flight keeps no span that meets the call's range. Only other harts that there are have heard a call in flight.
 ///
 /// Hart numbers are below the number of harts, domains are those of the tables, from 1 on, and words are below those of RAM.
 #[derive(Drop)]
@@ -209,10 +209,11 @@ impl<T: PermTables, const N: usize> Checker<T, N> {
     }
 }
 
-/// A law: the set of harts that have heard a call in flight has a place for each of the four. A machine's state is valid only with
-/// such sets.
+/// A law: the set of harts that have heard a call in flight has a place for each of the four, and in it are only other harts that
+/// there are. A machine's state is valid only with such sets.
 pub fn flights_of<T: PermTables, const N: usize>(checker: &Checker<T, N>)
-    ensures { (h : ℕ) → IfSome (hart_at checker.now.harts h).flight IsSet }
+    ensures { (h : ℕ) → IfSome (hart_at checker.now.harts h).flight
+        (AreHearers (length checker.now.harts) h) }
 {
     let _ = &checker.bare;
 }

@@ -155,12 +155,12 @@ module _ (xs : List Hart) (kept : List Kept) where
       by (inr le) = ap (λ (k : Kept). k.flight) (halted-past n h le)
 
 -- one hart that resumes
-module _ (p : Parts) (n h : ℕ) (s : HartState) (k : Kept) (running : k.halted ≡ false) (nowhere : k.domain ≡ None) where
-  flies : (o : Option Flight) → FliesIfWaiting p n h s V.Waiting o → IsFlying (range_of p (own_call h (resumed_hart s))) o
+module _ (p : Parts) (h : ℕ) (s : HartState) (k : Kept) (running : k.halted ≡ false) (nowhere : k.domain ≡ None) where
+  flies : (o : Option Flight) → FliesIfWaiting p h s V.Waiting o → IsFlying (range_of p (own_call h (resumed_hart s))) o
   flies None t = absurd t
   flies (Some f) t = t.range
 
-  tied-by : (v : HartStatus) → FliesIfWaiting p n h s v k.flight →
+  tied-by : (v : HartStatus) → FliesIfWaiting p h s v k.flight →
       IsTied (range_of p) h (record (resumed_hart s) { progress = progress_of v }) (cond (is_halted (progress_of v)) (counts_as_halted k) k)
   tied-by V.Running t = record { halted = running; flight = t; domain = subst (λ (o : Option ℕ). IfSome o (λ d. d ≡ s.domain)) (sym nowhere) tt }
   tied-by V.Waiting t = record { halted = running; flight = flies k.flight t; domain = subst (λ (o : Option ℕ). IfSome o (λ d. d ≡ s.domain)) (sym nowhere) tt }
@@ -199,7 +199,7 @@ module _ (p : Parts) (states : List HartState) (stacks : List StackArea) (dead :
       ∙ ap (λ (y : Hart). cond (is_halted y.progress) (counts_as_halted k) k) x in
       tied-as (range_of p) h (hart_of harts h) (resumed_hart s) (hart_at (halted_first (length harts) harts p.harts) h)
       (cond (is_halted (progress_of s.status)) (counts_as_halted k) k) x kept
-      (tied-by p (length states) h s k u.halted u.domain s.status u.flight)
+      (tied-by p h s k u.halted u.domain s.status u.flight)
   ties-resumed h (inr le) =
       let harts = list_map resumed_hart states in
       let past : length harts ≤ h = omega (arith, le, length-map states resumed_hart) in

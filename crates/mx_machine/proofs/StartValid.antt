@@ -10,7 +10,7 @@ use Rattle.mx_words.specs.Caches.{Cache}
 use Rattle.mx_words.specs.Ranges.{address_of, most_words}
 use Rattle.mx_table.specs.Tables.{IsDomain}
 use Rattle.mx_check.specs.declared.flight.Flight.{Flight}
-use Rattle.mx_check.specs.Flights.{IsSet}
+use Rattle.mx_check.specs.Flights.{AreHearers}
 use Rattle.mx_check.specs.Harts.{Kept, hart_at}
 use Rattle.mx_check.specs.Harts.{no_hart as nothing_kept}
 use Rattle.mx_heap.specs.HeapState.{HeapState}
@@ -174,7 +174,7 @@ module _ (p : Parts) (n h : ℕ) (s : HartState) (is : IsHartState p s) (small :
   abbrev seen-as : HartStatus → Option Flight → Seen
   seen-as v o = seen_with (status_by (own_call h (resumed_hart s)) o (progress_of v)) (resumed_hart s)
 
-  resumes-as : (v : HartStatus) (o : Option Flight) → FliesIfWaiting p n h s v o → IfSome o IsSet → IsHart (length p.maps) n h (seen-as v o)
+  resumes-as : (v : HartStatus) (o : Option Flight) → FliesIfWaiting p h s v o → IfSome o (AreHearers n h) → IsHart (length p.maps) n h (seen-as v o)
   resumes-as V.Running o t q = record {
     regs = registers;
     pc = pc-is;
@@ -190,7 +190,7 @@ module _ (p : Parts) (n h : ℕ) (s : HartState) (is : IsHartState p s) (small :
     domain = module-of p s.domain is.domain;
     few_frames = small.frames.few;
     frames = frames-are p s.frames is.frames small.frames.each;
-    status = record { own = refl; announced = t.announced; places = q; others = t.heard };
+    status = record { own = refl; announced = t.announced; places = q.places; others = q.others };
   }
   resumes-as V.Halted o t q = record {
     regs = registers;
@@ -201,7 +201,7 @@ module _ (p : Parts) (n h : ℕ) (s : HartState) (is : IsHartState p s) (small :
     status = tt;
   }
 
-  pub hart-resumes : (k : Kept) → FliesIfWaiting p n h s s.status k.flight → IfSome k.flight IsSet → IsHart (length p.maps) n h (seen h (resumed_hart s) k)
+  pub hart-resumes : (k : Kept) → FliesIfWaiting p h s s.status k.flight → IfSome k.flight (AreHearers n h) → IsHart (length p.maps) n h (seen h (resumed_hart s) k)
   hart-resumes k t q = resumes-as s.status k.flight t q
 
 -- stack areas of a machine, also of a domain that isn't there
@@ -283,16 +283,16 @@ module _ (p : Parts) (states : List HartState) (stacks : List StackArea) (dead :
       (caches-halted harts p.harts (length harts))
 
   -- a hart that resumes halted has no call in flight
-  flies-not : (n h : ℕ) (s : HartState) (v : HartStatus) (o : Option Flight) → FliesIfWaiting p n h s v o → is_halted (progress_of v) ≡ true → o ≡ None
-  flies-not n h s V.Running o t e = t
-  flies-not n h s V.Waiting o t e = cc
-  flies-not n h s V.Halted o t e = t
+  flies-not : (h : ℕ) (s : HartState) (v : HartStatus) (o : Option Flight) → FliesIfWaiting p h s v o → is_halted (progress_of v) ≡ true → o ≡ None
+  flies-not h s V.Running o t e = t
+  flies-not h s V.Waiting o t e = cc
+  flies-not h s V.Halted o t e = t
 
   free-at : (h : ℕ) → (h < length states) ⊎ (length states ≤ h) → is_halted (hart_of (list_map resumed_hart states) h).progress ≡ true → (hart_at p.harts h).flight ≡ None
   free-at h (inl lt) e =
       let s = get_or states h no_state in
       let x : hart_of (list_map resumed_hart states) h ≡ resumed_hart s = get_or-map resumed_hart states h no_state no_hart lt in
-      flies-not (length states) h s s.status (hart_at p.harts h).flight (may.unused h lt).flight (sym (ap (λ (y : Hart). is_halted y.progress) x) ∙ e)
+      flies-not h s s.status (hart_at p.harts h).flight (may.unused h lt).flight (sym (ap (λ (y : Hart). is_halted y.progress) x) ∙ e)
   free-at h (inr le) e = ap (λ (k : Kept). k.flight) (get_or_past p.harts h nothing_kept (omega (arith, le, may.same_harts)))
 
   pub free-resumed : (h : ℕ) → is_halted (hart_of (list_map resumed_hart states) h).progress ≡ true → (hart_at p.harts h).flight ≡ None
@@ -301,15 +301,16 @@ module _ (p : Parts) (states : List HartState) (stacks : List StackArea) (dead :
 -- a machine that resumes
 module _ (p : Parts) (states : List HartState) (stacks : List StackArea) (dead : List Bool) (steps : ℕ) (sound : IsSound p)
     (may : MayResume p states stacks dead steps) (few : length states ≤ 4) (places : length dead ≡ 64) (small : AllByRecursion IsSmallState states) (typed : AreTyped p)
-    (sets : (h : ℕ) → IfSome (hart_at p.harts h).flight IsSet) where
+    (hearers : (h : ℕ) → IfSome (hart_at p.harts h).flight (AreHearers (length p.harts) h)) where
   each-left : (h : ℕ) → h < length states → IsHart (length p.maps) (length states) h (seen h (hart_of (list_map resumed_hart states) h) (hart_at (kept_resumed p states) h))
   each-left h lt =
       let s = get_or states h no_state in
       let k = hart_at (kept_resumed p states) h in
       subst (λ (x : Hart). IsHart (length p.maps) (length states) h (seen h x k)) (sym (get_or-map resumed_hart states h no_state no_hart lt))
       (hart-resumes p (length states) h s (all-in (IsHartState p) states no_state may.each h lt) (all-in IsSmallState states no_state small h lt) k
-      (subst (λ (o : Option Flight). FliesIfWaiting p (length states) h s s.status o) (sym (same-flight p states stacks dead steps may h)) (may.unused h lt).flight)
-      (subst (λ (o : Option Flight). IfSome o IsSet) (sym (same-flight p states stacks dead steps may h)) (sets h)))
+      (subst (λ (o : Option Flight). FliesIfWaiting p h s s.status o) (sym (same-flight p states stacks dead steps may h)) (may.unused h lt).flight)
+      (subst (λ (o : Option Flight). IfSome o (AreHearers (length states) h)) (sym (same-flight p states stacks dead steps may h))
+      (subst (λ n. IfSome (hart_at p.harts h).flight (AreHearers n h)) may.same_harts (hearers h))))
 
   resumed-parts : HasValidParts (held_resumed p states stacks dead steps)
   resumed-parts = record {

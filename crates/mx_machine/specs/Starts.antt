@@ -1,10 +1,9 @@
 -- With what a machine starts or resumes, and the flat state that it then is.
-use Rattle.std.specs.Prelude.{◌≡◌, ◌≢◌, ℕ, ◌+◌, ◌-◌, ◌*◌, ◌%◌, ◌^◌, ◌<◌, ◌≤◌, ◌⊎◌, Bool, true, false, List, [], ◌∷◌, length, replicate, slice_index, slice_index_or, slice_set, Option, Some, None}
+use Rattle.std.specs.Prelude.{◌≡◌, ℕ, ◌+◌, ◌-◌, ◌*◌, ◌%◌, ◌^◌, ◌<◌, ◌≤◌, ◌⊎◌, Bool, true, false, List, [], ◌∷◌, length, replicate, slice_index, slice_index_or, slice_set, Option, Some, None}
 use Rattle.std.specs.List.{AllByRecursion}
 use Rattle.std.specs.Prelude.{map as list_map}
 use Rattle.mx_words.specs.Announced.{is_announced}
 use Rattle.mx_words.specs.Caches.{no_cache}
-use Rattle.mx_words.specs.Hearing.{is_in}
 use Rattle.mx_table.specs.Tables.{IsDomain}
 use Rattle.mx_check.specs.Calls.{new_harts}
 use Rattle.mx_check.specs.Harts.{Kept, hart_at}
@@ -97,25 +96,24 @@ pub record IsHartState (p : Parts) (s : HartState) : Type 0 where
   pub x0 : slice_index s.regs 0 ≡ 0
   pub frames : AllByRecursion (IsBackPlace p) s.frames
 
--- the call of hart h in flight is that of the hart's registers, and only other harts that there are have heard it
-pub record IsCallOf (p : Parts) (harts h : ℕ) (s : HartState) (f : Flight) : Type 0 where
+-- the call of hart h in flight is that of the hart's registers
+pub record IsCallOf (p : Parts) (h : ℕ) (s : HartState) (f : Flight) : Type 0 where
   pub announced : is_announced (own_call h (resumed_hart s)).number ≡ true
   pub range : HasRange (range_of p (own_call h (resumed_hart s))) f
-  pub heard : (i : ℕ) → is_in f.heard i ≡ true → (i < harts) × (i ≢ h)
 
 -- a call of hart h is in flight exactly where the hart waits
-abbrev pub FliesIfWaiting : Parts → ℕ → ℕ → HartState → HartStatus → Option Flight → Type 0
-FliesIfWaiting p harts h s V.Running flight = flight ≡ None
-FliesIfWaiting p harts h s V.Waiting None = ⊥
-FliesIfWaiting p harts h s V.Waiting (Some f) = IsCallOf p harts h s f
-FliesIfWaiting p harts h s V.Halted flight = flight ≡ None
+abbrev pub FliesIfWaiting : Parts → ℕ → HartState → HartStatus → Option Flight → Type 0
+FliesIfWaiting p h s V.Running flight = flight ≡ None
+FliesIfWaiting p h s V.Waiting None = ⊥
+FliesIfWaiting p h s V.Waiting (Some f) = IsCallOf p h s f
+FliesIfWaiting p h s V.Halted flight = flight ≡ None
 
 -- the checker has done nothing yet for hart h but announce the call on which it waits
-pub record IsUnused (p : Parts) (harts h : ℕ) (s : HartState) (k : Kept) : Type 0 where
+pub record IsUnused (p : Parts) (h : ℕ) (s : HartState) (k : Kept) : Type 0 where
   pub cache : k.cache ≡ no_cache
   pub halted : k.halted ≡ false
   pub domain : k.domain ≡ None
-  pub flight : FliesIfWaiting p harts h s s.status k.flight
+  pub flight : FliesIfWaiting p h s s.status k.flight
 
 -- what is read of a state after the last
 abbrev pub no_state : HartState
@@ -128,7 +126,7 @@ pub record MayResume (p : Parts) (states : List HartState) (stacks : List StackA
   pub same_harts : length p.harts ≡ length states
   pub each : AllByRecursion (IsHartState p) states
   pub unused : (h : ℕ) → h < length states →
-      IsUnused p (length states) h (slice_index_or states h no_state) (hart_at p.harts h)
+      IsUnused p h (slice_index_or states h no_state) (hart_at p.harts h)
   pub count : length stacks ≡ length p.maps
   pub areas : AllByRecursion (IsStack p.size (length states)) stacks
   pub dead_modules : (d : ℕ) → slice_index_or dead d false ≡ true → IsDomain p.maps d

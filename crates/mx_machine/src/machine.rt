@@ -51,7 +51,8 @@ impl<T: PermTables, const N: usize> Model for Machine<T, N> {
 impl<T: PermTables, const N: usize> Machine<T, N> {
     /// A machine that starts: its harts stand at their starts with all registers zero but x2, the address after the stack area of
     /// their domain for them. The supervisor's parts belong together, and each gate is for a word of RAM and between modules. There is
-    /// one start for each hart of the checker, which has done nothing yet, and one stack area for each module.
+    /// one start for each hart of the checker, which has done nothing yet, and one stack area for each module, which lies in RAM for
+    /// all harts or has no words.
     pub fn new(parts: Supervisor<T, N>, starts: &Starts, stacks: &Stacks) -> Machine<T, N>
         requires sound { IsSound (parts_of T.kind T.maps T.size T.limits N parts) }
         requires gates { AllByRecursion
@@ -83,9 +84,9 @@ impl<T: PermTables, const N: usize> Machine<T, N> {
         }
     }
 
-    /// A machine that goes on as it was left. The supervisor's parts and gates are as for `new`. There is one hart state for each hart
-    /// of the checker, in which the caches are empty, no hart is halted, and a call is in flight for exactly the harts that wait: that
-    /// of their registers. `dead` is true for modules alone, and at most 2^63 - 1 turns were made.
+    /// A machine that goes on as it was left. The supervisor's parts, gates and stack areas are as for `new`. There is one hart state
+    /// for each hart of the checker, in which the caches are empty, no hart is halted, and a call is in flight for exactly the harts
+    /// that wait: that of their registers. `dead` is true for modules alone, and at most 2^63 - 1 turns were made.
     pub fn resume(
         parts: Supervisor<T, N>,
         harts: &HartStates,

@@ -75,23 +75,22 @@ module _ (p : Parts) (count first words d0 pc0 : ℕ) (regs0 : List ℕ) (d1 pc1
       ∙ ap (λ n. range_words (slice_index regs0 10) (slice_index regs0 11) n) size
       ∙ ap (λ (o : Option (ℕ × ℕ)). unwrap_or o (0, 0)) range
 
-  unused : (h : ℕ) → h < 3 → IsUnused p 3 h (get_or (left_states d0 pc0 regs0 d1 pc1 regs1 d2 pc2 regs2) h no_state) (hart_at p.harts h)
+  unused : (h : ℕ) → h < 3 → IsUnused p h (get_or (left_states d0 pc0 regs0 d1 pc1 regs1 d2 pc2 regs2) h no_state) (hart_at p.harts h)
   unused zero l =
-      subst (λ (k : Kept). IsUnused p 3 0 (left_state V.Waiting d0 pc0 regs0) k) (sym (ap (λ (hs : List Kept). hart_at hs 0) harts ∙ kept-first fs)) (record {
+      subst (λ (k : Kept). IsUnused p 0 (left_state V.Waiting d0 pc0 regs0) k) (sym (ap (λ (hs : List Kept). hart_at hs 0) harts ∙ kept-first fs)) (record {
         cache = refl;
         halted = refl;
         domain = refl;
         flight = record {
           announced = ap is_announced number;
           range = record { first = sym (ap (λ (r : ℕ × ℕ). r.0) range-is); count = sym (ap (λ (r : ℕ × ℕ). r.1) range-is) };
-          heard = λ i h. no-one 4 i h;
         };
       })
   unused (suc zero) l =
-      subst (λ (k : Kept). IsUnused p 3 1 (left_state V.Halted d1 pc1 regs1) k) (sym (ap (λ (hs : List Kept). hart_at hs 1) harts ∙ kept-second fs))
+      subst (λ (k : Kept). IsUnused p 1 (left_state V.Halted d1 pc1 regs1) k) (sym (ap (λ (hs : List Kept). hart_at hs 1) harts ∙ kept-second fs))
       (record { cache = refl; halted = refl; domain = refl; flight = refl })
   unused (suc (suc zero)) l =
-      subst (λ (k : Kept). IsUnused p 3 2 (left_state V.Running d2 pc2 regs2) k) (sym (ap (λ (hs : List Kept). hart_at hs 2) harts ∙ kept-third fs))
+      subst (λ (k : Kept). IsUnused p 2 (left_state V.Running d2 pc2 regs2) k) (sym (ap (λ (hs : List Kept). hart_at hs 2) harts ∙ kept-third fs))
       (record { cache = refl; halted = refl; domain = refl; flight = refl })
   unused (suc (suc (suc h))) l = absurd (omega (arith, l))
 
