@@ -1,5 +1,6 @@
 //! Worked examples of turns, on machines made by hand.
 
+use crate::readings::{is_dead, perm};
 use crate::small::{Module, NO_HEAP, Small, machine};
 use mx_check::Counts;
 use mx_machine::{HartStart, HartStatus, HartView, StackArea};
@@ -463,7 +464,10 @@ fn a_call_into_a_dead_module_is_sent_back(rt: HostRuntime) -> Result<(), Fail> {
         word: 1024,
         target: 2,
     };
-    let end = play_to_end(rt.alloc(), &modules, &[gate], &[start(1, 0x8000_0000)], 20)?;
+    let played = play(rt.alloc(), &modules, &[gate], &[start(1, 0x8000_0000)], 20)?;
+    let dead = is_dead(&played.machine, 2);
+    let kept = perm(&played.machine, 2, 1024);
+    let end = end(played);
     let notes = [
         fault(4, 0, 2, 0x8000_1000, 3, 0x8000_1000),
         fault(7, 0, 1, 0x8000_000C, 3, 0x8000_000C),
@@ -471,6 +475,7 @@ fn a_call_into_a_dead_module_is_sent_back(rt: HostRuntime) -> Result<(), Fail> {
     assert_eq!(rt; end.notes.as_slice(), notes.as_slice());
     let values = [(1, 0x8000_000C), (5, 0x8000_1000), (10, 0xFFFF_FF14)];
     assert_eq!(rt; end.harts[0], halted(0x8000_000C, &values));
+    assert_eq!(rt; (dead, kept), (Some(true), Some(Perm::ExecuteRead)));
     Ok(())
 }
 

@@ -294,7 +294,7 @@ fn the_readers_tell_stack_areas_and_who_kills(rt: HostRuntime) -> Result<(), Fai
 }
 
 /// Whether a domain is dead, where it is there.
-fn is_dead(machine: &Small, domain: u32) -> Option<bool> {
+pub fn is_dead(machine: &Small, domain: u32) -> Option<bool> {
     if 0 < domain && domain <= machine.modules() {
         Some(machine.dead(domain))
     } else {
@@ -411,7 +411,7 @@ fn again(alloc: Global, modules: &[Module], machine: &Small) -> Option<Small> {
 }
 
 /// The permission of a domain on a word, where there are both.
-fn perm(machine: &Small, domain: u32, word: u32) -> Option<Perm> {
+pub fn perm(machine: &Small, domain: u32, word: u32) -> Option<Perm> {
     if 0 < domain && domain <= machine.modules() && word < machine.words() {
         Some(machine.perm(domain, word))
     } else {
