@@ -363,11 +363,19 @@ fn in_root(tables: &Trie<Vector>, place: u32) -> u32
     tables.upper.get(root, place)
 }
 
+/// Tables of one domain over 8 MiB of RAM.
+fn wide_domain<T: PermTables>(alloc: Global, row: Spans) -> Result<T, BuildRefused>
+    requires { IsRow 2097152 row }
+    ensures { IfOk result (λ t. length (T.maps t) ≡ 1) }
+{
+    mx_plain::one_domain(alloc, 0x20_0000, row, AMPLE)
+}
+
 /// The words at three places of a root table: of the first 2^20 words of RAM, on which domain 1 has read, of as many after them, on
 /// which it has read-write, and at place 0.
 fn in_root_of_two_regions(alloc: Global) -> Option<[u32; 3]> {
     let row = two_regions(alloc).ok()?;
-    let tables = mx_plain::one_domain::<Trie<Vector>>(alloc, 0x20_0000, row, AMPLE).ok()?;
+    let tables = wide_domain::<Trie<Vector>>(alloc, row).ok()?;
     Some([
         in_root(&tables, 512),
         in_root(&tables, 513),
