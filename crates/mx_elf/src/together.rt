@@ -44,17 +44,15 @@ impl<'a> Symbols<'a> {
         }
     }
 
-    /// Those of these names, found in one walk over the symbols of the file: a name costs what its hash does, however many names
-    /// are asked for.
+    /// Those of these names, found in one walk over the symbols of the file. Usually a name costs what its hash does, however many
+    /// names are asked for. The hash has a fixed key: names chosen so that their hashes collide cost a comparison with each other name
+    /// that is asked for, and a module's gates and returns together can ask for at most 512 names.
     pub fn find(alloc: Global, bytes: &[u8], names: &[&'a str]) -> Result<Symbols<'a>, NoMemory>
         ensures names { IfOk result (λ symbols. (name : List ℕ) →
             is_some (told_of symbols name) ≡ list_any (λ n. bytes_eq name n.now) names.now) }
         ensures values { IfOk result (HoldsIn bytes.now) }
     {
-        let mut values = match unknown(alloc, names) {
-            Ok(values) => values,
-            Err(refused) => return Err(refused),
-        };
+        let mut values = unknown(alloc, names)?;
         look_up(&mut values, bytes, longest(names));
         Ok(Symbols { values })
     }

@@ -21,8 +21,7 @@ use Rattle.mx_manifest.specs.Reads.{has, names_in, elements, elements_at, number
 use Rattle.mx_manifest.specs.Forms.{is_typed, is_ranged}
 use Rattle.mx_manifest.specs.Rows.{top_rows, early_rows, late_rows, gate_rows, hart_rows}
 
--- The first of some tests that finds a fault. A test is a fault or none, and no row of a test beside what it says, as of
--- the rules for calls and images: most tests here are lists of tests of their own, so that one applies where it finds one.
+-- the fault of the first test that finds one
 abbrev pub first_of : {F : Type 0} → List (Option F) → Option F
 first_of [] = None
 first_of (test ∷ tests) = option_or test (first_of tests)

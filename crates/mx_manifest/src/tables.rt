@@ -119,7 +119,6 @@ fn is_listed(rows: &[Row], name: &str) -> bool
 }
 
 /// Whether all keys of a table stand in one of two lists of rows.
-
 fn are_listed(rows: &[Row], more: &[Row], members: &Table) -> bool
     ensures { result
         ≡ list_all (λ k. is_listed (rows.now ++ more.now) (string_bytes k))

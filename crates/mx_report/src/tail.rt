@@ -44,6 +44,7 @@ impl Tail {
             bytes.now.bytes result }
         ensures few { length self.new < piece_bytes }
     {
+        // No effect at run time. The proof reads from it that fewer than 4096 bytes are held.
         let _ = &self.bytes;
         for i in 0..bytes.len() {
             self.push(sink, bytes.byte(i))?;
@@ -67,6 +68,7 @@ impl Tail {
             bytes.now result }
         ensures few { length self.new < piece_bytes }
     {
+        // No effect at run time. The proof reads from it that fewer than 4096 bytes are held.
         let _ = &self.bytes;
         for byte in bytes {
             self.push(sink, *byte)?;

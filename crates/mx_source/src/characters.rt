@@ -6,8 +6,11 @@ ghost use Rattle.mx_source.specs.declared.characters.Quotes.TheVariants.{Outside
 /// Where a character stands: outside quotes, inside them, or inside them right after a `\`.
 #[derive(Clone, Copy)]
 pub enum Quotes {
+    /// Outside quotes, where marks count.
     Outside,
+    /// In a text in quotes, which the next `"` ends.
     Inside,
+    /// In a text in quotes, right after a `\`: this character ends nothing, also if it is a `"`.
     Escape,
 }
 

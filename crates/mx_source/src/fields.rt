@@ -15,16 +15,22 @@ use mx_isa::ImmOp;
 /// A number, or the name of a label.
 #[derive(Clone, Copy)]
 pub enum Value<'a> {
+    /// A number, whose range the instruction decides.
     Number(Number),
+    /// The name of a label, whose address takes its place.
     Label(&'a [u8]),
 }
 
 /// The registers of an instruction, and its number or label; what it doesn't have is 0.
 #[derive(Clone, Copy)]
 pub struct Fields<'a> {
+    /// The register that is written, 0 to 31.
     pub rd: u32,
+    /// The first register that is read, 0 to 31: the base of a load, of a store and of `jalr`.
     pub rs1: u32,
+    /// The second register that is read, 0 to 31: what a store writes.
     pub rs2: u32,
+    /// The immediate, as the source writes it.
     pub value: Value<'a>,
 }
 

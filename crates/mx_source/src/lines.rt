@@ -25,7 +25,9 @@ pub enum Statement<'a> {
 /// A line: the name of its label, and its statement.
 #[derive(Clone, Copy)]
 pub struct Line<'a> {
+    /// The name before the colon, if there is one.
     pub label: Option<&'a [u8]>,
+    /// What the rest of the line says.
     pub statement: Statement<'a>,
 }
 

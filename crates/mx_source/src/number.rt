@@ -8,15 +8,20 @@ ghost use Rattle.mx_source.specs.Numbers.{decimal_step, hexadecimal_step, decima
 /// count as 2^33.
 #[derive(Clone, Copy)]
 pub struct Number {
+    /// Whether it stands after a `-`, which `-0` does too.
     pub negative: bool,
+    /// The value of the digits, up to 2^33.
     pub magnitude: u64,
 }
 
 /// The numbers from `-low` to `high`, or the even ones of them.
 #[derive(Clone, Copy)]
 pub struct Range {
+    /// The greatest magnitude after a `-`.
     pub low: u64,
+    /// The greatest one without.
     pub high: u64,
+    /// Whether only even numbers belong to the range.
     pub even: bool,
 }
 

@@ -29,7 +29,9 @@ fn are_in_name(text: &[u8]) -> bool
 /// A number, and the name that stands in round brackets after it.
 #[derive(Clone, Copy)]
 pub struct Indexed<'a> {
+    /// The number, which is added to the register.
     pub number: Number,
+    /// What stands in the brackets: a name, which may be no register's.
     pub name: &'a [u8],
 }
 

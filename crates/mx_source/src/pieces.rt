@@ -10,7 +10,8 @@ use crate::characters::{mark_place, trim};
 /// The operands that are left of a statement: the parts of a text between commas outside quotes, none where there is no text.
 #[derive(Clone, Copy)]
 pub struct Pieces<'a> {
-    pub rest: Option<&'a [u8]>,
+    /// The text of the operands that are left, none where there are none.
+    rest: Option<&'a [u8]>,
 }
 
 impl<'a> Pieces<'a> {

@@ -32,7 +32,8 @@ pub record IsLimit (limit : Need) : Type 0 where
   pub leaf : limit.leaf ≤ 262144
   pub spill : limit.spill ≤ 1048576
 
--- what the maps of tables always are: 1 to 63 of them, each with one permission for each of the words, and within the limit
+-- what the maps of tables always are: 1 to most_modules of them, each with one permission for each of the words, and within the
+-- limit
 pub record IsShaped (kind : Kind) (words : ℕ) (limit : Need) (maps : List (List Perm))
     : Type 0 where
   pub some_words : 1 ≤ words

@@ -33,9 +33,9 @@ pub trait PermTables: Sized {
     // How many lookups were made, up to 2^64 - 1.
     ghost lookups: { Self → ℕ };
 
-    /// Builds tables for 1 to 63 rows over a RAM of `words` words, 1 to 2^24. Row `i` holds the permissions of domain `i + 1`: its
-    /// spans aren't empty, are sorted and disjoint, and lie in RAM; other words have permission none. Each part of the limit is at
-    /// most 4096, 262144 and 1048576. `TablesFull` exactly where the maps need more than the limit.
+    /// Builds tables for 1 to `MODULES` rows over a RAM of `words` words, 1 to 2^24. Row `i` holds the permissions of domain
+    /// `i + 1`: its spans aren't empty, are sorted and disjoint, and lie in RAM; other words have permission none. Each part of the
+    /// limit is at most 4096, 262144 and 1048576. `TablesFull` exactly where the maps need more than the limit.
     fn build(alloc: Global, words: u32, rows: &[Spans], limit: Need) -> Result<Self, BuildRefused>
         requires some_words { 1 ≤ words }
         requires few_words { words ≤ most_words }
@@ -98,7 +98,7 @@ pub trait PermTables: Sized {
     fn words(&self) -> u32
         ensures { result ≡ size self.now };
 
-    /// The number of domains, 1 to 63.
+    /// The number of domains, 1 to `MODULES`.
     fn modules(&self) -> u32
         ensures { result ≡ length (maps self.now) };
 
@@ -112,7 +112,8 @@ pub trait PermTables: Sized {
     ghost shaped: { (t : Self) → IsShaped kind (size t) (limits t) (maps t) };
 }
 
-/// A law: tables of every kind have 1 to 63 maps, each with one permission for each of the 1 to 2^24 words, and they fit the limit.
+/// A law: tables of every kind have 1 to `MODULES` maps, each with one permission for each of the 1 to 2^24 words, and they fit
+/// the limit.
 pub fn shape_of<T: PermTables>(tables: &T)
     ensures { IsShaped T.kind (T.size tables.now) (T.limits tables.now) (T.maps tables.now) }
 {}
