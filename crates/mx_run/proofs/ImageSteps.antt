@@ -11,7 +11,7 @@ use Rattle.mx_run.specs.Reading.{Takes}
 use Rattle.mx_run.specs.Top.{sinks, Continues, Comes}
 
 -- the step of a module's image, by its name
-abbrev image_step : Option (List ℕ) → ℕ → List ModulePlan → List (List ℕ) → (List (List ℕ) → List Finding → Next) → List Finding → Next
+abbrev pub image_step : Option (List ℕ) → ℕ → List ModulePlan → List (List ℕ) → (List (List ℕ) → List Finding → Next) → List Finding → Next
 image_step o number ms images rest found = elim o [
   | None ↦ after_images (number + 1) ms (images ++ [] ∷ []) rest found
   | Some name ↦ after_file (image_file number name) (λ bytes. after_images (number + 1) ms (images ++ bytes ∷ []) rest) found

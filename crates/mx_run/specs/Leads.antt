@@ -38,3 +38,13 @@ IsOutcome asked files outcome = (n : ℕ) × LeadsOver n (next asked) files outc
 abbrev pub AnswersDecide : Type 0
 AnswersDecide = (asked : Option Request) (answers : List Answer) (a b : Outcome) →
     Leads asked answers a → Leads asked answers b → a ≡ b
+
+-- over every list of files what is asked leads to an outcome
+abbrev pub FilesLead : Type 0
+FilesLead = (asked : Option Request) (files : FileMap) →
+    (outcome : Outcome) × IsOutcome asked files outcome
+
+-- and to no second one
+abbrev pub FilesDecide : Type 0
+FilesDecide = (asked : Option Request) (files : FileMap) (a b : Outcome) →
+    IsOutcome asked files a → IsOutcome asked files b → a ≡ b

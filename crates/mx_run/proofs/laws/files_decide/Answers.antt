@@ -1,0 +1,9 @@
+use Rattle.mx_run.proofs.Leads.{one_outcome}
+use Rattle.mx_run.proofs.Outcomes.{some_outcome}
+use Rattle.mx_run.proofs.laws.files_decide.Goals as goal
+
+pub returns-clause-some : goal.returns-clause-some
+returns-clause-some c = some_outcome
+
+pub returns-clause-one : goal.returns-clause-one
+returns-clause-one c = one_outcome
