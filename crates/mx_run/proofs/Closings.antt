@@ -1,5 +1,5 @@
 -- The end of a run, and its outcome.
-use Rattle.std.proofs.Common.{◌≡◌, ℕ, List, [], ◌++◌, length, map, Result, Ok, Bor, sym, ap, subst, ◌∙◌, inl, inr}
+use Rattle.std.proofs.Common.{◌≡◌, ℕ, List, [], ◌++◌, length, map, Result, Ok, Bor, refl, sym, ap, subst, ◌∙◌, inl, inr}
 use Rattle.std.proofs.lemmas.List.{append-nil, length-map}
 use Rattle.mx_io.specs.Texts.{AppendsPrefix}
 use Rattle.mx_io.specs.Sink.{SinkState, Puts}
@@ -30,6 +30,10 @@ passes_end {B = B} {F = F} {held} {kept} {text} {b} {m} {n} {result = result} p 
 put_all_front : (b n : SinkState) (x : List ℕ) → Put b n x → AppendsPrefix b.written n.written x
 put_all_front b n x p = subst (λ (t : List ℕ). AppendsPrefix b.written n.written t) (append-nil x) (put_front b n x [] p)
 
+-- a sink that got nothing holds a prefix of every text
+same_front : (b n : SinkState) (x : List ℕ) → n ≡ b → AppendsPrefix b.written n.written x
+same_front b n x same = subst (λ (s : SinkState). AppendsPrefix b.written s.written x) (sym same) (front_nothing b x)
+
 module _ (outcome : Outcome) (b n : Sinks) where
   -- every text was put
   pub ends_whole : (result : Status) → result ≡ outcome.status → Put b.console n.console outcome.console → Put b.report n.report outcome.report → Put b.dump n.dump outcome.dump → Ends outcome b n result
@@ -42,28 +46,31 @@ module _ (outcome : Outcome) (b n : Sinks) where
 
   -- the console's text couldn't be put
   pub ends_console : (result : Status) → result ≡ ConsoleFault → Breaks b.console n.console outcome.console → AppendsPrefix b.report.written n.report.written outcome.report
-      → AppendsPrefix b.dump.written n.dump.written outcome.dump → Ends outcome b n result
+      → n.dump ≡ b.dump → Ends outcome b n result
   ends_console result is console report dump =
       record {
-        how = inr (inl (is, (console.some, console.rose)), record { console = console.front; report = report; dump = dump });
+        how = inr (inl (is, (console.some, console.rose), dump), record { console = console.front; report = report; dump = same_front b.dump n.dump outcome.dump dump });
         sure = λ room. absurd (console.tight room.console);
       }
 
   -- the report's
   pub ends_report : (result : Status) → result ≡ ReportFault → AppendsPrefix b.console.written n.console.written outcome.console → Breaks b.report n.report outcome.report
-      → AppendsPrefix b.dump.written n.dump.written outcome.dump → Ends outcome b n result
+      → n.dump ≡ b.dump → Ends outcome b n result
   ends_report result is console report dump =
       record {
-        how = inr (inr (inl (is, (report.some, report.rose))), record { console = console; report = report.front; dump = dump });
+        how = inr (inr (inl (is, (report.some, report.rose), dump)), record { console = console; report = report.front; dump = same_front b.dump n.dump outcome.dump dump });
         sure = λ room. absurd (report.tight room.report);
       }
 
   -- the dump's
-  pub ends_dump : (result : Status) → result ≡ DumpFault → AppendsPrefix b.console.written n.console.written outcome.console
-      → AppendsPrefix b.report.written n.report.written outcome.report → Breaks b.dump n.dump outcome.dump → Ends outcome b n result
+  pub ends_dump : (result : Status) → result ≡ DumpFault → Put b.console n.console outcome.console → Put b.report n.report outcome.report → Breaks b.dump n.dump outcome.dump
+      → Ends outcome b n result
   ends_dump result is console report dump =
       record {
-        how = inr (inr (inr (is, (dump.some, dump.rose))), record { console = console; report = report; dump = dump.front });
+        how = inr (
+          inr (inr (is, (dump.some, dump.rose), console.whole, report.whole)),
+          record { console = put_all_front b.console n.console outcome.console console; report = put_all_front b.report n.report outcome.report report; dump = dump.front },
+        );
         sure = λ room. absurd (dump.tight room.dump);
       }
 
@@ -81,10 +88,10 @@ module _ (o : Order) (plan : Said) (f : State) (m : Flat) (names : List (List �
       → Ends (ended o plan f) (sinks b d k) (sinks c n k) status
   ends_stopped b c d n k status (inl e) =
       ends_console (ended o plan f) (sinks b d k) (sinks c n k) status e.0 e.1
-      (rw (← report_is o plan f names named law) (front_more d n (note_lines f.notes) _ e.2)) (front_nothing k (ended o plan f).dump)
+      (rw (← report_is o plan f names named law) (front_more d n (note_lines f.notes) _ e.2)) refl
   ends_stopped b c d n k status (inr e) =
       ends_report (ended o plan f) (sinks b d k) (sinks c n k) status e.0 e.1
-      (breaks_same d n _ _ (report_is o plan f names named law) (breaks_more d n (note_lines f.notes) _ e.2)) (front_nothing k (ended o plan f).dump)
+      (breaks_same d n _ _ (report_is o plan f names named law) (breaks_more d n (note_lines f.notes) _ e.2)) refl
 
   -- the turns were shown, and then the run's end
   pub ends_closed : (b d k : SinkState) (mid : Places) (c n l : SinkState) (status : Status) → HasRun f m (places b [] d []) mid
@@ -106,13 +113,13 @@ module _ (o : Order) (plan : Said) (f : State) (m : Flat) (names : List (List �
               ends_console (ended o plan f) (sinks b d k) (sinks c n l) status e.0
               (breaks_same b c _ _ (append-nil f.console)
               (moves_breaks [] mid.shown mid.shown b mid.console c f.console [] r.console (breaks_same mid.console c _ _ (sym (append-nil mid.shown)) e.1)))
-              (rw (e.2, ← is) (moves_front mid.told d mid.report (note_lines f.notes) y r.report)) (rw e.3 (front_nothing k (ended o plan f).dump))
+              (rw (e.2, ← is) (moves_front mid.told d mid.report (note_lines f.notes) y r.report)) e.3
           | inr q ↦ elim q [
             | inl e ↦
                 ends_report (ended o plan f) (sinks b d k) (sinks c n l) status e.0 (put_all_front b c f.console (shown e.1))
-                (breaks_same d n _ _ is (moves_breaks [] mid.told mid.told d mid.report n (note_lines f.notes) y r.report e.2)) (rw e.3 (front_nothing k (ended o plan f).dump))
+                (breaks_same d n _ _ is (moves_breaks [] mid.told mid.told d mid.report n (note_lines f.notes) y r.report e.2)) e.3
             | inr e ↦
-                ends_dump (ended o plan f) (sinks b d k) (sinks c n l) status e.0 (put_all_front b c f.console (shown e.1)) (put_all_front d n (report_of o plan f) (lines e.2)) e.3
+                ends_dump (ended o plan f) (sinks b d k) (sinks c n l) status e.0 (shown e.1) (lines e.2) e.3
           ]
         ]
       ]

@@ -34,7 +34,7 @@ module _ {A E : Type 0} (outcome : Outcome) {before now : SinkState} where
   ends_unreported {e} puts console dump =
       record {
         how = inr (
-          inr (inl (refl, (has_bytes outcome.report before.room (λ fits. not_ok A e (puts.sure fits).0), puts.failed))),
+          inr (inl (refl, (has_bytes outcome.report before.room (λ fits. not_ok A e (puts.sure fits).0), puts.failed), refl)),
           record { console = no_prefix console.written outcome.console; report = puts.front; dump = no_prefix dump.written outcome.dump },
         );
         sure = λ room. absurd (not_ok A e (puts.sure room.report).0);
@@ -53,7 +53,7 @@ module _ {A E : Type 0} (outcome : Outcome) {before now : SinkState} where
   ends_unshown {e} puts report dump =
       record {
         how = inr (
-          inl (refl, (has_bytes outcome.console before.room (λ fits. not_ok A e (puts.sure fits).0), puts.failed)),
+          inl (refl, (has_bytes outcome.console before.room (λ fits. not_ok A e (puts.sure fits).0), puts.failed), refl),
           record { console = puts.front; report = no_prefix report.written outcome.report; dump = no_prefix dump.written outcome.dump },
         );
         sure = λ room. absurd (not_ok A e (puts.sure room.console).0);

@@ -43,12 +43,17 @@ pub record WritesNothing (before now : Sinks) : Type 0 where
 abbrev pub Fails : List ℕ → SinkState → SinkState → Type 0
 Fails text before now = (0 < length text) × Rose before.faults now.faults
 
--- the status is the fault of a sink that failed
+-- the status is the fault of a sink that failed; the dump comes last: it got nothing where another one failed, and where it
+-- failed itself the two others hold their whole texts
 abbrev pub IsSinkFault : Outcome → Sinks → Sinks → Status → Type 0
 IsSinkFault outcome before now result =
-    ((result ≡ ConsoleFault) × Fails outcome.console before.console now.console)
-    ⊎ ((result ≡ ReportFault) × Fails outcome.report before.report now.report)
-    ⊎ ((result ≡ DumpFault) × Fails outcome.dump before.dump now.dump)
+    ((result ≡ ConsoleFault) × Fails outcome.console before.console now.console
+    × (now.dump ≡ before.dump))
+    ⊎ ((result ≡ ReportFault) × Fails outcome.report before.report now.report
+    × (now.dump ≡ before.dump))
+    ⊎ ((result ≡ DumpFault) × Fails outcome.dump before.dump now.dump
+    × AppendsWhole before.console.written now.console.written outcome.console
+    × AppendsWhole before.report.written now.report.written outcome.report)
 
 -- status and texts are the outcome's, or a sink failed and each sink holds a prefix
 abbrev pub EndsBy : Outcome → Sinks → Sinks → Status → Type 0
