@@ -15,8 +15,8 @@ use Rattle.mx_report.specs.Texts.{closing, flat_closing}
 use Rattle.mx_run.specs.declared.status.Status.{Status}
 use Rattle.mx_run.specs.declared.status.Status.TheVariants.{ConsoleFault, ReportFault, DumpFault}
 use Rattle.mx_run.specs.Words.{Order}
-use Rattle.mx_run.specs.Outcome.{Outcome, ended, report_of, names_of, options_of}
-use Rattle.mx_run.specs.Running.{Put, Breaks, Places, places, HasRun, Stops, Closes, IsFresh, KeepsShape, note_lines, dumped, end_by}
+use Rattle.mx_run.specs.Outcome.{Outcome, dumped, end_of, ended, note_lines, report_of, names_of, options_of}
+use Rattle.mx_run.specs.Running.{Put, Breaks, Places, places, HasRun, Stops, Closes, IsFresh, KeepsShape}
 use Rattle.mx_run.specs.Top.{Sinks, sinks, Holds, Ends}
 use Rattle.mx_run.proofs.Sinking.{front_nothing, front_more, put_front, moves_front, moves_put, moves_breaks, breaks_more, breaks_same, put_same}
 
@@ -77,9 +77,9 @@ module _ (outcome : Outcome) (b n : Sinks) where
 -- the texts of a run's end state
 pub report_is : (o : Order) (plan : Said) (s : State) → (names : List (List ℕ)) → names ≡ names_of plan
     → ((names : List (List ℕ)) (end : EndState) (options : Options) (s : State) → closing names end options s ≡ flat_closing names end options (flat s))
-    → note_lines s.notes ++ flat_closing names (end_by o.steps s.core) (options_of o) (flat s) ≡ report_of o plan s
+    → note_lines s.notes ++ flat_closing names (end_of o.steps s.core) (options_of o) (flat s) ≡ report_of o plan s
 unfolding report_of
-report_is o plan s names is law = rw is (ap (λ t. note_lines s.notes ++ t) (sym (law (names_of plan) (end_by o.steps s.core) (options_of o) s)))
+report_is o plan s names is law = rw is (ap (λ t. note_lines s.notes ++ t) (sym (law (names_of plan) (end_of o.steps s.core) (options_of o) s)))
 
 module _ (o : Order) (plan : Said) (f : State) (m : Flat) (names : List (List ℕ)) (named : names ≡ names_of plan)
     (law : (names : List (List ℕ)) (end : EndState) (options : Options) (s : State) → closing names end options s ≡ flat_closing names end options (flat s)) where
@@ -95,13 +95,13 @@ module _ (o : Order) (plan : Said) (f : State) (m : Flat) (names : List (List �
 
   -- the turns were shown, and then the run's end
   pub ends_closed : (b d k : SinkState) (mid : Places) (c n l : SinkState) (status : Status) → HasRun f m (places b [] d []) mid
-      → Closes mid.shown (mid.told ++ flat_closing names (end_by o.steps m.core) (options_of o) m) (dumped o.dump m.core) (sinks mid.console mid.report k) (sinks c n l) status
+      → Closes mid.shown (mid.told ++ flat_closing names (end_of o.steps m.core) (options_of o) m) (dumped o.dump m.core) (sinks mid.console mid.report k) (sinks c n l) status
       → Ends (ended o plan f) (sinks b d k) (sinks c n l) status
   ends_closed b d k mid c n l status r closes =
-      let y = flat_closing names (end_by o.steps f.core) (options_of o) (flat f) in
+      let y = flat_closing names (end_of o.steps f.core) (options_of o) (flat f) in
       let is : note_lines f.notes ++ y ≡ report_of o plan f = report_is o plan f names named law in
       let told = subst
-      (λ (g : Flat). Closes mid.shown (mid.told ++ flat_closing names (end_by o.steps g.core) (options_of o) g) (dumped o.dump g.core) (sinks mid.console mid.report k) (sinks c n l) status)
+      (λ (g : Flat). Closes mid.shown (mid.told ++ flat_closing names (end_of o.steps g.core) (options_of o) g) (dumped o.dump g.core) (sinks mid.console mid.report k) (sinks c n l) status)
       r.state closes in
       let shown = λ (p : Put mid.console c mid.shown). put_same b c _ _ (append-nil f.console)
       (moves_put mid.shown b mid.console c f.console [] r.console (put_same mid.console c _ _ (sym (append-nil mid.shown)) p)) in

@@ -19,7 +19,8 @@ use Rattle.mx_model.proofs.RunSteps.{run-going, run-stopped}
 use Rattle.mx_model.proofs.KeepLaws.{keeps-turned}
 use Rattle.mx_report.specs.Lines.{note_line}
 use Rattle.mx_run.specs.declared.status.Status.{Status}
-use Rattle.mx_run.specs.Running.{named, Places, Moves, HasRun, Stops, Begins, IsLater, IsRow, IsTurnOf, GoesOn, ShowsOrStops, KeepsShape, may_tell, note_lines, note_text}
+use Rattle.mx_run.specs.Running.{named, Places, Moves, HasRun, Stops, Begins, IsLater, IsRow, IsTurnOf, GoesOn, ShowsOrStops, KeepsShape, may_tell, note_text}
+use Rattle.mx_run.specs.Outcome.{note_lines}
 use Rattle.mx_run.proofs.Quiet.{quiet_turned}
 use Rattle.mx_run.proofs.Sinking.{moves_nothing, moves_moves, moves_breaks, moves_front, breaks_more, breaks_same}
 

@@ -1,9 +1,10 @@
 -- What the program does next by what it has found, and what it answers and writes at the end.
-use Rattle.std.specs.Prelude.{ℕ, ◌+◌, ◌==◌, if◌then◌else◌, List, [], ◌∷◌, ◌++◌, Option, Some, None, unwrap_or, Result, Ok, Err, flat_map}
+use Rattle.std.specs.Prelude.{ℕ, ◌+◌, ◌==◌, Bool, if◌then◌else◌, List, [], ◌∷◌, ◌++◌, Option, Some, None, unwrap_or, Result, Ok, Err, flat_map}
 use Rattle.std.specs.Prelude.{map as list_map}
 use Rattle.std.specs.Str.{is_utf8}
 use Rattle.mx_model.specs.Run.{Schedule, ByQuantum, ByBytes, all_halted, run}
-use Rattle.mx_model.specs.State.{State}
+use Rattle.mx_model.specs.State.{Core, State}
+use Rattle.mx_model.specs.declared.values.Note.{Note}
 use Rattle.mx_manifest.specs.declared.fault.BootFault.{BootFault}
 use Rattle.mx_manifest.specs.declared.fault.Key.{Key}
 use Rattle.mx_manifest.specs.declared.fault.Key.TheVariants as key
@@ -137,9 +138,16 @@ after_images number (m ∷ ms) images rest found = elim m.image [
 ]
 
 -- why a run ended that was to make so many turns
-abbrev pub end_of : ℕ → State → EndState
-end_of steps s = if all_halted s.core then E.Halted else if s.core.turns == steps then E.Steps
-    else E.Schedule
+abbrev pub end_of : ℕ → Core → EndState
+end_of steps c = if all_halted c then E.Halted else if c.turns == steps then E.Steps else E.Schedule
+
+-- the lines of notes
+abbrev pub note_lines : List Note → List ℕ
+note_lines notes = flat_map note_line notes
+
+-- the dump of a machine: RAM's bytes where they are asked
+abbrev pub dumped : Bool → Core → List ℕ
+dumped asked c = if asked then c.ram else []
 
 -- the names of a plan's modules, in order
 abbrev pub names_of : Said → List (List ℕ)
@@ -150,8 +158,8 @@ options_of o = record { tables = o.tables; counts = o.counts }
 
 -- the report of a run that ended in a state: the notes' lines, then the closing lines
 unfoldable pub report_of : Order → Said → State → List ℕ
-report_of o plan s = flat_map note_line s.notes
-    ++ closing (names_of plan) (end_of o.steps s) (options_of o) s
+report_of o plan s = note_lines s.notes
+    ++ closing (names_of plan) (end_of o.steps s.core) (options_of o) s
 
 -- a run that ended in a state: its console bytes, its report, and RAM's bytes where the dump is asked
 abbrev pub ended : Order → Said → State → Outcome
@@ -159,7 +167,7 @@ ended o plan s = record {
   status = Ran;
   console = s.console;
   report = report_of o plan s;
-  dump = if o.dump then s.core.ram else [];
+  dump = dumped o.dump s.core;
 }
 
 -- an accepted boot runs by a schedule

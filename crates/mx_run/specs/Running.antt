@@ -1,5 +1,5 @@
 -- A run whose texts leave through buffers: what holds between two turns, and what holds where a sink failed.
-use Rattle.std.specs.Prelude.{◌≡◌, ℕ, Bool, true, false, ◌==◌, ◌+◌, ◌/◌, ◌%◌, ◌<◌, ◌≤◌, ◌⊎◌, List, [], ◌++◌, length, drop, flat_map, option_to_list, Option, Some, None, Result, Ok, Err, if◌then◌else◌}
+use Rattle.std.specs.Prelude.{◌≡◌, ℕ, Bool, true, false, ◌+◌, ◌/◌, ◌%◌, ◌<◌, ◌≤◌, ◌⊎◌, List, [], ◌++◌, length, drop, option_to_list, Option, Some, None, Result, Ok, Err, if◌then◌else◌}
 use Rattle.mx_io.specs.Count.{Rose}
 use Rattle.mx_io.specs.Texts.{AppendsWhole, AppendsPrefix}
 use Rattle.mx_io.specs.Sink.{SinkState}
@@ -9,15 +9,13 @@ use Rattle.mx_model.specs.State.{Core, State, Flat, flat}
 use Rattle.mx_model.specs.declared.values.Note.{Note}
 use Rattle.mx_model.specs.declared.values.TurnKind.{TurnKind}
 use Rattle.mx_model.specs.declared.values.TurnKind.TheVariants as K
-use Rattle.mx_report.specs.declared.lines.EndState.{EndState}
-use Rattle.mx_report.specs.declared.lines.EndState.TheVariants as E
-use Rattle.mx_report.specs.Lines.{note_line}
 use Rattle.mx_run.specs.declared.pace.Pace.{Pace}
 use Rattle.mx_run.specs.declared.pace.Pace.TheVariants as pace
 use Rattle.mx_run.specs.declared.pace.Schedule as turns
 use Rattle.mx_run.specs.declared.pace.Schedule.TheVariants as code
 use Rattle.mx_manifest.specs.Plan.{Said}
 use Rattle.mx_boot.specs.Boot.{limit_of}
+use Rattle.mx_run.specs.Outcome.{note_lines}
 use Rattle.mx_run.specs.Top.{Sinks}
 use Rattle.mx_run.specs.declared.status.Status.{Status}
 use Rattle.mx_run.specs.declared.status.Status.TheVariants.{Ran, ConsoleFault, ReportFault, DumpFault}
@@ -96,10 +94,6 @@ Leaves (pace.Bytes bytes) turns = turns ≤ 1
 abbrev pub PacesOn : Schedule → Core → ℕ → Pace → Type 0
 PacesOn schedule c turns pace = (e : Core) → e.turns ≡ c.turns + turns →
     length e.harts ≡ length c.harts → IsPace schedule e pace
-
--- the lines of notes
-abbrev pub note_lines : List Note → List ℕ
-note_lines notes = flat_map note_line notes
 
 -- what a turn adds to the report
 abbrev pub note_text : Option Note → List ℕ
@@ -211,14 +205,6 @@ Closes shown told bytes before now result =
     × Breaks before.report now.report told × (now.dump ≡ before.dump))
     ⊎ ((result ≡ DumpFault) × Put before.console now.console shown
     × Put before.report now.report told × Breaks before.dump now.dump bytes)
-
--- the dump of a machine: RAM's bytes where they are asked
-abbrev pub dumped : Bool → Core → List ℕ
-dumped asked c = if asked then c.ram else []
-
--- why a run ended that was to make so many turns
-abbrev pub end_by : ℕ → Core → EndState
-end_by steps c = if all_halted c then E.Halted else if c.turns == steps then E.Steps else E.Schedule
 
 -- a state without console bytes and notes
 pub record IsNew (s : State) : Type 0 where

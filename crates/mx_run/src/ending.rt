@@ -5,8 +5,8 @@ ghost use Rattle.mx_io.specs.Sink.{Puts};
 ghost use Rattle.mx_boot.specs.Boot.{limit_of};
 ghost use Rattle.mx_report.specs.Texts.{flat_closing};
 ghost use Rattle.mx_run.specs.Asked.{order_of};
-ghost use Rattle.mx_run.specs.Outcome.{options_of};
-ghost use Rattle.mx_run.specs.Running.{Closes, dumped, end_by};
+ghost use Rattle.mx_run.specs.Outcome.{dumped, end_of, options_of};
+ghost use Rattle.mx_run.specs.Running.{Closes};
 ghost use Rattle.mx_run.specs.Top.{sinks};
 
 use crate::status::Status;
@@ -35,7 +35,7 @@ pub(crate) fn end_run<T: PermTables, const N: usize, C: Sink, R: Sink, D: Sink>(
     requires limit { machine.now.core.limit ≡ limit_of plan.now }
     ensures { Closes shown.old
         (told.old ++ flat_closing (map (λ name. name.now) names.now)
-        (end_by order.now.steps machine.now.core) (options_of (order_of order.now)) machine.now)
+        (end_of order.now.steps machine.now.core) (options_of (order_of order.now)) machine.now)
         (dumped order.now.dump machine.now.core)
         (sinks (C.state console.old) (R.state report.old) (D.state dump.old))
         (sinks (C.state console.new) (R.state report.new) (D.state dump.new)) result }
@@ -66,7 +66,7 @@ fn put_closing_lines<T: PermTables, const N: usize, R: Sink>(
     requires limit { machine.now.core.limit ≡ limit_of plan.now }
     ensures { Puts (R.state report.old) (R.state report.new)
         (told.old ++ flat_closing (map (λ name. name.now) names.now)
-        (end_by order.now.steps machine.now.core)
+        (end_of order.now.steps machine.now.core)
         (options_of (order_of order.now)) machine.now) result }
 {
     let end = end_of(order.steps, machine);
@@ -99,7 +99,7 @@ fn limit_of(plan: &Plan) -> Need
 
 // Why a run ended that was to make so many turns.
 fn end_of<T: PermTables, const N: usize>(steps: u64, machine: &Machine<T, N>) -> EndState
-    ensures { result ≡ end_by steps machine.now.core }
+    ensures { result ≡ end_of steps machine.now.core }
 {
     if machine.all_halted() {
         EndState::Halted
