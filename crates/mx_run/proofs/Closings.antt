@@ -1,5 +1,5 @@
 -- The end of a run, and its outcome.
-use Rattle.std.proofs.Common.{◌≡◌, ℕ, List, [], ◌++◌, length, map, Result, Ok, Bor, sym, ap, subst, ◌∙◌, inl, inr}
+use Rattle.std.proofs.Common.{◌≡◌, ℕ, List, [], ◌++◌, length, map, Result, Ok, Bor, refl, sym, ap, subst, ◌∙◌, inl, inr}
 use Rattle.std.proofs.lemmas.List.{append-nil, length-map}
 use Rattle.mx_io.specs.Texts.{AppendsPrefix}
 use Rattle.mx_io.specs.Sink.{SinkState, Puts}

@@ -1,5 +1,5 @@
 -- Over every list of files a call leads to an outcome: each file is read once, and what is found of it ends the call or goes on.
-use Rattle.std.proofs.Common.{◌≡◌, ℕ, zero, suc, ◌+◌, List, [], ◌∷◌, ◌++◌, Option, Some, None, Result, Ok, Err, refl}
+use Rattle.std.proofs.Common.{ℕ, suc, ◌+◌, List, [], ◌∷◌, ◌++◌, Option, Some, None, Result, Ok, Err, refl}
 use Rattle.mx_io.specs.Store.{FileMap}
 use Rattle.mx_model.specs.Run.{ByQuantum, ByBytes}
 use Rattle.mx_model.specs.State.{State}
