@@ -4,5 +4,9 @@
 #[cfg(test)]
 mod machines;
 #[cfg(test)]
+mod played;
+#[cfg(test)]
 mod readings;
+#[cfg(test)]
+mod resuming;
 pub mod small;

@@ -13,156 +13,35 @@ const IN_A: &str = "[[hart]]\nmodule = \"a\"\n";
 
 const IN_B: &str = "[[hart]]\nmodule = \"b\"\n";
 
-/// What is added to A and to B, the two files, and the fault's number, module, key and detail.
-const MODULES: [(&str, &str, File, File, u32, u32, Key, u32); 52] = [
-    ("", "", File::Zeros(51), File::None, 10, 1, Key::Image, 1),
-    ("", "", File::Zeros(52), File::None, 10, 1, Key::Image, 2),
-    (
-        "",
-        "",
-        File::Changed(4, 2),
-        File::None,
-        10,
-        1,
-        Key::Image,
-        3,
-    ),
-    (
-        "",
-        "",
-        File::Changed(16, 3),
-        File::None,
-        10,
-        1,
-        Key::Image,
-        4,
-    ),
-    (
-        "",
-        "",
-        File::Changed(18, 0),
-        File::None,
-        10,
-        1,
-        Key::Image,
-        5,
-    ),
-    (
-        "",
-        "",
-        File::Changed(44, 28),
-        File::None,
-        10,
-        1,
-        Key::Image,
-        6,
-    ),
-    (
-        "",
-        "",
-        File::Changed(69, 4),
-        File::None,
-        10,
-        1,
-        Key::Image,
-        8,
-    ),
-    (
-        "",
-        "",
-        File::Changed(68, 17),
-        File::None,
-        10,
-        1,
-        Key::Image,
-        9,
-    ),
-    (
-        "",
-        "",
-        File::Changed(60, 2),
-        File::None,
-        10,
-        1,
-        Key::Image,
-        10,
-    ),
-    (
-        "",
-        "",
-        File::Changed(76, 7),
-        File::None,
-        11,
-        1,
-        Key::Image,
-        0,
-    ),
-    (
-        "",
-        "",
-        File::Changed(108, 7),
-        File::None,
-        11,
-        1,
-        Key::Image,
-        1,
-    ),
-    (
-        "",
-        "",
-        File::Changed(140, 7),
-        File::None,
-        11,
-        1,
-        Key::Image,
-        2,
-    ),
-    (
-        "",
-        "",
-        File::Changed(140, 3),
-        File::None,
-        11,
-        1,
-        Key::Image,
-        2,
-    ),
+/// A file of A, and the fault's number and detail. Each stands at the module's image.
+const IMAGES: [(File, u32, u32); 17] = [
+    (File::Zeros(51), 10, 1),
+    (File::Zeros(52), 10, 2),
+    (File::Changed(4, 2), 10, 3),
+    (File::Changed(16, 3), 10, 4),
+    (File::Changed(18, 0), 10, 5),
+    (File::Changed(44, 28), 10, 6),
+    (File::Changed(69, 4), 10, 8),
+    (File::Changed(68, 17), 10, 9),
+    (File::Changed(60, 2), 10, 10),
+    (File::Changed(76, 7), 11, 0),
+    (File::Changed(108, 7), 11, 1),
+    (File::Changed(140, 7), 11, 2),
+    (File::Changed(140, 3), 11, 2),
     // Areas that aren't wholly in RAM: before it, after it, and over its end.
-    (
-        "",
-        "",
-        File::Changed(63, 0x7F),
-        File::None,
-        12,
-        1,
-        Key::Image,
-        0,
-    ),
-    (
-        "",
-        "",
-        File::Changed(126, 1),
-        File::None,
-        12,
-        1,
-        Key::Image,
-        0,
-    ),
-    (
-        "",
-        "",
-        File::Changed(138, 1),
-        File::None,
-        12,
-        1,
-        Key::Image,
-        0,
-    ),
+    (File::Changed(63, 0x7F), 12, 0),
+    (File::Changed(126, 1), 12, 0),
+    (File::Changed(138, 1), 12, 0),
+    // Areas that share a word with an earlier one: the last word of .bss, which has seven words with .data.
+    (File::Changed(93, 0), 13, 1),
+];
+
+/// What is added to A and to B, and the fault's number, module, key and detail.
+const ADDED: [(&str, &str, u32, u32, Key, u32); 34] = [
+    // Areas that aren't wholly in RAM: before it, after it, and over its end.
     (
         "heap = 0x7FFFFFFC\nheap_words = 1\n",
         "",
-        File::Image,
-        File::None,
         12,
         1,
         Key::Heap,
@@ -171,8 +50,6 @@ const MODULES: [(&str, &str, File, File, u32, u32, Key, u32); 52] = [
     (
         "heap = 0x8000F000\nheap_words = 1025\n",
         "",
-        File::Image,
-        File::None,
         12,
         1,
         Key::Heap,
@@ -181,8 +58,6 @@ const MODULES: [(&str, &str, File, File, u32, u32, Key, u32); 52] = [
     (
         "",
         "heap = 0x80010000\nheap_words = 1\n",
-        File::Image,
-        File::None,
         12,
         2,
         Key::Heap,
@@ -191,8 +66,6 @@ const MODULES: [(&str, &str, File, File, u32, u32, Key, u32); 52] = [
     (
         "stack = 0x8000FFFC\nstack_words = 2\n",
         "",
-        File::Image,
-        File::None,
         12,
         1,
         Key::Stack,
@@ -201,8 +74,6 @@ const MODULES: [(&str, &str, File, File, u32, u32, Key, u32); 52] = [
     (
         "",
         "stack = 0xFFFFFFFC\nstack_words = 1048576\n",
-        File::Image,
-        File::None,
         12,
         2,
         Key::Stack,
@@ -210,20 +81,8 @@ const MODULES: [(&str, &str, File, File, u32, u32, Key, u32); 52] = [
     ),
     // Areas that share a word with an earlier one: the last word of .bss, which has seven words with .data.
     (
-        "",
-        "",
-        File::Changed(93, 0),
-        File::None,
-        13,
-        1,
-        Key::Image,
-        1,
-    ),
-    (
         "heap = 0x80001018\nheap_words = 1\n",
         "",
-        File::Image,
-        File::None,
         13,
         1,
         Key::Heap,
@@ -232,8 +91,6 @@ const MODULES: [(&str, &str, File, File, u32, u32, Key, u32); 52] = [
     (
         "",
         "heap = 0x80001018\nheap_words = 1\n",
-        File::Image,
-        File::None,
         13,
         2,
         Key::Heap,
@@ -242,8 +99,6 @@ const MODULES: [(&str, &str, File, File, u32, u32, Key, u32); 52] = [
     (
         "",
         "heap = 0x80008004\nheap_words = 1\n",
-        File::Image,
-        File::None,
         13,
         2,
         Key::Heap,
@@ -252,8 +107,6 @@ const MODULES: [(&str, &str, File, File, u32, u32, Key, u32); 52] = [
     (
         "heap = 0x80004000\nheap_words = 8\nstack = 0x80003FFC\nstack_words = 2\n",
         "",
-        File::Image,
-        File::None,
         13,
         1,
         Key::Stack,
@@ -262,8 +115,6 @@ const MODULES: [(&str, &str, File, File, u32, u32, Key, u32); 52] = [
     (
         "stack = 0x80007FFC\nstack_words = 1\n",
         "stack = 0x80007FFC\nstack_words = 1\n",
-        File::Image,
-        File::None,
         13,
         2,
         Key::Stack,
@@ -273,8 +124,6 @@ const MODULES: [(&str, &str, File, File, u32, u32, Key, u32); 52] = [
     (
         "",
         "heap = 0x80002004\nheap_words = 7000\n",
-        File::Image,
-        File::None,
         13,
         2,
         Key::Heap,
@@ -284,49 +133,25 @@ const MODULES: [(&str, &str, File, File, u32, u32, Key, u32); 52] = [
     (
         "gates = [{ entry = \"ent\", from = [\"b\"] }]\n",
         "",
-        File::Image,
-        File::None,
         14,
         1,
         Key::Gates,
         0,
     ),
-    (
-        "returns = [\"leaver\"]\n",
-        "",
-        File::Image,
-        File::None,
-        14,
-        1,
-        Key::Returns,
-        0,
-    ),
+    ("returns = [\"leaver\"]\n", "", 14, 1, Key::Returns, 0),
     (
         "",
         "gates = [{ entry = \"enter\", from = [\"a\"] }]\n",
-        File::Image,
-        File::None,
         14,
         2,
         Key::Gates,
         0,
     ),
-    (
-        "",
-        "returns = [\"leave\"]\n",
-        File::Image,
-        File::None,
-        14,
-        2,
-        Key::Returns,
-        0,
-    ),
+    ("", "returns = [\"leave\"]\n", 14, 2, Key::Returns, 0),
     // Not aligned, or not in an area of the module.
     (
         "gates = [{ entry = \"counter\", from = [\"b\"] }]\n",
         "",
-        File::Image,
-        File::None,
         15,
         1,
         Key::Gates,
@@ -335,8 +160,6 @@ const MODULES: [(&str, &str, File, File, u32, u32, Key, u32); 52] = [
     (
         "gates = [{ entry = 0x8000000A, from = [\"b\"] }]\n",
         "",
-        File::Image,
-        File::None,
         15,
         1,
         Key::Gates,
@@ -345,8 +168,6 @@ const MODULES: [(&str, &str, File, File, u32, u32, Key, u32); 52] = [
     (
         "gates = [{ entry = 0x80000010, from = [\"b\"] }]\n",
         "",
-        File::Image,
-        File::None,
         15,
         1,
         Key::Gates,
@@ -355,49 +176,18 @@ const MODULES: [(&str, &str, File, File, u32, u32, Key, u32); 52] = [
     (
         "gates = [{ entry = 0x80008000, from = [\"b\"] }]\n",
         "",
-        File::Image,
-        File::None,
         15,
         1,
         Key::Gates,
         0,
     ),
-    (
-        "returns = [0x80007FFC]\n",
-        "",
-        File::Image,
-        File::None,
-        15,
-        1,
-        Key::Returns,
-        0,
-    ),
-    (
-        "",
-        "returns = [0x80000000]\n",
-        File::Image,
-        File::None,
-        15,
-        2,
-        Key::Returns,
-        0,
-    ),
-    (
-        "",
-        "returns = [0]\n",
-        File::Image,
-        File::None,
-        15,
-        2,
-        Key::Returns,
-        0,
-    ),
+    ("returns = [0x80007FFC]\n", "", 15, 1, Key::Returns, 0),
+    ("", "returns = [0x80000000]\n", 15, 2, Key::Returns, 0),
+    ("", "returns = [0]\n", 15, 2, Key::Returns, 0),
     // The domain and word of an earlier gate.
     (
         "gates = [{ entry = \"enter\", from = [\"b\", \"b\"] }]\n",
         "",
-        File::Image,
-        File::None,
         16,
         1,
         Key::Gates,
@@ -406,8 +196,6 @@ const MODULES: [(&str, &str, File, File, u32, u32, Key, u32); 52] = [
     (
         "gates = [{ entry = \"enter\", from = [\"b\"] }, { entry = 0x80000008, from = [\"b\"] }]\n",
         "",
-        File::Image,
-        File::None,
         16,
         1,
         Key::Gates,
@@ -416,8 +204,6 @@ const MODULES: [(&str, &str, File, File, u32, u32, Key, u32); 52] = [
     (
         "returns = [\"leave\", 0x8000000C]\n",
         "",
-        File::Image,
-        File::None,
         16,
         1,
         Key::Returns,
@@ -426,29 +212,15 @@ const MODULES: [(&str, &str, File, File, u32, u32, Key, u32); 52] = [
     (
         "",
         "returns = [0x80008004, 0x80008004]\n",
-        File::Image,
-        File::None,
         16,
         2,
         Key::Returns,
         0,
     ),
-    // Step 5 comes before step 6, step 6 before step 7; and in a step the order of modules, areas and gates decides.
-    (
-        "heap = 0x80000000\nheap_words = 1\n",
-        "",
-        File::Changed(140, 7),
-        File::None,
-        11,
-        1,
-        Key::Image,
-        2,
-    ),
+    // Step 6 comes before step 7; and in a step the order of modules, areas and gates decides.
     (
         "heap = 0x80000000\nheap_words = 1\n",
         "heap = 0\nheap_words = 1\n",
-        File::Image,
-        File::None,
         13,
         1,
         Key::Heap,
@@ -457,8 +229,6 @@ const MODULES: [(&str, &str, File, File, u32, u32, Key, u32); 52] = [
     (
         "heap = 0\nheap_words = 1\n",
         "heap = 0x80000000\nheap_words = 1\n",
-        File::Image,
-        File::None,
         12,
         1,
         Key::Heap,
@@ -467,8 +237,6 @@ const MODULES: [(&str, &str, File, File, u32, u32, Key, u32); 52] = [
     (
         "returns = [\"no\"]\n",
         "stack = 0x80000000\nstack_words = 1\n",
-        File::Image,
-        File::None,
         13,
         2,
         Key::Stack,
@@ -477,8 +245,6 @@ const MODULES: [(&str, &str, File, File, u32, u32, Key, u32); 52] = [
     (
         "returns = [\"no\"]\ngates = [{ entry = 0x80000002, from = [\"b\"] }]\n",
         "",
-        File::Image,
-        File::None,
         15,
         1,
         Key::Gates,
@@ -487,8 +253,6 @@ const MODULES: [(&str, &str, File, File, u32, u32, Key, u32); 52] = [
     (
         "returns = [0x80000002, \"no\"]\n",
         "",
-        File::Image,
-        File::None,
         15,
         1,
         Key::Returns,
@@ -497,8 +261,6 @@ const MODULES: [(&str, &str, File, File, u32, u32, Key, u32); 52] = [
     (
         "returns = [\"no\", 0x80000002]\n",
         "",
-        File::Image,
-        File::None,
         14,
         1,
         Key::Returns,
@@ -507,8 +269,6 @@ const MODULES: [(&str, &str, File, File, u32, u32, Key, u32); 52] = [
     (
         "returns = [\"leave\", \"leave\", \"no\"]\n",
         "",
-        File::Image,
-        File::None,
         16,
         1,
         Key::Returns,
@@ -517,8 +277,6 @@ const MODULES: [(&str, &str, File, File, u32, u32, Key, u32); 52] = [
     (
         "returns = [\"leave\"]\n",
         "returns = [0x80000002]\n",
-        File::Image,
-        File::None,
         15,
         2,
         Key::Returns,
@@ -565,12 +323,12 @@ const HARTS: [(&str, File, &str, u32, u32); 9] = [
 ];
 
 #[test]
-fn faults_of_modules_stand_at_their_keys(rt: HostRuntime) -> Result<(), Fail> {
-    for (a, b, first, second, number, index, key, detail) in MODULES {
-        let modules = format!(in rt.alloc(); "{A}{a}{B}{b}")?;
-        let text = manifest(rt.alloc(), modules.as_str(), IN_B)?;
-        let answer = judge(rt.alloc(), text.as_str(), &[first, second]).err();
-        assert_eq!(rt; answer, refused(number, Part::Module, index, key, detail));
+fn faults_of_images_tell_what_is_wrong_with_them(rt: HostRuntime) -> Result<(), Fail> {
+    let modules = format!(in rt.alloc(); "{A}{B}")?;
+    let text = manifest(rt.alloc(), modules.as_str(), IN_B)?;
+    for (file, number, detail) in IMAGES {
+        let answer = judge(rt.alloc(), text.as_str(), &[file, File::None]).err();
+        assert_eq!(rt; answer, refused(number, Part::Module, 1, Key::Image, detail));
     }
     for (first, second, number, index, detail) in FILES {
         let modules = format!(in rt.alloc(); "{A}[[module]]\nname = \"b\"\nimage = \"b.elf\"\n")?;
@@ -581,6 +339,22 @@ fn faults_of_modules_stand_at_their_keys(rt: HostRuntime) -> Result<(), Fail> {
             refused(number, Part::Module, index, Key::Image, detail)
         );
     }
+    Ok(())
+}
+
+#[test]
+fn faults_of_modules_stand_at_their_keys(rt: HostRuntime) -> Result<(), Fail> {
+    for (a, b, number, index, key, detail) in ADDED {
+        let modules = format!(in rt.alloc(); "{A}{a}{B}{b}")?;
+        let text = manifest(rt.alloc(), modules.as_str(), IN_B)?;
+        let answer = judge(rt.alloc(), text.as_str(), &[File::Image, File::None]).err();
+        assert_eq!(rt; answer, refused(number, Part::Module, index, key, detail));
+    }
+    let modules = format!(in rt.alloc(); "{A}heap = 0x80000000\nheap_words = 1\n{B}")?;
+    let text = manifest(rt.alloc(), modules.as_str(), IN_B)?;
+    let files = [File::Changed(140, 7), File::None];
+    let answer = judge(rt.alloc(), text.as_str(), &files).err();
+    assert_eq!(rt; answer, refused(11, Part::Module, 1, Key::Image, 2));
     Ok(())
 }
 
