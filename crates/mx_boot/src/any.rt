@@ -1,4 +1,5 @@
-//! Machines of any kind of tables and any size of lookaside buffers.
+//! Machines of any kind of tables and any size of lookaside buffers. In every call that reads one a hart is below `harts()`, a domain
+//! is from 1 to `modules()`, and a word is below `words()`, a byte's place below 4 times that. A place in a list may be any number.
 
 ghost use Rattle.mx_heap.specs.HeapState.{area_of};
 ghost use Rattle.mx_laws.specs.After.{frames_at};

@@ -80,8 +80,8 @@ pub(crate) fn start(machine: &AnyMachine, number: u32) -> Option<(u32, u32, u32,
         return None;
     }
     let mut others = 0;
-    for reg in view.regs {
-        if reg != 0 && reg != view.regs[2] && others < 32 {
+    for r in 0..32 {
+        if r != 2 && view.regs[r] != 0 && others < 32 {
             others += 1;
         }
     }

@@ -1,4 +1,5 @@
-//! What is read of a machine.
+//! What is read of a machine. In every call a hart is below `harts()`, a domain is from 1 to `modules()`, and a word is below `words()`;
+//! word w of RAM has the address 0x80000000 + 4w. A place in a list may be any number.
 ghost use Rattle.std.specs.Prelude.{◌≡◌, ◌≢◌, ℕ, ◌+◌, ◌*◌, ◌<◌, ◌≤◌, length, slice_get, slice_index, slice_range};
 ghost use Rattle.std.specs.Option.{option_map};
 ghost use Rattle.mx_words.specs.Need.{need};

@@ -1,4 +1,5 @@
-//! The lines of a run's report, and the buffer through which report and console leave. No call takes memory.
+//! The lines of a run's report, and the buffer through which report and console leave. No call takes memory. A call that puts a text
+//! answers `Failed` only where its sink did: then the sink's count of faults rose, and a prefix of the text was put.
 #![tactic(auto)]
 
 mod closing;
