@@ -1,5 +1,5 @@
 -- What a store says of itself, and what its calls answer.
-use Rattle.std.specs.Prelude.{◌≡◌, ℕ, ◌^◌, ◌<◌, ◌≤◌, ◌↔◌, Bool, IsTrue, List, [], ◌++◌, length, take, drop, min, ◌-◌, Option, Result, IsOk, IfOk, OnErr, IfSome, option_map, unwrap_or}
+use Rattle.std.specs.Prelude.{◌≡◌, ℕ, ◌^◌, ◌<◌, ◌≤◌, Bool, IsTrue, List, [], ◌++◌, length, take, drop, min, ◌-◌, Option, Result, IsOk, OnErr, unwrap_or}
 use Rattle.std.specs.Ordering.{nat_cmp}
 use Rattle.std.specs.Cmp.Lexicographic.{slice_cmp}
 use Rattle.std.specs.FinMap.{FinMap, get}
@@ -26,18 +26,6 @@ pub record Asks {A E : Type 0} (before now : StoreState) (result : Result A E) :
   pub counted : now.faults < 2 ^ 64
   pub failed : OnErr result (Rose before.faults now.faults)
   pub sure : IsTrue before.sure → IsOk result × (now.faults ≡ before.faults) × IsTrue now.sure
-
--- the size of a file: nothing exactly where the name is absent, else the number of its bytes
-abbrev pub TellsSize : {E : Type 0} → Option FileMap → List ℕ → Result (Option ℕ) E → Type 0
-TellsSize told name result =
-    IfOk result (λ size. IfSome told (λ files. size ≡ option_map length (get files name)))
-
--- a part of a file: Ok k put its k bytes from place `at` on at the start of `into`; none for a slice with room exactly at the end
-pub record GivesBytes (told : Option FileMap) (name : List ℕ) (at : ℕ) (into : List ℕ) (k : ℕ)
-    : Type 0 where
-  pub bound : k ≤ length into
-  pub bytes : IfSome told (λ files. take k into ≡ take k (drop at (file_bytes files name)))
-  pub end : IfSome told (λ files. 0 < length into → (k ≡ 0) ↔ (length (file_bytes files name) ≤ at))
 
 -- the greatest part from place `at` on was copied to the start of a slice, whose other bytes stay
 pub record CopiesPart (bytes : List ℕ) (at : ℕ) (old now : List ℕ) (k : ℕ) : Type 0 where
