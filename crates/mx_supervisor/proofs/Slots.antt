@@ -1,11 +1,14 @@
--- The heaps in slots, after one slot was written.
-use Rattle.std.proofs.Common.{◌≡◌, ℕ, ◌<◌, List, ◌++◌, length, get_or, set, take, sym, ◌∙◌, ap, arith, Option, None}
+-- The heaps in slots, after one slot was written, and a block that may live in a heap.
+use Rattle.std.proofs.Common.{◌≡◌, ℕ, ◌<◌, true, ◌&&◌, List, ◌++◌, length, get_or, set, take, sym, subst, ◌∙◌, ap, arith, Option, Some, None}
 use Rattle.std.proofs.Common.{map as list_map}
+use Rattle.std.specs.Prelude.{nat_lt, MatchOption}
 use Rattle.std.specs.List.{refill}
+use Rattle.std.proofs.lemmas.Bool.{and_from, lt-ltb}
 use Rattle.std.proofs.lemmas.List.{append-nil, drop_all, get_or_default, get_or-map, length-map, length-set, map-set, take_all}
-use Rattle.mx_words.specs.FirstFit.{Area}
-use Rattle.mx_heap.specs.HeapState.{HeapState}
-use Rattle.mx_supervisor.specs.Heaps.{heap_in, no_heap}
+use Rattle.mx_words.specs.FirstFit.{Area, has_room, most_blocks}
+use Rattle.mx_words.proofs.FirstFitLaws.{IsLeast, NonePasses, place-least}
+use Rattle.mx_heap.specs.HeapState.{HeapState, may_live}
+use Rattle.mx_supervisor.specs.Heaps.{heap_in, no_heap, room_in}
 
 -- slots that were all written back are those that were written
 refilled : (xs ws : List (Option HeapState)) → length ws ≡ length xs → refill (length xs) xs ws ≡ ws
@@ -33,3 +36,13 @@ slots-written slots ws i o d heaps step view same there eq =
     ∙ map-set heap_in slots i o
     ∙ ap (λ (hs : List HeapState). set hs i (heap_in o)) view
     ∙ ap (set heaps i) (eq ∙ ap (λ (h : HeapState). record h { blocks = step h.blocks }) (slot-heap slots ws i d heaps view same there))
+
+-- a word that first fit found is one for a live block, where fewer blocks live than may
+pub found-live : (h : HeapState) (n first : ℕ) → 0 < n → room_in h n ≡ Some first → length h.blocks < most_blocks →
+    may_live h (record { first = first; count = n }) ≡ true
+found-live h n first some found few =
+    let least : IsLeast (has_room h.area h.blocks n) h.area.first h.area.count first =
+    subst (λ (o : Option ℕ). MatchOption o (NonePasses (has_room h.area h.blocks n) h.area.first h.area.count) (IsLeast (has_room h.area h.blocks n) h.area.first h.area.count))
+    found (place-least h.area h.blocks n) in
+    and_from (nat_lt 0 n && has_room h.area h.blocks n first) (nat_lt (length h.blocks) most_blocks)
+    (and_from (nat_lt 0 n) (has_room h.area h.blocks n first) (lt-ltb 0 n some) least.passes) (lt-ltb (length h.blocks) most_blocks few)

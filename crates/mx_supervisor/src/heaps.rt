@@ -1,8 +1,8 @@
 //! The heaps of all modules.
-ghost use Rattle.std.specs.Prelude.{◌≡◌, ℕ, ◌+◌, ◌<◌, ◌≤◌, ◌↔◌, [], ◌∷◌, ◌++◌, length, slice_get, slice_set, IfOk, IsNone, IsSome, IsErrOf, IfSome, Some};
+ghost use Rattle.std.specs.Prelude.{◌≡◌, ℕ, ◌+◌, ◌<◌, ◌≤◌, ◌↔◌, true, [], ◌∷◌, ◌++◌, length, slice_get, slice_set, IfOk, IsNone, IsSome, IsErrOf, IfSome, Some};
 ghost use Rattle.std.specs.Option.{option_map};
 ghost use Rattle.mx_words.specs.FirstFit.{without_block, block_words, most_blocks};
-ghost use Rattle.mx_heap.specs.HeapState.{LiesIn, area_of};
+ghost use Rattle.mx_heap.specs.HeapState.{LiesIn, area_of, may_live};
 ghost use Rattle.mx_supervisor.specs.Heaps.{told_heap, heap_in, heap_at, room_in, with_live, with_blocks_at, with_block_at};
 ghost use Rattle.mx_supervisor.specs.Told.{IsTold};
 
@@ -79,17 +79,16 @@ impl Heaps {
         }
     }
 
-    /// Makes the block that `place` found live; where it found none, nothing changes.
-    pub(crate) fn alloc(&mut self, domain: u32, words: u32)
+    /// Makes a block of a domain live at a word that `place` found for it, without a second search for the place.
+    pub(crate) fn alloc(&mut self, domain: u32, first: u32, words: u32)
         requires domain { 1 ≤ domain }
         requires there { domain ≤ length self.old }
-        requires words { 0 < words }
-        ensures { (a : ℕ) → room_in (heap_at self.old domain) words ≡ Some a →
-            length (heap_at self.old domain).blocks < most_blocks →
-            self.new ≡ with_block_at domain (record { first = a; count = words }) self.old }
+        ensures { may_live (heap_at self.old domain) (record { first = first; count = words })
+            ≡ true →
+            self.new ≡ with_block_at domain (record { first = first; count = words }) self.old }
     {
         let slot = &mut self.slots.as_mut_slice()[domain as usize - 1];
-        alloc_in(slot, words);
+        alloc_in(slot, first, words);
     }
 
     /// The number of words of a domain's live block that begins at a word.
@@ -159,16 +158,15 @@ fn place_in(slot: &Option<Heap>, words: u32) -> Result<u32, HeapError>
     }
 }
 
-/// As `Heap::alloc`, for the heap in a slot.
-fn alloc_in(slot: &mut Option<Heap>, words: u32)
-    requires { 0 < words }
-    ensures { (a : ℕ) → room_in (heap_in slot.old) words ≡ Some a →
-        length (heap_in slot.old).blocks < most_blocks →
-        heap_in slot.new ≡ with_live (record { first = a; count = words }) (heap_in slot.old) }
+/// As `Heap::restore`, for the heap in a slot.
+fn alloc_in(slot: &mut Option<Heap>, first: u32, words: u32)
+    ensures { may_live (heap_in slot.old) (record { first = first; count = words }) ≡ true →
+        heap_in slot.new
+        ≡ with_live (record { first = first; count = words }) (heap_in slot.old) }
 {
     if let Some(heap) = slot {
-        // What it answers is known from `place`.
-        let _ = heap.alloc(words);
+        // That the block may live is known from `place`.
+        let _ = heap.restore(first, words);
     }
 }
 

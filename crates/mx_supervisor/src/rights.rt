@@ -196,7 +196,7 @@ impl<T: PermTables, const N: usize> Supervisor<T, N> {
         if !self.try_change(call, &change) {
             return Answer::refused(Refusal::TablesFull);
         }
-        self.heaps.alloc(call.domain, words);
+        self.heaps.alloc(call.domain, first, words);
         self.ram.clear_words(first, words);
         Answer::done(RAM_BASE + 4 * first)
     }

@@ -1,4 +1,4 @@
-use Rattle.std.proofs.Common.{◌≡◌, ℕ, ◌*◌, ◌<◌, ◌==◌, true, false, ap, arith, length, ◌∙◌, sym, eq-eqb, Result, Err}
+use Rattle.std.proofs.Common.{◌≡◌, ℕ, ◌*◌, ◌<◌, ◌==◌, true, false, ap, arith, length, ◌∙◌, sym, eq-eqb, Some, Result, Err}
 use Rattle.mx_heap.specs.declared.block.HeapError.{HeapError}
 use Rattle.mx_model.specs.Reads.{flat_reads}
 use Rattle.mx_supervisor.specs.Answers.{plain}
@@ -9,11 +9,12 @@ use Rattle.mx_words.specs.Bytes.{cleared_at}
 use Rattle.mx_words.proofs.OptionLaws.{some_of}
 use Rattle.mx_model.specs.Checks.{arg}
 use Rattle.mx_model.specs.Serve.{serve_alloc, own_alone}
-use Rattle.mx_supervisor.specs.Heaps.{heap_at, with_blocks_at}
+use Rattle.mx_supervisor.specs.Heaps.{heap_at, room_in, with_blocks_at}
 use Rattle.mx_supervisor.specs.Parts.{Parts, parts_of, core_of, flat_of}
 use Rattle.mx_supervisor.proofs.Answering.{refuses, refuses-after}
 use Rattle.mx_supervisor.proofs.Blocks.{alloc-done, alloc-none, alloc-full, alloc-unfit, alloc-fit, place-in, blocks-in, none-of, not-full}
 use Rattle.mx_supervisor.proofs.Changes.{lawful-of, in-of, range-heap, gives-in}
+use Rattle.mx_supervisor.proofs.Slots.{found-live}
 use Rattle.mx_supervisor.proofs.supervisor.Supervisor.alloc.Goals as goal
 
 pub returns-then-words-eq0 : goal.returns-then-words-eq0
@@ -87,12 +88,14 @@ returns g c =
     let below = not-full _ _ c.in-Ok.first c.in-Ok.ensures.few c.in-Ok.ensures.ok (λ h. let e = c.in-Ok.ensures.full.1 h in let q : ⊥ = cc in q) in
     let same = ap (λ (x : Parts). x.heaps) made in
     let few : length (heap_at q.heaps c.args.call.now.domain).blocks < most_blocks = rw same below in
-    let found = ap (λ hs. place (heap_at hs c.args.call.now.domain).area (heap_at hs c.args.call.now.domain).blocks (arg c.args.call.now 0)) same ∙ c.in-Ok.ensures.ok in
+    let found : room_in (heap_at q.heaps c.args.call.now.domain) (arg c.args.call.now 0) ≡ Some c.in-Ok.first = ap (λ hs. place (heap_at hs c.args.call.now.domain).area (heap_at hs c.args.call.now.domain).blocks (arg c.args.call.now 0)) same ∙ c.in-Ok.ensures.ok in
+    let some : 0 < arg c.args.call.now 0 = let ne = c.if-words-eq0.false in omega (arith, ne) in
+    let may = found-live (heap_at q.heaps c.args.call.now.domain) (arg c.args.call.now 0) c.in-Ok.first some found few in
     alloc-done c.args.call.now p q (record q { heaps = c.alloc.new.self; ram = c.clear_words.new.self }) c.in-Ok.first (own_alone c.args.call.now.domain) c.done.result c.requires.sound
     (let high = c.in-Ok.ensures.inside.1 in let area = c.requires.sound.areas c.args.call.now.domain in let w = c.requires.sound.few_words in omega (arith, high, area, w))
     (let ram = ap (λ (x : Parts). x.ram) made in sym (ap (λ bs. length (cleared_at bs (4 * c.in-Ok.first) (4 * arg c.args.call.now 0))) ram) ∙ sym (ap length c.clear_words.ensures.bytes) ∙ c.clear_words.ensures.size ∙ ap length ram)
     made
-    (ap (λ hs. record q { heaps = hs; ram = c.clear_words.new.self }) (c.alloc.ensures c.in-Ok.first found few) ∙ ap (λ bs. record q {
+    (ap (λ hs. record q { heaps = hs; ram = c.clear_words.new.self }) (c.alloc.ensures may) ∙ ap (λ bs. record q {
       heaps = with_blocks_at c.args.call.now.domain (with_block (record { first = c.in-Ok.first; count = arg c.args.call.now 0 }) (heap_at q.heaps c.args.call.now.domain).blocks) q.heaps;
       ram = bs;
     }) c.clear_words.ensures.bytes)
