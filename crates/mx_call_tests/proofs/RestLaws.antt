@@ -1,5 +1,5 @@
 -- A hart alone: its announced call is ready at once, and it is at rest again when the call was served.
-use Rattle.std.proofs.Common.{◌≡◌, ◌≢◌, ℕ, ◌<◌, ◌≤◌, inl, inr, true, false, List, length, Option, Some, None, refl, sym, ap, subst, ◌∙◌, arith, length-set, get_or-set_same}
+use Rattle.std.proofs.Common.{◌≡◌, ◌≢◌, ℕ, ◌<◌, inl, inr, true, false, List, length, Option, Some, None, refl, sym, ap, subst, ◌∙◌, arith, length-set, get_or-set_same}
 use Rattle.std.specs.Prelude.{IfSome}
 use Rattle.std.proofs.lemmas.List.{get_or_past}
 use Rattle.mx_words.specs.declared.perm.Perm.{Perm}
@@ -21,9 +21,6 @@ use Rattle.mx_supervisor.specs.Parts.{Parts, IsSound}
 use Rattle.mx_supervisor.specs.Served.{HasAnnounced, MayServe, KeepsSizes, range_of}
 use Rattle.mx_call_tests.specs.Calls.{IsAtRest}
 
-pub few-harts : (h d : ℕ) (p : Parts) → IsAtRest h d p → length p.harts ≤ 4
-few-harts h d p rest = let e = rest.alone in omega (arith, e)
-
 pub may-announce : (h d : ℕ) (p : Parts) → IsAtRest h d p → MayAnnounce h p.harts
 may-announce h d p rest = record { hart = rest.may.hart; running = rest.may.running; free = rest.may.free }
 
@@ -39,7 +36,7 @@ announces h r harts = at_hart h (announced h r.0 r.1) harts
 own-part : (h : ℕ) (r : ℕ × ℕ) (harts : List Kept) → h < length harts → hart_at (announces h r harts) h ≡ announced h r.0 r.1 (hart_at harts h)
 own-part h r harts there = get_or-set_same harts h (announced h r.0 r.1 (hart_at harts h)) no_hart there
 
-pub count-announces : (h : ℕ) (r : ℕ × ℕ) (harts : List Kept) → length (announces h r harts) ≡ length harts
+count-announces : (h : ℕ) (r : ℕ × ℕ) (harts : List Kept) → length (announces h r harts) ≡ length harts
 count-announces h r harts = length-set harts h (announced h r.0 r.1 (hart_at harts h))
 
 pub has-announced : (p : Parts) (call : Call) (r : ℕ × ℕ) → IsAtRest call.hart call.domain p → r ≡ range_of p call →

@@ -209,10 +209,11 @@ impl<T: PermTables, const N: usize> Checker<T, N> {
     }
 }
 
-/// A law: the set of harts that have heard a call in flight has a place for each of the four, and in it are only other harts that
-/// there are. A machine's state is valid only with such sets.
+/// A law: there are at most four harts; the set of those that have heard a call in flight has a place for each of the four, and in
+/// it are only other harts that there are. A machine's state is valid only with such sets.
 pub fn flights_of<T: PermTables, const N: usize>(checker: &Checker<T, N>)
-    ensures { (h : ℕ) → IfSome (hart_at checker.now.harts h).flight
+    ensures few { length checker.now.harts ≤ 4 }
+    ensures hearers { (h : ℕ) → IfSome (hart_at checker.now.harts h).flight
         (AreHearers (length checker.now.harts) h) }
 {
     let _ = &checker.bare;

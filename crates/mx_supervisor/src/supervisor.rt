@@ -19,7 +19,7 @@ use crate::answer::Refusal;
 use crate::service::Service;
 use crate::words::{is_announced, names_range};
 use crate::{Answer, Heaps};
-use mx_check::Checker;
+use mx_check::{Checker, flights_of};
 use mx_gates::Gates;
 use mx_heap::Block;
 use mx_memory::Ram;
@@ -107,7 +107,6 @@ impl<T: PermTables, const N: usize> Supervisor<T, N> {
     pub fn serve(&mut self, call: &Call, out: &mut Events) -> Answer
         requires sound { IsSound (parts_of T.kind T.maps T.size T.limits N self.old) }
         requires domain { IsDomain (T.maps self.old.checker.tables) call.now.domain }
-        requires few { length self.old.checker.harts ≤ 4 }
         requires may { MayServe (parts_of T.kind T.maps T.size T.limits N self.old) call.now }
         requires empty { out.old.bytes ≡ [] }
         ensures served { ServesAs serve call.now (parts_of T.kind T.maps T.size T.limits N self.old)
@@ -135,13 +134,14 @@ impl<T: PermTables, const N: usize> Supervisor<T, N> {
     fn serve_row(&mut self, call: &Call, out: &mut Events) -> Answer
         requires sound { IsSound (parts_of T.kind T.maps T.size T.limits N self.old) }
         requires domain { IsDomain (T.maps self.old.checker.tables) call.now.domain }
-        requires few { length self.old.checker.harts ≤ 4 }
         requires may { MayServe (parts_of T.kind T.maps T.size T.limits N self.old) call.now }
         requires empty { out.old.bytes ≡ [] }
         ensures does { Does T.kind T.maps T.size T.limits N
             self.old self.new served_row call.now out.new.bytes result }
         ensures note { out.new.note ≡ out.old.note }
     {
+        // There are at most four harts, so that call 12 can tell its hart.
+        flights_of(&self.checker);
         match Service::of(call.number) {
             Service::Exit => exit(call),
             Service::Write => self.write(call, out),

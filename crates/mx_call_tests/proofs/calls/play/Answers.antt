@@ -1,6 +1,6 @@
 use Rattle.std.proofs.Common.{refl, sym, ◌∙◌}
 use Rattle.mx_supervisor.specs.Parts.{parts_of}
-use Rattle.mx_call_tests.proofs.RestLaws.{few-harts, may-other}
+use Rattle.mx_call_tests.proofs.RestLaws.{may-other}
 use Rattle.mx_call_tests.proofs.calls.play.Goals as goal
 
 pub serve-requires : goal.serve-requires
@@ -13,10 +13,7 @@ serve-requires g c =
         c.requires.sound,
         (
           c.requires.domain,
-          (
-            few-harts call.hart call.domain p c.requires,
-            (may-other p call (sym c.is_announced.ensures ∙ c.if-is_announced.false) c.requires.may, refl),
-          ),
+          (may-other p call (sym c.is_announced.ensures ∙ c.if-is_announced.false) c.requires.may, refl),
         ),
       ),
     )

@@ -1,9 +1,9 @@
-use Rattle.std.proofs.Common.{◌≡◌, ◌≤◌, None, length, ap, arith}
+use Rattle.std.proofs.Common.{◌≡◌, None, length, ap, arith}
 use Rattle.mx_check.specs.Calls.{Checks}
 use Rattle.mx_supervisor.specs.Parts.{parts_of}
 use Rattle.mx_supervisor.specs.Looks.{KeepsHarts}
 use Rattle.mx_supervisor.proofs.Answering.{with-harts}
-use Rattle.mx_call_tests.proofs.RestLaws.{may-announce, announces, count-announces, has-announced, may-ready, rest-again}
+use Rattle.mx_call_tests.proofs.RestLaws.{may-announce, announces, has-announced, may-ready, rest-again}
 use Rattle.mx_call_tests.proofs.calls.play_announced.Goals as goal
 
 pub announced-first-requires : goal.announced-first-requires
@@ -19,19 +19,13 @@ serve-requires g c =
     let p = parts_of g.T.PermTables.kind g.T.PermTables.maps g.T.PermTables.size g.T.PermTables.limits g.row.N c.args.machine.now in
     let call = c.args.call.now in
     let r = c.announced-first.result in
-    let e = c.requires.rest.alone in
-    let count : length (announces call.hart r p.harts) ≡ length p.harts = count-announces call.hart r p.harts in
-    let few : length (announces call.hart r p.harts) ≤ 4 = omega (arith, count, e) in
     rw c.announce.ensures (
       assumption c,
       (
         with-harts p (announces call.hart r p.harts) c.requires.rest.sound,
         (
           c.requires.rest.domain,
-          (
-            few,
-            (may-ready _ call c.requires.announced (has-announced p call r c.requires.rest c.announced-first.ensures.range), c.requires.empty),
-          ),
+          (may-ready _ call c.requires.announced (has-announced p call r c.requires.rest c.announced-first.ensures.range), c.requires.empty),
         ),
       ),
     )

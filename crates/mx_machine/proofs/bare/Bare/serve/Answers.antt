@@ -1,4 +1,4 @@
-use Rattle.std.proofs.Common.{rules, ◌≡◌, ℕ, ◌<◌, ◌≤◌, Option, Some, None, refl, ap, sym, subst, ◌∙◌}
+use Rattle.std.proofs.Common.{rules, ◌≡◌, ℕ, ◌<◌, Option, Some, None, refl, ap, sym, subst, ◌∙◌}
 use Rattle.mx_model.specs.declared.values.Call.{Call}
 use Rattle.mx_model.specs.declared.values.Note.{Note}
 use Rattle.mx_model.specs.declared.values.Note.TheVariants as N
@@ -15,7 +15,7 @@ serve-answer-requires g c = (
   search rules,
   (
       let v = rw (← c.self.view_is) at c.requires.serving in
-      (v.sound, (v.domain, (subst (λ n. n ≤ 4) v.count v.few, (v.may, ap (λ (e : Events). e.bytes) c.requires.empty))))),
+      (v.sound, (v.domain, (v.may, ap (λ (e : Events). e.bytes) c.requires.empty)))),
 )
 
 pub halt-requires : goal.halt-requires
