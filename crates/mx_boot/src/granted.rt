@@ -13,9 +13,9 @@ ghost use Rattle.mx_boot.specs.Seen.{seen};
 use crate::area::Area;
 use crate::areas::{add_pieces, add_stack};
 use crate::entries::word_at;
-use crate::home::{Home, home_at, in_range};
+use crate::home::{Home, home_at};
 use crate::layout::ram_words;
-use mx_manifest::Plan;
+use mx_manifest::{Plan, plan_is_in_range};
 use mx_words::{Blob, NoMemory, Span, Spans};
 use std::alloc::Global;
 
@@ -108,7 +108,7 @@ pub(crate) fn rows(alloc: Global, plan: &Plan, images: &[Blob]) -> Result<Vec<Sp
     ensures maps { IfOk result (λ rows. map (row_map (ram_words plan.now)) rows.items
         ≡ (flat (boot_state plan.now images.now)).maps) }
 {
-    in_range(plan);
+    plan_is_in_range(plan);
     let words = ram_words(plan);
     let mut all = Vec::new(alloc);
     'modules: for i in 0..plan.modules() {

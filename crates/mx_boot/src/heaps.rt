@@ -7,9 +7,8 @@ ghost use Rattle.mx_boot.specs.Faults.{first_fault};
 ghost use Rattle.mx_boot.specs.Joined.{heap_state};
 
 use crate::entries::word_at;
-use crate::home::in_range;
 use mx_heap::Heap;
-use mx_manifest::{ModulePlan, Plan};
+use mx_manifest::{ModulePlan, Plan, plan_is_in_range};
 use mx_supervisor::Heaps;
 use mx_words::{Blob, NoMemory};
 use std::alloc::Global;
@@ -36,7 +35,7 @@ pub(crate) fn heaps(alloc: Global, plan: &Plan, images: &[Blob]) -> Result<Heaps
     requires { first_fault plan.now images.now ≡ None }
     ensures { IfOk result (λ heaps. heaps ≡ map heap_state plan.now.modules) }
 {
-    in_range(plan);
+    plan_is_in_range(plan);
     let mut heaps = Heaps::new();
     'modules: for i in 0..plan.modules() {
         heaps.push(heap(alloc, plan.module(i))?);

@@ -1,19 +1,11 @@
 //! A module with its domain and its image.
 
 ghost use Rattle.std.specs.Prelude.{◌≡◌, ◌-◌, ◌^◌, ◌<◌, ◌≤◌, [], length, slice_get, slice_index_or, IfSome};
-ghost use Rattle.mx_manifest.specs.InRange.{IsInRange};
 ghost use Rattle.mx_boot.specs.Areas.{homes};
 ghost use Rattle.mx_boot.specs.Seen.{seen};
 
 use mx_manifest::{ModulePlan, Plan};
 use mx_words::Blob;
-
-/// A law: a plan is in range.
-pub(crate) fn in_range(plan: &Plan)
-    ensures { IsInRange plan.now }
-{
-    let _ = plan.version();
-}
 
 /// A module with its domain and the bytes of its image.
 #[derive(Clone, Copy)]

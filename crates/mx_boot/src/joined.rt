@@ -9,7 +9,6 @@ ghost use Rattle.mx_boot.specs.Joined.{boot_parts};
 ghost use Rattle.mx_boot.specs.Laid.{IsLayout};
 
 use crate::heaps::heaps;
-use crate::home::in_range;
 use crate::layout::Layout;
 use crate::owners::owners;
 use crate::ram::ram;
@@ -17,7 +16,7 @@ use crate::refused::BootRefused;
 use crate::tables::tables;
 use mx_check::Checker;
 use mx_gates::Gates;
-use mx_manifest::Plan;
+use mx_manifest::{Plan, plan_is_in_range};
 use mx_model::Gate;
 use mx_supervisor::Supervisor;
 use mx_table::PermTables;
@@ -56,7 +55,7 @@ pub(crate) fn join<T: PermTables, const N: usize>(
         (λ s. parts_of T.kind T.maps T.size T.limits N s ≡ boot_parts plan.now images.now) }
     ensures refused { IfErr result (IsRefusedBy (boot_of plan.now images.now)) }
 {
-    in_range(plan);
+    plan_is_in_range(plan);
     let Ok(ram) = ram(alloc, plan, images) else {
         return Err(BootRefused::NoMemory);
     };

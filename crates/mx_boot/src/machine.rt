@@ -10,10 +10,9 @@ ghost use Rattle.mx_boot.specs.Laid.{IsLayout};
 ghost use Rattle.mx_boot.specs.Starting.{hart_start_of, stack_area_of, stack_areas};
 
 use crate::entries::word_at;
-use crate::home::in_range;
 use crate::layout::Layout;
 use mx_machine::{HartStart, Machine, StackArea, Stacks, Starts};
-use mx_manifest::{ModulePlan, Plan};
+use mx_manifest::{ModulePlan, Plan, plan_is_in_range};
 use mx_supervisor::Supervisor;
 use mx_table::PermTables;
 use mx_words::Blob;
@@ -79,7 +78,7 @@ pub(crate) fn machine_of<T: PermTables, const N: usize>(
         ≡ boot_parts plan.now images.now }
     ensures { result ≡ flat (boot_state plan.now images.now) }
 {
-    in_range(plan);
+    plan_is_in_range(plan);
     let starts = starts(plan, layout.starts.as_slice());
     let stacks = stacks(plan);
     Machine::new(parts, &starts, &stacks)

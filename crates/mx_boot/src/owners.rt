@@ -13,9 +13,9 @@ ghost use Rattle.mx_boot.specs.Seen.{seen};
 use crate::area::Area;
 use crate::areas::{add_heap, add_pieces, add_stack};
 use crate::entries::word_at;
-use crate::home::{Home, home_at, in_range};
+use crate::home::{Home, home_at};
 use crate::layout::ram_words;
-use mx_manifest::Plan;
+use mx_manifest::{Plan, plan_is_in_range};
 use mx_owners::Owners;
 use mx_words::{Blob, NoMemory};
 use std::alloc::Global;
@@ -78,7 +78,7 @@ pub(crate) fn owners(alloc: Global, plan: &Plan, images: &[Blob]) -> Result<Owne
     requires { first_fault plan.now images.now ≡ None }
     ensures { IfOk result (λ all. all ≡ (flat (boot_state plan.now images.now)).owners) }
 {
-    in_range(plan);
+    plan_is_in_range(plan);
     let areas = owned(alloc, plan, images)?;
     give_all(alloc, areas.as_slice(), ram_words(plan))
 }

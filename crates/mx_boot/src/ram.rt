@@ -9,10 +9,10 @@ ghost use Rattle.mx_boot.specs.Faults.{first_fault};
 ghost use Rattle.mx_boot.specs.Placed.{HasRoom, words_content};
 ghost use Rattle.mx_boot.specs.Seen.{seen};
 
-use crate::home::{Home, home_at, in_range};
+use crate::home::{Home, home_at};
 use crate::layout::ram_words;
 use mx_elf::{Seg, Segs, read_image};
-use mx_manifest::{Numbers, Plan};
+use mx_manifest::{Numbers, Plan, plan_is_in_range};
 use mx_memory::Ram;
 use mx_words::{Blob, NoMemory};
 use std::alloc::Global;
@@ -110,7 +110,7 @@ pub(crate) fn ram(alloc: Global, plan: &Plan, images: &[Blob]) -> Result<Ram, No
     requires { first_fault plan.now images.now ≡ None }
     ensures { IfOk result (λ ram. ram ≡ boot_ram plan.now images.now) }
 {
-    in_range(plan);
+    plan_is_in_range(plan);
     let mut ram = Ram::new(alloc, ram_words(plan))?;
     'modules: for i in 0..plan.modules() {
         put_home(&mut ram, home_at(plan, images, i));

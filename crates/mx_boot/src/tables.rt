@@ -8,10 +8,9 @@ ghost use Rattle.mx_boot.specs.Booted.{IsRefusedBy};
 ghost use Rattle.mx_boot.specs.Faults.{first_fault, ram_words};
 
 use crate::granted::rows;
-use crate::home::in_range;
 use crate::layout::ram_words;
 use crate::refused::BootRefused;
-use mx_manifest::Plan;
+use mx_manifest::{Plan, plan_is_in_range};
 use mx_table::{BuildRefused, PermTables};
 use mx_words::{Blob, Need};
 use std::alloc::Global;
@@ -43,7 +42,7 @@ pub(crate) fn tables<T: PermTables>(
     ensures limit { IfOk result (λ t. T.limits t ≡ limit_of plan.now) }
     ensures refused { IfErr result (IsRefusedBy (boot_of plan.now images.now)) }
 {
-    in_range(plan);
+    plan_is_in_range(plan);
     let Ok(rows) = rows(alloc, plan, images) else {
         return Err(BootRefused::NoMemory);
     };

@@ -40,7 +40,7 @@ impl Plan {
     /// The version, 1 or 2.
     pub fn version(&self) -> u32
         ensures value { result ≡ self.now.version }
-        ensures in_range { IsInRange self.now }
+        ensures range { IsBetween 1 2 result }
     {
         self.version
     }
@@ -133,4 +133,11 @@ impl Plan {
     {
         &self.harts[i as usize]
     }
+}
+
+/// A law: all that a plan says is in range.
+pub fn plan_is_in_range(plan: &Plan)
+    ensures { IsInRange plan.now }
+{
+    let _ = &plan.version;
 }

@@ -15,7 +15,7 @@ pub row_of-requires-clause-placed : goal.row_of-requires-clause-placed
 row_of-requires-clause-placed c =
     let plan = c.args.plan.now in
     let h = seen c.home_at.result in
-    let is = (ready plan c.args.images.now c.in_range.ensures c.requires c.modules.i h c.home_at.ensures.home).granted in
+    let is = (ready plan c.args.images.now c.plan_is_in_range.ensures c.requires c.modules.i h c.home_at.ensures.home).granted in
     subst (λ n. ArePlaced c.ram_words-words.result (granted_areas n h)) (sym c.harts.ensures.value)
     (subst (λ n. ArePlaced n (granted_areas (length plan.harts) h)) (sym c.ram_words-words.ensures) is)
 

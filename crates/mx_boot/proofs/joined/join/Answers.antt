@@ -7,11 +7,11 @@ use Rattle.mx_boot.proofs.joined.join.Goals as goal
 
 pub gates-gates-requires-clause-single : goal.gates-gates-requires-clause-single
 gates-gates-requires-clause-single g c =
-    subst AreSingle (sym (c.as_slice.ensures.value ∙ c.requires.layout.gates)) (gates-single c.args.plan.now c.args.images.now c.in_range.ensures c.requires.layout.faultless)
+    subst AreSingle (sym (c.as_slice.ensures.value ∙ c.requires.layout.gates)) (gates-single c.args.plan.now c.args.images.now c.plan_is_in_range.ensures c.requires.layout.faultless)
 
 pub gates-gates-requires-clause-few : goal.gates-gates-requires-clause-few
 gates-gates-requires-clause-few g c =
-    subst (λ gs. length gs ≤ 256) (sym (c.as_slice.ensures.value ∙ c.requires.layout.gates)) (gates-few c.args.plan.now c.args.images.now c.in_range.ensures c.requires.layout.faultless)
+    subst (λ gs. length gs ≤ 256) (sym (c.as_slice.ensures.value ∙ c.requires.layout.gates)) (gates-few c.args.plan.now c.args.images.now c.plan_is_in_range.ensures c.requires.layout.faultless)
 
 pub new-requires : goal.new-requires
 new-requires g c =
@@ -29,8 +29,8 @@ new-requires g c =
       (
         search rules,
         (
-          subst IsSound (sym parts) (parts-sound plan images c.in_range.ensures c.requires.layout.faultless),
-          gates-hold plan images (t.maps c.new-checker.result.tables) (t.size c.new-checker.result.tables) c.gates-gates.result c.in_range.ensures c.requires.layout.faultless maps size gates,
+          subst IsSound (sym parts) (parts-sound plan images c.plan_is_in_range.ensures c.requires.layout.faultless),
+          gates-hold plan images (t.maps c.new-checker.result.tables) (t.size c.new-checker.result.tables) c.gates-gates.result c.plan_is_in_range.ensures c.requires.layout.faultless maps size gates,
         ),
       ),
     )

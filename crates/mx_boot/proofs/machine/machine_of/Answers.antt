@@ -13,7 +13,7 @@ new-requires g c =
       search rules,
       (
         search rules,
-        ready c.args.plan.now c.args.images.now c.in_range.ensures c.requires.layout.faultless _ c.starts-starts.result c.stacks-stacks.result
+        ready c.args.plan.now c.args.images.now c.plan_is_in_range.ensures c.requires.layout.faultless _ c.starts-starts.result c.stacks-stacks.result
             c.requires.parts starts c.stacks-stacks.ensures,
       ),
     )
@@ -24,4 +24,4 @@ returns g c =
     let images = c.args.images.now in
     let starts = c.starts-starts.ensures (start_of plan images) (c.as_slice.ensures.value ∙ c.requires.layout.starts) in
     c.new.ensures ∙ ap (λ p. started p c.starts-starts.result c.stacks-stacks.result) c.requires.parts ∙ ap (λ s. started (boot_parts plan images) s c.stacks-stacks.result) starts
-    ∙ ap (started (boot_parts plan images) (hart_starts plan images)) c.stacks-stacks.ensures ∙ boots-as plan images c.in_range.ensures c.requires.layout.faultless
+    ∙ ap (started (boot_parts plan images) (hart_starts plan images)) c.stacks-stacks.ensures ∙ boots-as plan images c.plan_is_in_range.ensures c.requires.layout.faultless

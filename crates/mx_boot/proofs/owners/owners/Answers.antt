@@ -12,11 +12,11 @@ use Rattle.mx_boot.proofs.owners.owners.Goals as goal
 pub give_all-requires-clause-placed : goal.give_all-requires-clause-placed
 give_all-requires-clause-placed c =
     subst (λ n. AllByRecursion (IsPlaced n) c.as_slice.result.now) (sym c.ram_words.ensures)
-    (subst (AllByRecursion (IsPlaced _)) (sym (c.as_slice.ensures.value ∙ c.in_ok-areas.ensures)) (owned_placed c.args.plan.now c.args.images.now c.in_range.ensures c.requires))
+    (subst (AllByRecursion (IsPlaced _)) (sym (c.as_slice.ensures.value ∙ c.in_ok-areas.ensures)) (owned_placed c.args.plan.now c.args.images.now c.plan_is_in_range.ensures c.requires))
 
 pub give_all-requires-clause-few : goal.give_all-requires-clause-few
 give_all-requires-clause-few c =
-    let few = few-owned c.args.plan.now c.args.images.now c.in_range.ensures.module_count.1 in
+    let few = few-owned c.args.plan.now c.args.images.now c.plan_is_in_range.ensures.module_count.1 in
     omega (arith, few, ap length (c.as_slice.ensures.value ∙ c.in_ok-areas.ensures))
 
 pub returns : goal.returns

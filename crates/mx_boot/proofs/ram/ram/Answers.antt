@@ -15,10 +15,10 @@ pub put_home-requires-clause-room : goal.put_home-requires-clause-room
 put_home-requires-clause-room c =
     let h = seen c.home_at.result in
     subst (λ n. AllByRecursion (HasRoom n) (contents h)) (sym c.modules.invariant.1)
-    (ready c.args.plan.now c.args.images.now c.in_range.ensures c.requires c.modules.i h c.home_at.ensures.home).room
+    (ready c.args.plan.now c.args.images.now c.plan_is_in_range.ensures c.requires c.modules.i h c.home_at.ensures.home).room
 
 pub put_home-requires-clause-aligned : goal.put_home-requires-clause-aligned
-put_home-requires-clause-aligned c = (ready c.args.plan.now c.args.images.now c.in_range.ensures c.requires c.modules.i (seen c.home_at.result) c.home_at.ensures.home).aligned
+put_home-requires-clause-aligned c = (ready c.args.plan.now c.args.images.now c.plan_is_in_range.ensures c.requires c.modules.i (seen c.home_at.result) c.home_at.ensures.home).aligned
 
 pub modules-preserved : goal.modules-preserved
 modules-preserved c = (

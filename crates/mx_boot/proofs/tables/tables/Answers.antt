@@ -8,13 +8,13 @@ use Rattle.mx_boot.proofs.tables.tables.Goals as goal
 pub build-requires-clause-some_rows : goal.build-requires-clause-some_rows
 build-requires-clause-some_rows g c =
     let count = length-rows c.args.plan.now c.args.images.now c.in-Ok.rows.items c.in-Ok.ensures.maps in
-    let some = c.in_range.ensures.module_count in
+    let some = c.plan_is_in_range.ensures.module_count in
     omega (arith, count, some.0, ap length c.as_slice.ensures.value)
 
 pub build-requires-clause-few_rows : goal.build-requires-clause-few_rows
 build-requires-clause-few_rows g c =
     let count = length-rows c.args.plan.now c.args.images.now c.in-Ok.rows.items c.in-Ok.ensures.maps in
-    let some = c.in_range.ensures.module_count in
+    let some = c.plan_is_in_range.ensures.module_count in
     omega (arith, count, some.1, ap length c.as_slice.ensures.value)
 
 pub returns-in-Ok-build-clause-boot : goal.returns-in-Ok-build-clause-boot
