@@ -49,19 +49,13 @@ fn perm_named(text: &str) -> Perm
 fn perm_at(table: Section, key: Key) -> Option<Perm>
     ensures { result ≡ option_map perm_named (text_at key (section_view table.entry)) }
 {
-    match table.text_at(key) {
-        Some(text) => Some(perm_named(text)),
-        None => None,
-    }
+    table.text_at(key).map(perm_named)
 }
 
 fn number_or(table: Section, key: Key, default: u32) -> u32
     ensures { result ≡ unwrap_or (number_at key (section_view table.entry)) default }
 {
-    match table.number_at(key) {
-        Some(number) => number,
-        None => default,
-    }
+    table.number_at(key).unwrap_or(default)
 }
 
 fn copy_text(alloc: Global, table: Section, key: Key) -> Result<Option<Text>, NoMemory>
@@ -101,10 +95,7 @@ fn entries(alloc: Global, values: &[Value]) -> Result<Entries, NoMemory>
 fn word(value: &Value) -> u32
     ensures { result ≡ unwrap_or (number_of (view value.now)) 0 }
 {
-    match number_of(value) {
-        Some(word) => word,
-        None => 0,
-    }
+    number_of(value).unwrap_or(0)
 }
 
 fn words(alloc: Global, section: Section) -> Result<Option<Numbers>, NoMemory>
@@ -181,10 +172,9 @@ fn kills(section: Section) -> bool
         ≡ option_map_or (bytes_eq (codes "kill")) (text_at Key.OnFault (section_view section.entry))
         false }
 {
-    match section.text_at(Key::OnFault) {
-        Some(text) => text == "kill",
-        None => false,
-    }
+    section
+        .text_at(Key::OnFault)
+        .is_some_and(|text| text == "kill")
 }
 
 fn is_sealed(section: Section) -> bool
@@ -192,13 +182,10 @@ fn is_sealed(section: Section) -> bool
         ≡ unwrap_or (option_and_then as_bool (value_at Key.Seal (section_view section.entry)))
         false }
 {
-    match section.value_at(Key::Seal) {
-        Some(value) => match value.as_bool() {
-            Some(seal) => seal,
-            None => false,
-        },
-        None => false,
-    }
+    section
+        .value_at(Key::Seal)
+        .and_then(Value::as_bool)
+        .unwrap_or(false)
 }
 
 fn module_plan(alloc: Global, names: &Names, section: Section) -> Result<ModulePlan, NoMemory>
@@ -288,10 +275,7 @@ fn kind_at(top: Section) -> Kind
     ensures { result
         ≡ option_map_or kind_named (text_at Key.Tables (section_view top.entry)) Kind.Packed }
 {
-    match top.text_at(Key::Tables) {
-        Some(text) => kind_named(text),
-        None => Kind::Packed,
-    }
+    top.text_at(Key::Tables).map_or(Kind::Packed, kind_named)
 }
 
 /// The plan of a manifest whose version and names are known.

@@ -82,37 +82,27 @@ fn is_item(item: ItemForm, value: &Value) -> bool
 fn is_number(low: u32, high: u32, value: &Value) -> bool
     ensures { result ≡ is_ranged (Form.Integer low high) (view value.now) }
 {
-    match value.as_integer() {
-        Some(n) => is_integer(low, high, n),
-        None => false,
-    }
+    value.as_integer().is_some_and(|n| is_integer(low, high, n))
 }
 
 fn is_aligned_number(low: u32, high: u32, value: &Value) -> bool
     ensures { result ≡ is_ranged (Form.Aligned low high) (view value.now) }
 {
-    match value.as_integer() {
-        Some(n) => is_integer(low, high, n) && is_aligned(n),
-        None => false,
-    }
+    value
+        .as_integer()
+        .is_some_and(|n| is_integer(low, high, n) && is_aligned(n))
 }
 
 fn is_chosen(a: u32, b: u32, c: u32, value: &Value) -> bool
     ensures { result ≡ is_ranged (Form.Choice a b c) (view value.now) }
 {
-    match value.as_integer() {
-        Some(n) => is_choice(a, b, c, n),
-        None => false,
-    }
+    value.as_integer().is_some_and(|n| is_choice(a, b, c, n))
 }
 
 fn is_text_value(form: TextForm, value: &Value) -> bool
     ensures { result ≡ is_ranged (Form.Text form) (view value.now) }
 {
-    match value.as_str() {
-        Some(text) => is_text(form, text),
-        None => false,
-    }
+    value.as_str().is_some_and(|text| is_text(form, text))
 }
 
 fn is_integer(low: u32, high: u32, n: i64) -> bool

@@ -68,10 +68,7 @@ impl<'a> Names<'a> {
 pub(crate) fn module_name<'a>(section: Section<'a>) -> &'a str
     ensures { result.now ≡ module_name (section_view section.entry) }
 {
-    match section.text_at(Key::Name) {
-        Some(name) => name,
-        None => "",
-    }
+    section.text_at(Key::Name).unwrap_or("")
 }
 
 /// The names of all modules, or fault 7 of the first module that has an earlier module's name.
@@ -101,10 +98,7 @@ fn read_names<'a>(alloc: Global, modules: &'a [Value]) -> Result<Names<'a>, Mani
 pub(crate) fn text_of(value: &Value) -> &str
     ensures { result.now ≡ text_of (view value.now) }
 {
-    match value.as_str() {
-        Some(text) => text,
-        None => "",
-    }
+    value.as_str().unwrap_or("")
 }
 
 /// The elements of a gate's `from`.
@@ -181,10 +175,7 @@ fn froms_fault(names: &Names, modules: &[Value]) -> Option<BootFault>
 fn home_name<'a>(hart: Section<'a>) -> &'a str
     ensures { result.now ≡ unwrap_or (text_at Key.Module (section_view hart.entry)) [] }
 {
-    match hart.text_at(Key::Module) {
-        Some(name) => name,
-        None => "",
-    }
+    hart.text_at(Key::Module).unwrap_or("")
 }
 
 /// The domain that a hart names; 0 where there is none.

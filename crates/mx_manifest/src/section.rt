@@ -70,20 +70,14 @@ impl<'a> Section<'a> {
     pub fn number_at(self, key: Key) -> Option<u32>
         ensures { result ≡ number_at key (section_view self.entry) }
     {
-        match self.value_at(key) {
-            Some(value) => number_of(value),
-            None => None,
-        }
+        self.value_at(key).and_then(number_of)
     }
 
     /// The text at a key.
     pub fn text_at(self, key: Key) -> Option<&'a str>
         ensures { option_copied result ≡ text_at key (section_view self.entry) }
     {
-        match self.value_at(key) {
-            Some(value) => value.as_str(),
-            None => None,
-        }
+        self.value_at(key).and_then(Value::as_str)
     }
 }
 

@@ -39,14 +39,15 @@ pub(crate) fn fault_where(test: bool, number: u32, key: Key) -> Option<KeyFault>
 pub(crate) fn placed(part: Part, index: u32, fault: Option<KeyFault>) -> Option<BootFault>
     ensures { result ≡ placed part index fault }
 {
-    match fault {
-        Some(KeyFault { number, key }) => Some(BootFault {
-            number,
-            place: Place { part, index, key },
-            detail: 0,
-        }),
-        None => None,
-    }
+    fault.map(|fault| BootFault {
+        number: fault.number,
+        place: Place {
+            part,
+            index,
+            key: fault.key,
+        },
+        detail: 0,
+    })
 }
 
 impl Name {
@@ -169,13 +170,10 @@ fn table_fault(rows: &[Row], table: Section) -> Option<KeyFault>
 fn gate_fault(version: Version, gate: Section) -> Option<KeyFault>
     ensures { result ≡ gate_fault version (section_view gate.entry) }
 {
-    match table_fault(&gate_rows(version), gate) {
-        Some(fault) => Some(KeyFault {
-            number: fault.number,
-            key: Key::Gates,
-        }),
-        None => None,
-    }
+    table_fault(&gate_rows(version), gate).map(|fault| KeyFault {
+        number: fault.number,
+        key: Key::Gates,
+    })
 }
 
 /// The first fault inside a module's gates, gate by gate.
