@@ -11,7 +11,7 @@ use crate::area::Area;
 use crate::home::{Home, home_at};
 use crate::refused::{at_module, fault};
 use mx_elf::{Seg, Segs, read_image};
-use mx_manifest::{BootFault, Key, Plan};
+use mx_manifest::{BootFault, Key, Numbers, Plan};
 use mx_words::{Blob, NoMemory, Perm, RAM_BASE};
 use std::alloc::Global;
 
@@ -23,10 +23,7 @@ fn segment_perm(flags: u32, wx: Option<Perm>) -> Perm
     let writable = flags / 2 % 2 == 1;
     let executable = flags % 2 == 1;
     if writable && executable {
-        match wx {
-            Some(perm) => perm,
-            None => Perm::None,
-        }
+        wx.unwrap_or(Perm::None)
     } else if writable {
         Perm::ReadWrite
     } else if executable {
@@ -66,18 +63,9 @@ fn inline_area(home: Home) -> Area
     Area {
         domain: home.domain,
         key: Key::At,
-        address: match home.plan.at {
-            Some(address) => address,
-            None => 0,
-        },
-        count: match &home.plan.words {
-            Some(words) => words.len(),
-            None => 0,
-        },
-        perm: match home.plan.perm {
-            Some(perm) => perm,
-            None => Perm::None,
-        },
+        address: home.plan.at.unwrap_or(0),
+        count: home.plan.words.as_ref().map_or(0, Numbers::len),
+        perm: home.plan.perm.unwrap_or(Perm::None),
     }
 }
 
@@ -125,10 +113,7 @@ pub(crate) fn add_heap(areas: &mut Vec<Area>, home: Home) -> Result<(), NoMemory
                 domain: home.domain,
                 key: Key::Heap,
                 address,
-                count: match home.plan.heap_words {
-                    Some(words) => words,
-                    None => 0,
-                },
+                count: home.plan.heap_words.unwrap_or(0),
                 perm: Perm::None,
             };
             add(areas, area)
@@ -145,10 +130,7 @@ pub(crate) fn add_stack(areas: &mut Vec<Area>, home: Home, harts: u32) -> Result
 {
     match home.plan.stack {
         Some(address) => {
-            let words = match home.plan.stack_words {
-                Some(words) => words,
-                None => 0,
-            };
+            let words = home.plan.stack_words.unwrap_or(0);
             let area = Area {
                 domain: home.domain,
                 key: Key::Stack,
@@ -227,10 +209,7 @@ fn area_fault(words: u32, earlier: &[Area], area: Area) -> Option<BootFault>
     if !is_in_ram(words, area) {
         return Some(fault(12, place, 0));
     }
-    match shared(earlier, area) {
-        Some(other) => Some(fault(13, place, other.domain)),
-        None => None,
-    }
+    shared(earlier, area).map(|other| fault(13, place, other.domain))
 }
 
 /// The first fault 12 or 13 of the areas, in a RAM of so many words.

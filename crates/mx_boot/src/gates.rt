@@ -38,16 +38,12 @@ fn request_for(home: Home, key: Key, address: Option<u32>, domain: u32) -> Reque
     ensures { (entry : EntryPlan) → address ≡ entry_address (seen home.entry).bytes entry →
         result ≡ request (seen home.entry) key entry domain }
 {
-    let at = match address {
-        Some(address) => address,
-        None => 0,
-    };
     Request {
         key,
         address,
         gate: Gate {
             domain,
-            word: word_at(at),
+            word: word_at(address.unwrap_or(0)),
             target: home.domain,
         },
     }

@@ -19,13 +19,7 @@ fn heap(alloc: Global, plan: &ModulePlan) -> Result<Heap, NoMemory>
     ensures { IfOk result (λ heap. heap ≡ heap_state plan.now) }
 {
     match plan.heap {
-        Some(address) => {
-            let words = match plan.heap_words {
-                Some(words) => words,
-                None => 0,
-            };
-            Heap::new(alloc, word_at(address), words)
-        }
+        Some(address) => Heap::new(alloc, word_at(address), plan.heap_words.unwrap_or(0)),
         None => Heap::new(alloc, 0, 0),
     }
 }

@@ -25,10 +25,7 @@ fn stack_area(plan: &ModulePlan) -> StackArea
     match plan.stack {
         Some(address) => StackArea {
             first: word_at(address),
-            words: match plan.stack_words {
-                Some(words) => words,
-                None => 0,
-            },
+            words: plan.stack_words.unwrap_or(0),
             kills,
         },
         None => StackArea {

@@ -79,10 +79,7 @@ fn put_inline(ram: &mut Ram, home: Home)
     ensures bytes { ram.new ≡ with_content ram.old (inline_content (seen home.entry).plan) }
     ensures size { length ram.new ≡ length ram.old }
 {
-    let address = match home.plan.at {
-        Some(address) => address,
-        None => 0,
-    };
+    let address = home.plan.at.unwrap_or(0);
     if let Some(words) = &home.plan.words {
         put_words(ram, address, words);
     }

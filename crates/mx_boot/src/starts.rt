@@ -19,10 +19,7 @@ fn default_entry(home: Home) -> u32
     ensures { result ≡ default_entry (seen home.entry) }
 {
     if home.plan.image.is_none() {
-        return match home.plan.at {
-            Some(address) => address,
-            None => 0,
-        };
+        return home.plan.at.unwrap_or(0);
     }
     match read_image(home.bytes) {
         Ok(image) => image.entry,
@@ -55,11 +52,7 @@ fn add_start(
     if let Some(fault) = entry_fault(all, at_hart(number), hart.module, address) {
         return Err(LayoutRefused::Fault(fault));
     }
-    let pc = match address {
-        Some(pc) => pc,
-        None => 0,
-    };
-    match starts.push(pc) {
+    match starts.push(address.unwrap_or(0)) {
         Ok(()) => Ok(()),
         Err(_) => Err(LayoutRefused::NoMemory),
     }
