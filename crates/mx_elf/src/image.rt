@@ -62,7 +62,7 @@ impl Segs {
         self.items.len() as u32
     }
 
-    /// The segment at place `i`, counted from 0.
+    /// The segment at place `i`, counted from 0 and below `len`.
     pub fn get(&self, i: u32) -> Seg
         requires { i < length self.now }
         ensures { slice_get self.now i ≡ Some result }

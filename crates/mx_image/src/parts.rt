@@ -17,8 +17,9 @@ use crate::segment::Segment;
 use mx_words::{Blob, NoMemory};
 use std::alloc::Global;
 
-/// The image of a program: an executable file whose bytes are those that `image_of` says. Its only refusal is want of
-/// memory.
+/// The image of a program: an executable file whose bytes are those that `image_of` says. The program has at most 16
+/// segments with bytes, 4194304 bytes in all of them together, and 2^20 labels, whose names have 1 to 64 bytes each. Its
+/// only refusal is want of memory.
 pub fn write(alloc: Global, program: &ProgramBuilder) -> Result<Blob, NoMemory>
     requires { IsSized program.now }
     ensures { IfOk result (λ image. image ≡ image_of program.now) }

@@ -64,8 +64,8 @@ impl<'a> ProgramBuilder<'a> {
         }
     }
 
-    /// Appends a byte to the last segment; all segments together hold fewer than 2^31 bytes. Where memory is refused,
-    /// the program stays as it was.
+    /// Appends a byte to the last segment. At least one segment is begun, and all together hold fewer than 2^31 bytes.
+    /// Where memory is refused, the program stays as it was.
     pub fn add_byte(&mut self, byte: u8) -> Result<(), NoMemory>
         requires begun { 0 < length self.old.segments }
         requires room { byte_count self.old.segments < 2 ^ 31 }
@@ -77,8 +77,8 @@ impl<'a> ProgramBuilder<'a> {
         segment.bytes.push(byte)
     }
 
-    /// Appends bytes to the last segment in one piece; all segments together then hold at most 2^31 bytes. Where memory
-    /// is refused, the program stays as it was.
+    /// Appends bytes to the last segment in one piece. At least one segment is begun, and all together then hold at most
+    /// 2^31 bytes. Where memory is refused, the program stays as it was.
     pub fn add_bytes(&mut self, bytes: &[u8]) -> Result<(), NoMemory>
         requires begun { 0 < length self.old.segments }
         requires room { byte_count self.old.segments + length bytes.now ≤ 2 ^ 31 }

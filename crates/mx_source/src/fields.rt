@@ -54,7 +54,7 @@ fn plain<'a>(magnitude: u64) -> Value<'a>
     })
 }
 
-/// The value that an operand is.
+/// The value that an operand is. `None` exactly where it has the form neither of a name nor of a number.
 #[tactic(auto, unfolding(crate::specs::Fields::value_of))]
 pub fn read_value(text: &[u8]) -> Option<Value<'_>>
     ensures { option_map value_view result ≡ value_of text.now }
@@ -101,7 +101,8 @@ fn number_fields(operands: &[u8]) -> Option<Fields<'_>>
     })
 }
 
-/// `rd, T` and `rd, v`: a number or a label.
+/// `rd, T` and `rd, v`: a number or a label. `None` exactly where there aren't two operands, the first one a register and
+/// the second one a number or a name.
 #[tactic(auto, unfolding(crate::specs::Fields::value_fields))]
 pub fn value_fields(operands: &[u8]) -> Option<Fields<'_>>
     ensures fields { option_map fields_view result ≡ value_fields (pieces_of operands.now) }
@@ -118,7 +119,7 @@ pub fn value_fields(operands: &[u8]) -> Option<Fields<'_>>
     })
 }
 
-/// `rd, L`: a label.
+/// `rd, L`: a label. `None` exactly where there aren't two operands, the first one a register and the second one a name.
 #[tactic(auto, unfolding(crate::specs::Fields::label_fields))]
 pub fn label_fields(operands: &[u8]) -> Option<Fields<'_>>
     ensures fields { option_map fields_view result ≡ label_fields (pieces_of operands.now) }
@@ -262,7 +263,7 @@ fn no_fields(operands: &[u8]) -> Option<Fields<'_>>
     }
 }
 
-/// The operands of an instruction.
+/// The operands of an instruction. `None` exactly where their count, or the kind of one of them, isn't the form's.
 #[tactic(auto, unfolding(crate::specs::Fields::fields_of))]
 pub fn read_fields(form: Form, operands: &[u8]) -> Option<Fields<'_>>
     ensures fields { option_map fields_view result ≡ fields_of form (pieces_of operands.now) }

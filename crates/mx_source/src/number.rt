@@ -110,7 +110,8 @@ fn plain_number(magnitude: u64) -> Number
     }
 }
 
-/// The number that a text is: `-` and decimal digits, `0x` and hexadecimal ones, or decimal ones.
+/// The number that a text is: `-` and decimal digits, `0x` and 1 to 8 hexadecimal ones, or decimal ones, of which there is
+/// at least one. `None` exactly where it is none of these.
 #[tactic(auto, unfolding(crate::specs::Numbers::number_of))]
 pub fn read_number(text: &[u8]) -> Option<Number>
     ensures value { result ≡ number_of text.now }

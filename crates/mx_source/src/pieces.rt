@@ -58,7 +58,7 @@ fn text_after(text: &[u8], place: usize) -> Option<&[u8]>
     }
 }
 
-/// The one operand.
+/// The one operand. `None` exactly where there isn't one operand.
 #[tactic(auto, using(crate::proofs::Steps::single_steps))]
 pub fn single(operands: &[u8]) -> Option<&[u8]>
     ensures single { option_map single_view result ≡ single_of (pieces_of operands.now) }
@@ -72,7 +72,7 @@ pub fn single(operands: &[u8]) -> Option<&[u8]>
     }
 }
 
-/// The two operands.
+/// The two operands. `None` exactly where there aren't two.
 pub fn pair(operands: &[u8]) -> Option<(&[u8], &[u8])>
     ensures { option_map pair_view result ≡ pair_of (pieces_of operands.now) }
 {
@@ -85,7 +85,7 @@ pub fn pair(operands: &[u8]) -> Option<(&[u8], &[u8])>
     }
 }
 
-/// The three operands.
+/// The three operands. `None` exactly where there aren't three.
 pub fn triple(operands: &[u8]) -> Option<(&[u8], &[u8], &[u8])>
     ensures { option_map triple_view result ≡ triple_of (pieces_of operands.now) }
 {

@@ -4,7 +4,7 @@ ghost use Rattle.mx_source.specs.Operands.{escape_byte, quoted_bytes, text_of};
 
 use crate::characters::is_printed;
 
-/// The byte that a character after `\` stands for.
+/// The byte that a character after `\` stands for. `None` exactly for another character than `n`, `0`, `"` and `\`.
 pub fn escape_byte(c: u8) -> Option<u8>
     ensures { result ≡ escape_byte c }
 {
