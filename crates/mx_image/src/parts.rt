@@ -3,7 +3,7 @@
 ghost use Rattle.std.specs.Prelude.{◌≡◌, ◌+◌, ◌*◌, ◌≤◌, ◌<◌, ◌^◌, ◌++◌, [], length, IfOk, OnOk};
 ghost use Rattle.mx_image.specs.Program.{filled};
 ghost use Rattle.mx_image.specs.Labels.{label_of, labels_of};
-ghost use Rattle.mx_image.specs.Image.{rounded, padded, file_header, program_header, program_headers, contents, symbol, symbol_table, symbols_from, names, strings, section_headers, image_with, image_of};
+ghost use Rattle.mx_image.specs.Image.{rounded, padded, file_header, program_header, program_headers, contents, symbol, symbol_table, symbols_from, names, strings, symbol_section, string_section, section_headers, image_with, image_of};
 ghost use Rattle.mx_image.specs.Layout.{layout_of};
 ghost use Rattle.mx_image.specs.Lawful.{IsSized};
 
@@ -277,38 +277,29 @@ fn put_sections(out: &mut Blob, layout: &Layout) -> Result<(), NoMemory>
         let headers = section_headers l.symbols_at l.symbols l.strings_at l.strings_size in
         OnOk result (out.new ≡ out.old ++ headers) }
 {
-    let at = layout.symbols_at;
-    let size = SYMBOL_SIZE * layout.symbols;
-    let linked = STRINGS as u32;
     put_words(out, &[0; 10])?;
+    put_symbol_section(out, layout.symbols_at, layout.symbols)?;
+    put_string_section(out, layout.strings_at, layout.strings_size)
+}
+
+/// Appends the section header of `count` symbols, the first of which stands at `at`.
+fn put_symbol_section(out: &mut Blob, at: u32, count: u32) -> Result<(), NoMemory>
+    requires room { length out.old + 40 ≤ 2 ^ 31 }
+    requires few { count < 2 ^ 24 }
+    ensures { OnOk result (out.new ≡ out.old ++ symbol_section at count) }
+{
+    let size = SYMBOL_SIZE * count;
+    let linked = STRINGS as u32;
     put_words(
         out,
-        &[
-            0,
-            SHT_SYMTAB,
-            0,
-            0,
-            at,
-            size,
-            linked,
-            layout.symbols,
-            0,
-            SYMBOL_SIZE,
-        ],
-    )?;
-    put_words(
-        out,
-        &[
-            0,
-            SHT_STRTAB,
-            0,
-            0,
-            layout.strings_at,
-            layout.strings_size,
-            0,
-            0,
-            0,
-            0,
-        ],
+        &[0, SHT_SYMTAB, 0, 0, at, size, linked, count, 0, SYMBOL_SIZE],
     )
+}
+
+/// Appends the section header of strings with `size` bytes, the first of which stands at `at`.
+fn put_string_section(out: &mut Blob, at: u32, size: u32) -> Result<(), NoMemory>
+    requires { length out.old + 40 ≤ 2 ^ 31 }
+    ensures { OnOk result (out.new ≡ out.old ++ string_section at size) }
+{
+    put_words(out, &[0, SHT_STRTAB, 0, 0, at, size, 0, 0, 0, 0])
 }
