@@ -23,10 +23,7 @@ pub fn register(text: &[u8]) -> Option<u32>
     ensures number { result ≡ register_of text.now }
     ensures below { IfSome result (λ r. r < 32) }
 {
-    match plain_register(text) {
-        Some(number) => Some(number),
-        None => used_register(text),
-    }
+    plain_register(text).or_else(|| used_register(text))
 }
 
 fn plain_register(text: &[u8]) -> Option<u32>
