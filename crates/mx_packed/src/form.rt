@@ -53,10 +53,7 @@ impl LeafForm for Packed {
     }
 
     fn entry(perms: &[Perm; 16], left: u32, right: u32, spill: u32) -> u32 {
-        match pack(perms, left, right) {
-            Some(entry) => entry,
-            None => 3 + 4 * spill,
-        }
+        pack(perms, left, right).unwrap_or(3 + 4 * spill)
     }
 
     fn flat(perm: Perm, left: u32, right: u32) -> u32 {

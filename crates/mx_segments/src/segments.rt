@@ -1,6 +1,5 @@
 //! Segment tables: the trait's calls, and the stored entries.
 ghost use Rattle.std.specs.Prelude.{◌≡◌};
-ghost use Rattle.mx_words.specs.Caches.{raised};
 ghost use Rattle.mx_segments.specs.Kept.{IsKept};
 
 use crate::Chains;
@@ -53,13 +52,6 @@ impl Segments {
     }
 }
 
-// A count raised by one, or as it was at its type's end.
-fn one_more(count: u64) -> u64
-    ensures { result ≡ raised count }
-{
-    if count < u64::MAX { count + 1 } else { count }
-}
-
 impl PermTables for Segments {
     ghost use Rattle.mx_words.specs.declared.tables.Kind.TheVariants as K;
     ghost use Rattle.mx_segments.specs.Kept.{maps_in};
@@ -107,7 +99,7 @@ impl PermTables for Segments {
 
     fn lookup(&mut self, domain: u32, word: u32) -> Span {
         let span = self.span(domain, word);
-        self.lookups = one_more(self.lookups);
+        self.lookups = self.lookups.saturating_add(1);
         span
     }
 
