@@ -15,6 +15,9 @@ use mx_words::{Perm, Span};
 #[derive(Clone, Copy, PartialEq, Eq, Debug)]
 pub struct Packed;
 
+/// The words of a line.
+const LINE_WORDS: u32 = 16;
+
 /// A line's run, lengthened to the left where it begins the line and to the right where it ends it.
 fn lengthen(run: Span, line: u32, left: u32, right: u32) -> Span
     requires at { line ≤ run.first }
@@ -25,7 +28,7 @@ fn lengthen(run: Span, line: u32, left: u32, right: u32) -> Span
         (if run.first + run.count == line + line_words then right else 0) run }
 {
     let before = if run.first == line { left } else { 0 };
-    let behind = if run.first + run.count == line + 16 {
+    let behind = if run.first + run.count == line + LINE_WORDS {
         right
     } else {
         0
