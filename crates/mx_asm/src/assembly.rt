@@ -1,7 +1,7 @@
 //! From a source to its image.
 ghost use Rattle.std.specs.Prelude.{◌≡◌, ◌≤◌, ◌^◌, List, ℕ, length, None, IfOk, IfErr};
 ghost use Rattle.mx_image.specs.Image.{image_of};
-ghost use Rattle.mx_image.specs.Lawful.{IsSized, IsProgram};
+ghost use Rattle.mx_image.specs.Lawful.{IsProgram};
 ghost use Rattle.mx_asm.specs.Denoted.{program_of, first_fault, IsToldOf};
 
 use crate::emission::program;
@@ -9,7 +9,7 @@ use crate::faults::first_fault;
 use crate::labels::collect_labels;
 use crate::refusal::AsmRefused;
 use mx_image::write;
-use mx_words::{Blob, NoMemory};
+use mx_words::Blob;
 use std::alloc::Global;
 
 /// The image of the program that a source denotes, an executable file for RISC-V with 32 bits, or the source's first fault.
@@ -20,20 +20,15 @@ pub fn assemble(alloc: Global, text: &str) -> Result<Blob, AsmRefused>
     ensures faultless { IfOk result (λ blob. first_fault text.now ≡ None) }
     ensures refusal { IfErr result (IsToldOf (first_fault text.now)) }
 {
-    let labels = match collect_labels(alloc, text) {
-        Ok(labels) => labels,
-        Err(NoMemory) => return Err(AsmRefused::NoMemory),
-    };
+    let labels = collect_labels(alloc, text)?;
     if let Some(fault) = first_fault(text, &labels) {
         return Err(AsmRefused::Fault {
             line: fault.line,
             number: fault.number,
         });
     }
-    match program(alloc, text, &labels) {
-        Ok(program) => image(alloc, &program),
-        Err(NoMemory) => Err(AsmRefused::NoMemory),
-    }
+    let program = program(alloc, text, &labels)?;
+    Ok(write(alloc, &program)?)
 }
 
 /// A source of at most 1048576 bytes without faults denotes a program whose image `read_image` and `symbol` read as the laws
@@ -42,15 +37,3 @@ pub fn program_is_lawful()
     ensures { (source : List ℕ) → length source ≤ 2 ^ 20 → first_fault source ≡ None
         → IsProgram (program_of source) }
 {}
-
-/// The image of a program.
-fn image(alloc: Global, program: &mx_image::ProgramBuilder<'_>) -> Result<Blob, AsmRefused>
-    requires { IsSized program.now }
-    ensures image { IfOk result (λ blob. blob ≡ image_of program.now) }
-    ensures refusal { IfErr result (λ refused. refused ≡ AsmRefused.NoMemory) }
-{
-    match write(alloc, program) {
-        Ok(blob) => Ok(blob),
-        Err(NoMemory) => Err(AsmRefused::NoMemory),
-    }
-}

@@ -253,10 +253,7 @@ fn add_numbers(program: &mut ProgramBuilder<'_>, operands: &[u8]) -> Result<(), 
 fn number_byte(piece: &[u8]) -> u8
     ensures { result ≡ byte_of_number piece.now }
 {
-    match read_number(piece) {
-        Some(number) => (number_bits(number) % 256) as u8,
-        None => 0,
-    }
+    read_number(piece).map_or(0, |number| (number_bits(number) % 256) as u8)
 }
 
 /// Adds the bytes of the text that is the one operand.

@@ -166,30 +166,24 @@ fn label_fault(labels: &Labels<'_>, number: u32, label: Option<&[u8]>) -> Option
 fn begins_segment(keyword: Keyword) -> bool
     ensures { result ≡ begins_segment keyword }
 {
-    match keyword {
-        Keyword::Text | Keyword::Data => true,
-        _ => false,
-    }
+    matches!(keyword, Keyword::Text | Keyword::Data)
 }
 
 /// Whether a statement must stand at a multiple of 4.
 fn is_aligned(keyword: Keyword) -> bool
     ensures { result ≡ is_aligned keyword }
 {
-    match keyword {
-        Keyword::Word | Keyword::Li | Keyword::La | Keyword::Inst(_) => true,
-        _ => false,
-    }
+    matches!(
+        keyword,
+        Keyword::Word | Keyword::Li | Keyword::La | Keyword::Inst(_)
+    )
 }
 
 /// Whether a statement is `.at`.
 fn is_at(keyword: Keyword) -> bool
     ensures { result ≡ is_at keyword }
 {
-    match keyword {
-        Keyword::At => true,
-        _ => false,
-    }
+    matches!(keyword, Keyword::At)
 }
 
 /// The faults of a label on a line of its own: 6 before the first segment, 10 at 2^32.
@@ -262,28 +256,11 @@ fn line_fault(
         (label_view label.entry) (statement_view statement.entry) }
 {
     match statement {
-        Statement::Absent => first_some(
-            label_fault(labels, number, label),
-            label_place_fault(label, place),
-        ),
+        Statement::Absent => label_fault(labels, number, label).or(label_place_fault(label, place)),
         Statement::Unlisted => Some(1),
-        Statement::Listed(keyword, operands) => first_some(
-            operand_fault(labels, keyword, operands),
-            first_some(
-                label_fault(labels, number, label),
-                place_fault(label, keyword, operands, place),
-            ),
-        ),
-    }
-}
-
-/// The first of two faults that is there.
-fn first_some(first: Option<u32>, second: Option<u32>) -> Option<u32>
-    ensures { result ≡ option_or first second }
-{
-    match first {
-        Some(number) => Some(number),
-        None => second,
+        Statement::Listed(keyword, operands) => operand_fault(labels, keyword, operands)
+            .or(label_fault(labels, number, label))
+            .or(place_fault(label, keyword, operands, place)),
     }
 }
 

@@ -18,10 +18,7 @@ use mx_source::{Fields, Form, Number, Value, difference, fits, form_range, numbe
 pub(crate) fn label_address(labels: &Labels<'_>, name: &[u8]) -> u64
     ensures { result ≡ address_of_label (labels_view labels.now) name.now }
 {
-    match definition(labels, name) {
-        Some(place) => place.address,
-        None => 0,
-    }
+    definition(labels, name).map_or(0, |place| place.address)
 }
 
 /// The number that a value is for an instruction at an address.

@@ -40,10 +40,7 @@ pub(crate) fn address(operands: &[u8]) -> u64
     ensures address { result ≡ address_of (pieces_of operands.now) }
     ensures bound { result ≤ 2 ^ 33 }
 {
-    match address_number(operands) {
-        Some(number) => number.magnitude,
-        None => 0,
-    }
+    address_number(operands).map_or(0, |number| number.magnitude)
 }
 
 /// How many bytes the text has that is the one operand.
@@ -67,10 +64,7 @@ pub(crate) fn size(keyword: Keyword, operands: &[u8], here: u64) -> u64
         Keyword::At => address(operands).saturating_sub(here),
         Keyword::Word => 4 * piece_count(operands) as u64,
         Keyword::Byte => piece_count(operands) as u64,
-        Keyword::Ascii => match ascii_size(operands) {
-            Some(size) => size as u64,
-            None => 0,
-        },
+        Keyword::Ascii => ascii_size(operands).unwrap_or(0) as u64,
         Keyword::Li | Keyword::La => 8,
         Keyword::Inst(_) => 4,
     }

@@ -1,5 +1,6 @@
 //! Why a source has no image.
 
+use mx_words::NoMemory;
 use thiserror::Error;
 
 /// The refusals of `assemble`.
@@ -20,4 +21,15 @@ pub enum AsmRefused {
     /// An allocation was refused.
     #[error("memory is wanting")]
     NoMemory,
+}
+
+impl From<NoMemory> for AsmRefused {
+    ghost use Rattle.std.specs.Prelude.{◌≡◌};
+    ghost use Rattle.mx_asm.specs.declared.refusal.AsmRefused.{AsmRefused};
+
+    ghost from_gives = { λ _ refused. refused ≡ AsmRefused.NoMemory };
+
+    fn from(_: NoMemory) -> AsmRefused {
+        AsmRefused::NoMemory
+    }
 }
