@@ -24,15 +24,13 @@ pub(crate) fn laying_of(words: u32, row: u32, change: &Change) -> Option<Laying>
     ensures first { IfSome result (λ l. l.first ≡ change.now.first) }
     ensures end { IfSome result (λ l. l.end ≡ change.now.first + change.now.count) }
 {
-    match change.perms[row as usize + 1] {
-        Some(perm) => Some(Laying {
-            words,
-            first: change.first,
-            end: change.first + change.count,
-            perm,
-        }),
-        None => None,
-    }
+    let perm = change.perms[row as usize + 1]?;
+    Some(Laying {
+        words,
+        first: change.first,
+        end: change.first + change.count,
+        perm,
+    })
 }
 
 /// Makes a change of one domain's map.

@@ -22,10 +22,7 @@ pub(crate) fn around_line<L: LeafForm>(spill: &Pool<1>, entry: u32, line: u32, w
     ensures { (m : List Perm) → length m ≤ most_words → IsLine L.kind spill.now m line entry →
         IsRound m word result }
 {
-    let spilled = match L::spill_of(entry) {
-        Some(number) => spill.get(number, 0),
-        None => 0,
-    };
+    let spilled = L::spill_of(entry).map_or(0, |number| spill.get(number, 0));
     in_line(L::run(entry, spilled, line * LINE_WORDS, word), line, word)
 }
 
