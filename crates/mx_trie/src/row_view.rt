@@ -5,7 +5,7 @@ ghost use Rattle.mx_table.specs.Tables.{most_words, row_map, IsRow};
 ghost use Rattle.mx_trie.specs.Views.{IsRound, IsBegun, IsBegin};
 
 use crate::view::View;
-use mx_words::{Perm, Span, Spans};
+use mx_words::{MOST_WORDS, Perm, Span, Spans};
 
 /// The map of a row of spans over a RAM of `words` words.
 #[derive(Drop)]
@@ -39,7 +39,7 @@ fn begin_of(row: &Spans, place: u32) -> u32
     if place < row.len() {
         row.get(place).first
     } else {
-        0x100_0000
+        MOST_WORDS
     }
 }
 
