@@ -18,7 +18,7 @@ grown file got bytes front part =
     ∙ ap (λ xs. xs ++ take (length bytes) (drop (length got) file)) (sym front) ∙ ap (λ ys. got ++ ys) (sym part))
 
 -- no file ends early where calls succeed
-not_early : (files : FileMap) (name : List ℕ) (told at room : ℕ) (found : Finding) (part : Option (List ℕ)) → HasSucceeded (Gave name at room part) → IsOf files (Gave name at room part)
+pub not_early : (files : FileMap) (name : List ℕ) (told at room : ℕ) (found : Finding) (part : Option (List ℕ)) → HasSucceeded (Gave name at room part) → IsOf files (Gave name at room part)
     → 0 < room → at < length (file_bytes files name) → EndsEarly part told at found → ⊥
 not_early files name told at room found None ok of more inside early = ok
 not_early files name told at room found (Some []) ok of more inside early = let end = (of.end more).0 refl in omega (arith, end, inside)
@@ -44,7 +44,7 @@ completes_over files name told size got (a ∷ more) found front ok of c =
           absurd (not_early files name told (length got) (told - length got) found c.1 done given (omega (arith, c.0)) (omega (arith, size, c.0)) h.0)
     ]
 
-present : (o : Option (List ℕ)) (told : ℕ) → Some told ≡ option_map length o → (bytes : List ℕ) × (o ≡ Some bytes) × (length bytes ≡ told)
+pub present : (o : Option (List ℕ)) (told : ℕ) → Some told ≡ option_map length o → (bytes : List ℕ) × (o ≡ Some bytes) × (length bytes ≡ told)
 present None told e = absurd (none-some told (sym e))
 present (Some bytes) told e = (bytes, refl, sym (same_Some told (length bytes) e))
 

@@ -10,13 +10,13 @@ use Rattle.mx_run.specs.Outcome.{Outcome, Wanted, Next, Read, End, next}
 use Rattle.mx_run.specs.Leads.{LeadsBy, Leads, LeadsOver, IsOutcome}
 use Rattle.mx_run.proofs.Findings.{finds_over, finds_decided}
 
-end_same : {a b : Outcome} → End a ≡ End b → a ≡ b
+pub end_same : {a b : Outcome} → End a ≡ End b → a ≡ b
 end_same e = cc
 
-read_same : {a b : Wanted} → Read a ≡ Read b → a ≡ b
+pub read_same : {a b : Wanted} → Read a ≡ Read b → a ≡ b
 read_same e = cc
 
-read_end : {a : Wanted} {b : Outcome} → Read a ≡ End b → ⊥
+pub read_end : {a : Wanted} {b : Outcome} → Read a ≡ End b → ⊥
 read_end e = cc
 
 -- answers of a store that tells lead to the outcome of its files

@@ -15,7 +15,7 @@ use Rattle.mx_run.specs.Top.{Sinks, HasRoom, CountsKept, IsSinkFault, EndsBy, En
 use Rattle.mx_run.specs.Promise.{CountsStay, Gives, Headline, Completeness}
 use Rattle.mx_run.proofs.Leads.{leads_over, one_outcome}
 
-if_some : {A : Type 0} (o : Option A) (P : A → Type 0) → ((a : A) → o ≡ Some a → P a) → IfSome o P
+pub if_some : {A : Type 0} (o : Option A) (P : A → Type 0) → ((a : A) → o ≡ Some a → P a) → IfSome o P
 if_some None P each = tt
 if_some (Some a) P each = each a refl
 

@@ -1,4 +1,5 @@
 pub mod Asked
+pub mod Causes
 pub mod Finding
 pub mod Images
 pub mod Judged

@@ -1,6 +1,9 @@
 //! Laws of the definitions.
 
 ghost use Rattle.mx_run.specs.Leads.{AnswersDecide, FilesLead, FilesDecide};
+ghost use Rattle.mx_run.specs.Causes.{StatusesHaveCauses, CausesDecide, StoreFaultsRise, NoneIsShort, NoFileIsAbsent, AbsentIsNoFile};
+
+use mx_io::Store;
 
 /// A law: the same answers of a store lead to one outcome. So a call has no status without its cause.
 pub fn answers_decide()
@@ -12,4 +15,19 @@ pub fn answers_decide()
 pub fn files_decide()
     ensures some { FilesLead }
     ensures one { FilesDecide }
+{}
+
+/// A law: answers lead to a status only by its cause, and to each but `Ran` wherever there is its cause.
+pub fn statuses_have_causes()
+    ensures only { StatusesHaveCauses }
+    ensures exactly { CausesDecide }
+{}
+
+/// A law, over every store: what it gave leads to `StoreFault` only where its count rose; and, where it tells its files, never
+/// to `ShortFile`, and to `NoFile` where a file is absent when it is reached, and only there.
+pub fn stores_show_causes<S: Store>()
+    ensures store_fault { StoreFaultsRise S.state S.gives }
+    ensures short_file { NoneIsShort S.state S.gives }
+    ensures no_file { NoFileIsAbsent S.state S.gives }
+    ensures absent { AbsentIsNoFile S.state S.gives }
 {}

@@ -16,7 +16,7 @@ mod turns;
 mod wanted;
 mod words;
 
-pub use laws::{answers_decide, files_decide};
+pub use laws::{answers_decide, files_decide, statuses_have_causes, stores_show_causes};
 pub use status::{FileRole, Status};
 pub use top::mondrix;
 pub use words::Words;

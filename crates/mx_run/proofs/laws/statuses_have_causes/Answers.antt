@@ -1,0 +1,8 @@
+use Rattle.mx_run.proofs.Causes.{status_caused, caused_status}
+use Rattle.mx_run.proofs.laws.statuses_have_causes.Goals as goal
+
+pub returns-clause-only : goal.returns-clause-only
+returns-clause-only c = status_caused
+
+pub returns-clause-exactly : goal.returns-clause-exactly
+returns-clause-exactly c = caused_status

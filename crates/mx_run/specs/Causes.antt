@@ -1,0 +1,151 @@
+-- Why a call ends with a status: by what the words ask, and by what the store answered of the files that were read.
+use Rattle.std.specs.Prelude.{◌≡◌, ◌≢◌, ℕ, ◌<◌, ◌⊎◌, List, [], ◌∷◌, ◌++◌, Option, Some, None, Result, Ok, Err, IfSome, ⊤}
+use Rattle.std.specs.Prelude.{map as list_map}
+use Rattle.std.specs.FinMap.{get}
+use Rattle.mx_io.specs.Count.{Rose}
+use Rattle.mx_io.specs.Store.{StoreState}
+use Rattle.mx_io.specs.Answer.{Answer, Talks}
+use Rattle.mx_manifest.specs.declared.fault.BootFault.{BootFault}
+use Rattle.mx_manifest.specs.declared.parts.ModulePlan.{ModulePlan}
+use Rattle.mx_manifest.specs.Plan.{Said}
+use Rattle.mx_boot.specs.Boot.{Refusal, Faulty, TooFull, boot_of}
+use Rattle.mx_run.specs.declared.status.FileRole.{FileRole}
+use Rattle.mx_run.specs.declared.status.Status.{Status}
+use Rattle.mx_run.specs.declared.status.Status.TheVariants.{Ran, Usage, Refused, TablesFull, StoreFault, ShortFile, NoFile, ConsoleFault, ReportFault, DumpFault, WantOfMemory, AsmFault, Unlike, NoDomain, SecondRefused, SecondTablesFull, SnapshotFault}
+use Rattle.mx_run.specs.Words.{Order, Request, Run, Asm}
+use Rattle.mx_run.specs.Manifest.{judged}
+use Rattle.mx_run.specs.Finding.{Finding, Absent, Large, Short, Broken, Whole, Finds}
+use Rattle.mx_run.specs.Outcome.{Outcome, Wanted, Next, Read, assembled, next}
+use Rattle.mx_run.specs.Leads.{Leads}
+
+-- the answers lead to an outcome with this status
+abbrev pub LeadsToStatus : Option Request → List Answer → Status → Type 0
+LeadsToStatus asked answers status =
+    (outcome : Outcome) × Leads asked answers outcome × (outcome.status ≡ status)
+
+-- what the answers say of the files that are read, one after another
+abbrev pub FindsAll : (List Finding → Next) → List Answer → List Finding → Type 0
+FindsAll step answers [] = answers ≡ []
+FindsAll step answers (found ∷ more) =
+    (file : Wanted) × (first : List Answer) × (rest : List Answer)
+    × (step [] ≡ Read file) × (answers ≡ first ++ rest) × Finds file.most file.name first found
+    × FindsAll (λ later. step (found ∷ later)) rest more
+
+-- after others this file is read, and these answers follow
+pub record Reaches (step : List Finding → Next) (answers : List Answer) (file : Wanted)
+    (last : List Answer) : Type 0 where
+  pub others : List Finding
+  pub before : List Answer
+  pub parts : answers ≡ before ++ last
+  pub finds : FindsAll step before others
+  pub read : step others ≡ Read file
+
+-- the file that is read last, and what the last answers say of it
+abbrev pub FindsLast : (List Finding → Next) → List Answer → Wanted → Finding → Type 0
+FindsLast step answers file found = (last : List Answer) × Reaches step answers file last
+    × Finds file.most file.name last found
+
+-- a file that is read for this is found so
+abbrev pub IsFound : Option Request → List Answer → FileRole → Finding → Type 0
+IsFound asked answers role found =
+    (file : Wanted) × (file.role ≡ role) × FindsLast (next asked) answers file found
+
+-- a file is over its limit, and this is its status for that
+abbrev pub IsOver : Option Request → List Answer → Status → Type 0
+IsOver asked answers status =
+    (file : Wanted) × (file.large ≡ status) × FindsLast (next asked) answers file Large
+
+-- the image of a module, by the bytes of the files that are still to be used: inline words need none, and have an empty one
+abbrev pub HasImage : Option (List ℕ) → List (List ℕ) → List ℕ → List (List ℕ) → Type 0
+HasImage None files image more = (image ≡ []) × (files ≡ more)
+HasImage (Some name) files image more = files ≡ image ∷ more
+
+-- the images of modules, in order, by the bytes of all these files
+abbrev pub HasImages : List ModulePlan → List (List ℕ) → List (List ℕ) → Type 0
+HasImages [] files images = (files ≡ []) × (images ≡ [])
+HasImages (m ∷ ms) files images =
+    (image : List ℕ) × (more : List (List ℕ)) × (others : List (List ℕ))
+    × HasImage m.image files image more × (images ≡ image ∷ others) × HasImages ms more others
+
+-- the manifest of a run is read whole, and this is its first fault
+abbrev pub IsFaulty : Option Request → List Answer → BootFault → Type 0
+IsFaulty asked answers fault =
+    (order : Order) × (asked ≡ Some (Run order)) × (bytes : List ℕ)
+    × FindsAll (next asked) answers (Whole bytes ∷ []) × (judged bytes ≡ Err fault)
+
+-- the manifest of a run and its images are read whole, and this is how the boot refuses them
+abbrev pub IsRefused : Option Request → List Answer → Refusal → Type 0
+IsRefused asked answers refusal =
+    (order : Order) × (asked ≡ Some (Run order))
+    × (bytes : List ℕ) × (files : List (List ℕ))
+    × FindsAll (next asked) answers (Whole bytes ∷ list_map Whole files)
+    × (plan : Said) × (judged bytes ≡ Ok plan)
+    × (images : List (List ℕ)) × HasImages plan.modules files images
+    × (boot_of plan images ≡ Err refusal)
+
+-- a source is read whole, and its image isn't what follows, but this status
+abbrev pub IsUnassembled : Option Request → List Answer → Status → Type 0
+IsUnassembled asked answers status =
+    (source : List ℕ) × (asked ≡ Some (Asm source)) × (bytes : List ℕ)
+    × FindsAll (next asked) answers (Whole bytes ∷ [])
+    × ((assembled source bytes).status ≡ status)
+
+-- the cause of a status
+abbrev pub Cause : Option Request → List Answer → Status → Type 0
+Cause asked answers Ran = ⊤
+Cause asked answers Usage = (asked ≡ None) × (answers ≡ [])
+Cause asked answers (Refused fault) = IsOver asked answers (Refused fault)
+    ⊎ IsFaulty asked answers fault ⊎ IsRefused asked answers (Faulty fault)
+Cause asked answers (TablesFull need limit) = IsRefused asked answers (TooFull need limit)
+Cause asked answers StoreFault = (role : FileRole) × IsFound asked answers role Broken
+Cause asked answers (ShortFile role told got) =
+    (got < told) × IsFound asked answers role (Short told got)
+Cause asked answers (NoFile role) = IsFound asked answers role Absent
+Cause asked answers (AsmFault line number) = IsOver asked answers (AsmFault line number)
+    ⊎ IsUnassembled asked answers (AsmFault line number)
+Cause asked answers ConsoleFault = ⊥
+Cause asked answers ReportFault = ⊥
+Cause asked answers DumpFault = ⊥
+Cause asked answers WantOfMemory = ⊥
+Cause asked answers (Unlike key) = ⊥
+Cause asked answers NoDomain = ⊥
+Cause asked answers (SecondRefused fault) = ⊥
+Cause asked answers (SecondTablesFull need limit) = ⊥
+Cause asked answers (SnapshotFault at number) = ⊥
+
+-- answers lead to a status only by its cause
+abbrev pub StatusesHaveCauses : Type 0
+StatusesHaveCauses = (asked : Option Request) (answers : List Answer) (status : Status) →
+    LeadsToStatus asked answers status → Cause asked answers status
+
+-- and wherever there is the cause of one, but for `Ran`, they lead to it
+abbrev pub CausesDecide : Type 0
+CausesDecide = (asked : Option Request) (answers : List Answer) (status : Status) →
+    Cause asked answers status → status ≢ Ran → LeadsToStatus asked answers status
+
+-- where what a store gave leads to `StoreFault` its count rose
+abbrev pub StoreFaultsRise : {S : Type 0} → (S → StoreState) → (S → Answer → S → Type 0) → Type 0
+StoreFaultsRise {S} state gives = (asked : Option Request) (s t : S) (answers : List Answer) →
+    Talks gives s answers t → LeadsToStatus asked answers StoreFault →
+    Rose (state s).faults (state t).faults
+
+-- over a store that tells its files nothing leads to `ShortFile`
+abbrev pub NoneIsShort : {S : Type 0} → (S → StoreState) → (S → Answer → S → Type 0) → Type 0
+NoneIsShort {S} state gives = (asked : Option Request) (s t : S) (answers : List Answer)
+    (role : FileRole) (told got : ℕ) → Talks gives s answers t →
+    LeadsToStatus asked answers (ShortFile role told got) → (state s).told ≡ None
+
+-- where it leads to `NoFile` the file that was to be read last is absent
+abbrev pub NoFileIsAbsent : {S : Type 0} → (S → StoreState) → (S → Answer → S → Type 0) → Type 0
+NoFileIsAbsent {S} state gives = (asked : Option Request) (s t : S) (answers : List Answer)
+    (role : FileRole) → Talks gives s answers t → LeadsToStatus asked answers (NoFile role) →
+    IfSome (state s).told (λ files. (file : Wanted) × (file.role ≡ role)
+    × FindsLast (next asked) answers file Absent × (get files file.name ≡ None))
+
+-- and where a file is reached that is absent it leads to `NoFile`, or to `StoreFault`
+abbrev pub AbsentIsNoFile : {S : Type 0} → (S → StoreState) → (S → Answer → S → Type 0) → Type 0
+AbsentIsNoFile {S} state gives = (asked : Option Request) (s t : S) (answers last : List Answer)
+    (file : Wanted) (outcome : Outcome) → Talks gives s answers t → Leads asked answers outcome →
+    Reaches (next asked) answers file last →
+    IfSome (state s).told (λ files. get files file.name ≡ None →
+    (outcome.status ≡ NoFile file.role) ⊎ (outcome.status ≡ StoreFault))
