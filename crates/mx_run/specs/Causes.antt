@@ -1,5 +1,5 @@
 -- Why a call ends with a status: by what the words ask, and by what the store answered of the files that were read.
-use Rattle.std.specs.Prelude.{◌≡◌, ◌≢◌, ℕ, ◌<◌, ◌⊎◌, List, [], ◌∷◌, ◌++◌, Option, Some, None, Result, Ok, Err, IfSome, ⊤}
+use Rattle.std.specs.Prelude.{◌≡◌, ◌≢◌, ℕ, ◌<◌, ◌⊎◌, List, [], ◌∷◌, ◌++◌, Option, Some, None, Ok, Err, IfSome, ⊤}
 use Rattle.std.specs.Prelude.{map as list_map}
 use Rattle.std.specs.FinMap.{get}
 use Rattle.mx_io.specs.Count.{Rose}
@@ -45,17 +45,17 @@ abbrev pub FindsLast : (List Finding → Next) → List Answer → Wanted → Fi
 FindsLast step answers file found = (last : List Answer) × Reaches step answers file last
     × Finds file.most file.name last found
 
--- a file that is read for this is found so
+-- the file that is read last is read for this, and found so
 abbrev pub IsFound : Option Request → List Answer → FileRole → Finding → Type 0
 IsFound asked answers role found =
     (file : Wanted) × (file.role ≡ role) × FindsLast (next asked) answers file found
 
--- a file is over its limit, and this is its status for that
+-- the file that is read last is over its limit, and this is its status for that
 abbrev pub IsOver : Option Request → List Answer → Status → Type 0
 IsOver asked answers status =
     (file : Wanted) × (file.large ≡ status) × FindsLast (next asked) answers file Large
 
--- the image of a module, by the bytes of the files that are still to be used: inline words need none, and have an empty one
+-- the image of a module is the first of the files left to it; that of inline words is empty, and takes none
 abbrev pub HasImage : Option (List ℕ) → List (List ℕ) → List ℕ → List (List ℕ) → Type 0
 HasImage None files image more = (image ≡ []) × (files ≡ more)
 HasImage (Some name) files image more = files ≡ image ∷ more
@@ -83,14 +83,14 @@ IsRefused asked answers refusal =
     × (images : List (List ℕ)) × HasImages plan.modules files images
     × (boot_of plan images ≡ Err refusal)
 
--- a source is read whole, and its image isn't what follows, but this status
+-- a source is read whole, and this is the status of what its bytes give
 abbrev pub IsUnassembled : Option Request → List Answer → Status → Type 0
 IsUnassembled asked answers status =
     (source : List ℕ) × (asked ≡ Some (Asm source)) × (bytes : List ℕ)
     × FindsAll (next asked) answers (Whole bytes ∷ [])
     × ((assembled source bytes).status ≡ status)
 
--- the cause of a status
+-- the cause of a status: for most the file that is read last, for the others what whole files say
 abbrev pub Cause : Option Request → List Answer → Status → Type 0
 Cause asked answers Ran = ⊤
 Cause asked answers Usage = (asked ≡ None) × (answers ≡ [])

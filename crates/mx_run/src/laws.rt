@@ -23,8 +23,8 @@ pub fn statuses_have_causes()
     ensures exactly { CausesDecide }
 {}
 
-/// A law, over every store: what it gave leads to `StoreFault` only where its count rose; and, where it tells its files, never
-/// to `ShortFile`, and to `NoFile` where a file is absent when it is reached, and only there.
+/// A law, over every store: what it gave leads to `StoreFault` only where its count rose. Where it tells its files, it
+/// never leads to `ShortFile`, and to `NoFile` just where a file is absent when it is reached, if no call failed there.
 pub fn stores_show_causes<S: Store>()
     ensures store_fault { StoreFaultsRise S.state S.gives }
     ensures short_file { NoneIsShort S.state S.gives }

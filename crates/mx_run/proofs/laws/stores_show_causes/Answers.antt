@@ -1,4 +1,4 @@
-use Rattle.mx_run.proofs.Causes.{store_fault_rose, short_untold, no_file_absent, absent_no_file}
+use Rattle.mx_run.proofs.Caused.{store_fault_rose, short_untold, no_file_absent, absent_no_file}
 use Rattle.mx_run.proofs.laws.stores_show_causes.Goals as goal
 
 pub returns-clause-store_fault : goal.returns-clause-store_fault

@@ -1,0 +1,252 @@
+-- From the cause of a status to it, and what a status shows of a store.
+use Rattle.std.proofs.Common.{◌≡◌, ◌≢◌, ℕ, ◌+◌, ◌⊎◌, List, [], ◌∷◌, ◌++◌, Option, Some, None, IfSome, Result, Ok, Err, refl, sym, ap, subst, ◌∙◌, inl, inr, append_assoc}
+use Rattle.std.specs.Prelude.{map as list_map}
+use Rattle.std.specs.FinMap.{get}
+use Rattle.std.proofs.lemmas.List.{append-nil, append_cancel_left}
+use Rattle.mx_io.specs.Count.{Rose}
+use Rattle.mx_io.specs.Store.{FileMap, StoreState}
+use Rattle.mx_io.specs.Answer.{Answer, HasSucceeded, IsOf, Tells, Talks}
+use Rattle.mx_io.proofs.Talks.{Each, each-front, each-rest, talks_told}
+use Rattle.mx_model.specs.Run.{ByQuantum, ByBytes}
+use Rattle.mx_model.specs.State.{State}
+use Rattle.mx_manifest.specs.declared.fault.BootFault.{BootFault}
+use Rattle.mx_manifest.specs.declared.parts.ModulePlan.{ModulePlan}
+use Rattle.mx_manifest.specs.Plan.{Said}
+use Rattle.mx_boot.specs.Boot.{Refusal, Faulty, TooFull, boot_of}
+use Rattle.mx_run.specs.declared.status.FileRole.{FileRole}
+use Rattle.mx_run.specs.declared.status.Status.{Status}
+use Rattle.mx_run.specs.declared.status.Status.TheVariants.{Ran, Usage, Refused, TablesFull, StoreFault, ShortFile, NoFile, ConsoleFault, ReportFault, DumpFault, WantOfMemory, AsmFault, Unlike, NoDomain, SecondRefused, SecondTablesFull, SnapshotFault}
+use Rattle.mx_run.specs.Words.{Order, Request, Run, Asm}
+use Rattle.mx_run.specs.Manifest.{judged}
+use Rattle.mx_run.specs.Finding.{Finding, Absent, Large, Short, Broken, Whole, Finds}
+use Rattle.mx_run.specs.Outcome.{Outcome, Wanted, Next, Read, End, refusal, lack_of, bytes_of, unless, after_file, after_images, manifest_file, image_file, schedule_file, source_file, ran, scheduled, booted, planned, assembled, next}
+use Rattle.mx_run.specs.Leads.{Leads}
+use Rattle.mx_run.specs.Causes.{LeadsToStatus, FindsAll, Reaches, FindsLast, HasImage, HasImages, IsFaulty, IsRefused, IsUnassembled, Cause}
+use Rattle.mx_run.proofs.Findings.{finds_decided}
+use Rattle.mx_run.proofs.ImageSteps.{image_step}
+use Rattle.mx_run.proofs.Leads.{read_same, read_end}
+use Rattle.mx_run.proofs.Promises.{if_some}
+use Rattle.mx_run.proofs.Shortfalls.{broken_shows, short_never, absent_named, absent_found}
+use Rattle.mx_run.proofs.Causes.{status_same, all_found, leads_all, all_with, status_caused}
+
+-- wherever a step reads a file, it ends where that isn't whole
+abbrev Shaped : (List Finding → Next) → Type 0
+Shaped step = (others : List Finding) (file : Wanted) → step others ≡ Read file → (found : Finding) (status : Status) → lack_of file found ≡ Some status
+    → step (others ++ found ∷ []) ≡ End (refusal file.name status)
+
+shape_end : (o : Outcome) → Shaped (λ _. End o)
+shape_end o others file is found status lack = absurd (read_end (sym is))
+
+module _ (file : Wanted) (rest : List ℕ → List Finding → Next) (each : (bytes : List ℕ) → Shaped (rest bytes)) where
+  shape_finding : (x : Finding) (more : List Finding) (last : Wanted) → after_file file rest (x ∷ more) ≡ Read last → (found : Finding) (status : Status) → lack_of last found ≡ Some status
+      → after_file file rest (x ∷ (more ++ found ∷ [])) ≡ End (refusal last.name status)
+  shape_finding Absent more last is found status lack = absurd (read_end (sym is))
+  shape_finding Large more last is found status lack = absurd (read_end (sym is))
+  shape_finding (Short told got) more last is found status lack = absurd (read_end (sym is))
+  shape_finding Broken more last is found status lack = absurd (read_end (sym is))
+  shape_finding (Whole bytes) more last is found status lack = each bytes more last is found status lack
+
+  shape_file : Shaped (after_file file rest)
+  shape_file [] last is found status lack =
+      let same : file ≡ last = read_same is in
+      let here : lack_of file found ≡ Some status = subst (λ (w : Wanted). lack_of w found ≡ Some status) (sym same) lack in
+      ap (λ o. unless file o (rest (bytes_of found) [])) here ∙ ap (λ (w : Wanted). End (refusal w.name status)) same
+  shape_file (x ∷ more) last is found status lack = shape_finding x more last is found status lack
+
+shape_image : (o : Option (List ℕ)) (number : ℕ) (ms : List ModulePlan) (images : List (List ℕ)) (rest : List (List ℕ) → List Finding → Next)
+    → ((images : List (List ℕ)) → Shaped (after_images (number + 1) ms images rest)) → Shaped (image_step o number ms images rest)
+shape_image None number ms images rest each = each (images ++ [] ∷ [])
+shape_image (Some name) number ms images rest each =
+    shape_file (image_file number name) (λ bytes. after_images (number + 1) ms (images ++ bytes ∷ []) rest) (λ bytes. each (images ++ bytes ∷ []))
+
+shape_images : (ms : List ModulePlan) (number : ℕ) (images : List (List ℕ)) (rest : List (List ℕ) → List Finding → Next) → ((images : List (List ℕ)) → Shaped (rest images))
+    → Shaped (after_images number ms images rest)
+shape_images [] number images rest each = each images
+shape_images (m ∷ ms) number images rest each = shape_image m.image number ms images rest (λ images. shape_images ms (number + 1) images rest each)
+
+shape_run : (o : Order) (plan : Said) (s : State) (name : Option (List ℕ)) → Shaped (scheduled o plan s name)
+shape_run o plan s None = shape_end (ran o plan s (ByQuantum plan.quantum))
+shape_run o plan s (Some name) = shape_file (schedule_file name) (λ bytes more. End (ran o plan s (ByBytes bytes))) (λ bytes. shape_end (ran o plan s (ByBytes bytes)))
+
+shape_boot : (o : Order) (plan : Said) (boot : Result State Refusal) → Shaped (booted o plan boot)
+shape_boot o plan (Ok s) = shape_run o plan s o.schedule
+shape_boot o plan (Err (Faulty fault)) = shape_end (refusal o.manifest (Refused fault))
+shape_boot o plan (Err (TooFull need limit)) = shape_end (refusal o.manifest (TablesFull need limit))
+
+shape_plan : (o : Order) (plan : Result Said BootFault) → Shaped (planned o plan)
+shape_plan o (Ok plan) = shape_images plan.modules 1 [] (λ images. booted o plan (boot_of plan images)) (λ images. shape_boot o plan (boot_of plan images))
+shape_plan o (Err fault) = shape_end (refusal o.manifest (Refused fault))
+
+shape_request : (asked : Option Request) → Shaped (next asked)
+shape_request None = shape_end (refusal [] Usage)
+shape_request (Some (Run o)) = shape_file (manifest_file o.manifest) (λ bytes. planned o (judged bytes)) (λ bytes. shape_plan o (judged bytes))
+shape_request (Some (Asm source)) = shape_file (source_file source) (λ bytes more. End (assembled source bytes)) (λ bytes. shape_end (assembled source bytes))
+
+-- the images of modules are those of their files
+image_taken : (o : Option (List ℕ)) (number : ℕ) (ms : List ModulePlan) (images : List (List ℕ)) (rest : List (List ℕ) → List Finding → Next) (files : List (List ℕ)) (image : List ℕ)
+    (left : List (List ℕ)) → HasImage o files image left
+    → image_step o number ms images rest (list_map Whole files) ≡ after_images (number + 1) ms (images ++ image ∷ []) rest (list_map Whole left)
+image_taken None number ms images rest files image left has =
+    ap (λ (fs : List (List ℕ)). after_images (number + 1) ms (images ++ [] ∷ []) rest (list_map Whole fs)) has.1
+    ∙ ap (λ (i : List ℕ). after_images (number + 1) ms (images ++ i ∷ []) rest (list_map Whole left)) (sym has.0)
+image_taken (Some name) number ms images rest files image left has =
+    ap (λ (fs : List (List ℕ)). image_step (Some name) number ms images rest (list_map Whole fs)) has
+
+images_taken : (ms : List ModulePlan) (number : ℕ) (images : List (List ℕ)) (rest : List (List ℕ) → List Finding → Next) (files taken : List (List ℕ)) → HasImages ms files taken
+    → after_images number ms images rest (list_map Whole files) ≡ rest (images ++ taken) []
+images_taken [] number images rest files taken has =
+    ap (λ (fs : List (List ℕ)). rest images (list_map Whole fs)) has.0
+    ∙ ap (λ (all : List (List ℕ)). rest all []) (sym (append-nil images) ∙ ap (λ (t : List (List ℕ)). images ++ t) (sym has.1))
+images_taken (m ∷ ms) number images rest files taken has =
+    image_taken m.image number ms images rest files has.0 has.1 has.3
+    ∙ images_taken ms (number + 1) (images ++ has.0 ∷ []) rest has.1 has.2 has.5
+    ∙ ap (λ (all : List (List ℕ)). rest all []) (append_assoc images (has.0 ∷ []) has.2 ∙ ap (λ (t : List (List ℕ)). images ++ t) (sym has.4))
+
+abbrev refused_status : Refusal → Status
+refused_status (Faulty fault) = Refused fault
+refused_status (TooFull need limit) = TablesFull need limit
+
+refused_boot : (o : Order) (plan : Said) (why : Refusal) → booted o plan (Err why) [] ≡ End (refusal o.manifest (refused_status why))
+refused_boot o plan (Faulty fault) = refl
+refused_boot o plan (TooFull need limit) = refl
+
+module _ (asked : Option Request) (answers : List Answer) where
+  -- what was found leads to this status
+  ended_so : (found : List Finding) (outcome : Outcome) → FindsAll (next asked) answers found → next asked found ≡ End outcome → LeadsToStatus asked answers outcome.status
+  ended_so found outcome all is = (outcome, leads_all (next asked) answers found outcome all is, refl)
+
+  led_by_lack : (file : Wanted) (found : Finding) (status : Status) → FindsLast (next asked) answers file found → lack_of file found ≡ Some status → LeadsToStatus asked answers status
+  led_by_lack file found status l lack =
+      let r = l.1 in
+      let all = subst (λ (xs : List Answer). FindsAll (next asked) xs (r.others ++ found ∷ [])) (sym r.parts)
+      (all_with (next asked) r.before l.0 r.others file found r.finds r.read l.2) in
+      ended_so (r.others ++ found ∷ []) (refusal file.name status) all (shape_request asked r.others file r.read found status lack)
+
+  led_by_fault : (fault : BootFault) → IsFaulty asked answers fault → LeadsToStatus asked answers (Refused fault)
+  led_by_fault fault c =
+      ended_so (Whole c.2 ∷ []) (refusal c.0.manifest (Refused fault)) c.3
+      (ap (λ (a : Option Request). next a (Whole c.2 ∷ [])) c.1 ∙ ap (λ (p : Result Said BootFault). planned c.0 p []) c.4)
+
+  led_by_boot : (why : Refusal) → IsRefused asked answers why → LeadsToStatus asked answers (refused_status why)
+  led_by_boot why c =
+      let found = list_map Whole c.3 in
+      ended_so (Whole c.2 ∷ found) (refusal c.0.manifest (refused_status why)) c.4
+      (ap (λ (a : Option Request). next a (Whole c.2 ∷ found)) c.1 ∙ ap (λ (p : Result Said BootFault). planned c.0 p found) c.6
+      ∙ images_taken c.5.modules 1 [] (λ images. booted c.0 c.5 (boot_of c.5 images)) c.3 c.7 c.8
+      ∙ ap (λ (b : Result State Refusal). booted c.0 c.5 b []) c.9 ∙ refused_boot c.0 c.5 why)
+
+  led_by_source : (status : Status) → IsUnassembled asked answers status → LeadsToStatus asked answers status
+  led_by_source status c =
+      subst (LeadsToStatus asked answers) c.4
+      (ended_so (Whole c.2 ∷ []) (assembled c.0 c.2) c.3 (ap (λ (a : Option Request). next a (Whole c.2 ∷ [])) c.1))
+
+  -- wherever there is the cause of a status, but for `Ran`, the answers lead to it
+  pub caused_status : (status : Status) → Cause asked answers status → status ≢ Ran → LeadsToStatus asked answers status
+  caused_status Ran c other = absurd (other refl)
+  caused_status Usage c other = (refusal [] Usage, (0, (ap (λ (a : Option Request). next a []) c.0, c.1)), refl)
+  caused_status (Refused fault) c other =
+      elim c [
+        | inl h ↦ led_by_lack h.0 Large (Refused fault) h.2 (ap (λ s. Some s) h.1)
+        | inr h ↦ elim h [ inl k ↦ led_by_fault fault k | inr k ↦ led_by_boot (Faulty fault) k ]
+      ]
+  caused_status (TablesFull need limit) c other = led_by_boot (TooFull need limit) c
+  caused_status StoreFault c other = led_by_lack c.1.0 Broken StoreFault c.1.2 refl
+  caused_status (ShortFile role told got) c other = led_by_lack c.1.0 (Short told got) (ShortFile role told got) c.1.2 (ap (λ (r : FileRole). Some (ShortFile r told got)) c.1.1)
+  caused_status (NoFile role) c other = led_by_lack c.0 Absent (NoFile role) c.2 (ap (λ (r : FileRole). Some (NoFile r)) c.1)
+  caused_status (AsmFault line number) c other =
+      elim c [ inl h ↦ led_by_lack h.0 Large (AsmFault line number) h.2 (ap (λ s. Some s) h.1) | inr h ↦ led_by_source (AsmFault line number) h ]
+  caused_status ConsoleFault c other = absurd c
+  caused_status ReportFault c other = absurd c
+  caused_status DumpFault c other = absurd c
+  caused_status WantOfMemory c other = absurd c
+  caused_status (Unlike key) c other = absurd c
+  caused_status NoDomain c other = absurd c
+  caused_status (SecondRefused fault) c other = absurd c
+  caused_status (SecondTablesFull need limit) c other = absurd c
+  caused_status (SnapshotFault at number) c other = absurd c
+
+-- what is found of a file that is reached, where the step ends
+reached : (others : List Finding) (step : List Finding → Next) (answers before last : List Answer) (found : List Finding) (outcome : Outcome) (file : Wanted) → answers ≡ before ++ last
+    → FindsAll step answers found → step found ≡ End outcome → FindsAll step before others → step others ≡ Read file
+    → (x : Finding) × (more : List Finding) × (first : List Answer) × (rest : List Answer) × (found ≡ others ++ x ∷ more) × (last ≡ first ++ rest) × Finds file.most file.name first x
+    × FindsAll (λ later. step (others ++ x ∷ later)) rest more
+reached [] step answers before last [] outcome file is all end some read = absurd (read_end (sym read ∙ end))
+reached [] step answers before last (x ∷ more) outcome file is all end some read =
+    let same : all.0 ≡ file = read_same (sym all.3 ∙ read) in (
+      x,
+      more,
+      all.1,
+      all.2,
+      refl,
+      sym (is ∙ ap (λ xs. xs ++ last) some) ∙ all.4,
+      subst (λ (w : Wanted). Finds w.most w.name all.1 x) same all.5,
+      all.6,
+    )
+reached (o ∷ os) step answers before last [] outcome file is all end some read = absurd (read_end (sym some.3 ∙ end))
+reached (o ∷ os) step answers before last (x ∷ more) outcome file is all end some read =
+    let same : all.0 ≡ some.0 = read_same (sym all.3 ∙ some.3) in
+    let both : (all.1 ++ all.2) ≡ (some.1 ++ (some.2 ++ last)) = sym all.4 ∙ is ∙ ap (λ xs. xs ++ last) some.4 ∙ append_assoc some.1 some.2 last in
+    let finds = subst (λ (w : Wanted). Finds w.most w.name all.1 x) same all.5 in
+    let d = finds_decided some.0.most some.0.name all.1 some.1 all.2 (some.2 ++ last) x o both finds some.5 in
+    let rests = append_cancel_left some.1 all.2 (some.2 ++ last) (subst (λ (first : List Answer). (first ++ all.2) ≡ (some.1 ++ (some.2 ++ last))) d.1 both) in
+    let r = reached os (λ later. step (o ∷ later)) all.2 some.2 last more outcome file rests
+    (subst (λ (y : Finding). FindsAll (λ later. step (y ∷ later)) all.2 more) d.0 all.6) (subst (λ (y : Finding). step (y ∷ more) ≡ End outcome) d.0 end) some.6 read in
+    (r.0, r.1, r.2, r.3, ap (λ y. y ∷ more) d.0 ∙ ap (λ ys. o ∷ ys) r.4, r.5, r.6, r.7)
+
+reached_end : (asked : Option Request) (others : List Finding) (x : Finding) (file : Wanted) (status : Status) (rest : List Answer) (more found : List Finding) (outcome : Outcome)
+    → next asked others ≡ Read file → lack_of file x ≡ Some status → found ≡ others ++ x ∷ more → FindsAll (λ later. next asked (others ++ x ∷ later)) rest more
+    → next asked found ≡ End outcome → outcome.status ≡ status
+reached_end asked others x file status rest [] found outcome read lack is all end =
+    status_same (sym (shape_request asked others file read x status lack) ∙ ap (next asked) (sym is) ∙ end)
+reached_end asked others x file status rest (y ∷ more) found outcome read lack is all end =
+    absurd (read_end (sym all.3 ∙ shape_request asked others file read x status lack))
+
+untold : (o : Option FileMap) → ((files : FileMap) → o ≡ Some files → ⊥) → o ≡ None
+untold None never = refl
+untold (Some files) never = absurd (never files refl)
+
+-- over every store that keeps the law of its trait
+module _ {S : Type 0} (state : S → StoreState) (gives : S → Answer → S → Type 0) (law : (s : S) (a : Answer) (t : S) → gives s a t → Tells (state s) a (state t)) where
+  pub store_fault_rose : (asked : Option Request) (s t : S) (answers : List Answer) → Talks gives s answers t → LeadsToStatus asked answers StoreFault → Rose (state s).faults (state t).faults
+  store_fault_rose asked s t answers talk led =
+      let c = status_caused asked answers StoreFault led in
+      let last = c.1.2 in
+      let rose = Rose (state s).faults (state t).faults in
+      let each = (talks_told state gives law s t answers talk).failed in
+      broken_shows rose c.1.0.most c.1.0.name last.0
+      (each-rest (λ a. (HasSucceeded a → ⊥) → rose) last.1.before last.0 (subst (Each (λ a. (HasSucceeded a → ⊥) → rose)) last.1.parts each)) last.2
+
+  -- the answers that follow are those of the files
+  rest_of : (asked : Option Request) (s t : S) (answers last : List Answer) (file : Wanted) → Talks gives s answers t → (r : Reaches (next asked) answers file last)
+      → (files : FileMap) → (state s).told ≡ Some files → Each (IsOf files) last
+  rest_of asked s t answers last file talk r files told =
+      each-rest (IsOf files) r.before last (subst (Each (IsOf files)) r.parts ((talks_told state gives law s t answers talk).told files told))
+
+  pub short_untold : (asked : Option Request) (s t : S) (answers : List Answer) (role : FileRole) (told got : ℕ) → Talks gives s answers t → LeadsToStatus asked answers (ShortFile role told got)
+      → (state s).told ≡ None
+  short_untold asked s t answers role told got talk led =
+      let c = (status_caused asked answers (ShortFile role told got) led).1 in
+      untold (state s).told
+      (λ files is. short_never files c.0.name c.0.most c.2.0 told got (rest_of asked s t answers c.2.0 c.0 talk c.2.1 files is) c.2.2)
+
+  pub no_file_absent : (asked : Option Request) (s t : S) (answers : List Answer) (role : FileRole) → Talks gives s answers t → LeadsToStatus asked answers (NoFile role)
+      → IfSome (state s).told (λ files. (file : Wanted) × (file.role ≡ role) × FindsLast (next asked) answers file Absent × (get files file.name ≡ None))
+  no_file_absent asked s t answers role talk led =
+      let c = status_caused asked answers (NoFile role) led in
+      if_some (state s).told (λ files. (file : Wanted) × (file.role ≡ role) × FindsLast (next asked) answers file Absent × (get files file.name ≡ None))
+      (λ files is. (c.0, c.1, c.2, absent_named files c.0.name c.0.most c.2.0 (rest_of asked s t answers c.2.0 c.0 talk c.2.1 files is) c.2.2))
+
+  pub absent_no_file : (asked : Option Request) (s t : S) (answers last : List Answer) (file : Wanted) (outcome : Outcome) → Talks gives s answers t → Leads asked answers outcome
+      → Reaches (next asked) answers file last
+      → IfSome (state s).told (λ files. get files file.name ≡ None → (outcome.status ≡ NoFile file.role) ⊎ (outcome.status ≡ StoreFault))
+  absent_no_file asked s t answers last file outcome talk led r =
+      if_some (state s).told (λ files. get files file.name ≡ None → (outcome.status ≡ NoFile file.role) ⊎ (outcome.status ≡ StoreFault))
+      (λ files is none.
+      let all = all_found led.0 (next asked) answers outcome led.1 in
+      let p = reached r.others (next asked) answers r.before last all.0 outcome file r.parts all.1 all.2 r.finds r.read in
+      let of = each-front (IsOf files) p.2 p.3 (subst (Each (IsOf files)) p.5 (rest_of asked s t answers last file talk r files is)) in
+      let ends = λ (status : Status) (lack : lack_of file p.0 ≡ Some status). reached_end asked r.others p.0 file status p.3 p.1 all.0 outcome r.read lack p.4 p.7 all.2 in
+      elim (absent_found files file.name file.most p.2 p.0 none of p.6) [
+        | inl h ↦ inl (ends (NoFile file.role) (ap (lack_of file) h))
+        | inr h ↦ inr (ends StoreFault (ap (lack_of file) h))
+      ])
