@@ -1,7 +1,7 @@
 -- The end of a run, and its outcome.
-use Rattle.std.proofs.Common.{◌≡◌, ℕ, List, [], ◌++◌, length, map, Result, Ok, Bor, refl, sym, ap, subst, ◌∙◌, inl, inr}
+use Rattle.std.proofs.Common.{◌≡◌, ℕ, List, [], ◌++◌, length, map, ◌⊎◌, Result, Ok, Bor, refl, sym, ap, subst, ◌∙◌, inl, inr}
 use Rattle.std.proofs.lemmas.List.{append-nil, length-map}
-use Rattle.mx_io.specs.Texts.{AppendsPrefix}
+use Rattle.mx_io.specs.Texts.{AppendsWhole, AppendsPrefix}
 use Rattle.mx_io.specs.Sink.{SinkState, Puts}
 use Rattle.mx_io.proofs.Text.{left_all, left_next, left_end}
 use Rattle.mx_model.specs.State.{State, Flat, flat}
@@ -17,8 +17,8 @@ use Rattle.mx_run.specs.declared.status.Status.TheVariants.{ConsoleFault, Report
 use Rattle.mx_run.specs.Words.{Order}
 use Rattle.mx_run.specs.Outcome.{Outcome, dumped, end_of, ended, note_lines, report_of, names_of, options_of}
 use Rattle.mx_run.specs.Running.{Put, Breaks, Places, places, HasRun, Stops, Closes, IsFresh, KeepsShape}
-use Rattle.mx_run.specs.Top.{Sinks, sinks, Holds, Ends}
-use Rattle.mx_run.proofs.Sinking.{front_nothing, front_more, put_front, moves_front, moves_put, moves_breaks, breaks_more, breaks_same, put_same}
+use Rattle.mx_run.specs.Top.{Sinks, sinks, Holds, TellsNotes, Ends}
+use Rattle.mx_run.proofs.Sinking.{front_nothing, front_more, put_front, moves_part, moves_front, moves_put, moves_breaks, breaks_more, breaks_same, put_same}
 
 -- what was held and then a text was put
 pub passes_end : {A E B F : Type 0} {held kept text : List ℕ} {b m n : SinkState} {a : A} {result : Result B F} → Passes {E = E} held b m kept text (Ok a) → Puts m n kept result → Puts b n (held ++ text) result
@@ -45,20 +45,20 @@ module _ (outcome : Outcome) (b n : Sinks) where
       }
 
   -- the console's text couldn't be put
-  pub ends_console : (result : Status) → result ≡ ConsoleFault → Breaks b.console n.console outcome.console → AppendsPrefix b.report.written n.report.written outcome.report
-      → n.dump ≡ b.dump → Ends outcome b n result
-  ends_console result is console report dump =
+  pub ends_console : (result : Status) → result ≡ ConsoleFault → Breaks b.console n.console outcome.console → TellsNotes outcome b n
+      → AppendsPrefix b.report.written n.report.written outcome.report → n.dump ≡ b.dump → Ends outcome b n result
+  ends_console result is console notes report dump =
       record {
-        how = inr (inl (is, (console.some, console.rose), dump), record { console = console.front; report = report; dump = same_front b.dump n.dump outcome.dump dump });
+        how = inr (inl (is, (console.some, console.rose), notes, dump), record { console = console.front; report = report; dump = same_front b.dump n.dump outcome.dump dump });
         sure = λ room. absurd (console.tight room.console);
       }
 
-  -- the report's
+  -- the report's, of which notes alone were put, or the console's whole text before
   pub ends_report : (result : Status) → result ≡ ReportFault → AppendsPrefix b.console.written n.console.written outcome.console → Breaks b.report n.report outcome.report
-      → n.dump ≡ b.dump → Ends outcome b n result
-  ends_report result is console report dump =
+      → TellsNotes outcome b n ⊎ AppendsWhole b.console.written n.console.written outcome.console → n.dump ≡ b.dump → Ends outcome b n result
+  ends_report result is console report order dump =
       record {
-        how = inr (inr (inl (is, (report.some, report.rose), dump)), record { console = console; report = report.front; dump = same_front b.dump n.dump outcome.dump dump });
+        how = inr (inr (inl (is, (report.some, report.rose), order, dump)), record { console = console; report = report.front; dump = same_front b.dump n.dump outcome.dump dump });
         sure = λ room. absurd (report.tight room.report);
       }
 
@@ -87,11 +87,11 @@ module _ (o : Order) (plan : Said) (f : State) (m : Flat) (names : List (List �
   pub ends_stopped : (b c d n k : SinkState) (status : Status) → Stops b c f.console d n (note_lines f.notes) status
       → Ends (ended o plan f) (sinks b d k) (sinks c n k) status
   ends_stopped b c d n k status (inl e) =
-      ends_console (ended o plan f) (sinks b d k) (sinks c n k) status e.0 e.1
+      ends_console (ended o plan f) (sinks b d k) (sinks c n k) status e.0 e.1 e.2
       (rw (← report_is o plan f names named law) (front_more d n (note_lines f.notes) _ e.2)) refl
   ends_stopped b c d n k status (inr e) =
       ends_report (ended o plan f) (sinks b d k) (sinks c n k) status e.0 e.1
-      (breaks_same d n _ _ (report_is o plan f names named law) (breaks_more d n (note_lines f.notes) _ e.2)) refl
+      (breaks_same d n _ _ (report_is o plan f names named law) (breaks_more d n (note_lines f.notes) _ e.2)) (inl e.2.front) refl
 
   -- the turns were shown, and then the run's end
   pub ends_closed : (b d k : SinkState) (mid : Places) (c n l : SinkState) (status : Status) → HasRun f m (places b [] d []) mid
@@ -113,11 +113,12 @@ module _ (o : Order) (plan : Said) (f : State) (m : Flat) (names : List (List �
               ends_console (ended o plan f) (sinks b d k) (sinks c n l) status e.0
               (breaks_same b c _ _ (append-nil f.console)
               (moves_breaks [] mid.shown mid.shown b mid.console c f.console [] r.console (breaks_same mid.console c _ _ (sym (append-nil mid.shown)) e.1)))
+              (rw e.2 (moves_part mid.told d mid.report (note_lines f.notes) r.report))
               (rw (e.2, ← is) (moves_front mid.told d mid.report (note_lines f.notes) y r.report)) e.3
           | inr q ↦ elim q [
             | inl e ↦
                 ends_report (ended o plan f) (sinks b d k) (sinks c n l) status e.0 (put_all_front b c f.console (shown e.1))
-                (breaks_same d n _ _ is (moves_breaks [] mid.told mid.told d mid.report n (note_lines f.notes) y r.report e.2)) e.3
+                (breaks_same d n _ _ is (moves_breaks [] mid.told mid.told d mid.report n (note_lines f.notes) y r.report e.2)) (inr (shown e.1).whole) e.3
             | inr e ↦
                 ends_dump (ended o plan f) (sinks b d k) (sinks c n l) status e.0 (shown e.1) (lines e.2) e.3
           ]

@@ -29,12 +29,17 @@ module _ {A E : Type 0} (outcome : Outcome) {before now : SinkState} where
       record { how = inl (refl, holds); sure = λ room. (refl, holds, record { console = refl; report = (puts.sure room.report).1; dump = refl }) }
 
   -- it could not be put whole
-  pub ends_unreported : {e : E} → Puts {A = A} before now outcome.report (Err e) → (console dump : SinkState)
+  pub ends_unreported : {e : E} → outcome.console ≡ [] → Puts {A = A} before now outcome.report (Err e) → (console dump : SinkState)
       → Ends outcome (sinks console before dump) (sinks console now dump) ReportFault
-  ends_unreported {e} puts console dump =
+  ends_unreported {e} no_console puts console dump =
       record {
         how = inr (
-          inr (inl (refl, (has_bytes outcome.report before.room (λ fits. not_ok A e (puts.sure fits).0), puts.failed), refl)),
+          inr (inl (
+            refl,
+            (has_bytes outcome.report before.room (λ fits. not_ok A e (puts.sure fits).0), puts.failed),
+            inr (nothing console.written outcome.console no_console),
+            refl,
+          )),
           record { console = no_prefix console.written outcome.console; report = puts.front; dump = no_prefix dump.written outcome.dump },
         );
         sure = λ room. absurd (not_ok A e (puts.sure room.report).0);
@@ -53,7 +58,12 @@ module _ {A E : Type 0} (outcome : Outcome) {before now : SinkState} where
   ends_unshown {e} puts report dump =
       record {
         how = inr (
-          inl (refl, (has_bytes outcome.console before.room (λ fits. not_ok A e (puts.sure fits).0), puts.failed), refl),
+          inl (
+            refl,
+            (has_bytes outcome.console before.room (λ fits. not_ok A e (puts.sure fits).0), puts.failed),
+            no_prefix report.written outcome.notes,
+            refl,
+          ),
           record { console = puts.front; report = no_prefix report.written outcome.report; dump = no_prefix dump.written outcome.dump },
         );
         sure = λ room. absurd (not_ok A e (puts.sure room.console).0);

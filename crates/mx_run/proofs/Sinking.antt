@@ -115,9 +115,12 @@ module _ (held mid kept : List ℕ) (b m n : SinkState) (x y : List ℕ) where
       (sym (append_assoc p.gone mid y) ∙ ap (λ t. t ++ y) (sym p.parts) ∙ append_assoc held x y) (put_breaks b m n p.gone (mid ++ y) p.put q)
 
 -- what left of a text is a prefix of it
+pub moves_part : (kept : List ℕ) (b n : SinkState) (x : List ℕ) → Moves [] b n kept x → AppendsPrefix b.written n.written x
+moves_part kept b n x p = subst (λ (t : List ℕ). AppendsPrefix b.written n.written t) (sym p.parts) (put_front b n p.gone kept p.put)
+
+-- and of a text that begins with it
 pub moves_front : (kept : List ℕ) (b n : SinkState) (x more : List ℕ) → Moves [] b n kept x → AppendsPrefix b.written n.written (x ++ more)
-moves_front kept b n x more p =
-    front_more b n x more (subst (λ (t : List ℕ). AppendsPrefix b.written n.written t) (sym p.parts) (put_front b n p.gone kept p.put))
+moves_front kept b n x more p = front_more b n x more (moves_part kept b n x p)
 
 -- what was held was put too
 pub moves_put : (kept : List ℕ) (b m n : SinkState) (x more : List ℕ) → Moves [] b m kept x → Put m n (kept ++ more) → Put b n (x ++ more)

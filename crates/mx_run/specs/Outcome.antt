@@ -29,10 +29,12 @@ use Rattle.mx_run.specs.Manifest.{judged}
 use Rattle.mx_run.specs.Refusal.{line_of}
 use Rattle.mx_run.specs.Finding.{Finding, Absent, Large, Short, Broken, Whole}
 
--- a status, and the text of each sink
+-- a status, and the text of each sink; the notes are the first part of the report, the lines of faults and exits, which may
+-- leave before the console's text has left whole
 pub record Outcome : Type 0 where
   pub status : Status
   pub console : List ℕ
+  pub notes : List ℕ
   pub report : List ℕ
   pub dump : List ℕ
 
@@ -41,6 +43,7 @@ abbrev pub refusal : List ℕ → Status → Outcome
 refusal name status = record {
   status = status;
   console = [];
+  notes = [];
   report = unwrap_or (line_of name status) [];
   dump = [];
 }
@@ -166,6 +169,7 @@ abbrev pub ended : Order → Said → State → Outcome
 ended o plan s = record {
   status = Ran;
   console = s.console;
+  notes = note_lines s.notes;
   report = report_of o plan s;
   dump = dumped o.dump s.core;
 }
@@ -194,7 +198,13 @@ planned o (Err fault) found = End (refusal o.manifest (Refused fault))
 
 -- the bytes of an image go to the console
 abbrev pub written_image : List ℕ → Outcome
-written_image image = record { status = Ran; console = image; report = []; dump = [] }
+written_image image = record {
+  status = Ran;
+  console = image;
+  notes = [];
+  report = [];
+  dump = [];
+}
 
 -- the outcome of the first fault where there is one, and the other where there is none
 abbrev pub unless_faulty : {F : Type 0} → Option F → (F → Outcome) → Outcome → Outcome

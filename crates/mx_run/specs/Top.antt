@@ -43,13 +43,21 @@ pub record WritesNothing (before now : Sinks) : Type 0 where
 abbrev pub Fails : List ℕ → SinkState → SinkState → Type 0
 Fails text before now = (0 < length text) × Rose before.faults now.faults
 
--- the status is the fault of a sink that failed; the dump comes last: it got nothing where another one failed, and where it
--- failed itself the two others hold their whole texts
+-- the report got lines of faults and exits alone, none that closes it
+abbrev pub TellsNotes : Outcome → Sinks → Sinks → Type 0
+TellsNotes outcome before now =
+    AppendsPrefix before.report.written now.report.written outcome.notes
+
+-- the status is the fault of a sink that failed; what closes the report comes after the console's whole text: the report got
+-- notes alone where the console failed, and where it failed itself it got notes alone or the console holds its whole text; the
+-- dump comes last: it got nothing where another one failed, and where it failed itself the two others hold their whole texts
 abbrev pub IsSinkFault : Outcome → Sinks → Sinks → Status → Type 0
 IsSinkFault outcome before now result =
     ((result ≡ ConsoleFault) × Fails outcome.console before.console now.console
-    × (now.dump ≡ before.dump))
+    × TellsNotes outcome before now × (now.dump ≡ before.dump))
     ⊎ ((result ≡ ReportFault) × Fails outcome.report before.report now.report
+    × (TellsNotes outcome before now
+    ⊎ AppendsWhole before.console.written now.console.written outcome.console)
     × (now.dump ≡ before.dump))
     ⊎ ((result ≡ DumpFault) × Fails outcome.dump before.dump now.dump
     × AppendsWhole before.console.written now.console.written outcome.console

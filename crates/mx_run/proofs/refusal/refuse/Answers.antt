@@ -7,4 +7,4 @@ pub returns-in-Ok : goal.returns-in-Ok
 returns-in-Ok g c = ends_reported (refusal c.args.name.now c.args.status) refl refl c.in-Ok.ensures
 
 pub returns-in-Err : goal.returns-in-Err
-returns-in-Err g c = ends_unreported (refusal c.args.name.now c.args.status) c.in-Err.ensures
+returns-in-Err g c = ends_unreported (refusal c.args.name.now c.args.status) refl c.in-Err.ensures
