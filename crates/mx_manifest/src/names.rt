@@ -57,10 +57,7 @@ impl<'a> Names<'a> {
         requires { length self.now ≤ 63 }
         ensures { result ≡ domain_of self.now name.now }
     {
-        match self.set.get_index_of(name) {
-            Some(i) => i as u32 + 1,
-            None => 0,
-        }
+        self.set.get_index_of(name).map_or(0, |i| i as u32 + 1)
     }
 }
 
