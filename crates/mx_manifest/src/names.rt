@@ -212,10 +212,7 @@ pub(crate) fn resolve_names<'a>(alloc: Global, top: Section<'a>) -> Result<Names
         IfErr result (Tells (names_fault (module_names top) top)) }
 {
     let modules = top.elements_at(Key::Module);
-    let names = match read_names(alloc, modules) {
-        Ok(names) => names,
-        Err(fault) => return Err(fault),
-    };
+    let names = read_names(alloc, modules)?;
     if let Some(fault) = froms_fault(&names, modules) {
         return Err(ManifestFault::Fault(fault));
     }

@@ -49,10 +49,7 @@ pub fn read_manifest(alloc: Global, table: &Table) -> Result<Plan, ManifestFault
     if let Some(fault) = tables_fault(version, top) {
         return Err(ManifestFault::Fault(fault));
     }
-    let names = match resolve_names(alloc, top) {
-        Ok(names) => names,
-        Err(fault) => return Err(fault),
-    };
+    let names = resolve_names(alloc, top)?;
     match plan_of(alloc, version, &names, top) {
         Ok(plan) => Ok(plan),
         Err(_) => Err(ManifestFault::NoMemory),

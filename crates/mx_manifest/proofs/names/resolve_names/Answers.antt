@@ -1,6 +1,7 @@
 use Rattle.std.proofs.Common.{◌∙◌, ap, map}
 use Rattle.mx_manifest.specs.Faults.{module_name}
-use Rattle.mx_manifest.proofs.Judging.{at_most, names_at_most}
+use Rattle.mx_manifest.specs.Section.{section_view}
+use Rattle.mx_manifest.proofs.Judging.{at_most, names_at_most, repeats_are, froms_are, homes_are, tells_home}
 use Rattle.mx_manifest.proofs.names.resolve_names.Goals as goal
 
 pub read_names-requires : goal.read_names-requires
@@ -11,11 +12,20 @@ froms_fault-requires-clause-few c = at_most _ _ 63 c.elements_at-modules.ensures
 
 pub froms_fault-requires-clause-names : goal.froms_fault-requires-clause-names
 froms_fault-requires-clause-names c =
-    names_at_most _ _ (c.in-Ok.ensures.names ∙ ap (map module_name) c.elements_at-modules.ensures) c.requires.modules
+    names_at_most _ _ (c.in_ok-names.ensures.names ∙ ap (map module_name) c.elements_at-modules.ensures) c.requires.modules
 
 pub homes_fault-requires-clause-few : goal.homes_fault-requires-clause-few
 homes_fault-requires-clause-few c = at_most _ _ 4 c.elements_at.ensures c.requires.harts
 
 pub homes_fault-requires-clause-names : goal.homes_fault-requires-clause-names
 homes_fault-requires-clause-names c =
-    names_at_most _ _ (c.in-Ok.ensures.names ∙ ap (map module_name) c.elements_at-modules.ensures) c.requires.modules
+    names_at_most _ _ (c.in_ok-names.ensures.names ∙ ap (map module_name) c.elements_at-modules.ensures) c.requires.modules
+
+pub returns-in-Some-homes_fault-clause-fault : goal.returns-in-Some-homes_fault-clause-fault
+returns-in-Some-homes_fault-clause-fault c =
+    let top = section_view c.args.top in
+    let same = c.elements_at-modules.ensures in
+    let named = c.in_ok-names.ensures.names ∙ ap (map module_name) same in
+    tells_home top _ (repeats_are top _ _ same c.in_ok-names.ensures.apart)
+    (froms_are top _ _ _ same named c.froms_fault.ensures ∙ c.in_default.is)
+    (homes_are top _ _ _ c.elements_at.ensures named c.homes_fault.ensures ∙ c.in-Some-homes_fault.is)
