@@ -3,7 +3,7 @@ ghost use Rattle.std.specs.Prelude.{◌≡◌, ◌<◌, ◌≤◌, ◌+◌, ◌*
 ghost use Rattle.std.specs.List.{AllByRecursion};
 ghost use Rattle.std.specs.Prelude.{map as list_map};
 ghost use Rattle.mx_machine.specs.Harts.{hart_of};
-ghost use Rattle.mx_machine.specs.Starts.{resumed_hart};
+ghost use Rattle.mx_machine.specs.Starts.{no_state, resumed_hart};
 ghost use Rattle.mx_machine.specs.Smalls.{AreSmall, AreSmallFrames, IsSmallFrame, IsSmallStart, IsSmallState};
 ghost use Rattle.mx_machine.specs.Held.{area_of, behind};
 ghost use Rattle.mx_words.specs.Ranges.{most_words};
@@ -181,7 +181,10 @@ pub struct HartState {
 }
 
 impl Default for HartState {
-    fn default() -> HartState {
+    /// What a place of a list holds before a hart is pushed there: halted, in no domain, all registers zero, without frames.
+    fn default() -> HartState
+        ensures { result ≡ no_state }
+    {
         HartState {
             status: HartStatus::Halted,
             domain: 0,
