@@ -124,6 +124,8 @@ impl<T: PermTables, const N: usize> Bare<T, N> {
 
     /// A running hart at a gate: a call gate leads into another domain, and a return gate back out of its own; at a return gate an
     /// instruction that doesn't return is carried out as anywhere, and the hart goes on.
+    // Cold: most turns stand at no gate, and the row of turns is laid out for them.
+    #[cold]
     pub fn at_gate(&mut self, hart: u32, target: u32, out: &mut Events) -> Going
         requires valid { IsValid (meaning self.old).core }
         requires at { IsAtGate self.old hart target }
