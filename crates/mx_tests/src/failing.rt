@@ -1,5 +1,7 @@
 //! Each call of the store and of the sinks fails once, over the manifest of packets.
 
+ghost use Rattle.std.specs.Prelude.{◌≤◌};
+
 use crate::examples::{Example, Sinks, files_of, run_first};
 use crate::packet_runs::{SHORT, SHORT_CONSOLE, packet_files};
 use mx_io::Files;
@@ -34,6 +36,10 @@ fn end(
         assert!(rt; sinks.dump.as_slice().is_empty());
     } else {
         assert!(rt; are_prefixes(sinks));
+    }
+    // These runs have no line of a fault or an exit, and the closing lines come after the console's whole text.
+    if status == Status::ConsoleFault {
+        assert!(rt; sinks.report.as_slice().is_empty());
     }
     Ok(status)
 }
@@ -138,10 +144,29 @@ owner 0x80000000 0x8000000c 1\n\
 owner 0x80001000 0x80001004 2\n",
 };
 
-/// The lines of 100 faults.
-fn fault_lines(alloc: Global) -> Result<String, Fail> {
+/// A manifest of the same after four turns, which write the lowest byte of the module's first word to the console.
+const FAULTS_AFTER_A_BYTE: &str = "version = 1\n\
+ram_kib = 64\n\
+[[module]]\n\
+name = \"a\"\n\
+at = 0x80000000\n\
+perm = \"rx\"\n\
+words = [0x80000537, 0x00100593, 0x00200893, 0x00000073, 0x800012B7, 0x000280E7, 0xFFDFF06F]\n\
+[[module]]\n\
+name = \"b\"\n\
+at = 0x80001000\n\
+perm = \"rx\"\n\
+words = [0x00100073]\n\
+gates = [{ entry = 0x80001000, from = [\"a\"] }]\n\
+[[hart]]\n\
+module = \"a\"\n";
+
+/// The lines of 100 faults, the first of them at the step with four times this number.
+fn fault_lines(alloc: Global, first: u32) -> Result<String, Fail>
+    requires { first ≤ 2 }
+{
     let mut text = String::new(alloc);
-    for fault in 1..101u32 {
+    for fault in first..first + 100 {
         let step = 4 * fault;
         let line = format!(in alloc;
             "fault step={step} hart=0 domain=2 pc=0x80001000 cause=3 value=0x80001000\n"
@@ -153,7 +178,7 @@ fn fault_lines(alloc: Global) -> Result<String, Fail> {
 
 #[test]
 fn a_long_report_leaves_in_pieces(rt: HostRuntime) -> Result<(), Fail> {
-    let mut lines = fault_lines(rt.alloc())?;
+    let mut lines = fault_lines(rt.alloc(), 1)?;
     for (call, len) in [(1u64, 0usize), (2, 4096)] {
         let mut files = files_of(rt.alloc(), &FAULTS)?;
         let mut sinks = Sinks::new(rt.alloc())?;
@@ -169,5 +194,22 @@ fn a_long_report_leaves_in_pieces(rt: HostRuntime) -> Result<(), Fail> {
     assert_eq!(rt; status, Status::Ran);
     lines.push_str(FAULTS.report)?;
     assert_eq!(rt; sinks.report.as_slice(), lines.as_bytes());
+    Ok(())
+}
+
+#[test]
+fn no_closing_line_comes_before_the_consoles_rest(rt: HostRuntime) -> Result<(), Fail> {
+    let lines = fault_lines(rt.alloc(), 2)?;
+    let mut files = Files::new(rt.alloc());
+    files.add("first.toml", FAULTS_AFTER_A_BYTE.as_bytes())?;
+    let mut sinks = Sinks::new(rt.alloc())?;
+    sinks.console.fail_at(1);
+    let status = run_first(rt.alloc(), &["405", "--dump"], &mut files, &mut sinks)?;
+    assert_eq!(rt; status, Status::ConsoleFault);
+    assert!(rt; sinks.console.as_slice().is_empty());
+    // One piece of the faults' lines left during the run, and nothing after it.
+    assert_eq!(rt; sinks.report.as_slice().len(), 4096);
+    assert!(rt; lines.as_bytes().starts_with(sinks.report.as_slice()));
+    assert!(rt; sinks.dump.as_slice().is_empty());
     Ok(())
 }
