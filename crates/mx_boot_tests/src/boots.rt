@@ -25,7 +25,11 @@ words = [0x00100893, 0x00500513, 0x00000073]
 pub(crate) const IN_M: &str = "[[hart]]\nmodule = \"m\"\n";
 
 /// The boot of a manifest's text with these files; `NoMemory` also where it has no plan.
-pub(crate) fn booted(alloc: Global, text: &str, images: &[File]) -> Result<AnyMachine, BootRefused> {
+pub(crate) fn booted(
+    alloc: Global,
+    text: &str,
+    images: &[File],
+) -> Result<AnyMachine, BootRefused> {
     let Ok(table) = toml::table_from_str(alloc, text) else {
         return Err(BootRefused::NoMemory);
     };

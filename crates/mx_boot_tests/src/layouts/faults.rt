@@ -328,7 +328,10 @@ fn faults_of_images_tell_what_is_wrong_with_them(rt: HostRuntime) -> Result<(), 
     let text = manifest(rt.alloc(), modules.as_str(), IN_B)?;
     for (file, number, detail) in IMAGES {
         let answer = judge(rt.alloc(), text.as_str(), &[file, File::None]).err();
-        assert_eq!(rt; answer, refused(number, Part::Module, 1, Key::Image, detail));
+        assert_eq!(rt;
+            answer,
+            refused(number, Part::Module, 1, Key::Image, detail)
+        );
     }
     for (first, second, number, index, detail) in FILES {
         let modules = format!(in rt.alloc(); "{A}[[module]]\nname = \"b\"\nimage = \"b.elf\"\n")?;
