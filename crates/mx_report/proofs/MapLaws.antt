@@ -1,4 +1,4 @@
--- A run of a map, found from span to span.
+-- Rights on the words of a map, found from span to span.
 use Rattle.std.proofs.Common.{◌≡◌, ◌≢◌, ℕ, suc, ◌+◌, ◌-◌, ◌<◌, ◌≤◌, ◌⊎◌, inl, inr, Bool, true, false, not, ◌||◌, List, [], ◌∷◌, length, get_or, take, drop, refl, sym, ap, ◌∙◌, subst, arith, length-take, length-drop, get_or-take, get_or-drop}
 use Rattle.std.proofs.lemmas.Bool.{cases_lt, not-false}
 use Rattle.mx_words.specs.declared.perm.Perm.{Perm}
@@ -12,7 +12,6 @@ use Rattle.mx_words.proofs.RunLaws.{same_eq, same_from}
 use Rattle.mx_model.specs.Reads.{flat_reads, map_in}
 use Rattle.mx_model.specs.State.{Flat}
 use Rattle.mx_report.specs.Texts.{has_rights}
-use Rattle.mx_report.specs.Runs.{IsRun}
 
 -- permissions that differ, and that don't
 pub differ_ne : (p q : Perm) → not (same p q) ≡ true → p ≢ q
@@ -24,45 +23,6 @@ differ_ne p q h e = absurd (both (not (same p q)) h (ap not (same_from p q e)))
 
 pub differ_eq : (p q : Perm) → not (same p q) ≡ false → p ≡ q
 differ_eq p q h = same_eq p q (not-false (same p q) h)
-
--- the words from `word` up to `end` have one permission
-pub record IsAlike (m : List Perm) (word end : ℕ) : Type 0 where
-  pub behind : word < end
-  pub within : end ≤ length m
-  pub alike : (w : ℕ) → word ≤ w → w < end → perm_at m w ≡ perm_at m word
-
--- the permission of a span is that of its word
-pub round_perm : (m : List Perm) (i : ℕ) (s : Span) → IsUniformRound m i s → s.perm ≡ perm_at m i
-round_perm m i s r = sym (r.alike i r.left r.right)
-
-pub alike_span : (m : List Perm) (i : ℕ) (s : Span) → IsUniformRound m i s → IsAlike m i (s.first + s.count)
-alike_span m i s r =
-    let left = r.left in
-    let right = r.right in
-    record { behind = right; within = r.inside; alike = λ w lo hi. r.alike w (omega arith) hi ∙ round_perm m i s r }
-
-pub alike_more : (m : List Perm) (i end : ℕ) (s : Span) → IsAlike m i end → IsUniformRound m end s → s.perm ≡ perm_at m i → IsAlike m i (s.first + s.count)
-alike_more m i end s a r e =
-    let behind = a.behind in
-    let left = r.left in
-    let right = r.right in
-    record { behind = omega arith; within = r.inside; alike = λ w lo hi. by w lo hi (cases_lt w end) }
-  where
-    by : (w : ℕ) → i ≤ w → w < s.first + s.count → (w < end) ⊎ (end ≤ w) → perm_at m w ≡ perm_at m i
-    by w lo hi (inl lt) = a.alike w lo lt
-    by w lo hi (inr le) = let left = r.left in r.alike w (omega arith) hi ∙ e
-
-pub alike_stop : (m : List Perm) (i end : ℕ) (s : Span) → IsAlike m i end → IsUniformRound m end s → s.perm ≢ perm_at m i → IsRun m i end
-alike_stop m i end s a r ne =
-    record { behind = a.behind; within = a.within; alike = a.alike; ends = λ lt e. ne (round_perm m end s r ∙ e) }
-
-pub alike_end : (m : List Perm) (i end : ℕ) → IsAlike m i end → length m ≤ end → IsRun m i end
-alike_end m i end a le = record { behind = a.behind; within = a.within; alike = a.alike; ends = λ lt. absurd (omega arith) }
-
--- what a walk answers in a flat state
-pub walk_round : (f : Flat) (d i : ℕ) (s : Span) → s ≡ (flat_reads f).walk d i → length (map_in f.core.size f.maps d) ≡ f.core.size → i < f.core.size → IsUniformRound (map_in f.core.size f.maps d) i s
-walk_round f d i s e whole lt =
-    subst (λ (x : Span). IsUniformRound (map_in f.core.size f.maps d) i x) (sym e) (span_round f.core.kind (map_in f.core.size f.maps d) i (omega arith))
 
 -- some of a part's words has a permission, and none has
 pub some_right : (m : List Perm) (first count w : ℕ) → first + count ≤ length m → first ≤ w → w < first + count → perm_at m w ≢ P.None → has_rights m first count ≡ true

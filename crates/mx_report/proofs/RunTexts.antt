@@ -7,7 +7,7 @@ use Rattle.mx_words.specs.declared.perm.Perm.TheVariants as P
 use Rattle.mx_words.specs.Rights.{same, perm_at}
 use Rattle.mx_words.specs.Runs.{Run, run_before, runs_of}
 use Rattle.mx_words.proofs.RunLaws.{same_refl, same_eq}
-use Rattle.mx_report.specs.Runs.{run_texts, IsRun}
+use Rattle.mx_report.specs.Runs.{run_texts}
 
 module _ {A : Type 0} (eq : A → A → Bool) (sound : (x y : A) → eq x y ≡ true → x ≡ y) (alike : (x : A) → eq x x ≡ true) (d : A) where
   differ : (x y : A) → y ≢ x → eq x y ≡ false
@@ -76,10 +76,11 @@ module _ {A : Type 0} (eq : A → A → Bool) (sound : (x y : A) → eq x y ≡ 
   pub texts_behind : (text : ℕ → ℕ → A → List ℕ) (m : List A) (a : ℕ) → length m ≤ a → run_texts text a (runs_of eq (drop a m)) ≡ []
   texts_behind text m a le = ap (λ zs. run_texts text a (runs_of eq zs)) (drop_all a m le)
 
--- of a map, and of the owners
-pub map_from : (text : ℕ → ℕ → Perm → List ℕ) (m : List Perm) (a b : ℕ) → IsRun m a b →
+-- of a map of so many words, and of the owners
+pub map_from : (text : ℕ → ℕ → Perm → List ℕ) (m : List Perm) (size a b : ℕ) → length m ≡ size → a < b → b ≤ size → ((w : ℕ) → a ≤ w → w < b → perm_at m w ≡ perm_at m a) → (b < size → perm_at m b ≢ perm_at m a) →
     run_texts text a (runs_of same (drop a m)) ≡ text a b (perm_at m a) ++ run_texts text b (runs_of same (drop b m))
-map_from text m a b r = texts_from same same_eq same_refl P.None text m a b r.behind r.within r.alike r.ends
+map_from text m size a b whole behind within alike ends =
+    texts_from same same_eq same_refl P.None text m a b behind (rw whole within) alike (λ lt. ends (rw (sym whole) lt))
 
 pub owners_from : (text : ℕ → ℕ → ℕ → List ℕ) (m : List ℕ) (a b : ℕ) → a < b → b ≤ length m → ((w : ℕ) → a ≤ w → w < b → get_or m w 0 ≡ get_or m a 0) → (b < length m → get_or m b 0 ≢ get_or m a 0) →
     run_texts text a (runs_of (λ x y. x == y) (drop a m)) ≡ text a b (get_or m a 0) ++ run_texts text b (runs_of (λ x y. x == y) (drop b m))

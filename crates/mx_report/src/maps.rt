@@ -7,7 +7,6 @@ ghost use Rattle.mx_model.specs.State.{module_at};
 ghost use Rattle.mx_model.specs.Valid.{IsModule};
 ghost use Rattle.mx_report.specs.Tail.{Passes};
 ghost use Rattle.mx_report.specs.Lines.{dead_text, domain_head, permission_name, map_line, map_text};
-ghost use Rattle.mx_report.specs.Runs.{IsRun};
 ghost use Rattle.mx_report.specs.Texts.{domain_lines, domain_map, map_lines};
 
 use crate::Tail;
@@ -94,30 +93,11 @@ fn put_maps<R: Sink, T: PermTables, const N: usize>(
     machine_is_valid(machine);
     let mut word = 0;
     'runs: while word < machine.words() {
-        let end = run_end(machine, domain, word);
+        let end = machine.perm_end(domain, word);
         put_map(tail, sink, domain, word, end, machine.perm(domain, word))?;
         word = end;
     }
     Ok(())
-}
-
-// The first word after a domain's run of one permission, of which `word` is the first one or a later one. It goes from span to span.
-fn run_end<T: PermTables, const N: usize>(machine: &Machine<T, N>, domain: u32, word: u32) -> u32
-    requires domain { IsModule (length machine.now.core.modules) domain }
-    requires word { word < machine.now.core.size }
-    ensures { IsRun (domain_map machine.now domain) word result }
-{
-    machine_is_valid(machine);
-    let span = machine.span(domain, word);
-    let mut end = span.first + span.count;
-    'spans: while end < machine.words() {
-        let next = machine.span(domain, end);
-        if differ(next.perm, span.perm) {
-            return end;
-        }
-        end = next.first + next.count;
-    }
-    end
 }
 
 /// Whether two permissions are different ones.

@@ -19,10 +19,12 @@ returns-in_err-put_map g c =
     let f = c.args.machine.now in
     let m = map_in f.core.size f.maps c.args.domain in
     let text = map_text c.args.domain in
-    let end = c.run_end-end.result in
+    let end = c.perm_end-end.result in
+    let told = c.perm_end-end.ensures in
+    let from = map_from text m f.core.size c.runs.word end (c.machine_is_valid.ensures.whole c.args.domain c.requires) told.behind told.within told.same told.ends in
     let p = err_from_is_err_and c.from_residual.result c.from_residual.ensures.1 in
     rw (p.1, p.2)
-    (coming_stop (run_texts text end (runs_of same (drop end m))) (coming_same (map_from text m c.runs.word end c.run_end-end.ensures) c.runs.invariant.coming)
+    (coming_stop (run_texts text end (runs_of same (drop end m))) (coming_same from c.runs.invariant.coming)
     (passes_same (ap (text c.runs.word end) c.perm.ensures) c.in_err-put_map.ensures))
 
 pub runs-preserved : goal.runs-preserved
@@ -30,11 +32,13 @@ runs-preserved g c =
     let f = c.args.machine.now in
     let m = map_in f.core.size f.maps c.args.domain in
     let text = map_text c.args.domain in
-    let end = c.run_end-end.result in
-    let within = c.run_end-end.ensures.within in
+    let end = c.perm_end-end.result in
+    let told = c.perm_end-end.ensures in
+    let from = map_from text m f.core.size c.runs.word end (c.machine_is_valid.ensures.whole c.args.domain c.requires) told.behind told.within told.same told.ends in
+    let within = told.within in
     record {
       within = omega (arith, within, c.machine_is_valid.ensures.whole c.args.domain c.requires);
-      coming = coming_next (coming_same (map_from text m c.runs.word end c.run_end-end.ensures) c.runs.invariant.coming)
+      coming = coming_next (coming_same from c.runs.invariant.coming)
           (passes_same (ap (text c.runs.word end) c.perm.ensures) c.in_ok-put_map.ensures);
     }
 

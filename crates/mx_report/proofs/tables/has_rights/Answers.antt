@@ -1,7 +1,8 @@
 use Rattle.std.proofs.Common.{◌<◌, sym, ◌∙◌, arith}
 use Rattle.mx_model.specs.Reads.{map_in}
 use Rattle.mx_words.specs.declared.perm.Perm.TheVariants as P
-use Rattle.mx_report.proofs.MapLaws.{differ_ne, differ_eq, round_perm, walk_round, some_right, no_right, none_more}
+use Rattle.mx_machine.proofs.MapRuns.{round_perm, walk_round}
+use Rattle.mx_report.proofs.MapLaws.{differ_ne, differ_eq, some_right, no_right, none_more}
 use Rattle.mx_report.proofs.tables.has_rights.Goals as goal
 
 pub returns-then-differ : goal.returns-then-differ
