@@ -1,5 +1,5 @@
 -- Rights on the words of a map, found from span to span.
-use Rattle.std.proofs.Common.{◌≡◌, ◌≢◌, ℕ, suc, ◌+◌, ◌-◌, ◌<◌, ◌≤◌, ◌⊎◌, inl, inr, Bool, true, false, not, ◌||◌, List, [], ◌∷◌, length, get_or, take, drop, refl, sym, ap, ◌∙◌, subst, arith, length-take, length-drop, get_or-take, get_or-drop}
+use Rattle.std.proofs.Common.{◌≡◌, ◌≢◌, ℕ, suc, ◌+◌, ◌-◌, ◌<◌, ◌≤◌, ◌⊎◌, inl, inr, Bool, true, false, not, ◌||◌, List, [], ◌∷◌, length, get_or, take, drop, refl, ap, ◌∙◌, arith, length-take, length-drop, get_or-take, get_or-drop}
 use Rattle.std.proofs.lemmas.Bool.{cases_lt, not-false}
 use Rattle.mx_words.specs.declared.perm.Perm.{Perm}
 use Rattle.std.specs.List.{list_any}
@@ -7,10 +7,8 @@ use Rattle.std.proofs.lemmas.List.Folds.{list_any_at}
 use Rattle.mx_words.specs.declared.perm.Perm.TheVariants as P
 use Rattle.mx_words.specs.declared.perm.Span.{Span}
 use Rattle.mx_words.specs.Rights.{same, perm_at}
-use Rattle.mx_words.proofs.ReachLaws.{IsUniformRound, span_round}
+use Rattle.mx_words.proofs.ReachLaws.{IsUniformRound}
 use Rattle.mx_words.proofs.RunLaws.{same_eq, same_from}
-use Rattle.mx_model.specs.Reads.{flat_reads, map_in}
-use Rattle.mx_model.specs.State.{Flat}
 use Rattle.mx_report.specs.Texts.{has_rights}
 
 -- permissions that differ, and that don't
