@@ -1,5 +1,5 @@
 -- The stores and sinks over what the system gives, which tell what that tells.
-use Rattle.std.specs.Prelude.{◌≡◌, ℕ, false, List, length, Option, None, Some, option_map, ⊤}
+use Rattle.std.specs.Prelude.{◌≡◌, ℕ, false, List, length, drop, Option, None, Some, option_map, ⊤}
 use Rattle.std.specs.FinMap.{get}
 use Rattle.mx_io.specs.Store.{FileMap, StoreState}
 use Rattle.mx_io.specs.Sink.{SinkState}
@@ -26,6 +26,7 @@ abbrev pub file_contents : {F : Type 0} → Option (List ℕ) → (F → Option 
     Option (List ℕ)
 file_contents fresh contents None = fresh
 file_contents fresh contents (Some file) = contents file
+
 -- the dump's file: as a sink, and what makes it
 abbrev pub file_sink : {M F : Type 0} → Option (List ℕ) → (F → Option (List ℕ)) → FileSink M F →
     SinkState
@@ -47,3 +48,8 @@ IsEntry files name E.Other = ⊤
 -- a place that isn't told is none
 pub untold_place : {at : ℕ} → None ≡ Some at → ⊥
 untold_place e = cc
+
+-- the bytes from a known place on
+pub bytes_from : {at place : ℕ} {known : Option (List ℕ)} {bytes : List ℕ} → Some place ≡ Some at →
+    known ≡ Some bytes → option_map (drop place) known ≡ Some (drop at bytes)
+bytes_from placed told = cc

@@ -3,12 +3,12 @@ ghost use Rattle.std.specs.Prelude.{◌≡◌, ◌≤◌, ℕ, false, List, Opti
 ghost use Rattle.std.specs.FinMap.{get};
 ghost use Rattle.mx_io.specs.Store.{FileMap, file_bytes};
 ghost use Rattle.mx_io.specs.Answer.{IsPart, tells_by};
-ghost use Rattle.mx_io.specs.Real.{folder_store, IsEntry, untold_place};
+ghost use Rattle.mx_io.specs.Real.{folder_store, IsEntry, untold_place, bytes_from};
 ghost use Rattle.mx_io.specs.declared.folder.Entry.{Entry as Found};
 
 use crate::faults::count_fault;
 use crate::{Failed, Store};
-use std::io::{ErrorKind, Read, Seek, SeekFrom};
+use std::io::{AsBytes, Cursor, ErrorKind, Read, Seek, SeekFrom};
 use std::rt::Files;
 use std::{fs, io};
 
@@ -28,6 +28,10 @@ pub trait Placed: Read + Seek {
     /// Where place and bytes are known, the bytes from that place on are those that reads give.
     ghost rest: { (f : Self) → (at : ℕ) → (bytes : List ℕ) → Self.stream_position f ≡ Some at →
         Self.stream_bytes f ≡ Some bytes → Self.remaining f ≡ Some (drop at bytes) };
+}
+
+impl<T: AsBytes> Placed for Cursor<T> {
+    ghost rest = { λ f at bytes placed told. bytes_from placed told };
 }
 
 /// A folder whose files are read by name.

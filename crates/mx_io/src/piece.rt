@@ -61,7 +61,9 @@ fn put_character<S: Sink>(sink: &mut S, character: char) -> Result<(), Failed>
 {
     put_all(
         sink,
-        shown_character(character).encode_utf8(&mut [0; 4]).as_bytes(),
+        shown_character(character)
+            .encode_utf8(&mut [0; 4])
+            .as_bytes(),
     )
 }
 

@@ -4,8 +4,7 @@ ghost use Rattle.mx_io.specs.Sink.{Puts};
 ghost use Rattle.mx_tail.specs.Tail.{Passes, piece_bytes};
 ghost use Rattle.mx_report.specs.Lines.{fault_line, exit_line, note_line, end_name, end_line, status_name, hart_text, register_text, registers_line, view_lines};
 
-use crate::Tail;
-use crate::put_pieces;
+use crate::{Tail, put_pieces};
 use mx_io::{Failed, Piece, Sink};
 use mx_machine::{HartStatus, HartView};
 use mx_model::{Fault, Note};

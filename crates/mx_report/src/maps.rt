@@ -10,9 +10,8 @@ ghost use Rattle.mx_report.specs.Lines.{dead_text, domain_head, permission_name,
 ghost use Rattle.mx_report.specs.Runs.{IsRun};
 ghost use Rattle.mx_report.specs.Texts.{domain_lines, domain_map, map_lines};
 
-use crate::Tail;
-use crate::put_pieces;
 use crate::words::address;
+use crate::{Tail, put_pieces};
 use mx_io::{Failed, Piece, Sink};
 use mx_machine::{Machine, machine_is_valid};
 use mx_table::PermTables;
