@@ -57,7 +57,8 @@ fn put_name<S: Sink>(sink: &mut S, name: &str) -> Result<(), Failed>
 }
 
 fn put_character<S: Sink>(sink: &mut S, character: char) -> Result<(), Failed>
-    ensures { Puts (S.state sink.old) (S.state sink.new) (encode_utf8 (shown_character character)) result }
+    ensures { Puts (S.state sink.old) (S.state sink.new)
+        (encode_utf8 (shown_character character)) result }
 {
     put_all(
         sink,

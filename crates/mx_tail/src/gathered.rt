@@ -76,7 +76,8 @@ fn put_character<R: Sink>(tail: &mut Tail, sink: &mut R, character: char) -> Res
 }
 
 fn put_bytes<R: Sink>(tail: &mut Tail, sink: &mut R, bytes: &[u8]) -> Result<(), Failed>
-    ensures passes { Passes tail.old (R.state sink.old) (R.state sink.new) tail.new bytes.now result }
+    ensures passes { Passes tail.old (R.state sink.old) (R.state sink.new) tail.new
+        bytes.now result }
     ensures few { length tail.new < piece_bytes }
 {
     tail.put(sink, bytes)
