@@ -11,10 +11,12 @@ ghost use Rattle.mx_io.specs.Calls.{fails_next};
 use crate::calls::Calls;
 use crate::named::{Named, add, find};
 use crate::part::copy_part;
-use crate::{Failed, Store};
+use crate::{Entry, Failed, Folder, Store};
 use mx_words::NoMemory;
 use std::alloc::Global;
 use std::collections::VecDeque;
+use std::io;
+use std::io::{Cursor, ErrorKind};
 use std::marker::Model;
 
 /// Files in memory: a store that tells its files. Calls of it can be made to fail by their numbers.
@@ -136,4 +138,26 @@ impl Store for Files {
     }
 
     ghost tells = { λ s answer t step. step };
+}
+
+/// As a folder, from which `FolderStore` reads: it tells its files, and no call of it fails but the opening of
+/// a file that is absent. No call is numbered.
+impl<'a> Folder for &'a Files {
+    type File = Cursor<&'a [u8]>;
+
+    ghost told = { λ f. Some f.now.files };
+
+    fn look(&self, name: &str) -> io::Result<Entry> {
+        match self.bytes_of(name) {
+            Some(bytes) => Ok(Entry::Regular(bytes.len() as u64)),
+            None => Ok(Entry::Absent),
+        }
+    }
+
+    fn open(&self, name: &str) -> io::Result<Cursor<&'a [u8]>> {
+        match self.bytes_of(name) {
+            Some(bytes) => Ok(Cursor::new(bytes)),
+            None => Err(io::Error::from(ErrorKind::NotFound)),
+        }
+    }
 }

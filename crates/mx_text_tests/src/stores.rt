@@ -1,9 +1,12 @@
 //! Stores and sinks, in memory and real, and lines that are put together from pieces.
+ghost use Rattle.std.specs.Prelude.{[], Some};
+
 use mx_io::{
-    Bytes, Failed, FileSink, Files, FolderStore, Loose, Piece, Sink, StderrSink, StdoutSink, Store,
-    put_all, put_pieces,
+    Bytes, Failed, FileSink, Files, FolderStore, Loose, Maker, Piece, Sink, StderrSink, StdoutSink,
+    Store, put_all, put_pieces,
 };
-use std::io::Write;
+use mx_tail::put_line;
+use std::io::{ErrorKind, Write};
 use std::test::Fail;
 use std::{fs, io};
 
@@ -109,6 +112,62 @@ fn pieces_make_a_line(rt: HostRuntime) -> Result<(), Fail> {
 }
 
 #[test]
+fn a_line_is_one_write(rt: HostRuntime) -> Result<(), Fail> {
+    let line = [
+        Piece::Text("no file "),
+        Piece::Name("a\nend\u{1b}\u{7f}"),
+        Piece::Text("\n"),
+    ];
+    let mut bytes = Bytes::new(rt.alloc(), 100)?;
+    bytes.fail_at(2);
+    assert_eq!(rt; put_line(&mut bytes, &line), Ok(()));
+    assert_eq!(rt; put_line(&mut bytes, &line), Err(Failed));
+    assert_eq!(rt; bytes.as_slice(), b"no file a?end??\n".as_slice());
+    Ok(())
+}
+
+#[test]
+fn control_characters_of_names_are_not_shown(rt: HostRuntime) -> Result<(), Fail> {
+    let names = [
+        ("first.toml", "first.toml"),
+        ("\0\t\n\u{1f}", "????"),
+        ("\u{1b}[2J\u{7f}", "?[2J?"),
+        ("a\u{80}\u{85}\u{9b}\u{9f}b", "a????b"),
+        (
+            "\u{a0}\u{c2}\u{e9}\u{2028}\u{1d11e}",
+            "\u{a0}\u{c2}\u{e9}\u{2028}\u{1d11e}",
+        ),
+        ("", ""),
+    ];
+    for (name, shown) in names {
+        let mut bytes = Bytes::new(rt.alloc(), 100)?;
+        put_pieces(&mut bytes, &[Piece::Name(name)])?;
+        assert_eq!(rt; bytes.as_slice(), shown.as_bytes());
+        put_line(&mut bytes, &[Piece::Name(name)])?;
+        assert_eq!(rt; &bytes.as_slice()[shown.len()..], shown.as_bytes());
+    }
+    Ok(())
+}
+
+#[test]
+fn files_in_memory_are_a_folder(rt: HostRuntime) -> Result<(), Fail> {
+    let mut files = Files::new(rt.alloc());
+    files.add("a", b"hello")?;
+    let mut store = FolderStore::over(&files);
+    assert_eq!(rt; store.size("a"), Ok(Some(5)));
+    assert_eq!(rt; store.size("b"), Ok(None));
+    for (at, count) in [(0, 4), (3, 2), (5, 0), (u64::MAX, 0)] {
+        let mut into = [0; 4];
+        assert_eq!(rt; store.read("a", at, &mut into), Ok(count), "from {at}");
+    }
+    let mut into = *b"....";
+    assert_eq!(rt; store.read("a", 3, &mut into), Ok(2));
+    assert_eq!(rt; into, *b"lo..");
+    assert_eq!(rt; store.read("b", 0, &mut into), Err(Failed));
+    Ok(())
+}
+
+#[test]
 fn the_folder_is_a_store(rt: HostRuntime) -> Result<(), Fail> {
     let mut store = FolderStore::new(&rt);
     fs::write(&rt, "mx_io_a_file", "seven by")?;
@@ -163,7 +222,59 @@ fn standard_streams_are_sinks(rt: HostRuntime) -> Result<(), Fail> {
     );
     assert_eq!(rt; StdoutSink::new(Full).write(b"a"), Err(Failed));
     assert_eq!(rt; StderrSink::new(Full).write(b"a"), Err(Failed));
-    assert_eq!(rt; StdoutSink::new(Full).write(b""), Ok(0));
+    Ok(())
+}
+
+#[test]
+fn streams_append_to_writers(rt: HostRuntime) -> Result<(), Fail> {
+    let mut written = Vec::new(rt.alloc());
+    put_all(&mut StdoutSink::new(&mut written), b"one, ")?;
+    put_all(&mut StderrSink::new(&mut written), b"two")?;
+    assert_eq!(rt; written.as_slice(), b"one, two".as_slice());
+    Ok(())
+}
+
+// Lends a vector as a file, once.
+#[derive(Drop)]
+struct Lent<'a> {
+    file: Option<&'a mut Vec<u8>>,
+}
+
+impl<'a> Maker for Lent<'a> {
+    type File = &'a mut Vec<u8>;
+
+    ghost fresh = { Some [] };
+
+    fn make(&mut self) -> io::Result<&'a mut Vec<u8>> {
+        match self.file.take() {
+            Some(file) => {
+                file.clear();
+                Ok(file)
+            }
+            None => Err(io::Error::from(ErrorKind::NotFound)),
+        }
+    }
+}
+
+#[test]
+fn a_file_is_made_at_the_first_write(rt: HostRuntime) -> Result<(), Fail> {
+    let mut file = Vec::from_slice(rt.alloc(), b"what stood there before")?;
+    let mut sink = FileSink::over(Lent {
+        file: Some(&mut file),
+    });
+    put_all(&mut sink, b"")?;
+    assert_eq!(rt; file.as_slice(), b"what stood there before".as_slice());
+
+    let mut sink = FileSink::over(Lent {
+        file: Some(&mut file),
+    });
+    put_all(&mut sink, b"two ")?;
+    put_all(&mut sink, b"writes")?;
+    assert_eq!(rt; file.as_slice(), b"two writes".as_slice());
+    assert_eq!(rt;
+        FileSink::over(Lent { file: None }).write(b"a"),
+        Err(Failed)
+    );
     Ok(())
 }
 
@@ -176,10 +287,14 @@ fn the_dump_goes_to_a_file(rt: HostRuntime) -> Result<(), Fail> {
     assert_eq!(rt; refused, Err(Failed));
 
     fs::write(&rt, "memory.bin", "what stood there before")?;
+    let nothing = put_all(&mut sink, b"");
+    let before = fs::read_to_string(&rt, "memory.bin")?;
     let first = put_all(&mut sink, b"two ");
     let second = put_all(&mut sink, b"writes");
     let text = fs::read_to_string(&rt, "memory.bin")?;
     fs::remove_file(&rt, "memory.bin")?;
+    assert_eq!(rt; nothing, Ok(()));
+    assert_eq!(rt; before.as_str(), "what stood there before");
     assert_eq!(rt; first, Ok(()));
     assert_eq!(rt; second, Ok(()));
     assert_eq!(rt; text.as_str(), "two writes");
