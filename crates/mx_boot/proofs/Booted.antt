@@ -157,6 +157,17 @@ boots_valid plan images s in_range are e =
     let b = booted plan images s e in
     subst (λ (t : State). IsFlat (flat t)) b.1 (flat_valid plan images in_range (faultless plan images b.0) are)
 
+lists_are : (plan : Said) (images : List (List ℕ)) →
+    length (boot_state plan images).grants ≡ length (boot_state plan images).core.modules
+lists_are plan images =
+    length-map (homes plan images) (grants_of (length plan.harts)) ∙ length-homes plan images
+    ∙ sym (length-map plan.modules module_of)
+
+pub boots_list : (plan : Said) (images : List (List ℕ)) (s : State) → boot_of plan images ≡ Ok s →
+    length s.grants ≡ length s.core.modules
+boots_list plan images s e =
+    subst (λ (t : State). length t.grants ≡ length t.core.modules) (booted plan images s e).1 (lists_are plan images)
+
 pub boots_own : (plan : Said) (images : List (List ℕ)) (s : State) → IsInRange plan → boot_of plan images ≡ Ok s → OwnHeaps (reads s) s.core
 boots_own plan images s in_range e =
     let b = booted plan images s e in

@@ -1,6 +1,6 @@
 //! Laws of states at boot, each the contract of a function that does nothing.
 
-ghost use Rattle.std.specs.Prelude.{◌≡◌, ℕ, List, Ok};
+ghost use Rattle.std.specs.Prelude.{◌≡◌, ℕ, List, Ok, length};
 ghost use Rattle.mx_model.specs.Reads.{reads};
 ghost use Rattle.mx_model.specs.State.{State, flat};
 ghost use Rattle.mx_model.specs.Valid.{IsFlat};
@@ -10,10 +10,13 @@ ghost use Rattle.mx_manifest.specs.Plan.{Said};
 ghost use Rattle.mx_boot.specs.Boot.{boot_of};
 ghost use Rattle.mx_boot.specs.Images.{AreImages};
 
-/// Each state at boot of a plan in range is valid, and in it each heap area of a module belongs to that module.
+/// Each state at boot of a plan in range is valid, and in it each heap area of a module belongs to that module. Each
+/// state at boot has one list of grants for each module, so the laws of runs from valid states hold of its runs.
 pub fn boots_are_valid()
     ensures valid { (plan : Said) (images : List (List ℕ)) (s : State) → IsInRange plan →
         AreImages images → boot_of plan images ≡ Ok s → IsFlat (flat s) }
+    ensures lists { (plan : Said) (images : List (List ℕ)) (s : State) →
+        boot_of plan images ≡ Ok s → length s.grants ≡ length s.core.modules }
     ensures heaps { (plan : Said) (images : List (List ℕ)) (s : State) → IsInRange plan →
         boot_of plan images ≡ Ok s → OwnHeaps (reads s) s.core }
 {}

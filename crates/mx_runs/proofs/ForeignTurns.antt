@@ -1,0 +1,240 @@
+-- A turn keeps each word that its hart's domain may write neither before it nor after it.
+use Rattle.std.proofs.Common.{◌≡◌, ℕ, ◌+◌, ◌-◌, ◌*◌, ◌<◌, ◌≤◌, ◌⊎◌, Bool, true, false, not, cond, ◌==◌, ◌&&◌, nat_lt, nat_le, List, [], ◌∷◌, length, get_or, refl, sym, ◌∙◌, ap, subst, arith, Option, Some, None, unwrap_or, is_none, ⊎_elim, inl, inr}
+use Rattle.std.specs.List.{range_with_len}
+use Rattle.std.proofs.lemmas.Bool.{and_parts, leb-false, leb-true, ltb-false, ltb-true}
+use Rattle.std.proofs.Math.ListN.{get_or-eq_default}
+use Rattle.std.proofs.lemmas.Grind.{common_steps}
+use Rattle.mx_words.specs.Announced.{is_announced}
+use Rattle.mx_words.specs.Bytes.{cleared_at}
+use Rattle.mx_words.specs.Caches.{Cache}
+use Rattle.mx_words.specs.FirstFit.{Area, has_room, most_blocks, with_block}
+use Rattle.mx_words.specs.FirstRow.{Row, first_row}
+use Rattle.mx_words.specs.Ranges.{covers}
+use Rattle.mx_words.proofs.OverlayLaws.{covers_from}
+use Rattle.mx_model.specs.declared.values.Call.{Call}
+use Rattle.mx_model.specs.declared.values.Frame.{Frame}
+use Rattle.mx_model.specs.Checks.{arg, call_range, drops}
+use Rattle.mx_model.specs.Effect.{next, reg}
+use Rattle.mx_model.specs.Gates.{top}
+use Rattle.mx_model.specs.Reads.{Reads, Change}
+use Rattle.mx_model.specs.Serve.{Alloc, Unknown, Served, Service, alloc_change, alloc_from, alloc_place, allocated, change_of, ended, own_alone, serve, serve_alloc, served_by, service}
+use Rattle.mx_model.specs.State.{Core, Hart, hart_at, module_at, no_hart, with_module}
+use Rattle.mx_model.specs.Turn.{Action, Rests, Waits, Serves, Asks, Traps, Bounces, Crosses, Returns, Runs, Writes, Made, acted, answered, asked, by_status, call_of, done, given_up, halted, is_served_now, killed, served, trapped, turned, with_regs}
+use Rattle.mx_model.specs.Valid.{IsModule, IsValid}
+use Rattle.mx_model.proofs.ListLaws.{found-passes, length-with_block}
+use Rattle.mx_model.proofs.TestLaws.{first-passes, found-some}
+use Rattle.mx_model.proofs.ValidParts.{home-at}
+use Rattle.mx_laws.specs.After.{domain_at}
+use Rattle.mx_laws.specs.Foreign.{AllButBlock, AllKept, ForeignAfter, IsForeign, IsKept, TakesBlock, heap_of}
+use Rattle.mx_laws.proofs.ForeignLaws.{foreign-turned}
+use Rattle.mx_laws.proofs.Lawful.{IsLawful, OwnCall, lawful-turn}
+use Rattle.mx_laws.proofs.TurnParts.{apart, by-action}
+
+-- a change gives a domain read-write on a word of RAM
+pub record IsGiven (c : Core) (d w : ℕ) (o : Option Change) : Type 0 where
+  pub first : ℕ
+  pub count : ℕ
+  pub change : o ≡ Some (change_of (first, count) (own_alone d))
+  pub low : first ≤ w
+  pub high : w < first + count
+  pub inside : first + count ≤ c.size
+
+-- a word is kept, or given
+abbrev pub IsKeptOrGiven : Core → ℕ → ℕ → Core → Option Change → Type 0
+IsKeptOrGiven c d w e o = (IsKept c e w) ⊎ IsGiven c d w o
+
+kept-ram : (c e : Core) (w : ℕ) → e.ram ≡ c.ram → IsKept c e w
+kept-ram c e w n k l = ap (λ (xs : List ℕ). get_or xs (4 * w + k) 0) n
+
+moved : (c : Core) (d w : ℕ) (e f : Core) (o : Option Change) → f.ram ≡ e.ram → IsKeptOrGiven c d w e o →
+    IsKeptOrGiven c d w f o
+moved c d w e f o n p =
+    ⊎_elim (λ q. inl (λ k l. ap (λ (xs : List ℕ). get_or xs (4 * w + k) 0) n ∙ q k l)) (λ q. inr q) p
+
+cleared-beside : (xs : List ℕ) (k n j : ℕ) → k + n ≤ length xs →
+    (j < k) ⊎ (k + n ≤ j) → get_or (cleared_at xs k n) j 0 ≡ get_or xs j 0
+unfolding cleared_at
+cleared-beside xs k n j p s = grind (arith, common_steps)
+
+uncovered : (first count w : ℕ) → covers first count w ≡ false → (w < first) ⊎ (first + count ≤ w)
+uncovered first count w e =
+    elim (nat_le first w) as (λ b. nat_le first w ≡ b → b && nat_lt (w - first) count ≡ false →
+    (w < first) ⊎ (first + count ≤ w)) [
+      | true ↦ λ t f. let a = leb-true first w t in let b = ltb-false (w - first) count f in inr (omega (arith, a, b))
+      | false ↦ λ t f. inl (leb-false first w t)
+    ] refl e
+
+-- an alloc of hart h, served in a state with other harts and caches
+module _ (r : Reads) (c : Core) (h w : ℕ) (v : IsValid c) (turns : ℕ) (harts : List Hart) (caches : List Cache) where
+  abbrev seen : Core
+  seen = apart c turns harts caches
+
+  abbrev call : Call
+  call = call_of h (hart_at c h)
+
+  abbrev domain : ℕ
+  domain = domain_at c h
+
+  allocated-word : (first : ℕ) → has_room (heap_of c h) (module_at c domain).blocks (arg call 0) first ≡ true →
+      IsKeptOrGiven c domain w (allocated seen call first).core (allocated seen call first).change
+  allocated-word first room =
+      let n = arg call 0 in
+      let area = heap_of c h in
+      let outer = and_parts (nat_le area.first first && nat_le (first + n) (area.first + area.count)) _ room in
+      let inner = and_parts (nat_le area.first first) (nat_le (first + n) (area.first + area.count)) outer.0 in
+      let high : first + n ≤ area.first + area.count = leb-true _ _ inner.1 in
+      let home = (home-at c domain v).heap in
+      let count = v.ram_count in
+      let inside : 4 * first + 4 * n ≤ length c.ram = omega (arith, high, home, count) in
+      elim (covers first n w) as (λ b. covers first n w ≡ b →
+      IsKeptOrGiven c domain w (allocated seen call first).core (allocated seen call first).change) [
+        | true ↦ λ t.
+            let within = covers_from first n w t in
+            inr (record {
+              first = first;
+              count = n;
+              change = refl;
+              low = within.0;
+              high = within.1;
+              inside = omega (arith, high, home);
+            })
+        | false ↦ λ t. inl (λ k l.
+            cleared-beside c.ram (4 * first) (4 * n) (4 * w + k) inside
+            (⊎_elim (λ a. inl (omega (arith, a, l))) (λ a. inr (omega (arith, a))) (uncovered first n w t)))
+      ] refl
+
+  alloc-word : (first : ℕ) (o : Option ℕ) →
+      (o ≡ None → has_room (heap_of c h) (module_at c domain).blocks (arg call 0) first ≡ true) →
+      IsKeptOrGiven c domain w (alloc_from seen call first o).core (alloc_from seen call first o).change
+  alloc-word first (Some n) p = inl (kept-ram c seen w refl)
+  alloc-word first None p = allocated-word first (p refl)
+
+  serve_alloc-word : IsKeptOrGiven c domain w (serve_alloc r seen call).core (serve_alloc r seen call).change
+  serve_alloc-word =
+      let m = module_at c domain in
+      let first = unwrap_or (alloc_place seen call) 0 in
+      let t1 : Row ℕ = (arg call 0 == 0, 1) in
+      let t2 : Row ℕ = (is_none (alloc_place seen call), 6) in
+      let t3 : Row ℕ = (nat_le most_blocks (length m.blocks), 7) in
+      let t4 : Row ℕ = (not (r.fits (alloc_change first call)), 5) in
+      alloc-word first (first_row (t1 ∷ t2 ∷ t3 ∷ t4 ∷ [])) (λ e.
+      let n : is_none (alloc_place seen call) ≡ false =
+      (first-passes t2 (t3 ∷ t4 ∷ []) (first-passes t1 (t2 ∷ t3 ∷ t4 ∷ []) e).1).0 in
+      found-some (alloc_place seen call) (λ a. has_room m.heap m.blocks (arg call 0) a ≡ true)
+      (found-passes (has_room m.heap m.blocks (arg call 0)) (range_with_len m.heap.first m.heap.count)) n)
+
+  ended-word : (s : Served) → IsKeptOrGiven c domain w s.core s.change →
+      IsKeptOrGiven c domain w (ended seen call s).core (ended seen call s).change
+  ended-word s p =
+      elim (is_announced call.number) as (λ b. let e : Served =
+      cond b (record s { core = drops call.hart (call_range seen call) s.core }) s in
+      IsKeptOrGiven c domain w e.core e.change) [
+        | true ↦ moved c domain w s.core (drops call.hart (call_range seen call) s.core) s.change refl p
+        | false ↦ p
+      ]
+
+  serve-word : service call.number ≡ Alloc →
+      IsKeptOrGiven c domain w (serve r seen call).core (serve r seen call).change
+  serve-word e =
+      subst
+      (λ (k : Service). IsKeptOrGiven c domain w (ended seen call (served_by k r seen call)).core
+      (ended seen call (served_by k r seen call)).change) (sym e)
+      (ended-word (serve_alloc r seen call) serve_alloc-word)
+
+  done-word : (x : Hart) (s : Served) → IsKeptOrGiven c domain w s.core s.change →
+      IsKeptOrGiven c domain w (done h x s).core (done h x s).change
+  done-word x s p =
+      elim s.stop as
+      (λ b. IsKeptOrGiven c domain w
+      (cond b (halted h x (Some s.a0) s.core) (with_regs h x (answered x s.a0 s.a1) (next x.pc) s.core))
+      s.change) [
+        | true ↦ moved c domain w s.core (halted h x (Some s.a0) s.core) s.change refl p
+        | false ↦ moved c domain w s.core (with_regs h x (answered x s.a0 s.a1) (next x.pc) s.core) s.change refl p
+      ]
+
+  served-word : (mine : Call) → mine ≡ call → service call.number ≡ Alloc →
+      IsKeptOrGiven c domain w (served r seen h (hart_at c h) mine).core (served r seen h (hart_at c h) mine).change
+  served-word mine e s =
+      subst
+      (λ (k : Call). IsKeptOrGiven c domain w (served r seen h (hart_at c h) k).core
+      (served r seen h (hart_at c h) k).change) (sym e)
+      (done-word (hart_at c h) (serve r seen call) (serve-word s))
+
+  asked-word : (mine : Call) (b : Bool) → mine ≡ call → service call.number ≡ Alloc →
+      IsKeptOrGiven c domain w (asked r seen h (hart_at c h) mine b).core (asked r seen h (hart_at c h) mine b).change
+  asked-word mine true e s = served-word mine e s
+  asked-word mine false e s = inl (kept-ram c (asked r seen h (hart_at c h) mine false).core w refl)
+
+-- a fault writes nothing
+ram-killed : (d cause : ℕ) (c : Core) → (killed d cause c).ram ≡ c.ram
+ram-killed d cause c =
+    elim ((module_at c d).kills && not (cause == 20)) as
+    (λ b. (cond b (with_module d (record (module_at c d) { dead = true }) c) c).ram ≡ c.ram) [
+      | true ↦ refl
+      | false ↦ refl
+    ]
+
+ram-given_up : (c : Core) (h : ℕ) (x : Hart) (cause : ℕ) (o : Option Frame) → (given_up c h x cause o).ram ≡ c.ram
+ram-given_up c h x cause None = refl
+ram-given_up c h x cause (Some frame) = refl
+
+-- an action in a turn after which the domain may have one block more
+acted-word : (r : Reads) (c : Core) (h w turns : ℕ) (harts : List Hart) (caches : List Cache) (a : Action) → IsValid c →
+    IsLawful (OwnCall h (hart_at c h)) r c h (hart_at c h) a →
+    (let m = acted r (apart c turns harts caches) h (hart_at c h) a in
+    TakesBlock r c h m.core → IsKeptOrGiven c (domain_at c h) w m.core m.change)
+acted-word r c h w turns harts caches Rests v p t = inl (λ k l. refl)
+acted-word r c h w turns harts caches Waits v p t = inl (λ k l. refl)
+acted-word r c h w turns harts caches (Serves call) v p t = served-word r c h w v turns harts caches call p t.call
+acted-word r c h w turns harts caches (Asks call) v p t =
+    asked-word r c h w v turns harts caches call (is_served_now (apart c turns harts caches) h call) p t.call
+acted-word r c h w turns harts caches (Traps cause value) v p t =
+    let x = hart_at c h in
+    let e = apart c turns harts caches in
+    inl (kept-ram c (trapped e h x cause value).core w (ram-given_up (killed x.domain cause e) h x cause (top x.frames)
+    ∙ ram-killed x.domain cause e))
+acted-word r c h w turns harts caches Bounces v p t = inl (λ k l. refl)
+acted-word r c h w turns harts caches (Crosses target) v p t = inl (λ k l. refl)
+acted-word r c h w turns harts caches (Returns rd frame) v p t = inl (λ k l. refl)
+acted-word r c h w turns harts caches (Runs regs pc) v p t = inl (λ k l. refl)
+acted-word r c h w turns harts caches (Writes address size value) v p t =
+    let same : (module_at c (domain_at c h)).blocks ≡ with_block t.block (module_at c (domain_at c h)).blocks =
+    t.taken in
+    let n = ap (λ (xs : List Area). length xs) same in
+    let m = length-with_block t.block (module_at c (domain_at c h)).blocks in
+    absurd (let q : ⊥ = omega (arith, n, m) in q)
+
+turned-block : (r : Reads) (c : Core) (h w : ℕ) → IsValid c → TakesBlock r c h (turned r c h).core →
+    IsKeptOrGiven c (domain_at c h) w (turned r c h).core (turned r c h).change
+turned-block r c h w v t =
+    let b = by-action r c h in
+    let x = hart_at c h in
+    let a = (by_status r (apart c b.turns b.harts b.before) h x x.status).action in
+    let m = acted r (apart c b.turns b.harts b.after) h x a in
+    subst (λ (n : Made). IsKeptOrGiven c (domain_at c h) w n.core n.change) (sym b.is)
+    (acted-word r c h w b.turns b.harts b.after a v (lawful-turn r c h b.turns b.harts b.before v)
+    (subst (λ (n : Made). TakesBlock r c h n.core) b.is t))
+
+-- a hart that takes a block is there
+block-there : (r : Reads) (c : Core) (h : ℕ) (e : Core) → TakesBlock r c h e → h < length c.harts
+block-there r c h e t = elim (nat_lt h (length c.harts)) as (λ b. nat_lt h (length c.harts) ≡ b → h < length c.harts) [
+  | true ↦ λ i. ltb-true h (length c.harts) i
+  | false ↦ λ i.
+      let n : hart_at c h ≡ no_hart = get_or-eq_default c.harts no_hart (ltb-false h (length c.harts) i) in
+      let k : Unknown ≡ Alloc = sym (ap (λ (x : Hart). service (reg x.regs 17)) n) ∙ t.call in
+      absurd (let q : ⊥ = cc in q)
+] refl
+
+-- a turn keeps a word that its hart's domain may not write, or gives it to that domain
+turned-by : (r : Reads) (c : Core) (h w : ℕ) → IsValid c → IsForeign r c h w → ForeignAfter r c h (turned r c h).core →
+    (IsKept c (turned r c h).core w) ⊎ (IsGiven c (domain_at c h) w (turned r c h).change × IsModule (length c.modules)
+    (domain_at c h))
+turned-by r c h w v f (AllKept p) = inl (p w f)
+turned-by r c h w v f (AllButBlock p) =
+    ⊎_elim (λ k. inl k) (λ g. inr (g, (v.harts h (block-there r c h (turned r c h).core p)).domain))
+    (turned-block r c h w v p)
+
+pub turned-word : (r : Reads) (c : Core) (h w : ℕ) → IsValid c → IsForeign r c h w →
+    (IsKept c (turned r c h).core w) ⊎ (IsGiven c (domain_at c h) w (turned r c h).change × IsModule (length c.modules)
+    (domain_at c h))
+turned-word r c h w v f = turned-by r c h w v f (foreign-turned r c h v)

@@ -1,0 +1,10 @@
+pub mod RunMoments
+pub mod RefusalLaws
+pub mod RefusalTurns
+pub mod ForeignTurns
+pub mod ForeignRunLaws
+pub mod AlignedTurns
+pub mod TwinRunLaws
+pub mod RefusalInstances
+pub mod ForeignInstances
+pub mod TwinInstances

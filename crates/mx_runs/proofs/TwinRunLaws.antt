@@ -1,0 +1,167 @@
+-- Twin runs: as long as the turns are of harts of a set that meet no border, two runs share what these harts see.
+use Rattle.std.proofs.Common.{◌≡◌, ℕ, zero, suc, ◌+◌, ◌/◌, ◌%◌, Bool, true, false, ◌==◌, ◌||◌, List, [], ◌∷◌, ◌++◌, length, get_or, refl, sym, ◌∙◌, ap, subst, arith, eqb-true}
+use Rattle.std.specs.Prelude.{fold, slice_index}
+use Rattle.std.specs.List.{list_all}
+use Rattle.std.proofs.lemmas.Bool.{and_parts, eqb-false}
+use Rattle.std.proofs.lemmas.List.{length-append}
+use Rattle.std.proofs.lemmas.List.Sums.{fold-append}
+use Rattle.mx_model.specs.Agreement.{standing}
+use Rattle.mx_model.specs.Checks.{is_halted}
+use Rattle.mx_model.specs.Reads.{reads}
+use Rattle.mx_model.specs.Run.{Schedule, ByBytes, ByQuantum, all_halted, hart_of, is_over, is_stopped, run, turn}
+use Rattle.mx_model.specs.State.{Core, Hart, Status, Halted, Running, State, Waiting, hart_at, no_hart}
+use Rattle.mx_model.proofs.KeepLaws.{keeps-turned, size-turned}
+use Rattle.mx_model.proofs.ListLaws.{length-put_at}
+use Rattle.mx_laws.specs.Twins.{AreTwins, IsRunning, MakeOneStore, Store, free_twins, stored}
+use Rattle.mx_laws.proofs.AfterLaws.{agree-after}
+use Rattle.mx_laws.proofs.TwinLaws.{IsLeftFree, action_in, border-twins, left-twin, store-twins}
+use Rattle.mx_runs.specs.TwinRuns.{AreFreeTurns, AreTwinStates, GoAlike, IsFreeTurn}
+use Rattle.mx_runs.proofs.AlignedTurns.{straight-action}
+use Rattle.mx_runs.proofs.RunMoments.{one-more}
+
+-- both schedules name the same hart, and go on
+same-hart : (schedule : Schedule) (c e : Core) → c.turns ≡ e.turns → length c.harts ≡ length e.harts →
+    hart_of schedule c ≡ hart_of schedule e
+same-hart (ByQuantum quantum) c e p q = ap (λ (n : ℕ). n / quantum % length c.harts) p
+    ∙ ap (λ (n : ℕ). e.turns / quantum % n) q
+same-hart (ByBytes bytes) c e p q = ap (λ (n : ℕ). slice_index bytes n) p
+
+halted-all : (harts : List Hart) (h : ℕ) → list_all (λ (hart : Hart). is_halted hart.status) harts ≡ true →
+    is_halted (get_or harts h no_hart).status ≡ true
+halted-all [] h e = refl
+halted-all (x ∷ xs) zero e = (and_parts (is_halted x.status) (list_all (λ (hart : Hart). is_halted hart.status) xs) e).0
+halted-all (x ∷ xs) (suc h) e =
+    halted-all xs h (and_parts (is_halted x.status) (list_all (λ (hart : Hart). is_halted hart.status) xs) e).1
+
+goes-on : (schedule : Schedule) (s : State) (h : ℕ) → is_over schedule s.core.turns ≡ false → IsRunning s.core h →
+    is_stopped schedule s ≡ false
+goes-on schedule s h e p =
+    elim (all_halted s.core) as (λ b. all_halted s.core ≡ b → b || is_over schedule s.core.turns ≡ false) [
+      | true ↦ λ t.
+          let k : true ≡ false = sym (halted-all s.core.harts h t) ∙ ap (λ (x : Status). is_halted x) p in
+          absurd (let q : ⊥ = cc in q)
+      | false ↦ λ t. e
+    ] refl
+
+running-too : (x y : Status) → x ≡ Running → standing x ≡ standing y → y ≡ Running
+running-too x Running e f = refl
+running-too x (Waiting call heard) e f = absurd (let k = ap standing e in let q : ⊥ = cc in q)
+running-too x (Halted code) e f = absurd (let k = ap standing e in let q : ⊥ = cc in q)
+
+twins-of : (set : ℕ → Bool) (u v : State) (g : ℕ) → AreTwinStates set u v → set g ≡ true →
+    AreTwins (reads u) u.core (reads v) v.core g
+twins-of set u v g t i =
+    record { words = t.words; bytes = t.bytes; aligned = t.aligned g i; agreement = t.agreement g i }
+
+-- one free turn of hart h in both
+module _ (set : ℕ →
+    Bool) (u v : State) (h : ℕ) (t : AreTwinStates set u v) (i : set h ≡ true) (f : free_twins u v h) where
+  left : IsLeftFree (reads u) u.core h (action_in (reads u) u.core h (hart_at u.core h))
+  left = left-twin (reads u) u.core (reads v) v.core h f
+
+  one-store : MakeOneStore (reads u) u.core (reads v) v.core h
+  one-store = store-twins (reads u) (reads v) u.core v.core h f
+
+  aligned-after : (g : ℕ) → set g ≡ true → (b : Bool) → (g == h) ≡ b → (hart_at (turn u h).core g).pc % 4 ≡ 0
+  aligned-after g j true e =
+      let x = hart_at u.core h in
+      subst (λ (k : ℕ). (hart_at (turn u h).core k).pc % 4 ≡ 0) (sym (eqb-true g h e))
+      (subst (λ (y : Hart). y.pc % 4 ≡ 0) (sym left.own) (straight-action (reads u) u.core h x (t.aligned h i)))
+  aligned-after g j false e = subst (λ (pc : ℕ). pc % 4 ≡ 0) (left.others g (eqb-false g h e)).pc (t.aligned g j)
+
+  twins-after : AreTwinStates set (turn u h) (turn v h)
+  twins-after =
+      let store = one-store.store in
+      let k = keeps-turned (reads u) u.core h in
+      let l = keeps-turned (reads v) v.core h in
+      record {
+        words = size-turned (reads u) u.core h ∙ t.words ∙ sym (size-turned (reads v) v.core h);
+        bytes = ap (λ (xs : List ℕ). length xs) one-store.first
+            ∙ length-put_at store.size u.core.ram store.place store.value ∙ t.bytes
+            ∙ sym (length-put_at store.size v.core.ram store.place store.value)
+            ∙ sym (ap (λ (xs : List ℕ). length xs) one-store.second);
+        harts = k.harts ∙ t.harts ∙ sym l.harts;
+        turns = k.turns ∙ ap (λ (n : ℕ). n + 1) t.turns ∙ sym l.turns;
+        aligned = λ g j. aligned-after g j (g == h) refl;
+        agreement = λ g j. agree-after u v h g f (t.agreement g j);
+      }
+
+-- what two runs of n turns have come to
+record HaveGone (set : ℕ → Bool) (s t : State) (n : ℕ) (u v : State) : Type 0 where
+  twins : AreTwinStates set u v
+  stores : List Store
+  count : length stores ≡ n
+  first : u.core.ram ≡ fold stored s.core.ram stores
+  second : v.core.ram ≡ fold stored t.core.ram stores
+
+ram-more : (old : List ℕ) (stores : List Store) (store : Store) (now after : List ℕ) → now ≡ fold stored old stores →
+    after ≡ stored now store →
+    after ≡ fold stored old (stores ++ store ∷ [])
+ram-more old stores store now after p q = q ∙ ap (λ (xs : List ℕ). stored xs store) p
+    ∙ sym (fold-append stored old stores (store ∷ []))
+
+gone-turn : (set : ℕ → Bool) (s t : State) (n : ℕ) (u v : State) (h : ℕ) → HaveGone set s t n u v → set h ≡ true →
+    free_twins u v h →
+    HaveGone set s t (suc n) (turn u h) (turn v h)
+gone-turn set s t n u v h p i f =
+    let one = store-twins (reads u) (reads v) u.core v.core h f in
+    record {
+      twins = twins-after set u v h p.twins i f;
+      stores = p.stores ++ one.store ∷ [];
+      count = let k = length-append p.stores (one.store ∷ []) in let l = p.count in omega (arith, k, l);
+      first = ram-more s.core.ram p.stores one.store u.core.ram (turn u h).core.ram p.first one.first;
+      second = ram-more t.core.ram p.stores one.store v.core.ram (turn v h).core.ram p.second one.second;
+    }
+
+-- the next turn of both runs
+gone-more : (set : ℕ → Bool) (schedule : Schedule) (s t : State) (m : ℕ) →
+    HaveGone set s t m (run schedule m s) (run schedule m t) →
+    IsFreeTurn set schedule (run schedule m s) →
+    HaveGone set s t (suc m) (run schedule (m + 1) s) (run schedule (m + 1) t)
+gone-more set schedule s t m p f =
+    let u = run schedule m s in
+    let v = run schedule m t in
+    let h = hart_of schedule u.core in
+    let same : h ≡ hart_of schedule v.core = same-hart schedule u.core v.core p.twins.turns p.twins.harts in
+    let agreed = p.twins.agreement h f.inside in
+    let over : is_over schedule v.core.turns ≡ false = sym (ap (λ (n : ℕ). is_over schedule n) p.twins.turns)
+    ∙ f.named in
+    let running : IsRunning v.core h =
+    running-too (hart_at u.core h).status (hart_at v.core h).status f.running agreed.same_standing in
+    let first : run schedule (m + 1) s ≡ turn u h = one-more schedule m s (goes-on schedule u h f.named f.running) in
+    let second : run schedule (m + 1) t ≡ turn v h =
+    one-more schedule m t (goes-on schedule v h over running) ∙ ap (λ (g : ℕ). turn v g) (sym same) in
+    let gone =
+    gone-turn set s t m u v h p f.inside (record {
+      twins = twins-of set u v h p.twins f.inside;
+      running =
+          f.running;
+      free = f.free;
+    }) in
+    subst (λ (x : State). HaveGone set s t (suc m) x (run schedule (m + 1) t)) (sym first)
+    (subst (λ (y : State). HaveGone set s t (suc m) (turn u h) y) (sym second) gone)
+
+gone : (set : ℕ → Bool) (schedule : Schedule) (s t : State) (n : ℕ) → AreTwinStates set s t →
+    AreFreeTurns set schedule s n →
+    HaveGone set s t n (run schedule n s) (run schedule n t)
+gone set schedule s t zero p f = record { twins = p; stores = []; count = refl; first = refl; second = refl }
+gone set schedule s t (suc m) p f =
+    let next : m + 1 ≡ suc m = omega arith in
+    subst (λ (k : ℕ). HaveGone set s t (suc m) (run schedule k s) (run schedule k t)) next
+    (gone-more set schedule s t m (gone set schedule s t m p (λ k l. f k (omega (arith, l)))) (f m (omega arith)))
+
+pub twins-run : (set : ℕ → Bool) (schedule : Schedule) (s t : State) (n : ℕ) → AreTwinStates set s t →
+    AreFreeTurns set schedule s n →
+    GoAlike set s t n (run schedule n s) (run schedule n t)
+twins-run set schedule s t n p f =
+    let u = run schedule n s in
+    let v = run schedule n t in
+    let q = gone set schedule s t n p f in
+    record {
+      twins = q.twins;
+      border = λ g i. border-twins (reads u) (reads v) u.core v.core g (twins-of set u v g q.twins i);
+      stores = q.stores;
+      count = q.count;
+      first = q.first;
+      second = q.second;
+    }
