@@ -1,0 +1,4 @@
+pub mod LeafLaws
+pub mod CallLaws
+pub mod TurnLaws
+pub mod RunLaws
