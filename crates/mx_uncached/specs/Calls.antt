@@ -47,14 +47,11 @@ meets_heap p c =
     let heap = (module_of p c.domain).heap in
     overlaps heap.first heap.count (range p c).0 (range p c).1
 
--- whether one of the a1 bytes from a0 on lies outside RAM, and these bytes
+-- whether one of the a1 bytes from a0 on lies outside RAM
 abbrev pub bytes_outside : Plain → Call → Bool
 bytes_outside p c =
     nat_lt 0 (arg c 1) &&
     (nat_lt (arg c 0) ram_base || nat_lt (ram_base + 4 * p.size) (arg c 0 + arg c 1))
-
-abbrev pub bytes : Plain → Call → List ℕ
-bytes p c = take (arg c 1) (drop (arg c 0 - ram_base) p.ram)
 
 -- the caller's live blocks
 abbrev pub blocks : Plain → Call → List Area
@@ -80,20 +77,13 @@ allocated p c = change_of (unwrap_or (new_block p c) 0, arg c 0) (own_alone c.do
 abbrev pub freed : Plain → Call → Change
 freed p c = change_of (arg_word c, unwrap_or (old_block p c) 0) none_at_all
 
--- the owner that a transfer gives, and the gates that calls 8 and 10 add
+-- the owner that a transfer gives
 abbrev pub given : Plain → Call → Give
 given p c = record { first = (range p c).0; count = (range p c).1; value = arg c 2 }
 
-abbrev pub call_gate : Call → Gate
-call_gate c = record { domain = arg c 1; word = arg_word c; target = c.domain }
-
-abbrev pub return_gate : Call → Gate
-return_gate c = record { domain = c.domain; word = arg_word c; target = c.domain }
-
 -- the first table: what each call is tested for, in order, and the code by which it is refused where a test fails
 abbrev pub tests : Service → Plain → Call → List (Row ℕ)
-tests Exit p c =
-    (c.nested, 10) ∷ []
+tests Exit p c = (c.nested, 10) ∷ []
 tests Write p c =
     (nat_lt 4096 (arg c 1), 11)
     ∷ (bytes_outside p c, 1)
@@ -139,13 +129,11 @@ tests Query p c =
     (not (is_word p c), 1)
     ∷ (not (is_module p (arg c 1)), 3)
     ∷ (not (arg c 1 == c.domain) && not (owns_word p c), 2) ∷ []
-tests Self p c =
-    []
+tests Self p c = []
 tests Exchange p c =
     (not (is_word p c), 1)
     ∷ (not (may p c.domain A.Write (arg_word c)), 12) ∷ []
-tests Unknown p c =
-    (true, 13) ∷ []
+tests Unknown p c = (true, 13) ∷ []
 
 -- the answer in x10; hart h goes on after its ECALL
 abbrev pub answer : ℕ → ℕ → Plain → Plain
@@ -154,6 +142,16 @@ answer h a0 p = let hart = hart_of p h in go h (slice_set hart.regs 10 a0) (next
 -- an exit: hart h ends with the code, of which there is a note
 abbrev pub exit : ℕ → ℕ → Plain → Plain
 exit h code p = halt h (Some code) (note (N.Exit p.turns h (hart_of p h).domain code) p)
+
+-- the a1 bytes from a0 on go to the console
+abbrev pub write : Call → Plain → Plain
+write c p = record p { console = p.console ++ take (arg c 1) (drop (arg c 0 - ram_base) p.ram) }
+
+-- a gate into the caller, for a domain at the word of a0
+abbrev pub add_gate : ℕ → Call → Plain → Plain
+add_gate d c p =
+    let gate : Gate = record { domain = d; word = arg_word c; target = c.domain } in
+    record p { gates = with_gate gate p.gates }
 
 -- the caller's live blocks are others
 abbrev pub with_blocks : Call → List Area → Plain → Plain
@@ -179,7 +177,7 @@ exchange h c p =
 -- the second table: what each call does where no test fails
 abbrev pub does : Service → ℕ → Call → Plain → Plain
 does Exit h c p = exit h (arg c 0) p
-does Write h c p = answer h (arg c 1) (record p { console = p.console ++ bytes p c })
+does Write h c p = answer h (arg c 1) (write c p)
 does Grant h c p = answer h 0 (change (granted p c) p)
 does RevokeAll h c p = answer h 0 (change (revoked p c) p)
 does Transfer h c p = answer h 0 (record p { gives = p.gives ++ given p c ∷ [] })
@@ -188,10 +186,10 @@ does Alloc h c p =
     answer h (address_of first) (allocate c first p)
 does Free h c p =
     answer h 0 (change (freed p c) (with_blocks c (without_block (arg_word c) (blocks p c)) p))
-does AddGate h c p = answer h 0 (record p { gates = with_gate (call_gate c) p.gates })
+does AddGate h c p = answer h 0 (add_gate (arg c 1) c p)
 does RemoveGate h c p =
     answer h 0 (record p { gates = without_gate (arg c 1) (arg_word c) p.gates })
-does AddReturnGate h c p = answer h 0 (record p { gates = with_gate (return_gate c) p.gates })
+does AddReturnGate h c p = answer h 0 (add_gate c.domain c p)
 does Query h c p = answer h (number (perm_of p (arg c 1) (arg_word c))) p
 does Self h c p = answer h (256 * c.hart + c.domain) p
 does Exchange h c p = exchange h c p

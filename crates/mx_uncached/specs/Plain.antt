@@ -83,17 +83,13 @@ loaded_at p address size = number_at p.ram (address - ram_base) size
 abbrev pub store : ℕ → ℕ → ℕ → Plain → Plain
 store address size value p = record p { ram = put_at p.ram (address - ram_base) size value }
 
--- rights after a change: one grant more for each domain that it names
-abbrev pub grants_with : Plain → Change → List (List Grant)
-grants_with p change = granted_all change.first change.count change.given p.grants
-
+-- rights changed: one grant more for each domain that the change names
 abbrev pub change : Change → Plain → Plain
-change c p = record p { grants = grants_with p c }
+change c p = record p { grants = granted_all c.first c.count c.given p.grants }
 
 -- whether the tables would hold the maps after a change
 abbrev pub would_fit : Plain → Change → Bool
-would_fit p change =
-    fits p.kind p.limit (list_map (λ grants. map grants p.size) (grants_with p change))
+would_fit p c = fits p.kind p.limit (list_map (λ grants. map grants p.size) (change c p).grants)
 
 -- whether there would be few enough runs of owner after a give
 abbrev pub few_runs : Plain → Give → Bool
