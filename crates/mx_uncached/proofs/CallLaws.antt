@@ -1,22 +1,21 @@
 -- A served call when its caches are forgotten.
-use Rattle.std.proofs.Common.{◌≡◌, ℕ, Bool, true, false, not, ◌==◌, List, [], ◌∷◌, refl, sym, ◌∙◌, ap, nat_lt, if◌then◌else◌, Option, Some, None, unwrap_or}
+use Rattle.std.proofs.Common.{◌≡◌, ℕ, Bool, true, false, not, List, [], ◌∷◌, refl, ◌∙◌, ap, nat_lt, if◌then◌else◌, Option, Some, None, unwrap_or}
 use Rattle.std.specs.List.{list_all}
 use Rattle.std.specs.Option.{option_map_or}
 use Rattle.mx_words.specs.declared.perm.Access.TheVariants as A
 use Rattle.mx_words.specs.Announced.{is_announced}
 use Rattle.mx_words.specs.Caches.{Cache}
-use Rattle.mx_words.specs.FirstRow.{Row, first_row}
-use Rattle.mx_words.specs.Ranges.{address_of}
+use Rattle.mx_words.specs.FirstRow.{first_row}
 use Rattle.mx_words.specs.Rights.{allows}
 use Rattle.mx_model.specs.declared.values.Call.{Call}
 use Rattle.mx_model.specs.declared.values.Note.TheVariants as N
 use Rattle.mx_model.specs.declared.values.TurnKind.TheVariants as T
-use Rattle.mx_model.specs.Checks.{Look, arg, call_range, drops, looked_all}
+use Rattle.mx_model.specs.Checks.{arg, call_range, drops, looked_all}
 use Rattle.mx_model.specs.Effect.{next}
-use Rattle.mx_model.specs.Reads.{Reads, reads}
-use Rattle.mx_model.specs.Serve.{Served, Service, Exit, Write, Grant, RevokeAll, Transfer, Alloc, Free, AddGate, RemoveGate, AddReturnGate, Query, Self, Exchange, Unknown, alloc_from, alloc_place, answers, arg_word, bytes_at, code, ended, exchange_from, exchanged, judged, look_of, may_read, serve, served_by, service, write_from, write_looks, write_outside, write_words, written_out}
+use Rattle.mx_model.specs.Reads.{reads}
+use Rattle.mx_model.specs.Serve.{Served, Service, Exit, Write, Grant, RevokeAll, Transfer, Alloc, Free, AddGate, RemoveGate, AddReturnGate, Query, Self, Exchange, Unknown, alloc_from, answers, arg_word, bytes_at, code, ended, exchange_from, exchanged, judged, look_of, may_read, served_by, service, write_from, write_looks, write_words, written_out}
 use Rattle.mx_model.specs.State.{Core, Hart, State, hart_at}
-use Rattle.mx_model.specs.Turn.{Made, answered, done, halted, made, served, with_regs}
+use Rattle.mx_model.specs.Turn.{answered, done, halted, made, served, with_regs}
 use Rattle.mx_uncached.specs.Plain.{Plain, may}
 use Rattle.mx_uncached.specs.Calls.{answer, bytes_outside, does, exchange, is_word, new_block, tests}
 use Rattle.mx_uncached.specs.Calls.{serve as plain_serve}

@@ -1,9 +1,8 @@
 -- What is left of a turn when its caches are forgotten: the parts of a turn, one by one.
-use Rattle.std.proofs.Common.{◌≡◌, ℕ, Bool, true, false, not, ◌==◌, ◌&&◌, ◌++◌, List, [], ◌∷◌, refl, sym, ◌∙◌, ap, if◌then◌else◌, Option, Some, None}
+use Rattle.std.proofs.Common.{◌≡◌, ℕ, true, false, not, ◌==◌, ◌&&◌, ◌++◌, List, [], ◌∷◌, refl, ◌∙◌, ap, if◌then◌else◌, Option, Some, None}
 use Rattle.std.specs.Prelude.{slice_set}
 use Rattle.std.specs.Option.{option_map_or}
 use Rattle.std.proofs.lemmas.List.{append-nil}
-use Rattle.mx_words.specs.Caches.{Cache}
 use Rattle.mx_words.specs.Newest.{Give}
 use Rattle.mx_model.specs.declared.values.Frame.{Frame}
 use Rattle.mx_model.specs.declared.values.Note.{Note}
@@ -14,10 +13,10 @@ use Rattle.mx_model.specs.Checks.{Look, looked, looked_all}
 use Rattle.mx_model.specs.Gates.{top}
 use Rattle.mx_model.specs.Reads.{Reads}
 use Rattle.mx_model.specs.Run.{after}
-use Rattle.mx_model.specs.State.{Core, Hart, State, hart_at, module_at}
+use Rattle.mx_model.specs.State.{Core, State, hart_at, module_at}
 use Rattle.mx_model.specs.State.{with_module as with_module_of}
 use Rattle.mx_model.specs.Turn.{Made, fault_answer, given_up, made, trapped, with_regs}
-use Rattle.mx_uncached.specs.Plain.{Plain, go, halt, hart_of, note, with_module}
+use Rattle.mx_uncached.specs.Plain.{Plain, go, halt, note, with_module}
 use Rattle.mx_uncached.specs.Turn.{fault, give_up, recover}
 use Rattle.mx_uncached.specs.Forgetting.{plain}
 

@@ -2,3 +2,4 @@ pub mod LeafLaws
 pub mod CallLaws
 pub mod TurnLaws
 pub mod RunLaws
+pub mod Examples

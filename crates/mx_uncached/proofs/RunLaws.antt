@@ -1,8 +1,7 @@
 -- A run when its caches are forgotten.
-use Rattle.std.proofs.Common.{◌≡◌, ℕ, zero, suc, Bool, true, false, refl, sym, ◌∙◌, ap}
+use Rattle.std.proofs.Common.{◌≡◌, ℕ, zero, suc, true, false, refl, sym, ◌∙◌, ap}
 use Rattle.mx_model.specs.Run.{ByQuantum, ByBytes, Schedule, hart_of, is_stopped, run, turn}
 use Rattle.mx_model.specs.State.{State}
-use Rattle.mx_uncached.specs.Plain.{Plain}
 use Rattle.mx_uncached.specs.Turn.{next_hart, plain_run, plain_turn}
 use Rattle.mx_uncached.specs.Forgetting.{plain}
 use Rattle.mx_uncached.proofs.TurnLaws.{turn-plain}

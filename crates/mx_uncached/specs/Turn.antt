@@ -1,6 +1,6 @@
 -- One turn of one hart of the plain machine, by cases of which the first that applies decides, and runs.
 -- The same in prose: docs/ABSTRACT.md.
-use Rattle.std.specs.Prelude.{ℕ, zero, suc, ◌+◌, ◌*◌, ◌/◌, ◌%◌, Bool, true, false, not, ◌==◌, ◌&&◌, ◌||◌, nat_le, List, [], ◌∷◌, ◌++◌, length, slice_index, slice_set, if◌then◌else◌, Option, Some, None, unwrap_or}
+use Rattle.std.specs.Prelude.{ℕ, zero, suc, ◌+◌, ◌*◌, ◌/◌, ◌%◌, Bool, true, false, not, ◌==◌, ◌&&◌, ◌||◌, nat_le, List, [], ◌∷◌, ◌++◌, length, slice_index, slice_set, if◌then◌else◌, None, unwrap_or}
 use Rattle.std.specs.Prelude.{map as list_map}
 use Rattle.std.specs.List.{list_all, enumerate_from}
 use Rattle.std.specs.Option.{option_map_or}
@@ -9,7 +9,6 @@ use Rattle.mx_words.specs.Announced.{is_announced}
 use Rattle.mx_words.specs.Hearing.{lets_pass, nobody}
 use Rattle.mx_words.specs.Ranges.{address_of, word_of}
 use Rattle.mx_isa.specs.Table.{decoded}
-use Rattle.mx_model.specs.declared.values.Call.{Call}
 use Rattle.mx_model.specs.declared.values.Frame.{Frame}
 use Rattle.mx_model.specs.declared.values.Note.TheVariants as N
 use Rattle.mx_model.specs.Checks.{heard_by, is_halted}
