@@ -7,3 +7,4 @@ pub mod RangeTexts
 pub mod Views
 pub mod CountsLine
 pub mod Examples
+pub mod PlainLaws
