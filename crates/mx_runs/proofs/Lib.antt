@@ -1,0 +1,3 @@
+pub mod FrameKinds
+pub mod FrameRuns
+pub mod WordLaws

@@ -1,0 +1,2 @@
+pub mod GateCalls
+pub mod FlatStates
