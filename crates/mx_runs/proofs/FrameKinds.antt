@@ -81,11 +81,14 @@ data Puts (old new : List Hart) (h : ℕ) (fs : List Frame) (k : TurnKind) : Typ
   Put : (y : Hart) → new ≡ set old h y → Tells fs y.frames k → Puts old new h fs k
 
 -- a call leaves the frames
-puts-done : (h : ℕ) (x : Hart) (s : Served) (old : List Hart) → s.core.harts ≡ old → Puts old (done h x s).core.harts h x.frames T.Called
+puts-done : (h : ℕ) (x : Hart) (s : Served) (old : List Hart) → s.core.harts ≡ old →
+    Puts old (done h x s).core.harts h x.frames T.Called
 puts-done h x s old e =
     let y : Hart = record x { status = Halted (Some s.a0) } in
     let z : Hart = record x { regs = answered x s.a0 s.a1; pc = next x.pc; status = Running } in
-    elim s.stop as (λ b. Puts old (cond b (halted h x (Some s.a0) s.core) (with_regs h x (answered x s.a0 s.a1) (next x.pc) s.core)).harts
+    elim s.stop as
+    (λ b. Puts old
+    (cond b (halted h x (Some s.a0) s.core) (with_regs h x (answered x s.a0 s.a1) (next x.pc) s.core)).harts
     h x.frames T.Called) [
       | true ↦ Put y (ap (λ (hs : List Hart). set hs h y) e) (Same refl called-no)
       | false ↦ Put z (ap (λ (hs : List Hart). set hs h z) e) (Same refl called-no)
@@ -104,7 +107,13 @@ few-below fs = let e = length-take (length fs - 1) fs in omega (arith, e)
 -- the hart over a frame
 abbrev over : Hart → Frame → List ℕ → Hart
 over x f regs =
-    record x { regs = restored regs f.kept; pc = f.back; domain = f.caller; frames = below_top x.frames; status = Running }
+    record x {
+      regs = restored regs f.kept;
+      pc = f.back;
+      domain = f.caller;
+      frames = below_top x.frames;
+      status = Running;
+    }
 
 puts-given_up : (c : Core) (h : ℕ) (x : Hart) (cause : ℕ) (old : List Hart) → c.harts ≡ old → (o : Option Frame) →
     Puts old (given_up c h x cause o).harts h x.frames T.Trapped
@@ -142,14 +151,17 @@ puts-acted r c h x (Runs regs pc) = Put (going x regs pc) refl (Same refl ran-no
 puts-acted r c h x (Writes address size value) = Put (going x x.regs (next x.pc)) refl (Same refl ran-no)
 
 -- the hart at its place
-own-puts : (h : ℕ) (x : Hart) (old new : List Hart) (k : TurnKind) → h < length old → (get_or old h no_hart).frames ≡ x.frames →
+own-puts : (h : ℕ) (x : Hart) (old new : List Hart) (k : TurnKind) → h < length old →
+    (get_or old h no_hart).frames ≡ x.frames →
     Puts old new h x.frames k → Tells x.frames (get_or new h no_hart).frames k
 own-puts h x old new k l e (Left n q) = Same (ap (λ (hs : List Hart). (get_or hs h no_hart).frames) n ∙ e) q
 own-puts h x old new k l e (Put y n p) =
-    subst (λ (z : Hart). Tells x.frames z.frames k) (sym (ap (λ (hs : List Hart). get_or hs h no_hart) n ∙ get_or-set_same old h y no_hart l)) p
+    subst (λ (z : Hart). Tells x.frames z.frames k)
+    (sym (ap (λ (hs : List Hart). get_or hs h no_hart) n ∙ get_or-set_same old h y no_hart l)) p
 
 -- a turn
-pub tells-turned : (r : Reads) (c : Core) (h : ℕ) → Tells (frames_at c h) (frames_at (core_after r c h) h) (kind_of r c h)
+pub tells-turned : (r : Reads) (c : Core) (h : ℕ) →
+    Tells (frames_at c h) (frames_at (core_after r c h) h) (kind_of r c h)
 tells-turned r c h =
     let t = by-action r c h in
     let x = hart_at c h in
@@ -157,32 +169,42 @@ tells-turned r c h =
     let after = apart c t.turns t.harts t.after in
     let same : (get_or t.harts h no_hart).frames ≡ x.frames = ap (λ (y : Hart). y.frames) t.heard.own in
     subst (λ (m : Made). Tells x.frames (hart_at m.core h).frames m.kind) (sym t.is)
-    (⊎_elim (λ e. subst (λ (b : Action). Tells x.frames (hart_at (acted r after h x b).core h).frames (acted r after h x b).kind) (sym e) (Same same idle-no))
-    (λ l. own-puts h x t.harts (acted r after h x a).core.harts (acted r after h x a).kind (subst (λ (n : ℕ). h < n) (sym t.heard.count) l) same
+    (⊎_elim (λ e. subst
+    (λ (b : Action). Tells x.frames (hart_at (acted r after h x b).core h).frames (acted r after h x b).kind) (sym e)
+    (Same same idle-no))
+    (λ l. own-puts h x t.harts (acted r after h x a).core.harts (acted r after h x a).kind
+    (subst (λ (n : ℕ). h < n) (sym t.heard.count) l) same
     (puts-acted r after h x a))
     (present r c h t.turns t.harts t.before))
 
 -- a hart has more frames after a turn exactly where it crossed, and fewer only where it left a call
-deeper-then : (before after : List Frame) (k : TurnKind) → Tells before after k → k ≡ T.Crossed → length before < length after
+deeper-then : (before after : List Frame) (k : TurnKind) → Tells before after k → k ≡ T.Crossed →
+    length before < length after
 deeper-then before after k (Same e n) q = absurd (n q)
-deeper-then before after k (More f e p) q = let n = length-append before (f ∷ []) in let m = ap length e in omega (arith, n, m)
+deeper-then before after k (More f e p) q = let n = length-append before (f ∷ []) in let m = ap length e in
+    omega (arith, n, m)
 deeper-then before after k (Less l p) q = absurd (leaving-no k p q)
 
-crossed-then : (before after : List Frame) (k : TurnKind) → Tells before after k → length before < length after → k ≡ T.Crossed
+crossed-then : (before after : List Frame) (k : TurnKind) → Tells before after k → length before < length after →
+    k ≡ T.Crossed
 crossed-then before after k (Same e n) l = absurd (let m = ap length e in let q : ⊥ = omega (arith, l, m) in q)
 crossed-then before after k (More f e p) l = p
 crossed-then before after k (Less m p) l = absurd (let q : ⊥ = omega (arith, l, m) in q)
 
-left-then : (before after : List Frame) (k : TurnKind) → Tells before after k → length after < length before → IsLeaving k
+left-then : (before after : List Frame) (k : TurnKind) → Tells before after k → length after < length before →
+    IsLeaving k
 left-then before after k (Same e n) l = absurd (let m = ap length e in let q : ⊥ = omega (arith, l, m) in q)
 left-then before after k (More f e p) l =
     absurd (let n = length-append before (f ∷ []) in let m = ap length e in let q : ⊥ = omega (arith, l, n, m) in q)
 left-then before after k (Less m p) l = p
 
-pub crossed-deeper : (r : Reads) (c : Core) (h : ℕ) → (kind_of r c h ≡ T.Crossed) ↔ (depth_of c h < depth_of (core_after r c h) h)
+pub crossed-deeper : (r : Reads) (c : Core) (h : ℕ) →
+    (kind_of r c h ≡ T.Crossed) ↔ (depth_of c h < depth_of (core_after r c h) h)
 crossed-deeper r c h =
     let t = tells-turned r c h in
-    (deeper-then (frames_at c h) (frames_at (core_after r c h) h) (kind_of r c h) t, crossed-then (frames_at c h) (frames_at (core_after r c h) h) (kind_of r c h) t)
+    let after = frames_at (core_after r c h) h in
+    (deeper-then (frames_at c h) after (kind_of r c h) t, crossed-then (frames_at c h) after (kind_of r c h) t)
 
-pub fewer-leaves : (r : Reads) (c : Core) (h : ℕ) → depth_of (core_after r c h) h < depth_of c h → IsLeaving (kind_of r c h)
+pub fewer-leaves : (r : Reads) (c : Core) (h : ℕ) → depth_of (core_after r c h) h < depth_of c h →
+    IsLeaving (kind_of r c h)
 fewer-leaves r c h l = left-then (frames_at c h) (frames_at (core_after r c h) h) (kind_of r c h) (tells-turned r c h) l

@@ -19,21 +19,25 @@ entries k xs = list_map word_entry (enumerate_from k xs)
 newest-below : {A : Type 0} (d : A) (xs : List A) (k i : ℕ) → i < k → newest d (entries k xs) i ≡ d
 newest-below d [] k i l = refl
 newest-below d (x ∷ xs) k i l =
-    ap (λ (b : Bool). newest (if b then x else d) (entries (k + 1) xs) i) (covers_below k 1 i l) ∙ newest-below d xs (k + 1) i (omega (arith, l))
+    ap (λ (b : Bool). newest (if b then x else d) (entries (k + 1) xs) i) (covers_below k 1 i l)
+    ∙ newest-below d xs (k + 1) i (omega (arith, l))
 
 newest-at : {A : Type 0} (d : A) (xs : List A) (k j : ℕ) → newest d (entries k xs) (k + j) ≡ get_or xs j d
 newest-at d [] k j = refl
 newest-at d (x ∷ xs) k zero =
     let e : k + 0 ≡ k = omega arith in
     ap (λ (i : ℕ). newest d (entries k (x ∷ xs)) i) e
-    ∙ ap (λ (b : Bool). newest (if b then x else d) (entries (k + 1) xs) k) (covers_in k 1 k (omega arith) (omega arith)) ∙ newest-below x xs (k + 1) k (omega arith)
+    ∙ ap (λ (b : Bool). newest (if b then x else d) (entries (k + 1) xs) k)
+    (covers_in k 1 k (omega arith) (omega arith)) ∙ newest-below x xs (k + 1) k (omega arith)
 newest-at d (x ∷ xs) k (suc j) =
     let e : k + suc j ≡ k + 1 + j = omega arith in
-    ap (λ (b : Bool). newest (if b then x else d) (entries (k + 1) xs) (k + suc j)) (covers_behind k 1 (k + suc j) (omega arith))
+    ap (λ (b : Bool). newest (if b then x else d) (entries (k + 1) xs) (k + suc j))
+    (covers_behind k 1 (k + suc j) (omega arith))
     ∙ ap (λ (i : ℕ). newest d (entries (k + 1) xs) i) e ∙ newest-at d xs (k + 1) j
 
 newest-word : {A : Type 0} (d : A) (xs : List A) (i : ℕ) → newest d (by_words xs) i ≡ get_or xs i d
-newest-word d xs i = let e : 0 + i ≡ i = omega arith in ap (λ (j : ℕ). newest d (by_words xs) j) (sym e) ∙ newest-at d xs 0 i
+newest-word d xs i = let e : 0 + i ≡ i = omega arith in ap (λ (j : ℕ). newest d (by_words xs) j) (sym e)
+    ∙ newest-at d xs 0 i
 
 -- a map, and owners
 map-by_words : (m : List Perm) (size : ℕ) → length m ≡ size → map (by_words m) size ≡ m
@@ -60,5 +64,6 @@ whole core maps os = record { core = core; maps = maps; owners = os }
 
 pub flat-state_of : (f : Flat) → IsFlat f → flat (state_of f) ≡ f
 flat-state_of f p =
-    ap (λ (maps : List (List Perm)). whole f.core maps (owners (by_words f.owners) f.core.size)) (maps-by_words f.maps f.core.size p.whole_maps)
+    ap (λ (maps : List (List Perm)). whole f.core maps (owners (by_words f.owners) f.core.size))
+    (maps-by_words f.maps f.core.size p.whole_maps)
     ∙ ap (λ (os : List ℕ). whole f.core f.maps os) (owners-by_words f.owners f.core.size p.owners)

@@ -1,4 +1,4 @@
--- Gate calls of a hart in a run: from the turn that pushes a frame to the first moment with no more frames than before it.
+-- Gate calls of a hart in a run: from a turn that pushes a frame to the first moment with no more than before it.
 -- The rules: docs/MACHINE.md, "Gates" and "Faults".
 use Rattle.std.specs.Prelude.{◌≡◌, ◌⊎◌, ℕ, ◌+◌, ◌<◌, ◌≤◌, false, length}
 use Rattle.mx_model.specs.declared.values.TurnKind.TheVariants as T
@@ -22,14 +22,14 @@ hart_then p s h n = hart_at (at p s n).core h
 abbrev pub depth : Schedule → State → ℕ → ℕ → ℕ
 depth p s h n = depth_of (at p s n).core h
 
--- a gate call of hart h, from moment m to moment n: a frame is pushed, and n is the first moment after that with no more frames than m had
+-- a gate call of hart h: after moment m a frame is pushed, and n is the first later moment with no more than m had
 pub record IsGateCall (p : Schedule) (s : State) (h m n : ℕ) : Type 0 where
   pub begins : depth p s h m < depth p s h (m + 1)
   pub later : m < n
   pub inside : (k : ℕ) → m < k → k < n → depth p s h m < depth p s h k
   pub ends : depth p s h n ≤ depth p s h m
 
--- hart h has its frames, its domain and its fifteen registers of moment m again at moment n, and is at the return address, x1 of then
+-- hart h has frames, domain and fifteen registers of moment m again at moment n, and is at x1 of moment m
 pub record GivesBack (p : Schedule) (s : State) (h m n : ℕ) : Type 0 where
   pub frames : (hart_then p s h n).frames ≡ (hart_then p s h m).frames
   pub pc : (hart_then p s h n).pc ≡ reg (hart_then p s h m).regs 1

@@ -24,5 +24,6 @@ run-plain schedule (suc n) s =
     ]
 
 -- runs of states that differ in caches alone
-pub run-alike : (schedule : Schedule) (n : ℕ) (s t : State) → plain s ≡ plain t → plain (run schedule n s) ≡ plain (run schedule n t)
+pub run-alike : (schedule : Schedule) (n : ℕ) (s t : State) → plain s ≡ plain t →
+    plain (run schedule n s) ≡ plain (run schedule n t)
 run-alike schedule n s t e = run-plain schedule n s ∙ ap (plain_run schedule n) e ∙ sym (run-plain schedule n t)

@@ -31,21 +31,26 @@ abbrev acts : State → List Cache → ℕ → Action → Plain
 acts s k h action = ends s (acted (reads s) (cached s k) h (hart_at s.core h) action)
 
 -- at a call gate (case 5)
-gate-plain : (s : State) (k : List Cache) (h target : ℕ) → acts s k h (at_gate s.core (hart_at s.core h) target).action ≡ plain_gate h target (plain s)
+gate-plain : (s : State) (k : List Cache) (h target : ℕ) →
+    acts s k h (at_gate s.core (hart_at s.core h) target).action ≡ plain_gate h target (plain s)
 gate-plain s k h target =
     let hart = hart_at s.core h in
     let back = reg hart.regs 1 in
     let p = plain s in
     let bounced = go h (slice_set hart.regs 10 (fault_answer 20)) back p in
-    elim (not (back % 4 == 0)) as (λ b. acts s k h (if b then traps 19 back else if (module_at s.core target).dead then without_look Bounces else
+    elim (not (back % 4 == 0)) as
+    (λ b. acts s k h (if b then traps 19 back else if (module_at s.core target).dead then without_look Bounces else
     if nat_le most_frames (length hart.frames) then traps 16 hart.pc else without_look (Crosses target)).action
-    ≡ (if b then fault h 19 back p else if (module_at s.core target).dead then bounced else if nat_le most_frames (length hart.frames) then fault h 16 hart.pc p else cross h target p)) [
+    ≡ (if b then fault h 19 back p else if (module_at s.core target).dead then bounced else if nat_le most_frames
+    (length hart.frames) then fault h 16 hart.pc p else cross h target p)) [
       | true ↦ faults s (cached s k) h 19 back
       | false ↦ elim (module_at s.core target).dead as (λ b. acts s k h (if b then without_look Bounces else
           if nat_le most_frames (length hart.frames) then traps 16 hart.pc else without_look (Crosses target)).action
-          ≡ (if b then bounced else if nat_le most_frames (length hart.frames) then fault h 16 hart.pc p else cross h target p)) [
+          ≡ (if b then bounced else if nat_le most_frames
+          (length hart.frames) then fault h 16 hart.pc p else cross h target p)) [
             | true ↦ goes s (cached s k) T.Returned h _ _
-            | false ↦ elim (nat_le most_frames (length hart.frames)) as (λ b. acts s k h (if b then traps 16 hart.pc else without_look (Crosses target)).action
+            | false ↦ elim (nat_le most_frames (length hart.frames)) as
+                (λ b. acts s k h (if b then traps 16 hart.pc else without_look (Crosses target)).action
                 ≡ (if b then fault h 16 hart.pc p else cross h target p)) [
                   | true ↦ faults s (cached s k) h 16 hart.pc
                   | false ↦ quiet _
@@ -56,16 +61,24 @@ gate-plain s k h target =
 -- at a return gate (case 7)
 returned-plain : (s : State) (k : List Cache) (h rd target : ℕ) (frame : Frame) →
     acts s k h (returned_over rd target frame)
-    ≡ (if frame.back == target then give_up h (written (hart_at s.core h).regs rd (next (hart_at s.core h).pc)) frame (plain s) else fault h 17 target (plain s))
-returned-plain s k h rd target frame = elim (frame.back == target) as (λ b. acts s k h (if b then Returns rd frame else Traps 17 target)
-    ≡ (if b then give_up h (written (hart_at s.core h).regs rd (next (hart_at s.core h).pc)) frame (plain s) else fault h 17 target (plain s))) [
+    ≡ (if frame.back == target then give_up h (written (hart_at s.core h).regs rd (next (hart_at s.core h).pc)) frame
+    (plain s) else fault h 17 target (plain s))
+returned-plain s k h rd target frame =
+    elim (frame.back == target) as (λ b. acts s k h (if b then Returns rd frame else Traps 17 target)
+    ≡ (if b then give_up h (written (hart_at s.core h).regs rd (next (hart_at s.core h).pc)) frame
+    (plain s) else fault h 17 target (plain s))) [
       | true ↦ quiet _
       | false ↦ faults s (cached s k) h 17 target
     ]
 
-return-plain : (s : State) (k : List Cache) (h rd target : ℕ) → acts s k h (at_return (hart_at s.core h) rd target) ≡ plain_return h rd target (plain s)
-return-plain s k h rd target = elim (top (hart_at s.core h).frames) as (λ o. acts s k h (option_map_or (returned_over rd target) o (Traps 18 target))
-    ≡ option_map_or (λ (frame : Frame). if frame.back == target then give_up h (written (hart_at s.core h).regs rd (next (hart_at s.core h).pc)) frame (plain s) else fault h 17 target (plain s))
+return-plain : (s : State) (k : List Cache) (h rd target : ℕ) →
+    acts s k h (at_return (hart_at s.core h) rd target) ≡ plain_return h rd target (plain s)
+return-plain s k h rd target =
+    elim (top (hart_at s.core h).frames) as
+    (λ o. acts s k h (option_map_or (returned_over rd target) o (Traps 18 target))
+    ≡ option_map_or
+    (λ (frame : Frame). if frame.back == target then give_up h
+    (written (hart_at s.core h).regs rd (next (hart_at s.core h).pc)) frame (plain s) else fault h 17 target (plain s))
     o (fault h 18 target (plain s))) [
       | None ↦ faults s (cached s k) h 18 target
       | Some frame ↦ returned-plain s k h rd target frame
@@ -77,7 +90,8 @@ jump-plain : (s : State) (k : List Cache) (h rd target : ℕ) → let hart = har
     ≡ by_target target (go h (written hart.regs rd (next hart.pc)) target (plain s)) (fault h 0 target (plain s))
 jump-plain s k h rd target =
     let hart = hart_at s.core h in
-    elim (target % 4 == 0) as (λ b. acts s k h (if b then Runs (written hart.regs rd (next hart.pc)) target else Traps 0 target)
+    elim (target % 4 == 0) as
+    (λ b. acts s k h (if b then Runs (written hart.regs rd (next hart.pc)) target else Traps 0 target)
     ≡ (if b then go h (written hart.regs rd (next hart.pc)) target (plain s) else fault h 0 target (plain s))) [
       | true ↦ goes s (cached s k) T.Ran h _ _
       | false ↦ faults s (cached s k) h 0 target
@@ -88,27 +102,31 @@ ask-plain : (s : State) (k : List Cache) (h : ℕ) → acts s k h (Asks (call_of
 ask-plain s k h =
     let hart = hart_at s.core h in
     let call = call_of h hart in
-    elim (not (is_announced call.number) || all_heard h nobody (plain s)) as (λ b. ends s (asked (reads s) (cached s k) h hart call b)
+    elim (not (is_announced call.number) || all_heard h nobody (plain s)) as
+    (λ b. ends s (asked (reads s) (cached s k) h hart call b)
     ≡ (if b then serve h call (plain s) else with_hart h (record hart { status = Waiting call nobody }) (plain s))) [
       | true ↦ served-plain s k h call
       | false ↦ quiet _
     ]
 
 -- what an instruction does (cases 7 to 9)
-execute-plain : (s : State) (k : List Cache) (h : ℕ) (e : Effect) → acts s k h (by_effect (reads s) s.core h (hart_at s.core h) e).action ≡ execute h e (plain s)
+execute-plain : (s : State) (k : List Cache) (h : ℕ) (e : Effect) →
+    acts s k h (by_effect (reads s) s.core h (hart_at s.core h) e).action ≡ execute h e (plain s)
 execute-plain s k h (Goes regs pc) = goes s (cached s k) T.Ran h regs pc
 execute-plain s k h (Faults cause value) = faults s (cached s k) h cause value
 execute-plain s k h (Loads base address width rd) =
     let hart = hart_at s.core h in
     let regs = written hart.regs rd (loaded width (load_at s.core address (load_size width))) in
-    elim (is_denied (reads s) s.core hart.domain address A.Read) as (λ b. acts s k h (if b then Traps 5 address else Runs regs (next hart.pc))
+    elim (is_denied (reads s) s.core hart.domain address A.Read) as
+    (λ b. acts s k h (if b then Traps 5 address else Runs regs (next hart.pc))
     ≡ (if b then fault h 5 address (plain s) else go h regs (next hart.pc) (plain s))) [
       | true ↦ faults s (cached s k) h 5 address
       | false ↦ goes s (cached s k) T.Ran h regs (next hart.pc)
     ]
 execute-plain s k h (Stores base address size value) =
     let hart = hart_at s.core h in
-    elim (is_denied (reads s) s.core hart.domain address A.Write) as (λ b. acts s k h (if b then Traps 7 address else Writes address size value)
+    elim (is_denied (reads s) s.core hart.domain address A.Write) as
+    (λ b. acts s k h (if b then Traps 7 address else Writes address size value)
     ≡ (if b then fault h 7 address (plain s) else go h hart.regs (next hart.pc) (store address size value (plain s)))) [
       | true ↦ faults s (cached s k) h 7 address
       | false ↦ quiet _
@@ -116,55 +134,72 @@ execute-plain s k h (Stores base address size value) =
 execute-plain s k h Calls = ask-plain s k h
 execute-plain s k h (Jumps rd target) =
     let hart = hart_at s.core h in
-    elim (is_return_at s.core hart.domain hart.pc) as (λ b. acts s k h (if b then at_return hart rd target else by_target target (Runs (written hart.regs rd (next hart.pc)) target) (Traps 0 target))
-    ≡ (if b then plain_return h rd target (plain s) else by_target target (go h (written hart.regs rd (next hart.pc)) target (plain s)) (fault h 0 target (plain s)))) [
+    elim (is_return_at s.core hart.domain hart.pc) as
+    (λ b. acts s k h
+    (if b then at_return hart rd target else by_target target (Runs (written hart.regs rd (next hart.pc)) target)
+    (Traps 0 target))
+    ≡ (if b then plain_return h rd target (plain s) else by_target target
+    (go h (written hart.regs rd (next hart.pc)) target (plain s)) (fault h 0 target (plain s)))) [
       | true ↦ return-plain s k h rd target
       | false ↦ jump-plain s k h rd target
     ]
 
 -- a fetched word, and a fetch (case 6)
-word-plain : (s : State) (k : List Cache) (h word : ℕ) (o : Option Inst) → acts s k h (by_word (reads s) s.core h (hart_at s.core h) word o).action
-    ≡ option_map_or (λ inst. execute h (effect inst (hart_at s.core h).regs (hart_at s.core h).pc) (plain s)) o (fault h 2 word (plain s))
+word-plain : (s : State) (k : List Cache) (h word : ℕ) (o : Option Inst) →
+    acts s k h (by_word (reads s) s.core h (hart_at s.core h) word o).action
+    ≡ option_map_or (λ inst. execute h (effect inst (hart_at s.core h).regs (hart_at s.core h).pc) (plain s)) o
+    (fault h 2 word (plain s))
 word-plain s k h word None = faults s (cached s k) h 2 word
 word-plain s k h word (Some inst) = execute-plain s k h (effect inst (hart_at s.core h).regs (hart_at s.core h).pc)
 
-fetch-plain : (s : State) (k : List Cache) (h : ℕ) → acts s k h (runs_at (reads s) s.core h (hart_at s.core h) None).action ≡ fetch h (plain s)
+fetch-plain : (s : State) (k : List Cache) (h : ℕ) →
+    acts s k h (runs_at (reads s) s.core h (hart_at s.core h) None).action ≡ fetch h (plain s)
 fetch-plain s k h =
     let hart = hart_at s.core h in
     let word = load_at s.core hart.pc 4 in
-    elim (is_denied (reads s) s.core hart.domain hart.pc A.Execute) as (λ b. acts s k h (fetches (reads s) s.core h hart b).action
-    ≡ (if b then fault h 1 hart.pc (plain s) else option_map_or (λ inst. execute h (effect inst hart.regs hart.pc) (plain s)) (decoded word) (fault h 2 word (plain s)))) [
+    elim (is_denied (reads s) s.core hart.domain hart.pc A.Execute) as
+    (λ b. acts s k h (fetches (reads s) s.core h hart b).action
+    ≡ (if b then fault h 1 hart.pc (plain s) else option_map_or
+    (λ inst. execute h (effect inst hart.regs hart.pc) (plain s)) (decoded word) (fault h 2 word (plain s)))) [
       | true ↦ faults s (cached s k) h 1 hart.pc
       | false ↦ word-plain s k h word (decoded word)
     ]
 
 -- a running hart, at a call gate or none (cases 4 and 5)
-pc-plain : (s : State) (k : List Cache) (h : ℕ) (o : Option ℕ) → acts s k h (runs_at (reads s) s.core h (hart_at s.core h) o).action
+pc-plain : (s : State) (k : List Cache) (h : ℕ) (o : Option ℕ) →
+    acts s k h (runs_at (reads s) s.core h (hart_at s.core h) o).action
     ≡ option_map_or (λ target. plain_gate h target (plain s)) o (fetch h (plain s))
 pc-plain s k h None = fetch-plain s k h
 pc-plain s k h (Some target) = gate-plain s k h target
 
-step-plain : (s : State) (k : List Cache) (h : ℕ) → acts s k h (runs_in (reads s) s.core h (hart_at s.core h) (module_at s.core (hart_at s.core h).domain).dead).action ≡ step h (plain s)
+step-plain : (s : State) (k : List Cache) (h : ℕ) →
+    acts s k h (runs_in (reads s) s.core h (hart_at s.core h) (module_at s.core (hart_at s.core h).domain).dead).action
+    ≡ step h (plain s)
 step-plain s k h =
     let hart = hart_at s.core h in
     let gate = call_gate_at s.core hart.domain hart.pc in
     elim (module_at s.core hart.domain).dead as (λ b. acts s k h (runs_in (reads s) s.core h hart b).action
-    ≡ (if b then fault h 20 hart.pc (plain s) else option_map_or (λ target. plain_gate h target (plain s)) gate (fetch h (plain s)))) [
+    ≡ (if b then fault h 20 hart.pc (plain s) else option_map_or (λ target. plain_gate h target (plain s)) gate
+    (fetch h (plain s)))) [
       | true ↦ faults s (cached s k) h 20 hart.pc
       | false ↦ pc-plain s k h gate
     ]
 
 -- what a hart does by its status (cases 1, 3 and 4)
-move-plain : (s : State) (k : List Cache) (h : ℕ) (status : Status) → acts s k h (by_status (reads s) s.core h (hart_at s.core h) status).action ≡ move h status (plain s)
+move-plain : (s : State) (k : List Cache) (h : ℕ) (status : Status) →
+    acts s k h (by_status (reads s) s.core h (hart_at s.core h) status).action ≡ move h status (plain s)
 move-plain s k h (Halted code) = quiet _
 move-plain s k h Running = step-plain s k h
-move-plain s k h (Waiting call heard) = elim (is_ready s.core h heard) as (λ b. acts s k h (if b then Serves call else Waits) ≡ (if b then serve h call (plain s) else plain s)) [
-  | true ↦ served-plain s k h call
-  | false ↦ quiet _
-]
+move-plain s k h (Waiting call heard) =
+    elim (is_ready s.core h heard) as
+    (λ b. acts s k h (if b then Serves call else Waits) ≡ (if b then serve h call (plain s) else plain s)) [
+      | true ↦ served-plain s k h call
+      | false ↦ quiet _
+    ]
 
 -- a decided action after its looks
-acted-plain : (s : State) (h : ℕ) → ends s (enacted (reads s) s.core h (decide (reads s) s.core h)) ≡ move h (hart_at s.core h).status (plain s)
+acted-plain : (s : State) (h : ℕ) →
+    ends s (enacted (reads s) s.core h (decide (reads s) s.core h)) ≡ move h (hart_at s.core h).status (plain s)
 acted-plain s h =
     let r = reads s in
     let d = decide r s.core h in
@@ -178,9 +213,12 @@ turn-plain s h =
     let heard = hears h c in
     elim (is_halted (hart_at s.core h).status) as (λ b. is_halted (hart_at s.core h).status ≡ b →
     ends s (enacted (reads s) (if b then c else heard) h (decide (reads s) (if b then c else heard) h))
-    ≡ (if b then plain (record s { core = c }) else move h (hart_at s.core h).status (hear h (plain (record s { core = c }))))) [
-      | true ↦ λ e. acted-plain (record s { core = c }) h ∙ still h (hart_at s.core h).status (plain (record s { core = c })) e
-      | false ↦ λ e. acted-plain (record s { core = heard }) h ∙ ap (λ (x : Hart). move h x.status (plain (record s { core = heard }))) (hart-hears c h)
+    ≡ (if b then plain (record s { core = c }) else move h (hart_at s.core h).status
+    (hear h (plain (record s { core = c }))))) [
+      | true ↦ λ e. acted-plain (record s { core = c }) h
+          ∙ still h (hart_at s.core h).status (plain (record s { core = c })) e
+      | false ↦ λ e. acted-plain (record s { core = heard }) h
+          ∙ ap (λ (x : Hart). move h x.status (plain (record s { core = heard }))) (hart-hears c h)
     ] refl
   where
     still : (h : ℕ) (status : Status) (p : Plain) → is_halted status ≡ true → move h status p ≡ p

@@ -1,4 +1,4 @@
--- The supervisor calls of the plain machine, as two tables: what each call is tested for, and what it does.
+-- The supervisor calls of the plain machine: a table of their tests, and one of what they do.
 -- The same in prose: docs/ABSTRACT.md.
 use Rattle.std.specs.Prelude.{ℕ, ◌+◌, ◌-◌, ◌*◌, ◌%◌, Bool, true, not, ◌==◌, ◌&&◌, ◌||◌, nat_lt, nat_le, List, [], ◌∷◌, ◌++◌, length, take, drop, slice_set, if◌then◌else◌, Option, Some, None, unwrap_or, is_none}
 use Rattle.std.specs.List.{list_all, range_with_len}
@@ -81,7 +81,7 @@ freed p c = change_of (arg_word c, unwrap_or (old_block p c) 0) none_at_all
 abbrev pub given : Plain → Call → Give
 given p c = record { first = (range p c).0; count = (range p c).1; value = arg c 2 }
 
--- the first table: what each call is tested for, in order, and the code by which it is refused where a test fails
+-- the first table: the tests of each call in order, with the code where a test fails
 abbrev pub tests : Service → Plain → Call → List (Row ℕ)
 tests Exit p c = (c.nested, 10) ∷ []
 tests Write p c =

@@ -1,4 +1,4 @@
--- What ties the plain machine to the whole one: a state without its caches and the size of its lookaside buffer.
+-- What ties the whole machine to the plain one: a state without caches and their size.
 use Rattle.mx_model.specs.State.{State}
 use Rattle.mx_uncached.specs.Plain.{Plain}
 

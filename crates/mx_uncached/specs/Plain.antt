@@ -1,5 +1,5 @@
--- The plain machine, which is the whole machine but for its caches. Read this file first, then Calls, then Turn.
--- Here: its state, what is read of a state, and the small steps of which calls and turns are made.
+-- The plain machine: the whole machine but for its caches. Read this first, then Calls, then Turn.
+-- Here: its state, what is read of it, and the small steps of which calls and turns are made.
 -- The same in prose: docs/ABSTRACT.md.
 use Rattle.std.specs.Prelude.{ℕ, ◌-◌, Bool, not, ◌&&◌, nat_lt, nat_le, List, [], ◌∷◌, ◌++◌, length, slice_index_or, slice_set, if◌then◌else◌, Option}
 use Rattle.std.specs.Prelude.{map as list_map}

@@ -1,4 +1,4 @@
--- One turn of one hart of the plain machine, by cases of which the first that applies decides, and runs.
+-- One turn of one hart of the plain machine, of whose cases the first that applies decides; runs.
 -- The same in prose: docs/ABSTRACT.md.
 use Rattle.std.specs.Prelude.{ℕ, zero, suc, ◌+◌, ◌*◌, ◌/◌, ◌%◌, Bool, true, false, not, ◌==◌, ◌&&◌, ◌||◌, nat_le, List, [], ◌∷◌, ◌++◌, length, slice_index, slice_set, if◌then◌else◌, None, unwrap_or}
 use Rattle.std.specs.Prelude.{map as list_map}
@@ -20,7 +20,7 @@ use Rattle.mx_model.specs.Turn.{call_of, fault_answer, saved, restored}
 use Rattle.mx_uncached.specs.Plain.{Plain, hart_of, module_of, is_denied, loaded_at, store, with_hart, with_module, go, halt, note}
 use Rattle.mx_uncached.specs.Calls.{serve}
 
--- hart h gives up its top frame: it goes on in the frame's caller, at its return address, with its fifteen registers
+-- hart h gives up its top frame, and goes on in the caller as the frame says
 abbrev pub give_up : ℕ → List ℕ → Frame → Plain → Plain
 give_up h regs frame p =
     let hart = hart_of p h in
@@ -159,7 +159,7 @@ hear h p =
           (enumerate_from 0 p.harts);
     }
 
--- a turn of hart h: one more is counted, and a hart that is halted or isn't there does nothing (case 1)
+-- a turn of hart h, which does nothing more where it is halted or isn't there (case 1)
 abbrev pub plain_turn : Plain → ℕ → Plain
 plain_turn p h =
     let next = record p { turns = p.turns + 1 } in
