@@ -1,3 +1,4 @@
 pub mod FrameKinds
 pub mod FrameRuns
 pub mod WordLaws
+pub mod GateInstances
