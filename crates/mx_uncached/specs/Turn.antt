@@ -162,9 +162,9 @@ hear h p =
 -- a turn of hart h, which does nothing more where it is halted or isn't there (case 1)
 abbrev pub plain_turn : Plain → ℕ → Plain
 plain_turn p h =
-    let next = record p { turns = p.turns + 1 } in
-    if is_halted (hart_of p h).status then next
-    else move h (hart_of p h).status (hear h next)
+    let counted = record p { turns = p.turns + 1 } in
+    let status = (hart_of p h).status in
+    if is_halted status then counted else move h status (hear h counted)
 
 -- the hart that makes the next turn
 abbrev pub next_hart : Schedule → Plain → ℕ
