@@ -5,3 +5,4 @@ pub mod RangeTexts
 pub mod Views
 pub mod CountsLine
 pub mod Examples
+pub mod PlainLaws

@@ -8,3 +8,7 @@ pub mod TwinRunLaws
 pub mod RefusalInstances
 pub mod ForeignInstances
 pub mod TwinInstances
+pub mod FrameKinds
+pub mod FrameRuns
+pub mod WordLaws
+pub mod GateInstances

@@ -1,3 +1,5 @@
 pub mod Refusals
 pub mod ForeignRuns
 pub mod TwinRuns
+pub mod GateCalls
+pub mod FlatStates

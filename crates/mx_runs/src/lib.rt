@@ -1,10 +1,14 @@
-//! Laws of the abstract machine's turns and runs, each the contract of a function that does nothing.
+//! Laws of every turn and every run of the abstract machine, each the contract of a function that does nothing.
 #![tactic(auto)]
 
+mod flat_states;
 mod foreign;
+mod gate_calls;
 mod refusals;
 mod twins;
 
+pub use flat_states::valid_flat_states_are_flat;
 pub use foreign::foreign_words_stay;
+pub use gate_calls::gate_calls_return;
 pub use refusals::refused_calls;
 pub use twins::twins_run;
