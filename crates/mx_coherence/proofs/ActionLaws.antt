@@ -1,6 +1,5 @@
 -- Coherence through an action of a hart that isn't halted.
 use Rattle.std.proofs.Common.{◌≡◌, ◌≢◌, ℕ, zero, suc, ◌-◌, ◌<◌, ◌≤◌, ◌⊎◌, inl, inr, Bool, true, false, not, cond, ◌==◌, ◌&&◌, ◌||◌, List, [], ◌∷◌, length, get_or, refl, sym, ap, subst, ◌∙◌, arith, zero-add, Option, Some, None}
-use Rattle.std.specs.Prelude.{IfSome}
 use Rattle.std.specs.List.{enumerate_from, list_all}
 use Rattle.std.proofs.lemmas.Bool.{and_parts, cases_lt, ne_eqb}
 use Rattle.std.proofs.lemmas.List.{get_or_past, get_or-replicate}
@@ -18,17 +17,17 @@ use Rattle.mx_model.specs.Gates.{top}
 use Rattle.mx_model.specs.Reads.{Change, Reads}
 use Rattle.mx_model.specs.Serve.{Served, serve, served_by, service}
 use Rattle.mx_model.specs.State.{Core, Hart, Status, Running, Waiting, Halted, cache_at, hart_at, module_at, no_hart, with_hart, with_module}
-use Rattle.mx_model.specs.Turn.{Action, Rests, Waits, Serves, Asks, Traps, Bounces, Crosses, Returns, Runs, Writes, Made, acted, answered, asked, call_of, done, given_up, halted, is_served_now, killed, served, trapped, with_regs}
+use Rattle.mx_model.specs.Turn.{Action, Rests, Waits, Serves, Asks, Traps, Bounces, Crosses, Returns, Runs, Writes, acted, answered, asked, call_of, done, given_up, halted, is_served_now, served, trapped, with_regs}
 use Rattle.mx_model.specs.Valid.{IsValid}
 use Rattle.mx_model.proofs.KeepLaws.{keeps-serve, keeps-served_by}
 use Rattle.mx_laws.proofs.TurnParts.{there}
 use Rattle.mx_coherence.specs.Spans.{AreCurrent, IsClear}
 use Rattle.mx_coherence.specs.Coherence.{HasDropped, IsCoherent}
 use Rattle.mx_coherence.proofs.SpanLaws.{each_clear, each_left, each_without}
-use Rattle.mx_coherence.proofs.FollowLaws.{Follows, IsInside, IsOutcome, coherent-none, current-clear}
+use Rattle.mx_coherence.proofs.FollowLaws.{Follows, IsOutcome, coherent-none, current-clear}
 use Rattle.mx_coherence.proofs.LookLaws.{WalksAgree}
 use Rattle.mx_coherence.proofs.QuietLaws.{Quiet, quiet-served}
-use Rattle.mx_coherence.proofs.AnnouncedLaws.{Announced, Drops, Named, OnHeap, Plain, Tells, announced-heap, announced-named, serve-drops, tells}
+use Rattle.mx_coherence.proofs.AnnouncedLaws.{Drops, Named, OnHeap, Plain, Tells, announced-heap, announced-named, serve-drops, tells}
 use Rattle.mx_coherence.proofs.StepLaws.{Moved, coherent-moved, coherent-same, moved-cache, moved-hart, moved-module, moved-ram, moved-twice}
 
 -- a status that is no call in flight, or one that nobody has heard

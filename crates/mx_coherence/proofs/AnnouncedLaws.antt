@@ -1,5 +1,5 @@
 -- Announced calls: the change lies in the announced range, of which the caller drops its own spans.
-use Rattle.std.proofs.Common.{◌≡◌, ◌≢◌, ℕ, ◌+◌, ◌-◌, ◌*◌, ◌<◌, ◌≤◌, ◌⊎◌, inl, inr, Bool, true, false, not, cond, ◌==◌, ◌&&◌, nat_le, List, [], ◌∷◌, length, refl, sym, ap, subst, ◌∙◌, arith, Option, Some, None, unwrap_or, is_none}
+use Rattle.std.proofs.Common.{◌≡◌, ◌≢◌, ℕ, ◌+◌, ◌*◌, ◌<◌, ◌≤◌, ◌⊎◌, inl, inr, Bool, true, false, not, cond, ◌==◌, ◌&&◌, nat_le, List, [], ◌∷◌, length, refl, sym, ap, subst, ◌∙◌, arith, Option, Some, None, unwrap_or, is_none}
 use Rattle.std.specs.Prelude.{IfSome, find}
 use Rattle.std.specs.List.{list_any, range_with_len}
 use Rattle.std.specs.Option.{option_map}
@@ -15,7 +15,7 @@ use Rattle.mx_words.proofs.AreaLaws.{apart_ordered}
 use Rattle.mx_words.proofs.OverlayLaws.{covers_from, covers_in}
 use Rattle.mx_model.specs.declared.values.Call.{Call}
 use Rattle.mx_model.specs.Checks.{arg, call_range, drops}
-use Rattle.mx_model.specs.Reads.{Change, Reads}
+use Rattle.mx_model.specs.Reads.{Reads}
 use Rattle.mx_model.specs.Serve.{Served, Service, Grant, RevokeAll, Alloc, Free, alloc_change, alloc_from, alloc_place, allocated, answers, arg_word, arg_range, change_of, changes, code, free_change, freed_count, grant_change, is_word, judged, revoke_change, serve, serve_alloc, serve_free, served_by, service, with_blocks}
 use Rattle.mx_model.specs.State.{Core, Hart, cache_at, hart_at, module_at}
 use Rattle.mx_model.specs.Turn.{call_of}

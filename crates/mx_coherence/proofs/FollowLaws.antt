@@ -1,8 +1,8 @@
 -- Coherence under a change of rights: permissions follow where the new ones are the old beside the change.
-use Rattle.std.proofs.Common.{◌≡◌, ◌≢◌, ℕ, true, false, refl, sym, ◌∙◌, Option, Some, None, Bool}
+use Rattle.std.proofs.Common.{◌≡◌, ℕ, true, false, refl, sym, ◌∙◌, Option, Some, None, Bool}
 use Rattle.std.specs.Prelude.{IfSome}
 use Rattle.mx_words.specs.declared.perm.Span.{Span}
-use Rattle.mx_words.specs.Caches.{Cache, covers_word, meets}
+use Rattle.mx_words.specs.Caches.{Cache, meets}
 use Rattle.mx_words.specs.Ranges.{covers}
 use Rattle.mx_model.specs.Reads.{Change, Reads}
 use Rattle.mx_model.specs.State.{Core}

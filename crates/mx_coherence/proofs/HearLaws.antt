@@ -4,13 +4,11 @@ use Rattle.std.specs.Prelude.{fold}
 use Rattle.std.specs.List.{AllByRecursion}
 use Rattle.std.proofs.lemmas.Bool.{cases_eq}
 use Rattle.mx_words.specs.declared.perm.Span.{Span}
-use Rattle.mx_words.specs.Caches.{Cache, meets, no_cache, without_range}
+use Rattle.mx_words.specs.Caches.{Cache, no_cache, without_range}
 use Rattle.mx_words.specs.Hearing.{is_in, unheard_range}
-use Rattle.mx_model.specs.declared.values.Call.{Call}
 use Rattle.mx_model.specs.Checks.{call_range, heard_by, hears, is_halted, unheard_ranges}
 use Rattle.mx_model.specs.Reads.{Reads}
-use Rattle.mx_model.specs.State.{Core, Hart, Status, Running, Waiting, Halted, cache_at, hart_at, no_hart}
-use Rattle.mx_model.specs.Turn.{heard_first}
+use Rattle.mx_model.specs.State.{Core, Status, Running, Waiting, Halted, cache_at, hart_at}
 use Rattle.mx_laws.proofs.TurnParts.{there}
 use Rattle.mx_coherence.specs.Spans.{AreCurrent, EachSpan, IsClear}
 use Rattle.mx_coherence.specs.Coherence.{HasDropped, IsCoherent}

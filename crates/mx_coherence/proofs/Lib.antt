@@ -9,3 +9,4 @@ pub mod AnnouncedLaws
 pub mod ActionLaws
 pub mod TurnLaws
 pub mod RunLaws
+pub mod Examples

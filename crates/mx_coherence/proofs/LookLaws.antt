@@ -1,19 +1,18 @@
 -- Coherence through a hart's looks at words of RAM in its own domain.
-use Rattle.std.proofs.Common.{◌≡◌, ◌≢◌, ℕ, ◌<◌, true, false, cond, List, [], ◌∷◌, length, refl, sym, ap, subst, ◌∙◌, arith, length-set, Some, None}
+use Rattle.std.proofs.Common.{◌≡◌, ◌≢◌, ℕ, ◌<◌, false, cond, List, [], ◌∷◌, length, refl, sym, ap, subst, ◌∙◌, arith, length-set, Some, None}
 use Rattle.std.specs.List.{AllByRecursion, list_any}
 use Rattle.mx_words.specs.declared.perm.Span.{Span}
 use Rattle.mx_words.specs.Caches.{Cache, checked, meets}
-use Rattle.mx_words.specs.Hearing.{heard_range, is_in}
-use Rattle.mx_model.specs.declared.values.Call.{Call}
+use Rattle.mx_words.specs.Hearing.{heard_range}
 use Rattle.mx_model.specs.Checks.{Look, call_range, heard_ranges, is_halted, looked, looked_all}
 use Rattle.mx_model.specs.Reads.{Reads}
 use Rattle.mx_model.specs.State.{Core, Status, Running, Waiting, Halted, cache_at, hart_at}
 use Rattle.mx_laws.proofs.TurnParts.{there}
-use Rattle.mx_coherence.specs.Spans.{AgreesIn, AreCurrent, IsClear}
+use Rattle.mx_coherence.specs.Spans.{AgreesIn, AreCurrent}
 use Rattle.mx_coherence.specs.Coherence.{HasDropped, IsCoherent}
 use Rattle.mx_coherence.proofs.SpanLaws.{each_checked}
 use Rattle.mx_coherence.proofs.RangeLaws.{none_passes, range_of_call}
-use Rattle.mx_coherence.proofs.StepLaws.{Moved, coherent-moved, moved-cache}
+use Rattle.mx_coherence.proofs.StepLaws.{coherent-moved, moved-cache}
 
 -- a look in domain d at a word of so many
 pub record IsLook (size d : ℕ) (l : Look) : Type 0 where

@@ -1,5 +1,5 @@
 -- Calls that aren't announced: they change no right, and leave a coherent state with the harts as they were.
-use Rattle.std.proofs.Common.{◌≡◌, ℕ, zero, suc, ◌+◌, ◌-◌, ◌*◌, ◌/◌, ◌%◌, ◌<◌, ◌≤◌, Bool, true, false, not, cond, ◌==◌, ◌||◌, ◌&&◌, nat_lt, nat_le, List, [], ◌∷◌, length, take, refl, sym, ap, subst, ◌∙◌, arith, Option, Some, None}
+use Rattle.std.proofs.Common.{◌≡◌, ℕ, zero, suc, ◌+◌, ◌-◌, ◌*◌, ◌/◌, ◌%◌, ◌<◌, ◌≤◌, Bool, true, false, not, cond, ◌==◌, ◌||◌, ◌&&◌, nat_lt, nat_le, List, [], ◌∷◌, length, take, refl, arith, Option, Some, None}
 use Rattle.std.proofs.Common.{map as list_map}
 use Rattle.std.specs.List.{AllByRecursion, prefix_len, range_with_len}
 use Rattle.std.proofs.lemmas.Bool.{and_parts, or_parts, ltb-true, ltb-false, not-false}
@@ -10,10 +10,10 @@ use Rattle.mx_words.specs.Ranges.{in_ram, ram_base}
 use Rattle.mx_words.specs.Rights.{allows}
 use Rattle.mx_model.specs.declared.values.Call.{Call}
 use Rattle.mx_model.specs.declared.values.Gate.{Gate}
-use Rattle.mx_model.specs.Checks.{Look, arg, is_halted, looked, looked_all}
-use Rattle.mx_model.specs.Reads.{Change, Reads}
+use Rattle.mx_model.specs.Checks.{Look, arg, is_halted, looked_all}
+use Rattle.mx_model.specs.Reads.{Reads}
 use Rattle.mx_model.specs.Serve.{Served, Service, Exit, Write, Grant, RevokeAll, Transfer, Alloc, Free, AddGate, RemoveGate, AddReturnGate, Query, Self, Exchange, Unknown, adds, answers, arg_word, code, exchange_from, exchanged, give_of, is_word, judged, look_of, may_read, no_word, served_by, write_from, write_looks, write_outside, write_words, written_out}
-use Rattle.mx_model.specs.State.{Core, Hart, hart_at}
+use Rattle.mx_model.specs.State.{Core, hart_at}
 use Rattle.mx_model.specs.Turn.{call_of}
 use Rattle.mx_model.proofs.ListLaws.{all-take}
 use Rattle.mx_model.proofs.TestLaws.{first-passes}
@@ -45,7 +45,6 @@ below first (suc n) size le = (omega arith, below (first + 1) n size (omega arit
 written-below : (c : Core) (call : Call) → write_outside c call ≡ false → AllByRecursion (λ w. w < c.size) (write_words call)
 written-below c call e = by (nat_lt 0 (arg call 1)) refl e
   where
-
     by : (b : Bool) → nat_lt 0 (arg call 1) ≡ b → (b && (nat_lt (arg call 0) ram_base || nat_lt (ram_base + 4 * c.size) (arg call 0 + arg call 1))) ≡ false →
         AllByRecursion (λ w. w < c.size) (cond b (range_with_len ((arg call 0 - ram_base) / 4) ((arg call 0 + arg call 1 - ram_base + 3) / 4 - (arg call 0 - ram_base) / 4)) [])
     by false some f = tt

@@ -9,7 +9,7 @@ use Rattle.std.proofs.lemmas.List.{length-map, get_or-map}
 use Rattle.std.proofs.lemmas.List.FromFn.{length-enumerate_from, get_or-enumerate_from}
 use Rattle.mx_model.specs.declared.values.Call.{Call}
 use Rattle.mx_model.specs.Checks.{call_range, flight_range, heard_by, hears, is_halted, ranges}
-use Rattle.mx_model.specs.State.{Core, Hart, Status, Running, Waiting, Halted, hart_at, no_hart}
+use Rattle.mx_model.specs.State.{Core, Hart, Waiting, hart_at, no_hart}
 use Rattle.mx_model.proofs.ValidParts.{hearing}
 use Rattle.mx_laws.proofs.TurnParts.{there}
 

@@ -1,12 +1,11 @@
 -- Coherence of flat states: where caches are empty, through turns, and through runs.
-use Rattle.std.proofs.Common.{◌≡◌, ◌≢◌, ℕ, zero, suc, ◌+◌, ◌-◌, ◌<◌, ◌≤◌, ◌⊎◌, inl, inr, Bool, true, false, cond, List, [], ◌∷◌, length, get_or, refl, sym, ap, subst, ◌∙◌, ◌==◌, zero-add, Option, Some, None}
+use Rattle.std.proofs.Common.{◌≡◌, ℕ, zero, suc, ◌+◌, ◌-◌, ◌<◌, ◌≤◌, ◌⊎◌, inl, inr, Bool, true, false, cond, List, [], ◌∷◌, length, get_or, refl, sym, ap, subst, ◌∙◌, ◌==◌, zero-add, Option, Some, None}
 use Rattle.std.proofs.Common.{map as list_map}
 use Rattle.std.specs.List.{AllByRecursion}
 use Rattle.std.proofs.lemmas.Bool.{cases_lt, eqb-false}
 use Rattle.mx_words.specs.declared.perm.Perm.{Perm}
 use Rattle.mx_words.specs.declared.perm.Perm.TheVariants as P
-use Rattle.mx_words.specs.declared.perm.Span.{Span}
-use Rattle.mx_words.specs.Caches.{Cache, covers_word}
+use Rattle.mx_words.specs.Caches.{Cache}
 use Rattle.mx_words.specs.Changes.{changed_from, changed_map, grant_of}
 use Rattle.mx_words.specs.Hearing.{heard_range, is_in}
 use Rattle.mx_words.specs.Newest.{Grant, map}
@@ -19,12 +18,9 @@ use Rattle.mx_model.specs.Checks.{call_range, flight_range, heard_ranges, is_hal
 use Rattle.mx_model.specs.Reads.{Change, Reads, flat_reads, map_in, reads}
 use Rattle.mx_model.specs.Run.{Schedule, flat_made, flat_turn, hart_of, is_stopped, maps_after, run, turn}
 use Rattle.mx_model.specs.State.{Core, Flat, Hart, State, Status, Running, Waiting, Halted, cache_at, flat, hart_at}
-use Rattle.mx_model.specs.Turn.{turned}
 use Rattle.mx_model.specs.Valid.{IsFlat, IsValid}
 use Rattle.mx_model.proofs.FlatLaws.{flat-turn}
 use Rattle.mx_model.proofs.KeepLaws.{keeps-turned}
-use Rattle.mx_model.proofs.ListLaws.{all-at}
-use Rattle.mx_model.proofs.RunSteps.{run-going, run-stopped}
 use Rattle.mx_model.proofs.TurnLaws.{valid-turned}
 use Rattle.mx_model.proofs.ValidFlat.{length-map_in}
 use Rattle.mx_coherence.specs.Spans.{AgreesIn, IsClear, IsEmpty}

@@ -8,7 +8,7 @@ use Rattle.std.proofs.lemmas.List.{get_or_past}
 use Rattle.std.proofs.lemmas.List.Elements.{All-set, All-take, All-cons, All-nil, All-head, All-tail, All-weaker, All-map, All-replicate}
 use Rattle.mx_words.specs.declared.perm.Span.{Span}
 use Rattle.mx_words.specs.Ranges.{covers}
-use Rattle.mx_words.specs.Caches.{Cache, Entry, covers_word, meets, is_for, in_place, found_in_place, found_kept, kept_without, without_range, left_domain, no_cache, checked, checked_at, checked_behind, with_walk}
+use Rattle.mx_words.specs.Caches.{Cache, Entry, covers_word, meets, is_for, in_place, found_in_place, found_kept, kept_without, without_range, left_domain, checked, checked_at, checked_behind, with_walk}
 use Rattle.mx_coherence.specs.Spans.{EachSpan, IsClear, IsEmpty}
 
 -- weaker facts

@@ -1,10 +1,9 @@
 -- Coherence where one hart and its caches change, and rights with them.
-use Rattle.std.proofs.Common.{◌≡◌, ◌≢◌, ℕ, ◌-◌, ◌<◌, ◌⊎◌, inl, inr, false, true, List, length, refl, sym, ap, subst, ◌∙◌, get_or-set_same, get_or-set_other}
+use Rattle.std.proofs.Common.{◌≡◌, ◌≢◌, ℕ, ◌-◌, ◌<◌, ◌⊎◌, inl, inr, false, List, length, refl, sym, ap, subst, ◌∙◌, get_or-set_same, get_or-set_other}
 use Rattle.std.proofs.lemmas.Bool.{cases_eq}
 use Rattle.mx_words.specs.Announced.{announced}
 use Rattle.mx_words.specs.Caches.{Cache, no_cache}
 use Rattle.mx_words.specs.FirstFit.{Area}
-use Rattle.mx_words.specs.Hearing.{is_in}
 use Rattle.mx_model.specs.declared.values.Call.{Call}
 use Rattle.mx_model.specs.declared.values.Gate.{Gate}
 use Rattle.mx_model.specs.Checks.{arg, call_range, is_halted}

@@ -1,21 +1,19 @@
 -- Coherence through a turn.
-use Rattle.std.proofs.Common.{◌≡◌, ◌≢◌, ℕ, ◌+◌, ◌-◌, ◌*◌, ◌/◌, ◌<◌, ◌≤◌, Bool, true, false, cond, not, ◌==◌, ◌%◌, ◌&&◌, nat_le, nat_lt, List, [], ◌∷◌, ◌++◌, length, refl, sym, ap, subst, ◌∙◌, arith, Option, Some, None, if◌then◌else◌}
+use Rattle.std.proofs.Common.{◌≡◌, ℕ, ◌+◌, ◌-◌, ◌*◌, ◌<◌, Bool, true, false, cond, not, ◌==◌, ◌%◌, nat_le, nat_lt, List, length, refl, sym, ap, subst, arith, Option, Some, None, if◌then◌else◌}
 use Rattle.std.specs.List.{AllByRecursion}
 use Rattle.std.proofs.lemmas.Bool.{and_parts, ltb-true}
 use Rattle.mx_words.specs.declared.perm.Access.TheVariants as A
-use Rattle.mx_words.specs.Caches.{Cache}
-use Rattle.mx_words.specs.Hearing.{is_in}
-use Rattle.mx_words.specs.Ranges.{in_ram, ram_base, word_of}
+use Rattle.mx_words.specs.Ranges.{in_ram, ram_base}
 use Rattle.mx_isa.specs.declared.inst.Inst.{Inst}
 use Rattle.mx_isa.specs.Table.{decoded}
 use Rattle.mx_model.specs.declared.values.Call.{Call}
 use Rattle.mx_model.specs.Agreement.{Border}
-use Rattle.mx_model.specs.Checks.{Look, call_range, hears, is_halted, is_ready, looked_all, looks_at}
+use Rattle.mx_model.specs.Checks.{hears, is_halted, is_ready, looked_all, looks_at}
 use Rattle.mx_model.specs.Effect.{Effect, Goes, Faults, Loads, Stores, Calls, Jumps, effect, reg}
 use Rattle.mx_model.specs.Gates.{most_frames}
 use Rattle.mx_model.specs.Reads.{Reads}
 use Rattle.mx_model.specs.State.{Core, Hart, Status, Running, Waiting, Halted, cache_at, hart_at, module_at}
-use Rattle.mx_model.specs.Turn.{Action, Rests, Waits, Serves, Asks, Traps, Bounces, Crosses, Returns, Runs, Writes, Decided, Made, acted, by_effect, by_status, by_word, call_gate_at, call_of, counted, decide, enacted, fetches, heard_first, is_denied, load_at, runs_at, runs_in, traps, turned, without_look}
+use Rattle.mx_model.specs.Turn.{Action, Rests, Waits, Serves, Asks, Traps, Bounces, Crosses, Returns, Runs, Writes, Decided, acted, by_effect, by_status, by_word, call_gate_at, call_of, counted, decide, enacted, fetches, heard_first, is_denied, load_at, runs_at, runs_in, traps, turned, without_look}
 use Rattle.mx_model.specs.Valid.{IsStatus, IsValid}
 use Rattle.mx_model.proofs.JoinLaws.{all-join}
 use Rattle.mx_model.proofs.TurnCases.{looked_all-caches}
@@ -24,12 +22,11 @@ use Rattle.mx_model.proofs.ValidParts.{valid-caches, valid-turns}
 use Rattle.mx_model.proofs.KeepLaws.{keeps-heard_first, keeps-looked_all}
 use Rattle.mx_laws.proofs.TurnParts.{there}
 use Rattle.mx_laws.proofs.Walk.{IsPassing, IsReturning, Leaves, Passed, Refused, Returned, SentBack, Stopped, same-self, walk}
-use Rattle.mx_coherence.specs.Spans.{IsClear}
 use Rattle.mx_coherence.specs.Coherence.{HasDropped, IsCoherent}
 use Rattle.mx_coherence.proofs.FollowLaws.{IsOutcome, coherent-none}
 use Rattle.mx_coherence.proofs.HearLaws.{coherent-hears}
 use Rattle.mx_coherence.proofs.LookLaws.{IsLook, WalksAgree, coherent-looked_all}
-use Rattle.mx_coherence.proofs.ActionLaws.{MayAct, OthersClear, acted-outcome, ready-heard}
+use Rattle.mx_coherence.proofs.ActionLaws.{MayAct, acted-outcome, ready-heard}
 use Rattle.mx_coherence.proofs.StepLaws.{coherent-same}
 
 -- looks at an address are at a word of RAM
@@ -131,9 +128,11 @@ module _ (r : Reads) (c : Core) (h : ℕ) (k : IsCoherent r c) (walks : WalksAgr
   may-waiting call heard e true f =
       let lt : h < length c.harts = there c h (ap is_halted e) in
       let own : call ≡ call_of h (hart_at c h) =
-      (subst (λ (s : Status). IsStatus (length c.harts) h (hart_at c h) s) e (v.harts h lt).status).own in
-      (own, λ g live apart.
-      subst (λ (s : Status). HasDropped c g (cache_at c g) s) e (k.dropped g h live (λ x. apart (sym x))) (ready-heard c h g heard f apart live))
+      (subst (λ (s : Status). IsStatus (length c.harts) h (hart_at c h) s) e (v.harts h lt).status).own in (
+        own,
+        λ g live apart.
+            subst (λ (s : Status). HasDropped c g (cache_at c g) s) e (k.dropped g h live (λ x. apart (sym x))) (ready-heard c h g heard f apart live),
+      )
 
   -- the looks come first; a hart that waits or rests looks at nothing
   enacted-status : (s : Status) → (hart_at c h).status ≡ s → IsOutcome r (enacted r c h (by_status r c h (hart_at c h) s))
