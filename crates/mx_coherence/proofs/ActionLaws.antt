@@ -60,7 +60,8 @@ dropped-without c h first count k (Waiting call heard) p = λ hit. each_without 
 dropped-without c h first count k (Halted code) p = tt
 
 -- hart h changes, its domain stays
-module _ (r : Reads) (c : Core) (h : ℕ) (k : IsCoherent r c) (there : h < length c.harts) (live : is_halted (hart_at c h).status ≡ false) (y : Hart) (quiet : IsUnheard y.status) where
+module _ (r : Reads) (c : Core) (h : ℕ) (k : IsCoherent r c) (there : h < length c.harts) (live : is_halted (hart_at c h).status ≡ false) (y : Hart)
+    (quiet : IsUnheard y.status) where
   pub coherent-hart : y.domain ≡ (hart_at c h).domain → IsCoherent r (with_hart h y c)
   coherent-hart same = coherent-moved r c (with_hart h y c) h y (cache_at c h) (moved-hart c h y there) (record {
     own = λ running. subst (λ (d : ℕ). AreCurrent r d (cache_at c h)) (sym same) (k.current h live);
@@ -74,7 +75,8 @@ module _ (r : Reads) (c : Core) (h : ℕ) (k : IsCoherent r c) (there : h < leng
   pub coherent-empties : h < length c.caches → IsCoherent r (empties_places h (with_hart h y c))
   coherent-empties inside =
       let e = with_hart h y c in
-      let m = moved-twice c e (empties_places h e) h y (hart_at e h) (cache_at c h) (left_domain (cache_at c h)) (moved-hart c h y there) (moved-cache e h (left_domain (cache_at c h)) inside) in
+      let m = moved-twice c e (empties_places h e) h y (hart_at e h) (cache_at c h) (left_domain (cache_at c h)) (moved-hart c h y there)
+      (moved-cache e h (left_domain (cache_at c h)) inside) in
       coherent-moved r c (empties_places h e) h y (left_domain (cache_at c h))
       (subst (λ (x : Hart). Moved c (empties_places h e) h x (left_domain (cache_at c h))) (moved-hart c h y there).hart m) (record {
         own = λ running. each_left _ (cache_at c h) (k.current h live);
@@ -122,35 +124,43 @@ module _ (r : Reads) (c : Core) (h : ℕ) (k : IsCoherent r c) (walks : WalksAgr
   quiet-done : (s : Served) → Quiet r c s → IsOutcome r (done h (hart_at c h) s)
   quiet-done s q = λ new follows.
       coherent-none r new (done h (hart_at c h) s).core (subst (λ (o : Option Change). Follows r new o) q.change follows)
-      (elim s.stop as (λ b. IsCoherent r (cond b (halted h (hart_at c h) (Some s.a0) s.core) (with_regs h (hart_at c h) (answered (hart_at c h) s.a0 s.a1) (next (hart_at c h).pc) s.core))) [
+      (elim s.stop as (λ b. IsCoherent r (cond b (halted h (hart_at c h) (Some s.a0) s.core)
+      (with_regs h (hart_at c h) (answered (hart_at c h) s.a0 s.a1) (next (hart_at c h).pc) s.core))) [
         | true ↦ quiet-with s q (record (hart_at c h) { status = Halted (Some s.a0) }) tt refl
         | false ↦ quiet-with s q (record (hart_at c h) { regs = answered (hart_at c h) s.a0 s.a1; pc = next (hart_at c h).pc; status = Running }) tt refl
       ])
 
   -- after an announced call no span of the range is left, but of harts that are halted
-  drops-with : (s : Served) → Drops c h s → length s.core.harts ≡ length c.harts → OthersClear c h (call_range c (call_of h (hart_at c h))) → (y : Hart) → IsUnheard y.status →
+  drops-with : (s : Served) → Drops c h s → length s.core.harts ≡ length c.harts → OthersClear c h (call_range c (call_of h (hart_at c h))) →
+      (y : Hart) → IsUnheard y.status →
       y.domain ≡ (hart_at c h).domain → (new : Reads) → Follows r new s.change → IsCoherent new (with_hart h y s.core)
   drops-with s d count clear y unheard same new follows =
       let range = call_range c (call_of h (hart_at c h)) in
       let after = without_range range.0 range.1 (cache_at c h) in
       let e = with_hart h y s.core in
       let last : Moved s.core e h y (cache_at s.core h) = moved-hart s.core h y (subst (λ (n : ℕ). h < n) (sym count) inside) in
-      let m : Moved c e h y after = moved-twice c s.core e h (hart_at c h) y after after d.core (subst (λ (l : Cache). Moved s.core e h y l) d.core.cache last) in
+      let m : Moved c e h y after = moved-twice c s.core e h (hart_at c h) y after after d.core
+      (subst (λ (l : Cache). Moved s.core e h y l) d.core.cache last) in
       coherent-moved new c e h y after m (record {
         own = λ running. subst (λ (n : ℕ). AreCurrent new n after) (sym same)
             (current-clear r new s.change range (hart_at c h).domain after follows d.change (each_without range.0 range.1 (cache_at c h) (k.current h live))
             (each_clear range.0 range.1 (cache_at c h) (k.current h live)));
         own_dropped = λ g running apart. dropped-without c h range.0 range.1 (cache_at c h) (hart_at c g).status (k.dropped h g live apart);
-        others = λ g running apart. current-clear r new s.change range (hart_at c g).domain (cache_at c g) follows d.change (k.current g running) (clear g running apart);
+        others = λ g running apart. current-clear r new s.change range (hart_at c g).domain (cache_at c g) follows d.change (k.current g running)
+            (clear g running apart);
         own_call = λ g running apart. dropped-unheard c g (cache_at c g) y.status unheard;
         among = λ g i running a b apart. k.dropped g i running apart;
       })
 
-  drops-done : (s : Served) → Drops c h s → length s.core.harts ≡ length c.harts → OthersClear c h (call_range c (call_of h (hart_at c h))) → IsOutcome r (done h (hart_at c h) s)
+  drops-done : (s : Served) → Drops c h s → length s.core.harts ≡ length c.harts → OthersClear c h (call_range c (call_of h (hart_at c h))) →
+      IsOutcome r (done h (hart_at c h) s)
   drops-done s d count clear = λ new follows.
-      elim s.stop as (λ b. IsCoherent new (cond b (halted h (hart_at c h) (Some s.a0) s.core) (with_regs h (hart_at c h) (answered (hart_at c h) s.a0 s.a1) (next (hart_at c h).pc) s.core))) [
+      elim s.stop as (λ b. IsCoherent new (cond b (halted h (hart_at c h) (Some s.a0) s.core)
+      (with_regs h (hart_at c h) (answered (hart_at c h) s.a0 s.a1) (next (hart_at c h).pc) s.core))) [
         | true ↦ drops-with s d count clear (record (hart_at c h) { status = Halted (Some s.a0) }) tt refl new follows
-        | false ↦ drops-with s d count clear (record (hart_at c h) { regs = answered (hart_at c h) s.a0 s.a1; pc = next (hart_at c h).pc; status = Running }) tt refl new follows
+        | false ↦
+            let y = record (hart_at c h) { regs = answered (hart_at c h) s.a0 s.a1; pc = next (hart_at c h).pc; status = Running } in
+            drops-with s d count clear y tt refl new follows
       ]
 
   -- a call served, and a call made
@@ -189,13 +199,15 @@ module _ (r : Reads) (c : Core) (h : ℕ) (k : IsCoherent r c) (walks : WalksAgr
       subst (λ (k : Call). IsOutcome r (acted r c h (hart_at c h) (Asks k))) (sym e)
       (asked-outcome (is_served_now c h (call_of h (hart_at c h))) refl)
 
-  pub serves-outcome : (call : Call) → call ≡ call_of h (hart_at c h) → OthersClear c h (call_range c call) → IsOutcome r (acted r c h (hart_at c h) (Serves call))
+  pub serves-outcome : (call : Call) → call ≡ call_of h (hart_at c h) → OthersClear c h (call_range c call) →
+      IsOutcome r (acted r c h (hart_at c h) (Serves call))
   serves-outcome call e clear =
       subst (λ (k : Call). IsOutcome r (acted r c h (hart_at c h) (Serves k))) (sym e)
       (serve-outcome (λ announced. subst (λ (k : Call). OthersClear c h (call_range c k)) e clear))
 
   -- a fault
-  coherent-given_up : (e : Core) → IsCoherent r e → h < length e.harts → h < length e.caches → is_halted (hart_at e h).status ≡ false → (cause : ℕ) (o : Option Frame) →
+  coherent-given_up : (e : Core) → IsCoherent r e → h < length e.harts → h < length e.caches → is_halted (hart_at e h).status ≡ false →
+      (cause : ℕ) (o : Option Frame) →
       IsCoherent r (given_up e h (hart_at e h) cause o)
   coherent-given_up e p there own running cause None = coherent-hart r e h p there running (record (hart_at e h) { status = Halted None }) tt refl
   coherent-given_up e p there own running cause (Some frame) = coherent-empties r e h p there running _ tt own
@@ -206,7 +218,9 @@ module _ (r : Reads) (c : Core) (h : ℕ) (k : IsCoherent r c) (walks : WalksAgr
       let m = module_at c d in
       let e = with_module d (record m { dead = true }) c in
       elim (m.kills && not (cause == 20)) as (λ b. IsCoherent r (given_up (cond b e c) h (hart_at c h) cause (top (hart_at c h).frames))) [
-        | true ↦ coherent-given_up e (coherent-same r c e h (moved-module c h d (record m { dead = true }) refl) k) inside in-caches live cause (top (hart_at c h).frames)
+        | true ↦
+            let p = coherent-same r c e h (moved-module c h d (record m { dead = true }) refl) k in
+            coherent-given_up e p inside in-caches live cause (top (hart_at c h).frames)
         | false ↦ coherent-given_up c k inside in-caches live cause (top (hart_at c h).frames)
       ]
 

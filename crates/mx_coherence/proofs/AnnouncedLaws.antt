@@ -82,8 +82,10 @@ announced-judged c h range (Some n) s q = announced-answers c h range (code n)
 block-in : (low high first : ℕ) (bs : List Area) → AreApart low high bs → IfSome (block_words bs first) (λ n. (low ≤ first) × (first + n ≤ high))
 block-in low high first [] p = tt
 block-in low high first (b ∷ bs) p = elim (b.first == first) as
-    (λ t. (b.first == first) ≡ t → IfSome (option_map (λ (x : Area). x.count) (cond t (Some b) (find (λ (x : Area). x.first == first) bs))) (λ n. (low ≤ first) × (first + n ≤ high))) [
-      | true ↦ λ t. let e = eqb-true b.first first t in let l = p.0 in let h = apart_ordered (b.first + b.count) high bs p.2 in (omega (arith, e, l), omega (arith, e, h))
+    (λ t. (b.first == first) ≡ t → IfSome (option_map (λ (x : Area). x.count) (cond t (Some b) (find (λ (x : Area). x.first == first) bs)))
+    (λ n. (low ≤ first) × (first + n ≤ high))) [
+      | true ↦ λ t. let e = eqb-true b.first first t in let l = p.0 in let h = apart_ordered (b.first + b.count) high bs p.2 in
+          (omega (arith, e, l), omega (arith, e, h))
       | false ↦ λ t. lower (block_words bs first) (block-in (b.first + b.count) high first bs p.2)
     ] refl
   where
@@ -110,13 +112,16 @@ module _ (r : Reads) (c : Core) (h : ℕ) (v : IsValid c) where
   inside-named : names_range call.number ≡ true → (given : ℕ → Option Perm) → IsInside (call_range c call) (change_of (arg_range c call) given)
   inside-named e given w hit = subst (λ (range : ℕ × ℕ). covers range.0 range.1 w ≡ true) (sym (named-range e)) hit
 
-  pub announced-named : (s : Service) → (s ≡ Grant) ⊎ (s ≡ RevokeAll) → names_range call.number ≡ true → Announced c h (call_range c call) (served_by s r c call)
+  pub announced-named : (s : Service) → (s ≡ Grant) ⊎ (s ≡ RevokeAll) → names_range call.number ≡ true →
+      Announced c h (call_range c call) (served_by s r c call)
   announced-named s (inl e) named =
       subst (λ (k : Service). Announced c h (call_range c call) (served_by k r c call)) (sym e)
-      (announced-judged c h (call_range c call) _ (changes c (grant_change c call)) (λ f. record { core = moved-self c h; change = inside-named named (grant_change c call).given }))
+      (announced-judged c h (call_range c call) _ (changes c (grant_change c call))
+      (λ f. record { core = moved-self c h; change = inside-named named (grant_change c call).given }))
   announced-named s (inr e) named =
       subst (λ (k : Service). Announced c h (call_range c call) (served_by k r c call)) (sym e)
-      (announced-judged c h (call_range c call) _ (changes c (revoke_change c call)) (λ f. record { core = moved-self c h; change = inside-named named (revoke_change c call).given }))
+      (announced-judged c h (call_range c call) _ (changes c (revoke_change c call))
+      (λ f. record { core = moved-self c h; change = inside-named named (revoke_change c call).given }))
 
   -- alloc and free announce the caller's heap area
   heap-range : names_range call.number ≡ false → call_range c call ≡ (heap.first, heap.count)
@@ -154,7 +159,8 @@ module _ (r : Reads) (c : Core) (h : ℕ) (v : IsValid c) where
           let q = and_parts (nat_le heap.first first) (nat_le (first + n) (heap.first + heap.count)) p.0 in
           record {
             core = moved-blocks (with_block (record { first = first; count = n }) (module_at c call.domain).blocks) (cleared_at c.ram (4 * first) (4 * n));
-            change = inside-heap named first n (alloc_change first call).given (leb-true heap.first first q.0) (leb-true (first + n) (heap.first + heap.count) q.1);
+            change = inside-heap named first n (alloc_change first call).given (leb-true heap.first first q.0)
+                (leb-true (first + n) (heap.first + heap.count) q.1);
           }
 
       by : (o : Option ℕ) → (o ≡ None → has_room heap (module_at c call.domain).blocks (arg call 0) (unwrap_or (alloc_place c call) 0) ≡ true) →
@@ -164,7 +170,8 @@ module _ (r : Reads) (c : Core) (h : ℕ) (v : IsValid c) where
 
   freed-in : IfSome (freed_count c call) (λ n. (heap.first ≤ arg_word call) × (arg_word call + n ≤ heap.first + heap.count))
   freed-in = elim (is_word c (arg call 0)) as
-      (λ b. IfSome (cond b (block_words (module_at c call.domain).blocks (arg_word call)) None) (λ n. (heap.first ≤ arg_word call) × (arg_word call + n ≤ heap.first + heap.count))) [
+      (λ b. IfSome (cond b (block_words (module_at c call.domain).blocks (arg_word call)) None)
+      (λ n. (heap.first ≤ arg_word call) × (arg_word call + n ≤ heap.first + heap.count))) [
         | true ↦ block-in heap.first (heap.first + heap.count) (arg_word call) (module_at c call.domain).blocks (home-at c call.domain v).blocks
         | false ↦ tt
       ]
@@ -175,7 +182,8 @@ module _ (r : Reads) (c : Core) (h : ℕ) (v : IsValid c) where
       let t2 : Row ℕ = (not (r.fits (free_change c call)), 5) in
       announced-judged c h (call_range c call) (first_row (t1 ∷ t2 ∷ []))
       (changes (with_blocks call (without_block (arg_word call) (module_at c call.domain).blocks) c) (free_change c call)) (λ e.
-      let p = found-some (freed_count c call) (λ n. (heap.first ≤ arg_word call) × (arg_word call + n ≤ heap.first + heap.count)) freed-in (first-passes t1 (t2 ∷ []) e).0 in
+      let p = found-some (freed_count c call) (λ n. (heap.first ≤ arg_word call) × (arg_word call + n ≤ heap.first + heap.count)) freed-in
+      (first-passes t1 (t2 ∷ []) e).0 in
       record {
         core = moved-blocks (without_block (arg_word call) (module_at c call.domain).blocks) c.ram;
         change = inside-heap named (arg_word call) (unwrap_or (freed_count c call) 0) (free_change c call).given p.0 p.1;
@@ -186,14 +194,16 @@ module _ (r : Reads) (c : Core) (h : ℕ) (v : IsValid c) where
   announced-heap s (inr e) named = subst (λ (k : Service). Announced c h (call_range c call) (served_by k r c call)) (sym e) (announced-free named)
 
   -- the caller drops its own spans on the range
-  pub serve-drops : (s : Service) → service call.number ≡ s → is_announced call.number ≡ true → h < length c.caches → length (served_by s r c call).core.caches ≡ length c.caches →
+  pub serve-drops : (s : Service) → service call.number ≡ s → is_announced call.number ≡ true → h < length c.caches →
+      length (served_by s r c call).core.caches ≡ length c.caches →
       Announced c h (call_range c call) (served_by s r c call) → Drops c h (serve r c call)
   serve-drops s e f there same p =
       let m = served_by s r c call in
       let range = call_range c call in
       let d = drops h range m.core in
       let is : serve r c call ≡ record m { core = d } =
-      ap (λ (k : Service). cond (is_announced call.number) (record (served_by k r c call) { core = drops h range (served_by k r c call).core }) (served_by k r c call)) e
+      ap (λ (k : Service). cond (is_announced call.number) (record (served_by k r c call) { core = drops h range (served_by k r c call).core })
+      (served_by k r c call)) e
       ∙ ap (λ (b : Bool). cond b (record m { core = d }) m) f in
       let here : Moved m.core d h (hart_at m.core h) (without_range range.0 range.1 (cache_at m.core h)) =
       moved-cache m.core h (without_range range.0 range.1 (cache_at m.core h)) (omega (arith, there, same)) in

@@ -33,7 +33,8 @@ beside (Some c) range w inside out = by (covers c.first c.count w) refl
     by true e = let clash : true ≡ false = sym (inside w e) ∙ out in cc
 
 -- spans that don't meet the range stay current
-pub current-clear : (r q : Reads) (o : Option Change) (range : ℕ × ℕ) (d : ℕ) (k : Cache) → Follows r q o → IfSome o (IsInside range) → AreCurrent r d k → IsClear range k → AreCurrent q d k
+pub current-clear : (r q : Reads) (o : Option Change) (range : ℕ × ℕ) (d : ℕ) (k : Cache) → Follows r q o → IfSome o (IsInside range) →
+    AreCurrent r d k → IsClear range k → AreCurrent q d k
 current-clear r q o range d k follows inside current clear =
     each_weaker (λ e s p. agrees e s p.0 p.1) (λ s p. agrees d s p.0 p.1) k (each_both k current clear)
   where

@@ -24,7 +24,8 @@ each_fold : {E : ℕ → Span → Type 0} {P : Span → Type 0} (xs : List (ℕ 
 each_fold [] k each = each
 each_fold (x ∷ xs) k each = each_fold xs (drop k x) (each_without x.0 x.1 k each)
 
-clear_fold : {E : ℕ → Span → Type 0} {P : Span → Type 0} (xs : List (ℕ × ℕ)) (k : Cache) → EachSpan E P k → AllByRecursion (λ (range : ℕ × ℕ). IsClear range (fold drop k xs)) xs
+clear_fold : {E : ℕ → Span → Type 0} {P : Span → Type 0} (xs : List (ℕ × ℕ)) (k : Cache) → EachSpan E P k →
+    AllByRecursion (λ (range : ℕ × ℕ). IsClear range (fold drop k xs)) xs
 clear_fold [] k each = tt
 clear_fold (x ∷ xs) k each = (each_fold xs (drop k x) (each_clear x.0 x.1 k each), clear_fold xs (drop k x) (each_without x.0 x.1 k each))
 
@@ -49,21 +50,25 @@ module _ (r : Reads) (c : Core) (h : ℕ) (k : IsCoherent r c) (count : length c
   other-cache : (g : ℕ) → g ≢ h → cache_at (hears h c) g ≡ cache_at c g
   other-cache g apart = get_or-set_other c.caches h g _ no_cache apart
 
-  current_at : (g : ℕ) → (g ≡ h) ⊎ (g ≢ h) → is_halted (hart_at (hears h c) g).status ≡ false → AreCurrent r (hart_at (hears h c) g).domain (cache_at (hears h c) g)
+  current_at : (g : ℕ) → (g ≡ h) ⊎ (g ≢ h) → is_halted (hart_at (hears h c) g).status ≡ false →
+      AreCurrent r (hart_at (hears h c) g).domain (cache_at (hears h c) g)
   current_at g (inl same) =
       let x = hart_at c h in
       subst (λ (n : ℕ). is_halted (hart_at (hears h c) n).status ≡ false → AreCurrent r (hart_at (hears h c) n).domain (cache_at (hears h c) n)) (sym same)
-      (three (λ y l z. is_halted y.status ≡ false → AreCurrent r y.domain l) (hart_at (hears h c) h) x (cache_at (hears h c) h) (fold drop (cache_at c h) (unheard_ranges c h)) x x
+      (three (λ y l z. is_halted y.status ≡ false → AreCurrent r y.domain l) (hart_at (hears h c) h) x (cache_at (hears h c) h)
+      (fold drop (cache_at c h) (unheard_ranges c h)) x x
       (own_heard c h) own-cache refl
       (λ running. each_fold (unheard_ranges c h) (cache_at c h) (k.current h running)))
   current_at g (inr apart) =
       let x = hart_at c g in
-      three (λ y l z. is_halted y.status ≡ false → AreCurrent r y.domain l) (hart_at (hears h c) g) (record x { status = heard_by h x.status }) (cache_at (hears h c) g) (cache_at c g) x x
+      three (λ y l z. is_halted y.status ≡ false → AreCurrent r y.domain l) (hart_at (hears h c) g) (record x { status = heard_by h x.status })
+      (cache_at (hears h c) g) (cache_at c g) x x
       (other_heard c h g apart) (other-cache g apart) refl
       (λ running. k.current g (sym (live-heard h x.status) ∙ running))
 
   -- the hart that hears drops what it hears for the first time
-  own_dropped : (g : ℕ) (s : Status) → g ≢ h → (hart_at c g).status ≡ s → HasDropped c h (cache_at c h) s → HasDropped c h (fold drop (cache_at c h) (unheard_ranges c h)) (heard_by h s)
+  own_dropped : (g : ℕ) (s : Status) → g ≢ h → (hart_at c g).status ≡ s → HasDropped c h (cache_at c h) s →
+      HasDropped c h (fold drop (cache_at c h) (unheard_ranges c h)) (heard_by h s)
   own_dropped g Running apart e p = tt
   own_dropped g (Waiting call heard) apart e p = λ hit. by (is_in heard h) refl
     where
@@ -78,22 +83,27 @@ module _ (r : Reads) (c : Core) (h : ℕ) (k : IsCoherent r c) (count : length c
   dropped_at g i apart (inl a) (inl b) = absurd (apart (b ∙ sym a))
   dropped_at g i apart (inl a) (inr b) =
       let y = hart_at c i in
-      subst (λ (n : ℕ). is_halted (hart_at (hears h c) n).status ≡ false → HasDropped (hears h c) n (cache_at (hears h c) n) (hart_at (hears h c) i).status) (sym a)
-      (three (λ x l z. is_halted x.status ≡ false → HasDropped (hears h c) h l z.status) (hart_at (hears h c) h) (hart_at c h) (cache_at (hears h c) h) (fold drop (cache_at c h) (unheard_ranges c h))
+      subst (λ (n : ℕ). is_halted (hart_at (hears h c) n).status ≡ false → HasDropped (hears h c) n (cache_at (hears h c) n)
+      (hart_at (hears h c) i).status) (sym a)
+      (three (λ x l z. is_halted x.status ≡ false → HasDropped (hears h c) h l z.status) (hart_at (hears h c) h) (hart_at c h)
+      (cache_at (hears h c) h) (fold drop (cache_at c h) (unheard_ranges c h))
       (hart_at (hears h c) i) (record y { status = heard_by h y.status }) (own_heard c h) own-cache (other_heard c h i b)
       (λ running. dropped-ranges c (hears h c) (λ call. refl) h (fold drop (cache_at c h) (unheard_ranges c h)) (heard_by h y.status)
       (own_dropped i y.status b refl (k.dropped h i running b))))
   dropped_at g i apart (inr a) (inl b) =
       let x = hart_at c g in
-      subst (λ (n : ℕ). is_halted (hart_at (hears h c) g).status ≡ false → HasDropped (hears h c) g (cache_at (hears h c) g) (hart_at (hears h c) n).status) (sym b)
-      (three (λ y l z. is_halted y.status ≡ false → HasDropped (hears h c) g l z.status) (hart_at (hears h c) g) (record x { status = heard_by h x.status }) (cache_at (hears h c) g) (cache_at c g)
+      subst (λ (n : ℕ). is_halted (hart_at (hears h c) g).status ≡ false → HasDropped (hears h c) g (cache_at (hears h c) g)
+      (hart_at (hears h c) n).status) (sym b)
+      (three (λ y l z. is_halted y.status ≡ false → HasDropped (hears h c) g l z.status) (hart_at (hears h c) g)
+      (record x { status = heard_by h x.status }) (cache_at (hears h c) g) (cache_at c g)
       (hart_at (hears h c) h) (hart_at c h) (other_heard c h g a) (other-cache g a) (own_heard c h)
       (λ running. dropped-ranges c (hears h c) (λ call. refl) g (cache_at c g) (hart_at c h).status
       (k.dropped g h (sym (live-heard h x.status) ∙ running) (λ e. a (sym e)))))
   dropped_at g i apart (inr a) (inr b) =
       let x = hart_at c g in
       let y = hart_at c i in
-      three (λ v l z. is_halted v.status ≡ false → HasDropped (hears h c) g l z.status) (hart_at (hears h c) g) (record x { status = heard_by h x.status }) (cache_at (hears h c) g) (cache_at c g)
+      three (λ v l z. is_halted v.status ≡ false → HasDropped (hears h c) g l z.status) (hart_at (hears h c) g)
+      (record x { status = heard_by h x.status }) (cache_at (hears h c) g) (cache_at c g)
       (hart_at (hears h c) i) (record y { status = heard_by h y.status }) (other_heard c h g a) (other-cache g a) (other_heard c h i b)
       (λ running. dropped-ranges c (hears h c) (λ call. refl) g (cache_at c g) (heard_by h y.status)
       (dropped-heard c h g (cache_at c g) y.status a (k.dropped g i (sym (live-heard h x.status) ∙ running) apart)))

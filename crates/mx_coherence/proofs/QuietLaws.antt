@@ -46,7 +46,8 @@ written-below : (c : Core) (call : Call) → write_outside c call ≡ false → 
 written-below c call e = by (nat_lt 0 (arg call 1)) refl e
   where
     by : (b : Bool) → nat_lt 0 (arg call 1) ≡ b → (b && (nat_lt (arg call 0) ram_base || nat_lt (ram_base + 4 * c.size) (arg call 0 + arg call 1))) ≡ false →
-        AllByRecursion (λ w. w < c.size) (cond b (range_with_len ((arg call 0 - ram_base) / 4) ((arg call 0 + arg call 1 - ram_base + 3) / 4 - (arg call 0 - ram_base) / 4)) [])
+        AllByRecursion (λ w. w < c.size) (cond b (range_with_len ((arg call 0 - ram_base) / 4)
+        ((arg call 0 + arg call 1 - ram_base + 3) / 4 - (arg call 0 - ram_base) / 4)) [])
     by false some f = tt
     by true some f =
         let p = or_parts (nat_lt (arg call 0) ram_base) (nat_lt (ram_base + 4 * c.size) (arg call 0 + arg call 1)) f in
@@ -123,13 +124,15 @@ module _ (r : Reads) (c : Core) (h : ℕ) (k : IsCoherent r c) (walks : WalksAgr
       quiet-write (first_row (t ∷ u ∷ [])) (λ e. (first-passes u [] (first-passes t (u ∷ []) e).1).0)
   quiet-served Grant q = absurd q
   quiet-served RevokeAll q = absurd q
-  quiet-served Transfer q = quiet-judged c _ (record (answers c 0) { give = Some (give_of c call) }) k refl (λ e. record { core = k; harts = refl; change = refl })
+  quiet-served Transfer q = quiet-judged c _ (record (answers c 0) { give = Some (give_of c call) }) k refl
+      (λ e. record { core = k; harts = refl; change = refl })
   quiet-served Alloc q = absurd q
   quiet-served Free q = absurd q
   quiet-served AddGate q = quiet-judged c _ (adds c (record { domain = arg call 1; word = arg_word call; target = call.domain })) k refl (λ e. quiet-adds _)
   quiet-served RemoveGate q =
       quiet-judged c _ _ k refl (λ e. record { core = coherent-same r c _ h (moved-gates c h _) k; harts = refl; change = refl })
-  quiet-served AddReturnGate q = quiet-judged c _ (adds c (record { domain = call.domain; word = arg_word call; target = call.domain })) k refl (λ e. quiet-adds _)
+  quiet-served AddReturnGate q = quiet-judged c _ (adds c (record { domain = call.domain; word = arg_word call; target = call.domain })) k refl
+      (λ e. quiet-adds _)
   quiet-served Query q = quiet-judged c _ _ k refl (λ e. record { core = k; harts = refl; change = refl })
   quiet-served Self q = quiet-answers _
   quiet-served Exchange q =

@@ -48,7 +48,8 @@ given_all Q F (x ∷ xs) n each =
 
 -- a fact of all ranges, at the range of one call
 module _ (Q : ℕ × ℕ → Type 0) (c : Core) (h g : ℕ) (choice : List Bool → ℕ × ℕ → Option (ℕ × ℕ)) (call : Call) (heard : List Bool) where
-  pub range_of_call : AllByRecursion Q (ranges c h choice) → g ≢ h → (hart_at c g).status ≡ Waiting call heard → choice heard (call_range c call) ≡ Some (call_range c call) →
+  pub range_of_call : AllByRecursion Q (ranges c h choice) → g ≢ h → (hart_at c g).status ≡ Waiting call heard →
+      choice heard (call_range c call) ≡ Some (call_range c call) →
       Q (call_range c call)
   range_of_call all apart waits e =
       let here : g < length c.harts = there c g (ap is_halted waits) in
@@ -85,7 +86,8 @@ other_heard c h g apart = by (cases_lt g (length c.harts))
 pub own_heard : (c : Core) (h : ℕ) → hart_at (hears h c) h ≡ hart_at c h
 own_heard c h = by (cases_lt h (length c.harts))
   where
-    same : (b : Bool) → cond b (hart_at c h) (record (hart_at c h) { status = heard_by h (hart_at c h).status }) ≡ hart_at c h → (h == h) ≡ b → hearing h (h, hart_at c h) ≡ hart_at c h
+    same : (b : Bool) → cond b (hart_at c h) (record (hart_at c h) { status = heard_by h (hart_at c h).status }) ≡ hart_at c h → (h == h) ≡ b →
+        hearing h (h, hart_at c h) ≡ hart_at c h
     same b p e = ap (λ b. cond b (hart_at c h) (record (hart_at c h) { status = heard_by h (hart_at c h).status })) e ∙ p
 
     by : (h < length c.harts) ⊎ (length c.harts ≤ h) → hart_at (hears h c) h ≡ hart_at c h

@@ -52,7 +52,8 @@ outside first count w e = by (cases_lt w first) (cases_lt w (first + count))
     by (inr le) (inr far) = inr far
     by (inr le) (inl lt) = let clash : true ≡ false = sym (covers_in first count w le lt) ∙ e in absurd (cc)
 
-changed-map : (first count : ℕ) (o : Option Perm) (m : List Perm) (w : ℕ) → (w < first) ⊎ (first + count ≤ w) → perm_at (changed_map first count o m) w ≡ perm_at m w
+changed-map : (first count : ℕ) (o : Option Perm) (m : List Perm) (w : ℕ) → (w < first) ⊎ (first + count ≤ w) →
+    perm_at (changed_map first count o m) w ≡ perm_at m w
 changed-map first count None m w out = refl
 changed-map first count (Some p) m w (inl lt) = laid_below (grant_of first count p) m w P.None lt
 changed-map first count (Some p) m w (inr le) = laid_behind (grant_of first count p) m w P.None le
@@ -64,7 +65,8 @@ changed-from first count given d zero (m ∷ ms) n w out = changed-map first cou
 changed-from first count given d (suc k) (m ∷ ms) n w out = changed-from first count given (d + 1) k ms n w out
 
 -- a turn's permissions follow its change
-follows-maps : (size : ℕ) (maps : List (List Perm)) (o : Option Change) (d w : ℕ) → IsBeside o w → perm_at (map_in size (maps_after maps o) d) w ≡ perm_at (map_in size maps d) w
+follows-maps : (size : ℕ) (maps : List (List Perm)) (o : Option Change) (d w : ℕ) → IsBeside o w →
+    perm_at (map_in size (maps_after maps o) d) w ≡ perm_at (map_in size maps d) w
 follows-maps size maps None d w p = refl
 follows-maps size maps (Some c) d w p = changed-from c.first c.count c.given 1 (d - 1) maps (map [] size) w (outside c.first c.count w p)
 
@@ -135,10 +137,13 @@ clear-range f h (Halted code) range p e = absurd (let q : ⊥ = cc in q)
 clear-heard : (f : Flat) (h : ℕ) → flat_coherent f → is_halted (hart_at f.core h).status ≡ false →
     AllByRecursion (λ (range : ℕ × ℕ). IsClear range (cache_at f.core h)) (heard_ranges f.core h)
 clear-heard f h k live =
-    given_all (λ (range : ℕ × ℕ). IsClear range (cache_at f.core h)) (λ (p : ℕ × Hart). cond (p.0 == h) None (flight_range f.core (heard_range h) p.1.status)) f.core.harts 0
-    (λ g range lt e. by g range (g == h) refl (subst (λ (n : ℕ). cond (n == h) None (flight_range f.core (heard_range h) (hart_at f.core g).status) ≡ Some range) (zero-add g) e))
+    given_all (λ (range : ℕ × ℕ). IsClear range (cache_at f.core h))
+    (λ (p : ℕ × Hart). cond (p.0 == h) None (flight_range f.core (heard_range h) p.1.status)) f.core.harts 0
+    (λ g range lt e. by g range (g == h) refl
+    (subst (λ (n : ℕ). cond (n == h) None (flight_range f.core (heard_range h) (hart_at f.core g).status) ≡ Some range) (zero-add g) e))
   where
-    by : (g : ℕ) (range : ℕ × ℕ) (b : Bool) → (g == h) ≡ b → cond b None (flight_range f.core (heard_range h) (hart_at f.core g).status) ≡ Some range → IsClear range (cache_at f.core h)
+    by : (g : ℕ) (range : ℕ × ℕ) (b : Bool) → (g == h) ≡ b →
+        cond b None (flight_range f.core (heard_range h) (hart_at f.core g).status) ≡ Some range → IsClear range (cache_at f.core h)
     by g range true s e = absurd (let q : ⊥ = cc in q)
     by g range false s e = clear-range f h (hart_at f.core g).status range (k.dropped h g live (eqb-false g h s)) e
 

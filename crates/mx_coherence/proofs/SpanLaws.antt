@@ -62,7 +62,8 @@ has_found_kept E [] domain word s all e = cc
 has_found_kept E (x ∷ xs) domain word s all e =
     by (has_found_kept E xs domain word s (All-tail (λ (e : Entry). E e.0 e.1) x xs all)) (is_for domain word x) refl e
   where
-    by : (found_kept xs domain word ≡ Some s → E domain s × (covers_word s word ≡ true)) → (b : Bool) → is_for domain word x ≡ b → option_map_or (λ (e : Entry). Some e.1) (cond b (Some x) (find (is_for domain word) xs)) None ≡ Some s → E domain s × (covers_word s word ≡ true)
+    by : (found_kept xs domain word ≡ Some s → E domain s × (covers_word s word ≡ true)) → (b : Bool) → is_for domain word x ≡ b →
+        option_map_or (λ (e : Entry). Some e.1) (cond b (Some x) (find (is_for domain word) xs)) None ≡ Some s → E domain s × (covers_word s word ≡ true)
     by rest true hit e =
         let parts = and_parts (x.0 == domain) (covers_word x.1 word) hit in
         let same : x.1 ≡ s = cc in
@@ -77,7 +78,8 @@ module _ {E : ℕ → Span → Type 0} {P : Span → Type 0} (most p domain word
   after_walk : (b : Bool) → barred ≡ b → EachSpan E P (with_walk most p domain walked b c)
   after_walk true e = record { entries = each.entries; places = each.places }
   after_walk false e = record {
-    entries = All-take (λ (x : Entry). E x.0 x.1) most ((domain, walked) ∷ c.kept) (All-cons (λ (x : Entry). E x.0 x.1) (domain, walked) c.kept (new e) each.entries);
+    entries = All-take (λ (x : Entry). E x.0 x.1) most ((domain, walked) ∷ c.kept)
+        (All-cons (λ (x : Entry). E x.0 x.1) (domain, walked) c.kept (new e) each.entries);
     places = All-set (λ (o : Option Span). IfSome o P) c.places p (Some walked) (after_list walked (new e)) each.places;
   }
 
@@ -97,16 +99,20 @@ module _ {E : ℕ → Span → Type 0} {P : Span → Type 0} (most p domain word
 
 -- spans dropped: what held still holds, and none meets the range
 module _ {E : ℕ → Span → Type 0} {P : Span → Type 0} (first count : ℕ) (c : Cache) (each : EachSpan E P c) where
-  entries_after : (xs : List Entry) → All (λ (x : Entry). E x.0 x.1) xs → All (λ (x : Entry). E x.0 x.1 × (meets x.1 first count ≡ false)) (kept_without first count xs)
+  entries_after : (xs : List Entry) → All (λ (x : Entry). E x.0 x.1) xs →
+      All (λ (x : Entry). E x.0 x.1 × (meets x.1 first count ≡ false)) (kept_without first count xs)
   entries_after [] all = All-nil (λ (x : Entry). E x.0 x.1 × (meets x.1 first count ≡ false))
   entries_after (x ∷ xs) all =
       by (entries_after xs (All-tail (λ (y : Entry). E y.0 y.1) x xs all)) (meets x.1 first count) refl
     where
-      by : All (λ (y : Entry). E y.0 y.1 × (meets y.1 first count ≡ false)) (kept_without first count xs) → (b : Bool) → meets x.1 first count ≡ b → All (λ (y : Entry). E y.0 y.1 × (meets y.1 first count ≡ false)) (cond (not b) (x ∷ kept_without first count xs) (kept_without first count xs))
+      by : All (λ (y : Entry). E y.0 y.1 × (meets y.1 first count ≡ false)) (kept_without first count xs) → (b : Bool) → meets x.1 first count ≡ b →
+          All (λ (y : Entry). E y.0 y.1 × (meets y.1 first count ≡ false)) (cond (not b) (x ∷ kept_without first count xs) (kept_without first count xs))
       by rest true e = rest
-      by rest false e = All-cons (λ (y : Entry). E y.0 y.1 × (meets y.1 first count ≡ false)) x (kept_without first count xs) (All-head (λ (y : Entry). E y.0 y.1) x xs all, e) rest
+      by rest false e = All-cons (λ (y : Entry). E y.0 y.1 × (meets y.1 first count ≡ false)) x (kept_without first count xs)
+          (All-head (λ (y : Entry). E y.0 y.1) x xs all, e) rest
 
-  place_after : (o : Option Span) → IfSome o P → IfSome (option_map_or (λ s. cond (meets s first count) None (Some s)) o None) (λ s. P s × (meets s first count ≡ false))
+  place_after : (o : Option Span) → IfSome o P →
+      IfSome (option_map_or (λ s. cond (meets s first count) None (Some s)) o None) (λ s. P s × (meets s first count ≡ false))
   place_after None holds = tt
   place_after (Some s) holds = by (meets s first count) refl
     where
@@ -117,8 +123,11 @@ module _ {E : ℕ → Span → Type 0} {P : Span → Type 0} (first count : ℕ)
   pub each_dropped : EachSpan (λ d s. E d s × (meets s first count ≡ false)) (λ s. P s × (meets s first count ≡ false)) (without_range first count c)
   each_dropped = record {
     entries = entries_after c.kept each.entries;
-    places = All-map (λ (o : Option Span). IfSome o (λ s. P s × (meets s first count ≡ false))) (λ o. option_map_or (λ s. cond (meets s first count) None (Some s)) o None) c.places
-        (All-weaker (λ (o : Option Span). IfSome o P) (λ (o : Option Span). IfSome (option_map_or (λ s. cond (meets s first count) None (Some s)) o None) (λ s. P s × (meets s first count ≡ false))) place_after c.places each.places);
+    places = All-map (λ (o : Option Span). IfSome o (λ s. P s × (meets s first count ≡ false)))
+        (λ o. option_map_or (λ s. cond (meets s first count) None (Some s)) o None) c.places
+        (All-weaker (λ (o : Option Span). IfSome o P)
+        (λ (o : Option Span). IfSome (option_map_or (λ s. cond (meets s first count) None (Some s)) o None) (λ s. P s × (meets s first count ≡ false)))
+        place_after c.places each.places);
   }
 
   pub each_without : EachSpan E P (without_range first count c)
@@ -139,7 +148,8 @@ outside_range s first count word apart inside = by (covers first count word) ref
     by true e = let clash : true ≡ false = sym (meeting e) ∙ apart in cc
 
 -- two facts of each span at once
-pub each_both : {E F : ℕ → Span → Type 0} {P Q : Span → Type 0} (c : Cache) → EachSpan E P c → EachSpan F Q c → EachSpan (λ d s. E d s × F d s) (λ s. P s × Q s) c
+pub each_both : {E F : ℕ → Span → Type 0} {P Q : Span → Type 0} (c : Cache) → EachSpan E P c → EachSpan F Q c →
+    EachSpan (λ d s. E d s × F d s) (λ s. P s × Q s) c
 each_both {E} {F} {P} {Q} c a b = record {
   entries = λ k d lt. (a.entries k d lt, b.entries k d lt);
   places = λ k d lt. place (get_or c.places k d) (a.places k d lt) (b.places k d lt);

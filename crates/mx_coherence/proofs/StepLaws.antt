@@ -31,7 +31,8 @@ moved-twice c e f h y z k l a b = record {
 }
 
 -- the second fact depends on the state by the ranges of calls alone
-pub dropped-ranges : (c e : Core) → ((call : Call) → call_range e call ≡ call_range c call) → (h : ℕ) (k : Cache) (s : Status) → HasDropped c h k s → HasDropped e h k s
+pub dropped-ranges : (c e : Core) → ((call : Call) → call_range e call ≡ call_range c call) → (h : ℕ) (k : Cache) (s : Status) → HasDropped c h k s →
+    HasDropped e h k s
 dropped-ranges c e same h k Running p = tt
 dropped-ranges c e same h k (Waiting call heard) p = λ hit. subst (λ (range : ℕ × ℕ). IsClear range k) (sym (same call)) (p hit)
 dropped-ranges c e same h k (Halted code) p = tt
@@ -55,21 +56,26 @@ module _ (q : Reads) (c e : Core) (h : ℕ) (y : Hart) (k : Cache) (m : Moved c 
       subst (λ (n : ℕ). is_halted (hart_at e n).status ≡ false → AreCurrent q (hart_at e n).domain (cache_at e n)) (sym same)
       (three (λ x l z. is_halted x.status ≡ false → AreCurrent q x.domain l) (hart_at e h) y (cache_at e h) k y y m.hart m.cache refl f.own)
   current_at g (inr apart) =
-      three (λ x l z. is_halted x.status ≡ false → AreCurrent q x.domain l) (hart_at e g) (hart_at c g) (cache_at e g) (cache_at c g) y y (m.harts g apart) (m.caches g apart) refl
+      three (λ x l z. is_halted x.status ≡ false → AreCurrent q x.domain l) (hart_at e g) (hart_at c g) (cache_at e g) (cache_at c g) y y
+      (m.harts g apart) (m.caches g apart) refl
       (λ live. f.others g live apart)
 
-  dropped_at : (g i : ℕ) → i ≢ g → (g ≡ h) ⊎ (g ≢ h) → (i ≡ h) ⊎ (i ≢ h) → is_halted (hart_at e g).status ≡ false → HasDropped e g (cache_at e g) (hart_at e i).status
+  dropped_at : (g i : ℕ) → i ≢ g → (g ≡ h) ⊎ (g ≢ h) → (i ≡ h) ⊎ (i ≢ h) → is_halted (hart_at e g).status ≡ false →
+      HasDropped e g (cache_at e g) (hart_at e i).status
   dropped_at g i apart (inl a) (inl b) = absurd (apart (b ∙ sym a))
   dropped_at g i apart (inl a) (inr b) =
       subst (λ (n : ℕ). is_halted (hart_at e n).status ≡ false → HasDropped e n (cache_at e n) (hart_at e i).status) (sym a)
-      (three (λ x l z. is_halted x.status ≡ false → HasDropped e h l z.status) (hart_at e h) y (cache_at e h) k (hart_at e i) (hart_at c i) m.hart m.cache (m.harts i b)
+      (three (λ x l z. is_halted x.status ≡ false → HasDropped e h l z.status) (hart_at e h) y (cache_at e h) k (hart_at e i)
+      (hart_at c i) m.hart m.cache (m.harts i b)
       (λ live. dropped-ranges c e m.ranges h k (hart_at c i).status (f.own_dropped i live b)))
   dropped_at g i apart (inr a) (inl b) =
       subst (λ (n : ℕ). is_halted (hart_at e g).status ≡ false → HasDropped e g (cache_at e g) (hart_at e n).status) (sym b)
-      (three (λ x l z. is_halted x.status ≡ false → HasDropped e g l z.status) (hart_at e g) (hart_at c g) (cache_at e g) (cache_at c g) (hart_at e h) y (m.harts g a) (m.caches g a) m.hart
+      (three (λ x l z. is_halted x.status ≡ false → HasDropped e g l z.status) (hart_at e g) (hart_at c g) (cache_at e g) (cache_at c g)
+      (hart_at e h) y (m.harts g a) (m.caches g a) m.hart
       (λ live. dropped-ranges c e m.ranges g (cache_at c g) y.status (f.own_call g live a)))
   dropped_at g i apart (inr a) (inr b) =
-      three (λ x l z. is_halted x.status ≡ false → HasDropped e g l z.status) (hart_at e g) (hart_at c g) (cache_at e g) (cache_at c g) (hart_at e i) (hart_at c i) (m.harts g a) (m.caches g a) (m.harts i b)
+      three (λ x l z. is_halted x.status ≡ false → HasDropped e g l z.status) (hart_at e g) (hart_at c g) (cache_at e g) (cache_at c g) (hart_at e i)
+      (hart_at c i) (m.harts g a) (m.caches g a) (m.harts i b)
       (λ live. dropped-ranges c e m.ranges g (cache_at c g) (hart_at c i).status (f.among g i live a b apart))
 
   pub coherent-moved : IsCoherent q e

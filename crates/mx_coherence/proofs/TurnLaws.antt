@@ -123,7 +123,8 @@ run-may c h (Writes address size value) p = tt
 
 module _ (r : Reads) (c : Core) (h : ℕ) (k : IsCoherent r c) (walks : WalksAgree r c.size) (v : IsValid c) where
   -- what a hart decides it may do; a waiting hart's call takes effect where the others have heard it
-  may-waiting : (call : Call) (heard : List Bool) → (hart_at c h).status ≡ Waiting call heard → (b : Bool) → is_ready c h heard ≡ b → MayAct c h (cond b (Serves call) Waits)
+  may-waiting : (call : Call) (heard : List Bool) → (hart_at c h).status ≡ Waiting call heard → (b : Bool) → is_ready c h heard ≡ b →
+      MayAct c h (cond b (Serves call) Waits)
   may-waiting call heard e false f = tt
   may-waiting call heard e true f =
       let lt : h < length c.harts = there c h (ap is_halted e) in
@@ -163,7 +164,8 @@ coherent-heard_first r c h k count true e = k
 coherent-heard_first r c h k count false e = coherent-hears r c h k count e
 
 coherent-counted : (r : Reads) (c : Core) → IsCoherent r c → IsCoherent r (counted c)
-coherent-counted r c k = coherent-same r c (counted c) 0 (record { hart = refl; cache = refl; harts = λ g apart. refl; caches = λ g apart. refl; ranges = λ call. refl }) k
+coherent-counted r c k =
+    coherent-same r c (counted c) 0 (record { hart = refl; cache = refl; harts = λ g apart. refl; caches = λ g apart. refl; ranges = λ call. refl }) k
 
 -- a turn
 pub turned-outcome : (r : Reads) (c : Core) (h : ℕ) → IsCoherent r c → WalksAgree r c.size → IsValid c → IsOutcome r (turned r c h)
