@@ -1,17 +1,24 @@
 -- Worked examples: each clause on the small valid state of mx_model, in which hart 0 waits on a grant of words 0 and 1 that hart 1 has heard; the spans
 -- that a turn keeps, computed; and caches that aren't coherent.
-use Rattle.std.proofs.Common.{◌≡◌, ◌≢◌, ℕ, zero, suc, false, [], ◌∷◌, refl, lit<, None}
+use Rattle.std.proofs.Common.{◌≡◌, ◌≢◌, ℕ, zero, suc, true, false, [], ◌∷◌, replicate, refl, lit<, arith, Option, Some, None}
+use Rattle.std.specs.Prelude.{IfSome}
+use Rattle.std.proofs.lemmas.List.Elements.{All-nil, All-replicate, All-set}
 use Rattle.mx_words.specs.declared.perm.Perm.TheVariants as P
 use Rattle.mx_words.specs.Bytes.{number_at, put_at}
-use Rattle.mx_words.specs.Caches.{Cache, no_cache}
+use Rattle.mx_words.specs.declared.perm.Span.{Span}
+use Rattle.mx_words.specs.Caches.{Cache, Entry, meets, no_cache}
+use Rattle.mx_words.specs.Hearing.{nobody}
+use Rattle.mx_words.specs.Ranges.{covers}
 use Rattle.mx_words.specs.Rights.{perm_at}
+use Rattle.mx_words.proofs.OverlayLaws.{covers_from}
 use Rattle.mx_isa.specs.Fields.{imm_i, imm_s, imm_b, imm_u, imm_j, extended}
 use Rattle.mx_isa.specs.Table.{decoded}
 use Rattle.mx_model.specs.Checks.{heard_ranges, is_halted}
 use Rattle.mx_model.specs.Effect.{effect, holds, imm_result, loaded, reg_result}
 use Rattle.mx_model.specs.Reads.{flat_reads, map_in}
 use Rattle.mx_model.specs.Run.{ByQuantum, flat_turn, run}
-use Rattle.mx_model.specs.State.{Core, Flat, Halted, Hart, Running, State, cache_at, flat, hart_at, with_cache, with_hart}
+use Rattle.mx_model.specs.State.{Core, Flat, Halted, Hart, Running, State, Waiting, cache_at, flat, hart_at, with_cache, with_hart}
+use Rattle.mx_model.specs.Turn.{call_of}
 use Rattle.mx_model.specs.Valid.{IsHart, IsValid}
 use Rattle.mx_model.proofs.Smalls.{cache, grant, span_of}
 use Rattle.mx_model.proofs.ValidExample.{core, small, small-core, small-flat}
@@ -147,3 +154,59 @@ over-dropped (suc (suc h)) g live apart = absurd (let q : ⊥ = cc in q)
 
 over-coherent : flat_coherent over
 over-coherent = record { current = over-current; dropped = over-dropped }
+
+-- a true span on the range of the hart's own call, and on that of another's call that the hart hasn't heard
+abbrev kept : Cache
+kept = cache ((0, span_of 0 4 P.ExecuteRead) ∷ []) [] 0 0 0
+
+true-span : (w : ℕ) → covers 0 4 w ≡ true → perm_at (map_in 17 small.maps 1) w ≡ P.ExecuteRead
+true-span zero e = refl
+true-span (suc zero) e = refl
+true-span (suc (suc zero)) e = refl
+true-span (suc (suc (suc zero))) e = refl
+true-span (suc (suc (suc (suc w)))) e = let p = (covers_from 0 4 (suc (suc (suc (suc w)))) e).1 in absurd (omega (arith, p))
+
+kept-current : AreCurrent (flat_reads small) 1 kept
+kept-current = record {
+  entries = All-nil (λ (e : Entry). AgreesIn (flat_reads small) e.0 e.1);
+  places = All-set (λ (o : Option Span). IfSome o (AgreesIn (flat_reads small) 1)) (replicate 32 None) 0 (Some (span_of 0 4 P.ExecuteRead))
+      (record { at = true-span }) (All-replicate (λ (o : Option Span). IfSome o (AgreesIn (flat_reads small) 1)) 32 None tt);
+}
+
+own-current : (h : ℕ) → is_halted (hart_at core h).status ≡ false → AreCurrent (flat_reads small) (hart_at core h).domain (cache_at (with 0 kept).core h)
+own-current zero live = kept-current
+own-current (suc zero) live = each_none (AgreesIn (flat_reads small)) (AgreesIn (flat_reads small) 1) no_cache (small-empty 1)
+own-current (suc (suc h)) live = absurd (let q : ⊥ = cc in q)
+
+own-dropped : (h g : ℕ) → is_halted (hart_at core h).status ≡ false → g ≢ h → HasDropped core h (cache_at (with 0 kept).core h) (hart_at core g).status
+own-dropped zero zero live apart = absurd (apart refl)
+own-dropped zero (suc zero) live apart = tt
+own-dropped zero (suc (suc g)) live apart = tt
+own-dropped (suc zero) zero live apart = λ hit. each_none (λ d s. meets s 0 2 ≡ false) (λ s. meets s 0 2 ≡ false) no_cache (small-empty 1)
+own-dropped (suc zero) (suc zero) live apart = tt
+own-dropped (suc zero) (suc (suc g)) live apart = tt
+own-dropped (suc (suc h)) g live apart = absurd (let q : ⊥ = cc in q)
+
+own-coherent : flat_coherent (with 0 kept)
+own-coherent = record { current = own-current; dropped = own-dropped }
+
+abbrev unheard : Flat
+unheard = record small { core = with_cache 1 kept (with_hart 0 (record (hart_at core 0) { status = Waiting (call_of 0 (hart_at core 0)) nobody }) core) }
+
+unheard-current : (h : ℕ) → is_halted (hart_at unheard.core h).status ≡ false → AreCurrent (flat_reads small) (hart_at unheard.core h).domain (cache_at unheard.core h)
+unheard-current zero live = each_none (AgreesIn (flat_reads small)) (AgreesIn (flat_reads small) 1) no_cache (small-empty 0)
+unheard-current (suc zero) live = kept-current
+unheard-current (suc (suc h)) live = absurd (let q : ⊥ = cc in q)
+
+unheard-dropped : (h g : ℕ) → is_halted (hart_at unheard.core h).status ≡ false → g ≢ h →
+    HasDropped unheard.core h (cache_at unheard.core h) (hart_at unheard.core g).status
+unheard-dropped zero zero live apart = absurd (apart refl)
+unheard-dropped zero (suc zero) live apart = tt
+unheard-dropped zero (suc (suc g)) live apart = tt
+unheard-dropped (suc zero) zero live apart = λ hit. absurd (let q : ⊥ = cc in q)
+unheard-dropped (suc zero) (suc zero) live apart = tt
+unheard-dropped (suc zero) (suc (suc g)) live apart = tt
+unheard-dropped (suc (suc h)) g live apart = absurd (let q : ⊥ = cc in q)
+
+unheard-coherent : flat_coherent unheard
+unheard-coherent = record { current = unheard-current; dropped = unheard-dropped }
