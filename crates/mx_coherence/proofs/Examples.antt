@@ -193,7 +193,8 @@ own-coherent = record { current = own-current; dropped = own-dropped }
 abbrev unheard : Flat
 unheard = record small { core = with_cache 1 kept (with_hart 0 (record (hart_at core 0) { status = Waiting (call_of 0 (hart_at core 0)) nobody }) core) }
 
-unheard-current : (h : ℕ) → is_halted (hart_at unheard.core h).status ≡ false → AreCurrent (flat_reads small) (hart_at unheard.core h).domain (cache_at unheard.core h)
+unheard-current : (h : ℕ) → is_halted (hart_at unheard.core h).status ≡ false →
+    AreCurrent (flat_reads small) (hart_at unheard.core h).domain (cache_at unheard.core h)
 unheard-current zero live = each_none (AgreesIn (flat_reads small)) (AgreesIn (flat_reads small) 1) no_cache (small-empty 0)
 unheard-current (suc zero) live = kept-current
 unheard-current (suc (suc h)) live = absurd (let q : ⊥ = cc in q)
