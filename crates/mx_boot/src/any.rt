@@ -1,12 +1,14 @@
 //! Machines of any kind of tables and any size of lookaside buffers. In every call that reads one a hart is below `harts()`, a domain
 //! is from 1 to `modules()`, and a word is below `words()`, a byte's place below 4 times that. A place in a list may be any number.
 
+ghost use Rattle.mx_coherence.specs.Coherence.{KeepsNoStaleSpan, flat_coherent};
 ghost use Rattle.mx_heap.specs.HeapState.{area_of};
 ghost use Rattle.mx_laws.specs.After.{frames_at};
 ghost use Rattle.mx_laws.specs.Crossing.{FramesAfter};
 ghost use Rattle.mx_laws.specs.Foreign.{ForeignAfter};
 ghost use Rattle.mx_machine.specs.Readings.{IsAreaOf, IsViewOf, was_heard};
 ghost use Rattle.mx_machine.specs.Turning.{IsTold, IsTurn, KeepsBytes};
+ghost use Rattle.mx_model.specs.Checks.{is_halted};
 ghost use Rattle.mx_model.specs.Reads.{flat_reads, map_in};
 ghost use Rattle.mx_model.specs.Run.{all_halted, flat_kind, flat_made, flat_turn};
 ghost use Rattle.mx_model.specs.State.{State, cache_at, flat, hart_at, module_at};
@@ -14,12 +16,12 @@ ghost use Rattle.mx_model.specs.Valid.{IsModule, IsValid};
 ghost use Rattle.mx_words.specs.Need.{need};
 ghost use Rattle.mx_words.specs.Reach.{stored};
 ghost use Rattle.std.specs.Option.{option_map};
-ghost use Rattle.std.specs.Prelude.{◌≡◌, ◌≢◌, ℕ, ◌+◌, ◌-◌, ◌*◌, ◌^◌, ◌<◌, ◌≤◌, length, slice_get, slice_index, slice_range};
+ghost use Rattle.std.specs.Prelude.{◌≡◌, ◌≢◌, ℕ, ◌+◌, ◌-◌, ◌*◌, ◌^◌, ◌<◌, ◌≤◌, false, length, slice_get, slice_index, slice_range};
 ghost use Rattle.mx_boot.specs.Machines.{meaning};
 
 use mx_check::Counts;
 use mx_heap::Block;
-use mx_machine::{HartView, Machine, StackArea, machine_is_valid};
+use mx_machine::{HartView, Machine, StackArea, machine_is_valid, running_harts_are_current};
 use mx_model::{Events, Frame, Gate, TurnKind};
 use mx_packed::Packed;
 use mx_segments::Segments;
@@ -319,4 +321,14 @@ pub fn any_machine_is_valid(any: &AnyMachine)
     ensures owners { length (meaning any.now).owners ≡ (meaning any.now).core.size }
 {
     each!(any, machine => machine_is_valid(machine))
+}
+
+/// A law: the caches of what a machine means are coherent: each hart that isn't halted has on each word of each span that it keeps the
+/// permission that the span says, and none of its spans meets the range of a call in flight that it has heard.
+pub fn any_harts_are_current(any: &AnyMachine)
+    ensures coherent { flat_coherent (meaning any.now) }
+    ensures spans { (h : ℕ) → is_halted (hart_at (meaning any.now).core h).status ≡ false →
+        KeepsNoStaleSpan (meaning any.now) h }
+{
+    each!(any, machine => running_harts_are_current(machine))
 }

@@ -23,7 +23,7 @@ mod standing;
 mod starts;
 mod tables;
 
-pub use any::{AnyMachine, any_machine_is_valid};
+pub use any::{AnyMachine, any_harts_are_current, any_machine_is_valid};
 pub use area::Area;
 pub use booting::boot;
 pub use laws::boots_are_valid;

@@ -9,6 +9,7 @@ pub mod RangeLaws
 pub mod TouchLaws
 pub mod HomeLaws
 pub mod CoreLaws
+pub mod StaleLaws
 pub mod FitLaws
 pub mod MadeLaws
 pub mod LookLaws

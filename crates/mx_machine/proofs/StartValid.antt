@@ -11,12 +11,14 @@ use Rattle.mx_words.specs.Ranges.{address_of, most_words}
 use Rattle.mx_table.specs.Tables.{IsDomain}
 use Rattle.mx_check.specs.declared.flight.Flight.{Flight}
 use Rattle.mx_check.specs.Flights.{AreHearers}
+use Rattle.mx_check.specs.Calls.{new_harts}
 use Rattle.mx_check.specs.Harts.{Kept, hart_at}
 use Rattle.mx_check.specs.Harts.{no_hart as nothing_kept}
 use Rattle.mx_heap.specs.HeapState.{HeapState}
 use Rattle.mx_model.specs.declared.values.Frame.{Frame}
 use Rattle.mx_model.specs.Gates.{AreSingle, most_gates}
-use Rattle.mx_model.specs.State.{Module, no_module}
+use Rattle.mx_model.specs.Reads.{Reads, flat_reads}
+use Rattle.mx_model.specs.State.{Core, Module, no_module}
 use Rattle.mx_model.specs.State.{Hart as Seen}
 use Rattle.mx_model.specs.State.{no_hart as nobody_seen}
 use Rattle.mx_model.specs.Valid.{IsFrame, IsGate, IsHart, IsHome, IsModule, IsPc, IsRegisters, IsValid}
@@ -40,6 +42,8 @@ use Rattle.mx_machine.specs.Made.{core_in}
 use Rattle.mx_machine.specs.Smalls.{IsSmallFrame, IsSmallStart, IsSmallState}
 use Rattle.mx_machine.specs.Starts.{FliesIfWaiting, IsBackPlace, IsHartState, IsStack, IsStart, MayResume, MayStart, no_state, progress_of, resumed, resumed_hart, started_from, started_hart}
 use Rattle.mx_machine.specs.Ties.{Fits, IsWhole}
+use Rattle.mx_coherence.specs.Coherence.{HasEmptyCaches, IsCoherent}
+use Rattle.mx_machine.proofs.StaleLaws.{empty-caches, new-cache, unused-cache}
 use Rattle.mx_machine.proofs.HartsAt.{hart-in, length-seen, seen-same}
 use Rattle.mx_machine.proofs.HomeLaws.{IsHere, module-is}
 use Rattle.mx_machine.proofs.SmallLaws.{from-each}
@@ -235,7 +239,7 @@ kept_resumed p states = halted_first (length (list_map resumed_hart states)) (li
 
 -- a machine that starts
 module _ (p : Parts) (starts : List HartStart) (stacks : List StackArea) (sound : IsSound p) (may : MayStart p starts stacks) (few : length starts ≤ 4)
-    (small : AllByRecursion IsSmallStart starts) (typed : AreTyped p) where
+    (small : AllByRecursion IsSmallStart starts) (typed : AreTyped p) (coherent : (r : Reads) (c : Core) → HasEmptyCaches c → IsCoherent r c) where
   each-start : (h : ℕ) → h < length starts →
       IsHart (length p.maps) (length starts) h (seen h (hart_of (started_from stacks 0 starts) h) (hart_at p.harts h))
   each-start h lt =
@@ -262,8 +266,14 @@ module _ (p : Parts) (starts : List HartStart) (stacks : List StackArea) (sound 
 
   pub whole-started : IsWhole (held_started p starts stacks)
   whole-started =
+      let m = held_started p starts stacks in
       let fits = fits-started p starts stacks sound may few in
-      record { valid = valid-parts (held_started p starts stacks) fits started-parts; fits = fits }
+      record {
+        valid = valid-parts m fits started-parts;
+        coherent = coherent (flat_reads (meaning m)) (core_in m) (empty-caches m (new_harts (length starts))
+            (ap (λ (ks : List Kept). list_map (λ (k : Kept). k.cache) ks) may.new) (new-cache (length starts)));
+        fits = fits;
+      }
 
 -- a machine that resumes, without what its types say
 module _ (p : Parts) (states : List HartState) (stacks : List StackArea) (dead : List Bool) (steps : ℕ) (may : MayResume p states stacks dead steps) where
@@ -301,7 +311,8 @@ module _ (p : Parts) (states : List HartState) (stacks : List StackArea) (dead :
 -- a machine that resumes
 module _ (p : Parts) (states : List HartState) (stacks : List StackArea) (dead : List Bool) (steps : ℕ) (sound : IsSound p)
     (may : MayResume p states stacks dead steps) (few : length states ≤ 4) (places : length dead ≡ 64) (small : AllByRecursion IsSmallState states) (typed : AreTyped p)
-    (hearers : (h : ℕ) → IfSome (hart_at p.harts h).flight (AreHearers (length p.harts) h)) where
+    (hearers : (h : ℕ) → IfSome (hart_at p.harts h).flight (AreHearers (length p.harts) h))
+    (coherent : (r : Reads) (c : Core) → HasEmptyCaches c → IsCoherent r c) where
   each-left : (h : ℕ) → h < length states → IsHart (length p.maps) (length states) h (seen h (hart_of (list_map resumed_hart states) h) (hart_at (kept_resumed p states) h))
   each-left h lt =
       let s = get_or states h no_state in
@@ -329,5 +340,12 @@ module _ (p : Parts) (states : List HartState) (stacks : List StackArea) (dead :
 
   pub whole-resumed : IsWhole (held_resumed p states stacks dead steps)
   whole-resumed =
+      let m = held_resumed p states stacks dead steps in
       let fits = fits-resumed p states stacks dead steps sound may few places in
-      record { valid = valid-parts (held_resumed p states stacks dead steps) fits resumed-parts; fits = fits }
+      record {
+        valid = valid-parts m fits resumed-parts;
+        coherent = coherent (flat_reads (meaning m)) (core_in m) (empty-caches m p.harts
+            (caches-halted (list_map resumed_hart states) p.harts (length (list_map resumed_hart states)))
+            (unused-cache p states stacks dead steps may));
+        fits = fits;
+      }

@@ -12,10 +12,12 @@ use Rattle.mx_model.specs.Turn.{Made, turned}
 use Rattle.mx_model.specs.Valid.{IsValid}
 use Rattle.mx_model.proofs.FlatLaws.{flat-turn, made-flat}
 use Rattle.mx_laws.specs.After.{core_after, kind_of, standing_at}
+use Rattle.mx_coherence.specs.Coherence.{AreWhole, flat_coherent}
 use Rattle.mx_machine.specs.Held.{Held, meaning}
 use Rattle.mx_machine.specs.Made.{IsMade, core_in}
 use Rattle.mx_machine.specs.Ties.{Fits, IsWhole}
 use Rattle.mx_machine.specs.Turning.{IsTold, IsTurn, KeepsBytes}
+use Rattle.mx_machine.proofs.StaleLaws.{whole-maps}
 
 module _ (m n : Held) (h : ℕ) (events : Events) (answer : TurnKind) (i : IsMade m n events answer (flat_made (meaning m) h)) where
   pub turn-is : meaning n ≡ flat_turn (meaning m) h
@@ -28,8 +30,13 @@ module _ (m n : Held) (h : ℕ) (events : Events) (answer : TurnKind) (i : IsMad
   pub told-is : IsTold (flat_made (meaning m) h) events
   told-is = record { bytes = i.console; note = i.note }
 
-  pub whole-is : ((r : Reads) (c : Core) (g : ℕ) → IsValid c → IsValid (turned r c g).core) → IsWhole m → Fits n → IsWhole n
-  whole-is law w f = record { valid = subst (λ (c : Core). IsValid c) (sym i.core) (law (flat_reads (meaning m)) (core_in m) h w.valid); fits = f }
+  pub whole-is : ((r : Reads) (c : Core) (g : ℕ) → IsValid c → IsValid (turned r c g).core) →
+      ((f : Flat) (g : ℕ) → IsValid f.core → AreWhole f → flat_coherent f → flat_coherent (flat_turn f g)) → IsWhole m → Fits n → IsWhole n
+  whole-is law stays w f = record {
+    valid = subst (λ (c : Core). IsValid c) (sym i.core) (law (flat_reads (meaning m)) (core_in m) h w.valid);
+    coherent = subst (λ (g : Flat). flat_coherent g) (sym turn-is) (stays (meaning m) h w.valid (whole-maps m w.fits) w.coherent);
+    fits = f;
+  }
 
   -- a turn in which the hart rests or waits on
   pub bytes-is : ((r : Reads) (c : Core) (g : ℕ) → standing_at c g ≡ Ended → (core_after r c g).ram ≡ c.ram) →

@@ -10,6 +10,7 @@ use Rattle.mx_model.specs.State.{Core, Flat}
 use Rattle.mx_model.specs.Turn.{turned}
 use Rattle.mx_model.specs.Valid.{IsValid}
 use Rattle.mx_model.proofs.KeepLaws.{keeps-turned}
+use Rattle.mx_coherence.specs.Coherence.{AreWhole, flat_coherent}
 use Rattle.mx_machine.specs.declared.hart.Hart.{Hart}
 use Rattle.mx_machine.specs.Actions.{after_instruction, counted, effect_for, heard, outcome_for, perm_for}
 use Rattle.mx_machine.specs.Harts.{no_hart, hart_of}
@@ -56,6 +57,9 @@ module _ (f : Flat) (h n : ℕ) (m k : Held) (events : Events) (answer : TurnKin
   abbrev pub Law : Type 0
   Law = (q : Reads) (c : Core) (g : ℕ) → IsValid c → IsValid (turned q c g).core
 
+  abbrev pub Stays : Type 0
+  Stays = (e : Flat) (g : ℕ) → IsValid e.core → AreWhole e → flat_coherent e → flat_coherent (flat_turn e g)
+
   -- one more, the last or not
   pub run-turn : meaning k ≡ flat_turn (turns_of h f n) h
   run-turn = turn-is m k h events answer i ∙ ap (λ (g : Flat). flat_turn g h) r.at
@@ -75,9 +79,9 @@ module _ (f : Flat) (h n : ℕ) (m k : Held) (events : Events) (answer : TurnKin
         full = full;
       }
 
-  pub run-more : Law → Fits k → answer ≡ T.Ran → HasRunOn f h (n + 1) k
-  run-more law fits is = record {
-    whole = whole-is m k h events answer i law r.whole fits;
+  pub run-more : Law → Stays → Fits k → answer ≡ T.Ran → HasRunOn f h (n + 1) k
+  run-more law stays fits is = record {
+    whole = whole-is m k h events answer i law stays r.whole fits;
     at = run-turn ∙ sym (turns-more h f n);
     ran = λ j below. by j below (cases_eq j n);
     steps =

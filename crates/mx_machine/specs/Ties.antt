@@ -1,4 +1,4 @@
--- What is true of every machine: its meaning is valid, and what it keeps in two places agrees.
+-- What is true of every machine: its meaning is valid and its caches coherent, and what it keeps in two places agrees.
 use Rattle.std.specs.Prelude.{◌≡◌, ℕ, ◌<◌, ◌≤◌, false, length, slice_index_or, Option, Some, None, IfSome}
 use Rattle.mx_table.specs.Tables.{IsDomain}
 use Rattle.mx_check.specs.declared.flight.Flight.{Flight}
@@ -6,6 +6,7 @@ use Rattle.mx_check.specs.Conditions.{HasHeardAll}
 use Rattle.mx_check.specs.Harts.{Kept, hart_at}
 use Rattle.mx_model.specs.declared.values.Call.{Call}
 use Rattle.mx_model.specs.Valid.{IsValid}
+use Rattle.mx_coherence.specs.Coherence.{flat_coherent}
 use Rattle.mx_supervisor.specs.Parts.{IsSound}
 use Rattle.mx_supervisor.specs.Served.{range_of}
 use Rattle.mx_machine.specs.declared.hart.Hart.{Hart}
@@ -50,6 +51,7 @@ pub record Fits (m : Held) : Type 0 where
 -- what is true of a machine at every moment between its calls
 pub record IsWhole (m : Held) : Type 0 where
   pub valid : IsValid (meaning m).core
+  pub coherent : flat_coherent (meaning m)
   pub fits : Fits m
 
 -- hart h, which has heard the others' calls, may act

@@ -14,6 +14,6 @@ mod turns;
 mod views;
 
 pub use machine::Machine;
-pub use readers::machine_is_valid;
+pub use readers::{machine_is_valid, running_harts_are_current};
 pub use starts::{HartStart, HartState, HartStates, StackArea, Stacks, Starts};
 pub use views::{HartStatus, HartView, Stretch};

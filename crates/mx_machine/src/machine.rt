@@ -18,6 +18,7 @@ use crate::harts::Harts;
 use crate::starts::{starts_of, states_of};
 use crate::{HartStates, Stacks, Starts, Stretch};
 use mx_check::flights_of;
+use mx_coherence::spans_are_coherent;
 use mx_laws::{turns_keep_foreign_words, turns_keep_frames, turns_of_twins};
 use mx_memory::bytes_of;
 use mx_model::{Events, TurnKind, flat_of_a_turn, turns_keep_validity};
@@ -63,6 +64,7 @@ impl<T: PermTables, const N: usize> Machine<T, N> {
         ensures { result
             ≡ started (parts_of T.kind T.maps T.size T.limits N parts) starts.now stacks.now }
     {
+        spans_are_coherent();
         shape_of(parts.checker.tables());
         bytes_of(&parts.ram);
         heaps_of(&parts.heaps);
@@ -104,6 +106,7 @@ impl<T: PermTables, const N: usize> Machine<T, N> {
             ≡ resumed (parts_of T.kind T.maps T.size T.limits N parts)
             harts.now stacks.now dead.now steps }
     {
+        spans_are_coherent();
         shape_of(parts.checker.tables());
         flights_of(&parts.checker);
         bytes_of(&parts.ram);
@@ -148,6 +151,7 @@ impl<T: PermTables, const N: usize> Machine<T, N> {
     {
         flat_of_a_turn();
         turns_keep_validity();
+        spans_are_coherent();
         turns_keep_foreign_words();
         turns_keep_frames();
         turns_of_twins();

@@ -1,19 +1,22 @@
 //! What is read of a machine. In every call a hart is below `harts()`, a domain is from 1 to `modules()`, and a word is below `words()`;
 //! word w of RAM has the address 0x80000000 + 4w. A place in a list may be any number.
-ghost use Rattle.std.specs.Prelude.{◌≡◌, ◌≢◌, ℕ, ◌+◌, ◌*◌, ◌<◌, ◌≤◌, length, slice_get, slice_index, slice_range};
+ghost use Rattle.std.specs.Prelude.{◌≡◌, ◌≢◌, ℕ, false, ◌+◌, ◌*◌, ◌<◌, ◌≤◌, length, slice_get, slice_index, slice_range};
 ghost use Rattle.std.specs.Option.{option_map};
 ghost use Rattle.mx_words.specs.Need.{need};
 ghost use Rattle.mx_words.specs.Reach.{stored};
 ghost use Rattle.mx_table.specs.Tables.{IsDomain};
 ghost use Rattle.mx_heap.specs.HeapState.{area_of};
+ghost use Rattle.mx_model.specs.Checks.{is_halted};
 ghost use Rattle.mx_model.specs.Reads.{flat_reads, map_in};
 ghost use Rattle.mx_model.specs.Run.{all_halted};
 ghost use Rattle.mx_model.specs.State.{cache_at, hart_at, module_at};
 ghost use Rattle.mx_model.specs.Valid.{IsModule, IsValid};
+ghost use Rattle.mx_coherence.specs.Coherence.{KeepsNoStaleSpan, flat_coherent};
 ghost use Rattle.mx_machine.specs.Readings.{IsAreaOf, IsViewOf, was_heard};
 
 use crate::{HartView, Machine, StackArea};
 use mx_check::Counts;
+use mx_coherence::spans_are_coherent;
 use mx_heap::Block;
 use mx_model::{Frame, Gate};
 use mx_table::PermTables;
@@ -253,5 +256,17 @@ pub fn machine_is_valid<T: PermTables, const N: usize>(machine: &Machine<T, N>)
         length (map_in machine.now.core.size machine.now.maps d) ≡ machine.now.core.size }
     ensures owners { length machine.now.owners ≡ machine.now.core.size }
 {
+    let _ = &machine.bare;
+}
+
+/// A law: the caches of what a machine means are coherent. So each hart that isn't halted has on each word of each span that it keeps
+/// the permission that the span says, by the maps as they are now, and none of its spans meets the range of a call in flight that it
+/// has heard.
+pub fn running_harts_are_current<T: PermTables, const N: usize>(machine: &Machine<T, N>)
+    ensures coherent { flat_coherent machine.now }
+    ensures spans { (h : ℕ) → is_halted (hart_at machine.now.core h).status ≡ false →
+        KeepsNoStaleSpan machine.now h }
+{
+    spans_are_coherent();
     let _ = &machine.bare;
 }

@@ -14,6 +14,7 @@ use crate::Stretch;
 use crate::bare::Bare;
 use crate::hart::Progress;
 use crate::turns::{Going, clear};
+use mx_coherence::spans_are_coherent;
 use mx_model::{Events, turns_keep_validity};
 use mx_table::PermTables;
 
@@ -27,6 +28,7 @@ impl<T: PermTables, const N: usize> Bare<T, N> {
         ensures whole { IsWhole self.new }
     {
         turns_keep_validity();
+        spans_are_coherent();
         clear(out);
         let room = self.before_last(hart, most);
         'turns: for ran in 0..room {

@@ -26,7 +26,8 @@ turns-preserved g c =
     let on = c.turn_on.ensures.on c.in-On.is in
     let made = subst (λ (going : Going). IsMade m k c.turn_on.new.out (kind_of going) (flat_made (meaning m) h)) c.in-On.is c.turn_on.ensures.made in
     record {
-      run = run-more (meaning c.args.self.now) h c.turns.ran m k c.turn_on.new.out T.Ran c.turns.invariant.run made c.turns_keep_validity.ensures c.turn_on.ensures.fits refl;
+      run = run-more (meaning c.args.self.now) h c.turns.ran m k c.turn_on.new.out T.Ran c.turns.invariant.run made
+          c.turns_keep_validity.ensures c.spans_are_coherent.ensures.turn c.turn_on.ensures.fits refl;
       empty = on.1;
       alive = λ more. on.0;
     }
@@ -40,8 +41,8 @@ returns-in-Ended-clause-stretch g c =
 
 pub returns-in-Ended-clause-whole : goal.returns-in-Ended-clause-whole
 returns-in-Ended-clause-whole g c =
-    whole-is c.turns.self c.turn_on.new.self c.args.hart c.turn_on.new.out c.in-Ended.last c.in-Ended.ensures.made c.turns_keep_validity.ensures c.turns.invariant.run.whole
-    c.in-Ended.ensures.fits
+    whole-is c.turns.self c.turn_on.new.self c.args.hart c.turn_on.new.out c.in-Ended.last c.in-Ended.ensures.made
+    c.turns_keep_validity.ensures c.spans_are_coherent.ensures.turn c.turns.invariant.run.whole c.in-Ended.ensures.fits
 
 -- the last turn
 pub returns-clause-stretch : goal.returns-clause-stretch
@@ -61,5 +62,5 @@ returns-clause-stretch g c =
 
 pub returns-clause-whole : goal.returns-clause-whole
 returns-clause-whole g c =
-    whole-is c.turns.self c.step-last.new.self c.args.hart c.step-last.new.out c.step-last.result c.step-last.ensures.made c.turns_keep_validity.ensures c.turns.invariant.run.whole
-    c.step-last.ensures.fits
+    whole-is c.turns.self c.step-last.new.self c.args.hart c.step-last.new.out c.step-last.result c.step-last.ensures.made
+    c.turns_keep_validity.ensures c.spans_are_coherent.ensures.turn c.turns.invariant.run.whole c.step-last.ensures.fits

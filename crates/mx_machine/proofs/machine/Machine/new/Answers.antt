@@ -23,4 +23,5 @@ invariant_of-result g c =
       gates = c.requires.gates;
       one_gate = c.get-few_gates.ensures.apart;
     } in
-    rw (c.start.ensures, c.copy.ensures) (whole-started p c.args.starts.now c.args.stacks.now c.requires.sound c.requires.may c.starts_of.ensures.few c.starts_of.ensures.small typed)
+    rw (c.start.ensures, c.copy.ensures) (whole-started p c.args.starts.now c.args.stacks.now c.requires.sound c.requires.may
+    c.starts_of.ensures.few c.starts_of.ensures.small typed c.spans_are_coherent.ensures.empty)

@@ -42,7 +42,7 @@ invariant_of-result g c =
     let same : c.halt_left.new.self ≡ held = c.halt_left.ensures ∙ rw (c.any_waits-waiting.ensures, c.copy.ensures, c.resume-left.ensures) refl in
     subst IsWhole (sym same)
     (whole-resumed p c.args.harts.now c.args.stacks.now c.args.dead.now c.args.steps c.requires.sound c.requires.may c.states_of.ensures.few c.told-dead
-    c.states_of.ensures.small typed c.flights_of.ensures.hearers)
+    c.states_of.ensures.small typed c.flights_of.ensures.hearers c.spans_are_coherent.ensures.empty)
 
 pub returns : goal.returns
 returns g c =

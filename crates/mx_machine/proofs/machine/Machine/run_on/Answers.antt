@@ -9,7 +9,7 @@ pub run_on-requires : goal.run_on-requires
 run_on-requires g c = (
   search fits-inside,
   (
-    record { valid = c.self.invariant.valid; fits = c.self.invariant.fits },
+    record { valid = c.self.invariant.valid; coherent = c.self.invariant.coherent; fits = c.self.invariant.fits },
     (c.requires.some, subst (λ (f : Flat). f.core.turns + c.args.most < 2 ^ 64) (sym c.self.view_is) c.requires.few),
   ),
 )

@@ -15,14 +15,15 @@ pub step-requires : goal.step-requires
 step-requires g c = (
   search fits-inside,
   (
-    record { valid = c.self.invariant.valid; fits = c.self.invariant.fits },
+    record { valid = c.self.invariant.valid; coherent = c.self.invariant.coherent; fits = c.self.invariant.fits },
     subst (λ (f : Flat). f.core.turns < 2 ^ 64 - 1) (sym c.self.view_is) c.requires,
   ),
 )
 
 pub invariant_of-self : goal.invariant_of-self
 invariant_of-self g c =
-    whole-is c.self.inside.bare c.step.new.self c.args.hart c.step.new.out c.step.result c.step.ensures.made c.turns_keep_validity.ensures c.self.invariant c.step.ensures.fits
+    whole-is c.self.inside.bare c.step.new.self c.args.hart c.step.new.out c.step.result c.step.ensures.made
+    c.turns_keep_validity.ensures c.spans_are_coherent.ensures.turn c.self.invariant c.step.ensures.fits
 
 pub returns-clause-turn : goal.returns-clause-turn
 returns-clause-turn g c =

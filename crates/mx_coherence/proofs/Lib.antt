@@ -1,0 +1,12 @@
+pub mod SpanLaws
+pub mod RangeLaws
+pub mod StepLaws
+pub mod HearLaws
+pub mod LookLaws
+pub mod FollowLaws
+pub mod QuietLaws
+pub mod AnnouncedLaws
+pub mod ActionLaws
+pub mod TurnLaws
+pub mod RunLaws
+pub mod Examples
