@@ -9,3 +9,5 @@ pub mod ForeignLaws
 pub mod FrameLaws
 pub mod ComparisonLaws
 pub mod Examples
+pub mod QuietLaws
+pub mod QuietExamples

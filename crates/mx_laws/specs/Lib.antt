@@ -3,3 +3,4 @@ pub mod Twins
 pub mod Foreign
 pub mod Crossing
 pub mod Comparison
+pub mod Quiet
