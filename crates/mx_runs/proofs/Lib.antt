@@ -1,0 +1,4 @@
+pub mod DenialLaws
+pub mod TrapLaws
+pub mod CallDenials
+pub mod DenialExamples
