@@ -2,3 +2,4 @@ pub mod DenialLaws
 pub mod TrapLaws
 pub mod CallDenials
 pub mod DenialExamples
+pub mod BorderLaws

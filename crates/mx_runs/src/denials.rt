@@ -15,9 +15,9 @@ ghost use Rattle.mx_runs.specs.Denials.{MakesCall, Executes, FaultsExactly, Fetc
 /// Denied exactly. The test of a turn is true exactly where an access is denied: outside RAM, or where no grant of the
 /// domain covers the word, or where the newest that does doesn't allow it. A hart that runs in a live domain at no call
 /// gate traps at its fetch by cause 1 with its pc exactly there; a load by 5 and a store by 7 with the address, if that
-/// is aligned, and by 4 and 6 if it isn't (RISC-V unprivileged manual 20191213, 2.6). Call 2 of at most 4096 bytes of RAM
-/// answers -12 exactly where one of them is denied to a read, and call 13 at a word of RAM exactly where that word is
-/// denied to a write.
+/// is aligned, and by 4 and 6 if it isn't (RISC-V unprivileged manual 20191213, 2.6). Call 2 of at most 4096 bytes of
+/// RAM answers -12 exactly where one of them is denied to a read, and call 13 at a word of RAM exactly where that word
+/// is denied to a write.
 pub fn denied_exactly()
     ensures test { (s : State) (d address : ℕ) (access : Access) →
         (is_denied (reads s) s.core d address access ≡ true) ↔ IsDenied s d address access }
