@@ -3,3 +3,4 @@ pub mod TrapLaws
 pub mod CallDenials
 pub mod DenialExamples
 pub mod BorderLaws
+pub mod BorderExamples
