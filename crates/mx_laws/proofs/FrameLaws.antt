@@ -25,7 +25,7 @@ last-split : (x f : Frame) (xs : List Frame) → last_or (Some x) xs ≡ Some f 
 last-split x f [] e = ap (λ (o : Option Frame). unwrap_or o f ∷ []) e
 last-split x f (y ∷ ys) e = ap (λ (zs : List Frame). x ∷ zs) (last-split y f ys e)
 
-top-split : (frames : List Frame) (f : Frame) → top frames ≡ Some f → frames ≡ below_top frames ++ f ∷ []
+pub top-split : (frames : List Frame) (f : Frame) → top frames ≡ Some f → frames ≡ below_top frames ++ f ∷ []
 top-split [] f e = absurd (let q : ⊥ = cc in q)
 top-split (x ∷ xs) f e =
     let n : length (x ∷ xs) - 1 ≡ length xs = omega arith in

@@ -3,6 +3,8 @@
 
 mod comparison;
 mod isolation;
+mod quiet;
 
 pub use comparison::agreement_is_a_test;
 pub use isolation::{turns_keep_foreign_words, turns_keep_frames, turns_of_twins};
+pub use quiet::quiet_turns;

@@ -8,9 +8,10 @@ ghost use Rattle.mx_model.specs.Valid.{IsGate};
 ghost use Rattle.mx_laws.specs.After.{frames_at};
 ghost use Rattle.mx_laws.specs.Crossing.{FramesAfter};
 ghost use Rattle.mx_laws.specs.Foreign.{ForeignAfter};
+ghost use Rattle.mx_laws.specs.Quiet.{AddsNothing};
 ghost use Rattle.mx_supervisor.specs.Parts.{parts_of, IsSound};
 ghost use Rattle.mx_machine.specs.Starts.{MayResume, MayStart, resumed, started};
-ghost use Rattle.mx_machine.specs.Turning.{IsStretch, IsTold, IsTurn, KeepsBytes};
+ghost use Rattle.mx_machine.specs.Turning.{IsStretch, IsTold, IsTurn, KeepsBytes, turns_of};
 
 use crate::bare::Bare;
 use crate::bus::HartBus;
@@ -18,8 +19,12 @@ use crate::harts::Harts;
 use crate::starts::{starts_of, states_of};
 use crate::{HartStates, Stacks, Starts, Stretch};
 use mx_check::flights_of;
+<<<<<<< HEAD
 use mx_coherence::spans_are_coherent;
 use mx_laws::{turns_keep_foreign_words, turns_keep_frames, turns_of_twins};
+=======
+use mx_laws::{quiet_turns, turns_keep_foreign_words, turns_keep_frames, turns_of_twins};
+>>>>>>> 99ddc8e2054e55b5346194c67c43f9cef235b45e
 use mx_memory::bytes_of;
 use mx_model::{Events, TurnKind, flat_of_a_turn, turns_keep_validity};
 use mx_supervisor::{Supervisor, heaps_of};
@@ -159,13 +164,17 @@ impl<T: PermTables, const N: usize> Machine<T, N> {
     }
 
     /// Turns of the hart of that number in a row, at least one and at most so many: it makes turns until one doesn't just carry out
-    /// an instruction, or so many are made. Each is a turn as `step` makes it; what stands in `out` is of the last alone, since those
-    /// before it add nothing. There is at least one to make, and fewer than 2^64 turns are made with them.
+    /// an instruction, or so many are made. Each is a turn as `step` makes it; what stands in `out` is of the last alone. Those before
+    /// it add nothing: no right, no owner, no console byte and no note. There is at least one to make, and fewer than 2^64 turns are
+    /// made with them.
     pub fn run_on(&mut self, hart: u32, most: u64, out: &mut Events) -> Stretch
         requires some { 1 ≤ most }
         requires few { self.old.core.turns + most < 2 ^ 64 }
-        ensures { IsStretch self.old hart most self.new out.new result }
+        ensures stretch { IsStretch self.old hart most self.new out.new result }
+        ensures quiet { (i : ℕ) → i < result.ran →
+            AddsNothing (flat_made (turns_of hart self.old i) hart) }
     {
+        quiet_turns();
         self.bare.run_on(hart, most, out)
     }
 }

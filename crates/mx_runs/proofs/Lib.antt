@@ -12,3 +12,9 @@ pub mod FrameKinds
 pub mod FrameRuns
 pub mod WordLaws
 pub mod GateInstances
+pub mod DenialLaws
+pub mod TrapLaws
+pub mod CallDenials
+pub mod DenialExamples
+pub mod BorderLaws
+pub mod BorderExamples

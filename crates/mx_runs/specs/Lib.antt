@@ -3,3 +3,5 @@ pub mod ForeignRuns
 pub mod TwinRuns
 pub mod GateCalls
 pub mod FlatStates
+pub mod Denials
+pub mod Borders

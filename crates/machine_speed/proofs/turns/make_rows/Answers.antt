@@ -17,7 +17,7 @@ counted f (suc n) = let e = counted f n in let one = one-more (turns_of 0 f n) i
 pub rows-preserved : goal.rows-preserved
 rows-preserved c =
     let f : Flat = c.rows.machine in
-    let is = c.run_on-stretch.ensures in
+    let is = c.run_on-stretch.ensures.stretch in
     let turns = ap (λ (g : Flat). g.core.turns) is.turn ∙ one-more (turns_of 0 f c.run_on-stretch.result.ran) in
     let before = counted f c.run_on-stretch.result.ran in
     record {

@@ -43,7 +43,7 @@ fewer (pace.Bytes bytes) n m le l = omega (arith, le, l)
 
 pub later-pace-requires-clause-leaves : goal.later-pace-requires-clause-leaves
 later-pace-requires-clause-leaves g c =
-    fewer c.turns.pace (c.run_on-stretch.result.ran + 1) c.in-Some.most (let few = c.run_on-stretch.ensures.few in omega (arith, few)) c.in-Some.ensures.leaves
+    fewer c.turns.pace (c.run_on-stretch.result.ran + 1) c.in-Some.most (let few = c.run_on-stretch.ensures.stretch.few in omega (arith, few)) c.in-Some.ensures.leaves
 
 pub run_on-stretch-requires : goal.run_on-stretch-requires
 run_on-stretch-requires g c =
@@ -62,7 +62,7 @@ turns-preserved-then-not-may_tell g c =
     let k = c.run_on-stretch.new.self in
     let events = c.run_on-stretch.new.out in
     let stretch = c.run_on-stretch.result in
-    let is = c.run_on-stretch.ensures in
+    let is = c.run_on-stretch.ensures.stretch in
     let going = c.turns.invariant.going in
     let row = c.in-Some.ensures.named schedule f.core c.turns.invariant.pace in
     let later = last_later schedule f going h (c.args.steps - c.turns.made) c.in-Some.most row k events stretch is in
@@ -93,7 +93,7 @@ returns-in_err-end_turn-clause-keeps g c =
     let stretch = c.run_on-stretch.result in
     let row = c.in-Some.ensures.named schedule f.core c.turns.invariant.pace in
     keeps_later c.args.machine.now f k (stretch.ran + 1) c.turns.invariant.keeps
-    (last_later schedule f c.turns.invariant.going c.in-Some.hart (c.args.steps - c.turns.made) c.in-Some.most row k c.run_on-stretch.new.out stretch c.run_on-stretch.ensures)
+    (last_later schedule f c.turns.invariant.going c.in-Some.hart (c.args.steps - c.turns.made) c.in-Some.most row k c.run_on-stretch.new.out stretch c.run_on-stretch.ensures.stretch)
 
 pub returns-in_err-end_turn-clause-runs : goal.returns-in_err-end_turn-clause-runs
 returns-in_err-end_turn-clause-runs g c =
@@ -104,7 +104,7 @@ returns-in_err-end_turn-clause-runs g c =
     let k = c.run_on-stretch.new.self in
     let events = c.run_on-stretch.new.out in
     let stretch = c.run_on-stretch.result in
-    let is = c.run_on-stretch.ensures in
+    let is = c.run_on-stretch.ensures.stretch in
     let going = c.turns.invariant.going in
     let row = c.in-Some.ensures.named schedule f.core c.turns.invariant.pace in
     rw (p.1, p.2)
@@ -131,7 +131,7 @@ returns-then-branch-clause-keeps g c =
     let stretch = c.run_on-stretch.result in
     let row = c.in-Some.ensures.named schedule f.core c.turns.invariant.pace in
     keeps_later c.args.machine.now f k (stretch.ran + 1) c.turns.invariant.keeps
-    (last_later schedule f c.turns.invariant.going c.in-Some.hart (c.args.steps - c.turns.made) c.in-Some.most row k c.run_on-stretch.new.out stretch c.run_on-stretch.ensures)
+    (last_later schedule f c.turns.invariant.going c.in-Some.hart (c.args.steps - c.turns.made) c.in-Some.most row k c.run_on-stretch.new.out stretch c.run_on-stretch.ensures.stretch)
 
 pub returns-then-branch-clause-runs : goal.returns-then-branch-clause-runs
 returns-then-branch-clause-runs g c =
@@ -141,7 +141,7 @@ returns-then-branch-clause-runs g c =
     let k = c.run_on-stretch.new.self in
     let events = c.run_on-stretch.new.out in
     let stretch = c.run_on-stretch.result in
-    let is = c.run_on-stretch.ensures in
+    let is = c.run_on-stretch.ensures.stretch in
     let going = c.turns.invariant.going in
     let row = c.in-Some.ensures.named schedule f.core c.turns.invariant.pace in
     λ s b.
@@ -167,7 +167,7 @@ turns-preserved g c =
     let k = c.run_on-stretch.new.self in
     let events = c.run_on-stretch.new.out in
     let stretch = c.run_on-stretch.result in
-    let is = c.run_on-stretch.ensures in
+    let is = c.run_on-stretch.ensures.stretch in
     let going = c.turns.invariant.going in
     let row = c.in-Some.ensures.named schedule f.core c.turns.invariant.pace in
     let later = last_later schedule f going h (c.args.steps - c.turns.made) c.in-Some.most row k events stretch is in

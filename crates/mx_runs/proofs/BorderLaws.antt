@@ -1,0 +1,566 @@
+-- A running hart's border and its turn's action meet in one row, and the turn tells which.
+use Rattle.std.proofs.Common.{◌≡◌, ◌↔◌, ⊎_elim, ◌⊎◌, inl, inr, ℕ, ◌-◌, ◌/◌, ◌%◌, ◌<◌, ◌≤◌, Bool, true, false, not, ◌==◌, ◌||◌, nat_lt, nat_le, List, [], ◌∷◌, ◌++◌, length, length-append, get_or, set, refl, sym, ◌∙◌, ap, subst, arith, eqb-true, if◌then◌else◌, Option, Some, None}
+use Rattle.std.specs.List.{last_or}
+use Rattle.std.specs.Option.{option_map_or}
+use Rattle.std.proofs.lemmas.Bool.{ltb-false}
+use Rattle.std.proofs.lemmas.List.{get_or-set_same}
+use Rattle.mx_words.specs.declared.perm.Access.TheVariants as A
+use Rattle.mx_words.specs.Ranges.{ram_base}
+use Rattle.mx_isa.specs.declared.inst.Inst.{Inst}
+use Rattle.mx_isa.specs.Table.{decoded}
+use Rattle.mx_model.specs.declared.values.Frame.{Frame}
+use Rattle.mx_model.specs.declared.values.TurnKind.{TurnKind}
+use Rattle.mx_model.specs.declared.values.TurnKind.TheVariants as T
+use Rattle.mx_model.specs.Agreement.{Border, Trap, AtGate, Back, Call, Nothing, border, border_in, border_of_effect, border_of_fetch, border_of_gate, border_of_word, target_at}
+use Rattle.mx_model.specs.Checks.{is_halted, looked_all}
+use Rattle.mx_model.specs.Effect.{Effect, Goes, Faults, Loads, Stores, Calls, Jumps, effect, next, reg, written}
+use Rattle.mx_model.specs.Gates.{below_top, most_frames, top}
+use Rattle.mx_model.specs.Reads.{Reads}
+use Rattle.mx_model.specs.State.{Core, Hart, Status, hart_at, module_at, no_hart}
+use Rattle.mx_model.specs.Turn.{Action, Rests, Waits, Serves, Asks, Traps, Bounces, Crosses, Returns, Runs, Writes, Decided, Made, acted, at_gate, at_return, by_effect, by_status, by_word, call_gate_at, call_of, counted, decide, enacted, fetches, is_denied, is_return_at, is_served_now, jump_action, load_at, returned_over, runs_at, runs_in, traps, without_look}
+use Rattle.mx_model.proofs.GatesAt.{called_domain, call-gate-at, target_from}
+use Rattle.mx_model.proofs.KeepLaws.{keeps-hears}
+use Rattle.mx_model.proofs.TurnCases.{hart-hears, ready}
+use Rattle.mx_laws.specs.After.{core_after, frames_at, kind_of}
+use Rattle.mx_laws.specs.Twins.{IsRunning}
+use Rattle.mx_laws.proofs.FrameLaws.{top-split}
+use Rattle.mx_laws.proofs.TurnParts.{there}
+use Rattle.mx_laws.proofs.TwinLaws.{kind-asked}
+use Rattle.mx_runs.specs.Borders.{Crooked, Full, IsAtGate, IsCalling, IsGateCause, IsOfRow, NoFrame, Elsewhere, OverFrame, PassesGate, ReturnsTo, SentBack, pc_of, register_of}
+use Rattle.mx_runs.specs.Borders.{Crosses as Crossing}
+use Rattle.mx_runs.proofs.TrapLaws.{Does, HasOwnCause, cause-effect, does-action, does-looked, traps-does}
+
+-- what a hart does at a call gate, at a return gate, and by an instruction without a border
+data Passes (x : Hart) (a : Action) : Type 0 where
+  ByCrooked : a ≡ Traps 19 (reg x.regs 1) → Passes x a
+  ByFull : a ≡ Traps 16 x.pc → Passes x a
+  ByDead : a ≡ Bounces → Passes x a
+  Through : (target : ℕ) → a ≡ Crosses target → Passes x a
+
+data Leaves (x : Hart) (target : ℕ) (a : Action) : Type 0 where
+  ByNone : a ≡ Traps 18 target → Leaves x target a
+  ByOther : a ≡ Traps 17 target → Leaves x target a
+  Over : (rd : ℕ) (f : Frame) → a ≡ Returns rd f → top x.frames ≡ Some f → f.back ≡ target → Leaves x target a
+
+data GoesOn (a : Action) : Type 0 where
+  ByRun : (regs : List ℕ) (pc : ℕ) → a ≡ Runs regs pc → GoesOn a
+  ByWrite : (address size value : ℕ) → a ≡ Writes address size value → GoesOn a
+
+-- a border and an action of hart x of one row
+record MeetsGate (c : Core) (x : Hart) (word target x1 : ℕ) (a : Action) : Type 0 where
+  place : (x.pc - ram_base) / 4 ≡ word
+  leads : target_at c x.domain word ≡ Some target
+  address : reg x.regs 1 ≡ x1
+  passes : Passes x a
+
+record MeetsCall (h : ℕ) (x : Hart) (number a0 a1 a2 a3 : ℕ) (a : Action) : Type 0 where
+  x17 : reg x.regs 17 ≡ number
+  x10 : reg x.regs 10 ≡ a0
+  x11 : reg x.regs 11 ≡ a1
+  x12 : reg x.regs 12 ≡ a2
+  x13 : reg x.regs 13 ≡ a3
+  asks : a ≡ Asks (call_of h x)
+
+abbrev Meets : Core → ℕ → Hart → Border → Action → Type 0
+Meets c h x (Trap cause value) a = (a ≡ Traps cause value) × (IsGateCause cause → ⊥)
+Meets c h x (AtGate word target x1) a = MeetsGate c x word target x1 a
+Meets c h x (Back pc target) a = (x.pc ≡ pc) × Leaves x target a
+Meets c h x (Call number a0 a1 a2 a3) a = MeetsCall h x number a0 a1 a2 a3 a
+Meets c h x Nothing a = GoesOn a
+
+-- a call gate leads to its target
+gate-leads : (d target : ℕ) (o : Option ℕ) → called_domain d o ≡ Some target → o ≡ Some target
+gate-leads d target None e = absurd (let q : ⊥ = cc in q)
+gate-leads d target (Some t) e = by (t == d) e
+  where
+    by : (b : Bool) → (if b then None else Some t) ≡ Some target → Some t ≡ Some target
+    by true f = absurd (let q : ⊥ = cc in q)
+    by false f = f
+
+word-leads : (c : Core) (d pc target : ℕ) (b : Bool) →
+    option_map_or (target_at c d) (if b then Some ((pc - ram_base) / 4) else None) None ≡ Some target →
+    target_at c d ((pc - ram_base) / 4) ≡ Some target
+word-leads c d pc target true e = e
+word-leads c d pc target false e = absurd (let q : ⊥ = cc in q)
+
+passes-choice : (x : Hart) (b : Bool) (d e : Decided) → Passes x d.action → Passes x e.action →
+    Passes x (if b then d else e).action
+passes-choice x true d e p q = p
+passes-choice x false d e p q = q
+
+passes-gate : (c : Core) (x : Hart) (target : ℕ) → Passes x (at_gate c x target).action
+passes-gate c x target =
+    let x1 = reg x.regs 1 in
+    passes-choice x (not (x1 % 4 == 0)) (traps 19 x1) _ (ByCrooked refl) (
+    passes-choice x (module_at c target).dead (without_look Bounces) _ (ByDead refl) (
+    passes-choice x (nat_le most_frames (length x.frames)) (traps 16 x.pc) (without_look (Crosses target))
+    (ByFull refl) (Through target refl)))
+
+leaves-over : (x : Hart) (rd target : ℕ) (f : Frame) (b : Bool) → (f.back == target) ≡ b → top x.frames ≡ Some f →
+    Leaves x target (if b then Returns rd f else Traps 17 target)
+leaves-over x rd target f true e t = Over rd f refl t (eqb-true f.back target e)
+leaves-over x rd target f false e t = ByOther refl
+
+leaves-top : (x : Hart) (rd target : ℕ) (o : Option Frame) → top x.frames ≡ o →
+    Leaves x target (option_map_or (returned_over rd target) o (Traps 18 target))
+leaves-top x rd target None t = ByNone refl
+leaves-top x rd target (Some f) t = leaves-over x rd target f (f.back == target) refl t
+
+-- causes beside those of gates
+low-cause : (cause : ℕ) → cause ≤ 7 → IsGateCause cause → ⊥
+low-cause cause l g = let low = g.0 in let z : ⊥ = omega (arith, l, low) in z
+
+high-cause : IsGateCause 20 → ⊥
+high-cause g = let high = g.1 in let z : ⊥ = omega (arith, high) in z
+
+-- the walk over border and action; the state of the action differs in the number of turns, harts and caches
+module _ (r : Reads) (c : Core) (h : ℕ) (x : Hart) where
+  abbrev M : Border → Action → Type 0
+  M = Meets c h x
+
+  abbrev now : Core
+  now = ready c h
+
+  meets-denied : (cause value : ℕ) → cause ≤ 7 → (a : Action) → GoesOn a → (b : Bool) →
+      M (if b then Trap cause value else Nothing) (if b then Traps cause value else a)
+  meets-denied cause value l a g true = (refl, low-cause cause l)
+  meets-denied cause value l a g false = g
+
+  meets-target : (rd target : ℕ) (b : Bool) →
+      M (if b then Nothing else Trap 0 target)
+      (if b then Runs (written x.regs rd (next x.pc)) target else Traps 0 target)
+  meets-target rd target true = ByRun (written x.regs rd (next x.pc)) target refl
+  meets-target rd target false = (refl, low-cause 0 (omega arith))
+
+  meets-jump : (rd target : ℕ) (b : Bool) →
+      M (if b then Back x.pc target else if target % 4 == 0 then Nothing else Trap 0 target)
+      (if b then at_return x rd target else jump_action x rd target)
+  meets-jump rd target true = (refl, leaves-top x rd target (top x.frames) refl)
+  meets-jump rd target false = meets-target rd target (target % 4 == 0)
+
+  meets-effect : (f : Effect) → HasOwnCause f → M (border_of_effect r c x f) (by_effect r now h x f).action
+  meets-effect (Goes regs pc) k = ByRun regs pc refl
+  meets-effect (Faults cause value) k = (refl, low-cause cause (let l = k.low in omega (arith, l)))
+  meets-effect (Loads place address width rd) k =
+      meets-denied 5 address (omega arith) _ (ByRun _ (next x.pc) refl) (is_denied r c x.domain address A.Read)
+  meets-effect (Stores place address size value) k =
+      meets-denied 7 address (omega arith) _ (ByWrite address size value refl) (is_denied r c x.domain address A.Write)
+  meets-effect Calls k = record { x17 = refl; x10 = refl; x11 = refl; x12 = refl; x13 = refl; asks = refl }
+  meets-effect (Jumps rd target) k = meets-jump rd target (is_return_at c x.domain x.pc)
+
+  meets-word : (word : ℕ) (o : Option Inst) → M (border_of_word r c x word o) (by_word r now h x word o).action
+  meets-word word None = (refl, low-cause 2 (omega arith))
+  meets-word word (Some inst) = meets-effect (effect inst x.regs x.pc) (cause-effect inst x.regs x.pc)
+
+  meets-fetch : (b : Bool) → M (border_of_fetch r c x b) (fetches r now h x b).action
+  meets-fetch true = (refl, low-cause 1 (omega arith))
+  meets-fetch false = meets-word (load_at c x.pc 4) (decoded (load_at c x.pc 4))
+
+  meets-gate : (o : Option ℕ) → call_gate_at c x.domain x.pc ≡ o →
+      M (border_of_gate r c x o) (runs_at r now h x o).action
+  meets-gate (Some target) e = record {
+    place = refl;
+    leads = word-leads c x.domain x.pc target _
+        (gate-leads x.domain target (target_from c x.domain x.pc) (sym (call-gate-at c x.domain x.pc) ∙ e));
+    address = refl;
+    passes = passes-gate now x target;
+  }
+  meets-gate None e = meets-fetch (is_denied r c x.domain x.pc A.Execute)
+
+  meets-in : (b : Bool) → M (border_in r c x b) (runs_in r now h x b).action
+  meets-in true = (refl, high-cause)
+  meets-in false = meets-gate (call_gate_at c x.domain x.pc) refl
+
+-- a running hart's turn does the action that is decided
+does-running : (r : Reads) (c : Core) (h : ℕ) → IsRunning c h →
+    let x = hart_at c h in Does r c h (runs_in r (ready c h) h x (module_at c x.domain).dead).action
+does-running r c h run =
+    let x = hart_at c h in
+    let f = ready c h in
+    let by = λ (y : Hart) (s : Status). let d =
+    by_status r f h y s in acted r (looked_all r h d.looks f) h y d.action in
+    does-looked r c h (runs_in r f h x (module_at c x.domain).dead) (
+    ap (λ (s : Status). let g = if is_halted s then counted c else f in enacted r g h (decide r g h)) run
+    ∙ ap (λ (y : Hart). by y y.status) (hart-hears (counted c) h) ∙ ap (by x) run)
+
+-- hart h after a turn that sets it
+set-after : (r : Reads) (c : Core) (h : ℕ) (a : Action) (d : Does r c h a) (y : Hart) → IsRunning c h →
+    (acted r (record (ready c h) { caches = d.caches }) h (hart_at c h) a).core.harts ≡ set (ready c h).harts h y →
+    hart_at (core_after r c h) h ≡ y
+set-after r c h a d y run e =
+    let few : h < length c.harts = there c h (ap is_halted run) in
+    let count : length (ready c h).harts ≡ length c.harts = (keeps-hears h c).harts in
+    ap (λ (m : Made). hart_at m.core h) d.is ∙ ap (λ (hs : List Hart). get_or hs h no_hart) e
+    ∙ get_or-set_same (ready c h).harts h y no_hart (omega (arith, few, count))
+
+frames-sent : (r : Reads) (c : Core) (h : ℕ) → IsRunning c h → Does r c h Bounces →
+    frames_at (core_after r c h) h ≡ frames_at c h
+frames-sent r c h run d = ap (λ (y : Hart). y.frames) (set-after r c h Bounces d _ run refl)
+
+frames-returned : (r : Reads) (c : Core) (h rd : ℕ) (f : Frame) → IsRunning c h → Does r c h (Returns rd f) →
+    frames_at (core_after r c h) h ≡ below_top (frames_at c h)
+frames-returned r c h rd f run d = ap (λ (y : Hart). y.frames) (set-after r c h (Returns rd f) d _ run refl)
+
+-- from a row to the sort of the turn
+module _ (r : Reads) (c : Core) (h : ℕ) (run : IsRunning c h) (a : Action) (d : Does r c h a) where
+  abbrev own : Hart
+  own = hart_at c h
+
+  row-passes : Passes own a → PassesGate r c h
+  row-passes (ByCrooked e) = Crooked ((traps-does r c h a 19 (reg own.regs 1) d).1 e)
+  row-passes (ByFull e) = Full ((traps-does r c h a 16 own.pc d).1 e)
+  row-passes (ByDead e) =
+      let k = does-action r c h a Bounces e d in SentBack (ap (λ (m : Made). m.kind) k.is) (frames-sent r c h run k)
+  row-passes (Through target e) =
+      let k = does-action r c h a (Crosses target) e d in Crossing (ap (λ (m : Made). m.kind) k.is)
+
+  row-leaves : (target : ℕ) → Leaves own target a → ReturnsTo r c h target
+  row-leaves target (ByNone e) = NoFrame ((traps-does r c h a 18 target d).1 e)
+  row-leaves target (ByOther e) = Elsewhere ((traps-does r c h a 17 target d).1 e)
+  row-leaves target (Over rd f e t b) =
+      let k = does-action r c h a (Returns rd f) e d in
+      OverFrame f (ap (λ (m : Made). m.kind) k.is)
+      (top-split own.frames f t ∙ ap (λ (fs : List Frame). fs ++ f ∷ []) (sym (frames-returned r c h rd f run k))) b
+
+  kind-asks : a ≡ Asks (call_of h own) → kind_of r c h ≡ T.Called
+  kind-asks e =
+      let k = does-action r c h a (Asks (call_of h own)) e d in
+      let now : Core = record (ready c h) { caches = k.caches } in
+      ap (λ (m : Made). m.kind) k.is ∙ kind-asked r now h own (call_of h own) (is_served_now now h (call_of h own))
+
+  kind-goes : GoesOn a → kind_of r c h ≡ T.Ran
+  kind-goes (ByRun regs pc e) = let k = does-action r c h a (Runs regs pc) e d in ap (λ (m : Made). m.kind) k.is
+  kind-goes (ByWrite address size value e) =
+      let k = does-action r c h a (Writes address size value) e d in ap (λ (m : Made). m.kind) k.is
+
+  row-meets : (k : Border) → Meets c h own k a → IsOfRow r c h k
+  row-meets (Trap cause value) m = ((traps-does r c h a cause value d).1 m.0, m.1)
+  row-meets (AtGate word target x1) m =
+      record { place = m.place; leads = m.leads; address = m.address; passes = row-passes m.passes }
+  row-meets (Back pc target) m = (m.0, row-leaves target m.1)
+  row-meets (Call number a0 a1 a2 a3) m =
+      record { x17 = m.x17; x10 = m.x10; x11 = m.x11; x12 = m.x12; x13 = m.x13; kind = kind-asks m.asks }
+  row-meets Nothing m = kind-goes m
+
+-- a turn's sort as a number, by its action, and a border's
+abbrev cause_sort : ℕ → ℕ
+cause_sort cause =
+    if nat_lt cause 16 then 0 else if nat_lt 19 cause then 0 else if (cause == 16) || (cause == 19) then 1 else 2
+
+abbrev sort : Action → ℕ
+sort (Traps cause value) = cause_sort cause
+sort Bounces = 1
+sort (Crosses target) = 1
+sort (Returns rd frame) = 2
+sort (Serves call) = 3
+sort (Asks call) = 3
+sort (Runs regs pc) = 4
+sort (Writes address size value) = 4
+sort Rests = 5
+sort Waits = 6
+
+abbrev row_of : Border → ℕ
+row_of (Trap cause value) = 0
+row_of (AtGate word target x1) = 1
+row_of (Back pc target) = 2
+row_of (Call number a0 a1 a2 a3) = 3
+row_of Nothing = 4
+
+sort-by : (cause : ℕ) (b d : Bool) → nat_lt cause 16 ≡ b → nat_lt 19 cause ≡ d → (IsGateCause cause → ⊥) →
+    ◌≡◌ {A = ℕ} (if b then 0 else if d then 0 else if (cause == 16) || (cause == 19) then 1 else 2) 0
+sort-by cause true d e f n = refl
+sort-by cause false true e f n = refl
+sort-by cause false false e f n = absurd (n (ltb-false cause 16 e, ltb-false 19 cause f))
+
+sort-trap : (cause : ℕ) → (IsGateCause cause → ⊥) → cause_sort cause ≡ 0
+sort-trap cause n = sort-by cause (nat_lt cause 16) (nat_lt 19 cause) refl refl n
+
+-- the frame that an action gives up is the top one
+abbrev over_of : Action → Option Frame
+over_of (Returns rd frame) = Some frame
+over_of a = None
+
+abbrev IsProper : Hart → Action → Type 0
+IsProper x a = (over_of a ≡ None) ⊎ (over_of a ≡ top x.frames)
+
+module _ (c : Core) (h : ℕ) (x : Hart) (a : Action) where
+  sort-passes : Passes x a → sort a ≡ 1
+  sort-passes (ByCrooked e) = ap sort e
+  sort-passes (ByFull e) = ap sort e
+  sort-passes (ByDead e) = ap sort e
+  sort-passes (Through target e) = ap sort e
+
+  sort-leaves : (target : ℕ) → Leaves x target a → sort a ≡ 2
+  sort-leaves target (ByNone e) = ap sort e
+  sort-leaves target (ByOther e) = ap sort e
+  sort-leaves target (Over rd f e t b) = ap sort e
+
+  sort-goes : GoesOn a → sort a ≡ 4
+  sort-goes (ByRun regs pc e) = ap sort e
+  sort-goes (ByWrite address size value e) = ap sort e
+
+  sort-meets : (k : Border) → Meets c h x k a → sort a ≡ row_of k
+  sort-meets (Trap cause value) m = ap sort m.0 ∙ sort-trap cause m.1
+  sort-meets (AtGate word target x1) m = sort-passes m.passes
+  sort-meets (Back pc target) m = sort-leaves target m.1
+  sort-meets (Call number a0 a1 a2 a3) m = ap sort m.asks
+  sort-meets Nothing m = sort-goes m
+
+  proper-passes : Passes x a → IsProper x a
+  proper-passes (ByCrooked e) = inl (ap over_of e)
+  proper-passes (ByFull e) = inl (ap over_of e)
+  proper-passes (ByDead e) = inl (ap over_of e)
+  proper-passes (Through target e) = inl (ap over_of e)
+
+  proper-leaves : (target : ℕ) → Leaves x target a → IsProper x a
+  proper-leaves target (ByNone e) = inl (ap over_of e)
+  proper-leaves target (ByOther e) = inl (ap over_of e)
+  proper-leaves target (Over rd f e t b) = inr (ap over_of e ∙ sym t)
+
+  proper-goes : GoesOn a → IsProper x a
+  proper-goes (ByRun regs pc e) = inl (ap over_of e)
+  proper-goes (ByWrite address size value e) = inl (ap over_of e)
+
+  proper-meets : (k : Border) → Meets c h x k a → IsProper x a
+  proper-meets (Trap cause value) m = inl (ap over_of m.0)
+  proper-meets (AtGate word target x1) m = proper-passes m.passes
+  proper-meets (Back pc target) m = proper-leaves target m.1
+  proper-meets (Call number a0 a1 a2 a3) m = inl (ap over_of m.asks)
+  proper-meets Nothing m = proper-goes m
+
+-- the kind of a turn by its action, and the actions of a kind
+abbrev kind_by : Action → TurnKind
+kind_by Rests = T.Idle
+kind_by Waits = T.Waited
+kind_by (Serves call) = T.Called
+kind_by (Asks call) = T.Called
+kind_by (Traps cause value) = T.Trapped
+kind_by Bounces = T.Returned
+kind_by (Crosses target) = T.Crossed
+kind_by (Returns rd frame) = T.Returned
+kind_by (Runs regs pc) = T.Ran
+kind_by (Writes address size value) = T.Ran
+
+kind-by : (r : Reads) (c : Core) (h : ℕ) (x : Hart) (a : Action) → (acted r c h x a).kind ≡ kind_by a
+kind-by r c h x Rests = refl
+kind-by r c h x Waits = refl
+kind-by r c h x (Serves call) = refl
+kind-by r c h x (Asks call) = kind-asked r c h x call (is_served_now c h call)
+kind-by r c h x (Traps cause value) = refl
+kind-by r c h x Bounces = refl
+kind-by r c h x (Crosses target) = refl
+kind-by r c h x (Returns rd frame) = refl
+kind-by r c h x (Runs regs pc) = refl
+kind-by r c h x (Writes address size value) = refl
+
+-- the sort of a turn of a kind that has one
+abbrev kind_sort : TurnKind → ℕ
+kind_sort T.Crossed = 1
+kind_sort T.Called = 3
+kind_sort T.Ran = 4
+kind_sort k = 0
+
+sort-kind : (a : Action) (k : TurnKind) → kind_by a ≡ k → 0 < kind_sort k → sort a ≡ kind_sort k
+sort-kind (Serves call) k e l = ap kind_sort e
+sort-kind (Asks call) k e l = ap kind_sort e
+sort-kind (Crosses target) k e l = ap kind_sort e
+sort-kind (Runs regs pc) k e l = ap kind_sort e
+sort-kind (Writes address size value) k e l = ap kind_sort e
+sort-kind Rests k e l = absurd (let n : 0 ≡ kind_sort k = ap kind_sort e in let z : ⊥ = omega (arith, n, l) in z)
+sort-kind Waits k e l = absurd (let n : 0 ≡ kind_sort k = ap kind_sort e in let z : ⊥ = omega (arith, n, l) in z)
+sort-kind (Traps cause value) k e l =
+    absurd (let n : 0 ≡ kind_sort k = ap kind_sort e in let z : ⊥ = omega (arith, n, l) in z)
+sort-kind Bounces k e l = absurd (let n : 0 ≡ kind_sort k = ap kind_sort e in let z : ⊥ = omega (arith, n, l) in z)
+sort-kind (Returns rd frame) k e l =
+    absurd (let n : 0 ≡ kind_sort k = ap kind_sort e in let z : ⊥ = omega (arith, n, l) in z)
+
+data ComesBack (a : Action) : Type 0 where
+  Sent : a ≡ Bounces → ComesBack a
+  Given : (rd : ℕ) (f : Frame) → a ≡ Returns rd f → ComesBack a
+
+comes-back : (a : Action) → kind_by a ≡ T.Returned → ComesBack a
+comes-back Bounces e = Sent refl
+comes-back (Returns rd f) e = Given rd f refl
+comes-back Rests e = absurd (let z : ⊥ = cc in z)
+comes-back Waits e = absurd (let z : ⊥ = cc in z)
+comes-back (Serves call) e = absurd (let z : ⊥ = cc in z)
+comes-back (Asks call) e = absurd (let z : ⊥ = cc in z)
+comes-back (Traps cause value) e = absurd (let z : ⊥ = cc in z)
+comes-back (Crosses target) e = absurd (let z : ⊥ = cc in z)
+comes-back (Runs regs pc) e = absurd (let z : ⊥ = cc in z)
+comes-back (Writes address size value) e = absurd (let z : ⊥ = cc in z)
+
+-- frames are not themselves with one more
+one-more : (fs : List Frame) (f : Frame) → fs ≡ fs ++ f ∷ [] → ⊥
+one-more fs f e =
+    let n : length fs ≡ length (fs ++ f ∷ []) = ap length e in
+    let m = length-append fs (f ∷ []) in
+    let z : ⊥ = omega (arith, n, m) in
+    z
+
+last-more : (fs : List Frame) (f : Frame) (o : Option Frame) → last_or o (fs ++ f ∷ []) ≡ Some f
+last-more [] f o = refl
+last-more (g ∷ gs) f o = last-more gs f (Some g)
+
+-- from the sort of the turn to a row
+module _ (r : Reads) (c : Core) (h : ℕ) (run : IsRunning c h) (a : Action) (d : Does r c h a)
+    (p : IsProper (hart_at c h) a) where
+  abbrev it : Hart
+  it = hart_at c h
+
+  kind-is : kind_of r c h ≡ kind_by a
+  kind-is = ap (λ (m : Made). m.kind) d.is ∙ kind-by r (record (ready c h) { caches = d.caches }) h it a
+
+  of-kind : (k : TurnKind) → kind_of r c h ≡ k → 0 < kind_sort k → sort a ≡ kind_sort k
+  of-kind k e l = sort-kind a k (sym kind-is ∙ e) l
+
+  over-top : (f : Frame) → over_of a ≡ Some f → top it.frames ≡ Some f
+  over-top f e = ⊎_elim (λ n. absurd (let z : ⊥ = cc in z)) (λ t. sym t ∙ e) p
+
+  -- an action that gives up a frame leaves fewer
+  fewer : (rd : ℕ) (f : Frame) → a ≡ Returns rd f → frames_at (core_after r c h) h ≡ frames_at c h → ⊥
+  fewer rd f e same =
+      let k = does-action r c h a (Returns rd f) e d in
+      let split = top-split it.frames f (over-top f (ap over_of e)) in
+      one-more it.frames f (split
+      ∙ ap (λ (fs : List Frame). fs ++ f ∷ []) (sym (frames-returned r c h rd f run k) ∙ same))
+
+  -- one that doesn't leaves as many
+  as-many : (f : Frame) → a ≡ Bounces → frames_at c h ≡ frames_at (core_after r c h) h ++ f ∷ [] → ⊥
+  as-many f e more =
+      let k = does-action r c h a Bounces e d in
+      one-more it.frames f (more ∙ ap (λ (fs : List Frame). fs ++ f ∷ []) (frames-sent r c h run k))
+
+  sort-sent : ComesBack a → frames_at (core_after r c h) h ≡ frames_at c h → sort a ≡ 1
+  sort-sent (Sent e) same = ap sort e
+  sort-sent (Given rd f e) same = absurd (fewer rd f e same)
+
+  sort-given : (f : Frame) → ComesBack a → frames_at c h ≡ frames_at (core_after r c h) h ++ f ∷ [] → sort a ≡ 2
+  sort-given f (Sent e) more = absurd (as-many f e more)
+  sort-given f (Given rd g e) more = ap sort e
+
+  sort-gate : PassesGate r c h → sort a ≡ 1
+  sort-gate (Crooked t) = ap sort ((traps-does r c h a 19 (register_of c h 1) d).0 t)
+  sort-gate (Full t) = ap sort ((traps-does r c h a 16 (pc_of c h) d).0 t)
+  sort-gate (SentBack k same) = sort-sent (comes-back a (sym kind-is ∙ k)) same
+  sort-gate (Crossing k) = of-kind T.Crossed k (omega arith)
+
+  sort-return : (target : ℕ) → ReturnsTo r c h target → sort a ≡ 2
+  sort-return target (NoFrame t) = ap sort ((traps-does r c h a 18 target d).0 t)
+  sort-return target (Elsewhere t) = ap sort ((traps-does r c h a 17 target d).0 t)
+  sort-return target (OverFrame f k more b) = sort-given f (comes-back a (sym kind-is ∙ k)) more
+
+  sort-row : (b : Border) → IsOfRow r c h b → sort a ≡ row_of b
+  sort-row (Trap cause value) q = ap sort ((traps-does r c h a cause value d).0 q.0) ∙ sort-trap cause q.1
+  sort-row (AtGate word target x1) q = sort-gate q.passes
+  sort-row (Back pc target) q = sort-return target q.1
+  sort-row (Call number a0 a1 a2 a3) q = of-kind T.Called q.kind (omega arith)
+  sort-row Nothing q = of-kind T.Ran q (omega arith)
+
+  -- the target of a return
+  abbrev target_of : Action → ℕ
+  target_of (Traps cause value) = value
+  target_of (Returns rd f) = f.back
+  target_of k = 0
+
+  target-leaves : (target : ℕ) → Leaves it target a → target_of a ≡ target
+  target-leaves target (ByNone e) = ap target_of e
+  target-leaves target (ByOther e) = ap target_of e
+  target-leaves target (Over rd f e t b) = ap target_of e ∙ b
+
+  same-frame : (f g : Frame) → Some f ≡ Some g → f ≡ g
+  same-frame f g e = cc
+
+  target-given : (target : ℕ) (f : Frame) → ComesBack a → frames_at c h ≡ frames_at (core_after r c h) h ++ f ∷ [] →
+      f.back ≡ target →
+      target_of a ≡ target
+  target-given target f (Sent e) more b = absurd (as-many f e more)
+  target-given target f (Given rd g e) more b =
+      let last : Some g ≡ Some f = sym (over-top g (ap over_of e)) ∙ ap top more
+      ∙ last-more (frames_at (core_after r c h) h) f None in
+      ap target_of e ∙ ap (λ (k : Frame). k.back) (same-frame g f last) ∙ b
+
+  target-return : (target : ℕ) → ReturnsTo r c h target → target_of a ≡ target
+  target-return target (NoFrame t) = ap target_of ((traps-does r c h a 18 target d).0 t)
+  target-return target (Elsewhere t) = ap target_of ((traps-does r c h a 17 target d).0 t)
+  target-return target (OverFrame f k more b) = target-given target f (comes-back a (sym kind-is ∙ k)) more b
+
+  -- the border of a fault
+  abbrev border_by : Action → Border
+  border_by (Traps cause value) = Trap cause value
+  border_by k = Nothing
+
+  one-trap : (cause value : ℕ) (k : Border) → Meets c h it k a → row_of k ≡ 0 → a ≡ Traps cause value →
+      k ≡ Trap cause value
+  one-trap cause value (Trap u v) m n e = ap border_by (sym m.0 ∙ e)
+  one-trap cause value (AtGate word target x1) m n e = absurd (let z : ⊥ = omega (arith, n) in z)
+  one-trap cause value (Back pc target) m n e = absurd (let z : ⊥ = omega (arith, n) in z)
+  one-trap cause value (Call number a0 a1 a2 a3) m n e = absurd (let z : ⊥ = omega (arith, n) in z)
+  one-trap cause value Nothing m n e = absurd (let z : ⊥ = omega (arith, n) in z)
+
+  same-number : (u v : ℕ) → Some u ≡ Some v → u ≡ v
+  same-number u v e = cc
+
+  one-gate : (word target x1 : ℕ) (k : Border) → Meets c h it k a → row_of k ≡ 1 → IsAtGate r c h word target x1 →
+      k ≡ AtGate word target x1
+  one-gate word target x1 (AtGate w t x) m n q =
+      let place : w ≡ word = sym m.place ∙ q.place in
+      let leads : t ≡ target = same-number t target (sym m.leads ∙ ap (target_at c it.domain) place ∙ q.leads) in
+      let address : x ≡ x1 = sym m.address ∙ q.address in
+      cc
+  one-gate word target x1 (Trap u v) m n q = absurd (let z : ⊥ = omega (arith, n) in z)
+  one-gate word target x1 (Back pc t) m n q = absurd (let z : ⊥ = omega (arith, n) in z)
+  one-gate word target x1 (Call number a0 a1 a2 a3) m n q = absurd (let z : ⊥ = omega (arith, n) in z)
+  one-gate word target x1 Nothing m n q = absurd (let z : ⊥ = omega (arith, n) in z)
+
+  one-return : (pc target : ℕ) (k : Border) → Meets c h it k a → row_of k ≡ 2 → pc_of c h ≡ pc →
+      ReturnsTo r c h target → k ≡ Back pc target
+  one-return pc target (Back p t) m n e q =
+      let place : p ≡ pc = sym m.0 ∙ e in
+      let leads : t ≡ target = sym (target-leaves t m.1) ∙ target-return target q in
+      cc
+  one-return pc target (Trap u v) m n e q = absurd (let z : ⊥ = omega (arith, n) in z)
+  one-return pc target (AtGate w t x) m n e q = absurd (let z : ⊥ = omega (arith, n) in z)
+  one-return pc target (Call number a0 a1 a2 a3) m n e q = absurd (let z : ⊥ = omega (arith, n) in z)
+  one-return pc target Nothing m n e q = absurd (let z : ⊥ = omega (arith, n) in z)
+
+  one-call : (number a0 a1 a2 a3 : ℕ) (k : Border) → Meets c h it k a → row_of k ≡ 3 →
+      IsCalling r c h number a0 a1 a2 a3 → k ≡ Call number a0 a1 a2 a3
+  one-call number a0 a1 a2 a3 (Call m0 m1 m2 m3 m4) m n q =
+      let e0 : m0 ≡ number = sym m.x17 ∙ q.x17 in
+      let e1 : m1 ≡ a0 = sym m.x10 ∙ q.x10 in
+      let e2 : m2 ≡ a1 = sym m.x11 ∙ q.x11 in
+      let e3 : m3 ≡ a2 = sym m.x12 ∙ q.x12 in
+      let e4 : m4 ≡ a3 = sym m.x13 ∙ q.x13 in
+      cc
+  one-call number a0 a1 a2 a3 (Trap u v) m n q = absurd (let z : ⊥ = omega (arith, n) in z)
+  one-call number a0 a1 a2 a3 (AtGate w t x) m n q = absurd (let z : ⊥ = omega (arith, n) in z)
+  one-call number a0 a1 a2 a3 (Back p t) m n q = absurd (let z : ⊥ = omega (arith, n) in z)
+  one-call number a0 a1 a2 a3 Nothing m n q = absurd (let z : ⊥ = omega (arith, n) in z)
+
+  one-nothing : (k : Border) → row_of k ≡ 4 → k ≡ Nothing
+  one-nothing Nothing n = refl
+  one-nothing (Trap u v) n = absurd (let z : ⊥ = omega (arith, n) in z)
+  one-nothing (AtGate w t x) n = absurd (let z : ⊥ = omega (arith, n) in z)
+  one-nothing (Back p t) n = absurd (let z : ⊥ = omega (arith, n) in z)
+  one-nothing (Call m0 m1 m2 m3 m4) n = absurd (let z : ⊥ = omega (arith, n) in z)
+
+  one-row : (k b : Border) → Meets c h it k a → row_of k ≡ row_of b → IsOfRow r c h b → k ≡ b
+  one-row k (Trap cause value) m n q = one-trap cause value k m n ((traps-does r c h a cause value d).0 q.0)
+  one-row k (AtGate word target x1) m n q = one-gate word target x1 k m n q
+  one-row k (Back pc target) m n q = one-return pc target k m n q.0 q.1
+  one-row k (Call number a0 a1 a2 a3) m n q = one-call number a0 a1 a2 a3 k m n q
+  one-row k Nothing m n q = one-nothing k n
+
+pub border-tells : (r : Reads) (c : Core) (h : ℕ) → IsRunning c h → (b : Border) → (border r c h ≡ b) ↔ IsOfRow r c h b
+border-tells r c h run b =
+    let x = hart_at c h in
+    let a = (runs_in r (ready c h) h x (module_at c x.domain).dead).action in
+    let d = does-running r c h run in
+    let m : Meets c h x (border r c h) a = meets-in r c h x (module_at c x.domain).dead in (
+      λ e. row-meets r c h run a d b (subst (λ (k : Border). Meets c h x k a) e m),
+      λ q.
+          let p = proper-meets c h x a (border r c h) m in
+          one-row r c h run a d p (border r c h) b m (sym (sort-meets c h x a (border r c h) m)
+          ∙ sort-row r c h run a d p b q) q,
+    )
