@@ -19,12 +19,8 @@ use crate::harts::Harts;
 use crate::starts::{starts_of, states_of};
 use crate::{HartStates, Stacks, Starts, Stretch};
 use mx_check::flights_of;
-<<<<<<< HEAD
 use mx_coherence::spans_are_coherent;
-use mx_laws::{turns_keep_foreign_words, turns_keep_frames, turns_of_twins};
-=======
 use mx_laws::{quiet_turns, turns_keep_foreign_words, turns_keep_frames, turns_of_twins};
->>>>>>> 99ddc8e2054e55b5346194c67c43f9cef235b45e
 use mx_memory::bytes_of;
 use mx_model::{Events, TurnKind, flat_of_a_turn, turns_keep_validity};
 use mx_supervisor::{Supervisor, heaps_of};
