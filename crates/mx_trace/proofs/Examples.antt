@@ -5,7 +5,7 @@ use Rattle.mx_isa.specs.declared.inst.Inst.TheVariants as I
 use Rattle.mx_isa.specs.declared.inst.ImmOp.TheVariants as O
 use Rattle.mx_isa.specs.declared.inst.StoreWidth.TheVariants as S
 use Rattle.mx_model.specs.declared.values.TurnKind.TheVariants as T
-use Rattle.mx_trace.specs.Text.{upper_text, jump_text, pair_text, indexed_text, inst_text}
+use Rattle.mx_trace.specs.Text.{jump_text, pair_text, indexed_text, inst_text}
 use Rattle.mx_trace.specs.Lines.{turn_line}
 
 -- three words: two instructions, and the call that ends the hart

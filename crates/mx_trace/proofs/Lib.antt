@@ -7,3 +7,4 @@ pub mod IndexedTexts
 pub mod Readings
 pub mod Whole
 pub mod Examples
+pub mod LineLaws

@@ -6,5 +6,5 @@ mod lines;
 mod text;
 
 pub use law::text_is_assembled;
-pub use lines::{Seen, kind_name};
+pub use lines::{Seen, kind_name, put_turn, turn_line};
 pub use text::disassemble;
