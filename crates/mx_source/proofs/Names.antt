@@ -4,7 +4,7 @@ use Rattle.std.specs.List.{list_all, take_while, AllByRecursion}
 use Rattle.std.proofs.lemmas.Bool.{leb-true, and_parts}
 use Rattle.mx_source.specs.Characters.{begins_name, is_in_name, is_in_word, trim, trim_start, without_comment}
 use Rattle.mx_source.specs.Operands.{is_name, is_operand, pieces_of}
-use Rattle.mx_source.specs.Lines.{Absent, no_line, is_word, statement_of, line_with_word, line_with_label, line_with_name, line_by_colon, trimmed_line, line_of}
+use Rattle.mx_source.specs.Lines.{Absent, other_form, is_word, statement_of, line_with_word, line_with_label, line_with_name, line_by_colon, trimmed_line, line_of}
 
 -- a label is a name, where there is one
 abbrev pub IsNamed : Option (List ℕ) → Type 0
@@ -13,8 +13,8 @@ IsNamed label = IfSome label (λ name. is_name name ≡ true)
 named_word : (label : Option (List ℕ)) (word operands : List ℕ) → IsNamed label → IsNamed (line_with_word label word operands).label
 unfolding line_with_word
 named_word label word operands h =
-    elim (is_word word && list_all is_operand (pieces_of operands)) as (λ b. IsNamed (cond b (record { label = label; statement = statement_of word (pieces_of operands) }) no_line).label)
-    [ true ↦ h | false ↦ tt ]
+    elim (is_word word && list_all is_operand (pieces_of operands)) as (λ b. IsNamed (cond b (record { label = label; statement = statement_of word (pieces_of operands) }) (other_form label)).label)
+    [ true ↦ h | false ↦ h ]
 
 named_at : (label : Option (List ℕ)) (text : List ℕ) → IsNamed label → (b : Bool)
     → IsNamed (cond b (record { label = label; statement = Absent }) (line_with_word label (take_while is_in_word text) (trim_start (drop (length (take_while is_in_word text)) text)))).label
@@ -25,7 +25,7 @@ named_label : (label : Option (List ℕ)) (text : List ℕ) → IsNamed label �
 unfolding line_with_label
 named_label label text h = named_at label text h (length text == 0)
 
-named_name : (name text : List ℕ) (b : Bool) → is_name name ≡ b → IsNamed (cond b (line_with_label (Some name) text) no_line).label
+named_name : (name text : List ℕ) (b : Bool) → is_name name ≡ b → IsNamed (cond b (line_with_label (Some name) text) (other_form None)).label
 named_name name text true h = named_label (Some name) text h
 named_name name text false h = tt
 

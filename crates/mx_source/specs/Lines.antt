@@ -18,9 +18,9 @@ pub record Line : Type 0 where
   pub label : Option (List ℕ)
   pub statement : Statement
 
--- a line that can't be split: it defines no label
-abbrev pub no_line : Line
-no_line = record { label = None; statement = Unlisted }
+-- a line whose rest behind its label has another form: what follows doesn't matter to the label
+abbrev pub other_form : Option (List ℕ) → Line
+other_form label = record { label = label; statement = Unlisted }
 
 -- a statement's word: a name, or a point and a name
 unfoldable pub is_word : List ℕ → Bool
@@ -34,7 +34,8 @@ statement_of word operands = option_map_or (λ k. Listed k operands) (keyword_of
 unfoldable pub line_with_word : Option (List ℕ) → List ℕ → List ℕ → Line
 line_with_word label word operands =
     if is_word word && list_all is_operand (pieces_of operands)
-    then record { label = label; statement = statement_of word (pieces_of operands) } else no_line
+    then record { label = label; statement = statement_of word (pieces_of operands) }
+    else other_form label
 
 -- the line with a label, whose statement is this text
 unfoldable pub line_with_label : Option (List ℕ) → List ℕ → Line
@@ -45,7 +46,7 @@ line_with_label label text =
 
 -- the line with a name before its colon
 unfoldable pub line_with_name : List ℕ → List ℕ → Line
-line_with_name name text = if is_name name then line_with_label (Some name) text else no_line
+line_with_name name text = if is_name name then line_with_label (Some name) text else other_form None
 
 -- the line that begins with these characters of a name, and goes on with this text
 unfoldable pub line_by_colon : List ℕ → List ℕ → List ℕ → Line

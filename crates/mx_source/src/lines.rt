@@ -3,7 +3,7 @@ ghost use Rattle.std.specs.Prelude.{◌≡◌, ◌≤◌, length};
 ghost use Rattle.std.specs.List.{list_all, prefix_len};
 ghost use Rattle.mx_source.specs.Characters.{is_in_name, is_in_word, trim};
 ghost use Rattle.mx_source.specs.Operands.{is_operand, pieces_of};
-ghost use Rattle.mx_source.specs.Lines.{statement_of, is_word, line_with_word, line_with_label, line_with_name, line_by_colon, trimmed_line, line_of, no_line};
+ghost use Rattle.mx_source.specs.Lines.{statement_of, is_word, line_with_word, line_with_label, line_with_name, line_by_colon, trimmed_line, line_of, other_form};
 ghost use Rattle.mx_source.specs.LineViews.{line_view, label_view, statement_view, IsShort, AreShort};
 
 use crate::characters::{is_in_name, is_in_word, trim, trim_start, without_comment};
@@ -25,19 +25,19 @@ pub enum Statement<'a> {
 /// A line: the name of its label, and its statement.
 #[derive(Clone, Copy)]
 pub struct Line<'a> {
-    /// The name before the colon, if there is one.
+    /// The name before the colon, if there is one, whatever follows.
     pub label: Option<&'a [u8]>,
     /// What the rest of the line says.
     pub statement: Statement<'a>,
 }
 
-/// A line that can't be split.
-fn no_line<'a>() -> Line<'a>
-    ensures line { line_view result ≡ no_line }
+/// A line whose rest behind its label has another form.
+fn other_form<'a>(label: Option<&'a [u8]>) -> Line<'a>
+    ensures line { line_view result ≡ other_form (label_view label.entry) }
     ensures short { AreShort 0 result }
 {
     Line {
-        label: None,
+        label,
         statement: Statement::Unlisted,
     }
 }
@@ -101,7 +101,7 @@ fn line_with_name<'a>(name: &'a [u8], text: &'a [u8]) -> Line<'a>
     if is_name(name) {
         line_with_label(Some(name), text)
     } else {
-        no_line()
+        other_form(None)
     }
 }
 
@@ -129,7 +129,7 @@ fn line_with_word<'a>(label: Option<&'a [u8]>, word: &'a [u8], operands: &'a [u8
     ensures short { AreShort (length operands.now) result }
 {
     if !is_word(word) || !are_operands(operands) {
-        return no_line();
+        return other_form(label);
     }
     Line {
         label,

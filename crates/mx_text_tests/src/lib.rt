@@ -1,4 +1,4 @@
-//! Tests of what is read and written: stores and sinks, images, sources, the text of instructions, and manifests.
+//! Tests of what is read and written: stores and sinks, images, sources, the text of instructions and turns, and manifests.
 #![tactic(auto)]
 
 #[cfg(test)]
@@ -13,3 +13,5 @@ mod programs;
 mod sources;
 #[cfg(test)]
 mod stores;
+#[cfg(test)]
+mod turns;

@@ -96,7 +96,7 @@ pub(super) const SOURCES: [(&str, u32, &[u32]); 6] = [
 ];
 
 /// A source, and the line and the number of its first fault; 0 and 0 where it has none.
-pub(super) const FAULTS: [(&str, u32, u32); 84] = [
+pub(super) const FAULTS: [(&str, u32, u32); 91] = [
     ("", 0, 0),
     (".text 0\nlx a7, 1", 2, 1),
     (".text 0x80000000\nli a7, 1\nlx a7, 1\necall\n", 3, 1),
@@ -145,7 +145,14 @@ pub(super) const FAULTS: [(&str, u32, u32); 84] = [
     (".text 0\nla a0, nowhere", 2, 4),
     (".data 0\n.word 0, nowhere", 2, 4),
     (".text 0\njal x0, a\na: lx", 3, 1),
-    (".text 0\njal x0, a\na: ???", 2, 4),
+    (".text 0\nbeq a0, zero, done\ndone: ???", 3, 1),
+    (".text 0\nbeq a0, zero, done\ndone: lw a0, (sp)", 3, 1),
+    (".text 0\nbeq a0, zero, done\ndone: .word 1,", 3, 1),
+    (".text 0\nbeq a0, zero, done\n done : fence.i", 3, 1),
+    (".text 0\nbeq a0, zero, done\ndone:: ecall", 3, 1),
+    (".text 0\nbeq a0, zero, done\ndone: again: ecall", 3, 1),
+    (".text 0\nbeq a0, zero, again\ndone: again: ecall", 2, 4),
+    (".text 0\nbeq a0, zero, done\nxor done: ecall", 2, 4),
     (".text 0\na:\na:", 3, 5),
     (".text 0\na: ecall\na: ecall\na: ecall", 3, 5),
     ("ecall", 1, 6),

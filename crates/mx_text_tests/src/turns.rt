@@ -1,0 +1,167 @@
+//! The lines of turns.
+ghost use Rattle.std.specs.Prelude.{IfSome};
+ghost use Rattle.mx_isa.specs.Ranges.{IsValid};
+ghost use Rattle.mx_trace.specs.Lines.{seen_inst};
+
+use mx_io::Bytes;
+use mx_isa::{Inst, decode};
+use mx_model::TurnKind;
+use mx_tail::Tail;
+use mx_trace::{Seen, kind_name, put_turn, turn_line};
+use std::test::Fail;
+
+/// A hart in a domain, with the word at its pc; None where no text of it is shown.
+type Stands = Option<(u32, u32, Option<u32>)>;
+
+/// Step, hart, how it stands before the turn, the turn's kind, and the line that the rule gives.
+const LINES: [(u64, u32, Stands, TurnKind, &str); 10] = [
+    (
+        1,
+        0,
+        Some((1, 0x8000_0000, Some(0x0010_0893))),
+        TurnKind::Ran,
+        "turn 1 0 1 0x80000000 ran addi x17, x0, 1\n",
+    ),
+    (
+        3,
+        0,
+        Some((1, 0x8000_0008, Some(0x0000_0073))),
+        TurnKind::Called,
+        "turn 3 0 1 0x80000008 called ecall\n",
+    ),
+    (1, 1, None, TurnKind::Idle, "turn 1 1 - - idle -\n"),
+    (
+        2,
+        0,
+        Some((1, 0x8000_0004, Some(0x0000_A023))),
+        TurnKind::Trapped,
+        "turn 2 0 1 0x80000004 trapped sw x0, 0(x1)\n",
+    ),
+    (
+        90,
+        3,
+        Some((2, 0x8000_1034, None)),
+        TurnKind::Idle,
+        "turn 90 3 2 0x80001034 idle -\n",
+    ),
+    (
+        41,
+        2,
+        Some((7, 0x8000_0ABC, Some(0x0000_0073))),
+        TurnKind::Waited,
+        "turn 41 2 7 0x80000abc waited ecall\n",
+    ),
+    (
+        42,
+        2,
+        Some((7, 0x8000_0ABC, None)),
+        TurnKind::Trapped,
+        "turn 42 2 7 0x80000abc trapped -\n",
+    ),
+    (
+        5,
+        15,
+        Some((63, 0x83FF_FFFC, Some(0xFFDF_F0EF))),
+        TurnKind::Crossed,
+        "turn 5 15 63 0x83fffffc crossed jal x1, -4\n",
+    ),
+    (
+        6,
+        0,
+        Some((3, 0x8000_2000, Some(0x0000_8067))),
+        TurnKind::Returned,
+        "turn 6 0 3 0x80002000 returned jalr x0, 0(x1)\n",
+    ),
+    (
+        18446744073709551615,
+        4294967295,
+        Some((0, 0, Some(0x0000_0097))),
+        TurnKind::Ran,
+        "turn 18446744073709551615 4294967295 0 0x00000000 ran auipc x1, 0\n",
+    ),
+];
+
+/// The instruction of a word.
+fn inst_of(word: Option<u32>) -> Option<Inst>
+    ensures { IfSome result IsValid }
+{
+    match word {
+        Some(word) => decode(word),
+        None => None,
+    }
+}
+
+/// What is seen of such a hart.
+fn seen(stands: Stands) -> Option<Seen>
+    ensures { IfSome (seen_inst result) IsValid }
+{
+    match stands {
+        Some((domain, pc, word)) => Some(Seen {
+            domain,
+            pc,
+            inst: inst_of(word),
+        }),
+        None => None,
+    }
+}
+
+#[test]
+fn turn_lines_are_those_of_the_rule(rt: HostRuntime) -> Result<(), Fail> {
+    for (step, hart, stands, kind, line) in LINES {
+        let mut sink = Bytes::new(rt.alloc(), 80)?;
+        assert_eq!(rt;
+            turn_line(&mut sink, step, hart, seen(stands), kind),
+            Ok(())
+        );
+        assert_eq!(rt; sink.as_slice(), line.as_bytes(), "{line}");
+    }
+    Ok(())
+}
+
+#[test]
+fn turn_lines_leave_together(rt: HostRuntime) -> Result<(), Fail> {
+    let mut sink = Bytes::new(rt.alloc(), 80)?;
+    let mut tail = Tail::new();
+    for step in 1..3 {
+        assert_eq!(rt;
+            put_turn(&mut tail, &mut sink, step, 1, None, TurnKind::Idle),
+            Ok(())
+        );
+        assert_eq!(rt; sink.as_slice().len(), 0);
+    }
+    assert_eq!(rt; tail.end(&mut sink), Ok(()));
+    assert_eq!(rt;
+        sink.as_slice(),
+        b"turn 1 1 - - idle -\nturn 2 1 - - idle -\n".as_slice()
+    );
+    Ok(())
+}
+
+#[test]
+fn a_turn_line_without_room_is_a_prefix(rt: HostRuntime) -> Result<(), Fail> {
+    let before = seen(Some((1, 0x8000_0000, Some(0x0010_0893))));
+    let mut sink = Bytes::new(rt.alloc(), 28)?;
+    assert_eq!(rt;
+        turn_line(&mut sink, 1, 0, before, TurnKind::Ran).is_err(),
+        true
+    );
+    assert_eq!(rt; sink.as_slice(), b"turn 1 0 1 0x80000000 ran ad".as_slice());
+    Ok(())
+}
+
+#[test]
+fn kinds_have_their_names(rt: HostRuntime) -> Result<(), Fail> {
+    let kinds = [
+        (TurnKind::Idle, "idle"),
+        (TurnKind::Waited, "waited"),
+        (TurnKind::Ran, "ran"),
+        (TurnKind::Crossed, "crossed"),
+        (TurnKind::Returned, "returned"),
+        (TurnKind::Trapped, "trapped"),
+        (TurnKind::Called, "called"),
+    ];
+    for (kind, name) in kinds {
+        assert_eq!(rt; kind_name(kind), name);
+    }
+    Ok(())
+}
