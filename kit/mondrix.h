@@ -144,15 +144,10 @@ extern void (*mondrix_flush_last)(void);
 /* Writes the rest of the hart's line and exits. Return from main does the same. */
 _Noreturn void mondrix_leave(int code);
 
-/* Of a caller in another module a debugger finds ra alone: the rest stands on the hart's cross stack. */
-#define MONDRIX_NOT_KEPT_HERE                                                                         \
-    ".cfi_undefined s0\n.cfi_undefined s1\n.cfi_undefined s2\n.cfi_undefined s3\n" \
-    ".cfi_undefined s4\n.cfi_undefined s5\n.cfi_undefined s6\n.cfi_undefined s7\n.cfi_undefined s8\n" \
-    ".cfi_undefined s9\n.cfi_undefined s10\n.cfi_undefined s11\n"
-
 /* MONDRIX_GATE(name): the entry of a gate, a symbol `name` at the next 32 bytes of the section .gates, which calls the C
  * function name_entered. Another module calls `name` as an ordinary C function; inside its own module C calls
- * name_entered. ra is kept in s0: C keeps s0, and the machine gives the caller's back. */
+ * name_entered. ra is kept in s11: C keeps s11, and the machine gives the caller's back. s0 stays as it is, so that a
+ * debugger finds the frames of a caller that was compiled with frame pointers. */
 #define MONDRIX_GATE(name)                             \
     __asm__(".cfi_sections .debug_frame\n"             \
             ".pushsection .gates, \"ax\", @progbits\n" \
@@ -160,12 +155,12 @@ _Noreturn void mondrix_leave(int code);
             ".globl " #name "\n"                       \
             ".type " #name ", @function\n" #name ":\n" \
             ".cfi_startproc\n"                         \
-            "mv s0, ra\n"                              \
-            ".cfi_register ra, s0\n"                   \
-            MONDRIX_NOT_KEPT_HERE                      \
+            "mv s11, ra\n"                             \
+            ".cfi_register ra, s11\n"                  \
+            ".cfi_undefined s11\n"                     \
             "lla tp, __tls_base\n"                     \
             "call " #name "_entered\n"                 \
-            "mv ra, s0\n"                              \
+            "mv ra, s11\n"                             \
             "j mondrix_return\n"                       \
             ".cfi_endproc\n"                           \
             ".size " #name ", . - " #name "\n"         \
