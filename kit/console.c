@@ -1,5 +1,6 @@
-/* stdin, stdout and stderr of picolibc: the machine's console. Each hart has a line of its own, so that lines of several
- * harts don't mix; it is written when it ends or is full, by fflush, and when the hart leaves. There is no input. */
+/* stdin, stdout and stderr of picolibc: the machine's console. Each hart has a line of its own, so that lines of
+ * several harts don't mix; it is written when it ends or is full, by fflush, and when the hart leaves. There is no
+ * input. */
 #include "mondrix.h"
 
 #include <stdio.h>

@@ -1,5 +1,5 @@
-/* What picolibc's malloc stands on: an array of MONDRIX_MALLOC bytes, and a lock, so that all harts of a module may call
- * malloc. Its memory is the module's own data; blocks that another module is to have come from mondrix_alloc. */
+/* What picolibc's malloc stands on: an array of MONDRIX_MALLOC bytes, and a lock, so that all harts of a module may
+ * call malloc. Its memory is the module's own data; blocks that another module is to have come from mondrix_alloc. */
 #include "mondrix.h"
 
 #include <errno.h>

@@ -1,5 +1,5 @@
-/* What a module in C needs of the machine: the supervisor calls, the entries of gates, and two locks. docs/GUIDE.md says
- * how they are used, docs/MACHINE.md what each call does. */
+/* What a module in C needs of the machine: the supervisor calls, the entries of gates, and two locks. docs/GUIDE.md
+ * says how they are used, docs/MACHINE.md what each call does. */
 #ifndef MONDRIX_H
 #define MONDRIX_H
 
@@ -72,8 +72,8 @@ static inline int mondrix_write(const void *bytes, size_t count) {
 }
 
 /* 3: gives a module a permission on the words that hold these bytes, in place of the one that it had. */
-static inline int mondrix_grant(const volatile void *at, size_t bytes, unsigned module, enum mondrix_permission permission) {
-    return (int)mondrix_call(3, (uint32_t)at, bytes, module, permission);
+static inline int mondrix_grant(const volatile void *at, size_t bytes, unsigned module, enum mondrix_permission right) {
+    return (int)mondrix_call(3, (uint32_t)at, bytes, module, right);
 }
 
 /* 4: takes every permission on these words from all other modules. */
@@ -144,8 +144,8 @@ extern void (*mondrix_flush_last)(void);
 /* Writes the rest of the hart's line and exits. Return from main does the same. */
 _Noreturn void mondrix_leave(int code);
 
-/* MONDRIX_GATE(name): the entry of a gate, a symbol `name` at the next 32 bytes of the section .gates, which calls the C
- * function name_entered. Another module calls `name` as an ordinary C function; inside its own module C calls
+/* MONDRIX_GATE(name): the entry of a gate, a symbol `name` at the next 32 bytes of the section .gates, which calls the
+ * C function name_entered. Another module calls `name` as an ordinary C function; inside its own module C calls
  * name_entered. ra is kept in s11: C keeps s11, and the machine gives the caller's back. s0 stays as it is, so that a
  * debugger finds the frames of a caller that was compiled with frame pointers. */
 #define MONDRIX_GATE(name)                             \
@@ -166,8 +166,8 @@ _Noreturn void mondrix_leave(int code);
             ".size " #name ", . - " #name "\n"         \
             ".popsection\n")
 
-/* A lock for waiting: harts get it in the order in which they asked (Craig, Landin and Hagersten's queue). Each lock has
- * a node for each hart, and one more. It is for the harts of one module. */
+/* A lock for waiting: harts get it in the order in which they asked (Craig, Landin and Hagersten's queue). Each lock
+ * has a node for each hart, and one more. It is for the harts of one module. */
 struct mondrix_lock {
     volatile uint32_t last;                     /* the node of who asked last */
     volatile uint32_t held[MONDRIX_HARTS + 1];  /* of each node: its hart wants the lock, or has it */

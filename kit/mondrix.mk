@@ -36,7 +36,8 @@ ifeq ($(COMPILER),clang)
 mondrix.headers := $(shell $(mondrix.gcc) -E -v -x c /dev/null 2>&1 | sed -n 's|^ \(/.*picolibc.*/include\)$$|\1|p')
 mondrix.libgcc := $(shell $(mondrix.gcc) -print-libgcc-file-name)
 mondrix.libc := $(mondrix.headers)/../lib/$(shell $(mondrix.gcc) -print-multi-directory)/libc.a
-mondrix.cc := clang --target=riscv32-unknown-elf $(filter-out -mstrict-align,$(mondrix.flags)) -isystem $(mondrix.headers)
+mondrix.cc := clang --target=riscv32-unknown-elf $(filter-out -mstrict-align,$(mondrix.flags)) \
+    -isystem $(mondrix.headers)
 mondrix.ld = ld.lld $(mondrix.link) -T $(MONDRIX_KIT)/module.ld $(1) --start-group $(mondrix.libc) \
     $(mondrix.libgcc) --end-group
 else
@@ -52,16 +53,24 @@ endif
 .DELETE_ON_ERROR:
 all: $(MODULES:%=%.elf)
 
+# Where the words for the compiler are other than the last time all is made anew.
+mondrix.words := $(mondrix.cc) $(CFLAGS) $(MALLOC)
+ifneq ($(file <$(BUILD)/words),$(mondrix.words))
+$(shell rm -f $(BUILD)/words)
+endif
+$(BUILD)/words:
+	$(shell mkdir -p $(BUILD))$(file >$@,$(mondrix.words))
+
 # What a module doesn't use of these the linker drops.
 mondrix.objects := $(patsubst %,$(BUILD)/kit/%.o,start leave console lock malloc)
-$(BUILD)/kit/start.o: $(MONDRIX_KIT)/start.S
+$(BUILD)/kit/start.o: $(MONDRIX_KIT)/start.S $(BUILD)/words
 	@mkdir -p $(@D)
 	$(mondrix.at)$(mondrix.cc) -c -o $@ $<
-$(BUILD)/kit/%.o: $(MONDRIX_KIT)/%.c $(MONDRIX_KIT)/mondrix.h
+$(BUILD)/kit/%.o: $(MONDRIX_KIT)/%.c $(MONDRIX_KIT)/mondrix.h $(BUILD)/words
 	@mkdir -p $(@D)
 	$(mondrix.at)$(mondrix.cc) -DMONDRIX_MALLOC=$(MALLOC) -c -o $@ $<
 
-$(BUILD)/%.o: %.c
+$(BUILD)/%.o: %.c $(BUILD)/words
 	$(call mondrix.say,compile $<)
 	@mkdir -p $(@D)
 	$(mondrix.at)$(mondrix.cc) -I $(MONDRIX_KIT) -MMD -MP $(CFLAGS) -c -o $@ $<
@@ -75,8 +84,9 @@ $(1).objects := $$(patsubst %.c,$$(BUILD)/%.o,$$(or $$($(1).sources),$(1).c))
 $(1).gates := $$($(1).calls:%=$$(BUILD)/%.gates.ld)
 $(1).elf: $$(mondrix.objects) $$($(1).objects) $$($(1).gates) $$(MONDRIX_KIT)/module.ld $$(firstword $$(MAKEFILE_LIST))
 	$$(call mondrix.say,link $$@)
-	$$(mondrix.at)$$(call mondrix.ld,--defsym=TEXT=$$($(1).text) $$(if $$($(1).rodata),--defsym=RODATA=$$($(1).rodata)) \
-	    $$(if $$($(1).data),--defsym=DATA=$$($(1).data)) $$($(1).symbols:%=--defsym=%) \
+	$$(mondrix.at)$$(call mondrix.ld,--defsym=TEXT=$$(or $$($(1).text),$$(error $(1).text isn't set)) \
+	    $$(if $$($(1).rodata),--defsym=RODATA=$$($(1).rodata)) $$(if $$($(1).data),--defsym=DATA=$$($(1).data)) \
+	    $$($(1).symbols:%=--defsym=%) \
 	    -o $$@ $$(mondrix.objects) $$($(1).objects) $$($(1).gates))
 -include $$($(1).objects:.o=.d)
 endef

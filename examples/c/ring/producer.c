@@ -1,5 +1,5 @@
-/* Puts the squares of 1 to NUMBERS into a ring. What it reads of the ring the other module wrote: it is a number to look
- * at, and leads to no address. */
+/* Puts the squares of 1 to NUMBERS into a ring. What it reads of the ring the other module wrote: it is a number to
+ * look at, and leads to no address. */
 #include "ring.h"
 
 #include "mondrix.h"
