@@ -27,7 +27,7 @@ mondrix.say = $(if $(V),,@echo "  $(1)")
 mondrix.machine := -march=rv32im -mabi=ilp32
 mondrix.gcc := $(CROSS)gcc --specs=picolibc.specs $(mondrix.machine)
 mondrix.flags := $(mondrix.machine) -mno-relax -mstrict-align -fno-pic $(OPTIMIZE) -gdwarf-4 -ffunction-sections \
-    -fdata-sections -fno-asynchronous-unwind-tables -ftls-model=local-exec -Wno-main \
+    -fdata-sections -fno-asynchronous-unwind-tables -fno-omit-frame-pointer -ftls-model=local-exec -Wno-main \
     $(foreach map,debug macro,-f$(map)-prefix-map=$(CURDIR)=. -f$(map)-prefix-map=$(MONDRIX_KIT)=kit)
 mondrix.link := -z max-page-size=4 --no-relax --build-id=none --gc-sections
 
