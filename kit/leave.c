@@ -6,7 +6,7 @@
 
 void (*mondrix_flush_last)(void);
 
-_Noreturn void mondrix_leave(int code) {
+void mondrix_leave(int code) {
     if (mondrix_flush_last) mondrix_flush_last();
     mondrix_exit(code);
     mondrix_break(); /* exit is refused inside a call through a gate */

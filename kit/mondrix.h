@@ -6,6 +6,10 @@
 #include <stddef.h>
 #include <stdint.h>
 
+#ifdef __cplusplus
+extern "C" {
+#endif
+
 /* A call's refusal. A call that isn't refused answers 0, or what is said beside it. */
 enum mondrix_code {
     MONDRIX_OK = 0,
@@ -128,7 +132,7 @@ static inline int mondrix_exchange(volatile uint32_t *word, uint32_t value, uint
 }
 
 /* Ends this hart's turn in the module by fault 3. */
-static inline _Noreturn void mondrix_break(void) {
+static inline __attribute__((noreturn)) void mondrix_break(void) {
     __asm__ volatile("ebreak" : : : "memory");
     for (;;) {}
 }
@@ -142,7 +146,7 @@ void mondrix_flush(void);
 /* What is called before a hart leaves: mondrix_flush, once the module has printed. */
 extern void (*mondrix_flush_last)(void);
 /* Writes the rest of the hart's line and exits. Return from main does the same. */
-_Noreturn void mondrix_leave(int code);
+__attribute__((noreturn)) void mondrix_leave(int code);
 
 /* MONDRIX_GATE(name): the entry of a gate, a symbol `name` at the next 32 bytes of the section .gates, which calls the
  * C function name_entered. Another module calls `name` as an ordinary C function; inside its own module C calls
@@ -188,5 +192,9 @@ static inline void mondrix_untry(volatile uint32_t *word) {
     mondrix_barrier();
     *word = 0;
 }
+
+#ifdef __cplusplus
+}
+#endif
 
 #endif
