@@ -1,0 +1,15 @@
+/* The least module: it prints, and answers 0. */
+#include <stdio.h>
+#include <stdlib.h>
+#include <string.h>
+
+#include "mondrix.h"
+
+int main(int hart) {
+    char *word = malloc(6);
+    strcpy(word, "hello");
+    printf("%s from module %u on hart %d\n", word, mondrix_module(), hart);
+    printf("%d %x %s %.3f\n", -42, 0xbeef, "text", 22 / 7.0);
+    free(word);
+    return 0;
+}

@@ -1,0 +1,27 @@
+/* A ring between two modules. All words are the producer's at first. The producer may write `produced` and read
+ * `consumed`, the consumer just the other way round, and nobody owns them any more, so nobody can change that. */
+#ifndef RING_H
+#define RING_H
+#include <stdint.h>
+
+enum { PRODUCER = 1, CONSUMER = 2 }; /* as the manifest orders the modules */
+enum { RING_ITEMS = 8, NUMBERS = 100 };
+
+struct produced {
+    volatile uint32_t count; /* how many items were ever put */
+    volatile uint32_t items[RING_ITEMS];
+};
+struct consumed {
+    volatile uint32_t count; /* how many items were ever taken */
+};
+struct ring {
+    struct produced produced;
+    struct consumed consumed;
+};
+_Static_assert(sizeof(struct produced) % 4 == 0 && sizeof(struct consumed) % 4 == 0, "rights go by words");
+
+/* The producer's gate: opens the ring for the consumer. 0 where it can't. */
+struct ring *ring_open(void);
+struct ring *ring_open_entered(void);
+
+#endif

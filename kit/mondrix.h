@@ -1,0 +1,200 @@
+/* What a module in C needs of the machine: the supervisor calls, the entries of gates, and two locks. docs/GUIDE.md
+ * says how they are used, docs/MACHINE.md what each call does. */
+#ifndef MONDRIX_H
+#define MONDRIX_H
+
+#include <stddef.h>
+#include <stdint.h>
+
+#ifdef __cplusplus
+extern "C" {
+#endif
+
+/* A call's refusal. A call that isn't refused answers 0, or what is said beside it. */
+enum mondrix_code {
+    MONDRIX_OK = 0,
+    MONDRIX_BAD_RANGE = -1,   /* no range of RAM that begins at a word, or no word of RAM */
+    MONDRIX_NOT_OWNER = -2,   /* a word that the caller doesn't own */
+    MONDRIX_BAD_DOMAIN = -3,  /* no such module */
+    MONDRIX_BAD_PERM = -4,    /* no such permission */
+    MONDRIX_TABLES_FULL = -5, /* the tables can't hold the rights as they would be */
+    MONDRIX_NO_ROOM = -6,     /* no free place in the heap area */
+    MONDRIX_BLOCKS_FULL = -7, /* 1024 live blocks */
+    MONDRIX_NOT_A_BLOCK = -8, /* no live block of the caller begins there */
+    MONDRIX_GATES_FULL = -9,  /* 256 gates */
+    MONDRIX_NESTED = -10,     /* exit inside a call through a gate */
+    MONDRIX_TOO_LONG = -11,   /* more than 4096 bytes */
+    MONDRIX_DENIED = -12,     /* a word that the caller may not read, or not write */
+    MONDRIX_BAD_CALL = -13,   /* no call of that number */
+    MONDRIX_OWNERS_FULL = -14, /* more than 4096 runs of owner */
+    MONDRIX_NO_GATE = -15     /* no gate stands there */
+};
+
+enum mondrix_permission { MONDRIX_NONE = 0, MONDRIX_READ = 1, MONDRIX_READ_WRITE = 2, MONDRIX_EXECUTE_READ = 3 };
+
+/* Why a turn faulted. */
+enum mondrix_cause {
+    MONDRIX_JUMP_MISALIGNED = 0,
+    MONDRIX_FETCH_DENIED = 1,
+    MONDRIX_ILLEGAL_INSTRUCTION = 2,
+    MONDRIX_BREAK = 3,
+    MONDRIX_LOAD_MISALIGNED = 4,
+    MONDRIX_LOAD_DENIED = 5,
+    MONDRIX_STORE_MISALIGNED = 6,
+    MONDRIX_STORE_DENIED = 7,
+    MONDRIX_FRAMES_FULL = 16,
+    MONDRIX_WRONG_RETURN = 17,
+    MONDRIX_EMPTY_RETURN = 18,
+    MONDRIX_RETURN_MISALIGNED = 19,
+    MONDRIX_DEAD = 20
+};
+
+enum { MONDRIX_HARTS = 4, MONDRIX_WRITE_MAX = 4096 };
+
+/* What a call through a gate answers where the callee faulted is 0xffffff00 + cause, -256 to -236 as a signed word. A
+ * gate's own answers should be none of these. */
+static inline int mondrix_is_fault(int32_t answer) { return answer >= -256 && answer <= -236; }
+static inline enum mondrix_cause mondrix_cause_of(int32_t answer) { return (enum mondrix_cause)(answer & 255); }
+
+/* A supervisor call of at most four arguments. Only a0, and with exchange a1, changes. */
+static inline uint32_t mondrix_call(uint32_t number, uint32_t first, uint32_t second, uint32_t third, uint32_t fourth) {
+    register uint32_t a0 __asm__("a0") = first;
+    register uint32_t a1 __asm__("a1") = second;
+    register uint32_t a2 __asm__("a2") = third;
+    register uint32_t a3 __asm__("a3") = fourth;
+    register uint32_t a7 __asm__("a7") = number;
+    __asm__ volatile("ecall" : "+r"(a0) : "r"(a1), "r"(a2), "r"(a3), "r"(a7) : "memory");
+    return a0;
+}
+
+/* 1: halts this hart with a code. It comes back only inside a call through a gate, where it is refused. */
+static inline int mondrix_exit(int code) { return (int)mondrix_call(1, (uint32_t)code, 0, 0, 0); }
+
+/* 2: writes at most MONDRIX_WRITE_MAX bytes to the console; answers their number. */
+static inline int mondrix_write(const void *bytes, size_t count) {
+    return (int)mondrix_call(2, (uint32_t)bytes, count, 0, 0);
+}
+
+/* 3: gives a module a permission on the words that hold these bytes, in place of the one that it had. */
+static inline int mondrix_grant(const volatile void *at, size_t bytes, unsigned module, enum mondrix_permission right) {
+    return (int)mondrix_call(3, (uint32_t)at, bytes, module, right);
+}
+
+/* 4: takes every permission on these words from all other modules. */
+static inline int mondrix_revoke_all(const volatile void *at, size_t bytes) {
+    return (int)mondrix_call(4, (uint32_t)at, bytes, 0, 0);
+}
+
+/* 5: gives these words to another owner, a module or 0 for nobody; permissions stay. */
+static inline int mondrix_transfer(const volatile void *at, size_t bytes, unsigned module) {
+    return (int)mondrix_call(5, (uint32_t)at, bytes, module, 0);
+}
+
+/* 6: takes a block of zeroed words from the module's heap area and stores its address. */
+static inline int mondrix_alloc(size_t words, void **block) {
+    uint32_t answer = mondrix_call(6, words, 0, 0, 0);
+    if (answer >= 0xfffffff0u) return (int)answer;
+    *block = (void *)answer;
+    return MONDRIX_OK;
+}
+
+/* 7: gives such a block back. */
+static inline int mondrix_free(void *block) { return (int)mondrix_call(7, (uint32_t)block, 0, 0, 0); }
+
+/* 8: lets a module cross into this one at a word; 9: takes that back; 10: makes a word a return gate of this module. */
+static inline int mondrix_gate(const volatile void *entry, unsigned module) {
+    return (int)mondrix_call(8, (uint32_t)entry, module, 0, 0);
+}
+static inline int mondrix_ungate(const volatile void *entry, unsigned module) {
+    return (int)mondrix_call(9, (uint32_t)entry, module, 0, 0);
+}
+static inline int mondrix_return_gate(const volatile void *word) {
+    return (int)mondrix_call(10, (uint32_t)word, 0, 0, 0);
+}
+
+/* 11: the permission that a module has on a word; of another module only the word's owner may ask. */
+static inline int mondrix_query(const volatile void *word, unsigned module) {
+    return (int)mondrix_call(11, (uint32_t)word, module, 0, 0);
+}
+
+/* 12: the number of this hart, from 0, and of this module, from 1. */
+static inline unsigned mondrix_hart(void) { return mondrix_call(12, 0, 0, 0, 0) >> 8; }
+static inline unsigned mondrix_module(void) { return mondrix_call(12, 0, 0, 0, 0) & 255; }
+
+/* 13: stores a value in a word and the word's old value in `old`, in one step. */
+static inline int mondrix_exchange(volatile uint32_t *word, uint32_t value, uint32_t *old) {
+    register uint32_t a0 __asm__("a0") = (uint32_t)word;
+    register uint32_t a1 __asm__("a1") = value;
+    register uint32_t a7 __asm__("a7") = 13;
+    __asm__ volatile("ecall" : "+r"(a0), "+r"(a1) : "r"(a7) : "memory");
+    if (a0 == MONDRIX_OK) *old = a1;
+    return (int)a0;
+}
+
+/* Ends this hart's turn in the module by fault 3. */
+static inline __attribute__((noreturn)) void mondrix_break(void) {
+    __asm__ volatile("ebreak" : : : "memory");
+    for (;;) {}
+}
+
+/* The place of stores before it and of loads after it stays in the program's text. The machine itself keeps their
+ * order. */
+static inline void mondrix_barrier(void) { __asm__ volatile("" : : : "memory"); }
+
+/* Writes what this hart has printed of its line. It is in the image of a module that uses stdout. */
+void mondrix_flush(void);
+/* What is called before a hart leaves: mondrix_flush, once the module has printed. */
+extern void (*mondrix_flush_last)(void);
+/* Writes the rest of the hart's line and exits. Return from main does the same. */
+__attribute__((noreturn)) void mondrix_leave(int code);
+
+/* MONDRIX_GATE(name): the entry of a gate, a symbol `name` at the next 32 bytes of the section .gates, which calls the
+ * C function name_entered. Another module calls `name` as an ordinary C function; inside its own module C calls
+ * name_entered. ra is kept in s11: C keeps s11, and the machine gives the caller's back. s0 stays as it is, so that a
+ * debugger finds the frames of a caller that was compiled with frame pointers. */
+#define MONDRIX_GATE(name)                             \
+    __asm__(".cfi_sections .debug_frame\n"             \
+            ".pushsection .gates, \"ax\", @progbits\n" \
+            ".balign 32\n"                             \
+            ".globl " #name "\n"                       \
+            ".type " #name ", @function\n" #name ":\n" \
+            ".cfi_startproc\n"                         \
+            "mv s11, ra\n"                             \
+            ".cfi_register ra, s11\n"                  \
+            ".cfi_undefined s11\n"                     \
+            "lla tp, __tls_base\n"                     \
+            "call " #name "_entered\n"                 \
+            "mv ra, s11\n"                             \
+            "j mondrix_return\n"                       \
+            ".cfi_endproc\n"                           \
+            ".size " #name ", . - " #name "\n"         \
+            ".popsection\n")
+
+/* A lock for waiting: harts get it in the order in which they asked (Craig, Landin and Hagersten's queue). Each lock
+ * has a node for each hart, and one more. It is for the harts of one module. */
+struct mondrix_lock {
+    volatile uint32_t last;                     /* the node of who asked last */
+    volatile uint32_t held[MONDRIX_HARTS + 1];  /* of each node: its hart wants the lock, or has it */
+    uint32_t own[MONDRIX_HARTS];                /* the node of each hart */
+    uint32_t before[MONDRIX_HARTS];             /* the node that it waits for */
+};
+#define MONDRIX_LOCK {MONDRIX_HARTS, {0, 0, 0, 0, 0}, {0, 1, 2, 3}, {0, 0, 0, 0}}
+void mondrix_lock(struct mondrix_lock *lock);
+void mondrix_unlock(struct mondrix_lock *lock);
+
+/* A word that is 0 where nobody has it. `try` answers whether this hart has it now. Don't wait for it in a loop: that
+ * can starve, and mondrix_lock can't. */
+static inline int mondrix_try(volatile uint32_t *word) {
+    uint32_t old;
+    return mondrix_exchange(word, 1, &old) == MONDRIX_OK && old == 0;
+}
+static inline void mondrix_untry(volatile uint32_t *word) {
+    mondrix_barrier();
+    *word = 0;
+}
+
+#ifdef __cplusplus
+}
+#endif
+
+#endif
