@@ -10,7 +10,7 @@ use Rattle.mx_isa.specs.Table.{decoded}
 use Rattle.mx_model.specs.Effect.{effect, holds, imm_result, loaded, reg_result}
 use Rattle.mx_model.specs.Agreement.{Standing, Runs, Waits, Ended}
 use Rattle.mx_model.specs.declared.values.TurnKind.TheVariants as T
-use Rattle.mx_model.specs.Run.{made_of, turn}
+use Rattle.mx_model.specs.Run.{flat_turn, made_of, turn}
 use Rattle.mx_model.specs.State.{State, Halted, Running, Waiting, flat, no_module}
 use Rattle.mx_model.proofs.Boots.{regs_with}
 use Rattle.mx_model.proofs.Smalls.{call, gate, give, grant, hart_of, kinds, small}
@@ -68,7 +68,11 @@ one-adds : AddsNothing (made_of quiet 0)
 unfolding decoded effect holds imm_result reg_result loaded number_at put_at imm_i imm_s imm_b imm_u imm_j extended
 one-adds = record { change = refl; give = refl; console = refl; note = refl }
 
-one-flat : SameRights (flat quiet) (flat (turn quiet 0))
+one-state : AddedNothing quiet (turn quiet 0)
+unfolding decoded effect holds imm_result reg_result loaded number_at put_at imm_i imm_s imm_b imm_u imm_j extended
+one-state = record { grants = refl; gives = refl; console = refl; notes = refl }
+
+one-flat : SameRights (flat quiet) (flat_turn (flat quiet) 0)
 unfolding decoded effect holds imm_result reg_result loaded number_at put_at imm_i imm_s imm_b imm_u imm_j extended
 one-flat = record { maps = refl; owners = refl }
 

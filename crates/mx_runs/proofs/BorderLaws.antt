@@ -1,26 +1,20 @@
--- A running hart's border and its turn's action meet in one row, and the turn tells which.
-use Rattle.std.proofs.Common.{◌≡◌, ◌↔◌, ⊎_elim, ◌⊎◌, inl, inr, ℕ, ◌-◌, ◌/◌, ◌%◌, ◌<◌, ◌≤◌, Bool, true, false, not, ◌==◌, ◌||◌, nat_lt, nat_le, List, [], ◌∷◌, ◌++◌, length, length-append, get_or, set, refl, sym, ◌∙◌, ap, subst, arith, eqb-true, if◌then◌else◌, Option, Some, None}
+-- A running hart's border is told by its turn: the turn's sort by its action, and what it shows.
+use Rattle.std.proofs.Common.{◌≡◌, ◌↔◌, ⊎_elim, ◌⊎◌, inl, inr, ℕ, ◌<◌, Bool, true, false, ◌==◌, ◌||◌, nat_lt, List, [], ◌∷◌, ◌++◌, length, length-append, get_or, set, refl, sym, ◌∙◌, ap, subst, arith, if◌then◌else◌, Option, Some, None}
 use Rattle.std.specs.List.{last_or}
-use Rattle.std.specs.Option.{option_map_or}
 use Rattle.std.proofs.lemmas.Bool.{ltb-false}
 use Rattle.std.proofs.lemmas.List.{get_or-set_same}
-use Rattle.mx_words.specs.declared.perm.Access.TheVariants as A
-use Rattle.mx_words.specs.Ranges.{ram_base}
-use Rattle.mx_isa.specs.declared.inst.Inst.{Inst}
-use Rattle.mx_isa.specs.Table.{decoded}
 use Rattle.mx_model.specs.declared.values.Frame.{Frame}
 use Rattle.mx_model.specs.declared.values.TurnKind.{TurnKind}
 use Rattle.mx_model.specs.declared.values.TurnKind.TheVariants as T
-use Rattle.mx_model.specs.Agreement.{Border, Trap, AtGate, Back, Call, Nothing, border, border_in, border_of_effect, border_of_fetch, border_of_gate, border_of_word, target_at}
-use Rattle.mx_model.specs.Checks.{is_halted, looked_all}
-use Rattle.mx_model.specs.Effect.{Effect, Goes, Faults, Loads, Stores, Calls, Jumps, effect, next, reg, written}
-use Rattle.mx_model.specs.Gates.{below_top, most_frames, top}
+use Rattle.mx_model.specs.Agreement.{Border, Trap, AtGate, Back, Call, Nothing, border, target_at}
+use Rattle.mx_model.specs.Checks.{is_halted}
+use Rattle.mx_model.specs.Effect.{reg}
+use Rattle.mx_model.specs.Gates.{below_top, top}
 use Rattle.mx_model.specs.Reads.{Reads}
-use Rattle.mx_model.specs.State.{Core, Hart, Status, hart_at, module_at, no_hart}
-use Rattle.mx_model.specs.Turn.{Action, Rests, Waits, Serves, Asks, Traps, Bounces, Crosses, Returns, Runs, Writes, Decided, Made, acted, at_gate, at_return, by_effect, by_status, by_word, call_gate_at, call_of, counted, decide, enacted, fetches, is_denied, is_return_at, is_served_now, jump_action, load_at, returned_over, runs_at, runs_in, traps, without_look}
-use Rattle.mx_model.proofs.GatesAt.{called_domain, call-gate-at, target_from}
+use Rattle.mx_model.specs.State.{Core, Hart, hart_at, module_at, no_hart}
+use Rattle.mx_model.specs.Turn.{Action, Rests, Waits, Serves, Asks, Traps, Bounces, Crosses, Returns, Runs, Writes, Made, acted, call_of, is_served_now, runs_in}
 use Rattle.mx_model.proofs.KeepLaws.{keeps-hears}
-use Rattle.mx_model.proofs.TurnCases.{hart-hears, ready}
+use Rattle.mx_model.proofs.TurnCases.{ready}
 use Rattle.mx_laws.specs.After.{core_after, frames_at, kind_of}
 use Rattle.mx_laws.specs.Twins.{IsRunning}
 use Rattle.mx_laws.proofs.FrameLaws.{top-split}
@@ -28,160 +22,8 @@ use Rattle.mx_laws.proofs.TurnParts.{there}
 use Rattle.mx_laws.proofs.TwinLaws.{kind-asked}
 use Rattle.mx_runs.specs.Borders.{Crooked, Full, IsAtGate, IsCalling, IsGateCause, IsOfRow, NoFrame, Elsewhere, OverFrame, PassesGate, ReturnsTo, SentBack, pc_of, register_of}
 use Rattle.mx_runs.specs.Borders.{Crosses as Crossing}
-use Rattle.mx_runs.proofs.TrapLaws.{Does, HasOwnCause, cause-effect, does-action, does-looked, traps-does}
-
--- what a hart does at a call gate, at a return gate, and by an instruction without a border
-data Passes (x : Hart) (a : Action) : Type 0 where
-  ByCrooked : a ≡ Traps 19 (reg x.regs 1) → Passes x a
-  ByFull : a ≡ Traps 16 x.pc → Passes x a
-  ByDead : a ≡ Bounces → Passes x a
-  Through : (target : ℕ) → a ≡ Crosses target → Passes x a
-
-data Leaves (x : Hart) (target : ℕ) (a : Action) : Type 0 where
-  ByNone : a ≡ Traps 18 target → Leaves x target a
-  ByOther : a ≡ Traps 17 target → Leaves x target a
-  Over : (rd : ℕ) (f : Frame) → a ≡ Returns rd f → top x.frames ≡ Some f → f.back ≡ target → Leaves x target a
-
-data GoesOn (a : Action) : Type 0 where
-  ByRun : (regs : List ℕ) (pc : ℕ) → a ≡ Runs regs pc → GoesOn a
-  ByWrite : (address size value : ℕ) → a ≡ Writes address size value → GoesOn a
-
--- a border and an action of hart x of one row
-record MeetsGate (c : Core) (x : Hart) (word target x1 : ℕ) (a : Action) : Type 0 where
-  place : (x.pc - ram_base) / 4 ≡ word
-  leads : target_at c x.domain word ≡ Some target
-  address : reg x.regs 1 ≡ x1
-  passes : Passes x a
-
-record MeetsCall (h : ℕ) (x : Hart) (number a0 a1 a2 a3 : ℕ) (a : Action) : Type 0 where
-  x17 : reg x.regs 17 ≡ number
-  x10 : reg x.regs 10 ≡ a0
-  x11 : reg x.regs 11 ≡ a1
-  x12 : reg x.regs 12 ≡ a2
-  x13 : reg x.regs 13 ≡ a3
-  asks : a ≡ Asks (call_of h x)
-
-abbrev Meets : Core → ℕ → Hart → Border → Action → Type 0
-Meets c h x (Trap cause value) a = (a ≡ Traps cause value) × (IsGateCause cause → ⊥)
-Meets c h x (AtGate word target x1) a = MeetsGate c x word target x1 a
-Meets c h x (Back pc target) a = (x.pc ≡ pc) × Leaves x target a
-Meets c h x (Call number a0 a1 a2 a3) a = MeetsCall h x number a0 a1 a2 a3 a
-Meets c h x Nothing a = GoesOn a
-
--- a call gate leads to its target
-gate-leads : (d target : ℕ) (o : Option ℕ) → called_domain d o ≡ Some target → o ≡ Some target
-gate-leads d target None e = absurd (let q : ⊥ = cc in q)
-gate-leads d target (Some t) e = by (t == d) e
-  where
-    by : (b : Bool) → (if b then None else Some t) ≡ Some target → Some t ≡ Some target
-    by true f = absurd (let q : ⊥ = cc in q)
-    by false f = f
-
-word-leads : (c : Core) (d pc target : ℕ) (b : Bool) →
-    option_map_or (target_at c d) (if b then Some ((pc - ram_base) / 4) else None) None ≡ Some target →
-    target_at c d ((pc - ram_base) / 4) ≡ Some target
-word-leads c d pc target true e = e
-word-leads c d pc target false e = absurd (let q : ⊥ = cc in q)
-
-passes-choice : (x : Hart) (b : Bool) (d e : Decided) → Passes x d.action → Passes x e.action →
-    Passes x (if b then d else e).action
-passes-choice x true d e p q = p
-passes-choice x false d e p q = q
-
-passes-gate : (c : Core) (x : Hart) (target : ℕ) → Passes x (at_gate c x target).action
-passes-gate c x target =
-    let x1 = reg x.regs 1 in
-    passes-choice x (not (x1 % 4 == 0)) (traps 19 x1) _ (ByCrooked refl) (
-    passes-choice x (module_at c target).dead (without_look Bounces) _ (ByDead refl) (
-    passes-choice x (nat_le most_frames (length x.frames)) (traps 16 x.pc) (without_look (Crosses target))
-    (ByFull refl) (Through target refl)))
-
-leaves-over : (x : Hart) (rd target : ℕ) (f : Frame) (b : Bool) → (f.back == target) ≡ b → top x.frames ≡ Some f →
-    Leaves x target (if b then Returns rd f else Traps 17 target)
-leaves-over x rd target f true e t = Over rd f refl t (eqb-true f.back target e)
-leaves-over x rd target f false e t = ByOther refl
-
-leaves-top : (x : Hart) (rd target : ℕ) (o : Option Frame) → top x.frames ≡ o →
-    Leaves x target (option_map_or (returned_over rd target) o (Traps 18 target))
-leaves-top x rd target None t = ByNone refl
-leaves-top x rd target (Some f) t = leaves-over x rd target f (f.back == target) refl t
-
--- causes beside those of gates
-low-cause : (cause : ℕ) → cause ≤ 7 → IsGateCause cause → ⊥
-low-cause cause l g = let low = g.0 in let z : ⊥ = omega (arith, l, low) in z
-
-high-cause : IsGateCause 20 → ⊥
-high-cause g = let high = g.1 in let z : ⊥ = omega (arith, high) in z
-
--- the walk over border and action; the state of the action differs in the number of turns, harts and caches
-module _ (r : Reads) (c : Core) (h : ℕ) (x : Hart) where
-  abbrev M : Border → Action → Type 0
-  M = Meets c h x
-
-  abbrev now : Core
-  now = ready c h
-
-  meets-denied : (cause value : ℕ) → cause ≤ 7 → (a : Action) → GoesOn a → (b : Bool) →
-      M (if b then Trap cause value else Nothing) (if b then Traps cause value else a)
-  meets-denied cause value l a g true = (refl, low-cause cause l)
-  meets-denied cause value l a g false = g
-
-  meets-target : (rd target : ℕ) (b : Bool) →
-      M (if b then Nothing else Trap 0 target)
-      (if b then Runs (written x.regs rd (next x.pc)) target else Traps 0 target)
-  meets-target rd target true = ByRun (written x.regs rd (next x.pc)) target refl
-  meets-target rd target false = (refl, low-cause 0 (omega arith))
-
-  meets-jump : (rd target : ℕ) (b : Bool) →
-      M (if b then Back x.pc target else if target % 4 == 0 then Nothing else Trap 0 target)
-      (if b then at_return x rd target else jump_action x rd target)
-  meets-jump rd target true = (refl, leaves-top x rd target (top x.frames) refl)
-  meets-jump rd target false = meets-target rd target (target % 4 == 0)
-
-  meets-effect : (f : Effect) → HasOwnCause f → M (border_of_effect r c x f) (by_effect r now h x f).action
-  meets-effect (Goes regs pc) k = ByRun regs pc refl
-  meets-effect (Faults cause value) k = (refl, low-cause cause (let l = k.low in omega (arith, l)))
-  meets-effect (Loads place address width rd) k =
-      meets-denied 5 address (omega arith) _ (ByRun _ (next x.pc) refl) (is_denied r c x.domain address A.Read)
-  meets-effect (Stores place address size value) k =
-      meets-denied 7 address (omega arith) _ (ByWrite address size value refl) (is_denied r c x.domain address A.Write)
-  meets-effect Calls k = record { x17 = refl; x10 = refl; x11 = refl; x12 = refl; x13 = refl; asks = refl }
-  meets-effect (Jumps rd target) k = meets-jump rd target (is_return_at c x.domain x.pc)
-
-  meets-word : (word : ℕ) (o : Option Inst) → M (border_of_word r c x word o) (by_word r now h x word o).action
-  meets-word word None = (refl, low-cause 2 (omega arith))
-  meets-word word (Some inst) = meets-effect (effect inst x.regs x.pc) (cause-effect inst x.regs x.pc)
-
-  meets-fetch : (b : Bool) → M (border_of_fetch r c x b) (fetches r now h x b).action
-  meets-fetch true = (refl, low-cause 1 (omega arith))
-  meets-fetch false = meets-word (load_at c x.pc 4) (decoded (load_at c x.pc 4))
-
-  meets-gate : (o : Option ℕ) → call_gate_at c x.domain x.pc ≡ o →
-      M (border_of_gate r c x o) (runs_at r now h x o).action
-  meets-gate (Some target) e = record {
-    place = refl;
-    leads = word-leads c x.domain x.pc target _
-        (gate-leads x.domain target (target_from c x.domain x.pc) (sym (call-gate-at c x.domain x.pc) ∙ e));
-    address = refl;
-    passes = passes-gate now x target;
-  }
-  meets-gate None e = meets-fetch (is_denied r c x.domain x.pc A.Execute)
-
-  meets-in : (b : Bool) → M (border_in r c x b) (runs_in r now h x b).action
-  meets-in true = (refl, high-cause)
-  meets-in false = meets-gate (call_gate_at c x.domain x.pc) refl
-
--- a running hart's turn does the action that is decided
-does-running : (r : Reads) (c : Core) (h : ℕ) → IsRunning c h →
-    let x = hart_at c h in Does r c h (runs_in r (ready c h) h x (module_at c x.domain).dead).action
-does-running r c h run =
-    let x = hart_at c h in
-    let f = ready c h in
-    let by = λ (y : Hart) (s : Status). let d =
-    by_status r f h y s in acted r (looked_all r h d.looks f) h y d.action in
-    does-looked r c h (runs_in r f h x (module_at c x.domain).dead) (
-    ap (λ (s : Status). let g = if is_halted s then counted c else f in enacted r g h (decide r g h)) run
-    ∙ ap (λ (y : Hart). by y y.status) (hart-hears (counted c) h) ∙ ap (by x) run)
+use Rattle.mx_runs.proofs.TrapLaws.{Does, does-action, traps-does}
+use Rattle.mx_runs.proofs.BorderMeets.{ByCrooked, ByDead, ByFull, ByNone, ByOther, ByRun, ByWrite, GoesOn, Leaves, Meets, Over, Passes, Through, does-running, meets-in}
 
 -- hart h after a turn that sets it
 set-after : (r : Reads) (c : Core) (h : ℕ) (a : Action) (d : Does r c h a) (y : Hart) → IsRunning c h →

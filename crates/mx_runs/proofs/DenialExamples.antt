@@ -96,6 +96,20 @@ crooked-outside-traps : traps_with (crooked 0x80000100) 0 4 0x80000102
 unfolding decoded effect holds imm_result reg_result loaded number_at put_at imm_i imm_s imm_b imm_u imm_j extended
 crooked-outside-traps = record { kind = refl; note = refl }
 
+-- sw x5, 2(x7)
+crooked-store-traps : traps_with (at_word 0x0053A123 ((7, 0x800000A0) ∷ [])) 0 6 0x800000A2
+unfolding decoded effect holds imm_result reg_result loaded number_at put_at imm_i imm_s imm_b imm_u imm_j extended
+crooked-store-traps = record { kind = refl; note = refl }
+
+-- the test itself
+abbrev denied_write : ℕ → Bool
+denied_write address = is_denied (reads (stores 0)) (stores 0).core 1 address A.Write
+
+tests : list_map denied_write
+    (0x7FFFFFFF ∷ 0x80000010 ∷ 0x800000A0 ∷ 0x800000A3 ∷ 0x800000A4 ∷ 0x800000A8 ∷ 0x80000100 ∷ [])
+    ≡ true ∷ true ∷ true ∷ true ∷ false ∷ true ∷ true ∷ []
+tests = refl
+
 -- nowhere else: a load of word 40, whose newest grant allows it, and a store to word 41, whose newest covering grant is
 -- not the last
 allowed-run : list_map (λ (s : State). kind s 0) (loads 0x800000A0 ∷ stores 0x800000A4 ∷ []) ≡ T.Ran ∷ T.Ran ∷ []
