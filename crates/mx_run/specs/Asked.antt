@@ -1,7 +1,7 @@
 -- What the code keeps of the words, and of the files that it reads.
 use Rattle.std.specs.Prelude.{◌<◌, ◌^◌, option_copied, ⊤}
 use Rattle.mx_run.specs.Words.{Order, Request, Run, Asm, Parsed, Stands, Lacks, Meaningless}
-use Rattle.mx_run.specs.Outcome.{Wanted}
+use Rattle.mx_run.specs.Next.{Wanted}
 use Rattle.mx_run.specs.declared.wanted.Wanted as files
 use Rattle.mx_run.specs.declared.words.Order as orders
 use Rattle.mx_run.specs.declared.words.Asked.{Asked}

@@ -4,14 +4,16 @@ use Rattle.std.specs.Char.{is_ascii_digit}
 use Rattle.std.specs.List.{list_all}
 use Rattle.std.specs.Str.{bytes_eq}
 use Rattle.std.specs.Str.Parse.{digits_value}
+use Rattle.mx_turns.specs.declared.task.Dump.{Dump}
+use Rattle.mx_turns.specs.declared.task.Dump.TheVariants.{Ram}
 
--- what `run` is asked: a manifest by its name, for at most so many steps; a schedule by its name; and whether RAM goes to the dump
--- and the report has the lines of the tables and of the counts
+-- what `run` is asked: a manifest by its name, for at most so many steps; a schedule by its name; what goes to the dump; and whether
+-- the report has the lines of the tables and of the counts
 pub record Order : Type 0 where
   pub manifest : List ℕ
   pub steps : ℕ
   pub schedule : Option (List ℕ)
-  pub dump : Bool
+  pub dump : Option Dump
   pub tables : Bool
   pub counts : Bool
 
@@ -42,7 +44,8 @@ once given parsed = if given then Meaningless else parsed
 abbrev pub with_option : Order → List ℕ → Parsed
 with_option o word =
     if bytes_eq word (codes "--schedule") then once (is_some o.schedule) (Lacks o)
-    else if bytes_eq word (codes "--dump") then once o.dump (Stands (record o { dump = true }))
+    else if bytes_eq word (codes "--dump") then once (is_some o.dump)
+    (Stands (record o { dump = Some Ram }))
     else if bytes_eq word (codes "--tables")
     then once o.tables (Stands (record o { tables = true }))
     else if bytes_eq word (codes "--counts")
@@ -67,7 +70,7 @@ plain_order manifest steps = record {
   manifest = manifest;
   steps = steps;
   schedule = None;
-  dump = false;
+  dump = None;
   tables = false;
   counts = false;
 }

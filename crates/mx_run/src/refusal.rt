@@ -3,8 +3,9 @@
 ghost use Rattle.std.specs.Prelude.{◌≡◌, [], unwrap_or};
 ghost use Rattle.mx_io.specs.Sink.{SinkState, Puts};
 ghost use Rattle.mx_run.specs.Refusal.{line_of, refused_line, fault_text, place_text, detail_text, tables_full_line, short_file_line, no_file_line, usage_line, store_fault_line, asm_fault_line};
-ghost use Rattle.mx_run.specs.Outcome.{refusal};
-ghost use Rattle.mx_run.specs.Top.{sinks, Ends};
+ghost use Rattle.mx_run.specs.Next.{refusal};
+ghost use Rattle.mx_turns.specs.Ends.{sinks};
+ghost use Rattle.mx_run.specs.Top.{Ends};
 
 use crate::status::Status;
 use mx_io::{Failed, Piece, Sink, put_all, put_pieces};

@@ -2,12 +2,13 @@
 
 ghost use Rattle.mx_io.specs.Sink.{SinkState};
 ghost use Rattle.mx_run.specs.Words.{meaning};
-ghost use Rattle.mx_run.specs.Top.{sinks, Answered, Reacts};
+ghost use Rattle.mx_turns.specs.Ends.{sinks};
+ghost use Rattle.mx_run.specs.Top.{Answered, Reacts};
 ghost use Rattle.mx_run.specs.Promise.{Headline, Completeness};
 
 use crate::assembling::write_image;
-use crate::booting::run_manifest;
 use crate::refusal::refuse;
+use crate::running::run_manifest;
 use crate::status::Status;
 use crate::words::{Asked, Words};
 use mx_io::{Sink, Store};

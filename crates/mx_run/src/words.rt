@@ -7,6 +7,7 @@ ghost use Rattle.std.specs.Str.Parse.{digits_value};
 ghost use Rattle.mx_run.specs.Asked.{order_of, request_of, parsed_of, HasFewSteps, ParsesFewSteps};
 ghost use Rattle.mx_run.specs.Words.{Stands, is_name, is_number, once, with_option, with_word, asked_by, plain_order, asm_request, run_request, meaning};
 
+use mx_turns::Dump;
 use mx_words::NoMemory;
 use std::alloc::Global;
 use std::marker::Model;
@@ -35,8 +36,8 @@ pub(crate) struct Order<'a> {
     pub steps: u64,
     /// The schedule's name.
     pub schedule: Option<&'a str>,
-    /// Whether RAM goes to the dump.
-    pub dump: bool,
+    /// What goes to the dump.
+    pub dump: Option<Dump>,
     /// Whether the report has the lines of the tables.
     pub tables: bool,
     /// Whether the report has the lines of the counts.
@@ -137,7 +138,7 @@ fn plain_order(manifest: &str, steps: u64) -> Order<'_>
         manifest,
         steps,
         schedule: None,
-        dump: false,
+        dump: None,
         tables: false,
         counts: false,
     }
@@ -200,9 +201,9 @@ fn with_option<'a>(order: Order<'a>, word: &str) -> Parse<'a>
     match word {
         "--schedule" => once(order.schedule.is_some(), Parse::Lacks(order)),
         "--dump" => once(
-            order.dump,
+            order.dump.is_some(),
             Parse::Stands(Order {
-                dump: true,
+                dump: Some(Dump::Ram),
                 ..order
             }),
         ),

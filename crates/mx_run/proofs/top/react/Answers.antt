@@ -1,7 +1,8 @@
 use Rattle.std.proofs.Common.{◌≡◌, Option, Some, subst}
 use Rattle.mx_run.specs.Asked.{order_of}
 use Rattle.mx_run.specs.Words.{Request, Run, Asm, meaning}
-use Rattle.mx_run.specs.Top.{sinks, Reacts}
+use Rattle.mx_turns.specs.Ends.{sinks}
+use Rattle.mx_run.specs.Top.{Reacts}
 use Rattle.mx_run.proofs.Continued.{reacts_some, reacts_none}
 use Rattle.mx_run.proofs.top.react.Goals as goal
 

@@ -1,0 +1,6 @@
+pub mod Closings
+pub mod Paces
+pub mod Quiet
+pub mod RunTexts
+pub mod Sinking
+pub mod TraceTexts
