@@ -13,7 +13,8 @@ use Rattle.mx_model.specs.State.{State, flat, hart_at}
 use Rattle.mx_model.proofs.ValidExample.{core, small, small-core}
 use Rattle.mx_model.proofs.Smalls.{grant, give}
 use Rattle.mx_audit.specs.Live.{is_live}
-use Rattle.mx_audit.specs.Sealed.{is_sealed, OwnHeaps, IsAudited}
+use Rattle.mx_laws.specs.OwnHeaps.{OwnHeaps}
+use Rattle.mx_audit.specs.Sealed.{is_sealed, IsAudited}
 
 abbrev small_state : State
 small_state = record {

@@ -29,7 +29,7 @@ use Rattle.mx_model.proofs.TestLaws.{first-passes, found-some}
 use Rattle.mx_model.proofs.ListLaws.{all-append, all-filter, found-passes}
 use Rattle.mx_model.proofs.ValidParts.{home-at}
 use Rattle.mx_model.proofs.TurnCases.{looked_all-caches}
-use Rattle.mx_audit.specs.Sealed.{OwnHeaps}
+use Rattle.mx_laws.specs.OwnHeaps.{OwnHeaps}
 use Rattle.mx_audit.proofs.ByteLaws.{IsOutside, put-outside, cleared-outside}
 use Rattle.mx_audit.proofs.LiveLaws.{IsClosed, Leads}
 

@@ -1,13 +1,13 @@
 -- The sealed words, which no run changes, and what an audit asks of a state.
 -- The rules: docs/MACHINE.md, "Live domains and sealed words".
-use Rattle.std.specs.Prelude.{◌≡◌, ◌≢◌, ℕ, ◌<◌, Bool, not, ◌&&◌, nat_lt, length, IsTrue}
+use Rattle.std.specs.Prelude.{◌≢◌, ℕ, ◌<◌, Bool, not, ◌&&◌, nat_lt}
 use Rattle.std.specs.List.{list_all}
 use Rattle.mx_words.specs.declared.perm.Perm.TheVariants as P
-use Rattle.mx_words.specs.Ranges.{covers}
 use Rattle.mx_words.specs.Rights.{same}
 use Rattle.mx_model.specs.Reads.{Reads, reads}
-use Rattle.mx_model.specs.State.{Core, State, module_at}
-use Rattle.mx_model.specs.Valid.{IsModule, IsValid}
+use Rattle.mx_model.specs.State.{Core, State}
+use Rattle.mx_model.specs.Valid.{IsValid}
+use Rattle.mx_laws.specs.OwnHeaps.{OwnHeaps}
 use Rattle.mx_audit.specs.Live.{IsLive, is_live, live}
 
 -- a word of RAM is sealed: its owner isn't live, and no live domain has read-write on it
@@ -25,11 +25,6 @@ abbrev pub is_sealed : Reads → Core → ℕ → Bool
 is_sealed r c word =
     nat_lt word c.size && not (is_live c (r.owner word))
     && list_all (λ d. not (same (r.perm d word) P.ReadWrite)) (live c)
-
--- each heap area belongs to its module
-abbrev pub OwnHeaps : Reads → Core → Type 0
-OwnHeaps r c = (d word : ℕ) → IsModule (length c.modules) d →
-    IsTrue (covers (module_at c d).heap.first (module_at c d).heap.count word) → r.owner word ≡ d
 
 -- an audit asks for a valid state, calls in flight or not, in which each heap area belongs to its module
 pub record IsAudited (s : State) : Type 0 where

@@ -3,8 +3,9 @@ ghost use Rattle.std.specs.Prelude.{◌≡◌, ◌↔◌, ℕ, ◌+◌, ◌*◌,
 ghost use Rattle.mx_model.specs.Reads.{Reads, reads, flat_reads};
 ghost use Rattle.mx_model.specs.Run.{Schedule, run};
 ghost use Rattle.mx_model.specs.State.{State, Core, flat};
+ghost use Rattle.mx_laws.specs.OwnHeaps.{OwnHeaps};
 ghost use Rattle.mx_audit.specs.Live.{IsLive, is_live};
-ghost use Rattle.mx_audit.specs.Sealed.{IsSealed, HasSealed, is_sealed, OwnHeaps, IsAudited};
+ghost use Rattle.mx_audit.specs.Sealed.{IsSealed, HasSealed, is_sealed, IsAudited};
 
 /// The domains that the rounds give are just the live ones.
 pub fn live_by_rounds()

@@ -16,7 +16,7 @@ use Rattle.mx_model.specs.Reads.{reads}
 use Rattle.mx_model.specs.State.{Core, Hart, State, flat, hart_at, no_hart}
 use Rattle.mx_model.specs.Valid.{IsCache, IsFlat, IsGate, IsHart, IsHome, IsValid}
 use Rattle.mx_model.proofs.ValidCaches.{cache-none}
-use Rattle.mx_audit.specs.Sealed.{OwnHeaps}
+use Rattle.mx_laws.specs.OwnHeaps.{OwnHeaps}
 use Rattle.mx_manifest.specs.declared.fault.BootFault.{BootFault}
 use Rattle.mx_manifest.specs.InRange.{IsInRange}
 use Rattle.mx_manifest.specs.Plan.{Said}

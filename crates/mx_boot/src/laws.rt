@@ -4,7 +4,7 @@ ghost use Rattle.std.specs.Prelude.{◌≡◌, ℕ, List, Ok};
 ghost use Rattle.mx_model.specs.Reads.{reads};
 ghost use Rattle.mx_model.specs.State.{State, flat};
 ghost use Rattle.mx_model.specs.Valid.{IsFlat};
-ghost use Rattle.mx_audit.specs.Sealed.{OwnHeaps};
+ghost use Rattle.mx_laws.specs.OwnHeaps.{OwnHeaps};
 ghost use Rattle.mx_manifest.specs.InRange.{IsInRange};
 ghost use Rattle.mx_manifest.specs.Plan.{Said};
 ghost use Rattle.mx_boot.specs.Boot.{boot_of};

@@ -21,7 +21,7 @@ use Rattle.mx_laws.proofs.AfterLaws.{agree-after}
 use Rattle.mx_laws.proofs.ComparisonLaws.{agrees-decides, bounded-state}
 
 -- a state: RAM's bytes, what the module is granted, and x2 and x31 of the hart, which is at the first word
-abbrev state : List ℕ → List Grant → ℕ → ℕ → State
+abbrev pub state : List ℕ → List Grant → ℕ → ℕ → State
 state ram grants x2 x31 = record {
   core = record {
     ram = ram;
@@ -42,11 +42,11 @@ state ram grants x2 x31 = record {
 }
 
 -- execute-read on the first word, read-write on the third, and nothing on the others
-abbrev closed : List Grant
+abbrev pub closed : List Grant
 closed = record { first = 0; count = 1; value = P.ExecuteRead } ∷ record { first = 2; count = 1; value = P.ReadWrite } ∷ []
 
 -- read on the second word as well
-abbrev open_to : List Grant
+abbrev pub open_to : List Grant
 open_to = closed ++ record { first = 1; count = 1; value = P.Read } ∷ []
 
 -- whether two states agree for the hart
@@ -54,7 +54,7 @@ abbrev agreeing : State → State → Bool
 agreeing s t = agrees (reads s) s.core (reads t) t.core 0
 
 -- addi x1, x1, 1 before a secret byte
-abbrev secret : ℕ → List ℕ
+abbrev pub secret : ℕ → List ℕ
 secret s = 0x93 ∷ 0x80 ∷ 0x10 ∷ 0x00 ∷ s ∷ 0 ∷ 0 ∷ 0 ∷ replicate 8 0
 
 -- two states that differ in a byte that the module may not read agree, and where it may read it they don't
@@ -65,13 +65,13 @@ read : agreeing (state (secret 7) open_to 0 0) (state (secret 8) open_to 0 0) �
 read = refl
 
 -- a state with other parts, or with another hart
-abbrev plain : State
+abbrev pub plain : State
 plain = state (secret 7) closed 0 0
 
-abbrev changed : (Core → Core) → State
+abbrev pub changed : (Core → Core) → State
 changed f = record plain { core = f plain.core }
 
-abbrev with_hart : (Hart → Hart) → State
+abbrev pub with_hart : (Hart → Hart) → State
 with_hart f = changed (λ c. record c { harts = list_map f c.harts })
 
 -- each other part that differs ends the agreement

@@ -9,3 +9,4 @@ pub mod ForeignLaws
 pub mod FrameLaws
 pub mod ComparisonLaws
 pub mod Examples
+pub mod StandingExamples

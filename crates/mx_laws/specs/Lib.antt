@@ -3,3 +3,5 @@ pub mod Twins
 pub mod Foreign
 pub mod Crossing
 pub mod Comparison
+pub mod OwnHeaps
+pub mod Standing

@@ -20,7 +20,7 @@ impl Model for Text {
 
 impl Text {
     /// A copy of a text.
-    pub(crate) fn new(alloc: Global, text: &str) -> Result<Text, NoMemory>
+    pub fn new(alloc: Global, text: &str) -> Result<Text, NoMemory>
         ensures { IfOk result (λ t. t ≡ text.now) }
     {
         match String::from_str(alloc, text) {

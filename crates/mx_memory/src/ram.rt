@@ -33,6 +33,17 @@ impl Ram {
         }
     }
 
+    /// RAM that holds these bytes, at most 2^26: a copy.
+    pub fn of(alloc: Global, bytes: &[u8]) -> Result<Ram, NoMemory>
+        requires { length bytes.now ≤ 2 ^ 26 }
+        ensures { IfOk result (λ ram. ram ≡ bytes.now) }
+    {
+        match Vec::from_slice(alloc, bytes) {
+            Ok(bytes) => Ok(Ram { bytes }),
+            Err(_) => Err(NoMemory),
+        }
+    }
+
     /// The number that the 1, 2 or 4 bytes at an address hold. The address is a multiple of the
     /// size, and the bytes lie in RAM.
     #[tactic(auto, unfolding(mx_words::specs::Bytes::number_at))]

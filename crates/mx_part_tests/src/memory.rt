@@ -59,3 +59,16 @@ fn stores_lie_little_endian(rt: HostRuntime) -> Result<(), Fail> {
     assert_eq!(rt; stored.cleared, [0x1234_0000, 0, 0x0000_0056]);
     Ok(())
 }
+
+// RAM of given bytes holds just these, and a store changes the copy alone.
+#[test]
+fn ram_of_bytes(rt: HostRuntime) -> Result<(), Fail> {
+    let bytes = [0x13, 0, 0, 0, 0xEF, 0xBE, 0xAD, 0xDE, 0, 0, 0, 0x80];
+    let mut ram = Ram::of(rt.alloc(), &bytes)?;
+    assert_eq!(rt; all_bytes(&ram), bytes);
+    assert_eq!(rt; ram.word(1), 0xDEAD_BEEF);
+    ram.store(0x8000_0004, 4, 0);
+    assert_eq!(rt; ram.word(1), 0);
+    assert_eq!(rt; bytes[4], 0xEF);
+    Ok(())
+}

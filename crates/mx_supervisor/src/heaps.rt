@@ -50,7 +50,7 @@ impl Heaps {
     }
 
     /// The first word and the number of words of a domain's heap area, (0, 0) for none. Domains count from 1.
-    pub(crate) fn area(&self, domain: u32) -> Block
+    pub fn area(&self, domain: u32) -> Block
         requires { 1 ≤ domain }
         ensures { area_of result ≡ (heap_at self.now domain).area }
     {

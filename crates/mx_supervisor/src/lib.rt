@@ -14,4 +14,4 @@ mod words;
 pub use answer::Answer;
 pub use heaps::{Heaps, heaps_of};
 pub use supervisor::Supervisor;
-pub use words::is_announced;
+pub use words::{announced_range, is_announced};

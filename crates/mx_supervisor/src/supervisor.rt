@@ -17,7 +17,7 @@ ghost use Rattle.mx_supervisor.specs.Answers.{is_refusal};
 
 use crate::answer::Refusal;
 use crate::service::Service;
-use crate::words::{is_announced, names_range};
+use crate::words::{announced_range, is_announced};
 use crate::{Answer, Heaps};
 use mx_check::{Checker, flights_of};
 use mx_gates::Gates;
@@ -26,7 +26,6 @@ use mx_memory::Ram;
 use mx_model::{Call, Events, Gate};
 use mx_owners::Owners;
 use mx_table::PermTables;
-use mx_words::word_range;
 
 /// The checker of all accesses, RAM, the owners of its words, the gates, and one heap per module, an empty one where a module has
 /// none. Checker, RAM and owners have the same number of words.
@@ -92,13 +91,9 @@ impl<T: PermTables, const N: usize> Supervisor<T, N> {
             ≡ range_of (parts_of T.kind T.maps T.size T.limits N self.now) call.now }
         ensures within { IsWithin result.0 result.1 (T.size self.now.checker.tables) }
     {
-        if names_range(call.number) {
-            let [addr, size, _, _] = call.args;
-            word_range(addr, size, self.checker.tables().words()).unwrap_or((0, 0))
-        } else {
-            let area = self.heaps.area(call.domain);
-            (area.first, area.count)
-        }
+        let [addr, size, _, _] = call.args;
+        let words = self.checker.tables().words();
+        announced_range(call.number, addr, size, words, self.heaps.area(call.domain))
     }
 
     /// Serves a call (docs/MACHINE.md, "Supervisor calls"). A call 3, 4, 6 or 7 was announced with its range and is ready, and is

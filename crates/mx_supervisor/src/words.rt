@@ -1,11 +1,11 @@
 //! Tests of calls, each as the model's.
-ghost use Rattle.std.specs.Prelude.{◌≡◌, ℕ, ◌+◌, ◌<◌, ◌≤◌, ◌==◌, ◌↔◌, not, ◌&&◌, ◌||◌, IfSome, IsTrue, is_some, length, slice_index};
+ghost use Rattle.std.specs.Prelude.{◌≡◌, ℕ, ◌+◌, ◌^◌, ◌<◌, ◌≤◌, ◌==◌, ◌↔◌, true, not, ◌&&◌, ◌||◌, IfSome, IsTrue, is_some, length, slice_index};
 ghost use Rattle.std.specs.Option.{option_map};
 ghost use Rattle.mx_words.specs.Ranges.{address_of};
 ghost use Rattle.mx_heap.specs.HeapState.{LiesIn};
 ghost use Rattle.mx_model.specs.Checks.{arg};
 ghost use Rattle.mx_supervisor.specs.Heaps.{heap_at};
-ghost use Rattle.mx_words.specs.Announced.{is_announced, names_range};
+ghost use Rattle.mx_words.specs.Announced.{announced, is_announced, names_range};
 ghost use Rattle.mx_table.specs.Tables.{IsDomain};
 ghost use Rattle.mx_model.specs.Serve.{arg_range, no_range, is_word, arg_word, owns, freed_count};
 ghost use Rattle.mx_model.specs.Reads.{flat_reads};
@@ -13,6 +13,7 @@ ghost use Rattle.mx_model.specs.State.{Core, is_module};
 ghost use Rattle.mx_supervisor.specs.Parts.{parts_of, core_of, flat_of, IsSound};
 
 use crate::Supervisor;
+use mx_heap::Block;
 use mx_model::Call;
 use mx_table::PermTables;
 use mx_words::{word_of, word_range};
@@ -29,6 +30,21 @@ pub fn names_range(number: u32) -> bool
     ensures { result ≡ names_range number }
 {
     number == 3 || number == 4
+}
+
+/// The range that an announced call may change, in a RAM of `words` words, at most 2^24: the first word and the number of words.
+/// For calls 3 and 4 it is the range of a0 and a1, (0, 0) where that is no range; for calls 6 and 7 the caller's heap area. The
+/// number is one of these (docs/MACHINE.md, "Announced calls").
+pub fn announced_range(number: u32, a0: u32, a1: u32, words: u32, heap: Block) -> (u32, u32)
+    requires announced { is_announced number ≡ true }
+    requires words { words ≤ 2 ^ 24 }
+    ensures { result ≡ announced number a0 a1 words (heap.first, heap.count) }
+{
+    if names_range(number) {
+        word_range(a0, a1, words).unwrap_or((0, 0))
+    } else {
+        (heap.first, heap.count)
+    }
 }
 
 impl<T: PermTables, const N: usize> Supervisor<T, N> {

@@ -1,7 +1,8 @@
 use Rattle.std.proofs.Common.{sym, subst}
 use Rattle.mx_model.specs.Reads.{Reads}
 use Rattle.mx_model.proofs.FlatLaws.{reads-flat}
-use Rattle.mx_audit.specs.Sealed.{IsSealed, OwnHeaps}
+use Rattle.mx_laws.specs.OwnHeaps.{OwnHeaps}
+use Rattle.mx_audit.specs.Sealed.{IsSealed}
 use Rattle.mx_audit.proofs.laws.audit_of_a_flat_state.Goals as goal
 
 pub returns-clause-sealed : goal.returns-clause-sealed
