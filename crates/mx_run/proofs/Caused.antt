@@ -87,8 +87,8 @@ module _ (side : Side) (name : List ℕ) (rest : Rest) (each : (plan : Said) (s 
 
 shape_request : (asked : Option Request) → Shaped (next asked)
 shape_request None = shape_end (refusal [] Usage)
-shape_request (Some (Run o)) =
-    shape_boot First o.manifest (λ plan s. scheduled plan.quantum (run_of o (kept_of plan) s) o.schedule) (λ plan s. shape_run plan.quantum (run_of o (kept_of plan) s) o.schedule)
+shape_request (Some (Go o)) =
+    shape_boot First o.file (λ plan s. scheduled plan.quantum (run_of o (kept_of plan) s) o.schedule) (λ plan s. shape_run plan.quantum (run_of o (kept_of plan) s) o.schedule)
 shape_request (Some (Asm source)) = shape_file (source_file source) (λ bytes more. End (assembled source bytes)) (λ bytes. shape_end (assembled source bytes))
 
 -- the images of modules are those of their files

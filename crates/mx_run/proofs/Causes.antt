@@ -18,7 +18,7 @@ use Rattle.mx_image.specs.Image.{image_of}
 use Rattle.mx_asm.specs.Denoted.{program_of, first_fault}
 use Rattle.mx_run.specs.declared.status.Status.{Status}
 use Rattle.mx_run.specs.declared.status.Status.TheVariants.{Ran, Usage, StoreFault, ShortFile, NoFile, AsmFault}
-use Rattle.mx_run.specs.Words.{Request, Run, Asm}
+use Rattle.mx_run.specs.Words.{Request, Go, Asm}
 use Rattle.mx_run.specs.Manifest.{judged}
 use Rattle.mx_run.specs.Finding.{Finding, Absent, Large, Short, Broken, Whole, Finds}
 use Rattle.mx_run.specs.Next.{Outcome, Wanted, Next, Read, End, refusal, lack_of, after_file}
@@ -326,13 +326,13 @@ module _ (asked : Option Request) (answers : List Answer) where
 -- where what is asked ends, the last file isn't whole, or what was found says how
 abbrev OfRequest : Option Request → List Finding → Status → Type 0
 OfRequest None found status = (found ≡ []) × (status ≡ Usage)
-OfRequest (Some (Run o)) found status = OfBoot First (λ plan s. OfRun) found status
+OfRequest (Some (Go o)) found status = OfBoot First (λ plan s. OfRun) found status
 OfRequest (Some (Asm source)) found status = (bytes : List ℕ) × (others : List Finding) × (found ≡ Whole bytes ∷ others) × OfSource source bytes others status
 
 by_request : (asked : Option Request) → Caused (next asked) (OfRequest asked)
 by_request None = by_end (refusal [] Usage)
-by_request (Some (Run o)) =
-    by_boot First o.manifest (λ plan s. scheduled plan.quantum (run_of o (kept_of plan) s) o.schedule) (λ plan s. OfRun)
+by_request (Some (Go o)) =
+    by_boot First o.file (λ plan s. scheduled plan.quantum (run_of o (kept_of plan) s) o.schedule) (λ plan s. OfRun)
     (λ plan s. by_run plan.quantum (run_of o (kept_of plan) s) (λ schedule. refl) o.schedule)
 by_request (Some (Asm source)) =
     by_file (source_file source) (λ bytes more. End (assembled source bytes)) (OfSource source) (inr (0, 11, refl)) (λ bytes. by_end (assembled source bytes))
@@ -341,9 +341,9 @@ cause_of_request : (asked : Option Request) (answers : List Answer) (found : Lis
     → Cause asked answers status
 cause_of_request None answers found status f own =
     subst (Cause None answers) (sym own.1) (refl, subst (λ (found : List Finding). FindsAll (next None) answers found) own.0 f)
-cause_of_request (Some (Run o)) answers found status f own =
-    let boots : BootsAfter (Some (Run o)) [] First o.manifest = record { rest = λ plan s. scheduled plan.quantum (run_of o (kept_of plan) s) o.schedule; goes = λ more. refl } in
-    cause_of_boot (Some (Run o)) answers [] First o.manifest boots (λ plan s. OfRun) (λ plan s more status ran. subst (Cause (Some (Run o)) answers) (sym ran) tt) found found refl f status own
+cause_of_request (Some (Go o)) answers found status f own =
+    let boots : BootsAfter (Some (Go o)) [] First o.file = record { rest = λ plan s. scheduled plan.quantum (run_of o (kept_of plan) s) o.schedule; goes = λ more. refl } in
+    cause_of_boot (Some (Go o)) answers [] First o.file boots (λ plan s. OfRun) (λ plan s more status ran. subst (Cause (Some (Go o)) answers) (sym ran) tt) found found refl f status own
 cause_of_request (Some (Asm source)) answers found status f own = cause_of_source (Some (Asm source)) answers source refl own.0 own.1 found own.2 f status own.3
 
 -- answers lead to a status only by its cause

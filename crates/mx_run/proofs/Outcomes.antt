@@ -11,7 +11,7 @@ use Rattle.mx_snapshot.specs.Kept.{kept_of}
 use Rattle.mx_run.specs.declared.side.Side.{Side}
 use Rattle.mx_run.specs.declared.side.Side.TheVariants.{First}
 use Rattle.mx_run.specs.declared.status.Status.TheVariants.{Usage, StoreFault, ShortFile, NoFile}
-use Rattle.mx_run.specs.Words.{Request, Run, Asm}
+use Rattle.mx_run.specs.Words.{Request, Go, Asm}
 use Rattle.mx_run.specs.Manifest.{judged}
 use Rattle.mx_run.specs.Finding.{Finding, Absent, Large, Short, Broken, Whole, found_in}
 use Rattle.mx_run.specs.Next.{Outcome, Wanted, Next, End, refusal, after_file}
@@ -71,8 +71,8 @@ module _ (files : FileMap) where
 
   by_request : (asked : Option Request) → HasOutcome (next asked)
   by_request None = (refusal [] Usage, (0, refl))
-  by_request (Some (Run o)) =
-      by_boot First o.manifest (λ plan s. scheduled plan.quantum (run_of o (kept_of plan) s) o.schedule) (λ plan s. by_schedule plan.quantum (run_of o (kept_of plan) s) o.schedule)
+  by_request (Some (Go o)) =
+      by_boot First o.file (λ plan s. scheduled plan.quantum (run_of o (kept_of plan) s) o.schedule) (λ plan s. by_schedule plan.quantum (run_of o (kept_of plan) s) o.schedule)
   by_request (Some (Asm source)) =
       by_file (source_file source) (λ bytes more. End (assembled source bytes)) (λ bytes. (assembled source bytes, (0, refl)))
 

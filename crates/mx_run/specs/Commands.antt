@@ -1,5 +1,5 @@
 -- What each command does, by what was found of the files that it read.
-use Rattle.std.specs.Prelude.{ℕ, if◌then◌else◌, List, [], ◌∷◌, Option, Some, None}
+use Rattle.std.specs.Prelude.{ℕ, if◌then◌else◌, List, [], ◌∷◌, Option, Some, None, unwrap_or}
 use Rattle.std.specs.Str.{is_utf8}
 use Rattle.mx_model.specs.Run.{Schedule, ByQuantum, ByBytes}
 use Rattle.mx_model.specs.State.{State}
@@ -10,12 +10,15 @@ use Rattle.mx_image.specs.Image.{image_of}
 use Rattle.mx_asm.specs.Denoted.{program_of, first_fault}
 use Rattle.mx_report.specs.declared.closing.Options.{Options}
 use Rattle.mx_snapshot.specs.Kept.{KeptPlan, kept_of}
-use Rattle.mx_turns.specs.Ends.{still}
+use Rattle.mx_turns.specs.Ends.{Texts, still}
 use Rattle.mx_turns.specs.Runs.{ran}
+use Rattle.mx_turns.specs.Tracing.{traced}
 use Rattle.mx_run.specs.declared.side.Side.TheVariants.{First}
 use Rattle.mx_run.specs.declared.status.FileRole.TheVariants.{Schedule as ScheduleRole, Source}
 use Rattle.mx_run.specs.declared.status.Status.TheVariants.{Ran, Usage, AsmFault}
-use Rattle.mx_run.specs.Words.{Order, Request, Run, Asm}
+use Rattle.mx_run.specs.Words.{Order, Request, Go, Asm}
+use Rattle.mx_run.specs.declared.order.Way.{Way}
+use Rattle.mx_run.specs.declared.order.Way.TheVariants as way
 use Rattle.mx_run.specs.Finding.{Finding}
 use Rattle.mx_run.specs.Next.{Outcome, Wanted, Next, End, after_file, refusal, text_limit, file_limit}
 use Rattle.mx_run.specs.Boots.{size_fault, refused_by, after_boot}
@@ -47,12 +50,13 @@ scheduled quantum made (Some name) found =
 abbrev pub options_of : Order → Options
 options_of o = record { tables = o.tables; counts = o.counts }
 
--- a run by a schedule, from a state
+-- the texts of a run by a schedule, from a state
+abbrev pub texts_of : Order → Way → KeptPlan → State → Schedule → Texts
+texts_of o way.Run kept s schedule = ran kept (options_of o) o.dump o.steps schedule s
+texts_of o way.Trace kept s schedule = traced (unwrap_or o.from 0) o.steps schedule s
+
 abbrev pub run_of : Order → KeptPlan → State → Schedule → Outcome
-run_of o kept s schedule = record {
-  status = Ran;
-  texts = ran kept (options_of o) o.dump o.steps schedule s;
-}
+run_of o kept s schedule = record { status = Ran; texts = texts_of o o.way kept s schedule }
 
 -- the bytes of an image go to the console
 abbrev pub written_image : List ℕ → Outcome
@@ -77,7 +81,7 @@ assembled source bytes =
 -- what the program does next, by what the words ask and what was found of the files read so far, the first of them first
 abbrev pub next : Option Request → List Finding → Next
 next None found = End (refusal [] Usage)
-next (Some (Run o)) found = after_boot First o.manifest
+next (Some (Go o)) found = after_boot First o.file
     (λ plan s. scheduled plan.quantum (run_of o (kept_of plan) s) o.schedule) found
 next (Some (Asm source)) found = after_file (source_file source)
     (λ bytes more. End (assembled source bytes)) found

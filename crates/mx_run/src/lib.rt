@@ -5,6 +5,7 @@ mod assembling;
 mod booting;
 mod laws;
 mod manifest;
+mod order;
 mod program;
 mod reading;
 mod refusal;

@@ -1,30 +1,30 @@
-//! The command `run`: a machine boots, makes its turns, and writes its texts.
+//! The commands `run` and `trace`: a machine boots, makes its turns, and writes its texts.
 
-ghost use Rattle.std.specs.Prelude.{◌≡◌, ◌<◌, ◌^◌, Some, IfOk, map};
+ghost use Rattle.std.specs.Prelude.{◌≡◌, ◌<◌, ◌^◌, Some, IfOk, map, unwrap_or};
 ghost use Rattle.std.specs.Option.{option_copied};
 ghost use Rattle.mx_boot.specs.Machines.{meaning};
 ghost use Rattle.mx_model.specs.State.{State, flat};
 ghost use Rattle.mx_snapshot.specs.Kept.{kept_of};
-ghost use Rattle.mx_turns.specs.Ends.{sinks};
-ghost use Rattle.mx_turns.specs.Runs.{IsOfPlan, ran};
+ghost use Rattle.mx_turns.specs.Ends.{Leave, sinks};
+ghost use Rattle.mx_turns.specs.Runs.{IsOfPlan};
 ghost use Rattle.mx_turns.specs.Running.{schedule_of, HasTurns, IsNew};
 ghost use Rattle.mx_run.specs.Asked.{order_of};
 ghost use Rattle.mx_run.specs.Booting.{TakesSchedule, schedule_bytes};
-ghost use Rattle.mx_run.specs.Commands.{next, options_of, run_of, scheduled};
+ghost use Rattle.mx_run.specs.Commands.{next, options_of, run_of, scheduled, texts_of};
 ghost use Rattle.mx_run.specs.Top.{fault_of, Ends, Continues};
-ghost use Rattle.mx_run.specs.Words.{Run};
+ghost use Rattle.mx_run.specs.Words.{Go};
 
 use crate::booting::{Booted, take_boot};
 use crate::side::Side;
 use crate::status::Status;
 use crate::wanted::{schedule_file, take_file};
-use crate::words::Order;
+use crate::order::{Order, Way};
 use mx_boot::AnyMachine;
 use mx_io::{Sink, Store};
 use mx_manifest::Plan;
 use mx_report::Options;
 use mx_snapshot::Kept;
-use mx_turns::{Schedule, SinkFault, Task, make_run};
+use mx_turns::{Schedule, SinkFault, Task, TraceTask, make_run, make_trace};
 use mx_words::NoMemory;
 use std::alloc::Global;
 
@@ -38,11 +38,11 @@ pub(crate) fn run_manifest<S: Store, C: Sink, R: Sink, D: Sink>(
     dump: &mut D,
 ) -> Status
     requires { order.now.steps < 10 ^ 10 }
-    ensures { Continues (next (Some (Run (order_of order.now)))) S.gives store.old store.new
+    ensures { Continues (next (Some (Go (order_of order.now)))) S.gives store.old store.new
         (sinks (C.state console.old) (R.state report.old) (D.state dump.old))
         (sinks (C.state console.new) (R.state report.new) (D.state dump.new)) result }
 {
-    match take_boot(alloc, Side::First, order.manifest, store, report) {
+    match take_boot(alloc, Side::First, order.file, store, report) {
         Ok(Booted { plan, mut machine }) => {
             let status = match keep(alloc, plan) {
                 Ok(kept) => run_booted(
@@ -161,7 +161,46 @@ fn run_by<C: Sink, R: Sink, D: Sink>(
         (sinks (C.state console.old) (R.state report.old) (D.state dump.old))
         (sinks (C.state console.new) (R.state report.new) (D.state dump.new)) result }
 {
-    let task = Task {
+    match make_by(order, kept, names, machine, schedule, console, report, dump) {
+        Ok(()) => Status::Ran,
+        Err(fault) => fault_of(fault),
+    }
+}
+
+// Makes the turns of a run of the order's way, and writes its texts.
+fn make_by<C: Sink, R: Sink, D: Sink>(
+    order: &Order<'_>,
+    kept: &Kept,
+    names: &[&str],
+    machine: &mut AnyMachine,
+    schedule: Schedule<'_>,
+    console: &mut C,
+    report: &mut R,
+    dump: &mut D,
+) -> Result<(), SinkFault>
+    requires few { order.now.steps < 10 ^ 10 }
+    requires names { map (λ name. name.now) names.now ≡ kept.now.names }
+    requires quantum { HasTurns schedule }
+    requires plan { IsOfPlan kept.now (meaning machine.old) }
+    requires unmoved { (meaning machine.old).core.turns ≡ 0 }
+    ensures { (s : State) → IsNew s → meaning machine.old ≡ flat s →
+        Leave (texts_of (order_of order.now) order.now.way kept.now s (schedule_of schedule.entry))
+        (sinks (C.state console.old) (R.state report.old) (D.state dump.old))
+        (sinks (C.state console.new) (R.state report.new) (D.state dump.new)) result }
+{
+    match order.way {
+        Way::Run => make_run(&task_of(order, schedule), kept, names, machine, console, report, dump),
+        Way::Trace => make_trace(&trace_of(order, schedule), machine, console, report),
+    }
+}
+
+fn task_of<'a>(order: &Order<'_>, schedule: Schedule<'a>) -> Task<'a>
+    ensures steps { result.steps ≡ order.now.steps }
+    ensures schedule { result.schedule ≡ schedule.entry }
+    ensures options { result.options ≡ options_of (order_of order.now) }
+    ensures dump { result.dump ≡ order.now.dump }
+{
+    Task {
         steps: order.steps,
         schedule,
         options: Options {
@@ -169,10 +208,18 @@ fn run_by<C: Sink, R: Sink, D: Sink>(
             counts: order.counts,
         },
         dump: order.dump,
-    };
-    match make_run(&task, kept, names, machine, console, report, dump) {
-        Ok(()) => Status::Ran,
-        Err(fault) => fault_of(fault),
+    }
+}
+
+fn trace_of<'a>(order: &Order<'_>, schedule: Schedule<'a>) -> TraceTask<'a>
+    ensures steps { result.steps ≡ order.now.steps }
+    ensures schedule { result.schedule ≡ schedule.entry }
+    ensures from { result.from ≡ unwrap_or order.now.from 0 }
+{
+    TraceTask {
+        steps: order.steps,
+        schedule,
+        from: order.from.unwrap_or(0),
     }
 }
 

@@ -59,7 +59,7 @@ fn react<S: Store, C: Sink, R: Sink, D: Sink>(
         (sinks (C.state console.new) (R.state report.new) (D.state dump.new)) result }
 {
     match words.asked() {
-        Some(Asked::Run(order)) => run_manifest(alloc, &order, store, console, report, dump),
+        Some(Asked::Go(order)) => run_manifest(alloc, &order, store, console, report, dump),
         Some(Asked::Asm(source)) => write_image(alloc, source, store, console, report),
         None => refuse(report, "", Status::Usage),
     }
