@@ -4,3 +4,4 @@ pub mod SinkLaws
 pub mod Talks
 pub mod Text
 pub mod Puts
+pub mod Names

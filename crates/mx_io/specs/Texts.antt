@@ -1,15 +1,16 @@
 -- What a sink that tells its bytes holds after a text was put on it.
-use Rattle.std.specs.Prelude.{◌≡◌, ℕ, List, ◌++◌, take, Option, None, Some}
+use Rattle.std.specs.Prelude.{ℕ, ◌<◌, List, length, take, Option}
+use Rattle.std.specs.Io.KnownBytes.{Appends}
 
--- the bytes written, then these, where the bytes written are told
-unfoldable pub appended : Option (List ℕ) → List ℕ → Option (List ℕ)
-appended None bytes = None
-appended (Some written) bytes = Some (written ++ bytes)
-
--- the text was appended whole
-abbrev pub AppendsWhole : Option (List ℕ) → Option (List ℕ) → List ℕ → Type 0
-AppendsWhole before now text = now ≡ appended before text
+-- the text was appended whole, where the bytes before it are told
+pub record AppendsWhole (before now : Option (List ℕ)) (text : List ℕ) : Type 0 where
+  pub grows : Appends before now text
 
 -- a prefix of the text was appended
 abbrev pub AppendsPrefix : Option (List ℕ) → Option (List ℕ) → List ℕ → Type 0
-AppendsPrefix before now text = (n : ℕ) × (now ≡ appended before (take n text))
+AppendsPrefix before now text = (n : ℕ) × AppendsWhole before now (take n text)
+
+-- a prefix of the text was appended that isn't the whole text
+abbrev pub AppendsFront : Option (List ℕ) → Option (List ℕ) → List ℕ → Type 0
+AppendsFront before now text =
+    (n : ℕ) × (n < length text) × AppendsWhole before now (take n text)

@@ -3,6 +3,7 @@
 
 mod bytes;
 mod calls;
+mod dump;
 mod faults;
 mod files;
 mod folder;
@@ -15,13 +16,14 @@ mod store;
 mod streams;
 
 pub use bytes::Bytes;
+pub use dump::{DumpFile, FileSink, Maker, Untold};
 pub use files::Files;
-pub use folder::FolderStore;
+pub use folder::{Entry, Folder, FolderStore, HostFile, HostFolder, Placed};
 pub use loose::Loose;
-pub use piece::{Piece, hex_digits, hex_number, put_pieces};
+pub use piece::{Piece, hex_digits, hex_number, put_pieces, shown_character};
 pub use sink::{Sink, put_all};
 pub use store::Store;
-pub use streams::{FileSink, StderrSink, StdoutSink};
+pub use streams::{StderrSink, StdoutSink};
 
 /// A call of a store or a sink failed. Comes only where the count of faults of that object rose in the call.
 #[derive(Clone, Copy, PartialEq, Eq, Debug)]

@@ -1,7 +1,8 @@
 //! Lines put together from pieces of text, without taking memory.
 ghost use Rattle.std.specs.Prelude.{◌≡◌, ◌<◌};
 ghost use Rattle.mx_io.specs.Sink.{Puts};
-ghost use Rattle.mx_io.specs.Piece.{hex_digit, hex_digits, hex_number, piece_text, pieces_text};
+ghost use Rattle.std.specs.Char.{encode_utf8};
+ghost use Rattle.mx_io.specs.Piece.{shown_character, shown_name, hex_digit, hex_digits, hex_number, piece_text, pieces_text};
 
 use crate::{Failed, Sink, put_all};
 use itoa::Buffer;
@@ -11,6 +12,8 @@ use itoa::Buffer;
 pub enum Piece<'a> {
     /// The text as it stands.
     Text(&'a str),
+    /// A name, with `?` in place of each control character: U+0000 to U+001F and U+007F to U+009F.
+    Name(&'a str),
     /// The number in decimal, without leading zeros.
     Number(u64),
     /// The number in decimal, without leading zeros, after a minus sign where it is below 0.
@@ -36,10 +39,40 @@ fn put_piece<S: Sink>(sink: &mut S, piece: &Piece<'_>) -> Result<(), Failed>
 {
     match *piece {
         Piece::Text(text) => put_all(sink, text.as_bytes()),
+        Piece::Name(name) => put_name(sink, name),
         Piece::Number(number) => put_all(sink, Buffer::new().format(number).as_bytes()),
         Piece::Signed(number) => put_all(sink, Buffer::new().format(number).as_bytes()),
         Piece::Hex(number) => put_all(sink, &hex_number(number)),
         Piece::Digits(number) => put_all(sink, &hex_digits(number)),
+    }
+}
+
+fn put_name<S: Sink>(sink: &mut S, name: &str) -> Result<(), Failed>
+    ensures { Puts (S.state sink.old) (S.state sink.new) (shown_name name.now) result }
+{
+    for character in name.chars() {
+        put_character(sink, character)?;
+    }
+    Ok(())
+}
+
+fn put_character<S: Sink>(sink: &mut S, character: char) -> Result<(), Failed>
+    ensures { Puts (S.state sink.old) (S.state sink.new) (encode_utf8 (shown_character character)) result }
+{
+    put_all(
+        sink,
+        shown_character(character).encode_utf8(&mut [0; 4]).as_bytes(),
+    )
+}
+
+/// A character as a name shows it: `?` in place of a control character.
+pub fn shown_character(character: char) -> char
+    ensures { result ≡ shown_character character }
+{
+    if character.is_control() {
+        '?'
+    } else {
+        character
     }
 }
 

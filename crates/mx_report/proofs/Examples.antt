@@ -12,7 +12,7 @@ use Rattle.mx_model.specs.State.{Hart, State, Status, Running, Waiting, Halted, 
 use Rattle.mx_report.specs.declared.lines.EndState.TheVariants as E
 use Rattle.mx_report.specs.Lines.{fault_line, exit_line, note_line, end_line, hart_text, register_text, registers_line, view_lines, hart_lines, domain_head, map_line, owner_line, tables_line, shown_line, counts_text}
 use Rattle.mx_report.specs.Texts.{map_lines, domain_lines, owner_lines, shown_lines, all_items, table_lines, counts_lines, all_harts, all_domains, asked_lines, closing_of, closing}
-use Rattle.mx_report.specs.Tail.{sent, held}
+use Rattle.mx_tail.specs.Tail.{sent, held}
 
 -- notes: a store into code, and an exit
 fault-shown : note_line (N.Fault 2 0 1 0x80000004 (record { cause = 7; value = 0x80000000 }))

@@ -1,5 +1,3 @@
-pub mod TailLaws
-pub mod PassLaws
 pub mod RunTexts
 pub mod MapLaws
 pub mod ItemLaws

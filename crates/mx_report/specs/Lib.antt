@@ -1,4 +1,3 @@
-pub mod Tail
 pub mod Lines
 pub mod Runs
 pub mod Texts

@@ -1,7 +1,7 @@
 //! The closing lines of a run's report.
 ghost use Rattle.std.specs.Prelude.{◌≡◌, ℕ, List, length, map};
 ghost use Rattle.mx_model.specs.State.{State, flat};
-ghost use Rattle.mx_report.specs.Tail.{Passes};
+ghost use Rattle.mx_tail.specs.Tail.{Passes};
 ghost use Rattle.mx_report.specs.Texts.{all_harts, all_domains, asked_lines, closing, flat_closing, flat_told, tables_asked, counts_asked};
 ghost use Rattle.mx_report.specs.declared.lines.EndState.{EndState as End};
 ghost use Rattle.mx_report.specs.declared.closing.Options.{Options as Asked};

@@ -1,11 +1,11 @@
 //! Lines of notes, of the end and of harts.
-ghost use Rattle.std.specs.Prelude.{◌≡◌, flat_map};
+ghost use Rattle.std.specs.Prelude.{◌≡◌, ◌<◌, length, flat_map};
 ghost use Rattle.mx_io.specs.Sink.{Puts};
-ghost use Rattle.mx_report.specs.Tail.{Passes};
+ghost use Rattle.mx_tail.specs.Tail.{Passes, piece_bytes};
 ghost use Rattle.mx_report.specs.Lines.{fault_line, exit_line, note_line, end_name, end_line, status_name, hart_text, register_text, registers_line, view_lines};
 
 use crate::Tail;
-use crate::gathered::put_pieces;
+use crate::put_pieces;
 use mx_io::{Failed, Piece, Sink};
 use mx_machine::{HartStatus, HartView};
 use mx_model::{Fault, Note};
@@ -82,8 +82,9 @@ pub fn hart_lines<R: Sink>(sink: &mut R, hart: u32, view: &HartView) -> Result<(
 
 /// Puts the line of a note through a buffer.
 pub fn put_note<R: Sink>(tail: &mut Tail, sink: &mut R, note: &Note) -> Result<(), Failed>
-    ensures { Passes tail.old (R.state sink.old) (R.state sink.new) tail.new
+    ensures passes { Passes tail.old (R.state sink.old) (R.state sink.new) tail.new
         (note_line note.now) result }
+    ensures few { length tail.new < piece_bytes }
 {
     match *note {
         Note::Fault {
@@ -112,8 +113,9 @@ fn put_fault<R: Sink>(
     pc: u32,
     fault: &Fault,
 ) -> Result<(), Failed>
-    ensures { Passes tail.old (R.state sink.old) (R.state sink.new) tail.new
+    ensures passes { Passes tail.old (R.state sink.old) (R.state sink.new) tail.new
         (fault_line step hart domain pc fault.now) result }
+    ensures few { length tail.new < piece_bytes }
 {
     put_pieces(
         tail,
@@ -145,8 +147,9 @@ fn put_exit<R: Sink>(
     domain: u32,
     code: u32,
 ) -> Result<(), Failed>
-    ensures { Passes tail.old (R.state sink.old) (R.state sink.new) tail.new
+    ensures passes { Passes tail.old (R.state sink.old) (R.state sink.new) tail.new
         (exit_line step hart domain code) result }
+    ensures few { length tail.new < piece_bytes }
 {
     put_pieces(
         tail,
@@ -175,15 +178,17 @@ fn end_name(state: EndState) -> &'static str
     }
 }
 
+/// Puts the end line through a buffer, as `end_line`: for a report that ends without the other closing lines.
 #[tactic(auto, unfolding(crate::specs::Lines::end_line))]
-pub(crate) fn put_end<R: Sink>(
+pub fn put_end<R: Sink>(
     tail: &mut Tail,
     sink: &mut R,
     steps: u64,
     state: EndState,
 ) -> Result<(), Failed>
-    ensures { Passes tail.old (R.state sink.old) (R.state sink.new) tail.new
+    ensures passes { Passes tail.old (R.state sink.old) (R.state sink.new) tail.new
         (end_line steps state) result }
+    ensures few { length tail.new < piece_bytes }
 {
     put_pieces(
         tail,

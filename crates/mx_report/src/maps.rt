@@ -5,13 +5,14 @@ ghost use Rattle.mx_words.specs.Ranges.{most_words};
 ghost use Rattle.mx_words.specs.Rights.{same};
 ghost use Rattle.mx_model.specs.State.{module_at};
 ghost use Rattle.mx_model.specs.Valid.{IsModule};
-ghost use Rattle.mx_report.specs.Tail.{Passes};
+ghost use Rattle.mx_tail.specs.Tail.{Passes};
 ghost use Rattle.mx_report.specs.Lines.{dead_text, domain_head, permission_name, map_line, map_text};
 ghost use Rattle.mx_report.specs.Runs.{IsRun};
 ghost use Rattle.mx_report.specs.Texts.{domain_lines, domain_map, map_lines};
 
 use crate::Tail;
-use crate::gathered::{address, put_pieces};
+use crate::put_pieces;
+use crate::words::address;
 use mx_io::{Failed, Piece, Sink};
 use mx_machine::{Machine, machine_is_valid};
 use mx_table::PermTables;

@@ -2,12 +2,13 @@
 ghost use Rattle.std.specs.Prelude.{◌≡◌, ◌≤◌};
 ghost use Rattle.mx_io.specs.Sink.{Puts};
 ghost use Rattle.mx_words.specs.Ranges.{most_words};
-ghost use Rattle.mx_report.specs.Tail.{Passes};
+ghost use Rattle.mx_tail.specs.Tail.{Passes};
 ghost use Rattle.mx_report.specs.Lines.{owner_line, owner_text};
 ghost use Rattle.mx_report.specs.Texts.{owner_lines};
 
 use crate::Tail;
-use crate::gathered::{address, put_pieces};
+use crate::put_pieces;
+use crate::words::address;
 use mx_io::{Failed, Piece, Sink};
 use mx_machine::{Machine, machine_is_valid};
 use mx_table::PermTables;

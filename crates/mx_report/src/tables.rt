@@ -4,12 +4,13 @@ ghost use Rattle.mx_io.specs.Sink.{Puts};
 ghost use Rattle.mx_words.specs.Caches.{Cache};
 ghost use Rattle.mx_words.specs.Ranges.{most_words};
 ghost use Rattle.mx_model.specs.Valid.{IsModule};
-ghost use Rattle.mx_report.specs.Tail.{Passes};
+ghost use Rattle.mx_tail.specs.Tail.{Passes};
 ghost use Rattle.mx_report.specs.Lines.{kind_name, tables_line, level_name, shown_line, counts_text};
 ghost use Rattle.mx_report.specs.Texts.{all_items, counts_lines, domain_map, flat_told, has_rights, shown_lines, shown_text, table_lines};
 
 use crate::Tail;
-use crate::gathered::{address, put_pieces};
+use crate::put_pieces;
+use crate::words::address;
 use crate::maps::differ;
 use mx_check::Counts;
 use mx_io::{Failed, Piece, Sink};

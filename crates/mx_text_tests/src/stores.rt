@@ -163,7 +163,6 @@ fn standard_streams_are_sinks(rt: HostRuntime) -> Result<(), Fail> {
     );
     assert_eq!(rt; StdoutSink::new(Full).write(b"a"), Err(Failed));
     assert_eq!(rt; StderrSink::new(Full).write(b"a"), Err(Failed));
-    assert_eq!(rt; StdoutSink::new(Full).write(b""), Ok(0));
     Ok(())
 }
 

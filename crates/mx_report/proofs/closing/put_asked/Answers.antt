@@ -1,6 +1,6 @@
 use Rattle.std.proofs.lemmas.Result.{err_from_is_err_and}
 use Rattle.mx_report.specs.Texts.{asked_lines}
-use Rattle.mx_report.proofs.PassLaws.{passes_next, passes_stop, passes_last}
+use Rattle.mx_tail.proofs.PassLaws.{passes_next, passes_stop, passes_last}
 use Rattle.mx_report.proofs.closing.put_asked.Goals as goal
 
 pub returns-in_err-put_asked_tables : goal.returns-in_err-put_asked_tables

@@ -1,4 +1,4 @@
-use Rattle.mx_report.proofs.PassLaws.{passes_nothing}
+use Rattle.mx_tail.proofs.PassLaws.{passes_nothing}
 use Rattle.mx_report.proofs.closing.put_asked_counts.Goals as goal
 
 pub returns-else-options : goal.returns-else-options

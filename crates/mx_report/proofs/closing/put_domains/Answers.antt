@@ -4,7 +4,7 @@ use Rattle.mx_model.specs.Reads.{map_in}
 use Rattle.mx_model.specs.State.{module_at}
 use Rattle.mx_report.specs.Texts.{all_domains, domain_lines}
 use Rattle.mx_report.proofs.RangeTexts.{at_number}
-use Rattle.mx_report.proofs.PassLaws.{passes_same, coming_range, coming_number, coming_number_stop, coming_numbers}
+use Rattle.mx_tail.proofs.PassLaws.{passes_same, coming_range, coming_number, coming_number_stop, coming_numbers}
 use Rattle.mx_report.proofs.closing.put_domains.Goals as goal
 
 pub loop-i-init : goal.loop-i-init

@@ -4,7 +4,7 @@ use Rattle.std.proofs.Common.{map, slice_index_or, []}
 use Rattle.mx_model.specs.Reads.{map_in}
 use Rattle.mx_model.specs.State.{module_at}
 use Rattle.mx_report.specs.Texts.{all_domains, domain_lines, flat_told}
-use Rattle.mx_report.proofs.PassLaws.{Coming}
+use Rattle.mx_tail.proofs.PassLaws.{Coming}
 use Rattle.mx_report.proofs.closing.put_domains.Given as goal
 
 abbrev pub invariant-loop-i : goal.invariant-loop-i

@@ -4,7 +4,7 @@ use Rattle.mx_model.specs.State.{hart_at}
 use Rattle.mx_report.specs.Lines.{view_lines}
 use Rattle.mx_report.specs.Texts.{all_harts}
 use Rattle.mx_report.proofs.Views.{view_is}
-use Rattle.mx_report.proofs.PassLaws.{passes_same, coming_range, coming_number, coming_number_stop, coming_numbers}
+use Rattle.mx_tail.proofs.PassLaws.{passes_same, coming_range, coming_number, coming_number_stop, coming_numbers}
 use Rattle.mx_report.proofs.closing.put_harts.Goals as goal
 
 pub loop-hart-init : goal.loop-hart-init

@@ -3,7 +3,7 @@ use Rattle.std.specs.List.{range_with_len}
 use Rattle.mx_model.specs.State.{hart_at}
 use Rattle.mx_report.specs.Lines.{hart_lines}
 use Rattle.mx_report.specs.Texts.{all_harts}
-use Rattle.mx_report.proofs.PassLaws.{Coming}
+use Rattle.mx_tail.proofs.PassLaws.{Coming}
 use Rattle.mx_report.proofs.closing.put_harts.Given as goal
 
 abbrev pub invariant-loop-hart : goal.invariant-loop-hart

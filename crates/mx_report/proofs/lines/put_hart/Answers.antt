@@ -1,6 +1,6 @@
 use Rattle.std.proofs.lemmas.Result.{err_from_is_err_and}
 use Rattle.mx_report.specs.Lines.{view_lines}
-use Rattle.mx_report.proofs.PassLaws.{passes_next, passes_stop, passes_last}
+use Rattle.mx_tail.proofs.PassLaws.{passes_next, passes_stop, passes_last}
 use Rattle.mx_report.proofs.lines.put_hart.Goals as goal
 
 pub returns-in_err-put_state : goal.returns-in_err-put_state

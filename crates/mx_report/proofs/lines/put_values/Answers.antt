@@ -1,6 +1,6 @@
 use Rattle.std.proofs.lemmas.Result.{err_from_is_err_and}
 use Rattle.mx_report.specs.Lines.{register_text}
-use Rattle.mx_report.proofs.PassLaws.{coming_item, coming_item_stop, coming_items}
+use Rattle.mx_tail.proofs.PassLaws.{coming_item, coming_item_stop, coming_items}
 use Rattle.mx_report.proofs.lines.put_values.Goals as goal
 
 pub returns-in_err-put_value : goal.returns-in_err-put_value

@@ -1,6 +1,6 @@
 use Rattle.std.proofs.Common.{flat_map, drop}
 use Rattle.mx_report.specs.Lines.{register_text}
-use Rattle.mx_report.proofs.PassLaws.{Coming}
+use Rattle.mx_tail.proofs.PassLaws.{Coming}
 use Rattle.mx_report.proofs.lines.put_values.Given as goal
 
 abbrev pub invariant-loop-value : goal.invariant-loop-value

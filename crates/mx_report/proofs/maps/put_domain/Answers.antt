@@ -2,7 +2,7 @@ use Rattle.std.proofs.Common.{ap}
 use Rattle.std.proofs.lemmas.Result.{err_from_is_err_and}
 use Rattle.mx_report.specs.Lines.{domain_head}
 use Rattle.mx_report.specs.Texts.{domain_lines}
-use Rattle.mx_report.proofs.PassLaws.{passes_same, passes_next, passes_stop, passes_last}
+use Rattle.mx_tail.proofs.PassLaws.{passes_same, passes_next, passes_stop, passes_last}
 use Rattle.mx_report.proofs.maps.put_domain.Goals as goal
 
 pub returns-in_err-put_head : goal.returns-in_err-put_head

@@ -6,7 +6,7 @@ use Rattle.mx_model.specs.Reads.{map_in}
 use Rattle.mx_report.specs.Lines.{map_text}
 use Rattle.mx_report.specs.Runs.{run_texts}
 use Rattle.mx_report.specs.Texts.{map_lines}
-use Rattle.mx_report.proofs.PassLaws.{passes_same, coming_all, coming_same, coming_next, coming_stop, coming_none}
+use Rattle.mx_tail.proofs.PassLaws.{passes_same, coming_all, coming_same, coming_next, coming_stop, coming_none}
 use Rattle.mx_report.proofs.RunTexts.{map_from, map_behind}
 use Rattle.mx_report.proofs.maps.put_maps.Goals as goal
 

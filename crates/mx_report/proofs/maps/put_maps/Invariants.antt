@@ -5,7 +5,7 @@ use Rattle.mx_model.specs.Reads.{map_in}
 use Rattle.mx_report.specs.Lines.{map_text}
 use Rattle.mx_report.specs.Runs.{run_texts}
 use Rattle.mx_report.specs.Texts.{map_lines}
-use Rattle.mx_report.proofs.PassLaws.{Coming}
+use Rattle.mx_tail.proofs.PassLaws.{Coming}
 use Rattle.mx_report.proofs.maps.put_maps.Given as goal
 
 abbrev pub invariant-runs : goal.invariant-runs

@@ -1,4 +1,4 @@
-use Rattle.mx_report.proofs.PassLaws.{passes_nothing}
+use Rattle.mx_tail.proofs.PassLaws.{passes_nothing}
 use Rattle.mx_report.proofs.owners.put_owner.Goals as goal
 
 pub returns-then-owner-eq0 : goal.returns-then-owner-eq0

@@ -4,7 +4,7 @@ use Rattle.mx_words.specs.Runs.{runs_of}
 use Rattle.mx_report.specs.Lines.{owner_text}
 use Rattle.mx_report.specs.Runs.{run_texts}
 use Rattle.mx_report.specs.Texts.{owner_lines}
-use Rattle.mx_report.proofs.PassLaws.{passes_same, coming_all, coming_same, coming_next, coming_stop, coming_none}
+use Rattle.mx_tail.proofs.PassLaws.{passes_same, coming_all, coming_same, coming_next, coming_stop, coming_none}
 use Rattle.mx_report.proofs.RunTexts.{owners_from, owners_behind}
 use Rattle.mx_report.proofs.owners.put_owners.Goals as goal
 

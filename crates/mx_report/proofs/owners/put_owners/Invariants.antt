@@ -3,7 +3,7 @@ use Rattle.mx_words.specs.Runs.{runs_of}
 use Rattle.mx_report.specs.Lines.{owner_text}
 use Rattle.mx_report.specs.Runs.{run_texts}
 use Rattle.mx_report.specs.Texts.{owner_lines}
-use Rattle.mx_report.proofs.PassLaws.{Coming}
+use Rattle.mx_tail.proofs.PassLaws.{Coming}
 use Rattle.mx_report.proofs.owners.put_owners.Given as goal
 
 abbrev pub invariant-runs : goal.invariant-runs

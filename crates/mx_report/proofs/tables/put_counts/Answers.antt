@@ -3,7 +3,7 @@ use Rattle.std.proofs.lemmas.Result.{err_from_is_err_and}
 use Rattle.mx_model.specs.State.{cache_at}
 use Rattle.mx_report.specs.Texts.{counts_lines}
 use Rattle.mx_report.proofs.CountsLine.{told_counts}
-use Rattle.mx_report.proofs.PassLaws.{passes_same, coming_range, coming_number, coming_number_stop, coming_numbers}
+use Rattle.mx_tail.proofs.PassLaws.{passes_same, coming_range, coming_number, coming_number_stop, coming_numbers}
 use Rattle.mx_report.proofs.tables.put_counts.Goals as goal
 
 pub loop-hart-init : goal.loop-hart-init

@@ -3,7 +3,7 @@ use Rattle.std.specs.List.{range_with_len}
 use Rattle.mx_model.specs.State.{cache_at}
 use Rattle.mx_report.specs.Lines.{counts_line}
 use Rattle.mx_report.specs.Texts.{counts_lines}
-use Rattle.mx_report.proofs.PassLaws.{Coming}
+use Rattle.mx_tail.proofs.PassLaws.{Coming}
 use Rattle.mx_report.proofs.tables.put_counts.Given as goal
 
 abbrev pub invariant-loop-hart : goal.invariant-loop-hart

@@ -5,7 +5,7 @@ use Rattle.mx_words.specs.declared.tables.Shown.{Shown}
 use Rattle.mx_words.specs.Reach.{stored}
 use Rattle.mx_model.specs.Reads.{map_in}
 use Rattle.mx_report.specs.Texts.{item_text, shown_text, shown_lines}
-use Rattle.mx_report.proofs.PassLaws.{passes_same, coming_same, coming_next, coming_stop, coming_numbers, coming_range}
+use Rattle.mx_tail.proofs.PassLaws.{passes_same, coming_same, coming_next, coming_stop, coming_numbers, coming_range}
 use Rattle.mx_report.proofs.ItemLaws.{items_from, next_begins, stored_round, shown_round}
 use Rattle.mx_report.proofs.tables.put_domain_items.Goals as goal
 

@@ -3,7 +3,7 @@ use Rattle.std.specs.List.{range_with_len}
 use Rattle.mx_words.specs.Reach.{stored}
 use Rattle.mx_model.specs.Reads.{map_in}
 use Rattle.mx_report.specs.Texts.{item_text, shown_lines}
-use Rattle.mx_report.proofs.PassLaws.{Coming}
+use Rattle.mx_tail.proofs.PassLaws.{Coming}
 use Rattle.mx_report.proofs.tables.put_domain_items.Given as goal
 
 -- an item begins at the word

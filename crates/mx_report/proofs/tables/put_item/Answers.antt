@@ -1,5 +1,5 @@
 use Rattle.std.proofs.Common.{sym, ◌∙◌}
-use Rattle.mx_report.proofs.PassLaws.{passes_same, passes_nothing}
+use Rattle.mx_tail.proofs.PassLaws.{passes_same, passes_nothing}
 use Rattle.mx_report.proofs.ItemLaws.{shown_none}
 use Rattle.mx_report.proofs.tables.put_item.Goals as goal
 

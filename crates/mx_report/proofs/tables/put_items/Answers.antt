@@ -1,7 +1,7 @@
 use Rattle.std.proofs.Common.{◌+◌, ◌-◌, length, arith}
 use Rattle.std.proofs.lemmas.Result.{err_from_is_err_and}
 use Rattle.mx_report.specs.Texts.{all_items}
-use Rattle.mx_report.proofs.PassLaws.{coming_range, coming_number, coming_number_stop, coming_numbers}
+use Rattle.mx_tail.proofs.PassLaws.{coming_range, coming_number, coming_number_stop, coming_numbers}
 use Rattle.mx_report.proofs.tables.put_items.Goals as goal
 
 pub loop-i-init : goal.loop-i-init

@@ -2,7 +2,7 @@ use Rattle.std.proofs.Common.{◌+◌, ◌-◌, flat_map, length}
 use Rattle.std.specs.List.{range_with_len}
 use Rattle.mx_model.specs.Reads.{map_in}
 use Rattle.mx_report.specs.Texts.{all_items, flat_told, shown_lines}
-use Rattle.mx_report.proofs.PassLaws.{Coming}
+use Rattle.mx_tail.proofs.PassLaws.{Coming}
 use Rattle.mx_report.proofs.tables.put_items.Given as goal
 
 abbrev pub invariant-loop-i : goal.invariant-loop-i

@@ -3,7 +3,7 @@ use Rattle.std.proofs.lemmas.Result.{err_from_is_err_and}
 use Rattle.mx_words.specs.declared.tables.Need.{Need}
 use Rattle.mx_report.specs.Lines.{tables_line}
 use Rattle.mx_report.specs.Texts.{table_lines}
-use Rattle.mx_report.proofs.PassLaws.{passes_same, passes_next, passes_stop, passes_last}
+use Rattle.mx_tail.proofs.PassLaws.{passes_same, passes_next, passes_stop, passes_last}
 use Rattle.mx_report.proofs.tables.put_tables.Goals as goal
 
 pub returns-in_err-put_used : goal.returns-in_err-put_used

@@ -1,8 +1,0 @@
-use Rattle.std.proofs.Common.{drop}
-use Rattle.mx_io.specs.Piece.{pieces_text}
-use Rattle.mx_report.proofs.PassLaws.{Coming}
-use Rattle.mx_report.proofs.gathered.put_pieces.Given as goal
-
-abbrev pub invariant-loop-piece : goal.invariant-loop-piece
-invariant-loop-piece g l =
-    Coming l.initial.tail (g.R.Sink.state l.initial.sink) (pieces_text l.pieces) l.tail (g.R.Sink.state l.sink) (pieces_text (drop l.piece-index l.pieces))
