@@ -237,5 +237,5 @@ pub record RunsOut {A : Type 0} (kept : KeptPlan) (task : Task) (f g : Flat) (co
     (report told : SinkState) (result : Result A SinkFault) : Type 0 where
   pub leave : (s : State) → IsNew s → f ≡ flat s → (dump : SinkState) →
       Leave (undumped (texts_of kept task s)) (sinks console report dump) (sinks shown told dump) result
-  pub state : (s : State) → f ≡ flat s →
+  pub state : (s : State) → IsNew s → f ≡ flat s →
       OnOk result (g ≡ flat (run (schedule_of task.schedule) task.steps s))
