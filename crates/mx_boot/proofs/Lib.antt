@@ -26,3 +26,4 @@ pub mod Started
 pub mod Starting
 pub mod Steps
 pub mod Ready
+pub mod StandingLaws

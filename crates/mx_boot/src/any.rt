@@ -155,6 +155,22 @@ impl AnyMachine {
         each!(self, machine => machine.span(domain, word))
     }
 
+    /// The first word after the run of words, round a word, on which a domain has that word's permission.
+    pub fn perm_end(&self, domain: u32, word: u32) -> u32
+        requires domain { IsModule (length (meaning self.now).core.modules) domain }
+        requires word { word < (meaning self.now).core.size }
+        ensures behind { word < result }
+        ensures within { result ≤ (meaning self.now).core.size }
+        ensures same { (w : ℕ) → word ≤ w → w < result →
+            (flat_reads (meaning self.now)).perm domain w
+            ≡ (flat_reads (meaning self.now)).perm domain word }
+        ensures ends { result < (meaning self.now).core.size →
+            (flat_reads (meaning self.now)).perm domain result
+            ≢ (flat_reads (meaning self.now)).perm domain word }
+    {
+        each!(self, machine => machine.perm_end(domain, word))
+    }
+
     /// The owner of a word, 0 for the supervisor.
     pub fn owner(&self, word: u32) -> u32
         requires { word < (meaning self.now).core.size }

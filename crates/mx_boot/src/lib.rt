@@ -19,6 +19,7 @@ mod named;
 mod owners;
 mod ram;
 mod refused;
+mod standing;
 mod starts;
 mod tables;
 

@@ -33,3 +33,4 @@ pub mod SmallLaws
 pub mod StartValid
 pub mod ReadLaws
 pub mod KindLaws
+pub mod MapRuns

@@ -81,6 +81,31 @@ impl<T: PermTables, const N: usize> Machine<T, N> {
         self.bare.bus.supervisor.checker.tables().span(domain, word)
     }
 
+    /// The first word after the run of words, round a word, on which a domain has that word's permission. It goes from span to span.
+    pub fn perm_end(&self, domain: u32, word: u32) -> u32
+        requires domain { IsModule (length self.now.core.modules) domain }
+        requires word { word < self.now.core.size }
+        ensures behind { word < result }
+        ensures within { result ≤ self.now.core.size }
+        ensures same { (w : ℕ) → word ≤ w → w < result →
+            (flat_reads self.now).perm domain w ≡ (flat_reads self.now).perm domain word }
+        ensures ends { result < self.now.core.size →
+            (flat_reads self.now).perm domain result ≢ (flat_reads self.now).perm domain word }
+    {
+        machine_is_valid(self);
+        let words = self.words();
+        let span = self.span(domain, word);
+        let mut end = span.first + span.count;
+        'spans: while end < words {
+            let next = self.span(domain, end);
+            if next.perm.number() != span.perm.number() {
+                return end;
+            }
+            end = next.first + next.count;
+        }
+        end
+    }
+
     /// The owner of a word, 0 for the supervisor.
     pub fn owner(&self, word: u32) -> u32
         requires { word < self.now.core.size }

@@ -1,0 +1,72 @@
+use Rattle.std.proofs.Common.{◌<◌, sym, ◌∙◌, arith}
+use Rattle.mx_model.specs.Reads.{map_in}
+use Rattle.mx_machine.proofs.MapRuns.{alike_span, alike_more, number_eq, number_ne, round_other, round_perm, walk_round}
+use Rattle.mx_machine.proofs.machine.Machine.perm_end.Goals as goal
+
+pub overflow_add-end : goal.overflow_add-end
+overflow_add-end g c =
+    let f = c.args.self.now in
+    let m = map_in f.core.size f.maps c.args.domain in
+    let whole = c.machine_is_valid.ensures.whole c.args.domain c.requires.domain in
+    let few = c.machine_is_valid.ensures.valid.few_words in
+    let round = walk_round f c.args.domain c.args.word c.span-span.result c.span-span.ensures whole c.requires.word in
+    let inside = round.inside in
+    omega (arith, whole, few, inside)
+
+pub spans-init : goal.spans-init
+spans-init g c =
+    let f = c.args.self.now in
+    let m = map_in f.core.size f.maps c.args.domain in
+    let whole = c.machine_is_valid.ensures.whole c.args.domain c.requires.domain in
+    let round = walk_round f c.args.domain c.args.word c.span-span.result c.span-span.ensures whole c.requires.word in
+    alike_span m c.args.word c.span-span.result round
+
+pub overflow_add-end-in-spans : goal.overflow_add-end-in-spans
+overflow_add-end-in-spans g c =
+    let f = c.args.self.now in
+    let m = map_in f.core.size f.maps c.args.domain in
+    let whole = c.machine_is_valid.ensures.whole c.args.domain c.requires.domain in
+    let few = c.machine_is_valid.ensures.valid.few_words in
+    let small : c.spans.end < f.core.size = omega (arith, c.spans-test.true, c.words-words.ensures) in
+    let round = walk_round f c.args.domain c.spans.end c.span-next.result c.span-next.ensures whole small in
+    let inside = round.inside in
+    omega (arith, whole, few, inside)
+
+pub spans-smaller : goal.spans-smaller
+spans-smaller g c =
+    let f = c.args.self.now in
+    let m = map_in f.core.size f.maps c.args.domain in
+    let whole = c.machine_is_valid.ensures.whole c.args.domain c.requires.domain in
+    let small : c.spans.end < f.core.size = omega (arith, c.spans-test.true, c.words-words.ensures) in
+    let round = walk_round f c.args.domain c.spans.end c.span-next.result c.span-next.ensures whole small in
+    let right = round.right in
+    omega arith
+
+pub spans-preserved : goal.spans-preserved
+spans-preserved g c =
+    let f = c.args.self.now in
+    let m = map_in f.core.size f.maps c.args.domain in
+    let whole = c.machine_is_valid.ensures.whole c.args.domain c.requires.domain in
+    let small : c.spans.end < f.core.size = omega (arith, c.spans-test.true, c.words-words.ensures) in
+    let round = walk_round f c.args.domain c.spans.end c.span-next.result c.span-next.ensures whole small in
+    let start = walk_round f c.args.domain c.args.word c.span-span.result c.span-span.ensures whole c.requires.word in
+    let one = number_eq c.span-next.result.perm c.span-span.result.perm (sym c.number.ensures ∙ c.if-number.false ∙ c.number-in-spans.ensures) in
+    alike_more m c.args.word c.spans.end c.span-next.result c.spans.invariant round (one ∙ round_perm m c.args.word c.span-span.result start)
+
+pub returns-clause-within : goal.returns-clause-within
+returns-clause-within g c =
+    let whole = c.machine_is_valid.ensures.whole c.args.domain c.requires.domain in
+    omega (arith, whole, c.spans.invariant.within)
+
+pub returns-clause-same : goal.returns-clause-same
+returns-clause-same g c = c.spans.invariant.alike
+
+pub returns-then-number-clause-ends : goal.returns-then-number-clause-ends
+returns-then-number-clause-ends g c = λ small.
+    let f = c.args.self.now in
+    let m = map_in f.core.size f.maps c.args.domain in
+    let whole = c.machine_is_valid.ensures.whole c.args.domain c.requires.domain in
+    let round = walk_round f c.args.domain c.spans.end c.span-next.result c.span-next.ensures whole small in
+    let start = walk_round f c.args.domain c.args.word c.span-span.result c.span-span.ensures whole c.requires.word in
+    let two = number_ne c.span-next.result.perm c.span-span.result.perm (λ e. c.if-number.true (c.number.ensures ∙ e ∙ sym c.number-in-spans.ensures)) in
+    round_other m c.args.word c.spans.end c.span-next.result round (λ e. two (e ∙ sym (round_perm m c.args.word c.span-span.result start)))
