@@ -1,3 +1,4 @@
 pub mod BareLaws
 pub mod SameLaws
 pub mod SameExamples
+pub mod KeptLaws

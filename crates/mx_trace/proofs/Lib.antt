@@ -6,3 +6,5 @@ pub mod Numbers
 pub mod IndexedTexts
 pub mod Readings
 pub mod Whole
+pub mod Examples
+pub mod LineLaws

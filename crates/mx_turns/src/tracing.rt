@@ -1,6 +1,6 @@
 //! A trace: the turns of a run with a line for each. No call takes memory.
 
-ghost use Rattle.std.specs.Prelude.{◌≡◌, ℕ, ◌+◌, ◌-◌, ◌++◌, ◌<◌, ◌≤◌, ◌^◌, ◌⊎◌, length, IfSome};
+ghost use Rattle.std.specs.Prelude.{◌≡◌, ℕ, ◌+◌, ◌-◌, ◌++◌, ◌<◌, ◌≤◌, ◌^◌, ◌⊎◌, length, IfSome, OnOk};
 ghost use Rattle.mx_isa.specs.Ranges.{IsValid};
 ghost use Rattle.mx_io.specs.Sink.{Puts, SinkState};
 ghost use Rattle.mx_boot.specs.Machines.{meaning};
@@ -231,7 +231,7 @@ fn put_line<R: Sink>(
     requires { IfSome before (λ seen. IfSome seen.inst IsValid) }
     ensures passes { Passes told.old (R.state report.old) (R.state report.new) told.new
         (line_text from step hart before kind) result }
-    ensures few { length told.new < piece_bytes }
+    ensures few { OnOk result (length told.new < piece_bytes) }
 {
     if step < from {
         told.put(report, b"")
