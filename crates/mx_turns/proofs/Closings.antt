@@ -2,7 +2,7 @@
 use Rattle.std.proofs.Common.{◌≡◌, ℕ, ◌+◌, ◌<◌, ◌≤◌, ◌⊎◌, List, [], ◌++◌, length, Result, Ok, Err, IsOk, refl, sym, ap, subst, ◌∙◌, inl, inr, arith}
 use Rattle.std.proofs.lemmas.List.{append-nil}
 use Rattle.mx_io.specs.Texts.{AppendsWhole, AppendsPrefix}
-use Rattle.mx_io.specs.Sink.{SinkState, Puts}
+use Rattle.mx_io.specs.Sink.{SinkState}
 use Rattle.mx_io.proofs.Text.{appends_nothing}
 use Rattle.mx_model.specs.State.{State, Flat}
 use Rattle.mx_tail.specs.Tail.{sent}
@@ -24,7 +24,7 @@ prefix_begun : (b n : SinkState) (whole front : List ℕ) → Begun whole front 
 prefix_begun b n whole front is p = subst (λ (t : List ℕ). AppendsPrefix b.written n.written t) (sym is.1) (p is.0)
 
 -- a run that makes at most so many turns, without the dump
-module _ {A : Type 0} (states : ℕ → State) (lines : ℕ → List ℕ) (report : List ℕ) (turns : ℕ)
+module _ (states : ℕ → State) (lines : ℕ → List ℕ) (report : List ℕ) (turns : ℕ)
     (shown_grows : (made : ℕ) → made ≤ turns → (more : List ℕ) × ((states turns).console ≡ (states made).console ++ more))
     (told_grows : (made : ℕ) → made ≤ turns → (more : List ℕ) × (report ≡ lines made ++ more))
     (b d e : SinkState) where
@@ -39,7 +39,7 @@ module _ {A : Type 0} (states : ℕ → State) (lines : ℕ → List ℕ) (repor
   }
 
   -- a sink stopped the turns; where it was the console, what the report's buffer held was put after that
-  pub leave_stopped : (made : ℕ) → made < turns → (machine : Flat) (mid : Places) (r : SinkState) (which : SinkFault) → StopsAt states lines made machine (places b [] d []) mid which
+  pub leave_stopped : {A : Type 0} (made : ℕ) → made < turns → (machine : Flat) (mid : Places) (r : SinkState) (which : SinkFault) → StopsAt states lines made machine (places b [] d []) mid which
       → (which ≡ F.Console → PutOrBreaks mid.report r mid.told) → (which ≡ F.Report → r ≡ mid.report) → Leave {A = A} texts (sinks b d e) (sinks mid.console r e) (Err which)
   leave_stopped made few machine mid r F.Console s rest same =
       let breaks = breaks_begun s.1.0 b mid.console _ _ (shown_grows (made + 1) (omega (arith, few))) (breaks_sent s.1.0 b mid.console _ s.1.1) in
@@ -98,14 +98,14 @@ module _ {A : Type 0} (states : ℕ → State) (lines : ℕ → List ℕ) (repor
         let p = moves_unput b mid.console now.console mid.shown (states turns).console [] has.console (q.0, breaks_same q.0 mid.console now.console _ _ (sym (append-nil mid.shown)) q.1) in
         (p.0, breaks_same p.0 b now.console _ _ (append-nil _) p.1, p.2)
 
-    pub leave_closed : (result : Result A SinkFault) → Closes closing mid now result → Leave texts (sinks b d e) (sinks now.console now.report e) result
+    pub leave_closed : {A : Type 0} (result : Result A SinkFault) → Closes closing mid now result → Leave texts (sinks b d e) (sinks now.console now.report e) result
     leave_closed (Ok a) c =
         let console = shown_put c.0 in
         let told = put_same d now.report _ _ (sym is) (moves_put d mid.report now.report mid.told (lines turns) closing has.report c.1) in
         record {
           whole = (record { console = console.whole; report = told.whole; dump = appends_nothing e.written }, record { console = console.kept; report = told.kept; dump = refl });
           fault = tt;
-          sure = λ room. tt;
+          sure = λ room. refl;
         }
     leave_closed (Err F.Console) c =
         let unput = shown_unput c.0 in
@@ -141,19 +141,19 @@ module _ {A : Type 0} (states : ℕ → State) (lines : ℕ → List ℕ) (repor
     leave_closed (Err F.Dump) c = absurd c
 
 -- the dump comes last
-module _ {A : Type 0} (texts : Texts) (b d c r e : SinkState) where
+module _ (texts : Texts) (b d c r e : SinkState) where
   -- it was put, or wasn't
-  pub leave_dumped : {a : A} → Leave (undumped texts) (sinks b d e) (sinks c r e) (Ok a) → (f : SinkState) → Put e f texts.dump → Leave texts (sinks b d e) (sinks c r f) (Ok a)
+  pub leave_dumped : {A : Type 0} {a : A} → Leave (undumped texts) (sinks b d e) (sinks c r e) (Ok a) → (f : SinkState) → Put e f texts.dump → Leave texts (sinks b d e) (sinks c r f) (Ok a)
   leave_dumped l f p = record {
     whole = (
       record { console = l.whole.0.console; report = l.whole.0.report; dump = p.whole },
       record { console = l.whole.1.console; report = l.whole.1.report; dump = p.kept },
     );
     fault = tt;
-    sure = λ room. tt;
+    sure = λ room. refl;
   }
 
-  pub leave_undumped : {a : A} → Leave (undumped texts) (sinks b d e) (sinks c r e) (Ok a) → (f : SinkState) → BreaksSomewhere e f texts.dump
+  pub leave_undumped : {A : Type 0} {a : A} → Leave (undumped texts) (sinks b d e) (sinks c r e) (Ok a) → (f : SinkState) → BreaksSomewhere e f texts.dump
       → Leave {A = A} texts (sinks b d e) (sinks c r f) (Err F.Dump)
   leave_undumped l f p =
       let holds = l.whole.0 in
@@ -172,7 +172,7 @@ module _ {A : Type 0} (texts : Texts) (b d c r e : SinkState) where
   fault_before F.Report f = f
   fault_before F.Dump f = let none = f.1.within in absurd (omega (arith, none))
 
-  pub leave_before : (which : SinkFault) → Leave {A = A} (undumped texts) (sinks b d e) (sinks c r e) (Err which) → Leave {A = A} texts (sinks b d e) (sinks c r e) (Err which)
+  pub leave_before : {A : Type 0} (which : SinkFault) → Leave {A = A} (undumped texts) (sinks b d e) (sinks c r e) (Err which) → Leave {A = A} texts (sinks b d e) (sinks c r e) (Err which)
   leave_before which l = record {
     whole = tt;
     fault = (

@@ -1,5 +1,5 @@
 -- Runs turn by turn, and their texts through the buffers.
-use Rattle.std.proofs.Common.{◌≡◌, ℕ, zero, suc, ◌+◌, ◌-◌, ◌<◌, ◌≤◌, Bool, true, false, List, [], ◌++◌, option_to_list, Some, None, Ok, Err, cond, refl, sym, ap, subst, ◌∙◌, inl, inr, append_assoc, arith}
+use Rattle.std.proofs.Common.{◌≡◌, ℕ, zero, suc, ◌+◌, ◌-◌, ◌<◌, ◌≤◌, Bool, true, false, List, [], ◌++◌, option_to_list, Option, Some, None, Ok, Err, cond, refl, sym, ap, subst, ◌∙◌, inl, inr, append_assoc, arith}
 use Rattle.std.proofs.lemmas.Bool.{or_from, or_left, or_right}
 use Rattle.std.proofs.lemmas.List.{append-nil}
 use Rattle.std.proofs.lemmas.Grind.{flat_map-append}
@@ -134,7 +134,7 @@ texts_stop states lines made text line m k before mid now F.Console r state cons
     let breaks = moves_breaks before.console mid.console now.console mid.shown (states made).console text r.console e.0 in
     (state, (breaks.0, rw (← console) at breaks.1, breaks.2), rw (e.1, e.2) r.report)
 texts_stop states lines made text line m k before mid now F.Report r state console report e =
-    let breaks = moves_breaks before.report mid.report now.report mid.told (lines made) line r.report (e.1, e.2) in
+    let breaks = moves_breaks before.report mid.report now.report mid.told (lines made) line r.report e.1 in
     let shown = moves_moves before.console mid.console now.console mid.shown (states made).console text r.console now.shown e.0 in
     (state, (breaks.0, rw (← report) at breaks.1, breaks.2), rw console shown)
 texts_stop states lines made text line m k before mid now F.Dump r state console report e = absurd e
@@ -197,7 +197,7 @@ makes_shown tells A a s h m events before now is shows = record {
 pub makes_stopped : (tells : Telling) (A : Type 0) (s : State) (h : ℕ) (m : Flat) (events : Events) (before now : Places) (which : SinkFault) → IsTurnOf s h m events
     → ShowsOrStops {A = A} events.bytes (adds_by tells events.note) before now (Err which)
     → ShowsOrStops {A = Unit {0}} (made_of s h).console (adds_by tells (made_of s h).note) before now (Err which)
-makes_stopped tells A s h m events before now F.Console is stops = rw (is.bytes, is.note) at stops
+makes_stopped tells A s h m events before now F.Console is stops = rw is.bytes at stops
 makes_stopped tells A s h m events before now F.Report is stops = rw (is.bytes, is.note) at stops
 makes_stopped tells A s h m events before now F.Dump is stops = stops
 

@@ -1,12 +1,12 @@
 -- Texts that were put on a sink one after another, or of which one couldn't be put.
-use Rattle.std.proofs.Common.{◌≡◌, ℕ, ◌+◌, ◌<◌, ◌≤◌, ◌⊎◌, List, [], ◌++◌, length, take, min, refl, sym, ap, subst, ◌∙◌, inl, inr, append_assoc, length-append, arith, Ok, Err}
+use Rattle.std.proofs.Common.{◌≡◌, ℕ, ◌+◌, ◌<◌, ◌≤◌, ◌⊎◌, List, [], ◌++◌, length, take, min, refl, sym, ap, subst, ◌∙◌, inl, inr, append_assoc, length-append, arith, Result, OnOk, Ok, Err}
 use Rattle.std.proofs.lemmas.List.{append-nil, take-append-le, take_min}
 use Rattle.std.proofs.Math.Seq.{take-append_seam, take-append-add}
 use Rattle.mx_io.specs.Count.{Rose}
 use Rattle.mx_io.specs.Texts.{AppendsWhole, AppendsPrefix}
 use Rattle.mx_io.specs.Sink.{SinkState, Puts}
 use Rattle.mx_io.proofs.Puts.{not_ok}
-use Rattle.mx_io.proofs.Text.{appends_nothing, appends_both}
+use Rattle.mx_io.proofs.Text.{appends_nothing, appends_both, left_all, left_next, left_end}
 use Rattle.mx_tail.specs.Tail.{Adds, Passes, piece_bytes, sent, held}
 use Rattle.mx_tail.proofs.TailLaws.{sent_behind, sent_held, sent_more, sent_short, held_behind, held_more, held_short}
 use Rattle.mx_turns.specs.Ends.{FailsAt, Tells}
@@ -35,6 +35,22 @@ breaks_of {A} {b = b} {n = n} {text = text} {e = e} p =
     let front = p.front in
     let fails : FailsAt front.0 text b n = record { within = front.1; put = front.2; rose = p.failed } in
     (front.0, record { fails = fails; tight = λ fits. not_ok A e (p.sure fits).0 })
+
+-- a text was put, or wasn't
+pub put_or : {A E : Type 0} {b n : SinkState} {text : List ℕ} {r : Result A E} → Puts b n text r → PutOrBreaks b n text
+put_or {r = Ok a} p = inl (put_of p)
+put_or {r = Err e} p = inr (breaks_of p)
+
+-- what was held and then a text was put
+pub passes_end : {A E B F : Type 0} {held kept text : List ℕ} {b m n : SinkState} {a : A} {result : Result B F} → Passes {E = E} held b m kept text (Ok a) → Puts m n kept result → Puts b n (held ++ text) result
+passes_end {B = B} {F = F} {held} {kept} {text} {b} {m} {n} {result = result} p q =
+    let w = p.whole in
+    subst (λ (t : List ℕ). Puts {A = B} {E = F} b n t result) (sym w.1) (left_end (left_next (left_all b (w.0 ++ kept)) w.3) q)
+
+-- what holds of an answer that is Ok, where it holds anyhow
+pub on_ok : {A E : Type 0} (P : Type 0) (r : Result A E) → P → OnOk r P
+on_ok P (Ok a) p = p
+on_ok P (Err e) p = tt
 
 module _ (b m n : SinkState) (x y : List ℕ) where
   -- one text after another

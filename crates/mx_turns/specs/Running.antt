@@ -1,5 +1,5 @@
 -- A run whose texts leave through buffers: what holds between two turns, and what holds where a sink failed.
-use Rattle.std.specs.Prelude.{◌≡◌, ℕ, Bool, true, false, ◌+◌, ◌/◌, ◌%◌, ◌<◌, ◌≤◌, ◌⊎◌, List, [], ◌++◌, length, drop, option_to_list, Option, Some, None, Result, Ok, Err, OnOk, ⊥, if◌then◌else◌}
+use Rattle.std.specs.Prelude.{◌≡◌, ℕ, Bool, true, false, ◌+◌, ◌/◌, ◌%◌, ◌<◌, ◌≤◌, ◌⊎◌, List, [], ◌++◌, length, drop, option_to_list, Option, Some, None, Result, Ok, Err, OnOk, if◌then◌else◌}
 use Rattle.mx_io.specs.Texts.{AppendsWhole}
 use Rattle.mx_io.specs.Sink.{SinkState}
 use Rattle.mx_model.specs.Events.{Events}
@@ -143,8 +143,8 @@ told_by telling.Nothing s = []
 
 -- what a turn adds to them
 abbrev pub adds_by : Telling → Option Note → List ℕ
-adds_by telling.Notes note = note_lines (option_to_list note)
-adds_by telling.Nothing note = []
+adds_by telling.Notes added = note_lines (option_to_list added)
+adds_by telling.Nothing added = []
 
 -- turns of a run were made, and what it tells was put through the buffers
 abbrev pub HasRun : Telling → State → Flat → Places → Places → Type 0

@@ -1,5 +1,5 @@
 -- The texts of a trace: a line for each turn of a run, from a step on.
-use Rattle.std.specs.Prelude.{ℕ, zero, suc, ◌+◌, nat_lt, if◌then◌else◌, List, [], ◌++◌, length, Option, Some, None}
+use Rattle.std.specs.Prelude.{ℕ, zero, suc, ◌+◌, true, false, nat_lt, if◌then◌else◌, List, [], ◌++◌, length, Option, Some, None}
 use Rattle.mx_laws.specs.Standing.{standing_inst}
 use Rattle.mx_model.specs.declared.values.TurnKind.{TurnKind}
 use Rattle.mx_model.specs.Reads.{Reads, reads, flat_reads}

@@ -1,6 +1,6 @@
 //! A run: its turns and its texts.
 
-ghost use Rattle.std.specs.Prelude.{◌≡◌, ◌+◌, ◌<◌, ◌^◌, map};
+ghost use Rattle.std.specs.Prelude.{◌≡◌, ◌+◌, ◌-◌, ◌<◌, ◌^◌, map};
 ghost use Rattle.mx_boot.specs.Machines.{meaning};
 ghost use Rattle.mx_model.specs.State.{State, flat};
 ghost use Rattle.mx_turns.specs.Ends.{Leave, sinks};
@@ -130,6 +130,7 @@ fn run_machine<T: PermTables, const N: usize, C: Sink, R: Sink>(
             let _ = told.end(report);
             Err(SinkFault::Console)
         }
-        Err(fault) => Err(fault),
+        Err(SinkFault::Report) => Err(SinkFault::Report),
+        Err(SinkFault::Dump) => Err(SinkFault::Dump),
     }
 }

@@ -15,7 +15,7 @@ use mx_report::{Tail, put_note};
 use mx_table::PermTables;
 
 /// What a run tells in its report during the turns.
-#[derive(Clone, Copy, PartialEq, Eq)]
+#[derive(Clone, Copy)]
 pub(crate) enum Telling {
     /// The lines of notes.
     Notes,
@@ -128,6 +128,7 @@ fn show<C: Sink, R: Sink>(
 }
 
 // Puts the line of a note, if there is one, through a buffer.
+#[tactic(auto, using(mx_tail::proofs::PassLaws::passes_adds))]
 fn put_told<R: Sink>(
     told: &mut Tail,
     report: &mut R,
@@ -138,8 +139,11 @@ fn put_told<R: Sink>(
         (adds_by telling note) result }
     ensures few { length told.new < piece_bytes }
 {
-    match (telling, note) {
-        (Telling::Notes, Some(note)) => put_note(told, report, &note),
-        (Telling::Notes, None) | (Telling::Nothing, _) => told.put(report, b""),
+    match telling {
+        Telling::Notes => match note {
+            Some(note) => put_note(told, report, &note),
+            None => told.put(report, b""),
+        },
+        Telling::Nothing => told.put(report, b""),
     }
 }
