@@ -124,7 +124,7 @@ module _ (states : ℕ → State) (lines : ℕ → List ℕ) (report : List ℕ)
         }
     leave_closed (Err F.Report) c =
         let console = shown_put c.0 in
-        let told = moves_unput d mid.report now.report mid.told (lines turns) closing has.report (c.1, c.2) in
+        let told = moves_unput d mid.report now.report mid.told (lines turns) closing has.report c.1 in
         let unput = breaks_same told.0 d now.report _ _ (sym is) told.1 in
         record {
           whole = tt;

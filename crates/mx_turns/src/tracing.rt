@@ -106,7 +106,8 @@ fn skip_turns<C: Sink, R: Sink>(
 ) -> Result<(), SinkFault>
     requires few { (meaning machine.old).core.turns + steps < 2 ^ 64 - 1 }
     requires quantum { HasTurns schedule }
-    ensures { (s : State) → Begins s (meaning machine.old)
+    ensures turns { (meaning machine.new).core.turns ≤ (meaning machine.old).core.turns + steps }
+    ensures runs { (s : State) → Begins s (meaning machine.old)
         (places (C.state console.old) shown.old (R.state report.old) told.old)
         → RunsOrStops (λ made. run (schedule_of schedule.entry) made s)
         (λ made. told_by Telling.Nothing (run (schedule_of schedule.entry) made s)) steps

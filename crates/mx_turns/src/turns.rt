@@ -1,6 +1,6 @@
 //! The turns of a run. No call takes memory.
 
-ghost use Rattle.std.specs.Prelude.{◌≡◌, ◌+◌, ◌-◌, ◌^◌, ◌<◌, false, length, IfOk};
+ghost use Rattle.std.specs.Prelude.{◌≡◌, ◌+◌, ◌-◌, ◌^◌, ◌<◌, ◌≤◌, false, length, IfOk};
 ghost use Rattle.mx_model.specs.Run.{all_halted, run};
 ghost use Rattle.mx_model.specs.State.{State, flat};
 ghost use Rattle.mx_tail.specs.Tail.{Passes, piece_bytes};
@@ -37,6 +37,7 @@ pub(crate) fn make_turns<T: PermTables, const N: usize, C: Sink, R: Sink>(
     requires few { machine.old.core.turns + steps < 2 ^ 64 - 1 }
     requires quantum { HasTurns schedule }
     ensures keeps { KeepsShape machine.old machine.new }
+    ensures turns { machine.new.core.turns ≤ machine.old.core.turns + steps }
     ensures runs { (s : State) → Begins s machine.old
         (places (C.state console.old) shown.old (R.state report.old) told.old)
         → RunsOrStops (λ made. run (schedule_of schedule.entry) made s)

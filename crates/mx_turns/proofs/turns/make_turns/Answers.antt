@@ -20,7 +20,7 @@ turns-init g c =
     record {
       turns = omega arith;
       within = omega arith;
-      pace = c.begin-pace.ensures c.args.machine.now.core (sym c.steps-pace.ensures) (sym c.harts.ensures);
+      pace = c.begin-pace.ensures c.args.machine.now.core (sym c.steps.ensures) (sym c.harts.ensures);
       going = sym c.if-all_halted.ensures;
       keeps = keeps_none c.args.machine.now;
       runs = λ s b. run_begins c.args.telling s _ _ b;
@@ -199,3 +199,26 @@ returns-clause-runs g c =
     λ s b.
     let e : c.turns.made ≡ c.args.steps = omega (arith, c.turns-test.false, c.turns.invariant.within) in
     rw (← e) (c.turns.invariant.runs s b)
+
+-- how many turns were made
+pub returns-in_err-end_turn-clause-turns : goal.returns-in_err-end_turn-clause-turns
+returns-in_err-end_turn-clause-turns g c =
+    let schedule = schedule_of c.args.schedule in
+    let f = c.turns.machine in
+    let k = c.run_on-stretch.new.self in
+    let stretch = c.run_on-stretch.result in
+    let is = c.run_on-stretch.ensures in
+    let row = c.in-Some.ensures.named schedule f.core c.turns.invariant.pace in
+    let later = last_later c.args.telling schedule f c.turns.invariant.going c.in-Some.hart (c.args.steps - c.turns.made) c.in-Some.most row k c.run_on-stretch.new.out stretch c.run_on-stretch.ensures in
+    omega (arith, later.turns, c.turns.invariant.turns, is.few, row.few, c.turns.invariant.within)
+
+pub returns-then-branch-clause-turns : goal.returns-then-branch-clause-turns
+returns-then-branch-clause-turns g c =
+    let schedule = schedule_of c.args.schedule in
+    let f = c.turns.machine in
+    let k = c.run_on-stretch.new.self in
+    let stretch = c.run_on-stretch.result in
+    let is = c.run_on-stretch.ensures in
+    let row = c.in-Some.ensures.named schedule f.core c.turns.invariant.pace in
+    let later = last_later c.args.telling schedule f c.turns.invariant.going c.in-Some.hart (c.args.steps - c.turns.made) c.in-Some.most row k c.run_on-stretch.new.out stretch c.run_on-stretch.ensures in
+    omega (arith, later.turns, c.turns.invariant.turns, is.few, row.few, c.turns.invariant.within)
