@@ -4,10 +4,13 @@ use Rattle.std.proofs.lemmas.List.{length-map}
 use Rattle.mx_words.specs.Need.{within}
 use Rattle.mx_manifest.specs.declared.fault.BootFault.{BootFault}
 use Rattle.mx_manifest.specs.Plan.{Said}
-use Rattle.mx_model.specs.State.{State, Flat, flat}
+use Rattle.mx_model.specs.State.{State, flat}
 use Rattle.mx_boot.specs.Boot.{Refusal, TooFull, module_of, boot_need, boot_state, limited, unless, boot_of}
 use Rattle.mx_boot.specs.Faults.{first_fault}
-use Rattle.mx_run.specs.Running.{IsNew, IsFresh}
+use Rattle.mx_manifest.specs.declared.parts.ModulePlan.{ModulePlan}
+use Rattle.mx_snapshot.specs.Kept.{kept_of}
+use Rattle.mx_turns.specs.Runs.{IsOfPlan}
+use Rattle.mx_turns.specs.Running.{IsNew}
 
 if_ok : (b : Bool) (s t : State) (e : Refusal) → cond b (Ok s) (Err e) ≡ Ok t → t ≡ s
 if_ok true s t e is = cc
@@ -26,10 +29,9 @@ boots plan images t is = unless_ok (first_fault plan images) (boot_state plan im
 pub boots_new : (plan : Said) (images : List (List ℕ)) (t : State) → boot_of plan images ≡ Ok t → IsNew t
 boots_new plan images t is = rw (boots plan images t is) (record { console = refl; notes = refl })
 
--- and has made no turn
-fresh : (plan : Said) (images : List (List ℕ)) → IsFresh plan (flat (boot_state plan images))
-fresh plan images = record { turns = refl; kind = refl; limit = refl; modules = length-map plan.modules module_of }
+-- has made no turn, and is a machine of its plan
+fresh : (plan : Said) (images : List (List ℕ)) → IsOfPlan (kept_of plan) (flat (boot_state plan images))
+fresh plan images = record { kind = refl; limit = refl; modules = length-map plan.modules module_of ∙ sym (length-map plan.modules (λ (m : ModulePlan). m.name)) }
 
-pub boots_fresh : (plan : Said) (images : List (List ℕ)) (t : State) (m : Flat) → boot_of plan images ≡ Ok t → m ≡ flat t → IsFresh plan m
-boots_fresh plan images t m is means =
-    subst (λ (f : Flat). IsFresh plan f) (sym means) (subst (λ (s : State). IsFresh plan (flat s)) (sym (boots plan images t is)) (fresh plan images))
+pub boots_fresh : (plan : Said) (images : List (List ℕ)) (t : State) → boot_of plan images ≡ Ok t → (t.core.turns ≡ 0) × IsOfPlan (kept_of plan) (flat t)
+boots_fresh plan images t is = subst (λ (s : State). (s.core.turns ≡ 0) × IsOfPlan (kept_of plan) (flat s)) (sym (boots plan images t is)) (refl, fresh plan images)

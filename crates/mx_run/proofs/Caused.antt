@@ -7,21 +7,26 @@ use Rattle.mx_io.specs.Count.{Rose}
 use Rattle.mx_io.specs.Store.{FileMap, StoreState}
 use Rattle.mx_io.specs.Answer.{Answer, HasSucceeded, IsOf, Tells, Talks}
 use Rattle.mx_io.proofs.Talks.{Each, each-front, each-rest, talks_told}
-use Rattle.mx_model.specs.Run.{ByQuantum, ByBytes}
+use Rattle.mx_model.specs.Run.{Schedule, ByQuantum, ByBytes}
 use Rattle.mx_model.specs.State.{State}
 use Rattle.mx_manifest.specs.declared.fault.BootFault.{BootFault}
 use Rattle.mx_manifest.specs.declared.parts.ModulePlan.{ModulePlan}
 use Rattle.mx_manifest.specs.Plan.{Said}
 use Rattle.mx_boot.specs.Boot.{Refusal, Faulty, TooFull, boot_of}
+use Rattle.mx_snapshot.specs.Kept.{kept_of}
+use Rattle.mx_run.specs.declared.side.Side.{Side}
+use Rattle.mx_run.specs.declared.side.Side.TheVariants.{First, Second}
 use Rattle.mx_run.specs.declared.status.FileRole.{FileRole}
 use Rattle.mx_run.specs.declared.status.Status.{Status}
 use Rattle.mx_run.specs.declared.status.Status.TheVariants.{Ran, Usage, Refused, TablesFull, StoreFault, ShortFile, NoFile, ConsoleFault, ReportFault, DumpFault, WantOfMemory, AsmFault, Unlike, NoDomain, SecondRefused, SecondTablesFull, SnapshotFault}
 use Rattle.mx_run.specs.Words.{Order, Request, Run, Asm}
 use Rattle.mx_run.specs.Manifest.{judged}
 use Rattle.mx_run.specs.Finding.{Finding, Absent, Large, Short, Broken, Whole, Finds}
-use Rattle.mx_run.specs.Outcome.{Outcome, Wanted, Next, Read, End, refusal, lack_of, bytes_of, unless, after_file, after_images, manifest_file, image_file, schedule_file, source_file, ran, scheduled, booted, planned, assembled, next}
+use Rattle.mx_run.specs.Next.{Outcome, Wanted, Next, Read, End, refusal, lack_of, bytes_of, unless, after_file}
+use Rattle.mx_run.specs.Boots.{Rest, refused_by, after_images, manifest_file, image_file, booted, planned, after_boot}
+use Rattle.mx_run.specs.Commands.{schedule_file, source_file, scheduled, run_of, assembled, next}
 use Rattle.mx_run.specs.Leads.{Leads}
-use Rattle.mx_run.specs.Causes.{LeadsToStatus, FindsAll, Reaches, FindsLast, HasImage, HasImages, IsFaulty, IsRefused, IsUnassembled, Cause}
+use Rattle.mx_run.specs.Causes.{LeadsToStatus, FindsAll, Reaches, FindsLast, HasImage, HasImages, HasFault, IsFaulty, IsRefused, IsUnassembled, Cause}
 use Rattle.mx_run.proofs.Findings.{finds_decided}
 use Rattle.mx_run.proofs.ImageSteps.{image_step}
 use Rattle.mx_run.proofs.Leads.{read_same, read_end}
@@ -53,62 +58,58 @@ module _ (file : Wanted) (rest : List ℕ → List Finding → Next) (each : (by
       ap (λ o. unless file o (rest (bytes_of found) [])) here ∙ ap (λ (w : Wanted). End (refusal w.name status)) same
   shape_file (x ∷ more) last is found status lack = shape_finding x more last is found status lack
 
-shape_image : (o : Option (List ℕ)) (number : ℕ) (ms : List ModulePlan) (images : List (List ℕ)) (rest : List (List ℕ) → List Finding → Next)
-    → ((images : List (List ℕ)) → Shaped (after_images (number + 1) ms images rest)) → Shaped (image_step o number ms images rest)
-shape_image None number ms images rest each = each (images ++ [] ∷ [])
-shape_image (Some name) number ms images rest each =
-    shape_file (image_file number name) (λ bytes. after_images (number + 1) ms (images ++ bytes ∷ []) rest) (λ bytes. each (images ++ bytes ∷ []))
+shape_image : (side : Side) (o : Option (List ℕ)) (number : ℕ) (ms : List ModulePlan) (images : List (List ℕ)) (rest : List (List ℕ) → List Finding → Next)
+    → ((images : List (List ℕ)) → Shaped (after_images side (number + 1) ms images rest)) → Shaped (image_step side o number ms images rest)
+shape_image side None number ms images rest each = each (images ++ [] ∷ [])
+shape_image side (Some name) number ms images rest each =
+    shape_file (image_file side number name) (λ bytes. after_images side (number + 1) ms (images ++ bytes ∷ []) rest) (λ bytes. each (images ++ bytes ∷ []))
 
-shape_images : (ms : List ModulePlan) (number : ℕ) (images : List (List ℕ)) (rest : List (List ℕ) → List Finding → Next) → ((images : List (List ℕ)) → Shaped (rest images))
-    → Shaped (after_images number ms images rest)
-shape_images [] number images rest each = each images
-shape_images (m ∷ ms) number images rest each = shape_image m.image number ms images rest (λ images. shape_images ms (number + 1) images rest each)
+shape_images : (side : Side) (ms : List ModulePlan) (number : ℕ) (images : List (List ℕ)) (rest : List (List ℕ) → List Finding → Next) → ((images : List (List ℕ)) → Shaped (rest images))
+    → Shaped (after_images side number ms images rest)
+shape_images side [] number images rest each = each images
+shape_images side (m ∷ ms) number images rest each = shape_image side m.image number ms images rest (λ images. shape_images side ms (number + 1) images rest each)
 
-shape_run : (o : Order) (plan : Said) (s : State) (name : Option (List ℕ)) → Shaped (scheduled o plan s name)
-shape_run o plan s None = shape_end (ran o plan s (ByQuantum plan.quantum))
-shape_run o plan s (Some name) = shape_file (schedule_file name) (λ bytes more. End (ran o plan s (ByBytes bytes))) (λ bytes. shape_end (ran o plan s (ByBytes bytes)))
+shape_run : (quantum : ℕ) (made : Schedule → Outcome) (name : Option (List ℕ)) → Shaped (scheduled quantum made name)
+shape_run quantum made None = shape_end (made (ByQuantum quantum))
+shape_run quantum made (Some name) = shape_file (schedule_file name) (λ bytes more. End (made (ByBytes bytes))) (λ bytes. shape_end (made (ByBytes bytes)))
 
-shape_boot : (o : Order) (plan : Said) (boot : Result State Refusal) → Shaped (booted o plan boot)
-shape_boot o plan (Ok s) = shape_run o plan s o.schedule
-shape_boot o plan (Err (Faulty fault)) = shape_end (refusal o.manifest (Refused fault))
-shape_boot o plan (Err (TooFull need limit)) = shape_end (refusal o.manifest (TablesFull need limit))
+module _ (side : Side) (name : List ℕ) (rest : Rest) (each : (plan : Said) (s : State) → Shaped (rest plan s)) where
+  shape_state : (plan : Said) (boot : Result State Refusal) → Shaped (booted side name rest plan boot)
+  shape_state plan (Ok s) = each plan s
+  shape_state plan (Err why) = shape_end (refusal name (refused_by side why))
 
-shape_plan : (o : Order) (plan : Result Said BootFault) → Shaped (planned o plan)
-shape_plan o (Ok plan) = shape_images plan.modules 1 [] (λ images. booted o plan (boot_of plan images)) (λ images. shape_boot o plan (boot_of plan images))
-shape_plan o (Err fault) = shape_end (refusal o.manifest (Refused fault))
+  shape_plan : (plan : Result Said BootFault) → Shaped (planned side name rest plan)
+  shape_plan (Ok plan) = shape_images side plan.modules 1 [] (λ images. booted side name rest plan (boot_of plan images)) (λ images. shape_state plan (boot_of plan images))
+  shape_plan (Err fault) = shape_end (refusal name (refused_by side (Faulty fault)))
+
+  shape_boot : Shaped (after_boot side name rest)
+  shape_boot = shape_file (manifest_file side name) (λ bytes. planned side name rest (judged bytes)) (λ bytes. shape_plan (judged bytes))
 
 shape_request : (asked : Option Request) → Shaped (next asked)
 shape_request None = shape_end (refusal [] Usage)
-shape_request (Some (Run o)) = shape_file (manifest_file o.manifest) (λ bytes. planned o (judged bytes)) (λ bytes. shape_plan o (judged bytes))
+shape_request (Some (Go o)) =
+    shape_boot First o.file (λ plan s. scheduled plan.quantum (run_of o (kept_of plan) s) o.schedule) (λ plan s. shape_run plan.quantum (run_of o (kept_of plan) s) o.schedule)
 shape_request (Some (Asm source)) = shape_file (source_file source) (λ bytes more. End (assembled source bytes)) (λ bytes. shape_end (assembled source bytes))
 
 -- the images of modules are those of their files
-image_taken : (o : Option (List ℕ)) (number : ℕ) (ms : List ModulePlan) (images : List (List ℕ)) (rest : List (List ℕ) → List Finding → Next) (files : List (List ℕ)) (image : List ℕ)
+image_taken : (side : Side) (o : Option (List ℕ)) (number : ℕ) (ms : List ModulePlan) (images : List (List ℕ)) (rest : List (List ℕ) → List Finding → Next) (files : List (List ℕ)) (image : List ℕ)
     (left : List (List ℕ)) → HasImage o files image left
-    → image_step o number ms images rest (list_map Whole files) ≡ after_images (number + 1) ms (images ++ image ∷ []) rest (list_map Whole left)
-image_taken None number ms images rest files image left has =
-    ap (λ (fs : List (List ℕ)). after_images (number + 1) ms (images ++ [] ∷ []) rest (list_map Whole fs)) has.1
-    ∙ ap (λ (i : List ℕ). after_images (number + 1) ms (images ++ i ∷ []) rest (list_map Whole left)) (sym has.0)
-image_taken (Some name) number ms images rest files image left has =
-    ap (λ (fs : List (List ℕ)). image_step (Some name) number ms images rest (list_map Whole fs)) has
+    → image_step side o number ms images rest (list_map Whole files) ≡ after_images side (number + 1) ms (images ++ image ∷ []) rest (list_map Whole left)
+image_taken side None number ms images rest files image left has =
+    ap (λ (fs : List (List ℕ)). after_images side (number + 1) ms (images ++ [] ∷ []) rest (list_map Whole fs)) has.1
+    ∙ ap (λ (i : List ℕ). after_images side (number + 1) ms (images ++ i ∷ []) rest (list_map Whole left)) (sym has.0)
+image_taken side (Some name) number ms images rest files image left has =
+    ap (λ (fs : List (List ℕ)). image_step side (Some name) number ms images rest (list_map Whole fs)) has
 
-images_taken : (ms : List ModulePlan) (number : ℕ) (images : List (List ℕ)) (rest : List (List ℕ) → List Finding → Next) (files taken : List (List ℕ)) → HasImages ms files taken
-    → after_images number ms images rest (list_map Whole files) ≡ rest (images ++ taken) []
-images_taken [] number images rest files taken has =
+images_taken : (side : Side) (ms : List ModulePlan) (number : ℕ) (images : List (List ℕ)) (rest : List (List ℕ) → List Finding → Next) (files taken : List (List ℕ)) → HasImages ms files taken
+    → after_images side number ms images rest (list_map Whole files) ≡ rest (images ++ taken) []
+images_taken side [] number images rest files taken has =
     ap (λ (fs : List (List ℕ)). rest images (list_map Whole fs)) has.0
     ∙ ap (λ (all : List (List ℕ)). rest all []) (sym (append-nil images) ∙ ap (λ (t : List (List ℕ)). images ++ t) (sym has.1))
-images_taken (m ∷ ms) number images rest files taken has =
-    image_taken m.image number ms images rest files has.0 has.1 has.3
-    ∙ images_taken ms (number + 1) (images ++ has.0 ∷ []) rest has.1 has.2 has.5
+images_taken side (m ∷ ms) number images rest files taken has =
+    image_taken side m.image number ms images rest files has.0 has.1 has.3
+    ∙ images_taken side ms (number + 1) (images ++ has.0 ∷ []) rest has.1 has.2 has.5
     ∙ ap (λ (all : List (List ℕ)). rest all []) (append_assoc images (has.0 ∷ []) has.2 ∙ ap (λ (t : List (List ℕ)). images ++ t) (sym has.4))
-
-abbrev refused_status : Refusal → Status
-refused_status (Faulty fault) = Refused fault
-refused_status (TooFull need limit) = TablesFull need limit
-
-refused_boot : (o : Order) (plan : Said) (why : Refusal) → booted o plan (Err why) [] ≡ End (refusal o.manifest (refused_status why))
-refused_boot o plan (Faulty fault) = refl
-refused_boot o plan (TooFull need limit) = refl
 
 module _ (asked : Option Request) (answers : List Answer) where
   -- what was found leads to this status
@@ -122,18 +123,25 @@ module _ (asked : Option Request) (answers : List Answer) where
       (all_with (next asked) r.before l.0 r.others file found r.finds r.read l.2) in
       ended_so (r.others ++ found ∷ []) (refusal file.name status) all (shape_request asked r.others file r.read found status lack)
 
-  led_by_fault : (fault : BootFault) → IsFaulty asked answers fault → LeadsToStatus asked answers (Refused fault)
-  led_by_fault fault c =
-      ended_so (Whole c.2 ∷ []) (refusal c.0.manifest (Refused fault)) c.3
-      (ap (λ (a : Option Request). next a (Whole c.2 ∷ [])) c.1 ∙ ap (λ (p : Result Said BootFault). planned c.0 p []) c.4)
+  led_by_fault : (side : Side) (fault : BootFault) → IsFaulty asked answers side fault → LeadsToStatus asked answers (refused_by side (Faulty fault))
+  led_by_fault side fault c =
+      ended_so (c.0 ++ Whole c.3 ∷ []) (refusal c.1 (refused_by side (Faulty fault))) c.4
+      (c.2.goes (Whole c.3 ∷ []) ∙ ap (λ (p : Result Said BootFault). planned side c.1 c.2.rest p []) c.5)
 
-  led_by_boot : (why : Refusal) → IsRefused asked answers why → LeadsToStatus asked answers (refused_status why)
-  led_by_boot why c =
-      let found = list_map Whole c.3 in
-      ended_so (Whole c.2 ∷ found) (refusal c.0.manifest (refused_status why)) c.4
-      (ap (λ (a : Option Request). next a (Whole c.2 ∷ found)) c.1 ∙ ap (λ (p : Result Said BootFault). planned c.0 p found) c.6
-      ∙ images_taken c.5.modules 1 [] (λ images. booted c.0 c.5 (boot_of c.5 images)) c.3 c.7 c.8
-      ∙ ap (λ (b : Result State Refusal). booted c.0 c.5 b []) c.9 ∙ refused_boot c.0 c.5 why)
+  led_by_boot : (side : Side) (why : Refusal) → IsRefused asked answers side why → LeadsToStatus asked answers (refused_by side why)
+  led_by_boot side why c =
+      let found = list_map Whole c.4 in
+      ended_so (c.0 ++ Whole c.3 ∷ found) (refusal c.1 (refused_by side why)) c.5
+      (c.2.goes (Whole c.3 ∷ found) ∙ ap (λ (p : Result Said BootFault). planned side c.1 c.2.rest p found) c.7
+      ∙ images_taken side c.6.modules 1 [] (λ images. booted side c.1 c.2.rest c.6 (boot_of c.6 images)) c.4 c.8 c.9
+      ∙ ap (λ (b : Result State Refusal). booted side c.1 c.2.rest c.6 b []) c.10)
+
+  led_by_refusal : (side : Side) (fault : BootFault) → HasFault asked answers side fault → LeadsToStatus asked answers (refused_by side (Faulty fault))
+  led_by_refusal side fault c =
+      elim c [
+        | inl h ↦ led_by_lack h.0 Large (refused_by side (Faulty fault)) h.2 (ap (λ s. Some s) h.1)
+        | inr h ↦ elim h [ inl k ↦ led_by_fault side fault k | inr k ↦ led_by_boot side (Faulty fault) k ]
+      ]
 
   led_by_source : (status : Status) → IsUnassembled asked answers status → LeadsToStatus asked answers status
   led_by_source status c =
@@ -144,12 +152,8 @@ module _ (asked : Option Request) (answers : List Answer) where
   pub caused_status : (status : Status) → Cause asked answers status → status ≢ Ran → LeadsToStatus asked answers status
   caused_status Ran c other = absurd (other refl)
   caused_status Usage c other = (refusal [] Usage, (0, (ap (λ (a : Option Request). next a []) c.0, c.1)), refl)
-  caused_status (Refused fault) c other =
-      elim c [
-        | inl h ↦ led_by_lack h.0 Large (Refused fault) h.2 (ap (λ s. Some s) h.1)
-        | inr h ↦ elim h [ inl k ↦ led_by_fault fault k | inr k ↦ led_by_boot (Faulty fault) k ]
-      ]
-  caused_status (TablesFull need limit) c other = led_by_boot (TooFull need limit) c
+  caused_status (Refused fault) c other = led_by_refusal First fault c
+  caused_status (TablesFull need limit) c other = led_by_boot First (TooFull need limit) c
   caused_status StoreFault c other = led_by_lack c.1.0 Broken StoreFault c.1.2 refl
   caused_status (ShortFile role told got) c other = led_by_lack c.1.0 (Short told got) (ShortFile role told got) c.1.2 (ap (λ (r : FileRole). Some (ShortFile r told got)) c.1.1)
   caused_status (NoFile role) c other = led_by_lack c.0 Absent (NoFile role) c.2 (ap (λ (r : FileRole). Some (NoFile r)) c.1)
@@ -161,8 +165,8 @@ module _ (asked : Option Request) (answers : List Answer) where
   caused_status WantOfMemory c other = absurd c
   caused_status (Unlike key) c other = absurd c
   caused_status NoDomain c other = absurd c
-  caused_status (SecondRefused fault) c other = absurd c
-  caused_status (SecondTablesFull need limit) c other = absurd c
+  caused_status (SecondRefused fault) c other = led_by_refusal Second fault c
+  caused_status (SecondTablesFull need limit) c other = led_by_boot Second (TooFull need limit) c
   caused_status (SnapshotFault at number) c other = absurd c
 
 -- what is found of a file that is reached, where the step ends

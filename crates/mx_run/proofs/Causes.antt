@@ -5,22 +5,27 @@ use Rattle.std.specs.Str.{is_utf8}
 use Rattle.std.proofs.lemmas.List.{append-nil}
 use Rattle.std.proofs.lemmas.Option.{none-some, same_Some}
 use Rattle.mx_io.specs.Answer.{Answer}
-use Rattle.mx_model.specs.Run.{ByBytes}
+use Rattle.mx_model.specs.Run.{Schedule, ByBytes}
 use Rattle.mx_model.specs.State.{State}
 use Rattle.mx_manifest.specs.declared.fault.BootFault.{BootFault}
 use Rattle.mx_manifest.specs.declared.parts.ModulePlan.{ModulePlan}
 use Rattle.mx_manifest.specs.Plan.{Said}
 use Rattle.mx_boot.specs.Boot.{Refusal, Faulty, TooFull, boot_of}
+use Rattle.mx_snapshot.specs.Kept.{kept_of}
+use Rattle.mx_run.specs.declared.side.Side.{Side}
+use Rattle.mx_run.specs.declared.side.Side.TheVariants.{First, Second}
 use Rattle.mx_image.specs.Image.{image_of}
 use Rattle.mx_asm.specs.Denoted.{program_of, first_fault}
 use Rattle.mx_run.specs.declared.status.Status.{Status}
-use Rattle.mx_run.specs.declared.status.Status.TheVariants.{Ran, Usage, Refused, TablesFull, StoreFault, ShortFile, NoFile, AsmFault}
-use Rattle.mx_run.specs.Words.{Order, Request, Run, Asm}
+use Rattle.mx_run.specs.declared.status.Status.TheVariants.{Ran, Usage, StoreFault, ShortFile, NoFile, AsmFault}
+use Rattle.mx_run.specs.Words.{Request, Go, Asm}
 use Rattle.mx_run.specs.Manifest.{judged}
 use Rattle.mx_run.specs.Finding.{Finding, Absent, Large, Short, Broken, Whole, Finds}
-use Rattle.mx_run.specs.Outcome.{Outcome, Wanted, Next, Read, End, refusal, lack_of, after_file, after_images, manifest_file, image_file, schedule_file, source_file, ran, scheduled, booted, planned, written_image, unless_faulty, assembled_text, assembled, next}
+use Rattle.mx_run.specs.Next.{Outcome, Wanted, Next, Read, End, refusal, lack_of, after_file}
+use Rattle.mx_run.specs.Boots.{Rest, refused_by, after_images, manifest_file, image_file, booted, planned, after_boot}
+use Rattle.mx_run.specs.Commands.{schedule_file, source_file, scheduled, run_of, written_image, unless_faulty, assembled_text, assembled, next}
 use Rattle.mx_run.specs.Leads.{LeadsBy, LeadsTo}
-use Rattle.mx_run.specs.Causes.{LeadsToStatus, FindsAll, FindsLast, HasImage, HasImages, Cause}
+use Rattle.mx_run.specs.Causes.{LeadsToStatus, FindsAll, FindsLast, HasImage, HasImages, BootsAfter, IsOver, IsFaulty, IsRefused, Cause}
 use Rattle.mx_run.proofs.ImageSteps.{image_step}
 use Rattle.mx_run.proofs.Leads.{end_same, read_same, read_end}
 use Rattle.mx_run.proofs.Shortfalls.{short_less}
@@ -67,7 +72,8 @@ end_found o answers (x ∷ more) f = absurd (read_end (sym f.3))
 
 -- the status of a file over its limit
 abbrev IsLimit : Wanted → Type 0
-IsLimit file = ((fault : BootFault) × (file.large ≡ Refused fault)) ⊎ ((line : ℕ) × (number : ℕ) × (file.large ≡ AsmFault line number))
+IsLimit file =
+    ((side : Side) × (fault : BootFault) × (file.large ≡ refused_by side (Faulty fault))) ⊎ ((line : ℕ) × (number : ℕ) × (file.large ≡ AsmFault line number))
 
 -- the file that is read last isn't whole
 abbrev Lack : (List Finding → Next) → List Answer → Status → Type 0
@@ -165,29 +171,29 @@ with_image m ms images Own found status o = (
   subst (λ (all : List (List ℕ)). Own all o.5 status) (append_assoc images (o.1 ∷ []) o.4) o.8,
 )
 
-by_image : (o : Option (List ℕ)) (number : ℕ) (ms : List ModulePlan) (images : List (List ℕ)) (rest : List (List ℕ) → List Finding → Next)
+by_image : (side : Side) (o : Option (List ℕ)) (number : ℕ) (ms : List ModulePlan) (images : List (List ℕ)) (rest : List (List ℕ) → List Finding → Next)
     (Own : List (List ℕ) → List Finding → Status → Type 0)
-    → ((images : List (List ℕ)) → Caused (after_images (number + 1) ms images rest) (OfImages ms images Own)) → Caused (image_step o number ms images rest) (OfImage o ms images Own)
-by_image None number ms images rest Own each =
-    weaker (image_step None number ms images rest) (OfImages ms (images ++ [] ∷ []) Own) (OfImage None ms images Own)
+    → ((images : List (List ℕ)) → Caused (after_images side (number + 1) ms images rest) (OfImages ms images Own)) → Caused (image_step side o number ms images rest) (OfImage o ms images Own)
+by_image side None number ms images rest Own each =
+    weaker (image_step side None number ms images rest) (OfImages ms (images ++ [] ∷ []) Own) (OfImage None ms images Own)
     (λ found status o. (o.0, [], o.0, (refl, refl), o.1, o.2, o.3, o.4, o.5)) (each (images ++ [] ∷ []))
-by_image (Some name) number ms images rest Own each =
-    let file = image_file number name in
-    let next_images = λ (bytes : List ℕ). after_images (number + 1) ms (images ++ bytes ∷ []) rest in
-    weaker (image_step (Some name) number ms images rest) (OfFile file next_images (λ bytes. OfImages ms (images ++ bytes ∷ []) Own)) (OfImage (Some name) ms images Own)
+by_image side (Some name) number ms images rest Own each =
+    let file = image_file side number name in
+    let next_images = λ (bytes : List ℕ). after_images side (number + 1) ms (images ++ bytes ∷ []) rest in
+    weaker (image_step side (Some name) number ms images rest) (OfFile file next_images (λ bytes. OfImages ms (images ++ bytes ∷ []) Own)) (OfImage (Some name) ms images Own)
     (λ found status o.
     let p = o.3 in
     (o.0 ∷ p.0, o.0, p.0, refl, p.1, p.2, p.3, o.2 ∙ ap (λ xs. Whole o.0 ∷ xs) p.4, p.5))
-    (by_file file next_images (λ bytes. OfImages ms (images ++ bytes ∷ []) Own) (inl (_, refl)) (λ bytes. each (images ++ bytes ∷ [])))
+    (by_file file next_images (λ bytes. OfImages ms (images ++ bytes ∷ []) Own) (inl (side, _, refl)) (λ bytes. each (images ++ bytes ∷ [])))
 
-by_images : (ms : List ModulePlan) (number : ℕ) (images : List (List ℕ)) (rest : List (List ℕ) → List Finding → Next) (Own : List (List ℕ) → List Finding → Status → Type 0)
-    → ((images : List (List ℕ)) → Caused (rest images) (Own images)) → Caused (after_images number ms images rest) (OfImages ms images Own)
-by_images [] number images rest Own each =
+by_images : (side : Side) (ms : List ModulePlan) (number : ℕ) (images : List (List ℕ)) (rest : List (List ℕ) → List Finding → Next) (Own : List (List ℕ) → List Finding → Status → Type 0)
+    → ((images : List (List ℕ)) → Caused (rest images) (Own images)) → Caused (after_images side number ms images rest) (OfImages ms images Own)
+by_images side [] number images rest Own each =
     weaker (rest images) (Own images) (OfImages [] images Own)
     (λ found status o. ([], [], found, (refl, refl), refl, subst (λ (all : List (List ℕ)). Own all found status) (sym (append-nil images)) o)) (each images)
-by_images (m ∷ ms) number images rest Own each =
-    weaker (image_step m.image number ms images rest) (OfImage m.image ms images Own) (OfImages (m ∷ ms) images Own) (with_image m ms images Own)
-    (by_image m.image number ms images rest Own (λ images. by_images ms (number + 1) images rest Own each))
+by_images side (m ∷ ms) number images rest Own each =
+    weaker (image_step side m.image number ms images rest) (OfImage m.image ms images Own) (OfImages (m ∷ ms) images Own) (with_image m ms images Own)
+    (by_image side m.image number ms images rest Own (λ images. by_images side ms (number + 1) images rest Own each))
 
 -- a step that only ends
 by_end : (o : Outcome) → Caused (λ _. End o) (λ found status. (found ≡ []) × (status ≡ o.status))
@@ -196,31 +202,42 @@ by_end o answers found outcome f end = inr (end_found o answers found f, status_
 abbrev OfRun : List Finding → Status → Type 0
 OfRun found status = status ≡ Ran
 
-by_run : (o : Order) (plan : Said) (s : State) (name : Option (List ℕ)) → Caused (scheduled o plan s name) OfRun
-by_run o plan s None = λ answers found outcome f end. inr (status_same end)
-by_run o plan s (Some name) =
-    let rest = λ (bytes : List ℕ) (more : List Finding). End (ran o plan s (ByBytes bytes)) in
-    weaker (scheduled o plan s (Some name)) (OfFile (schedule_file name) rest (λ bytes. OfRun)) OfRun (λ found status h. h.3)
-    (by_file (schedule_file name) rest (λ bytes. OfRun) (inl (_, refl)) (λ bytes answers found outcome f end. inr (status_same end)))
+by_run : (quantum : ℕ) (made : Schedule → Outcome) → ((schedule : Schedule) → (made schedule).status ≡ Ran) → (name : Option (List ℕ)) → Caused (scheduled quantum made name) OfRun
+by_run quantum made ran None = λ answers found outcome f end. inr (status_same end ∙ ran _)
+by_run quantum made ran (Some name) =
+    let rest = λ (bytes : List ℕ) (more : List Finding). End (made (ByBytes bytes)) in
+    weaker (scheduled quantum made (Some name)) (OfFile (schedule_file name) rest (λ bytes. OfRun)) OfRun (λ found status h. h.3)
+    (by_file (schedule_file name) rest (λ bytes. OfRun) (inl (First, _, refl)) (λ bytes answers found outcome f end. inr (status_same end ∙ ran _)))
 
-abbrev OfBoot : Result State Refusal → List Finding → Status → Type 0
-OfBoot (Ok s) found status = OfRun found status
-OfBoot (Err (Faulty fault)) found status = (found ≡ []) × (status ≡ Refused fault)
-OfBoot (Err (TooFull need limit)) found status = (found ≡ []) × (status ≡ TablesFull need limit)
+-- what follows from a plan and its state
+abbrev Own : Type 1
+Own = Said → State → List Finding → Status → Type 0
 
-by_boot : (o : Order) (plan : Said) (boot : Result State Refusal) → Caused (booted o plan boot) (OfBoot boot)
-by_boot o plan (Ok s) = by_run o plan s o.schedule
-by_boot o plan (Err (Faulty fault)) = by_end (refusal o.manifest (Refused fault))
-by_boot o plan (Err (TooFull need limit)) = by_end (refusal o.manifest (TablesFull need limit))
+-- how a side's boot ends, or what follows
+abbrev OfState : Side → Own → Said → Result State Refusal → List Finding → Status → Type 0
+OfState side own plan (Ok s) found status = own plan s found status
+OfState side own plan (Err why) found status = (found ≡ []) × (status ≡ refused_by side why)
 
-abbrev OfPlan : Result Said BootFault → List Finding → Status → Type 0
-OfPlan (Ok plan) found status = OfImages plan.modules [] (λ images. OfBoot (boot_of plan images)) found status
-OfPlan (Err fault) found status = (found ≡ []) × (status ≡ Refused fault)
+abbrev OfPlan : Side → Own → Result Said BootFault → List Finding → Status → Type 0
+OfPlan side own (Ok plan) found status = OfImages plan.modules [] (λ images. OfState side own plan (boot_of plan images)) found status
+OfPlan side own (Err fault) found status = (found ≡ []) × (status ≡ refused_by side (Faulty fault))
 
-by_plan : (o : Order) (plan : Result Said BootFault) → Caused (planned o plan) (OfPlan plan)
-by_plan o (Ok plan) =
-    by_images plan.modules 1 [] (λ images. booted o plan (boot_of plan images)) (λ images. OfBoot (boot_of plan images)) (λ images. by_boot o plan (boot_of plan images))
-by_plan o (Err fault) = by_end (refusal o.manifest (Refused fault))
+abbrev OfBoot : Side → Own → List Finding → Status → Type 0
+OfBoot side own found status = (bytes : List ℕ) × (others : List Finding) × (found ≡ Whole bytes ∷ others) × OfPlan side own (judged bytes) others status
+
+module _ (side : Side) (name : List ℕ) (rest : Rest) (own : Own) (each : (plan : Said) (s : State) → Caused (rest plan s) (own plan s)) where
+  by_state : (plan : Said) (boot : Result State Refusal) → Caused (booted side name rest plan boot) (OfState side own plan boot)
+  by_state plan (Ok s) = each plan s
+  by_state plan (Err why) = by_end (refusal name (refused_by side why))
+
+  by_plan : (plan : Result Said BootFault) → Caused (planned side name rest plan) (OfPlan side own plan)
+  by_plan (Ok plan) =
+      by_images side plan.modules 1 [] (λ images. booted side name rest plan (boot_of plan images)) (λ images. OfState side own plan (boot_of plan images)) (λ images. by_state plan (boot_of plan images))
+  by_plan (Err fault) = by_end (refusal name (refused_by side (Faulty fault)))
+
+  by_boot : Caused (after_boot side name rest) (OfBoot side own)
+  by_boot =
+      by_file (manifest_file side name) (λ bytes. planned side name rest (judged bytes)) (λ bytes. OfPlan side own (judged bytes)) (inl (side, _, refl)) (λ bytes. by_plan (judged bytes))
 
 abbrev OfSource : List ℕ → List ℕ → List Finding → Status → Type 0
 OfSource source bytes found status = (found ≡ []) × (status ≡ (assembled source bytes).status)
@@ -241,43 +258,64 @@ source_status : (source bytes : List ℕ) → IsOfSource (assembled source bytes
 source_status source bytes = bytes_status source (is_utf8 bytes) (assembled_text source bytes)
     (text_status (first_fault bytes) (λ fault. refusal source (AsmFault fault.line fault.number)) (λ fault. (fault.line, fault.number, refl)) (written_image (image_of (program_of bytes))) refl)
 
+-- a side's cause is that of its status
+over_cause : (asked : Option Request) (answers : List Answer) (side : Side) (fault : BootFault) → IsOver asked answers (refused_by side (Faulty fault)) → Cause asked answers (refused_by side (Faulty fault))
+over_cause asked answers First fault c = inl c
+over_cause asked answers Second fault c = inl c
+
+faulty_cause : (asked : Option Request) (answers : List Answer) (side : Side) (fault : BootFault) → IsFaulty asked answers side fault → Cause asked answers (refused_by side (Faulty fault))
+faulty_cause asked answers First fault c = inr (inl c)
+faulty_cause asked answers Second fault c = inr (inl c)
+
+refused_cause : (asked : Option Request) (answers : List Answer) (side : Side) (why : Refusal) → IsRefused asked answers side why → Cause asked answers (refused_by side why)
+refused_cause asked answers First (Faulty fault) c = inr (inr c)
+refused_cause asked answers First (TooFull need limit) c = c
+refused_cause asked answers Second (Faulty fault) c = inr (inr c)
+refused_cause asked answers Second (TooFull need limit) c = c
+
 module _ (asked : Option Request) (answers : List Answer) where
   -- what was found and the rest of it, where there is no rest
-  no_rest : (bytes : List ℕ) (files : List (List ℕ)) (more found : List Finding) → found ≡ Whole bytes ∷ (list_map Whole files ++ more) → more ≡ [] → FindsAll (next asked) answers found
-      → FindsAll (next asked) answers (Whole bytes ∷ list_map Whole files)
-  no_rest bytes files more found is none f =
+  no_rest : (before : List Finding) (bytes : List ℕ) (files : List (List ℕ)) (more found : List Finding) → found ≡ before ++ Whole bytes ∷ (list_map Whole files ++ more) → more ≡ []
+      → FindsAll (next asked) answers found → FindsAll (next asked) answers (before ++ Whole bytes ∷ list_map Whole files)
+  no_rest before bytes files more found is none f =
       subst (λ (found : List Finding). FindsAll (next asked) answers found)
-      (is ∙ ap (λ xs. Whole bytes ∷ xs) (ap (λ xs. list_map Whole files ++ xs) none ∙ append-nil (list_map Whole files))) f
+      (is ∙ ap (λ xs. before ++ Whole bytes ∷ xs) (ap (λ xs. list_map Whole files ++ xs) none ∙ append-nil (list_map Whole files))) f
 
-  cause_of_boot : (order : Order) → asked ≡ Some (Run order) → (bytes : List ℕ) (plan : Said) → judged bytes ≡ Ok plan → (files images : List (List ℕ)) → HasImages plan.modules files images
-      → (boot : Result State Refusal) → boot_of plan images ≡ boot → (more found : List Finding) → found ≡ Whole bytes ∷ (list_map Whole files ++ more) → FindsAll (next asked) answers found
-      → (status : Status) → OfBoot boot more status → Cause asked answers status
-  cause_of_boot order is bytes plan good files images has (Ok s) boots more found same f status own = subst (Cause asked answers) (sym own) tt
-  cause_of_boot order is bytes plan good files images has (Err (Faulty fault)) boots more found same f status own =
-      subst (Cause asked answers) (sym own.1) (inr (inr (order, is, bytes, files, no_rest bytes files more found same own.0 f, plan, good, images, has, boots)))
-  cause_of_boot order is bytes plan good files images has (Err (TooFull need limit)) boots more found same f status own =
-      subst (Cause asked answers) (sym own.1) (order, is, bytes, files, no_rest bytes files more found same own.0 f, plan, good, images, has, boots)
+  -- a boot of a side after some findings, where what follows has its cause
+  module _ (before : List Finding) (side : Side) (name : List ℕ) (boots : BootsAfter asked before side name) (own : Own)
+      (each : (plan : Said) (s : State) (more : List Finding) (status : Status) → own plan s more status → Cause asked answers status) where
+    cause_of_state : (bytes : List ℕ) (plan : Said) → judged bytes ≡ Ok plan → (files images : List (List ℕ)) → HasImages plan.modules files images → (boot : Result State Refusal)
+        → boot_of plan images ≡ boot → (more found : List Finding) → found ≡ before ++ Whole bytes ∷ (list_map Whole files ++ more) → FindsAll (next asked) answers found
+        → (status : Status) → OfState side own plan boot more status → Cause asked answers status
+    cause_of_state bytes plan good files images has (Ok s) is more found same f status o = each plan s more status o
+    cause_of_state bytes plan good files images has (Err why) is more found same f status o =
+        subst (Cause asked answers) (sym o.1)
+        (refused_cause asked answers side why (before, name, boots, bytes, files, no_rest before bytes files more found same o.0 f, plan, good, images, has, is))
 
-  cause_of_plan : (order : Order) → asked ≡ Some (Run order) → (bytes : List ℕ) (plan : Result Said BootFault) → judged bytes ≡ plan → (more found : List Finding) → found ≡ Whole bytes ∷ more
-      → FindsAll (next asked) answers found → (status : Status) → OfPlan plan more status → Cause asked answers status
-  cause_of_plan order is bytes (Ok plan) good more found same f status own =
-      cause_of_boot order is bytes plan good own.0 own.1 own.3 (boot_of plan own.1) refl own.2 found (same ∙ ap (λ xs. Whole bytes ∷ xs) own.4) f status own.5
-  cause_of_plan order is bytes (Err fault) bad more found same f status own =
-      subst (Cause asked answers) (sym own.1) (inr (inl (order, is, bytes, no_rest bytes [] more found same own.0 f, bad)))
+    cause_of_plan : (bytes : List ℕ) (plan : Result Said BootFault) → judged bytes ≡ plan → (more found : List Finding) → found ≡ before ++ Whole bytes ∷ more
+        → FindsAll (next asked) answers found → (status : Status) → OfPlan side own plan more status → Cause asked answers status
+    cause_of_plan bytes (Ok plan) good more found same f status o =
+        cause_of_state bytes plan good o.0 o.1 o.3 (boot_of plan o.1) refl o.2 found (same ∙ ap (λ xs. before ++ Whole bytes ∷ xs) o.4) f status o.5
+    cause_of_plan bytes (Err fault) bad more found same f status o =
+        subst (Cause asked answers) (sym o.1)
+        (faulty_cause asked answers side fault (before, name, boots, bytes, no_rest before bytes [] more found same o.0 f, bad))
+
+    cause_of_boot : (others found : List Finding) → found ≡ before ++ others → FindsAll (next asked) answers found → (status : Status) → OfBoot side own others status → Cause asked answers status
+    cause_of_boot others found same f status o = cause_of_plan o.0 (judged o.0) refl o.1 found (same ∙ ap (λ xs. before ++ xs) o.2) f status o.3
 
   cause_of_source : (source : List ℕ) → asked ≡ Some (Asm source) → (bytes : List ℕ) (more found : List Finding) → found ≡ Whole bytes ∷ more → FindsAll (next asked) answers found
       → (status : Status) → OfSource source bytes more status → Cause asked answers status
   cause_of_source source is bytes more found same f status own =
       elim (source_status source bytes) [
         | inl h ↦ subst (Cause asked answers) (sym (own.1 ∙ h)) tt
-        | inr h ↦ subst (Cause asked answers) (sym (own.1 ∙ h.2)) (inr (source, is, bytes, no_rest bytes [] more found same own.0 f, h.2))
+        | inr h ↦ subst (Cause asked answers) (sym (own.1 ∙ h.2)) (inr (source, is, bytes, no_rest [] bytes [] more found same own.0 f, h.2))
       ]
 
   cause_of_lack : (file : Wanted) (found : Finding) (status : Status) → FindsLast (next asked) answers file found → IsLimit file → lack_of file found ≡ Some status → Cause asked answers status
   cause_of_lack file Absent status last limit lack = subst (Cause asked answers) (same_Some (NoFile file.role) status lack) (file, refl, last)
   cause_of_lack file Large status last limit lack =
       elim limit [
-        | inl h ↦ subst (Cause asked answers) (sym h.1 ∙ same_Some file.large status lack) (inl (file, h.1, last))
+        | inl h ↦ subst (Cause asked answers) (sym h.2 ∙ same_Some file.large status lack) (over_cause asked answers h.0 h.1 (file, h.2, last))
         | inr h ↦ subst (Cause asked answers) (sym h.2 ∙ same_Some file.large status lack) (inl (file, h.2, last))
       ]
   cause_of_lack file (Short told got) status last limit lack =
@@ -288,13 +326,14 @@ module _ (asked : Option Request) (answers : List Answer) where
 -- where what is asked ends, the last file isn't whole, or what was found says how
 abbrev OfRequest : Option Request → List Finding → Status → Type 0
 OfRequest None found status = (found ≡ []) × (status ≡ Usage)
-OfRequest (Some (Run o)) found status = (bytes : List ℕ) × (others : List Finding) × (found ≡ Whole bytes ∷ others) × OfPlan (judged bytes) others status
+OfRequest (Some (Go o)) found status = OfBoot First (λ plan s. OfRun) found status
 OfRequest (Some (Asm source)) found status = (bytes : List ℕ) × (others : List Finding) × (found ≡ Whole bytes ∷ others) × OfSource source bytes others status
 
 by_request : (asked : Option Request) → Caused (next asked) (OfRequest asked)
 by_request None = by_end (refusal [] Usage)
-by_request (Some (Run o)) =
-    by_file (manifest_file o.manifest) (λ bytes. planned o (judged bytes)) (λ bytes. OfPlan (judged bytes)) (inl (_, refl)) (λ bytes. by_plan o (judged bytes))
+by_request (Some (Go o)) =
+    by_boot First o.file (λ plan s. scheduled plan.quantum (run_of o (kept_of plan) s) o.schedule) (λ plan s. OfRun)
+    (λ plan s. by_run plan.quantum (run_of o (kept_of plan) s) (λ schedule. refl) o.schedule)
 by_request (Some (Asm source)) =
     by_file (source_file source) (λ bytes more. End (assembled source bytes)) (OfSource source) (inr (0, 11, refl)) (λ bytes. by_end (assembled source bytes))
 
@@ -302,7 +341,9 @@ cause_of_request : (asked : Option Request) (answers : List Answer) (found : Lis
     → Cause asked answers status
 cause_of_request None answers found status f own =
     subst (Cause None answers) (sym own.1) (refl, subst (λ (found : List Finding). FindsAll (next None) answers found) own.0 f)
-cause_of_request (Some (Run o)) answers found status f own = cause_of_plan (Some (Run o)) answers o refl own.0 (judged own.0) refl own.1 found own.2 f status own.3
+cause_of_request (Some (Go o)) answers found status f own =
+    let boots : BootsAfter (Some (Go o)) [] First o.file = record { rest = λ plan s. scheduled plan.quantum (run_of o (kept_of plan) s) o.schedule; goes = λ more. refl } in
+    cause_of_boot (Some (Go o)) answers [] First o.file boots (λ plan s. OfRun) (λ plan s more status ran. subst (Cause (Some (Go o)) answers) (sym ran) tt) found found refl f status own
 cause_of_request (Some (Asm source)) answers found status f own = cause_of_source (Some (Asm source)) answers source refl own.0 own.1 found own.2 f status own.3
 
 -- answers lead to a status only by its cause

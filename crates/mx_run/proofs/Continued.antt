@@ -9,9 +9,11 @@ use Rattle.mx_run.specs.declared.reading.ReadFault.{ReadFault}
 use Rattle.mx_run.specs.declared.reading.ReadFault.TheVariants as fault
 use Rattle.mx_run.specs.Words.{Request}
 use Rattle.mx_run.specs.Finding.{Finding, Absent, Large, Short, Broken, Whole, Finds}
-use Rattle.mx_run.specs.Outcome.{Outcome, Wanted, Next, End, after_file, refusal, next}
+use Rattle.mx_run.specs.Next.{Outcome, Wanted, Next, End, after_file, refusal}
+use Rattle.mx_run.specs.Commands.{next}
 use Rattle.mx_run.specs.Reading.{Reads, Refuses}
-use Rattle.mx_run.specs.Top.{Sinks, WritesNothing, Ends, EndsOrWants, Reacts, Continues, Comes}
+use Rattle.mx_turns.specs.Ends.{Sinks}
+use Rattle.mx_run.specs.Top.{WritesNothing, Ends, EndsOrWants, Reacts, Continues, Comes}
 
 module _ {S : Type 0} (gives : S → Answer → S → Type 0) where
   -- a step that reads no file

@@ -5,7 +5,8 @@ use Rattle.std.proofs.lemmas.Str.{is_utf8-from_IsUtf8, IsUtf8-from_is_utf8}
 use Rattle.toml.specs.Parse.{parse_document}
 use Rattle.mx_run.specs.declared.status.Status.TheVariants.{AsmFault}
 use Rattle.mx_run.specs.Manifest.{document}
-use Rattle.mx_run.specs.Outcome.{Outcome, refusal, assembled_text, assembled}
+use Rattle.mx_run.specs.Next.{Outcome, refusal}
+use Rattle.mx_run.specs.Commands.{assembled_text, assembled}
 
 pub document_text : (bytes : List ℕ) → IsUtf8 bytes → document bytes ≡ parse_document bytes
 document_text bytes text = rw (is_utf8-from_IsUtf8 bytes text) refl

@@ -1,70 +1,93 @@
--- How a call of the program ends.
-use Rattle.std.proofs.Common.{◌≡◌, ℕ, ◌<◌, ◌≤◌, List, [], ◌∷◌, length, Option, Ok, Err, refl, sym, inl, inr, arith}
-use Rattle.mx_io.specs.Texts.{AppendsWhole, AppendsPrefix}
+-- How a call of the program ends, by what was put on its sinks.
+use Rattle.std.proofs.Common.{◌≡◌, ℕ, ◌≤◌, List, [], length, Result, Ok, Err, refl, inl, inr, arith}
+use Rattle.mx_io.specs.Texts.{AppendsPrefix}
 use Rattle.mx_io.specs.Sink.{SinkState, Puts}
 use Rattle.mx_io.proofs.Puts.{not_ok}
-use Rattle.mx_io.proofs.Text.{appended-nil}
+use Rattle.mx_io.proofs.Text.{appends_nothing}
+use Rattle.mx_tail.specs.Tail.{sent}
+use Rattle.mx_turns.specs.declared.fault.SinkFault.{SinkFault}
+use Rattle.mx_turns.specs.declared.fault.SinkFault.TheVariants as F
+use Rattle.mx_turns.specs.Ends.{Sinks, sinks, Holds, HoldsPrefix, CountsKept, LeavesAt, Leave, still}
+use Rattle.mx_run.specs.declared.status.Status.{Status}
 use Rattle.mx_run.specs.declared.status.Status.TheVariants.{ConsoleFault, ReportFault}
-use Rattle.mx_run.specs.Outcome.{Outcome}
-use Rattle.mx_run.specs.Top.{sinks, Holds, Ends}
+use Rattle.mx_run.specs.Next.{Outcome}
+use Rattle.mx_run.specs.Top.{Ends, fault_of}
 
--- a sink that got no text
-nothing : (written : Option (List ℕ)) (text : List ℕ) → text ≡ [] → AppendsWhole written written text
-nothing written text none = rw none (sym (appended-nil written))
+-- nothing leaves before the end of a call that makes no turn
+leaves_still : (bytes : ℕ) → LeavesAt bytes (λ (made : ℕ). []) 0 0
+unfolding sent
+leaves_still bytes = record { few = omega arith; pieces = omega arith; next = inr refl }
 
-no_prefix : (written : Option (List ℕ)) (text : List ℕ) → AppendsPrefix written written text
-no_prefix written text = (0, sym (appended-nil written))
+prefix_still : (s : SinkState) (text : List ℕ) → AppendsPrefix s.written s.written text
+prefix_still s text = (0, appends_nothing s.written)
 
--- a text that might not fit has bytes
-has_bytes : (text : List ℕ) (room : ℕ) → (length text ≤ room → ⊥) → 0 < length text
-has_bytes [] room tight = absurd (tight (omega arith))
-has_bytes (byte ∷ bytes) room tight = omega arith
-
-module _ {A E : Type 0} (outcome : Outcome) {before now : SinkState} where
-  -- the report of an outcome was put, which has no other text
-  pub ends_reported : {a : A} → outcome.console ≡ [] → outcome.dump ≡ [] → Puts {E = E} before now outcome.report (Ok a) → (console dump : SinkState)
-      → Ends outcome (sinks console before dump) (sinks console now dump) outcome.status
-  ends_reported no_console no_dump puts console dump =
-      let holds : Holds outcome (sinks console before dump) (sinks console now dump) = record { console = nothing console.written outcome.console no_console; report = puts.whole; dump = nothing dump.written outcome.dump no_dump } in
-      record { how = inl (refl, holds); sure = λ room. (refl, holds, record { console = refl; report = (puts.sure room.report).1; dump = refl }) }
+module _ {A E : Type 0} (status : Status) (text : List ℕ) {before now : SinkState} where
+  -- a report was put, and nothing else
+  pub ends_reported : {a : A} → Puts {E = E} before now text (Ok a) → (console dump : SinkState)
+      → Ends (record { status = status; texts = still [] text [] }) (sinks console before dump) (sinks console now dump) status
+  ends_reported puts console dump =
+      let holds : Holds (still [] text []) (sinks console before dump) (sinks console now dump)
+          = record { console = appends_nothing console.written; report = puts.whole; dump = appends_nothing dump.written } in
+      let kept : CountsKept (sinks console before dump) (sinks console now dump) = record { console = refl; report = puts.kept; dump = refl } in
+      record { how = inl (refl, holds, kept); sure = λ room. (refl, holds, kept) }
 
   -- it could not be put whole
-  pub ends_unreported : {e : E} → outcome.console ≡ [] → Puts {A = A} before now outcome.report (Err e) → (console dump : SinkState)
-      → Ends outcome (sinks console before dump) (sinks console now dump) ReportFault
-  ends_unreported {e} no_console puts console dump =
+  pub ends_unreported : {e : E} → Puts {A = A} before now text (Err e) → (console dump : SinkState)
+      → Ends (record { status = status; texts = still [] text [] }) (sinks console before dump) (sinks console now dump) ReportFault
+  ends_unreported {e} puts console dump =
+      let front = puts.front in
       record {
         how = inr (
-          inr (inl (
+          F.Report,
+          refl,
+          (
+            0,
+            front.0,
+            record { within = front.1; put = front.2; rose = puts.failed },
+            leaves_still front.0,
+            inr (refl, appends_nothing console.written),
             refl,
-            (has_bytes outcome.report before.room (λ fits. not_ok A e (puts.sure fits).0), puts.failed),
-            inr (nothing console.written outcome.console no_console),
-            refl,
-          )),
-          record { console = no_prefix console.written outcome.console; report = puts.front; dump = no_prefix dump.written outcome.dump },
+          ),
+          record { console = prefix_still console []; report = (front.0, front.2); dump = prefix_still dump [] },
         );
         sure = λ room. absurd (not_ok A e (puts.sure room.report).0);
       }
 
-  -- the console's text of an outcome was put, which has no other text
-  pub ends_shown : {a : A} → outcome.report ≡ [] → outcome.dump ≡ [] → Puts {E = E} before now outcome.console (Ok a) → (report dump : SinkState)
-      → Ends outcome (sinks before report dump) (sinks now report dump) outcome.status
-  ends_shown no_report no_dump puts report dump =
-      let holds : Holds outcome (sinks before report dump) (sinks now report dump) = record { console = puts.whole; report = nothing report.written outcome.report no_report; dump = nothing dump.written outcome.dump no_dump } in
-      record { how = inl (refl, holds); sure = λ room. (refl, holds, record { console = (puts.sure room.console).1; report = refl; dump = refl }) }
+  -- bytes were put on the console, and nothing else
+  pub ends_shown : {a : A} → Puts {E = E} before now text (Ok a) → (report dump : SinkState)
+      → Ends (record { status = status; texts = still text [] [] }) (sinks before report dump) (sinks now report dump) status
+  ends_shown puts report dump =
+      let holds : Holds (still text [] []) (sinks before report dump) (sinks now report dump)
+          = record { console = puts.whole; report = appends_nothing report.written; dump = appends_nothing dump.written } in
+      let kept : CountsKept (sinks before report dump) (sinks now report dump) = record { console = puts.kept; report = refl; dump = refl } in
+      record { how = inl (refl, holds, kept); sure = λ room. (refl, holds, kept) }
 
-  -- it could not be put whole
-  pub ends_unshown : {e : E} → Puts {A = A} before now outcome.console (Err e) → (report dump : SinkState)
-      → Ends outcome (sinks before report dump) (sinks now report dump) ConsoleFault
+  -- they could not be put whole
+  pub ends_unshown : {e : E} → Puts {A = A} before now text (Err e) → (report dump : SinkState)
+      → Ends (record { status = status; texts = still text [] [] }) (sinks before report dump) (sinks now report dump) ConsoleFault
   ends_unshown {e} puts report dump =
+      let front = puts.front in
       record {
         how = inr (
-          inl (
-            refl,
-            (has_bytes outcome.console before.room (λ fits. not_ok A e (puts.sure fits).0), puts.failed),
-            no_prefix report.written outcome.notes,
+          F.Console,
+          refl,
+          (
+            0,
+            front.0,
+            record { within = front.1; put = front.2; rose = puts.failed },
+            leaves_still front.0,
+            inl (refl, appends_nothing report.written),
             refl,
           ),
-          record { console = puts.front; report = no_prefix report.written outcome.report; dump = no_prefix dump.written outcome.dump },
+          record { console = (front.0, front.2); report = prefix_still report []; dump = prefix_still dump [] },
         );
         sure = λ room. absurd (not_ok A e (puts.sure room.console).0);
       }
+
+-- the texts of an outcome left, or a sink failed
+module _ {A : Type 0} (outcome : Outcome) (before now : Sinks) where
+  pub ends_left : {a : A} → Leave outcome.texts before now (Ok a) → Ends outcome before now outcome.status
+  ends_left l = record { how = inl (refl, l.whole.0, l.whole.1); sure = λ room. (refl, l.whole.0, l.whole.1) }
+
+  pub ends_failed : (which : SinkFault) → Leave {A = A} outcome.texts before now (Err which) → Ends outcome before now (fault_of which)
+  ends_failed which l = record { how = inr (which, refl, l.fault.0, l.fault.1); sure = λ room. absurd (l.sure room) }

@@ -4,18 +4,23 @@ use Rattle.std.specs.Fmt.{digits}
 use Rattle.mx_io.specs.Answer.{Sized, Gave}
 use Rattle.mx_run.specs.declared.status.FileRole.TheVariants.{Source}
 use Rattle.mx_run.specs.declared.status.Status.TheVariants.{Usage, ShortFile, AsmFault}
-use Rattle.mx_run.specs.Words.{Run, Asm, plain_order, meaning}
+use Rattle.mx_run.specs.Words.{Go, Asm, plain_order, meaning}
+use Rattle.mx_run.specs.declared.order.Way.TheVariants as way
 use Rattle.mx_run.specs.Finding.{Large, Short, Whole, Finds}
-use Rattle.mx_run.specs.Outcome.{Read, End, next, refusal, source_file, manifest_file}
+use Rattle.mx_run.specs.Next.{Read, End, refusal}
+use Rattle.mx_run.specs.Boots.{manifest_file}
+use Rattle.mx_run.specs.Commands.{next, source_file}
+use Rattle.mx_run.specs.declared.side.Side.TheVariants.{First}
+use Rattle.mx_turns.specs.declared.task.Dump.TheVariants.{Ram}
 use Rattle.mx_run.specs.Manifest.{file_fault}
 use Rattle.mx_run.specs.Refusal.{refused_line, fault_text, place_text, detail_text, tables_full_line, short_file_line, asm_fault_line}
 
 -- words with a meaning, and words without
-words_run : meaning (codes "run" ∷ codes "first.toml" ∷ codes "0010" ∷ []) ≡ Some (Run (plain_order (codes "first.toml") 10))
+words_run : meaning (codes "run" ∷ codes "first.toml" ∷ codes "0010" ∷ []) ≡ Some (Go (plain_order way.Run (codes "first.toml") 10))
 words_run = refl
 
 words_options : meaning (codes "run" ∷ codes "first.toml" ∷ codes "7" ∷ codes "--counts" ∷ codes "--schedule" ∷ codes "s" ∷ codes "--dump" ∷ [])
-    ≡ Some (Run (record (plain_order (codes "first.toml") 7) { schedule = Some (codes "s"); dump = true; counts = true }))
+    ≡ Some (Go (record (plain_order way.Run (codes "first.toml") 7) { schedule = Some (codes "s"); dump = Some Ram; counts = true }))
 words_options = refl
 
 words_twice : meaning (codes "run" ∷ codes "first.toml" ∷ codes "7" ∷ codes "--dump" ∷ codes "--tables" ∷ codes "--dump" ∷ []) ≡ None
@@ -30,6 +35,22 @@ words_long_number = refl
 words_option : meaning (codes "run" ∷ codes "-x" ∷ codes "1" ∷ []) ≡ None
 words_option = refl
 
+words_trace : meaning (codes "trace" ∷ codes "first.toml" ∷ codes "7" ∷ codes "--from" ∷ codes "03" ∷ codes "--schedule" ∷ codes "s" ∷ [])
+    ≡ Some (Go (record (plain_order way.Trace (codes "first.toml") 7) { schedule = Some (codes "s"); from = Some 3 }))
+words_trace = refl
+
+words_from_of_a_run : meaning (codes "run" ∷ codes "first.toml" ∷ codes "7" ∷ codes "--from" ∷ codes "3" ∷ []) ≡ None
+words_from_of_a_run = refl
+
+words_from_twice : meaning (codes "trace" ∷ codes "first.toml" ∷ codes "7" ∷ codes "--from" ∷ codes "3" ∷ codes "--from" ∷ codes "3" ∷ []) ≡ None
+words_from_twice = refl
+
+words_from_no_number : meaning (codes "trace" ∷ codes "first.toml" ∷ codes "7" ∷ codes "--from" ∷ codes "x" ∷ []) ≡ None
+words_from_no_number = refl
+
+words_dump_of_a_trace : meaning (codes "trace" ∷ codes "first.toml" ∷ codes "7" ∷ codes "--dump" ∷ []) ≡ None
+words_dump_of_a_trace = refl
+
 words_asm : meaning (codes "asm" ∷ codes "a.s" ∷ []) ≡ Some (Asm (codes "a.s"))
 words_asm = refl
 
@@ -40,7 +61,7 @@ next_usage = refl
 next_source : next (Some (Asm (codes "a.s"))) [] ≡ Read (source_file (codes "a.s"))
 next_source = refl
 
-next_manifest : next (Some (Run (plain_order (codes "first.toml") 10))) [] ≡ Read (manifest_file (codes "first.toml"))
+next_manifest : next (Some (Go (plain_order way.Run (codes "first.toml") 10))) [] ≡ Read (manifest_file First (codes "first.toml"))
 next_manifest = refl
 
 next_short : next (Some (Asm (codes "a.s"))) (Short 10 4 ∷ []) ≡ End (refusal (codes "a.s") (ShortFile Source 10 4))

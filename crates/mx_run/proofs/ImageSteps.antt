@@ -4,40 +4,43 @@ use Rattle.mx_io.specs.Sink.{SinkState}
 use Rattle.mx_io.specs.Answer.{Answer}
 use Rattle.mx_manifest.specs.declared.parts.ModulePlan.{ModulePlan}
 use Rattle.mx_run.specs.declared.status.Status.{Status}
-use Rattle.mx_run.specs.Finding.{Finding}
-use Rattle.mx_run.specs.Outcome.{Next, after_file, after_images, image_file}
-use Rattle.mx_run.specs.Images.{TakesImage}
+use Rattle.mx_run.specs.Finding.{Finding, Whole}
+use Rattle.mx_run.specs.Next.{Next, after_file}
+use Rattle.mx_run.specs.Boots.{after_images, image_file}
+use Rattle.mx_run.specs.Booting.{TakesImage, TakesImages}
 use Rattle.mx_run.specs.Reading.{Takes}
-use Rattle.mx_run.specs.Top.{sinks, Continues, Comes}
+use Rattle.mx_turns.specs.Ends.{sinks}
+use Rattle.mx_run.specs.Top.{Continues, Comes}
+use Rattle.mx_run.specs.declared.side.Side.{Side}
 
 -- the step of a module's image, by its name
-abbrev pub image_step : Option (List ℕ) → ℕ → List ModulePlan → List (List ℕ) → (List (List ℕ) → List Finding → Next) → List Finding → Next
-image_step o number ms images rest found = elim o [
-  | None ↦ after_images (number + 1) ms (images ++ [] ∷ []) rest found
-  | Some name ↦ after_file (image_file number name) (λ bytes. after_images (number + 1) ms (images ++ bytes ∷ []) rest) found
+abbrev pub image_step : Side → Option (List ℕ) → ℕ → List ModulePlan → List (List ℕ) → (List (List ℕ) → List Finding → Next) → List Finding → Next
+image_step side o number ms images rest found = elim o [
+  | None ↦ after_images side (number + 1) ms (images ++ [] ∷ []) rest found
+  | Some name ↦ after_file (image_file side number name) (λ bytes. after_images side (number + 1) ms (images ++ bytes ∷ []) rest) found
 ]
 
-module _ {S : Type 0} (gives : S → Answer → S → Type 0) (number : ℕ) (m : ModulePlan) (s t : S) (r u : SinkState) where
+module _ {S : Type 0} (gives : S → Answer → S → Type 0) (side : Side) (number : ℕ) (m : ModulePlan) (s t : S) (r u : SinkState) where
   -- a module of inline words has an empty image
-  pub takes_none : m.image ≡ None → TakesImage gives number m s s r r (Ok [])
+  pub takes_none : m.image ≡ None → TakesImage gives side number m s s r r (Ok [])
   takes_none is = (
     refl,
-    λ ms images rest. subst (λ (o : Option (List ℕ)). Comes (image_step o number ms images rest) gives s s (after_images (number + 1) ms (images ++ [] ∷ []) rest)) (sym is)
+    λ ms images rest. subst (λ (o : Option (List ℕ)). Comes (image_step side o number ms images rest) gives s s (after_images side (number + 1) ms (images ++ [] ∷ []) rest)) (sym is)
         (λ end before now result c. c),
   )
 
   -- the image file of a module was taken
-  pub takes_some : (name : List ℕ) → m.image ≡ Some name → (bytes : Vec ℕ Global) → Takes gives (image_file number name) s t r u (Ok bytes)
-      → TakesImage gives number m s t r u (Ok bytes.items)
+  pub takes_some : (name : List ℕ) → m.image ≡ Some name → (bytes : Vec ℕ Global) → Takes gives (image_file side number name) s t r u (Ok bytes)
+      → TakesImage gives side number m s t r u (Ok bytes.items)
   takes_some name is bytes takes = (
     takes.0,
-    λ ms images rest. subst (λ (o : Option (List ℕ)). Comes (image_step o number ms images rest) gives s t (after_images (number + 1) ms (images ++ bytes.items ∷ []) rest)) (sym is)
-        (takes.1 (λ bytes. after_images (number + 1) ms (images ++ bytes ∷ []) rest)),
+    λ ms images rest. subst (λ (o : Option (List ℕ)). Comes (image_step side o number ms images rest) gives s t (after_images side (number + 1) ms (images ++ bytes.items ∷ []) rest)) (sym is)
+        (takes.1 (λ bytes. after_images side (number + 1) ms (images ++ bytes ∷ []) rest)),
   )
 
   -- it wasn't taken
-  pub takes_err : (name : List ℕ) → m.image ≡ Some name → (status : Status) → Takes gives (image_file number name) s t r u (Err status)
-      → TakesImage gives number m s t r u (Err status)
+  pub takes_err : (name : List ℕ) → m.image ≡ Some name → (status : Status) → Takes gives (image_file side number name) s t r u (Err status)
+      → TakesImage gives side number m s t r u (Err status)
   takes_err name is status takes ms images rest console dump =
-      subst (λ (o : Option (List ℕ)). Continues (image_step o number ms images rest) gives s t (sinks console r dump) (sinks console u dump) status) (sym is)
-      (takes (λ bytes. after_images (number + 1) ms (images ++ bytes ∷ []) rest) console dump)
+      subst (λ (o : Option (List ℕ)). Continues (image_step side o number ms images rest) gives s t (sinks console r dump) (sinks console u dump) status) (sym is)
+      (takes (λ bytes. after_images side (number + 1) ms (images ++ bytes ∷ []) rest) console dump)

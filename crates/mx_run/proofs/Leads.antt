@@ -6,7 +6,8 @@ use Rattle.mx_io.specs.Answer.{Answer, HasSucceeded, IsOf}
 use Rattle.mx_io.proofs.Talks.{Each, each-front, each-rest}
 use Rattle.mx_run.specs.Words.{Request}
 use Rattle.mx_run.specs.Finding.{Finding, found_in, Finds}
-use Rattle.mx_run.specs.Outcome.{Outcome, Wanted, Next, Read, End, next}
+use Rattle.mx_run.specs.Next.{Outcome, Wanted, Next, Read, End}
+use Rattle.mx_run.specs.Commands.{next}
 use Rattle.mx_run.specs.Leads.{LeadsBy, Leads, LeadsOver, IsOutcome}
 use Rattle.mx_run.proofs.Findings.{finds_over, finds_decided}
 

@@ -9,9 +9,13 @@ use Rattle.mx_io.proofs.Talks.{talks_told, all_succeeded}
 use Rattle.mx_run.specs.declared.status.Status.{Status}
 use Rattle.mx_run.specs.declared.status.Status.TheVariants.{WantOfMemory}
 use Rattle.mx_run.specs.Words.{Request}
-use Rattle.mx_run.specs.Outcome.{Outcome, next}
+use Rattle.mx_run.specs.Next.{Outcome}
+use Rattle.mx_run.specs.Commands.{next}
 use Rattle.mx_run.specs.Leads.{IsOutcome}
-use Rattle.mx_run.specs.Top.{Sinks, HasRoom, CountsKept, IsSinkFault, EndsBy, Ends, WritesNothing, Answered, Reacts}
+use Rattle.mx_turns.specs.declared.fault.SinkFault.{SinkFault}
+use Rattle.mx_turns.specs.declared.fault.SinkFault.TheVariants as F
+use Rattle.mx_turns.specs.Ends.{Sinks, Texts, CountsKept, HasRoom, IsSinkFault}
+use Rattle.mx_run.specs.Top.{EndsBy, Ends, WritesNothing, Answered, Reacts}
 use Rattle.mx_run.specs.Promise.{CountsStay, Gives, Headline, Completeness}
 use Rattle.mx_run.proofs.Leads.{leads_over, one_outcome}
 
@@ -20,19 +24,14 @@ if_some None P each = tt
 if_some (Some a) P each = each a refl
 
 -- where the counts stay no sink failed
-no_fault : (outcome : Outcome) (b n : Sinks) (result : Status) → Stays b.console.faults n.console.faults → Stays b.report.faults n.report.faults → Stays b.dump.faults n.dump.faults
-    → IsSinkFault outcome b n result → ⊥
-no_fault outcome b n result console report dump fault =
-    elim fault [
-      | inl h ↦ Stays-not-Rose b.console.faults n.console.faults console h.1.1
-      | inr h ↦ elim h [
-        | inl k ↦ Stays-not-Rose b.report.faults n.report.faults report k.1.1
-        | inr k ↦ Stays-not-Rose b.dump.faults n.dump.faults dump k.1.1
-      ]
-    ]
+no_fault : (texts : Texts) (b n : Sinks) (which : SinkFault) → Stays b.console.faults n.console.faults → Stays b.report.faults n.report.faults → Stays b.dump.faults n.dump.faults
+    → IsSinkFault which texts b n → ⊥
+no_fault texts b n F.Console console report dump f = Stays-not-Rose b.console.faults n.console.faults console f.2.rose
+no_fault texts b n F.Report console report dump f = Stays-not-Rose b.report.faults n.report.faults report f.2.rose
+no_fault texts b n F.Dump console report dump f = Stays-not-Rose b.dump.faults n.dump.faults dump f.1.rose
 
-gives_from : (outcome : Outcome) (b n : Sinks) (result : Status) → (IsSinkFault outcome b n result → ⊥) → EndsBy outcome b n result → Gives outcome b n result
-gives_from outcome b n result none ends = elim ends [ inl h ↦ h | inr h ↦ absurd (none h.0) ]
+gives_from : (outcome : Outcome) (b n : Sinks) (result : Status) → ((which : SinkFault) → IsSinkFault which outcome.texts b n → ⊥) → EndsBy outcome b n result → Gives outcome b n result
+gives_from outcome b n result none ends = elim ends [ inl h ↦ (h.0, h.1) | inr h ↦ absurd (none h.0 h.2) ]
 
 kept_nothing : (b n : Sinks) → WritesNothing b n → CountsKept b n
 kept_nothing b n w =
@@ -57,7 +56,7 @@ module _ {S : Type 0} (state : S → StoreState) (gives : S → Answer → S →
         | inl h ↦ (
           h.0,
           (h.1.0, leads_over h.1.0 (next asked) files r.0 h.0 ok (said.told files told) h.1.1),
-          gives_from h.0 b n result (no_fault h.0 b n result stays.console stays.report stays.dump) h.2.how,
+          gives_from h.0 b n result (λ which. no_fault h.0.texts b n which stays.console stays.report stays.dump) h.2.how,
         )
         | inr w ↦ absurd (enough w.0)
       ])
@@ -65,7 +64,7 @@ module _ {S : Type 0} (state : S → StoreState) (gives : S → Answer → S →
   pub complete_for : Reacts asked gives s t b n result → Completeness asked (state s) (state t) b n result
   complete_for r =
       if_some (state s).told
-      (λ files. (outcome : Outcome) → IsOutcome asked files outcome → IsTrue (state s).sure → HasRoom outcome b
+      (λ files. (outcome : Outcome) → IsOutcome asked files outcome → IsTrue (state s).sure → HasRoom outcome.texts b
       → ((state t).faults ≡ (state s).faults) × CountsKept b n × ((result ≡ WantOfMemory) ⊎ Gives outcome b n result))
       (λ files told outcome is sure room.
       let said = talks_told state gives law s t r.0 r.1 in

@@ -1,33 +1,60 @@
--- A machine that has booted runs by its quantum or by a schedule file.
-use Rattle.std.proofs.Common.{◌≡◌, ℕ, List, Option, Some, None, Vec, Global, Ok, Err, refl, inl}
+-- How a boot and a schedule are taken, step by step.
+use Rattle.std.proofs.Common.{◌≡◌, ℕ, List, [], ◌∷◌, Option, Some, None, Vec, Global, Result, Ok, Err, refl, sym, ap, subst, inl}
 use Rattle.mx_io.specs.Sink.{SinkState}
 use Rattle.mx_io.specs.Answer.{Answer}
-use Rattle.mx_model.specs.Run.{ByQuantum, ByBytes}
-use Rattle.mx_model.specs.State.{State}
+use Rattle.mx_boot.specs.Boot.{Refusal, boot_of}
+use Rattle.mx_manifest.specs.declared.fault.BootFault.{BootFault}
 use Rattle.mx_manifest.specs.Plan.{Said}
+use Rattle.mx_model.specs.Run.{Schedule, ByQuantum, ByBytes}
+use Rattle.mx_turns.specs.Ends.{Sinks, sinks}
+use Rattle.mx_run.specs.declared.booting.Booted.{Booted}
+use Rattle.mx_run.specs.declared.side.Side.{Side}
 use Rattle.mx_run.specs.declared.status.Status.{Status}
-use Rattle.mx_run.specs.Words.{Order}
-use Rattle.mx_run.specs.Outcome.{End, schedule_file, ran, scheduled}
+use Rattle.mx_run.specs.declared.status.Status.TheVariants.{WantOfMemory}
+use Rattle.mx_run.specs.Boots.{Rest, refused_by, booted, planned}
+use Rattle.mx_run.specs.Booting.{GoesOnWith, TakesBoot, TakesSchedule}
+use Rattle.mx_run.specs.Commands.{schedule_file, scheduled}
+use Rattle.mx_run.specs.Finding.{Finding}
+use Rattle.mx_run.specs.Next.{Outcome, Next, End, refusal, after_file}
 use Rattle.mx_run.specs.Reading.{Takes}
-use Rattle.mx_run.specs.Top.{Sinks, sinks, Ends, Continues}
-use Rattle.mx_run.proofs.Continued.{continues_end}
+use Rattle.mx_run.specs.Top.{Ends, Continues, Comes}
+use Rattle.mx_run.proofs.Continued.{continues_end, continues_wanting}
 
-module _ {S : Type 0} (gives : S → Answer → S → Type 0) (o : Order) (plan : Said) (s : State) (schedule : Option (List ℕ)) where
+module _ {S : Type 0} (gives : S → Answer → S → Type 0) where
+  -- a step that came to a later one, whose boot was taken
+  pub boots_on : (step later : Rest → List Finding → Next) (s m t : S) (r u v : SinkState) → u ≡ r → ((rest : Rest) → Comes (step rest) gives s m (later rest)) → (result : Result Booted Status)
+      → TakesBoot gives later m t u v result → TakesBoot gives step s t r v result
+  boots_on step later s m t r u v same comes (Ok b) takes =
+      let goes = takes.1 in (
+        rw same at takes.0,
+        record {
+          state = goes.state;
+          new = goes.new;
+          means = goes.means;
+          unmoved = goes.unmoved;
+          plan = goes.plan;
+          comes = λ rest end before now status c. comes rest end before now status (goes.comes rest end before now status c);
+        },
+      )
+  boots_on step later s m t r u v same comes (Err status) takes =
+      λ rest console dump. comes rest t (sinks console r dump) (sinks console v dump) status (rw same at (takes rest console dump))
+
+  -- a boot that is refused by its line
+  pub boots_refused : (step : Rest → List Finding → Next) (outcome : Outcome) (s : S) (r u : SinkState) (status : Status) → ((rest : Rest) → step rest [] ≡ End outcome)
+      → ((console dump : SinkState) → Ends outcome (sinks console r dump) (sinks console u dump) status) → TakesBoot gives step s s r u (Err status)
+  boots_refused step outcome s r u status is ends rest console dump = continues_end gives (step rest) outcome (is rest) s (inl (ends console dump))
+
+  pub boots_wanting : (step : Rest → List Finding → Next) (s : S) (r : SinkState) → TakesBoot gives step s s r r (Err WantOfMemory)
+  boots_wanting step s r rest console dump = continues_wanting gives (step rest) s refl (record { console = refl; report = refl; dump = refl })
+
   -- no schedule file is asked
-  pub scheduled_quantum : schedule ≡ None → (store : S) (q : ℕ) → q ≡ plan.quantum → {b n : Sinks} {result : Status} → Ends (ran o plan s (ByQuantum q)) b n result
-      → Continues (scheduled o plan s schedule) gives store store b n result
-  scheduled_quantum is store q same ends = rw is (continues_end gives (scheduled o plan s None) (ran o plan s (ByQuantum plan.quantum)) refl store (inl (rw same at ends)))
+  pub schedule_none : (s : S) (r : SinkState) → TakesSchedule gives None s s r r (Ok None)
+  schedule_none s r = (refl, λ quantum made end before now status c. c)
 
-  module _ (name : List ℕ) (is : schedule ≡ Some name) (store stored : S) (before now console dump : SinkState) where
-    -- its bytes came
-    pub scheduled_bytes : (bytes : Vec ℕ Global) → Takes gives (schedule_file name) store stored before now (Ok bytes) → (text : List ℕ) → text ≡ bytes.items → {n : Sinks} {result : Status}
-        → Ends (ran o plan s (ByBytes text)) (sinks console now dump) n result → Continues (scheduled o plan s schedule) gives store stored (sinks console before dump) n result
-    scheduled_bytes bytes takes text same ends =
-        rw is
-        (takes.1 (λ bytes more. End (ran o plan s (ByBytes bytes))) stored _ _ _
-        (continues_end gives _ (ran o plan s (ByBytes bytes.items)) refl stored (inl (rw (same, takes.0) at ends))))
+  -- its bytes came
+  pub schedule_some : (name : List ℕ) (s t : S) (r u : SinkState) (bytes : Vec ℕ Global) → Takes gives (schedule_file name) s t r u (Ok bytes) → TakesSchedule gives (Some name) s t r u (Ok (Some bytes.items))
+  schedule_some name s t r u bytes takes = (takes.0, λ quantum made. takes.1 (λ bytes more. End (made (ByBytes bytes))))
 
-    -- it isn't there whole
-    pub scheduled_refused : (status : Status) → Takes gives (schedule_file name) store stored before now (Err status)
-        → Continues (scheduled o plan s schedule) gives store stored (sinks console before dump) (sinks console now dump) status
-    scheduled_refused status takes = rw is (takes (λ bytes more. End (ran o plan s (ByBytes bytes))) console dump)
+  -- it isn't there whole
+  pub schedule_err : (name : List ℕ) (s t : S) (r u : SinkState) (status : Status) → Takes gives (schedule_file name) s t r u (Err status) → TakesSchedule gives (Some name) s t r u (Err status)
+  schedule_err name s t r u status takes = λ quantum made console dump. takes (λ bytes more. End (made (ByBytes bytes))) console dump

@@ -1,20 +1,22 @@
 -- What the code keeps of the words, and of the files that it reads.
 use Rattle.std.specs.Prelude.{◌<◌, ◌^◌, option_copied, ⊤}
-use Rattle.mx_run.specs.Words.{Order, Request, Run, Asm, Parsed, Stands, Lacks, Meaningless}
-use Rattle.mx_run.specs.Outcome.{Wanted}
+use Rattle.mx_run.specs.Words.{Order, Request, Go, Asm, Parsed, Stands, Lacks, Meaningless}
+use Rattle.mx_run.specs.Next.{Wanted}
 use Rattle.mx_run.specs.declared.wanted.Wanted as files
-use Rattle.mx_run.specs.declared.words.Order as orders
+use Rattle.mx_run.specs.declared.order.Order as orders
 use Rattle.mx_run.specs.declared.words.Asked.{Asked}
 use Rattle.mx_run.specs.declared.words.Asked.TheVariants as asked
-use Rattle.mx_run.specs.declared.words.Parse.{Parse}
-use Rattle.mx_run.specs.declared.words.Parse.TheVariants as parse
+use Rattle.mx_run.specs.declared.order.Parse.{Parse}
+use Rattle.mx_run.specs.declared.order.Parse.TheVariants as parse
 
 -- the order of a run
 abbrev pub order_of : orders.Order → Order
 order_of o = record {
-  manifest = o.manifest.now;
+  way = o.way;
+  file = o.file.now;
   steps = o.steps;
   schedule = option_copied o.schedule;
+  from = o.from;
   dump = o.dump;
   tables = o.tables;
   counts = o.counts;
@@ -22,23 +24,23 @@ order_of o = record {
 
 -- the request that the words make
 abbrev pub request_of : Asked → Request
-request_of (asked.Run order) = Run (order_of order)
+request_of (asked.Go order) = Go (order_of order)
 request_of (asked.Asm source) = Asm source.now
 
 -- what options made of an order
 abbrev pub parsed_of : Parse → Parsed
 parsed_of (parse.Stands order) = Stands (order_of order)
-parsed_of (parse.Lacks order) = Lacks (order_of order)
+parsed_of (parse.Lacks order flag) = Lacks (order_of order) flag
 parsed_of parse.Meaningless = Meaningless
 
 -- the steps asked have at most ten digits
 abbrev pub HasFewSteps : Asked → Type 0
-HasFewSteps (asked.Run order) = order.steps < 10 ^ 10
+HasFewSteps (asked.Go order) = order.steps < 10 ^ 10
 HasFewSteps (asked.Asm source) = ⊤
 
 abbrev pub ParsesFewSteps : Parse → Type 0
 ParsesFewSteps (parse.Stands order) = order.steps < 10 ^ 10
-ParsesFewSteps (parse.Lacks order) = order.steps < 10 ^ 10
+ParsesFewSteps (parse.Lacks order flag) = order.steps < 10 ^ 10
 ParsesFewSteps parse.Meaningless = ⊤
 
 -- the file that is to be read

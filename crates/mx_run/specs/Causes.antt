@@ -9,13 +9,17 @@ use Rattle.mx_manifest.specs.declared.fault.BootFault.{BootFault}
 use Rattle.mx_manifest.specs.declared.parts.ModulePlan.{ModulePlan}
 use Rattle.mx_manifest.specs.Plan.{Said}
 use Rattle.mx_boot.specs.Boot.{Refusal, Faulty, TooFull, boot_of}
+use Rattle.mx_run.specs.declared.side.Side.{Side}
+use Rattle.mx_run.specs.declared.side.Side.TheVariants.{First, Second}
 use Rattle.mx_run.specs.declared.status.FileRole.{FileRole}
 use Rattle.mx_run.specs.declared.status.Status.{Status}
 use Rattle.mx_run.specs.declared.status.Status.TheVariants.{Ran, Usage, Refused, TablesFull, StoreFault, ShortFile, NoFile, ConsoleFault, ReportFault, DumpFault, WantOfMemory, AsmFault, Unlike, NoDomain, SecondRefused, SecondTablesFull, SnapshotFault}
-use Rattle.mx_run.specs.Words.{Order, Request, Run, Asm}
+use Rattle.mx_run.specs.Words.{Request, Asm}
 use Rattle.mx_run.specs.Manifest.{judged}
 use Rattle.mx_run.specs.Finding.{Finding, Absent, Large, Short, Broken, Whole, Finds}
-use Rattle.mx_run.specs.Outcome.{Outcome, Wanted, Next, Read, assembled, next}
+use Rattle.mx_run.specs.Next.{Outcome, Wanted, Next, Read}
+use Rattle.mx_run.specs.Boots.{Rest, after_boot, refused_by}
+use Rattle.mx_run.specs.Commands.{assembled, next}
 use Rattle.mx_run.specs.Leads.{Leads}
 
 -- the answers lead to an outcome with this status
@@ -67,21 +71,33 @@ HasImages (m ∷ ms) files images =
     (image : List ℕ) × (more : List (List ℕ)) × (others : List (List ℕ))
     × HasImage m.image files image more × (images ≡ image ∷ others) × HasImages ms more others
 
--- the manifest of a run is read whole, and this is its first fault
-abbrev pub IsFaulty : Option Request → List Answer → BootFault → Type 0
-IsFaulty asked answers fault =
-    (order : Order) × (asked ≡ Some (Run order)) × (bytes : List ℕ)
-    × FindsAll (next asked) answers (Whole bytes ∷ []) × (judged bytes ≡ Err fault)
+-- after these findings a command boots the manifest of this name, of this side
+pub record BootsAfter (asked : Option Request) (before : List Finding) (side : Side) (name : List ℕ)
+    : Type 0 where
+  pub rest : Rest
+  pub goes : (found : List Finding) → next asked (before ++ found) ≡ after_boot side name rest found
 
--- the manifest of a run and its images are read whole, and this is how the boot refuses them
-abbrev pub IsRefused : Option Request → List Answer → Refusal → Type 0
-IsRefused asked answers refusal =
-    (order : Order) × (asked ≡ Some (Run order))
+-- a side's manifest is read whole, and this is its first fault
+abbrev pub IsFaulty : Option Request → List Answer → Side → BootFault → Type 0
+IsFaulty asked answers side fault =
+    (before : List Finding) × (name : List ℕ) × BootsAfter asked before side name
+    × (bytes : List ℕ) × FindsAll (next asked) answers (before ++ Whole bytes ∷ [])
+    × (judged bytes ≡ Err fault)
+
+-- a side's manifest and its images are read whole, and this is how the boot refuses them
+abbrev pub IsRefused : Option Request → List Answer → Side → Refusal → Type 0
+IsRefused asked answers side refusal =
+    (before : List Finding) × (name : List ℕ) × BootsAfter asked before side name
     × (bytes : List ℕ) × (files : List (List ℕ))
-    × FindsAll (next asked) answers (Whole bytes ∷ list_map Whole files)
+    × FindsAll (next asked) answers (before ++ Whole bytes ∷ list_map Whole files)
     × (plan : Said) × (judged bytes ≡ Ok plan)
     × (images : List (List ℕ)) × HasImages plan.modules files images
     × (boot_of plan images ≡ Err refusal)
+
+-- a file that is read last is over its limit, or a side's boot has this fault
+abbrev pub HasFault : Option Request → List Answer → Side → BootFault → Type 0
+HasFault asked answers side fault = IsOver asked answers (refused_by side (Faulty fault))
+    ⊎ IsFaulty asked answers side fault ⊎ IsRefused asked answers side (Faulty fault)
 
 -- a source is read whole, and this is the status of what its bytes give
 abbrev pub IsUnassembled : Option Request → List Answer → Status → Type 0
@@ -94,9 +110,8 @@ IsUnassembled asked answers status =
 abbrev pub Cause : Option Request → List Answer → Status → Type 0
 Cause asked answers Ran = ⊤
 Cause asked answers Usage = (asked ≡ None) × (answers ≡ [])
-Cause asked answers (Refused fault) = IsOver asked answers (Refused fault)
-    ⊎ IsFaulty asked answers fault ⊎ IsRefused asked answers (Faulty fault)
-Cause asked answers (TablesFull need limit) = IsRefused asked answers (TooFull need limit)
+Cause asked answers (Refused fault) = HasFault asked answers First fault
+Cause asked answers (TablesFull need limit) = IsRefused asked answers First (TooFull need limit)
 Cause asked answers StoreFault = (role : FileRole) × IsFound asked answers role Broken
 Cause asked answers (ShortFile role told got) =
     (got < told) × IsFound asked answers role (Short told got)
@@ -109,8 +124,9 @@ Cause asked answers DumpFault = ⊥
 Cause asked answers WantOfMemory = ⊥
 Cause asked answers (Unlike key) = ⊥
 Cause asked answers NoDomain = ⊥
-Cause asked answers (SecondRefused fault) = ⊥
-Cause asked answers (SecondTablesFull need limit) = ⊥
+Cause asked answers (SecondRefused fault) = HasFault asked answers Second fault
+Cause asked answers (SecondTablesFull need limit) =
+    IsRefused asked answers Second (TooFull need limit)
 Cause asked answers (SnapshotFault at number) = ⊥
 
 -- answers lead to a status only by its cause

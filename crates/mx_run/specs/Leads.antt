@@ -4,7 +4,8 @@ use Rattle.mx_io.specs.Store.{FileMap}
 use Rattle.mx_io.specs.Answer.{Answer}
 use Rattle.mx_run.specs.Words.{Request}
 use Rattle.mx_run.specs.Finding.{Finding, Finds, found_in}
-use Rattle.mx_run.specs.Outcome.{Outcome, Wanted, Next, Read, End, next}
+use Rattle.mx_run.specs.Next.{Outcome, Wanted, Next, Read, End}
+use Rattle.mx_run.specs.Commands.{next}
 
 -- what is done by what is found, where so many files are read: the first of the answers say what is found of the next one, and it
 -- goes on by what was found; with the last answer the outcome stands

@@ -2,12 +2,12 @@
 use Rattle.std.specs.Prelude.{◌≡◌, ◌≢◌, ◌⊎◌, IsTrue, Option, IfSome}
 use Rattle.mx_io.specs.Count.{Stays}
 use Rattle.mx_io.specs.Store.{StoreState}
+use Rattle.mx_turns.specs.Ends.{Sinks, Holds, HasRoom, CountsKept}
 use Rattle.mx_run.specs.declared.status.Status.{Status}
 use Rattle.mx_run.specs.declared.status.Status.TheVariants.{WantOfMemory}
 use Rattle.mx_run.specs.Words.{Request}
-use Rattle.mx_run.specs.Outcome.{Outcome}
+use Rattle.mx_run.specs.Next.{Outcome}
 use Rattle.mx_run.specs.Leads.{IsOutcome}
-use Rattle.mx_run.specs.Top.{Sinks, Holds, HasRoom, CountsKept}
 
 -- the counts of faults stay
 pub record CountsStay (s t : StoreState) (before now : Sinks) : Type 0 where
@@ -18,7 +18,7 @@ pub record CountsStay (s t : StoreState) (before now : Sinks) : Type 0 where
 
 -- the status and the texts of the outcome
 abbrev pub Gives : Outcome → Sinks → Sinks → Status → Type 0
-Gives outcome before now result = (result ≡ outcome.status) × Holds outcome before now
+Gives outcome before now result = (result ≡ outcome.status) × Holds outcome.texts before now
 
 -- the headline: over a store that tells, where the counts stay and memory is not wanting, the status and each sink's text
 -- are those of the outcome to which what is asked leads over the files
@@ -32,6 +32,6 @@ Headline asked store stored before now result =
 abbrev pub Completeness : Option Request → StoreState → StoreState → Sinks → Sinks → Status → Type 0
 Completeness asked store stored before now result =
     IfSome store.told (λ files. (outcome : Outcome) → IsOutcome asked files outcome →
-    IsTrue store.sure → HasRoom outcome before →
+    IsTrue store.sure → HasRoom outcome.texts before →
     (stored.faults ≡ store.faults) × CountsKept before now
     × ((result ≡ WantOfMemory) ⊎ Gives outcome before now result))

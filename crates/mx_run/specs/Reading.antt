@@ -7,10 +7,11 @@ use Rattle.mx_io.specs.Answer.{Answer, Gave, Talks}
 use Rattle.mx_run.specs.declared.reading.ReadFault.{ReadFault}
 use Rattle.mx_run.specs.declared.reading.ReadFault.TheVariants as fault
 use Rattle.mx_run.specs.Finding.{Finding, Absent, Large, Short, Broken, Whole, Completes, Finds}
-use Rattle.mx_run.specs.Outcome.{Wanted, Next, after_file, refusal}
+use Rattle.mx_run.specs.Next.{Wanted, Next, after_file, refusal}
 use Rattle.mx_run.specs.declared.status.Status.{Status}
 use Rattle.mx_run.specs.declared.status.Status.TheVariants.{WantOfMemory, StoreFault, NoFile, ShortFile}
-use Rattle.mx_run.specs.Top.{Sinks, sinks, WritesNothing, Ends, Continues, Comes}
+use Rattle.mx_turns.specs.Ends.{Sinks, sinks}
+use Rattle.mx_run.specs.Top.{WritesNothing, Ends, Continues, Comes}
 
 -- a fact of what was found, where memory was not wanting
 abbrev pub OfFinding : (Finding → Type 0) → Result (Vec ℕ Global) ReadFault → Type 0

@@ -1,6 +1,7 @@
 -- The lines of refusals, each a whole report.
 use Rattle.std.specs.Prelude.{ℕ, List, [], ◌∷◌, decimal, codes, Option, Some, None}
 use Rattle.std.specs.List.{concat}
+use Rattle.mx_io.specs.Piece.{shown_name}
 use Rattle.mx_words.specs.declared.tables.Need.{Need}
 use Rattle.mx_manifest.specs.declared.fault.BootFault.{BootFault}
 use Rattle.mx_manifest.specs.declared.fault.Part.{Part}
@@ -42,12 +43,12 @@ store_fault_line = codes "store fault\n"
 -- a file ended early
 unfoldable pub short_file_line : List ℕ → ℕ → ℕ → List ℕ
 short_file_line name told got =
-    concat (codes "short file " ∷ name ∷ codes " told=" ∷ decimal told ∷ codes " got="
+    concat (codes "short file " ∷ shown_name name ∷ codes " told=" ∷ decimal told ∷ codes " got="
     ∷ decimal got ∷ codes "\n" ∷ [])
 
 -- a file is absent
 unfoldable pub no_file_line : List ℕ → List ℕ
-no_file_line name = concat (codes "no file " ∷ name ∷ codes "\n" ∷ [])
+no_file_line name = concat (codes "no file " ∷ shown_name name ∷ codes "\n" ∷ [])
 
 -- the permission tables of the boot need more than the limit
 unfoldable pub tables_full_line : Need → Need → List ℕ
@@ -78,6 +79,6 @@ line_of name DumpFault = None
 line_of name WantOfMemory = None
 line_of name (Unlike key) = None
 line_of name NoDomain = None
-line_of name (SecondRefused fault) = None
-line_of name (SecondTablesFull need limit) = None
+line_of name (SecondRefused fault) = Some (refused_line fault)
+line_of name (SecondTablesFull need limit) = Some (tables_full_line need limit)
 line_of name (SnapshotFault at number) = None

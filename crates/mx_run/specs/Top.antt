@@ -1,37 +1,15 @@
 -- How a call of the program ends.
-use Rattle.std.specs.Prelude.{◌≡◌, ℕ, ◌<◌, ◌≤◌, ◌⊎◌, List, length, Option, IsSome}
-use Rattle.mx_io.specs.Count.{Rose}
-use Rattle.mx_io.specs.Texts.{AppendsWhole, AppendsPrefix}
-use Rattle.mx_io.specs.Sink.{SinkState}
+use Rattle.std.specs.Prelude.{◌≡◌, ◌⊎◌, List, Option, IsSome}
 use Rattle.mx_io.specs.Answer.{Answer, Talks}
+use Rattle.mx_turns.specs.declared.fault.SinkFault.{SinkFault}
+use Rattle.mx_turns.specs.declared.fault.SinkFault.TheVariants as F
+use Rattle.mx_turns.specs.Ends.{Sinks, Holds, HoldsPrefix, HasRoom, CountsKept, IsSinkFault}
 use Rattle.mx_run.specs.declared.status.Status.{Status}
 use Rattle.mx_run.specs.declared.status.Status.TheVariants.{ConsoleFault, ReportFault, DumpFault, WantOfMemory}
 use Rattle.mx_run.specs.Words.{Request}
 use Rattle.mx_run.specs.Finding.{Finding}
-use Rattle.mx_run.specs.Outcome.{Outcome, Next}
+use Rattle.mx_run.specs.Next.{Outcome, Next}
 use Rattle.mx_run.specs.Leads.{Leads, LeadsTo}
-
--- the three sinks at a moment
-pub record Sinks : Type 0 where
-  pub console : SinkState
-  pub report : SinkState
-  pub dump : SinkState
-
--- the three together
-abbrev pub sinks : SinkState → SinkState → SinkState → Sinks
-sinks console report dump = record { console = console; report = report; dump = dump }
-
--- each sink that tells holds what it held, followed by its text
-pub record Holds (outcome : Outcome) (before now : Sinks) : Type 0 where
-  pub console : AppendsWhole before.console.written now.console.written outcome.console
-  pub report : AppendsWhole before.report.written now.report.written outcome.report
-  pub dump : AppendsWhole before.dump.written now.dump.written outcome.dump
-
--- each sink that tells holds what it held, followed by a prefix of its text
-pub record HoldsPrefix (outcome : Outcome) (before now : Sinks) : Type 0 where
-  pub console : AppendsPrefix before.console.written now.console.written outcome.console
-  pub report : AppendsPrefix before.report.written now.report.written outcome.report
-  pub dump : AppendsPrefix before.dump.written now.dump.written outcome.dump
 
 -- nothing was written
 pub record WritesNothing (before now : Sinks) : Type 0 where
@@ -39,35 +17,18 @@ pub record WritesNothing (before now : Sinks) : Type 0 where
   pub report : now.report ≡ before.report
   pub dump : now.dump ≡ before.dump
 
--- a sink for which there is a text failed
-abbrev pub Fails : List ℕ → SinkState → SinkState → Type 0
-Fails text before now = (0 < length text) × Rose before.faults now.faults
+-- the status of a sink's fault
+abbrev pub fault_of : SinkFault → Status
+fault_of F.Console = ConsoleFault
+fault_of F.Report = ReportFault
+fault_of F.Dump = DumpFault
 
--- the report got lines of faults and exits alone, none that closes it
-abbrev pub TellsNotes : Outcome → Sinks → Sinks → Type 0
-TellsNotes outcome before now =
-    AppendsPrefix before.report.written now.report.written outcome.notes
-
--- the status is the fault of a sink that failed; what closes the report comes after the console's whole text: the report got
--- notes alone where the console failed, and where it failed itself it got notes alone or the console holds its whole text; the
--- dump comes last: it got nothing where another one failed, and where it failed itself the two others hold their whole texts
-abbrev pub IsSinkFault : Outcome → Sinks → Sinks → Status → Type 0
-IsSinkFault outcome before now result =
-    ((result ≡ ConsoleFault) × Fails outcome.console before.console now.console
-    × TellsNotes outcome before now × (now.dump ≡ before.dump))
-    ⊎ ((result ≡ ReportFault) × Fails outcome.report before.report now.report
-    × (TellsNotes outcome before now
-    ⊎ AppendsWhole before.console.written now.console.written outcome.console)
-    × (now.dump ≡ before.dump))
-    ⊎ ((result ≡ DumpFault) × Fails outcome.dump before.dump now.dump
-    × AppendsWhole before.console.written now.console.written outcome.console
-    × AppendsWhole before.report.written now.report.written outcome.report)
-
--- status and texts are the outcome's, or a sink failed and each sink holds a prefix
+-- status and texts are the outcome's, and no sink's count rose; or a sink failed, which is the status, and each holds a prefix
 abbrev pub EndsBy : Outcome → Sinks → Sinks → Status → Type 0
 EndsBy outcome before now result =
-    ((result ≡ outcome.status) × Holds outcome before now)
-    ⊎ (IsSinkFault outcome before now result × HoldsPrefix outcome before now)
+    ((result ≡ outcome.status) × Holds outcome.texts before now × CountsKept before now)
+    ⊎ ((which : SinkFault) × (result ≡ fault_of which)
+    × IsSinkFault which outcome.texts before now × HoldsPrefix outcome.texts before now)
 
 -- memory was wanting, the words have a meaning, and nothing was written
 abbrev pub Wants : Option Request → Sinks → Sinks → Status → Type 0
@@ -82,22 +43,10 @@ Answered asked gives store stored before now result =
     × (((outcome : Outcome) × Leads asked answers outcome × EndsBy outcome before now result)
     ⊎ Wants asked before now result)
 
--- each sink has room for its text
-pub record HasRoom (outcome : Outcome) (before : Sinks) : Type 0 where
-  pub console : length outcome.console ≤ before.console.room
-  pub report : length outcome.report ≤ before.report.room
-  pub dump : length outcome.dump ≤ before.dump.room
-
--- the counts of faults of the sinks are the same
-pub record CountsKept (before now : Sinks) : Type 0 where
-  pub console : now.console.faults ≡ before.console.faults
-  pub report : now.report.faults ≡ before.report.faults
-  pub dump : now.dump.faults ≡ before.dump.faults
-
 -- a call ended by an outcome, surely with its status and its texts where the sinks have room for these
 pub record Ends (outcome : Outcome) (before now : Sinks) (result : Status) : Type 0 where
   pub how : EndsBy outcome before now result
-  pub sure : HasRoom outcome before → (result ≡ outcome.status) × Holds outcome before now
+  pub sure : HasRoom outcome.texts before → (result ≡ outcome.status) × Holds outcome.texts before now
       × CountsKept before now
 
 -- the same, or memory was wanting and nothing was written

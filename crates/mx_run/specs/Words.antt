@@ -4,20 +4,28 @@ use Rattle.std.specs.Char.{is_ascii_digit}
 use Rattle.std.specs.List.{list_all}
 use Rattle.std.specs.Str.{bytes_eq}
 use Rattle.std.specs.Str.Parse.{digits_value}
+use Rattle.mx_turns.specs.declared.task.Dump.{Dump}
+use Rattle.mx_turns.specs.declared.task.Dump.TheVariants as D
+use Rattle.mx_run.specs.declared.order.Flag.{Flag}
+use Rattle.mx_run.specs.declared.order.Flag.TheVariants as flag
+use Rattle.mx_run.specs.declared.order.Way.{Way}
+use Rattle.mx_run.specs.declared.order.Way.TheVariants as way
 
--- what `run` is asked: a manifest by its name, for at most so many steps; a schedule by its name; and whether RAM goes to the dump
--- and the report has the lines of the tables and of the counts
+-- what a run is asked: its way; a manifest by its name, for at most so many steps; a schedule by its name; of a trace the first turn
+-- that has a line; what goes to the dump; and whether the report has the lines of the tables and of the counts
 pub record Order : Type 0 where
-  pub manifest : List ℕ
+  pub way : Way
+  pub file : List ℕ
   pub steps : ℕ
   pub schedule : Option (List ℕ)
-  pub dump : Bool
+  pub from : Option ℕ
+  pub dump : Option Dump
   pub tables : Bool
   pub counts : Bool
 
--- what the words ask: a run, or to assemble a source by its name
+-- what the words ask: a run of some way, or to assemble a source by its name
 pub data Request : Type 0 where
-  Run : Order → Request
+  Go : Order → Request
   Asm : List ℕ → Request
 
 -- a name has 1 to 255 bytes and doesn't begin with `-`
@@ -28,57 +36,92 @@ is_name word = nat_lt 0 (length word) && nat_le (length word) 255 && not (slice_
 abbrev pub is_number : List ℕ → Bool
 is_number word = nat_lt 0 (length word) && nat_le (length word) 10 && list_all is_ascii_digit word
 
--- what options make of an order: it stands, it lacks the name of a schedule, or they have no meaning
+-- what options make of an order: it stands, it lacks the word that this one asks for, or they have no meaning
 pub data Parsed : Type 0 where
   Stands : Order → Parsed
-  Lacks : Order → Parsed
+  Lacks : Order → Flag → Parsed
   Meaningless : Parsed
+
+-- the options by their words
+abbrev pub flag_of : List ℕ → Option Flag
+flag_of word =
+    if bytes_eq word (codes "--schedule") then Some flag.Schedule
+    else if bytes_eq word (codes "--from") then Some flag.From
+    else if bytes_eq word (codes "--dump") then Some flag.Dump
+    else if bytes_eq word (codes "--tables") then Some flag.Tables
+    else if bytes_eq word (codes "--counts") then Some flag.Counts
+    else None
+
+-- which options a way has
+abbrev pub has_flag : Way → Flag → Bool
+has_flag way.Run flag.Schedule = true
+has_flag way.Run flag.From = false
+has_flag way.Run flag.Dump = true
+has_flag way.Run flag.Tables = true
+has_flag way.Run flag.Counts = true
+has_flag way.Trace flag.Schedule = true
+has_flag way.Trace flag.From = true
+has_flag way.Trace flag.Dump = false
+has_flag way.Trace flag.Tables = false
+has_flag way.Trace flag.Counts = false
 
 -- an option stands at most once
 abbrev pub once : Bool → Parsed → Parsed
 once given parsed = if given then Meaningless else parsed
 
 -- an order with one option more
-abbrev pub with_option : Order → List ℕ → Parsed
-with_option o word =
-    if bytes_eq word (codes "--schedule") then once (is_some o.schedule) (Lacks o)
-    else if bytes_eq word (codes "--dump") then once o.dump (Stands (record o { dump = true }))
-    else if bytes_eq word (codes "--tables")
-    then once o.tables (Stands (record o { tables = true }))
-    else if bytes_eq word (codes "--counts")
-    then once o.counts (Stands (record o { counts = true }))
-    else Meaningless
+abbrev pub with_flag : Order → Flag → Parsed
+with_flag o flag.Schedule = once (is_some o.schedule) (Lacks o flag.Schedule)
+with_flag o flag.From = once (is_some o.from) (Lacks o flag.From)
+with_flag o flag.Dump = once (is_some o.dump) (Stands (record o { dump = Some D.Ram }))
+with_flag o flag.Tables = once o.tables (Stands (record o { tables = true }))
+with_flag o flag.Counts = once o.counts (Stands (record o { counts = true }))
+
+abbrev pub with_option : Order → Option Flag → Parsed
+with_option o None = Meaningless
+with_option o (Some flag) = if has_flag o.way flag then with_flag o flag else Meaningless
+
+-- an order with the word that an option asks for: a name, or a number
+abbrev pub completed : Order → Flag → List ℕ → Parsed
+completed o flag.Schedule word =
+    if is_name word then Stands (record o { schedule = Some word }) else Meaningless
+completed o flag.From word =
+    if is_number word then Stands (record o { from = Some (digits_value 10 word) }) else Meaningless
+completed o flag.Dump word = Meaningless
+completed o flag.Tables word = Meaningless
+completed o flag.Counts word = Meaningless
 
 -- one word more
 abbrev pub with_word : Parsed → List ℕ → Parsed
-with_word (Stands o) word = with_option o word
-with_word (Lacks o) word = if is_name word then Stands (record o { schedule = Some word })
-    else Meaningless
+with_word (Stands o) word = with_option o (flag_of word)
+with_word (Lacks o flag) word = completed o flag word
 with_word Meaningless word = Meaningless
 
 abbrev pub asked_by : Parsed → Option Request
-asked_by (Stands o) = Some (Run o)
-asked_by (Lacks o) = None
+asked_by (Stands o) = Some (Go o)
+asked_by (Lacks o flag) = None
 asked_by Meaningless = None
 
 -- an order without options
-abbrev pub plain_order : List ℕ → ℕ → Order
-plain_order manifest steps = record {
-  manifest = manifest;
+abbrev pub plain_order : Way → List ℕ → ℕ → Order
+plain_order way file steps = record {
+  way = way;
+  file = file;
   steps = steps;
   schedule = None;
-  dump = false;
+  from = None;
+  dump = None;
   tables = false;
   counts = false;
 }
 
--- `run`: a manifest's name, a number of steps, and options in any order
-abbrev pub run_request : List (List ℕ) → Option Request
-run_request [] = None
-run_request (manifest ∷ []) = None
-run_request (manifest ∷ steps ∷ options) =
-    if is_name manifest && is_number steps
-    then asked_by (fold with_word (Stands (plain_order manifest (digits_value 10 steps))) options)
+-- a run of some way: a file's name, a number of steps, and options in any order
+abbrev pub go_request : Way → List (List ℕ) → Option Request
+go_request way [] = None
+go_request way (file ∷ []) = None
+go_request way (file ∷ steps ∷ options) =
+    if is_name file && is_number steps
+    then asked_by (fold with_word (Stands (plain_order way file (digits_value 10 steps))) options)
     else None
 
 -- `asm`: a source's name
@@ -91,6 +134,7 @@ asm_request (source ∷ more ∷ rest) = None
 abbrev pub meaning : List (List ℕ) → Option Request
 meaning [] = None
 meaning (command ∷ operands) =
-    if bytes_eq command (codes "run") then run_request operands
+    if bytes_eq command (codes "run") then go_request way.Run operands
+    else if bytes_eq command (codes "trace") then go_request way.Trace operands
     else if bytes_eq command (codes "asm") then asm_request operands
     else None

@@ -3,8 +3,9 @@
 ghost use Rattle.std.specs.Prelude.{◌≡◌, Some, ◌≤◌, ◌^◌, length};
 ghost use Rattle.mx_io.specs.Sink.{SinkState};
 ghost use Rattle.mx_run.specs.Words.{Asm};
-ghost use Rattle.mx_run.specs.Outcome.{assembled, assembled_text, written_image, next};
-ghost use Rattle.mx_run.specs.Top.{sinks, Ends, EndsOrWants, Continues};
+ghost use Rattle.mx_run.specs.Commands.{assembled, assembled_text, written_image, next};
+ghost use Rattle.mx_turns.specs.Ends.{sinks};
+ghost use Rattle.mx_run.specs.Top.{Ends, EndsOrWants, Continues};
 
 use crate::refusal::refuse;
 use crate::status::Status;

@@ -1,157 +1,153 @@
-//! The command `run`: from the name of a manifest to the boot of its machine.
+//! A boot as a step of a command: from the name of a manifest to its machine.
 
-ghost use Rattle.std.specs.Prelude.{◌<◌, ◌^◌, Ok, Some};
+ghost use Rattle.std.specs.Prelude.{Ok};
 ghost use Rattle.mx_boot.specs.Boot.{boot_of};
 ghost use Rattle.mx_boot.specs.Machines.{IsBooted};
-ghost use Rattle.mx_run.specs.Words.{Run};
+ghost use Rattle.mx_run.specs.Boots.{Rest, after_boot, planned, booted};
+ghost use Rattle.mx_run.specs.Booting.{TakesBoot, TakesImage, TakesImages, images_of};
 ghost use Rattle.mx_run.specs.Manifest.{judged};
-ghost use Rattle.mx_run.specs.Outcome.{next, planned, booted};
-ghost use Rattle.mx_run.specs.Asked.{order_of};
-ghost use Rattle.mx_run.specs.Images.{TakesImage};
-ghost use Rattle.mx_run.specs.Top.{sinks, Continues};
 
 use crate::manifest::read_plan;
 use crate::refusal::refuse;
-use crate::running::run_booted;
+use crate::side::{Side, refused, tables_full};
 use crate::status::Status;
 use crate::wanted::{image_file, manifest_file, take_file};
-use crate::words::Order;
 use mx_boot::{AnyMachine, BootRefused, boot};
 use mx_io::{Sink, Store};
 use mx_manifest::{ManifestFault, ModulePlan, Plan};
 use mx_words::Blob;
 use std::alloc::Global;
 
-/// Runs what an order asks: reads its manifest, boots its plan, and makes its run.
-pub(crate) fn run_manifest<S: Store, C: Sink, R: Sink, D: Sink>(
+/// A manifest's plan, and its machine at boot.
+pub(crate) struct Booted {
+    /// What the manifest says.
+    pub plan: Plan,
+    /// The machine, which has made no turn.
+    pub machine: AnyMachine,
+}
+
+/// Boots a side's manifest of this name with its images, or ends the call: the line of the refusal is the whole report.
+pub(crate) fn take_boot<S: Store, R: Sink>(
     alloc: Global,
-    order: &Order<'_>,
+    side: Side,
+    name: &str,
     store: &mut S,
-    console: &mut C,
     report: &mut R,
-    dump: &mut D,
-) -> Status
-    requires { order.now.steps < 10 ^ 10 }
-    ensures { Continues (next (Some (Run (order_of order.now)))) S.gives store.old store.new
-        (sinks (C.state console.old) (R.state report.old) (D.state dump.old))
-        (sinks (C.state console.new) (R.state report.new) (D.state dump.new)) result }
+) -> Result<Booted, Status>
+    ensures { TakesBoot S.gives (after_boot side name.now) store.old store.new
+        (R.state report.old) (R.state report.new) result }
 {
-    match take_file(alloc, &manifest_file(order.manifest), store, report) {
-        Ok(bytes) => with_manifest(alloc, order, bytes.as_slice(), store, console, report, dump),
-        Err(status) => status,
+    match take_file(alloc, &manifest_file(side, name), store, report) {
+        Ok(bytes) => boot_manifest(alloc, side, name, bytes.as_slice(), store, report),
+        Err(status) => Err(status),
     }
 }
 
-/// Runs the manifest with these bytes, or refuses it by its first fault.
-fn with_manifest<S: Store, C: Sink, R: Sink, D: Sink>(
+// Boots the manifest with these bytes, or refuses it by its first fault.
+fn boot_manifest<S: Store, R: Sink>(
     alloc: Global,
-    order: &Order<'_>,
+    side: Side,
+    name: &str,
     bytes: &[u8],
     store: &mut S,
-    console: &mut C,
     report: &mut R,
-    dump: &mut D,
-) -> Status
-    requires { order.now.steps < 10 ^ 10 }
-    ensures { Continues (planned (order_of order.now) (judged bytes.now))
-        S.gives store.old store.new
-        (sinks (C.state console.old) (R.state report.old) (D.state dump.old))
-        (sinks (C.state console.new) (R.state report.new) (D.state dump.new)) result }
+) -> Result<Booted, Status>
+    ensures { TakesBoot S.gives (λ (rest : Rest). planned side name.now rest (judged bytes.now))
+        store.old store.new (R.state report.old) (R.state report.new) result }
 {
     match read_plan(alloc, bytes) {
-        Ok(plan) => with_plan(alloc, order, &plan, store, console, report, dump),
-        Err(ManifestFault::Fault(fault)) => {
-            refuse(report, order.manifest, Status::Refused(fault))
-        }
-        Err(ManifestFault::NoMemory) => Status::WantOfMemory,
+        Ok(plan) => boot_plan(alloc, side, name, plan, store, report),
+        Err(ManifestFault::Fault(fault)) => Err(refuse(report, name, refused(side, fault))),
+        Err(ManifestFault::NoMemory) => Err(Status::WantOfMemory),
     }
 }
 
-/// Runs a plan: takes the images of its modules and boots it with them.
-fn with_plan<S: Store, C: Sink, R: Sink, D: Sink>(
+// Boots a plan: takes the images of its modules, and then boots it with them.
+fn boot_plan<S: Store, R: Sink>(
     alloc: Global,
-    order: &Order<'_>,
+    side: Side,
+    name: &str,
+    plan: Plan,
+    store: &mut S,
+    report: &mut R,
+) -> Result<Booted, Status>
+    ensures { TakesBoot S.gives (λ (rest : Rest). planned side name.now rest (Ok plan))
+        store.old store.new (R.state report.old) (R.state report.new) result }
+{
+    match take_images(alloc, side, &plan, store, report) {
+        Ok(images) => boot_images(alloc, side, name, plan, images, store, report),
+        Err(status) => Err(status),
+    }
+}
+
+// The images of a plan's modules, in order.
+fn take_images<S: Store, R: Sink>(
+    alloc: Global,
+    side: Side,
     plan: &Plan,
     store: &mut S,
-    console: &mut C,
     report: &mut R,
-    dump: &mut D,
-) -> Status
-    requires { order.now.steps < 10 ^ 10 }
-    ensures { Continues (planned (order_of order.now) (Ok plan.now)) S.gives store.old store.new
-        (sinks (C.state console.old) (R.state report.old) (D.state dump.old))
-        (sinks (C.state console.new) (R.state report.new) (D.state dump.new)) result }
+) -> Result<Vec<Blob>, Status>
+    ensures { TakesImages S.gives side plan.now store.old store.new
+        (R.state report.old) (R.state report.new) (images_of result) }
 {
     let mut images = Vec::new(alloc);
     'modules: for i in 0..plan.modules() {
-        match take_image(alloc, i + 1, plan.module(i), store, report) {
+        match take_image(alloc, side, i + 1, plan.module(i), store, report) {
             Ok(image) => match images.push(image) {
                 Ok(()) => {}
-                Err(_) => return Status::WantOfMemory,
+                Err(_) => return Err(Status::WantOfMemory),
             },
-            Err(status) => return status,
+            Err(status) => return Err(status),
         }
     }
-    with_images(alloc, order, plan, images, store, console, report, dump)
+    Ok(images)
 }
 
-/// The image of the module with a number from 1: the bytes of its file, or none for inline words.
+// The image of the module with a number from 1: the bytes of its file, or none for inline words.
 fn take_image<S: Store, R: Sink>(
     alloc: Global,
+    side: Side,
     number: u32,
     home: &ModulePlan,
     store: &mut S,
     report: &mut R,
 ) -> Result<Blob, Status>
-    ensures { TakesImage S.gives number home.now store.old store.new
+    ensures { TakesImage S.gives side number home.now store.old store.new
         (R.state report.old) (R.state report.new) result }
 {
     match &home.image {
-        Some(name) => match take_file(alloc, &image_file(number, name.as_str()), store, report) {
-            Ok(bytes) => Ok(Blob::from_vec(bytes)),
-            Err(status) => Err(status),
-        },
+        Some(name) => {
+            match take_file(alloc, &image_file(side, number, name.as_str()), store, report) {
+                Ok(bytes) => Ok(Blob::from_vec(bytes)),
+                Err(status) => Err(status),
+            }
+        }
         None => Ok(Blob::new(alloc)),
     }
 }
 
-/// Boots a plan with its images and runs it, or refuses it.
-fn with_images<S: Store, C: Sink, R: Sink, D: Sink>(
+// Boots a plan with its images, or refuses it.
+fn boot_images<S: Store, R: Sink>(
     alloc: Global,
-    order: &Order<'_>,
-    plan: &Plan,
+    side: Side,
+    name: &str,
+    plan: Plan,
     images: Vec<Blob>,
     store: &mut S,
-    console: &mut C,
     report: &mut R,
-    dump: &mut D,
-) -> Status
-    requires { order.now.steps < 10 ^ 10 }
-    ensures { Continues (booted (order_of order.now) plan.now (boot_of plan.now images.items))
-        S.gives store.old store.new
-        (sinks (C.state console.old) (R.state report.old) (D.state dump.old))
-        (sinks (C.state console.new) (R.state report.new) (D.state dump.new)) result }
+) -> Result<Booted, Status>
+    ensures { TakesBoot S.gives
+        (λ (rest : Rest). booted side name.now rest plan (boot_of plan images.items))
+        store.old store.new (R.state report.old) (R.state report.new) result }
 {
-    match boot_all(alloc, plan, images) {
-        Ok(mut machine) => {
-            let status = run_booted(
-                alloc,
-                order,
-                plan,
-                &mut machine,
-                store,
-                console,
-                report,
-                dump,
-            );
-            machine.end();
-            status
-        }
-        Err(BootRefused::Fault(fault)) => refuse(report, order.manifest, Status::Refused(fault)),
+    match boot_all(alloc, &plan, images) {
+        Ok(machine) => Ok(Booted { plan, machine }),
+        Err(BootRefused::Fault(fault)) => Err(refuse(report, name, refused(side, fault))),
         Err(BootRefused::TablesFull { need, limit }) => {
-            refuse(report, order.manifest, Status::TablesFull { need, limit })
+            Err(refuse(report, name, tables_full(side, need, limit)))
         }
-        Err(BootRefused::NoMemory) => Status::WantOfMemory,
+        Err(BootRefused::NoMemory) => Err(Status::WantOfMemory),
     }
 }
 

@@ -3,20 +3,21 @@
 
 mod assembling;
 mod booting;
-mod ending;
 mod laws;
 mod manifest;
-mod pace;
+mod order;
+mod program;
 mod reading;
 mod refusal;
 mod running;
+mod side;
 mod status;
 mod top;
-mod turns;
 mod wanted;
 mod words;
 
 pub use laws::{answers_decide, files_decide, statuses_have_causes, stores_show_causes};
+pub use program::run_program;
 pub use status::{FileRole, Status};
 pub use top::mondrix;
 pub use words::Words;

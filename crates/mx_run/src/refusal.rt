@@ -2,13 +2,16 @@
 
 ghost use Rattle.std.specs.Prelude.{◌≡◌, [], unwrap_or};
 ghost use Rattle.mx_io.specs.Sink.{SinkState, Puts};
-ghost use Rattle.mx_run.specs.Refusal.{line_of, refused_line, fault_text, place_text, detail_text, tables_full_line, short_file_line, no_file_line, usage_line, store_fault_line, asm_fault_line};
-ghost use Rattle.mx_run.specs.Outcome.{refusal};
-ghost use Rattle.mx_run.specs.Top.{sinks, Ends};
+ghost use Rattle.mx_io.specs.Piece.{piece_text};
+ghost use Rattle.mx_run.specs.Refusal.{line_of, refused_line, place_text, tables_full_line, short_file_line, no_file_line, usage_line, store_fault_line, asm_fault_line};
+ghost use Rattle.mx_run.specs.Next.{refusal};
+ghost use Rattle.mx_turns.specs.Ends.{sinks};
+ghost use Rattle.mx_run.specs.Top.{Ends};
 
 use crate::status::Status;
-use mx_io::{Failed, Piece, Sink, put_all, put_pieces};
+use mx_io::{Failed, Piece, Sink, put_all};
 use mx_manifest::{BootFault, Part};
+use mx_report::put_line;
 use mx_words::Need;
 
 /// Ends a call that refuses: its line is the whole report, or the report's fault is the status. The other
@@ -17,21 +20,23 @@ pub(crate) fn refuse<R: Sink>(report: &mut R, name: &str, status: Status) -> Sta
     ensures { (console dump : SinkState) → Ends (refusal name.now status)
         (sinks console (R.state report.old) dump) (sinks console (R.state report.new) dump) result }
 {
-    match put_line(report, name, &status) {
+    match put_refusal(report, name, &status) {
         Ok(()) => status,
         Err(Failed) => Status::ReportFault,
     }
 }
 
 /// Puts the line of a refusal; `name` is the name of the file that it is about.
-fn put_line<R: Sink>(report: &mut R, name: &str, status: &Status) -> Result<(), Failed>
+fn put_refusal<R: Sink>(report: &mut R, name: &str, status: &Status) -> Result<(), Failed>
     ensures { Puts (R.state report.old) (R.state report.new)
         (unwrap_or (line_of name.now status.now) []) result }
 {
     match *status {
         Status::Usage => put_usage(report),
-        Status::Refused(fault) => put_refused(report, &fault),
-        Status::TablesFull { need, limit } => put_tables_full(report, &need, &limit),
+        Status::Refused(fault) | Status::SecondRefused(fault) => put_refused(report, &fault),
+        Status::TablesFull { need, limit } | Status::SecondTablesFull { need, limit } => {
+            put_tables_full(report, &need, &limit)
+        }
         Status::StoreFault => put_store_fault(report),
         Status::ShortFile { told, got, .. } => put_short_file(report, name, told, got),
         Status::NoFile(_) => put_no_file(report, name),
@@ -52,7 +57,7 @@ fn put_tables_full<R: Sink>(report: &mut R, need: &Need, limit: &Need) -> Result
     ensures { Puts (R.state report.old) (R.state report.new)
         (tables_full_line need.now limit.now) result }
 {
-    put_pieces(
+    put_line(
         report,
         &[
             Piece::Text("tables full upper="),
@@ -84,11 +89,11 @@ fn put_short_file<R: Sink>(report: &mut R, name: &str, told: u64, got: u64) -> R
     ensures { Puts (R.state report.old) (R.state report.new)
         (short_file_line name.now told got) result }
 {
-    put_pieces(
+    put_line(
         report,
         &[
             Piece::Text("short file "),
-            Piece::Text(name),
+            Piece::Name(name),
             Piece::Text(" told="),
             Piece::Number(told),
             Piece::Text(" got="),
@@ -102,11 +107,11 @@ fn put_short_file<R: Sink>(report: &mut R, name: &str, told: u64, got: u64) -> R
 fn put_no_file<R: Sink>(report: &mut R, name: &str) -> Result<(), Failed>
     ensures { Puts (R.state report.old) (R.state report.new) (no_file_line name.now) result }
 {
-    put_pieces(
+    put_line(
         report,
         &[
             Piece::Text("no file "),
-            Piece::Text(name),
+            Piece::Name(name),
             Piece::Text("\n"),
         ],
     )
@@ -116,7 +121,7 @@ fn put_no_file<R: Sink>(report: &mut R, name: &str) -> Result<(), Failed>
 fn put_asm_fault<R: Sink>(report: &mut R, line: u32, number: u32) -> Result<(), Failed>
     ensures { Puts (R.state report.old) (R.state report.new) (asm_fault_line line number) result }
 {
-    put_pieces(
+    put_line(
         report,
         &[
             Piece::Text("asm line="),
@@ -131,51 +136,38 @@ fn put_asm_fault<R: Sink>(report: &mut R, line: u32, number: u32) -> Result<(), 
 fn put_refused<R: Sink>(report: &mut R, fault: &BootFault) -> Result<(), Failed>
     ensures { Puts (R.state report.old) (R.state report.new) (refused_line fault.now) result }
 {
-    put_number(report, fault.number)?;
-    put_place(report, fault.place.part, fault.place.index)?;
-    put_detail(report, fault.place.key.name(), fault.detail)
-}
-
-#[tactic(auto, unfolding(crate::specs::Refusal::fault_text))]
-fn put_number<R: Sink>(report: &mut R, number: u32) -> Result<(), Failed>
-    ensures { Puts (R.state report.old) (R.state report.new) (fault_text number) result }
-{
-    put_pieces(
-        report,
-        &[
-            Piece::Text("refused fault="),
-            Piece::Number(number as u64),
-            Piece::Text(" at="),
-        ],
-    )
-}
-
-#[tactic(auto, unfolding(crate::specs::Refusal::place_text))]
-fn put_place<R: Sink>(report: &mut R, part: Part, index: u32) -> Result<(), Failed>
-    ensures { Puts (R.state report.old) (R.state report.new) (place_text part index) result }
-{
-    match part {
-        Part::Manifest => put_pieces(report, &[Piece::Text("manifest")]),
-        Part::Module => put_pieces(
-            report,
-            &[Piece::Text("module."), Piece::Number(index as u64)],
-        ),
-        Part::Hart => put_pieces(report, &[Piece::Text("hart."), Piece::Number(index as u64)]),
-        Part::Schedule => put_pieces(report, &[Piece::Text("schedule")]),
+    let index = Piece::Number(fault.place.index as u64);
+    match fault.place.part {
+        Part::Manifest => put_refused_at(report, fault, Piece::Text("manifest"), Piece::Text("")),
+        Part::Module => put_refused_at(report, fault, Piece::Text("module."), index),
+        Part::Hart => put_refused_at(report, fault, Piece::Text("hart."), index),
+        Part::Schedule => put_refused_at(report, fault, Piece::Text("schedule"), Piece::Text("")),
     }
 }
 
-#[tactic(auto, unfolding(crate::specs::Refusal::detail_text))]
-fn put_detail<R: Sink>(report: &mut R, name: &str, detail: u32) -> Result<(), Failed>
-    ensures { Puts (R.state report.old) (R.state report.new) (detail_text name.now detail) result }
+// Puts the line of a fault at a table, with its index where it has one.
+fn put_refused_at<'a, R: Sink>(
+    report: &mut R,
+    fault: &'a BootFault,
+    table: Piece<'a>,
+    index: Piece<'a>,
+) -> Result<(), Failed>
+    requires { piece_text table ++ piece_text index
+        ≡ place_text fault.now.place.part fault.now.place.index }
+    ensures { Puts (R.state report.old) (R.state report.new) (refused_line fault.now) result }
 {
-    put_pieces(
+    put_line(
         report,
         &[
+            Piece::Text("refused fault="),
+            Piece::Number(fault.number as u64),
+            Piece::Text(" at="),
+            table,
+            index,
             Piece::Text(" key="),
-            Piece::Text(name),
+            Piece::Text(fault.place.key.name()),
             Piece::Text(" detail="),
-            Piece::Number(detail as u64),
+            Piece::Number(fault.detail as u64),
             Piece::Text("\n"),
         ],
     )

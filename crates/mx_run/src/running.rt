@@ -1,33 +1,81 @@
-//! The command `run`: from a machine that has booted to the end of its run.
+//! The commands `run` and `trace`: a machine boots, makes its turns, and writes its texts.
 
-ghost use Rattle.std.specs.Prelude.{◌≡◌, ◌≤◌, ◌<◌, ◌^◌, length, map, IfOk};
+ghost use Rattle.std.specs.Prelude.{◌≡◌, ◌<◌, ◌^◌, Some, IfOk, map, unwrap_or};
+ghost use Rattle.std.specs.Option.{option_copied};
 ghost use Rattle.mx_boot.specs.Machines.{meaning};
 ghost use Rattle.mx_model.specs.State.{State, flat};
+ghost use Rattle.mx_snapshot.specs.Kept.{kept_of};
+ghost use Rattle.mx_turns.specs.Ends.{Leave, sinks};
+ghost use Rattle.mx_turns.specs.Runs.{IsOfPlan};
+ghost use Rattle.mx_turns.specs.Running.{schedule_of, HasTurns, IsNew};
 ghost use Rattle.mx_run.specs.Asked.{order_of};
-ghost use Rattle.mx_run.specs.Outcome.{scheduled, names_of, ran};
-ghost use Rattle.mx_run.specs.Running.{schedule_of, HasTurns, IsFresh, IsNew};
-ghost use Rattle.mx_run.specs.Top.{sinks, Ends, Continues};
+ghost use Rattle.mx_run.specs.Booting.{TakesSchedule, schedule_bytes};
+ghost use Rattle.mx_run.specs.Commands.{next, options_of, run_of, scheduled, texts_of};
+ghost use Rattle.mx_run.specs.Top.{fault_of, Ends, Continues};
+ghost use Rattle.mx_run.specs.Words.{Go};
 
-use crate::ending::end_run;
-use crate::pace::Schedule;
+use crate::booting::{Booted, take_boot};
+use crate::side::Side;
 use crate::status::Status;
-use crate::turns::make_turns;
 use crate::wanted::{schedule_file, take_file};
-use crate::words::Order;
+use crate::order::{Order, Way};
 use mx_boot::AnyMachine;
 use mx_io::{Sink, Store};
-use mx_machine::Machine;
 use mx_manifest::Plan;
-use mx_report::{Tail, closing_of_a_flat_state};
-use mx_table::PermTables;
+use mx_report::Options;
+use mx_snapshot::Kept;
+use mx_turns::{Schedule, SinkFault, Task, TraceTask, make_run, make_trace};
 use mx_words::NoMemory;
 use std::alloc::Global;
 
-/// Runs a machine of a plan, which has made no turn, by the schedule that the order names, or by the plan's quantum.
-pub(crate) fn run_booted<S: Store, C: Sink, R: Sink, D: Sink>(
+/// Runs what an order asks: boots its manifest, and makes its run.
+pub(crate) fn run_manifest<S: Store, C: Sink, R: Sink, D: Sink>(
     alloc: Global,
     order: &Order<'_>,
-    plan: &Plan,
+    store: &mut S,
+    console: &mut C,
+    report: &mut R,
+    dump: &mut D,
+) -> Status
+    requires { order.now.steps < 10 ^ 10 }
+    ensures { Continues (next (Some (Go (order_of order.now)))) S.gives store.old store.new
+        (sinks (C.state console.old) (R.state report.old) (D.state dump.old))
+        (sinks (C.state console.new) (R.state report.new) (D.state dump.new)) result }
+{
+    match take_boot(alloc, Side::First, order.file, store, report) {
+        Ok(Booted { plan, mut machine }) => {
+            let status = match keep(alloc, plan) {
+                Ok(kept) => run_booted(
+                    alloc,
+                    order,
+                    &kept,
+                    &mut machine,
+                    store,
+                    console,
+                    report,
+                    dump,
+                ),
+                Err(NoMemory) => Status::WantOfMemory,
+            };
+            machine.end();
+            status
+        }
+        Err(status) => status,
+    }
+}
+
+// What a run keeps of a plan, which is dropped.
+fn keep(alloc: Global, plan: Plan) -> Result<Kept, NoMemory>
+    ensures { IfOk result (λ kept. kept ≡ kept_of plan) }
+{
+    Kept::of(alloc, &plan)
+}
+
+// Runs a machine at boot, by the schedule that the order names, or by the plan's quantum.
+fn run_booted<S: Store, C: Sink, R: Sink, D: Sink>(
+    alloc: Global,
+    order: &Order<'_>,
+    kept: &Kept,
     machine: &mut AnyMachine,
     store: &mut S,
     console: &mut C,
@@ -35,54 +83,37 @@ pub(crate) fn run_booted<S: Store, C: Sink, R: Sink, D: Sink>(
     dump: &mut D,
 ) -> Status
     requires few { order.now.steps < 10 ^ 10 }
-    requires fresh { IsFresh plan.now (meaning machine.old) }
+    requires plan { IsOfPlan kept.now (meaning machine.old) }
+    requires unmoved { (meaning machine.old).core.turns ≡ 0 }
     ensures { (s : State) → IsNew s → meaning machine.old ≡ flat s
-        → Continues (scheduled (order_of order.now) plan.now s (order_of order.now).schedule)
-        S.gives store.old store.new
+        → Continues (scheduled kept.now.quantum (run_of (order_of order.now) kept.now s)
+        (order_of order.now).schedule) S.gives store.old store.new
         (sinks (C.state console.old) (R.state report.old) (D.state dump.old))
         (sinks (C.state console.new) (R.state report.new) (D.state dump.new)) result }
 {
-    let Ok(names) = names(alloc, plan) else {
+    let Ok(names) = names(alloc, kept) else {
         return Status::WantOfMemory;
     };
-    let Some(name) = order.schedule else {
-        let schedule = Schedule::Quantum(plan.quantum());
-        return run_any(
-            order,
-            plan,
-            names.as_slice(),
-            machine,
-            schedule,
-            console,
-            report,
-            dump,
-        );
-    };
-    match take_file(alloc, &schedule_file(name), store, report) {
-        Ok(bytes) => {
+    match take_schedule(alloc, order.schedule, store, report) {
+        Ok(Some(bytes)) => {
             let schedule = Schedule::Bytes(bytes.as_slice());
-            run_any(
-                order,
-                plan,
-                names.as_slice(),
-                machine,
-                schedule,
-                console,
-                report,
-                dump,
-            )
+            run_by(order, kept, names.as_slice(), machine, schedule, console, report, dump)
+        }
+        Ok(None) => {
+            let schedule = Schedule::Quantum(kept.quantum());
+            run_by(order, kept, names.as_slice(), machine, schedule, console, report, dump)
         }
         Err(status) => status,
     }
 }
 
-/// The names of a plan's modules, in order.
-fn names(alloc: Global, plan: &Plan) -> Result<Vec<&str>, NoMemory>
-    ensures { IfOk result (λ names. map (λ name. name.now) names.items ≡ names_of plan.now) }
+// The names of modules, in order.
+fn names(alloc: Global, kept: &Kept) -> Result<Vec<&str>, NoMemory>
+    ensures { IfOk result (λ names. map (λ name. name.now) names.items ≡ kept.now.names) }
 {
     let mut names = Vec::new(alloc);
-    'modules: for i in 0..plan.modules() {
-        match names.push(plan.module(i).name.as_str()) {
+    'modules: for i in 0..kept.modules() {
+        match names.push(kept.name(i)) {
             Ok(()) => {}
             Err(_) => return Err(NoMemory),
         }
@@ -90,10 +121,29 @@ fn names(alloc: Global, plan: &Plan) -> Result<Vec<&str>, NoMemory>
     Ok(names)
 }
 
-/// Runs a machine of any kind.
-fn run_any<C: Sink, R: Sink, D: Sink>(
+// The bytes of the schedule that is asked, if one is; or the end of the call.
+fn take_schedule<S: Store, R: Sink>(
+    alloc: Global,
+    schedule: Option<&str>,
+    store: &mut S,
+    report: &mut R,
+) -> Result<Option<Vec<u8>>, Status>
+    ensures { TakesSchedule S.gives (option_copied schedule.entry) store.old store.new
+        (R.state report.old) (R.state report.new) (schedule_bytes result) }
+{
+    match schedule {
+        Some(name) => match take_file(alloc, &schedule_file(name), store, report) {
+            Ok(bytes) => Ok(Some(bytes)),
+            Err(status) => Err(status),
+        },
+        None => Ok(None),
+    }
+}
+
+// Makes a run by a schedule.
+fn run_by<C: Sink, R: Sink, D: Sink>(
     order: &Order<'_>,
-    plan: &Plan,
+    kept: &Kept,
     names: &[&str],
     machine: &mut AnyMachine,
     schedule: Schedule<'_>,
@@ -102,80 +152,84 @@ fn run_any<C: Sink, R: Sink, D: Sink>(
     dump: &mut D,
 ) -> Status
     requires few { order.now.steps < 10 ^ 10 }
-    requires names { map (λ name. name.now) names.now ≡ names_of plan.now }
+    requires names { map (λ name. name.now) names.now ≡ kept.now.names }
     requires quantum { HasTurns schedule }
-    requires fresh { IsFresh plan.now (meaning machine.old) }
+    requires plan { IsOfPlan kept.now (meaning machine.old) }
+    requires unmoved { (meaning machine.old).core.turns ≡ 0 }
     ensures { (s : State) → IsNew s → meaning machine.old ≡ flat s →
-        Ends (ran (order_of order.now) plan.now s (schedule_of schedule.entry))
+        Ends (run_of (order_of order.now) kept.now s (schedule_of schedule.entry))
         (sinks (C.state console.old) (R.state report.old) (D.state dump.old))
         (sinks (C.state console.new) (R.state report.new) (D.state dump.new)) result }
 {
-    match machine {
-        AnyMachine::Segments8(machine) => {
-            run_machine(order, plan, names, machine, schedule, console, report, dump)
-        }
-        AnyMachine::Segments32(machine) => {
-            run_machine(order, plan, names, machine, schedule, console, report, dump)
-        }
-        AnyMachine::Segments64(machine) => {
-            run_machine(order, plan, names, machine, schedule, console, report, dump)
-        }
-        AnyMachine::Multilevel8(machine) => {
-            run_machine(order, plan, names, machine, schedule, console, report, dump)
-        }
-        AnyMachine::Multilevel32(machine) => {
-            run_machine(order, plan, names, machine, schedule, console, report, dump)
-        }
-        AnyMachine::Multilevel64(machine) => {
-            run_machine(order, plan, names, machine, schedule, console, report, dump)
-        }
-        AnyMachine::Packed8(machine) => {
-            run_machine(order, plan, names, machine, schedule, console, report, dump)
-        }
-        AnyMachine::Packed32(machine) => {
-            run_machine(order, plan, names, machine, schedule, console, report, dump)
-        }
-        AnyMachine::Packed64(machine) => {
-            run_machine(order, plan, names, machine, schedule, console, report, dump)
-        }
+    match make_by(order, kept, names, machine, schedule, console, report, dump) {
+        Ok(()) => Status::Ran,
+        Err(fault) => fault_of(fault),
     }
 }
 
-/// Makes the run of a machine that has made no turn, and writes its texts.
-fn run_machine<T: PermTables, const N: usize, C: Sink, R: Sink, D: Sink>(
+// Makes the turns of a run of the order's way, and writes its texts.
+fn make_by<C: Sink, R: Sink, D: Sink>(
     order: &Order<'_>,
-    plan: &Plan,
+    kept: &Kept,
     names: &[&str],
-    machine: &mut Machine<T, N>,
+    machine: &mut AnyMachine,
     schedule: Schedule<'_>,
     console: &mut C,
     report: &mut R,
     dump: &mut D,
-) -> Status
+) -> Result<(), SinkFault>
     requires few { order.now.steps < 10 ^ 10 }
-    requires names { map (λ name. name.now) names.now ≡ names_of plan.now }
+    requires names { map (λ name. name.now) names.now ≡ kept.now.names }
     requires quantum { HasTurns schedule }
-    requires fresh { IsFresh plan.now machine.old }
-    ensures { (s : State) → IsNew s → machine.old ≡ flat s →
-        Ends (ran (order_of order.now) plan.now s (schedule_of schedule.entry))
+    requires plan { IsOfPlan kept.now (meaning machine.old) }
+    requires unmoved { (meaning machine.old).core.turns ≡ 0 }
+    ensures { (s : State) → IsNew s → meaning machine.old ≡ flat s →
+        Leave (texts_of (order_of order.now) order.now.way kept.now s (schedule_of schedule.entry))
         (sinks (C.state console.old) (R.state report.old) (D.state dump.old))
         (sinks (C.state console.new) (R.state report.new) (D.state dump.new)) result }
 {
-    closing_of_a_flat_state();
-    let mut shown = Tail::new();
-    let mut told = Tail::new();
-    match make_turns(
-        order.steps,
+    match order.way {
+        Way::Run => make_run(&task_of(order, schedule), kept, names, machine, console, report, dump),
+        Way::Trace => make_trace(&trace_of(order, schedule), machine, console, report),
+    }
+}
+
+fn task_of<'a>(order: &Order<'_>, schedule: Schedule<'a>) -> Task<'a>
+    ensures steps { result.steps ≡ order.now.steps }
+    ensures schedule { result.schedule ≡ schedule.entry }
+    ensures options { result.options ≡ options_of (order_of order.now) }
+    ensures dump { result.dump ≡ order.now.dump }
+{
+    Task {
+        steps: order.steps,
         schedule,
-        machine,
-        &mut shown,
-        console,
-        &mut told,
-        report,
-    ) {
-        Ok(()) => end_run(
-            order, plan, names, machine, &mut shown, console, &mut told, report, dump,
-        ),
-        Err(status) => status,
+        options: Options {
+            tables: order.tables,
+            counts: order.counts,
+        },
+        dump: order.dump,
+    }
+}
+
+fn trace_of<'a>(order: &Order<'_>, schedule: Schedule<'a>) -> TraceTask<'a>
+    ensures steps { result.steps ≡ order.now.steps }
+    ensures schedule { result.schedule ≡ schedule.entry }
+    ensures from { result.from ≡ unwrap_or order.now.from 0 }
+{
+    TraceTask {
+        steps: order.steps,
+        schedule,
+        from: order.from.unwrap_or(0),
+    }
+}
+
+// The status of a sink's fault.
+fn fault_of(fault: SinkFault) -> Status
+    ensures { result ≡ fault_of fault }
+{
+    match fault {
+        SinkFault::Console => Status::ConsoleFault,
+        SinkFault::Report => Status::ReportFault,
+        SinkFault::Dump => Status::DumpFault,
     }
 }

@@ -2,12 +2,13 @@
 
 ghost use Rattle.mx_io.specs.Sink.{SinkState};
 ghost use Rattle.mx_run.specs.Words.{meaning};
-ghost use Rattle.mx_run.specs.Top.{sinks, Answered, Reacts};
+ghost use Rattle.mx_turns.specs.Ends.{sinks};
+ghost use Rattle.mx_run.specs.Top.{Answered, Reacts};
 ghost use Rattle.mx_run.specs.Promise.{Headline, Completeness};
 
 use crate::assembling::write_image;
-use crate::booting::run_manifest;
 use crate::refusal::refuse;
+use crate::running::run_manifest;
 use crate::status::Status;
 use crate::words::{Asked, Words};
 use mx_io::{Sink, Store};
@@ -58,7 +59,7 @@ fn react<S: Store, C: Sink, R: Sink, D: Sink>(
         (sinks (C.state console.new) (R.state report.new) (D.state dump.new)) result }
 {
     match words.asked() {
-        Some(Asked::Run(order)) => run_manifest(alloc, &order, store, console, report, dump),
+        Some(Asked::Go(order)) => run_manifest(alloc, &order, store, console, report, dump),
         Some(Asked::Asm(source)) => write_image(alloc, source, store, console, report),
         None => refuse(report, "", Status::Usage),
     }

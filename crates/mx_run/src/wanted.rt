@@ -3,12 +3,14 @@
 ghost use Rattle.std.specs.Prelude.{◌≡◌, ◌≤◌, IfOk, vec_len};
 ghost use Rattle.mx_io.specs.Sink.{SinkState};
 ghost use Rattle.mx_run.specs.Asked.{wanted_of};
-ghost use Rattle.mx_run.specs.Outcome.{too_large, manifest_file, image_file, schedule_file, source_file};
+ghost use Rattle.mx_run.specs.Boots.{manifest_file, image_file, size_fault};
+ghost use Rattle.mx_run.specs.Commands.{schedule_file, source_file};
 ghost use Rattle.mx_run.specs.Reading.{Refuses, Takes};
-ghost use Rattle.mx_run.specs.Top.{sinks};
+ghost use Rattle.mx_turns.specs.Ends.{sinks};
 
 use crate::reading::{ReadFault, read_file};
 use crate::refusal::refuse;
+use crate::side::{Side, image_role, manifest_role, refused};
 use crate::status::{FileRole, Status};
 use mx_io::{Sink, Store};
 use mx_manifest::{BootFault, Key, Part, Place};
@@ -33,27 +35,27 @@ pub(crate) struct Wanted<'a> {
     pub large: Status,
 }
 
-/// The manifest of this name.
-pub(crate) fn manifest_file(name: &str) -> Wanted<'_>
-    ensures { wanted_of result ≡ manifest_file name.now }
+/// A side's manifest of this name.
+pub(crate) fn manifest_file(side: Side, name: &str) -> Wanted<'_>
+    ensures { wanted_of result ≡ manifest_file side name.now }
 {
     Wanted {
-        role: FileRole::Manifest,
+        role: manifest_role(side),
         name,
         most: TEXT_LIMIT,
-        large: too_large(Part::Manifest, 0, Key::NoKey),
+        large: refused(side, size_fault(Part::Manifest, 0, Key::NoKey)),
     }
 }
 
-/// The image of this name, of the module with this number from 1.
-pub(crate) fn image_file(number: u32, name: &str) -> Wanted<'_>
-    ensures { wanted_of result ≡ image_file number name.now }
+/// The image of this name, of a side's module with this number from 1.
+pub(crate) fn image_file(side: Side, number: u32, name: &str) -> Wanted<'_>
+    ensures { wanted_of result ≡ image_file side number name.now }
 {
     Wanted {
-        role: FileRole::Image(number),
+        role: image_role(side, number),
         name,
         most: FILE_LIMIT,
-        large: too_large(Part::Module, number, Key::Image),
+        large: refused(side, size_fault(Part::Module, number, Key::Image)),
     }
 }
 
@@ -65,7 +67,7 @@ pub(crate) fn schedule_file(name: &str) -> Wanted<'_>
         role: FileRole::Schedule,
         name,
         most: FILE_LIMIT,
-        large: too_large(Part::Schedule, 0, Key::NoKey),
+        large: refused(Side::First, size_fault(Part::Schedule, 0, Key::NoKey)),
     }
 }
 
@@ -84,15 +86,15 @@ pub(crate) fn source_file(name: &str) -> Wanted<'_>
     }
 }
 
-// The status of a file over its limit: fault 9 at its place.
-fn too_large(part: Part, index: u32, key: Key) -> Status
-    ensures { result ≡ too_large part index key }
+// A file over its limit: fault 9 at its place.
+fn size_fault(part: Part, index: u32, key: Key) -> BootFault
+    ensures { result ≡ size_fault part index key }
 {
-    Status::Refused(BootFault {
+    BootFault {
         number: 9,
         place: Place { part, index, key },
         detail: 0,
-    })
+    }
 }
 
 /// The bytes of a file, or the end of a call whose file isn't there whole: its line is the whole report.

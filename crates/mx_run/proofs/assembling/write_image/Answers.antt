@@ -1,5 +1,6 @@
 use Rattle.std.proofs.Common.{refl}
-use Rattle.mx_run.specs.Outcome.{End, assembled}
+use Rattle.mx_run.specs.Next.{End}
+use Rattle.mx_run.specs.Commands.{assembled}
 use Rattle.mx_run.proofs.Continued.{continues_end}
 use Rattle.mx_run.proofs.assembling.write_image.Goals as goal
 

@@ -1,6 +1,5 @@
 use Rattle.std.proofs.Common.{◌≡◌, take, map}
-use Rattle.mx_run.specs.Outcome.{names_of}
 use Rattle.mx_run.proofs.running.names.Given as goal
 
 abbrev pub invariant-modules : goal.invariant-modules
-invariant-modules l = map (λ name. name.now) l.names.items ≡ take l.i (names_of l.plan)
+invariant-modules l = map (λ name. name.now) l.names.items ≡ take l.i l.kept.names

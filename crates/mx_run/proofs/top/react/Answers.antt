@@ -1,18 +1,19 @@
 use Rattle.std.proofs.Common.{◌≡◌, Option, Some, subst}
 use Rattle.mx_run.specs.Asked.{order_of}
-use Rattle.mx_run.specs.Words.{Request, Run, Asm, meaning}
-use Rattle.mx_run.specs.Top.{sinks, Reacts}
+use Rattle.mx_run.specs.Words.{Request, Go, Asm, meaning}
+use Rattle.mx_turns.specs.Ends.{sinks}
+use Rattle.mx_run.specs.Top.{Reacts}
 use Rattle.mx_run.proofs.Continued.{reacts_some, reacts_none}
 use Rattle.mx_run.proofs.top.react.Goals as goal
 
-pub returns-in-Some-Run : goal.returns-in-Some-Run
-returns-in-Some-Run g c =
-    let asked : Some (Run (order_of c.in-Some-Run.order)) ≡ meaning c.args.words.now = rw c.in-Some-Run.field-0-is at c.in-Some-Run.ensures.meaning in
+pub returns-in-Some-Go : goal.returns-in-Some-Go
+returns-in-Some-Go g c =
+    let asked : Some (Go (order_of c.in-Some-Go.order)) ≡ meaning c.args.words.now = rw c.in-Some-Go.field-0-is at c.in-Some-Go.ensures.meaning in
     subst
     (λ (request : Option Request). Reacts request g.S.Store.gives c.args.store.now c.run_manifest.new.store
     (sinks (g.C.Sink.state c.args.console.now) (g.R.Sink.state c.args.report.now) (g.D.Sink.state c.args.dump.now))
     (sinks (g.C.Sink.state c.run_manifest.new.console) (g.R.Sink.state c.run_manifest.new.report) (g.D.Sink.state c.run_manifest.new.dump)) c.run_manifest.result)
-    asked (reacts_some g.S.Store.gives (Run (order_of c.in-Some-Run.order)) _ _ c.run_manifest.ensures)
+    asked (reacts_some g.S.Store.gives (Go (order_of c.in-Some-Go.order)) _ _ c.run_manifest.ensures)
 
 pub returns-in-Some-Asm : goal.returns-in-Some-Asm
 returns-in-Some-Asm g c =

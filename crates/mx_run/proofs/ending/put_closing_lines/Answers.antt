@@ -1,5 +1,0 @@
-use Rattle.mx_run.proofs.Closings.{passes_end}
-use Rattle.mx_run.proofs.ending.put_closing_lines.Goals as goal
-
-pub returns : goal.returns
-returns g c = passes_end (rw c.end_of-end.ensures at c.in_ok-put_closing.ensures) c.end.ensures.puts

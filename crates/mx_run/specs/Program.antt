@@ -1,0 +1,26 @@
+-- What the process is given and how it ends.
+use Rattle.std.specs.Prelude.{◌≡◌, ℕ, ◌⊎◌, List, [], ◌∷◌, drop, map, Result, Ok, Err, string_bytes, String}
+use Rattle.std.specs.Vec.Iter.{into_iter_items}
+use Rattle.std.specs.declared.vec.IntoIter.{IntoIter}
+use Rattle.std.specs.declared.alloc.Global.{Global}
+use Rattle.mx_io.specs.Answer.{Answer}
+use Rattle.mx_turns.specs.Ends.{Sinks}
+use Rattle.mx_run.specs.declared.status.Status.{Status}
+use Rattle.mx_run.specs.Status.{number_of}
+use Rattle.mx_run.specs.Top.{Answered, WritesNothing}
+use Rattle.mx_run.specs.Words.{meaning}
+
+-- the words after the program's name, or one empty word, which has no meaning, where they are not text
+abbrev pub Given : {E : Type 0} → Result (IntoIter (String Global) Global) E → List (List ℕ) → Type 0
+Given (Ok args) words = words ≡ drop 1 (map string_bytes (into_iter_items args))
+Given (Err error) words = words ≡ [] ∷ []
+
+-- the call was made with the words that were given, and the process ends with the number of its status; or memory for the words
+-- was wanting, and nothing was read or written
+abbrev pub Executes : {S : Type 0} → (List (List ℕ) → Type 0) → (S → Answer → S → Type 0) → S → S →
+    Sinks → Sinks → ℕ → Type 0
+Executes given gives store stored before now number =
+    ((words : List (List ℕ)) × (status : Status) × given words
+    × Answered (meaning words) gives store stored before now status
+    × (number ≡ number_of status))
+    ⊎ ((number ≡ 10) × (stored ≡ store) × WritesNothing before now)

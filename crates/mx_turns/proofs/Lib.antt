@@ -1,0 +1,7 @@
+pub mod Closings
+pub mod Paces
+pub mod Quiet
+pub mod RunEnds
+pub mod RunTexts
+pub mod Sinking
+pub mod TraceTexts

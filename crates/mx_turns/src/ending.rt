@@ -1,0 +1,126 @@
+//! The end of a run: the console's rest, the report's closing lines, and the dump. No call takes memory.
+
+ghost use Rattle.std.specs.Prelude.{◌≡◌, ◌++◌, length, map};
+ghost use Rattle.mx_io.specs.Sink.{Puts};
+ghost use Rattle.mx_boot.specs.Machines.{meaning};
+ghost use Rattle.mx_report.specs.Texts.{flat_closing};
+ghost use Rattle.mx_turns.specs.Runs.{IsOfPlan, dumped, end_of};
+ghost use Rattle.mx_turns.specs.Running.{Closes, places};
+
+use crate::fault::SinkFault;
+use crate::task::Dump;
+use mx_boot::{AnyMachine, any_machine_is_valid};
+use mx_io::{Failed, Sink, put_all};
+use mx_machine::Machine;
+use mx_report::{EndState, Options, Tail, put_closing};
+use mx_snapshot::Kept;
+use mx_table::PermTables;
+
+/// Ends a run that was to reach so many turns: what the buffers hold leaves, and after it the report's closing lines. Where the
+/// console fails, what the report's buffer holds leaves and nothing else.
+pub(crate) fn end_run<T: PermTables, const N: usize, C: Sink, R: Sink>(
+    target: u64,
+    options: Options,
+    kept: &Kept,
+    names: &[&str],
+    machine: &Machine<T, N>,
+    shown: &mut Tail,
+    console: &mut C,
+    told: &mut Tail,
+    report: &mut R,
+) -> Result<(), SinkFault>
+    requires names { map (λ name. name.now) names.now ≡ kept.now.names }
+    requires plan { IsOfPlan kept.now machine.now }
+    ensures { Closes (flat_closing kept.now.names (end_of target machine.now.core) options machine.now)
+        (places (C.state console.old) shown.old (R.state report.old) told.old)
+        (places (C.state console.new) shown.new (R.state report.new) told.new) result }
+{
+    match shown.end(console) {
+        Ok(()) => match put_closing_lines(target, options, kept, names, machine, told, report) {
+            Ok(()) => Ok(()),
+            Err(Failed) => Err(SinkFault::Report),
+        },
+        Err(Failed) => {
+            let _ = told.end(report);
+            Err(SinkFault::Console)
+        }
+    }
+}
+
+// Puts what the report's buffer holds, and the closing lines.
+fn put_closing_lines<T: PermTables, const N: usize, R: Sink>(
+    target: u64,
+    options: Options,
+    kept: &Kept,
+    names: &[&str],
+    machine: &Machine<T, N>,
+    told: &mut Tail,
+    report: &mut R,
+) -> Result<(), Failed>
+    requires names { map (λ name. name.now) names.now ≡ kept.now.names }
+    requires plan { IsOfPlan kept.now machine.now }
+    ensures { Puts (R.state report.old) (R.state report.new)
+        (told.old ++ flat_closing kept.now.names (end_of target machine.now.core) options machine.now)
+        result }
+{
+    let end = end_of(target, machine);
+    put_closing(
+        told,
+        report,
+        machine,
+        names,
+        end,
+        kept.kind(),
+        kept.limit(),
+        options,
+    )?;
+    told.end(report)
+}
+
+// Why a run ended that was to reach so many turns.
+fn end_of<T: PermTables, const N: usize>(target: u64, machine: &Machine<T, N>) -> EndState
+    ensures { result ≡ end_of target machine.now.core }
+{
+    if machine.all_halted() {
+        EndState::Halted
+    } else if machine.steps() == target {
+        EndState::Steps
+    } else {
+        EndState::Schedule
+    }
+}
+
+/// The same of a machine of any kind.
+pub(crate) fn end_of_any(target: u64, machine: &AnyMachine) -> EndState
+    ensures { result ≡ end_of target (meaning machine.now).core }
+{
+    if machine.all_halted() {
+        EndState::Halted
+    } else if machine.steps() == target {
+        EndState::Steps
+    } else {
+        EndState::Schedule
+    }
+}
+
+/// Puts on the dump what is asked of it.
+pub(crate) fn put_dump<D: Sink>(
+    asked: Option<Dump>,
+    machine: &AnyMachine,
+    dump: &mut D,
+) -> Result<(), Failed>
+    ensures { Puts (D.state dump.old) (D.state dump.new) (dumped asked (meaning machine.now).core) result }
+{
+    match asked {
+        Some(_) => put_all(dump, all_bytes(machine)),
+        None => Ok(()),
+    }
+}
+
+// RAM's bytes.
+fn all_bytes(machine: &AnyMachine) -> &[u8]
+    ensures { result.now ≡ (meaning machine.now).core.ram }
+{
+    any_machine_is_valid(machine);
+    machine.bytes(0, 4 * machine.words())
+}

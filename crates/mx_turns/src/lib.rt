@@ -1,0 +1,17 @@
+//! The turns of a run and their texts: which hart makes each turn, the loop that makes them, and the closing of a run. It knows
+//! neither words nor files, and tells which sink failed. No call takes memory.
+#![tactic(auto)]
+
+mod ending;
+mod fault;
+mod pace;
+mod running;
+mod task;
+mod tracing;
+mod turns;
+
+pub use fault::SinkFault;
+pub use pace::Schedule;
+pub use running::make_run;
+pub use task::{Dump, Task};
+pub use tracing::{TraceTask, make_trace};
