@@ -127,23 +127,23 @@ module _ (p : Schedule) (from i : ℕ) (s : State) (m : Flat) (before at : Place
     line_next : flat_line_from from m h ≡ line_from from (run p i s) h
     line_next = ap (λ (f : Flat). flat_line_from from f h) has.state ∙ line_flat from (run p i s) h
 
-    pub trace_makes : {A : Type 0} {a : A} (now : Places) → ShowsOrStops (flat_made m h).console (flat_line_from from m h) at now (Ok a) → HasTexts (run p (i + 1) s) (trace p from (i + 1) s) k before now
-    trace_makes now shows =
+    pub trace_makes : (A : Type 0) (a : A) (now : Places) → ShowsOrStops (flat_made m h).console (flat_line_from from m h) at now (Ok a) → HasTexts (run p (i + 1) s) (trace p from (i + 1) s) k before now
+    trace_makes A a now shows =
         let made : Makes (run p i s) h (line_from from (run p i s) h) k at now
             = record { state = state_next; console = rw bytes_next at shows.0; report = rw line_next at shows.1 } in
         rw (run_next, trace_next) (texts_make (run p i s) (trace p from i s) (line_from from (run p i s) h) h m k before at now has made)
 
-    shown_so : (which : SinkFault) (now : Places) {A : Type 0} → ShowsOrStops {A = A} (flat_made m h).console (flat_line_from from m h) at now (Err which)
+    shown_so : (A : Type 0) (which : SinkFault) (now : Places) → ShowsOrStops {A = A} (flat_made m h).console (flat_line_from from m h) at now (Err which)
         → ShowsOrStops {A = Unit {0}} (made_of (run p i s) h).console (line_from from (run p i s) h) at now (Err which)
-    shown_so F.Console now stops = rw bytes_next at stops
-    shown_so F.Report now stops = rw (bytes_next, line_next) at stops
-    shown_so F.Dump now stops = stops
+    shown_so A F.Console now stops = rw bytes_next at stops
+    shown_so A F.Report now stops = rw (bytes_next, line_next) at stops
+    shown_so A F.Dump now stops = stops
 
-    pub trace_fails : {A : Type 0} (now : Places) (which : SinkFault) → ShowsOrStops {A = A} (flat_made m h).console (flat_line_from from m h) at now (Err which)
+    pub trace_fails : (A : Type 0) (now : Places) (which : SinkFault) → ShowsOrStops {A = A} (flat_made m h).console (flat_line_from from m h) at now (Err which)
         → StopsAt (λ n. run p n s) (λ n. trace p from n s) i k before now which
-    trace_fails now which stops =
+    trace_fails A now which stops =
         texts_stop (λ n. run p n s) (λ n. trace p from n s) i (made_of (run p i s) h).console (line_from from (run p i s) h) m k before at now which has
-        (state_next ∙ ap flat (sym run_next)) (ap (λ (u : State). u.console) run_next) trace_next (shown_so which now stops)
+        (state_next ∙ ap flat (sym run_next)) (ap (λ (u : State). u.console) run_next) trace_next (shown_so A which now stops)
 
 -- a stop by other lines that are the same
 pub stops_lines : (states : ℕ → State) (lines other : ℕ → List ℕ) (made : ℕ) → lines made ≡ other made → lines (made + 1) ≡ other (made + 1) → (m : Flat) (before now : Places) (which : SinkFault)

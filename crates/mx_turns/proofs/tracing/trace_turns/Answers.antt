@@ -1,4 +1,4 @@
-use Rattle.std.proofs.Common.{◌≡◌, ℕ, ◌+◌, ◌-◌, List, length, Option, None, Some, refl, sym, ap, subst, ◌∙◌, arith}
+use Rattle.std.proofs.Common.{◌≡◌, ℕ, ◌+◌, length, Option, refl, sym, ap, subst, ◌∙◌, arith}
 use Rattle.std.proofs.lemmas.Result.{err_from_is_err_and}
 use Rattle.mx_boot.specs.Machines.{meaning}
 use Rattle.mx_model.specs.Reads.{flat_reads}
@@ -19,7 +19,7 @@ turns-init g c =
       within = omega arith;
       pace = c.begin-pace.ensures (meaning c.args.machine.now).core (sym c.steps.ensures) (sym c.harts.ensures);
       going = sym c.if-all_halted.ensures;
-      runs = λ s done before has. has;
+      runs = λ s done before has. let e : done + 0 ≡ done = omega arith in rw e has;
     }
 
 -- the schedule is at its end
@@ -44,7 +44,8 @@ returns-in_err-trace_turn g c =
       done + c.turns.made,
       omega (arith, c.turns-test.true),
       trace_fails p c.args.from (done + c.turns.made) s f before _ (c.turns.invariant.runs s done before has) c.in-Some.hart c.turns.invariant.going name (meaning c.trace_turn.new.machine)
-          c.trace_turn.ensures.turn _ c.in_err-trace_turn.field-0.0 c.in_err-trace_turn.ensures.shows,
+          c.trace_turn.ensures.turn (Unit {0})
+          (places (g.C.Sink.state c.trace_turn.new.console) c.trace_turn.new.shown (g.R.Sink.state c.trace_turn.new.report) c.trace_turn.new.told) c.in_err-trace_turn.field-0.0 c.in_err-trace_turn.ensures.shows,
     ))
 
 -- a turn after which all harts are halted
@@ -56,7 +57,7 @@ returns-then-all_halted-2 g c =
     let row = c.in-Some.ensures.named p f.core c.turns.invariant.pace in
     let name = row.each 0 row.some f.core (omega arith) refl in
     λ s done before has.
-    let after = trace_makes p c.args.from (done + c.turns.made) s f before _ (c.turns.invariant.runs s done before has) c.in-Some.hart c.turns.invariant.going name k c.trace_turn.ensures.turn
+    let after = trace_makes p c.args.from (done + c.turns.made) s f before _ (c.turns.invariant.runs s done before has) c.in-Some.hart c.turns.invariant.going name k c.trace_turn.ensures.turn _ c.in_ok-trace_turn.field-0
         (places (g.C.Sink.state c.trace_turn.new.console) c.trace_turn.new.shown (g.R.Sink.state c.trace_turn.new.report) c.trace_turn.new.told) c.in_ok-trace_turn.ensures.shows in
     trace_halts p c.args.from (done + c.turns.made + 1) s k before _ after (done + c.args.steps) (omega (arith, c.turns-test.true)) (sym c.all_halted-in-turns.ensures ∙ c.if-all_halted-2.true)
 
@@ -79,7 +80,7 @@ turns-preserved g c =
       going = sym c.all_halted-in-turns.ensures ∙ c.if-all_halted-2.false;
       runs =
           λ s done before has.
-          let after = trace_makes p c.args.from (done + c.turns.made) s f before _ (c.turns.invariant.runs s done before has) c.in-Some.hart c.turns.invariant.going name k is
+          let after = trace_makes p c.args.from (done + c.turns.made) s f before _ (c.turns.invariant.runs s done before has) c.in-Some.hart c.turns.invariant.going name k is _ c.in_ok-trace_turn.field-0
               (places (g.C.Sink.state c.trace_turn.new.console) c.trace_turn.new.shown (g.R.Sink.state c.trace_turn.new.report) c.trace_turn.new.told) c.in_ok-trace_turn.ensures.shows in
           let e : done + (c.turns.made + 1) ≡ done + c.turns.made + 1 = omega arith in
           rw e after;
