@@ -1,5 +1,5 @@
 -- What a plan's state at boot is.
-use Rattle.std.proofs.Common.{◌≡◌, ℕ, Bool, true, false, cond, List, Option, Some, None, Ok, Err, refl, sym, subst}
+use Rattle.std.proofs.Common.{◌≡◌, ℕ, Bool, true, false, cond, List, Option, Some, None, Ok, Err, refl, sym, subst, ◌∙◌}
 use Rattle.std.proofs.lemmas.List.{length-map}
 use Rattle.mx_words.specs.Need.{within}
 use Rattle.mx_manifest.specs.declared.fault.BootFault.{BootFault}

@@ -90,4 +90,4 @@ module _ {A : Type 0} (outcome : Outcome) (before now : Sinks) where
   ends_left l = record { how = inl (refl, l.whole.0, l.whole.1); sure = λ room. (refl, l.whole.0, l.whole.1) }
 
   pub ends_failed : (which : SinkFault) → Leave {A = A} outcome.texts before now (Err which) → Ends outcome before now (fault_of which)
-  ends_failed which l = record { how = inr (which, refl, l.fault.0, l.fault.1); sure = λ room. absurd (l.sure room) }
+  ends_failed which l = record { how = inr (which, refl, l.fault.0, l.fault.1); sure = λ room. absurd (not_ok A which (l.sure room)) }

@@ -1,7 +1,9 @@
 -- Examples of the definitions that compute: words, what is done next, findings and lines of refusals.
-use Rattle.std.proofs.Common.{◌≡◌, [], ◌∷◌, true, codes, Some, None, refl, inl, inr, arith}
+use Rattle.std.proofs.Common.{◌≡◌, [], ◌∷◌, ◌++◌, true, codes, Some, None, refl, inl, inr, arith}
 use Rattle.std.specs.Fmt.{digits}
 use Rattle.mx_io.specs.Answer.{Sized, Gave}
+use Rattle.mx_io.specs.Piece.{shown_name}
+use Rattle.std.specs.Str.{chars}
 use Rattle.mx_run.specs.declared.status.FileRole.TheVariants.{Source}
 use Rattle.mx_run.specs.declared.status.Status.TheVariants.{Usage, ShortFile, AsmFault}
 use Rattle.mx_run.specs.Words.{Go, Asm, plain_order, meaning}
@@ -13,7 +15,7 @@ use Rattle.mx_run.specs.Commands.{next, source_file}
 use Rattle.mx_run.specs.declared.side.Side.TheVariants.{First}
 use Rattle.mx_turns.specs.declared.task.Dump.TheVariants.{Ram}
 use Rattle.mx_run.specs.Manifest.{file_fault}
-use Rattle.mx_run.specs.Refusal.{refused_line, fault_text, place_text, detail_text, tables_full_line, short_file_line, asm_fault_line}
+use Rattle.mx_run.specs.Refusal.{refused_line, fault_text, place_text, detail_text, tables_full_line, short_file_line, no_file_line, asm_fault_line}
 
 -- words with a meaning, and words without
 words_run : meaning (codes "run" ∷ codes "first.toml" ∷ codes "0010" ∷ []) ≡ Some (Go (plain_order way.Run (codes "first.toml") 10))
@@ -111,6 +113,11 @@ finds_short = (
   ),
 )
 
+-- a control character of a name is shown as a question mark
+no_file_example : no_file_line (codes "a\nend" ++ 27 ∷ 127 ∷ []) ≡ codes "no file a?end??\n"
+unfolding no_file_line shown_name chars
+no_file_example = refl
+
 refused_example : refused_line (file_fault 9) ≡ codes "refused fault=9 at=manifest key=- detail=0\n"
 unfolding refused_line fault_text place_text detail_text digits
 refused_example = refl
@@ -120,7 +127,7 @@ unfolding tables_full_line digits
 full_example = refl
 
 short_example : short_file_line (codes "first.toml") 10 4 ≡ codes "short file first.toml told=10 got=4\n"
-unfolding short_file_line digits
+unfolding short_file_line digits shown_name chars
 short_example = refl
 
 asm_example : asm_fault_line 2 1 ≡ codes "asm line=2 fault=1\n"

@@ -1,8 +1,10 @@
 -- Texts of lines put on a sink.
-use Rattle.std.proofs.Common.{ℕ, List, [], ◌∷◌, ◌++◌, flat_map, Result, sym}
+use Rattle.std.proofs.Common.{◌≡◌, ℕ, List, [], ◌∷◌, ◌++◌, codes, decimal, flat_map, Result, sym, ap, ◌∙◌, append_assoc}
+use Rattle.std.specs.List.{concat}
 use Rattle.std.proofs.lemmas.List.{append-nil}
 use Rattle.mx_io.specs.Sink.{SinkState, Puts}
 use Rattle.mx_io.proofs.Puts.{puts_same}
+use Rattle.mx_run.specs.Refusal.{fault_text, detail_text}
 
 -- the text of a list of one item
 pub puts_single : {X A E : Type 0} {before now : SinkState} (f : X → List ℕ) (x : X) {result : Result A E} → Puts before now (f x) result → Puts before now (flat_map f (x ∷ [])) result
@@ -11,3 +13,13 @@ puts_single f x puts = puts_same (sym (append-nil (f x))) puts
 -- the last of several texts
 pub puts_last : {A E : Type 0} {before now : SinkState} {text : List ℕ} {result : Result A E} → Puts before now text result → Puts before now (text ++ []) result
 puts_last {text = text} puts = puts_same (sym (append-nil text)) puts
+
+-- the pieces of the line of a refused boot
+pub refused_parts : (n : ℕ) (table index place name : List ℕ) (d : ℕ) → table ++ index ≡ place
+    → codes "refused fault=" ++ (decimal n ++ (codes " at=" ++ (table ++ (index ++ detail_text name d)))) ≡ concat (fault_text n ∷ place ∷ detail_text name d ∷ [])
+unfolding fault_text
+refused_parts n table index place name d is =
+    let detail = detail_text name d in
+    sym (ap (λ t. codes "refused fault=" ++ t) (append_assoc (decimal n) (codes " at=") (place ++ (detail ++ [])))
+    ∙ ap (λ t. codes "refused fault=" ++ (decimal n ++ (codes " at=" ++ t)))
+        (ap (λ t. place ++ t) (append-nil detail) ∙ ap (λ t. t ++ detail) (sym is) ∙ append_assoc table index detail))

@@ -43,24 +43,51 @@ pub(crate) fn run_manifest<S: Store, C: Sink, R: Sink, D: Sink>(
         (sinks (C.state console.new) (R.state report.new) (D.state dump.new)) result }
 {
     match take_boot(alloc, Side::First, order.file, store, report) {
-        Ok(Booted { plan, mut machine }) => {
-            let status = match keep(alloc, plan) {
-                Ok(kept) => run_booted(
-                    alloc,
-                    order,
-                    &kept,
-                    &mut machine,
-                    store,
-                    console,
-                    report,
-                    dump,
-                ),
-                Err(NoMemory) => Status::WantOfMemory,
-            };
+        Ok(booted) => run_boot(alloc, order, booted, store, console, report, dump),
+        Err(status) => status,
+    }
+}
+
+// Runs what has booted. The plan is dropped before the first turn.
+fn run_boot<S: Store, C: Sink, R: Sink, D: Sink>(
+    alloc: Global,
+    order: &Order<'_>,
+    booted: Booted,
+    store: &mut S,
+    console: &mut C,
+    report: &mut R,
+    dump: &mut D,
+) -> Status
+    requires few { order.now.steps < 10 ^ 10 }
+    requires plan { IsOfPlan (kept_of booted.plan) (meaning booted.machine) }
+    requires unmoved { (meaning booted.machine).core.turns ≡ 0 }
+    ensures { (s : State) → IsNew s → meaning booted.machine ≡ flat s
+        → Continues (scheduled booted.plan.quantum
+        (run_of (order_of order.now) (kept_of booted.plan) s) (order_of order.now).schedule)
+        S.gives store.old store.new
+        (sinks (C.state console.old) (R.state report.old) (D.state dump.old))
+        (sinks (C.state console.new) (R.state report.new) (D.state dump.new)) result }
+{
+    let Booted { plan, mut machine } = booted;
+    match keep(alloc, plan) {
+        Ok(kept) => {
+            let status = run_booted(
+                alloc,
+                order,
+                &kept,
+                &mut machine,
+                store,
+                console,
+                report,
+                dump,
+            );
             machine.end();
             status
         }
-        Err(status) => status,
+        Err(NoMemory) => {
+            machine.end();
+            Status::WantOfMemory
+        }
     }
 }
 

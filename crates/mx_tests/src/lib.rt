@@ -22,4 +22,6 @@ mod packet_runs;
 #[cfg(test)]
 mod packets;
 #[cfg(test)]
+mod traces;
+#[cfg(test)]
 mod two_modules;

@@ -49,7 +49,7 @@ map 1 0x80000000 0x8000000c rx\n\
 owner 0x80000000 0x8000000c 1\n",
 };
 
-const STORE_INTO_CODE: Example = Example {
+pub const STORE_INTO_CODE: Example = Example {
     name: "store into code",
     manifest: "version = 1\n\
 ram_kib = 64\n\

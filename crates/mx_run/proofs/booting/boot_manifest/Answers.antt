@@ -16,7 +16,7 @@ returns-in-Err-Fault g c =
     let fault = c.in-Err-Fault.fault in
     rw judged
     (boots_refused g.S.Store.gives (λ (rest : Rest). planned side name rest (Err fault)) (refusal name (refused_by side (Faulty fault))) c.args.store.now _ _ _ (λ rest. refl)
-    (rw c.refused.ensures at c.refuse.ensures))
+    (rw (c.refused.ensures, c.in-Err-Fault.field-0-is) at c.refuse.ensures))
 
 pub returns-in-Err-NoMemory : goal.returns-in-Err-NoMemory
 returns-in-Err-NoMemory g c = boots_wanting g.S.Store.gives _ c.args.store.now _

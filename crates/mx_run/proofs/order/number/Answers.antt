@@ -1,7 +1,7 @@
 use Rattle.std.proofs.Common.{get_or, arith}
 use Rattle.std.proofs.lemmas.Int.Digits.{digits_value_more}
 use Rattle.mx_run.proofs.Digits.{digit_at, digit_range, digit_value_is, pow_next}
-use Rattle.mx_run.proofs.words.number.Goals as goal
+use Rattle.mx_run.proofs.order.number.Goals as goal
 
 pub loop-digit-preserved : goal.loop-digit-preserved
 loop-digit-preserved c =

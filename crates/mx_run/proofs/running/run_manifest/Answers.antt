@@ -1,1 +1,28 @@
+use Rattle.mx_boot.specs.Machines.{meaning}
+use Rattle.mx_model.specs.State.{State, Flat, flat}
+use Rattle.mx_manifest.specs.Plan.{Said}
+use Rattle.mx_snapshot.specs.Kept.{kept_of}
+use Rattle.mx_run.specs.Asked.{order_of}
+use Rattle.mx_run.specs.Boots.{Rest}
+use Rattle.mx_run.specs.Commands.{run_of, scheduled}
 use Rattle.mx_run.proofs.running.run_manifest.Goals as goal
+
+pub run_boot-requires-clause-plan : goal.run_boot-requires-clause-plan
+run_boot-requires-clause-plan g c = let goes = c.in-Ok.ensures.1 in rw goes.means goes.plan
+
+pub run_boot-requires-clause-unmoved : goal.run_boot-requires-clause-unmoved
+run_boot-requires-clause-unmoved g c = let goes = c.in-Ok.ensures.1 in rw goes.means goes.unmoved
+
+pub returns-in-Ok : goal.returns-in-Ok
+returns-in-Ok g c =
+    let takes = c.in-Ok.ensures in
+    let goes = takes.1 in
+    let o = order_of c.args.order.now in
+    let rest : Rest = λ plan s. scheduled plan.quantum (run_of o (kept_of plan) s) o.schedule in
+    goes.comes rest _ _ _ _ (rw takes.0 at (c.run_boot.ensures goes.state goes.new goes.means))
+
+pub returns-in-Err : goal.returns-in-Err
+returns-in-Err g c =
+    let o = order_of c.args.order.now in
+    let rest : Rest = λ plan s. scheduled plan.quantum (run_of o (kept_of plan) s) o.schedule in
+    c.in-Err.ensures rest (g.C.Sink.state c.args.console.now) (g.D.Sink.state c.args.dump.now)

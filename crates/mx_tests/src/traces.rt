@@ -1,0 +1,149 @@
+//! Traces: the console's bytes, and a line for each turn.
+
+use crate::examples::{Example, Sinks, files_of};
+use crate::failing::{FAULTS, FAULTS_AFTER_A_BYTE};
+use crate::one_module::{STORE_INTO_CODE, THREE_WORDS};
+use mx_io::Files;
+use mx_run::{Status, Words, mondrix};
+use std::alloc::Global;
+use std::process::Abort;
+use std::test::Fail;
+
+/// The program's answer to the words `trace first.toml` and these.
+fn trace_first(
+    alloc: Global,
+    words: &[&str],
+    files: &mut Files,
+    sinks: &mut Sinks,
+) -> Result<Status, Fail> {
+    let mut list = Words::new(alloc);
+    list.push("trace")?;
+    list.push("first.toml")?;
+    for word in words {
+        list.push(word)?;
+    }
+    Ok(mondrix(
+        alloc,
+        &list,
+        files,
+        &mut sinks.console,
+        &mut sinks.report,
+        &mut sinks.dump,
+    ))
+}
+
+/// Traces the machine of an example by these words, and compares what the report gets; the console and the dump get nothing.
+fn show_trace(
+    rt: &impl Abort,
+    alloc: Global,
+    example: &Example,
+    words: &[&str],
+    report: &str,
+) -> Result<(), Fail> {
+    let name = example.name;
+    let mut files = files_of(alloc, example)?;
+    files.add("order", b"\x01\x00".as_slice())?;
+    let mut sinks = Sinks::new(alloc)?;
+    let status = trace_first(alloc, words, &mut files, &mut sinks)?;
+    assert_eq!(rt; status, Status::Ran, "{name}");
+    assert_eq!(rt; sinks.report.as_slice(), report.as_bytes(), "{name}");
+    assert!(rt; sinks.console.as_slice().is_empty());
+    assert!(rt; sinks.dump.as_slice().is_empty());
+    Ok(())
+}
+
+const THREE: &str = "turn 1 0 1 0x80000000 ran addi x17, x0, 1\n\
+turn 2 0 1 0x80000004 ran addi x10, x0, 5\n\
+turn 3 0 1 0x80000008 called ecall\n\
+end steps=3 state=halted\n";
+
+const THREE_FROM_TWO: &str = "turn 2 0 1 0x80000004 ran addi x10, x0, 5\n\
+turn 3 0 1 0x80000008 called ecall\n\
+end steps=3 state=halted\n";
+
+const THREE_FROM_THREE: &str = "turn 3 0 1 0x80000008 called ecall\n\
+end steps=3 state=halted\n";
+
+const NO_LINE: &str = "end steps=3 state=halted\n";
+
+const NO_HART: &str = "turn 1 1 - - idle -\n\
+turn 2 0 1 0x80000000 ran addi x17, x0, 1\n\
+end steps=2 state=schedule\n";
+
+const DENIED_STORE: &str = "turn 1 0 1 0x80000000 ran auipc x1, 0\n\
+turn 2 0 1 0x80000004 trapped sw x0, 0(x1)\n\
+end steps=2 state=halted\n";
+
+/// A crossing of a gate, at whose word the caller may not fetch, and a fault in the callee.
+const GATE: &str = "turn 1 0 1 0x80000000 ran lui x5, 524289\n\
+turn 2 0 1 0x80000004 ran jalr x1, 0(x5)\n\
+turn 3 0 1 0x80001000 crossed -\n\
+turn 4 0 2 0x80001000 trapped ebreak\n\
+turn 5 0 1 0x80000008 ran jal x0, -4\n\
+end steps=5 state=steps\n";
+
+#[test]
+fn a_trace_has_a_line_for_each_turn(rt: HostRuntime) -> Result<(), Fail> {
+    let alloc = rt.alloc();
+    show_trace(&rt, alloc, &THREE_WORDS, &["4"], THREE)?;
+    show_trace(&rt, alloc, &THREE_WORDS, &["4", "--schedule", "order"], NO_HART)?;
+    show_trace(&rt, alloc, &STORE_INTO_CODE, &["5"], DENIED_STORE)?;
+    show_trace(&rt, alloc, &FAULTS, &["5"], GATE)
+}
+
+#[test]
+fn turns_below_a_step_have_no_line(rt: HostRuntime) -> Result<(), Fail> {
+    let alloc = rt.alloc();
+    show_trace(&rt, alloc, &THREE_WORDS, &["4", "--from", "0"], THREE)?;
+    show_trace(&rt, alloc, &THREE_WORDS, &["4", "--from", "01"], THREE)?;
+    show_trace(&rt, alloc, &THREE_WORDS, &["4", "--from", "2"], THREE_FROM_TWO)?;
+    show_trace(&rt, alloc, &THREE_WORDS, &["4", "--from", "3"], THREE_FROM_THREE)?;
+    show_trace(&rt, alloc, &THREE_WORDS, &["4", "--from", "4"], NO_LINE)?;
+    show_trace(&rt, alloc, &THREE_WORDS, &["4", "--from", "9999999999"], NO_LINE)?;
+    let words = ["4", "--from", "2", "--schedule", "order"];
+    let late = "turn 2 0 1 0x80000000 ran addi x17, x0, 1\nend steps=2 state=schedule\n";
+    show_trace(&rt, alloc, &THREE_WORDS, &words, late)
+}
+
+/// The turns before a console's fault at the end, and no end line.
+const AFTER_A_BYTE: &str = "turn 1 0 1 0x80000000 ran lui x10, 524288\n\
+turn 2 0 1 0x80000004 ran addi x11, x0, 1\n\
+turn 3 0 1 0x80000008 ran addi x17, x0, 2\n\
+turn 4 0 1 0x8000000c called ecall\n\
+turn 5 0 1 0x80000010 ran lui x5, 524289\n";
+
+#[test]
+fn after_the_consoles_fault_a_trace_has_lines_of_turns_alone(rt: HostRuntime) -> Result<(), Fail> {
+    let mut files = Files::new(rt.alloc());
+    files.add("first.toml", FAULTS_AFTER_A_BYTE.as_bytes())?;
+    let mut sinks = Sinks::new(rt.alloc())?;
+    sinks.console.fail_at(1);
+    let status = trace_first(rt.alloc(), &["5"], &mut files, &mut sinks)?;
+    assert_eq!(rt; status, Status::ConsoleFault);
+    assert!(rt; sinks.console.as_slice().is_empty());
+    assert_eq!(rt; sinks.report.as_slice(), AFTER_A_BYTE.as_bytes());
+    Ok(())
+}
+
+#[test]
+fn a_reports_fault_leaves_whole_pieces_of_a_trace(rt: HostRuntime) -> Result<(), Fail> {
+    let mut files = files_of(rt.alloc(), &FAULTS)?;
+    let mut sinks = Sinks::new(rt.alloc())?;
+    sinks.report.fail_at(2);
+    let status = trace_first(rt.alloc(), &["400"], &mut files, &mut sinks)?;
+    assert_eq!(rt; status, Status::ReportFault);
+    assert_eq!(rt; sinks.report.as_slice().len(), 4096);
+    assert!(rt; sinks.report.as_slice().starts_with(b"turn 1 0 1 0x80000000 ran lui x5, 524289\n"));
+    Ok(())
+}
+
+#[test]
+fn options_of_a_run_are_none_of_a_trace(rt: HostRuntime) -> Result<(), Fail> {
+    for option in ["--dump", "--tables", "--counts"] {
+        let mut files = files_of(rt.alloc(), &THREE_WORDS)?;
+        let mut sinks = Sinks::new(rt.alloc())?;
+        let status = trace_first(rt.alloc(), &["4", option], &mut files, &mut sinks)?;
+        assert_eq!(rt; status, Status::Usage, "{option}");
+    }
+    Ok(())
+}
