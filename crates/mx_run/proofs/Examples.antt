@@ -115,7 +115,7 @@ finds_short = (
 
 -- a control character of a name is shown as a question mark
 no_file_example : no_file_line (codes "a\nend" ++ 27 ∷ 127 ∷ []) ≡ codes "no file a?end??\n"
-unfolding no_file_line shown_name chars
+unfolding no_file_line shown_name chars lib.Utf8.encode
 no_file_example = refl
 
 refused_example : refused_line (file_fault 9) ≡ codes "refused fault=9 at=manifest key=- detail=0\n"
@@ -127,7 +127,7 @@ unfolding tables_full_line digits
 full_example = refl
 
 short_example : short_file_line (codes "first.toml") 10 4 ≡ codes "short file first.toml told=10 got=4\n"
-unfolding short_file_line digits shown_name chars
+unfolding short_file_line digits shown_name chars lib.Utf8.encode
 short_example = refl
 
 asm_example : asm_fault_line 2 1 ≡ codes "asm line=2 fault=1\n"

@@ -1,6 +1,6 @@
 //! The lines of refusals, each a whole report. No call takes memory.
 
-ghost use Rattle.std.specs.Prelude.{◌≡◌, [], unwrap_or};
+ghost use Rattle.std.specs.Prelude.{◌≡◌, [], ◌++◌, unwrap_or};
 ghost use Rattle.mx_io.specs.Sink.{SinkState, Puts};
 ghost use Rattle.mx_io.specs.Piece.{piece_text};
 ghost use Rattle.mx_run.specs.Refusal.{line_of, refused_line, place_text, tables_full_line, short_file_line, no_file_line, usage_line, store_fault_line, asm_fault_line};

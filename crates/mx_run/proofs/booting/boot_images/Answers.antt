@@ -3,7 +3,7 @@ use Rattle.mx_boot.specs.Boot.{Faulty, TooFull}
 use Rattle.mx_run.specs.Boots.{Rest, booted, refused_by}
 use Rattle.mx_run.specs.Next.{refusal}
 use Rattle.mx_run.proofs.Booted.{boots_new, boots_fresh}
-use Rattle.mx_run.proofs.Scheduled.{boots_refused}
+use Rattle.mx_run.proofs.Scheduled.{boots_refused, boots_wanting}
 use Rattle.mx_run.proofs.booting.boot_images.Goals as goal
 
 pub returns-in-Ok : goal.returns-in-Ok
@@ -40,3 +40,6 @@ returns-in-Err-TablesFull g c =
     rw boot
     (boots_refused g.S.Store.gives (λ (rest : Rest). booted side name rest c.args.plan (Err why)) (refusal name (refused_by side why)) c.args.store.now _ _ _ (λ rest. refl)
     (rw c.tables_full.ensures at c.refuse-in-Err-TablesFull.ensures))
+
+pub returns : goal.returns
+returns g c = boots_wanting g.S.Store.gives _ c.args.store.now _

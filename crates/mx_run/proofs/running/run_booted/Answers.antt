@@ -27,6 +27,6 @@ returns-in-Ok-None g c =
     (continues_end g.S.Store.gives (λ more. End (made (ByQuantum c.args.kept.now.quantum))) (made (ByQuantum c.args.kept.now.quantum)) refl c.take_schedule.new.store
     (inl (rw (c.quantum.ensures.value, takes.0) at (c.run_by-in-Ok-None.ensures s new is))))
 
-pub returns-in-Err : goal.returns-in-Err
-returns-in-Err g c =
+pub returns : goal.returns
+returns g c =
     λ s new is. c.in-Err.ensures c.args.kept.now.quantum (run_of (order_of c.args.order.now) c.args.kept.now s) (g.C.Sink.state c.args.console.now) (g.D.Sink.state c.args.dump.now)
