@@ -1,5 +1,5 @@
 -- How a call of the program ends, by what was put on its sinks.
-use Rattle.std.proofs.Common.{◌≡◌, ℕ, ◌≤◌, List, [], length, Result, Ok, Err, refl, inl, inr, arith}
+use Rattle.std.proofs.Common.{ℕ, List, [], Ok, Err, refl, inl, inr, arith}
 use Rattle.mx_io.specs.Texts.{AppendsPrefix}
 use Rattle.mx_io.specs.Sink.{SinkState, Puts}
 use Rattle.mx_io.proofs.Puts.{not_ok}
@@ -7,7 +7,7 @@ use Rattle.mx_io.proofs.Text.{appends_nothing}
 use Rattle.mx_tail.specs.Tail.{sent}
 use Rattle.mx_turns.specs.declared.fault.SinkFault.{SinkFault}
 use Rattle.mx_turns.specs.declared.fault.SinkFault.TheVariants as F
-use Rattle.mx_turns.specs.Ends.{Sinks, sinks, Holds, HoldsPrefix, CountsKept, LeavesAt, Leave, still}
+use Rattle.mx_turns.specs.Ends.{Sinks, sinks, Holds, CountsKept, LeavesAt, Leave, still}
 use Rattle.mx_run.specs.declared.status.Status.{Status}
 use Rattle.mx_run.specs.declared.status.Status.TheVariants.{ConsoleFault, ReportFault}
 use Rattle.mx_run.specs.Next.{Outcome}
@@ -27,7 +27,7 @@ module _ {A E : Type 0} (status : Status) (text : List ℕ) {before now : SinkSt
       → Ends (record { status = status; texts = still [] text [] }) (sinks console before dump) (sinks console now dump) status
   ends_reported puts console dump =
       let holds : Holds (still [] text []) (sinks console before dump) (sinks console now dump)
-          = record { console = appends_nothing console.written; report = puts.whole; dump = appends_nothing dump.written } in
+      = record { console = appends_nothing console.written; report = puts.whole; dump = appends_nothing dump.written } in
       let kept : CountsKept (sinks console before dump) (sinks console now dump) = record { console = refl; report = puts.kept; dump = refl } in
       record { how = inl (refl, holds, kept); sure = λ room. (refl, holds, kept) }
 
@@ -58,7 +58,7 @@ module _ {A E : Type 0} (status : Status) (text : List ℕ) {before now : SinkSt
       → Ends (record { status = status; texts = still text [] [] }) (sinks before report dump) (sinks now report dump) status
   ends_shown puts report dump =
       let holds : Holds (still text [] []) (sinks before report dump) (sinks now report dump)
-          = record { console = puts.whole; report = appends_nothing report.written; dump = appends_nothing dump.written } in
+      = record { console = puts.whole; report = appends_nothing report.written; dump = appends_nothing dump.written } in
       let kept : CountsKept (sinks before report dump) (sinks now report dump) = record { console = puts.kept; report = refl; dump = refl } in
       record { how = inl (refl, holds, kept); sure = λ room. (refl, holds, kept) }
 

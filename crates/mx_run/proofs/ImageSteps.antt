@@ -4,10 +4,10 @@ use Rattle.mx_io.specs.Sink.{SinkState}
 use Rattle.mx_io.specs.Answer.{Answer}
 use Rattle.mx_manifest.specs.declared.parts.ModulePlan.{ModulePlan}
 use Rattle.mx_run.specs.declared.status.Status.{Status}
-use Rattle.mx_run.specs.Finding.{Finding, Whole}
+use Rattle.mx_run.specs.Finding.{Finding}
 use Rattle.mx_run.specs.Next.{Next, after_file}
 use Rattle.mx_run.specs.Boots.{after_images, image_file}
-use Rattle.mx_run.specs.Booting.{TakesImage, TakesImages}
+use Rattle.mx_run.specs.Booting.{TakesImage}
 use Rattle.mx_run.specs.Reading.{Takes}
 use Rattle.mx_turns.specs.Ends.{sinks}
 use Rattle.mx_run.specs.Top.{Continues, Comes}

@@ -22,4 +22,4 @@ refused_parts n table index place name d is =
     let detail = detail_text name d in
     sym (ap (λ t. codes "refused fault=" ++ t) (append_assoc (decimal n) (codes " at=") (place ++ (detail ++ [])))
     ∙ ap (λ t. codes "refused fault=" ++ (decimal n ++ (codes " at=" ++ t)))
-        (ap (λ t. place ++ t) (append-nil detail) ∙ ap (λ t. t ++ detail) (sym is) ∙ append_assoc table index detail))
+    (ap (λ t. place ++ t) (append-nil detail) ∙ ap (λ t. t ++ detail) (sym is) ∙ append_assoc table index detail))

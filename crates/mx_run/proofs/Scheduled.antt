@@ -1,23 +1,19 @@
 -- How a boot and a schedule are taken, step by step.
-use Rattle.std.proofs.Common.{◌≡◌, ℕ, List, [], ◌∷◌, Option, Some, None, Vec, Global, Result, Ok, Err, refl, sym, ap, subst, inl}
+use Rattle.std.proofs.Common.{◌≡◌, ℕ, List, [], Some, None, Vec, Global, Result, Ok, Err, refl, inl}
 use Rattle.mx_io.specs.Sink.{SinkState}
 use Rattle.mx_io.specs.Answer.{Answer}
-use Rattle.mx_boot.specs.Boot.{Refusal, boot_of}
-use Rattle.mx_manifest.specs.declared.fault.BootFault.{BootFault}
-use Rattle.mx_manifest.specs.Plan.{Said}
-use Rattle.mx_model.specs.Run.{Schedule, ByQuantum, ByBytes}
-use Rattle.mx_turns.specs.Ends.{Sinks, sinks}
+use Rattle.mx_model.specs.Run.{ByBytes}
+use Rattle.mx_turns.specs.Ends.{sinks}
 use Rattle.mx_run.specs.declared.booting.Booted.{Booted}
-use Rattle.mx_run.specs.declared.side.Side.{Side}
 use Rattle.mx_run.specs.declared.status.Status.{Status}
 use Rattle.mx_run.specs.declared.status.Status.TheVariants.{WantOfMemory}
-use Rattle.mx_run.specs.Boots.{Rest, refused_by, booted, planned}
-use Rattle.mx_run.specs.Booting.{GoesOnWith, TakesBoot, TakesSchedule}
-use Rattle.mx_run.specs.Commands.{schedule_file, scheduled}
+use Rattle.mx_run.specs.Boots.{Rest}
+use Rattle.mx_run.specs.Booting.{TakesBoot, TakesSchedule}
+use Rattle.mx_run.specs.Commands.{schedule_file}
 use Rattle.mx_run.specs.Finding.{Finding}
-use Rattle.mx_run.specs.Next.{Outcome, Next, End, refusal, after_file}
+use Rattle.mx_run.specs.Next.{Outcome, Next, End}
 use Rattle.mx_run.specs.Reading.{Takes}
-use Rattle.mx_run.specs.Top.{Ends, Continues, Comes}
+use Rattle.mx_run.specs.Top.{Ends, Comes}
 use Rattle.mx_run.proofs.Continued.{continues_end, continues_wanting}
 
 module _ {S : Type 0} (gives : S → Answer → S → Type 0) where

@@ -7,7 +7,7 @@ use Rattle.mx_boot.specs.Machines.{meaning}
 use Rattle.mx_manifest.specs.declared.parts.ModulePlan.{ModulePlan}
 use Rattle.mx_manifest.specs.Plan.{Said}
 use Rattle.mx_model.specs.Run.{Schedule}
-use Rattle.mx_model.specs.State.{State, Flat, flat}
+use Rattle.mx_model.specs.State.{State, flat}
 use Rattle.mx_snapshot.specs.Kept.{kept_of}
 use Rattle.mx_turns.specs.Ends.{sinks}
 use Rattle.mx_turns.specs.Runs.{IsOfPlan}

@@ -118,7 +118,12 @@ fn take_image<S: Store, R: Sink>(
 {
     match &home.image {
         Some(name) => {
-            match take_file(alloc, &image_file(side, number, name.as_str()), store, report) {
+            match take_file(
+                alloc,
+                &image_file(side, number, name.as_str()),
+                store,
+                report,
+            ) {
                 Ok(bytes) => Ok(Blob::from_vec(bytes)),
                 Err(status) => Err(status),
             }

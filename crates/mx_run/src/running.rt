@@ -15,10 +15,10 @@ ghost use Rattle.mx_run.specs.Top.{fault_of, Ends, Continues};
 ghost use Rattle.mx_run.specs.Words.{Go};
 
 use crate::booting::{Booted, take_boot};
+use crate::order::{Order, Way};
 use crate::side::Side;
 use crate::status::Status;
 use crate::wanted::{schedule_file, take_file};
-use crate::order::{Order, Way};
 use mx_boot::AnyMachine;
 use mx_io::{Sink, Store};
 use mx_manifest::Plan;
@@ -124,11 +124,29 @@ fn run_booted<S: Store, C: Sink, R: Sink, D: Sink>(
     match take_schedule(alloc, order.schedule, store, report) {
         Ok(Some(bytes)) => {
             let schedule = Schedule::Bytes(bytes.as_slice());
-            run_by(order, kept, names.as_slice(), machine, schedule, console, report, dump)
+            run_by(
+                order,
+                kept,
+                names.as_slice(),
+                machine,
+                schedule,
+                console,
+                report,
+                dump,
+            )
         }
         Ok(None) => {
             let schedule = Schedule::Quantum(kept.quantum());
-            run_by(order, kept, names.as_slice(), machine, schedule, console, report, dump)
+            run_by(
+                order,
+                kept,
+                names.as_slice(),
+                machine,
+                schedule,
+                console,
+                report,
+                dump,
+            )
         }
         Err(status) => status,
     }
@@ -216,7 +234,15 @@ fn make_by<C: Sink, R: Sink, D: Sink>(
         (sinks (C.state console.new) (R.state report.new) (D.state dump.new)) result }
 {
     match order.way {
-        Way::Run => make_run(&task_of(order, schedule), kept, names, machine, console, report, dump),
+        Way::Run => make_run(
+            &task_of(order, schedule),
+            kept,
+            names,
+            machine,
+            console,
+            report,
+            dump,
+        ),
         Way::Trace => make_trace(&trace_of(order, schedule), machine, console, report),
     }
 }

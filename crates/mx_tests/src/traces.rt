@@ -86,7 +86,13 @@ end steps=5 state=steps\n";
 fn a_trace_has_a_line_for_each_turn(rt: HostRuntime) -> Result<(), Fail> {
     let alloc = rt.alloc();
     show_trace(&rt, alloc, &THREE_WORDS, &["4"], THREE)?;
-    show_trace(&rt, alloc, &THREE_WORDS, &["4", "--schedule", "order"], NO_HART)?;
+    show_trace(
+        &rt,
+        alloc,
+        &THREE_WORDS,
+        &["4", "--schedule", "order"],
+        NO_HART,
+    )?;
     show_trace(&rt, alloc, &STORE_INTO_CODE, &["5"], DENIED_STORE)?;
     show_trace(&rt, alloc, &FAULTS, &["5"], GATE)
 }
@@ -96,10 +102,28 @@ fn turns_below_a_step_have_no_line(rt: HostRuntime) -> Result<(), Fail> {
     let alloc = rt.alloc();
     show_trace(&rt, alloc, &THREE_WORDS, &["4", "--from", "0"], THREE)?;
     show_trace(&rt, alloc, &THREE_WORDS, &["4", "--from", "01"], THREE)?;
-    show_trace(&rt, alloc, &THREE_WORDS, &["4", "--from", "2"], THREE_FROM_TWO)?;
-    show_trace(&rt, alloc, &THREE_WORDS, &["4", "--from", "3"], THREE_FROM_THREE)?;
+    show_trace(
+        &rt,
+        alloc,
+        &THREE_WORDS,
+        &["4", "--from", "2"],
+        THREE_FROM_TWO,
+    )?;
+    show_trace(
+        &rt,
+        alloc,
+        &THREE_WORDS,
+        &["4", "--from", "3"],
+        THREE_FROM_THREE,
+    )?;
     show_trace(&rt, alloc, &THREE_WORDS, &["4", "--from", "4"], NO_LINE)?;
-    show_trace(&rt, alloc, &THREE_WORDS, &["4", "--from", "9999999999"], NO_LINE)?;
+    show_trace(
+        &rt,
+        alloc,
+        &THREE_WORDS,
+        &["4", "--from", "9999999999"],
+        NO_LINE,
+    )?;
     let words = ["4", "--from", "2", "--schedule", "order"];
     let late = "turn 2 0 1 0x80000000 ran addi x17, x0, 1\nend steps=2 state=schedule\n";
     show_trace(&rt, alloc, &THREE_WORDS, &words, late)
@@ -133,7 +157,12 @@ fn a_reports_fault_leaves_whole_pieces_of_a_trace(rt: HostRuntime) -> Result<(),
     let status = trace_first(rt.alloc(), &["400"], &mut files, &mut sinks)?;
     assert_eq!(rt; status, Status::ReportFault);
     assert_eq!(rt; sinks.report.as_slice().len(), 4096);
-    assert!(rt; sinks.report.as_slice().starts_with(b"turn 1 0 1 0x80000000 ran lui x5, 524289\n"));
+    assert!(rt;
+        sinks
+            .report
+            .as_slice()
+            .starts_with(b"turn 1 0 1 0x80000000 ran lui x5, 524289\n")
+    );
     Ok(())
 }
 

@@ -1,17 +1,17 @@
 -- How the texts of a run left, by what its loop and its end did.
-use Rattle.std.proofs.Common.{◌≡◌, ℕ, ◌+◌, ◌<◌, ◌≤◌, ◌⊎◌, List, [], ◌++◌, length, Result, Ok, Err, IsOk, refl, sym, ap, subst, ◌∙◌, inl, inr, arith}
+use Rattle.std.proofs.Common.{◌≡◌, ℕ, ◌+◌, ◌<◌, ◌≤◌, List, [], ◌++◌, length, Result, Ok, Err, refl, sym, subst, inl, inr, arith}
 use Rattle.std.proofs.lemmas.List.{append-nil}
-use Rattle.mx_io.specs.Texts.{AppendsWhole, AppendsPrefix}
+use Rattle.mx_io.specs.Texts.{AppendsPrefix}
 use Rattle.mx_io.specs.Sink.{SinkState}
 use Rattle.mx_io.proofs.Text.{appends_nothing}
 use Rattle.mx_model.specs.State.{State, Flat}
 use Rattle.mx_tail.specs.Tail.{sent}
 use Rattle.mx_turns.specs.declared.fault.SinkFault.{SinkFault}
 use Rattle.mx_turns.specs.declared.fault.SinkFault.TheVariants as F
-use Rattle.mx_turns.specs.Ends.{Texts, Sinks, sinks, Holds, HoldsPrefix, CountsKept, HasRoom, IsSinkFault, Leave}
+use Rattle.mx_turns.specs.Ends.{Texts, sinks, IsSinkFault, Leave}
 use Rattle.mx_turns.specs.Runs.{undumped}
-use Rattle.mx_turns.specs.Running.{Put, Breaks, PutOrBreaks, Moves, Places, places, HasTexts, StopsAt, Closes}
-use Rattle.mx_turns.proofs.Sinking.{BreaksSomewhere, breaks_more, breaks_of, breaks_same, breaks_sent, moves_put, moves_unput, prefix_moves, prefix_more, prefix_none, prefix_put, prefix_tells, prefix_whole, put_of, put_same, tells_of}
+use Rattle.mx_turns.specs.Running.{Put, Breaks, PutOrBreaks, Places, places, HasTexts, StopsAt, Closes}
+use Rattle.mx_turns.proofs.Sinking.{BreaksSomewhere, breaks_more, breaks_same, breaks_sent, moves_put, moves_unput, prefix_moves, prefix_none, prefix_tells, prefix_whole, put_same, tells_of}
 
 -- what a text is before more of it
 abbrev Begun : List ℕ → List ℕ → Type 0

@@ -1,5 +1,5 @@
 -- The texts of a run and of a trace, by how its turns and its end went.
-use Rattle.std.proofs.Common.{◌≡◌, ℕ, ◌+◌, ◌<◌, ◌≤◌, List, [], ◌++◌, length, Option, Result, Ok, Err, refl, sym, ap, subst, ◌∙◌, append_assoc, arith}
+use Rattle.std.proofs.Common.{◌≡◌, ℕ, ◌+◌, ◌≤◌, List, [], ◌++◌, Option, Result, Err, refl, ap, ◌∙◌, append_assoc}
 use Rattle.mx_io.specs.Sink.{SinkState}
 use Rattle.mx_model.specs.Run.{Schedule, run}
 use Rattle.mx_model.specs.State.{State, Flat, flat}

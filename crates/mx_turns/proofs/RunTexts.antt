@@ -1,5 +1,5 @@
 -- Runs turn by turn, and their texts through the buffers.
-use Rattle.std.proofs.Common.{◌≡◌, ℕ, zero, suc, ◌+◌, ◌-◌, ◌<◌, ◌≤◌, Bool, true, false, List, [], ◌++◌, option_to_list, Option, Some, None, Ok, Err, cond, refl, sym, ap, subst, ◌∙◌, inl, inr, append_assoc, arith}
+use Rattle.std.proofs.Common.{◌≡◌, ℕ, zero, suc, ◌+◌, ◌-◌, ◌<◌, ◌≤◌, Bool, true, false, List, [], ◌++◌, option_to_list, Option, Some, None, Ok, Err, cond, refl, sym, ap, subst, ◌∙◌, append_assoc, arith}
 use Rattle.std.proofs.lemmas.Bool.{or_from, or_left, or_right}
 use Rattle.std.proofs.lemmas.List.{append-nil}
 use Rattle.std.proofs.lemmas.Grind.{flat_map-append}
@@ -26,7 +26,7 @@ use Rattle.mx_turns.specs.declared.turns.Telling.{Telling}
 use Rattle.mx_turns.specs.declared.turns.Telling.TheVariants as telling
 use Rattle.mx_turns.specs.Runs.{note_lines}
 use Rattle.mx_turns.proofs.Quiet.{quiet_turned}
-use Rattle.mx_turns.proofs.Sinking.{moves_nothing, moves_none, moves_moves, moves_breaks, breaks_same}
+use Rattle.mx_turns.proofs.Sinking.{moves_nothing, moves_moves, moves_breaks}
 
 -- a run of n turns, of which i made it stop
 pub run_ends : (schedule : Schedule) (i n : ℕ) (s : State) → i ≤ n → is_stopped schedule (run schedule i s) ≡ true → run schedule n s ≡ run schedule i s
@@ -181,7 +181,7 @@ pub makes_quiet : (tells : Telling) (s : State) (h : ℕ) (m k : Flat) (c : Core
 makes_quiet tells s h m k c events before at is quiet has =
     let console : (turn s h).console ≡ s.console = ap (λ t. s.console ++ t) (sym is.bytes ∙ quiet.bytes) ∙ append-nil s.console in
     let report : told_by tells (turn s h) ≡ told_by tells s =
-        turn_lines tells s h ∙ ap (λ t. told_by tells s ++ t) (adds_none tells (made_of s h).note (sym quiet.note ∙ is.note)) ∙ append-nil (told_by tells s) in
+    turn_lines tells s h ∙ ap (λ t. told_by tells s ++ t) (adds_none tells (made_of s h).note (sym quiet.note ∙ is.note)) ∙ append-nil (told_by tells s) in
     record { state = is.state; console = rw console has.console; report = rw report has.report }
 
 -- a turn was made, and what it added was put

@@ -1,5 +1,5 @@
 -- Texts that were put on a sink one after another, or of which one couldn't be put.
-use Rattle.std.proofs.Common.{◌≡◌, ℕ, ◌+◌, ◌<◌, ◌≤◌, ◌⊎◌, List, [], ◌++◌, length, take, min, refl, sym, ap, subst, ◌∙◌, inl, inr, append_assoc, length-append, arith, Result, OnOk, Ok, Err}
+use Rattle.std.proofs.Common.{◌≡◌, ℕ, ◌+◌, ◌<◌, ◌≤◌, List, [], ◌++◌, length, take, min, refl, sym, ap, subst, ◌∙◌, inl, inr, append_assoc, length-append, arith, Result, OnOk, Ok, Err}
 use Rattle.std.proofs.lemmas.List.{append-nil, take-append-le, take_min}
 use Rattle.std.proofs.Math.Seq.{take-append_seam, take-append-add}
 use Rattle.mx_io.specs.Count.{Rose}

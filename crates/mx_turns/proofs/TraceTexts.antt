@@ -8,7 +8,6 @@ use Rattle.mx_model.specs.Turn.{Made}
 use Rattle.mx_model.specs.State.{State, Flat, flat}
 use Rattle.mx_model.proofs.FlatLaws.{reads-flat, made-flat, flat-turn}
 use Rattle.mx_model.proofs.KeepLaws.{keeps-turned}
-use Rattle.mx_model.proofs.RunLaws.{run-add}
 use Rattle.mx_model.proofs.RunSteps.{run-going, run-stopped}
 use Rattle.mx_tail.specs.Tail.{sent}
 use Rattle.mx_turns.specs.declared.fault.SinkFault.{SinkFault}
@@ -130,7 +129,7 @@ module _ (p : Schedule) (from i : ℕ) (s : State) (m : Flat) (before at : Place
     pub trace_makes : (A : Type 0) (a : A) (now : Places) → ShowsOrStops (flat_made m h).console (flat_line_from from m h) at now (Ok a) → HasTexts (run p (i + 1) s) (trace p from (i + 1) s) k before now
     trace_makes A a now shows =
         let made : Makes (run p i s) h (line_from from (run p i s) h) k at now
-            = record { state = state_next; console = rw bytes_next at shows.0; report = rw line_next at shows.1 } in
+        = record { state = state_next; console = rw bytes_next at shows.0; report = rw line_next at shows.1 } in
         rw (run_next, trace_next) (texts_make (run p i s) (trace p from i s) (line_from from (run p i s) h) h m k before at now has made)
 
     shown_so : (A : Type 0) (which : SinkFault) (now : Places) → ShowsOrStops {A = A} (flat_made m h).console (flat_line_from from m h) at now (Err which)

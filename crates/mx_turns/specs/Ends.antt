@@ -1,5 +1,5 @@
 -- How the texts of a call leave through its three sinks, and what holds where a sink fails.
-use Rattle.std.specs.Prelude.{◌≡◌, ℕ, ◌+◌, ◌<◌, ◌≤◌, ◌⊎◌, List, [], length, take, Result, Ok, Err, OnOk, IfErr, IsOk}
+use Rattle.std.specs.Prelude.{◌≡◌, ℕ, ◌+◌, ◌<◌, ◌≤◌, ◌⊎◌, List, [], length, take, Result, OnOk, IfErr, IsOk}
 use Rattle.mx_io.specs.Count.{Rose}
 use Rattle.mx_io.specs.Texts.{AppendsWhole, AppendsPrefix}
 use Rattle.mx_io.specs.Sink.{SinkState}

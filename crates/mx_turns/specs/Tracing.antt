@@ -14,10 +14,10 @@ use Rattle.mx_turns.specs.Runs.{end_of}
 -- what stands at a hart before its turn, where there is such a hart
 abbrev pub seen_at : Reads → Core → ℕ → Option Seen
 seen_at r c h = if nat_lt h (length c.harts) then Some (record {
-    domain = (hart_at c h).domain;
-    pc = (hart_at c h).pc;
-    inst = standing_inst r c h;
-  }) else None
+  domain = (hart_at c h).domain;
+  pc = (hart_at c h).pc;
+  inst = standing_inst r c h;
+}) else None
 
 -- the line of a turn, which one below the step has not
 abbrev pub line_text : ℕ → ℕ → ℕ → Option Seen → TurnKind → List ℕ

@@ -83,7 +83,16 @@ fn trace_all<C: Sink, R: Sink>(
     let quiet = lineless(task.from, machine.steps(), task.steps);
     skip_turns(quiet, task.schedule, machine, shown, console, told, report)?;
     let rest = task.steps - quiet;
-    trace_turns(task.from, rest, task.schedule, machine, shown, console, told, report)
+    trace_turns(
+        task.from,
+        rest,
+        task.schedule,
+        machine,
+        shown,
+        console,
+        told,
+        report,
+    )
 }
 
 // How many of the next turns have no line.
@@ -117,31 +126,49 @@ fn skip_turns<C: Sink, R: Sink>(
     let telling = Telling::Nothing;
     match machine {
         AnyMachine::Segments8(machine) => {
-            make_turns(steps, schedule, telling, machine, shown, console, told, report)
+            make_turns(
+                steps, schedule, telling, machine, shown, console, told, report,
+            )
         }
         AnyMachine::Segments32(machine) => {
-            make_turns(steps, schedule, telling, machine, shown, console, told, report)
+            make_turns(
+                steps, schedule, telling, machine, shown, console, told, report,
+            )
         }
         AnyMachine::Segments64(machine) => {
-            make_turns(steps, schedule, telling, machine, shown, console, told, report)
+            make_turns(
+                steps, schedule, telling, machine, shown, console, told, report,
+            )
         }
         AnyMachine::Multilevel8(machine) => {
-            make_turns(steps, schedule, telling, machine, shown, console, told, report)
+            make_turns(
+                steps, schedule, telling, machine, shown, console, told, report,
+            )
         }
         AnyMachine::Multilevel32(machine) => {
-            make_turns(steps, schedule, telling, machine, shown, console, told, report)
+            make_turns(
+                steps, schedule, telling, machine, shown, console, told, report,
+            )
         }
         AnyMachine::Multilevel64(machine) => {
-            make_turns(steps, schedule, telling, machine, shown, console, told, report)
+            make_turns(
+                steps, schedule, telling, machine, shown, console, told, report,
+            )
         }
         AnyMachine::Packed8(machine) => {
-            make_turns(steps, schedule, telling, machine, shown, console, told, report)
+            make_turns(
+                steps, schedule, telling, machine, shown, console, told, report,
+            )
         }
         AnyMachine::Packed32(machine) => {
-            make_turns(steps, schedule, telling, machine, shown, console, told, report)
+            make_turns(
+                steps, schedule, telling, machine, shown, console, told, report,
+            )
         }
         AnyMachine::Packed64(machine) => {
-            make_turns(steps, schedule, telling, machine, shown, console, told, report)
+            make_turns(
+                steps, schedule, telling, machine, shown, console, told, report,
+            )
         }
     }
 }
@@ -179,7 +206,16 @@ fn trace_turns<C: Sink, R: Sink>(
         let Some((hart, _)) = next_hart(&pace, 1) else {
             return Ok(());
         };
-        trace_turn(from, hart, machine, &mut events, shown, console, told, report)?;
+        trace_turn(
+            from,
+            hart,
+            machine,
+            &mut events,
+            shown,
+            console,
+            told,
+            report,
+        )?;
         made += 1;
         pace = later(pace, 1);
         if machine.all_halted() {

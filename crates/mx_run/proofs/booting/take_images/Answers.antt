@@ -1,4 +1,4 @@
-use Rattle.std.proofs.Common.{ℕ, ◌+◌, List, drop, refl, ◌∙◌, arith}
+use Rattle.std.proofs.Common.{◌+◌, drop, refl, ◌∙◌, arith}
 use Rattle.std.proofs.lemmas.List.{drop_all}
 use Rattle.mx_words.proofs.ElementLaws.{drop_at}
 use Rattle.mx_run.proofs.Continued.{continues_wanting}

@@ -1,4 +1,4 @@
-use Rattle.std.proofs.Common.{◌≡◌, ℕ, ◌+◌, List, [], drop}
+use Rattle.std.proofs.Common.{◌≡◌, ◌+◌, [], drop}
 use Rattle.mx_run.specs.Boots.{after_images}
 use Rattle.mx_run.specs.Booting.{AfterImages}
 use Rattle.mx_run.specs.Top.{Comes}

@@ -1,6 +1,3 @@
-use Rattle.mx_boot.specs.Machines.{meaning}
-use Rattle.mx_model.specs.State.{State, Flat, flat}
-use Rattle.mx_manifest.specs.Plan.{Said}
 use Rattle.mx_snapshot.specs.Kept.{kept_of}
 use Rattle.mx_run.specs.Asked.{order_of}
 use Rattle.mx_run.specs.Boots.{Rest}

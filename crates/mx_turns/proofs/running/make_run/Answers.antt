@@ -1,4 +1,4 @@
-use Rattle.std.proofs.Common.{ap, sym}
+use Rattle.std.proofs.Common.{ap}
 use Rattle.mx_model.specs.State.{Flat}
 use Rattle.mx_turns.specs.Runs.{dumped}
 use Rattle.mx_turns.specs.Running.{texts_of}

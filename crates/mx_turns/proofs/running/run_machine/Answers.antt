@@ -1,6 +1,5 @@
-use Rattle.std.proofs.Common.{◌≡◌, ◌+◌, Err, refl, ap, ◌∙◌}
-use Rattle.mx_model.specs.State.{State, Flat}
-use Rattle.mx_model.specs.Run.{run}
+use Rattle.std.proofs.Common.{◌≡◌, ◌+◌, refl, ap, ◌∙◌}
+use Rattle.mx_model.specs.State.{Flat}
 use Rattle.mx_machine.proofs.SizeLaws.{fits-inside}
 use Rattle.mx_turns.specs.declared.fault.SinkFault.TheVariants as F
 use Rattle.mx_turns.specs.Running.{schedule_of, places}

@@ -1,4 +1,4 @@
-use Rattle.std.proofs.lemmas.Bool.{lt-ltb, le-ltb}
+use Rattle.std.proofs.lemmas.Bool.{lt-ltb}
 use Rattle.mx_tail.proofs.PassLaws.{passes_adds}
 use Rattle.mx_turns.proofs.tracing.put_line.Goals as goal
 

@@ -1,9 +1,8 @@
 use Rattle.std.proofs.Common.{◌≡◌, ℕ, ◌+◌, ◌-◌, ◌≤◌, [], sym, subst, arith}
 use Rattle.std.proofs.lemmas.Result.{err_from_is_err_and}
 use Rattle.mx_boot.specs.Machines.{meaning}
-use Rattle.mx_model.specs.State.{State}
 use Rattle.mx_model.specs.Run.{run}
-use Rattle.mx_turns.specs.Running.{schedule_of, places, HasTexts, RunsOrStops}
+use Rattle.mx_turns.specs.Running.{schedule_of, places, RunsOrStops}
 use Rattle.mx_turns.specs.Tracing.{trace}
 use Rattle.mx_turns.proofs.TraceTexts.{stops_lines, trace_quiet}
 use Rattle.mx_turns.proofs.tracing.trace_all.Goals as goal
@@ -18,8 +17,7 @@ returns-in_err-skip_turns g c =
     (λ s b.
     let stops = c.in_err-skip_turns.ensures.runs s b in
     let below = rw (c.steps.ensures, b.state) at c.lineless-quiet.ensures.none in
-    let none = λ (n : ℕ) (few : n ≤ quiet). sym (trace_quiet q t.from quiet n s below few) in
-    (
+    let none = λ (n : ℕ) (few : n ≤ quiet). sym (trace_quiet q t.from quiet n s below few) in (
       stops.0,
       omega (arith, stops.1, c.lineless-quiet.ensures.few),
       stops_lines (λ n. run q n s) (λ n. []) (λ n. trace q t.from n s) stops.0 (none stops.0 (omega (arith, stops.1))) (none (stops.0 + 1) (omega (arith, stops.1))) (meaning c.skip_turns.new.machine)

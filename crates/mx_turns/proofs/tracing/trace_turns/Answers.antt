@@ -58,7 +58,7 @@ returns-then-all_halted-2 g c =
     let name = row.each 0 row.some f.core (omega arith) refl in
     λ s done before has.
     let after = trace_makes p c.args.from (done + c.turns.made) s f before _ (c.turns.invariant.runs s done before has) c.in-Some.hart c.turns.invariant.going name k c.trace_turn.ensures.turn _ c.in_ok-trace_turn.field-0
-        (places (g.C.Sink.state c.trace_turn.new.console) c.trace_turn.new.shown (g.R.Sink.state c.trace_turn.new.report) c.trace_turn.new.told) c.in_ok-trace_turn.ensures.shows in
+    (places (g.C.Sink.state c.trace_turn.new.console) c.trace_turn.new.shown (g.R.Sink.state c.trace_turn.new.report) c.trace_turn.new.told) c.in_ok-trace_turn.ensures.shows in
     trace_halts p c.args.from (done + c.turns.made + 1) s k before _ after (done + c.args.steps) (omega (arith, c.turns-test.true)) (sym c.all_halted-in-turns.ensures ∙ c.if-all_halted-2.true)
 
 -- a turn whose texts were put
@@ -81,7 +81,7 @@ turns-preserved g c =
       runs =
           λ s done before has.
           let after = trace_makes p c.args.from (done + c.turns.made) s f before _ (c.turns.invariant.runs s done before has) c.in-Some.hart c.turns.invariant.going name k is _ c.in_ok-trace_turn.field-0
-              (places (g.C.Sink.state c.trace_turn.new.console) c.trace_turn.new.shown (g.R.Sink.state c.trace_turn.new.report) c.trace_turn.new.told) c.in_ok-trace_turn.ensures.shows in
+          (places (g.C.Sink.state c.trace_turn.new.console) c.trace_turn.new.shown (g.R.Sink.state c.trace_turn.new.report) c.trace_turn.new.told) c.in_ok-trace_turn.ensures.shows in
           let e : done + (c.turns.made + 1) ≡ done + c.turns.made + 1 = omega arith in
           rw e after;
     }

@@ -121,9 +121,12 @@ returns-in_err-end_turn-clause-runs g c =
     let few : made < c.args.steps = omega (arith, is.few, row.few, c.turns.invariant.within) in
     let next = last_next c.args.telling schedule f going h (c.args.steps - c.turns.made) c.in-Some.most row c.turns.made s _ at r k events stretch is in
     let which = c.in_err-end_turn.field-0.0 in
-    let stops = makes_stopped c.args.telling (Unit {0}) u h k events at now which last c.in_err-end_turn.ensures.shows in
-    (made, few, texts_stop (λ n. run schedule n s) (λ n. told_by c.args.telling (run schedule n s)) made (made_of u h).console (adds_by c.args.telling (made_of u h).note) (turns_of h f stretch.ran) k _ at now which reached
-    (last.state ∙ ap flat (sym next)) (ap (λ (v : State). v.console) next) (ap (λ (v : State). told_by c.args.telling v) next ∙ turn_lines c.args.telling u h) stops))
+    let stops = makes_stopped c.args.telling (Unit {0}) u h k events at now which last c.in_err-end_turn.ensures.shows in (
+      made,
+      few,
+      texts_stop (λ n. run schedule n s) (λ n. told_by c.args.telling (run schedule n s)) made (made_of u h).console (adds_by c.args.telling (made_of u h).note) (turns_of h f stretch.ran) k _ at now which reached
+          (last.state ∙ ap flat (sym next)) (ap (λ (v : State). v.console) next) (ap (λ (v : State). told_by c.args.telling v) next ∙ turn_lines c.args.telling u h) stops,
+    ))
 
 -- turns after which all harts are halted
 pub returns-then-branch-clause-keeps : goal.returns-then-branch-clause-keeps
