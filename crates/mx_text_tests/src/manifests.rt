@@ -5,6 +5,7 @@ use std::alloc::Global;
 use std::test::Fail;
 
 mod faults;
+mod kept;
 mod ranges;
 
 /// The first lines of a manifest, and one module and one hart that are accepted.
