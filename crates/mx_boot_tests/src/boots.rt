@@ -10,6 +10,7 @@ use mx_words::Perm;
 use std::alloc::Global;
 
 mod refusals;
+mod standing;
 mod whole;
 mod words;
 
@@ -48,6 +49,14 @@ pub(crate) fn perm(machine: &AnyMachine, domain: u32, word: u32) -> Option<Perm>
         return None;
     }
     Some(machine.perm(domain, word))
+}
+
+/// The first word after the run of a word's permission in a domain's map, where there are such.
+pub(crate) fn perm_end(machine: &AnyMachine, domain: u32, word: u32) -> Option<u32> {
+    if domain == 0 || domain > machine.modules() || word >= machine.words() {
+        return None;
+    }
+    Some(machine.perm_end(domain, word))
 }
 
 /// The owner of a word and the first word after its run, where there is such a word.

@@ -145,6 +145,15 @@ pub fn perm(machine: &Small, domain: u32, word: u32) -> Option<Perm> {
     }
 }
 
+/// The word after the run of a word's permission in a domain's map, where there are both.
+pub fn perm_end(machine: &Small, domain: u32, word: u32) -> Option<u32> {
+    if 0 < domain && domain <= machine.modules() && word < machine.words() {
+        Some(machine.perm_end(domain, word))
+    } else {
+        None
+    }
+}
+
 /// Whether a hart waits and another has heard its call, where there are both.
 pub fn heard(machine: &Small, hart: u32, by: u32) -> Option<bool> {
     if hart < machine.harts() && by < machine.harts() {

@@ -1,6 +1,8 @@
 //! Each reader of a machine, over machines made by hand.
 
-use crate::played::{Played, code, fault, heard, is_dead, perm, play, run_from, start, turn};
+use crate::played::{
+    Played, code, fault, heard, is_dead, perm, perm_end, play, run_from, start, turn,
+};
 use crate::small::{Module, Small};
 use mx_heap::Block;
 use mx_machine::StackArea;
@@ -253,6 +255,41 @@ fn crossings_inside_a_call(alloc: Global) -> Result<Crossings, Fail> {
         gates: [machine.gate(0), machine.gate(1)],
         frames: frames(machine),
     })
+}
+
+/// Where runs of permission end in a machine inside a call, by domain and word: three words of code, the words up to the stack area, a word
+/// inside it, the words up to RAM's end; and in domain 2 the words up to its one word, and that word.
+const ENDS: [(u32, u32, u32); 7] = [
+    (1, 0, 3),
+    (1, 3, 2048),
+    (1, 1030, 2048),
+    (1, 2050, 2052),
+    (1, 2052, 16384),
+    (2, 0, 1024),
+    (2, 1024, 1025),
+];
+
+/// The first of these runs that the machine tells otherwise.
+fn wrong_end(machine: &Small) -> Option<(u32, u32, u32)> {
+    for run in ENDS {
+        let (domain, word, end) = run;
+        if perm_end(machine, domain, word) != Some(end) {
+            return Some(run);
+        }
+    }
+    None
+}
+
+/// The same in a machine inside a call.
+fn wrong_end_inside_a_call(alloc: Global) -> Result<Option<(u32, u32, u32)>, Fail> {
+    let played = inside_a_call(alloc)?;
+    Ok(wrong_end(&played.machine))
+}
+
+#[test]
+fn the_readers_tell_where_permissions_end(rt: HostRuntime) -> Result<(), Fail> {
+    assert_eq!(rt; wrong_end_inside_a_call(rt.alloc())?, None);
+    Ok(())
 }
 
 #[test]

@@ -1,6 +1,6 @@
 //! One plan with all that a manifest may say, as a machine at boot over each kind of tables with each size of lookaside buffers.
 
-use super::{booted, byte, module, owner, perm, start};
+use super::{booted, byte, module, owner, perm, perm_end, start};
 use crate::layouts::accepted::{HARTS, MODULES};
 use crate::layouts::{File, manifest};
 use mx_boot::{AnyMachine, BootRefused};
@@ -33,6 +33,24 @@ const PERMS: [(u32, u32, Perm); 20] = [
     (2, 1031, Perm::Read),
     (2, 1032, Perm::Read),
     (2, 1033, Perm::None),
+];
+
+/// The runs of permission, from a first word, a last one or one between: domain, word, and the word after the run.
+const ENDS: [(u32, u32, u32); 14] = [
+    (1, 0, 4),
+    (1, 3, 4),
+    (1, 4, 1024),
+    (1, 700, 1024),
+    (1, 1024, 1031),
+    (1, 1031, 2048),
+    (1, 2048, 2050),
+    (1, 2049, 2050),
+    (1, 2050, 3072),
+    (1, 3072, 3084),
+    (1, 3084, 16384),
+    (2, 0, 1031),
+    (2, 1032, 1033),
+    (2, 1033, 16384),
 ];
 
 /// The runs of owners: first word, owner, and the word after.
@@ -90,6 +108,15 @@ const GATES: [(u32, u32, u32); 5] = [
 fn has_rights(machine: &AnyMachine) -> bool {
     for (domain, word, right) in PERMS {
         if perm(machine, domain, word) != Some(right) {
+            return false;
+        }
+    }
+    true
+}
+
+fn has_ends(machine: &AnyMachine) -> bool {
+    for (domain, word, end) in ENDS {
+        if perm_end(machine, domain, word) != Some(end) {
             return false;
         }
     }
@@ -186,7 +213,7 @@ fn wrong_in(machine: &AnyMachine, kind: &str, size: u32, need: Need) -> Option<&
     if machine.words() != 16384 || !has_bytes(machine) {
         return Some("RAM");
     }
-    if !has_rights(machine) {
+    if !has_rights(machine) || !has_ends(machine) {
         return Some("rights");
     }
     if !has_owners(machine) {
