@@ -3,6 +3,10 @@
 use crate::examples::{Example, Sinks, files_of};
 use crate::failing::{FAULTS, FAULTS_AFTER_A_BYTE};
 use crate::one_module::{STORE_INTO_CODE, THREE_WORDS};
+use crate::two_modules::{
+    CALL_INTO_A_DEAD_MODULE, DEAD_DOMAIN_TWO_HARTS, RETURN_TO_THE_SAVED_ADDRESS,
+    TWO_HARTS_TRANSFER_UNDER_A_WAITING_GRANT,
+};
 use mx_io::Files;
 use mx_run::{Status, Words, mondrix};
 use std::alloc::Global;
@@ -43,6 +47,7 @@ fn show_trace(
     let name = example.name;
     let mut files = files_of(alloc, example)?;
     files.add("order", b"\x01\x00".as_slice())?;
+    files.add("turns", b"\0\0\0\0\0\0\0\x01\0\0\0".as_slice())?;
     let mut sinks = Sinks::new(alloc)?;
     let status = trace_first(alloc, words, &mut files, &mut sinks)?;
     assert_eq!(rt; status, Status::Ran, "{name}");
@@ -95,6 +100,76 @@ fn a_trace_has_a_line_for_each_turn(rt: HostRuntime) -> Result<(), Fail> {
     )?;
     show_trace(&rt, alloc, &STORE_INTO_CODE, &["5"], DENIED_STORE)?;
     show_trace(&rt, alloc, &FAULTS, &["5"], GATE)
+}
+
+/// A crossing and its return.
+const RETURN: &str = "turn 1 0 1 0x80000000 ran lui x5, 524289\n\
+turn 2 0 1 0x80000004 ran jalr x1, 0(x5)\n\
+turn 3 0 1 0x80001000 crossed -\n\
+turn 4 0 2 0x80001000 ran addi x2, x0, 7\n\
+turn 5 0 2 0x80001004 ran addi x8, x0, 9\n\
+turn 6 0 2 0x80001008 returned jalr x0, 0(x1)\n\
+turn 7 0 1 0x80000008 trapped ebreak\n\
+end steps=7 state=halted\n";
+
+/// A callee that is killed, and a call into it that comes back at once.
+const DEAD: &str = "turn 1 0 1 0x80000000 ran lui x5, 524289\n\
+turn 2 0 1 0x80000004 ran jalr x1, 0(x5)\n\
+turn 3 0 1 0x80001000 crossed -\n\
+turn 4 0 2 0x80001000 trapped ebreak\n\
+turn 5 0 1 0x80000008 ran jalr x1, 0(x5)\n\
+turn 6 0 1 0x80001000 returned -\n\
+turn 7 0 1 0x8000000c trapped ebreak\n\
+end steps=7 state=halted\n";
+
+/// A hart that finds its domain dead.
+const DEAD_HARTS: &str = "turn 1 0 1 0x80000000 trapped ebreak\n\
+turn 2 1 1 0x80000000 trapped ebreak\n\
+end steps=2 state=halted\n";
+
+/// A call that waits for another hart to hear it, is served, and a halted hart's turn.
+const WAITING: &str = "turn 6 0 1 0x80000014 called ecall\n\
+turn 7 0 1 0x80000014 waited ecall\n\
+turn 8 1 1 0x8000001c ran lui x10, 524289\n\
+turn 9 0 1 0x80000014 called ecall\n\
+turn 10 0 1 0x80000018 trapped ebreak\n\
+turn 11 0 1 0x80000018 idle -\n\
+end steps=11 state=schedule\n";
+
+#[test]
+fn lines_of_gates_calls_and_dead_domains(rt: HostRuntime) -> Result<(), Fail> {
+    let alloc = rt.alloc();
+    show_trace(&rt, alloc, &RETURN_TO_THE_SAVED_ADDRESS, &["10"], RETURN)?;
+    show_trace(&rt, alloc, &CALL_INTO_A_DEAD_MODULE, &["20"], DEAD)?;
+    show_trace(&rt, alloc, &DEAD_DOMAIN_TWO_HARTS, &["10"], DEAD_HARTS)?;
+    let grant = &TWO_HARTS_TRANSFER_UNDER_A_WAITING_GRANT;
+    let words = ["20", "--schedule", "turns", "--from", "6"];
+    show_trace(&rt, alloc, grant, &words, WAITING)
+}
+
+/// A word that may be fetched, and is no instruction.
+const NO_INSTRUCTION: &str = "version = 1\n\
+ram_kib = 64\n\
+[[module]]\n\
+name = \"m\"\n\
+at = 0x80000000\n\
+perm = \"rx\"\n\
+words = [0x00100893, 0]\n\
+[[hart]]\n\
+module = \"m\"\n";
+
+#[test]
+fn a_word_that_is_no_instruction_has_no_text(rt: HostRuntime) -> Result<(), Fail> {
+    let mut files = Files::new(rt.alloc());
+    files.add("first.toml", NO_INSTRUCTION.as_bytes())?;
+    let mut sinks = Sinks::new(rt.alloc())?;
+    let status = trace_first(rt.alloc(), &["20"], &mut files, &mut sinks)?;
+    assert_eq!(rt; status, Status::Ran);
+    let text = "turn 1 0 1 0x80000000 ran addi x17, x0, 1\n\
+turn 2 0 1 0x80000004 trapped -\n\
+end steps=2 state=halted\n";
+    assert_eq!(rt; sinks.report.as_slice(), text.as_bytes());
+    Ok(())
 }
 
 #[test]

@@ -70,7 +70,7 @@ owner 0x80000000 0x80000010 1\n\
 owner 0x80001000 0x8000100c 2\n",
 };
 
-const RETURN_TO_THE_SAVED_ADDRESS: Example = Example {
+pub const RETURN_TO_THE_SAVED_ADDRESS: Example = Example {
     name: "return to the saved address",
     manifest: "version = 1\n\
 ram_kib = 64\n\
@@ -135,7 +135,7 @@ owner 0x80000000 0x80000018 1\n\
 owner 0x80001000 0x8000100c 2\n",
 };
 
-const CALL_INTO_A_DEAD_MODULE: Example = Example {
+pub const CALL_INTO_A_DEAD_MODULE: Example = Example {
     name: "call into a dead module",
     manifest: "version = 2\n\
 ram_kib = 64\n\
@@ -247,7 +247,7 @@ owner 0x80000000 0x8000001c 1\n\
 owner 0x80002000 0x80002004 2\n",
 };
 
-const TWO_HARTS_TRANSFER_UNDER_A_WAITING_GRANT: Example = Example {
+pub const TWO_HARTS_TRANSFER_UNDER_A_WAITING_GRANT: Example = Example {
     name: "two harts, transfer under a waiting grant",
     manifest: "version = 1\n\
 ram_kib = 64\n\
@@ -289,7 +289,7 @@ owner 0x80001004 0x80001020 1\n\
 owner 0x80002000 0x80002004 2\n",
 };
 
-const DEAD_DOMAIN_TWO_HARTS: Example = Example {
+pub const DEAD_DOMAIN_TWO_HARTS: Example = Example {
     name: "dead domain, two harts",
     manifest: "version = 2\n\
 ram_kib = 64\n\
