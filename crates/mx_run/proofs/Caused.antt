@@ -19,12 +19,12 @@ use Rattle.mx_run.specs.declared.side.Side.TheVariants.{First, Second}
 use Rattle.mx_run.specs.declared.status.FileRole.{FileRole}
 use Rattle.mx_run.specs.declared.status.Status.{Status}
 use Rattle.mx_run.specs.declared.status.Status.TheVariants.{Ran, Usage, Refused, TablesFull, StoreFault, ShortFile, NoFile, ConsoleFault, ReportFault, DumpFault, WantOfMemory, AsmFault, Unlike, NoDomain, SecondRefused, SecondTablesFull, SnapshotFault}
-use Rattle.mx_run.specs.Words.{Request, Go, Asm}
+use Rattle.mx_run.specs.Words.{Request, Go, Asm, Audit}
 use Rattle.mx_run.specs.Manifest.{judged}
 use Rattle.mx_run.specs.Finding.{Finding, Absent, Large, Short, Broken, Whole, Finds}
 use Rattle.mx_run.specs.Next.{Outcome, Wanted, Next, Read, End, refusal, lack_of, bytes_of, unless, after_file}
 use Rattle.mx_run.specs.Boots.{Rest, refused_by, after_images, manifest_file, image_file, booted, planned, after_boot}
-use Rattle.mx_run.specs.Commands.{schedule_file, source_file, scheduled, run_of, assembled, next}
+use Rattle.mx_run.specs.Commands.{schedule_file, source_file, scheduled, run_of, assembled, audited, next}
 use Rattle.mx_run.specs.Leads.{Leads}
 use Rattle.mx_run.specs.Causes.{LeadsToStatus, FindsAll, Reaches, FindsLast, HasImage, HasImages, HasFault, IsFaulty, IsRefused, IsUnassembled, Cause}
 use Rattle.mx_run.proofs.Findings.{finds_decided}
@@ -90,6 +90,7 @@ shape_request None = shape_end (refusal [] Usage)
 shape_request (Some (Go o)) =
     shape_boot First o.file (λ plan s. scheduled plan.quantum (run_of o (kept_of plan) s) o.schedule) (λ plan s. shape_run plan.quantum (run_of o (kept_of plan) s) o.schedule)
 shape_request (Some (Asm source)) = shape_file (source_file source) (λ bytes more. End (assembled source bytes)) (λ bytes. shape_end (assembled source bytes))
+shape_request (Some (Audit name)) = shape_boot First name (λ plan s more. End (audited plan s)) (λ plan s. shape_end (audited plan s))
 
 -- the images of modules are those of their files
 image_taken : (side : Side) (o : Option (List ℕ)) (number : ℕ) (ms : List ModulePlan) (images : List (List ℕ)) (rest : List (List ℕ) → List Finding → Next) (files : List (List ℕ)) (image : List ℕ)

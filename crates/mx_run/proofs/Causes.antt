@@ -5,7 +5,7 @@ use Rattle.std.specs.Str.{is_utf8}
 use Rattle.std.proofs.lemmas.List.{append-nil}
 use Rattle.std.proofs.lemmas.Option.{none-some, same_Some}
 use Rattle.mx_io.specs.Answer.{Answer}
-use Rattle.mx_model.specs.Run.{Schedule, ByBytes}
+use Rattle.mx_model.specs.Run.{Schedule, ByQuantum, ByBytes}
 use Rattle.mx_model.specs.State.{State}
 use Rattle.mx_manifest.specs.declared.fault.BootFault.{BootFault}
 use Rattle.mx_manifest.specs.declared.parts.ModulePlan.{ModulePlan}
@@ -18,12 +18,12 @@ use Rattle.mx_image.specs.Image.{image_of}
 use Rattle.mx_asm.specs.Denoted.{program_of, first_fault}
 use Rattle.mx_run.specs.declared.status.Status.{Status}
 use Rattle.mx_run.specs.declared.status.Status.TheVariants.{Ran, Usage, StoreFault, ShortFile, NoFile, AsmFault}
-use Rattle.mx_run.specs.Words.{Request, Go, Asm}
+use Rattle.mx_run.specs.Words.{Request, Go, Asm, Audit}
 use Rattle.mx_run.specs.Manifest.{judged}
 use Rattle.mx_run.specs.Finding.{Finding, Absent, Large, Short, Broken, Whole, Finds}
 use Rattle.mx_run.specs.Next.{Outcome, Wanted, Next, Read, End, refusal, lack_of, after_file}
 use Rattle.mx_run.specs.Boots.{Rest, refused_by, after_images, manifest_file, image_file, booted, planned, after_boot}
-use Rattle.mx_run.specs.Commands.{schedule_file, source_file, scheduled, run_of, written_image, unless_faulty, assembled_text, assembled, next}
+use Rattle.mx_run.specs.Commands.{schedule_file, source_file, scheduled, run_of, written_image, unless_faulty, assembled_text, assembled, audited, next}
 use Rattle.mx_run.specs.Leads.{LeadsBy, LeadsTo}
 use Rattle.mx_run.specs.Causes.{LeadsToStatus, FindsAll, FindsLast, HasImage, HasImages, BootsAfter, IsOver, IsFaulty, IsRefused, Cause}
 use Rattle.mx_run.proofs.ImageSteps.{image_step}
@@ -202,12 +202,16 @@ by_end o answers found outcome f end = inr (end_found o answers found f, status_
 abbrev OfRun : List Finding → Status → Type 0
 OfRun found status = status ≡ Ran
 
+-- a step that only ends, and well
+by_ran : (o : Outcome) → o.status ≡ Ran → Caused (λ _. End o) OfRun
+by_ran o ran answers found outcome f end = inr (status_same end ∙ ran)
+
 by_run : (quantum : ℕ) (made : Schedule → Outcome) → ((schedule : Schedule) → (made schedule).status ≡ Ran) → (name : Option (List ℕ)) → Caused (scheduled quantum made name) OfRun
-by_run quantum made ran None = λ answers found outcome f end. inr (status_same end ∙ ran _)
+by_run quantum made ran None = by_ran (made (ByQuantum quantum)) (ran (ByQuantum quantum))
 by_run quantum made ran (Some name) =
     let rest = λ (bytes : List ℕ) (more : List Finding). End (made (ByBytes bytes)) in
     weaker (scheduled quantum made (Some name)) (OfFile (schedule_file name) rest (λ bytes. OfRun)) OfRun (λ found status h. h.3)
-    (by_file (schedule_file name) rest (λ bytes. OfRun) (inl (First, _, refl)) (λ bytes answers found outcome f end. inr (status_same end ∙ ran _)))
+    (by_file (schedule_file name) rest (λ bytes. OfRun) (inl (First, _, refl)) (λ bytes. by_ran (made (ByBytes bytes)) (ran (ByBytes bytes))))
 
 -- what follows from a plan and its state
 abbrev Own : Type 1
@@ -327,6 +331,7 @@ module _ (asked : Option Request) (answers : List Answer) where
 abbrev OfRequest : Option Request → List Finding → Status → Type 0
 OfRequest None found status = (found ≡ []) × (status ≡ Usage)
 OfRequest (Some (Go o)) found status = OfBoot First (λ plan s. OfRun) found status
+OfRequest (Some (Audit name)) found status = OfBoot First (λ plan s. OfRun) found status
 OfRequest (Some (Asm source)) found status = (bytes : List ℕ) × (others : List Finding) × (found ≡ Whole bytes ∷ others) × OfSource source bytes others status
 
 by_request : (asked : Option Request) → Caused (next asked) (OfRequest asked)
@@ -336,14 +341,22 @@ by_request (Some (Go o)) =
     (λ plan s. by_run plan.quantum (run_of o (kept_of plan) s) (λ schedule. refl) o.schedule)
 by_request (Some (Asm source)) =
     by_file (source_file source) (λ bytes more. End (assembled source bytes)) (OfSource source) (inr (0, 11, refl)) (λ bytes. by_end (assembled source bytes))
+by_request (Some (Audit name)) = by_boot First name (λ plan s more. End (audited plan s)) (λ plan s. OfRun) (λ plan s. by_ran (audited plan s) refl)
+
+-- a boot that all else goes well after
+cause_of_ran : (asked : Option Request) (answers : List Answer) (name : List ℕ) → BootsAfter asked [] First name → (found : List Finding) (status : Status) → FindsAll (next asked) answers found
+    → OfBoot First (λ plan s. OfRun) found status → Cause asked answers status
+cause_of_ran asked answers name boots found status f own =
+    cause_of_boot asked answers [] First name boots (λ plan s. OfRun) (λ plan s more status ran. subst (Cause asked answers) (sym ran) tt) found found refl f status own
 
 cause_of_request : (asked : Option Request) (answers : List Answer) (found : List Finding) (status : Status) → FindsAll (next asked) answers found → OfRequest asked found status
     → Cause asked answers status
 cause_of_request None answers found status f own =
     subst (Cause None answers) (sym own.1) (refl, subst (λ (found : List Finding). FindsAll (next None) answers found) own.0 f)
 cause_of_request (Some (Go o)) answers found status f own =
-    let boots : BootsAfter (Some (Go o)) [] First o.file = record { rest = λ plan s. scheduled plan.quantum (run_of o (kept_of plan) s) o.schedule; goes = λ more. refl } in
-    cause_of_boot (Some (Go o)) answers [] First o.file boots (λ plan s. OfRun) (λ plan s more status ran. subst (Cause (Some (Go o)) answers) (sym ran) tt) found found refl f status own
+    cause_of_ran (Some (Go o)) answers o.file (record { rest = λ plan s. scheduled plan.quantum (run_of o (kept_of plan) s) o.schedule; goes = λ more. refl }) found status f own
+cause_of_request (Some (Audit name)) answers found status f own =
+    cause_of_ran (Some (Audit name)) answers name (record { rest = λ plan s more. End (audited plan s); goes = λ more. refl }) found status f own
 cause_of_request (Some (Asm source)) answers found status f own = cause_of_source (Some (Asm source)) answers source refl own.0 own.1 found own.2 f status own.3
 
 -- answers lead to a status only by its cause

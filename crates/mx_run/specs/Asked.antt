@@ -1,6 +1,6 @@
 -- What the code keeps of the words, and of the files that it reads.
 use Rattle.std.specs.Prelude.{◌<◌, ◌^◌, option_copied, ⊤}
-use Rattle.mx_run.specs.Words.{Order, Request, Go, Asm, Parsed, Stands, Lacks, Meaningless}
+use Rattle.mx_run.specs.Words.{Order, Request, Go, Asm, Audit, Parsed, Stands, Lacks, Meaningless}
 use Rattle.mx_run.specs.Next.{Wanted}
 use Rattle.mx_run.specs.declared.wanted.Wanted as files
 use Rattle.mx_run.specs.declared.order.Order as orders
@@ -26,6 +26,7 @@ order_of o = record {
 abbrev pub request_of : Asked → Request
 request_of (asked.Go order) = Go (order_of order)
 request_of (asked.Asm source) = Asm source.now
+request_of (asked.Audit name) = Audit name.now
 
 -- what options made of an order
 abbrev pub parsed_of : Parse → Parsed
@@ -37,6 +38,7 @@ parsed_of parse.Meaningless = Meaningless
 abbrev pub HasFewSteps : Asked → Type 0
 HasFewSteps (asked.Go order) = order.steps < 10 ^ 10
 HasFewSteps (asked.Asm source) = ⊤
+HasFewSteps (asked.Audit name) = ⊤
 
 abbrev pub ParsesFewSteps : Parse → Type 0
 ParsesFewSteps (parse.Stands order) = order.steps < 10 ^ 10

@@ -2,9 +2,11 @@
 use Rattle.std.specs.Prelude.{ℕ, if◌then◌else◌, List, [], Option, Some, None, unwrap_or}
 use Rattle.std.specs.Str.{is_utf8}
 use Rattle.mx_model.specs.Run.{Schedule, ByQuantum, ByBytes}
-use Rattle.mx_model.specs.State.{State}
+use Rattle.mx_model.specs.State.{State, flat}
 use Rattle.mx_manifest.specs.declared.fault.Key.TheVariants as key
 use Rattle.mx_manifest.specs.declared.fault.Part.TheVariants as part
+use Rattle.mx_manifest.specs.Plan.{Said}
+use Rattle.mx_audit.specs.Lines.{audit_text}
 use Rattle.mx_boot.specs.Boot.{Faulty}
 use Rattle.mx_image.specs.Image.{image_of}
 use Rattle.mx_asm.specs.Denoted.{program_of, first_fault}
@@ -16,7 +18,7 @@ use Rattle.mx_turns.specs.Tracing.{traced}
 use Rattle.mx_run.specs.declared.side.Side.TheVariants.{First}
 use Rattle.mx_run.specs.declared.status.FileRole.TheVariants.{Schedule as ScheduleRole, Source}
 use Rattle.mx_run.specs.declared.status.Status.TheVariants.{Ran, Usage, AsmFault}
-use Rattle.mx_run.specs.Words.{Order, Request, Go, Asm}
+use Rattle.mx_run.specs.Words.{Order, Request, Go, Asm, Audit}
 use Rattle.mx_run.specs.declared.order.Way.{Way}
 use Rattle.mx_run.specs.declared.order.Way.TheVariants as way
 use Rattle.mx_run.specs.Finding.{Finding}
@@ -78,6 +80,14 @@ abbrev pub assembled : List ℕ → List ℕ → Outcome
 assembled source bytes =
     if is_utf8 bytes then assembled_text source bytes else refusal source (AsmFault 0 11)
 
+-- a report is all that a command writes
+abbrev pub reported : List ℕ → Outcome
+reported text = record { status = Ran; texts = still [] text [] }
+
+-- the audit of a state at boot
+abbrev pub audited : Said → State → Outcome
+audited plan s = reported (audit_text (kept_of plan).names (flat s))
+
 -- what the program does next, by what the words ask and what was found of the files read so far, the first of them first
 abbrev pub next : Option Request → List Finding → Next
 next None found = End (refusal [] Usage)
@@ -85,3 +95,4 @@ next (Some (Go o)) found = after_boot First o.file
     (λ plan s. scheduled plan.quantum (run_of o (kept_of plan) s) o.schedule) found
 next (Some (Asm source)) found = after_file (source_file source)
     (λ bytes more. End (assembled source bytes)) found
+next (Some (Audit name)) found = after_boot First name (λ plan s more. End (audited plan s)) found

@@ -1,5 +1,5 @@
 -- The meaning of the words of a command line (docs/COMMANDS.md, "The command line").
-use Rattle.std.specs.Prelude.{ℕ, Bool, true, false, ◌&&◌, nat_le, nat_lt, not, ◌==◌, if◌then◌else◌, List, [], ◌∷◌, length, codes, slice_index, fold, Option, Some, None, is_some}
+use Rattle.std.specs.Prelude.{ℕ, Bool, true, false, ◌&&◌, nat_le, nat_lt, not, ◌==◌, if◌then◌else◌, List, [], ◌∷◌, length, codes, slice_index, fold, Option, Some, None, is_some, option_map}
 use Rattle.std.specs.Char.{is_ascii_digit}
 use Rattle.std.specs.List.{list_all}
 use Rattle.std.specs.Str.{bytes_eq}
@@ -23,10 +23,11 @@ pub record Order : Type 0 where
   pub tables : Bool
   pub counts : Bool
 
--- what the words ask: a run of some way, or to assemble a source by its name
+-- what the words ask: a run of some way, to assemble a source by its name, or to audit a manifest by its name
 pub data Request : Type 0 where
   Go : Order → Request
   Asm : List ℕ → Request
+  Audit : List ℕ → Request
 
 -- a name has 1 to 255 bytes and doesn't begin with `-`
 abbrev pub is_name : List ℕ → Bool
@@ -48,6 +49,7 @@ flag_of word =
     if bytes_eq word (codes "--schedule") then Some flag.Schedule
     else if bytes_eq word (codes "--from") then Some flag.From
     else if bytes_eq word (codes "--dump") then Some flag.Dump
+    else if bytes_eq word (codes "--save") then Some flag.Save
     else if bytes_eq word (codes "--tables") then Some flag.Tables
     else if bytes_eq word (codes "--counts") then Some flag.Counts
     else None
@@ -57,11 +59,13 @@ abbrev pub has_flag : Way → Flag → Bool
 has_flag way.Run flag.Schedule = true
 has_flag way.Run flag.From = false
 has_flag way.Run flag.Dump = true
+has_flag way.Run flag.Save = true
 has_flag way.Run flag.Tables = true
 has_flag way.Run flag.Counts = true
 has_flag way.Trace flag.Schedule = true
 has_flag way.Trace flag.From = true
 has_flag way.Trace flag.Dump = false
+has_flag way.Trace flag.Save = false
 has_flag way.Trace flag.Tables = false
 has_flag way.Trace flag.Counts = false
 
@@ -74,6 +78,7 @@ abbrev pub with_flag : Order → Flag → Parsed
 with_flag o flag.Schedule = once (is_some o.schedule) (Lacks o flag.Schedule)
 with_flag o flag.From = once (is_some o.from) (Lacks o flag.From)
 with_flag o flag.Dump = once (is_some o.dump) (Stands (record o { dump = Some D.Ram }))
+with_flag o flag.Save = once (is_some o.dump) (Stands (record o { dump = Some D.Snapshot }))
 with_flag o flag.Tables = once o.tables (Stands (record o { tables = true }))
 with_flag o flag.Counts = once o.counts (Stands (record o { counts = true }))
 
@@ -88,6 +93,7 @@ completed o flag.Schedule word =
 completed o flag.From word =
     if is_number word then Stands (record o { from = Some (digits_value 10 word) }) else Meaningless
 completed o flag.Dump word = Meaningless
+completed o flag.Save word = Meaningless
 completed o flag.Tables word = Meaningless
 completed o flag.Counts word = Meaningless
 
@@ -124,11 +130,11 @@ go_request way (file ∷ steps ∷ options) =
     then asked_by (fold with_word (Stands (plain_order way file (digits_value 10 steps))) options)
     else None
 
--- `asm`: a source's name
-abbrev pub asm_request : List (List ℕ) → Option Request
-asm_request [] = None
-asm_request (source ∷ []) = if is_name source then Some (Asm source) else None
-asm_request (source ∷ more ∷ rest) = None
+-- a file's name and nothing else
+abbrev pub only_name : List (List ℕ) → Option (List ℕ)
+only_name [] = None
+only_name (name ∷ []) = if is_name name then Some name else None
+only_name (name ∷ more ∷ rest) = None
 
 -- what the words ask, or nothing where they have no meaning
 abbrev pub meaning : List (List ℕ) → Option Request
@@ -136,5 +142,6 @@ meaning [] = None
 meaning (command ∷ operands) =
     if bytes_eq command (codes "run") then go_request way.Run operands
     else if bytes_eq command (codes "trace") then go_request way.Trace operands
-    else if bytes_eq command (codes "asm") then asm_request operands
+    else if bytes_eq command (codes "asm") then option_map Asm (only_name operands)
+    else if bytes_eq command (codes "audit") then option_map Audit (only_name operands)
     else None

@@ -2,6 +2,7 @@
 #![tactic(auto)]
 
 mod assembling;
+mod auditing;
 mod booting;
 mod laws;
 mod manifest;

@@ -27,6 +27,8 @@ pub(crate) enum Flag {
     From,
     /// RAM's bytes go to the dump.
     Dump,
+    /// A snapshot of the machine at the end goes to the dump.
+    Save,
     /// The report has the lines of the tables.
     Tables,
     /// The report has the lines of the counts.
@@ -102,6 +104,7 @@ fn flag_of(word: &str) -> Option<Flag>
         "--schedule" => Some(Flag::Schedule),
         "--from" => Some(Flag::From),
         "--dump" => Some(Flag::Dump),
+        "--save" => Some(Flag::Save),
         "--tables" => Some(Flag::Tables),
         "--counts" => Some(Flag::Counts),
         _ => None,
@@ -114,12 +117,12 @@ fn has_flag(way: Way, flag: Flag) -> bool
 {
     match way {
         Way::Run => match flag {
-            Flag::Schedule | Flag::Dump | Flag::Tables | Flag::Counts => true,
+            Flag::Schedule | Flag::Dump | Flag::Save | Flag::Tables | Flag::Counts => true,
             Flag::From => false,
         },
         Way::Trace => match flag {
             Flag::Schedule | Flag::From => true,
-            Flag::Dump | Flag::Tables | Flag::Counts => false,
+            Flag::Dump | Flag::Save | Flag::Tables | Flag::Counts => false,
         },
     }
 }
@@ -158,6 +161,13 @@ fn with_flag<'a>(order: Order<'a>, flag: Flag) -> Parse<'a>
                 ..order
             }),
         ),
+        Flag::Save => once(
+            order.dump.is_some(),
+            Parse::Stands(Order {
+                dump: Some(Dump::Snapshot),
+                ..order
+            }),
+        ),
         Flag::Tables => once(
             order.tables,
             Parse::Stands(Order {
@@ -192,7 +202,7 @@ fn completed<'a>(order: Order<'a>, flag: Flag, word: &'a str) -> Parse<'a>
     match flag {
         Flag::Schedule => with_schedule(order, word),
         Flag::From => with_from(order, word),
-        Flag::Dump | Flag::Tables | Flag::Counts => Parse::Meaningless,
+        Flag::Dump | Flag::Save | Flag::Tables | Flag::Counts => Parse::Meaningless,
     }
 }
 

@@ -92,7 +92,7 @@ fn run_boot<S: Store, C: Sink, R: Sink, D: Sink>(
 }
 
 // What a run keeps of a plan, which is dropped.
-fn keep(alloc: Global, plan: Plan) -> Result<Kept, NoMemory>
+pub(crate) fn keep(alloc: Global, plan: Plan) -> Result<Kept, NoMemory>
     ensures { IfOk result (λ kept. kept ≡ kept_of plan) }
 {
     Kept::of(alloc, &plan)
@@ -153,7 +153,7 @@ fn run_booted<S: Store, C: Sink, R: Sink, D: Sink>(
 }
 
 // The names of modules, in order.
-fn names(alloc: Global, kept: &Kept) -> Result<Vec<&str>, NoMemory>
+pub(crate) fn names(alloc: Global, kept: &Kept) -> Result<Vec<&str>, NoMemory>
     ensures { IfOk result (λ names. map (λ name. name.now) names.items ≡ kept.now.names) }
 {
     let mut names = Vec::new(alloc);

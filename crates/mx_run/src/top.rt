@@ -7,6 +7,7 @@ ghost use Rattle.mx_run.specs.Top.{Answered, Reacts};
 ghost use Rattle.mx_run.specs.Promise.{Headline, Completeness};
 
 use crate::assembling::write_image;
+use crate::auditing::audit_manifest;
 use crate::refusal::refuse;
 use crate::running::run_manifest;
 use crate::status::Status;
@@ -61,6 +62,7 @@ fn react<S: Store, C: Sink, R: Sink, D: Sink>(
     match words.asked() {
         Some(Asked::Go(order)) => run_manifest(alloc, &order, store, console, report, dump),
         Some(Asked::Asm(source)) => write_image(alloc, source, store, console, report),
+        Some(Asked::Audit(name)) => audit_manifest(alloc, name, store, report),
         None => refuse(report, "", Status::Usage),
     }
 }

@@ -1,8 +1,9 @@
 //! The words of a command line and what they ask.
 
 ghost use Rattle.std.specs.Prelude.{◌≡◌, ◌^◌, ◌<◌, [], ◌∷◌, ◌++◌, map, fold, option_map, OnOk, OnErr, IfSome, string_bytes};
+ghost use Rattle.std.specs.Option.{option_copied};
 ghost use Rattle.mx_run.specs.Asked.{order_of, request_of, parsed_of, HasFewSteps, ParsesFewSteps};
-ghost use Rattle.mx_run.specs.Words.{Stands, with_word, asked_by, asm_request, go_request, meaning};
+ghost use Rattle.mx_run.specs.Words.{Stands, with_word, asked_by, go_request, meaning, only_name};
 
 use crate::order::{Order, Parse, Way, is_name, is_number, number, plain_order, with_word};
 use mx_words::NoMemory;
@@ -31,6 +32,8 @@ pub(crate) enum Asked<'a> {
     Go(Order<'a>),
     /// To assemble the source of this name, which has 1 to 255 bytes.
     Asm(&'a str),
+    /// To audit the manifest of this name, which has 1 to 255 bytes.
+    Audit(&'a str),
 }
 
 impl Words {
@@ -67,18 +70,19 @@ impl Words {
         match command.as_str() {
             "run" => go_words(Way::Run, operands),
             "trace" => go_words(Way::Trace, operands),
-            "asm" => asm_words(operands),
+            "asm" => Some(Asked::Asm(only_name(operands)?)),
+            "audit" => Some(Asked::Audit(only_name(operands)?)),
             _ => None,
         }
     }
 }
 
-fn asm_words(operands: &[String]) -> Option<Asked<'_>>
-    ensures meaning { option_map request_of result ≡ asm_request (map string_bytes operands.now) }
-    ensures steps { IfSome result HasFewSteps }
+// The one name that the operands are.
+fn only_name(operands: &[String]) -> Option<&str>
+    ensures { option_copied result ≡ only_name (map string_bytes operands.now) }
 {
     if operands.len() == 1 && is_name(operands[0].as_str()) {
-        Some(Asked::Asm(operands[0].as_str()))
+        Some(operands[0].as_str())
     } else {
         None
     }

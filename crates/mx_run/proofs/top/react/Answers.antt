@@ -1,6 +1,6 @@
 use Rattle.std.proofs.Common.{◌≡◌, Option, Some, subst}
 use Rattle.mx_run.specs.Asked.{order_of}
-use Rattle.mx_run.specs.Words.{Request, Go, Asm, meaning}
+use Rattle.mx_run.specs.Words.{Request, Go, Asm, Audit, meaning}
 use Rattle.mx_turns.specs.Ends.{sinks}
 use Rattle.mx_run.specs.Top.{Reacts}
 use Rattle.mx_run.proofs.Continued.{reacts_some, reacts_none}
@@ -23,6 +23,15 @@ returns-in-Some-Asm g c =
     (sinks (g.C.Sink.state c.args.console.now) (g.R.Sink.state c.args.report.now) (g.D.Sink.state c.args.dump.now))
     (sinks (g.C.Sink.state c.write_image.new.console) (g.R.Sink.state c.write_image.new.report) (g.D.Sink.state c.args.dump.now)) c.write_image.result)
     asked (reacts_some g.S.Store.gives (Asm c.in-Some-Asm.source.now) _ _ (c.write_image.ensures (g.D.Sink.state c.args.dump.now)))
+
+pub returns-in-Some-Audit : goal.returns-in-Some-Audit
+returns-in-Some-Audit g c =
+    let asked : Some (Audit c.in-Some-Audit.name.now) ≡ meaning c.args.words.now = rw c.in-Some-Audit.field-0-is at c.in-Some-Audit.ensures.meaning in
+    subst
+    (λ (request : Option Request). Reacts request g.S.Store.gives c.args.store.now c.audit_manifest.new.store
+    (sinks (g.C.Sink.state c.args.console.now) (g.R.Sink.state c.args.report.now) (g.D.Sink.state c.args.dump.now))
+    (sinks (g.C.Sink.state c.args.console.now) (g.R.Sink.state c.audit_manifest.new.report) (g.D.Sink.state c.args.dump.now)) c.audit_manifest.result)
+    asked (reacts_some g.S.Store.gives (Audit c.in-Some-Audit.name.now) _ _ (c.audit_manifest.ensures (g.C.Sink.state c.args.console.now) (g.D.Sink.state c.args.dump.now)))
 
 pub returns-in-None : goal.returns-in-None
 returns-in-None g c =
