@@ -1,5 +1,5 @@
 -- From the cause of a status to it, and what a status shows of a store.
-use Rattle.std.proofs.Common.{◌≡◌, ◌≢◌, ℕ, ◌+◌, ◌⊎◌, List, [], ◌∷◌, ◌++◌, Option, Some, None, IfSome, Result, Ok, Err, refl, sym, ap, subst, ◌∙◌, inl, inr, append_assoc}
+use Rattle.std.proofs.Common.{◌≡◌, ◌≢◌, ℕ, ◌+◌, ◌⊎◌, Bool, List, [], ◌∷◌, ◌++◌, Option, Some, None, IfSome, Result, Ok, Err, refl, sym, ap, subst, ◌∙◌, inl, inr, append_assoc}
 use Rattle.std.specs.Prelude.{map as list_map}
 use Rattle.std.specs.FinMap.{get}
 use Rattle.std.proofs.lemmas.List.{append-nil, append_cancel_left}
@@ -10,6 +10,7 @@ use Rattle.mx_io.proofs.Talks.{Each, each-front, each-rest, talks_told}
 use Rattle.mx_model.specs.Run.{Schedule, ByQuantum, ByBytes}
 use Rattle.mx_model.specs.State.{State}
 use Rattle.mx_manifest.specs.declared.fault.BootFault.{BootFault}
+use Rattle.mx_manifest.specs.declared.fault.Key.{Key}
 use Rattle.mx_manifest.specs.declared.parts.ModulePlan.{ModulePlan}
 use Rattle.mx_manifest.specs.Plan.{Said}
 use Rattle.mx_boot.specs.Boot.{Refusal, Faulty, TooFull, boot_of}
@@ -19,16 +20,17 @@ use Rattle.mx_run.specs.declared.side.Side.TheVariants.{First, Second}
 use Rattle.mx_run.specs.declared.status.FileRole.{FileRole}
 use Rattle.mx_run.specs.declared.status.Status.{Status}
 use Rattle.mx_run.specs.declared.status.Status.TheVariants.{Ran, Usage, Refused, TablesFull, StoreFault, ShortFile, NoFile, ConsoleFault, ReportFault, DumpFault, WantOfMemory, AsmFault, Unlike, NoDomain, SecondRefused, SecondTablesFull, SnapshotFault}
-use Rattle.mx_run.specs.Words.{Request, Go, Asm, Audit}
+use Rattle.mx_run.specs.Words.{Pair, Request, Go, Asm, Audit, Twin}
 use Rattle.mx_run.specs.Manifest.{judged}
 use Rattle.mx_run.specs.Finding.{Finding, Absent, Large, Short, Broken, Whole, Finds}
 use Rattle.mx_run.specs.Next.{Outcome, Wanted, Next, Read, End, refusal, lack_of, bytes_of, unless, after_file}
 use Rattle.mx_run.specs.Boots.{Rest, refused_by, after_images, manifest_file, image_file, booted, planned, after_boot}
-use Rattle.mx_run.specs.Commands.{schedule_file, source_file, scheduled, run_of, assembled, audited, next}
+use Rattle.mx_run.specs.Commands.{schedule_file, source_file, scheduled, run_of, assembled, audited, after_first, next}
+use Rattle.mx_run.specs.Compared.{alike, alike_by, compared, unlike}
 use Rattle.mx_run.specs.Leads.{Leads}
-use Rattle.mx_run.specs.Causes.{LeadsToStatus, FindsAll, Reaches, FindsLast, HasImage, HasImages, HasFault, IsFaulty, IsRefused, IsUnassembled, Cause}
+use Rattle.mx_run.specs.Causes.{LeadsToStatus, FindsAll, Reaches, FindsLast, HasImage, HasImages, HasFault, IsFaulty, IsRefused, IsUnassembled, Compares, IsUnlike, HasNoDomain, Cause}
 use Rattle.mx_run.proofs.Findings.{finds_decided}
-use Rattle.mx_run.proofs.ImageSteps.{image_step}
+use Rattle.mx_run.proofs.ImageSteps.{image_step, images_taken}
 use Rattle.mx_run.proofs.Leads.{read_same, read_end}
 use Rattle.mx_run.proofs.Promises.{if_some}
 use Rattle.mx_run.proofs.Shortfalls.{broken_shows, short_never, absent_named, absent_found}
@@ -90,27 +92,10 @@ shape_request None = shape_end (refusal [] Usage)
 shape_request (Some (Go o)) =
     shape_boot First o.file (λ plan s. scheduled plan.quantum (run_of o (kept_of plan) s) o.schedule) (λ plan s. shape_run plan.quantum (run_of o (kept_of plan) s) o.schedule)
 shape_request (Some (Asm source)) = shape_file (source_file source) (λ bytes more. End (assembled source bytes)) (λ bytes. shape_end (assembled source bytes))
+shape_request (Some (Twin p)) =
+    shape_boot First p.first (after_first p)
+    (λ plan s. shape_boot Second p.second (λ other t more. End (compared p plan s other t)) (λ other t. shape_end (compared p plan s other t)))
 shape_request (Some (Audit name)) = shape_boot First name (λ plan s more. End (audited plan s)) (λ plan s. shape_end (audited plan s))
-
--- the images of modules are those of their files
-image_taken : (side : Side) (o : Option (List ℕ)) (number : ℕ) (ms : List ModulePlan) (images : List (List ℕ)) (rest : List (List ℕ) → List Finding → Next) (files : List (List ℕ)) (image : List ℕ)
-    (left : List (List ℕ)) → HasImage o files image left
-    → image_step side o number ms images rest (list_map Whole files) ≡ after_images side (number + 1) ms (images ++ image ∷ []) rest (list_map Whole left)
-image_taken side None number ms images rest files image left has =
-    ap (λ (fs : List (List ℕ)). after_images side (number + 1) ms (images ++ [] ∷ []) rest (list_map Whole fs)) has.1
-    ∙ ap (λ (i : List ℕ). after_images side (number + 1) ms (images ++ i ∷ []) rest (list_map Whole left)) (sym has.0)
-image_taken side (Some name) number ms images rest files image left has =
-    ap (λ (fs : List (List ℕ)). image_step side (Some name) number ms images rest (list_map Whole fs)) has
-
-images_taken : (side : Side) (ms : List ModulePlan) (number : ℕ) (images : List (List ℕ)) (rest : List (List ℕ) → List Finding → Next) (files taken : List (List ℕ)) → HasImages ms files taken
-    → after_images side number ms images rest (list_map Whole files) ≡ rest (images ++ taken) []
-images_taken side [] number images rest files taken has =
-    ap (λ (fs : List (List ℕ)). rest images (list_map Whole fs)) has.0
-    ∙ ap (λ (all : List (List ℕ)). rest all []) (sym (append-nil images) ∙ ap (λ (t : List (List ℕ)). images ++ t) (sym has.1))
-images_taken side (m ∷ ms) number images rest files taken has =
-    image_taken side m.image number ms images rest files has.0 has.1 has.3
-    ∙ images_taken side ms (number + 1) (images ++ has.0 ∷ []) rest has.1 has.2 has.5
-    ∙ ap (λ (all : List (List ℕ)). rest all []) (append_assoc images (has.0 ∷ []) has.2 ∙ ap (λ (t : List (List ℕ)). images ++ t) (sym has.4))
 
 module _ (asked : Option Request) (answers : List Answer) where
   -- what was found leads to this status
@@ -134,7 +119,8 @@ module _ (asked : Option Request) (answers : List Answer) where
       let found = list_map Whole c.4 in
       ended_so (c.0 ++ Whole c.3 ∷ found) (refusal c.1 (refused_by side why)) c.5
       (c.2.goes (Whole c.3 ∷ found) ∙ ap (λ (p : Result Said BootFault). planned side c.1 c.2.rest p found) c.7
-      ∙ images_taken side c.6.modules 1 [] (λ images. booted side c.1 c.2.rest c.6 (boot_of c.6 images)) c.4 c.8 c.9
+      ∙ ap (λ (more : List Finding). planned side c.1 c.2.rest (Ok c.6) more) (sym (append-nil found))
+      ∙ images_taken side c.6.modules 1 [] (λ images. booted side c.1 c.2.rest c.6 (boot_of c.6 images)) c.4 c.8 [] c.9
       ∙ ap (λ (b : Result State Refusal). booted side c.1 c.2.rest c.6 b []) c.10)
 
   led_by_refusal : (side : Side) (fault : BootFault) → HasFault asked answers side fault → LeadsToStatus asked answers (refused_by side (Faulty fault))
@@ -148,6 +134,33 @@ module _ (asked : Option Request) (answers : List Answer) where
   led_by_source status c =
       subst (LeadsToStatus asked answers) c.4
       (ended_so (Whole c.2 ∷ []) (assembled c.0 c.2) c.3 (ap (λ (a : Option Request). next a (Whole c.2 ∷ [])) c.1))
+
+  -- the plans of a comparison lead to its status
+  led_by_pair : (p : Pair) (plan other : Said) → (c : Compares asked answers p plan other) → LeadsToStatus asked answers (compared p plan c.first.state other c.second.state).status
+  led_by_pair p plan other c =
+      let later = list_map Whole c.others in
+      let rest : Rest = λ other t more. End (compared p plan c.first.state other t) in
+      ended_so ((Whole c.bytes ∷ list_map Whole c.files) ++ (Whole c.more ∷ later)) (compared p plan c.first.state other c.second.state) c.finds
+      (ap (λ (a : Option Request). next a (Whole c.bytes ∷ (list_map Whole c.files ++ (Whole c.more ∷ later)))) c.asks
+      ∙ ap (λ (r : Result Said BootFault). planned First p.first (after_first p) r (list_map Whole c.files ++ (Whole c.more ∷ later))) c.first.good
+      ∙ images_taken First plan.modules 1 [] (λ images. booted First p.first (after_first p) plan (boot_of plan images)) c.files c.first.images (Whole c.more ∷ later) c.first.taken
+      ∙ ap (λ (b : Result State Refusal). booted First p.first (after_first p) plan b (Whole c.more ∷ later)) c.first.boots
+      ∙ ap (λ (r : Result Said BootFault). planned Second p.second rest r later) c.second.good
+      ∙ ap (λ (more : List Finding). planned Second p.second rest (Ok other) more) (sym (append-nil later))
+      ∙ images_taken Second other.modules 1 [] (λ images. booted Second p.second rest other (boot_of other images)) c.others c.second.images [] c.second.taken
+      ∙ ap (λ (b : Result State Refusal). booted Second p.second rest other b []) c.second.boots)
+
+  led_by_key : (key : Key) → IsUnlike asked answers key → LeadsToStatus asked answers (Unlike key)
+  led_by_key key c =
+      subst (LeadsToStatus asked answers)
+      (ap (λ (k : Option Key). (unlike k (alike c.0 c.1 c.3.first.state c.3.second.state)).status) c.4) (led_by_pair c.0 c.1 c.2 c.3)
+
+  led_by_domain : HasNoDomain asked answers → LeadsToStatus asked answers NoDomain
+  led_by_domain c =
+      subst (LeadsToStatus asked answers)
+      (ap (λ (k : Option Key). (unlike k (alike c.0 c.1 c.3.first.state c.3.second.state)).status) c.4
+      ∙ ap (λ (d : Bool). (alike_by d c.0 c.1 c.3.first.state c.3.second.state).status) c.5)
+      (led_by_pair c.0 c.1 c.2 c.3)
 
   -- wherever there is the cause of a status, but for `Ran`, the answers lead to it
   pub caused_status : (status : Status) → Cause asked answers status → status ≢ Ran → LeadsToStatus asked answers status
@@ -164,8 +177,8 @@ module _ (asked : Option Request) (answers : List Answer) where
   caused_status ReportFault c other = absurd c
   caused_status DumpFault c other = absurd c
   caused_status WantOfMemory c other = absurd c
-  caused_status (Unlike key) c other = absurd c
-  caused_status NoDomain c other = absurd c
+  caused_status (Unlike key) c other = led_by_key key c
+  caused_status NoDomain c other = led_by_domain c
   caused_status (SecondRefused fault) c other = led_by_refusal Second fault c
   caused_status (SecondTablesFull need limit) c other = led_by_boot Second (TooFull need limit) c
   caused_status (SnapshotFault at number) c other = absurd c

@@ -8,6 +8,7 @@ use Rattle.mx_io.specs.Answer.{Answer}
 use Rattle.mx_model.specs.Run.{Schedule, ByQuantum, ByBytes}
 use Rattle.mx_model.specs.State.{State}
 use Rattle.mx_manifest.specs.declared.fault.BootFault.{BootFault}
+use Rattle.mx_manifest.specs.declared.fault.Key.{Key}
 use Rattle.mx_manifest.specs.declared.parts.ModulePlan.{ModulePlan}
 use Rattle.mx_manifest.specs.Plan.{Said}
 use Rattle.mx_boot.specs.Boot.{Refusal, Faulty, TooFull, boot_of}
@@ -18,15 +19,16 @@ use Rattle.mx_image.specs.Image.{image_of}
 use Rattle.mx_asm.specs.Denoted.{program_of, first_fault}
 use Rattle.mx_run.specs.declared.status.Status.{Status}
 use Rattle.mx_run.specs.declared.status.Status.TheVariants.{Ran, Usage, StoreFault, ShortFile, NoFile, AsmFault}
-use Rattle.mx_run.specs.Words.{Request, Go, Asm, Audit}
+use Rattle.mx_run.specs.Words.{Pair, Request, Go, Asm, Audit, Twin}
 use Rattle.mx_run.specs.Manifest.{judged}
 use Rattle.mx_run.specs.Finding.{Finding, Absent, Large, Short, Broken, Whole, Finds}
 use Rattle.mx_run.specs.Next.{Outcome, Wanted, Next, Read, End, refusal, lack_of, after_file}
 use Rattle.mx_run.specs.Boots.{Rest, refused_by, after_images, manifest_file, image_file, booted, planned, after_boot}
-use Rattle.mx_run.specs.Commands.{schedule_file, source_file, scheduled, run_of, written_image, unless_faulty, assembled_text, assembled, audited, next}
+use Rattle.mx_run.specs.Commands.{schedule_file, source_file, scheduled, run_of, written_image, unless_faulty, assembled_text, assembled, audited, after_first, next}
+use Rattle.mx_run.specs.Compared.{alike, alike_by, compared, first_unlike, is_domain, unlike}
 use Rattle.mx_run.specs.Leads.{LeadsBy, LeadsTo}
-use Rattle.mx_run.specs.Causes.{LeadsToStatus, FindsAll, FindsLast, HasImage, HasImages, BootsAfter, IsOver, IsFaulty, IsRefused, Cause}
-use Rattle.mx_run.proofs.ImageSteps.{image_step}
+use Rattle.mx_run.specs.Causes.{LeadsToStatus, FindsAll, FindsLast, HasImage, HasImages, BootsAfter, IsOver, IsFaulty, IsRefused, IsBooted, Compares, Cause}
+use Rattle.mx_run.proofs.ImageSteps.{image_step, images_taken}
 use Rattle.mx_run.proofs.Leads.{end_same, read_same, read_end}
 use Rattle.mx_run.proofs.Shortfalls.{short_less}
 
@@ -287,11 +289,13 @@ module _ (asked : Option Request) (answers : List Answer) where
 
   -- a boot of a side after some findings, where what follows has its cause
   module _ (before : List Finding) (side : Side) (name : List ℕ) (boots : BootsAfter asked before side name) (own : Own)
-      (each : (plan : Said) (s : State) (more : List Finding) (status : Status) → own plan s more status → Cause asked answers status) where
+      (each : (plan : Said) (s : State) (bytes : List ℕ) (files images : List (List ℕ)) → judged bytes ≡ Ok plan → HasImages plan.modules files images → boot_of plan images ≡ Ok s
+          → (more found : List Finding) → found ≡ before ++ Whole bytes ∷ (list_map Whole files ++ more) → FindsAll (next asked) answers found
+          → (status : Status) → own plan s more status → Cause asked answers status) where
     cause_of_state : (bytes : List ℕ) (plan : Said) → judged bytes ≡ Ok plan → (files images : List (List ℕ)) → HasImages plan.modules files images → (boot : Result State Refusal)
         → boot_of plan images ≡ boot → (more found : List Finding) → found ≡ before ++ Whole bytes ∷ (list_map Whole files ++ more) → FindsAll (next asked) answers found
         → (status : Status) → OfState side own plan boot more status → Cause asked answers status
-    cause_of_state bytes plan good files images has (Ok s) is more found same f status o = each plan s more status o
+    cause_of_state bytes plan good files images has (Ok s) is more found same f status o = each plan s bytes files images good has is more found same f status o
     cause_of_state bytes plan good files images has (Err why) is more found same f status o =
         subst (Cause asked answers) (sym o.1)
         (refused_cause asked answers side why (before, name, boots, bytes, files, no_rest before bytes files more found same o.0 f, plan, good, images, has, is))
@@ -327,10 +331,50 @@ module _ (asked : Option Request) (answers : List Answer) where
   cause_of_lack file Broken status last limit lack = subst (Cause asked answers) (same_Some StoreFault status lack) (file.role, (file, refl, last))
   cause_of_lack file (Whole bytes) status last limit lack = absurd (none-some status lack)
 
+-- how a comparison ends
+abbrev OfPair : Pair → Said → State → Own
+OfPair p plan s other t found status = (found ≡ []) × (status ≡ (compared p plan s other t).status)
+
+module _ (asked : Option Request) (answers : List Answer) (p : Pair) where
+  cause_of_key : (plan other : Said) (s t : State) → Compares asked answers p plan other → (key : Option Key) → first_unlike plan other ≡ key → (d : Bool) → is_domain plan p.domain ≡ d
+      → (status : Status) → status ≡ (unlike key (alike_by d p plan s t)).status → Cause asked answers status
+  cause_of_key plan other s t c (Some key) differs d inside status is = subst (Cause asked answers) (sym is) (p, plan, other, c, differs)
+  cause_of_key plan other s t c None same true inside status is = subst (Cause asked answers) (sym is) tt
+  cause_of_key plan other s t c None same false outside status is = subst (Cause asked answers) (sym is) (p, plan, other, c, same, outside)
+
+  -- the second boot of a comparison, after the first
+  cause_of_pair : asked ≡ Some (Twin p) → (plan : Said) (s : State) (bytes : List ℕ) (files images : List (List ℕ)) → judged bytes ≡ Ok plan → HasImages plan.modules files images
+      → boot_of plan images ≡ Ok s → (more found : List Finding) → found ≡ Whole bytes ∷ (list_map Whole files ++ more) → FindsAll (next asked) answers found
+      → (status : Status) → OfBoot Second (OfPair p plan s) more status → Cause asked answers status
+  cause_of_pair asks plan s bytes files images good has boots more found same f status o =
+      let rest : Rest = λ other t later. End (compared p plan s other t) in
+      let goes = λ (later : List Finding).
+          ap (λ (a : Option Request). next a (Whole bytes ∷ (list_map Whole files ++ later))) asks
+          ∙ ap (λ (r : Result Said BootFault). planned First p.first (after_first p) r (list_map Whole files ++ later)) good
+          ∙ images_taken First plan.modules 1 [] (λ images. booted First p.first (after_first p) plan (boot_of plan images)) files images later has
+          ∙ ap (λ (b : Result State Refusal). booted First p.first (after_first p) plan b later) boots in
+      let second : BootsAfter asked (Whole bytes ∷ list_map Whole files) Second p.second = record { rest = rest; goes = goes } in
+      cause_of_boot asked answers (Whole bytes ∷ list_map Whole files) Second p.second second (OfPair p plan s)
+      (λ other t bytes2 files2 images2 good2 has2 boots2 more2 found2 same2 f2 status2 own.
+      cause_of_key plan other s t
+      (record {
+        asks = asks;
+        bytes = bytes;
+        files = files;
+        first = record { good = good; images = images; taken = has; state = s; boots = boots };
+        more = bytes2;
+        others = files2;
+        second = record { good = good2; images = images2; taken = has2; state = t; boots = boots2 };
+        finds = no_rest asked answers (Whole bytes ∷ list_map Whole files) bytes2 files2 more2 found2 same2 own.0 f2;
+      })
+      (first_unlike plan other) refl (is_domain plan p.domain) refl status2 own.1)
+      more found same f status o
+
 -- where what is asked ends, the last file isn't whole, or what was found says how
 abbrev OfRequest : Option Request → List Finding → Status → Type 0
 OfRequest None found status = (found ≡ []) × (status ≡ Usage)
 OfRequest (Some (Go o)) found status = OfBoot First (λ plan s. OfRun) found status
+OfRequest (Some (Twin p)) found status = OfBoot First (λ plan s. OfBoot Second (OfPair p plan s)) found status
 OfRequest (Some (Audit name)) found status = OfBoot First (λ plan s. OfRun) found status
 OfRequest (Some (Asm source)) found status = (bytes : List ℕ) × (others : List Finding) × (found ≡ Whole bytes ∷ others) × OfSource source bytes others status
 
@@ -341,13 +385,17 @@ by_request (Some (Go o)) =
     (λ plan s. by_run plan.quantum (run_of o (kept_of plan) s) (λ schedule. refl) o.schedule)
 by_request (Some (Asm source)) =
     by_file (source_file source) (λ bytes more. End (assembled source bytes)) (OfSource source) (inr (0, 11, refl)) (λ bytes. by_end (assembled source bytes))
+by_request (Some (Twin p)) =
+    by_boot First p.first (after_first p) (λ plan s. OfBoot Second (OfPair p plan s))
+    (λ plan s. by_boot Second p.second (λ other t more. End (compared p plan s other t)) (OfPair p plan s) (λ other t. by_end (compared p plan s other t)))
 by_request (Some (Audit name)) = by_boot First name (λ plan s more. End (audited plan s)) (λ plan s. OfRun) (λ plan s. by_ran (audited plan s) refl)
 
 -- a boot that all else goes well after
 cause_of_ran : (asked : Option Request) (answers : List Answer) (name : List ℕ) → BootsAfter asked [] First name → (found : List Finding) (status : Status) → FindsAll (next asked) answers found
     → OfBoot First (λ plan s. OfRun) found status → Cause asked answers status
 cause_of_ran asked answers name boots found status f own =
-    cause_of_boot asked answers [] First name boots (λ plan s. OfRun) (λ plan s more status ran. subst (Cause asked answers) (sym ran) tt) found found refl f status own
+    cause_of_boot asked answers [] First name boots (λ plan s. OfRun)
+    (λ plan s bytes files images good has is more found same f status ran. subst (Cause asked answers) (sym ran) tt) found found refl f status own
 
 cause_of_request : (asked : Option Request) (answers : List Answer) (found : List Finding) (status : Status) → FindsAll (next asked) answers found → OfRequest asked found status
     → Cause asked answers status
@@ -355,6 +403,9 @@ cause_of_request None answers found status f own =
     subst (Cause None answers) (sym own.1) (refl, subst (λ (found : List Finding). FindsAll (next None) answers found) own.0 f)
 cause_of_request (Some (Go o)) answers found status f own =
     cause_of_ran (Some (Go o)) answers o.file (record { rest = λ plan s. scheduled plan.quantum (run_of o (kept_of plan) s) o.schedule; goes = λ more. refl }) found status f own
+cause_of_request (Some (Twin p)) answers found status f own =
+    cause_of_boot (Some (Twin p)) answers [] First p.first (record { rest = after_first p; goes = λ more. refl }) (λ plan s. OfBoot Second (OfPair p plan s))
+    (cause_of_pair (Some (Twin p)) answers p refl) found found refl f status own
 cause_of_request (Some (Audit name)) answers found status f own =
     cause_of_ran (Some (Audit name)) answers name (record { rest = λ plan s more. End (audited plan s); goes = λ more. refl }) found status f own
 cause_of_request (Some (Asm source)) answers found status f own = cause_of_source (Some (Asm source)) answers source refl own.0 own.1 found own.2 f status own.3

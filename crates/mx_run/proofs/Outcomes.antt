@@ -9,14 +9,15 @@ use Rattle.mx_manifest.specs.Plan.{Said}
 use Rattle.mx_boot.specs.Boot.{Refusal, Faulty, boot_of}
 use Rattle.mx_snapshot.specs.Kept.{kept_of}
 use Rattle.mx_run.specs.declared.side.Side.{Side}
-use Rattle.mx_run.specs.declared.side.Side.TheVariants.{First}
+use Rattle.mx_run.specs.declared.side.Side.TheVariants.{First, Second}
 use Rattle.mx_run.specs.declared.status.Status.TheVariants.{Usage, StoreFault, ShortFile, NoFile}
-use Rattle.mx_run.specs.Words.{Request, Go, Asm, Audit}
+use Rattle.mx_run.specs.Words.{Request, Go, Asm, Audit, Twin}
 use Rattle.mx_run.specs.Manifest.{judged}
 use Rattle.mx_run.specs.Finding.{Finding, Absent, Large, Short, Broken, Whole, found_in}
 use Rattle.mx_run.specs.Next.{Outcome, Wanted, Next, End, refusal, after_file}
 use Rattle.mx_run.specs.Boots.{Rest, refused_by, after_images, manifest_file, image_file, booted, planned, after_boot}
-use Rattle.mx_run.specs.Commands.{schedule_file, source_file, scheduled, run_of, assembled, audited, next}
+use Rattle.mx_run.specs.Commands.{schedule_file, source_file, scheduled, run_of, assembled, audited, after_first, next}
+use Rattle.mx_run.specs.Compared.{compared}
 use Rattle.mx_run.specs.Leads.{LeadsOver, IsOutcome}
 use Rattle.mx_run.proofs.ImageSteps.{image_step}
 
@@ -75,6 +76,9 @@ module _ (files : FileMap) where
       by_boot First o.file (λ plan s. scheduled plan.quantum (run_of o (kept_of plan) s) o.schedule) (λ plan s. by_schedule plan.quantum (run_of o (kept_of plan) s) o.schedule)
   by_request (Some (Asm source)) =
       by_file (source_file source) (λ bytes more. End (assembled source bytes)) (λ bytes. (assembled source bytes, (0, refl)))
+  by_request (Some (Twin p)) =
+      by_boot First p.first (after_first p)
+      (λ plan s. by_boot Second p.second (λ other t more. End (compared p plan s other t)) (λ other t. (compared p plan s other t, (0, refl))))
   by_request (Some (Audit name)) = by_boot First name (λ plan s more. End (audited plan s)) (λ plan s. (audited plan s, (0, refl)))
 
 pub some_outcome : (asked : Option Request) (files : FileMap) → (outcome : Outcome) × IsOutcome asked files outcome

@@ -1,9 +1,10 @@
 -- What the code keeps of the words, and of the files that it reads.
 use Rattle.std.specs.Prelude.{◌<◌, ◌^◌, option_copied, ⊤}
-use Rattle.mx_run.specs.Words.{Order, Request, Go, Asm, Audit, Parsed, Stands, Lacks, Meaningless}
+use Rattle.mx_run.specs.Words.{Order, Pair, Request, Go, Asm, Audit, Twin, Parsed, Stands, Lacks, Meaningless}
 use Rattle.mx_run.specs.Next.{Wanted}
 use Rattle.mx_run.specs.declared.wanted.Wanted as files
 use Rattle.mx_run.specs.declared.order.Order as orders
+use Rattle.mx_run.specs.declared.order.Pair as pairs
 use Rattle.mx_run.specs.declared.words.Asked.{Asked}
 use Rattle.mx_run.specs.declared.words.Asked.TheVariants as asked
 use Rattle.mx_run.specs.declared.order.Parse.{Parse}
@@ -22,11 +23,21 @@ order_of o = record {
   counts = o.counts;
 }
 
+-- the pair of a comparison
+abbrev pub pair_asked : pairs.Pair → Pair
+pair_asked p = record {
+  first = p.first.now;
+  second = p.second.now;
+  domain = p.domain;
+  steps = p.steps;
+}
+
 -- the request that the words make
 abbrev pub request_of : Asked → Request
 request_of (asked.Go order) = Go (order_of order)
 request_of (asked.Asm source) = Asm source.now
 request_of (asked.Audit name) = Audit name.now
+request_of (asked.Twin pair) = Twin (pair_asked pair)
 
 -- what options made of an order
 abbrev pub parsed_of : Parse → Parsed
@@ -39,6 +50,7 @@ abbrev pub HasFewSteps : Asked → Type 0
 HasFewSteps (asked.Go order) = order.steps < 10 ^ 10
 HasFewSteps (asked.Asm source) = ⊤
 HasFewSteps (asked.Audit name) = ⊤
+HasFewSteps (asked.Twin pair) = pair.steps < 10 ^ 10
 
 abbrev pub ParsesFewSteps : Parse → Type 0
 ParsesFewSteps (parse.Stands order) = order.steps < 10 ^ 10

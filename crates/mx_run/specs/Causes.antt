@@ -1,25 +1,28 @@
 -- Why a call ends with a status: by what the words ask, and by what the store answered of the files that were read.
-use Rattle.std.specs.Prelude.{◌≡◌, ◌≢◌, ℕ, ◌<◌, ◌⊎◌, List, [], ◌∷◌, ◌++◌, Option, Some, None, Ok, Err, IfSome, ⊤}
+use Rattle.std.specs.Prelude.{◌≡◌, ◌≢◌, ℕ, ◌<◌, ◌⊎◌, false, List, [], ◌∷◌, ◌++◌, Option, Some, None, Ok, Err, IfSome, ⊤}
 use Rattle.std.specs.Prelude.{map as list_map}
 use Rattle.std.specs.FinMap.{get}
 use Rattle.mx_io.specs.Count.{Rose}
 use Rattle.mx_io.specs.Store.{StoreState}
 use Rattle.mx_io.specs.Answer.{Answer, Talks}
 use Rattle.mx_manifest.specs.declared.fault.BootFault.{BootFault}
+use Rattle.mx_manifest.specs.declared.fault.Key.{Key}
 use Rattle.mx_manifest.specs.declared.parts.ModulePlan.{ModulePlan}
 use Rattle.mx_manifest.specs.Plan.{Said}
+use Rattle.mx_model.specs.State.{State}
 use Rattle.mx_boot.specs.Boot.{Refusal, Faulty, TooFull, boot_of}
 use Rattle.mx_run.specs.declared.side.Side.{Side}
 use Rattle.mx_run.specs.declared.side.Side.TheVariants.{First, Second}
 use Rattle.mx_run.specs.declared.status.FileRole.{FileRole}
 use Rattle.mx_run.specs.declared.status.Status.{Status}
 use Rattle.mx_run.specs.declared.status.Status.TheVariants.{Ran, Usage, Refused, TablesFull, StoreFault, ShortFile, NoFile, ConsoleFault, ReportFault, DumpFault, WantOfMemory, AsmFault, Unlike, NoDomain, SecondRefused, SecondTablesFull, SnapshotFault}
-use Rattle.mx_run.specs.Words.{Request, Asm}
+use Rattle.mx_run.specs.Words.{Pair, Request, Asm, Twin}
 use Rattle.mx_run.specs.Manifest.{judged}
 use Rattle.mx_run.specs.Finding.{Finding, Absent, Large, Short, Broken, Whole, Finds}
 use Rattle.mx_run.specs.Next.{Outcome, Wanted, Next, Read}
 use Rattle.mx_run.specs.Boots.{Rest, after_boot, refused_by}
 use Rattle.mx_run.specs.Commands.{assembled, next}
+use Rattle.mx_run.specs.Compared.{first_unlike, is_domain}
 use Rattle.mx_run.specs.Leads.{Leads}
 
 -- the answers lead to an outcome with this status
@@ -106,6 +109,39 @@ IsUnassembled asked answers status =
     × FindsAll (next asked) answers (Whole bytes ∷ [])
     × ((assembled source bytes).status ≡ status)
 
+-- a manifest and its images were read whole, and its plan boots
+pub record IsBooted (bytes : List ℕ) (files : List (List ℕ)) (plan : Said) : Type 0 where
+  pub good : judged bytes ≡ Ok plan
+  pub images : List (List ℕ)
+  pub taken : HasImages plan.modules files images
+  pub state : State
+  pub boots : boot_of plan images ≡ Ok state
+
+-- both manifests of a comparison were read, and these two plans boot
+pub record Compares (asked : Option Request) (answers : List Answer) (pair : Pair) (plan other : Said)
+    : Type 0 where
+  pub asks : asked ≡ Some (Twin pair)
+  pub bytes : List ℕ
+  pub files : List (List ℕ)
+  pub first : IsBooted bytes files plan
+  pub more : List ℕ
+  pub others : List (List ℕ)
+  pub second : IsBooted more others other
+  pub finds : FindsAll (next asked) answers
+      (Whole bytes ∷ list_map Whole files ++ Whole more ∷ list_map Whole others)
+
+-- two plans are compared that differ first in this key
+abbrev pub IsUnlike : Option Request → List Answer → Key → Type 0
+IsUnlike asked answers key =
+    (pair : Pair) × (plan : Said) × (other : Said) × Compares asked answers pair plan other
+    × (first_unlike plan other ≡ Some key)
+
+-- two plans are compared that are alike, for a domain that is no module's
+abbrev pub HasNoDomain : Option Request → List Answer → Type 0
+HasNoDomain asked answers =
+    (pair : Pair) × (plan : Said) × (other : Said) × Compares asked answers pair plan other
+    × (first_unlike plan other ≡ None) × (is_domain plan pair.domain ≡ false)
+
 -- the cause of a status: for most the file that is read last, for the others what whole files say
 abbrev pub Cause : Option Request → List Answer → Status → Type 0
 Cause asked answers Ran = ⊤
@@ -122,8 +158,8 @@ Cause asked answers ConsoleFault = ⊥
 Cause asked answers ReportFault = ⊥
 Cause asked answers DumpFault = ⊥
 Cause asked answers WantOfMemory = ⊥
-Cause asked answers (Unlike key) = ⊥
-Cause asked answers NoDomain = ⊥
+Cause asked answers (Unlike key) = IsUnlike asked answers key
+Cause asked answers NoDomain = HasNoDomain asked answers
 Cause asked answers (SecondRefused fault) = HasFault asked answers Second fault
 Cause asked answers (SecondTablesFull need limit) =
     IsRefused asked answers Second (TooFull need limit)

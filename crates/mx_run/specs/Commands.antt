@@ -15,15 +15,16 @@ use Rattle.mx_snapshot.specs.Kept.{KeptPlan, kept_of}
 use Rattle.mx_turns.specs.Ends.{Texts, still}
 use Rattle.mx_turns.specs.Runs.{ran}
 use Rattle.mx_turns.specs.Tracing.{traced}
-use Rattle.mx_run.specs.declared.side.Side.TheVariants.{First}
+use Rattle.mx_run.specs.declared.side.Side.TheVariants.{First, Second}
 use Rattle.mx_run.specs.declared.status.FileRole.TheVariants.{Schedule as ScheduleRole, Source}
 use Rattle.mx_run.specs.declared.status.Status.TheVariants.{Ran, Usage, AsmFault}
-use Rattle.mx_run.specs.Words.{Order, Request, Go, Asm, Audit}
+use Rattle.mx_run.specs.Words.{Order, Pair, Request, Go, Asm, Audit, Twin}
 use Rattle.mx_run.specs.declared.order.Way.{Way}
 use Rattle.mx_run.specs.declared.order.Way.TheVariants as way
 use Rattle.mx_run.specs.Finding.{Finding}
-use Rattle.mx_run.specs.Next.{Outcome, Wanted, Next, End, after_file, refusal, text_limit, file_limit}
+use Rattle.mx_run.specs.Next.{Outcome, Wanted, Next, End, after_file, refusal, reported, text_limit, file_limit}
 use Rattle.mx_run.specs.Boots.{size_fault, refused_by, after_boot}
+use Rattle.mx_run.specs.Compared.{compared}
 
 -- the schedule of a run, and the source of an image
 abbrev pub schedule_file : List ℕ → Wanted
@@ -80,13 +81,14 @@ abbrev pub assembled : List ℕ → List ℕ → Outcome
 assembled source bytes =
     if is_utf8 bytes then assembled_text source bytes else refusal source (AsmFault 0 11)
 
--- a report is all that a command writes
-abbrev pub reported : List ℕ → Outcome
-reported text = record { status = Ran; texts = still [] text [] }
-
 -- the audit of a state at boot
 abbrev pub audited : Said → State → Outcome
 audited plan s = reported (audit_text (kept_of plan).names (flat s))
+
+-- the second machine of a comparison boots after the first, and the two are compared
+abbrev pub after_first : Pair → Said → State → List Finding → Next
+after_first p plan s =
+    after_boot Second p.second (λ other t more. End (compared p plan s other t))
 
 -- what the program does next, by what the words ask and what was found of the files read so far, the first of them first
 abbrev pub next : Option Request → List Finding → Next
@@ -95,4 +97,5 @@ next (Some (Go o)) found = after_boot First o.file
     (λ plan s. scheduled plan.quantum (run_of o (kept_of plan) s) o.schedule) found
 next (Some (Asm source)) found = after_file (source_file source)
     (λ bytes more. End (assembled source bytes)) found
+next (Some (Twin p)) found = after_boot First p.first (after_first p) found
 next (Some (Audit name)) found = after_boot First name (λ plan s more. End (audited plan s)) found

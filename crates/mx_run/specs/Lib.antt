@@ -3,6 +3,7 @@ pub mod Booting
 pub mod Boots
 pub mod Causes
 pub mod Commands
+pub mod Compared
 pub mod Finding
 pub mod Judged
 pub mod Leads

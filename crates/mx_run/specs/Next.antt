@@ -3,7 +3,7 @@ use Rattle.std.specs.Prelude.{ℕ, List, [], ◌∷◌, Option, Some, None, unwr
 use Rattle.mx_turns.specs.Ends.{Texts, still}
 use Rattle.mx_run.specs.declared.status.FileRole.{FileRole}
 use Rattle.mx_run.specs.declared.status.Status.{Status}
-use Rattle.mx_run.specs.declared.status.Status.TheVariants.{StoreFault, ShortFile, NoFile}
+use Rattle.mx_run.specs.declared.status.Status.TheVariants.{Ran, StoreFault, ShortFile, NoFile}
 use Rattle.mx_run.specs.Refusal.{line_of}
 use Rattle.mx_run.specs.Finding.{Finding, Absent, Large, Short, Broken, Whole}
 
@@ -18,6 +18,10 @@ refusal name status = record {
   status = status;
   texts = still [] (unwrap_or (line_of name status) []) [];
 }
+
+-- a report is all that a command writes
+abbrev pub reported : List ℕ → Outcome
+reported text = record { status = Ran; texts = still [] text [] }
 
 -- a file that is to be read: its role, its name, the most bytes that it may have, and the status where it has more
 pub record Wanted : Type 0 where

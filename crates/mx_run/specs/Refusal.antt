@@ -4,6 +4,7 @@ use Rattle.std.specs.List.{concat}
 use Rattle.mx_io.specs.Piece.{shown_name}
 use Rattle.mx_words.specs.declared.tables.Need.{Need}
 use Rattle.mx_manifest.specs.declared.fault.BootFault.{BootFault}
+use Rattle.mx_manifest.specs.declared.fault.Key.{Key}
 use Rattle.mx_manifest.specs.declared.fault.Part.{Part}
 use Rattle.mx_manifest.specs.declared.fault.Part.TheVariants as part
 use Rattle.mx_manifest.specs.Keys.{key_text}
@@ -63,6 +64,14 @@ unfoldable pub asm_fault_line : ℕ → ℕ → List ℕ
 asm_fault_line line number =
     concat (codes "asm line=" ∷ decimal line ∷ codes " fault=" ∷ decimal number ∷ codes "\n" ∷ [])
 
+-- two plans to be compared differ in a key
+unfoldable pub unlike_line : Key → List ℕ
+unlike_line key = concat (codes "twin unlike key=" ∷ key_text key ∷ codes "\n" ∷ [])
+
+-- the domain to be compared is no module's
+unfoldable pub no_domain_line : List ℕ
+no_domain_line = codes "twin no domain\n"
+
 -- the line of a status, where it is one that this path gives and that has a line
 abbrev pub line_of : List ℕ → Status → Option (List ℕ)
 line_of name Usage = Some usage_line
@@ -77,8 +86,8 @@ line_of name ConsoleFault = None
 line_of name ReportFault = None
 line_of name DumpFault = None
 line_of name WantOfMemory = None
-line_of name (Unlike key) = None
-line_of name NoDomain = None
+line_of name (Unlike key) = Some (unlike_line key)
+line_of name NoDomain = Some no_domain_line
 line_of name (SecondRefused fault) = Some (refused_line fault)
 line_of name (SecondTablesFull need limit) = Some (tables_full_line need limit)
 line_of name (SnapshotFault at number) = None

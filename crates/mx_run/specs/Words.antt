@@ -23,11 +23,19 @@ pub record Order : Type 0 where
   pub tables : Bool
   pub counts : Bool
 
--- what the words ask: a run of some way, to assemble a source by its name, or to audit a manifest by its name
+-- two manifests by their names, a domain of both, and the most steps
+pub record Pair : Type 0 where
+  pub first : List ℕ
+  pub second : List ℕ
+  pub domain : ℕ
+  pub steps : ℕ
+
+-- what the words ask: a run of some way, to assemble a source by its name, to audit a manifest by its name, or to compare a domain of two
 pub data Request : Type 0 where
   Go : Order → Request
   Asm : List ℕ → Request
   Audit : List ℕ → Request
+  Twin : Pair → Request
 
 -- a name has 1 to 255 bytes and doesn't begin with `-`
 abbrev pub is_name : List ℕ → Bool
@@ -136,6 +144,23 @@ only_name [] = None
 only_name (name ∷ []) = if is_name name then Some name else None
 only_name (name ∷ more ∷ rest) = None
 
+-- `twin`: two manifests' names, a domain, and a number of steps
+abbrev pub pair_of : List (List ℕ) → Option Pair
+pair_of [] = None
+pair_of (first ∷ []) = None
+pair_of (first ∷ second ∷ []) = None
+pair_of (first ∷ second ∷ domain ∷ []) = None
+pair_of (first ∷ second ∷ domain ∷ steps ∷ []) =
+    if is_name first && is_name second && is_number domain && is_number steps
+    then Some (record {
+      first = first;
+      second = second;
+      domain = digits_value 10 domain;
+      steps = digits_value 10 steps;
+    })
+    else None
+pair_of (first ∷ second ∷ domain ∷ steps ∷ more ∷ rest) = None
+
 -- what the words ask, or nothing where they have no meaning
 abbrev pub meaning : List (List ℕ) → Option Request
 meaning [] = None
@@ -144,4 +169,5 @@ meaning (command ∷ operands) =
     else if bytes_eq command (codes "trace") then go_request way.Trace operands
     else if bytes_eq command (codes "asm") then option_map Asm (only_name operands)
     else if bytes_eq command (codes "audit") then option_map Audit (only_name operands)
+    else if bytes_eq command (codes "twin") then option_map Twin (pair_of operands)
     else None

@@ -56,6 +56,19 @@ pub(crate) struct Order<'a> {
     pub counts: bool,
 }
 
+/// Two machines to be compared. A name has 1 to 255 bytes.
+#[derive(Clone, Copy)]
+pub(crate) struct Pair<'a> {
+    /// The first manifest's name.
+    pub first: &'a str,
+    /// The second manifest's name.
+    pub second: &'a str,
+    /// The number of the domain that is compared, at most 9999999999.
+    pub domain: u64,
+    /// The most steps to make, at most 9999999999.
+    pub steps: u64,
+}
+
 /// What options made of an order so far.
 #[derive(Clone, Copy)]
 pub(crate) enum Parse<'a> {

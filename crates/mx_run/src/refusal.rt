@@ -3,14 +3,14 @@
 ghost use Rattle.std.specs.Prelude.{◌≡◌, [], ◌++◌, unwrap_or};
 ghost use Rattle.mx_io.specs.Sink.{SinkState, Puts};
 ghost use Rattle.mx_io.specs.Piece.{piece_text};
-ghost use Rattle.mx_run.specs.Refusal.{line_of, refused_line, place_text, tables_full_line, short_file_line, no_file_line, usage_line, store_fault_line, asm_fault_line};
+ghost use Rattle.mx_run.specs.Refusal.{line_of, refused_line, place_text, tables_full_line, short_file_line, no_file_line, usage_line, store_fault_line, asm_fault_line, unlike_line, no_domain_line};
 ghost use Rattle.mx_run.specs.Next.{refusal};
 ghost use Rattle.mx_turns.specs.Ends.{sinks};
 ghost use Rattle.mx_run.specs.Top.{Ends};
 
 use crate::status::Status;
 use mx_io::{Failed, Piece, Sink, put_all};
-use mx_manifest::{BootFault, Part};
+use mx_manifest::{BootFault, Key, Part};
 use mx_report::put_line;
 use mx_words::Need;
 
@@ -41,6 +41,8 @@ fn put_refusal<R: Sink>(report: &mut R, name: &str, status: &Status) -> Result<(
         Status::ShortFile { told, got, .. } => put_short_file(report, name, told, got),
         Status::NoFile(_) => put_no_file(report, name),
         Status::AsmFault { line, number } => put_asm_fault(report, line, number),
+        Status::Unlike(key) => put_unlike(report, key),
+        Status::NoDomain => put_no_domain(report),
         _ => put_all(report, b""),
     }
 }
@@ -131,6 +133,27 @@ fn put_asm_fault<R: Sink>(report: &mut R, line: u32, number: u32) -> Result<(), 
             Piece::Text("\n"),
         ],
     )
+}
+
+#[tactic(auto, unfolding(crate::specs::Refusal::unlike_line))]
+fn put_unlike<R: Sink>(report: &mut R, key: Key) -> Result<(), Failed>
+    ensures { Puts (R.state report.old) (R.state report.new) (unlike_line key) result }
+{
+    put_line(
+        report,
+        &[
+            Piece::Text("twin unlike key="),
+            Piece::Text(key.name()),
+            Piece::Text("\n"),
+        ],
+    )
+}
+
+#[tactic(auto, unfolding(crate::specs::Refusal::no_domain_line))]
+fn put_no_domain<R: Sink>(report: &mut R) -> Result<(), Failed>
+    ensures { Puts (R.state report.old) (R.state report.new) no_domain_line result }
+{
+    put_all(report, b"twin no domain\n")
 }
 
 fn put_refused<R: Sink>(report: &mut R, fault: &BootFault) -> Result<(), Failed>

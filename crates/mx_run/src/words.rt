@@ -2,10 +2,10 @@
 
 ghost use Rattle.std.specs.Prelude.{◌≡◌, ◌^◌, ◌<◌, [], ◌∷◌, ◌++◌, map, fold, option_map, OnOk, OnErr, IfSome, string_bytes};
 ghost use Rattle.std.specs.Option.{option_copied};
-ghost use Rattle.mx_run.specs.Asked.{order_of, request_of, parsed_of, HasFewSteps, ParsesFewSteps};
-ghost use Rattle.mx_run.specs.Words.{Stands, with_word, asked_by, go_request, meaning, only_name};
+ghost use Rattle.mx_run.specs.Asked.{order_of, pair_asked, request_of, parsed_of, HasFewSteps, ParsesFewSteps};
+ghost use Rattle.mx_run.specs.Words.{Stands, with_word, asked_by, go_request, meaning, only_name, pair_of};
 
-use crate::order::{Order, Parse, Way, is_name, is_number, number, plain_order, with_word};
+use crate::order::{Order, Pair, Parse, Way, is_name, is_number, number, plain_order, with_word};
 use mx_words::NoMemory;
 use std::alloc::Global;
 use std::marker::Model;
@@ -34,6 +34,8 @@ pub(crate) enum Asked<'a> {
     Asm(&'a str),
     /// To audit the manifest of this name, which has 1 to 255 bytes.
     Audit(&'a str),
+    /// To compare a domain of two machines.
+    Twin(Pair<'a>),
 }
 
 impl Words {
@@ -72,6 +74,7 @@ impl Words {
             "trace" => go_words(Way::Trace, operands),
             "asm" => Some(Asked::Asm(only_name(operands)?)),
             "audit" => Some(Asked::Audit(only_name(operands)?)),
+            "twin" => Some(Asked::Twin(pair_of(operands)?)),
             _ => None,
         }
     }
@@ -83,6 +86,30 @@ fn only_name(operands: &[String]) -> Option<&str>
 {
     if operands.len() == 1 && is_name(operands[0].as_str()) {
         Some(operands[0].as_str())
+    } else {
+        None
+    }
+}
+
+// The two manifests, the domain and the steps that the operands are.
+fn pair_of(operands: &[String]) -> Option<Pair<'_>>
+    ensures pair { option_map pair_asked result ≡ pair_of (map string_bytes operands.now) }
+    ensures steps { IfSome result (λ pair. pair.steps < 10 ^ 10) }
+{
+    if operands.len() != 4 {
+        return None;
+    }
+    let first = operands[0].as_str();
+    let second = operands[1].as_str();
+    let domain = operands[2].as_str();
+    let steps = operands[3].as_str();
+    if is_name(first) && is_name(second) && is_number(domain) && is_number(steps) {
+        Some(Pair {
+            first,
+            second,
+            domain: number(domain.as_bytes()),
+            steps: number(steps.as_bytes()),
+        })
     } else {
         None
     }

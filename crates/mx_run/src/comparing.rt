@@ -1,0 +1,93 @@
+//! The command `twin`: two manifests boot, and their machines make the same turns side by side.
+
+ghost use Rattle.std.specs.Prelude.{◌≡◌, ◌<◌, ◌^◌, Some};
+ghost use Rattle.mx_boot.specs.Machines.{meaning};
+ghost use Rattle.mx_io.specs.Sink.{SinkState};
+ghost use Rattle.mx_model.specs.State.{State, flat};
+ghost use Rattle.mx_turns.specs.Ends.{sinks};
+ghost use Rattle.mx_run.specs.Asked.{pair_asked};
+ghost use Rattle.mx_run.specs.Booting.{IsOfSize};
+ghost use Rattle.mx_run.specs.Commands.{after_first, next};
+ghost use Rattle.mx_run.specs.Compared.{alike, compared, first_unlike, is_domain};
+ghost use Rattle.mx_run.specs.Top.{Continues, Ends};
+ghost use Rattle.mx_run.specs.Words.{Twin};
+
+use crate::booting::{Booted, take_boot};
+use crate::order::Pair;
+use crate::refusal::refuse;
+use crate::side::Side;
+use crate::status::Status;
+use mx_boot::AnyMachine;
+use mx_io::{Failed, Sink, Store};
+use mx_manifest::{Key, Plan};
+use mx_twin::{run_twin, write_twin};
+use std::alloc::Global;
+
+/// Boots two manifests, one after the other, and compares what a domain sees of their machines after each turn.
+pub(crate) fn compare_manifests<S: Store, R: Sink>(
+    alloc: Global,
+    pair: &Pair<'_>,
+    store: &mut S,
+    report: &mut R,
+) -> Status
+    requires { pair.now.steps < 10 ^ 10 }
+    ensures { (console dump : SinkState) →
+        Continues (next (Some (Twin (pair_asked pair.now)))) S.gives store.old store.new
+        (sinks console (R.state report.old) dump) (sinks console (R.state report.new) dump) result }
+{
+    match take_boot(alloc, Side::First, pair.first, store, report) {
+        Ok(first) => compare_with(alloc, pair, first, store, report),
+        Err(status) => status,
+    }
+}
+
+// Boots the second manifest, and compares its machine with the first one.
+fn compare_with<S: Store, R: Sink>(
+    alloc: Global,
+    pair: &Pair<'_>,
+    first: Booted,
+    store: &mut S,
+    report: &mut R,
+) -> Status
+    requires few { pair.now.steps < 10 ^ 10 }
+    requires size { IsOfSize first.plan (meaning first.machine) }
+    ensures { (s : State) → meaning first.machine ≡ flat s → (console dump : SinkState) →
+        Continues (after_first (pair_asked pair.now) first.plan s) S.gives store.old store.new
+        (sinks console (R.state report.old) dump) (sinks console (R.state report.new) dump) result }
+{
+    match take_boot(alloc, Side::Second, pair.second, store, report) {
+        Ok(second) => compare_booted(pair, first, second, report),
+        Err(status) => {
+            first.machine.end();
+            status
+        }
+    }
+}
+
+// Compares two machines at boot, or refuses plans that differ.
+fn compare_booted<R: Sink>(
+    pair: &Pair<'_>,
+    first: Booted,
+    second: Booted,
+    report: &mut R,
+) -> Status
+    requires few { pair.now.steps < 10 ^ 10 }
+    requires size { IsOfSize first.plan (meaning first.machine) }
+    requires second { IsOfSize second.plan (meaning second.machine) }
+    ensures { (s t : State) → meaning first.machine ≡ flat s → meaning second.machine ≡ flat t →
+        (console dump : SinkState) → Ends (compared (pair_asked pair.now) first.plan s second.plan t)
+        (sinks console (R.state report.old) dump) (sinks console (R.state report.new) dump) result }
+{
+    let Booted { plan, mut machine } = first;
+    let Booted {
+        plan: other,
+        machine: mut twin,
+    } = second;
+    let status = match first_unlike(&plan, &other) {
+        Some(key) => refuse(report, "", Status::Unlike(key)),
+        None => compare_alike(pair, &plan, &mut machine, &mut twin, report),
+    };
+    machine.end();
+    twin.end();
+    status
+}
