@@ -20,10 +20,11 @@ use Rattle.mx_run.specs.declared.side.Side.TheVariants.{First, Second}
 use Rattle.mx_run.specs.declared.status.FileRole.{FileRole}
 use Rattle.mx_run.specs.declared.status.Status.{Status}
 use Rattle.mx_run.specs.declared.status.Status.TheVariants.{Ran, Usage, Refused, TablesFull, StoreFault, ShortFile, NoFile, ConsoleFault, ReportFault, DumpFault, WantOfMemory, AsmFault, Unlike, NoDomain, SecondRefused, SecondTablesFull, SnapshotFault}
-use Rattle.mx_run.specs.Words.{Pair, Request, Go, Asm, Audit, Twin}
+use Rattle.mx_run.specs.Words.{Pair, Request, Go, Asm, Audit, Twin, Mill}
 use Rattle.mx_run.specs.Manifest.{judged}
 use Rattle.mx_run.specs.Finding.{Finding, Absent, Large, Short, Broken, Whole, Finds}
-use Rattle.mx_run.specs.Next.{Outcome, Wanted, Next, Read, End, refusal, lack_of, bytes_of, unless, after_file}
+use Rattle.mx_mill.specs.Mill.{mill_text}
+use Rattle.mx_run.specs.Next.{Outcome, Wanted, Next, Read, End, refusal, reported, lack_of, bytes_of, unless, after_file}
 use Rattle.mx_run.specs.Boots.{Rest, refused_by, after_images, manifest_file, image_file, booted, planned, after_boot}
 use Rattle.mx_run.specs.Commands.{schedule_file, source_file, scheduled, run_of, assembled, audited, after_first, next}
 use Rattle.mx_run.specs.Compared.{alike, alike_by, compared, unlike}
@@ -92,6 +93,7 @@ shape_request None = shape_end (refusal [] Usage)
 shape_request (Some (Go o)) =
     shape_boot First o.file (λ plan s. scheduled plan.quantum (run_of o (kept_of plan) s) o.schedule) (λ plan s. shape_run plan.quantum (run_of o (kept_of plan) s) o.schedule)
 shape_request (Some (Asm source)) = shape_file (source_file source) (λ bytes more. End (assembled source bytes)) (λ bytes. shape_end (assembled source bytes))
+shape_request (Some (Mill k)) = shape_end (reported (mill_text k))
 shape_request (Some (Twin p)) =
     shape_boot First p.first (after_first p)
     (λ plan s. shape_boot Second p.second (λ other t more. End (compared p plan s other t)) (λ other t. shape_end (compared p plan s other t)))

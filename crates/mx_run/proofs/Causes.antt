@@ -19,10 +19,11 @@ use Rattle.mx_image.specs.Image.{image_of}
 use Rattle.mx_asm.specs.Denoted.{program_of, first_fault}
 use Rattle.mx_run.specs.declared.status.Status.{Status}
 use Rattle.mx_run.specs.declared.status.Status.TheVariants.{Ran, Usage, StoreFault, ShortFile, NoFile, AsmFault}
-use Rattle.mx_run.specs.Words.{Pair, Request, Go, Asm, Audit, Twin}
+use Rattle.mx_run.specs.Words.{Pair, Request, Go, Asm, Audit, Twin, Mill}
 use Rattle.mx_run.specs.Manifest.{judged}
 use Rattle.mx_run.specs.Finding.{Finding, Absent, Large, Short, Broken, Whole, Finds}
-use Rattle.mx_run.specs.Next.{Outcome, Wanted, Next, Read, End, refusal, lack_of, after_file}
+use Rattle.mx_mill.specs.Mill.{mill_text}
+use Rattle.mx_run.specs.Next.{Outcome, Wanted, Next, Read, End, refusal, reported, lack_of, after_file}
 use Rattle.mx_run.specs.Boots.{Rest, refused_by, after_images, manifest_file, image_file, booted, planned, after_boot}
 use Rattle.mx_run.specs.Commands.{schedule_file, source_file, scheduled, run_of, written_image, unless_faulty, assembled_text, assembled, audited, after_first, next}
 use Rattle.mx_run.specs.Compared.{alike, alike_by, compared, first_unlike, is_domain, unlike}
@@ -374,6 +375,7 @@ module _ (asked : Option Request) (answers : List Answer) (p : Pair) where
 abbrev OfRequest : Option Request → List Finding → Status → Type 0
 OfRequest None found status = (found ≡ []) × (status ≡ Usage)
 OfRequest (Some (Go o)) found status = OfBoot First (λ plan s. OfRun) found status
+OfRequest (Some (Mill k)) found status = status ≡ Ran
 OfRequest (Some (Twin p)) found status = OfBoot First (λ plan s. OfBoot Second (OfPair p plan s)) found status
 OfRequest (Some (Audit name)) found status = OfBoot First (λ plan s. OfRun) found status
 OfRequest (Some (Asm source)) found status = (bytes : List ℕ) × (others : List Finding) × (found ≡ Whole bytes ∷ others) × OfSource source bytes others status
@@ -385,6 +387,7 @@ by_request (Some (Go o)) =
     (λ plan s. by_run plan.quantum (run_of o (kept_of plan) s) (λ schedule. refl) o.schedule)
 by_request (Some (Asm source)) =
     by_file (source_file source) (λ bytes more. End (assembled source bytes)) (OfSource source) (inr (0, 11, refl)) (λ bytes. by_end (assembled source bytes))
+by_request (Some (Mill k)) = by_ran (reported (mill_text k)) refl
 by_request (Some (Twin p)) =
     by_boot First p.first (after_first p) (λ plan s. OfBoot Second (OfPair p plan s))
     (λ plan s. by_boot Second p.second (λ other t more. End (compared p plan s other t)) (OfPair p plan s) (λ other t. by_end (compared p plan s other t)))
@@ -403,6 +406,7 @@ cause_of_request None answers found status f own =
     subst (Cause None answers) (sym own.1) (refl, subst (λ (found : List Finding). FindsAll (next None) answers found) own.0 f)
 cause_of_request (Some (Go o)) answers found status f own =
     cause_of_ran (Some (Go o)) answers o.file (record { rest = λ plan s. scheduled plan.quantum (run_of o (kept_of plan) s) o.schedule; goes = λ more. refl }) found status f own
+cause_of_request (Some (Mill k)) answers found status f own = subst (Cause (Some (Mill k)) answers) (sym own) tt
 cause_of_request (Some (Twin p)) answers found status f own =
     cause_of_boot (Some (Twin p)) answers [] First p.first (record { rest = after_first p; goes = λ more. refl }) (λ plan s. OfBoot Second (OfPair p plan s))
     (cause_of_pair (Some (Twin p)) answers p refl) found found refl f status own

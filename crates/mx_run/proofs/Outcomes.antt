@@ -11,10 +11,11 @@ use Rattle.mx_snapshot.specs.Kept.{kept_of}
 use Rattle.mx_run.specs.declared.side.Side.{Side}
 use Rattle.mx_run.specs.declared.side.Side.TheVariants.{First, Second}
 use Rattle.mx_run.specs.declared.status.Status.TheVariants.{Usage, StoreFault, ShortFile, NoFile}
-use Rattle.mx_run.specs.Words.{Request, Go, Asm, Audit, Twin}
+use Rattle.mx_run.specs.Words.{Request, Go, Asm, Audit, Twin, Mill}
 use Rattle.mx_run.specs.Manifest.{judged}
 use Rattle.mx_run.specs.Finding.{Finding, Absent, Large, Short, Broken, Whole, found_in}
-use Rattle.mx_run.specs.Next.{Outcome, Wanted, Next, End, refusal, after_file}
+use Rattle.mx_mill.specs.Mill.{mill_text}
+use Rattle.mx_run.specs.Next.{Outcome, Wanted, Next, End, refusal, reported, after_file}
 use Rattle.mx_run.specs.Boots.{Rest, refused_by, after_images, manifest_file, image_file, booted, planned, after_boot}
 use Rattle.mx_run.specs.Commands.{schedule_file, source_file, scheduled, run_of, assembled, audited, after_first, next}
 use Rattle.mx_run.specs.Compared.{compared}
@@ -76,6 +77,7 @@ module _ (files : FileMap) where
       by_boot First o.file (λ plan s. scheduled plan.quantum (run_of o (kept_of plan) s) o.schedule) (λ plan s. by_schedule plan.quantum (run_of o (kept_of plan) s) o.schedule)
   by_request (Some (Asm source)) =
       by_file (source_file source) (λ bytes more. End (assembled source bytes)) (λ bytes. (assembled source bytes, (0, refl)))
+  by_request (Some (Mill k)) = (reported (mill_text k), (0, refl))
   by_request (Some (Twin p)) =
       by_boot First p.first (after_first p)
       (λ plan s. by_boot Second p.second (λ other t more. End (compared p plan s other t)) (λ other t. (compared p plan s other t, (0, refl))))

@@ -1,6 +1,6 @@
 -- What the code keeps of the words, and of the files that it reads.
 use Rattle.std.specs.Prelude.{◌<◌, ◌^◌, option_copied, ⊤}
-use Rattle.mx_run.specs.Words.{Order, Pair, Request, Go, Asm, Audit, Twin, Parsed, Stands, Lacks, Meaningless}
+use Rattle.mx_run.specs.Words.{Order, Pair, Request, Go, Asm, Audit, Twin, Mill, Parsed, Stands, Lacks, Meaningless}
 use Rattle.mx_run.specs.Next.{Wanted}
 use Rattle.mx_run.specs.declared.wanted.Wanted as files
 use Rattle.mx_run.specs.declared.order.Order as orders
@@ -38,6 +38,7 @@ request_of (asked.Go order) = Go (order_of order)
 request_of (asked.Asm source) = Asm source.now
 request_of (asked.Audit name) = Audit name.now
 request_of (asked.Twin pair) = Twin (pair_asked pair)
+request_of (asked.Mill k) = Mill k
 
 -- what options made of an order
 abbrev pub parsed_of : Parse → Parsed
@@ -51,6 +52,7 @@ HasFewSteps (asked.Go order) = order.steps < 10 ^ 10
 HasFewSteps (asked.Asm source) = ⊤
 HasFewSteps (asked.Audit name) = ⊤
 HasFewSteps (asked.Twin pair) = pair.steps < 10 ^ 10
+HasFewSteps (asked.Mill k) = ⊤
 
 abbrev pub ParsesFewSteps : Parse → Type 0
 ParsesFewSteps (parse.Stands order) = order.steps < 10 ^ 10

@@ -7,6 +7,7 @@ use Rattle.mx_manifest.specs.declared.fault.Key.TheVariants as key
 use Rattle.mx_manifest.specs.declared.fault.Part.TheVariants as part
 use Rattle.mx_manifest.specs.Plan.{Said}
 use Rattle.mx_audit.specs.Lines.{audit_text}
+use Rattle.mx_mill.specs.Mill.{mill_text}
 use Rattle.mx_boot.specs.Boot.{Faulty}
 use Rattle.mx_image.specs.Image.{image_of}
 use Rattle.mx_asm.specs.Denoted.{program_of, first_fault}
@@ -18,7 +19,7 @@ use Rattle.mx_turns.specs.Tracing.{traced}
 use Rattle.mx_run.specs.declared.side.Side.TheVariants.{First, Second}
 use Rattle.mx_run.specs.declared.status.FileRole.TheVariants.{Schedule as ScheduleRole, Source}
 use Rattle.mx_run.specs.declared.status.Status.TheVariants.{Ran, Usage, AsmFault}
-use Rattle.mx_run.specs.Words.{Order, Pair, Request, Go, Asm, Audit, Twin}
+use Rattle.mx_run.specs.Words.{Order, Pair, Request, Go, Asm, Audit, Twin, Mill}
 use Rattle.mx_run.specs.declared.order.Way.{Way}
 use Rattle.mx_run.specs.declared.order.Way.TheVariants as way
 use Rattle.mx_run.specs.Finding.{Finding}
@@ -97,5 +98,6 @@ next (Some (Go o)) found = after_boot First o.file
     (λ plan s. scheduled plan.quantum (run_of o (kept_of plan) s) o.schedule) found
 next (Some (Asm source)) found = after_file (source_file source)
     (λ bytes more. End (assembled source bytes)) found
+next (Some (Mill k)) found = End (reported (mill_text k))
 next (Some (Twin p)) found = after_boot First p.first (after_first p) found
 next (Some (Audit name)) found = after_boot First name (λ plan s more. End (audited plan s)) found

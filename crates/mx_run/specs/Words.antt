@@ -36,6 +36,7 @@ pub data Request : Type 0 where
   Asm : List ℕ → Request
   Audit : List ℕ → Request
   Twin : Pair → Request
+  Mill : ℕ → Request
 
 -- a name has 1 to 255 bytes and doesn't begin with `-`
 abbrev pub is_name : List ℕ → Bool
@@ -161,6 +162,14 @@ pair_of (first ∷ second ∷ domain ∷ steps ∷ []) =
     else None
 pair_of (first ∷ second ∷ domain ∷ steps ∷ more ∷ rest) = None
 
+-- `mill`: a number, at most 2^31 - 1
+abbrev pub mill_number : List (List ℕ) → Option ℕ
+mill_number [] = None
+mill_number (word ∷ []) =
+    if is_number word && nat_le (digits_value 10 word) 2147483647
+    then Some (digits_value 10 word) else None
+mill_number (word ∷ more ∷ rest) = None
+
 -- what the words ask, or nothing where they have no meaning
 abbrev pub meaning : List (List ℕ) → Option Request
 meaning [] = None
@@ -170,4 +179,5 @@ meaning (command ∷ operands) =
     else if bytes_eq command (codes "asm") then option_map Asm (only_name operands)
     else if bytes_eq command (codes "audit") then option_map Audit (only_name operands)
     else if bytes_eq command (codes "twin") then option_map Twin (pair_of operands)
+    else if bytes_eq command (codes "mill") then option_map Mill (mill_number operands)
     else None

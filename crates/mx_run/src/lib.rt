@@ -3,8 +3,10 @@
 
 mod assembling;
 mod auditing;
+mod comparing;
 mod booting;
 mod laws;
+mod milling;
 mod manifest;
 mod order;
 mod program;

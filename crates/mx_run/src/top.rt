@@ -8,6 +8,8 @@ ghost use Rattle.mx_run.specs.Promise.{Headline, Completeness};
 
 use crate::assembling::write_image;
 use crate::auditing::audit_manifest;
+use crate::comparing::compare_manifests;
+use crate::milling::write_mill;
 use crate::refusal::refuse;
 use crate::running::run_manifest;
 use crate::status::Status;
@@ -63,6 +65,8 @@ fn react<S: Store, C: Sink, R: Sink, D: Sink>(
         Some(Asked::Go(order)) => run_manifest(alloc, &order, store, console, report, dump),
         Some(Asked::Asm(source)) => write_image(alloc, source, store, console, report),
         Some(Asked::Audit(name)) => audit_manifest(alloc, name, store, report),
+        Some(Asked::Twin(pair)) => compare_manifests(alloc, &pair, store, report),
+        Some(Asked::Mill(k)) => write_mill(alloc, k, report),
         None => refuse(report, "", Status::Usage),
     }
 }

@@ -3,7 +3,7 @@
 ghost use Rattle.std.specs.Prelude.{◌≡◌, ◌^◌, ◌<◌, [], ◌∷◌, ◌++◌, map, fold, option_map, OnOk, OnErr, IfSome, string_bytes};
 ghost use Rattle.std.specs.Option.{option_copied};
 ghost use Rattle.mx_run.specs.Asked.{order_of, pair_asked, request_of, parsed_of, HasFewSteps, ParsesFewSteps};
-ghost use Rattle.mx_run.specs.Words.{Stands, with_word, asked_by, go_request, meaning, only_name, pair_of};
+ghost use Rattle.mx_run.specs.Words.{Stands, with_word, asked_by, go_request, meaning, mill_number, only_name, pair_of};
 
 use crate::order::{Order, Pair, Parse, Way, is_name, is_number, number, plain_order, with_word};
 use mx_words::NoMemory;
@@ -36,6 +36,8 @@ pub(crate) enum Asked<'a> {
     Audit(&'a str),
     /// To compare a domain of two machines.
     Twin(Pair<'a>),
+    /// To run the manifest that is made for this number, at most 2147483647.
+    Mill(u32),
 }
 
 impl Words {
@@ -75,6 +77,7 @@ impl Words {
             "asm" => Some(Asked::Asm(only_name(operands)?)),
             "audit" => Some(Asked::Audit(only_name(operands)?)),
             "twin" => Some(Asked::Twin(pair_of(operands)?)),
+            "mill" => Some(Asked::Mill(mill_number(operands)?)),
             _ => None,
         }
     }
@@ -110,6 +113,21 @@ fn pair_of(operands: &[String]) -> Option<Pair<'_>>
             domain: number(domain.as_bytes()),
             steps: number(steps.as_bytes()),
         })
+    } else {
+        None
+    }
+}
+
+// The number that the operands are.
+fn mill_number(operands: &[String]) -> Option<u32>
+    ensures { result ≡ mill_number (map string_bytes operands.now) }
+{
+    if operands.len() != 1 || !is_number(operands[0].as_str()) {
+        return None;
+    }
+    let k = number(operands[0].as_str().as_bytes());
+    if k <= 2147483647 {
+        Some(k as u32)
     } else {
         None
     }

@@ -1,9 +1,11 @@
-use Rattle.std.proofs.Common.{◌≡◌, Option, Some, subst}
-use Rattle.mx_run.specs.Asked.{order_of}
-use Rattle.mx_run.specs.Words.{Request, Go, Asm, Audit, meaning}
+use Rattle.std.proofs.Common.{◌≡◌, Option, Some, refl, subst}
+use Rattle.mx_mill.specs.Mill.{mill_text}
+use Rattle.mx_run.specs.Asked.{order_of, pair_asked}
+use Rattle.mx_run.specs.Next.{End, reported}
+use Rattle.mx_run.specs.Words.{Request, Go, Asm, Audit, Twin, Mill, meaning}
 use Rattle.mx_turns.specs.Ends.{sinks}
 use Rattle.mx_run.specs.Top.{Reacts}
-use Rattle.mx_run.proofs.Continued.{reacts_some, reacts_none}
+use Rattle.mx_run.proofs.Continued.{continues_end, reacts_some, reacts_none}
 use Rattle.mx_run.proofs.top.react.Goals as goal
 
 pub returns-in-Some-Go : goal.returns-in-Some-Go
@@ -32,6 +34,26 @@ returns-in-Some-Audit g c =
     (sinks (g.C.Sink.state c.args.console.now) (g.R.Sink.state c.args.report.now) (g.D.Sink.state c.args.dump.now))
     (sinks (g.C.Sink.state c.args.console.now) (g.R.Sink.state c.audit_manifest.new.report) (g.D.Sink.state c.args.dump.now)) c.audit_manifest.result)
     asked (reacts_some g.S.Store.gives (Audit c.in-Some-Audit.name.now) _ _ (c.audit_manifest.ensures (g.C.Sink.state c.args.console.now) (g.D.Sink.state c.args.dump.now)))
+
+pub returns-in-Some-Twin : goal.returns-in-Some-Twin
+returns-in-Some-Twin g c =
+    let asked : Some (Twin (pair_asked c.in-Some-Twin.pair)) ≡ meaning c.args.words.now = rw c.in-Some-Twin.field-0-is at c.in-Some-Twin.ensures.meaning in
+    subst
+    (λ (request : Option Request). Reacts request g.S.Store.gives c.args.store.now c.compare_manifests.new.store
+    (sinks (g.C.Sink.state c.args.console.now) (g.R.Sink.state c.args.report.now) (g.D.Sink.state c.args.dump.now))
+    (sinks (g.C.Sink.state c.args.console.now) (g.R.Sink.state c.compare_manifests.new.report) (g.D.Sink.state c.args.dump.now)) c.compare_manifests.result)
+    asked (reacts_some g.S.Store.gives (Twin (pair_asked c.in-Some-Twin.pair)) _ _ (c.compare_manifests.ensures (g.C.Sink.state c.args.console.now) (g.D.Sink.state c.args.dump.now)))
+
+pub returns-in-Some-Mill : goal.returns-in-Some-Mill
+returns-in-Some-Mill g c =
+    let asked : Some (Mill c.in-Some-Mill.k) ≡ meaning c.args.words.now = rw c.in-Some-Mill.field-0-is at c.in-Some-Mill.ensures.meaning in
+    subst
+    (λ (request : Option Request). Reacts request g.S.Store.gives c.args.store.now c.args.store.now
+    (sinks (g.C.Sink.state c.args.console.now) (g.R.Sink.state c.args.report.now) (g.D.Sink.state c.args.dump.now))
+    (sinks (g.C.Sink.state c.args.console.now) (g.R.Sink.state c.write_mill.new.report) (g.D.Sink.state c.args.dump.now)) c.write_mill.result)
+    asked (reacts_some g.S.Store.gives (Mill c.in-Some-Mill.k) _ _
+    (continues_end g.S.Store.gives (λ more. End (reported (mill_text c.in-Some-Mill.k))) (reported (mill_text c.in-Some-Mill.k)) refl c.args.store.now
+    (c.write_mill.ensures (g.C.Sink.state c.args.console.now) (g.D.Sink.state c.args.dump.now))))
 
 pub returns-in-None : goal.returns-in-None
 returns-in-None g c =
