@@ -27,7 +27,7 @@ module _ {S : Type 0} (gives : S → Answer → S → Type 0) where
           state = goes.state;
           new = goes.new;
           means = goes.means;
-          unmoved = goes.unmoved;
+          size = goes.size;
           plan = goes.plan;
           comes = λ rest end before now status c. comes rest end before now status (goes.comes rest end before now status c);
         },

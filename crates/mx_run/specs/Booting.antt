@@ -1,5 +1,5 @@
 -- How a boot is taken, from a manifest's name to its machine, and the schedule of a run.
-use Rattle.std.specs.Prelude.{◌≡◌, ℕ, ◌+◌, List, [], ◌∷◌, ◌++◌, Option, option_map, Result, Ok, Err, Vec}
+use Rattle.std.specs.Prelude.{◌≡◌, ℕ, ◌+◌, ◌*◌, length, List, [], ◌∷◌, ◌++◌, Option, option_map, Result, Ok, Err, Vec}
 use Rattle.std.specs.declared.alloc.Global.{Global}
 use Rattle.mx_io.specs.Sink.{SinkState}
 use Rattle.mx_io.specs.Answer.{Answer}
@@ -7,7 +7,7 @@ use Rattle.mx_boot.specs.Machines.{meaning}
 use Rattle.mx_manifest.specs.declared.parts.ModulePlan.{ModulePlan}
 use Rattle.mx_manifest.specs.Plan.{Said}
 use Rattle.mx_model.specs.Run.{Schedule}
-use Rattle.mx_model.specs.State.{State, flat}
+use Rattle.mx_model.specs.State.{State, Flat, flat}
 use Rattle.mx_snapshot.specs.Kept.{kept_of}
 use Rattle.mx_turns.specs.Ends.{sinks}
 use Rattle.mx_turns.specs.Runs.{IsOfPlan}
@@ -60,13 +60,20 @@ abbrev pub schedule_bytes : Result (Option (Vec ℕ Global)) Status → Result (
 schedule_bytes (Ok bytes) = Ok (option_map (λ (v : Vec ℕ Global). v.items) bytes)
 schedule_bytes (Err status) = Err status
 
+-- a machine at boot has the words, modules and harts of its plan, and has made no turn
+pub record IsOfSize (plan : Said) (f : Flat) : Type 0 where
+  pub words : f.core.size ≡ 256 * plan.ram_kib
+  pub modules : length f.core.modules ≡ length plan.modules
+  pub harts : length f.core.harts ≡ length plan.harts
+  pub turns : f.core.turns ≡ 0
+
 -- a boot gave plan and machine, which is a state without texts that made no turn, and a step goes on with the two
 pub record GoesOnWith {S : Type 0} (gives : S → Answer → S → Type 0)
     (step : Rest → List Finding → Next) (store stored : S) (b : Booted) : Type 0 where
   pub state : State
   pub new : IsNew state
   pub means : meaning b.machine ≡ flat state
-  pub unmoved : state.core.turns ≡ 0
+  pub size : IsOfSize b.plan (flat state)
   pub plan : IsOfPlan (kept_of b.plan) (flat state)
   pub comes : (rest : Rest) → Comes (step rest) gives store stored (rest b.plan state)
 

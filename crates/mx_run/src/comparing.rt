@@ -91,3 +91,52 @@ fn compare_booted<R: Sink>(
     twin.end();
     status
 }
+
+// Compares two machines at boot whose plans are alike, where the domain is one of theirs.
+fn compare_alike<R: Sink>(
+    pair: &Pair<'_>,
+    plan: &Plan,
+    machine: &mut AnyMachine,
+    twin: &mut AnyMachine,
+    report: &mut R,
+) -> Status
+    requires few { pair.now.steps < 10 ^ 10 }
+    requires alike { AreAlike (meaning machine.old) (meaning twin.old) }
+    requires size { IsOfSize plan.now (meaning machine.old) }
+    ensures { (s t : State) → meaning machine.old ≡ flat s → meaning twin.old ≡ flat t →
+        (console dump : SinkState) → Ends (alike (pair_asked pair.now) plan.now s t)
+        (sinks console (R.state report.old) dump) (sinks console (R.state report.new) dump) result }
+{
+    if !is_domain(plan, pair.domain) {
+        return refuse(report, "", Status::NoDomain);
+    }
+    let end = run_twin(machine, twin, pair.domain as u32, plan.quantum(), pair.steps);
+    match write_twin(report, pair.steps, &end) {
+        Ok(()) => Status::Ran,
+        Err(Failed) => Status::ReportFault,
+    }
+}
+
+// The first key in which two plans differ that have to agree in it.
+fn first_unlike(a: &Plan, b: &Plan) -> Option<Key>
+    ensures { result ≡ first_unlike a.now b.now }
+{
+    if a.ram_kib() != b.ram_kib() {
+        Some(Key::RamKib)
+    } else if a.quantum() != b.quantum() {
+        Some(Key::Quantum)
+    } else if a.modules() != b.modules() {
+        Some(Key::Module)
+    } else if a.harts() != b.harts() {
+        Some(Key::Hart)
+    } else {
+        None
+    }
+}
+
+// Whether a number is that of a module's domain.
+fn is_domain(plan: &Plan, domain: u64) -> bool
+    ensures { result ≡ is_domain plan.now domain }
+{
+    domain >= 1 && domain <= plan.modules() as u64
+}

@@ -15,7 +15,7 @@ returns-in-Ok g c =
         state = boot.0;
         new = boots_new c.args.plan c.args.images.items boot.0 boot.1;
         means = boot.2;
-        unmoved = fresh.0;
+        size = fresh.0;
         plan = fresh.1;
         comes = λ rest. rw boot.1 (λ end before now status c. c);
       },

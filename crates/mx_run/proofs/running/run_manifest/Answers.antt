@@ -8,7 +8,7 @@ pub run_boot-requires-clause-plan : goal.run_boot-requires-clause-plan
 run_boot-requires-clause-plan g c = let goes = c.in-Ok.ensures.1 in rw goes.means goes.plan
 
 pub run_boot-requires-clause-unmoved : goal.run_boot-requires-clause-unmoved
-run_boot-requires-clause-unmoved g c = let goes = c.in-Ok.ensures.1 in rw goes.means goes.unmoved
+run_boot-requires-clause-unmoved g c = let goes = c.in-Ok.ensures.1 in rw goes.means goes.size.turns
 
 pub returns-in-Ok : goal.returns-in-Ok
 returns-in-Ok g c =
