@@ -1,14 +1,12 @@
 /* The greatest files that the program takes, in the forms that were found to be the worst, and what a call costs.
  *
- *   inputs image NUMBER OUT             an image of 16 MiB that is nearly all symbols, for the module of this number from 0
- *   inputs manifest KIND GATES OUT      63 modules with these images, 64 MiB of RAM, four harts, the greatest limits of
- *                                       the tables of this kind; 252 gates into all modules (spread), or 256 into one
- *                                       (gathered)
- *   inputs schedule OUT                 a schedule of 16 MiB, of four harts in turn
- *   inputs source FORM OUT              a source of 1 MiB
+ *   inputs image NUMBER OUT             an image of 16 MiB that is nearly all symbols, for the module of this number
+ * from 0 inputs manifest KIND GATES OUT      63 modules with these images, 64 MiB of RAM, four harts, the greatest
+ * limits of the tables of this kind; 252 gates into all modules (spread), or 256 into one (gathered) inputs schedule
+ * OUT                 a schedule of 16 MiB, of four harts in turn inputs source FORM OUT              a source of 1 MiB
  *   inputs text BEGIN PART END OUT      a file of 1 MiB: a beginning, a part again and again, and an end
- *   inputs time PROGRAM WORDS..         calls a program, and says with which status it ended, the seconds that it took of
- *                                       a processor, and its greatest resident size in MB */
+ *   inputs time PROGRAM WORDS..         calls a program, and says with which status it ended, the seconds that it took
+ * of a processor, and its greatest resident size in MB */
 #include <stdint.h>
 #include <stdio.h>
 #include <stdlib.h>
@@ -94,7 +92,8 @@ static void manifest(const char *kind, int are_gathered) {
     fputs("lookaside = 64\n", out);
     for (unsigned i = 0; i < MODULES; i++) {
         uint32_t at = RAM + MODULE * i;
-        fprintf(out, "[[module]]\nname = \"m%u\"\nimage = \"m%u.elf\"\nheap = %u\nheap_words = 16384\n", i, i, at + 0x80000);
+        fprintf(out, "[[module]]\nname = \"m%u\"\nimage = \"m%u.elf\"\nheap = %u\nheap_words = 16384\n", i, i,
+                at + 0x80000);
         fprintf(out, "stack = %u\nstack_words = 1024\n", at + 0xc0000);
         gates(are_gathered, i);
     }
@@ -170,7 +169,8 @@ static int timed(char **words) {
     if (wait4(child, &status, 0, &usage) != child) return 1;
     double seconds = (double)(usage.ru_utime.tv_sec + usage.ru_stime.tv_sec) +
                      (double)(usage.ru_utime.tv_usec + usage.ru_stime.tv_usec) / 1e6;
-    dprintf(3, "%d | %.2f s | %.0f MB", WIFEXITED(status) ? WEXITSTATUS(status) : -1, seconds, (double)usage.ru_maxrss / 1000);
+    dprintf(3, "%d | %.2f s | %.0f MB", WIFEXITED(status) ? WEXITSTATUS(status) : -1, seconds,
+            (double)usage.ru_maxrss / 1000);
     return 0;
 }
 

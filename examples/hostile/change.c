@@ -187,7 +187,10 @@ static void change_text(const struct language *language) {
     case 6: drop_a_line(); break;
     case 7: move_a_line(); break;
     case 8: copy_a_line(); break;
-    case 9: case 10: case 11: case 12: put_a_line_in(language); break;
+    case 9:
+    case 10:
+    case 11:
+    case 12: put_a_line_in(language); break;
     default: change_a_token(language);
     }
 }
@@ -236,7 +239,9 @@ static void change_numbers(size_t limit) {
     case 1: below(3) ? cut_out() : cut_off(); break;
     case 2: copy_a_part(); break;
     case 3: below(6) ? put_noise_in() : lengthen(limit); break;
-    case 4: case 5: case 6: change_an_instruction(); break;
+    case 4:
+    case 5:
+    case 6: change_an_instruction(); break;
     default: change_a_number();
     }
 }

@@ -1,8 +1,11 @@
 # Reads what a command wrote to stderr, and says in one line what in it isn't of the listed forms: docs/COMMANDS.md "The
 # report", "The trace", "Statuses". Nothing is said where all is. It is told by -v:
 #
-#   command  the first word          status  the number with which it ended
-#   words    all words, with blanks  order   how many bytes the schedule has, or -1 without one
+#   command  the first word, or - where the words have no meaning
+#   words    all words, with blanks       status  the number with which it ended
+#   order    how many bytes the schedule has, or -1 without one
+#   lines    how many line feeds there are
+#   tight    not empty where memory may be wanting even for the words
 BEGIN {
     digit = "[0-9a-f]"
     digits = digit digit digit digit digit digit digit digit
@@ -35,7 +38,7 @@ BEGIN {
     allowed["twin"] = " 0 2 3 4 5 6 10 12 13 "
     allowed["resume"] = " 0 2 4 5 6 10 14 "
     allowed["mill"] = " 0 2 10 "
-    allowed["-"] = " 2 "
+    allowed["-"] = tight ? " 2 10 " : " 2 "
 
     faults()
     part = "notes"
@@ -175,6 +178,7 @@ counts && (part == "counts" || part == "tables" || (!tables && (part == "domains
 
 END {
     if (told) exit
+    if (NR != lines) wrong("the last line isn't ended")
     if (index(allowed[command], " " status " ") == 0) wrong("status " status)
     if (status != 0) {
         if (NR != (status != 10)) wrong("no line")

@@ -15,12 +15,13 @@ static char long_name[4][70000];
 
 /* Words out of which command lines are made. Names of files stand for what is there, and for what isn't. */
 static const char *const pieces[] = {
-    "run", "trace", "asm", "run", "trace", "asm", "first.toml", "packets.toml", "leaves.s", "order.bin", "first.toml", "absent", ".",
-    "..", "/", "/dev/null", "/dev/full", "", "-", "--", "-d", "-first.toml", "--dump", "--tables", "--counts", "--schedule", "--from",
-    "--save", "--dump=1", "--schedule=order.bin", "--Dump", "--dump ", " --dump", "help", "--help", "--version", "0", "1", "7", "300",
-    "0000000300", "00000000300", "3 ", " 3", "+3", "-3", "0x3", "3.0", "1e1", "99999999999", "12345678901234567890", "\xd9\xa3", "a\nb",
-    "a\x1b[2Jb", "\x01", "\x7f", "\xc2\x85", "\xff", "\xc3", "\xed\xa0\x80", "RUN", "Run", "run ", "walk", "x=y", "*", "$(x)", "\\", "'", "\"",
-    "driver.elf", "./first.toml", "sub/../first.toml", "first.toml/", "~", "%s%n", NULL};
+    "run", "trace", "asm", "run", "trace", "asm", "first.toml", "packets.toml", "leaves.s", "order.bin",
+    "first.toml", "absent", ".", "..", "/", "/dev/null", "/dev/full", "", "-", "--", "-d", "-first.toml", "--dump",
+    "--tables", "--counts", "--schedule", "--from", "--save", "--dump=1", "--schedule=order.bin", "--Dump",
+    "--dump ", " --dump", "help", "--help", "--version", "0", "1", "7", "300", "0000000300", "00000000300", "3 ",
+    " 3", "+3", "-3", "0x3", "3.0", "1e1", "99999999999", "12345678901234567890", "\xd9\xa3", "a\nb", "a\x1b[2Jb",
+    "\x01", "\x7f", "\xc2\x85", "\xff", "\xc3", "\xed\xa0\x80", "RUN", "Run", "run ", "walk", "x=y", "*", "$(x)",
+    "\\", "'", "\"", "driver.elf", "./first.toml", "sub/../first.toml", "first.toml/", "~", "%s%n", NULL};
 
 static char *text(const char *piece) { return strdup(piece); }
 
@@ -94,7 +95,11 @@ static int is_number(const char *word) {
 static int is_utf8(const char *word) {
     const unsigned char *at = (const unsigned char *)word;
     while (*at) {
-        size_t more = *at < 0x80 ? 0 : *at >= 0xc2 && *at < 0xe0 ? 1 : *at >= 0xe0 && *at < 0xf0 ? 2 : *at >= 0xf0 && *at < 0xf5 ? 3 : 9;
+        size_t more = *at < 0x80                  ? 0
+                      : *at >= 0xc2 && *at < 0xe0 ? 1
+                      : *at >= 0xe0 && *at < 0xf0 ? 2
+                      : *at >= 0xf0 && *at < 0xf5 ? 3
+                                                  : 9;
         if (more == 9) return 0;
         if (at[0] == 0xe0 && at[1] < 0xa0) return 0;
         if (at[0] == 0xed && at[1] > 0x9f) return 0;

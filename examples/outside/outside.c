@@ -1,5 +1,5 @@
-/* Stands between a program and the system's calls by which it reads and writes: statx, open, lseek, read and write. From
- * the environment:
+/* Stands between a program and the system's calls by which it reads and writes: statx, open, lseek, read and write.
+ * From the environment:
  *
  *   FAIL   the number of the call that fails, counted from 1; 0 for none
  *   ERROR  the number of its error

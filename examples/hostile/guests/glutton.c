@@ -10,8 +10,8 @@
 #define HEAP_AT 0x8000a000u
 enum { ME = 1, OTHER = 2, HEAP_WORDS = 1100, BLOCKS = 1024, GATES = 256, OWNER_RUNS = 4096 };
 
-/* Of full.toml and tight.toml: the other module's words, the areas of one owner from the lowest address on (the image, the
- * heap, the stack, the other's words) with nobody's words between them and behind, and the limits of the tables. */
+/* Of full.toml and tight.toml: the other module's words, the areas of one owner from the lowest address on (the image,
+ * the heap, the stack, the other's words) with nobody's words between them and behind, and the limits of the tables. */
 #define OTHER_AT 0x8000f000u
 enum { OTHER_WORDS = 2, BOOT_RUNS = 8, WORDS = 16384 };
 enum kind { SEGMENTS, MULTILEVEL, PACKED };
@@ -33,7 +33,8 @@ static void fill_heap(void) {
     for (word i = 0; i < BLOCKS; i += 2) want(asked(7, HEAP_AT + 4 * i, 0, 0, 0) == -8);
     want(asked(6, 2, 0, 0, 0) == (answer)(HEAP_AT + 4 * BLOCKS) && asked(6, 1, 0, 0, 0) == (answer)HEAP_AT);
     want(asked(7, HEAP_AT + 4, 0, 0, 0) == 0 && asked(6, 2, 0, 0, 0) == (answer)(HEAP_AT + 4));
-    want(asked(7, HEAP_AT, 0, 0, 0) == 0 && asked(7, HEAP_AT + 4, 0, 0, 0) == 0 && asked(7, HEAP_AT + 4 * BLOCKS, 0, 0, 0) == 0);
+    want(asked(7, HEAP_AT, 0, 0, 0) == 0 && asked(7, HEAP_AT + 4, 0, 0, 0) == 0 &&
+         asked(7, HEAP_AT + 4 * BLOCKS, 0, 0, 0) == 0);
     for (word i = 3; i < BLOCKS; i += 2) want(asked(7, HEAP_AT + 4 * i, 0, 0, 0) == 0);
     want(asked(6, HEAP_WORDS, 0, 0, 0) == (answer)HEAP_AT && asked(6, 1, 0, 0, 0) == -6);
     word *block = (word *)HEAP_AT;
@@ -56,13 +57,15 @@ static void fill_owners(void) {
     word given = (OWNER_RUNS - BOOT_RUNS) / 2;
     for (word i = 0; i < given; i++) want(asked(5, (word)(field + 2 * i + 1), 4, OTHER, 0) == 0);
     word *next = field + 2 * given + 1;
-    want(asked(5, (word)next, 4, OTHER, 0) == -14 && asked(5, (word)next, 4, 0, 0) == -14 && asked(5, (word)next, 4, ME, 0) == 0);
+    want(asked(5, (word)next, 4, OTHER, 0) == -14 && asked(5, (word)next, 4, 0, 0) == -14 &&
+         asked(5, (word)next, 4, ME, 0) == 0);
     /* A word between two of the other's makes one run of three. */
     want(asked(5, (word)(field + 2), 1, OTHER, 0) == 0 && asked(5, (word)next, 4, 0, 0) == 0);
     want(asked(5, (word)(next + 2), 4, 0, 0) == -14 && asked(5, (word)field, sizeof field, OTHER, 0) == -2);
     want(asked(3, (word)(field + 1), 4, ME, 1) == -2 && asked(3, (word)field, 4, ME, 2) == 0);
     field[1] = 7; /* its right stays */
-    want(field[1] == 7 && asked(11, (word)(field + 1), ME, 0, 0) == 2 && asked(11, (word)(field + 1), OTHER, 0, 0) == -2);
+    want(field[1] == 7 && asked(11, (word)(field + 1), ME, 0, 0) == 2 &&
+         asked(11, (word)(field + 1), OTHER, 0, 0) == -2);
 }
 
 /* The rights of both modules, two bits a word: what a line has is one word. */
@@ -116,7 +119,8 @@ static struct need needed(enum kind kind) {
     for (word domain = ME; domain <= OTHER; domain++) {
         if (kind == SEGMENTS) need.leaf += (runs(domain, 0, WORDS) + 63) / 64;
         for (word page = 0; kind != SEGMENTS && page < WORDS / 1024; page++) need.leaf += !is_plain(domain, page);
-        for (word line = 0; kind == PACKED && line < WORDS / 16; line++) need.spill += runs(domain, 16 * line, 16 * line + 16) > 4;
+        for (word line = 0; kind == PACKED && line < WORDS / 16; line++)
+            need.spill += runs(domain, 16 * line, 16 * line + 16) > 4;
     }
     return need;
 }
@@ -130,7 +134,8 @@ static answer gives(word at, word right) {
 /* The calls that are refused where the tables are full change nothing, and what is given back can be taken again. */
 static void is_full(word first, word next) {
     want(gives(next, 1) == -5 && gives(next, 1) == -5 && asked(11, (word)(field + next), OTHER, 0, 0) == 0);
-    want(gives(first, 0) == 0 && gives(next, 1) == 0 && gives(first, 1) == -5 && gives(next, 0) == 0 && gives(first, 1) == 0);
+    want(gives(first, 0) == 0 && gives(next, 1) == 0 && gives(first, 1) == -5 && gives(next, 0) == 0 &&
+         gives(first, 1) == 0);
 }
 
 /* Single words far apart: two runs each; or a page each. */

@@ -1,5 +1,5 @@
-/* What the hostile guests share: a supervisor call with all that it leaves in registers, the machine that they are in, and
- * a count of wrong answers, which is the code with which a hart leaves. */
+/* What the hostile guests share: a supervisor call with all that it leaves in registers, the machine that they are in,
+ * and a count of wrong answers, which is the code with which a hart leaves. */
 #ifndef GUEST_H
 #define GUEST_H
 

@@ -1,5 +1,6 @@
 /* Asks every supervisor call with every corner, and says of each answer, by the rules of docs/MACHINE.md, whether it is
- * right. Then it is called by the stranger and calls it, whatever the stranger does, sees a module die, and asks again. */
+ * right. Then it is called by the stranger and calls it, whatever the stranger does, sees a module die, and asks
+ * again. */
 #include "guest.h"
 
 /* Entered by the stranger and by the mortal. */
@@ -9,9 +10,7 @@ MONDRIX_GATE(judge_acts);
 
 /* The words whose rights and owners change stand between words that don't. */
 enum { ARENA = 32, LOST = ARENA - 2 };
-static struct {
-    word before[64], arena[ARENA], after[64];
-} room __attribute__((aligned(256)));
+static struct { word before[64], arena[ARENA], after[64]; } room __attribute__((aligned(256)));
 #define before room.before
 #define arena room.arena
 #define after room.after
@@ -71,9 +70,7 @@ static answer owned(word at, word bytes) {
     return so_far;
 }
 
-static int lies_in_arena(word at, word bytes) {
-    return is_in_arena(at) && bytes <= (word)(arena + ARENA) - at;
-}
+static int lies_in_arena(word at, word bytes) { return is_in_arena(at) && bytes <= (word)(arena + ARENA) - at; }
 
 static int meets_heap(word at, word bytes) { return at < HEAP_AT + 4 * HEAP_WORDS && at + bytes > HEAP_AT; }
 
@@ -140,8 +137,8 @@ static answer compared(word number, word first, word second, word third, word fo
 }
 
 static const word lengths[] = {
-    0, 1, 2, 3, 4, 5, 7, 8, 4 * ARENA - 4, 4 * ARENA, 4 * ARENA + 1, 4096, 4097, 0x3fffc, 0x40000, 0x40001, 0x7fffffff,
-    0x80000000, 0xfffffffc, 0xffffffff};
+    0, 1, 2, 3, 4, 5, 7, 8, 4 * ARENA - 4, 4 * ARENA, 4 * ARENA + 1, 4096, 4097, 0x3fffc, 0x40000, 0x40001,
+    0x7fffffff, 0x80000000, 0xfffffffc, 0xffffffff};
 static const word domains[] = {0, 1, 2, 3, 4, 5, 63, 64, 255, 256, 257, 0x80000001, 0xffffffff};
 static const word permissions[] = {0, 1, 2, 3, 4, 5, 7, 255, 256, 0x80000001, 0xffffffff};
 static const word numbers[] = {0, 14, 15, 16, 255, 256, 257, 0x80000001, 0xfffffff3, 0xffffffff};
@@ -149,10 +146,10 @@ static const word numbers[] = {0, 14, 15, 16, 255, 256, 257, 0x80000001, 0xfffff
 /* Addresses at which a rule changes. */
 static word corner(word i) {
     const word list[] = {
-        0, 1, 2, 4, RAM - 4, RAM - 1, RAM, RAM + 1, RAM + 2, (word)before, (word)arena, (word)arena + 1, (word)arena + 2,
-        (word)(arena + 1), (word)(arena + ARENA / 2), (word)(arena + ARENA - 1), (word)after, HEAP_AT, HEAP_AT + 4 * HEAP_WORDS - 4,
-        HEAP_AT + 4 * HEAP_WORDS, STACKS_AT, STRANGER_AT, STRANGER_AT + 32, MORTAL_AT, NOISE_AT, NOISE_HEAP_AT, NOBODYS,
-        RAM_END - 2, RAM_END - 1, RAM_END, 0xfffffffc, 0xffffffff};
+        0, 1, 2, 4, RAM - 4, RAM - 1, RAM, RAM + 1, RAM + 2, (word)before, (word)arena, (word)arena + 1,
+        (word)arena + 2, (word)(arena + 1), (word)(arena + ARENA / 2), (word)(arena + ARENA - 1), (word)after,
+        HEAP_AT, HEAP_AT + 4 * HEAP_WORDS - 4, HEAP_AT + 4 * HEAP_WORDS, STACKS_AT, STRANGER_AT, STRANGER_AT + 32,
+        MORTAL_AT, NOISE_AT, NOISE_HEAP_AT, NOBODYS, RAM_END - 2, RAM_END - 1, RAM_END, 0xfffffffc, 0xffffffff};
     return i < MANY(list) ? list[i] : 3;
 }
 enum { CORNERS = 33 };
@@ -161,9 +158,10 @@ static void set_rights(word domain, word at, word bytes, word right) {
     for (word end = at + bytes; at < end; at += 4) rights[domain][index_of(at)] = right;
 }
 
-/* Every pair of an address and a length, with domains and permissions in turn; and every domain with every permission. */
+/* Every pair of an address and a length, with domains and permissions in turn; every domain with every permission. */
 static void grant(word at, word bytes, word domain, word right) {
-    if (compared(3, at, bytes, domain, right, of_grant(at, bytes, domain, right)) == 0) set_rights(domain, at, bytes, right);
+    if (compared(3, at, bytes, domain, right, of_grant(at, bytes, domain, right)) == 0)
+        set_rights(domain, at, bytes, right);
 }
 
 static void grants(void) {
@@ -213,7 +211,8 @@ static void gates(void) {
             word at = corner(i), domain = domains[k];
             compared(9, at, domain, 7, 7, of_ungate(at, domain));
             if (compared(8, at, domain, 7, 7, of_gate(at, domain)) == 0)
-                want(asked(8, at, domain, 0, 0) == 0 && asked(9, at, domain, 0, 0) == 0 && asked(9, at, domain, 0, 0) == -15);
+                want(asked(8, at, domain, 0, 0) == 0 && asked(9, at, domain, 0, 0) == 0 &&
+                     asked(9, at, domain, 0, 0) == -15);
             if (compared(10, at, domain, 7, 7, of_return_gate(at)) == 0)
                 want(asked(10, at, 0, 0, 0) == 0 && asked(9, at, JUDGE, 0, 0) == 0 && asked(9, at, JUDGE, 0, 0) == -15);
         }
@@ -221,7 +220,8 @@ static void gates(void) {
 
 static void queries(void) {
     for (word i = 0; i < CORNERS; i++)
-        for (word k = 0; k < MANY(domains); k++) compared(11, corner(i), domains[k], 7, 7, of_query(corner(i), domains[k]));
+        for (word k = 0; k < MANY(domains); k++)
+            compared(11, corner(i), domains[k], 7, 7, of_query(corner(i), domains[k]));
     for (word i = 0; i < ARENA; i++)
         for (word domain = 1; domain <= MODULES; domain++)
             compared(11, (word)(arena + i), domain, 7, 7, of_query((word)(arena + i), domain));
@@ -260,7 +260,8 @@ static answer of_write(word at, word bytes) {
 
 static void writes(void) {
     for (word i = 0; i < CORNERS; i++)
-        for (word k = 0; k < MANY(lengths); k++) compared(2, corner(i), lengths[k], 7, 7, of_write(corner(i), lengths[k]));
+        for (word k = 0; k < MANY(lengths); k++)
+            compared(2, corner(i), lengths[k], 7, 7, of_write(corner(i), lengths[k]));
 }
 
 static int is_new(const word *block, word words) {
@@ -272,7 +273,9 @@ static int is_new(const word *block, word words) {
 }
 
 static void blocks(void) {
-    const word sizes[] = {0, 1, 2, HEAP_WORDS - 1, HEAP_WORDS, HEAP_WORDS + 1, 0x3fffffff, 0x40000000, 0x40000001, 0x80000000, 0xffffffff};
+    const word sizes[] = {
+        0, 1, 2, HEAP_WORDS - 1, HEAP_WORDS, HEAP_WORDS + 1, 0x3fffffff, 0x40000000, 0x40000001, 0x80000000,
+        0xffffffff};
     for (word i = 0; i < MANY(sizes); i++) {
         word words = sizes[i];
         answer by_rule = words == 0 ? -1 : words > HEAP_WORDS ? -6 : (answer)HEAP_AT;
@@ -313,7 +316,8 @@ answer bounce_entered(word depth) {
 answer judge_acts_entered(word cause, word other) { return act(cause, other); }
 
 static void strangers_acts(void) {
-    const word causes[] = {0, 1, 2, 3, 4, 5, 6, 7};
+    const word causes[] = {
+        0, 1, 2, 3, 4, 5, 6, 7};
     before[0] = 0x1234;
     for (word i = 0; i < MANY(causes); i++) {
         word cause = causes[i], other = cause == 1 ? JUDGE_AT + 4 : (word)before;
@@ -332,7 +336,8 @@ static void strangers_acts(void) {
 static void forged(void) {
     want(GATE(STRANGER_AT, FORGES)(4, 1, 0) == FAULT(17) && GATE(STRANGER_AT, FORGES)(STRANGER_AT, 0, 0) == FAULT(17));
     want(GATE(STRANGER_AT, FORGES)(0, 0, 0) == FAULT(17) && GATE(STRANGER_AT, FORGES)(2, 1, 0) == FAULT(17));
-    want(GATE(STRANGER_AT, FORGES)(-4u, 1, 0) == FAULT(17) && GATE(STRANGER_AT, FORGES)((word)before, 0, 0) == FAULT(17));
+    want(GATE(STRANGER_AT, FORGES)(-4u, 1, 0) == FAULT(17) &&
+         GATE(STRANGER_AT, FORGES)((word)before, 0, 0) == FAULT(17));
     want(GATE(STRANGER_AT, FORGES)(1, 1, 0) == 1 && GATE(STRANGER_AT, FORGES)(0, 1, 0) == 0);
 }
 
@@ -342,19 +347,24 @@ static word spoilt(word gate, word by_fault) {
     __asm__ volatile(
         "addi sp, sp, -16\n\tsw s0, 0(sp)\n\tsw s1, 4(sp)\n\tsw gp, 8(sp)\n\tsw tp, 12(sp)\n\t"
         "mv t3, %2\n\tmv a0, %1\n\tmv a5, sp\n\tli gp, 101\n\tli tp, 102\n\tli s0, 103\n\tli s1, 104\n\tli s2, 105\n\t"
-        "li s3, 106\n\tli s4, 107\n\tli s5, 108\n\tli s6, 109\n\tli s7, 110\n\tli s8, 111\n\tli s9, 112\n\tli s10, 113\n\t"
+        "li s3, 106\n\tli s4, 107\n\tli s5, 108\n\tli s6, 109\n\tli s7, 110\n\tli s8, 111\n\tli s9, 112\n\tli s10, "
+        "113\n\t"
         "li s11, 114\n\tla t4, judge_stack\n\tsw sp, 0(t4)\n\tjalr ra, 0(t3)\n\t"
         "la t4, judge_stack\n\tlw t4, 0(t4)\n\txor a1, sp, t4\n\tmv sp, t4\n\t"
-        "addi t4, gp, -101\n\tor a1, a1, t4\n\taddi t4, tp, -102\n\tor a1, a1, t4\n\taddi t4, s0, -103\n\tor a1, a1, t4\n\t"
-        "addi t4, s1, -104\n\tor a1, a1, t4\n\taddi t4, s2, -105\n\tor a1, a1, t4\n\taddi t4, s3, -106\n\tor a1, a1, t4\n\t"
-        "addi t4, s4, -107\n\tor a1, a1, t4\n\taddi t4, s5, -108\n\tor a1, a1, t4\n\taddi t4, s6, -109\n\tor a1, a1, t4\n\t"
-        "addi t4, s7, -110\n\tor a1, a1, t4\n\taddi t4, s8, -111\n\tor a1, a1, t4\n\taddi t4, s9, -112\n\tor a1, a1, t4\n\t"
+        "addi t4, gp, -101\n\tor a1, a1, t4\n\taddi t4, tp, -102\n\tor a1, a1, t4\n\taddi t4, s0, -103\n\tor a1, a1, "
+        "t4\n\t"
+        "addi t4, s1, -104\n\tor a1, a1, t4\n\taddi t4, s2, -105\n\tor a1, a1, t4\n\taddi t4, s3, -106\n\tor a1, a1, "
+        "t4\n\t"
+        "addi t4, s4, -107\n\tor a1, a1, t4\n\taddi t4, s5, -108\n\tor a1, a1, t4\n\taddi t4, s6, -109\n\tor a1, a1, "
+        "t4\n\t"
+        "addi t4, s7, -110\n\tor a1, a1, t4\n\taddi t4, s8, -111\n\tor a1, a1, t4\n\taddi t4, s9, -112\n\tor a1, a1, "
+        "t4\n\t"
         "addi t4, s10, -113\n\tor a1, a1, t4\n\taddi t4, s11, -114\n\tor a1, a1, t4\n\t"
         "lw s0, 0(sp)\n\tlw s1, 4(sp)\n\tlw gp, 8(sp)\n\tlw tp, 12(sp)\n\taddi sp, sp, 16\n\tmv %0, a1"
         : "=r"(differs)
         : "r"(by_fault), "r"(gate)
-        : "ra", "a0", "a1", "a2", "a3", "a4", "a5", "a6", "a7", "t0", "t1", "t2", "t3", "t4", "t5", "t6", "s2", "s3", "s4",
-          "s5", "s6", "s7", "s8", "s9", "s10", "s11", "memory");
+        : "ra", "a0", "a1", "a2", "a3", "a4", "a5", "a6", "a7", "t0", "t1", "t2", "t3", "t4", "t5", "t6", "s2", "s3",
+          "s4", "s5", "s6", "s7", "s8", "s9", "s10", "s11", "memory");
     return differs;
 }
 word judge_stack;
@@ -380,7 +390,8 @@ static void lent(void) {
     arena[0] = 5;
     want(asked(3, (word)arena, 1, STRANGER, 1) == 0 && GATE(STRANGER_AT, ACTS)(7, (word)arena, 0) == FAULT(7));
     want(GATE(STRANGER_AT, ACTS)(5, (word)arena, 0) == 0 && GATE(STRANGER_AT, ACTS)(1, (word)arena, 0) == FAULT(1));
-    want(asked(4, (word)arena, 3, 0, 0) == 0 && GATE(STRANGER_AT, ACTS)(5, (word)arena, 0) == FAULT(5) && arena[0] == 5);
+    want(asked(4, (word)arena, 3, 0, 0) == 0 && GATE(STRANGER_AT, ACTS)(5, (word)arena, 0) == FAULT(5) &&
+         arena[0] == 5);
     rights[JUDGE][0] = 2, rights[STRANGER][0] = 0;
     for (word domain = 2; domain <= MODULES; domain++) rights[domain][0] = 0;
 }

@@ -1,5 +1,5 @@
-/* Other harts meanwhile: they change rights on words of their own all the time, so that each call that changes rights has
- * to be heard by all, take and give back blocks, cross, and try the judge's words. */
+/* Other harts meanwhile: they change rights on words of their own all the time, so that each call that changes rights
+ * has to be heard by all, take and give back blocks, cross, and try the judge's words. */
 #include "guest.h"
 
 static word own[MONDRIX_HARTS][8];

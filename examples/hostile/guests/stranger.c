@@ -8,8 +8,8 @@ MONDRIX_GATE(gives_back);
 MONDRIX_GATE(deepen);
 MONDRIX_GATE(calls);
 
-/* forges(a, b): returns to ra + a where b is 1, and to a where b is 0. clobbers(by_fault): fills each register, and comes
- * back as it is asked to. */
+/* forges(a, b): returns to ra + a where b is 1, and to a where b is 0. clobbers(by_fault): fills each register, and
+ * comes back as it is asked to. */
 __asm__(".pushsection .gates, \"ax\", @progbits\n"
         ".balign 32\n.globl forges\nforges:\n"
         "beqz a1, 1f\nadd ra, ra, a0\nj mondrix_return\n1: mv ra, a0\nj mondrix_return\n"
