@@ -14,11 +14,13 @@ BEGIN {
     registers = ""
     for (i = 0; i < 32; i++) registers = registers " " digits
     kind = "(segment|root|mid|leaf|spill)"
+    turns = "(idle|waited|ran|crossed|returned|trapped|called)"
     place = "(manifest|module\\." number "|hart\\." number "|schedule)"
     parts = number "/" number
 
+    # A run that is taken up goes on counting turns.
     split(words, word, " ")
-    asked = word[3] + 0
+    asked = command == "resume" ? 1e18 : word[3] + 0
     tables = words ~ / --tables/
     counts = words ~ / --counts/
 
@@ -103,6 +105,28 @@ status != 0 {
 
 command == "asm" { wrong("a line of asm") }
 
+# Reports of few lines, in their order.
+command == "twin" && NR == 1 && is("twin agreed steps=" number "|twin ended step=" number " hart=[0-3] kind=" turns) {
+    part = "over"
+    next
+}
+command == "audit" && part == "notes" && is("live [1-9][0-9]* [a-z0-9_]+") && $2 + 0 > live + 0 { live = $2; next }
+command == "audit" && part == "notes" && is("sealed " hex " " hex) && $2 "" < $3 "" && from "" <= $2 "" {
+    from = $3
+    next
+}
+command == "audit" && part == "notes" && is("sealed words=" number) {
+    part = "over"
+    next
+}
+command == "mill" && NR == 1 && is("mill k=" number " steps=" number " state=(steps|halted)") { next }
+command == "mill" && NR == 2 && is("console=" number " faults=" number " exits=" number) { next }
+command == "mill" && NR == 3 && is("counts sidecar=" number " lookaside=" number " walks=" number) { next }
+command == "mill" && NR == 4 && is("tables kind=packed upper=" number " leaf=" number " spill=" number) {
+    part = "over"
+    next
+}
+
 # Steps of faults, exits and turns don't fall; those of turns count on.
 command != "trace" && part == "notes" && is("fault step=" number " hart=[0-3] domain=" number " pc=" hex " cause=" \
     "([0-7]|1[6-9]|20) value=" hex "|exit step=" number " hart=[0-3] domain=" number " code=-?" number) {
@@ -111,8 +135,8 @@ command != "trace" && part == "notes" && is("fault step=" number " hart=[0-3] do
     next
 }
 
-command == "trace" && part == "notes" && is("turn " number " [0-3] [1-9][0-9]* " hex " (idle|waited|ran|crossed|" \
-    "returned|trapped|called) (-|[a-z]+( [-x0-9, ()]+)?)|turn " number " " number " - - idle -") {
+command == "trace" && part == "notes" && is("turn " number " [0-3] [1-9][0-9]* " hex " " turns \
+    " (-|[a-z]+( [-x0-9, ()]+)?)|turn " number " " number " - - idle -") {
     if ((step && $2 != step + 1) || $2 > asked) wrong("no step of this trace")
     step = $2
     next
@@ -121,9 +145,11 @@ command == "trace" && part == "notes" && is("turn " number " [0-3] [1-9][0-9]* "
 part == "notes" && is("end steps=" number " state=(halted|steps|schedule)") {
     steps = of("steps")
     state = substr($0, index($0, "state=") + 6)
-    if (steps > asked || steps < step || (order >= 0 && steps > order)) wrong("no count of turns")
-    if (state == "steps" && steps != asked) wrong("an early end")
-    if (state == "schedule" && (order < 0 || steps != order || steps == asked)) wrong("no end of a schedule")
+    if (steps > asked || steps < step || (order >= 0 && steps > order && command != "resume"))
+        wrong("no count of turns")
+    if (state == "steps" && steps != asked && command != "resume") wrong("an early end")
+    if (state == "schedule" && (order < 0 || (command != "resume" && (steps != order || steps == asked))))
+        wrong("no end of a schedule")
     part = command == "trace" ? "over" : "harts"
     next
 }
@@ -182,9 +208,9 @@ END {
     if (index(allowed[command], " " status " ") == 0) wrong("status " status)
     if (status != 0) {
         if (NR != (status != 10)) wrong("no line")
-    } else if (command == "trace" && part != "over") {
+    } else if (command != "run" && command != "resume" && command != "asm" && part != "over") {
         wrong("the report breaks off")
-    } else if (command == "run") {
+    } else if (command == "run" || command == "resume") {
         if (part != (counts ? "counts" : tables ? "tables" : part) || part !~ /domains|owners|tables|counts/ || \
             (counts && counted != harts)) wrong("the report breaks off")
     }
