@@ -1,5 +1,5 @@
-/* Refuses one allocation of a program, the one with the number REFUSE, counted from 1, by standing before the C library's allocator.
-   At the end it writes how many there were to the file that COUNT names. */
+/* Refuses one allocation of a program, the one with the number REFUSE, counted from 1, by standing before the C
+   library's allocator. At the end it writes how many there were to the file that COUNT names. */
 #define _GNU_SOURCE
 #include <dlfcn.h>
 #include <errno.h>
