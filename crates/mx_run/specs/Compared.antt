@@ -4,7 +4,8 @@ use Rattle.mx_manifest.specs.declared.fault.Key.{Key}
 use Rattle.mx_manifest.specs.declared.fault.Key.TheVariants as key
 use Rattle.mx_manifest.specs.Plan.{Said}
 use Rattle.mx_model.specs.State.{State, flat}
-use Rattle.mx_twin.specs.Twins.{twins, twin_text}
+use Rattle.mx_twin.specs.Lines.{twin_line}
+use Rattle.mx_twin.specs.Twins.{twins}
 use Rattle.mx_run.specs.declared.status.Status.TheVariants.{Unlike, NoDomain}
 use Rattle.mx_run.specs.Next.{Outcome, refusal, reported}
 use Rattle.mx_run.specs.Words.{Pair}
@@ -30,7 +31,7 @@ unlike (Some key) other = refusal [] (Unlike key)
 -- two plans that are alike and their states at boot, compared for a domain, or refused where that is no module's
 abbrev pub alike_by : Bool → Pair → Said → State → State → Outcome
 alike_by true p plan s t =
-    reported (twin_text p.steps (twins p.domain plan.quantum p.steps (flat s) (flat t)))
+    reported (twin_line p.steps (twins p.domain plan.quantum p.steps (flat s) (flat t)))
 alike_by false p plan s t = refusal [] NoDomain
 
 abbrev pub alike : Pair → Said → State → State → Outcome

@@ -5,6 +5,7 @@ ghost use Rattle.mx_boot.specs.Machines.{meaning};
 ghost use Rattle.mx_io.specs.Sink.{SinkState};
 ghost use Rattle.mx_model.specs.State.{State, flat};
 ghost use Rattle.mx_turns.specs.Ends.{sinks};
+ghost use Rattle.mx_twin.specs.Turns.{AreAlike};
 ghost use Rattle.mx_run.specs.Asked.{pair_asked};
 ghost use Rattle.mx_run.specs.Booting.{IsOfSize};
 ghost use Rattle.mx_run.specs.Commands.{after_first, next};
@@ -20,7 +21,7 @@ use crate::status::Status;
 use mx_boot::AnyMachine;
 use mx_io::{Failed, Sink, Store};
 use mx_manifest::{Key, Plan};
-use mx_twin::{run_twin, write_twin};
+use mx_twin::{run_twin, twin_line};
 use std::alloc::Global;
 
 /// Boots two manifests, one after the other, and compares what a domain sees of their machines after each turn.
@@ -103,6 +104,7 @@ fn compare_alike<R: Sink>(
     requires few { pair.now.steps < 10 ^ 10 }
     requires alike { AreAlike (meaning machine.old) (meaning twin.old) }
     requires size { IsOfSize plan.now (meaning machine.old) }
+    requires unmoved { (meaning twin.old).core.turns ≡ 0 }
     ensures { (s t : State) → meaning machine.old ≡ flat s → meaning twin.old ≡ flat t →
         (console dump : SinkState) → Ends (alike (pair_asked pair.now) plan.now s t)
         (sinks console (R.state report.old) dump) (sinks console (R.state report.new) dump) result }
@@ -111,7 +113,7 @@ fn compare_alike<R: Sink>(
         return refuse(report, "", Status::NoDomain);
     }
     let end = run_twin(machine, twin, pair.domain as u32, plan.quantum(), pair.steps);
-    match write_twin(report, pair.steps, &end) {
+    match twin_line(report, pair.steps, end) {
         Ok(()) => Status::Ran,
         Err(Failed) => Status::ReportFault,
     }
