@@ -1,3 +1,4 @@
 pub mod StoredFrames
 pub mod FreeList
 pub mod Changes
+pub mod FrameCounts

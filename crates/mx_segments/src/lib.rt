@@ -5,6 +5,7 @@ mod build;
 mod chains;
 mod change;
 mod entries;
+mod frames;
 mod moves;
 mod plan;
 mod rows;
@@ -13,4 +14,5 @@ mod store;
 mod tally;
 
 pub use chains::Chains;
+pub use frames::frames_are_needed;
 pub use segments::Segments;

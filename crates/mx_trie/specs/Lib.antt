@@ -14,6 +14,7 @@ pub mod Views
 pub mod Heap
 pub mod Owned
 pub mod Spills
+pub mod Taken
 -- a change
 pub mod Ranges
 pub mod Laying

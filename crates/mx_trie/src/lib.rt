@@ -12,6 +12,7 @@ mod edges;
 mod entry;
 mod even;
 mod flat;
+mod frames;
 mod laying;
 mod leaf;
 mod line;
@@ -28,6 +29,7 @@ mod vector;
 mod view;
 mod walk;
 
+pub use frames::frames_are_needed;
 pub use leaf::LeafForm;
 pub use roots::Roots;
 pub use trie::Trie;
