@@ -5,3 +5,4 @@ pub mod Leaves
 pub mod Decide
 pub mod Pairs
 pub mod Going
+pub mod Examples
