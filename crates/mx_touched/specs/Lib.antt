@@ -1,0 +1,4 @@
+pub mod Touched
+pub mod Rest
+pub mod Views
+pub mod Pairs
