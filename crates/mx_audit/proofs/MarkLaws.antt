@@ -1,0 +1,78 @@
+-- Marks of domains: one more is marked, a pass over frames or gates goes on, and nothing is left to mark.
+use Rattle.std.proofs.Common.{◌≡◌, ℕ, zero, suc, ◌+◌, ◌<◌, ◌≤◌, ◌⊎◌, inl, inr, Bool, true, false, List, [], ◌∷◌, length, get_or, set, take, replicate, slice_get, Option, Some, None, refl, sym, ap, subst, arith, IsTrue}
+use Rattle.std.specs.List.{AllByRecursion}
+use Rattle.mx_model.specs.declared.values.Frame.{Frame}
+use Rattle.mx_model.specs.State.{Core, Hart, no_hart}
+use Rattle.mx_audit.specs.Live.{IsLive}
+use Rattle.mx_audit.specs.Marks.{is_marked, unmarked, MarkLive, MarkOnlyLive, MarkHart, MarkHarts, MarkTargets, KeepMarks}
+use Rattle.mx_audit.proofs.LiveLaws.{IsHome, live-least}
+use Rattle.mx_model.proofs.JoinLaws.{all-weaker}
+
+-- at first nothing is marked
+none-marked : (n d : ℕ) → is_marked (replicate n false) d ≡ false
+none-marked zero d = refl
+none-marked (suc n) zero = refl
+none-marked (suc n) (suc d) = none-marked n d
+
+pub none-only : (c : Core) (n : ℕ) → MarkOnlyLive c (replicate n false)
+none-only c n d p = absurd (let e = none-marked n d in let q : ⊥ = cc in q)
+
+-- one more is marked
+pub marked-more : (marks : List Bool) (d e : ℕ) → IsTrue (is_marked marks e) → IsTrue (is_marked (set marks d true) e)
+marked-more [] d e p = p
+marked-more (m ∷ ms) zero zero p = refl
+marked-more (m ∷ ms) zero (suc e) p = p
+marked-more (m ∷ ms) (suc d) zero p = p
+marked-more (m ∷ ms) (suc d) (suc e) p = marked-more ms d e p
+
+marked-from : (marks : List Bool) (d e : ℕ) → IsTrue (is_marked (set marks d true) e) → (e ≡ d) ⊎ IsTrue (is_marked marks e)
+marked-from [] d e p = inr p
+marked-from (m ∷ ms) zero zero p = inl refl
+marked-from (m ∷ ms) zero (suc e) p = inr p
+marked-from (m ∷ ms) (suc d) zero p = inr p
+marked-from (m ∷ ms) (suc d) (suc e) p = elim (marked-from ms d e p) [
+  | inl q ↦ inl (ap suc q)
+  | inr q ↦ inr q
+]
+
+pub only-more : (c : Core) (marks : List Bool) (d : ℕ) → MarkOnlyLive c marks → IsLive c d → MarkOnlyLive c (set marks d true)
+only-more c marks d p l e m = elim (marked-from marks d e m) [
+  | inl q ↦ subst (IsLive c) (sym q) l
+  | inr q ↦ p e q
+]
+
+pub fewer-unmarked : (marks : List Bool) (d : ℕ) → d < length marks → is_marked marks d ≡ false → unmarked (set marks d true) < unmarked marks
+fewer-unmarked [] d l e = absurd (omega arith)
+fewer-unmarked (true ∷ ms) zero l e = absurd (let q : ⊥ = cc in q)
+fewer-unmarked (false ∷ ms) zero l e = omega arith
+fewer-unmarked (true ∷ ms) (suc d) l e = let p = fewer-unmarked ms d (omega arith) e in omega (arith, p)
+fewer-unmarked (false ∷ ms) (suc d) l e = let p = fewer-unmarked ms d (omega arith) e in omega (arith, p)
+
+-- what holds of the elements up to a place, one place on and at the end
+pub all-next : {X : Type 0} (P : X → Type 0) (xs : List X) (i : ℕ) (x : X) → slice_get xs i ≡ Some x → AllByRecursion P (take i xs) → P x → AllByRecursion P (take (i + 1) xs)
+all-next P [] i x e h p = absurd (let q : ⊥ = cc in q)
+all-next P (y ∷ ys) zero x e h p = (let same : x ≡ y = cc in subst P same p, tt)
+all-next P (y ∷ ys) (suc i) x e h p = (h.0, all-next P ys i x e h.1 p)
+
+pub all-end : {X : Type 0} (P : X → Type 0) (xs : List X) (i : ℕ) → slice_get xs i ≡ None → AllByRecursion P (take i xs) → AllByRecursion P xs
+all-end P [] i e h = tt
+all-end P (y ∷ ys) zero e h = absurd (let q : ⊥ = cc in q)
+all-end P (y ∷ ys) (suc i) e h = (h.0, all-end P ys i e h.1)
+
+all-placed : {X : Type 0} (P : X → Type 0) (xs : List X) (d : X) → ((i : ℕ) → i < length xs → P (get_or xs i d)) → AllByRecursion P xs
+all-placed P [] d h = tt
+all-placed P (x ∷ xs) d h = (h zero (omega arith), all-placed P xs d (λ i l. h (suc i) (omega arith)))
+
+-- what is marked of a hart is marked still
+pub hart-kept : (marks more : List Bool) (hart : Hart) → KeepMarks marks more → MarkHart marks hart → MarkHart more hart
+hart-kept marks more hart k h = record {
+  domain = k hart.domain h.domain;
+  frames = all-weaker (λ (f : Frame). IsTrue (is_marked marks f.caller)) (λ (f : Frame). IsTrue (is_marked more f.caller)) hart.frames (λ f p. k f.caller p) h.frames;
+}
+
+-- with harts and targets marked just the live domains are
+pub marks-live : (c : Core) (marks : List Bool) → MarkOnlyLive c marks → MarkHarts c marks → MarkTargets c marks → MarkLive c marks
+marks-live c marks only harts targets d = (only d, live-least (λ e. IsTrue (is_marked marks e)) c d (record {
+  harts = all-placed (IsHome (λ e. IsTrue (is_marked marks e))) c.harts no_hart (λ h l. ((harts h l).domain, (harts h l).frames));
+  gates = targets;
+}))
