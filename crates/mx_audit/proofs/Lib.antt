@@ -5,7 +5,7 @@ pub mod CallLaws
 pub mod AuditTurns
 pub mod AuditRuns
 pub mod MarkLaws
-pub mod OpenLaws
+pub mod ExposedLaws
 pub mod RunLaws
 pub mod StretchLaws
 pub mod ReportLaws

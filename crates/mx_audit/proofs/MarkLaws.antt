@@ -1,6 +1,7 @@
 -- Marks of domains: one more is marked, a pass over frames or gates goes on, and nothing is left to mark.
-use Rattle.std.proofs.Common.{◌≡◌, ℕ, zero, suc, ◌+◌, ◌<◌, ◌≤◌, ◌⊎◌, inl, inr, Bool, true, false, List, [], ◌∷◌, length, get_or, set, take, replicate, slice_get, Option, Some, None, refl, sym, ap, subst, arith, IsTrue}
+use Rattle.std.proofs.Common.{◌≡◌, ℕ, zero, suc, ◌+◌, ◌<◌, ◌≤◌, ◌⊎◌, inl, inr, Bool, true, false, not, cond, List, [], ◌∷◌, length, get_or, set, take, replicate, slice_get, Option, Some, None, refl, sym, ap, subst, arith, IsTrue}
 use Rattle.std.specs.List.{AllByRecursion}
+use Rattle.std.proofs.lemmas.List.Sums.{sum_by-set}
 use Rattle.mx_model.specs.declared.values.Frame.{Frame}
 use Rattle.mx_model.specs.State.{Core, Hart, no_hart}
 use Rattle.mx_audit.specs.Live.{IsLive}
@@ -41,18 +42,20 @@ only-more c marks d p l e m = elim (marked-from marks d e m) [
   | inr q ↦ p e q
 ]
 
+abbrev weight : Bool → ℕ
+weight b = cond (not b) 1 0
+
 pub fewer-unmarked : (marks : List Bool) (d : ℕ) → d < length marks → is_marked marks d ≡ false → unmarked (set marks d true) < unmarked marks
-fewer-unmarked [] d l e = absurd (omega arith)
-fewer-unmarked (true ∷ ms) zero l e = absurd (let q : ⊥ = cc in q)
-fewer-unmarked (false ∷ ms) zero l e = omega arith
-fewer-unmarked (true ∷ ms) (suc d) l e = let p = fewer-unmarked ms d (omega arith) e in omega (arith, p)
-fewer-unmarked (false ∷ ms) (suc d) l e = let p = fewer-unmarked ms d (omega arith) e in omega (arith, p)
+fewer-unmarked marks d l e = let before : weight (is_marked marks d) ≡ 1 = ap weight e in omega (arith, before, sum_by-set weight marks d true false l)
 
 -- what holds of the elements up to a place, one place on and at the end
+all-suc : {X : Type 0} (P : X → Type 0) (xs : List X) (i : ℕ) (x : X) → slice_get xs i ≡ Some x → AllByRecursion P (take i xs) → P x → AllByRecursion P (take (suc i) xs)
+all-suc P [] i x e h p = tt
+all-suc P (y ∷ ys) zero x e h p = (let same : x ≡ y = cc in subst P same p, tt)
+all-suc P (y ∷ ys) (suc i) x e h p = (h.0, all-suc P ys i x e h.1 p)
+
 pub all-next : {X : Type 0} (P : X → Type 0) (xs : List X) (i : ℕ) (x : X) → slice_get xs i ≡ Some x → AllByRecursion P (take i xs) → P x → AllByRecursion P (take (i + 1) xs)
-all-next P [] i x e h p = absurd (let q : ⊥ = cc in q)
-all-next P (y ∷ ys) zero x e h p = (let same : x ≡ y = cc in subst P same p, tt)
-all-next P (y ∷ ys) (suc i) x e h p = (h.0, all-next P ys i x e h.1 p)
+all-next P xs i x e h p = let next : suc i ≡ i + 1 = omega arith in subst (λ n. AllByRecursion P (take n xs)) next (all-suc P xs i x e h p)
 
 pub all-end : {X : Type 0} (P : X → Type 0) (xs : List X) (i : ℕ) → slice_get xs i ≡ None → AllByRecursion P (take i xs) → AllByRecursion P xs
 all-end P [] i e h = tt

@@ -2,6 +2,8 @@
 use Rattle.std.proofs.Common.{◌≡◌, ℕ, zero, suc, ◌+◌, ◌-◌, ◌<◌, ◌≤◌, ◌⊎◌, inl, inr, Bool, true, false, cond, ◌==◌, ◌&&◌, ◌||◌, nat_lt, nat_le, if◌then◌else◌, List, [], ◌∷◌, ◌++◌, refl, sym, ap, ◌∙◌, subst, arith, Option, Some, slice_get, take}
 use Rattle.std.specs.List.{AllByRecursion}
 use Rattle.std.proofs.lemmas.Bool.{cases_eq, ltb-true, ltb-false, lt-ltb, le-leb, eqb-true, eq-eqb, ne_eqb, and_from, or_cases, or_left, or_right}
+use Rattle.std.proofs.lemmas.List.Sums.{sum_by_more}
+use Rattle.std.proofs.lemmas.Option.{get_or_from_slice_get, slice_get_within}
 use Rattle.mx_words.specs.declared.perm.Span.{Span}
 use Rattle.mx_words.specs.Caches.{covers_word}
 use Rattle.mx_words.specs.Ranges.{covers, most_words}
@@ -138,11 +140,10 @@ in-ram-with a (s ∷ ss) l p = by (s.first == a + 1) refl
 
 pub in-ram : (test : ℕ → Bool) (a n : ℕ) → a + n ≤ most_words → AreInRam (runs_where test a n)
 in-ram test a zero l = tt
-in-ram test a (suc n) l = by (test a)
-  where
-    by : (t : Bool) → AreInRam (if t then with_word a (runs_where test (a + 1) n) else runs_where test (a + 1) n)
-    by true = in-ram-with a (runs_where test (a + 1) n) (omega arith) (in-ram test (a + 1) n (omega arith))
-    by false = in-ram test (a + 1) n (omega arith)
+in-ram test a (suc n) l = elim (test a) as (λ t. AreInRam (if t then with_word a (runs_where test (a + 1) n) else runs_where test (a + 1) n)) [
+  | true ↦ in-ram-with a (runs_where test (a + 1) n) (omega arith) (in-ram test (a + 1) n (omega arith))
+  | false ↦ in-ram test (a + 1) n (omega arith)
+]
 
 -- a word that lies in runs with one more word in front, and the other way round
 covers_to : (first count w : ℕ) → first ≤ w → w < first + count → covers first count w ≡ true
@@ -196,30 +197,34 @@ lies-to-with a w (s ∷ ss) p = by (s.first == a + 1) refl
 -- just the words that pass lie in the runs
 pub lies-from : (test : ℕ → Bool) (a n w : ℕ) → lies_in (runs_where test a n) w ≡ true → test w ≡ true
 lies-from test a zero w p = absurd (let z : ⊥ = cc in z)
-lies-from test a (suc n) w p = by (test a) refl p
+lies-from test a (suc n) w p = elim (test a) as
+    (λ t. test a ≡ t → lies_in (if t then with_word a (runs_where test (a + 1) n) else runs_where test (a + 1) n) w ≡ true → test w ≡ true) [
+      | true ↦ λ e q. elim (lies-from-with a w (runs_where test (a + 1) n) q) [
+        | inl same ↦ ap test same ∙ e
+        | inr l ↦ lies-from test (a + 1) n w l
+      ]
+      | false ↦ λ e q. lies-from test (a + 1) n w q
+    ] refl p
+
+lies-here : (test : ℕ → Bool) (a n w : ℕ) → a ≡ w → test w ≡ true → lies_in (runs_where test a (suc n)) w ≡ true
+lies-here test a n w same p = by (test a) refl
   where
-    by : (t : Bool) → test a ≡ t → lies_in (if t then with_word a (runs_where test (a + 1) n) else runs_where test (a + 1) n) w ≡ true → test w ≡ true
-    by true e q = elim (lies-from-with a w (runs_where test (a + 1) n) q) [
-      | inl same ↦ ap test same ∙ e
-      | inr l ↦ lies-from test (a + 1) n w l
-    ]
-    by false e q = lies-from test (a + 1) n w q
+    by : (t : Bool) → test a ≡ t → lies_in (if t then with_word a (runs_where test (a + 1) n) else runs_where test (a + 1) n) w ≡ true
+    by true e = subst (λ v. lies_in (with_word a (runs_where test (a + 1) n)) v ≡ true) same (lies-front a (runs_where test (a + 1) n))
+    by false e = absurd (let z : test a ≡ true = ap test same ∙ p in let y : ⊥ = cc in y)
+
+lies-later : (test : ℕ → Bool) (a n w : ℕ) → lies_in (runs_where test (a + 1) n) w ≡ true → lies_in (runs_where test a (suc n)) w ≡ true
+lies-later test a n w q = elim (test a) as (λ t. lies_in (if t then with_word a (runs_where test (a + 1) n) else runs_where test (a + 1) n) w ≡ true) [
+  | true ↦ lies-to-with a w (runs_where test (a + 1) n) q
+  | false ↦ q
+]
 
 pub lies-to : (test : ℕ → Bool) (a n w : ℕ) → a ≤ w → w < a + n → test w ≡ true → lies_in (runs_where test a n) w ≡ true
 lies-to test a zero w l u p = absurd (omega arith)
-lies-to test a (suc n) w l u p = by (cases_eq a w)
-  where
-    front : (t : Bool) → test a ≡ t → a ≡ w → lies_in (if t then with_word a (runs_where test (a + 1) n) else runs_where test (a + 1) n) w ≡ true
-    front true e same = subst (λ v. lies_in (with_word a (runs_where test (a + 1) n)) v ≡ true) same (lies-front a (runs_where test (a + 1) n))
-    front false e same = absurd (let z : test a ≡ true = ap test same ∙ p in let y : ⊥ = cc in y)
-
-    later : (t : Bool) → lies_in (runs_where test (a + 1) n) w ≡ true → lies_in (if t then with_word a (runs_where test (a + 1) n) else runs_where test (a + 1) n) w ≡ true
-    later true q = lies-to-with a w (runs_where test (a + 1) n) q
-    later false q = q
-
-    by : (a ≡ w) ⊎ (a ≡ w → ⊥) → lies_in (runs_where test a (suc n)) w ≡ true
-    by (inl same) = front (test a) refl same
-    by (inr other) = later (test a) (lies-to test (a + 1) n w (omega arith) (omega arith) p)
+lies-to test a (suc n) w l u p = elim (cases_eq a w) [
+  | inl same ↦ lies-here test a n w same p
+  | inr other ↦ lies-later test a n w (lies-to test (a + 1) n w (omega arith) (omega arith) p)
+]
 
 -- the run at a place of a list
 pub in-ram-at : (runs : List Span) (i : ℕ) (s : Span) → AreInRam runs → slice_get runs i ≡ Some s → s.first + s.count ≤ most_words
@@ -227,8 +232,8 @@ in-ram-at [] i s p e = absurd (let z : ⊥ = cc in z)
 in-ram-at (r ∷ rs) zero s p e = let same : r ≡ s = cc in subst (λ (x : Span). x.first + x.count ≤ most_words) same p.0
 in-ram-at (r ∷ rs) (suc i) s p e = in-ram-at rs i s p.1 e
 
--- how many words the runs of a list have together, up to the next place
+-- how many words the runs of a list have together, one place on
 pub words_more : (runs : List Span) (i : ℕ) (s : Span) → slice_get runs i ≡ Some s → words_of (take (i + 1) runs) ≡ words_of (take i runs) + s.count
-words_more [] i s e = absurd (let z : ⊥ = cc in z)
-words_more (r ∷ rs) zero s e = let same : r ≡ s = cc in let count : r.count ≡ s.count = ap (λ (x : Span). x.count) same in omega (arith, count)
-words_more (r ∷ rs) (suc i) s e = let more = words_more rs i s e in omega (arith, more)
+words_more runs i s e =
+    sum_by_more (λ (x : Span). x.count) runs i s (slice_get_within runs i s e)
+    ∙ ap (λ (x : Span). words_of (take i runs) + x.count) (get_or_from_slice_get runs i s s e)

@@ -1,7 +1,6 @@
 -- The report of an audit, as docs/COMMANDS.md, "The audit", shows it.
 use Rattle.std.specs.Prelude.{ℕ, ◌+◌, ◌-◌, Bool, List, [], ◌∷◌, length, slice_index_or, if◌then◌else◌, decimal, codes, flat_map}
-use Rattle.std.specs.Prelude.{map as list_map}
-use Rattle.std.specs.List.{concat, range_with_len, sum}
+use Rattle.std.specs.List.{concat, range_with_len, sum_by}
 use Rattle.mx_words.specs.declared.perm.Span.{Span}
 use Rattle.mx_model.specs.Reads.{flat_reads}
 use Rattle.mx_model.specs.State.{Flat}
@@ -34,7 +33,7 @@ sealed_line s =
 
 -- how many words runs have together
 abbrev pub words_of : List Span → ℕ
-words_of runs = sum (list_map (λ (s : Span). s.count) runs)
+words_of runs = sum_by (λ (s : Span). s.count) runs
 
 -- how many words are sealed
 unfoldable pub words_line : ℕ → List ℕ

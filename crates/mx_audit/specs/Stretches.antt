@@ -9,31 +9,31 @@ use Rattle.mx_audit.specs.declared.stretch.Stretch.{Stretch}
 use Rattle.mx_audit.specs.Marks.{is_marked}
 use Rattle.mx_audit.specs.SealedRuns.{words_from}
 
--- whether a source leaves a word open to change: the word's owner is marked, or the domain is and has read-write on it
-abbrev pub opens : Flat → List Bool → ℕ → ℕ → Bool
-opens f marks zero word = is_marked marks ((flat_reads f).owner word)
-opens f marks (suc d) word =
+-- whether a source exposes a word to change: the word's owner is marked, or the domain is and has read-write on it
+abbrev pub exposes : Flat → List Bool → ℕ → ℕ → Bool
+exposes f marks zero word = is_marked marks ((flat_reads f).owner word)
+exposes f marks (suc d) word =
     is_marked marks (suc d) && same ((flat_reads f).perm (suc d) word) P.ReadWrite
 
 -- whether one of the sources 0 to n does
-abbrev pub some_opens : Flat → List Bool → ℕ → ℕ → Bool
-some_opens f marks zero word = opens f marks zero word
-some_opens f marks (suc n) word = some_opens f marks n word || opens f marks (suc n) word
+abbrev pub some_exposes : Flat → List Bool → ℕ → ℕ → Bool
+some_exposes f marks zero word = exposes f marks zero word
+some_exposes f marks (suc n) word = some_exposes f marks n word || exposes f marks (suc n) word
 
 -- whether one of all sources does
-abbrev pub is_open : Flat → List Bool → ℕ → Bool
-is_open f marks word = some_opens f marks (length f.core.modules) word
+abbrev pub is_exposed : Flat → List Bool → ℕ → Bool
+is_exposed f marks word = some_exposes f marks (length f.core.modules) word
 
 -- a stretch tells of the words from `word` up to its end, which lies in RAM, whether they pass a test
 pub record Tells (f : Flat) (test : ℕ → Bool) (word : ℕ) (s : Stretch) : Type 0 where
   pub within : s.end ≤ f.core.size
-  pub alike : (w : ℕ) → word ≤ w → w < s.end → test w ≡ s.open
+  pub alike : (w : ℕ) → word ≤ w → w < s.end → test w ≡ s.exposed
 
--- each stretch of a list tells what its source opens
+-- each stretch of a list tells what its source exposes
 abbrev pub AllTell : Flat → List Bool → ℕ → List Stretch → Type 0
 AllTell f marks word known =
     (source : ℕ) (s : Stretch) → slice_get known source ≡ Some s →
-    Tells f (opens f marks source) word s
+    Tells f (exposes f marks source) word s
 
 -- the words from `first` up to `behind`, as a run where there are some
 abbrev pub run_between : ℕ → ℕ → List Span

@@ -4,7 +4,7 @@ ghost use Rattle.std.specs.Prelude.{◌≡◌, ◌<◌, ◌||◌, min, nat_lt, l
 ghost use Rattle.mx_model.specs.Valid.{IsModule};
 ghost use Rattle.mx_boot.specs.Machines.{meaning};
 ghost use Rattle.mx_audit.specs.Marks.{is_marked};
-ghost use Rattle.mx_audit.specs.Stretches.{AllTell, Tells, is_open, opens};
+ghost use Rattle.mx_audit.specs.Stretches.{AllTell, Tells, is_exposed, exposes};
 
 use crate::living::is_marked;
 use mx_boot::{AnyMachine, any_machine_is_valid};
@@ -16,7 +16,7 @@ pub(crate) struct Stretch {
     /// The first word that isn't one of them.
     pub end: u32,
     /// Whether somebody may change each of them; otherwise nobody may change any.
-    pub open: bool,
+    pub exposed: bool,
 }
 
 impl Stretch {
@@ -27,14 +27,14 @@ impl Stretch {
         word < self.end
     }
 
-    // What both know together: up to the nearer end, whether one of them is open.
+    // What both know together: up to the nearer end, whether one of them is exposed.
     fn joined(self, other: Stretch) -> Stretch
         ensures end { result.end ≡ min self.end other.end }
-        ensures open { result.open ≡ (self.open || other.open) }
+        ensures exposed { result.exposed ≡ (self.exposed || other.exposed) }
     {
         Stretch {
             end: if self.end < other.end { self.end } else { other.end },
-            open: self.open || other.open,
+            exposed: self.exposed || other.exposed,
         }
     }
 }
@@ -51,7 +51,7 @@ pub(crate) fn stretch_at(
     requires known { AllTell (meaning machine.now) live.now word known.old }
     ensures known { AllTell (meaning machine.now) live.now word known.new }
     ensures behind { word < result.end }
-    ensures tells { Tells (meaning machine.now) (is_open (meaning machine.now) live.now) word result }
+    ensures tells { Tells (meaning machine.now) (is_exposed (meaning machine.now) live.now) word result }
 {
     any_machine_is_valid(machine);
     let mut all = owners_at(machine, live, known, word);
@@ -74,7 +74,7 @@ fn owners_at(
     requires known { AllTell (meaning machine.now) live.now word known.old }
     ensures known { AllTell (meaning machine.now) live.now word known.new }
     ensures behind { word < result.end }
-    ensures tells { Tells (meaning machine.now) (opens (meaning machine.now) live.now 0) word result }
+    ensures tells { Tells (meaning machine.now) (exposes (meaning machine.now) live.now 0) word result }
 {
     let last = known[0];
     if last.reaches(word) {
@@ -82,7 +82,7 @@ fn owners_at(
     }
     let next = Stretch {
         end: machine.owner_end(word),
-        open: is_marked(live, machine.owner(word) as usize),
+        exposed: is_marked(live, machine.owner(word) as usize),
     };
     known[0] = next;
     next
@@ -102,7 +102,7 @@ fn rights_at(
     requires known { AllTell (meaning machine.now) live.now word known.old }
     ensures known { AllTell (meaning machine.now) live.now word known.new }
     ensures behind { word < result.end }
-    ensures tells { Tells (meaning machine.now) (opens (meaning machine.now) live.now domain) word result }
+    ensures tells { Tells (meaning machine.now) (exposes (meaning machine.now) live.now domain) word result }
 {
     any_machine_is_valid(machine);
     let at = domain as usize;
@@ -112,7 +112,7 @@ fn rights_at(
     }
     let next = Stretch {
         end: machine.perm_end(domain, word),
-        open: machine.perm(domain, word) == Perm::ReadWrite,
+        exposed: machine.perm(domain, word) == Perm::ReadWrite,
     };
     known[at] = next;
     next

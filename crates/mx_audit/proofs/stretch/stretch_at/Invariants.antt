@@ -1,6 +1,6 @@
 use Rattle.std.proofs.Common.{◌<◌}
 use Rattle.mx_boot.specs.Machines.{meaning}
-use Rattle.mx_audit.specs.Stretches.{AllTell, Tells, some_opens}
+use Rattle.mx_audit.specs.Stretches.{AllTell, Tells, some_exposes}
 use Rattle.mx_audit.proofs.stretch.stretch_at.Given as goal
 
 abbrev pub invariant-loop-i : goal.invariant-loop-i
@@ -9,5 +9,5 @@ invariant-loop-i l =
     record {
       known : AllTell f l.live l.word l.known;
       behind : l.word < l.all.end;
-      tells : Tells f (some_opens f l.live l.i) l.word l.all;
+      tells : Tells f (some_exposes f l.live l.i) l.word l.all;
     }
