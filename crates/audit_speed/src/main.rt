@@ -9,6 +9,7 @@ mod machines;
 use machines::{wide, worst};
 use mx_audit::{Audit, audit};
 use mx_boot::AnyMachine;
+use std::alloc::Global;
 use std::time::CpuClock;
 use std::{env, io};
 
@@ -20,23 +21,24 @@ fn main(rt: HostRuntime) -> io::Result<()> {
         return eprintln!(rt; "audit_speed KIB");
     };
     match wide(rt.alloc()) {
-        Some(machine) => time(&rt, "wide", machine)?,
+        Some(machine) => time(&rt, rt.alloc(), "wide", machine)?,
         None => eprintln!(rt; "no wide machine")?,
     }
     match worst(rt.alloc(), kib) {
-        Some(machine) => time(&rt, "worst", machine),
+        Some(machine) => time(&rt, rt.alloc(), "worst", machine),
         None => eprintln!(rt; "no worst machine"),
     }
 }
 
 /// Audits a machine, which is then let go, and tells what that took.
 fn time(
-    rt: &(impl Print + Eprint + CpuClock + Alloc),
+    rt: &(impl Print + Eprint + CpuClock),
+    alloc: Global,
     name: &str,
     machine: AnyMachine,
 ) -> io::Result<()> {
     let begun = rt.thread_cpu_time();
-    let found = audit(rt.alloc(), &machine);
+    let found = audit(alloc, &machine);
     let ended = rt.thread_cpu_time();
     machine.end();
     match found {
