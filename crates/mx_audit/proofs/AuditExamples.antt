@@ -1,10 +1,9 @@
 -- Worked examples of audits, computed.
-use Rattle.std.specs.Prelude.{◌≡◌, ℕ, ◌*◌, Bool, true, false, not, if◌then◌else◌, List, [], ◌∷◌, take, drop, replicate, filter, refl}
-use Rattle.std.specs.Prelude.{map as list_map}
+use Rattle.std.specs.Prelude.{◌≡◌, ℕ, ◌*◌, true, false, List, [], ◌∷◌, take, drop, replicate, filter, codes, refl}
 use Rattle.std.specs.List.{range_with_len}
 use Rattle.mx_words.specs.declared.perm.Perm.TheVariants as P
 use Rattle.mx_words.specs.Bytes.{number_at, put_at, cleared_at}
-use Rattle.mx_words.specs.Runs.{Run, runs_of}
+use Rattle.mx_words.specs.declared.perm.Span.{Span}
 use Rattle.mx_isa.specs.Fields.{imm_i, imm_s, imm_b, imm_u, imm_j, extended}
 use Rattle.mx_isa.specs.Table.{decoded}
 use Rattle.mx_model.specs.declared.values.Frame.{Frame}
@@ -15,18 +14,17 @@ use Rattle.mx_model.specs.State.{State, hart_at, with_hart}
 use Rattle.mx_model.proofs.Boots.{Inline, inline, boot, one_module}
 use Rattle.mx_model.proofs.Smalls.{gate}
 use Rattle.mx_audit.specs.Live.{is_live}
+use Rattle.mx_audit.specs.Lines.{live_line, live_lines, report, sealed_line, words_line}
 use Rattle.mx_audit.specs.Sealed.{is_sealed}
+use Rattle.mx_audit.specs.SealedRuns.{sealed_runs, words_from}
 
 -- the live domains by their numbers
 abbrev live_domains : State → List ℕ
 live_domains s = filter (is_live s.core) (range_with_len 0 64)
 
--- the maximal runs of sealed and other words
-abbrev words : ℕ → Bool → Run Bool
-words count sealed = record { count = count; value = sealed }
-
-abbrev audit : State → List (Run Bool)
-audit s = runs_of (λ a b. if a then b else not b) (list_map (is_sealed (reads s) s.core) (range_with_len 0 s.core.size))
+-- the maximal runs of sealed words
+abbrev audit : State → List Span
+audit s = sealed_runs (reads s) s.core
 
 -- audit of three words: the module's own words may change, since it owns them
 abbrev three : State
@@ -35,14 +33,22 @@ three = one_module (0x00100893 ∷ 0x00500513 ∷ 0x00000073 ∷ [])
 three-live : live_domains three ≡ 1 ∷ []
 three-live = refl
 
-three-sealed : audit three ≡ words 3 false ∷ words 16381 true ∷ []
+three-sealed : audit three ≡ words_from 3 16381 ∷ []
 three-sealed = refl
+
+-- the report: what a flat state tells is what the state does
+abbrev text : List (List ℕ) → State → List ℕ
+text names s = report names (is_live s.core) (audit s)
+
+three-text : text (codes "m" ∷ []) three ≡ codes "live 1 m\nsealed 0x8000000c 0x80010000\nsealed words=16381\n"
+unfolding report live_lines live_line sealed_line words_line
+three-text = refl
 
 -- of the same module where the supervisor owns its words
 sealed-three-live : live_domains (record three { gives = [] }) ≡ 1 ∷ []
 sealed-three-live = refl
 
-sealed-three : audit (record three { gives = [] }) ≡ words 16384 true ∷ []
+sealed-three : audit (record three { gives = [] }) ≡ words_from 0 16384 ∷ []
 sealed-three = refl
 
 -- audit of gates in a circle: each domain has a gate into the other
@@ -54,8 +60,13 @@ circle =
 circle-live : live_domains circle ≡ 1 ∷ 2 ∷ []
 circle-live = refl
 
-circle-sealed : audit circle ≡ words 3 false ∷ words 1021 true ∷ words 3 false ∷ words 15357 true ∷ []
+circle-sealed : audit circle ≡ words_from 3 1021 ∷ words_from 1027 15357 ∷ []
 circle-sealed = refl
+
+circle-text : text (codes "a" ∷ codes "b" ∷ []) circle
+    ≡ codes "live 1 a\nlive 2 b\nsealed 0x8000000c 0x80001000\nsealed 0x8000100c 0x80010000\nsealed words=16378\n"
+unfolding report live_lines live_line sealed_line words_line
+circle-text = refl
 
 -- gates passed in a later round, though they stand first, and gates of a domain that isn't live
 abbrev chain : State
@@ -63,6 +74,11 @@ chain = boot (replicate 5 (inline 0 P.None [])) (gate 2 7 3 ∷ gate 4 7 5 ∷ g
 
 chain-live : live_domains chain ≡ 1 ∷ 2 ∷ 3 ∷ []
 chain-live = refl
+
+-- a domain that isn't live has no line
+chain-lines : live_lines (codes "a" ∷ codes "b" ∷ codes "c" ∷ codes "d" ∷ []) (is_live chain.core) ≡ codes "live 1 a\nlive 2 b\nlive 3 c\n"
+unfolding live_lines live_line
+chain-lines = refl
 
 -- Why each part of «sealed» is asked: without it a word would count as sealed that a run changes. The word of the first two is 2048.
 abbrev word_at : ℕ → State → List ℕ

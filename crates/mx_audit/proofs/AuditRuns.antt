@@ -132,13 +132,17 @@ modules-closed c v = record {
     same-index (x ∷ xs) zero a b l = refl
     same-index (x ∷ xs) (suc i) a b l = same-index xs i a b (omega (arith, l))
 
+-- so each live domain is a module
+pub live-module : (c : Core) → IsValid c → (d : ℕ) → IsLive c d → IsModule (length c.modules) d
+live-module c v d l = live-least (IsModule (length c.modules)) c d (modules-closed c v) l
+
 -- an audited state, and its live domains
 stands-audited : (s : State) → IsAudited s → Stands (IsLive s.core) (reads s) s.core
 stands-audited s p = record {
   valid = p.valid;
   heaps = p.heaps;
   closed = live-closed s.core;
-  modules = λ d l. live-least (IsModule (length s.core.modules)) s.core d (modules-closed s.core p.valid) l;
+  modules = live-module s.core p.valid;
 }
 
 spared-sealed : (s : State) (w : ℕ) → IsSealed (reads s) s.core w → IsSpared (IsLive s.core) (reads s) w

@@ -4,5 +4,11 @@ pub mod ActionLaws
 pub mod CallLaws
 pub mod AuditTurns
 pub mod AuditRuns
+pub mod MarkLaws
+pub mod ExposedLaws
+pub mod RunLaws
+pub mod StretchLaws
+pub mod ReportLaws
+pub mod StayLaws
 pub mod AuditExamples
 pub mod AuditedExample

@@ -200,7 +200,7 @@ rounds-live c =
 pub live-rounds : (c : Core) (d : ℕ) → IsTrue (is_in (live c) d) ↔ IsLive c d
 live-rounds c d = (in-all (IsLive c) (live c) d (rounds-live c), live-least (In (live c)) c d (rounds-closed c))
 
-same-is : (p : Perm) → same p P.ReadWrite ≡ true → p ≡ P.ReadWrite
+pub same-is : (p : Perm) → same p P.ReadWrite ≡ true → p ≡ P.ReadWrite
 same-is P.None e = absurd (let q : ⊥ = cc in q)
 same-is P.Read e = absurd (let q : ⊥ = cc in q)
 same-is P.ReadWrite e = refl

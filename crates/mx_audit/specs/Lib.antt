@@ -1,2 +1,7 @@
 pub mod Live
 pub mod Sealed
+pub mod SealedRuns
+pub mod Marks
+pub mod Lines
+pub mod Stretches
+pub mod Stays

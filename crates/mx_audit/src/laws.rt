@@ -1,11 +1,14 @@
 //! Laws of live domains and sealed words, each the contract of a function that does nothing.
-ghost use Rattle.std.specs.Prelude.{◌≡◌, ◌↔◌, ℕ, ◌+◌, ◌*◌, ◌<◌, IsTrue, slice_index};
+ghost use Rattle.std.specs.Prelude.{◌≡◌, ◌↔◌, ℕ, ◌+◌, ◌*◌, ◌<◌, List, IsTrue, slice_index};
+ghost use Rattle.mx_manifest.specs.Plan.{Said};
 ghost use Rattle.mx_model.specs.Reads.{Reads, reads, flat_reads};
 ghost use Rattle.mx_model.specs.Run.{Schedule, run};
 ghost use Rattle.mx_model.specs.State.{State, Core, flat};
 ghost use Rattle.mx_laws.specs.OwnHeaps.{OwnHeaps};
 ghost use Rattle.mx_audit.specs.Live.{IsLive, is_live};
 ghost use Rattle.mx_audit.specs.Sealed.{IsSealed, HasSealed, is_sealed, IsAudited};
+ghost use Rattle.mx_audit.specs.SealedRuns.{lies_in, sealed_runs};
+ghost use Rattle.mx_audit.specs.Stays.{IsBoot, KeepsWord};
 
 /// The domains that the rounds give are just the live ones.
 pub fn live_by_rounds()
@@ -44,4 +47,23 @@ pub fn audit_of_a_flat_state()
         HasSealed s word ↔ IsSealed (flat_reads (flat s)) s.core word }
     ensures heaps { (s : State) →
         OwnHeaps (reads s) s.core ↔ OwnHeaps (flat_reads (flat s)) s.core }
+{}
+
+/// The runs of sealed words that the flat state of a state tells hold just its sealed words.
+pub fn runs_of_sealed_words()
+    ensures { (s : State) (word : ℕ) →
+        IsTrue (lies_in (sealed_runs (flat_reads (flat s)) s.core) word) ↔ HasSealed s word }
+{}
+
+/// The state at boot of each plan in range is audited. So what its audit finds stays in every run by every schedule: only the live
+/// domains are ever live, and each word of the runs found keeps its owner, its permission in every domain and its four bytes.
+pub fn audits_of_boots_stay()
+    ensures audited { (plan : Said) (images : List (List ℕ)) (s : State) → IsBoot plan images s →
+        IsAudited s }
+    ensures live { (plan : Said) (images : List (List ℕ)) (s : State) → IsBoot plan images s →
+        (p : Schedule) (n d : ℕ) → IsLive (run p n s).core d → IsLive s.core d }
+    ensures words { (plan : Said) (images : List (List ℕ)) (s : State) → IsBoot plan images s →
+        (p : Schedule) (n word : ℕ) →
+        IsTrue (lies_in (sealed_runs (flat_reads (flat s)) s.core) word) →
+        KeepsWord s (run p n s) word }
 {}

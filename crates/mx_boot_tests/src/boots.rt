@@ -9,6 +9,7 @@ use mx_model::{Events, TurnKind};
 use mx_words::Perm;
 use std::alloc::Global;
 
+mod audits;
 mod refusals;
 mod standing;
 mod whole;

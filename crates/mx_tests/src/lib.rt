@@ -4,6 +4,8 @@
 #[cfg(test)]
 mod assembling;
 #[cfg(test)]
+mod audits;
+#[cfg(test)]
 mod calls;
 #[cfg(test)]
 mod examples;

@@ -1,0 +1,91 @@
+-- What stretches tell: of one source after another, and from one word on or a later one.
+use Rattle.std.proofs.Common.{◌≡◌, ℕ, zero, suc, ◌+◌, ◌-◌, ◌<◌, ◌≤◌, ◌⊎◌, inl, inr, min, Bool, true, false, not, ◌&&◌, ◌||◌, List, [], ◌∷◌, ◌++◌, length, set, slice_get, Option, Some, refl, sym, ap, ◌∙◌, subst, arith, add-one, append_assoc, IsTrue}
+use Rattle.std.proofs.lemmas.Bool.{and_left, and_from}
+use Rattle.mx_words.specs.declared.perm.Perm.TheVariants as P
+use Rattle.mx_words.specs.declared.perm.Span.{Span}
+use Rattle.mx_words.specs.Rights.{same}
+use Rattle.mx_model.specs.Reads.{flat_reads}
+use Rattle.mx_model.specs.State.{Flat}
+use Rattle.mx_model.specs.Valid.{IsValid}
+use Rattle.mx_audit.specs.declared.stretch.Stretch.{Stretch}
+use Rattle.mx_audit.specs.Marks.{is_marked, MarkLive}
+use Rattle.mx_audit.specs.Sealed.{is_sealed}
+use Rattle.mx_audit.specs.SealedRuns.{runs_where, sealed_runs}
+use Rattle.mx_audit.specs.Stretches.{exposes, some_exposes, is_exposed, Tells, AllTell, run_between}
+use Rattle.mx_audit.proofs.ExposedLaws.{sealed_is_closed}
+use Rattle.mx_audit.proofs.RunLaws.{runs_step, runs_last}
+
+-- from a later word on
+pub tells-later : (f : Flat) (test : ℕ → Bool) (w v : ℕ) (s : Stretch) → w ≤ v → Tells f test w s → Tells f test v s
+tells-later f test w v s l t = record { within = t.within; alike = λ u p q. t.alike u (omega arith) q }
+
+pub all-later : (f : Flat) (marks : List Bool) (w v : ℕ) (known : List Stretch) → w ≤ v → AllTell f marks w known → AllTell f marks v known
+all-later f marks w v known l t source s e = tells-later f (exposes f marks source) w v s l (t source s e)
+
+-- one of a list renewed
+at-set : {X : Type 0} (xs : List X) (i j : ℕ) (x y : X) → slice_get (set xs i x) j ≡ Some y → ((j ≡ i) × (y ≡ x)) ⊎ (slice_get xs j ≡ Some y)
+at-set [] i j x y e = inr e
+at-set (a ∷ xs) zero zero x y e = let same : y ≡ x = cc in inl (refl, same)
+at-set (a ∷ xs) zero (suc j) x y e = inr e
+at-set (a ∷ xs) (suc i) zero x y e = inr e
+at-set (a ∷ xs) (suc i) (suc j) x y e = elim (at-set xs i j x y e) [
+  | inl p ↦ inl (ap suc p.0, p.1)
+  | inr p ↦ inr p
+]
+
+pub all-set : (f : Flat) (marks : List Bool) (w source : ℕ) (known : List Stretch) (s : Stretch) → AllTell f marks w known → Tells f (exposes f marks source) w s →
+    AllTell f marks w (set known source s)
+all-set f marks w source known s t p other x e = elim (at-set known source other s x e) [
+  | inl q ↦ subst (λ i. Tells f (exposes f marks i) w x) (sym q.0) (subst (λ y. Tells f (exposes f marks source) w y) (sym q.1) p)
+  | inr q ↦ t other x q
+]
+
+-- of one source more
+pub tells-more : (f : Flat) (marks : List Bool) (n w : ℕ) (a b s : Stretch) → s.end ≡ min a.end b.end → s.exposed ≡ (a.exposed || b.exposed) →
+    Tells f (some_exposes f marks n) w a → Tells f (exposes f marks (suc n)) w b → Tells f (some_exposes f marks (suc n)) w s
+tells-more f marks n w a b s e o p q =
+    let pw = p.within in
+    record {
+      within = omega arith;
+      alike = λ v l u.
+          ap (λ t. t || exposes f marks (suc n) v) (p.alike v l (omega arith)) ∙ ap (λ t. a.exposed || t) (q.alike v l (omega arith)) ∙ sym o;
+    }
+
+or-false : (b : Bool) → (b || false) ≡ b
+or-false true = refl
+or-false false = refl
+
+pub tells-unmarked : (f : Flat) (marks : List Bool) (n w : ℕ) (s : Stretch) → is_marked marks (suc n) ≡ false →
+    Tells f (some_exposes f marks n) w s → Tells f (some_exposes f marks (suc n)) w s
+tells-unmarked f marks n w s e p = record {
+  within = p.within;
+  alike = λ v l u.
+      ap (λ t. some_exposes f marks n v || t) (and_left (is_marked marks (suc n)) (same ((flat_reads f).perm (suc n) v) P.ReadWrite) e)
+      ∙ or-false (some_exposes f marks n v) ∙ p.alike v l u;
+}
+
+-- the runs after one more stretch, and after the last one
+module _ (f : Flat) (marks : List Bool) (valid : IsValid f.core) (live : MarkLive f.core marks) where
+  sealed-from : (w : ℕ) → w < f.core.size → is_exposed f marks w ≡ false → is_sealed (flat_reads f) f.core w ≡ true
+  sealed-from w l e = sealed_is_closed f marks valid live w l ∙ ap not e
+
+  exposed-from : (w : ℕ) → w < f.core.size → is_exposed f marks w ≡ true → is_sealed (flat_reads f) f.core w ≡ false
+  exposed-from w l e = sealed_is_closed f marks valid live w l ∙ ap not e
+
+  pub runs_exposed : (runs : List Span) (first w : ℕ) (s : Stretch) → first ≤ w → w < s.end → ((v : ℕ) → first ≤ v → v < w → is_exposed f marks v ≡ false) →
+      Tells f (is_exposed f marks) w s → s.exposed ≡ true → runs ++ runs_where (is_sealed (flat_reads f) f.core) first (f.core.size - first) ≡ sealed_runs (flat_reads f) f.core →
+      (runs ++ run_between first w) ++ runs_where (is_sealed (flat_reads f) f.core) s.end (f.core.size - s.end) ≡ sealed_runs (flat_reads f) f.core
+  runs_exposed runs first w s l b closed t o e =
+      let test = is_sealed (flat_reads f) f.core in
+      let within = t.within in
+      append_assoc runs (run_between first w) (runs_where test s.end (f.core.size - s.end))
+      ∙ ap (λ rest. runs ++ rest) (sym (runs_step test f.core.size first w s.end l b within
+      (λ v p q. sealed-from v (omega arith) (closed v p q))
+      (λ v p q. exposed-from v (omega arith) (t.alike v p q ∙ o))))
+      ∙ e
+
+  pub runs_end : (runs : List Span) (first : ℕ) → first ≤ f.core.size → ((v : ℕ) → first ≤ v → v < f.core.size → is_exposed f marks v ≡ false) →
+      runs ++ runs_where (is_sealed (flat_reads f) f.core) first (f.core.size - first) ≡ sealed_runs (flat_reads f) f.core →
+      runs ++ run_between first f.core.size ≡ sealed_runs (flat_reads f) f.core
+  runs_end runs first l closed e =
+      ap (λ rest. runs ++ rest) (sym (runs_last (is_sealed (flat_reads f) f.core) f.core.size first l (λ v p q. sealed-from v q (closed v p q)))) ∙ e

@@ -1,0 +1,11 @@
+use Rattle.std.proofs.lemmas.Result.{err_from_is_err_and}
+use Rattle.mx_tail.proofs.PassLaws.{whole_end, whole_stop}
+use Rattle.mx_audit.proofs.lines.write_audit.Goals as goal
+
+pub returns-in_err-put_audit : goal.returns-in_err-put_audit
+returns-in_err-put_audit g c =
+    let p = err_from_is_err_and c.from_residual.result c.from_residual.ensures.1 in
+    rw (p.1, p.2) (whole_stop c.new-tail.ensures c.in_err-put_audit.ensures)
+
+pub returns : goal.returns
+returns g c = whole_end c.new-tail.ensures c.in_ok-put_audit.ensures c.end.ensures.puts

@@ -1,0 +1,86 @@
+//! Live domains.
+
+ghost use Rattle.std.specs.Prelude.{◌≡◌, ◌↔◌, ◌<◌, ◌≤◌, IsTrue, OnTrue, OnFalse, length, slice_set};
+ghost use Rattle.mx_model.specs.State.{hart_at};
+ghost use Rattle.mx_boot.specs.Machines.{meaning};
+ghost use Rattle.mx_audit.specs.Marks.{KeepMarks, MarkHart, MarkHarts, MarkLive, MarkOnlyLive, MarkTargets, is_marked, unmarked};
+
+use mx_boot::{AnyMachine, any_machine_is_valid};
+
+/// Marks the live domains: those of the harts and of the callers of their frames, and then targets of gates until a pass over the gates
+/// marks none. Each pass but the last marks a domain.
+pub(crate) fn live_domains(machine: &AnyMachine) -> [bool; 64]
+    ensures { MarkLive (meaning machine.now).core result }
+{
+    let mut live = [false; 64];
+    mark_harts(machine, &mut live);
+    'passes: loop {
+        if !mark_targets(machine, &mut live) {
+            return live;
+        }
+    }
+}
+
+/// Whether a domain is marked. None above 63 is.
+pub(crate) fn is_marked(live: &[bool; 64], domain: usize) -> bool
+    ensures { result ≡ is_marked live.now domain }
+{
+    domain < 64 && live[domain]
+}
+
+// Marks the domains in which harts are, and those to which they can return.
+fn mark_harts(machine: &AnyMachine, live: &mut [bool; 64])
+    requires only { MarkOnlyLive (meaning machine.now).core live.old }
+    ensures only { MarkOnlyLive (meaning machine.now).core live.new }
+    ensures harts { MarkHarts (meaning machine.now).core live.new }
+{
+    for hart in 0..machine.harts() {
+        mark_hart(machine, hart, live);
+    }
+}
+
+fn mark_hart(machine: &AnyMachine, hart: u32, live: &mut [bool; 64])
+    requires hart { hart < length (meaning machine.now).core.harts }
+    requires only { MarkOnlyLive (meaning machine.now).core live.old }
+    ensures only { MarkOnlyLive (meaning machine.now).core live.new }
+    ensures kept { KeepMarks live.old live.new }
+    ensures home { MarkHart live.new (hart_at (meaning machine.now).core hart) }
+{
+    any_machine_is_valid(machine);
+    let view = machine.hart(hart);
+    mark(live, view.domain);
+    let mut i = 0;
+    'frames: while let Some(frame) = machine.frame(hart, i) {
+        mark(live, frame.caller);
+        i += 1;
+    }
+}
+
+// Marks the targets of the gates of marked domains, in one pass over the gates, and tells whether that marked a domain.
+fn mark_targets(machine: &AnyMachine, live: &mut [bool; 64]) -> bool
+    requires only { MarkOnlyLive (meaning machine.now).core live.old }
+    ensures only { MarkOnlyLive (meaning machine.now).core live.new }
+    ensures kept { KeepMarks live.old live.new }
+    ensures more { OnTrue result (unmarked live.new < unmarked live.old) }
+    ensures all { OnFalse result (MarkTargets (meaning machine.now).core live.new) }
+{
+    any_machine_is_valid(machine);
+    let mut more = false;
+    let mut i = 0;
+    'gates: while let Some(gate) = machine.gate(i) {
+        if is_marked(live, gate.domain as usize) && !is_marked(live, gate.target as usize) {
+            mark(live, gate.target);
+            more = true;
+        }
+        i += 1;
+    }
+    more
+}
+
+// Marks a domain.
+fn mark(live: &mut [bool; 64], domain: u32)
+    requires { domain < 64 }
+    ensures { live.new ≡ slice_set live.old domain true }
+{
+    live[domain as usize] = true;
+}
