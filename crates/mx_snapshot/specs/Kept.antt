@@ -7,6 +7,7 @@ use Rattle.mx_words.specs.declared.tables.Need.{Need}
 use Rattle.mx_manifest.specs.declared.parts.ModulePlan.{ModulePlan}
 use Rattle.mx_manifest.specs.InRange.{Each, IsBetween, IsName}
 use Rattle.mx_manifest.specs.Plan.{Said}
+use Rattle.mx_model.specs.State.{Flat}
 use Rattle.mx_snapshot.specs.declared.kept.Kept.TheInside.{Inside}
 
 -- the kind of tables and their limit, the size of a lookaside buffer, the quantum, and the modules' names in their order
@@ -39,6 +40,13 @@ pub record IsKept (kept : KeptPlan) : Type 0 where
   pub names : Each IsName kept.names
   pub apart : (i j : ℕ) (name : List ℕ) → slice_get kept.names i ≡ Some name →
       slice_get kept.names j ≡ Some name → i ≡ j
+
+-- a machine with the kind, limit and size of lookaside buffers that are kept of a plan, and a module for each of its names
+pub record IsOfPlan (kept : KeptPlan) (f : Flat) : Type 0 where
+  pub kind : f.core.kind ≡ kept.kind
+  pub limit : f.core.limit ≡ kept.limit
+  pub lookaside : f.core.buffer ≡ kept.lookaside
+  pub modules : length f.core.modules ≡ length kept.names
 
 -- what the fields of a kept plan tell
 abbrev pub kept_in : Inside → KeptPlan

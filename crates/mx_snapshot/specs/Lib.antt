@@ -1,2 +1,9 @@
 pub mod Same
 pub mod Kept
+pub mod Stored
+pub mod Spelling
+pub mod Reader
+pub mod Rules
+pub mod Fields
+pub mod Fits
+pub mod Resumed
