@@ -1,34 +1,24 @@
 -- What one entry of the ring does to an answer and to a filter.
-use Rattle.std.proofs.Common.{◌≡◌, ℕ, ◌+◌, ◌%◌, ◌<◌, ◌≤◌, Bool, true, false, cond, List, length, get_or, set, drop, find, Option, Some, None, sym, ap, subst, ◌∙◌, arith}
-use Rattle.std.specs.Option.{option_map_or}
+use Rattle.std.proofs.Common.{◌≡◌, ℕ, ◌+◌, ◌%◌, ◌<◌, ◌≤◌, Bool, true, false, cond, List, ◌++◌, length, get_or, set, drop, find, Option, Some, None, refl, sym, ap, subst, ◌∙◌, arith}
+use Rattle.std.specs.Option.{option_map_or, option_or}
 use Rattle.std.proofs.lemmas.List.{at_drop_more, get_or_default}
+use Rattle.std.proofs.lemmas.List.Folds.{find-append}
 use Rattle.std.proofs.lemmas.List.Filters.{FiltersInPlace, FiltersInPlace-more_set, FiltersInPlace-more_no}
 use Rattle.mx_words.specs.declared.perm.Span.{Span}
 use Rattle.mx_words.specs.Caches.{Entry, is_for, found_kept}
 use Rattle.mx_lookaside.specs.Window.{window}
 use Rattle.mx_lookaside.proofs.Ring.{length-window, get_or-window, set-window}
 
-module _ (domain word k n : ℕ) (slots : List Entry) (start : k < 64) (fits : n ≤ 64) (long : length slots ≡ 64) (i : ℕ) (d : Entry) (in_use : i < n) where
-  -- what the entries from the i-th on answer, by what the entry in its slot does
-  from_here : Bool → Option Span
-  from_here b =
-      option_map_or (λ (e : Entry). Some e.1) (cond b (Some (get_or slots ((k + i) % 64) d)) (find (is_for domain word) (drop (i + 1) (window k n slots)))) None
+module _ (domain word : ℕ) where
+  -- what two lists answer, one behind the other
+  behind : (o p : Option Entry) → option_map_or (λ (e : Entry). Some e.1) (option_or o p) None ≡ option_or (option_map_or (λ (e : Entry). Some e.1) o None) (option_map_or (λ (e : Entry). Some e.1) p None)
+  behind None p = refl
+  behind (Some e) p = refl
 
-  entry_there : found_kept (drop i (window k n slots)) domain word ≡ from_here (is_for domain word (get_or slots ((k + i) % 64) d))
-  unfolding from_here
-  entry_there =
-      at_drop_more (λ (es : List Entry). found_kept es domain word) (window k n slots) i d (omega (arith, length-window k n slots start fits long))
-      ∙ ap (λ (e : Entry). option_map_or (λ (e : Entry). Some e.1) (cond (is_for domain word e) (Some e) (find (is_for domain word) (drop (i + 1) (window k n slots)))) None) (get_or-window k n slots start fits long i d in_use)
-
-  -- an entry that answers is the newest that does
-  pub answered : is_for domain word (get_or slots ((k + i) % 64) d) ≡ true → found_kept (drop i (window k n slots)) domain word ≡ Some (get_or slots ((k + i) % 64) d).1
-  unfolding from_here
-  answered hit = entry_there ∙ ap from_here hit
-
-  -- an entry that doesn't leaves the answer to the older ones
-  pub passed : is_for domain word (get_or slots ((k + i) % 64) d) ≡ false → found_kept (drop i (window k n slots)) domain word ≡ found_kept (drop (i + 1) (window k n slots)) domain word
-  unfolding from_here
-  passed miss = entry_there ∙ ap from_here miss
+  pub found-append : (xs ys : List Entry) → found_kept (xs ++ ys) domain word ≡ option_or (found_kept xs domain word) (found_kept ys domain word)
+  found-append xs ys =
+      ap (λ (o : Option Entry). option_map_or (λ (e : Entry). Some e.1) o None) (find-append (is_for domain word) xs ys)
+      ∙ behind (find (is_for domain word) xs) (find (is_for domain word) ys)
 
 module _ (p : Entry → Bool) (es : List Entry) (k n : ℕ) (slots : List Entry) (start : k < 64) (fits : n ≤ 64) (long : length slots ≡ 64) (kept i : ℕ) (d x : Entry) (so_far : FiltersInPlace p es (window k n slots) kept i) (in_use : i < n) (read : x ≡ get_or slots ((k + i) % 64) d) where
   within : i < length (window k n slots)

@@ -1,5 +1,5 @@
 -- The slots of a ring of 64 that are in use, place by place and after a write.
-use Rattle.std.proofs.Common.{◌≡◌, ℕ, zero, suc, ◌+◌, ◌-◌, ◌%◌, ◌<◌, ◌≤◌, min, List, ◌∷◌, length, get_or, set, take, drop, inl, inr, sym, ap, ◌∙◌, arith, length-append, length-drop, length-set, length-take-le, get_or-drop, get_or-take, get_or-set_same, get_or-set_other}
+use Rattle.std.proofs.Common.{◌≡◌, ℕ, zero, suc, ◌+◌, ◌-◌, ◌%◌, ◌<◌, ◌≤◌, min, List, ◌∷◌, ◌++◌, length, get_or, set, take, drop, inl, inr, sym, ap, ◌∙◌, arith, length-append, length-drop, length-set, length-take-le, get_or-drop, get_or-take, get_or-set_same, get_or-set_other}
 use Rattle.std.proofs.lemmas.List.{same_lists, take-take, take_min, get_or_append_left, get_or-append_right}
 use Rattle.std.proofs.lemmas.Bool.{cases_lt, cases_eq}
 use Rattle.mx_lookaside.specs.Window.{window}
@@ -56,3 +56,23 @@ module _ {X : Type 0} (k n : ℕ) (xs : List X) (start : k < 64) (fits : n ≤ 6
         let low : i < m = omega (arith, length-window b m ys b_in m_in long_new) in
         get_or-window b m ys b_in m_in long_new i d low ∙ first_or_later i d (omega arith) (omega arith) ∙ sym (get_or-take m w i d low))
         ∙ ap (λ z. take z w) (omega arith) ∙ take_min N w
+
+-- the slots in use are those up to the ring's end, and then those from its start on
+module _ {X : Type 0} (k n s : ℕ) (xs : List X) (start : k < 64) (fits : n ≤ 64) (long : length xs ≡ 64) (run : s ≡ min n (64 - k)) where
+  pub window_runs : window k n xs ≡ take s (drop k xs) ++ take (n - s) xs
+  window_runs =
+      let a = take s (drop k xs) in
+      let b = take (n - s) xs in
+      let up : length a ≡ s = length-take-le s (drop k xs) (omega (arith, length-drop k xs)) in
+      let on : length b ≡ n - s = length-take-le (n - s) xs (omega arith) in
+      let all : n ≡ length (a ++ b) = omega (arith, length-append a b, up, on) in
+      same_lists (window k n xs) (a ++ b) (length-window k n xs start fits long ∙ all) (λ i d within.
+      let low : i < n = omega (arith, length-window k n xs start fits long) in
+      get_or-window k n xs start fits long i d low ∙ elim (cases_lt i s) [
+        | inl before ↦
+            let e : (k + i) % 64 ≡ k + i = omega arith in
+            ap (λ j. get_or xs j d) e ∙ sym (get_or_append_left a b d i (omega (arith, up)) ∙ get_or-take s (drop k xs) i d before ∙ get_or-drop k xs i d)
+        | inr after ↦
+            let e : (k + i) % 64 ≡ i - s = omega arith in
+            ap (λ j. get_or xs j d) e ∙ sym (get_or-append_right a b s i d up after ∙ get_or-take (n - s) xs (i - s) d (omega arith))
+      ])

@@ -54,13 +54,16 @@ impl<const N: usize> Lookaside<N> {
         ensures found { result ≡ found_kept self.now domain word }
         ensures bounded { length self.now ≤ N }
     {
-        for age in 0..self.len {
-            let entry = self.slots[(self.newest + age) % SLOTS];
-            if answers(&entry, domain, word) {
-                return Some(entry.1);
-            }
+        // The entries up to the ring's end, and then those from its start on: no place needs a remainder.
+        let run = self.len.min(SLOTS - self.newest);
+        match newest_in(
+            &self.slots[self.newest..self.newest + run],
+            domain,
+            word,
+        ) {
+            Some(span) => Some(span),
+            None => newest_in(&self.slots[..self.len - run], domain, word),
         }
-        None
     }
 
     /// Makes (domain, span) the newest entry. A buffer with `N` entries loses its oldest.
@@ -94,6 +97,18 @@ impl<const N: usize> Lookaside<N> {
     {
         self.len = 0;
     }
+}
+
+/// The span of the first of these entries that is the domain's and covers `word`.
+fn newest_in(entries: &[(u32, Span)], domain: u32, word: u32) -> Option<Span>
+    ensures { result ≡ found_kept entries.now domain word }
+{
+    for entry in entries {
+        if answers(entry, domain, word) {
+            return Some(entry.1);
+        }
+    }
+    None
 }
 
 /// Whether the entry is the domain's and its span covers `word`.
