@@ -143,21 +143,37 @@ static const char *one_of(const char *const *list) {
     return list[below(size)];
 }
 
-/* A token in place of another one: of the same kind, more often than not. */
+/* A token in place of another one, nearly always of the same kind. */
 static void change_a_token(const struct language *language) {
     size_t size, at = token(below(count), &size);
     if (size == 0) return;
+    int is_same = below(12) > 0;
     if (isdigit(bytes[at]) || bytes[at] == '-')
-        put_in_place_of(at, size, one_of(below(4) ? numbers : language->words));
+        put_in_place_of(at, size, one_of(is_same ? numbers : language->words));
     else if (bytes[at] == '"')
-        put_in_place_of(at, size, one_of(below(4) ? language->texts : numbers));
-    else
-        put_in_place_of(at, size, one_of(below(8) ? language->words : language->texts));
+        put_in_place_of(at, size, one_of(is_same ? language->texts : numbers));
+    else if (is_word(bytes[at]))
+        put_in_place_of(at, size, one_of(is_same ? language->words : language->texts));
 }
 
+/* Whether the line at a place begins with the first word of another one. */
+static int begins_alike(size_t at, const char *line) {
+    size_t i = 0;
+    while (line[i] && line[i] != ' ' && line[i] != '\n') {
+        if (at + i >= count || bytes[at + i] != (unsigned char)line[i]) return 0;
+        i++;
+    }
+    return at + i < count && !is_word(bytes[at + i]);
+}
+
+/* A line in place of one that begins with the same word, or, where there is none or now and then, between two others. */
 static void put_a_line_in(const struct language *language) {
     const char *line = one_of(language->lines);
-    put_in(line_at(below(count + 1)), line, strlen(line));
+    size_t at = line_at(below(count + 1)), seen = 0;
+    for (size_t i = 0; i < count && below(8); i = line_end(i))
+        if (begins_alike(i, line) && below(++seen) == 0) at = i;
+    if (seen) take_out(at, line_end(at) - at);
+    put_in(at, line, strlen(line));
 }
 
 static void put_a_sign_in(void) {
@@ -177,20 +193,16 @@ static void grow(const struct language *language) {
 }
 
 static void change_text(const struct language *language) {
-    switch (below(20)) {
+    switch (below(40)) {
     case 0: flip_a_bit(); break;
-    case 1: cut_out(); break;
-    case 2: below(4) ? cut_out() : cut_off(); break;
-    case 3: copy_a_part(); break;
-    case 4: below(4) ? put_a_sign_in() : put_noise_in(); break;
-    case 5: below(3) ? copy_a_line() : grow(language); break;
-    case 6: drop_a_line(); break;
-    case 7: move_a_line(); break;
-    case 8: copy_a_line(); break;
-    case 9:
-    case 10:
-    case 11:
-    case 12: put_a_line_in(language); break;
+    case 1: below(4) ? cut_out() : cut_off(); break;
+    case 2: copy_a_part(); break;
+    case 3: below(4) ? put_a_sign_in() : put_noise_in(); break;
+    case 4: grow(language); break;
+    case 5: case 6: case 7: drop_a_line(); break;
+    case 8: case 9: move_a_line(); break;
+    case 10: case 11: copy_a_line(); break;
+    case 12: case 13: case 14: case 15: case 16: case 17: case 18: case 19: put_a_line_in(language); break;
     default: change_a_token(language);
     }
 }

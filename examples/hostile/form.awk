@@ -53,7 +53,7 @@ function faults() {
     module = "name|image|at|perm|words|wx|heap|heap_words|stack|stack_words|gates|returns|on_fault|seal"
     keys = "(manifest (" top ")|module (" module ")|hart (module|entry)) 0"
     fault[1] = "manifest - 0"
-    fault[2] = "(manifest|module|hart) - 0"
+    fault[2] = "((manifest|module|hart) -|module gates) 0"
     fault[3] = fault[4] = fault[5] = keys
     fault[6] = "module (image|wx) 0"
     fault[7] = "module name 0"

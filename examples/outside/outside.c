@@ -2,7 +2,7 @@
  * From the environment:
  *
  *   FAIL   the number of the call that fails, counted from 1; 0 for none
- *   ERROR  the number of its error
+ *   ERROR  the number of its error; 0 where a read or a write moves nothing, and other calls don't fail
  *   CRUMBS 1 where each read and write moves one byte at most
  *   COUNT  a file to which goes at the end how many calls there were */
 #define _GNU_SOURCE
@@ -40,11 +40,14 @@ __attribute__((destructor)) static void end(void) {
     fclose(file);
 }
 
-static int fails(void) {
+/* Whether this call is the one that fails; without an error what can move nothing moves nothing. */
+static int is_failing(void) {
     if (is_over || ++made != failing) return 0;
     errno = error;
     return 1;
 }
+
+static int fails(void) { return is_failing() && error != 0; }
 
 static size_t moved(size_t asked) { return crumbs && asked > 1 && !is_over ? 1 : asked; }
 
@@ -72,9 +75,11 @@ off_t lseek(int file, off_t place, int from) { return fails() ? -1 : (off_t)sysc
 off64_t lseek64(int file, off64_t place, int from) { return lseek(file, place, from); }
 
 ssize_t read(int file, void *to, size_t count) {
-    return fails() ? -1 : (ssize_t)syscall(SYS_read, file, to, moved(count));
+    if (is_failing()) return error ? -1 : 0;
+    return (ssize_t)syscall(SYS_read, file, to, moved(count));
 }
 
 ssize_t write(int file, const void *from, size_t count) {
-    return fails() ? -1 : (ssize_t)syscall(SYS_write, file, from, moved(count));
+    if (is_failing()) return error ? -1 : 0;
+    return (ssize_t)syscall(SYS_write, file, from, moved(count));
 }
