@@ -23,6 +23,7 @@ use Rattle.mx_model.specs.Valid.{IsValid}
 use Rattle.mx_model.proofs.ListLaws.{found-passes}
 use Rattle.mx_model.proofs.TestLaws.{first-passes, found-some}
 use Rattle.mx_model.proofs.ValidParts.{home-at}
+use Rattle.mx_laws.proofs.BlockLaws.{block-in}
 use Rattle.mx_coherence.proofs.FollowLaws.{IsInside}
 use Rattle.mx_coherence.proofs.QuietLaws.{IsQuiet}
 use Rattle.mx_coherence.proofs.StepLaws.{Moved, moved-cache, moved-module, moved-ram, moved-twice}
@@ -77,21 +78,6 @@ announced-answers c h range a0 = record { core = moved-self c h; change = tt }
 announced-judged : (c : Core) (h : ℕ) (range : ℕ × ℕ) (o : Option ℕ) (s : Served) → (o ≡ None → Announced c h range s) → Announced c h range (judged c o s)
 announced-judged c h range None s q = q refl
 announced-judged c h range (Some n) s q = announced-answers c h range (code n)
-
--- a live block lies in its heap area
-block-in : (low high first : ℕ) (bs : List Area) → AreApart low high bs → IfSome (block_words bs first) (λ n. (low ≤ first) × (first + n ≤ high))
-block-in low high first [] p = tt
-block-in low high first (b ∷ bs) p = elim (b.first == first) as
-    (λ t. (b.first == first) ≡ t → IfSome (option_map (λ (x : Area). x.count) (cond t (Some b) (find (λ (x : Area). x.first == first) bs)))
-    (λ n. (low ≤ first) × (first + n ≤ high))) [
-      | true ↦ λ t. let e = eqb-true b.first first t in let l = p.0 in let h = apart_ordered (b.first + b.count) high bs p.2 in
-          (omega (arith, e, l), omega (arith, e, h))
-      | false ↦ λ t. lower (block_words bs first) (block-in (b.first + b.count) high first bs p.2)
-    ] refl
-  where
-    lower : (o : Option ℕ) → IfSome o (λ n. (b.first + b.count ≤ first) × (first + n ≤ high)) → IfSome o (λ n. (low ≤ first) × (first + n ≤ high))
-    lower None q = tt
-    lower (Some n) q = let l = p.0 in let m = q.0 in (omega (arith, l, m), q.1)
 
 -- and after: the caller keeps no span that meets the range
 pub record Drops (c : Core) (h : ℕ) (s : Served) : Type 0 where

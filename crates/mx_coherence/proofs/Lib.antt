@@ -10,3 +10,4 @@ pub mod ActionLaws
 pub mod TurnLaws
 pub mod RunLaws
 pub mod Examples
+pub mod Premises

@@ -41,7 +41,7 @@ put-beside (suc size) xs k n j p =
     ∙ get_or-set_other xs k j (n % 256) 0 (λ e. ⊎_elim (λ l. let q : ⊥ = omega (arith, l, e) in q) (λ l. let q : ⊥ = omega (arith, l, e) in q) p)
 
 -- a byte beside the cleared ones, and one of them
-cleared-beside : (xs : List ℕ) (k n j : ℕ) → k + n ≤ length xs → (j < k) ⊎ (k + n ≤ j) → get_or (cleared_at xs k n) j 0 ≡ get_or xs j 0
+pub cleared-beside : (xs : List ℕ) (k n j : ℕ) → k + n ≤ length xs → (j < k) ⊎ (k + n ≤ j) → get_or (cleared_at xs k n) j 0 ≡ get_or xs j 0
 unfolding cleared_at
 cleared-beside xs k n j p s = grind (arith, common_steps)
 
@@ -49,7 +49,7 @@ cleared-inside : (xs : List ℕ) (k n j : ℕ) → k + n ≤ length xs → k ≤
 unfolding cleared_at
 cleared-inside xs k n j p a b = grind (arith, common_steps)
 
-uncovered : (first count w : ℕ) → covers first count w ≡ false → (w < first) ⊎ (first + count ≤ w)
+pub uncovered : (first count w : ℕ) → covers first count w ≡ false → (w < first) ⊎ (first + count ≤ w)
 uncovered first count w e = elim (nat_le first w) as (λ b. nat_le first w ≡ b → b && nat_lt (w - first) count ≡ false → (w < first) ⊎ (first + count ≤ w)) [
   | true ↦ λ t f. let a = leb-true first w t in let b = ltb-false (w - first) count f in inr (omega (arith, a, b))
   | false ↦ λ t f. inl (leb-false first w t)
@@ -183,13 +183,13 @@ module _ (r : Reads) (c : Core) (h : ℕ) (v : IsValid c) (l : h < length c.hart
   foreign-asked k false e = foreign-ram r c h (asked r seen h (hart_at c h) k false).core refl
 
 -- a fault writes nothing
-ram-killed : (d cause : ℕ) (c : Core) → (killed d cause c).ram ≡ c.ram
+pub ram-killed : (d cause : ℕ) (c : Core) → (killed d cause c).ram ≡ c.ram
 ram-killed d cause c = elim ((module_at c d).kills && not (cause == 20)) as (λ b. (cond b (with_module d (record (module_at c d) { dead = true }) c) c).ram ≡ c.ram) [
   | true ↦ refl
   | false ↦ refl
 ]
 
-ram-given_up : (c : Core) (h : ℕ) (x : Hart) (cause : ℕ) (o : Option Frame) → (given_up c h x cause o).ram ≡ c.ram
+pub ram-given_up : (c : Core) (h : ℕ) (x : Hart) (cause : ℕ) (o : Option Frame) → (given_up c h x cause o).ram ≡ c.ram
 ram-given_up c h x cause None = refl
 ram-given_up c h x cause (Some frame) = refl
 

@@ -85,10 +85,10 @@ harts-leaves r c call = record {
   alloc = λ s first a. refl;
 }
 
-harts-serve : (r : Reads) (c : Core) (call : Call) → (serve r c call).core.harts ≡ c.harts
+pub harts-serve : (r : Reads) (c : Core) (call : Call) → (serve r c call).core.harts ≡ c.harts
 harts-serve r c call = served-walk r c call (λ (e : Core). e.harts ≡ c.harts) (harts-leaves r c call)
 
-harts-killed : (d cause : ℕ) (c : Core) → (killed d cause c).harts ≡ c.harts
+pub harts-killed : (d cause : ℕ) (c : Core) → (killed d cause c).harts ≡ c.harts
 harts-killed d cause c = elim ((module_at c d).kills && not (cause == 20)) as (λ b. (cond b (with_module d (record (module_at c d) { dead = true }) c) c).harts ≡ c.harts) [
   | true ↦ refl
   | false ↦ refl
@@ -115,7 +115,7 @@ set-asked r c h x call Y k true = set-done h x (serve r c call) c.harts Y (harts
 set-asked r c h x call Y k false = let y : Hart = record x { status = Waiting call nobody } in Set y refl (k y refl)
 
 -- the hart over a frame
-abbrev over : Hart → Frame → List ℕ → Hart
+abbrev pub over : Hart → Frame → List ℕ → Hart
 over x f regs = record x { regs = restored regs f.kept; pc = f.back; domain = f.caller; frames = below_top x.frames; status = Running }
 
 -- what is to be shown of the hart that an action sets: frames as they were, one more, and one less
@@ -136,7 +136,7 @@ length-written : (regs : List ℕ) (rd v : ℕ) → length (written regs rd v) �
 length-written regs rd v = elim (rd == 0) as (λ b. length (cond b regs (slice_set regs rd v)) ≡ length regs) [ true ↦ refl | false ↦ length-set regs rd v ]
 
 -- hart x with other registers and another pc
-abbrev going : Hart → List ℕ → ℕ → Hart
+abbrev pub going : Hart → List ℕ → ℕ → Hart
 going x regs pc = record x { regs = regs; pc = pc; status = Running }
 
 set-acted : (V : Call → Type 0) (r : Reads) (c d : Core) (h : ℕ) (x : Hart) (Y : Hart → Type 0) → Frames x Y → (a : Action) → IsLawful V r d h x a →

@@ -5,6 +5,7 @@ pub mod TwinLaws
 pub mod AfterLaws
 pub mod CallWalk
 pub mod Lawful
+pub mod BlockLaws
 pub mod ForeignLaws
 pub mod FrameLaws
 pub mod ComparisonLaws
@@ -12,3 +13,4 @@ pub mod Examples
 pub mod StandingExamples
 pub mod QuietLaws
 pub mod QuietExamples
+pub mod Premises

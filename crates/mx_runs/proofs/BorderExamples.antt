@@ -1,5 +1,5 @@
 -- Worked examples of borders and the sorts of turns, computed: each way of each row, with the border that stands there.
-use Rattle.std.proofs.Common.{◌≡◌, ℕ, Bool, true, false, List, [], ◌∷◌, replicate, refl, arith}
+use Rattle.std.proofs.Common.{◌≡◌, ℕ, Bool, true, false, List, [], ◌∷◌, replicate, refl, arith, lit≤}
 use Rattle.mx_words.specs.declared.perm.Perm.{Perm}
 use Rattle.mx_words.specs.declared.perm.Perm.TheVariants as P
 use Rattle.mx_words.specs.Bytes.{number_at, put_at}
@@ -65,13 +65,13 @@ crooked = (
     leads = refl;
     address = refl;
     passes =
-        Crooked (record { kind = refl; note = refl });
+        Crooked (λ e. (let q : ⊥ = omega (arith, e) in q)) (record { kind = refl; note = refl });
   },
 )
 
 sent-back : is_of (standing_at 115 P.ExecuteRead 0x80000008 (gate 1 4 2 ∷ []) [] false true) (AtGate 4 2 0x80000008)
 unfolding decoded effect holds imm_result reg_result loaded number_at put_at imm_i imm_s imm_b imm_u imm_j extended
-sent-back = (refl, record { place = refl; leads = refl; address = refl; passes = SentBack refl refl })
+sent-back = (refl, record { place = refl; leads = refl; address = refl; passes = SentBack refl refl refl })
 
 full : is_of
     (standing_at 115 P.ExecuteRead 0x80000008 (gate 1 4 2 ∷ [])
@@ -84,7 +84,7 @@ full = (
     leads = refl;
     address = refl;
     passes =
-        Full (record { kind = refl; note = refl });
+        Full (lit≤ tt) (record { kind = refl; note = refl });
   },
 )
 
@@ -92,14 +92,21 @@ full = (
 no-frame : is_of (standing_at 0x00008067 P.ExecuteRead 0x80000008 (gate 1 4 1 ∷ []) [] false false)
     (Back 0x80000010 0x80000008)
 unfolding decoded effect holds imm_result reg_result loaded number_at put_at imm_i imm_s imm_b imm_u imm_j extended
-no-frame = (refl, (refl, NoFrame (record { kind = refl; note = refl })))
+no-frame = (refl, (refl, NoFrame refl (record { kind = refl; note = refl })))
 
 elsewhere : is_of
     (standing_at 0x00008067 P.ExecuteRead 0x80000008 (gate 1 4 1 ∷ [])
     (frame 0x80000000 1 (replicate 15 0) ∷ frame 0x80000004 2 (replicate 15 0) ∷ []) false false)
     (Back 0x80000010 0x80000008)
 unfolding decoded effect holds imm_result reg_result loaded number_at put_at imm_i imm_s imm_b imm_u imm_j extended
-elsewhere = (refl, (refl, Elsewhere (record { kind = refl; note = refl })))
+elsewhere = (
+  refl,
+  (
+    refl,
+    Elsewhere (frame 0x80000000 1 (replicate 15 0) ∷ []) (frame 0x80000004 2 (replicate 15 0)) refl
+        (λ e. (let q : ⊥ = omega (arith, e) in q)) (record { kind = refl; note = refl }),
+  ),
+)
 
 over-frame : is_of
     (standing_at 0x00008067 P.ExecuteRead 0x80000008 (gate 1 4 1 ∷ [])

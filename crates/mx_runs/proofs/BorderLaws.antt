@@ -48,17 +48,18 @@ module _ (r : Reads) (c : Core) (h : ℕ) (run : IsRunning c h) (a : Action) (d 
   abbrev own : Hart
   own = hart_at c h
 
-  row-passes : Passes own a → PassesGate r c h
-  row-passes (ByCrooked e) = Crooked ((traps-does r c h a 19 (reg own.regs 1) d).1 e)
-  row-passes (ByFull e) = Full ((traps-does r c h a 16 own.pc d).1 e)
-  row-passes (ByDead e) =
-      let k = does-action r c h a Bounces e d in SentBack (ap (λ (m : Made). m.kind) k.is) (frames-sent r c h run k)
-  row-passes (Through target e) =
+  row-passes : (target : ℕ) → Passes (module_at c target).dead own target a → PassesGate r c h target
+  row-passes target (ByCrooked e n) = Crooked n ((traps-does r c h a 19 (reg own.regs 1) d).1 e)
+  row-passes target (ByDead e n) =
+      let k = does-action r c h a Bounces e d in SentBack n (ap (λ (m : Made). m.kind) k.is) (frames-sent r c h run k)
+  row-passes target (ByFull e n) = Full n ((traps-does r c h a 16 own.pc d).1 e)
+  row-passes target (Through e) =
       let k = does-action r c h a (Crosses target) e d in Crossing (ap (λ (m : Made). m.kind) k.is)
 
   row-leaves : (target : ℕ) → Leaves own target a → ReturnsTo r c h target
-  row-leaves target (ByNone e) = NoFrame ((traps-does r c h a 18 target d).1 e)
-  row-leaves target (ByOther e) = Elsewhere ((traps-does r c h a 17 target d).1 e)
+  row-leaves target (ByNone e n) = NoFrame n ((traps-does r c h a 18 target d).1 e)
+  row-leaves target (ByOther f e t n) =
+      Elsewhere (below_top own.frames) f (top-split own.frames f t) n ((traps-does r c h a 17 target d).1 e)
   row-leaves target (Over rd f e t b) =
       let k = does-action r c h a (Returns rd f) e d in
       OverFrame f (ap (λ (m : Made). m.kind) k.is)
@@ -78,7 +79,7 @@ module _ (r : Reads) (c : Core) (h : ℕ) (run : IsRunning c h) (a : Action) (d 
   row-meets : (k : Border) → Meets c h own k a → IsOfRow r c h k
   row-meets (Trap cause value) m = ((traps-does r c h a cause value d).1 m.0, m.1)
   row-meets (AtGate word target x1) m =
-      record { place = m.place; leads = m.leads; address = m.address; passes = row-passes m.passes }
+      record { place = m.place; leads = m.leads; address = m.address; passes = row-passes target m.passes }
   row-meets (Back pc target) m = (m.0, row-leaves target m.1)
   row-meets (Call number a0 a1 a2 a3) m =
       record { x17 = m.x17; x10 = m.x10; x11 = m.x11; x12 = m.x12; x13 = m.x13; kind = kind-asks m.asks }
@@ -126,15 +127,15 @@ abbrev IsProper : Hart → Action → Type 0
 IsProper x a = (over_of a ≡ None) ⊎ (over_of a ≡ top x.frames)
 
 module _ (c : Core) (h : ℕ) (x : Hart) (a : Action) where
-  sort-passes : Passes x a → sort a ≡ 1
-  sort-passes (ByCrooked e) = ap sort e
-  sort-passes (ByFull e) = ap sort e
-  sort-passes (ByDead e) = ap sort e
-  sort-passes (Through target e) = ap sort e
+  sort-passes : (target : ℕ) → Passes (module_at c target).dead x target a → sort a ≡ 1
+  sort-passes target (ByCrooked e n) = ap sort e
+  sort-passes target (ByDead e n) = ap sort e
+  sort-passes target (ByFull e n) = ap sort e
+  sort-passes target (Through e) = ap sort e
 
   sort-leaves : (target : ℕ) → Leaves x target a → sort a ≡ 2
-  sort-leaves target (ByNone e) = ap sort e
-  sort-leaves target (ByOther e) = ap sort e
+  sort-leaves target (ByNone e n) = ap sort e
+  sort-leaves target (ByOther f e t n) = ap sort e
   sort-leaves target (Over rd f e t b) = ap sort e
 
   sort-goes : GoesOn a → sort a ≡ 4
@@ -143,20 +144,20 @@ module _ (c : Core) (h : ℕ) (x : Hart) (a : Action) where
 
   sort-meets : (k : Border) → Meets c h x k a → sort a ≡ row_of k
   sort-meets (Trap cause value) m = ap sort m.0 ∙ sort-trap cause m.1
-  sort-meets (AtGate word target x1) m = sort-passes m.passes
+  sort-meets (AtGate word target x1) m = sort-passes target m.passes
   sort-meets (Back pc target) m = sort-leaves target m.1
   sort-meets (Call number a0 a1 a2 a3) m = ap sort m.asks
   sort-meets Nothing m = sort-goes m
 
-  proper-passes : Passes x a → IsProper x a
-  proper-passes (ByCrooked e) = inl (ap over_of e)
-  proper-passes (ByFull e) = inl (ap over_of e)
-  proper-passes (ByDead e) = inl (ap over_of e)
-  proper-passes (Through target e) = inl (ap over_of e)
+  proper-passes : (target : ℕ) → Passes (module_at c target).dead x target a → IsProper x a
+  proper-passes target (ByCrooked e n) = inl (ap over_of e)
+  proper-passes target (ByDead e n) = inl (ap over_of e)
+  proper-passes target (ByFull e n) = inl (ap over_of e)
+  proper-passes target (Through e) = inl (ap over_of e)
 
   proper-leaves : (target : ℕ) → Leaves x target a → IsProper x a
-  proper-leaves target (ByNone e) = inl (ap over_of e)
-  proper-leaves target (ByOther e) = inl (ap over_of e)
+  proper-leaves target (ByNone e n) = inl (ap over_of e)
+  proper-leaves target (ByOther f e t n) = inl (ap over_of e)
   proper-leaves target (Over rd f e t b) = inr (ap over_of e ∙ sym t)
 
   proper-goes : GoesOn a → IsProper x a
@@ -165,7 +166,7 @@ module _ (c : Core) (h : ℕ) (x : Hart) (a : Action) where
 
   proper-meets : (k : Border) → Meets c h x k a → IsProper x a
   proper-meets (Trap cause value) m = inl (ap over_of m.0)
-  proper-meets (AtGate word target x1) m = proper-passes m.passes
+  proper-meets (AtGate word target x1) m = proper-passes target m.passes
   proper-meets (Back pc target) m = proper-leaves target m.1
   proper-meets (Call number a0 a1 a2 a3) m = inl (ap over_of m.asks)
   proper-meets Nothing m = proper-goes m
@@ -281,20 +282,20 @@ module _ (r : Reads) (c : Core) (h : ℕ) (run : IsRunning c h) (a : Action) (d 
   sort-given f (Sent e) more = absurd (as-many f e more)
   sort-given f (Given rd g e) more = ap sort e
 
-  sort-gate : PassesGate r c h → sort a ≡ 1
-  sort-gate (Crooked t) = ap sort ((traps-does r c h a 19 (register_of c h 1) d).0 t)
-  sort-gate (Full t) = ap sort ((traps-does r c h a 16 (pc_of c h) d).0 t)
-  sort-gate (SentBack k same) = sort-sent (comes-back a (sym kind-is ∙ k)) same
-  sort-gate (Crossing k) = of-kind T.Crossed k (omega arith)
+  sort-gate : (target : ℕ) → PassesGate r c h target → sort a ≡ 1
+  sort-gate target (Crooked n t) = ap sort ((traps-does r c h a 19 (register_of c h 1) d).0 t)
+  sort-gate target (SentBack n k same) = sort-sent (comes-back a (sym kind-is ∙ k)) same
+  sort-gate target (Full n t) = ap sort ((traps-does r c h a 16 (pc_of c h) d).0 t)
+  sort-gate target (Crossing k) = of-kind T.Crossed k (omega arith)
 
   sort-return : (target : ℕ) → ReturnsTo r c h target → sort a ≡ 2
-  sort-return target (NoFrame t) = ap sort ((traps-does r c h a 18 target d).0 t)
-  sort-return target (Elsewhere t) = ap sort ((traps-does r c h a 17 target d).0 t)
+  sort-return target (NoFrame n t) = ap sort ((traps-does r c h a 18 target d).0 t)
+  sort-return target (Elsewhere below f k n t) = ap sort ((traps-does r c h a 17 target d).0 t)
   sort-return target (OverFrame f k more b) = sort-given f (comes-back a (sym kind-is ∙ k)) more
 
   sort-row : (b : Border) → IsOfRow r c h b → sort a ≡ row_of b
   sort-row (Trap cause value) q = ap sort ((traps-does r c h a cause value d).0 q.0) ∙ sort-trap cause q.1
-  sort-row (AtGate word target x1) q = sort-gate q.passes
+  sort-row (AtGate word target x1) q = sort-gate target q.passes
   sort-row (Back pc target) q = sort-return target q.1
   sort-row (Call number a0 a1 a2 a3) q = of-kind T.Called q.kind (omega arith)
   sort-row Nothing q = of-kind T.Ran q (omega arith)
@@ -306,8 +307,8 @@ module _ (r : Reads) (c : Core) (h : ℕ) (run : IsRunning c h) (a : Action) (d 
   target_of k = 0
 
   target-leaves : (target : ℕ) → Leaves it target a → target_of a ≡ target
-  target-leaves target (ByNone e) = ap target_of e
-  target-leaves target (ByOther e) = ap target_of e
+  target-leaves target (ByNone e n) = ap target_of e
+  target-leaves target (ByOther f e t n) = ap target_of e
   target-leaves target (Over rd f e t b) = ap target_of e ∙ b
 
   same-frame : (f g : Frame) → Some f ≡ Some g → f ≡ g
@@ -323,8 +324,8 @@ module _ (r : Reads) (c : Core) (h : ℕ) (run : IsRunning c h) (a : Action) (d 
       ap target_of e ∙ ap (λ (k : Frame). k.back) (same-frame g f last) ∙ b
 
   target-return : (target : ℕ) → ReturnsTo r c h target → target_of a ≡ target
-  target-return target (NoFrame t) = ap target_of ((traps-does r c h a 18 target d).0 t)
-  target-return target (Elsewhere t) = ap target_of ((traps-does r c h a 17 target d).0 t)
+  target-return target (NoFrame n t) = ap target_of ((traps-does r c h a 18 target d).0 t)
+  target-return target (Elsewhere below f k n t) = ap target_of ((traps-does r c h a 17 target d).0 t)
   target-return target (OverFrame f k more b) = target-given target f (comes-back a (sym kind-is ∙ k)) more b
 
   -- the border of a fault

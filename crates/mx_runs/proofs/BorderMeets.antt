@@ -1,6 +1,8 @@
 -- A running hart's border and the action of its turn, row by row.
-use Rattle.std.proofs.Common.{◌≡◌, ℕ, ◌-◌, ◌/◌, ◌%◌, ◌≤◌, Bool, true, false, not, ◌==◌, nat_le, List, length, refl, sym, ◌∙◌, ap, arith, eqb-true, if◌then◌else◌, Option, Some, None}
+use Rattle.std.proofs.Common.{◌≡◌, ◌≢◌, ℕ, ◌-◌, ◌/◌, ◌%◌, ◌≤◌, Bool, true, false, not, ◌==◌, nat_le, List, [], ◌∷◌, length, refl, sym, ◌∙◌, ap, arith, eqb-true, if◌then◌else◌, Option, Some, None}
+use Rattle.std.specs.List.{last_or}
 use Rattle.std.specs.Option.{option_map_or}
+use Rattle.std.proofs.lemmas.Bool.{eqb-false, leb-true}
 use Rattle.mx_words.specs.declared.perm.Access.TheVariants as A
 use Rattle.mx_words.specs.Ranges.{ram_base}
 use Rattle.mx_isa.specs.declared.inst.Inst.{Inst}
@@ -19,16 +21,16 @@ use Rattle.mx_laws.specs.Twins.{IsRunning}
 use Rattle.mx_runs.specs.Borders.{IsGateCause}
 use Rattle.mx_runs.proofs.TrapLaws.{Does, HasOwnCause, cause-effect, does-looked}
 
--- what a hart does at a call gate, at a return gate, and by an instruction without a border
-pub data Passes (x : Hart) (a : Action) : Type 0 where
-  ByCrooked : a ≡ Traps 19 (reg x.regs 1) → Passes x a
-  ByFull : a ≡ Traps 16 x.pc → Passes x a
-  ByDead : a ≡ Bounces → Passes x a
-  Through : (target : ℕ) → a ≡ Crosses target → Passes x a
+-- what a hart does at a call gate to a target, dead or not, at a return gate, and by an instruction without a border
+pub data Passes (dead : Bool) (x : Hart) (target : ℕ) (a : Action) : Type 0 where
+  ByCrooked : a ≡ Traps 19 (reg x.regs 1) → reg x.regs 1 % 4 ≢ 0 → Passes dead x target a
+  ByDead : a ≡ Bounces → dead ≡ true → Passes dead x target a
+  ByFull : a ≡ Traps 16 x.pc → most_frames ≤ length x.frames → Passes dead x target a
+  Through : a ≡ Crosses target → Passes dead x target a
 
 pub data Leaves (x : Hart) (target : ℕ) (a : Action) : Type 0 where
-  ByNone : a ≡ Traps 18 target → Leaves x target a
-  ByOther : a ≡ Traps 17 target → Leaves x target a
+  ByNone : a ≡ Traps 18 target → x.frames ≡ [] → Leaves x target a
+  ByOther : (f : Frame) → a ≡ Traps 17 target → top x.frames ≡ Some f → f.back ≢ target → Leaves x target a
   Over : (rd : ℕ) (f : Frame) → a ≡ Returns rd f → top x.frames ≡ Some f → f.back ≡ target → Leaves x target a
 
 pub data GoesOn (a : Action) : Type 0 where
@@ -40,7 +42,7 @@ pub record MeetsGate (c : Core) (x : Hart) (word target x1 : ℕ) (a : Action) :
   pub place : (x.pc - ram_base) / 4 ≡ word
   pub leads : target_at c x.domain word ≡ Some target
   pub address : reg x.regs 1 ≡ x1
-  pub passes : Passes x a
+  pub passes : Passes (module_at c target).dead x target a
 
 pub record MeetsCall (h : ℕ) (x : Hart) (number a0 a1 a2 a3 : ℕ) (a : Action) : Type 0 where
   pub x17 : reg x.regs 17 ≡ number
@@ -72,27 +74,43 @@ word-leads : (c : Core) (d pc target : ℕ) (b : Bool) →
 word-leads c d pc target true e = e
 word-leads c d pc target false e = absurd (let q : ⊥ = cc in q)
 
-passes-choice : (x : Hart) (b : Bool) (d e : Decided) → Passes x d.action → Passes x e.action →
-    Passes x (if b then d else e).action
-passes-choice x true d e p q = p
-passes-choice x false d e p q = q
+not-holds : (b : Bool) → not b ≡ true → b ≡ false
+not-holds true e = absurd (let q : ⊥ = cc in q)
+not-holds false e = refl
 
-passes-gate : (c : Core) (x : Hart) (target : ℕ) → Passes x (at_gate c x target).action
+passes-choice : (dead : Bool) (x : Hart) (target : ℕ) (b : Bool) (d e : Decided) →
+    (b ≡ true → Passes dead x target d.action) → (b ≡ false → Passes dead x target e.action) →
+    Passes dead x target (if b then d else e).action
+passes-choice dead x target true d e p q = p refl
+passes-choice dead x target false d e p q = q refl
+
+passes-gate : (c : Core) (x : Hart) (target : ℕ) → Passes (module_at c target).dead x target (at_gate c x target).action
 passes-gate c x target =
     let x1 = reg x.regs 1 in
-    passes-choice x (not (x1 % 4 == 0)) (traps 19 x1) _ (ByCrooked refl) (
-    passes-choice x (module_at c target).dead (without_look Bounces) _ (ByDead refl) (
-    passes-choice x (nat_le most_frames (length x.frames)) (traps 16 x.pc) (without_look (Crosses target))
-    (ByFull refl) (Through target refl)))
+    let dead = (module_at c target).dead in
+    passes-choice dead x target (not (x1 % 4 == 0)) (traps 19 x1) _
+    (λ t. ByCrooked refl (eqb-false (x1 % 4) 0 (not-holds (x1 % 4 == 0) t))) (λ aligned.
+    passes-choice dead x target dead (without_look Bounces) _ (λ t. ByDead refl t) (λ live.
+    passes-choice dead x target (nat_le most_frames (length x.frames)) (traps 16 x.pc) (without_look (Crosses target))
+    (λ t. ByFull refl (leb-true most_frames (length x.frames) t)) (λ room. Through refl)))
+
+-- frames without a top one
+no-last : (f : Frame) (fs : List Frame) → last_or (Some f) fs ≡ None → ⊥
+no-last f [] e = cc
+no-last f (g ∷ gs) e = no-last g gs e
+
+no-top : (fs : List Frame) → top fs ≡ None → fs ≡ []
+no-top [] e = refl
+no-top (f ∷ fs) e = absurd (no-last f fs e)
 
 leaves-over : (x : Hart) (rd target : ℕ) (f : Frame) (b : Bool) → (f.back == target) ≡ b → top x.frames ≡ Some f →
     Leaves x target (if b then Returns rd f else Traps 17 target)
 leaves-over x rd target f true e t = Over rd f refl t (eqb-true f.back target e)
-leaves-over x rd target f false e t = ByOther refl
+leaves-over x rd target f false e t = ByOther f refl t (eqb-false f.back target e)
 
 leaves-top : (x : Hart) (rd target : ℕ) (o : Option Frame) → top x.frames ≡ o →
     Leaves x target (option_map_or (returned_over rd target) o (Traps 18 target))
-leaves-top x rd target None t = ByNone refl
+leaves-top x rd target None t = ByNone refl (no-top x.frames t)
 leaves-top x rd target (Some f) t = leaves-over x rd target f (f.back == target) refl t
 
 -- causes beside those of gates

@@ -4,7 +4,7 @@ use Rattle.std.specs.Prelude.{slice_set}
 use Rattle.std.specs.List.{list_all, range_with_len}
 use Rattle.std.specs.Option.{option_map_or}
 use Rattle.std.proofs.lemmas.Bool.{and_cases, and_from, and_left, and_right, cases_lt, false_from_ne_true, le-leb, le-ltb, lt-ltb, not_from_true, or_from}
-use Rattle.std.proofs.lemmas.List.{get_or-set_same, get_or-set_other}
+use Rattle.std.proofs.lemmas.List.{get_or_past, get_or-set_same, get_or-set_other}
 use Rattle.mx_words.specs.declared.perm.Access.TheVariants as A
 use Rattle.mx_words.specs.Announced.{is_announced}
 use Rattle.mx_words.specs.Bytes.{number_at, put_at}
@@ -54,9 +54,16 @@ record IsAnswered (s : State) (h number : ℕ) : Type 0 where
       let v = served_by (service number) (reads s) (record (ready s.core h) { caches = caches }) (call_of h x) in
       v.stop ≡ false → reg (hart_after (reads s) s.core h).regs 10 ≡ v.a0
 
-answered-call : (s : State) (h number : ℕ) → MakesCall s h number → is_announced number ≡ false → IsAnswered s h number
+-- a hart whose x17 isn't zero has an x10
+has-ten : (regs : List ℕ) → 1 ≤ reg regs 17 → 10 < length regs
+has-ten regs some = ⊎_elim (λ l. l) (λ few. absurd (
+    let none = get_or_past regs 17 0 (omega (arith, few)) in let z : ⊥ = omega (arith, none, some) in z))
+    (cases_lt 10 (length regs))
+
+answered-call : (s : State) (h number : ℕ) → MakesCall s h number → 1 ≤ number → is_announced number ≡ false →
+    IsAnswered s h number
 unfolding effect
-answered-call s h number k n =
+answered-call s h number k some n =
     let x = hart_at s.core h in
     let r = reads s in
     let call = call_of h x in
@@ -80,7 +87,7 @@ answered-call s h number k n =
     record {
       caches = d.caches;
       answer = λ stop. ap (λ (m : Made). reg (hart_at m.core h).regs 10) is
-          ∙ ten-done h x v stop (omega (arith, few, count)) (omega (arith, k.registers));
+          ∙ ten-done h x v stop (omega (arith, few, count)) (has-ten x.regs (let seventeen = k.asked in omega (arith, seventeen, some)));
     }
 
 -- a word of a range that fails a test
@@ -233,7 +240,7 @@ pub write-exactly : (s : State) (h : ℕ) → MakesCall s h 2 → register s h 1
 write-exactly s h k few inside =
     let r = reads s in
     let call = call_of h (hart_at s.core h) in
-    let t = answered-call s h 2 k refl in
+    let t = answered-call s h 2 k (omega arith) refl in
     let e : Core = record (ready s.core h) { caches = t.caches } in
     let out = out_by r e call (reads_all r call) in
     let same : serve_write r e call ≡ out =
@@ -271,7 +278,7 @@ pub exchange-exactly : (s : State) (h : ℕ) → MakesCall s h 13 → register s
 exchange-exactly s h k aligned inside =
     let r = reads s in
     let call = call_of h (hart_at s.core h) in
-    let t = answered-call s h 13 k refl in
+    let t = answered-call s h 13 k (omega arith) refl in
     let e : Core = record (ready s.core h) { caches = t.caches } in
     let a = arg call 0 in
     let may = allows (r.perm call.domain (arg_word call)) A.Write in

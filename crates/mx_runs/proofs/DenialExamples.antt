@@ -191,7 +191,6 @@ asking = record {
     word = refl;
   };
   asked = refl;
-  registers = refl;
 }
 
 some-denied : SomeDenied (writes 8) 1 0x800000A6 8 A.Read

@@ -1,9 +1,8 @@
 -- A turn keeps each word that its hart's domain may write neither before it nor after it.
 use Rattle.std.proofs.Common.{◌≡◌, ℕ, ◌+◌, ◌-◌, ◌*◌, ◌<◌, ◌≤◌, ◌⊎◌, Bool, true, false, not, cond, ◌==◌, ◌&&◌, nat_lt, nat_le, List, [], ◌∷◌, length, get_or, refl, sym, ◌∙◌, ap, subst, arith, Option, Some, None, unwrap_or, is_none, ⊎_elim, inl, inr}
 use Rattle.std.specs.List.{range_with_len}
-use Rattle.std.proofs.lemmas.Bool.{and_parts, leb-false, leb-true, ltb-false, ltb-true}
+use Rattle.std.proofs.lemmas.Bool.{and_parts, leb-true, ltb-false, ltb-true}
 use Rattle.std.proofs.Math.ListN.{get_or-eq_default}
-use Rattle.std.proofs.lemmas.Grind.{common_steps}
 use Rattle.mx_words.specs.Announced.{is_announced}
 use Rattle.mx_words.specs.Bytes.{cleared_at}
 use Rattle.mx_words.specs.Caches.{Cache}
@@ -26,7 +25,7 @@ use Rattle.mx_model.proofs.TestLaws.{first-passes, found-some}
 use Rattle.mx_model.proofs.ValidParts.{home-at}
 use Rattle.mx_laws.specs.After.{domain_at}
 use Rattle.mx_laws.specs.Foreign.{AllButBlock, AllKept, ForeignAfter, IsForeign, IsKept, TakesBlock, heap_of}
-use Rattle.mx_laws.proofs.ForeignLaws.{foreign-turned}
+use Rattle.mx_laws.proofs.ForeignLaws.{cleared-beside, foreign-turned, ram-given_up, ram-killed, uncovered}
 use Rattle.mx_laws.proofs.Lawful.{IsLawful, OwnCall, lawful-turn}
 use Rattle.mx_laws.proofs.TurnParts.{apart, by-action}
 
@@ -50,19 +49,6 @@ moved : (c : Core) (d w : ℕ) (e f : Core) (o : Option Change) → f.ram ≡ e.
     IsKeptOrGiven c d w f o
 moved c d w e f o n p =
     ⊎_elim (λ q. inl (λ k l. ap (λ (xs : List ℕ). get_or xs (4 * w + k) 0) n ∙ q k l)) (λ q. inr q) p
-
-cleared-beside : (xs : List ℕ) (k n j : ℕ) → k + n ≤ length xs →
-    (j < k) ⊎ (k + n ≤ j) → get_or (cleared_at xs k n) j 0 ≡ get_or xs j 0
-unfolding cleared_at
-cleared-beside xs k n j p s = grind (arith, common_steps)
-
-uncovered : (first count w : ℕ) → covers first count w ≡ false → (w < first) ⊎ (first + count ≤ w)
-uncovered first count w e =
-    elim (nat_le first w) as (λ b. nat_le first w ≡ b → b && nat_lt (w - first) count ≡ false →
-    (w < first) ⊎ (first + count ≤ w)) [
-      | true ↦ λ t f. let a = leb-true first w t in let b = ltb-false (w - first) count f in inr (omega (arith, a, b))
-      | false ↦ λ t f. inl (leb-false first w t)
-    ] refl e
 
 -- an alloc of hart h, served in a state with other harts and caches
 module _ (r : Reads) (c : Core) (h w : ℕ) (v : IsValid c) (turns : ℕ) (harts : List Hart) (caches : List Cache) where
@@ -164,19 +150,6 @@ module _ (r : Reads) (c : Core) (h w : ℕ) (v : IsValid c) (turns : ℕ) (harts
       IsKeptOrGiven c domain w (asked r seen h (hart_at c h) mine b).core (asked r seen h (hart_at c h) mine b).change
   asked-word mine true e s = served-word mine e s
   asked-word mine false e s = inl (kept-ram c (asked r seen h (hart_at c h) mine false).core w refl)
-
--- a fault writes nothing
-ram-killed : (d cause : ℕ) (c : Core) → (killed d cause c).ram ≡ c.ram
-ram-killed d cause c =
-    elim ((module_at c d).kills && not (cause == 20)) as
-    (λ b. (cond b (with_module d (record (module_at c d) { dead = true }) c) c).ram ≡ c.ram) [
-      | true ↦ refl
-      | false ↦ refl
-    ]
-
-ram-given_up : (c : Core) (h : ℕ) (x : Hart) (cause : ℕ) (o : Option Frame) → (given_up c h x cause o).ram ≡ c.ram
-ram-given_up c h x cause None = refl
-ram-given_up c h x cause (Some frame) = refl
 
 -- an action in a turn after which the domain may have one block more
 acted-word : (r : Reads) (c : Core) (h w turns : ℕ) (harts : List Hart) (caches : List Cache) (a : Action) → IsValid c →

@@ -15,7 +15,7 @@ use Rattle.mx_model.specs.State.{Core, Halted, Hart, Running, Waiting, hart_at, 
 use Rattle.mx_model.specs.Turn.{Action, Asks, Bounces, Crosses, Made, Rests, Returns, Runs, Serves, Traps, Waits, Writes, acted, answered, asked, by_status, done, fault_answer, given_up, halted, is_served_now, killed, restored, stack_address, with_regs}
 use Rattle.mx_laws.specs.After.{core_after, frames_at, kind_of}
 use Rattle.mx_laws.specs.Crossing.{frame_of}
-use Rattle.mx_laws.proofs.CallWalk.{CallLeaves, served-walk}
+use Rattle.mx_laws.proofs.FrameLaws.{going, harts-killed, harts-serve, over}
 use Rattle.mx_laws.proofs.Lawful.{present}
 use Rattle.mx_laws.proofs.TurnParts.{apart, by-action}
 use Rattle.mx_runs.specs.GateCalls.{depth_of}
@@ -54,27 +54,6 @@ returned-no e = let q : ⊥ = cc in q
 leaving-no : (k : TurnKind) → IsLeaving k → k ≢ T.Crossed
 leaving-no k p e = ⊎_elim (λ q. returned-no (sym q ∙ e)) (λ q. trapped-no (sym q ∙ e)) p
 
--- a served call leaves the harts
-harts-leaves : (r : Reads) (c : Core) (call : Call) → CallLeaves r c call (λ (e : Core). e.harts ≡ c.harts)
-harts-leaves r c call = record {
-  caches = λ e caches p. p;
-  none = refl;
-  modules = λ modules. refl;
-  gates = λ gates. refl;
-  exchange = λ a. refl;
-  alloc = λ s first a. refl;
-}
-
-harts-serve : (r : Reads) (c : Core) (call : Call) → (serve r c call).core.harts ≡ c.harts
-harts-serve r c call = served-walk r c call (λ (e : Core). e.harts ≡ c.harts) (harts-leaves r c call)
-
-harts-killed : (d cause : ℕ) (c : Core) → (killed d cause c).harts ≡ c.harts
-harts-killed d cause c = elim ((module_at c d).kills && not (cause == 20)) as (λ b.
-    (cond b (with_module d (record (module_at c d) { dead = true }) c) c).harts ≡ c.harts) [
-      | true ↦ refl
-      | false ↦ refl
-    ]
-
 -- the harts after an action: they are as they were, or hart h is another
 data Puts (old new : List Hart) (h : ℕ) (fs : List Frame) (k : TurnKind) : Type 0 where
   Left : new ≡ old → k ≢ T.Crossed → Puts old new h fs k
@@ -104,17 +83,6 @@ puts-asked r c h x call false =
 few-below : (fs : List Frame) → length (below_top fs) ≤ length fs
 few-below fs = let e = length-take (length fs - 1) fs in omega (arith, e)
 
--- the hart over a frame
-abbrev over : Hart → Frame → List ℕ → Hart
-over x f regs =
-    record x {
-      regs = restored regs f.kept;
-      pc = f.back;
-      domain = f.caller;
-      frames = below_top x.frames;
-      status = Running;
-    }
-
 puts-given_up : (c : Core) (h : ℕ) (x : Hart) (cause : ℕ) (old : List Hart) → c.harts ≡ old → (o : Option Frame) →
     Puts old (given_up c h x cause o).harts h x.frames T.Trapped
 puts-given_up c h x cause old e None =
@@ -123,10 +91,6 @@ puts-given_up c h x cause old e None =
 puts-given_up c h x cause old e (Some f) =
     let y = over x f (slice_set x.regs 10 (fault_answer cause)) in
     Put y (ap (λ (hs : List Hart). set hs h y) e) (Less (few-below x.frames) (inr refl))
-
--- hart x with other registers and another pc
-abbrev going : Hart → List ℕ → ℕ → Hart
-going x regs pc = record x { regs = regs; pc = pc; status = Running }
 
 puts-acted : (r : Reads) (c : Core) (h : ℕ) (x : Hart) (a : Action) →
     Puts c.harts (acted r c h x a).core.harts h x.frames (acted r c h x a).kind

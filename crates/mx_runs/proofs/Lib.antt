@@ -19,3 +19,4 @@ pub mod DenialExamples
 pub mod BorderMeets
 pub mod BorderLaws
 pub mod BorderExamples
+pub mod Premises

@@ -2,6 +2,7 @@
 use Rattle.std.proofs.Common.{◌≡◌, ◌≢◌, ◌↔◌, ℕ, ◌+◌, ◌%◌, ◌≤◌, Bool, true, false, cond, ◌==◌, List, refl, sym, ◌∙◌, ap, subst, arith, eq-eqb, if◌then◌else◌, Option, Some, None}
 use Rattle.std.specs.Option.{option_map_or}
 use Rattle.std.proofs.lemmas.Bool.{ne_eqb}
+use Rattle.mx_words.specs.declared.perm.Access.{Access}
 use Rattle.mx_words.specs.declared.perm.Access.TheVariants as A
 use Rattle.mx_words.specs.Caches.{Cache}
 use Rattle.mx_isa.specs.declared.inst.Inst.{Inst}
@@ -240,50 +241,48 @@ does-instruction s h inst k =
     ∙ ap (λ (o : Option Inst). (by_word r (ready s.core h) h x word o).action) k.word)
     (does-fetch s h k.fetches)
 
+-- an access: aligned it does one action where it is denied and another where it isn't, and misaligned a third
+access-exactly : (s : State) (h address size : ℕ) (access : Access) (denied crooked : ℕ) (by : Bool → Action) (a : Action) →
+    (a ≡ Traps denied address → ⊥) →
+    by true ≡ (if is_denied (reads s) s.core (domain_at s.core h) address access then Traps denied address else a) →
+    by false ≡ Traps crooked address → Does (reads s) s.core h (by (address % size == 0)) →
+    FaultsExactly s h address size access denied crooked
+access-exactly s h address size access denied crooked by a n straight bent d =
+    let r = reads s in
+    let b = is_denied r s.core (domain_at s.core h) address access in
+    record {
+      aligned = λ e.
+          through (traps-does r s.core h (by true) denied address
+          (does-action r s.core h (by (address % size == 0)) (by true) (ap by (eq-eqb (address % size) 0 e)) d))
+          (through
+          (subst (λ (k : Action). (k ≡ Traps denied address) ↔ (b ≡ true)) (sym straight) (choice-denied b denied address a n))
+          (denied-test s (domain_at s.core h) address access));
+      misaligned = λ m.
+          (traps-does r s.core h (by false) crooked address
+          (does-action r s.core h (by (address % size == 0)) (by false)
+          (ap by (ne_eqb (address % size) 0 m)) d)).1 bent;
+    }
+
 pub load-exactly : (s : State) (h rd base offset : ℕ) (width : LoadWidth) → Executes s h (Load width rd base offset) →
     FaultsExactly s h (address_by s h base offset) (load_size width) A.Read 5 4
 unfolding effect
 load-exactly s h rd base offset width k =
-    let x = hart_at s.core h in
-    let r = reads s in
     let address = address_by s h base offset in
     let size = load_size width in
-    let by = λ (b : Bool).
-    (by_effect r (ready s.core h) h x (if b then Loads base address width rd else Faults 4 address)).action in
-    let d : Does r s.core h (by (address % size == 0)) = does-instruction s h (Load width rd base offset) k in
-    record {
-      aligned = λ e.
-          through (traps-does r s.core h (by true) 5 address
-          (does-action r s.core h (by (address % size == 0)) (by true) (ap by (eq-eqb (address % size) 0 e)) d))
-          (through (choice-denied (is_denied r s.core x.domain address A.Read) 5 address _ (λ q. let z : ⊥ =
-          cc in z)) (denied-test s x.domain address A.Read));
-      misaligned = λ n.
-          (traps-does r s.core h (by false) 4 address
-          (does-action r s.core h (by (address % size == 0)) (by false)
-          (ap by (ne_eqb (address % size) 0 n)) d)).1 refl;
-    }
+    access-exactly s h address size A.Read 5 4
+    (λ (b : Bool). (by_effect (reads s) (ready s.core h) h (hart_at s.core h)
+    (if b then Loads base address width rd else Faults 4 address)).action) _ (λ q. let z : ⊥ = cc in z) refl refl
+    (does-instruction s h (Load width rd base offset) k)
 
 pub store-exactly : (s : State) (h base from offset : ℕ) (width : StoreWidth) →
     Executes s h (Store width base from offset) →
     FaultsExactly s h (address_by s h base offset) (store_size width) A.Write 7 6
 unfolding effect
 store-exactly s h base from offset width k =
-    let x = hart_at s.core h in
-    let r = reads s in
     let address = address_by s h base offset in
     let size = store_size width in
-    let by = λ (b : Bool).
-    (by_effect r (ready s.core h) h x
-    (if b then Stores base address size (reg x.regs from) else Faults 6 address)).action in
-    let d : Does r s.core h (by (address % size == 0)) = does-instruction s h (Store width base from offset) k in
-    record {
-      aligned = λ e.
-          through (traps-does r s.core h (by true) 7 address
-          (does-action r s.core h (by (address % size == 0)) (by true) (ap by (eq-eqb (address % size) 0 e)) d))
-          (through (choice-denied (is_denied r s.core x.domain address A.Write) 7 address _ (λ q. let z : ⊥ =
-          cc in z)) (denied-test s x.domain address A.Write));
-      misaligned = λ n.
-          (traps-does r s.core h (by false) 6 address
-          (does-action r s.core h (by (address % size == 0)) (by false)
-          (ap by (ne_eqb (address % size) 0 n)) d)).1 refl;
-    }
+    let x = hart_at s.core h in
+    access-exactly s h address size A.Write 7 6
+    (λ (b : Bool). (by_effect (reads s) (ready s.core h) h x
+    (if b then Stores base address size (reg x.regs from) else Faults 6 address)).action) _ (λ q. let z : ⊥ = cc in z) refl refl
+    (does-instruction s h (Store width base from offset) k)

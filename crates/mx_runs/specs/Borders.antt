@@ -1,13 +1,14 @@
 -- Of what sort a running hart's turn is, for each row of its border.
 -- The rules: docs/MACHINE.md, "Agreement", "Gates" and "Faults".
-use Rattle.std.specs.Prelude.{◌≡◌, ℕ, ◌-◌, ◌/◌, ◌≤◌, [], ◌∷◌, ◌++◌, Some}
+use Rattle.std.specs.Prelude.{◌≡◌, ◌≢◌, ℕ, ◌-◌, ◌/◌, ◌%◌, ◌≤◌, true, List, [], ◌∷◌, ◌++◌, length, Some}
 use Rattle.mx_words.specs.Ranges.{ram_base}
 use Rattle.mx_model.specs.declared.values.Frame.{Frame}
 use Rattle.mx_model.specs.declared.values.TurnKind.TheVariants as T
 use Rattle.mx_model.specs.Agreement.{Border, Trap, AtGate, Back, Call, Nothing, target_at}
 use Rattle.mx_model.specs.Effect.{reg}
+use Rattle.mx_model.specs.Gates.{most_frames}
 use Rattle.mx_model.specs.Reads.{Reads}
-use Rattle.mx_model.specs.State.{Core, hart_at}
+use Rattle.mx_model.specs.State.{Core, hart_at, module_at}
 use Rattle.mx_laws.specs.After.{core_after, domain_at, frames_at, kind_of}
 use Rattle.mx_runs.specs.Denials.{TrapsWith}
 
@@ -22,26 +23,30 @@ register_of c h i = reg (hart_at c h).regs i
 abbrev pub pc_of : Core → ℕ → ℕ
 pc_of c h = (hart_at c h).pc
 
--- a turn at a call gate: x1 is misaligned, the cross stack is full, a dead target sends the hart back, or it crosses
-pub data PassesGate (r : Reads) (c : Core) (h : ℕ) : Type 0 where
-  Crooked : TrapsWith r c h 19 (register_of c h 1) → PassesGate r c h
-  Full : TrapsWith r c h 16 (pc_of c h) → PassesGate r c h
-  SentBack : kind_of r c h ≡ T.Returned → frames_at (core_after r c h) h ≡ frames_at c h →
-      PassesGate r c h
-  Crosses : kind_of r c h ≡ T.Crossed → PassesGate r c h
+-- a turn at a call gate to a target: x1 is misaligned, a dead target sends the hart back, the cross stack is full, or it
+-- crosses
+pub data PassesGate (r : Reads) (c : Core) (h target : ℕ) : Type 0 where
+  Crooked : register_of c h 1 % 4 ≢ 0 → TrapsWith r c h 19 (register_of c h 1) →
+      PassesGate r c h target
+  SentBack : (module_at c target).dead ≡ true → kind_of r c h ≡ T.Returned →
+      frames_at (core_after r c h) h ≡ frames_at c h → PassesGate r c h target
+  Full : most_frames ≤ length (frames_at c h) → TrapsWith r c h 16 (pc_of c h) →
+      PassesGate r c h target
+  Crosses : kind_of r c h ≡ T.Crossed → PassesGate r c h target
 
 -- the gate at the word of pc leads to the target, x1 is as said, and the turn is one at a call gate
 pub record IsAtGate (r : Reads) (c : Core) (h word target x1 : ℕ) : Type 0 where
   pub place : (pc_of c h - ram_base) / 4 ≡ word
   pub leads : target_at c (domain_at c h) word ≡ Some target
   pub address : register_of c h 1 ≡ x1
-  pub passes : PassesGate r c h
+  pub passes : PassesGate r c h target
 
 -- a turn at a return gate to a target: there is no frame, the top one leads elsewhere, or it leads there and is given
 -- up
 pub data ReturnsTo (r : Reads) (c : Core) (h target : ℕ) : Type 0 where
-  NoFrame : TrapsWith r c h 18 target → ReturnsTo r c h target
-  Elsewhere : TrapsWith r c h 17 target → ReturnsTo r c h target
+  NoFrame : frames_at c h ≡ [] → TrapsWith r c h 18 target → ReturnsTo r c h target
+  Elsewhere : (below : List Frame) (f : Frame) → frames_at c h ≡ below ++ f ∷ [] →
+      f.back ≢ target → TrapsWith r c h 17 target → ReturnsTo r c h target
   OverFrame : (f : Frame) → kind_of r c h ≡ T.Returned →
       frames_at c h ≡ frames_at (core_after r c h) h ++ f ∷ [] → f.back ≡ target →
       ReturnsTo r c h target

@@ -87,11 +87,10 @@ pub record FaultsExactly (s : State) (h address size : ℕ) (access : Access) (d
       traps_with s h denied address ↔ IsDenied s (domain_at s.core h) address access
   pub misaligned : address % size ≢ 0 → traps_with s h crooked address
 
--- hart h makes the call of that number; it has 32 registers
+-- hart h makes the call of that number
 pub record MakesCall (s : State) (h number : ℕ) : Type 0 where
   pub executes : Executes s h Ecall
   pub asked : register s h 17 ≡ number
-  pub registers : length (hart_at s.core h).regs ≡ 32
 
 -- bytes that lie in RAM; and one of them that a domain may not access
 abbrev pub InRam : State → ℕ → ℕ → Type 0
