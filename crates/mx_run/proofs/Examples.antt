@@ -6,16 +6,19 @@ use Rattle.mx_io.specs.Piece.{shown_name}
 use Rattle.std.specs.Str.{chars}
 use Rattle.mx_run.specs.declared.status.FileRole.TheVariants.{Source}
 use Rattle.mx_run.specs.declared.status.Status.TheVariants.{Usage, ShortFile, AsmFault}
-use Rattle.mx_run.specs.Words.{Go, Asm, plain_order, meaning}
+use Rattle.mx_run.specs.Words.{Go, Asm, Audit, Twin, Mill, plain_order, meaning}
 use Rattle.mx_run.specs.declared.order.Way.TheVariants as way
 use Rattle.mx_run.specs.Finding.{Large, Short, Whole, Finds}
 use Rattle.mx_run.specs.Next.{Read, End, refusal}
 use Rattle.mx_run.specs.Boots.{manifest_file}
-use Rattle.mx_run.specs.Commands.{next, source_file}
-use Rattle.mx_run.specs.declared.side.Side.TheVariants.{First}
-use Rattle.mx_turns.specs.declared.task.Dump.TheVariants.{Ram}
+use Rattle.mx_run.specs.Commands.{after_first, next, source_file}
+use Rattle.mx_run.specs.declared.side.Side.TheVariants.{First, Second}
+use Rattle.mx_manifest.specs.declared.fault.Key.TheVariants as key
+use Rattle.mx_manifest.specs.Plan.{Said}
+use Rattle.mx_model.specs.State.{State}
+use Rattle.mx_turns.specs.declared.task.Dump.TheVariants.{Ram, Snapshot}
 use Rattle.mx_run.specs.Manifest.{file_fault}
-use Rattle.mx_run.specs.Refusal.{refused_line, fault_text, place_text, detail_text, tables_full_line, short_file_line, no_file_line, asm_fault_line}
+use Rattle.mx_run.specs.Refusal.{refused_line, fault_text, place_text, detail_text, tables_full_line, short_file_line, no_file_line, asm_fault_line, unlike_line}
 
 -- words with a meaning, and words without
 words_run : meaning (codes "run" ∷ codes "first.toml" ∷ codes "0010" ∷ []) ≡ Some (Go (plain_order way.Run (codes "first.toml") 10))
@@ -56,6 +59,40 @@ words_dump_of_a_trace = refl
 words_asm : meaning (codes "asm" ∷ codes "a.s" ∷ []) ≡ Some (Asm (codes "a.s"))
 words_asm = refl
 
+words_save : meaning (codes "run" ∷ codes "first.toml" ∷ codes "7" ∷ codes "--save" ∷ []) ≡ Some (Go (record (plain_order way.Run (codes "first.toml") 7) { dump = Some Snapshot }))
+words_save = refl
+
+words_save_beside_a_dump : meaning (codes "run" ∷ codes "first.toml" ∷ codes "7" ∷ codes "--dump" ∷ codes "--save" ∷ []) ≡ None
+words_save_beside_a_dump = refl
+
+words_save_of_a_trace : meaning (codes "trace" ∷ codes "first.toml" ∷ codes "7" ∷ codes "--save" ∷ []) ≡ None
+words_save_of_a_trace = refl
+
+words_audit : meaning (codes "audit" ∷ codes "first.toml" ∷ []) ≡ Some (Audit (codes "first.toml"))
+words_audit = refl
+
+words_audit_with_steps : meaning (codes "audit" ∷ codes "first.toml" ∷ codes "7" ∷ []) ≡ None
+words_audit_with_steps = refl
+
+words_twin : meaning (codes "twin" ∷ codes "p.toml" ∷ codes "q.toml" ∷ codes "01" ∷ codes "10" ∷ [])
+    ≡ Some (Twin (record { first = codes "p.toml"; second = codes "q.toml"; domain = 1; steps = 10 }))
+words_twin = refl
+
+words_twin_without_steps : meaning (codes "twin" ∷ codes "p.toml" ∷ codes "q.toml" ∷ codes "1" ∷ []) ≡ None
+words_twin_without_steps = refl
+
+words_twin_of_no_domain : meaning (codes "twin" ∷ codes "p.toml" ∷ codes "q.toml" ∷ codes "x" ∷ codes "10" ∷ []) ≡ None
+words_twin_of_no_domain = refl
+
+words_mill : meaning (codes "mill" ∷ codes "007" ∷ []) ≡ Some (Mill 7)
+words_mill = refl
+
+words_greatest_mill : meaning (codes "mill" ∷ codes "2147483647" ∷ []) ≡ Some (Mill 2147483647)
+words_greatest_mill = refl
+
+words_mill_too_great : meaning (codes "mill" ∷ codes "2147483648" ∷ []) ≡ None
+words_mill_too_great = refl
+
 -- what is done next: nothing is read for words without meaning, a source is read once, and what was found decides
 next_usage : next None [] ≡ End (refusal [] Usage)
 next_usage = refl
@@ -65,6 +102,9 @@ next_source = refl
 
 next_manifest : next (Some (Go (plain_order way.Run (codes "first.toml") 10))) [] ≡ Read (manifest_file First (codes "first.toml"))
 next_manifest = refl
+
+next_second : (plan : Said) (s : State) → after_first (record { first = codes "p"; second = codes "q"; domain = 1; steps = 10 }) plan s [] ≡ Read (manifest_file Second (codes "q"))
+next_second plan s = refl
 
 next_short : next (Some (Asm (codes "a.s"))) (Short 10 4 ∷ []) ≡ End (refusal (codes "a.s") (ShortFile Source 10 4))
 next_short = refl
@@ -125,6 +165,10 @@ refused_example = refl
 full_example : tables_full_line (record { upper = 2; leaf = 1; spill = 0 }) (record { upper = 128; leaf = 0; spill = 4096 }) ≡ codes "tables full upper=2/128 leaf=1/0 spill=0/4096\n"
 unfolding tables_full_line digits
 full_example = refl
+
+unlike_example : unlike_line key.RamKib ≡ codes "twin unlike key=ram_kib\n"
+unfolding unlike_line
+unlike_example = refl
 
 short_example : short_file_line (codes "first.toml") 10 4 ≡ codes "short file first.toml told=10 got=4\n"
 unfolding short_file_line digits shown_name chars lib.Utf8.encode
