@@ -291,8 +291,8 @@ module _ (asked : Option Request) (answers : List Answer) where
   -- a boot of a side after some findings, where what follows has its cause
   module _ (before : List Finding) (side : Side) (name : List ℕ) (boots : BootsAfter asked before side name) (own : Own)
       (each : (plan : Said) (s : State) (bytes : List ℕ) (files images : List (List ℕ)) → judged bytes ≡ Ok plan → HasImages plan.modules files images → boot_of plan images ≡ Ok s
-          → (more found : List Finding) → found ≡ before ++ Whole bytes ∷ (list_map Whole files ++ more) → FindsAll (next asked) answers found
-          → (status : Status) → own plan s more status → Cause asked answers status) where
+      → (more found : List Finding) → found ≡ before ++ Whole bytes ∷ (list_map Whole files ++ more) → FindsAll (next asked) answers found
+      → (status : Status) → own plan s more status → Cause asked answers status) where
     cause_of_state : (bytes : List ℕ) (plan : Said) → judged bytes ≡ Ok plan → (files images : List (List ℕ)) → HasImages plan.modules files images → (boot : Result State Refusal)
         → boot_of plan images ≡ boot → (more found : List Finding) → found ≡ before ++ Whole bytes ∷ (list_map Whole files ++ more) → FindsAll (next asked) answers found
         → (status : Status) → OfState side own plan boot more status → Cause asked answers status
@@ -350,10 +350,10 @@ module _ (asked : Option Request) (answers : List Answer) (p : Pair) where
   cause_of_pair asks plan s bytes files images good has boots more found same f status o =
       let rest : Rest = λ other t later. End (compared p plan s other t) in
       let goes = λ (later : List Finding).
-          ap (λ (a : Option Request). next a (Whole bytes ∷ (list_map Whole files ++ later))) asks
-          ∙ ap (λ (r : Result Said BootFault). planned First p.first (after_first p) r (list_map Whole files ++ later)) good
-          ∙ images_taken First plan.modules 1 [] (λ images. booted First p.first (after_first p) plan (boot_of plan images)) files images later has
-          ∙ ap (λ (b : Result State Refusal). booted First p.first (after_first p) plan b later) boots in
+      ap (λ (a : Option Request). next a (Whole bytes ∷ (list_map Whole files ++ later))) asks
+      ∙ ap (λ (r : Result Said BootFault). planned First p.first (after_first p) r (list_map Whole files ++ later)) good
+      ∙ images_taken First plan.modules 1 [] (λ images. booted First p.first (after_first p) plan (boot_of plan images)) files images later has
+      ∙ ap (λ (b : Result State Refusal). booted First p.first (after_first p) plan b later) boots in
       let second : BootsAfter asked (Whole bytes ∷ list_map Whole files) Second p.second = record { rest = rest; goes = goes } in
       cause_of_boot asked answers (Whole bytes ∷ list_map Whole files) Second p.second second (OfPair p plan s)
       (λ other t bytes2 files2 images2 good2 has2 boots2 more2 found2 same2 f2 status2 own.

@@ -66,12 +66,7 @@ fn compare_with<S: Store, R: Sink>(
 }
 
 // Compares two machines at boot, or refuses plans that differ.
-fn compare_booted<R: Sink>(
-    pair: &Pair<'_>,
-    first: Booted,
-    second: Booted,
-    report: &mut R,
-) -> Status
+fn compare_booted<R: Sink>(pair: &Pair<'_>, first: Booted, second: Booted, report: &mut R) -> Status
     requires few { pair.now.steps < 10 ^ 10 }
     requires size { IsOfSize first.plan (meaning first.machine) }
     requires second { IsOfSize second.plan (meaning second.machine) }
@@ -112,7 +107,13 @@ fn compare_alike<R: Sink>(
     if !is_domain(plan, pair.domain) {
         return refuse(report, "", Status::NoDomain);
     }
-    let end = run_twin(machine, twin, pair.domain as u32, plan.quantum(), pair.steps);
+    let end = run_twin(
+        machine,
+        twin,
+        pair.domain as u32,
+        plan.quantum(),
+        pair.steps,
+    );
     match twin_line(report, pair.steps, end) {
         Ok(()) => Status::Ran,
         Err(Failed) => Status::ReportFault,

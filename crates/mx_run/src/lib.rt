@@ -3,11 +3,11 @@
 
 mod assembling;
 mod auditing;
-mod comparing;
 mod booting;
+mod comparing;
 mod laws;
-mod milling;
 mod manifest;
+mod milling;
 mod order;
 mod program;
 mod reading;
