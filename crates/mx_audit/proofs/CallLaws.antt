@@ -30,6 +30,7 @@ use Rattle.mx_model.proofs.ListLaws.{all-append, all-filter, found-passes}
 use Rattle.mx_model.proofs.ValidParts.{home-at}
 use Rattle.mx_model.proofs.TurnCases.{looked_all-caches}
 use Rattle.mx_laws.specs.OwnHeaps.{OwnHeaps}
+use Rattle.mx_laws.proofs.BlockLaws.{block-in}
 use Rattle.mx_audit.proofs.ByteLaws.{IsOutside, put-outside, cleared-outside}
 use Rattle.mx_audit.proofs.LiveLaws.{IsClosed, Leads}
 
@@ -188,18 +189,6 @@ keeps-alloc L w r c call s sp p =
     (found-passes (has_room m.heap m.blocks (arg call 0)) (range_with_len m.heap.first m.heap.count)) t.1.0))
 
 -- free: a live block lies in its heap area
-block-in : (low high first : ℕ) (bs : List Area) → AreApart low high bs → IfSome (block_words bs first) (λ n. (low ≤ first) × (first + n ≤ high))
-block-in low high first [] p = tt
-block-in low high first (b ∷ bs) p = elim (b.first == first) as
-    (λ t. (b.first == first) ≡ t → IfSome (option_map (λ (x : Area). x.count) (cond t (Some b) (find (λ (x : Area). x.first == first) bs))) (λ n. (low ≤ first) × (first + n ≤ high))) [
-      | true ↦ λ t. let e = eqb-true b.first first t in let l = p.0 in let h = apart_ordered (b.first + b.count) high bs p.2 in (omega (arith, e, l), omega (arith, e, h))
-      | false ↦ λ t. lower (block_words bs first) (block-in (b.first + b.count) high first bs p.2)
-    ] refl
-  where
-    lower : (o : Option ℕ) → IfSome o (λ n. (b.first + b.count ≤ first) × (first + n ≤ high)) → IfSome o (λ n. (low ≤ first) × (first + n ≤ high))
-    lower None q = tt
-    lower (Some n) q = let l = p.0 in let m = q.0 in (omega (arith, l, m), q.1)
-
 freed-in : (c : Core) (call : Call) → IsValid c →
     IfSome (freed_count c call) (λ n. ((module_at c call.domain).heap.first ≤ arg_word call) × (arg_word call + n ≤ (module_at c call.domain).heap.first + (module_at c call.domain).heap.count))
 freed-in c call v =

@@ -1,34 +1,13 @@
 -- The closing lines without those of --counts read no cache.
-use Rattle.std.proofs.Common.{◌≡◌, ℕ, Bool, false, List, [], refl, sym, ◌∙◌, ap}
+use Rattle.std.proofs.Common.{◌≡◌, ℕ, Bool, false, List, refl, sym, ◌∙◌, ap}
 use Rattle.mx_model.specs.Run.{Schedule, run}
 use Rattle.mx_model.specs.State.{State}
-use Rattle.mx_uncached.specs.Forgetting.{plain}
+use Rattle.mx_uncached.specs.Forgetting.{bare, plain}
 use Rattle.mx_uncached.specs.Plain.{Plain}
 use Rattle.mx_uncached.proofs.RunLaws.{run-alike}
 use Rattle.mx_report.specs.declared.closing.Options.{Options}
 use Rattle.mx_report.specs.declared.lines.EndState.{EndState}
 use Rattle.mx_report.specs.Texts.{all_domains, all_harts, all_items, asked_lines, closing, closing_of, table_lines}
-
--- a state of the plain machine as one whose caches are no more
-abbrev bare : Plain → State
-bare p = record {
-  core = record {
-    ram = p.ram;
-    modules = p.modules;
-    gates = p.gates;
-    harts = p.harts;
-    caches = [];
-    turns = p.turns;
-    size = p.size;
-    kind = p.kind;
-    limit = p.limit;
-    buffer = 0;
-  };
-  grants = p.grants;
-  gives = p.gives;
-  console = p.console;
-  notes = p.notes;
-}
 
 -- the options of --tables, and of --counts where they are asked
 abbrev with_counts : Bool → Bool → Options

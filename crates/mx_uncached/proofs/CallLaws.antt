@@ -16,11 +16,12 @@ use Rattle.mx_model.specs.Reads.{reads}
 use Rattle.mx_model.specs.Serve.{Served, Service, Exit, Write, Grant, RevokeAll, Transfer, Alloc, Free, AddGate, RemoveGate, AddReturnGate, Query, Self, Exchange, Unknown, alloc_from, answers, arg_word, bytes_at, code, ended, exchange_from, exchanged, judged, look_of, may_read, served_by, service, write_from, write_looks, write_words, written_out}
 use Rattle.mx_model.specs.State.{Core, Hart, State, hart_at}
 use Rattle.mx_model.specs.Turn.{answered, done, halted, made, served, with_regs}
+use Rattle.mx_model.proofs.TurnCases.{looked_all-caches}
 use Rattle.mx_uncached.specs.Plain.{Plain, may}
 use Rattle.mx_uncached.specs.Calls.{answer, bytes_outside, does, exchange, is_word, new_block, tests}
 use Rattle.mx_uncached.specs.Calls.{serve as plain_serve}
 use Rattle.mx_uncached.specs.Forgetting.{plain}
-use Rattle.mx_uncached.proofs.LeafLaws.{at, ends, gave, looked_all-caches, noted, quiet, told}
+use Rattle.mx_uncached.proofs.LeafLaws.{at, ends, gave, noted, quiet, told}
 
 -- a served call, done by its hart
 abbrev done_at : State → ℕ → Hart → Served → Plain

@@ -9,7 +9,6 @@ use Rattle.mx_model.specs.declared.values.Note.{Note}
 use Rattle.mx_model.specs.declared.values.Note.TheVariants as N
 use Rattle.mx_model.specs.declared.values.TurnKind.{TurnKind}
 use Rattle.mx_model.specs.declared.values.TurnKind.TheVariants as T
-use Rattle.mx_model.specs.Checks.{Look, looked, looked_all}
 use Rattle.mx_model.specs.Gates.{top}
 use Rattle.mx_model.specs.Reads.{Reads}
 use Rattle.mx_model.specs.Run.{after}
@@ -49,12 +48,6 @@ ends s m = plain (after s m)
 
 abbrev pub at : State → Core → Plain
 at s c = plain (record s { core = c })
-
--- looks change caches alone
-pub looked_all-caches : (r : Reads) (h : ℕ) (looks : List Look) (c : Core) →
-    looked_all r h looks c ≡ record c { caches = (looked_all r h looks c).caches }
-looked_all-caches r h [] c = refl
-looked_all-caches r h (l ∷ ls) c = looked_all-caches r h ls (looked r h c l)
 
 -- nothing is done
 pub stays : (s : State) (c : Core) (kind : TurnKind) → ends s (made kind c) ≡ at s c

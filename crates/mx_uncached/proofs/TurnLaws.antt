@@ -17,13 +17,13 @@ use Rattle.mx_model.specs.Reads.{reads}
 use Rattle.mx_model.specs.Run.{turn}
 use Rattle.mx_model.specs.State.{Core, Hart, Running, State, Status, Waiting, Halted, hart_at, module_at}
 use Rattle.mx_model.specs.Turn.{Action, Asks, Bounces, Crosses, Returns, Runs, Traps, Writes, Serves, Waits, acted, asked, at_gate, at_return, by_effect, by_status, by_word, call_gate_at, call_of, counted, decide, enacted, fault_answer, fetches, is_denied, is_return_at, load_at, returned_over, runs_at, runs_in, traps, without_look}
-use Rattle.mx_model.proofs.TurnCases.{hart-hears}
+use Rattle.mx_model.proofs.TurnCases.{hart-hears, looked_all-caches}
 use Rattle.mx_uncached.specs.Plain.{Plain, go, store, with_hart}
 use Rattle.mx_uncached.specs.Calls.{serve}
 use Rattle.mx_uncached.specs.Turn.{all_heard, ask, cross, execute, fault, fetch, give_up, hear, move, plain_turn, step}
 use Rattle.mx_uncached.specs.Turn.{at_gate as plain_gate, at_return as plain_return}
 use Rattle.mx_uncached.specs.Forgetting.{plain}
-use Rattle.mx_uncached.proofs.LeafLaws.{ends, faults, goes, looked_all-caches, quiet}
+use Rattle.mx_uncached.proofs.LeafLaws.{ends, faults, goes, quiet}
 use Rattle.mx_uncached.proofs.CallLaws.{cached, served-plain}
 
 -- what hart h makes of an action, in a state with other caches

@@ -1,4 +1,6 @@
--- What ties the whole machine to the plain one: a state without caches and their size.
+-- What ties the whole machine to the plain one: a state without caches and their size, and a state of the plain machine as one that
+-- keeps nothing in them.
+use Rattle.std.specs.Prelude.{[]}
 use Rattle.mx_model.specs.State.{State}
 use Rattle.mx_uncached.specs.Plain.{Plain}
 
@@ -17,4 +19,25 @@ plain s = record {
   size = s.core.size;
   kind = s.core.kind;
   limit = s.core.limit;
+}
+
+-- a state of the plain machine, as one of the whole machine in which no hart has a cache
+abbrev pub bare : Plain → State
+bare p = record {
+  core = record {
+    ram = p.ram;
+    modules = p.modules;
+    gates = p.gates;
+    harts = p.harts;
+    caches = [];
+    turns = p.turns;
+    size = p.size;
+    kind = p.kind;
+    limit = p.limit;
+    buffer = 0;
+  };
+  grants = p.grants;
+  gives = p.gives;
+  console = p.console;
+  notes = p.notes;
 }
