@@ -109,7 +109,7 @@ pub record Pass (c : Core) (i : ℕ) (before marks : List Bool) (more : Bool) : 
   pub only : MarkOnlyLive c marks
   pub kept : KeepMarks before marks
   pub fewer : unmarked marks ≤ unmarked before
-  pub more : more ≡ true → unmarked marks < unmarked before
+  pub some : more ≡ true → unmarked marks < unmarked before
   pub all : more ≡ false → AllByRecursion (λ (g : Gate). IsTrue (is_marked marks g.domain) → IsTrue (is_marked marks g.target)) (take i c.gates)
 
 -- the gate at the place leads on
@@ -127,7 +127,7 @@ pass-mark c i before marks m g v p e d t =
       only = only-more c marks g.target p.only (gate-live c i g e (p.only g.domain d));
       kept = λ x q. marked-more marks g.target x (p.kept x q);
       fewer = omega arith;
-      more = λ q. omega arith;
+      some = λ q. omega arith;
       all = λ q. absurd (let z : ⊥ = cc in z);
     }
 
@@ -142,7 +142,7 @@ pass-skip c i before marks m g p e t =
       only = p.only;
       kept = p.kept;
       fewer = p.fewer;
-      more = p.more;
+      some = p.some;
       all = λ q. all-next (λ (x : Gate). IsTrue (is_marked marks x.domain) → IsTrue (is_marked marks x.target)) c.gates i g e (p.all q) t;
     }
 

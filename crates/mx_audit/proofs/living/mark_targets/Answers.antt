@@ -16,7 +16,7 @@ gates-preserved c =
     let g = c.in-Some.gate in
     let at = sym c.in-Some.ensures in
     let inv = c.gates.invariant in
-    let p : Pass core i before marks c.gates.more = record { long = inv.long; within = inv.within; only = inv.only; kept = inv.kept; fewer = inv.fewer; more = inv.more; all = inv.all } in
+    let p : Pass core i before marks c.gates.more = record { long = inv.long; within = inv.within; only = inv.only; kept = inv.kept; fewer = inv.fewer; some = inv.more; all = inv.all } in
     let q : Pass core (i + 1) before c.if-is_marked.live c.if-is_marked.more = elim c.if-is_marked.branch [
       | then-is_marked+then-not-is_marked w ↦
           subst (λ (b : Bool). Pass core (i + 1) before c.if-is_marked.live b) (sym w.more-is)
@@ -32,7 +32,7 @@ gates-preserved c =
             | else-is_marked-via-else-is_marked v ↦ λ d. absurd (both_ways (is_marked marks g.domain) (sym c.is_marked.ensures ∙ v.if-is_marked.false) d)
           ])))
     ] in
-    record { long = q.long; within = q.within; only = q.only; kept = q.kept; fewer = q.fewer; more = q.more; all = q.all }
+    record { long = q.long; within = q.within; only = q.only; kept = q.kept; fewer = q.fewer; more = q.some; all = q.all }
 
 pub returns-clause-all : goal.returns-clause-all
 returns-clause-all c =
