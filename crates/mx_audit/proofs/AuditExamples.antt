@@ -1,5 +1,6 @@
 -- Worked examples of audits, computed.
 use Rattle.std.specs.Prelude.{◌≡◌, ℕ, ◌*◌, true, false, List, [], ◌∷◌, take, drop, replicate, filter, codes, refl}
+use Rattle.std.specs.Fmt.{digits}
 use Rattle.std.specs.List.{range_with_len}
 use Rattle.mx_words.specs.declared.perm.Perm.TheVariants as P
 use Rattle.mx_words.specs.Bytes.{number_at, put_at, cleared_at}
@@ -36,12 +37,9 @@ three-live = refl
 three-sealed : audit three ≡ words_from 3 16381 ∷ []
 three-sealed = refl
 
--- the report: what a flat state tells is what the state does
-abbrev text : List (List ℕ) → State → List ℕ
-text names s = report names (is_live s.core) (audit s)
-
-three-text : text (codes "m" ∷ []) three ≡ codes "live 1 m\nsealed 0x8000000c 0x80010000\nsealed words=16381\n"
-unfolding report live_lines live_line sealed_line words_line
+-- its report
+three-text : report (codes "m" ∷ []) (is_live three.core) (words_from 3 16381 ∷ []) ≡ codes "live 1 m\nsealed 0x8000000c 0x80010000\nsealed words=16381\n"
+unfolding report live_lines live_line sealed_line words_line digits
 three-text = refl
 
 -- of the same module where the supervisor owns its words
@@ -63,9 +61,9 @@ circle-live = refl
 circle-sealed : audit circle ≡ words_from 3 1021 ∷ words_from 1027 15357 ∷ []
 circle-sealed = refl
 
-circle-text : text (codes "a" ∷ codes "b" ∷ []) circle
+circle-text : report (codes "a" ∷ codes "b" ∷ []) (is_live circle.core) (words_from 3 1021 ∷ words_from 1027 15357 ∷ [])
     ≡ codes "live 1 a\nlive 2 b\nsealed 0x8000000c 0x80001000\nsealed 0x8000100c 0x80010000\nsealed words=16378\n"
-unfolding report live_lines live_line sealed_line words_line
+unfolding report live_lines live_line sealed_line words_line digits
 circle-text = refl
 
 -- gates passed in a later round, though they stand first, and gates of a domain that isn't live
@@ -77,7 +75,7 @@ chain-live = refl
 
 -- a domain that isn't live has no line
 chain-lines : live_lines (codes "a" ∷ codes "b" ∷ codes "c" ∷ codes "d" ∷ []) (is_live chain.core) ≡ codes "live 1 a\nlive 2 b\nlive 3 c\n"
-unfolding live_lines live_line
+unfolding live_lines live_line digits
 chain-lines = refl
 
 -- Why each part of «sealed» is asked: without it a word would count as sealed that a run changes. The word of the first two is 2048.

@@ -1,8 +1,8 @@
 -- Marks of domains: one more is marked, a pass over frames or gates goes on, and nothing is left to mark.
-use Rattle.std.proofs.Common.{◌≡◌, ℕ, zero, suc, ◌+◌, ◌<◌, ◌≤◌, ◌⊎◌, inl, inr, Bool, true, false, not, cond, List, [], ◌∷◌, length, get_or, set, take, replicate, slice_get, Option, Some, None, refl, sym, ap, subst, arith, IsTrue}
+use Rattle.std.proofs.Common.{◌≡◌, ℕ, zero, suc, ◌+◌, ◌<◌, ◌≤◌, ◌⊎◌, inl, inr, Bool, true, false, not, cond, List, [], ◌∷◌, length, get_or, set, take, replicate, slice_get, Option, Some, None, refl, sym, ap, ◌∙◌, subst, arith, IsTrue}
 use Rattle.std.specs.List.{AllByRecursion, Contains}
 use Rattle.std.proofs.lemmas.List.Sums.{sum_by-set}
-use Rattle.std.proofs.lemmas.List.{get_or_default}
+use Rattle.std.proofs.lemmas.List.{get_or-set_same, get_or_default, length-set}
 use Rattle.std.proofs.lemmas.Option.{get_or_from_slice_get, slice_get_within}
 use Rattle.mx_model.specs.declared.values.Frame.{Frame}
 use Rattle.mx_model.specs.declared.values.Gate.{Gate}
@@ -24,6 +24,9 @@ pub none-only : (c : Core) (n : ℕ) → MarkOnlyLive c (replicate n false)
 none-only c n d p = absurd (let e = none-marked n d in let q : ⊥ = cc in q)
 
 -- one more is marked
+pub marked-same : (marks : List Bool) (d : ℕ) → d < length marks → is_marked (set marks d true) d ≡ true
+marked-same marks d l = get_or-set_same marks d true false l
+
 pub marked-more : (marks : List Bool) (d e : ℕ) → IsTrue (is_marked marks e) → IsTrue (is_marked (set marks d true) e)
 marked-more [] d e p = p
 marked-more (m ∷ ms) zero zero p = refl
@@ -98,6 +101,50 @@ frame-live c h i f l e = HasFrame (hart_at c h) (has-hart c h l) f (contains-at 
 
 pub gate-live : (c : Core) (i : ℕ) (g : Gate) → slice_get c.gates i ≡ Some g → IsLive c g.domain → IsLive c g.target
 gate-live c i g e l = IsTarget g (contains-at c.gates i g e) l
+
+-- a pass over the gates, up to a place of the list
+pub record Pass (c : Core) (i : ℕ) (before marks : List Bool) (more : Bool) : Type 0 where
+  pub long : length marks ≡ 64
+  pub within : i ≤ length c.gates
+  pub only : MarkOnlyLive c marks
+  pub kept : KeepMarks before marks
+  pub fewer : unmarked marks ≤ unmarked before
+  pub some : more ≡ true → unmarked marks < unmarked before
+  pub all : more ≡ false → AllByRecursion (λ (g : Gate). IsTrue (is_marked marks g.domain) → IsTrue (is_marked marks g.target)) (take i c.gates)
+
+-- the gate at the place leads on
+pub pass-mark : (c : Core) (i : ℕ) (before marks : List Bool) (m : Bool) (g : Gate) → IsValid c → Pass c i before marks m → slice_get c.gates i ≡ Some g →
+    IsTrue (is_marked marks g.domain) → is_marked marks g.target ≡ false → Pass c (i + 1) before (set marks g.target true) true
+pass-mark c i before marks m g v p e d t =
+    let inside = slice_get_within c.gates i g e in
+    let low = gate-small c i g v e in
+    let long = p.long in
+    let fewer = p.fewer in
+    let less = fewer-unmarked marks g.target (omega arith) t in
+    record {
+      long = length-set marks g.target true ∙ long;
+      within = omega arith;
+      only = only-more c marks g.target p.only (gate-live c i g e (p.only g.domain d));
+      kept = λ x q. marked-more marks g.target x (p.kept x q);
+      fewer = omega arith;
+      some = λ q. omega arith;
+      all = λ q. absurd (let z : ⊥ = cc in z);
+    }
+
+-- it doesn't, or its target is marked already
+pub pass-skip : (c : Core) (i : ℕ) (before marks : List Bool) (m : Bool) (g : Gate) → Pass c i before marks m → slice_get c.gates i ≡ Some g →
+    (IsTrue (is_marked marks g.domain) → IsTrue (is_marked marks g.target)) → Pass c (i + 1) before marks m
+pass-skip c i before marks m g p e t =
+    let inside = slice_get_within c.gates i g e in
+    record {
+      long = p.long;
+      within = omega arith;
+      only = p.only;
+      kept = p.kept;
+      fewer = p.fewer;
+      some = p.some;
+      all = λ q. all-next (λ (x : Gate). IsTrue (is_marked marks x.domain) → IsTrue (is_marked marks x.target)) c.gates i g e (p.all q) t;
+    }
 
 all-placed : {X : Type 0} (P : X → Type 0) (xs : List X) (d : X) → ((i : ℕ) → i < length xs → P (get_or xs i d)) → AllByRecursion P xs
 all-placed P [] d h = tt

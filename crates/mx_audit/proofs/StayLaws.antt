@@ -31,7 +31,7 @@ runs-sealed s word = (runs-hold s word, held-runs s word)
 
 pub boots-audited : (plan : Said) (images : List (List ℕ)) (s : State) → IsBoot plan images s → IsAudited s
 boots-audited plan images s b = record {
-  valid = (boots_valid plan images s b.range b.images b.boots).valid;
+  valid = (boots_valid plan images s b.range b.bytes b.boots).valid;
   heaps = boots_own plan images s b.range b.boots;
 }
 

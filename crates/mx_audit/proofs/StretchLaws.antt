@@ -1,6 +1,6 @@
 -- What stretches tell: of one source after another, and from one word on or a later one.
-use Rattle.std.proofs.Common.{◌≡◌, ℕ, zero, suc, ◌+◌, ◌-◌, ◌<◌, ◌≤◌, ◌⊎◌, inl, inr, min, Bool, true, false, not, ◌&&◌, ◌||◌, List, [], ◌∷◌, ◌++◌, length, set, slice_get, Option, Some, refl, sym, ap, ◌∙◌, subst, arith, add-one, append_assoc, IsTrue}
-use Rattle.std.proofs.lemmas.Bool.{and_left, and_from}
+use Rattle.std.proofs.Common.{◌≡◌, ℕ, zero, suc, ◌+◌, ◌-◌, ◌<◌, ◌≤◌, ◌⊎◌, inl, inr, min, Bool, true, false, not, ◌&&◌, ◌||◌, List, [], ◌∷◌, ◌++◌, nat_lt, if◌then◌else◌, length, replicate, set, slice_get, Option, Some, refl, sym, ap, ◌∙◌, subst, arith, add-one, append_assoc, IsTrue}
+use Rattle.std.proofs.lemmas.Bool.{and_left, ltb-true}
 use Rattle.mx_words.specs.declared.perm.Perm.TheVariants as P
 use Rattle.mx_words.specs.declared.perm.Span.{Span}
 use Rattle.mx_words.specs.Rights.{same}
@@ -10,7 +10,7 @@ use Rattle.mx_model.specs.Valid.{IsValid}
 use Rattle.mx_audit.specs.declared.stretch.Stretch.{Stretch}
 use Rattle.mx_audit.specs.Marks.{is_marked, MarkLive}
 use Rattle.mx_audit.specs.Sealed.{is_sealed}
-use Rattle.mx_audit.specs.SealedRuns.{runs_where, sealed_runs}
+use Rattle.mx_audit.specs.SealedRuns.{runs_where, sealed_runs, words_from}
 use Rattle.mx_audit.specs.Stretches.{exposes, some_exposes, is_exposed, Tells, AllTell, run_between}
 use Rattle.mx_audit.proofs.ExposedLaws.{sealed_is_closed}
 use Rattle.mx_audit.proofs.RunLaws.{runs_step, runs_last}
@@ -41,9 +41,9 @@ all-set f marks w source known s t p other x e = elim (at-set known source other
 ]
 
 -- of one source more
-pub tells-more : (f : Flat) (marks : List Bool) (n w : ℕ) (a b s : Stretch) → s.end ≡ min a.end b.end → s.exposed ≡ (a.exposed || b.exposed) →
+tells-suc : (f : Flat) (marks : List Bool) (n w : ℕ) (a b s : Stretch) → s.end ≡ min a.end b.end → s.exposed ≡ (a.exposed || b.exposed) →
     Tells f (some_exposes f marks n) w a → Tells f (exposes f marks (suc n)) w b → Tells f (some_exposes f marks (suc n)) w s
-tells-more f marks n w a b s e o p q =
+tells-suc f marks n w a b s e o p q =
     let pw = p.within in
     record {
       within = omega arith;
@@ -51,18 +51,50 @@ tells-more f marks n w a b s e o p q =
           ap (λ t. t || exposes f marks (suc n) v) (p.alike v l (omega arith)) ∙ ap (λ t. a.exposed || t) (q.alike v l (omega arith)) ∙ sym o;
     }
 
+pub tells-more : (f : Flat) (marks : List Bool) (n w : ℕ) (a b s : Stretch) → s.end ≡ min a.end b.end → s.exposed ≡ (a.exposed || b.exposed) →
+    Tells f (some_exposes f marks n) w a → Tells f (exposes f marks (n + 1)) w b → Tells f (some_exposes f marks (n + 1)) w s
+tells-more f marks n w a b s e o p q =
+    let next : suc n ≡ n + 1 = omega arith in
+    subst (λ i. Tells f (some_exposes f marks i) w s) next (tells-suc f marks n w a b s e o p (subst (λ i. Tells f (exposes f marks i) w b) (sym next) q))
+
 or-false : (b : Bool) → (b || false) ≡ b
 or-false true = refl
 or-false false = refl
 
-pub tells-unmarked : (f : Flat) (marks : List Bool) (n w : ℕ) (s : Stretch) → is_marked marks (suc n) ≡ false →
+tells-without : (f : Flat) (marks : List Bool) (n w : ℕ) (s : Stretch) → is_marked marks (suc n) ≡ false →
     Tells f (some_exposes f marks n) w s → Tells f (some_exposes f marks (suc n)) w s
-tells-unmarked f marks n w s e p = record {
+tells-without f marks n w s e p = record {
   within = p.within;
   alike = λ v l u.
       ap (λ t. some_exposes f marks n v || t) (and_left (is_marked marks (suc n)) (same ((flat_reads f).perm (suc n) v) P.ReadWrite) e)
       ∙ or-false (some_exposes f marks n v) ∙ p.alike v l u;
 }
+
+pub tells-unmarked : (f : Flat) (marks : List Bool) (n w : ℕ) (s : Stretch) → is_marked marks (n + 1) ≡ false →
+    Tells f (some_exposes f marks n) w s → Tells f (some_exposes f marks (n + 1)) w s
+tells-unmarked f marks n w s e p =
+    let next : suc n ≡ n + 1 = omega arith in
+    subst (λ i. Tells f (some_exposes f marks i) w s) next (tells-without f marks n w s (ap (is_marked marks) next ∙ e) p)
+
+-- nothing is known at first
+abbrev nothing : Stretch
+nothing = record { end = 0; exposed = false }
+
+all-nothing : (n source : ℕ) (s : Stretch) → slice_get (replicate n nothing) source ≡ Some s → s.end ≡ 0
+all-nothing zero source s e = absurd (let q : ⊥ = cc in q)
+all-nothing (suc n) zero s e = let same : nothing ≡ s = cc in sym (ap (λ (x : Stretch). x.end) same)
+all-nothing (suc n) (suc source) s e = all-nothing n source s e
+
+pub none-tell : (f : Flat) (marks : List Bool) (w n : ℕ) → AllTell f marks w (replicate n nothing)
+none-tell f marks w n source s e = let none = all-nothing n source s e in record { within = omega arith; alike = λ v l u. absurd (omega arith) }
+
+-- at most one run is added
+pub length-run_between : (first behind : ℕ) → length (run_between first behind) ≤ behind - first
+length-run_between first behind = by (nat_lt first behind) refl
+  where
+    by : (b : Bool) → nat_lt first behind ≡ b → length (if b then words_from first (behind - first) ∷ [] else []) ≤ behind - first
+    by true e = let l = ltb-true first behind e in omega arith
+    by false e = omega arith
 
 -- the runs after one more stretch, and after the last one
 module _ (f : Flat) (marks : List Bool) (valid : IsValid f.core) (live : MarkLive f.core marks) where

@@ -10,7 +10,7 @@ use Rattle.mx_boot.specs.Images.{AreImages}
 -- the state at boot of a plan in range with its images
 pub record IsBoot (plan : Said) (images : List (List ℕ)) (s : State) : Type 0 where
   pub range : IsInRange plan
-  pub images : AreImages images
+  pub bytes : AreImages images
   pub boots : boot_of plan images ≡ Ok s
 
 -- a word has in one state the owner, the permission in every domain and the four bytes that it has in the other

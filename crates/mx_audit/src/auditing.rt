@@ -11,7 +11,7 @@ ghost use Rattle.mx_audit.specs.SealedRuns.{AreInRam, sealed_runs};
 use crate::audited::Audit;
 use crate::living::live_domains;
 use crate::sealing::sealed_runs;
-use mx_boot::AnyMachine;
+use mx_boot::{AnyMachine, any_machine_is_valid};
 use mx_words::NoMemory;
 use std::alloc::Global;
 
@@ -30,6 +30,7 @@ pub fn audit(alloc: Global, machine: &AnyMachine) -> Result<Audit, NoMemory>
     ensures text { IfOk result (λ a. (names : List (List ℕ)) →
         found_text names a ≡ audit_text names (meaning machine.now)) }
 {
+    any_machine_is_valid(machine);
     let live = live_domains(machine);
     let sealed = sealed_runs(alloc, machine, &live)?;
     Ok(Audit { live, sealed })

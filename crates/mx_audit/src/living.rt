@@ -1,6 +1,7 @@
 //! Live domains.
 
-ghost use Rattle.std.specs.Prelude.{◌≡◌, ◌↔◌, ◌<◌, ◌≤◌, IsTrue, OnTrue, OnFalse, length, slice_set};
+ghost use Rattle.std.specs.Bool.{OnFalse, OnTrue};
+ghost use Rattle.std.specs.Prelude.{◌≡◌, ◌<◌, true, length, slice_set};
 ghost use Rattle.mx_model.specs.State.{hart_at};
 ghost use Rattle.mx_boot.specs.Machines.{meaning};
 ghost use Rattle.mx_audit.specs.Marks.{KeepMarks, MarkHart, MarkHarts, MarkLive, MarkOnlyLive, MarkTargets, is_marked, unmarked};

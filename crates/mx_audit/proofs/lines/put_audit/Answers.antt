@@ -13,7 +13,7 @@ returns-in_err-put_live g c =
 pub returns-in_err-put_sealed : goal.returns-in_err-put_sealed
 unfolding report
 returns-in_err-put_sealed g c =
-    let p = err_from_is_err_and c.from_residual-2.result c.from_residual-2.ensures.1 in
+    let p = err_from_is_err_and c.from_residual-in_err-put_sealed.result c.from_residual-in_err-put_sealed.ensures.1 in
     rw (p.1, p.2) (passes_next c.in_ok-put_live.ensures (passes_stop _ _ c.in_err-put_sealed.ensures))
 
 pub returns : goal.returns

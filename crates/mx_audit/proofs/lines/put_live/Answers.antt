@@ -1,4 +1,5 @@
-use Rattle.std.proofs.Common.{◌≡◌, ℕ, Bool, List, Bor, ◌+◌, ◌-◌, length, length-map, refl, ap, ◌∙◌, arith}
+use Rattle.std.proofs.Common.{◌≡◌, ℕ, Bool, List, Bor, ◌+◌, ◌-◌, length, map, refl, ap, ◌∙◌, arith}
+use Rattle.std.proofs.lemmas.List.{length-map}
 use Rattle.std.proofs.lemmas.Result.{err_from_is_err_and}
 use Rattle.mx_audit.specs.Lines.{live_lines, live_text}
 use Rattle.mx_audit.specs.Marks.{is_marked}
@@ -8,7 +9,7 @@ use Rattle.mx_audit.proofs.lines.put_live.Goals as goal
 
 pub loop-i-init : goal.loop-i-init
 unfolding live_lines
-loop-i-init g c = coming_range _ _ _ 1 _ _ (omega (arith, length-map c.args.names.now (λ (name : Bor (List ℕ)). name.now)))
+loop-i-init g c = coming_range _ _ _ 1 (length (map (λ (name : Bor (List ℕ)). name.now) c.args.names.now)) _ (omega (arith, length-map c.args.names.now (λ (name : Bor (List ℕ)). name.now)))
 
 pub returns-in_err-put_domain : goal.returns-in_err-put_domain
 returns-in_err-put_domain g c =

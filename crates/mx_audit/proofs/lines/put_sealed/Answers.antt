@@ -27,4 +27,4 @@ loop-i-preserved g c =
     (passes_same (ap sealed_line (sym (get_or_from_slice_get c.args.sealed.now c.loop-i.i c.get.result c.get.result c.get.ensures))) c.in_ok-put_run.ensures)
 
 pub returns : goal.returns
-returns g c = coming_items _ _ _ (omega arith) c.loop-i.invariant
+returns g c = coming_items sealed_line c.args.sealed.now c.loop-i.i (omega arith) c.loop-i.invariant
