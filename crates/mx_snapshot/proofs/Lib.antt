@@ -4,3 +4,7 @@ pub mod SameExamples
 pub mod KeptLaws
 pub mod StoredExamples
 pub mod RangeExamples
+pub mod EdgeLaws
+pub mod PlaceLaws
+pub mod ByteLaws
+pub mod PlanLaws

@@ -1,7 +1,10 @@
-//! Laws of states that are the same, each the contract of a function that does nothing.
-ghost use Rattle.std.specs.Prelude.{◌≡◌, ℕ, ◌+◌, ◌++◌};
+//! Laws of states that are the same, and of machines and their plans, each the contract of a function that does nothing.
+ghost use Rattle.std.specs.Prelude.{◌≡◌, ℕ, ◌+◌, ◌++◌, List, Ok};
+ghost use Rattle.mx_boot.specs.Boot.{boot_of};
+ghost use Rattle.mx_manifest.specs.Plan.{Said};
 ghost use Rattle.mx_model.specs.Run.{Schedule, turn, flat_turn, kind, flat_kind, made_of, flat_made, run};
 ghost use Rattle.mx_model.specs.State.{State, Flat, flat};
+ghost use Rattle.mx_snapshot.specs.Kept.{IsOfPlan, KeptPlan, kept_of};
 ghost use Rattle.mx_snapshot.specs.Same.{AreSame, TakesUp, silent};
 
 /// A turn of one hart in two states that are the same leaves them the same, is of the same kind, and adds the same console bytes and
@@ -52,4 +55,12 @@ pub fn taken_up_after_a_run()
         (run p (n + m) s).console ≡ (run p n s).console ++ (run p m t).console }
     ensures notes { (p : Schedule) (n m : ℕ) (s t : State) → TakesUp (run p n s) t →
         (run p (n + m) s).notes ≡ (run p n s).notes ++ (run p m t).notes }
+{}
+
+/// A machine at boot is one of its plan, and a turn of any hart leaves a machine one of the plan of which it was before.
+pub fn machines_are_of_their_plan()
+    ensures boot { (plan : Said) (images : List (List ℕ)) (s : State) →
+        boot_of plan images ≡ Ok s → IsOfPlan (kept_of plan) (flat s) }
+    ensures turn { (kept : KeptPlan) (f : Flat) (h : ℕ) → IsOfPlan kept f →
+        IsOfPlan kept (flat_turn f h) }
 {}

@@ -1,0 +1,14 @@
+use Rattle.std.proofs.lemmas.Result.{err_from_is_err_and}
+use Rattle.mx_snapshot.specs.Spelling.{name_bytes}
+use Rattle.mx_tail.proofs.PassLaws.{passes_next, passes_stop, passes_last, passes_same}
+use Rattle.mx_snapshot.proofs.modules.put_name.Goals as goal
+
+pub returns-in_err-put_numbers : goal.returns-in_err-put_numbers
+unfolding name_bytes
+returns-in_err-put_numbers g c =
+    let p = err_from_is_err_and c.from_residual.result c.from_residual.ensures.1 in
+    rw (p.1, p.2) (passes_stop _ _ c.in_err-put_numbers.ensures)
+
+pub returns : goal.returns
+unfolding name_bytes
+returns g c = passes_next c.in_ok-put_numbers.ensures (passes_last (passes_same c.as_bytes.ensures.value c.put_bytes.ensures))
