@@ -6,3 +6,4 @@ pub mod HearLaws
 pub mod ChangeLaws
 pub mod MayLaws
 pub mod StartLaws
+pub mod HandLaws

@@ -1,5 +1,9 @@
 -- The conditions of the checker's calls.
-use Rattle.std.specs.Prelude.{◌≡◌, ◌≢◌, ℕ, ◌+◌, ◌<◌, ◌≤◌, ◌⊎◌, true, false, List, length, IfSome, None}
+use Rattle.std.specs.Prelude.{◌≡◌, ◌≢◌, ℕ, ◌+◌, ◌<◌, ◌≤◌, ◌⊎◌, true, false, List, length, IfSome, Some, None}
+use Rattle.std.specs.Option.{option_map}
+use Rattle.mx_words.specs.declared.perm.Perm.TheVariants as P
+use Rattle.mx_words.specs.Caches.{Cache, found_in_place}
+use Rattle.mx_words.specs.Ranges.{word_of}
 use Rattle.mx_table.specs.declared.change.Change.{Change}
 use Rattle.mx_check.specs.declared.flight.Flight.{Flight}
 use Rattle.mx_check.specs.Flights.{IsHeardByOthers}
@@ -20,6 +24,12 @@ pub record MayLook (h domain : ℕ) (harts : List Kept) : Type 0 where
   pub free : (hart_at harts h).flight ≡ None
   pub heard : HasHeardAll h harts
   pub same_domain : IfSome (hart_at harts h).domain (λ d. d ≡ domain)
+
+-- the fetch of an address is at hand in a RAM of `size` words: the span in place 0 covers its word, which may be executed
+pub record IsAtHand (size : ℕ) (c : Cache) (address : ℕ) : Type 0 where
+  pub word : ℕ
+  pub here : word_of address size ≡ Some word
+  pub right : option_map (λ s. s.perm) (found_in_place c.places 0 word) ≡ Some P.ExecuteRead
 
 -- a hart is as before but for its caches
 pub record SameButCaches (now before : Kept) : Type 0 where

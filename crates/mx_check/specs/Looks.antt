@@ -60,6 +60,10 @@ abbrev pub after_walk : ℕ → ℕ → ℕ → Span → Bool → Kept → Kept
 after_walk most place domain s barred k =
     record k { cache = with_walk most place domain s barred k.cache }
 
+-- a hart after a fetch that place 0 answers
+abbrev pub hits : ℕ → Kept → Kept
+hits domain k = record k { cache = with_place_hit k.cache; domain = Some domain }
+
 -- a hart after a check of a word, on which a walk of the tables finds the span s
 abbrev pub looks : ℕ → ℕ → ℕ → ℕ → Span → Bool → Kept → Kept
 looks most place domain word s barred k =

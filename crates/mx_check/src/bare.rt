@@ -1,6 +1,6 @@
 //! Tables and what is kept for each hart, with one step for each call.
 ghost use Rattle.std.specs.Prelude.{◌≡◌, ◌<◌, ◌≤◌, Ok, Err, length, is_err, IsTrue, IsFalse, ◌↔◌, OnOk, OnErr, All};
-ghost use Rattle.mx_words.specs.Caches.{raised};
+ghost use Rattle.mx_words.specs.Caches.{raised, found_in_place};
 ghost use Rattle.mx_words.specs.Need.{fits};
 ghost use Rattle.mx_words.specs.Reach.{span};
 ghost use Rattle.mx_words.specs.Rights.{perm_at, allows};
@@ -8,13 +8,13 @@ ghost use Rattle.mx_table.specs.Change.{IsLawful, changed};
 ghost use Rattle.mx_table.specs.Tables.{IsDomain, map_of};
 ghost use Rattle.mx_check.specs.Flights.{IsSet};
 ghost use Rattle.mx_check.specs.Harts.{hart_at, at_hart, announced, finished, leaves_domain, halts, has_heard};
-ghost use Rattle.mx_check.specs.Looks.{found, decided_by, decided, lookups_with, lookups_after, looks, after_walk, looked, is_forbidden};
+ghost use Rattle.mx_check.specs.Looks.{found, decided_by, decided, lookups_with, lookups_after, hits, looks, after_walk, looked, is_forbidden};
 ghost use Rattle.mx_check.specs.Calls.{hears, is_ready, new_harts, waiting_harts};
 
 use crate::harts::Harts;
 use crate::{Counts, Flights, TablesFull};
 use mx_table::{Change, PermTables};
-use mx_words::{Access, Perm, word_of};
+use mx_words::{Access, Perm, Span, word_of};
 use std::marker::Model;
 
 /// Tables, and the caches, calls and marks of each hart, with no promise about what the caches hold.
@@ -85,6 +85,23 @@ impl<T: PermTables, const N: usize> Bare<T, N> {
                 false
             }
         }
+    }
+
+    /// Counts a fetch that the hart's place 0 answers.
+    #[inline(always)]
+    pub fn hit(&mut self, hart: u32, domain: u32)
+        requires { hart < length self.old.harts }
+        ensures { self.new ≡ record self.old { harts = at_hart hart (hits domain) self.old.harts } }
+    {
+        self.harts.hit(hart, domain);
+    }
+
+    /// The span with which the hart's place 0 answers for a word. It isn't counted.
+    pub fn at_hand(&self, hart: u32, word: u32) -> Option<Span>
+        requires { hart < length self.now.harts }
+        ensures { result ≡ found_in_place (hart_at self.now.harts hart).cache.places 0 word }
+    {
+        self.harts.at_hand(hart, word)
     }
 
     /// The permission that the caches or the tables give for a word.

@@ -1,5 +1,7 @@
 //! The checker, whose caches are coherent at every moment between its calls.
 ghost use Rattle.std.specs.Prelude.{◌≡◌, ℕ, ◌<◌, ◌≤◌, ◌↔◌, None, true, false, not, length, is_err, IfSome, IsTrue, IsFalse, OnOk, OnErr, All};
+ghost use Rattle.mx_words.specs.declared.perm.Access.TheVariants.{Execute};
+ghost use Rattle.mx_words.specs.Caches.{found_in_place};
 ghost use Rattle.mx_words.specs.Need.{fits};
 ghost use Rattle.mx_words.specs.Rights.{perm_at, perm, denies};
 ghost use Rattle.mx_table.specs.Change.{IsLawful, changed};
@@ -8,12 +10,12 @@ ghost use Rattle.mx_check.specs.Flights.{AreHearers};
 ghost use Rattle.mx_check.specs.Harts.{hart_at, at_hart, announced, finished, leaves_domain, halts, has_heard};
 ghost use Rattle.mx_check.specs.Looks.{lookups_after, looked};
 ghost use Rattle.mx_check.specs.Calls.{hears, is_ready, new_harts, waiting_harts};
-ghost use Rattle.mx_check.specs.Conditions.{MayLook, HasHeardAll, SameButCaches, MayAnnounce, IsWithin, MayChange, IsResumable};
+ghost use Rattle.mx_check.specs.Conditions.{IsAtHand, MayLook, HasHeardAll, SameButCaches, MayAnnounce, IsWithin, MayChange, IsResumable};
 
 use crate::bare::Bare;
 use crate::{Counts, Flights, TablesFull};
 use mx_table::{Change, PermTables};
-use mx_words::{Access, Perm};
+use mx_words::{Access, Perm, Span};
 use std::marker::Model;
 
 /// Permission tables with the caches of 1 to 4 harts before them, each with 32 places and a lookaside buffer of `N` entries, `N` at most 64.
@@ -87,6 +89,39 @@ impl<T: PermTables, const N: usize> Checker<T, N> {
         ensures same_limit { T.limits self.new.tables ≡ T.limits self.old.tables }
     {
         self.bare.may(hart, place, domain, addr, access)
+    }
+
+    /// Makes the check of a fetch at hand, at place 0: it is allowed, and counted as `may` counts it. The hart and the domain are as for
+    /// `may`.
+    #[inline(always)]
+    pub fn fetch(&mut self, hart: u32, domain: u32, addr: u32)
+        requires may { MayLook hart domain self.old.harts }
+        requires domain { IsDomain (T.maps self.old.tables) domain }
+        requires at_hand { IsAtHand (T.size self.old.tables) (hart_at self.old.harts hart).cache
+            addr }
+        ensures allowed { denies (perm (map_of (T.maps self.old.tables) domain)) addr Execute
+            ≡ false }
+        ensures harts { self.new.harts
+            ≡ looked N T.kind (map_of (T.maps self.old.tables) domain)
+            hart 0 domain addr self.old.harts }
+        ensures lookups { T.lookups self.new.tables
+            ≡ lookups_after (map_of (T.maps self.old.tables) domain) 0 domain addr
+            (hart_at self.old.harts hart).cache (T.lookups self.old.tables) }
+        ensures again { MayLook hart domain self.new.harts }
+        ensures same_maps { T.maps self.new.tables ≡ T.maps self.old.tables }
+        ensures same_size { T.size self.new.tables ≡ T.size self.old.tables }
+        ensures same_limit { T.limits self.new.tables ≡ T.limits self.old.tables }
+    {
+        let _ = addr;
+        self.bare.hit(hart, domain);
+    }
+
+    /// The span in the hart's place 0 where it covers a word. It is what `may` would answer by first, and isn't counted.
+    pub fn at_hand(&self, hart: u32, word: u32) -> Option<Span>
+        requires { hart < length self.now.harts }
+        ensures { result ≡ found_in_place (hart_at self.now.harts hart).cache.places 0 word }
+    {
+        self.bare.at_hand(hart, word)
     }
 
     /// Announces a call of the hart that changes rights on at most `count` words from `first` on. The hart isn't halted and has no

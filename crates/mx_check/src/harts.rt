@@ -1,9 +1,10 @@
 //! What is kept for each of the harts.
 ghost use Rattle.std.specs.Prelude.{◌≡◌, ◌<◌, ◌≤◌, Some, None, length, All};
 ghost use Rattle.std.specs.Option.{option_map};
+ghost use Rattle.mx_words.specs.Caches.{found_in_place};
 ghost use Rattle.mx_check.specs.Flights.{IsSet};
 ghost use Rattle.mx_check.specs.Harts.{hart_at, at_hart, announced, heard_by, drops, finished, leaves_domain, halts, has_heard};
-ghost use Rattle.mx_check.specs.Looks.{found, after_caches, after_walk, with_domain, hart_forbids, is_forbidden};
+ghost use Rattle.mx_check.specs.Looks.{found, after_caches, after_walk, hits, with_domain, hart_forbids, is_forbidden};
 ghost use Rattle.mx_check.specs.Calls.{unheard, hears_one, hears, hart_lets_pass, is_ready, new_harts, waiting_harts};
 
 use crate::part::Part;
@@ -87,6 +88,25 @@ impl<const N: usize> Harts<N> {
     {
         let part = &mut self.parts[hart as usize];
         part.answer(place, domain, word)
+    }
+
+    /// As `Part::hit`, for one hart.
+    #[inline(always)]
+    pub fn hit(&mut self, hart: u32, domain: u32)
+        requires { hart < length self.old }
+        ensures { self.new ≡ at_hart hart (hits domain) self.old }
+    {
+        let part = &mut self.parts[hart as usize];
+        part.hit(domain);
+    }
+
+    /// As `Part::at_hand`, for one hart.
+    pub fn at_hand(&self, hart: u32, word: u32) -> Option<Span>
+        requires { hart < length self.now }
+        ensures { result ≡ found_in_place (hart_at self.now hart).cache.places 0 word }
+    {
+        let part = &self.parts[hart as usize];
+        part.at_hand(word)
     }
 
     /// As `Part::keep`, for one hart.

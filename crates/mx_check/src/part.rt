@@ -1,9 +1,9 @@
 //! What is kept for one hart.
 ghost use Rattle.std.specs.Prelude.{◌≡◌, ◌<◌, ◌≤◌, Some, None, slice_set};
 ghost use Rattle.std.specs.Option.{option_map};
-ghost use Rattle.mx_words.specs.Caches.{raised, found_kept};
+ghost use Rattle.mx_words.specs.Caches.{raised, found_in_place, found_kept};
 ghost use Rattle.mx_check.specs.Harts.{new_hart, no_hart, announced, heard_by, drops, finished, leaves_domain, halts, has_heard};
-ghost use Rattle.mx_check.specs.Looks.{found, after_caches, after_list, after_walk, with_domain, flight_forbids};
+ghost use Rattle.mx_check.specs.Looks.{found, after_caches, after_list, after_walk, hits, with_domain, flight_forbids};
 ghost use Rattle.mx_check.specs.Calls.{unheard_of};
 
 use crate::Flight;
@@ -90,6 +90,22 @@ impl<const N: usize> Part<N> {
             }
             None => self.list_answer(place, domain, word),
         }
+    }
+
+    /// Counts a fetch that place 0 answers, and keeps the domain.
+    #[inline(always)]
+    pub fn hit(&mut self, domain: u32)
+        ensures { self.new ≡ hits domain self.old }
+    {
+        self.domain = Some(domain);
+        self.counts.sidecar = raised(self.counts.sidecar);
+    }
+
+    /// The span with which place 0 answers for a word. It isn't counted.
+    pub fn at_hand(&self, word: u32) -> Option<Span>
+        ensures { result ≡ found_in_place self.now.cache.places 0 word }
+    {
+        self.places.find(0, word)
     }
 
     /// The permission with which the list answers for a word, which goes into the place. It is counted.

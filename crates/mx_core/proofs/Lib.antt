@@ -1,2 +1,3 @@
 pub mod HighHalf
 pub mod TurnLaws
+pub mod QuickLaws

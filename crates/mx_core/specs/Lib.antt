@@ -1,3 +1,4 @@
 pub mod Bus
 pub mod Exec
+pub mod Memo
 pub use Rattle.mx_model.specs.Effect

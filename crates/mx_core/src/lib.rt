@@ -3,6 +3,7 @@
 
 mod bus;
 mod laws;
+mod memo;
 mod outcome;
 mod regs;
 mod results;
@@ -10,6 +11,7 @@ mod step;
 
 pub use bus::{Bus, Denied};
 pub use laws::instructions_are_turns;
+pub use memo::Memo;
 pub use outcome::Outcome;
 pub use regs::Regs;
-pub use step::exec;
+pub use step::{act, exec};

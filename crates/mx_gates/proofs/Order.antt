@@ -1,10 +1,11 @@
 -- The order of sorted gates, and what stands where in them.
-use Rattle.std.proofs.Common.{◌≡◌, ℕ, ◌+◌, ◌-◌, ◌/◌, ◌<◌, ◌≤◌, Bool, true, false, not, List, length, get_or, refl, sym, ap, arith, ⊎_elim}
+use Rattle.std.proofs.Common.{◌≡◌, ℕ, ◌+◌, ◌-◌, ◌/◌, ◌<◌, ◌≤◌, Bool, true, false, not, List, length, get_or, None, refl, sym, ap, arith, ⊎_elim}
 use Rattle.std.specs.List.{position_or_len}
 use Rattle.std.proofs.lemmas.Bool.{cases_lt, not-false, not-true}
 use Rattle.std.proofs.lemmas.List.Sums.{position_or_len_is, fails_before_first, passes_at_first}
 use Rattle.mx_model.specs.declared.values.Gate.{Gate}
-use Rattle.mx_model.specs.Gates.{is_at}
+use Rattle.mx_model.specs.Gates.{gate_at, is_at}
+use Rattle.mx_gates.proofs.Lists.{find_none-from}
 use Rattle.mx_gates.specs.Index.{is_before, AreRising, no_gate, place_of}
 
 module _ (domain word : ℕ) (g h : Gate) where
@@ -37,6 +38,15 @@ before-total g h p q = grind arith
 pub before-apart : (g h : Gate) → is_before h.domain h.word g ≡ true → is_at g.domain g.word h ≡ false
 unfolding is_before
 before-apart g h p = grind arith
+
+-- what comes before a word doesn't stand at it or behind it, and what doesn't stands at no word before it
+pub at-above : (domain first w : ℕ) (g : Gate) → is_before domain first g ≡ true → first ≤ w → is_at domain w g ≡ false
+unfolding is_before
+at-above domain first w g p le = grind arith
+
+pub at-below : (domain end w : ℕ) (g : Gate) → is_before domain end g ≡ false → w < end → is_at domain w g ≡ false
+unfolding is_before
+at-below domain end w g p lt = grind arith
 
 -- a search by halves: all gates below come before, and none of those after does
 pub record Halves (domain word : ℕ) (sorted : List Gate) (low width : ℕ) : Type 0 where
@@ -113,3 +123,11 @@ module _ (domain word : ℕ) (sorted : List Gate) (up : AreRising sorted) where
         (cases_lt (place_of domain word sorted) k))
         (cases_lt k (place_of domain word sorted)))
         (λ lt. absurd (omega arith)))
+
+-- between two words before which as many gates come none stands
+pub clear-between : (domain first end w : ℕ) (sorted : List Gate) → AreRising sorted → place_of domain first sorted ≡ place_of domain end sorted → first ≤ w → w < end →
+    gate_at sorted domain w ≡ None
+clear-between domain first end w sorted up same low high = find_none-from (is_at domain w) sorted (λ k d within. ⊎_elim
+    (λ (lt : k < place_of domain first sorted). at-above domain first w (get_or sorted k d) (before_place domain first sorted up d k lt) low)
+    (λ (ge : place_of domain first sorted ≤ k). at-below domain end w (get_or sorted k d) (behind_place domain end sorted up d k (omega (arith, same, ge)) within) high)
+    (cases_lt k (place_of domain first sorted)))

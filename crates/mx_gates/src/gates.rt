@@ -1,10 +1,10 @@
 //! The gates of the machine.
 
-ghost use Rattle.std.specs.Prelude.{◌≡◌, ◌<◌, ◌≤◌, true, [], ◌∷◌, ◌++◌, None, OnOk, OnErr, is_err, length, slice_get};
+ghost use Rattle.std.specs.Prelude.{◌≡◌, ℕ, ◌<◌, ◌≤◌, true, [], ◌∷◌, ◌++◌, None, OnOk, OnErr, is_err, length, slice_get};
 ghost use Rattle.std.specs.Bool.{OnFalse};
 ghost use Rattle.mx_model.specs.Gates.{most_gates, AreSingle, gate_at, gate_target, call_gate, is_return, with_gate, without_gate, has_gate, no_gate_fits};
 
-use crate::index::{BUCKETS, bucket, first_place, gate_in, place, sorted_place};
+use crate::index::{BUCKETS, before, behind, bucket, first_place, gate_in, place, sorted_place};
 use arrayvec::ArrayVec;
 use mx_model::Gate;
 use mx_words::MOST_GATES;
@@ -78,6 +78,23 @@ impl Gates {
         match self.gate(domain, word) {
             Some(gate) => gate.target == gate.domain,
             None => false,
+        }
+    }
+
+    /// A range of RAM words round `word` in which no gate stands for `domain`, as its first word and the word behind its last. It is
+    /// empty or ends at `word` where a gate stands there.
+    pub fn clear(&self, domain: u32, word: u32) -> (u32, u32)
+        ensures { (w : ℕ) → result.0 ≤ w → w < result.1 → gate_target self.now domain w ≡ None }
+    {
+        let sorted = self.sorted.as_slice();
+        let at = place(sorted, domain, word);
+        let first = behind(gate_in(sorted, at.wrapping_sub(1)), domain);
+        let end = before(gate_in(sorted, at), domain);
+        // The words between two neighbours are clear; what counts is that no sorted gate comes between them.
+        if place(sorted, domain, first) == place(sorted, domain, end) {
+            (first, end)
+        } else {
+            (word, word)
         }
     }
 

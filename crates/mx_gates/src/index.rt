@@ -69,6 +69,22 @@ pub fn gate_in(gates: &[Gate], at: usize) -> Option<Gate>
     gates.get(at).copied()
 }
 
+/// The word behind a gate, where it stands for the domain; the first of all where it doesn't.
+pub fn behind(gate: Option<Gate>, domain: u32) -> u32 {
+    match gate {
+        Some(gate) if gate.domain == domain => gate.word.saturating_add(1),
+        _ => 0,
+    }
+}
+
+/// The word of a gate, where it stands for the domain; the last of all where it doesn't.
+pub fn before(gate: Option<Gate>, domain: u32) -> u32 {
+    match gate {
+        Some(gate) if gate.domain == domain => gate.word,
+        _ => u32::MAX,
+    }
+}
+
 /// The width where the gate comes before the domain and word in the order of sorted gates, else 0. Said by what a subtraction
 /// borrows, since the processor would guess at a choice.
 fn step(gate: &Gate, domain: u32, word: u32, width: usize) -> usize

@@ -26,6 +26,12 @@ answer-alike size maps d address access b p e q =
     ap not q ∙ not-not (denies (perm (map_of maps d)) address access)
     ∙ ap (λ (x : Perm). not (allows x access)) (sym (perm-alike size maps d address p e))
 
+-- what a map doesn't deny a bus doesn't either
+pub allowed-alike : (size : ℕ) (maps : List (List Perm)) (d address : ℕ) (access : Access) → IsDomain maps d → length (map_of maps d) ≡ size →
+    denies (perm (map_of maps d)) address access ≡ false → denied (perm_from size maps d) address access ≡ false
+unfolding denied
+allowed-alike size maps d address access p e q = ap (λ (x : Perm). not (allows x access)) (perm-alike size maps d address p e) ∙ q
+
 allowed-in : (m : List Perm) (address : ℕ) (access : Access) (b : Bool) → in_ram address (length m) ≡ b →
     allows (option_map_or (perm_at m) (cond b (Some ((address - ram_base) / 4)) None) P.None) access ≡ true → b ≡ true
 allowed-in m address access true e q = refl

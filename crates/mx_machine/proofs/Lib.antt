@@ -21,6 +21,7 @@ pub mod ReturnLaws
 pub mod WaitLaws
 pub mod MayLaws
 pub mod SizeLaws
+pub mod Bounds
 pub mod StepLaws
 pub mod StretchLaws
 pub mod StartLaws
@@ -35,3 +36,5 @@ pub mod StartValid
 pub mod ReadLaws
 pub mod KindLaws
 pub mod MapRuns
+pub mod WindowLaws
+pub mod InsideLaws

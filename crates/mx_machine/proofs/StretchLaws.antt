@@ -16,6 +16,7 @@ use Rattle.mx_machine.specs.Actions.{after_instruction, counted, effect_for, hea
 use Rattle.mx_machine.specs.Harts.{no_hart, hart_of}
 use Rattle.mx_machine.specs.Held.{Held, meaning}
 use Rattle.mx_machine.specs.Made.{IsMade, core_in}
+use Rattle.mx_machine.specs.Rows.{HasRunOn}
 use Rattle.mx_machine.specs.Steps.{instructed}
 use Rattle.mx_machine.specs.Ties.{Fits, IsWhole, MayRun, RunsAlive}
 use Rattle.mx_machine.specs.Turning.{IsStretch, turns_of}
@@ -43,15 +44,12 @@ alive-instruction m h returns r alive =
 pub alive-now : (m n : Held) (h : ℕ) → RunsAlive m h → n ≡ heard h (counted m) → get_or n.dead (hart_of n.harts h).domain false ≡ false
 alive-now m n h r is = ap (λ (k : Held). get_or k.dead (hart_of k.harts h).domain false) is ∙ r.alive
 
--- after some turns of hart h from a flat state, each of which carried out an instruction
-pub record HasRunOn (f : Flat) (h n : ℕ) (m : Held) : Type 0 where
-  pub whole : IsWhole m
-  pub at : meaning m ≡ turns_of h f n
-  pub ran : (i : ℕ) → i < n → flat_kind (turns_of h f i) h ≡ T.Ran
-  pub steps : m.steps ≡ f.core.turns + n
-
 pub run-none : (m : Held) (h : ℕ) → IsWhole m → HasRunOn (meaning m) h 0 m
 run-none m h w = record { whole = w; at = refl; ran = λ i below. absurd (let z : ⊥ = omega arith in z); steps = omega arith }
+
+-- a turn counts
+pub turn-steps : (m k : Held) (h : ℕ) (events : Events) (answer : TurnKind) → IsMade m k events answer (flat_made (meaning m) h) → k.steps ≡ m.steps + 1
+turn-steps m k h events answer i = ap (λ (c : Core). c.turns) i.core ∙ (keeps-turned (flat_reads (meaning m)) (core_in m) h).turns
 
 module _ (f : Flat) (h n : ℕ) (m k : Held) (events : Events) (answer : TurnKind) (r : HasRunOn f h n m) (i : IsMade m k events answer (flat_made (meaning m) h)) where
   abbrev pub Law : Type 0
@@ -84,9 +82,7 @@ module _ (f : Flat) (h n : ℕ) (m k : Held) (events : Events) (answer : TurnKin
     whole = whole-is m k h events answer i law stays r.whole fits;
     at = run-turn ∙ sym (turns-more h f n);
     ran = λ j below. by j below (cases_eq j n);
-    steps =
-        let one : k.steps ≡ m.steps + 1 = ap (λ (c : Core). c.turns) i.core ∙ (keeps-turned (flat_reads (meaning m)) (core_in m) h).turns in
-        omega (arith, one, r.steps);
+    steps = omega (arith, turn-steps m k h events answer i, r.steps);
   }
     where
       by : (j : ℕ) → j < n + 1 → (j ≡ n) ⊎ (j ≢ n) → flat_kind (turns_of h f j) h ≡ T.Ran

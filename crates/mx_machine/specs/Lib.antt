@@ -7,9 +7,11 @@ pub mod Actions
 pub mod Made
 pub mod AtGate
 pub mod Goings
+pub mod Windows
 pub mod Serving
 pub mod Starts
 pub mod Readings
 pub mod Turning
+pub mod Rows
 pub mod Halting
 pub mod Smalls

@@ -1,13 +1,14 @@
 -- The steps of one hart.
-use Rattle.std.specs.Prelude.{◌≡◌, ℕ, Bool, List, [], ◌∷◌, ◌++◌, slice_set, Option, Some, None}
+use Rattle.std.specs.Prelude.{◌≡◌, ℕ, Bool, false, List, [], ◌∷◌, ◌++◌, slice_set, Option, Some, None}
 use Rattle.mx_words.specs.declared.perm.Perm.{Perm}
 use Rattle.mx_words.specs.declared.perm.Access.{Access}
+use Rattle.mx_isa.specs.declared.inst.Inst.{Inst}
 use Rattle.mx_core.specs.Bus.{IsTouched}
 use Rattle.mx_core.specs.Exec.{outcome_of, fetched, regs_after, bytes_after, fetch_touch, touches_of, HasCause}
 use Rattle.mx_core.specs.declared.outcome.Outcome.{Outcome}
 use Rattle.mx_core.specs.declared.outcome.Outcome.TheVariants as O
 use Rattle.mx_model.specs.declared.values.Frame.{Frame}
-use Rattle.mx_model.specs.Effect.{next, written}
+use Rattle.mx_model.specs.Effect.{effect, next, written}
 use Rattle.mx_model.specs.Gates.{below_top, top}
 use Rattle.mx_model.specs.State.{Running}
 use Rattle.mx_model.specs.Turn.{answered, fault_answer, restored}
@@ -32,6 +33,20 @@ pub record Instructs {B : Type 0} (perm : B → ℕ → Perm) (bytes : B → Lis
       ≡ bytes_after (perm old) (bytes old) (fetched (perm old) (bytes old) x.regs x.pc)
   pub touched : IsTouched touches old
       (fetch_touch x.pc ∷ touches_of (fetched (perm old) (bytes old) x.regs x.pc)) new
+  pub caused : HasCause answer
+
+-- the registers that an instruction leaves, whose word stands at its pc, over a bus
+abbrev pub regs_carried : {B : Type 0} → (B → ℕ → Perm) → (B → List ℕ) → Inst → Hart → B → List ℕ
+regs_carried perm bytes inst x bus =
+    regs_after (perm bus) (bytes bus) x.regs x.pc false (effect inst x.regs x.pc)
+
+-- such an instruction answers, and leaves the bus
+pub record CarriesOut {B : Type 0} (perm : B → ℕ → Perm) (bytes : B → List ℕ)
+    (touches : B → ℕ → ℕ → Access → B → Type 0) (inst : Inst) (x : Hart) (old : B)
+    (answer : Outcome) (new : B) : Type 0 where
+  pub answered : answer ≡ outcome_of (perm old) x.pc false (effect inst x.regs x.pc)
+  pub left : bytes new ≡ bytes_after (perm old) (bytes old) (effect inst x.regs x.pc)
+  pub touched : IsTouched touches old (touches_of (effect inst x.regs x.pc)) new
   pub caused : HasCause answer
 
 -- an instruction leaves it these registers, and where it goes on another pc

@@ -1,16 +1,20 @@
 //! What a machine holds, and the parts of a turn, each as one step of it.
-ghost use Rattle.std.specs.Prelude.{◌≡◌, ℕ, ◌+◌, ◌%◌, ◌<◌, ◌≤◌, ◌⊎◌, ◌*◌, true, false, length, slice_index_or, None};
+ghost use Rattle.std.specs.Prelude.{◌≡◌, ℕ, ◌+◌, ◌%◌, ◌<◌, ◌≤◌, ◌⊎◌, ◌*◌, true, false, length, slice_index_or, Some, None};
 ghost use Rattle.mx_words.specs.Announced.{is_announced};
 ghost use Rattle.mx_words.specs.Ranges.{most_words};
 ghost use Rattle.mx_table.specs.Tables.{IsDomain};
 ghost use Rattle.mx_check.specs.Calls.{is_ready};
-ghost use Rattle.mx_check.specs.Conditions.{HasHeardAll, MayLook, MayAnnounce, IsWithin};
+ghost use Rattle.mx_check.specs.Conditions.{HasHeardAll, IsAtHand, MayLook, MayAnnounce, IsWithin};
 ghost use Rattle.mx_check.specs.Harts.{hart_at, announced};
+ghost use Rattle.mx_isa.specs.Ranges.{IsValid as IsInst};
+ghost use Rattle.mx_core.specs.Bus.{load_at};
 ghost use Rattle.mx_core.specs.Exec.{HasCause};
+ghost use Rattle.mx_core.specs.Memo.{quick};
+ghost use Rattle.mx_model.specs.Effect.{effect};
 ghost use Rattle.mx_model.specs.declared.values.Note.TheVariants as Notes;
 ghost use Rattle.mx_supervisor.specs.Parts.{IsSound};
 ghost use Rattle.mx_supervisor.specs.Served.{range_of};
-ghost use Rattle.mx_machine.specs.Actions.{after_instruction, crossed, halted_first, fallen, heard, killed, outcome_for, returned, with_kept, with_step};
+ghost use Rattle.mx_machine.specs.Actions.{after_instruction, crossed, effect_for, halted_first, fallen, heard, killed, outcome_for, returned, with_kept, with_step};
 ghost use Rattle.mx_machine.specs.AtGate.{gate_here};
 ghost use Rattle.mx_machine.specs.Halting.{halted_at};
 ghost use Rattle.mx_machine.specs.Harts.{hart_of, is_halted};
@@ -20,6 +24,7 @@ use crate::Stacks;
 use crate::bus::HartBus;
 use crate::harts::Harts;
 use mx_core::Outcome;
+use mx_isa::Inst;
 use mx_model::{Call, Fault, Note};
 use mx_table::PermTables;
 use mx_words::word_of;
@@ -110,6 +115,32 @@ impl<T: PermTables, const N: usize> Bare<T, N> {
         self.bus.hart = hart;
         self.bus.domain = self.harts.domain(hart);
         self.harts.instruct(hart, &mut self.bus, returns)
+    }
+
+    /// Carries out an instruction whose fetch at the hart's pc is at hand. It isn't at a return gate.
+    #[inline(always)]
+    pub fn carry_out(&mut self, hart: u32, inst: Inst) -> Outcome
+        requires sound { IsSound self.old.parts }
+        requires there { hart < length self.old.harts }
+        requires look { MayLook hart (hart_of self.old.harts hart).domain self.old.parts.harts }
+        requires domain { IsDomain self.old.parts.maps (hart_of self.old.harts hart).domain }
+        requires aligned { (hart_of self.old.harts hart).pc % 4 ≡ 0 }
+        requires at_hand { IsAtHand self.old.parts.size (hart_at self.old.parts.harts hart).cache
+            (hart_of self.old.harts hart).pc }
+        requires quick { quick (load_at self.old.parts.ram (hart_of self.old.harts hart).pc 4)
+            ≡ Some inst }
+        requires inst { IsInst inst }
+        ensures outcome { result ≡ outcome_for self.old hart false }
+        ensures after { self.new ≡ after_instruction hart false self.old }
+        ensures cause { HasCause result }
+        ensures effect { effect_for self.old (hart_of self.old.harts hart)
+            ≡ effect inst (hart_of self.old.harts hart).regs (hart_of self.old.harts hart).pc }
+    {
+        let pc = self.harts.pc(hart);
+        self.bus.hart = hart;
+        self.bus.domain = self.harts.domain(hart);
+        self.bus.known(pc);
+        self.harts.carry_out(hart, &mut self.bus, inst)
     }
 
     /// Makes a killing domain dead after a fault by another cause than 20.

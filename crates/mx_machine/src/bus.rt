@@ -1,5 +1,8 @@
 //! The bus of a hart's turn: RAM that the checker guards.
-ghost use Rattle.std.specs.Prelude.{◌≡◌, ◌<◌, not, true};
+ghost use Rattle.std.specs.Prelude.{◌≡◌, ◌<◌, not, false, true};
+ghost use Rattle.mx_words.specs.declared.perm.Access.TheVariants.{Execute};
+ghost use Rattle.mx_check.specs.Conditions.{IsAtHand};
+ghost use Rattle.mx_check.specs.Harts.{hart_at};
 ghost use Rattle.mx_core.specs.Bus.{denied};
 ghost use Rattle.mx_machine.specs.Bus.{perm_from, IsInRam, IsUsable, IsTouch};
 
@@ -34,6 +37,28 @@ impl<T: PermTables, const N: usize> HartBus<T, N> {
         self.supervisor
             .checker
             .may(self.hart, place, self.domain, addr, access)
+    }
+}
+
+impl<T: PermTables, const N: usize> HartBus<T, N> {
+    /// Touches the bus for a fetch at hand, at an address whose word is known.
+    #[inline(always)]
+    pub fn known(&mut self, addr: u32)
+        requires usable { IsUsable T.maps T.size self.old }
+        requires at_hand { IsAtHand (T.size self.old.supervisor.checker.tables)
+            (hart_at self.old.supervisor.checker.harts self.old.hart).cache addr }
+        ensures allowed { denied (perm_from (T.size self.old.supervisor.checker.tables)
+            (T.maps self.old.supervisor.checker.tables) self.old.domain) addr Execute ≡ false }
+        ensures ram { self.new.supervisor.ram ≡ self.old.supervisor.ram }
+        ensures map { perm_from (T.size self.new.supervisor.checker.tables)
+            (T.maps self.new.supervisor.checker.tables) self.new.domain
+            ≡ perm_from (T.size self.old.supervisor.checker.tables)
+            (T.maps self.old.supervisor.checker.tables) self.old.domain }
+        ensures usable { IsUsable T.maps T.size self.new }
+        ensures touch { IsTouch T.kind T.maps T.size T.limits T.lookups N
+            self.old 0 addr self.new }
+    {
+        self.supervisor.checker.fetch(self.hart, self.domain, addr);
     }
 }
 

@@ -1,15 +1,17 @@
 //! One hart: its registers, pc, domain and frames, and the steps that a turn makes of them.
 ghost use Rattle.std.specs.Prelude.{◌≡◌, ◌<◌, ◌%◌, is_some, unwrap_or, option_map, length, replicate, slice_index, slice_set};
+ghost use Rattle.mx_isa.specs.Ranges.{IsValid as IsInst};
 ghost use Rattle.mx_model.specs.Gates.{nearest, top};
 ghost use Rattle.mx_model.specs.Turn.{restored, saved};
 ghost use Rattle.mx_machine.specs.Readings.{status_by_progress, TellsHart};
 ghost use Rattle.mx_machine.specs.Harts.{no_hart, own_call};
 ghost use Rattle.mx_machine.specs.Starts.{resumed_hart};
-ghost use Rattle.mx_machine.specs.Steps.{instructed, regs_left, Instructs, goes, waits, halts, takes_answer, enters, leaves, gives_up, returns_over};
+ghost use Rattle.mx_machine.specs.Steps.{instructed, regs_carried, regs_left, CarriesOut, Instructs, goes, waits, halts, takes_answer, enters, leaves, gives_up, returns_over};
 
 use crate::{HartState, HartStatus, HartView};
-use mx_core::{Bus, Outcome, Regs, exec};
+use mx_core::{Bus, Outcome, Regs, act, exec};
 use mx_gates::CrossStack;
+use mx_isa::Inst;
 use mx_model::{Call, Frame};
 
 /// The registers that a crossing saves, in the order of a frame (docs/MACHINE.md, "Gates").
@@ -126,6 +128,25 @@ impl Hart {
         ensures usable { B.usable bus.new }
     {
         let outcome = exec(bus, &mut self.regs, self.pc, returns);
+        if let Outcome::Next(pc) = outcome {
+            self.pc = pc;
+        }
+        outcome
+    }
+
+    /// Carries out an instruction whose word stands at pc, where no JAL or JALR is to return.
+    #[inline(always)]
+    pub fn carry_out<B: Bus>(&mut self, bus: &mut B, inst: Inst) -> Outcome
+        requires usable { B.usable bus.old }
+        requires aligned { self.old.pc % 4 ≡ 0 }
+        requires inst { IsInst inst }
+        ensures ran { CarriesOut B.perm B.bytes B.touches inst self.old bus.old result bus.new }
+        ensures after { self.new
+            ≡ instructed (regs_carried B.perm B.bytes inst self.old bus.old) result self.old }
+        ensures map { B.perm bus.new ≡ B.perm bus.old }
+        ensures usable { B.usable bus.new }
+    {
+        let outcome = act(bus, &mut self.regs, self.pc, false, inst);
         if let Outcome::Next(pc) = outcome {
             self.pc = pc;
         }

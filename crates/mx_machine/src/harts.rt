@@ -1,30 +1,34 @@
 //! The harts of a machine.
-ghost use Rattle.std.specs.Prelude.{◌≡◌, ℕ, ◌<◌, ◌≤◌, ◌%◌, ◌+◌, ◌*◌, ◌⊎◌, is_some, unwrap_or, option_map, length, slice_index, slice_set, slice_get};
+ghost use Rattle.std.specs.Prelude.{◌≡◌, ℕ, ◌<◌, ◌≤◌, ◌%◌, ◌+◌, ◌*◌, ◌⊎◌, is_some, unwrap_or, option_map, IfSome, length, slice_index, slice_set, slice_get};
 ghost use Rattle.std.specs.List.{list_any, list_all, AllByRecursion};
 ghost use Rattle.std.specs.Prelude.{map as list_map};
 ghost use Rattle.mx_words.specs.Ranges.{most_words};
+ghost use Rattle.mx_isa.specs.Ranges.{IsValid as IsInst};
+ghost use Rattle.mx_core.specs.Memo.{quick};
 ghost use Rattle.mx_model.specs.Effect.{reg};
 ghost use Rattle.mx_model.specs.Gates.{nearest, top};
 ghost use Rattle.mx_machine.specs.Harts.{hart_of, stepped, own_call, is_halted, is_waiting};
 ghost use Rattle.mx_machine.specs.Held.{area_of};
 ghost use Rattle.mx_machine.specs.Readings.{TellsHart};
 ghost use Rattle.mx_machine.specs.Starts.{started_from, resumed_hart};
-ghost use Rattle.mx_machine.specs.Steps.{instructed, regs_left, Instructs, goes, waits, halts, takes_answer, enters, gives_up, returns_over};
+ghost use Rattle.mx_machine.specs.Steps.{instructed, regs_carried, regs_left, CarriesOut, Instructs, goes, waits, halts, takes_answer, enters, gives_up, returns_over};
 
 use crate::hart::{Hart, Progress};
 use crate::{HartStates, HartView, Stacks, Starts};
-use mx_core::{Bus, Outcome};
+use mx_core::{Bus, Memo, Outcome};
+use mx_isa::Inst;
 use mx_model::{Call, Frame};
 use std::marker::Model;
 
 /// How many harts there is room for.
 const MOST: usize = 4;
 
-/// At most 4 harts.
+/// At most 4 harts, and beside them the decoded words that their turns find again. Nothing of those is seen.
 #[derive(Drop)]
 pub struct Harts {
     items: [Hart; MOST],
     len: u32,
+    memo: Memo,
 }
 
 impl Model for Harts {
@@ -57,6 +61,7 @@ impl Harts {
                 start_of(starts, stacks, 3),
             ],
             len: starts.len(),
+            memo: Memo::new(),
         }
     }
 
@@ -73,6 +78,7 @@ impl Harts {
                 states.hart(3),
             ],
             len: states.len(),
+            memo: Memo::new(),
         }
     }
 
@@ -239,6 +245,36 @@ impl Harts {
     {
         let part = &mut self.items[hart as usize];
         part.instruct(bus, returns)
+    }
+
+    /// As `Memo::inst`.
+    #[inline(always)]
+    pub fn inst(&mut self, addr: u32, word: u32) -> Option<Inst>
+        ensures inst { result ≡ quick word }
+        ensures valid { IfSome result IsInst }
+        ensures same { self.new ≡ self.old }
+    {
+        self.memo.inst(addr, word)
+    }
+
+    /// As `Hart::carry_out`, for one hart.
+    #[inline(always)]
+    pub fn carry_out<B: Bus>(&mut self, hart: u32, bus: &mut B, inst: Inst) -> Outcome
+        requires hart { hart < length self.old }
+        requires usable { B.usable bus.old }
+        requires aligned { (hart_of self.old hart).pc % 4 ≡ 0 }
+        requires inst { IsInst inst }
+        ensures ran { CarriesOut B.perm B.bytes B.touches inst (hart_of self.old hart)
+            bus.old result bus.new }
+        ensures after { self.new
+            ≡ stepped hart
+            (instructed (regs_carried B.perm B.bytes inst (hart_of self.old hart) bus.old) result)
+            self.old }
+        ensures map { B.perm bus.new ≡ B.perm bus.old }
+        ensures usable { B.usable bus.new }
+    {
+        let part = &mut self.items[hart as usize];
+        part.carry_out(bus, inst)
     }
 
     /// As `Hart::go_with`, for one hart.

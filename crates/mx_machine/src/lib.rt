@@ -12,6 +12,7 @@ mod starts;
 mod stretch;
 mod turns;
 mod views;
+mod window;
 
 pub use machine::Machine;
 pub use readers::{machine_is_valid, running_harts_are_current};

@@ -1,5 +1,5 @@
 //! Turns of one hart in a row. While they carry out instructions and no more, the hart runs on in its domain: only the gate at its
-//! pc is asked about before each.
+//! pc is asked about before each, and inside a window not even that.
 ghost use Rattle.std.specs.Prelude.{◌≡◌, ◌↔◌, ◌+◌, ◌-◌, ◌^◌, ◌<◌, ◌≤◌, true};
 ghost use Rattle.mx_model.specs.Events.{no_events};
 ghost use Rattle.mx_model.specs.Run.{flat_made};
@@ -7,6 +7,7 @@ ghost use Rattle.mx_model.specs.declared.values.TurnKind.{TurnKind};
 ghost use Rattle.mx_machine.specs.Goings.{kind_of};
 ghost use Rattle.mx_machine.specs.Held.{meaning};
 ghost use Rattle.mx_machine.specs.Made.{IsMade};
+ghost use Rattle.mx_machine.specs.Rows.{RunsTo};
 ghost use Rattle.mx_machine.specs.Ties.{Fits, IsWhole, RunsAlive};
 ghost use Rattle.mx_machine.specs.Turning.{IsStretch};
 
@@ -14,9 +15,13 @@ use crate::Stretch;
 use crate::bare::Bare;
 use crate::hart::Progress;
 use crate::turns::{Going, clear};
+use crate::window::SHUT;
 use mx_coherence::spans_are_coherent;
 use mx_model::{Events, turns_keep_validity};
 use mx_table::PermTables;
+
+/// How many turns of a row are made before a window is looked for, which short rows would not pay back.
+const FIRST: u64 = 4;
 
 impl<T: PermTables, const N: usize> Bare<T, N> {
     /// Turns of the hart of that number in a row, at least one and at most so many.
@@ -31,14 +36,60 @@ impl<T: PermTables, const N: usize> Bare<T, N> {
         spans_are_coherent();
         clear(out);
         let room = self.before_last(hart, most);
-        'turns: for ran in 0..room {
+        let first = room.min(FIRST);
+        'turns: for ran in 0..first {
             match self.turn_on(hart, out) {
                 Going::On => {}
                 Going::Ended(last) => return Stretch { ran, last },
             }
         }
+        if let Some(row) = self.more(hart, first, room, out) {
+            return row;
+        }
         let last = self.step(hart, out);
         Stretch { ran: room, last }
+    }
+
+    /// The rest of a row of which some turns were made, up to so many; the row, where one ended it. Where none is left nothing is done.
+    #[inline(always)]
+    fn more(&mut self, hart: u32, made: u64, room: u64, out: &mut Events) -> Option<Stretch>
+        requires whole { IsWhole self.old }
+        requires upto { made ≤ room }
+        requires few { self.old.steps + (room - made) < 2 ^ 64 }
+        requires alive { made < room → RunsAlive self.old hart }
+        requires empty { out.old ≡ no_events }
+        ensures row { RunsTo self.old hart made room self.new out.new result }
+        ensures whole { IsWhole self.new }
+    {
+        if made < room {
+            self.rest(hart, made, room, out)
+        } else {
+            None
+        }
+    }
+
+    /// The rest of a row, by windows.
+    // A function of its own, so that the first turns of each row are laid out for themselves.
+    #[inline(never)]
+    fn rest(&mut self, hart: u32, made: u64, room: u64, out: &mut Events) -> Option<Stretch>
+        requires whole { IsWhole self.old }
+        requires upto { made ≤ room }
+        requires few { self.old.steps + (room - made) < 2 ^ 64 }
+        requires alive { made < room → RunsAlive self.old hart }
+        requires empty { out.old ≡ no_events }
+        ensures row { RunsTo self.old hart made room self.new out.new result }
+        ensures whole { IsWhole self.new }
+    {
+        turns_keep_validity();
+        spans_are_coherent();
+        let mut window = SHUT;
+        'turns: for ran in made..room {
+            match self.turn(hart, &mut window, out) {
+                Going::On => {}
+                Going::Ended(last) => return Some(Stretch { ran, last }),
+            }
+        }
+        None
     }
 
     /// How many turns before the last of so many a hart makes, if none of them ends its run: all of them where it runs in a live
@@ -71,7 +122,7 @@ impl<T: PermTables, const N: usize> Bare<T, N> {
 
     /// One turn of a hart that runs in a live domain.
     #[inline(always)]
-    fn turn_on(&mut self, hart: u32, out: &mut Events) -> Going
+    pub fn turn_on(&mut self, hart: u32, out: &mut Events) -> Going
         requires whole { IsWhole self.old }
         requires alive { RunsAlive self.old hart }
         requires few { self.old.steps < 2 ^ 64 - 1 }

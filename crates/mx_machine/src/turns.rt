@@ -195,7 +195,7 @@ impl<T: PermTables, const N: usize> Bare<T, N> {
     }
 
     /// A fault of a running hart.
-    fn trap(&mut self, hart: u32, cause: u32, value: u32, out: &mut Events) -> TurnKind
+    pub fn trap(&mut self, hart: u32, cause: u32, value: u32, out: &mut Events) -> TurnKind
         requires run { MayRun self.old hart }
         requires cause { cause < 256 }
         requires empty { out.old ≡ no_events }
@@ -212,7 +212,7 @@ impl<T: PermTables, const N: usize> Bare<T, N> {
     }
 
     /// A JAL or JALR at a return gate.
-    fn go_back(&mut self, hart: u32, rd: u32, target: u32, out: &mut Events) -> TurnKind
+    pub fn go_back(&mut self, hart: u32, rd: u32, target: u32, out: &mut Events) -> TurnKind
         requires run { MayRun self.old hart }
         requires rd { rd < 32 }
         requires empty { out.old ≡ no_events }
@@ -234,7 +234,7 @@ impl<T: PermTables, const N: usize> Bare<T, N> {
     }
 
     /// An ECALL: a call that changes rights is announced, and waits unless it may take effect at once; any other is served.
-    fn ask(&mut self, hart: u32, out: &mut Events) -> TurnKind
+    pub fn ask(&mut self, hart: u32, out: &mut Events) -> TurnKind
         requires run { MayRun self.old hart }
         requires empty { out.old ≡ no_events }
         ensures made { IsMade self.old self.new out.new result

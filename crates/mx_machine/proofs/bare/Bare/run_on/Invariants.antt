@@ -2,7 +2,7 @@ use Rattle.std.proofs.Common.{◌≡◌, ◌<◌}
 use Rattle.mx_model.specs.Events.{no_events}
 use Rattle.mx_machine.specs.Held.{meaning}
 use Rattle.mx_machine.specs.Ties.{RunsAlive}
-use Rattle.mx_machine.proofs.StretchLaws.{HasRunOn}
+use Rattle.mx_machine.specs.Rows.{HasRunOn}
 use Rattle.mx_machine.proofs.bare.Bare.run_on.Given as goal
 
 abbrev pub invariant-turns : goal.invariant-turns

@@ -1,0 +1,102 @@
+//! Decoded words, kept for the turns of a row.
+ghost use Rattle.std.specs.Prelude.{◌≡◌, ◌<◌, IfSome};
+ghost use Rattle.mx_isa.specs.Ranges.{IsValid};
+ghost use Rattle.mx_core.specs.Memo.{quick, stays};
+
+use mx_isa::{Inst, decode};
+use std::marker::Model;
+
+/// How many words are kept.
+const ENTRIES: usize = 1024;
+
+/// A word, and its instruction where a row of turns carries it out.
+#[derive(Clone, Copy)]
+pub struct Entry {
+    pub word: u32,
+    pub inst: Option<Inst>,
+}
+
+/// Words that were fetched, each with its instruction, by the low bits of its address. RAM is read at each fetch and the word
+/// compared, so that nothing has to be forgotten where code is written.
+#[derive(Drop)]
+pub struct Memo {
+    entries: [Entry; ENTRIES],
+}
+
+impl Model for Memo {
+    ghost use Rattle.std.specs.Prelude.{◌≡◌, length, All};
+    ghost use Rattle.mx_core.specs.Memo.{IsDecoded};
+
+    // Nothing of it is seen.
+    ghost Value = { Unit };
+
+    ghost view = { λ m. tt };
+
+    ghost invariant = { λ m. (length m.entries ≡ 1024) × All IsDecoded m.entries };
+}
+
+impl Memo {
+    /// No word but 0, which is no instruction.
+    pub fn new() -> Memo {
+        let none = Entry {
+            word: 0,
+            inst: None,
+        };
+        Memo {
+            entries: [none; ENTRIES],
+        }
+    }
+
+    /// The instruction of a word that was fetched at an address. `None` exactly where no row of the instruction table matches the
+    /// word, and where a row of turns doesn't carry the instruction out: an ECALL, an EBREAK, or an access by x0.
+    #[inline(always)]
+    pub fn inst(&mut self, addr: u32, word: u32) -> Option<Inst>
+        ensures inst { result ≡ quick word }
+        ensures valid { IfSome result IsValid }
+    {
+        let at = addr as usize / 4 % ENTRIES;
+        let entry = self.entries[at];
+        if entry.word == word {
+            return entry.inst;
+        }
+        self.fill(at, word)
+    }
+
+    /// Keeps a word in place of another.
+    // Cold: the words of a loop are kept in its first round.
+    #[cold]
+    #[inline(never)]
+    fn fill(&mut self, at: usize, word: u32) -> Option<Inst>
+        requires { at < 1024 }
+        ensures inst { result ≡ quick word }
+        ensures valid { IfSome result IsValid }
+    {
+        let inst = quick(word);
+        self.entries[at] = Entry { word, inst };
+        inst
+    }
+}
+
+/// The instruction of a word, where a row of turns carries it out.
+fn quick(word: u32) -> Option<Inst>
+    ensures inst { result ≡ quick word }
+    ensures valid { IfSome result IsValid }
+{
+    match decode(word) {
+        Some(inst) if stays(&inst) => Some(inst),
+        _ => None,
+    }
+}
+
+/// Whether a row of turns carries an instruction out.
+fn stays(inst: &Inst) -> bool
+    ensures { result ≡ stays inst.now }
+{
+    match inst {
+        Inst::Load { rs1, .. } => *rs1 != 0,
+        Inst::Store { rs1, .. } => *rs1 != 0,
+        Inst::Ecall => false,
+        Inst::Ebreak => false,
+        _ => true,
+    }
+}
