@@ -5,6 +5,8 @@
  *                                      which command its words ask for, or `usage` where they have no meaning
  *   change exec WORDS PROGRAM          becomes PROGRAM with the words of the file WORDS
  *   change show WORDS                  shows them, quoted for a shell
+ *   change fault IMAGE                 says the first fault of an image, as the number of a manifest's fault and its
+ *                                      detail, or `none`
  *
  * SORT is manifest, source, image, schedule or snapshot. */
 #include <ctype.h>
@@ -316,6 +318,8 @@ int main(int many, char **words) {
     }
     if (many == 4 && strcmp(words[1], "exec") == 0) return become(words[2], words[3]);
     if (many == 3 && strcmp(words[1], "show") == 0) return show(words[2]);
-    fputs("change SORT SEED NUMBER BASE OUT | words SEED NUMBER OUT | exec WORDS PROGRAM | show WORDS\n", stderr);
+    if (many == 3 && strcmp(words[1], "fault") == 0) return image_fault(words[2]);
+    fputs("change: SORT SEED NUMBER BASE OUT | words SEED NUMBER OUT | exec WORDS PROGRAM | show WORDS | fault IMAGE\n",
+          stderr);
     return 1;
 }

@@ -33,4 +33,7 @@ const char *make_words(void);
 int become(const char *words, const char *program);
 int show(const char *words);
 
+/* Says the first fault of an image. */
+int image_fault(const char *name);
+
 #endif

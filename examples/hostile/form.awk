@@ -18,6 +18,8 @@ BEGIN {
     place = "(manifest|module\\." number "|hart\\." number "|schedule)"
     parts = number "/" number
 
+    schedule_limit = 16777216
+
     # A run that is taken up goes on counting turns.
     split(words, word, " ")
     asked = command == "resume" ? 1e18 : word[3] + 0
@@ -99,6 +101,7 @@ status != 0 {
     if (NR > 1) wrong("a second line")
     if (!is(refusal[status])) wrong("no listed line")
     if (status == 3 && !refused_rightly()) wrong("no place of this fault")
+    if (/^refused fault=9 at=schedule/ && order <= schedule_limit) wrong("a schedule under its limit")
     if (status == 11 && (of("fault") > 11 || (of("fault") == 11) != (of("line") == 0))) wrong("no fault of a source")
     next
 }
@@ -204,6 +207,7 @@ counts && (part == "counts" || part == "tables" || (!tables && (part == "domains
 
 END {
     if (told) exit
+    if (status == 0 && order > schedule_limit) wrong("a schedule over its limit")
     if (NR != lines) wrong("the last line isn't ended")
     if (index(allowed[command], " " status " ") == 0) wrong("status " status)
     if (status != 0) {

@@ -1,8 +1,18 @@
-/* Other harts meanwhile: they change rights on words of their own all the time, so that each call that changes rights
- * has to be heard by all, take and give back blocks, cross, and try the judge's words. */
+/* Other harts meanwhile, for longer than the judge has work: they change rights on words of their own all the time, so
+ * that each call that changes rights has to be heard by all, take and give back blocks, cross, and try the judge's
+ * words. */
 #include "guest.h"
 
 static word own[MONDRIX_HARTS][8];
+
+/* The mortal adds until it is dead, and never after. */
+static int is_dead[MONDRIX_HARTS];
+
+static word ask_mortal(word hart, word turn) {
+    answer sum = GATE(MORTAL_AT, ADDS)(turn, 1, 0);
+    if (sum == FAULT(20)) is_dead[hart] = 1;
+    return is_dead[hart] ? sum != FAULT(20) : sum != (answer)turn + 1;
+}
 
 static word round_of(word hart, word turn) {
     word *mine = own[hart], wrong = 0, right = turn % 3;
@@ -29,11 +39,11 @@ static word round_of(word hart, word turn) {
     wrong += asked(7, HEAP_AT, 0, 0, 0) != -8;
     wrong += asked(9, JUDGE_AT, STRANGER, 0, 0) != -2;
     wrong += asked(12, 0, 0, 0, 0) != (answer)(256 * hart + NOISE);
-    return wrong;
+    return wrong + ask_mortal(hart, turn);
 }
 
 int main(int hart) {
     word wrong = 0;
-    for (word turn = 0; turn < 300; turn++) wrong += round_of((word)hart, turn);
-    return (int)wrong;
+    for (word turn = 0; turn < 1500; turn++) wrong += round_of((word)hart, turn);
+    return (int)(wrong + !is_dead[hart]);
 }
