@@ -1,6 +1,6 @@
 pub mod Closings
 pub mod Paces
-pub mod Quiet
+pub mod PlainTexts
 pub mod RunEnds
 pub mod RunTexts
 pub mod Sinking

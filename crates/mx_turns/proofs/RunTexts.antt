@@ -8,6 +8,7 @@ use Rattle.mx_model.specs.Events.{Events}
 use Rattle.mx_model.specs.declared.values.TurnKind.{TurnKind}
 use Rattle.mx_model.specs.declared.values.TurnKind.TheVariants as K
 use Rattle.mx_model.specs.Run.{Schedule, hart_of, is_over, all_halted, is_stopped, made_of, turn, run, flat_kind, flat_made}
+use Rattle.mx_laws.proofs.QuietLaws.{adds-turned, end-turned}
 use Rattle.mx_machine.specs.declared.views.Stretch.{Stretch}
 use Rattle.mx_machine.specs.Turning.{IsStretch, IsTold, turns_of}
 use Rattle.mx_machine.proofs.StepLaws.{is-turn}
@@ -25,7 +26,6 @@ use Rattle.mx_turns.specs.Running.{named, Places, Moves, HasTexts, HasRun, Stops
 use Rattle.mx_turns.specs.declared.turns.Telling.{Telling}
 use Rattle.mx_turns.specs.declared.turns.Telling.TheVariants as telling
 use Rattle.mx_turns.specs.Runs.{note_lines}
-use Rattle.mx_turns.proofs.Quiet.{quiet_turned}
 use Rattle.mx_turns.proofs.Sinking.{moves_nothing, moves_moves, moves_breaks}
 
 -- a run of n turns, of which i made it stop
@@ -162,8 +162,10 @@ later_all h f (suc n) = later_turn f (turns_of h f n) (turns_of h f (suc n)) n (
 pub turn_goes_on : (f g : Flat) (h : ℕ) (events : Events) (k : TurnKind) → g ≡ flat_turn f h → IsTold (flat_made f h) events → k ≡ flat_kind f h → may_tell k ≡ false
     → GoesOn f.core events g.core
 turn_goes_on f g h events k is told kind quiet =
-    let q = quiet_turned (flat_reads f) f.core h (ap may_tell (sym kind) ∙ quiet) in
-    record { bytes = told.bytes ∙ q.console; note = told.note ∙ q.note; going = λ e. ap (λ (x : Flat). all_halted x.core) is ∙ q.going e }
+    let e = ap may_tell (sym kind) ∙ quiet in
+    let adds = adds-turned (flat_reads f) f.core h e in
+    let end = end-turned (flat_reads f) f.core h e in
+    record { bytes = told.bytes ∙ adds.console; note = told.note ∙ adds.note; going = λ going. ap (λ (x : Flat). all_halted x.core) is ∙ end ∙ going }
 
 -- a turn of a flat state is one of each state of which it is the flat state
 pub turn_of : (f g : Flat) (h : ℕ) (events : Events) (s : State) → g ≡ flat_turn f h → IsTold (flat_made f h) events → f ≡ flat s → IsTurnOf s h g events
@@ -235,7 +237,7 @@ module _ (tells : Telling) (schedule : Schedule) (f : Flat) (going : all_halted 
   going_along zero ran = going
   going_along (suc n) ran =
       let g = turns_of h f n in
-      (quiet_turned (flat_reads g) g.core h (ap may_tell (ran n (omega arith)))).going (going_along n (λ j below. ran j (omega (arith, below))))
+      end-turned (flat_reads g) g.core h (ap may_tell (ran n (omega arith))) ∙ going_along n (λ j below. ran j (omega (arith, below)))
 
   -- what the last of them keeps and counts with those before it
   pub last_later : (k : Flat) (events : Events) (stretch : Stretch) → IsStretch f h turns k events stretch → IsLater f (stretch.ran + 1) k

@@ -2,12 +2,12 @@
 use Rattle.std.specs.Prelude.{◌≡◌, ℕ, Bool, true, false, ◌+◌, ◌/◌, ◌%◌, ◌<◌, ◌≤◌, ◌⊎◌, List, [], ◌++◌, length, drop, option_to_list, Option, Some, None, Result, Ok, Err, OnOk, if◌then◌else◌}
 use Rattle.mx_io.specs.Texts.{AppendsWhole}
 use Rattle.mx_io.specs.Sink.{SinkState}
+-- whether a turn of a kind can add something to the texts or halt its hart
+pub use Rattle.mx_laws.specs.Quiet.{may_tell}
 use Rattle.mx_model.specs.Events.{Events}
 use Rattle.mx_model.specs.Run.{Schedule, ByQuantum, ByBytes, hart_of, is_over, all_halted, made_of, turn, run}
 use Rattle.mx_model.specs.State.{Core, State, Flat, flat}
 use Rattle.mx_model.specs.declared.values.Note.{Note}
-use Rattle.mx_model.specs.declared.values.TurnKind.{TurnKind}
-use Rattle.mx_model.specs.declared.values.TurnKind.TheVariants as K
 use Rattle.mx_tail.specs.Tail.{sent, held}
 use Rattle.mx_turns.specs.declared.fault.SinkFault.{SinkFault}
 use Rattle.mx_turns.specs.declared.fault.SinkFault.TheVariants as F
@@ -186,12 +186,6 @@ pub record IsTurnOf (s : State) (h : ℕ) (machine : Flat) (events : Events) : T
   pub state : machine ≡ flat (turn s h)
   pub bytes : events.bytes ≡ (made_of s h).console
   pub note : events.note ≡ (made_of s h).note
-
--- whether a turn of a kind can add something to the texts or halt its hart
-abbrev pub may_tell : TurnKind → Bool
-may_tell K.Trapped = true
-may_tell K.Called = true
-may_tell kind = false
 
 -- a turn that added nothing, and after which some hart can go on if one could before
 pub record GoesOn (c : Core) (events : Events) (e : Core) : Type 0 where
