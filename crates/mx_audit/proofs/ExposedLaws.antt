@@ -1,5 +1,5 @@
 -- A word of RAM is sealed exactly where no source exposes it to change.
-use Rattle.std.proofs.Common.{◌≡◌, ℕ, zero, suc, ◌+◌, ◌<◌, ◌≤◌, ◌⊎◌, inl, inr, Bool, true, false, not, ◌&&◌, ◌||◌, List, length, refl, sym, ap, ◌∙◌, subst, arith, IsTrue}
+use Rattle.std.proofs.Common.{◌≡◌, ℕ, zero, suc, ◌<◌, ◌≤◌, inl, inr, Bool, true, false, not, List, length, refl, ap, subst, arith}
 use Rattle.std.proofs.lemmas.Bool.{cases_eq, and_from, and_parts, or_left, or_right, or_from, both_ways, false_from_ne_true}
 use Rattle.mx_words.specs.declared.perm.Perm.{Perm}
 use Rattle.mx_words.specs.declared.perm.Perm.TheVariants as P

@@ -1,5 +1,5 @@
 -- Marks of domains: one more is marked, a pass over frames or gates goes on, and nothing is left to mark.
-use Rattle.std.proofs.Common.{◌≡◌, ℕ, zero, suc, ◌+◌, ◌<◌, ◌≤◌, ◌⊎◌, inl, inr, Bool, true, false, not, cond, List, [], ◌∷◌, length, get_or, set, take, replicate, slice_get, Option, Some, None, refl, sym, ap, ◌∙◌, subst, arith, IsTrue}
+use Rattle.std.proofs.Common.{◌≡◌, ℕ, zero, suc, ◌+◌, ◌<◌, ◌≤◌, ◌⊎◌, inl, inr, Bool, true, false, not, cond, List, [], ◌∷◌, length, get_or, set, take, replicate, slice_get, Some, None, refl, sym, ap, ◌∙◌, subst, arith, IsTrue}
 use Rattle.std.specs.List.{AllByRecursion, Contains}
 use Rattle.std.proofs.lemmas.List.Sums.{sum_by-set}
 use Rattle.std.proofs.lemmas.List.{get_or-set_same, get_or_default, length-set}
@@ -159,7 +159,10 @@ hart-kept marks more hart k h = record {
 
 -- with harts and targets marked just the live domains are
 pub marks-live : (c : Core) (marks : List Bool) → MarkOnlyLive c marks → MarkHarts c marks → MarkTargets c marks → MarkLive c marks
-marks-live c marks only harts targets d = (only d, live-least (λ e. IsTrue (is_marked marks e)) c d (record {
-  harts = all-placed (IsHome (λ e. IsTrue (is_marked marks e))) c.harts no_hart (λ h l. ((harts h l).domain, (harts h l).frames));
-  gates = targets;
-}))
+marks-live c marks only harts targets d = (
+  only d,
+  live-least (λ e. IsTrue (is_marked marks e)) c d (record {
+    harts = all-placed (IsHome (λ e. IsTrue (is_marked marks e))) c.harts no_hart (λ h l. ((harts h l).domain, (harts h l).frames));
+    gates = targets;
+  }),
+)

@@ -1,7 +1,7 @@
 -- What an audit of the state at boot finds stays in every run.
-use Rattle.std.proofs.Common.{◌≡◌, ◌↔◌, ℕ, ◌+◌, ◌<◌, List, sym, subst, arith, IsTrue}
+use Rattle.std.proofs.Common.{◌↔◌, ℕ, List, sym, subst, arith, IsTrue}
 use Rattle.mx_manifest.specs.Plan.{Said}
-use Rattle.mx_model.specs.Reads.{Reads, reads, flat_reads}
+use Rattle.mx_model.specs.Reads.{Reads, flat_reads}
 use Rattle.mx_model.specs.Run.{Schedule, run}
 use Rattle.mx_model.specs.State.{State, flat}
 use Rattle.mx_model.proofs.FlatLaws.{reads-flat}

@@ -1,5 +1,5 @@
 -- What stretches tell: of one source after another, and from one word on or a later one.
-use Rattle.std.proofs.Common.{◌≡◌, ℕ, zero, suc, ◌+◌, ◌-◌, ◌<◌, ◌≤◌, ◌⊎◌, inl, inr, min, Bool, true, false, not, ◌&&◌, ◌||◌, List, [], ◌∷◌, ◌++◌, nat_lt, if◌then◌else◌, length, replicate, set, slice_get, Option, Some, refl, sym, ap, ◌∙◌, subst, arith, add-one, append_assoc, IsTrue}
+use Rattle.std.proofs.Common.{◌≡◌, ℕ, zero, suc, ◌+◌, ◌-◌, ◌<◌, ◌≤◌, ◌⊎◌, inl, inr, min, Bool, true, false, not, ◌||◌, List, [], ◌∷◌, ◌++◌, nat_lt, if◌then◌else◌, length, replicate, set, slice_get, Some, refl, sym, ap, ◌∙◌, subst, arith, append_assoc}
 use Rattle.std.proofs.lemmas.Bool.{and_left, ltb-true}
 use Rattle.mx_words.specs.declared.perm.Perm.TheVariants as P
 use Rattle.mx_words.specs.declared.perm.Span.{Span}

@@ -1,5 +1,5 @@
 -- Marks of domains, one for each number below 64, as an audit finds the live ones.
-use Rattle.std.specs.Prelude.{◌≡◌, ◌↔◌, ℕ, ◌<◌, Bool, true, false, not, List, length, slice_index_or, count_by, IsTrue}
+use Rattle.std.specs.Prelude.{◌↔◌, ℕ, ◌<◌, Bool, false, not, List, length, slice_index_or, count_by, IsTrue}
 use Rattle.std.specs.List.{AllByRecursion}
 use Rattle.mx_model.specs.declared.values.Frame.{Frame}
 use Rattle.mx_model.specs.declared.values.Gate.{Gate}

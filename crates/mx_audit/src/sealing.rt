@@ -25,7 +25,10 @@ pub(crate) fn sealed_runs(
 {
     any_machine_is_valid(machine);
     let mut runs = Spans::new(alloc);
-    let mut known = [Stretch { end: 0, exposed: false }; 64];
+    let mut known = [Stretch {
+        end: 0,
+        exposed: false,
+    }; 64];
     // The sealed words from `first` up to `word` are still without a run.
     let mut first = 0;
     let mut word = 0;

@@ -33,7 +33,11 @@ impl Stretch {
         ensures exposed { result.exposed ≡ (self.exposed || other.exposed) }
     {
         Stretch {
-            end: if self.end < other.end { self.end } else { other.end },
+            end: if self.end < other.end {
+                self.end
+            } else {
+                other.end
+            },
             exposed: self.exposed || other.exposed,
         }
     }

@@ -1,4 +1,4 @@
-use Rattle.std.proofs.Common.{◌≡◌, ℕ, Bool, List, Bor, ◌+◌, ◌-◌, length, map, refl, ap, ◌∙◌, arith}
+use Rattle.std.proofs.Common.{ℕ, List, Bor, ◌+◌, ◌-◌, length, map, refl, ap, ◌∙◌, arith}
 use Rattle.std.proofs.lemmas.List.{length-map}
 use Rattle.std.proofs.lemmas.Result.{err_from_is_err_and}
 use Rattle.mx_audit.specs.Lines.{live_lines, live_text}

@@ -1,9 +1,6 @@
-use Rattle.std.proofs.Common.{◌+◌, ◌≤◌, sym, ap, arith}
+use Rattle.std.proofs.Common.{sym, ap, arith}
 use Rattle.std.proofs.lemmas.Result.{err_from_is_err_and}
 use Rattle.std.proofs.lemmas.Option.{get_or_from_slice_get}
-use Rattle.mx_words.specs.declared.perm.Span.{Span}
-use Rattle.mx_words.specs.Ranges.{most_words}
-use Rattle.mx_model.proofs.ListLaws.{all-in}
 use Rattle.mx_audit.specs.Lines.{sealed_line}
 use Rattle.mx_audit.proofs.RunLaws.{in-ram-at}
 use Rattle.mx_tail.proofs.PassLaws.{passes_same, coming_all, coming_item, coming_item_stop, coming_items}

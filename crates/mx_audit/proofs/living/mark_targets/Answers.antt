@@ -1,4 +1,4 @@
-use Rattle.std.proofs.Common.{List, Bool, ◌≡◌, ◌+◌, true, false, sym, ◌∙◌, subst, IsTrue}
+use Rattle.std.proofs.Common.{List, Bool, ◌+◌, true, sym, ◌∙◌, subst, IsTrue}
 use Rattle.std.proofs.lemmas.Bool.{OnFalse_from, both_ways}
 use Rattle.mx_boot.specs.Machines.{meaning}
 use Rattle.mx_model.specs.declared.values.Gate.{Gate}

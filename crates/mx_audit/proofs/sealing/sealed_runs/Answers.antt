@@ -1,4 +1,4 @@
-use Rattle.std.proofs.Common.{ℕ, ◌≡◌, ◌-◌, List, ◌++◌, length, length-append, sym, ap, ◌∙◌, subst, arith}
+use Rattle.std.proofs.Common.{◌≡◌, ◌-◌, List, ◌++◌, length, length-append, ap, ◌∙◌, arith}
 use Rattle.mx_boot.specs.Machines.{meaning}
 use Rattle.mx_model.specs.Reads.{flat_reads}
 use Rattle.mx_words.specs.declared.perm.Span.{Span}

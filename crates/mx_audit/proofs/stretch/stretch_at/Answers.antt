@@ -1,4 +1,4 @@
-use Rattle.std.proofs.Common.{List, ◌+◌, ◌<◌, sym, ap, ◌∙◌, subst, arith}
+use Rattle.std.proofs.Common.{List, ◌+◌, ◌<◌, sym, ◌∙◌, subst, arith}
 use Rattle.mx_boot.specs.Machines.{meaning}
 use Rattle.mx_audit.specs.declared.stretch.Stretch.{Stretch}
 use Rattle.mx_audit.specs.Stretches.{AllTell, Tells, some_exposes}
@@ -22,9 +22,9 @@ loop-i-preserved c =
                 (tells-more f live i word c.loop-i.all w.rights_at.result w.joined-all.result w.joined-all.ensures.end w.joined-all.ensures.exposed c.loop-i.invariant.tells w.rights_at.ensures.tells);
           }
       | else-is_marked w ↦ record {
-          known = subst (λ (known : List Stretch). AllTell f live word known) (sym w.known-is) c.loop-i.invariant.known;
-          behind = subst (λ (s : Stretch). word < s.end) (sym w.all-is) c.loop-i.invariant.behind;
-          tells = subst (λ (s : Stretch). Tells f (some_exposes f live (i + 1)) word s) (sym w.all-is)
-              (tells-unmarked f live i word c.loop-i.all (sym c.is_marked.ensures ∙ w.if-is_marked.false) c.loop-i.invariant.tells);
-        }
+        known = subst (λ (known : List Stretch). AllTell f live word known) (sym w.known-is) c.loop-i.invariant.known;
+        behind = subst (λ (s : Stretch). word < s.end) (sym w.all-is) c.loop-i.invariant.behind;
+        tells = subst (λ (s : Stretch). Tells f (some_exposes f live (i + 1)) word s) (sym w.all-is)
+            (tells-unmarked f live i word c.loop-i.all (sym c.is_marked.ensures ∙ w.if-is_marked.false) c.loop-i.invariant.tells);
+      }
     ]
