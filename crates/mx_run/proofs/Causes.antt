@@ -19,7 +19,7 @@ use Rattle.mx_asm.specs.Denoted.{program_of, first_fault}
 use Rattle.mx_run.specs.declared.status.Status.{Status}
 use Rattle.mx_run.specs.declared.status.Status.TheVariants.{Ran, Usage, StoreFault, ShortFile, NoFile, AsmFault}
 use Rattle.mx_run.specs.Words.{Request, Go, Asm}
-use Rattle.mx_run.specs.Manifest.{judged}
+use Rattle.mx_plan.specs.Manifest.{judged}
 use Rattle.mx_run.specs.Finding.{Finding, Absent, Large, Short, Broken, Whole, Finds}
 use Rattle.mx_run.specs.Next.{Outcome, Wanted, Next, Read, End, refusal, lack_of, after_file}
 use Rattle.mx_run.specs.Boots.{Rest, refused_by, after_images, manifest_file, image_file, booted, planned, after_boot}

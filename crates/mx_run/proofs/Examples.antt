@@ -14,7 +14,7 @@ use Rattle.mx_run.specs.Boots.{manifest_file}
 use Rattle.mx_run.specs.Commands.{next, source_file}
 use Rattle.mx_run.specs.declared.side.Side.TheVariants.{First}
 use Rattle.mx_turns.specs.declared.task.Dump.TheVariants.{Ram}
-use Rattle.mx_run.specs.Manifest.{file_fault}
+use Rattle.mx_plan.specs.Manifest.{file_fault}
 use Rattle.mx_run.specs.Refusal.{refused_line, fault_text, place_text, detail_text, tables_full_line, short_file_line, no_file_line, asm_fault_line}
 
 -- words with a meaning, and words without

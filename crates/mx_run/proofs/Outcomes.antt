@@ -12,7 +12,7 @@ use Rattle.mx_run.specs.declared.side.Side.{Side}
 use Rattle.mx_run.specs.declared.side.Side.TheVariants.{First}
 use Rattle.mx_run.specs.declared.status.Status.TheVariants.{Usage, StoreFault, ShortFile, NoFile}
 use Rattle.mx_run.specs.Words.{Request, Go, Asm}
-use Rattle.mx_run.specs.Manifest.{judged}
+use Rattle.mx_plan.specs.Manifest.{judged}
 use Rattle.mx_run.specs.Finding.{Finding, Absent, Large, Short, Broken, Whole, found_in}
 use Rattle.mx_run.specs.Next.{Outcome, Wanted, Next, End, refusal, after_file}
 use Rattle.mx_run.specs.Boots.{Rest, refused_by, after_images, manifest_file, image_file, booted, planned, after_boot}

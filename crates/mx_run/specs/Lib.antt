@@ -4,9 +4,7 @@ pub mod Boots
 pub mod Causes
 pub mod Commands
 pub mod Finding
-pub mod Judged
 pub mod Leads
-pub mod Manifest
 pub mod Next
 pub mod Program
 pub mod Promise

@@ -4,7 +4,6 @@
 mod assembling;
 mod booting;
 mod laws;
-mod manifest;
 mod order;
 mod program;
 mod reading;
