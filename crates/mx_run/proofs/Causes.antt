@@ -20,7 +20,7 @@ use Rattle.mx_asm.specs.Denoted.{program_of, first_fault}
 use Rattle.mx_run.specs.declared.status.Status.{Status}
 use Rattle.mx_run.specs.declared.status.Status.TheVariants.{Ran, Usage, StoreFault, ShortFile, NoFile, AsmFault}
 use Rattle.mx_run.specs.Words.{Pair, Request, Go, Asm, Audit, Twin, Mill}
-use Rattle.mx_run.specs.Manifest.{judged}
+use Rattle.mx_plan.specs.Manifest.{judged}
 use Rattle.mx_run.specs.Finding.{Finding, Absent, Large, Short, Broken, Whole, Finds}
 use Rattle.mx_mill.specs.Mill.{mill_text}
 use Rattle.mx_run.specs.Next.{Outcome, Wanted, Next, Read, End, refusal, reported, lack_of, after_file}

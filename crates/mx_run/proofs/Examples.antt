@@ -17,7 +17,7 @@ use Rattle.mx_manifest.specs.declared.fault.Key.TheVariants as key
 use Rattle.mx_manifest.specs.Plan.{Said}
 use Rattle.mx_model.specs.State.{State}
 use Rattle.mx_turns.specs.declared.task.Dump.TheVariants.{Ram, Snapshot}
-use Rattle.mx_run.specs.Manifest.{file_fault}
+use Rattle.mx_plan.specs.Manifest.{file_fault}
 use Rattle.mx_run.specs.Refusal.{refused_line, fault_text, place_text, detail_text, tables_full_line, short_file_line, no_file_line, asm_fault_line, unlike_line}
 
 -- words with a meaning, and words without

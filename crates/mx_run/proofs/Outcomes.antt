@@ -12,7 +12,7 @@ use Rattle.mx_run.specs.declared.side.Side.{Side}
 use Rattle.mx_run.specs.declared.side.Side.TheVariants.{First, Second}
 use Rattle.mx_run.specs.declared.status.Status.TheVariants.{Usage, StoreFault, ShortFile, NoFile}
 use Rattle.mx_run.specs.Words.{Request, Go, Asm, Audit, Twin, Mill}
-use Rattle.mx_run.specs.Manifest.{judged}
+use Rattle.mx_plan.specs.Manifest.{judged}
 use Rattle.mx_run.specs.Finding.{Finding, Absent, Large, Short, Broken, Whole, found_in}
 use Rattle.mx_mill.specs.Mill.{mill_text}
 use Rattle.mx_run.specs.Next.{Outcome, Wanted, Next, End, refusal, reported, after_file}

@@ -16,7 +16,7 @@ use Rattle.mx_run.specs.declared.status.FileRole.{FileRole}
 use Rattle.mx_run.specs.declared.status.FileRole.TheVariants.{Manifest, Image, SecondManifest, SecondImage}
 use Rattle.mx_run.specs.declared.status.Status.{Status}
 use Rattle.mx_run.specs.declared.status.Status.TheVariants.{Refused, TablesFull, SecondRefused, SecondTablesFull}
-use Rattle.mx_run.specs.Manifest.{judged}
+use Rattle.mx_plan.specs.Manifest.{judged}
 use Rattle.mx_run.specs.Finding.{Finding}
 use Rattle.mx_run.specs.Next.{Wanted, Next, End, after_file, refusal, text_limit, file_limit}
 

@@ -5,9 +5,7 @@ pub mod Causes
 pub mod Commands
 pub mod Compared
 pub mod Finding
-pub mod Judged
 pub mod Leads
-pub mod Manifest
 pub mod Next
 pub mod Program
 pub mod Promise

@@ -7,7 +7,8 @@ ghost use Rattle.mx_boot.specs.Machines.{meaning};
 ghost use Rattle.mx_io.specs.Sink.{SinkState};
 ghost use Rattle.mx_model.specs.State.{State, flat};
 ghost use Rattle.mx_turns.specs.Ends.{sinks};
-ghost use Rattle.mx_run.specs.Commands.{audited, next, reported};
+ghost use Rattle.mx_run.specs.Commands.{audited, next};
+ghost use Rattle.mx_run.specs.Next.{reported};
 ghost use Rattle.mx_run.specs.Top.{Continues, Ends, EndsOrWants};
 ghost use Rattle.mx_run.specs.Words.{Audit};
 

@@ -3,11 +3,10 @@
 ghost use Rattle.std.specs.Prelude.{Ok};
 ghost use Rattle.mx_boot.specs.Boot.{boot_of};
 ghost use Rattle.mx_boot.specs.Machines.{IsBooted};
+ghost use Rattle.mx_plan.specs.Manifest.{judged};
 ghost use Rattle.mx_run.specs.Boots.{Rest, after_boot, planned, booted};
 ghost use Rattle.mx_run.specs.Booting.{TakesBoot, TakesImage, TakesImages, images_of};
-ghost use Rattle.mx_run.specs.Manifest.{judged};
 
-use crate::manifest::read_plan;
 use crate::refusal::refuse;
 use crate::side::{Side, refused, tables_full};
 use crate::status::Status;
@@ -15,6 +14,7 @@ use crate::wanted::{image_file, manifest_file, take_file};
 use mx_boot::{AnyMachine, BootRefused, boot};
 use mx_io::{Sink, Store};
 use mx_manifest::{ManifestFault, ModulePlan, Plan};
+use mx_plan::read_plan;
 use mx_words::Blob;
 use std::alloc::Global;
 

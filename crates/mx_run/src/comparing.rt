@@ -59,7 +59,8 @@ fn compare_with<S: Store, R: Sink>(
     match take_boot(alloc, Side::Second, pair.second, store, report) {
         Ok(second) => compare_booted(pair, first, second, report),
         Err(status) => {
-            first.machine.end();
+            let Booted { plan: _, machine } = first;
+            machine.end();
             status
         }
     }

@@ -6,7 +6,6 @@ mod auditing;
 mod booting;
 mod comparing;
 mod laws;
-mod manifest;
 mod milling;
 mod order;
 mod program;

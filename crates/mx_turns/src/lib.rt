@@ -3,6 +3,7 @@
 #![tactic(auto)]
 
 mod caches;
+mod counting;
 mod ending;
 mod fault;
 mod pace;
@@ -12,6 +13,7 @@ mod tracing;
 mod turns;
 
 pub use caches::texts_read_no_cache;
+pub use counting::{Tally, count_turns};
 pub use fault::SinkFault;
 pub use pace::Schedule;
 pub use running::make_run;

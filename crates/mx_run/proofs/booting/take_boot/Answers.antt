@@ -1,5 +1,5 @@
 use Rattle.mx_run.specs.Boots.{Rest, after_boot, planned}
-use Rattle.mx_run.specs.Manifest.{judged}
+use Rattle.mx_plan.specs.Manifest.{judged}
 use Rattle.mx_run.proofs.Scheduled.{boots_on}
 use Rattle.mx_run.proofs.booting.take_boot.Goals as goal
 

@@ -2,8 +2,8 @@
 
 ghost use Rattle.std.specs.Prelude.{◌≡◌, option_map, IfOk};
 ghost use Rattle.toml.specs.View.{table_view};
-ghost use Rattle.mx_run.specs.Manifest.{file_fault, document, judged};
-ghost use Rattle.mx_run.specs.Judged.{IsJudged};
+ghost use Rattle.mx_plan.specs.Manifest.{file_fault, document, judged};
+ghost use Rattle.mx_plan.specs.Judged.{IsJudged};
 
 use mx_manifest::{BootFault, Key, ManifestFault, Part, Place, Plan, read_manifest};
 use mx_words::NoMemory;
@@ -27,7 +27,7 @@ fn file_fault(number: u32) -> BootFault
 }
 
 /// What the bytes of a manifest file say, or their first fault: fault 1 exactly where they are no TOML document.
-pub(crate) fn read_plan(alloc: Global, bytes: &[u8]) -> Result<Plan, ManifestFault>
+pub fn read_plan(alloc: Global, bytes: &[u8]) -> Result<Plan, ManifestFault>
     ensures { IsJudged (judged bytes.now) result }
 {
     match read_document(alloc, bytes) {
