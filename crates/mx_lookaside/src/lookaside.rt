@@ -56,11 +56,7 @@ impl<const N: usize> Lookaside<N> {
     {
         // The entries up to the ring's end, and then those from its start on: no place needs a remainder.
         let run = self.len.min(SLOTS - self.newest);
-        match newest_in(
-            &self.slots[self.newest..self.newest + run],
-            domain,
-            word,
-        ) {
+        match newest_in(&self.slots[self.newest..self.newest + run], domain, word) {
             Some(span) => Some(span),
             None => newest_in(&self.slots[..self.len - run], domain, word),
         }

@@ -1,6 +1,5 @@
 -- A turn inside a window: the hart acts as the machine stands, and what its instruction makes is the turn.
-use Rattle.std.proofs.Common.{◌≡◌, ℕ, Bool, true, false, List, length, get_or, refl, sym, ap, subst, ◌∙◌, Option, Some, None}
-use Rattle.mx_words.specs.Ranges.{covers}
+use Rattle.std.proofs.Common.{◌≡◌, ℕ, false, List, refl, sym, ap, subst, ◌∙◌, Some}
 use Rattle.mx_isa.specs.declared.inst.Inst.{Inst}
 use Rattle.mx_check.specs.Conditions.{HasHeardAll, IsAtHand}
 use Rattle.mx_check.specs.Harts.{Kept}
@@ -12,7 +11,6 @@ use Rattle.mx_core.proofs.QuickLaws.{AreAway, touches-away}
 use Rattle.mx_model.specs.declared.values.TurnKind.TheVariants as T
 use Rattle.mx_model.specs.Effect.{Effect, effect}
 use Rattle.mx_model.specs.Events.{Events, no_events}
-use Rattle.mx_model.specs.Run.{flat_made}
 use Rattle.mx_model.specs.Turn.{is_return_at}
 use Rattle.mx_model.specs.Valid.{IsValid}
 use Rattle.mx_machine.specs.declared.hart.Progress.TheVariants as P
@@ -23,7 +21,7 @@ use Rattle.mx_machine.specs.Actions.{after_instruction, counted, effect_for, hea
 use Rattle.mx_machine.specs.AtGate.{gate_here}
 use Rattle.mx_machine.specs.Goings.{kind_of}
 use Rattle.mx_machine.specs.Harts.{hart_of}
-use Rattle.mx_machine.specs.Held.{Held, meaning}
+use Rattle.mx_machine.specs.Held.{Held}
 use Rattle.mx_machine.specs.Made.{IsMade, core_in, hart_in, instruction, made_after_hearing}
 use Rattle.mx_machine.specs.Ties.{Fits, IsWhole, MayRun, RunsAlive}
 use Rattle.mx_machine.specs.Windows.{IsOpen, IsTurnOn, IsWindow}

@@ -1,4 +1,4 @@
-use Rattle.std.proofs.Common.{◌≡◌, ℕ, ◌+◌, ◌<◌, refl, sym, subst, ◌∙◌, arith}
+use Rattle.std.proofs.Common.{◌≡◌, ℕ, ◌+◌, ◌<◌, refl, subst, arith}
 use Rattle.mx_machine.specs.declared.turns.Going.{Going}
 use Rattle.mx_machine.specs.declared.turns.Going.TheVariants as G
 use Rattle.mx_machine.specs.Goings.{kind_of}
