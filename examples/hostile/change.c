@@ -319,7 +319,7 @@ int main(int many, char **words) {
     if (many == 4 && strcmp(words[1], "exec") == 0) return become(words[2], words[3]);
     if (many == 3 && strcmp(words[1], "show") == 0) return show(words[2]);
     if (many == 3 && strcmp(words[1], "fault") == 0) return image_fault(words[2]);
-    fputs("change: SORT SEED NUMBER BASE OUT | words SEED NUMBER OUT | exec WORDS PROGRAM | show WORDS | fault IMAGE\n",
+    fputs("SORT SEED NUMBER BASE OUT | words SEED NUMBER OUT | exec WORDS PROGRAM | show WORDS | fault IMAGE\n",
           stderr);
     return 1;
 }

@@ -44,6 +44,6 @@ static word round_of(word hart, word turn) {
 
 int main(int hart) {
     word wrong = 0;
-    for (word turn = 0; turn < 1500; turn++) wrong += round_of((word)hart, turn);
+    for (word turn = 0; turn < 2500; turn++) wrong += round_of((word)hart, turn);
     return (int)(wrong + !is_dead[hart]);
 }
