@@ -1,5 +1,5 @@
 -- A turn inside a window: the hart acts as the machine stands.
-use Rattle.std.proofs.Common.{◌≡◌, ℕ, Bool, true, false, List, length, get_or, refl, sym, ap, subst, ◌∙◌, Option, Some, None}
+use Rattle.std.proofs.Common.{◌≡◌, ℕ, false, List, refl, sym, ap, subst, ◌∙◌}
 use Rattle.mx_check.specs.Conditions.{HasHeardAll, IsAtHand}
 use Rattle.mx_check.specs.Harts.{Kept}
 use Rattle.mx_check.specs.Harts.{hart_at as kept_at}

@@ -1,12 +1,11 @@
 -- Turns inside a window that are counted together: what each of them may rest on, what it makes, and what ends them.
-use Rattle.std.proofs.Common.{◌≡◌, ℕ, ◌+◌, ◌<◌, ◌≤◌, ◌%◌, false, List, [], length, get_or, refl, sym, ap, subst, ◌∙◌, arith, Option, Some, None}
+use Rattle.std.proofs.Common.{◌≡◌, ℕ, ◌+◌, ◌%◌, false, [], refl, sym, ap, subst, ◌∙◌, arith, Some}
 use Rattle.mx_isa.specs.declared.inst.Inst.{Inst}
 use Rattle.mx_table.specs.Tables.{IsDomain}
-use Rattle.mx_check.specs.Conditions.{HasHeardAll, MayLook}
 use Rattle.mx_core.specs.declared.outcome.Outcome.{Outcome}
 use Rattle.mx_core.specs.declared.outcome.Outcome.TheVariants as O
 use Rattle.mx_core.specs.Bus.{load_at}
-use Rattle.mx_core.specs.Exec.{HasCause, action_of, touches_of}
+use Rattle.mx_core.specs.Exec.{action_of, touches_of}
 use Rattle.mx_core.specs.Memo.{quick}
 use Rattle.mx_core.proofs.QuickLaws.{AreAway, touches-away}
 use Rattle.mx_model.specs.declared.values.TurnKind.{TurnKind}
@@ -24,7 +23,7 @@ use Rattle.mx_machine.specs.declared.window.Window.{Window}
 use Rattle.mx_machine.specs.Actions.{after_instruction, counted, effect_for, outcome_for}
 use Rattle.mx_machine.specs.Harts.{hart_of}
 use Rattle.mx_machine.specs.Held.{Held, meaning}
-use Rattle.mx_machine.specs.Made.{IsMade, hart_in, instruction, made_after_hearing, made_by}
+use Rattle.mx_machine.specs.Made.{IsMade, hart_in, made_by}
 use Rattle.mx_machine.specs.Rows.{EndsBy, HasRunOn, IsQuick, IsRowTo, counted_by}
 use Rattle.mx_machine.specs.Steps.{Stops}
 use Rattle.mx_machine.specs.Ties.{Fits, IsWhole, MayRun, RunsAlive}

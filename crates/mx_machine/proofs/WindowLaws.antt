@@ -1,15 +1,14 @@
 -- Windows: a turn inside one keeps it, and what is found round a hart's pc is one.
-use Rattle.std.proofs.Common.{◌≡◌, ◌≢◌, ℕ, ◌+◌, ◌-◌, ◌*◌, ◌/◌, ◌^◌, ◌<◌, ◌≤◌, Bool, true, false, cond, nat_le, nat_lt, List, [], ◌∷◌, length, get_or, set, refl, sym, ap, subst, ◌∙◌, arith, get_or-set_same, get_or-set_other, Option, Some, None}
+use Rattle.std.proofs.Common.{◌≡◌, ◌≢◌, ℕ, ◌+◌, ◌-◌, ◌*◌, ◌/◌, ◌<◌, ◌≤◌, Bool, true, false, cond, nat_le, nat_lt, List, [], ◌∷◌, length, set, refl, sym, ap, subst, ◌∙◌, arith, get_or-set_same, get_or-set_other, Option, Some, None}
 use Rattle.std.specs.Option.{option_map, option_map_or}
 use Rattle.std.proofs.lemmas.Bool.{and_from, and_parts, leb-true, ltb-true, le-leb, lt-ltb}
-use Rattle.std.proofs.lemmas.List.{length-set}
 use Rattle.mx_words.specs.declared.perm.Perm.{Perm}
 use Rattle.mx_words.specs.declared.perm.Perm.TheVariants as P
 use Rattle.mx_words.specs.declared.perm.Span.{Span}
 use Rattle.mx_words.specs.declared.tables.Kind.{Kind}
-use Rattle.mx_words.specs.Caches.{Cache, Entry, checked, checked_at, checked_behind, covers_word, found_in_place, found_kept, in_place, with_walk}
+use Rattle.mx_words.specs.Caches.{Cache, checked, checked_at, checked_behind, covers_word, found_in_place, found_kept, in_place, with_walk}
 use Rattle.mx_words.specs.declared.perm.Access.TheVariants.{Execute}
-use Rattle.mx_words.specs.Ranges.{covers, in_ram, most_words, ram_base, word_of}
+use Rattle.mx_words.specs.Ranges.{in_ram, most_words, ram_base, word_of}
 use Rattle.mx_words.specs.Rights.{allows}
 use Rattle.mx_words.proofs.OverlayLaws.{covers_in}
 use Rattle.mx_words.specs.Reach.{span}
@@ -19,7 +18,7 @@ use Rattle.mx_check.specs.Harts.{Kept, at_hart, hart_at}
 use Rattle.mx_check.specs.Looks.{hits, is_forbidden, looked, looked_at, looks, with_domain}
 use Rattle.mx_check.proofs.HandLaws.{looked-hit}
 use Rattle.mx_core.specs.Bus.{Touch}
-use Rattle.mx_core.specs.Exec.{fetch_touch, regs_after, touches_of}
+use Rattle.mx_core.specs.Exec.{regs_after, touches_of}
 use Rattle.mx_core.proofs.QuickLaws.{AreAway}
 use Rattle.mx_model.specs.Gates.{gate_target}
 use Rattle.mx_supervisor.specs.Parts.{Parts}

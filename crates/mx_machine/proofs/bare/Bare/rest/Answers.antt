@@ -1,4 +1,4 @@
-use Rattle.std.proofs.Common.{◌≡◌, ℕ, ◌+◌, ◌-◌, ◌<◌, ◌≤◌, refl, sym, ap, subst, ◌∙◌, Option, Some, None}
+use Rattle.std.proofs.Common.{◌≡◌, ℕ, ◌+◌, ◌-◌, ◌<◌, ◌≤◌, refl, subst, Option, Some}
 use Rattle.std.specs.Prelude.{IfSome}
 use Rattle.mx_core.specs.declared.outcome.Outcome.{Outcome}
 use Rattle.mx_core.specs.Exec.{HasCause}
@@ -31,9 +31,16 @@ rows-init g c = record {
 -- how far the row is after the turns inside the window
 pub row_inside-row-requires : goal.row_inside-row-requires
 row_inside-row-requires g c =
-    let i = c.rows.invariant in
-    (assumption c, (i.whole, (i.alive c.rows-test.true,
-    (few-rest c.rows.self.steps c.args.self.now.steps c.args.made c.rows.ran c.args.room 18446744073709551616 i.counted c.requires.upto i.upto c.requires.few, i.window))))
+    let i = c.rows.invariant in (
+      assumption c,
+      (
+        i.whole,
+        (
+          i.alive c.rows-test.true,
+          (few-rest c.rows.self.steps c.args.self.now.steps c.args.made c.rows.ran c.args.room 18446744073709551616 i.counted c.requires.upto i.upto c.requires.few, i.window),
+        ),
+      ),
+    )
 
 -- an instruction ended it
 pub stop-last-requires : goal.stop-last-requires

@@ -1,4 +1,4 @@
-use Rattle.std.proofs.Common.{◌≡◌, ℕ, ◌+◌, sym, ap, subst, ◌∙◌}
+use Rattle.std.proofs.Common.{◌≡◌, ℕ, ◌+◌, sym, subst, ◌∙◌}
 use Rattle.mx_core.specs.declared.outcome.Outcome.{Outcome}
 use Rattle.mx_machine.specs.Held.{Held}
 use Rattle.mx_machine.specs.Rows.{EndsBy, IsQuick, IsRowTo, counted_by}

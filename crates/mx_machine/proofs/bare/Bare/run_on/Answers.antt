@@ -1,4 +1,4 @@
-use Rattle.std.proofs.Common.{◌≡◌, ℕ, ◌<◌, ◌≤◌, refl, sym, subst, ◌∙◌, arith}
+use Rattle.std.proofs.Common.{◌≡◌, ℕ, ◌<◌, ◌≤◌, refl, sym, subst, ◌∙◌}
 use Rattle.mx_machine.specs.declared.turns.Going.{Going}
 use Rattle.mx_machine.specs.declared.turns.Going.TheVariants as G
 use Rattle.mx_machine.specs.Goings.{kind_of}
@@ -52,10 +52,19 @@ pub more-requires : goal.more-requires
 more-requires g c =
     let all : c.turns.ran ≡ c.min-first.result = both-ways c.turns.ran c.min-first.result c.turns.auto.ran-end c.turns-test.false in
     let upto : c.min-first.result ≤ c.before_last-room.result = least-le c.before_last-room.result 4 c.min-first.result c.min-first.ensures in
-    let r = c.turns.invariant.run in
-    (assumption c, (r.whole, (upto,
-    (few-left c.turns.self.steps c.args.self.now.steps c.turns.ran c.min-first.result c.before_last-room.result c.args.most 18446744073709551616 r.steps all upto c.before_last-room.ensures.below c.requires.few,
-    ((λ more. c.turns.invariant.alive (subst (λ (n : ℕ). n < c.before_last-room.result) (sym all) more)), c.turns.invariant.empty)))))
+    let r = c.turns.invariant.run in (
+      assumption c,
+      (
+        r.whole,
+        (
+          upto,
+          (
+            few-left c.turns.self.steps c.args.self.now.steps c.turns.ran c.min-first.result c.before_last-room.result c.args.most 18446744073709551616 r.steps all upto c.before_last-room.ensures.below c.requires.few,
+            ((λ more. c.turns.invariant.alive (subst (λ (n : ℕ). n < c.before_last-room.result) (sym all) more)), c.turns.invariant.empty),
+          ),
+        ),
+      ),
+    )
 
 pub returns-in-Some-clause-stretch : goal.returns-in-Some-clause-stretch
 returns-in-Some-clause-stretch g c =

@@ -1,4 +1,4 @@
-use Rattle.std.proofs.Common.{◌≡◌, sym, subst, ◌∙◌, arith}
+use Rattle.std.proofs.Common.{sym, subst, ◌∙◌, arith}
 use Rattle.mx_core.specs.declared.outcome.Outcome.{Outcome}
 use Rattle.mx_core.specs.declared.outcome.Outcome.TheVariants as O
 use Rattle.mx_core.specs.Exec.{HasCause}
