@@ -1,35 +1,22 @@
--- A turn inside a window: the hart acts as the machine stands, and what its instruction makes is the turn.
-use Rattle.std.proofs.Common.{◌≡◌, ℕ, false, List, refl, sym, ap, subst, ◌∙◌, Some}
-use Rattle.mx_isa.specs.declared.inst.Inst.{Inst}
+-- A turn inside a window: the hart acts as the machine stands.
+use Rattle.std.proofs.Common.{◌≡◌, ℕ, false, List, refl, sym, ap, subst, ◌∙◌}
 use Rattle.mx_check.specs.Conditions.{HasHeardAll, IsAtHand}
 use Rattle.mx_check.specs.Harts.{Kept}
 use Rattle.mx_check.specs.Harts.{hart_at as kept_at}
-use Rattle.mx_core.specs.Bus.{load_at}
-use Rattle.mx_core.specs.Exec.{touches_of}
-use Rattle.mx_core.specs.Memo.{quick}
-use Rattle.mx_core.proofs.QuickLaws.{AreAway, touches-away}
-use Rattle.mx_model.specs.declared.values.TurnKind.TheVariants as T
-use Rattle.mx_model.specs.Effect.{Effect, effect}
-use Rattle.mx_model.specs.Events.{Events, no_events}
 use Rattle.mx_model.specs.Turn.{is_return_at}
 use Rattle.mx_model.specs.Valid.{IsValid}
 use Rattle.mx_machine.specs.declared.hart.Progress.TheVariants as P
-use Rattle.mx_machine.specs.declared.turns.Going.{Going}
-use Rattle.mx_machine.specs.declared.turns.Going.TheVariants as G
-use Rattle.mx_machine.specs.declared.window.Window.{Window}
-use Rattle.mx_machine.specs.Actions.{after_instruction, counted, effect_for, heard}
+use Rattle.mx_machine.specs.Actions.{counted, heard}
 use Rattle.mx_machine.specs.AtGate.{gate_here}
-use Rattle.mx_machine.specs.Goings.{kind_of}
 use Rattle.mx_machine.specs.Harts.{hart_of}
 use Rattle.mx_machine.specs.Held.{Held}
-use Rattle.mx_machine.specs.Made.{IsMade, core_in, hart_in, instruction, made_after_hearing}
-use Rattle.mx_machine.specs.Ties.{Fits, IsWhole, MayRun, RunsAlive}
-use Rattle.mx_machine.specs.Windows.{IsOpen, IsTurnOn, IsWindow}
-use Rattle.mx_machine.proofs.CaseLaws.{acts-plain, turn-running}
+use Rattle.mx_machine.specs.Made.{core_in, hart_in, instruction, made_after_hearing}
+use Rattle.mx_machine.specs.Ties.{IsWhole, MayRun, RunsAlive}
+use Rattle.mx_machine.specs.Windows.{IsOpen}
+use Rattle.mx_machine.proofs.CaseLaws.{acts-plain}
 use Rattle.mx_machine.proofs.HearLaws.{all-quiet, heard-quiet}
-use Rattle.mx_machine.proofs.MayLaws.{acts-now, hart-there, made-now, none-flies, stands-now, valid-now}
-use Rattle.mx_machine.proofs.StretchLaws.{alive-instruction, alive-now}
-use Rattle.mx_machine.proofs.WindowLaws.{window-counted, window-stays}
+use Rattle.mx_machine.proofs.MayLaws.{acts-now, none-flies, stands-now, valid-now}
+use Rattle.mx_machine.proofs.StretchLaws.{alive-now}
 
 -- what hart h may rest on that stands in a window of a machine, in the machine after its turn is counted
 pub record ActsInside (m : Held) (h : ℕ) (n : Held) : Type 0 where
@@ -57,25 +44,4 @@ module _ (m : Held) (h : ℕ) (w : IsWhole m) (r : RunsAlive m h) where
         plain = plain.1;
         acts = plain.0;
         at_hand = subst (λ (k : Held). IsAtHand k.parts.size (kept_at k.parts.harts h).cache (hart_of k.harts h).pc) (sym is) o.at_hand;
-      }
-
-  -- what an instruction makes that was carried out inside a window
-  pub turn-inside : (n k : Held) (events : Events) (going : Going) (window : Window) (inst : Inst) → ActsInside m h n → n ≡ counted m → IsWindow m h window →
-      quick (load_at n.parts.ram (hart_of n.harts h).pc 4) ≡ Some inst → IsMade n k events (kind_of going) (instruction n h) → Fits k →
-      (going ≡ G.On → (k ≡ after_instruction h false n) × (events ≡ no_events)) → (kind_of going ≡ T.Ran → going ≡ G.On) →
-      effect_for n (hart_of n.harts h) ≡ effect inst (hart_of n.harts h).regs (hart_of n.harts h).pc → IsTurnOn m h k events going window
-  turn-inside n k events going window inst a is opened q made fits on ran eff =
-      let x = hart_of n.harts h in
-      let away : AreAway (touches_of (effect_for n x)) = subst (λ (e : Effect). AreAway (touches_of e)) (sym eff) (touches-away (load_at n.parts.ram x.pc 4) inst x.regs x.pc q) in
-      let opened-now : IsWindow n h window = subst (λ (k : Held). IsWindow k h window) (sym is) (window-counted m h window opened) in
-      record {
-        made = made-now m h w P.Running r.runs refl n a.after k events (kind_of going)
-            (turn-running m h w.fits (hart-there m h w P.Running r.runs refl) r.runs)
-            (subst (λ e. IsMade n k events (kind_of going) e) (sym a.acts) made);
-        fits = fits;
-        on = λ goes.
-            let e = on goes in
-            (subst (λ (k : Held). RunsAlive k h) (sym e.0) (alive-instruction n h false a.run (alive-now m n h r a.after)), e.1);
-        ran = ran;
-        within = λ goes. subst (λ (k : Held). IsWindow k h window) (sym (on goes).0) (window-stays n h a.run a.at_hand away window opened-now);
       }

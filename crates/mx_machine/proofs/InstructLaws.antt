@@ -32,7 +32,7 @@ use Rattle.mx_machine.specs.Actions.{after_instruction, effect_for, outcome_for,
 use Rattle.mx_machine.specs.Harts.{no_hart, hart_of, is_waiting, own_call, seen, seen_with, status_by}
 use Rattle.mx_machine.specs.Held.{Held, rest_of}
 use Rattle.mx_machine.specs.Made.{IsMade, core_in, made_by, hart_in, instruction, reads_of}
-use Rattle.mx_machine.specs.Steps.{instructed, pc_after}
+use Rattle.mx_machine.specs.Steps.{Stops, instructed, pc_after}
 use Rattle.mx_machine.specs.Ties.{Fits, FliesWhileWaiting, MayRun}
 use Rattle.mx_machine.proofs.CoreLaws.{core-step}
 use Rattle.mx_machine.proofs.MadeLaws.{kept-there, running-free}
@@ -59,12 +59,6 @@ bytes-count perm bytes Calls = refl
 bytes-count perm bytes (Jumps rd target) = refl
 
 -- what an answer but to go on leaves of the registers
-abbrev pub Stops : Outcome → Type 0
-Stops (O.Next pc) = ⊥
-Stops (O.Trap fault) = Unit {0}
-Stops O.Call = Unit {0}
-Stops (O.Back rd target) = Unit {0}
-
 regs-still : (perm : ℕ → Perm) (bytes regs : List ℕ) (pc : ℕ) (returns : Bool) (e : Effect) → Stops (outcome_of perm pc returns e) → regs_after perm bytes regs pc returns e ≡ regs
 unfolding outcome_of regs_after
 regs-still perm bytes regs pc returns (Goes new target) s = absurd s

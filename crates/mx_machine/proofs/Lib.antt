@@ -38,3 +38,4 @@ pub mod KindLaws
 pub mod MapRuns
 pub mod WindowLaws
 pub mod InsideLaws
+pub mod RowLaws

@@ -59,6 +59,13 @@ pc_after (O.Back rd target) old = old
 abbrev pub instructed : List ℕ → Outcome → Hart → Hart
 instructed regs outcome x = record x { regs = regs; pc = pc_after outcome x.pc }
 
+-- an answer but to go on
+abbrev pub Stops : Outcome → Type 0
+Stops (O.Next pc) = ⊥
+Stops (O.Trap fault) = Unit {0}
+Stops O.Call = Unit {0}
+Stops (O.Back rd target) = Unit {0}
+
 -- it runs, with these registers at this pc
 abbrev pub goes : List ℕ → ℕ → Hart → Hart
 goes regs pc x = record x { regs = regs; pc = pc; progress = G.Running }

@@ -1,5 +1,5 @@
 -- Windows: addresses at which a hart's turns fetch by its place 0, and no gate stands.
-use Rattle.std.specs.Prelude.{◌≡◌, ℕ, ◌+◌, ◌^◌, ◌≤◌, true, false, None, Option, Some}
+use Rattle.std.specs.Prelude.{◌≡◌, ℕ, ◌+◌, ◌^◌, ◌≤◌, true, false, None}
 use Rattle.mx_words.specs.Ranges.{covers}
 use Rattle.mx_check.specs.Conditions.{IsAtHand}
 use Rattle.mx_check.specs.Harts.{hart_at}
@@ -35,8 +35,3 @@ pub record IsTurnOn (old : Held) (h : ℕ) (new : Held) (events : Events) (going
   pub on : going ≡ G.On → RunsAlive new h × (events ≡ no_events)
   pub ran : kind_of going ≡ T.Ran → going ≡ G.On
   pub within : going ≡ G.On → IsWindow new h window
-
--- a turn inside a window, where one is made
-abbrev pub IsTurnInside : Held → ℕ → Held → Events → Events → Option Going → Window → Type 0
-IsTurnInside old h new before events None window = (new ≡ old) × (events ≡ before)
-IsTurnInside old h new before events (Some going) window = IsTurnOn old h new events going window

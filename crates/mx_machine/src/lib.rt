@@ -6,6 +6,7 @@ mod bare;
 mod bus;
 mod hart;
 mod harts;
+mod inside;
 mod machine;
 mod readers;
 mod starts;

@@ -15,7 +15,6 @@ use crate::Stretch;
 use crate::bare::Bare;
 use crate::hart::Progress;
 use crate::turns::{Going, clear};
-use crate::window::SHUT;
 use mx_coherence::spans_are_coherent;
 use mx_model::{Events, turns_keep_validity};
 use mx_table::PermTables;
@@ -66,30 +65,6 @@ impl<T: PermTables, const N: usize> Bare<T, N> {
         } else {
             None
         }
-    }
-
-    /// The rest of a row, by windows.
-    // A function of its own, so that the first turns of each row are laid out for themselves.
-    #[inline(never)]
-    fn rest(&mut self, hart: u32, made: u64, room: u64, out: &mut Events) -> Option<Stretch>
-        requires whole { IsWhole self.old }
-        requires upto { made ≤ room }
-        requires few { self.old.steps + (room - made) < 2 ^ 64 }
-        requires alive { made < room → RunsAlive self.old hart }
-        requires empty { out.old ≡ no_events }
-        ensures row { RunsTo self.old hart made room self.new out.new result }
-        ensures whole { IsWhole self.new }
-    {
-        turns_keep_validity();
-        spans_are_coherent();
-        let mut window = SHUT;
-        'turns: for ran in made..room {
-            match self.turn(hart, &mut window, out) {
-                Going::On => {}
-                Going::Ended(last) => return Some(Stretch { ran, last }),
-            }
-        }
-        None
     }
 
     /// How many turns before the last of so many a hart makes, if none of them ends its run: all of them where it runs in a live
