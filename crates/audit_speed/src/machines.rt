@@ -117,8 +117,7 @@ fn make_turns(machine: &mut AnyMachine, turns: u32) {
 fn worst_text(alloc: Global, kib: u32, words: u32) -> Option<String> {
     format!(in alloc;
         "version = 2\nram_kib = {kib}\n{HEAD}[[module]]\nname = \"a\"\nimage = \"a\"\nheap = 0x80010000\nheap_words = {words}\ngates = [{{ entry = 0x80000000, from = [\"b\"] }}]\nreturns = [\"back\"]\n[[module]]\nname = \"b\"\nimage = \"b\"\n[[hart]]\nmodule = \"b\"\n"
-    )
-    .ok()
+    ).ok()
 }
 
 fn worst_images(alloc: Global, kib: u32) -> Option<Vec<Blob>> {
