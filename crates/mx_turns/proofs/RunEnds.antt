@@ -6,12 +6,12 @@ use Rattle.mx_model.specs.State.{State, Flat, flat}
 use Rattle.mx_report.specs.declared.closing.Options.{Options}
 use Rattle.mx_report.specs.declared.lines.EndState.{EndState}
 use Rattle.mx_report.specs.Texts.{closing, flat_closing}
-use Rattle.mx_snapshot.specs.Kept.{KeptPlan}
+use Rattle.mx_snapshot.specs.Kept.{IsOfPlan, KeptPlan}
 use Rattle.mx_turns.specs.declared.fault.SinkFault.{SinkFault}
 use Rattle.mx_turns.specs.declared.fault.SinkFault.TheVariants as F
 use Rattle.mx_turns.specs.declared.task.Dump.{Dump}
 use Rattle.mx_turns.specs.Ends.{sinks, Leave}
-use Rattle.mx_turns.specs.Runs.{IsOfPlan, end_of, note_lines, ran, report_of, undumped}
+use Rattle.mx_turns.specs.Runs.{end_of, note_lines, ran, report_of, undumped}
 use Rattle.mx_turns.specs.Running.{KeepsShape, Places, places, HasTexts, RunsOrStops, PutOrBreaks, Closes}
 use Rattle.mx_turns.specs.Tracing.{end_text, trace, traced}
 use Rattle.mx_turns.proofs.Closings.{leave_closed, leave_stopped}
@@ -20,7 +20,7 @@ use Rattle.mx_turns.proofs.TraceTexts.{trace_grows}
 
 -- a machine of a plan, after the turns of a run
 pub keeps_plan : (kept : KeptPlan) (f g : Flat) → IsOfPlan kept f → KeepsShape f g → IsOfPlan kept g
-keeps_plan kept f g is keeps = record { kind = keeps.kind ∙ is.kind; limit = keeps.limit ∙ is.limit; modules = keeps.modules ∙ is.modules }
+keeps_plan kept f g is keeps = record { kind = keeps.kind ∙ is.kind; limit = keeps.limit ∙ is.limit; lookaside = keeps.buffer ∙ is.lookaside; modules = keeps.modules ∙ is.modules }
 
 -- the law of the closing lines
 abbrev pub ClosesFlat : Type 0

@@ -141,7 +141,7 @@ texts_stop states lines made text line m k before mid now F.Dump r state console
 
 -- what turns keep and count
 later_none : (f : Flat) → IsLater f 0 f
-later_none f = record { turns = omega arith; kind = refl; limit = refl; modules = refl; harts = refl }
+later_none f = record { turns = omega arith; kind = refl; limit = refl; buffer = refl; modules = refl; harts = refl }
 
 pub later_turn : (f g k : Flat) (n m h : ℕ) → IsLater f n g → k ≡ flat_turn g h → m ≡ n + 1 → IsLater f m k
 later_turn f g k n m h l is more =
@@ -150,6 +150,7 @@ later_turn f g k n m h l is more =
       turns = omega (arith, t.turns, l.turns, more);
       kind = t.kind ∙ l.kind;
       limit = t.limit ∙ l.limit;
+      buffer = t.buffer ∙ l.buffer;
       modules = t.modules ∙ l.modules;
       harts = t.harts ∙ l.harts;
     })
@@ -204,10 +205,10 @@ makes_stopped tells A s h m events before now F.Report is stops = rw (is.bytes, 
 makes_stopped tells A s h m events before now F.Dump is stops = stops
 
 pub keeps_none : (f : Flat) → KeepsShape f f
-keeps_none f = record { kind = refl; limit = refl; modules = refl }
+keeps_none f = record { kind = refl; limit = refl; buffer = refl; modules = refl }
 
 pub keeps_later : (f g h : Flat) (n : ℕ) → KeepsShape f g → IsLater g n h → KeepsShape f h
-keeps_later f g h n k l = record { kind = l.kind ∙ k.kind; limit = l.limit ∙ k.limit; modules = l.modules ∙ k.modules }
+keeps_later f g h n k l = record { kind = l.kind ∙ k.kind; limit = l.limit ∙ k.limit; buffer = l.buffer ∙ k.buffer; modules = l.modules ∙ k.modules }
 
 -- what a machine tells of a run's next turn
 module _ (schedule : Schedule) (i n : ℕ) (s : State) (m : Flat) (is : m ≡ flat (run schedule i s)) where

@@ -18,7 +18,7 @@ use Rattle.mx_turns.specs.declared.pace.Schedule.TheVariants as code
 use Rattle.mx_turns.specs.declared.task.Task.{Task}
 use Rattle.mx_turns.specs.declared.turns.Telling.{Telling}
 use Rattle.mx_turns.specs.declared.turns.Telling.TheVariants as telling
-use Rattle.mx_snapshot.specs.Kept.{KeptPlan}
+use Rattle.mx_snapshot.specs.Kept.{IsOfPlan, KeptPlan}
 use Rattle.mx_turns.specs.Ends.{FailsAt, Leave, Texts, sinks}
 use Rattle.mx_turns.specs.Runs.{note_lines, ran, undumped}
 
@@ -198,6 +198,7 @@ pub record IsLater (f : Flat) (n : ℕ) (g : Flat) : Type 0 where
   pub turns : g.core.turns ≡ f.core.turns + n
   pub kind : g.core.kind ≡ f.core.kind
   pub limit : g.core.limit ≡ f.core.limit
+  pub buffer : g.core.buffer ≡ f.core.buffer
   pub modules : length g.core.modules ≡ length f.core.modules
   pub harts : length g.core.harts ≡ length f.core.harts
 
@@ -205,6 +206,7 @@ pub record IsLater (f : Flat) (n : ℕ) (g : Flat) : Type 0 where
 pub record KeepsShape (f g : Flat) : Type 0 where
   pub kind : g.core.kind ≡ f.core.kind
   pub limit : g.core.limit ≡ f.core.limit
+  pub buffer : g.core.buffer ≡ f.core.buffer
   pub modules : length g.core.modules ≡ length f.core.modules
 
 -- what the buffers held was put, the console's and then the report's with these lines, or one of the two couldn't be put; where the
@@ -233,3 +235,4 @@ pub record RunsOut {A : Type 0} (kept : KeptPlan) (task : Task) (f g : Flat) (co
       Leave (undumped (texts_of kept task s)) (sinks console report dump) (sinks shown told dump) result
   pub state : (s : State) → IsNew s → f ≡ flat s →
       OnOk result (g ≡ flat (run (schedule_of task.schedule) task.steps s))
+  pub plan : OnOk result (IsOfPlan kept g)

@@ -1,7 +1,7 @@
 -- The texts of a run: what it shows and tells turn by turn, and what closes it.
-use Rattle.std.specs.Prelude.{◌≡◌, ℕ, ◌+◌, ◌==◌, if◌then◌else◌, List, [], ◌++◌, length, Option, Some, None, flat_map}
+use Rattle.std.specs.Prelude.{ℕ, ◌+◌, ◌==◌, if◌then◌else◌, List, [], ◌++◌, Option, Some, None, flat_map}
 use Rattle.mx_model.specs.Run.{Schedule, all_halted, run}
-use Rattle.mx_model.specs.State.{Core, State, Flat}
+use Rattle.mx_model.specs.State.{Core, State, Flat, flat}
 use Rattle.mx_model.specs.declared.values.Note.{Note}
 use Rattle.mx_report.specs.declared.closing.Options.{Options}
 use Rattle.mx_report.specs.declared.lines.EndState.{EndState}
@@ -9,7 +9,10 @@ use Rattle.mx_report.specs.declared.lines.EndState.TheVariants as E
 use Rattle.mx_report.specs.Lines.{note_line}
 use Rattle.mx_report.specs.Texts.{closing}
 use Rattle.mx_snapshot.specs.Kept.{KeptPlan}
+use Rattle.mx_snapshot.specs.Spelling.{spelling}
+use Rattle.mx_snapshot.specs.Stored.{stored_of}
 use Rattle.mx_turns.specs.declared.task.Dump.{Dump}
+use Rattle.mx_turns.specs.declared.task.Dump.TheVariants as D
 use Rattle.mx_turns.specs.Ends.{Texts}
 
 -- why a run ended that was to reach so many turns
@@ -20,16 +23,11 @@ end_of target c = if all_halted c then E.Halted else if c.turns == target then E
 abbrev pub note_lines : List Note → List ℕ
 note_lines notes = flat_map note_line notes
 
--- the dump of a machine: RAM's bytes where they are asked
-abbrev pub dumped : Option Dump → Core → List ℕ
-dumped None c = []
-dumped (Some what) c = c.ram
-
--- a machine whose modules have the names that are kept of a plan, and its kind and limit of tables
-pub record IsOfPlan (kept : KeptPlan) (f : Flat) : Type 0 where
-  pub kind : f.core.kind ≡ kept.kind
-  pub limit : f.core.limit ≡ kept.limit
-  pub modules : length f.core.modules ≡ length kept.names
+-- the dump of a machine: RAM's bytes or a snapshot, where one of the two is asked
+abbrev pub dumped : Option Dump → KeptPlan → Flat → List ℕ
+dumped None kept f = []
+dumped (Some D.Ram) kept f = f.core.ram
+dumped (Some D.Snapshot) kept f = spelling (stored_of kept f)
 
 -- the report of a run that ended in a state: the lines of its turns, then the closing lines
 unfoldable pub report_of : KeptPlan → ℕ → Options → List ℕ → State → List ℕ
@@ -40,7 +38,7 @@ abbrev pub ended : KeptPlan → Options → Option Dump → ℕ → ℕ → (ℕ
 ended kept options dump target turns states = record {
   console = (states turns).console;
   report = report_of kept target options (note_lines (states turns).notes) (states turns);
-  dump = dumped dump (states turns).core;
+  dump = dumped dump kept (flat (states turns));
   turns = turns;
   shown = λ made. (states made).console;
   told = λ made. note_lines (states made).notes;

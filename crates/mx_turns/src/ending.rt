@@ -4,16 +4,17 @@ ghost use Rattle.std.specs.Prelude.{◌≡◌, ◌++◌, length, map};
 ghost use Rattle.mx_io.specs.Sink.{Puts};
 ghost use Rattle.mx_boot.specs.Machines.{meaning};
 ghost use Rattle.mx_report.specs.Texts.{flat_closing};
-ghost use Rattle.mx_turns.specs.Runs.{IsOfPlan, dumped, end_of};
+ghost use Rattle.mx_snapshot.specs.Kept.{IsOfPlan};
+ghost use Rattle.mx_turns.specs.Runs.{dumped, end_of};
 ghost use Rattle.mx_turns.specs.Running.{Closes, places};
 
 use crate::fault::SinkFault;
 use crate::task::Dump;
-use mx_boot::{AnyMachine, any_machine_is_valid};
+use mx_boot::AnyMachine;
 use mx_io::{Failed, Sink, put_all};
 use mx_machine::Machine;
 use mx_report::{EndState, Options, Tail, put_closing};
-use mx_snapshot::Kept;
+use mx_snapshot::{Kept, ram_bytes, write_snapshot};
 use mx_table::PermTables;
 
 /// Ends a run that was to reach so many turns: what the buffers hold leaves, and after it the report's closing lines. Where the
@@ -106,21 +107,17 @@ pub(crate) fn end_of_any(target: u64, machine: &AnyMachine) -> EndState
 /// Puts on the dump what is asked of it.
 pub(crate) fn put_dump<D: Sink>(
     asked: Option<Dump>,
+    kept: &Kept,
     machine: &AnyMachine,
     dump: &mut D,
 ) -> Result<(), Failed>
-    ensures { Puts (D.state dump.old) (D.state dump.new) (dumped asked (meaning machine.now).core) result }
+    requires { IsOfPlan kept.now (meaning machine.now) }
+    ensures { Puts (D.state dump.old) (D.state dump.new)
+        (dumped asked kept.now (meaning machine.now)) result }
 {
     match asked {
-        Some(_) => put_all(dump, all_bytes(machine)),
+        Some(Dump::Ram) => put_all(dump, ram_bytes(machine)),
+        Some(Dump::Snapshot) => write_snapshot(dump, machine, kept),
         None => Ok(()),
     }
-}
-
-// RAM's bytes.
-fn all_bytes(machine: &AnyMachine) -> &[u8]
-    ensures { result.now ≡ (meaning machine.now).core.ram }
-{
-    any_machine_is_valid(machine);
-    machine.bytes(0, 4 * machine.words())
 }

@@ -3,8 +3,8 @@
 ghost use Rattle.std.specs.Prelude.{◌≡◌, ◌+◌, ◌-◌, ◌<◌, ◌^◌, map};
 ghost use Rattle.mx_boot.specs.Machines.{meaning};
 ghost use Rattle.mx_model.specs.State.{State, flat};
+ghost use Rattle.mx_snapshot.specs.Kept.{IsOfPlan};
 ghost use Rattle.mx_turns.specs.Ends.{Leave, sinks};
-ghost use Rattle.mx_turns.specs.Runs.{IsOfPlan};
 ghost use Rattle.mx_turns.specs.Running.{HasTurns, IsNew, RunsOut, texts_of};
 
 use crate::ending::{end_run, put_dump};
@@ -42,7 +42,7 @@ pub fn make_run<C: Sink, R: Sink, D: Sink>(
         (sinks (C.state console.new) (R.state report.new) (D.state dump.new)) result }
 {
     match run_any(task, kept, names, machine, console, report) {
-        Ok(()) => match put_dump(task.dump, machine, dump) {
+        Ok(()) => match put_dump(task.dump, kept, machine, dump) {
             Ok(()) => Ok(()),
             Err(Failed) => Err(SinkFault::Dump),
         },

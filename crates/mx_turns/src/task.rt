@@ -8,6 +8,8 @@ use mx_report::Options;
 pub enum Dump {
     /// RAM's bytes, from the first on.
     Ram,
+    /// A snapshot of the machine and of what is kept of its plan.
+    Snapshot,
 }
 
 /// What a run is asked.

@@ -26,6 +26,7 @@ returns-in-Ok g c =
       state = λ s new is.
           let runs = c.in-Ok.ensures.runs s (record { state = is; console = new.console; notes = new.notes; shown = c.new-shown.ensures; told = c.new-told.ensures }) in
           on_ok _ c.end_run.result runs.state;
+      plan = on_ok _ c.end_run.result (keeps_plan c.args.kept.now c.args.machine.now c.make_turns.new.machine c.requires.plan c.in-Ok.ensures.keeps);
     }
 
 pub returns-in-Err-Console : goal.returns-in-Err-Console
@@ -38,6 +39,7 @@ returns-in-Err-Console g c =
           (places (g.C.Sink.state c.make_turns.new.console) c.make_turns.new.shown (g.R.Sink.state c.make_turns.new.report) c.make_turns.new.told) (g.R.Sink.state c.end.new.sink) F.Console
           (rw (c.new-shown.ensures, c.new-told.ensures, c.in-Err-Console.field-0-is) at runs) (λ e. put_or c.end.ensures.puts) (λ e. absurd (let q : ⊥ = cc in q));
       state = λ s new is. tt;
+      plan = tt;
     }
 
 pub returns-in-Err-Report : goal.returns-in-Err-Report
@@ -50,6 +52,7 @@ returns-in-Err-Report g c =
           (places (g.C.Sink.state c.make_turns.new.console) c.make_turns.new.shown (g.R.Sink.state c.make_turns.new.report) c.make_turns.new.told) (g.R.Sink.state c.make_turns.new.report) F.Report
           (rw (c.new-shown.ensures, c.new-told.ensures, c.in-Err-Report.field-0-is) at runs) (λ e. absurd (let q : ⊥ = cc in q)) (λ e. refl);
       state = λ s new is. tt;
+      plan = tt;
     }
 
 pub returns-in-Err-Dump : goal.returns-in-Err-Dump
@@ -59,4 +62,5 @@ returns-in-Err-Dump g c =
           let runs = c.in-Err-Dump.ensures.runs s (record { state = is; console = new.console; notes = new.notes; shown = c.new-shown.ensures; told = c.new-told.ensures }) in
           absurd (rw c.in-Err-Dump.field-0-is at runs).2;
       state = λ s new is. tt;
+      plan = tt;
     }
