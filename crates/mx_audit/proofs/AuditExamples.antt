@@ -5,13 +5,16 @@ use Rattle.std.specs.List.{range_with_len}
 use Rattle.mx_words.specs.declared.perm.Perm.TheVariants as P
 use Rattle.mx_words.specs.Bytes.{number_at, put_at, cleared_at}
 use Rattle.mx_words.specs.declared.perm.Span.{Span}
+use Rattle.mx_words.specs.Hearing.{nobody}
+use Rattle.mx_words.specs.Runs.{Run, runs_of}
 use Rattle.mx_isa.specs.Fields.{imm_i, imm_s, imm_b, imm_u, imm_j, extended}
 use Rattle.mx_isa.specs.Table.{decoded}
+use Rattle.mx_model.specs.declared.values.Call.{Call}
 use Rattle.mx_model.specs.declared.values.Frame.{Frame}
 use Rattle.mx_model.specs.Effect.{holds, imm_result, reg_result, loaded, effect}
 use Rattle.mx_model.specs.Reads.{reads}
 use Rattle.mx_model.specs.Run.{ByQuantum, run}
-use Rattle.mx_model.specs.State.{State, hart_at, with_hart}
+use Rattle.mx_model.specs.State.{State, Waiting, hart_at, with_hart}
 use Rattle.mx_model.proofs.Boots.{Inline, inline, boot, one_module}
 use Rattle.mx_model.proofs.Smalls.{gate}
 use Rattle.mx_audit.specs.Live.{is_live}
@@ -150,3 +153,18 @@ allocating-sealed = refl
 allocating-changes : (reads (run (ByQuantum 1) 3 allocating)).perm 1 2048 ≡ P.ReadWrite
 unfolding decoded effect holds imm_result reg_result loaded number_at put_at cleared_at imm_i imm_s imm_b imm_u imm_j extended
 allocating-changes = refl
+
+-- why the state is to be valid: a hart of domain 1 waits on a grant in the name of domain 2, as none does in a valid state, and gets
+-- read-write on a sealed word of that domain
+abbrev naming : State
+naming =
+    let s = boot (inline 0 P.ExecuteRead [] ∷ inline 2048 P.ExecuteRead (0 ∷ []) ∷ []) [] ((1, 0x80000000) ∷ []) in
+    let grant : Call = record { number = 3; args = 0x80002000 ∷ 4 ∷ 1 ∷ 2 ∷ []; hart = 0; domain = 2; nested = false } in
+    record s { core = with_hart 0 (record (hart_at s.core 0) { status = Waiting grant nobody }) s.core }
+
+naming-sealed : is_sealed (reads naming) naming.core 2048 ≡ true
+naming-sealed = refl
+
+naming-changes : (reads (run (ByQuantum 1) 1 naming)).perm 1 2048 ≡ P.ReadWrite
+unfolding decoded effect holds imm_result reg_result loaded number_at put_at cleared_at imm_i imm_s imm_b imm_u imm_j extended
+naming-changes = refl

@@ -54,7 +54,7 @@ denied-store = (refl, (record { kind = refl; note = refl }, λ g. (let l = g.0 i
 -- a call gate: the hart crosses, x1 is misaligned, a dead target sends it back, or 64 frames stand
 crosses : is_of (standing_at 115 P.ExecuteRead 0x80000008 (gate 1 4 2 ∷ []) [] false false) (AtGate 4 2 0x80000008)
 unfolding decoded effect holds imm_result reg_result loaded number_at put_at imm_i imm_s imm_b imm_u imm_j extended
-crosses = (refl, record { place = refl; leads = refl; address = refl; passes = Crosses refl })
+crosses = (refl, record { place = refl; leads = refl; address = refl; passes = Crosses refl refl })
 
 crooked : is_of (standing_at 115 P.ExecuteRead 0x80000006 (gate 1 4 2 ∷ []) [] false false) (AtGate 4 2 0x80000006)
 unfolding decoded effect holds imm_result reg_result loaded number_at put_at imm_i imm_s imm_b imm_u imm_j extended

@@ -15,7 +15,7 @@ use Rattle.mx_model.specs.State.{Core, Hart, hart_at, module_at, no_hart}
 use Rattle.mx_model.specs.Turn.{Action, Rests, Waits, Serves, Asks, Traps, Bounces, Crosses, Returns, Runs, Writes, Made, acted, call_of, is_served_now, runs_in}
 use Rattle.mx_model.proofs.KeepLaws.{keeps-hears}
 use Rattle.mx_model.proofs.TurnCases.{ready}
-use Rattle.mx_laws.specs.After.{core_after, frames_at, kind_of}
+use Rattle.mx_laws.specs.After.{core_after, domain_at, frames_at, kind_of}
 use Rattle.mx_laws.specs.Twins.{IsRunning}
 use Rattle.mx_laws.proofs.FrameLaws.{top-split}
 use Rattle.mx_laws.proofs.TurnParts.{there}
@@ -43,6 +43,10 @@ frames-returned : (r : Reads) (c : Core) (h rd : ℕ) (f : Frame) → IsRunning 
     frames_at (core_after r c h) h ≡ below_top (frames_at c h)
 frames-returned r c h rd f run d = ap (λ (y : Hart). y.frames) (set-after r c h (Returns rd f) d _ run refl)
 
+domain-crossed : (r : Reads) (c : Core) (h target : ℕ) → IsRunning c h → Does r c h (Crosses target) →
+    domain_at (core_after r c h) h ≡ target
+domain-crossed r c h target run d = ap (λ (y : Hart). y.domain) (set-after r c h (Crosses target) d _ run refl)
+
 -- from a row to the sort of the turn
 module _ (r : Reads) (c : Core) (h : ℕ) (run : IsRunning c h) (a : Action) (d : Does r c h a) where
   abbrev own : Hart
@@ -54,7 +58,8 @@ module _ (r : Reads) (c : Core) (h : ℕ) (run : IsRunning c h) (a : Action) (d 
       let k = does-action r c h a Bounces e d in SentBack n (ap (λ (m : Made). m.kind) k.is) (frames-sent r c h run k)
   row-passes target (ByFull e n) = Full n ((traps-does r c h a 16 own.pc d).1 e)
   row-passes target (Through e) =
-      let k = does-action r c h a (Crosses target) e d in Crossing (ap (λ (m : Made). m.kind) k.is)
+      let k = does-action r c h a (Crosses target) e d in
+      Crossing (ap (λ (m : Made). m.kind) k.is) (domain-crossed r c h target run k)
 
   row-leaves : (target : ℕ) → Leaves own target a → ReturnsTo r c h target
   row-leaves target (ByNone e n) = NoFrame n ((traps-does r c h a 18 target d).1 e)
@@ -286,7 +291,7 @@ module _ (r : Reads) (c : Core) (h : ℕ) (run : IsRunning c h) (a : Action) (d 
   sort-gate target (Crooked n t) = ap sort ((traps-does r c h a 19 (register_of c h 1) d).0 t)
   sort-gate target (SentBack n k same) = sort-sent (comes-back a (sym kind-is ∙ k)) same
   sort-gate target (Full n t) = ap sort ((traps-does r c h a 16 (pc_of c h) d).0 t)
-  sort-gate target (Crossing k) = of-kind T.Crossed k (omega arith)
+  sort-gate target (Crossing k into) = of-kind T.Crossed k (omega arith)
 
   sort-return : (target : ℕ) → ReturnsTo r c h target → sort a ≡ 2
   sort-return target (NoFrame n t) = ap sort ((traps-does r c h a 18 target d).0 t)

@@ -24,7 +24,7 @@ abbrev pub pc_of : Core → ℕ → ℕ
 pc_of c h = (hart_at c h).pc
 
 -- a turn at a call gate to a target: x1 is misaligned, a dead target sends the hart back, the cross stack is full, or it
--- crosses
+-- crosses into the target
 pub data PassesGate (r : Reads) (c : Core) (h target : ℕ) : Type 0 where
   Crooked : register_of c h 1 % 4 ≢ 0 → TrapsWith r c h 19 (register_of c h 1) →
       PassesGate r c h target
@@ -32,7 +32,8 @@ pub data PassesGate (r : Reads) (c : Core) (h target : ℕ) : Type 0 where
       frames_at (core_after r c h) h ≡ frames_at c h → PassesGate r c h target
   Full : most_frames ≤ length (frames_at c h) → TrapsWith r c h 16 (pc_of c h) →
       PassesGate r c h target
-  Crosses : kind_of r c h ≡ T.Crossed → PassesGate r c h target
+  Crosses : kind_of r c h ≡ T.Crossed → domain_at (core_after r c h) h ≡ target →
+      PassesGate r c h target
 
 -- the gate at the word of pc leads to the target, x1 is as said, and the turn is one at a call gate
 pub record IsAtGate (r : Reads) (c : Core) (h word target x1 : ℕ) : Type 0 where
