@@ -3,6 +3,7 @@ pub mod Fine
 pub mod Calls
 pub mod Leaves
 pub mod Decide
+pub mod Tests
 pub mod Pairs
 pub mod Going
 pub mod Examples

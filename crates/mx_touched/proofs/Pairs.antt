@@ -24,36 +24,7 @@ use Rattle.mx_touched.specs.Views.{AreSameViews, same_hart, same_views}
 use Rattle.mx_touched.specs.Pairs.{ArePair, IsRight, IsSound, Knows, any_compared, fails, flat_agrees, flat_same_touched, flat_touched, found_known, found_unknown, is_compared, is_inside, same_if_compared}
 use Rattle.mx_touched.proofs.Decide.{decides-hart, touched-decide, views-decides}
 use Rattle.mx_touched.proofs.Leaves.{leaves-flat}
-
--- a test of a number of a range
-any-none : (p : ℕ → Bool) (xs : List ℕ) → ((i : ℕ) → p i ≡ false) → list_any p xs ≡ false
-any-none p [] k = refl
-any-none p (x ∷ xs) k = ap (λ (b : Bool). b || list_any p xs) (k x) ∙ any-none p xs k
-
-any-some : (p : ℕ → Bool) (first n i : ℕ) → first ≤ i → i < first + n → p i ≡ true → list_any p (range_with_len first n) ≡ true
-any-some p first zero i l m e = absurd (omega arith)
-any-some p first (suc n) i l m e =
-    ⊎_elim
-    (λ (more : first < i). or_right (p first) _ (any-some p (first + 1) n i (omega (arith, more)) (omega (arith, m)) e))
-    (λ (here : i ≤ first). let same : i ≡ first = omega (arith, here, l) in or_left (p first) _ (ap p (sym same) ∙ e))
-    (cases_lt first i)
-
-pub record Hit (p : ℕ → Bool) : Type 0 where
-  pub at : ℕ
-  pub hit : p at ≡ true
-
-any-found : (p : ℕ → Bool) (xs : List ℕ) → list_any p xs ≡ true → Hit p
-any-found p [] e = absurd (let q : ⊥ = cc in q)
-any-found p (x ∷ xs) e = ⊎_elim (λ h. record { at = x; hit = h }) (λ h. any-found p xs h) (or_cases (p x) (list_any p xs) e)
-
-any-missed : (p : ℕ → Bool) (first n i : ℕ) → list_any p (range_with_len first n) ≡ false → first ≤ i → i < first + n → p i ≡ false
-any-missed p first zero i e l m = absurd (omega arith)
-any-missed p first (suc n) i e l m =
-    let parts = or_parts (p first) (list_any p (range_with_len (first + 1) n)) e in
-    ⊎_elim
-    (λ (more : first < i). any-missed p (first + 1) n i parts.1 (omega (arith, more)) (omega (arith, m)))
-    (λ (here : i ≤ first). let same : i ≡ first = omega (arith, here, l) in ap p same ∙ parts.0)
-    (cases_lt first i)
+use Rattle.mx_touched.proofs.Tests.{any-found, any-missed, any-none, any-some}
 
 -- harts
 same-back : (x y : Hart) → AreSameHarts x y → AreSameHarts y x
@@ -133,7 +104,7 @@ bounded f s = record {
       get_or-eq_default (map_in f.core.size f.maps d) P.None (subst (λ (n : ℕ). n ≤ word) (sym (s.whole d)) l);
 }
 
-fit : (f g : Flat) → ArePair f g → AreFit (flat_reads f) f.core (flat_reads g) g.core
+pub fit : (f g : Flat) → ArePair f g → AreFit (flat_reads f) f.core (flat_reads g) g.core
 fit f g p = record { words = p.words; first = bounded f p.first; second = bounded g p.second }
 
 pub agrees-is : (f g : Flat) (i : ℕ) → ArePair f g → Decides (flat_agrees f g i) (flat_agree f g i)
