@@ -1,4 +1,5 @@
 pub mod Closings
+pub mod CountLaws
 pub mod Paces
 pub mod Quiet
 pub mod RunEnds

@@ -2,6 +2,7 @@
 //! neither words nor files, and tells which sink failed. No call takes memory.
 #![tactic(auto)]
 
+mod counting;
 mod ending;
 mod fault;
 mod pace;
@@ -10,6 +11,7 @@ mod task;
 mod tracing;
 mod turns;
 
+pub use counting::{Tally, count_turns};
 pub use fault::SinkFault;
 pub use pace::Schedule;
 pub use running::make_run;
