@@ -1,5 +1,5 @@
 -- The turns of a run whose texts are counted.
-use Rattle.std.proofs.Common.{◌≡◌, ℕ, zero, suc, ◌+◌, ◌<◌, Bool, false, List, [], ◌++◌, length, option_to_list, Option, None, count_by, refl, sym, ap, subst, ◌∙◌, arith, length-append}
+use Rattle.std.proofs.Common.{◌≡◌, ℕ, zero, suc, ◌+◌, ◌<◌, false, length, option_to_list, Option, count_by, refl, sym, ap, subst, ◌∙◌, arith, length-append}
 use Rattle.std.proofs.lemmas.List.Sums.{sum_by-append}
 use Rattle.std.specs.Prelude.{cond}
 use Rattle.mx_machine.specs.declared.views.Stretch.{Stretch}

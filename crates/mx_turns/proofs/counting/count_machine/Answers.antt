@@ -1,6 +1,5 @@
-use Rattle.std.proofs.Common.{◌≡◌, ℕ, ◌+◌, ◌-◌, ◌^◌, ◌<◌, ◌≤◌, Fits, w64, Option, refl, sym, ap, subst, ◌∙◌, arith}
+use Rattle.std.proofs.Common.{◌≡◌, ℕ, ◌+◌, ◌-◌, ◌^◌, ◌<◌, ◌≤◌, Fits, w64, Option, refl, sym, subst, arith}
 use Rattle.mx_machine.proofs.SizeLaws.{fits-inside}
-use Rattle.mx_model.specs.Run.{run}
 use Rattle.mx_turns.specs.declared.pace.Pace.{Pace}
 use Rattle.mx_turns.specs.declared.pace.Pace.TheVariants as pace
 use Rattle.mx_turns.specs.declared.turns.Telling.TheVariants as telling
