@@ -14,6 +14,8 @@ mod failing;
 #[cfg(test)]
 mod hostile;
 #[cfg(test)]
+mod mills;
+#[cfg(test)]
 mod one_module;
 #[cfg(test)]
 mod options;
