@@ -1,24 +1,22 @@
 -- A turn keeps each word that its hart's domain may write neither before it nor after it.
-use Rattle.std.proofs.Common.{◌≡◌, ℕ, ◌+◌, ◌-◌, ◌*◌, ◌<◌, ◌≤◌, ◌⊎◌, Bool, true, false, not, cond, ◌==◌, ◌&&◌, nat_lt, nat_le, List, [], ◌∷◌, length, get_or, refl, sym, ◌∙◌, ap, subst, arith, Option, Some, None, unwrap_or, is_none, ⊎_elim, inl, inr}
+use Rattle.std.proofs.Common.{◌≡◌, ℕ, ◌+◌, ◌*◌, ◌<◌, ◌≤◌, ◌⊎◌, Bool, true, false, not, cond, ◌==◌, ◌&&◌, nat_lt, nat_le, List, [], ◌∷◌, length, get_or, refl, sym, ◌∙◌, ap, subst, arith, Option, Some, None, unwrap_or, is_none, ⊎_elim, inl, inr}
 use Rattle.std.specs.List.{range_with_len}
 use Rattle.std.proofs.lemmas.Bool.{and_parts, leb-true, ltb-false, ltb-true}
 use Rattle.std.proofs.Math.ListN.{get_or-eq_default}
 use Rattle.mx_words.specs.Announced.{is_announced}
-use Rattle.mx_words.specs.Bytes.{cleared_at}
 use Rattle.mx_words.specs.Caches.{Cache}
 use Rattle.mx_words.specs.FirstFit.{Area, has_room, most_blocks, with_block}
 use Rattle.mx_words.specs.FirstRow.{Row, first_row}
 use Rattle.mx_words.specs.Ranges.{covers}
 use Rattle.mx_words.proofs.OverlayLaws.{covers_from}
 use Rattle.mx_model.specs.declared.values.Call.{Call}
-use Rattle.mx_model.specs.declared.values.Frame.{Frame}
 use Rattle.mx_model.specs.Checks.{arg, call_range, drops}
 use Rattle.mx_model.specs.Effect.{next, reg}
 use Rattle.mx_model.specs.Gates.{top}
 use Rattle.mx_model.specs.Reads.{Reads, Change}
 use Rattle.mx_model.specs.Serve.{Alloc, Unknown, Served, Service, alloc_change, alloc_from, alloc_place, allocated, change_of, ended, own_alone, serve, serve_alloc, served_by, service}
-use Rattle.mx_model.specs.State.{Core, Hart, hart_at, module_at, no_hart, with_module}
-use Rattle.mx_model.specs.Turn.{Action, Rests, Waits, Serves, Asks, Traps, Bounces, Crosses, Returns, Runs, Writes, Made, acted, answered, asked, by_status, call_of, done, given_up, halted, is_served_now, killed, served, trapped, turned, with_regs}
+use Rattle.mx_model.specs.State.{Core, Hart, hart_at, module_at, no_hart}
+use Rattle.mx_model.specs.Turn.{Action, Rests, Waits, Serves, Asks, Traps, Bounces, Crosses, Returns, Runs, Writes, Made, acted, answered, asked, by_status, call_of, done, halted, is_served_now, killed, served, trapped, turned, with_regs}
 use Rattle.mx_model.specs.Valid.{IsModule, IsValid}
 use Rattle.mx_model.proofs.ListLaws.{found-passes, length-with_block}
 use Rattle.mx_model.proofs.TestLaws.{first-passes, found-some}

@@ -1,29 +1,26 @@
 -- Why each premise of a law is asked: for each a state that lacks it alone, and what the law would say of it is false. Computed.
-use Rattle.std.proofs.Common.{◌≡◌, ℕ, ◌+◌, ◌*◌, ◌%◌, ◌^◌, ◌-◌, Bool, true, false, List, [], ◌∷◌, length, replicate, refl, Option, Some, None}
+use Rattle.std.proofs.Common.{◌≡◌, ℕ, ◌^◌, ◌-◌, Bool, true, false, List, [], ◌∷◌, refl, Option, Some, None}
 use Rattle.std.proofs.Common.{map as list_map}
-use Rattle.std.specs.Prelude.{slice_index}
 use Rattle.mx_words.specs.declared.perm.Access.TheVariants as A
 use Rattle.mx_words.specs.declared.perm.Perm.{Perm}
 use Rattle.mx_words.specs.declared.perm.Perm.TheVariants as P
 use Rattle.mx_words.specs.Bytes.{cleared_at, number_at, put_at}
 use Rattle.mx_words.specs.Hearing.{nobody}
-use Rattle.mx_words.specs.Newest.{Grant}
 use Rattle.mx_words.specs.Rights.{allows}
 use Rattle.mx_isa.specs.Fields.{extended, imm_b, imm_i, imm_j, imm_s, imm_u}
 use Rattle.mx_isa.specs.Table.{decoded}
-use Rattle.mx_model.specs.declared.values.Frame.{Frame}
 use Rattle.mx_model.specs.declared.values.Gate.{Gate}
 use Rattle.mx_model.specs.declared.values.Note.{Note}
 use Rattle.mx_model.specs.declared.values.Note.TheVariants as N
 use Rattle.mx_model.specs.declared.values.TurnKind.{TurnKind}
 use Rattle.mx_model.specs.declared.values.TurnKind.TheVariants as T
-use Rattle.mx_model.specs.Agreement.{AtGate, Back, Border, Nothing, Trap, border}
+use Rattle.mx_model.specs.Agreement.{AtGate, Back, Trap, border}
 use Rattle.mx_model.specs.Effect.{effect, holds, imm_result, loaded, reg, reg_result}
 use Rattle.mx_model.specs.Reads.{reads}
-use Rattle.mx_model.specs.Run.{ByQuantum, hart_of, kind, made_of, run, turn}
+use Rattle.mx_model.specs.Run.{ByQuantum, hart_of, kind, made_of, turn}
 use Rattle.mx_model.specs.Serve.{code}
 use Rattle.mx_model.specs.State.{Flat, Halted, Hart, Running, State, Status, Waiting, flat, hart_at, no_module}
-use Rattle.mx_model.specs.Turn.{call_of, is_denied}
+use Rattle.mx_model.specs.Turn.{is_denied}
 use Rattle.mx_model.proofs.Boots.{boot, inline, regs_with}
 use Rattle.mx_model.proofs.Smalls.{call, gate, grant, small}
 use Rattle.mx_model.proofs.Smalls.{hart_of as hart}

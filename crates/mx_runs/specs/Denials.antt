@@ -1,6 +1,6 @@
 -- What denies an access, by a domain's grants alone; and what a turn that faults, and a call that is answered, show.
 -- The rules: docs/MACHINE.md, "Memory, domains, harts", "One turn", "Faults" and "Supervisor calls".
-use Rattle.std.specs.Prelude.{◌≡◌, ◌≢◌, ◌↔◌, ℕ, ◌+◌, ◌-◌, ◌*◌, ◌/◌, ◌%◌, ◌^◌, ◌<◌, ◌≤◌, false, List, ◌∷◌, ◌++◌, length, slice_index_or, [], Some, None}
+use Rattle.std.specs.Prelude.{◌≡◌, ◌≢◌, ◌↔◌, ℕ, ◌+◌, ◌-◌, ◌*◌, ◌/◌, ◌%◌, ◌^◌, ◌<◌, ◌≤◌, false, List, ◌∷◌, ◌++◌, slice_index_or, [], Some, None}
 use Rattle.std.specs.List.{AllByRecursion}
 use Rattle.mx_words.specs.declared.perm.Access.{Access}
 use Rattle.mx_words.specs.declared.perm.Access.TheVariants as A
