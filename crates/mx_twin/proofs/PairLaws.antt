@@ -69,7 +69,9 @@ agrees-as f g i p =
       same_gates = k.1.gates;
       same_bytes = k.1.bytes;
     })
-    (λ a. (record { standing = a.same_standing; pc = a.same_pc; regs = a.same_regs; domain = a.same_domain },
-    record { map = a.same_map; death = a.same_death; gates = a.same_gates; bytes = a.same_bytes }))
+    (λ a. (
+      record { standing = a.same_standing; pc = a.same_pc; regs = a.same_regs; domain = a.same_domain },
+      record { map = a.same_map; death = a.same_death; gates = a.same_gates; bytes = a.same_bytes },
+    ))
     (Decides-and _ _ (decides-hart x y) (views-decides (flat_reads f) f.core (flat_reads g) g.core x.domain (fit f g p))))
     (agrees-is f g i p)

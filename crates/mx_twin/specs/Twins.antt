@@ -17,9 +17,10 @@ abbrev pub twins_from : ℕ → ℕ → ℕ → ℕ → Flat → Flat → TwinEn
 twins_from d quantum zero made f g = E.Agreed
 twins_from d quantum (suc n) made f g =
     let h = next_hart quantum made f in
-    elim (fails d (flat_turn f h) (flat_turn g h))
-    [ true ↦ E.Ended (made + 1) h (flat_kind f h)
-    | false ↦ twins_from d quantum n (made + 1) (flat_turn f h) (flat_turn g h) ]
+    elim (fails d (flat_turn f h) (flat_turn g h)) [
+      | true ↦ E.Ended (made + 1) h (flat_kind f h)
+      | false ↦ twins_from d quantum n (made + 1) (flat_turn f h) (flat_turn g h)
+    ]
 
 -- two machines watched for domain d over so many turns; where agreement fails at the start that is step 0
 abbrev pub twins : ℕ → ℕ → ℕ → Flat → Flat → TwinEnd

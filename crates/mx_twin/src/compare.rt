@@ -29,12 +29,7 @@ fn same_death(a: &AnyMachine, b: &AnyMachine, domain: u32) -> bool
 }
 
 /// Whether a domain sees what was touched alike. It lies in RAM.
-pub(crate) fn same_touched(
-    a: &AnyMachine,
-    b: &AnyMachine,
-    domain: u32,
-    touched: &Touched,
-) -> bool
+pub(crate) fn same_touched(a: &AnyMachine, b: &AnyMachine, domain: u32, touched: &Touched) -> bool
     requires alike { AreAlike (meaning a.now) (meaning b.now) }
     requires domain { IsModule (length (meaning a.now).core.modules) domain }
     requires inside { AreIn (meaning a.now).core.size (told touched.now) }
@@ -55,9 +50,7 @@ pub(crate) fn same_views(a: &AnyMachine, b: &AnyMachine, domain: u32) -> bool
         ≡ same_views (flat_reads (meaning a.now)) (meaning a.now).core
         (flat_reads (meaning b.now)) (meaning b.now).core domain }
 {
-    sees_all(a, b, domain, 0, a.words())
-        && same_death(a, b, domain)
-        && same_gates(a, b, domain)
+    sees_all(a, b, domain, 0, a.words()) && same_death(a, b, domain) && same_gates(a, b, domain)
 }
 
 /// Whether two machines agree for a hart.

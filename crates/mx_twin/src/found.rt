@@ -112,10 +112,7 @@ pub(crate) fn step_watched(
     let touched = first.touched(kinds.0);
     let other = second.touched(kinds.1);
     if known {
-        return (
-            kinds.0,
-            found_known(a, b, domain, hart, &touched, &other),
-        );
+        return (kinds.0, found_known(a, b, domain, hart, &touched, &other));
     }
     (kinds.0, found_unknown(a, b, domain, hart))
 }

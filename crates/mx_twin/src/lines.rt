@@ -21,12 +21,7 @@ pub fn twin_line<R: Sink>(sink: &mut R, steps: u64, end: TwinEnd) -> Result<(), 
 
 /// Puts the line through a buffer.
 #[tactic(auto, unfolding(crate::specs::Lines::twin_line))]
-fn put_twin<R: Sink>(
-    tail: &mut Tail,
-    sink: &mut R,
-    steps: u64,
-    end: TwinEnd,
-) -> Result<(), Failed>
+fn put_twin<R: Sink>(tail: &mut Tail, sink: &mut R, steps: u64, end: TwinEnd) -> Result<(), Failed>
     ensures { Passes tail.old (R.state sink.old) (R.state sink.new) tail.new
         (twin_line steps end) result }
 {

@@ -53,14 +53,7 @@ fn lesser(x: u32, y: u32) -> u32
 }
 
 /// Whether two permissions are the same, and the words from `at` up to `end` have the same bytes where these allow a read.
-fn same_run(
-    a: &AnyMachine,
-    b: &AnyMachine,
-    at: u32,
-    end: u32,
-    one: Perm,
-    other: Perm,
-) -> bool
+fn same_run(a: &AnyMachine, b: &AnyMachine, at: u32, end: u32, one: Perm, other: Perm) -> bool
     requires alike { AreAlike (meaning a.now) (meaning b.now) }
     requires some { at ≤ end }
     requires inside { end ≤ (meaning a.now).core.size }
@@ -69,8 +62,7 @@ fn same_run(
         || list_all (same_word (meaning a.now).core (meaning b.now).core)
         (range_with_len at (end - at)))) }
 {
-    one.number() == other.number()
-        && (!one.allows(Access::Read) || same_bytes(a, b, at, end))
+    one.number() == other.number() && (!one.allows(Access::Read) || same_bytes(a, b, at, end))
 }
 
 /// The end of words from `at` on, up to `end` at most, that a domain sees alike in both. `None` exactly where it doesn't see all up to
@@ -94,13 +86,7 @@ fn seen_run(a: &AnyMachine, b: &AnyMachine, domain: u32, at: u32, end: u32) -> O
 
 /// Whether a domain sees the words from `first` on, `count` of them, alike in both: the same permission on each, and the same bytes
 /// where it may read.
-pub(crate) fn sees_all(
-    a: &AnyMachine,
-    b: &AnyMachine,
-    domain: u32,
-    first: u32,
-    count: u32,
-) -> bool
+pub(crate) fn sees_all(a: &AnyMachine, b: &AnyMachine, domain: u32, first: u32, count: u32) -> bool
     requires alike { AreAlike (meaning a.now) (meaning b.now) }
     requires domain { IsModule (length (meaning a.now).core.modules) domain }
     requires inside { first + count ≤ (meaning a.now).core.size }

@@ -14,11 +14,13 @@ returns-then-same_run c =
     let more = next.more c.args.at c.requires.some (near.more c.args.at one.more other.more) in
     let to = next.second in
     let first = near.first in
-    let second = near.second in
-    (more, next.first,
-    run-seen f g c.args.domain c.args.at c.run_at-one.result.1 c.run_at-other.result.1 c.run_at-one.result.0 c.run_at-other.result.0
-    one.more other.more one.alike other.alike c.lesser-next.result more (omega (arith, to, first)) (omega (arith, to, second))
-    (sym c.same_run.ensures ∙ c.if-same_run.true))
+    let second = near.second in (
+      more,
+      next.first,
+      run-seen f g c.args.domain c.args.at c.run_at-one.result.1 c.run_at-other.result.1 c.run_at-one.result.0 c.run_at-other.result.0
+          one.more other.more one.alike other.alike c.lesser-next.result more (omega (arith, to, first)) (omega (arith, to, second))
+          (sym c.same_run.ensures ∙ c.if-same_run.true),
+    )
 
 pub returns-else-same_run : goal.returns-else-same_run
 returns-else-same_run c =

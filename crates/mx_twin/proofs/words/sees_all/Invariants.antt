@@ -10,7 +10,7 @@ invariant-runs l = record {
   low : l.first ≤ l.at;
   high : l.at ≤ l.end;
   seen : list_all (sees_same (flat_reads (meaning l.a)) (meaning l.a).core (flat_reads (meaning l.b)) (meaning l.b).core l.domain)
-  (range_with_len l.first (l.at - l.first)) ≡ true;
+      (range_with_len l.first (l.at - l.first)) ≡ true;
 }
 
 abbrev pub decreases-runs : goal.decreases-runs
