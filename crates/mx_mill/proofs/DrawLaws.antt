@@ -1,5 +1,5 @@
 -- The draws of the modules one after another.
-use Rattle.std.proofs.Common.{◌≡◌, ℕ, suc, ◌+◌, ◌-◌, ◌*◌, refl, sym, ap, ◌∙◌, arith}
+use Rattle.std.proofs.Common.{◌≡◌, ℕ, suc, ◌+◌, ◌-◌, ◌*◌, refl, ap, ◌∙◌, arith}
 use Rattle.mx_mill.specs.declared.draws.Draws.{Draws}
 use Rattle.mx_mill.specs.Draws.{drawn, draws, next, number_after}
 

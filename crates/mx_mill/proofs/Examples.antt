@@ -1,5 +1,5 @@
 -- Worked examples, computed: the draws and words of the first modules, and the four lines.
-use Rattle.std.specs.Prelude.{◌≡◌, ℕ, List, [], ◌∷◌, codes, drop, refl, take}
+use Rattle.std.specs.Prelude.{◌≡◌, [], ◌∷◌, codes, drop, refl, take}
 use Rattle.std.specs.Fmt.{digits}
 use Rattle.mx_isa.specs.Table.{encoded}
 use Rattle.mx_report.specs.declared.lines.EndState.TheVariants as E

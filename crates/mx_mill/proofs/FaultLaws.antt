@@ -6,7 +6,7 @@ use Rattle.std.proofs.lemmas.Bool.{and_parts}
 use Rattle.toml.specs.Data.{Data, string, table, member, no_members}
 use Rattle.mx_manifest.specs.declared.fault.BootFault.{BootFault}
 use Rattle.mx_manifest.specs.declared.fault.Part.TheVariants as part
-use Rattle.mx_manifest.specs.Faults.{each_fault, first_fault, first_of, gate_fault, module_fault, module_names, names_fault, numbered_fault, table_fault, tables_fault, version_of}
+use Rattle.mx_manifest.specs.Faults.{each_fault, first_fault, first_of, module_fault, module_names, names_fault, numbered_fault, table_fault, tables_fault, version_of}
 use Rattle.mx_manifest.specs.Forms.{is_aligned, is_entry, is_integer, is_name_byte, is_within}
 use Rattle.mx_plan.specs.Manifest.{judged_document, planned}
 use Rattle.mx_mill.specs.Draws.{draws}

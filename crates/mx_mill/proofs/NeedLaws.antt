@@ -1,6 +1,6 @@
 -- The need of maps with few grants. A map without a grant needs a root table alone; each grant breaks at most two regions and two
 -- pages more, and crowds at most two lines more.
-use Rattle.std.proofs.Common.{◌≡◌, ℕ, zero, suc, ◌+◌, ◌*◌, ◌/◌, ◌<◌, ◌≤◌, ◌⊎◌, inl, inr, Bool, true, false, nat_le, not, List, [], ◌∷◌, ◌++◌, length, replicate, sum_by, refl, sym, ap, subst, ◌∙◌, arith, le-leb, length-take}
+use Rattle.std.proofs.Common.{◌≡◌, ℕ, zero, suc, ◌+◌, ◌*◌, ◌/◌, ◌<◌, ◌≤◌, ◌⊎◌, inl, inr, Bool, true, nat_le, not, List, [], ◌∷◌, ◌++◌, length, replicate, sum_by, refl, sym, ap, ◌∙◌, arith, le-leb, length-take}
 use Rattle.std.proofs.Common.{map as list_map}
 use Rattle.std.specs.List.{list_all}
 use Rattle.std.proofs.lemmas.Bool.{and_parts, cases_lt, le-ltb, leb-true}
@@ -12,7 +12,7 @@ use Rattle.mx_words.specs.declared.perm.Perm.TheVariants as P
 use Rattle.mx_words.specs.declared.tables.Kind.TheVariants as K
 use Rattle.mx_words.specs.declared.tables.Need.{Need}
 use Rattle.mx_words.specs.Blocks.{block_of, is_broken}
-use Rattle.mx_words.specs.Counting.{bit, count_below}
+use Rattle.mx_words.specs.Counting.{count_below}
 use Rattle.mx_words.specs.Need.{need, upper_frames, within}
 use Rattle.mx_words.specs.Newest.{Grant, laid, map}
 use Rattle.mx_words.specs.Rights.{perm_at}

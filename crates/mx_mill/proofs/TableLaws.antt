@@ -5,7 +5,7 @@ use Rattle.std.specs.BTreeMap.{insert_entry}
 use Rattle.std.specs.List.{range_with_len}
 use Rattle.std.specs.Ordering.{match_ordering}
 use Rattle.std.specs.String.{string_cmp}
-use Rattle.toml.specs.Data.{Data, Items, item, no_items, members_depth, members_have_valid_dates, push_item}
+use Rattle.toml.specs.Data.{Data, item, no_items, members_depth, members_have_valid_dates, push_item}
 use Rattle.toml.specs.View.{items_of, items_view, members_view, view}
 use Rattle.toml.specs.declared.value.Value.{Value}
 use Rattle.mx_mill.specs.Building.{with_member}

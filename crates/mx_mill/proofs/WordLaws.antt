@@ -1,11 +1,10 @@
 -- The words of a module's program are words, and an array of them is one that a manifest may have.
-use Rattle.std.proofs.Common.{◌≡◌, ℕ, ◌<◌, ◌≤◌, true, nat_le, List, [], ◌∷◌, ◌&&◌, length, map, refl, arith, le-leb}
+use Rattle.std.proofs.Common.{◌≡◌, ℕ, ◌<◌, ◌≤◌, true, List, [], ◌∷◌, length, map, refl, arith, le-leb}
 use Rattle.std.specs.List.{list_all}
 use Rattle.std.specs.Option.{is_some}
 use Rattle.toml.specs.Data.{as_integer}
 use Rattle.toml.specs.View.{items_of}
-use Rattle.mx_isa.specs.declared.inst.Inst.TheVariants.{Lui, Jal, Jalr, Load, Store, OpImm, Ecall}
-use Rattle.mx_isa.specs.declared.inst.ImmOp.TheVariants.{Addi}
+use Rattle.mx_isa.specs.declared.inst.Inst.TheVariants.{Lui, Jal, Jalr, Load, Store, Ecall}
 use Rattle.mx_isa.specs.declared.inst.LoadWidth.TheVariants.{Lw}
 use Rattle.mx_isa.specs.declared.inst.StoreWidth.TheVariants.{Sw}
 use Rattle.mx_isa.specs.Table.{encoded}
@@ -14,7 +13,7 @@ use Rattle.mx_manifest.specs.Plan.{word_list}
 use Rattle.mx_manifest.specs.Reads.{listed}
 use Rattle.mx_mill.specs.declared.draws.Draws.{Draws}
 use Rattle.mx_mill.specs.Table.{list, number}
-use Rattle.mx_mill.specs.Words.{addi, base, mill_words, module_after, words_by}
+use Rattle.mx_mill.specs.Words.{addi, mill_words}
 
 -- each has 32 bits
 abbrev pub AreWords : List ℕ → Type 0
@@ -52,23 +51,40 @@ load-word = omega arith
 pub program_words : (i : ℕ) (n : Draws) → AreWords (mill_words i n)
 program_words i n =
     let set : (rd rs1 imm : ℕ) → rd < 32 → rs1 < 32 → encoded (addi rd rs1 imm) ≤ 4294967295 = addi-word in (
-      set 10 0 n.words (omega arith) (omega arith), (
-        set 17 0 6 (omega arith) (omega arith), (
-          ecall-word, (
-            set 8 10 0 (omega arith) (omega arith), (
-              store-word, (
-                set 11 0 _ (omega arith) (omega arith), (
-                  set 12 0 n.domain (omega arith) (omega arith), (
-                    set 13 0 n.right (omega arith) (omega arith), (
-                      set 17 0 3 (omega arith) (omega arith), (
-                        ecall-word, (
-                          lui-word 5 _ (omega arith), (
-                            jalr-word 1 5 64 (omega arith) (omega arith), (
-                              set 10 8 0 (omega arith) (omega arith), (
-                                set 17 0 7 (omega arith) (omega arith), (
-                                  ecall-word, (
-                                    jump-word, (
-                                      load-word, (
+      set 10 0 n.words (omega arith) (omega arith),
+      (
+        set 17 0 6 (omega arith) (omega arith),
+        (
+          ecall-word,
+          (
+            set 8 10 0 (omega arith) (omega arith),
+            (
+              store-word,
+              (
+                set 11 0 _ (omega arith) (omega arith),
+                (
+                  set 12 0 n.domain (omega arith) (omega arith),
+                  (
+                    set 13 0 n.right (omega arith) (omega arith),
+                    (
+                      set 17 0 3 (omega arith) (omega arith),
+                      (
+                        ecall-word,
+                        (
+                          lui-word 5 _ (omega arith),
+                          (
+                            jalr-word 1 5 64 (omega arith) (omega arith),
+                            (
+                              set 10 8 0 (omega arith) (omega arith),
+                              (
+                                set 17 0 7 (omega arith) (omega arith),
+                                (
+                                  ecall-word,
+                                  (
+                                    jump-word,
+                                    (
+                                      load-word,
+                                      (
                                         jalr-word 0 1 0 (omega arith) (omega arith),
                                         tt,
                                       ),

@@ -12,12 +12,7 @@ use toml::value::Array;
 use toml::{Table, Value};
 
 /// Puts a value at a key of a table.
-pub(crate) fn put(
-    alloc: Global,
-    table: &mut Table,
-    key: &str,
-    value: Value,
-) -> Result<(), NoMemory>
+pub(crate) fn put(alloc: Global, table: &mut Table, key: &str, value: Value) -> Result<(), NoMemory>
     ensures { OnOk result
         (table_view table.new ≡ with_member key.now (view value) (table_view table.old)) }
 {

@@ -146,11 +146,7 @@ fn summed(machine: &AnyMachine) -> Sums
     sums
 }
 
-fn put_totals<R: Sink>(
-    tail: &mut Tail,
-    report: &mut R,
-    machine: &AnyMachine,
-) -> Result<(), Failed>
+fn put_totals<R: Sink>(tail: &mut Tail, report: &mut R, machine: &AnyMachine) -> Result<(), Failed>
     ensures { Passes tail.old (R.state report.old) (R.state report.new) tail.new
         (totals_line (meaning machine.now).core) result }
 {

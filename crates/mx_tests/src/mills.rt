@@ -6,7 +6,8 @@ use mx_mill::{MillFault, mill, mill_manifest};
 use mx_run::Status;
 use std::test::Fail;
 
-// The first two lines follow from the rules. What the last two count is measured; the test below reaches it by `run`.
+// The first two lines follow from the rules. What the last two say is what `run` counts of the same manifest, written by hand from the
+// rules; a test below reaches it by `run` of the manifest that is printed.
 const MILL_ONE: &str = "mill k=1 steps=200000 state=steps\n\
 console=0 faults=0 exits=0\n\
 counts sidecar=145452 lookaside=27268 walks=9100\n\
@@ -83,6 +84,9 @@ fn sinks_that_fail(rt: HostRuntime) -> Result<(), Fail> {
     // room for the first line alone
     let mut short = Bytes::new(rt.alloc(), 34)?;
     assert_eq!(rt; mill(rt.alloc(), 1, &mut short), Err(MillFault::Report));
-    assert_eq!(rt; short.as_slice(), b"mill k=1 steps=200000 state=steps\n".as_slice());
+    assert_eq!(rt;
+        short.as_slice(),
+        b"mill k=1 steps=200000 state=steps\n".as_slice()
+    );
     Ok(())
 }

@@ -1,5 +1,5 @@
-use Rattle.std.proofs.Common.{◌≡◌, ◌+◌, ◌*◌, refl, sym, ap, ◌∙◌, arith}
-use Rattle.mx_mill.specs.Draws.{draws, next}
+use Rattle.std.proofs.Common.{◌≡◌, ◌+◌, refl, sym, ◌∙◌, arith}
+use Rattle.mx_mill.specs.Draws.{draws}
 use Rattle.mx_mill.specs.Table.{module_table}
 use Rattle.mx_mill.specs.Words.{words_by}
 use Rattle.mx_mill.proofs.DrawLaws.{draws_next, number_first, number_next}
