@@ -1,12 +1,12 @@
 -- What is read was spelled: the parts of readers.
-use Rattle.std.proofs.Common.{◌≡◌, ℕ, zero, suc, ◌+◌, ◌*◌, ◌/◌, ◌%◌, ◌^◌, ◌<◌, ◌≤◌, Bool, true, false, nat_le, List, [], ◌∷◌, ◌++◌, length, take, drop, get_or, refl, sym, ap, ◌∙◌, subst, arith, append_assoc, length-append, length-drop, length-take-le, leb-true, take-append-drop, drop-drop, drop-cons, if◌then◌else◌}
+use Rattle.std.proofs.Common.{◌≡◌, ℕ, zero, suc, ◌+◌, ◌*◌, ◌/◌, ◌%◌, ◌^◌, ◌<◌, ◌≤◌, Bool, true, false, nat_le, List, [], ◌∷◌, ◌++◌, length, take, drop, get_or, refl, sym, ap, ◌∙◌, subst, arith, append_assoc, length-drop, length-take-le, leb-true, take-append-drop, drop-drop, drop-cons, if◌then◌else◌}
 use Rattle.std.specs.Prelude.{flat_map}
 use Rattle.std.proofs.lemmas.List.{append-nil}
 use Rattle.mx_words.specs.Bytes.{number_at}
 use Rattle.mx_image.specs.Image.{little_endian}
 use Rattle.mx_snapshot.proofs.CodecParts.{Holds}
 use Rattle.mx_snapshot.specs.Fits.{AreBytes, EachFits}
-use Rattle.mx_snapshot.specs.Reader.{Taken, Took, Fails, Reader, ◌>>=◌, done, goes_on, list_of, meant, number, number_of, piece, such, such_or, tested}
+use Rattle.mx_snapshot.specs.Reader.{Taken, Took, Fails, Reader, ◌>>=◌, done, goes_on, list_of, meant, number, number_of, piece, such_or, tested}
 
 -- of what is read a property holds and of the bytes that were read
 pub record Told {A : Type 0} (Q : A → List ℕ → Type 0) (bytes : List ℕ) (at : ℕ) (a : A) (after : ℕ) : Type 0 where
@@ -38,23 +38,25 @@ recovers t = record {
 }
 
 pub tells_done : {A : Type 0} (a : A) (Q : A → List ℕ → Type 0) → Q a [] → Tells (done a) Q
-tells_done a Q q = record { at = λ bytes at b after are e. record {
-  part = [];
-  holds = subst (λ x. Q x []) (same_taken a b at after e) q;
-  is = ap (λ (k : ℕ). drop k bytes) (same_place a b at after e);
-} }
+tells_done a Q q = record {
+  at = λ bytes at b after are e. record {
+    part = [];
+    holds = subst (λ x. Q x []) (same_taken a b at after e) q;
+    is = ap (λ (k : ℕ). drop k bytes) (same_place a b at after e);
+  };
+}
 
 pub tells_next : {A B : Type 0} {reader : Reader A} (next : A → Reader B) {Q : B → List ℕ → Type 0} {spell : A → List ℕ} {fits : A → Type 0}
     → Recovers reader spell fits → ((a : A) → fits a → Tells (next a) (λ b t. Q b (spell a ++ t))) → Tells (reader >>= next) Q
 tells_next {A = A} {B = B} {reader = reader} next {Q = Q} {spell = spell} {fits = fits} r n = record { at = λ bytes at b after are e. step bytes at b after are (reader bytes at) refl e } where
   step : (bytes : List ℕ) (at : ℕ) (b : B) (after : ℕ) → AreBytes bytes → (x : Taken A) → reader bytes at ≡ x → goes_on next bytes x ≡ Took b after → Told Q bytes at b after
   step bytes at b after are (Took a mid) was e =
-    let k = (n a (r.fit bytes at a mid are was)).at bytes mid b after are e in
-    record {
-      part = spell a ++ k.part;
-      holds = k.holds;
-      is = r.is bytes at a mid are was ∙ ap (λ (s : List ℕ). spell a ++ s) k.is ∙ sym (append_assoc (spell a) k.part (drop after bytes));
-    }
+      let k = (n a (r.fit bytes at a mid are was)).at bytes mid b after are e in
+      record {
+        part = spell a ++ k.part;
+        holds = k.holds;
+        is = r.is bytes at a mid are was ∙ ap (λ (s : List ℕ). spell a ++ s) k.is ∙ sym (append_assoc (spell a) k.part (drop after bytes));
+      }
   step bytes at b after are (Fails place fault) was e = absurd (not_taken b after place fault e)
 
 -- the same bytes by another spelling, and another property
@@ -127,10 +129,10 @@ lies {A} there at size bytes a after e = chosen (nat_le (at + size) (length byte
 pub recovers_number : (size : ℕ) → Recovers (number_of size) (little_endian size) (Holds size)
 recovers_number size = record {
   fit = λ bytes at a after are e. let l = lies (number_at bytes at size) at size bytes a after e in
-    subst (Holds size) l.value (number-holds size bytes at are);
+      subst (Holds size) l.value (number-holds size bytes at are);
   is = λ bytes at a after are e. let l = lies (number_at bytes at size) at size bytes a after e in
-    number-spelled size bytes at are l.fits ∙ ap (λ (n : ℕ). little_endian size n ++ drop (at + size) bytes) l.value
-    ∙ ap (λ (k : ℕ). little_endian size a ++ drop k bytes) l.end;
+      number-spelled size bytes at are l.fits ∙ ap (λ (n : ℕ). little_endian size n ++ drop (at + size) bytes) l.value
+      ∙ ap (λ (k : ℕ). little_endian size a ++ drop k bytes) l.end;
 }
 
 pub recovers_four : Recovers number (little_endian 4) (λ n. n < 2 ^ 32)
@@ -149,11 +151,11 @@ are_taken (b ∷ bs) (suc n) are = (are.0, are_taken bs n are.1)
 pub recovers_piece : (size : ℕ) → Recovers (piece size) (λ s. s) (λ s. (length s ≡ size) × AreBytes s)
 recovers_piece size = record {
   fit = λ bytes at a after are e. let l = lies (take size (drop at bytes)) at size bytes a after e in
-    subst (λ (s : List ℕ). (length s ≡ size) × AreBytes s) l.value
-    (length-take-le size (drop at bytes) (omega (arith, l.fits, length-drop at bytes)), are_taken (drop at bytes) size (are_dropped bytes at are));
+      subst (λ (s : List ℕ). (length s ≡ size) × AreBytes s) l.value
+      (length-take-le size (drop at bytes) (omega (arith, l.fits, length-drop at bytes)), are_taken (drop at bytes) size (are_dropped bytes at are));
   is = λ bytes at a after are e. let l = lies (take size (drop at bytes)) at size bytes a after e in
-    sym (take-append-drop size (drop at bytes)) ∙ ap (λ (s : List ℕ). s ++ drop size (drop at bytes)) l.value
-    ∙ ap (λ (s : List ℕ). a ++ s) (drop-drop size at bytes ∙ ap (λ (k : ℕ). drop k bytes) l.end);
+      sym (take-append-drop size (drop at bytes)) ∙ ap (λ (s : List ℕ). s ++ drop size (drop at bytes)) l.value
+      ∙ ap (λ (s : List ℕ). a ++ s) (drop-drop size at bytes ∙ ap (λ (k : ℕ). drop k bytes) l.end);
 }
 
 -- of a list the items behind those before them
@@ -170,26 +172,30 @@ tells_list spell fits item each zero before = tells_done before (IsListed spell 
     (record { items = []; all = sym (append-nil before); count = refl; fit = tt; is = refl })
 tells_list spell fits item each (suc n) before = tells_next _ (each before) (λ a f.
     let rest = tells_list spell fits item each n (before ++ a ∷ []) in
-    record { at = λ bytes at ys after are e.
-        let k = rest.at bytes at ys after are e in
-        record {
-          part = k.part;
-          holds = record {
-            items = a ∷ k.holds.items;
-            all = k.holds.all ∙ append_assoc before (a ∷ []) k.holds.items;
-            count = ap suc k.holds.count;
-            fit = (f, k.holds.fit);
-            is = ap (λ (s : List ℕ). spell a ++ s) k.holds.is;
+    record {
+      at = λ bytes at ys after are e.
+          let k = rest.at bytes at ys after are e in
+          record {
+            part = k.part;
+            holds = record {
+              items = a ∷ k.holds.items;
+              all = k.holds.all ∙ append_assoc before (a ∷ []) k.holds.items;
+              count = ap suc k.holds.count;
+              fit = (f, k.holds.fit);
+              is = ap (λ (s : List ℕ). spell a ++ s) k.holds.is;
+            };
+            is = k.is;
           };
-          is = k.is;
-        } })
+    })
 
 pub recovers_list : {A : Type 0} (spell : A → List ℕ) (fits : List A → A → Type 0) (item : List A → Reader A) → ((before : List A) → Recovers (item before) spell (fits before))
     → (n : ℕ) → Recovers (list_of n item []) (flat_map spell) (λ xs. (length xs ≡ n) × EachFits fits [] xs)
-recovers_list spell fits item each n = recovers (record { at = λ bytes at ys after are e.
-    let k = (tells_list spell fits item each n []).at bytes at ys after are e in
-    record {
-      part = k.part;
-      holds = ((ap length k.holds.all ∙ k.holds.count, subst (EachFits fits []) (sym k.holds.all) k.holds.fit), k.holds.is ∙ ap (flat_map spell) (sym k.holds.all));
-      is = k.is;
-    } })
+recovers_list spell fits item each n = recovers (record {
+  at = λ bytes at ys after are e.
+      let k = (tells_list spell fits item each n []).at bytes at ys after are e in
+      record {
+        part = k.part;
+        holds = ((ap length k.holds.all ∙ k.holds.count, subst (EachFits fits []) (sym k.holds.all) k.holds.fit), k.holds.is ∙ ap (flat_map spell) (sym k.holds.all));
+        is = k.is;
+      };
+})

@@ -1,6 +1,5 @@
 -- Ranges of the fields of a snapshot, and numbers that mean something.
-use Rattle.std.proofs.Common.{◌≡◌, ℕ, zero, suc, ◌+◌, ◌*◌, ◌/◌, ◌%◌, ◌^◌, ◌<◌, ◌≤◌, ◌==◌, Bool, true, false, nat_lt, nat_le, ◌&&◌, ◌||◌, ◌⊎◌, inl, inr, ⊎_elim, List, [], ◌∷◌, ◌++◌, length, refl, sym, ap, ◌∙◌, arith, leb-true, le-leb, ltb-true, eqb-true, zero-add, if◌then◌else◌}
-use Rattle.std.specs.Prelude.{sum_by}
+use Rattle.std.proofs.Common.{◌≡◌, ℕ, zero, suc, ◌+◌, ◌*◌, ◌/◌, ◌%◌, ◌^◌, ◌<◌, ◌≤◌, ◌==◌, Bool, true, false, nat_lt, nat_le, ◌||◌, ◌⊎◌, inl, inr, ⊎_elim, List, [], ◌∷◌, ◌++◌, length, refl, ap, ◌∙◌, arith, leb-true, le-leb, ltb-true, eqb-true, zero-add, if◌then◌else◌}
 use Rattle.std.specs.List.{AllByRecursion}
 use Rattle.std.proofs.lemmas.Bool.{and_from, and_parts}
 use Rattle.std.proofs.lemmas.List.Sums.{sum_by-append}
@@ -18,7 +17,7 @@ use Rattle.mx_machine.specs.declared.views.HartStatus.{HartStatus}
 use Rattle.mx_machine.specs.declared.views.HartStatus.TheVariants as V
 use Rattle.mx_snapshot.specs.Fields.{kind_by, perm_by, run_by, status_by}
 use Rattle.mx_snapshot.specs.Fits.{EachFits, IsHead}
-use Rattle.mx_snapshot.specs.Rules.{has_bit, has_place, is_area, is_buffer, is_heard, is_ram, is_waiting, run_words}
+use Rattle.mx_snapshot.specs.Rules.{has_place, is_area, is_buffer, is_heard, run_words}
 use Rattle.mx_snapshot.specs.Spelling.{kind_number, status_number}
 use Rattle.mx_snapshot.specs.Stored.{Head}
 
@@ -54,9 +53,9 @@ pub small_place : {A : Type 0} (words runs : ℕ) (before : List (Run A)) (count
 small_place words runs before count e =
     let p = and_parts (nat_lt 0 count) _ e in
     (ltb-true 0 count p.0, chosen (run_words before + count) (length before + 1 == runs) p.1) where
-  chosen : (end : ℕ) (c : Bool) → (if c then end == words else nat_le end words) ≡ true → end ≤ words
-  chosen end true h = omega (arith, eqb-true end words h)
-  chosen end false h = leb-true end words h
+      chosen : (end : ℕ) (c : Bool) → (if c then end == words else nat_le end words) ≡ true → end ≤ words
+      chosen end true h = omega (arith, eqb-true end words h)
+      chosen end false h = leb-true end words h
 
 run_words_more : {A : Type 0} (before : List (Run A)) (r : Run A) → run_words (before ++ r ∷ []) ≡ run_words before + r.count
 run_words_more before r = sum_by-append (λ x. x.count) before (r ∷ []) ∙ ap (λ (k : ℕ). run_words before + k) (zero-add r.count)

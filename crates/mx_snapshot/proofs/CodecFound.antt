@@ -1,11 +1,8 @@
 -- What is read was spelled: the fields of a snapshot.
-use Rattle.std.proofs.Common.{◌≡◌, ℕ, zero, suc, ◌+◌, ◌*◌, ◌^◌, ◌<◌, ◌≤◌, ◌==◌, Bool, true, false, nat_lt, nat_le, List, [], ◌∷◌, ◌++◌, length, drop, refl, sym, ap, ◌∙◌, subst, arith, append_assoc, ltb-true, ltb-false, drop_of_length-le, if◌then◌else◌}
-use Rattle.std.specs.Prelude.{flat_map}
+use Rattle.std.proofs.Common.{◌≡◌, ℕ, ◌*◌, ◌^◌, ◌<◌, Bool, true, nat_lt, List, [], length, refl, sym, ap, ◌∙◌, subst, arith, ltb-true}
 use Rattle.std.specs.Str.{bytes_eq}
-use Rattle.std.proofs.lemmas.List.{append-nil}
 use Rattle.std.proofs.lemmas.Slice.Eq.{bytes_eq-Decides}
 use Rattle.mx_words.specs.declared.perm.Perm.{Perm}
-use Rattle.mx_words.specs.declared.tables.Kind.{Kind}
 use Rattle.mx_words.specs.Counting.{bit}
 use Rattle.mx_words.specs.FirstFit.{Area, most_blocks}
 use Rattle.mx_words.specs.Runs.{Run, most_owner_runs}
@@ -15,15 +12,14 @@ use Rattle.mx_model.specs.declared.values.Frame.{Frame}
 use Rattle.mx_model.specs.declared.values.Gate.{Gate}
 use Rattle.mx_model.specs.Gates.{most_frames, most_gates}
 use Rattle.mx_model.specs.State.{most_modules}
-use Rattle.mx_machine.specs.declared.views.HartStatus.{HartStatus}
-use Rattle.mx_snapshot.proofs.CodecBack.{Recovers, Tells, recovers, recovers_as, recovers_four, recovers_list, recovers_meant, recovers_number, recovers_piece, recovers_such, tells_done, tells_next}
+use Rattle.mx_snapshot.proofs.CodecBack.{Recovers, recovers, recovers_as, recovers_four, recovers_list, recovers_meant, recovers_number, recovers_piece, recovers_such, tells_done, tells_next}
 use Rattle.mx_snapshot.proofs.CodecBounds.{within_range, kind_back, status_back, bit_back, run_back, all_of, each_left, each_right}
 use Rattle.mx_snapshot.proofs.CodecRead.{flat_hart, flat_module, flat_stored, hart-flat, module-flat, stored-flat}
-use Rattle.mx_snapshot.specs.Fields.{between, block_in, fields_in, flag, frame_in, gate_in, hart_in, head_in, kind_by, map_run_in, module_in, owner_run_in, run_by, status_by}
-use Rattle.mx_snapshot.specs.Fits.{AreBytes, AreWords, EachFits, IsHead, IsOwnerRun, IsStored, IsStoredFrame, IsStoredGate, IsStoredHart, IsStoredModule}
-use Rattle.mx_snapshot.specs.Reader.{Reader, meant, number, number_of, piece, such, such_or}
-use Rattle.mx_snapshot.specs.Rules.{has_place, is_area, is_buffer, is_free, is_heard, is_new_name, is_next_block, is_next_owner, is_next_run, is_pc, is_ram, is_register}
-use Rattle.mx_snapshot.specs.Spelling.{block_bytes, counted, frame_bytes, gate_bytes, hart_bytes, head_bytes, kind_number, map_run_bytes, module_bytes, owner_run_bytes, sign, spelling, state_bytes, status_number}
+use Rattle.mx_snapshot.specs.Fields.{between, block_in, fields_in, flag, frame_in, gate_in, hart_in, head_in, kind_by, map_run_in, module_in, owner_run_in, status_by}
+use Rattle.mx_snapshot.specs.Fits.{EachFits, IsHead, IsOwnerRun, IsStored, IsStoredFrame, IsStoredGate, IsStoredHart, IsStoredModule}
+use Rattle.mx_snapshot.specs.Reader.{meant, number, piece, such, such_or}
+use Rattle.mx_snapshot.specs.Rules.{has_place, is_area, is_buffer, is_free, is_heard, is_next_block, is_next_owner, is_next_run, is_pc, is_ram, is_register}
+use Rattle.mx_snapshot.specs.Spelling.{block_bytes, frame_bytes, gate_bytes, hart_bytes, head_bytes, kind_number, map_run_bytes, module_bytes, owner_run_bytes, sign, spelling, status_number}
 use Rattle.mx_snapshot.specs.Stored.{Head, Stored, StoredHart, StoredModule}
 
 recovers_between : (low high : ℕ) → Recovers (between low high) (little_endian 4) (IsBetween low high)
@@ -96,16 +92,19 @@ module-recovers h before = recovers
     tells_next _ (recovers_in (nat_lt 0)) (λ runs l.
     tells_next _ (recovers_list map_run_bytes (λ others r. is_next_run h.words runs others r ≡ true) (map_run_in h runs) (map-run-recovers h runs) runs) (λ maps m.
     let stored : StoredModule = record { name = name; home = record { heap = record { first = heap_first; count = heap_count }; blocks = blocks; stack = record { first = stack_first; words = stack_words }; kills = kills; dead = dead }; map = maps } in
-    tells_done stored _ (record {
-      name_length = subst (IsBetween 1 32) (sym b.0.0) a;
-      name = b.1;
-      heap = d.1;
-      stack = f.1;
-      few_blocks = omega (arith, k.0, j.1);
-      blocks = k.1;
-      some_runs = omega (arith, m.0, ltb-true 0 runs l.1);
-      map = subst (λ (n : ℕ). EachFits (λ others r. is_next_run h.words n others r ≡ true) [] maps) (sym m.0) m.1;
-    }, sized stored size count runs b.0.0 k.0 m.0))))))))))))))
+    tells_done stored _ (
+      record {
+        name_length = subst (IsBetween 1 32) (sym b.0.0) a;
+        name = b.1;
+        heap = d.1;
+        stack = f.1;
+        few_blocks = omega (arith, k.0, j.1);
+        blocks = k.1;
+        some_runs = omega (arith, m.0, ltb-true 0 runs l.1);
+        map = subst (λ (n : ℕ). EachFits (λ others r. is_next_run h.words n others r ≡ true) [] maps) (sym m.0) m.1;
+      },
+      sized stored size count runs b.0.0 k.0 m.0,
+    ))))))))))))))
 
 owner-run-recovers : (h : Head) (runs : ℕ) (before : List (Run ℕ)) → Recovers (owner_run_in h runs before) owner_run_bytes (IsOwnerRun h runs before)
 unfolding owner_run_in owner_run_bytes
@@ -147,17 +146,20 @@ hart-recovers h before = recovers
     tells_next _ (recovers_list frame_bytes (λ others y. IsStoredFrame h y) (frame_in h) (frame-recovers h) count) (λ frames f.
     tells_next _ (recovers_in (is_heard h.harts (length before) status)) (λ heard g.
     let hart : StoredHart = record { status = status; domain = domain; pc = pc; regs = regs; frames = frames; heard = heard } in
-    tells_done hart _ (record {
-      domain = b;
-      pc = c.1;
-      small = c.0;
-      count = d.0;
-      words = each_left (λ others n. is_register status (length others) n ≡ true) (λ (n : ℕ). n < 2 ^ 32) regs [] d.1;
-      regs = each_right (λ others n. is_register status (length others) n ≡ true) (λ (n : ℕ). n < 2 ^ 32) regs [] d.1;
-      few_frames = omega (arith, f.0, e.1);
-      frames = all_of (IsStoredFrame h) frames [] f.1;
-      heard = g.1;
-    }, hart_sized hart count f.0)))))))))
+    tells_done hart _ (
+      record {
+        domain = b;
+        pc = c.1;
+        small = c.0;
+        count = d.0;
+        words = each_left (λ others n. is_register status (length others) n ≡ true) (λ (n : ℕ). n < 2 ^ 32) regs [] d.1;
+        regs = each_right (λ others n. is_register status (length others) n ≡ true) (λ (n : ℕ). n < 2 ^ 32) regs [] d.1;
+        few_frames = omega (arith, f.0, e.1);
+        frames = all_of (IsStoredFrame h) frames [] f.1;
+        heard = g.1;
+      },
+      hart_sized hart count f.0,
+    )))))))))
 
 stored_sized : (s : Stored) (runs count : ℕ) → length s.owners ≡ runs → length s.gates ≡ count → flat_stored runs count s ≡ spelling s
 stored_sized s runs count a b =
@@ -175,16 +177,19 @@ fields-recover = recovers
     tells_next _ (recovers_list hart_bytes (IsStoredHart h) (hart_in h) (hart-recovers h) h.harts) (λ harts g.
     tells_next _ (recovers_piece (4 * h.words)) (λ ram i.
     let stored : Stored = record { head = h; modules = modules; owners = owners; gates = gates; harts = harts; ram = ram } in
-    tells_done stored _ (record {
-      head = a;
-      module_count = b.0;
-      modules = b.1;
-      owner_runs = subst (IsBetween 1 most_owner_runs) (sym d.0) c;
-      owners = subst (λ (n : ℕ). EachFits (IsOwnerRun h n) [] owners) (sym d.0) d.1;
-      few_gates = omega (arith, f.0, e.1);
-      gates = f.1;
-      hart_count = g.0;
-      harts = g.1;
-      ram_count = i.0;
-      ram = i.1;
-    }, stored_sized stored runs count d.0 f.0))))))))))
+    tells_done stored _ (
+      record {
+        head = a;
+        module_count = b.0;
+        modules = b.1;
+        owner_runs = subst (IsBetween 1 most_owner_runs) (sym d.0) c;
+        owners = subst (λ (n : ℕ). EachFits (IsOwnerRun h n) [] owners) (sym d.0) d.1;
+        few_gates = omega (arith, f.0, e.1);
+        gates = f.1;
+        hart_count = g.0;
+        harts = g.1;
+        ram_count = i.0;
+        ram = i.1;
+      },
+      stored_sized stored runs count d.0 f.0,
+    ))))))))))

@@ -1,10 +1,7 @@
 -- A snapshot's bytes hold what they are spelled from.
-use Rattle.std.proofs.Common.{◌≡◌, ℕ, ◌≤◌, Bool, true, false, nat_lt, List, [], ◌++◌, length, drop, refl, sym, ap, ◌∙◌, subst, arith, ltb-false, drop_of_length-le, if◌then◌else◌}
-use Rattle.std.proofs.lemmas.Bool.{false_from_ne_true}
+use Rattle.std.proofs.Common.{◌≡◌, ℕ, ◌≤◌, Bool, true, false, nat_lt, List, [], ◌++◌, length, refl, sym, ap, ◌∙◌, subst, arith, ltb-false, drop_of_length-le, if◌then◌else◌}
 use Rattle.std.proofs.lemmas.List.{append-nil}
-use Rattle.mx_snapshot.proofs.CodecBack.{Recovers}
 use Rattle.mx_snapshot.proofs.CodecFound.{fields-recover}
-use Rattle.mx_snapshot.proofs.CodecParts.{Reads}
 use Rattle.mx_snapshot.proofs.CodecRead.{fields-read}
 use Rattle.mx_snapshot.specs.Fields.{ended, fields_in, most_bytes, stored_in}
 use Rattle.mx_snapshot.specs.Fits.{AreBytes, IsStored}
@@ -36,6 +33,7 @@ ended_took bytes (Fails at fault) s n e = absurd cc
 ended_took bytes (Took t after) s n e = chosen (nat_lt after (length bytes)) refl e where
   same_end : (s t : Stored) (n after : ℕ) → Took t after ≡ Took s n → after ≡ n
   same_end s t n after h = cc
+
   chosen : (c : Bool) → nat_lt after (length bytes) ≡ c → (if c then Fails after 5 else Took t after) ≡ Took s n → (Took t after ≡ Took s n) × (length bytes ≤ n)
   chosen true was h = absurd cc
   chosen false was h = (h, omega (arith, ltb-false after (length bytes) was, same_end s t n after h))
@@ -46,7 +44,7 @@ stored_took bytes s n e = chosen (nat_lt most_bytes (length bytes)) refl e where
   chosen : (c : Bool) → nat_lt most_bytes (length bytes) ≡ c → (if c then Fails 0 1 else ended bytes (fields_in bytes 0)) ≡ Took s n → Ended bytes s n
   chosen true was h = absurd cc
   chosen false was h = let p = ended_took bytes (fields_in bytes 0) s n h in
-    record { few = ltb-false most_bytes (length bytes) was; took = p.0; whole = p.1 }
+      record { few = ltb-false most_bytes (length bytes) was; took = p.0; whole = p.1 }
 
 pub stored-valid : (bytes : List ℕ) (s : Stored) (n : ℕ) → AreBytes bytes → stored_in bytes ≡ Took s n → IsStored s
 stored-valid bytes s n are e = fields-recover.fit bytes 0 s n are (stored_took bytes s n e).took
@@ -64,5 +62,5 @@ stored-whole bytes s n are e =
     let few = subst (λ (bs : List ℕ). length bs ≤ most_bytes) is p.few in
     let again : stored_in bytes ≡ Took s (length bytes) = subst (λ (bs : List ℕ). stored_in bs ≡ Took s (length bs)) (sym is) (stored-read s (stored-valid bytes s n are e) few) in
     same_end n (length bytes) (sym e ∙ again) where
-  same_end : (n m : ℕ) → Took s n ≡ Took s m → n ≡ m
-  same_end n m h = cc
+      same_end : (n m : ℕ) → Took s n ≡ Took s m → n ≡ m
+      same_end n m h = cc

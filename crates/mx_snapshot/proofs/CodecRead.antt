@@ -1,7 +1,6 @@
 -- What is spelled is read: the fields of a snapshot.
-use Rattle.std.proofs.Common.{◌≡◌, ℕ, ◌+◌, ◌*◌, ◌^◌, ◌<◌, ◌≤◌, ◌==◌, Bool, true, ◌&&◌, nat_lt, nat_le, List, [], ◌∷◌, ◌++◌, length, refl, sym, ap, ◌∙◌, subst, arith, append_assoc, lt-ltb, leb-true, ltb-true}
+use Rattle.std.proofs.Common.{◌≡◌, ℕ, ◌+◌, ◌*◌, ◌^◌, ◌<◌, ◌≤◌, Bool, true, ◌&&◌, nat_lt, nat_le, List, [], ◌∷◌, ◌++◌, length, refl, sym, subst, arith, append_assoc, lt-ltb, leb-true, ltb-true}
 use Rattle.std.specs.Prelude.{flat_map}
-use Rattle.std.specs.Str.{bytes_eq}
 use Rattle.std.proofs.lemmas.Bool.{and_parts}
 use Rattle.std.proofs.lemmas.List.{append-nil}
 use Rattle.mx_words.specs.declared.perm.Perm.{Perm}
@@ -17,10 +16,10 @@ use Rattle.mx_model.specs.Gates.{most_frames, most_gates}
 use Rattle.mx_model.specs.State.{most_modules}
 use Rattle.mx_snapshot.proofs.CodecBounds.{range_within, from_zero, small_words, small_buffer, small_area, each_part, small_place, few_runs, kind_small, kind_again, status_small, status_again, bit_small, bit_again, perm_small, run_again, heard_small, each_of, each_both}
 use Rattle.mx_snapshot.proofs.CodecParts.{Reads, reads_done, reads_next, reads_such, reads_meant, reads_piece, reads_four, reads_eight, reads_list}
-use Rattle.mx_snapshot.specs.Fields.{between, block_in, fields_in, flag, frame_in, gate_in, hart_in, head_in, map_run_in, module_in, owner_run_in, run_by}
-use Rattle.mx_snapshot.specs.Fits.{EachFits, IsHead, IsOwnerRun, IsStored, IsStoredFrame, IsStoredGate, IsStoredHart, IsStoredModule}
-use Rattle.mx_snapshot.specs.Reader.{Reader, number, such}
-use Rattle.mx_snapshot.specs.Rules.{behind, has_place, is_area, is_free, is_heard, is_next_block, is_next_run, is_other, is_pc, is_register, run_words}
+use Rattle.mx_snapshot.specs.Fields.{between, block_in, fields_in, flag, frame_in, gate_in, hart_in, head_in, map_run_in, module_in, owner_run_in}
+use Rattle.mx_snapshot.specs.Fits.{IsHead, IsOwnerRun, IsStored, IsStoredFrame, IsStoredGate, IsStoredHart, IsStoredModule}
+use Rattle.mx_snapshot.specs.Reader.{number, such}
+use Rattle.mx_snapshot.specs.Rules.{behind, has_place, is_heard, is_next_block, is_next_run, is_pc, is_register}
 use Rattle.mx_snapshot.specs.Spelling.{area_bytes, block_bytes, counted, flag_bytes, frame_bytes, front_bytes, gate_bytes, hart_bytes, head_bytes, kind_number, map_run_bytes, module_bytes, name_bytes, numbers, owner_run_bytes, sign, spelling, state_bytes, status_number}
 use Rattle.mx_snapshot.specs.Stored.{Head, Stored, StoredHart, StoredModule}
 
@@ -155,8 +154,8 @@ hart-reads h g before x f =
     (reads_next _ (reads_module h g x.domain f.domain) refl
     (reads_next _ (reads_such 4 is_pc (reads_four x.pc f.small) f.pc) refl
     (reads_next _ (reads_list (little_endian 4) (λ others n. (n < 2 ^ 32) × (is_register x.status (length others) n ≡ true)) (λ others. such (is_register x.status (length others)) number)
-      (λ others n e. reads_such 4 (is_register x.status (length others)) (reads_four n e.0) e.1) x.regs 32 f.count
-      (each_both (λ others n. is_register x.status (length others) n ≡ true) (λ (n : ℕ). n < 2 ^ 32) x.regs [] f.regs f.words)) refl
+    (λ others n e. reads_such 4 (is_register x.status (length others)) (reads_four n e.0) e.1) x.regs 32 f.count
+    (each_both (λ others n. is_register x.status (length others) n ≡ true) (λ (n : ℕ). n < 2 ^ 32) x.regs [] f.regs f.words)) refl
     (reads_next _ (reads_between 0 most_frames (length x.frames) (omega arith) (from_zero _ _ f.few_frames)) refl
     (reads_next _ (reads_list frame_bytes (λ others y. IsStoredFrame h y) (frame_in h) (frame-reads h g) x.frames (length x.frames) refl (each_of (IsStoredFrame h) x.frames [] f.frames)) refl
     (reads_next _ (reads_such 4 (is_heard h.harts (length before) x.status) (reads_four x.heard heard) f.heard) refl
