@@ -8,3 +8,9 @@ pub mod EdgeLaws
 pub mod PlaceLaws
 pub mod ByteLaws
 pub mod PlanLaws
+pub mod CodecParts
+pub mod CodecBack
+pub mod CodecBounds
+pub mod CodecRead
+pub mod CodecFound
+pub mod CodecLaws

@@ -1,7 +1,7 @@
 -- What is stored in the bytes of a snapshot, field by field in the order of the file, or the first fault. A rule over several fields
 -- is judged at the last of them.
 -- The faults: docs/COMMANDS.md, "The snapshot".
-use Rattle.std.specs.Prelude.{ℕ, ◌-◌, ◌*◌, ◌/◌, ◌%◌, ◌^◌, Bool, nat_le, nat_lt, ◌==◌, List, [], ◌∷◌, length, if◌then◌else◌, unwrap_or}
+use Rattle.std.specs.Prelude.{ℕ, ◌-◌, ◌*◌, ◌/◌, ◌%◌, ◌^◌, Bool, nat_lt, ◌==◌, List, [], length, if◌then◌else◌, unwrap_or}
 use Rattle.std.specs.Str.{bytes_eq}
 use Rattle.mx_words.specs.declared.perm.Perm.{Perm}
 use Rattle.mx_words.specs.declared.perm.Perm.TheVariants as P

@@ -1,11 +1,16 @@
 //! Laws of states that are the same, and of machines and their plans, each the contract of a function that does nothing.
-ghost use Rattle.std.specs.Prelude.{◌≡◌, ℕ, ◌+◌, ◌++◌, List, Ok};
+ghost use Rattle.std.specs.Prelude.{◌≡◌, ℕ, ◌+◌, ◌≤◌, ◌++◌, List, length, Ok};
 ghost use Rattle.mx_boot.specs.Boot.{boot_of};
 ghost use Rattle.mx_manifest.specs.Plan.{Said};
 ghost use Rattle.mx_model.specs.Run.{Schedule, turn, flat_turn, kind, flat_kind, made_of, flat_made, run};
 ghost use Rattle.mx_model.specs.State.{State, Flat, flat};
+ghost use Rattle.mx_snapshot.specs.Fields.{most_bytes, stored_in};
+ghost use Rattle.mx_snapshot.specs.Fits.{AreBytes, IsStored};
 ghost use Rattle.mx_snapshot.specs.Kept.{IsOfPlan, KeptPlan, kept_of};
+ghost use Rattle.mx_snapshot.specs.Reader.{Took};
 ghost use Rattle.mx_snapshot.specs.Same.{AreSame, TakesUp, silent};
+ghost use Rattle.mx_snapshot.specs.Spelling.{spelling};
+ghost use Rattle.mx_snapshot.specs.Stored.{Stored};
 
 /// A turn of one hart in two states that are the same leaves them the same, is of the same kind, and adds the same console bytes and
 /// the same note to both: in flat states, and in states.
@@ -63,4 +68,17 @@ pub fn machines_are_of_their_plan()
         boot_of plan images ≡ Ok s → IsOfPlan (kept_of plan) (flat s) }
     ensures turn { (kept : KeptPlan) (f : Flat) (h : ℕ) → IsOfPlan kept f →
         IsOfPlan kept (flat_turn f h) }
+{}
+
+/// A snapshot's bytes hold what they are spelled from: of every valid snapshot of at most 1073741824 bytes `stored_in` takes what it
+/// stores from its spelling, to the last byte; and bytes from which it takes something are the spelling of that, which is valid.
+pub fn snapshots_are_read_back()
+    ensures read { (s : Stored) → IsStored s → length (spelling s) ≤ most_bytes →
+        stored_in (spelling s) ≡ Took s (length (spelling s)) }
+    ensures valid { (bytes : List ℕ) (s : Stored) (n : ℕ) → AreBytes bytes →
+        stored_in bytes ≡ Took s n → IsStored s }
+    ensures spelled { (bytes : List ℕ) (s : Stored) (n : ℕ) → AreBytes bytes →
+        stored_in bytes ≡ Took s n → bytes ≡ spelling s }
+    ensures whole { (bytes : List ℕ) (s : Stored) (n : ℕ) → AreBytes bytes →
+        stored_in bytes ≡ Took s n → n ≡ length bytes }
 {}
