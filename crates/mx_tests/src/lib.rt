@@ -4,8 +4,6 @@
 #[cfg(test)]
 mod assembling;
 #[cfg(test)]
-mod audits;
-#[cfg(test)]
 mod calls;
 #[cfg(test)]
 mod examples;

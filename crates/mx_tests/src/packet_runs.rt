@@ -183,19 +183,9 @@ fn add_image(alloc: Global, files: &mut Files, name: &str, source: &str) -> Resu
     Ok(())
 }
 
-/// The manifest with this head and these harts beside the driver's.
-fn manifest_with(alloc: Global, head: &str, harts: &str) -> Result<String, Fail> {
-    Ok(format!(in alloc; "{head}{MODULES}{DRIVER_HART}{harts}")?)
-}
-
-/// The manifest of a run on four harts over packed tables.
-pub fn packet_manifest(alloc: Global) -> Result<String, Fail> {
-    manifest_with(alloc, PACKED, IDLE_HARTS)
-}
-
 /// The files of a run: a manifest with this head and these harts beside the driver's, and the three images.
 fn files_with(alloc: Global, head: &str, harts: &str) -> Result<Files, Fail> {
-    let text = manifest_with(alloc, head, harts)?;
+    let text = format!(in alloc; "{head}{MODULES}{DRIVER_HART}{harts}")?;
     let mut files = Files::new(alloc);
     files.add("first.toml", text.as_bytes())?;
     add_image(alloc, &mut files, "driver.elf", DRIVER)?;
