@@ -1,13 +1,9 @@
 -- Lists that are read from place to place until none is left.
-use Rattle.std.proofs.Common.{◌≡◌, ℕ, zero, suc, ◌+◌, ◌<◌, ◌≤◌, Bool, true, false, ◌==◌, ◌&&◌, cond, List, [], ◌∷◌, ◌++◌, length, drop, slice_get, find, refl, sym, ◌∙◌, ap, subst, arith, add-one, Option, Some, None, nat_eq}
-use Rattle.std.specs.List.{list_all, range_with_len}
-use Rattle.std.specs.Option.{option_eq, option_map}
-use Rattle.std.proofs.lemmas.Bool.{and_from, and_parts, false_from_ne_true}
+use Rattle.std.proofs.Common.{◌≡◌, ℕ, zero, suc, ◌+◌, ◌<◌, ◌≤◌, Bool, true, false, ◌&&◌, cond, List, [], ◌∷◌, ◌++◌, length, drop, slice_get, refl, sym, ◌∙◌, ap, arith, add-one, Some, None}
+use Rattle.std.specs.List.{list_all}
+use Rattle.std.specs.Option.{option_map}
 use Rattle.mx_model.specs.declared.values.Gate.{Gate}
-use Rattle.mx_model.specs.Agreement.{target_at}
 use Rattle.mx_model.specs.Gates.{gate_at, is_at}
-use Rattle.mx_model.specs.State.{Core}
-use Rattle.mx_laws.specs.Comparison.{same_target}
 
 some-drop : (xs : List Gate) (i : ℕ) (x : Gate) → Some x ≡ slice_get xs i → drop i xs ≡ x ∷ drop (suc i) xs
 some-drop [] i x e = absurd (let q : ⊥ = cc in q)

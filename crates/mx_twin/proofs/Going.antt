@@ -1,5 +1,5 @@
 -- A twin run under way.
-use Rattle.std.proofs.Common.{◌≡◌, ℕ, zero, suc, ◌+◌, ◌-◌, ◌/◌, ◌%◌, ◌^◌, ◌<◌, ◌≤◌, Bool, true, false, length, refl, sym, ◌∙◌, ap, subst, arith, if◌then◌else◌, Option, Some, None}
+use Rattle.std.proofs.Common.{◌≡◌, ℕ, suc, ◌+◌, ◌-◌, ◌/◌, ◌%◌, ◌<◌, ◌≤◌, Bool, true, false, length, refl, sym, ◌∙◌, ap, subst, arith, if◌then◌else◌, Option, Some, None}
 use Rattle.mx_model.specs.declared.values.TurnKind.{TurnKind}
 use Rattle.mx_model.specs.declared.values.TurnKind.TheVariants as T
 use Rattle.mx_model.specs.Reads.{flat_reads}
@@ -10,10 +10,9 @@ use Rattle.mx_model.proofs.KeepLaws.{keeps-turned}
 use Rattle.mx_touched.specs.Pairs.{ArePair, IsRight, Knows, any_compared, fails}
 use Rattle.mx_touched.proofs.Going.{pair-turn}
 use Rattle.mx_touched.proofs.Pairs.{known-holds, start-known}
-use Rattle.mx_twin.specs.declared.twin.TwinEnd.{TwinEnd}
 use Rattle.mx_twin.specs.declared.twin.TwinEnd.TheVariants as E
 use Rattle.mx_twin.specs.Turns.{AreAlike}
-use Rattle.mx_twin.specs.Twins.{IsAtBorder, next_hart, twins, twins_from}
+use Rattle.mx_twin.specs.Twins.{next_hart, twins, twins_from}
 use Rattle.mx_twin.proofs.TurnRows.{alike-turn, halted-agreed, twins-on, twins-stop}
 
 -- after `made` of so many turns, from f and g to u and v: the answer is that of the turns left, and what is known is so

@@ -1,20 +1,16 @@
 -- Pairs of machines, and agreement by its parts.
-use Rattle.std.proofs.Common.{◌≡◌, ℕ, zero, suc, ◌+◌, ◌-◌, ◌<◌, ◌≤◌, ◌⊎◌, inl, inr, Bool, true, false, not, ◌&&◌, List, [], length, refl, sym, ◌∙◌, ap, subst, arith, lit≤}
-use Rattle.std.specs.Bool.{Decides}
-use Rattle.std.specs.List.{list_any, range_with_len}
+use Rattle.std.proofs.Common.{◌≡◌, ℕ, zero, suc, ◌-◌, ◌<◌, ◌≤◌, ◌⊎◌, inl, inr, ◌&&◌, List, [], length, ◌∙◌, ap, arith, lit≤}
 use Rattle.std.proofs.Math.ListN.{get_or-eq_default}
 use Rattle.std.proofs.lemmas.Bool.{cases_lt}
 use Rattle.std.proofs.lemmas.Bool.Decides.{Decides-and, Decides-like, same_from_decides}
 use Rattle.mx_words.specs.declared.perm.Perm.{Perm}
 use Rattle.mx_words.specs.Newest.{map}
 use Rattle.mx_words.proofs.OverlayLaws.{length-map_of}
-use Rattle.mx_model.specs.Agreement.{flat_agree}
 use Rattle.mx_model.specs.Reads.{flat_reads, map_in}
 use Rattle.mx_model.specs.State.{Flat, hart_at}
 use Rattle.mx_model.specs.Valid.{IsModule, IsValid}
-use Rattle.mx_touched.specs.Pairs.{ArePair, IsSound, fails, flat_agrees, is_compared}
-use Rattle.mx_touched.specs.Rest.{AreSameHarts}
-use Rattle.mx_touched.specs.Views.{AreSameViews, same_hart, same_views}
+use Rattle.mx_touched.specs.Pairs.{ArePair, IsSound, flat_agrees}
+use Rattle.mx_touched.specs.Views.{same_hart, same_views}
 use Rattle.mx_touched.proofs.Decide.{decides-hart, views-decides}
 use Rattle.mx_touched.proofs.Pairs.{agrees-is, fit}
 use Rattle.mx_twin.specs.Turns.{AreAlike}

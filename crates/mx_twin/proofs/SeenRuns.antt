@@ -1,20 +1,19 @@
 -- Words that a domain sees alike, from run to run.
-use Rattle.std.proofs.Common.{◌≡◌, ◌≢◌, ℕ, zero, suc, ◌+◌, ◌-◌, ◌*◌, ◌/◌, ◌%◌, ◌<◌, ◌≤◌, ◌⊎◌, inl, inr, Bool, true, false, not, ◌==◌, ◌&&◌, ◌||◌, nat_eq, List, [], ◌∷◌, length, get_or, take, drop, slice_range, refl, sym, ◌∙◌, ap, subst, arith, eq-eqb, lit<, get_or-take, get_or-drop, length-take, length-drop, ext_get_or}
-use Rattle.std.specs.Bool.{Decides}
+use Rattle.std.proofs.Common.{◌≡◌, ℕ, zero, suc, ◌+◌, ◌-◌, ◌*◌, ◌/◌, ◌%◌, ◌<◌, ◌≤◌, ◌⊎◌, inl, inr, Bool, true, false, not, ◌==◌, ◌&&◌, ◌||◌, nat_eq, List, length, get_or, drop, slice_range, refl, sym, ◌∙◌, ap, arith, eq-eqb, lit<, get_or-take, get_or-drop, length-take, length-drop, ext_get_or}
 use Rattle.std.specs.Cmp.Lexicographic.{bytes_decides, pointwise}
 use Rattle.std.specs.List.{list_all, range_with_len}
-use Rattle.std.proofs.lemmas.Bool.{and_from, and_parts, cases_lt, false_from_ne_true, or_left, or_right, eqb-true}
+use Rattle.std.proofs.lemmas.Bool.{and_from, and_parts, cases_lt, false_from_ne_true, eqb-true}
 use Rattle.std.proofs.lemmas.Bool.Decides.{same_from_decides}
 use Rattle.mx_words.specs.declared.perm.Perm.{Perm}
 use Rattle.mx_words.specs.declared.perm.Span.{Span}
 use Rattle.mx_words.specs.declared.perm.Access.TheVariants as A
-use Rattle.mx_words.specs.Rights.{allows, number, same}
+use Rattle.mx_words.specs.Rights.{allows, same}
 use Rattle.mx_words.proofs.RangeTests.{all_pass, each_passes}
 use Rattle.mx_words.proofs.ReachLaws.{IsUniformRound}
 use Rattle.mx_machine.proofs.MapRuns.{walk_round}
 use Rattle.mx_model.specs.Reads.{flat_reads, map_in}
 use Rattle.mx_model.specs.State.{Core, Flat}
-use Rattle.mx_laws.specs.Comparison.{same_if_read, same_right, same_word}
+use Rattle.mx_laws.specs.Comparison.{same_word}
 use Rattle.mx_touched.specs.Views.{sees_same}
 
 -- a test of the numbers of a range, of which a part passes or doesn't

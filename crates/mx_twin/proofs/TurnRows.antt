@@ -1,8 +1,7 @@
 -- Turns of one hart in two machines, and rows of them.
-use Rattle.std.proofs.Common.{◌≡◌, ◌≢◌, ℕ, zero, suc, ◌+◌, ◌-◌, ◌*◌, ◌/◌, ◌%◌, ◌<◌, ◌≤◌, Bool, true, false, length, if◌then◌else◌, refl, sym, ◌∙◌, ap, subst, arith, add-one}
-use Rattle.mx_model.specs.declared.values.TurnKind.{TurnKind}
+use Rattle.std.proofs.Common.{◌≡◌, ℕ, zero, suc, ◌+◌, ◌/◌, ◌%◌, Bool, true, false, if◌then◌else◌, refl, sym, ◌∙◌, ap, subst, arith}
 use Rattle.mx_model.specs.declared.values.TurnKind.TheVariants as T
-use Rattle.mx_model.specs.Agreement.{Nothing, agree, border, standing}
+use Rattle.mx_model.specs.Agreement.{agree, border, standing}
 use Rattle.mx_model.specs.Checks.{is_halted}
 use Rattle.mx_model.specs.Reads.{flat_reads, reads}
 use Rattle.mx_model.specs.Run.{all_halted, flat_kind, flat_turn, kind}

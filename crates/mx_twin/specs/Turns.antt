@@ -3,10 +3,10 @@
 use Rattle.std.specs.Prelude.{◌≡◌, ◌≢◌, ℕ, length}
 use Rattle.mx_model.specs.declared.values.TurnKind.{TurnKind}
 use Rattle.mx_model.specs.declared.values.TurnKind.TheVariants as T
-use Rattle.mx_model.specs.Agreement.{Nothing, agree, border}
+use Rattle.mx_model.specs.Agreement.{Nothing, border}
 use Rattle.mx_model.specs.Reads.{reads}
 use Rattle.mx_model.specs.State.{Flat, State}
-use Rattle.mx_laws.specs.Twins.{IsRunning, MakeOneStore, agree_after}
+use Rattle.mx_laws.specs.Twins.{MakeOneStore, agree_after}
 
 -- two flat states of as many harts, modules and words
 pub record AreAlike (f g : Flat) : Type 0 where

@@ -1,6 +1,6 @@
 use Rattle.std.proofs.Common.{sym, ◌∙◌, arith}
 use Rattle.mx_boot.specs.Machines.{meaning}
-use Rattle.mx_twin.proofs.GateLists.{left-more, left-start, some-below, target-here, target-none}
+use Rattle.mx_twin.proofs.GateLists.{left-more, some-below, target-here, target-none}
 use Rattle.mx_twin.proofs.gates.target.Goals as goal
 
 pub returns-then-is_at : goal.returns-then-is_at

@@ -1,6 +1,5 @@
 use Rattle.std.proofs.Common.{◌/◌, ◌%◌, ℕ, Bool, length, refl, sym, ◌∙◌, subst}
 use Rattle.mx_boot.specs.Machines.{meaning}
-use Rattle.mx_touched.specs.Pairs.{any_compared}
 use Rattle.mx_twin.specs.declared.twin.TwinEnd.{TwinEnd}
 use Rattle.mx_twin.specs.Twins.{IsAtBorder}
 use Rattle.mx_twin.proofs.Going.{IsGoing, going-end, going-halted, going-next, going-start}
