@@ -8,9 +8,8 @@ use Rattle.mx_manifest.specs.declared.parts.ModulePlan.{ModulePlan}
 use Rattle.mx_manifest.specs.Plan.{Said}
 use Rattle.mx_model.specs.Run.{Schedule}
 use Rattle.mx_model.specs.State.{State, Flat, flat}
-use Rattle.mx_snapshot.specs.Kept.{kept_of}
+use Rattle.mx_snapshot.specs.Kept.{IsOfPlan, kept_of}
 use Rattle.mx_turns.specs.Ends.{sinks}
-use Rattle.mx_turns.specs.Runs.{IsOfPlan}
 use Rattle.mx_turns.specs.Running.{IsNew}
 use Rattle.mx_run.specs.declared.booting.Booted.{Booted}
 use Rattle.mx_run.specs.declared.side.Side.{Side}

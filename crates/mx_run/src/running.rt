@@ -4,9 +4,8 @@ ghost use Rattle.std.specs.Prelude.{◌≡◌, ◌<◌, ◌^◌, Some, IfOk, map
 ghost use Rattle.std.specs.Option.{option_copied};
 ghost use Rattle.mx_boot.specs.Machines.{meaning};
 ghost use Rattle.mx_model.specs.State.{State, flat};
-ghost use Rattle.mx_snapshot.specs.Kept.{kept_of};
+ghost use Rattle.mx_snapshot.specs.Kept.{IsOfPlan, kept_of};
 ghost use Rattle.mx_turns.specs.Ends.{Leave, sinks};
-ghost use Rattle.mx_turns.specs.Runs.{IsOfPlan};
 ghost use Rattle.mx_turns.specs.Running.{schedule_of, HasTurns, IsNew};
 ghost use Rattle.mx_run.specs.Asked.{order_of};
 ghost use Rattle.mx_run.specs.Booting.{TakesSchedule, schedule_bytes};
