@@ -7,7 +7,6 @@ use Rattle.mx_words.specs.declared.perm.Perm.TheVariants as P
 use Rattle.mx_words.specs.declared.perm.Span.{Span}
 use Rattle.mx_words.specs.declared.tables.Kind.{Kind}
 use Rattle.mx_words.specs.Caches.{Cache, checked, checked_at, found_in_place, found_kept, with_place_hit}
-use Rattle.mx_words.specs.Ranges.{word_of}
 use Rattle.mx_words.specs.Reach.{span}
 use Rattle.mx_words.specs.Rights.{allows}
 use Rattle.mx_check.specs.Conditions.{IsAtHand}

@@ -1,11 +1,11 @@
-use Rattle.std.proofs.Common.{◌≡◌, length, sym, ap, subst, ◌∙◌, ℕ}
+use Rattle.std.proofs.Common.{length, sym, ap, subst, ◌∙◌}
 use Rattle.std.proofs.lemmas.Bool.{not-true}
 use Rattle.mx_words.specs.declared.perm.Access.TheVariants.{Execute}
 use Rattle.mx_words.specs.Rights.{denies, perm}
 use Rattle.mx_table.specs.Tables.{IsDomain, map_of}
 use Rattle.mx_check.specs.Calls.{Checks}
 use Rattle.mx_check.specs.Conditions.{IsAtHand, MayLook}
-use Rattle.mx_check.specs.Harts.{Kept, hart_at}
+use Rattle.mx_check.specs.Harts.{hart_at}
 use Rattle.mx_check.proofs.HandLaws.{decided-hit, looked-hit, lookups-hit}
 use Rattle.mx_check.proofs.MayLaws.{answer_is, looked-keeps, may_again, word_round}
 use Rattle.mx_check.proofs.checker.Checker.fetch.Goals as goal

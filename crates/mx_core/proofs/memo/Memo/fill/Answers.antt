@@ -1,4 +1,4 @@
-use Rattle.std.proofs.Common.{◌≡◌, length-set, ◌∙◌}
+use Rattle.std.proofs.Common.{length-set, ◌∙◌}
 use Rattle.std.proofs.lemmas.List.Elements.{All-set}
 use Rattle.mx_core.specs.declared.memo.Entry.{Entry}
 use Rattle.mx_core.specs.Memo.{IsDecoded}

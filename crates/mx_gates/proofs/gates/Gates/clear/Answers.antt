@@ -1,7 +1,6 @@
-use Rattle.std.proofs.Common.{◌≡◌, List, ap, refl, sym, subst, ◌∙◌}
+use Rattle.std.proofs.Common.{◌≡◌, ap, sym, ◌∙◌}
 use Rattle.std.specs.Prelude.{Option, option_map}
 use Rattle.mx_model.specs.declared.values.Gate.{Gate}
-use Rattle.mx_model.specs.Gates.{gate_target}
 use Rattle.mx_gates.specs.Index.{place_of}
 use Rattle.mx_gates.proofs.Order.{clear-between}
 use Rattle.mx_gates.proofs.gates.Gates.clear.Goals as goal
