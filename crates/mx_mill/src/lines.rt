@@ -137,7 +137,7 @@ fn summed(machine: &AnyMachine) -> Sums
         lookaside: 0,
         walks: 0,
     };
-    'harts: for hart in 0..machine.harts() {
+    'summing: for hart in 0..machine.harts() {
         let counts = machine.counts(hart);
         sums.sidecar += u128::from(counts.sidecar);
         sums.lookaside += u128::from(counts.lookaside);

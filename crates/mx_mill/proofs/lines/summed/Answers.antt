@@ -15,8 +15,8 @@ range_more a (suc n) m is =
 sum_more : (f : ℕ → ℕ) (h : ℕ) → sum_by f (range_with_len 0 (h + 1)) ≡ sum_by f (range_with_len 0 h) + f h
 sum_more f h = ap (sum_by f) (range_more 0 h h (omega arith)) ∙ sum_by_push f (range_with_len 0 h) h
 
-pub harts-init : goal.harts-init
-harts-init c = record {
+pub summing-init : goal.summing-init
+summing-init c = record {
   sidecar = refl;
   lookaside = refl;
   walks = refl;
@@ -25,15 +25,15 @@ harts-init c = record {
   few_walks = omega arith;
 }
 
-pub harts-preserved : goal.harts-preserved
-harts-preserved c =
+pub summing-preserved : goal.summing-preserved
+summing-preserved c =
     let core = (meaning c.args.machine.now).core in
-    let i = c.harts.invariant in
+    let i = c.summing.invariant in
     let counts = c.counts-counts.ensures in
     record {
-      sidecar = omega (arith, i.sidecar, counts.sidecar, sum_more (λ h. (cache_at core h).sidecar) c.harts.hart);
-      lookaside = omega (arith, i.lookaside, counts.lookaside, sum_more (λ h. (cache_at core h).lookaside) c.harts.hart);
-      walks = omega (arith, i.walks, counts.walks, sum_more (λ h. (cache_at core h).walks) c.harts.hart);
+      sidecar = omega (arith, i.sidecar, counts.sidecar, sum_more (λ h. (cache_at core h).sidecar) c.summing.hart);
+      lookaside = omega (arith, i.lookaside, counts.lookaside, sum_more (λ h. (cache_at core h).lookaside) c.summing.hart);
+      walks = omega (arith, i.walks, counts.walks, sum_more (λ h. (cache_at core h).walks) c.summing.hart);
       few_sidecar = omega (arith, i.few_sidecar);
       few_lookaside = omega (arith, i.few_lookaside);
       few_walks = omega (arith, i.few_walks);

@@ -4,8 +4,8 @@ use Rattle.mx_boot.specs.Machines.{meaning}
 use Rattle.mx_model.specs.State.{cache_at}
 use Rattle.mx_mill.proofs.lines.summed.Given as goal
 
-abbrev pub invariant-harts : goal.invariant-harts
-invariant-harts l = record {
+abbrev pub invariant-summing : goal.invariant-summing
+invariant-summing l = record {
   sidecar : l.sums.sidecar ≡ sum_by (λ h. (cache_at (meaning l.machine).core h).sidecar) (range_with_len 0 l.hart);
   lookaside : l.sums.lookaside ≡ sum_by (λ h. (cache_at (meaning l.machine).core h).lookaside) (range_with_len 0 l.hart);
   walks : l.sums.walks ≡ sum_by (λ h. (cache_at (meaning l.machine).core h).walks) (range_with_len 0 l.hart);
