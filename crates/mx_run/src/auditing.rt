@@ -10,7 +10,7 @@ ghost use Rattle.mx_turns.specs.Ends.{sinks};
 ghost use Rattle.mx_run.specs.Commands.{audited, next};
 ghost use Rattle.mx_run.specs.Next.{reported};
 ghost use Rattle.mx_run.specs.Top.{Continues, Ends, EndsOrWants};
-ghost use Rattle.mx_run.specs.Words.{Audit};
+ghost use Rattle.mx_run.specs.Words.{Audit as AuditRequest};
 
 use crate::booting::{Booted, take_boot};
 use crate::running::{keep, names};
@@ -31,7 +31,7 @@ pub(crate) fn audit_manifest<S: Store, R: Sink>(
     report: &mut R,
 ) -> Status
     ensures { (console dump : SinkState) →
-        Continues (next (Some (Audit name.now))) S.gives store.old store.new
+        Continues (next (Some (AuditRequest name.now))) S.gives store.old store.new
         (sinks console (R.state report.old) dump) (sinks console (R.state report.new) dump) result }
 {
     match take_boot(alloc, Side::First, name, store, report) {

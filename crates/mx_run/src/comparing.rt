@@ -1,15 +1,19 @@
 //! The command `twin`: two manifests boot, and their machines make the same turns side by side.
 
-ghost use Rattle.std.specs.Prelude.{◌≡◌, ◌<◌, ◌^◌, Some};
+ghost use Rattle.std.specs.Prelude.{◌≡◌, ◌<◌, ◌≤◌, ◌^◌, true, false, length, Some, None, IfSome};
 ghost use Rattle.mx_boot.specs.Machines.{meaning};
 ghost use Rattle.mx_io.specs.Sink.{SinkState};
 ghost use Rattle.mx_model.specs.State.{State, flat};
+ghost use Rattle.mx_model.specs.Valid.{IsModule};
 ghost use Rattle.mx_turns.specs.Ends.{sinks};
+ghost use Rattle.mx_twin.specs.Lines.{twin_line};
 ghost use Rattle.mx_twin.specs.Turns.{AreAlike};
+ghost use Rattle.mx_twin.specs.Twins.{twins};
 ghost use Rattle.mx_run.specs.Asked.{pair_asked};
 ghost use Rattle.mx_run.specs.Booting.{IsOfSize};
 ghost use Rattle.mx_run.specs.Commands.{after_first, next};
 ghost use Rattle.mx_run.specs.Compared.{alike, compared, first_unlike, is_domain};
+ghost use Rattle.mx_run.specs.Next.{reported};
 ghost use Rattle.mx_run.specs.Top.{Continues, Ends};
 ghost use Rattle.mx_run.specs.Words.{Twin};
 
@@ -105,19 +109,48 @@ fn compare_alike<R: Sink>(
         (console dump : SinkState) → Ends (alike (pair_asked pair.now) plan.now s t)
         (sinks console (R.state report.old) dump) (sinks console (R.state report.new) dump) result }
 {
-    if !is_domain(plan, pair.domain) {
-        return refuse(report, "", Status::NoDomain);
+    match domain_of(plan, pair.domain) {
+        Some(domain) => watch(machine, twin, domain, plan.quantum(), pair.steps, report),
+        None => refuse(report, "", Status::NoDomain),
     }
-    let end = run_twin(
-        machine,
-        twin,
-        pair.domain as u32,
-        plan.quantum(),
-        pair.steps,
-    );
-    match twin_line(report, pair.steps, end) {
+}
+
+// Makes the turns of two machines side by side, and writes where a domain first sees a difference.
+fn watch<R: Sink>(
+    machine: &mut AnyMachine,
+    twin: &mut AnyMachine,
+    domain: u32,
+    quantum: u32,
+    steps: u64,
+    report: &mut R,
+) -> Status
+    requires alike { AreAlike (meaning machine.old) (meaning twin.old) }
+    requires domain { IsModule (length (meaning machine.old).core.modules) domain }
+    requires quantum { 1 ≤ quantum }
+    requires few { steps < 10 ^ 10 }
+    requires first { (meaning machine.old).core.turns ≡ 0 }
+    requires second { (meaning twin.old).core.turns ≡ 0 }
+    ensures { (console dump : SinkState) → Ends (reported (twin_line steps
+        (twins domain quantum steps (meaning machine.old) (meaning twin.old))))
+        (sinks console (R.state report.old) dump) (sinks console (R.state report.new) dump) result }
+{
+    let end = run_twin(machine, twin, domain, quantum, steps);
+    match twin_line(report, steps, end) {
         Ok(()) => Status::Ran,
         Err(Failed) => Status::ReportFault,
+    }
+}
+
+// The domain of a module that has this number.
+fn domain_of(plan: &Plan, number: u64) -> Option<u32>
+    ensures none { result ≡ None → is_domain plan.now number ≡ false }
+    ensures some { IfSome result (λ d. (d ≡ number) × (is_domain plan.now number ≡ true)
+        × IsModule (length plan.now.modules) d) }
+{
+    if number >= 1 && number <= plan.modules() as u64 {
+        Some(number as u32)
+    } else {
+        None
     }
 }
 
@@ -136,11 +169,4 @@ fn first_unlike(a: &Plan, b: &Plan) -> Option<Key>
     } else {
         None
     }
-}
-
-// Whether a number is that of a module's domain.
-fn is_domain(plan: &Plan, domain: u64) -> bool
-    ensures { result ≡ is_domain plan.now domain }
-{
-    domain >= 1 && domain <= plan.modules() as u64
 }
