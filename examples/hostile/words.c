@@ -15,7 +15,7 @@ static char long_name[4][70000];
 
 /* Words out of which command lines are made. Names of files stand for what is there, and for what isn't. */
 static const char *const pieces[] = {
-    "run", "trace", "asm", "run", "trace", "asm", "first.toml", "packets.toml", "leaves.s", "order.bin",
+    "run", "trace", "asm", "run", "trace", "audit", "twin", "mill", "first.toml", "packets.toml", "leaves.s", "order.bin",
     "first.toml", "absent", ".", "..", "/", "/dev/null", "/dev/full", "", "-", "--", "-d", "-first.toml", "--dump",
     "--tables", "--counts", "--schedule", "--from", "--save", "--dump=1", "--schedule=order.bin", "--Dump",
     "--dump ", " --dump", "help", "--help", "--version", "0", "1", "7", "300", "0000000300", "00000000300", "3 ",
@@ -44,7 +44,7 @@ static void add(char *word) {
 }
 
 static void add_options(int is_trace) {
-    static const char *const flags[] = {"--dump", "--tables", "--counts"};
+    const char *const flags[] = {below(2) ? "--dump" : "--save", "--tables", "--counts"};
     for (size_t first = below(3), i = 0; i < 3; i++)
         if (!is_trace && below(2)) add(text(flags[(first + i) % 3]));
     if (below(3) == 0) add(text("--schedule")), add(text("order.bin"));
@@ -53,13 +53,31 @@ static void add_options(int is_trace) {
 
 /* A command line that has a meaning. */
 static void plain(void) {
-    size_t command = below(3);
+    size_t command = below(6);
     if (command == 2) {
         add(text("asm"));
         add(text("leaves.s"));
         return;
     }
-    add(text(command ? "trace" : "run"));
+    if (command == 3) {
+        add(text("audit"));
+        add(text("packets.toml"));
+        return;
+    }
+    if (command == 4) {
+        add(text("twin"));
+        add(text("first.toml"));
+        add(text(below(2) ? "first.toml" : "packets.toml"));
+        add(text(below(2) ? "1" : "300"));
+        add(text("0000000060"));
+        return;
+    }
+    if (command == 5 && below(8) == 0) {
+        add(text("mill"));
+        add(text(below(2) ? "7" : "0000000300"));
+        return;
+    }
+    add(text(command == 1 ? "trace" : "run"));
     add(text(below(4) ? "first.toml" : "packets.toml"));
     add(text(below(2) ? "0000000060" : "7"));
     add_options(command == 1);
@@ -115,8 +133,8 @@ static int is_name(const char *word) {
     return is_utf8(word) && strlen(word) >= 1 && strlen(word) <= 255 && word[0] != '-';
 }
 
-/* The commands, with the kinds of their operands, n for a name and # for a number, and their options with the kinds of
- * theirs. */
+/* The commands, with the kinds of their operands, n for a name, # for a number and k for one of at most 2^31 - 1, and
+ * their options with the kinds of theirs. */
 struct option {
     const char *name;
     char operand;
@@ -125,24 +143,34 @@ static const struct command {
     const char *name, *operands;
     struct option options[6];
 } commands[] = {
-    {"run", "n#", {{"--schedule", 'n'}, {"--dump", 0}, {"--tables", 0}, {"--counts", 0}}},
+    {"run", "n#", {{"--schedule", 'n'}, {"--dump", 0}, {"--save", 0}, {"--tables", 0}, {"--counts", 0}}},
     {"trace", "n#", {{"--schedule", 'n'}, {"--from", '#'}}},
     {"asm", "n", {{NULL, 0}}},
+    {"audit", "n", {{NULL, 0}}},
+    {"twin", "nn##", {{NULL, 0}}},
+    {"mill", "k", {{NULL, 0}}},
 };
 
 static int is_operand(size_t at, char kind) {
-    return at < many && (kind == 'n' ? is_name(list[at]) : is_number(list[at]));
+    if (at >= many) return 0;
+    if (kind == 'n') return is_name(list[at]);
+    return is_number(list[at]) && (kind == '#' || strtoull(list[at], NULL, 10) <= 2147483647);
 }
 
-/* Options from a place on, each at most once. */
+/* Options from a place on, each at most once, and one of --dump and --save at most. */
 static int are_options(const struct command *command, size_t at) {
     unsigned seen = 0;
+    int dumps = 0;
     while (at < many) {
         const struct option *option = command->options;
         while (option->name && strcmp(option->name, list[at]) != 0) option++;
         unsigned bit = 1u << (option - command->options);
         if (!option->name || seen & bit) return 0;
         seen |= bit;
+        if (strcmp(list[at], "--dump") == 0 || strcmp(list[at], "--save") == 0) {
+            if (dumps) return 0;
+            dumps = 1;
+        }
         at++;
         if (option->operand && !is_operand(at++, option->operand)) return 0;
     }
