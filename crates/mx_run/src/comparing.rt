@@ -70,7 +70,7 @@ fn compare_with<S: Store, R: Sink>(
     }
 }
 
-// Compares two machines at boot, or refuses plans that differ.
+// Compares two machines at boot, which end then.
 fn compare_booted<R: Sink>(pair: &Pair<'_>, first: Booted, second: Booted, report: &mut R) -> Status
     requires few { pair.now.steps < 10 ^ 10 }
     requires size { IsOfSize first.plan (meaning first.machine) }
@@ -84,13 +84,32 @@ fn compare_booted<R: Sink>(pair: &Pair<'_>, first: Booted, second: Booted, repor
         plan: other,
         machine: mut twin,
     } = second;
-    let status = match first_unlike(&plan, &other) {
-        Some(key) => refuse(report, "", Status::Unlike(key)),
-        None => compare_alike(pair, &plan, &mut machine, &mut twin, report),
-    };
+    let status = compare_plans(pair, &plan, &other, &mut machine, &mut twin, report);
     machine.end();
     twin.end();
     status
+}
+
+// Compares two machines at boot, or refuses plans that differ.
+fn compare_plans<R: Sink>(
+    pair: &Pair<'_>,
+    plan: &Plan,
+    other: &Plan,
+    machine: &mut AnyMachine,
+    twin: &mut AnyMachine,
+    report: &mut R,
+) -> Status
+    requires few { pair.now.steps < 10 ^ 10 }
+    requires size { IsOfSize plan.now (meaning machine.old) }
+    requires second { IsOfSize other.now (meaning twin.old) }
+    ensures { (s t : State) → meaning machine.old ≡ flat s → meaning twin.old ≡ flat t →
+        (console dump : SinkState) → Ends (compared (pair_asked pair.now) plan.now s other.now t)
+        (sinks console (R.state report.old) dump) (sinks console (R.state report.new) dump) result }
+{
+    match first_unlike(plan, other) {
+        Some(key) => refuse(report, "", Status::Unlike(key)),
+        None => compare_alike(pair, plan, machine, twin, report),
+    }
 }
 
 // Compares two machines at boot whose plans are alike, where the domain is one of theirs.

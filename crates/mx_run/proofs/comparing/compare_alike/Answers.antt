@@ -1,4 +1,4 @@
-use Rattle.std.proofs.Common.{Bool, subst, sym}
+use Rattle.std.proofs.Common.{Bool, refl, subst, sym}
 use Rattle.mx_turns.specs.Ends.{sinks}
 use Rattle.mx_run.specs.Asked.{pair_asked}
 use Rattle.mx_run.specs.Compared.{alike_by}
@@ -20,4 +20,4 @@ returns-in-None g c =
     subst
     (λ (b : Bool). Ends (alike_by b (pair_asked c.args.pair.now) c.args.plan.now s t) (sinks console (g.R.Sink.state c.args.report.now) dump)
     (sinks console (g.R.Sink.state c.refuse.new.report) dump) c.refuse.result)
-    (sym c.in-None.ensures.none) (c.refuse.ensures console dump)
+    (sym (c.in-None.ensures.none refl)) (c.refuse.ensures console dump)
