@@ -144,13 +144,7 @@ fn reported(
     match booted(
         alloc,
         text,
-        &[
-            File::None,
-            File::None,
-            File::None,
-            File::None,
-            File::None,
-        ],
+        &[File::None, File::None, File::None, File::None, File::None],
     ) {
         Ok(mut machine) => {
             let told = report(alloc, &mut machine, turns, names);
@@ -161,13 +155,7 @@ fn reported(
     }
 }
 
-fn is_reported(
-    alloc: Global,
-    text: &str,
-    turns: u32,
-    names: &[&str],
-    want: &str,
-) -> bool {
+fn is_reported(alloc: Global, text: &str, turns: u32, names: &[&str], want: &str) -> bool {
     match reported(alloc, text, turns, names) {
         Ok(Some(sink)) => sink.as_slice() == want.as_bytes(),
         _ => false,
