@@ -12,8 +12,6 @@ mod failing;
 #[cfg(test)]
 mod hostile;
 #[cfg(test)]
-mod mills;
-#[cfg(test)]
 mod one_module;
 #[cfg(test)]
 mod options;
