@@ -14,3 +14,16 @@ pub mod CodecBounds
 pub mod CodecRead
 pub mod CodecFound
 pub mod CodecLaws
+pub mod ValidRuns
+pub mod ValidLists
+pub mod ValidHarts
+pub mod ValidState
+pub mod ValidKept
+pub mod ValidGoes
+pub mod ValidMay
+pub mod ValidAgain
+pub mod ValidBack
+pub mod GivenBack
+pub mod ResumedRuns
+pub mod SavedFits
+pub mod SavedStates

@@ -7,3 +7,4 @@ pub mod Rules
 pub mod Fields
 pub mod Fits
 pub mod Resumed
+pub mod Resuming

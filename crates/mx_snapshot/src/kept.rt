@@ -53,6 +53,32 @@ impl Kept {
         })
     }
 
+    /// A plan of which these are kept, each as in a manifest.
+    pub fn new(kind: Kind, limit: Need, lookaside: u32, quantum: u32, names: Vec<Text>) -> Kept
+        requires { IsKept (record {
+          kind = kind;
+          limit = limit;
+          lookaside = lookaside;
+          quantum = quantum;
+          names = names.items;
+        }) }
+        ensures { result ≡ record {
+          kind = kind;
+          limit = limit;
+          lookaside = lookaside;
+          quantum = quantum;
+          names = names.items;
+        } }
+    {
+        Kept {
+            kind,
+            limit,
+            lookaside,
+            quantum,
+            names,
+        }
+    }
+
     /// The kind of permission tables.
     pub fn kind(&self) -> Kind
         ensures { result ≡ self.now.kind }

@@ -8,11 +8,16 @@ mod kept;
 mod laws;
 mod modules;
 mod numbers;
+mod resuming;
 mod writing;
 
 pub use kept::{Kept, kept_is_in_range};
 pub use laws::{
     machines_are_of_their_plan, run_from_silence, same_after_a_run, same_after_a_turn,
-    taken_up_after_a_run,
+    snapshots_are_read_back, taken_up_after_a_run,
+};
+pub use resuming::{
+    owners_stay_few, resumed_runs, rows_are_maps, saved_states_are_valid,
+    snapshots_are_stored_again, snapshots_are_valid, snapshots_go_on, states_are_given_back,
 };
 pub use writing::{ram_bytes, write_snapshot};
