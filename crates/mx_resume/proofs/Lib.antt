@@ -1,0 +1,13 @@
+pub mod Chains
+pub mod Lists
+pub mod Places
+pub mod NameText
+pub mod RegisterSets
+pub mod Calls
+pub mod AddedModules
+pub mod Blocks
+pub mod ModuleFields
+pub mod Going
+pub mod Owning
+pub mod AllFields
+pub mod Whole

@@ -1,0 +1,5 @@
+pub mod Snapshot
+pub mod Taking
+pub mod Extents
+pub mod Parts
+pub mod Goes
