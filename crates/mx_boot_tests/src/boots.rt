@@ -6,10 +6,11 @@ use mx_heap::Block;
 use mx_machine::{HartStatus, HartView, StackArea};
 use mx_manifest::read_manifest;
 use mx_model::{Events, TurnKind};
-use mx_words::Perm;
+use mx_words::{Blob, Perm};
 use std::alloc::Global;
 
 mod audits;
+mod packets;
 mod refusals;
 mod standing;
 mod whole;
@@ -26,11 +27,11 @@ words = [0x00100893, 0x00500513, 0x00000073]
 /// A hart in its module.
 pub(crate) const IN_M: &str = "[[hart]]\nmodule = \"m\"\n";
 
-/// The boot of a manifest's text with these files; `NoMemory` also where it has no plan.
-pub(crate) fn booted(
+/// The boot of a manifest's text with these images; `NoMemory` also where it has no plan.
+pub(crate) fn booted_over(
     alloc: Global,
     text: &str,
-    images: &[File],
+    images: &[Blob],
 ) -> Result<AnyMachine, BootRefused> {
     let Ok(table) = toml::table_from_str(alloc, text) else {
         return Err(BootRefused::NoMemory);
@@ -38,8 +39,17 @@ pub(crate) fn booted(
     let Ok(plan) = read_manifest(alloc, &table) else {
         return Err(BootRefused::NoMemory);
     };
+    boot(alloc, &plan, images)
+}
+
+/// The same with these files.
+pub(crate) fn booted(
+    alloc: Global,
+    text: &str,
+    images: &[File],
+) -> Result<AnyMachine, BootRefused> {
     match blobs_of(alloc, images) {
-        Ok(blobs) => boot(alloc, &plan, blobs.as_slice()),
+        Ok(blobs) => booted_over(alloc, text, blobs.as_slice()),
         Err(_) => Err(BootRefused::NoMemory),
     }
 }

@@ -14,22 +14,28 @@ use Rattle.mx_manifest.specs.declared.fault.Key.{Key}
 use Rattle.mx_manifest.specs.declared.parts.ModulePlan.{ModulePlan}
 use Rattle.mx_manifest.specs.Plan.{Said}
 use Rattle.mx_boot.specs.Boot.{Refusal, Faulty, TooFull, boot_of}
-use Rattle.mx_snapshot.specs.Kept.{kept_of}
+use Rattle.mx_snapshot.specs.Kept.{KeptPlan, kept_of}
+use Rattle.mx_snapshot.specs.Resumed.{plan_of, state_of}
+use Rattle.mx_snapshot.specs.Stored.{Stored}
+use Rattle.mx_resume.specs.Snapshot.{Unread, FaultAt, NeedsMore, snapshot_of}
 use Rattle.mx_run.specs.declared.side.Side.{Side}
 use Rattle.mx_run.specs.declared.side.Side.TheVariants.{First, Second}
 use Rattle.mx_run.specs.declared.status.FileRole.{FileRole}
 use Rattle.mx_run.specs.declared.status.Status.{Status}
 use Rattle.mx_run.specs.declared.status.Status.TheVariants.{Ran, Usage, Refused, TablesFull, StoreFault, ShortFile, NoFile, ConsoleFault, ReportFault, DumpFault, WantOfMemory, AsmFault, Unlike, NoDomain, SecondRefused, SecondTablesFull, SnapshotFault}
-use Rattle.mx_run.specs.Words.{Pair, Request, Go, Asm, Audit, Twin, Mill}
+use Rattle.mx_run.specs.Words.{Order, Pair, Request, Go, Asm, Audit, Twin, Mill}
+use Rattle.mx_run.specs.declared.order.Way.{Way}
+use Rattle.mx_run.specs.declared.order.Way.TheVariants as way
 use Rattle.mx_plan.specs.Manifest.{judged}
 use Rattle.mx_run.specs.Finding.{Finding, Absent, Large, Short, Broken, Whole, Finds}
 use Rattle.mx_mill.specs.Mill.{mill_text}
 use Rattle.mx_run.specs.Next.{Outcome, Wanted, Next, Read, End, refusal, reported, lack_of, bytes_of, unless, after_file}
 use Rattle.mx_run.specs.Boots.{Rest, refused_by, after_images, manifest_file, image_file, booted, planned, after_boot}
-use Rattle.mx_run.specs.Commands.{schedule_file, source_file, scheduled, run_of, assembled, audited, after_first, next}
+use Rattle.mx_run.specs.Commands.{schedule_file, source_file, scheduled, run_of, run_from, booted_run, going, assembled, audited, after_first, next}
 use Rattle.mx_run.specs.Compared.{alike, alike_by, compared, unlike}
+use Rattle.mx_run.specs.Resumed.{Onward, unread_by, snapshot_file, resumed, after_snapshot}
 use Rattle.mx_run.specs.Leads.{Leads}
-use Rattle.mx_run.specs.Causes.{LeadsToStatus, FindsAll, Reaches, FindsLast, HasImage, HasImages, HasFault, IsFaulty, IsRefused, IsUnassembled, Compares, IsUnlike, HasNoDomain, Cause}
+use Rattle.mx_run.specs.Causes.{LeadsToStatus, FindsAll, Reaches, FindsLast, HasImage, HasImages, HasFault, IsFaulty, IsRefused, IsUnread, IsUnassembled, Compares, IsUnlike, HasNoDomain, Cause}
 use Rattle.mx_run.proofs.Findings.{finds_decided}
 use Rattle.mx_run.proofs.ImageSteps.{image_step, images_taken}
 use Rattle.mx_run.proofs.Leads.{read_same, read_end}
@@ -88,10 +94,28 @@ module _ (side : Side) (name : List ℕ) (rest : Rest) (each : (plan : Said) (s 
   shape_boot : Shaped (after_boot side name rest)
   shape_boot = shape_file (manifest_file side name) (λ bytes. planned side name rest (judged bytes)) (λ bytes. shape_plan (judged bytes))
 
+module _ (name : List ℕ) (rest : Onward) (each : (kept : KeptPlan) (s : State) → Shaped (rest kept s)) where
+  shape_stored : (stored : Result Stored Unread) → Shaped (resumed name rest stored)
+  shape_stored (Ok stored) = each (plan_of stored) (state_of stored)
+  shape_stored (Err why) = shape_end (refusal name (unread_by why))
+
+  shape_snapshot : Shaped (after_snapshot name rest)
+  shape_snapshot = shape_file (snapshot_file name) (λ bytes. resumed name rest (snapshot_of bytes)) (λ bytes. shape_stored (snapshot_of bytes))
+
+shape_from : (o : Order) (kept : KeptPlan) (s : State) → Shaped (run_from o kept s)
+shape_from o kept s = shape_run kept.quantum (run_of o kept s) o.schedule
+
+shape_booted : (o : Order) → Shaped (booted_run o)
+shape_booted o = shape_boot First o.file (λ plan s. run_from o (kept_of plan) s) (λ plan s. shape_from o (kept_of plan) s)
+
+shape_way : (o : Order) (w : Way) → Shaped (going o w)
+shape_way o way.Run = shape_booted o
+shape_way o way.Resume = shape_snapshot o.file (run_from o) (shape_from o)
+shape_way o way.Trace = shape_booted o
+
 shape_request : (asked : Option Request) → Shaped (next asked)
 shape_request None = shape_end (refusal [] Usage)
-shape_request (Some (Go o)) =
-    shape_boot First o.file (λ plan s. scheduled plan.quantum (run_of o (kept_of plan) s) o.schedule) (λ plan s. shape_run plan.quantum (run_of o (kept_of plan) s) o.schedule)
+shape_request (Some (Go o)) = shape_way o o.way
 shape_request (Some (Asm source)) = shape_file (source_file source) (λ bytes more. End (assembled source bytes)) (λ bytes. shape_end (assembled source bytes))
 shape_request (Some (Mill k)) = shape_end (reported (mill_text k))
 shape_request (Some (Twin p)) =
@@ -132,6 +156,12 @@ module _ (asked : Option Request) (answers : List Answer) where
         | inr h ↦ elim h [ inl k ↦ led_by_fault side fault k | inr k ↦ led_by_boot side (Faulty fault) k ]
       ]
 
+  led_by_unread : (why : Unread) → IsUnread asked answers why → LeadsToStatus asked answers (unread_by why)
+  led_by_unread why c =
+      ended_so (Whole c.3 ∷ []) (refusal c.0.file (unread_by why)) c.4
+      (ap (λ (a : Option Request). next a (Whole c.3 ∷ [])) c.1 ∙ ap (λ (w : Way). going c.0 w (Whole c.3 ∷ [])) c.2
+      ∙ ap (λ (r : Result Stored Unread). resumed c.0.file (run_from c.0) r []) c.5)
+
   led_by_source : (status : Status) → IsUnassembled asked answers status → LeadsToStatus asked answers status
   led_by_source status c =
       subst (LeadsToStatus asked answers) c.4
@@ -169,7 +199,8 @@ module _ (asked : Option Request) (answers : List Answer) where
   caused_status Ran c other = absurd (other refl)
   caused_status Usage c other = (refusal [] Usage, (0, (ap (λ (a : Option Request). next a []) c.0, c.1)), refl)
   caused_status (Refused fault) c other = led_by_refusal First fault c
-  caused_status (TablesFull need limit) c other = led_by_boot First (TooFull need limit) c
+  caused_status (TablesFull need limit) c other =
+      elim c [ inl h ↦ led_by_boot First (TooFull need limit) h | inr h ↦ led_by_unread (NeedsMore need limit) h ]
   caused_status StoreFault c other = led_by_lack c.1.0 Broken StoreFault c.1.2 refl
   caused_status (ShortFile role told got) c other = led_by_lack c.1.0 (Short told got) (ShortFile role told got) c.1.2 (ap (λ (r : FileRole). Some (ShortFile r told got)) c.1.1)
   caused_status (NoFile role) c other = led_by_lack c.0 Absent (NoFile role) c.2 (ap (λ (r : FileRole). Some (NoFile r)) c.1)
@@ -183,7 +214,8 @@ module _ (asked : Option Request) (answers : List Answer) where
   caused_status NoDomain c other = led_by_domain c
   caused_status (SecondRefused fault) c other = led_by_refusal Second fault c
   caused_status (SecondTablesFull need limit) c other = led_by_boot Second (TooFull need limit) c
-  caused_status (SnapshotFault at number) c other = absurd c
+  caused_status (SnapshotFault at number) c other =
+      elim c [ inl h ↦ led_by_lack h.0 Large (SnapshotFault at number) h.2 (ap (λ s. Some s) h.1) | inr h ↦ led_by_unread (FaultAt at number) h ]
 
 -- what is found of a file that is reached, where the step ends
 reached : (others : List Finding) (step : List Finding → Next) (answers before last : List Answer) (found : List Finding) (outcome : Outcome) (file : Wanted) → answers ≡ before ++ last

@@ -12,23 +12,29 @@ use Rattle.mx_manifest.specs.declared.fault.Key.{Key}
 use Rattle.mx_manifest.specs.declared.parts.ModulePlan.{ModulePlan}
 use Rattle.mx_manifest.specs.Plan.{Said}
 use Rattle.mx_boot.specs.Boot.{Refusal, Faulty, TooFull, boot_of}
-use Rattle.mx_snapshot.specs.Kept.{kept_of}
+use Rattle.mx_snapshot.specs.Kept.{KeptPlan, kept_of}
+use Rattle.mx_snapshot.specs.Resumed.{plan_of, state_of}
+use Rattle.mx_snapshot.specs.Stored.{Stored}
+use Rattle.mx_resume.specs.Snapshot.{Unread, FaultAt, NeedsMore, snapshot_of}
 use Rattle.mx_run.specs.declared.side.Side.{Side}
 use Rattle.mx_run.specs.declared.side.Side.TheVariants.{First, Second}
 use Rattle.mx_image.specs.Image.{image_of}
 use Rattle.mx_asm.specs.Denoted.{program_of, first_fault}
 use Rattle.mx_run.specs.declared.status.Status.{Status}
-use Rattle.mx_run.specs.declared.status.Status.TheVariants.{Ran, Usage, StoreFault, ShortFile, NoFile, AsmFault}
-use Rattle.mx_run.specs.Words.{Pair, Request, Go, Asm, Audit, Twin, Mill}
+use Rattle.mx_run.specs.declared.status.Status.TheVariants.{Ran, Usage, StoreFault, ShortFile, NoFile, AsmFault, SnapshotFault}
+use Rattle.mx_run.specs.Words.{Order, Pair, Request, Go, Asm, Audit, Twin, Mill}
+use Rattle.mx_run.specs.declared.order.Way.{Way}
+use Rattle.mx_run.specs.declared.order.Way.TheVariants as way
 use Rattle.mx_plan.specs.Manifest.{judged}
 use Rattle.mx_run.specs.Finding.{Finding, Absent, Large, Short, Broken, Whole, Finds}
 use Rattle.mx_mill.specs.Mill.{mill_text}
 use Rattle.mx_run.specs.Next.{Outcome, Wanted, Next, Read, End, refusal, reported, lack_of, after_file}
 use Rattle.mx_run.specs.Boots.{Rest, refused_by, after_images, manifest_file, image_file, booted, planned, after_boot}
-use Rattle.mx_run.specs.Commands.{schedule_file, source_file, scheduled, run_of, written_image, unless_faulty, assembled_text, assembled, audited, after_first, next}
+use Rattle.mx_run.specs.Commands.{schedule_file, source_file, scheduled, run_of, run_from, booted_run, going, written_image, unless_faulty, assembled_text, assembled, audited, after_first, next}
 use Rattle.mx_run.specs.Compared.{alike, alike_by, compared, first_unlike, is_domain, unlike}
+use Rattle.mx_run.specs.Resumed.{Onward, unread_by, snapshot_file, resumed, after_snapshot}
 use Rattle.mx_run.specs.Leads.{LeadsBy, LeadsTo}
-use Rattle.mx_run.specs.Causes.{LeadsToStatus, FindsAll, FindsLast, HasImage, HasImages, BootsAfter, IsOver, IsFaulty, IsRefused, IsBooted, Compares, Cause}
+use Rattle.mx_run.specs.Causes.{LeadsToStatus, FindsAll, FindsLast, HasImage, HasImages, BootsAfter, IsOver, IsFaulty, IsRefused, IsUnread, IsBooted, Compares, Cause}
 use Rattle.mx_run.proofs.ImageSteps.{image_step, images_taken}
 use Rattle.mx_run.proofs.Leads.{end_same, read_same, read_end}
 use Rattle.mx_run.proofs.Shortfalls.{short_less}
@@ -77,6 +83,7 @@ end_found o answers (x ∷ more) f = absurd (read_end (sym f.3))
 abbrev IsLimit : Wanted → Type 0
 IsLimit file =
     ((side : Side) × (fault : BootFault) × (file.large ≡ refused_by side (Faulty fault))) ⊎ ((line : ℕ) × (number : ℕ) × (file.large ≡ AsmFault line number))
+    ⊎ ((at : ℕ) × (number : ℕ) × (file.large ≡ SnapshotFault at number))
 
 -- the file that is read last isn't whole
 abbrev Lack : (List Finding → Next) → List Answer → Status → Type 0
@@ -246,6 +253,23 @@ module _ (side : Side) (name : List ℕ) (rest : Rest) (own : Own) (each : (plan
   by_boot =
       by_file (manifest_file side name) (λ bytes. planned side name rest (judged bytes)) (λ bytes. OfPlan side own (judged bytes)) (inl (side, _, refl)) (λ bytes. by_plan (judged bytes))
 
+-- how a snapshot is refused, or what follows
+abbrev OfStored : Result Stored Unread → List Finding → Status → Type 0
+OfStored (Ok stored) found status = OfRun found status
+OfStored (Err why) found status = (found ≡ []) × (status ≡ unread_by why)
+
+abbrev OfSnapshot : List Finding → Status → Type 0
+OfSnapshot found status = (bytes : List ℕ) × (others : List Finding) × (found ≡ Whole bytes ∷ others) × OfStored (snapshot_of bytes) others status
+
+module _ (name : List ℕ) (rest : Onward) (each : (kept : KeptPlan) (s : State) → Caused (rest kept s) OfRun) where
+  by_stored : (stored : Result Stored Unread) → Caused (resumed name rest stored) (OfStored stored)
+  by_stored (Ok stored) = each (plan_of stored) (state_of stored)
+  by_stored (Err why) = by_end (refusal name (unread_by why))
+
+  by_snapshot : Caused (after_snapshot name rest) OfSnapshot
+  by_snapshot =
+      by_file (snapshot_file name) (λ bytes. resumed name rest (snapshot_of bytes)) (λ bytes. OfStored (snapshot_of bytes)) (inr (inr (0, 1, refl))) (λ bytes. by_stored (snapshot_of bytes))
+
 abbrev OfSource : List ℕ → List ℕ → List Finding → Status → Type 0
 OfSource source bytes found status = (found ≡ []) × (status ≡ (assembled source bytes).status)
 
@@ -276,9 +300,13 @@ faulty_cause asked answers Second fault c = inr (inl c)
 
 refused_cause : (asked : Option Request) (answers : List Answer) (side : Side) (why : Refusal) → IsRefused asked answers side why → Cause asked answers (refused_by side why)
 refused_cause asked answers First (Faulty fault) c = inr (inr c)
-refused_cause asked answers First (TooFull need limit) c = c
+refused_cause asked answers First (TooFull need limit) c = inl c
 refused_cause asked answers Second (Faulty fault) c = inr (inr c)
 refused_cause asked answers Second (TooFull need limit) c = c
+
+unread_cause : (asked : Option Request) (answers : List Answer) (why : Unread) → IsUnread asked answers why → Cause asked answers (unread_by why)
+unread_cause asked answers (FaultAt at number) c = inr c
+unread_cause asked answers (NeedsMore need limit) c = inr c
 
 module _ (asked : Option Request) (answers : List Answer) where
   -- what was found and the rest of it, where there is no rest
@@ -320,12 +348,22 @@ module _ (asked : Option Request) (answers : List Answer) where
         | inr h ↦ subst (Cause asked answers) (sym (own.1 ∙ h.2)) (inr (source, is, bytes, no_rest [] bytes [] more found same own.0 f, h.2))
       ]
 
+  -- a snapshot that was read whole
+  cause_of_stored : (o : Order) → asked ≡ Some (Go o) → o.way ≡ way.Resume → (bytes : List ℕ) (stored : Result Stored Unread) → snapshot_of bytes ≡ stored → (more found : List Finding)
+      → found ≡ Whole bytes ∷ more → FindsAll (next asked) answers found → (status : Status) → OfStored stored more status → Cause asked answers status
+  cause_of_stored o is resumes bytes (Ok stored) good more found same f status own = subst (Cause asked answers) (sym own) tt
+  cause_of_stored o is resumes bytes (Err why) bad more found same f status own =
+      subst (Cause asked answers) (sym own.1) (unread_cause asked answers why (o, is, resumes, bytes, no_rest [] bytes [] more found same own.0 f, bad))
+
   cause_of_lack : (file : Wanted) (found : Finding) (status : Status) → FindsLast (next asked) answers file found → IsLimit file → lack_of file found ≡ Some status → Cause asked answers status
   cause_of_lack file Absent status last limit lack = subst (Cause asked answers) (same_Some (NoFile file.role) status lack) (file, refl, last)
   cause_of_lack file Large status last limit lack =
       elim limit [
         | inl h ↦ subst (Cause asked answers) (sym h.2 ∙ same_Some file.large status lack) (over_cause asked answers h.0 h.1 (file, h.2, last))
-        | inr h ↦ subst (Cause asked answers) (sym h.2 ∙ same_Some file.large status lack) (inl (file, h.2, last))
+        | inr h ↦ elim h [
+          | inl k ↦ subst (Cause asked answers) (sym k.2 ∙ same_Some file.large status lack) (inl (file, k.2, last))
+          | inr k ↦ subst (Cause asked answers) (sym k.2 ∙ same_Some file.large status lack) (inl (file, k.2, last))
+        ]
       ]
   cause_of_lack file (Short told got) status last limit lack =
       subst (Cause asked answers) (same_Some (ShortFile file.role told got) status lack) (short_less file.most file.name last.0 told got last.2, (file, refl, last))
@@ -371,10 +409,27 @@ module _ (asked : Option Request) (answers : List Answer) (p : Pair) where
       (first_unlike plan other) refl (is_domain plan p.domain) refl status2 own.1)
       more found same f status o
 
+-- how a run of each way ends
+abbrev OfWay : Way → List Finding → Status → Type 0
+OfWay way.Run found status = OfBoot First (λ plan s. OfRun) found status
+OfWay way.Resume found status = OfSnapshot found status
+OfWay way.Trace found status = OfBoot First (λ plan s. OfRun) found status
+
+by_from : (o : Order) (kept : KeptPlan) (s : State) → Caused (run_from o kept s) OfRun
+by_from o kept s = by_run kept.quantum (run_of o kept s) (λ schedule. refl) o.schedule
+
+by_booted : (o : Order) → Caused (booted_run o) (OfBoot First (λ plan s. OfRun))
+by_booted o = by_boot First o.file (λ plan s. run_from o (kept_of plan) s) (λ plan s. OfRun) (λ plan s. by_from o (kept_of plan) s)
+
+by_way : (o : Order) (w : Way) → Caused (going o w) (OfWay w)
+by_way o way.Run = by_booted o
+by_way o way.Resume = by_snapshot o.file (run_from o) (by_from o)
+by_way o way.Trace = by_booted o
+
 -- where what is asked ends, the last file isn't whole, or what was found says how
 abbrev OfRequest : Option Request → List Finding → Status → Type 0
 OfRequest None found status = (found ≡ []) × (status ≡ Usage)
-OfRequest (Some (Go o)) found status = OfBoot First (λ plan s. OfRun) found status
+OfRequest (Some (Go o)) found status = OfWay o.way found status
 OfRequest (Some (Mill k)) found status = status ≡ Ran
 OfRequest (Some (Twin p)) found status = OfBoot First (λ plan s. OfBoot Second (OfPair p plan s)) found status
 OfRequest (Some (Audit name)) found status = OfBoot First (λ plan s. OfRun) found status
@@ -382,11 +437,9 @@ OfRequest (Some (Asm source)) found status = (bytes : List ℕ) × (others : Lis
 
 by_request : (asked : Option Request) → Caused (next asked) (OfRequest asked)
 by_request None = by_end (refusal [] Usage)
-by_request (Some (Go o)) =
-    by_boot First o.file (λ plan s. scheduled plan.quantum (run_of o (kept_of plan) s) o.schedule) (λ plan s. OfRun)
-    (λ plan s. by_run plan.quantum (run_of o (kept_of plan) s) (λ schedule. refl) o.schedule)
+by_request (Some (Go o)) = by_way o o.way
 by_request (Some (Asm source)) =
-    by_file (source_file source) (λ bytes more. End (assembled source bytes)) (OfSource source) (inr (0, 11, refl)) (λ bytes. by_end (assembled source bytes))
+    by_file (source_file source) (λ bytes more. End (assembled source bytes)) (OfSource source) (inr (inl (0, 11, refl))) (λ bytes. by_end (assembled source bytes))
 by_request (Some (Mill k)) = by_ran (reported (mill_text k)) refl
 by_request (Some (Twin p)) =
     by_boot First p.first (after_first p) (λ plan s. OfBoot Second (OfPair p plan s))
@@ -400,12 +453,19 @@ cause_of_ran asked answers name boots found status f own =
     cause_of_boot asked answers [] First name boots (λ plan s. OfRun)
     (λ plan s bytes files images good has is more found same f status ran. subst (Cause asked answers) (sym ran) tt) found found refl f status own
 
+cause_of_way : (answers : List Answer) (o : Order) (w : Way) → o.way ≡ w → (found : List Finding) (status : Status) → FindsAll (next (Some (Go o))) answers found → OfWay w found status
+    → Cause (Some (Go o)) answers status
+cause_of_way answers o way.Run is found status f own =
+    cause_of_ran (Some (Go o)) answers o.file (record { rest = λ plan s. run_from o (kept_of plan) s; goes = λ more. ap (λ (w : Way). going o w more) is }) found status f own
+cause_of_way answers o way.Resume is found status f own = cause_of_stored (Some (Go o)) answers o refl is own.0 (snapshot_of own.0) refl own.1 found own.2 f status own.3
+cause_of_way answers o way.Trace is found status f own =
+    cause_of_ran (Some (Go o)) answers o.file (record { rest = λ plan s. run_from o (kept_of plan) s; goes = λ more. ap (λ (w : Way). going o w more) is }) found status f own
+
 cause_of_request : (asked : Option Request) (answers : List Answer) (found : List Finding) (status : Status) → FindsAll (next asked) answers found → OfRequest asked found status
     → Cause asked answers status
 cause_of_request None answers found status f own =
     subst (Cause None answers) (sym own.1) (refl, subst (λ (found : List Finding). FindsAll (next None) answers found) own.0 f)
-cause_of_request (Some (Go o)) answers found status f own =
-    cause_of_ran (Some (Go o)) answers o.file (record { rest = λ plan s. scheduled plan.quantum (run_of o (kept_of plan) s) o.schedule; goes = λ more. refl }) found status f own
+cause_of_request (Some (Go o)) answers found status f own = cause_of_way answers o o.way refl found status f own
 cause_of_request (Some (Mill k)) answers found status f own = subst (Cause (Some (Mill k)) answers) (sym own) tt
 cause_of_request (Some (Twin p)) answers found status f own =
     cause_of_boot (Some (Twin p)) answers [] First p.first (record { rest = after_first p; goes = λ more. refl }) (λ plan s. OfBoot Second (OfPair p plan s))

@@ -1,5 +1,5 @@
 -- How a step is followed: by the reading of a file and then by the rest, or by its end.
-use Rattle.std.proofs.Common.{◌≡◌, ℕ, suc, List, [], ◌∷◌, ◌++◌, Some, None, Err, refl, sym, inl, inr}
+use Rattle.std.proofs.Common.{◌≡◌, ℕ, suc, List, [], ◌∷◌, ◌++◌, Some, None, Err, refl, sym, subst, inl, inr}
 use Rattle.std.proofs.lemmas.List.{append-nil}
 use Rattle.mx_io.specs.Answer.{Answer, Talks}
 use Rattle.mx_io.proofs.Talks.{talks-append}
@@ -7,10 +7,11 @@ use Rattle.mx_run.specs.declared.status.Status.{Status}
 use Rattle.mx_run.specs.declared.status.Status.TheVariants.{Usage, WantOfMemory}
 use Rattle.mx_run.specs.declared.reading.ReadFault.{ReadFault}
 use Rattle.mx_run.specs.declared.reading.ReadFault.TheVariants as fault
-use Rattle.mx_run.specs.Words.{Request}
+use Rattle.mx_run.specs.Words.{Order, Request, Go}
+use Rattle.mx_run.specs.declared.order.Way.{Way}
 use Rattle.mx_run.specs.Finding.{Finding, Absent, Large, Short, Broken, Whole, Finds}
 use Rattle.mx_run.specs.Next.{Outcome, Wanted, Next, End, after_file, refusal}
-use Rattle.mx_run.specs.Commands.{next}
+use Rattle.mx_run.specs.Commands.{going, next}
 use Rattle.mx_run.specs.Reading.{Reads, Refuses}
 use Rattle.mx_turns.specs.Ends.{Sinks}
 use Rattle.mx_run.specs.Top.{WritesNothing, Ends, EndsOrWants, Reacts, Continues, Comes}
@@ -49,6 +50,11 @@ module _ {S : Type 0} (gives : S → Answer → S → Type 0) where
   continues_refused file rest s t (fault.Short told got) read refuses = lacking file rest s t (Short told got) _ refl read refuses
   continues_refused file rest s t fault.Broken read refuses = lacking file rest s t Broken _ refl read refuses
   continues_refused file rest s t fault.NoMemory read refuses = (read.0, read.1, inr refuses)
+
+  -- a run of its way was made
+  pub continues_way : (o : Order) (w : Way) → o.way ≡ w → (s t : S) {b n : Sinks} {result : Status} → Continues (going o w) gives s t b n result
+      → Continues (next (Some (Go o))) gives s t b n result
+  continues_way o w is s t {b} {n} {result} c = subst (λ (w : Way). Continues (going o w) gives s t b n result) (sym is) c
 
   -- what was asked was answered
   pub reacts_some : (request : Request) (s t : S) {b n : Sinks} {result : Status} → Continues (next (Some request)) gives s t b n result → Reacts (Some request) gives s t b n result

@@ -1,24 +1,33 @@
 -- Examples of the definitions that compute: words, what is done next, findings and lines of refusals.
-use Rattle.std.proofs.Common.{◌≡◌, [], ◌∷◌, ◌++◌, true, codes, Some, None, refl, inl, inr, arith}
+use Rattle.std.proofs.Common.{◌≡◌, ℕ, ◌+◌, List, [], ◌∷◌, ◌++◌, true, false, codes, Some, None, Ok, Err, refl, inl, inr, arith}
 use Rattle.std.specs.Fmt.{digits}
 use Rattle.mx_io.specs.Answer.{Sized, Gave}
 use Rattle.mx_io.specs.Piece.{shown_name}
 use Rattle.std.specs.Str.{chars}
-use Rattle.mx_run.specs.declared.status.FileRole.TheVariants.{Source}
-use Rattle.mx_run.specs.declared.status.Status.TheVariants.{Usage, ShortFile, AsmFault}
+use Rattle.mx_run.specs.declared.status.FileRole.TheVariants.{Source, Snapshot as SnapshotRole}
+use Rattle.mx_run.specs.declared.status.Status.TheVariants.{Usage, TablesFull, ShortFile, AsmFault, SnapshotFault}
 use Rattle.mx_run.specs.Words.{Go, Asm, Audit, Twin, Mill, plain_order, meaning}
 use Rattle.mx_run.specs.declared.order.Way.TheVariants as way
-use Rattle.mx_run.specs.Finding.{Large, Short, Whole, Finds}
+use Rattle.mx_run.specs.Finding.{Finding, Large, Short, Whole, Finds}
 use Rattle.mx_run.specs.Next.{Read, End, refusal}
 use Rattle.mx_run.specs.Boots.{manifest_file}
-use Rattle.mx_run.specs.Commands.{after_first, next, source_file}
+use Rattle.mx_run.specs.Commands.{after_first, next, run_from, schedule_file, source_file, texts_of}
 use Rattle.mx_run.specs.declared.side.Side.TheVariants.{First, Second}
 use Rattle.mx_manifest.specs.declared.fault.Key.TheVariants as key
 use Rattle.mx_manifest.specs.Plan.{Said}
+use Rattle.mx_model.specs.Run.{ByBytes, run}
 use Rattle.mx_model.specs.State.{State}
+use Rattle.mx_snapshot.specs.Fields.{fields_in, head_in, stored_in}
+use Rattle.mx_snapshot.specs.Kept.{KeptPlan}
+use Rattle.mx_snapshot.specs.Stored.{Stored}
+use Rattle.mx_resume.specs.Snapshot.{NeedsMore, snapshot_of}
+use Rattle.mx_turns.specs.Runs.{ended}
+use Rattle.mx_words.specs.Bytes.{number_at}
+use Rattle.mx_words.specs.declared.tables.Need.{Need}
+use Rattle.mx_run.specs.Resumed.{Onward, resumed}
 use Rattle.mx_turns.specs.declared.task.Dump.TheVariants.{Ram, Snapshot}
 use Rattle.mx_plan.specs.Manifest.{file_fault}
-use Rattle.mx_run.specs.Refusal.{refused_line, fault_text, place_text, detail_text, tables_full_line, short_file_line, no_file_line, asm_fault_line, unlike_line}
+use Rattle.mx_run.specs.Refusal.{refused_line, fault_text, place_text, detail_text, tables_full_line, short_file_line, no_file_line, asm_fault_line, unlike_line, snapshot_fault_line}
 
 -- words with a meaning, and words without
 words_run : meaning (codes "run" ∷ codes "first.toml" ∷ codes "0010" ∷ []) ≡ Some (Go (plain_order way.Run (codes "first.toml") 10))
@@ -68,6 +77,22 @@ words_save_beside_a_dump = refl
 words_save_of_a_trace : meaning (codes "trace" ∷ codes "first.toml" ∷ codes "7" ∷ codes "--save" ∷ []) ≡ None
 words_save_of_a_trace = refl
 
+words_resume : meaning (codes "resume" ∷ codes "memory.bin" ∷ codes "09" ∷ codes "--save" ∷ codes "--tables" ∷ codes "--schedule" ∷ codes "s" ∷ [])
+    ≡ Some (Go (record (plain_order way.Resume (codes "memory.bin") 9) { schedule = Some (codes "s"); dump = Some Snapshot; tables = true }))
+words_resume = refl
+
+words_resume_with_a_dump : meaning (codes "resume" ∷ codes "memory.bin" ∷ codes "9" ∷ codes "--dump" ∷ []) ≡ Some (Go (record (plain_order way.Resume (codes "memory.bin") 9) { dump = Some Ram }))
+words_resume_with_a_dump = refl
+
+words_counts_of_a_snapshot : meaning (codes "resume" ∷ codes "memory.bin" ∷ codes "9" ∷ codes "--counts" ∷ []) ≡ None
+words_counts_of_a_snapshot = refl
+
+words_from_of_a_snapshot : meaning (codes "resume" ∷ codes "memory.bin" ∷ codes "9" ∷ codes "--from" ∷ codes "3" ∷ []) ≡ None
+words_from_of_a_snapshot = refl
+
+words_resume_without_steps : meaning (codes "resume" ∷ codes "memory.bin" ∷ codes "--save" ∷ []) ≡ None
+words_resume_without_steps = refl
+
 words_audit : meaning (codes "audit" ∷ codes "first.toml" ∷ []) ≡ Some (Audit (codes "first.toml"))
 words_audit = refl
 
@@ -103,6 +128,10 @@ next_source = refl
 next_manifest : next (Some (Go (plain_order way.Run (codes "first.toml") 10))) [] ≡ Read (manifest_file First (codes "first.toml"))
 next_manifest = refl
 
+next_snapshot : next (Some (Go (plain_order way.Resume (codes "memory.bin") 9))) []
+    ≡ Read (record { role = SnapshotRole; name = codes "memory.bin"; most = 1073741824; large = SnapshotFault 0 1 })
+next_snapshot = refl
+
 next_second : (plan : Said) (s : State) → after_first (record { first = codes "p"; second = codes "q"; domain = 1; steps = 10 }) plan s [] ≡ Read (manifest_file Second (codes "q"))
 next_second plan s = refl
 
@@ -111,6 +140,36 @@ next_short = refl
 
 next_large : next (Some (Asm (codes "a.s"))) (Large ∷ []) ≡ End (refusal (codes "a.s") (AsmFault 0 11))
 next_large = refl
+
+-- a snapshot: its own file's faults, then its bytes', then the need of its tables, then its schedule
+next_large_snapshot : next (Some (Go (plain_order way.Resume (codes "memory.bin") 9))) (Large ∷ []) ≡ End (refusal (codes "memory.bin") (SnapshotFault 0 1))
+next_large_snapshot = refl
+
+next_short_snapshot : next (Some (Go (plain_order way.Resume (codes "memory.bin") 9))) (Short 10 4 ∷ []) ≡ End (refusal (codes "memory.bin") (ShortFile SnapshotRole 10 4))
+next_short_snapshot = refl
+
+next_cut_snapshot : next (Some (Go (plain_order way.Resume (codes "memory.bin") 9))) (Whole (0x4D ∷ 0x58 ∷ 0x53 ∷ 0x4E ∷ 1 ∷ 0 ∷ 0 ∷ 0 ∷ []) ∷ [])
+    ≡ End (refusal (codes "memory.bin") (SnapshotFault 8 2))
+unfolding snapshot_of stored_in fields_in head_in number_at
+next_cut_snapshot = refl
+
+next_other_file : next (Some (Go (plain_order way.Resume (codes "memory.bin") 9))) (Whole (codes "version = 1") ∷ []) ≡ End (refusal (codes "memory.bin") (SnapshotFault 0 3))
+unfolding snapshot_of stored_in fields_in head_in number_at
+next_other_file = refl
+
+next_full_snapshot : (rest : Onward) (need limit : Need) (found : List Finding) → resumed (codes "memory.bin") rest (Err (NeedsMore need limit)) found
+    ≡ End (refusal (codes "memory.bin") (TablesFull need limit))
+next_full_snapshot rest need limit found = refl
+
+next_schedule_of_a_snapshot : (stored : Stored)
+    → resumed (codes "memory.bin") (run_from (record (plain_order way.Resume (codes "memory.bin") 9) { schedule = Some (codes "s") })) (Ok stored) [] ≡ Read (schedule_file (codes "s"))
+next_schedule_of_a_snapshot stored = refl
+
+-- nine turns are added to those made, which a schedule's bytes count too
+texts_of_a_snapshot : (kept : KeptPlan) (s : State) (bytes : List ℕ)
+    → texts_of (record (plain_order way.Resume (codes "memory.bin") 9) { dump = Some Ram }) way.Resume kept s (ByBytes bytes)
+    ≡ ended kept (record { tables = false; counts = false }) (Some Ram) (s.core.turns + 9) 9 (λ made. run (ByBytes bytes) made s)
+texts_of_a_snapshot kept s bytes = refl
 
 -- a file of three bytes in two parts, and one that ended after two of them
 finds_whole : Finds 9 (codes "f") (Sized (codes "f") (Some (Some 3)) ∷ Gave (codes "f") 0 3 (Some (7 ∷ 8 ∷ [])) ∷ Gave (codes "f") 2 1 (Some (9 ∷ [])) ∷ []) (Whole (7 ∷ 8 ∷ 9 ∷ []))
@@ -177,3 +236,7 @@ short_example = refl
 asm_example : asm_fault_line 2 1 ≡ codes "asm line=2 fault=1\n"
 unfolding asm_fault_line digits
 asm_example = refl
+
+snapshot_example : snapshot_fault_line 65805 5 ≡ codes "snapshot fault=5 at=65805\n"
+unfolding snapshot_fault_line digits
+snapshot_example = refl

@@ -7,18 +7,24 @@ use Rattle.mx_manifest.specs.declared.fault.BootFault.{BootFault}
 use Rattle.mx_manifest.specs.declared.parts.ModulePlan.{ModulePlan}
 use Rattle.mx_manifest.specs.Plan.{Said}
 use Rattle.mx_boot.specs.Boot.{Refusal, Faulty, boot_of}
-use Rattle.mx_snapshot.specs.Kept.{kept_of}
+use Rattle.mx_snapshot.specs.Kept.{KeptPlan, kept_of}
+use Rattle.mx_snapshot.specs.Resumed.{plan_of, state_of}
+use Rattle.mx_snapshot.specs.Stored.{Stored}
+use Rattle.mx_resume.specs.Snapshot.{Unread, snapshot_of}
 use Rattle.mx_run.specs.declared.side.Side.{Side}
 use Rattle.mx_run.specs.declared.side.Side.TheVariants.{First, Second}
 use Rattle.mx_run.specs.declared.status.Status.TheVariants.{Usage, StoreFault, ShortFile, NoFile}
-use Rattle.mx_run.specs.Words.{Request, Go, Asm, Audit, Twin, Mill}
+use Rattle.mx_run.specs.Words.{Order, Request, Go, Asm, Audit, Twin, Mill}
+use Rattle.mx_run.specs.declared.order.Way.{Way}
+use Rattle.mx_run.specs.declared.order.Way.TheVariants as way
 use Rattle.mx_plan.specs.Manifest.{judged}
 use Rattle.mx_run.specs.Finding.{Finding, Absent, Large, Short, Broken, Whole, found_in}
 use Rattle.mx_mill.specs.Mill.{mill_text}
 use Rattle.mx_run.specs.Next.{Outcome, Wanted, Next, End, refusal, reported, after_file}
 use Rattle.mx_run.specs.Boots.{Rest, refused_by, after_images, manifest_file, image_file, booted, planned, after_boot}
-use Rattle.mx_run.specs.Commands.{schedule_file, source_file, scheduled, run_of, assembled, audited, after_first, next}
+use Rattle.mx_run.specs.Commands.{schedule_file, source_file, scheduled, run_of, run_from, booted_run, going, assembled, audited, after_first, next}
 use Rattle.mx_run.specs.Compared.{compared}
+use Rattle.mx_run.specs.Resumed.{Onward, unread_by, snapshot_file, resumed, after_snapshot}
 use Rattle.mx_run.specs.Leads.{LeadsOver, IsOutcome}
 use Rattle.mx_run.proofs.ImageSteps.{image_step}
 
@@ -71,10 +77,29 @@ module _ (files : FileMap) where
     by_boot : HasOutcome (after_boot side name rest)
     by_boot = by_file (manifest_file side name) (λ bytes. planned side name rest (judged bytes)) (λ bytes. by_plan (judged bytes))
 
+  -- a snapshot, where the rest leads to one from every plan and state
+  module _ (name : List ℕ) (rest : Onward) (each : (kept : KeptPlan) (s : State) → HasOutcome (rest kept s)) where
+    by_stored : (stored : Result Stored Unread) → HasOutcome (resumed name rest stored)
+    by_stored (Ok stored) = each (plan_of stored) (state_of stored)
+    by_stored (Err why) = (refusal name (unread_by why), (0, refl))
+
+    by_snapshot : HasOutcome (after_snapshot name rest)
+    by_snapshot = by_file (snapshot_file name) (λ bytes. resumed name rest (snapshot_of bytes)) (λ bytes. by_stored (snapshot_of bytes))
+
+  by_run : (o : Order) (kept : KeptPlan) (s : State) → HasOutcome (run_from o kept s)
+  by_run o kept s = by_schedule kept.quantum (run_of o kept s) o.schedule
+
+  by_booted : (o : Order) → HasOutcome (booted_run o)
+  by_booted o = by_boot First o.file (λ plan s. run_from o (kept_of plan) s) (λ plan s. by_run o (kept_of plan) s)
+
+  by_way : (o : Order) (w : Way) → HasOutcome (going o w)
+  by_way o way.Run = by_booted o
+  by_way o way.Resume = by_snapshot o.file (run_from o) (by_run o)
+  by_way o way.Trace = by_booted o
+
   by_request : (asked : Option Request) → HasOutcome (next asked)
   by_request None = (refusal [] Usage, (0, refl))
-  by_request (Some (Go o)) =
-      by_boot First o.file (λ plan s. scheduled plan.quantum (run_of o (kept_of plan) s) o.schedule) (λ plan s. by_schedule plan.quantum (run_of o (kept_of plan) s) o.schedule)
+  by_request (Some (Go o)) = by_way o o.way
   by_request (Some (Asm source)) =
       by_file (source_file source) (λ bytes more. End (assembled source bytes)) (λ bytes. (assembled source bytes, (0, refl)))
   by_request (Some (Mill k)) = (reported (mill_text k), (0, refl))

@@ -7,6 +7,8 @@ use Rattle.mx_io.specs.Store.{StoreState}
 use Rattle.mx_io.specs.Answer.{Answer, Talks}
 use Rattle.mx_manifest.specs.declared.fault.BootFault.{BootFault}
 use Rattle.mx_manifest.specs.declared.fault.Key.{Key}
+use Rattle.mx_manifest.specs.declared.fault.Key.TheVariants as key
+use Rattle.mx_manifest.specs.declared.fault.Part.TheVariants as part
 use Rattle.mx_manifest.specs.declared.parts.ModulePlan.{ModulePlan}
 use Rattle.mx_manifest.specs.Plan.{Said}
 use Rattle.mx_model.specs.State.{State}
@@ -16,11 +18,13 @@ use Rattle.mx_run.specs.declared.side.Side.TheVariants.{First, Second}
 use Rattle.mx_run.specs.declared.status.FileRole.{FileRole}
 use Rattle.mx_run.specs.declared.status.Status.{Status}
 use Rattle.mx_run.specs.declared.status.Status.TheVariants.{Ran, Usage, Refused, TablesFull, StoreFault, ShortFile, NoFile, ConsoleFault, ReportFault, DumpFault, WantOfMemory, AsmFault, Unlike, NoDomain, SecondRefused, SecondTablesFull, SnapshotFault}
-use Rattle.mx_run.specs.Words.{Pair, Request, Asm, Twin}
+use Rattle.mx_run.specs.Words.{Order, Pair, Request, Go, Asm, Twin}
+use Rattle.mx_run.specs.declared.order.Way.TheVariants.{Resume}
 use Rattle.mx_plan.specs.Manifest.{judged}
+use Rattle.mx_resume.specs.Snapshot.{Unread, FaultAt, NeedsMore, snapshot_of}
 use Rattle.mx_run.specs.Finding.{Finding, Absent, Large, Short, Broken, Whole, Finds}
 use Rattle.mx_run.specs.Next.{Outcome, Wanted, Next, Read}
-use Rattle.mx_run.specs.Boots.{Rest, after_boot, refused_by}
+use Rattle.mx_run.specs.Boots.{Rest, after_boot, refused_by, size_fault}
 use Rattle.mx_run.specs.Commands.{assembled, next}
 use Rattle.mx_run.specs.Compared.{first_unlike, is_domain}
 use Rattle.mx_run.specs.Leads.{Leads}
@@ -109,6 +113,12 @@ IsUnassembled asked answers status =
     × FindsAll (next asked) answers (Whole bytes ∷ [])
     × ((assembled source bytes).status ≡ status)
 
+-- a snapshot is read whole, and this is why nothing goes on from it
+abbrev pub IsUnread : Option Request → List Answer → Unread → Type 0
+IsUnread asked answers why =
+    (o : Order) × (asked ≡ Some (Go o)) × (o.way ≡ Resume) × (bytes : List ℕ)
+    × FindsAll (next asked) answers (Whole bytes ∷ []) × (snapshot_of bytes ≡ Err why)
+
 -- a manifest and its images were read whole, and its plan boots
 pub record IsBooted (bytes : List ℕ) (files : List (List ℕ)) (plan : Said) : Type 0 where
   pub good : judged bytes ≡ Ok plan
@@ -148,6 +158,7 @@ Cause asked answers Ran = ⊤
 Cause asked answers Usage = (asked ≡ None) × (answers ≡ [])
 Cause asked answers (Refused fault) = HasFault asked answers First fault
 Cause asked answers (TablesFull need limit) = IsRefused asked answers First (TooFull need limit)
+    ⊎ IsUnread asked answers (NeedsMore need limit)
 Cause asked answers StoreFault = (role : FileRole) × IsFound asked answers role Broken
 Cause asked answers (ShortFile role told got) =
     (got < told) × IsFound asked answers role (Short told got)
@@ -163,7 +174,8 @@ Cause asked answers NoDomain = HasNoDomain asked answers
 Cause asked answers (SecondRefused fault) = HasFault asked answers Second fault
 Cause asked answers (SecondTablesFull need limit) =
     IsRefused asked answers Second (TooFull need limit)
-Cause asked answers (SnapshotFault at number) = ⊥
+Cause asked answers (SnapshotFault at number) = IsOver asked answers (SnapshotFault at number)
+    ⊎ IsUnread asked answers (FaultAt at number)
 
 -- answers lead to a status only by its cause
 abbrev pub StatusesHaveCauses : Type 0
@@ -174,6 +186,11 @@ StatusesHaveCauses = (asked : Option Request) (answers : List Answer) (status : 
 abbrev pub CausesDecide : Type 0
 CausesDecide = (asked : Option Request) (answers : List Answer) (status : Status) →
     Cause asked answers status → status ≢ Ran → LeadsToStatus asked answers status
+
+-- a run from a snapshot ends with `Refused` only for a schedule over its limit
+abbrev pub LargeSchedulesRefuse : Type 0
+LargeSchedulesRefuse = (o : Order) (answers : List Answer) (fault : BootFault) → o.way ≡ Resume →
+    LeadsToStatus (Some (Go o)) answers (Refused fault) → fault ≡ size_fault part.Schedule 0 key.NoKey
 
 -- where what a store gave leads to `StoreFault` its count rose
 abbrev pub StoreFaultsRise : {S : Type 0} → (S → StoreState) → (S → Answer → S → Type 0) → Type 0

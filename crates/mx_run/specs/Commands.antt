@@ -26,6 +26,7 @@ use Rattle.mx_run.specs.Finding.{Finding}
 use Rattle.mx_run.specs.Next.{Outcome, Wanted, Next, End, after_file, refusal, reported, text_limit, file_limit}
 use Rattle.mx_run.specs.Boots.{size_fault, refused_by, after_boot}
 use Rattle.mx_run.specs.Compared.{compared}
+use Rattle.mx_run.specs.Resumed.{after_snapshot}
 
 -- the schedule of a run, and the source of an image
 abbrev pub schedule_file : List ℕ → Wanted
@@ -57,10 +58,28 @@ options_of o = record { tables = o.tables; counts = o.counts }
 -- the texts of a run by a schedule, from a state
 abbrev pub texts_of : Order → Way → KeptPlan → State → Schedule → Texts
 texts_of o way.Run kept s schedule = ran kept (options_of o) o.dump o.steps schedule s
+texts_of o way.Resume kept s schedule = ran kept (options_of o) o.dump o.steps schedule s
 texts_of o way.Trace kept s schedule = traced (unwrap_or o.from 0) o.steps schedule s
 
 abbrev pub run_of : Order → KeptPlan → State → Schedule → Outcome
 run_of o kept s schedule = record { status = Ran; texts = texts_of o o.way kept s schedule }
+
+-- a run from a state, by the schedule file that is asked or by the plan's quantum
+abbrev pub run_from : Order → KeptPlan → State → List Finding → Next
+run_from o kept s = scheduled kept.quantum (run_of o kept s) o.schedule
+
+-- a manifest boots, or a snapshot is read, and the run follows
+abbrev pub booted_run : Order → List Finding → Next
+booted_run o = after_boot First o.file (λ plan s. run_from o (kept_of plan) s)
+
+abbrev pub resumed_run : Order → List Finding → Next
+resumed_run o = after_snapshot o.file (run_from o)
+
+-- a run of each way
+abbrev pub going : Order → Way → List Finding → Next
+going o way.Run = booted_run o
+going o way.Resume = resumed_run o
+going o way.Trace = booted_run o
 
 -- the bytes of an image go to the console
 abbrev pub written_image : List ℕ → Outcome
@@ -94,8 +113,7 @@ after_first p plan s =
 -- what the program does next, by what the words ask and what was found of the files read so far, the first of them first
 abbrev pub next : Option Request → List Finding → Next
 next None found = End (refusal [] Usage)
-next (Some (Go o)) found = after_boot First o.file
-    (λ plan s. scheduled plan.quantum (run_of o (kept_of plan) s) o.schedule) found
+next (Some (Go o)) found = going o o.way found
 next (Some (Asm source)) found = after_file (source_file source)
     (λ bytes more. End (assembled source bytes)) found
 next (Some (Mill k)) found = End (reported (mill_text k))

@@ -11,6 +11,8 @@ pub mod Program
 pub mod Promise
 pub mod Reading
 pub mod Refusal
+pub mod Resumed
+pub mod Resuming
 pub mod Status
 pub mod Top
 pub mod Words

@@ -72,7 +72,12 @@ unlike_line key = concat (codes "twin unlike key=" ∷ key_text key ∷ codes "\
 unfoldable pub no_domain_line : List ℕ
 no_domain_line = codes "twin no domain\n"
 
--- the line of a status, where it is one that this path gives and that has a line
+-- a snapshot has this first fault, at this place
+unfoldable pub snapshot_fault_line : ℕ → ℕ → List ℕ
+snapshot_fault_line at number =
+    concat (codes "snapshot fault=" ∷ decimal number ∷ codes " at=" ∷ decimal at ∷ codes "\n" ∷ [])
+
+-- the line of a status, where it has one
 abbrev pub line_of : List ℕ → Status → Option (List ℕ)
 line_of name Usage = Some usage_line
 line_of name (Refused fault) = Some (refused_line fault)
@@ -90,4 +95,4 @@ line_of name (Unlike key) = Some (unlike_line key)
 line_of name NoDomain = Some no_domain_line
 line_of name (SecondRefused fault) = Some (refused_line fault)
 line_of name (SecondTablesFull need limit) = Some (tables_full_line need limit)
-line_of name (SnapshotFault at number) = None
+line_of name (SnapshotFault at number) = Some (snapshot_fault_line at number)

@@ -11,8 +11,8 @@ use Rattle.mx_run.specs.declared.order.Flag.TheVariants as flag
 use Rattle.mx_run.specs.declared.order.Way.{Way}
 use Rattle.mx_run.specs.declared.order.Way.TheVariants as way
 
--- what a run is asked: its way; a manifest by its name, for at most so many steps; a schedule by its name; of a trace the first turn
--- that has a line; what goes to the dump; and whether the report has the lines of the tables and of the counts
+-- what a run is asked: its way; a manifest or a snapshot by its name, for at most so many steps; a schedule by its name; of a trace the
+-- first turn that has a line; what goes to the dump; and whether the report has the lines of the tables and of the counts
 pub record Order : Type 0 where
   pub way : Way
   pub file : List ℕ
@@ -71,6 +71,12 @@ has_flag way.Run flag.Dump = true
 has_flag way.Run flag.Save = true
 has_flag way.Run flag.Tables = true
 has_flag way.Run flag.Counts = true
+has_flag way.Resume flag.Schedule = true
+has_flag way.Resume flag.From = false
+has_flag way.Resume flag.Dump = true
+has_flag way.Resume flag.Save = true
+has_flag way.Resume flag.Tables = true
+has_flag way.Resume flag.Counts = false
 has_flag way.Trace flag.Schedule = true
 has_flag way.Trace flag.From = true
 has_flag way.Trace flag.Dump = false
@@ -175,6 +181,7 @@ abbrev pub meaning : List (List ℕ) → Option Request
 meaning [] = None
 meaning (command ∷ operands) =
     if bytes_eq command (codes "run") then go_request way.Run operands
+    else if bytes_eq command (codes "resume") then go_request way.Resume operands
     else if bytes_eq command (codes "trace") then go_request way.Trace operands
     else if bytes_eq command (codes "asm") then option_map Asm (only_name operands)
     else if bytes_eq command (codes "audit") then option_map Audit (only_name operands)

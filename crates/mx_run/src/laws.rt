@@ -1,7 +1,7 @@
 //! Laws of the definitions.
 
 ghost use Rattle.mx_run.specs.Leads.{AnswersDecide, FilesLead, FilesDecide};
-ghost use Rattle.mx_run.specs.Causes.{StatusesHaveCauses, CausesDecide, StoreFaultsRise, NoneIsShort, NoFileIsAbsent, AbsentIsNoFile};
+ghost use Rattle.mx_run.specs.Causes.{StatusesHaveCauses, CausesDecide, LargeSchedulesRefuse, StoreFaultsRise, NoneIsShort, NoFileIsAbsent, AbsentIsNoFile};
 
 use mx_io::Store;
 
@@ -21,6 +21,11 @@ pub fn files_decide()
 pub fn statuses_have_causes()
     ensures only { StatusesHaveCauses }
     ensures exactly { CausesDecide }
+{}
+
+/// A law: a run that goes on from a snapshot ends with `Refused` only for a schedule over its limit, fault 9.
+pub fn large_schedules_refuse()
+    ensures { LargeSchedulesRefuse }
 {}
 
 /// A law, over every store: what it gave leads to `StoreFault` only where its count rose. Where it tells its files, it

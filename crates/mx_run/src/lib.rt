@@ -11,6 +11,7 @@ mod order;
 mod program;
 mod reading;
 mod refusal;
+mod resuming;
 mod running;
 mod side;
 mod status;
@@ -18,7 +19,9 @@ mod top;
 mod wanted;
 mod words;
 
-pub use laws::{answers_decide, files_decide, statuses_have_causes, stores_show_causes};
+pub use laws::{
+    answers_decide, files_decide, large_schedules_refuse, statuses_have_causes, stores_show_causes,
+};
 pub use program::run_program;
 pub use status::{FileRole, Status};
 pub use top::mondrix;

@@ -14,6 +14,8 @@ use mx_turns::Dump;
 pub(crate) enum Way {
     /// With the report of its end.
     Run,
+    /// The same from a snapshot on.
+    Resume,
     /// With a line for each turn.
     Trace,
 }
@@ -40,7 +42,7 @@ pub(crate) enum Flag {
 pub(crate) struct Order<'a> {
     /// How it is made.
     pub way: Way,
-    /// The manifest's name.
+    /// The name of the manifest, or of the snapshot.
     pub file: &'a str,
     /// The most steps to make, at most 9999999999.
     pub steps: u64,
@@ -132,6 +134,10 @@ fn has_flag(way: Way, flag: Flag) -> bool
         Way::Run => match flag {
             Flag::Schedule | Flag::Dump | Flag::Save | Flag::Tables | Flag::Counts => true,
             Flag::From => false,
+        },
+        Way::Resume => match flag {
+            Flag::Schedule | Flag::Dump | Flag::Save | Flag::Tables => true,
+            Flag::From | Flag::Counts => false,
         },
         Way::Trace => match flag {
             Flag::Schedule | Flag::From => true,

@@ -3,7 +3,7 @@
 ghost use Rattle.std.specs.Prelude.{◌≡◌, [], ◌++◌, unwrap_or};
 ghost use Rattle.mx_io.specs.Sink.{SinkState, Puts};
 ghost use Rattle.mx_io.specs.Piece.{piece_text};
-ghost use Rattle.mx_run.specs.Refusal.{line_of, refused_line, place_text, tables_full_line, short_file_line, no_file_line, usage_line, store_fault_line, asm_fault_line, unlike_line, no_domain_line};
+ghost use Rattle.mx_run.specs.Refusal.{line_of, refused_line, place_text, tables_full_line, short_file_line, no_file_line, usage_line, store_fault_line, asm_fault_line, unlike_line, no_domain_line, snapshot_fault_line};
 ghost use Rattle.mx_run.specs.Next.{refusal};
 ghost use Rattle.mx_turns.specs.Ends.{sinks};
 ghost use Rattle.mx_run.specs.Top.{Ends};
@@ -43,6 +43,7 @@ fn put_refusal<R: Sink>(report: &mut R, name: &str, status: &Status) -> Result<(
         Status::AsmFault { line, number } => put_asm_fault(report, line, number),
         Status::Unlike(key) => put_unlike(report, key),
         Status::NoDomain => put_no_domain(report),
+        Status::SnapshotFault { at, number } => put_snapshot_fault(report, at, number),
         _ => put_all(report, b""),
     }
 }
@@ -154,6 +155,23 @@ fn put_no_domain<R: Sink>(report: &mut R) -> Result<(), Failed>
     ensures { Puts (R.state report.old) (R.state report.new) no_domain_line result }
 {
     put_all(report, b"twin no domain\n")
+}
+
+#[tactic(auto, unfolding(crate::specs::Refusal::snapshot_fault_line))]
+fn put_snapshot_fault<R: Sink>(report: &mut R, at: u64, number: u32) -> Result<(), Failed>
+    ensures { Puts (R.state report.old) (R.state report.new)
+        (snapshot_fault_line at number) result }
+{
+    put_line(
+        report,
+        &[
+            Piece::Text("snapshot fault="),
+            Piece::Number(number as u64),
+            Piece::Text(" at="),
+            Piece::Number(at),
+            Piece::Text("\n"),
+        ],
+    )
 }
 
 fn put_refused<R: Sink>(report: &mut R, fault: &BootFault) -> Result<(), Failed>

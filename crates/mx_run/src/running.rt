@@ -1,6 +1,6 @@
-//! The commands `run` and `trace`: a machine boots, makes its turns, and writes its texts.
+//! The commands `run` and `trace`: a machine boots, makes its turns, and writes its texts; and the run that any machine makes.
 
-ghost use Rattle.std.specs.Prelude.{◌≡◌, ◌<◌, ◌^◌, Some, IfOk, map, unwrap_or};
+ghost use Rattle.std.specs.Prelude.{◌≡◌, ◌+◌, ◌-◌, ◌<◌, ◌^◌, IfOk, map, unwrap_or};
 ghost use Rattle.std.specs.Option.{option_copied};
 ghost use Rattle.mx_boot.specs.Machines.{meaning};
 ghost use Rattle.mx_model.specs.State.{State, flat};
@@ -9,9 +9,8 @@ ghost use Rattle.mx_turns.specs.Ends.{Leave, sinks};
 ghost use Rattle.mx_turns.specs.Running.{schedule_of, HasTurns, IsNew};
 ghost use Rattle.mx_run.specs.Asked.{order_of};
 ghost use Rattle.mx_run.specs.Booting.{TakesSchedule, schedule_bytes};
-ghost use Rattle.mx_run.specs.Commands.{next, options_of, run_of, scheduled, texts_of};
+ghost use Rattle.mx_run.specs.Commands.{booted_run, options_of, run_from, run_of, texts_of};
 ghost use Rattle.mx_run.specs.Top.{fault_of, Ends, Continues};
-ghost use Rattle.mx_run.specs.Words.{Go};
 
 use crate::booting::{Booted, take_boot};
 use crate::order::{Order, Way};
@@ -27,7 +26,7 @@ use mx_turns::{Schedule, SinkFault, Task, TraceTask, make_run, make_trace};
 use mx_words::NoMemory;
 use std::alloc::Global;
 
-/// Runs what an order asks: boots its manifest, and makes its run.
+/// Boots the manifest of an order, and makes its run.
 pub(crate) fn run_manifest<S: Store, C: Sink, R: Sink, D: Sink>(
     alloc: Global,
     order: &Order<'_>,
@@ -37,7 +36,7 @@ pub(crate) fn run_manifest<S: Store, C: Sink, R: Sink, D: Sink>(
     dump: &mut D,
 ) -> Status
     requires { order.now.steps < 10 ^ 10 }
-    ensures { Continues (next (Some (Go (order_of order.now)))) S.gives store.old store.new
+    ensures { Continues (booted_run (order_of order.now)) S.gives store.old store.new
         (sinks (C.state console.old) (R.state report.old) (D.state dump.old))
         (sinks (C.state console.new) (R.state report.new) (D.state dump.new)) result }
 {
@@ -61,8 +60,7 @@ fn run_boot<S: Store, C: Sink, R: Sink, D: Sink>(
     requires plan { IsOfPlan (kept_of booted.plan) (meaning booted.machine) }
     requires unmoved { (meaning booted.machine).core.turns ≡ 0 }
     ensures { (s : State) → IsNew s → meaning booted.machine ≡ flat s
-        → Continues (scheduled booted.plan.quantum
-        (run_of (order_of order.now) (kept_of booted.plan) s) (order_of order.now).schedule)
+        → Continues (run_from (order_of order.now) (kept_of booted.plan) s)
         S.gives store.old store.new
         (sinks (C.state console.old) (R.state report.old) (D.state dump.old))
         (sinks (C.state console.new) (R.state report.new) (D.state dump.new)) result }
@@ -70,7 +68,7 @@ fn run_boot<S: Store, C: Sink, R: Sink, D: Sink>(
     let Booted { plan, mut machine } = booted;
     match keep(alloc, plan) {
         Ok(kept) => {
-            let status = run_booted(
+            let status = run_from(
                 alloc,
                 order,
                 &kept,
@@ -97,8 +95,8 @@ pub(crate) fn keep(alloc: Global, plan: Plan) -> Result<Kept, NoMemory>
     Kept::of(alloc, &plan)
 }
 
-// Runs a machine at boot, by the schedule that the order names, or by the plan's quantum.
-fn run_booted<S: Store, C: Sink, R: Sink, D: Sink>(
+/// Runs a machine, which may have made turns, by the schedule that the order names, or by the plan's quantum.
+pub(crate) fn run_from<S: Store, C: Sink, R: Sink, D: Sink>(
     alloc: Global,
     order: &Order<'_>,
     kept: &Kept,
@@ -108,12 +106,10 @@ fn run_booted<S: Store, C: Sink, R: Sink, D: Sink>(
     report: &mut R,
     dump: &mut D,
 ) -> Status
-    requires few { order.now.steps < 10 ^ 10 }
+    requires few { (meaning machine.old).core.turns + order.now.steps < 2 ^ 64 - 1 }
     requires plan { IsOfPlan kept.now (meaning machine.old) }
-    requires unmoved { (meaning machine.old).core.turns ≡ 0 }
     ensures { (s : State) → IsNew s → meaning machine.old ≡ flat s
-        → Continues (scheduled kept.now.quantum (run_of (order_of order.now) kept.now s)
-        (order_of order.now).schedule) S.gives store.old store.new
+        → Continues (run_from (order_of order.now) kept.now s) S.gives store.old store.new
         (sinks (C.state console.old) (R.state report.old) (D.state dump.old))
         (sinks (C.state console.new) (R.state report.new) (D.state dump.new)) result }
 {
@@ -195,11 +191,10 @@ fn run_by<C: Sink, R: Sink, D: Sink>(
     report: &mut R,
     dump: &mut D,
 ) -> Status
-    requires few { order.now.steps < 10 ^ 10 }
+    requires few { (meaning machine.old).core.turns + order.now.steps < 2 ^ 64 - 1 }
     requires names { map (λ name. name.now) names.now ≡ kept.now.names }
     requires quantum { HasTurns schedule }
     requires plan { IsOfPlan kept.now (meaning machine.old) }
-    requires unmoved { (meaning machine.old).core.turns ≡ 0 }
     ensures { (s : State) → IsNew s → meaning machine.old ≡ flat s →
         Ends (run_of (order_of order.now) kept.now s (schedule_of schedule.entry))
         (sinks (C.state console.old) (R.state report.old) (D.state dump.old))
@@ -222,18 +217,17 @@ fn make_by<C: Sink, R: Sink, D: Sink>(
     report: &mut R,
     dump: &mut D,
 ) -> Result<(), SinkFault>
-    requires few { order.now.steps < 10 ^ 10 }
+    requires few { (meaning machine.old).core.turns + order.now.steps < 2 ^ 64 - 1 }
     requires names { map (λ name. name.now) names.now ≡ kept.now.names }
     requires quantum { HasTurns schedule }
     requires plan { IsOfPlan kept.now (meaning machine.old) }
-    requires unmoved { (meaning machine.old).core.turns ≡ 0 }
     ensures { (s : State) → IsNew s → meaning machine.old ≡ flat s →
         Leave (texts_of (order_of order.now) order.now.way kept.now s (schedule_of schedule.entry))
         (sinks (C.state console.old) (R.state report.old) (D.state dump.old))
         (sinks (C.state console.new) (R.state report.new) (D.state dump.new)) result }
 {
     match order.way {
-        Way::Run => make_run(
+        Way::Run | Way::Resume => make_run(
             &task_of(order, schedule),
             kept,
             names,

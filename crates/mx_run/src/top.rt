@@ -1,16 +1,21 @@
 //! The top call.
 
+ghost use Rattle.std.specs.Prelude.{◌<◌, ◌^◌, Some};
 ghost use Rattle.mx_io.specs.Sink.{SinkState};
-ghost use Rattle.mx_run.specs.Words.{meaning};
+ghost use Rattle.mx_run.specs.Asked.{order_of};
+ghost use Rattle.mx_run.specs.Commands.{next};
+ghost use Rattle.mx_run.specs.Words.{Go, meaning};
 ghost use Rattle.mx_turns.specs.Ends.{sinks};
-ghost use Rattle.mx_run.specs.Top.{Answered, Reacts};
+ghost use Rattle.mx_run.specs.Top.{Answered, Continues, Reacts};
 ghost use Rattle.mx_run.specs.Promise.{Headline, Completeness};
 
 use crate::assembling::write_image;
 use crate::auditing::audit_manifest;
 use crate::comparing::compare_manifests;
 use crate::milling::write_mill;
+use crate::order::{Order, Way};
 use crate::refusal::refuse;
+use crate::resuming::resume_snapshot;
 use crate::running::run_manifest;
 use crate::status::Status;
 use crate::words::{Asked, Words};
@@ -62,11 +67,32 @@ fn react<S: Store, C: Sink, R: Sink, D: Sink>(
         (sinks (C.state console.new) (R.state report.new) (D.state dump.new)) result }
 {
     match words.asked() {
-        Some(Asked::Go(order)) => run_manifest(alloc, &order, store, console, report, dump),
+        Some(Asked::Go(order)) => go(alloc, &order, store, console, report, dump),
         Some(Asked::Asm(source)) => write_image(alloc, source, store, console, report),
         Some(Asked::Audit(name)) => audit_manifest(alloc, name, store, report),
         Some(Asked::Twin(pair)) => compare_manifests(alloc, &pair, store, report),
         Some(Asked::Mill(k)) => write_mill(alloc, k, report),
         None => refuse(report, "", Status::Usage),
+    }
+}
+
+/// Makes a run of the order's way: from a manifest that boots, or from a snapshot.
+fn go<S: Store, C: Sink, R: Sink, D: Sink>(
+    alloc: Global,
+    order: &Order<'_>,
+    store: &mut S,
+    console: &mut C,
+    report: &mut R,
+    dump: &mut D,
+) -> Status
+    requires { order.now.steps < 10 ^ 10 }
+    ensures { Continues (next (Some (Go (order_of order.now)))) S.gives store.old store.new
+        (sinks (C.state console.old) (R.state report.old) (D.state dump.old))
+        (sinks (C.state console.new) (R.state report.new) (D.state dump.new)) result }
+{
+    match order.way {
+        Way::Run => run_manifest(alloc, order, store, console, report, dump),
+        Way::Resume => resume_snapshot(alloc, order, store, console, report, dump),
+        Way::Trace => run_manifest(alloc, order, store, console, report, dump),
     }
 }

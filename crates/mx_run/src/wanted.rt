@@ -6,6 +6,7 @@ ghost use Rattle.mx_run.specs.Asked.{wanted_of};
 ghost use Rattle.mx_run.specs.Boots.{manifest_file, image_file, size_fault};
 ghost use Rattle.mx_run.specs.Commands.{schedule_file, source_file};
 ghost use Rattle.mx_run.specs.Reading.{Refuses, Takes};
+ghost use Rattle.mx_run.specs.Resumed.{snapshot_file};
 ghost use Rattle.mx_turns.specs.Ends.{sinks};
 
 use crate::reading::{ReadFault, read_file};
@@ -21,6 +22,9 @@ const TEXT_LIMIT: u64 = 1048576;
 
 /// The most bytes of an image or of a schedule.
 const FILE_LIMIT: u64 = 16777216;
+
+/// The most bytes of a snapshot.
+const SNAPSHOT_LIMIT: u64 = 1073741824;
 
 /// A file that is to be read.
 #[derive(Clone, Copy)]
@@ -83,6 +87,18 @@ pub(crate) fn source_file(name: &str) -> Wanted<'_>
             line: 0,
             number: 11,
         },
+    }
+}
+
+/// The snapshot of this name.
+pub(crate) fn snapshot_file(name: &str) -> Wanted<'_>
+    ensures { wanted_of result ≡ snapshot_file name.now }
+{
+    Wanted {
+        role: FileRole::Snapshot,
+        name,
+        most: SNAPSHOT_LIMIT,
+        large: Status::SnapshotFault { at: 0, number: 1 },
     }
 }
 

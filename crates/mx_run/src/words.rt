@@ -73,6 +73,7 @@ impl Words {
         let (command, operands) = self.list.as_slice().split_first()?;
         match command.as_str() {
             "run" => go_words(Way::Run, operands),
+            "resume" => go_words(Way::Resume, operands),
             "trace" => go_words(Way::Trace, operands),
             "asm" => Some(Asked::Asm(only_name(operands)?)),
             "audit" => Some(Asked::Audit(only_name(operands)?)),

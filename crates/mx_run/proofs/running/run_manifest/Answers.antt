@@ -1,7 +1,7 @@
 use Rattle.mx_snapshot.specs.Kept.{kept_of}
 use Rattle.mx_run.specs.Asked.{order_of}
 use Rattle.mx_run.specs.Boots.{Rest}
-use Rattle.mx_run.specs.Commands.{run_of, scheduled}
+use Rattle.mx_run.specs.Commands.{run_from}
 use Rattle.mx_run.proofs.running.run_manifest.Goals as goal
 
 pub run_boot-requires-clause-plan : goal.run_boot-requires-clause-plan
@@ -15,11 +15,11 @@ returns-in-Ok g c =
     let takes = c.in-Ok.ensures in
     let goes = takes.1 in
     let o = order_of c.args.order.now in
-    let rest : Rest = λ plan s. scheduled plan.quantum (run_of o (kept_of plan) s) o.schedule in
+    let rest : Rest = λ plan s. run_from o (kept_of plan) s in
     goes.comes rest _ _ _ _ (rw takes.0 at (c.run_boot.ensures goes.state goes.new goes.means))
 
 pub returns-in-Err : goal.returns-in-Err
 returns-in-Err g c =
     let o = order_of c.args.order.now in
-    let rest : Rest = λ plan s. scheduled plan.quantum (run_of o (kept_of plan) s) o.schedule in
+    let rest : Rest = λ plan s. run_from o (kept_of plan) s in
     c.in-Err.ensures rest (g.C.Sink.state c.args.console.now) (g.D.Sink.state c.args.dump.now)

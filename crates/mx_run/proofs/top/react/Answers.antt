@@ -12,10 +12,10 @@ pub returns-in-Some-Go : goal.returns-in-Some-Go
 returns-in-Some-Go g c =
     let asked : Some (Go (order_of c.in-Some-Go.order)) ≡ meaning c.args.words.now = rw c.in-Some-Go.field-0-is at c.in-Some-Go.ensures.meaning in
     subst
-    (λ (request : Option Request). Reacts request g.S.Store.gives c.args.store.now c.run_manifest.new.store
+    (λ (request : Option Request). Reacts request g.S.Store.gives c.args.store.now c.go.new.store
     (sinks (g.C.Sink.state c.args.console.now) (g.R.Sink.state c.args.report.now) (g.D.Sink.state c.args.dump.now))
-    (sinks (g.C.Sink.state c.run_manifest.new.console) (g.R.Sink.state c.run_manifest.new.report) (g.D.Sink.state c.run_manifest.new.dump)) c.run_manifest.result)
-    asked (reacts_some g.S.Store.gives (Go (order_of c.in-Some-Go.order)) _ _ c.run_manifest.ensures)
+    (sinks (g.C.Sink.state c.go.new.console) (g.R.Sink.state c.go.new.report) (g.D.Sink.state c.go.new.dump)) c.go.result)
+    asked (reacts_some g.S.Store.gives (Go (order_of c.in-Some-Go.order)) _ _ c.go.ensures)
 
 pub returns-in-Some-Asm : goal.returns-in-Some-Asm
 returns-in-Some-Asm g c =

@@ -1,0 +1,13 @@
+//! Tests of the commands over stores and sinks in memory: calls that fail, calls that move one byte alone, and the command
+//! `mill`.
+#![tactic(auto)]
+
+pub mod crumbs;
+#[cfg(test)]
+mod failing;
+#[cfg(test)]
+mod mills;
+#[cfg(test)]
+mod outside;
+#[cfg(test)]
+mod rows;

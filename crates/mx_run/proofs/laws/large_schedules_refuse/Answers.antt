@@ -1,0 +1,5 @@
+use Rattle.mx_run.proofs.Schedules.{resume_refused}
+use Rattle.mx_run.proofs.laws.large_schedules_refuse.Goals as goal
+
+pub returns : goal.returns
+returns c = resume_refused
