@@ -4,6 +4,9 @@
  * from 0 inputs manifest KIND GATES OUT      63 modules with these images, 64 MiB of RAM, four harts, the greatest
  * limits of the tables of this kind; 252 gates into all modules (spread), or 256 into one (gathered) inputs schedule
  * OUT                 a schedule of 16 MiB, of four harts in turn inputs source FORM OUT              a source of 1 MiB
+ *   inputs snapshot KIND MODULES OUT    a snapshot of so many modules, 64 MiB of RAM, four harts and the greatest
+ *                                       limits, in which each word is a run of permission of its own as long as the
+ *                                       file has room for that
  *   inputs text BEGIN PART END OUT      a file of 1 MiB: a beginning, a part again and again, and an end
  *   inputs time PROGRAM WORDS..         calls a program, and says with which status it ended, the seconds that it took
  * of a processor, and its greatest resident size in MB */
@@ -15,6 +18,7 @@
 #include <sys/wait.h>
 #include <unistd.h>
 
+enum { WORDS = 16777216, SNAPSHOT = 1073741824 };
 enum { IMAGE = 16777216, SOURCE = 1048576, MODULES = 63, LETTERS = 255, NAMES = 256, NAMES_AT = 1024, APART = 0x8000 };
 enum { RAM = 0x80000000u, MODULE = 0x00100000u };
 
@@ -105,6 +109,30 @@ static void schedule(void) {
     for (long i = 0; i < IMAGE; i++) fputc((int)(i % 4), out);
 }
 
+/* A map of runs of one word each, as many as are told, and one for the words that are left. */
+static void map(uint32_t runs) {
+    put(&runs, 1);
+    for (uint32_t i = 1; i < runs; i++) put((uint32_t[]){4 + 1 + i % 2}, 1);
+    put((uint32_t[]){4 * (WORDS - (runs - 1)) + 1 + runs % 2}, 1);
+}
+
+static void snapshot(uint32_t kind, uint32_t modules) {
+    uint32_t left = (SNAPSHOT - 4 * WORDS - 52 - 40 * modules - 16 - 4 * 148) / 4;
+    fwrite("MXSN\1\0\0\0", 1, 8, out);
+    put((uint32_t[]){WORDS, kind, 4096, 262144, 1048576, 64, 1, modules, 4, 0, 0}, 11);
+    for (uint32_t i = 0; i < modules; i++) {
+        uint32_t runs = left < WORDS ? left : WORDS;
+        put((uint32_t[]){4}, 1);
+        fprintf(out, "m%03u", i);
+        put((uint32_t[]){0, 0, 0, 0, 0, 0, 0}, 7);
+        map(runs);
+        left -= runs;
+    }
+    put((uint32_t[]){1, WORDS, 0, 0}, 4);
+    for (int i = 0; i < 4; i++) put((uint32_t[37]){0, 1, RAM}, 37);
+    fill(ftell(out) + 4 * (long)WORDS);
+}
+
 /* What is written again and again between a beginning and an end, up to 1 MiB. */
 static void repeated(const char *begin, const char *part, const char *end) {
     long most = SOURCE - (long)(strlen(part) + strlen(end));
@@ -181,6 +209,7 @@ int main(int many, char **words) {
     if (strcmp(words[1], "manifest") == 0) manifest(words[2], strcmp(words[3], "gathered") == 0);
     if (strcmp(words[1], "schedule") == 0) schedule();
     if (strcmp(words[1], "source") == 0) source(words[2]);
+    if (strcmp(words[1], "snapshot") == 0) snapshot((uint32_t)atoi(words[2]), (uint32_t)atoi(words[3]));
     if (strcmp(words[1], "text") == 0) repeated(words[2], words[3], words[4]);
     return fclose(out) != 0;
 }
