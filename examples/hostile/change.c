@@ -7,6 +7,7 @@
  *   change show WORDS                  shows them, quoted for a shell
  *   change fault IMAGE                 says the first fault of an image, as the number of a manifest's fault and its
  *                                      detail, or `none`
+ *   change snapshot SNAPSHOT           says the first fault of a snapshot, its number and its place, or `none`
  *
  * SORT is manifest, source, image, schedule or snapshot. */
 #include <ctype.h>
@@ -260,6 +261,23 @@ static void change_numbers(size_t limit) {
     }
 }
 
+/* A field of a snapshot before RAM's bytes: a small number, a corner, another field's, or one near its own. */
+static void change_a_field(void) {
+    unsigned char field[64];
+    size_t width, other, at = snapshot_field(&width), from = snapshot_field(&other);
+    if (other > sizeof field) other = sizeof field;
+    memcpy(field, bytes + from, other);
+    if (width > 8) at += below(width), width = 1;
+    switch (below(8)) {
+    case 0: take_out(at, width); break;
+    case 1: put_in(at, field, other); break;
+    case 2: set(at, width, get(from, other < 8 ? other : 8)); break;
+    case 3: set(at, width, corners[below(sizeof corners / sizeof *corners)]); break;
+    case 4: set(at, width, below(9)); break;
+    default: set(at, width, get(at, width) + below(9) - 4);
+    }
+}
+
 /* The turns of a schedule: of harts that are there, and of harts that aren't. */
 static void make_schedule(void) {
     size_t turns = below(16) ? below(3000) : 0, harts = below(3) ? 1 + below(5) : 256;
@@ -277,8 +295,12 @@ static void change(const char *sort) {
             change_text(&manifests);
         else if (strcmp(sort, "source") == 0)
             change_text(&sources);
+        else if (strcmp(sort, "image") == 0)
+            change_numbers(IMAGE_LIMIT);
+        else if (below(4))
+            change_a_field();
         else
-            change_numbers(strcmp(sort, "image") == 0 ? IMAGE_LIMIT : SNAPSHOT_LIMIT);
+            change_numbers(SNAPSHOT_LIMIT);
     }
 }
 
@@ -319,7 +341,9 @@ int main(int many, char **words) {
     if (many == 4 && strcmp(words[1], "exec") == 0) return become(words[2], words[3]);
     if (many == 3 && strcmp(words[1], "show") == 0) return show(words[2]);
     if (many == 3 && strcmp(words[1], "fault") == 0) return image_fault(words[2]);
-    fputs("SORT SEED NUMBER BASE OUT | words SEED NUMBER OUT | exec WORDS PROGRAM | show WORDS | fault IMAGE\n",
+    if (many == 3 && strcmp(words[1], "snapshot") == 0) return snapshot_fault(words[2]);
+    fputs("SORT SEED NUMBER BASE OUT | words SEED NUMBER OUT | exec WORDS PROGRAM | show WORDS | fault IMAGE |"
+          " snapshot SNAPSHOT\n",
           stderr);
     return 1;
 }

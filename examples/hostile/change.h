@@ -36,4 +36,8 @@ int show(const char *words);
 /* Says the first fault of an image. */
 int image_fault(const char *name);
 
+/* Says the first fault of a snapshot; and a field of the one that stands in `bytes`, its place and its width. */
+int snapshot_fault(const char *name);
+size_t snapshot_field(size_t *width);
+
 #endif

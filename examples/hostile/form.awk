@@ -41,7 +41,7 @@ BEGIN {
     allowed["asm"] = " 0 2 5 6 10 11 "
     allowed["run"] = allowed["trace"] = allowed["audit"] = " 0 2 3 4 5 6 10 "
     allowed["twin"] = " 0 2 3 4 5 6 10 12 13 "
-    allowed["resume"] = " 0 2 4 5 6 10 14 "
+    allowed["resume"] = " 0 2 3 4 5 6 10 14 "
     allowed["mill"] = " 0 2 10 "
     allowed["-"] = tight ? " 2 10 " : " 2 "
 
@@ -102,6 +102,7 @@ status != 0 {
     if (NR > 1) wrong("a second line")
     if (!is(refusal[status])) wrong("no listed line")
     if (status == 3 && !refused_rightly()) wrong("no place of this fault")
+    if (command == "resume" && status == 3 && !/^refused fault=9 at=schedule/) wrong("no refusal of a snapshot")
     if (/^refused fault=9 at=schedule/ && order <= schedule_limit) wrong("a schedule under its limit")
     if (status == 11 && (of("fault") > 11 || (of("fault") == 11) != (of("line") == 0))) wrong("no fault of a source")
     next
