@@ -11,17 +11,15 @@ use Rattle.mx_words.specs.declared.tables.Need.{Need}
 use Rattle.mx_words.specs.FirstFit.{Area}
 use Rattle.mx_words.specs.Newest.{owners}
 use Rattle.mx_words.specs.Newest.{map as map_of}
-use Rattle.mx_words.proofs.OverlayLaws.{length-map_of, length-owners}
+use Rattle.mx_words.proofs.OverlayLaws.{length-owners}
 use Rattle.mx_check.specs.Calls.{new_harts}
 use Rattle.mx_check.specs.Harts.{Kept}
 use Rattle.mx_heap.specs.HeapState.{HeapState}
 use Rattle.mx_model.specs.declared.values.Gate.{Gate}
 use Rattle.mx_model.specs.Gates.{AreSingle}
 use Rattle.mx_model.specs.Valid.{IsGate, IsHome}
-use Rattle.mx_table.specs.Tables.{IsDomain}
-use Rattle.mx_table.specs.Tables as tables
 use Rattle.mx_supervisor.specs.Heaps.{heap_at, no_heap, told_area, told_heap}
-use Rattle.mx_supervisor.specs.Parts.{IsSound, Parts}
+use Rattle.mx_supervisor.specs.Parts.{AreJoined, Parts}
 use Rattle.mx_manifest.specs.declared.parts.ModulePlan.{ModulePlan}
 use Rattle.mx_manifest.specs.InRange.{IsInRange}
 use Rattle.mx_manifest.specs.Plan.{Said}
@@ -36,7 +34,7 @@ use Rattle.mx_boot.proofs.Booted.{IsFaultless, faultless}
 use Rattle.mx_boot.proofs.Gated.{few_gates, gates_valid, requests_asked, single_gates}
 use Rattle.mx_boot.proofs.Homes.{length-homes}
 use Rattle.mx_boot.proofs.Housed.{Inside, modules_valid}
-use Rattle.mx_boot.proofs.Lists.{all_at, all_each, all_mapped, all_unmapped, there}
+use Rattle.mx_boot.proofs.Lists.{all_at, all_unmapped, there}
 use Rattle.mx_boot.proofs.RamBytes.{length-boot_ram}
 use Rattle.mx_boot.proofs.Rows.{at_mapped}
 
@@ -89,23 +87,8 @@ module _ (plan : Said) (images : List (List ℕ)) (in_range : IsInRange plan) (n
   length-maps = length-map (map (grants_of (length plan.harts)) (homes plan images)) (λ grants. map_of grants (ram_words plan))
       ∙ length-map (homes plan images) (grants_of (length plan.harts)) ∙ length-homes plan images
 
-  map_whole : (d : ℕ) → IsDomain (boot_parts plan images).maps d → length (tables.map_of (boot_parts plan images).maps d) ≡ ram_words plan
-  map_whole d is =
-      let gs = map (grants_of (length plan.harts)) (homes plan images) in
-      let all : AllByRecursion (λ (m : List Perm). length m ≡ ram_words plan) (boot_parts plan images).maps =
-      all_mapped (λ grants. map_of grants (ram_words plan)) (λ (m : List Perm). length m ≡ ram_words plan) gs
-      (all_each (λ grants. length (map_of grants (ram_words plan)) ≡ ram_words plan) gs (λ grants. length-map_of grants (ram_words plan))) in
-      let first = is.first in
-      let last = is.last in
-      let found = there (boot_parts plan images).maps (d - 1) (omega (arith, first, last)) in
-      let at = get_or_from_slice_get (boot_parts plan images).maps (d - 1) found.0 [] found.1 in
-      ap length at ∙ all_at (λ (m : List Perm). length m ≡ ram_words plan) (boot_parts plan images).maps (d - 1) found.0 all found.1
-
-  pub parts-sound : IsSound (boot_parts plan images)
-  parts-sound = let count = in_range.module_count in record {
-    few_words = words_few;
-    few_maps = omega (arith, length-maps, count.1);
-    maps = map_whole;
+  pub parts-joined : AreJoined (boot_parts plan images)
+  parts-joined = record {
     ram = length-boot_ram plan images;
     owners = length-owners (boot_state plan images).gives (ram_words plan);
     heaps = length-map plan.modules heap_state ∙ sym length-maps;

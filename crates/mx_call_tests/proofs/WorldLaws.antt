@@ -12,7 +12,8 @@ use Rattle.mx_heap.specs.HeapState.{HeapState}
 use Rattle.mx_model.specs.declared.values.Gate.{Gate}
 use Rattle.mx_model.proofs.ListLaws.{all-append, all-at}
 use Rattle.mx_supervisor.specs.Heaps.{no_heap, no_area, told_heap, heap_at}
-use Rattle.mx_supervisor.specs.Parts.{Parts, IsSound}
+use Rattle.mx_supervisor.specs.Parts.{Parts, AreJoined}
+use Rattle.mx_supervisor.proofs.Joined.{sound-joined}
 use Rattle.mx_call_tests.specs.Calls.{EndsBy, IsAtRest}
 
 -- an area of no words ends nowhere
@@ -46,13 +47,10 @@ started kind maps size limit buffer words owners gates heaps = record {
   heaps = heaps;
 }
 
-pub sound-start : (kind : Kind) (maps : List (List Perm)) (size : ℕ) (limit : Need) (buffer words : ℕ) (owners : List ℕ) (gates : List Gate) (heaps : List HeapState) →
-    IsShaped kind size limit maps → words ≡ size → length owners ≡ size → length heaps ≡ length maps → AllByRecursion (EndsBy size) heaps →
-    IsSound (started kind maps size limit buffer words owners gates heaps)
-sound-start kind maps size limit buffer words owners gates heaps shaped is owned count all = record {
-  few_words = shaped.few_words;
-  few_maps = shaped.few_maps;
-  maps = shaped.each;
+pub joined-start : (kind : Kind) (maps : List (List Perm)) (size : ℕ) (limit : Need) (buffer words : ℕ) (owners : List ℕ) (gates : List Gate) (heaps : List HeapState) →
+    words ≡ size → length owners ≡ size → length heaps ≡ length maps → AllByRecursion (EndsBy size) heaps →
+    AreJoined (started kind maps size limit buffer words owners gates heaps)
+joined-start kind maps size limit buffer words owners gates heaps is owned count all = record {
   ram = length-replicate (4 * words) 0 ∙ ap (λ n. 4 * n) is;
   owners = owned;
   heaps = count;
@@ -63,7 +61,7 @@ pub rest-start : (kind : Kind) (maps : List (List Perm)) (size : ℕ) (limit : N
     IsShaped kind size limit maps → words ≡ size → length owners ≡ size → length heaps ≡ length maps → AllByRecursion (EndsBy size) heaps →
     IsAtRest 0 1 (started kind maps size limit buffer words owners gates heaps)
 rest-start kind maps size limit buffer words owners gates heaps shaped is owned count all = record {
-  sound = sound-start kind maps size limit buffer words owners gates heaps shaped is owned count all;
+  sound = sound-joined (started kind maps size limit buffer words owners gates heaps) shaped (joined-start kind maps size limit buffer words owners gates heaps is owned count all);
   domain = record { first = omega arith; last = shaped.some_maps };
   alone = refl;
   may = new_may 1 0 1 (lit< tt);

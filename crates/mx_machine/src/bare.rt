@@ -12,7 +12,7 @@ ghost use Rattle.mx_core.specs.Exec.{HasCause};
 ghost use Rattle.mx_core.specs.Memo.{quick};
 ghost use Rattle.mx_model.specs.Effect.{effect};
 ghost use Rattle.mx_model.specs.declared.values.Note.TheVariants as Notes;
-ghost use Rattle.mx_supervisor.specs.Parts.{IsSound};
+ghost use Rattle.mx_supervisor.specs.Parts.{AreJoined, IsSound};
 ghost use Rattle.mx_supervisor.specs.Served.{range_of};
 ghost use Rattle.mx_machine.specs.Actions.{after_instruction, crossed, effect_for, halted_first, fallen, heard, killed, outcome_for, returned, with_kept, with_step};
 ghost use Rattle.mx_machine.specs.AtGate.{gate_here};
@@ -199,7 +199,7 @@ impl<T: PermTables, const N: usize> Bare<T, N> {
 
     /// Announces the hart's call. Whether it may take effect at once.
     pub fn announce(&mut self, hart: u32, call: &Call) -> bool
-        requires sound { IsSound self.old.parts }
+        requires joined { AreJoined self.old.parts }
         requires announced { is_announced call.now.number ≡ true }
         requires domain { IsDomain self.old.parts.maps call.now.domain }
         requires may { MayAnnounce hart self.old.parts.harts }

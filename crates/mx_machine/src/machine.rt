@@ -9,7 +9,7 @@ ghost use Rattle.mx_laws.specs.After.{frames_at};
 ghost use Rattle.mx_laws.specs.Crossing.{FramesAfter};
 ghost use Rattle.mx_laws.specs.Foreign.{ForeignAfter};
 ghost use Rattle.mx_laws.specs.Quiet.{AddsNothing};
-ghost use Rattle.mx_supervisor.specs.Parts.{parts_of, IsSound};
+ghost use Rattle.mx_supervisor.specs.Parts.{parts_of, AreJoined};
 ghost use Rattle.mx_machine.specs.Starts.{MayResume, MayStart, resumed, started};
 ghost use Rattle.mx_machine.specs.Turning.{IsStretch, IsTold, IsTurn, KeepsBytes, turns_of};
 
@@ -56,7 +56,7 @@ impl<T: PermTables, const N: usize> Machine<T, N> {
     /// one start for each hart of the checker, which has done nothing yet, and one stack area for each module, which lies in RAM for
     /// all harts or has no words.
     pub fn new(parts: Supervisor<T, N>, starts: &Starts, stacks: &Stacks) -> Machine<T, N>
-        requires sound { IsSound (parts_of T.kind T.maps T.size T.limits N parts) }
+        requires joined { AreJoined (parts_of T.kind T.maps T.size T.limits N parts) }
         requires gates { AllByRecursion
             (IsGate (length (T.maps parts.checker.tables)) (T.size parts.checker.tables))
             parts.gates }
@@ -97,7 +97,7 @@ impl<T: PermTables, const N: usize> Machine<T, N> {
         dead: &[bool; 64],
         steps: u64,
     ) -> Machine<T, N>
-        requires sound { IsSound (parts_of T.kind T.maps T.size T.limits N parts) }
+        requires joined { AreJoined (parts_of T.kind T.maps T.size T.limits N parts) }
         requires gates { AllByRecursion
             (IsGate (length (T.maps parts.checker.tables)) (T.size parts.checker.tables))
             parts.gates }

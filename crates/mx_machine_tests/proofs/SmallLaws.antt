@@ -17,8 +17,8 @@ use Rattle.mx_model.specs.Valid.{IsGate}
 use Rattle.mx_model.proofs.JoinLaws.{all-weaker}
 use Rattle.mx_model.proofs.ListLaws.{all-append, all-at, all-filter}
 use Rattle.mx_supervisor.specs.Heaps.{heap_at, no_area, no_heap, told_heap}
-use Rattle.mx_supervisor.specs.Parts.{Parts, IsSound}
-use Rattle.mx_table.specs.Tables.{IsDomain, IsRow, map_of, no_span}
+use Rattle.mx_supervisor.specs.Parts.{Parts, AreJoined}
+use Rattle.mx_table.specs.Tables.{IsRow, no_span}
 use Rattle.mx_machine.specs.declared.starts.HartStart.{HartStart}
 use Rattle.mx_machine.specs.declared.starts.StackArea.{StackArea}
 use Rattle.mx_machine.specs.Starts.{IsStack, IsStart, MayStart}
@@ -67,11 +67,8 @@ small-gates count modules words gates maps size h =
 
 module _ (p : Parts) (count harts : ℕ) (rows : List (List Span)) (stacks : List StackArea)
     (laid : AreLaid count harts rows p.ram p.owners p.heaps stacks) (size : p.size ≡ 16384) (maps : length p.maps ≡ count) where
-  pub small-sound : count ≤ 63 → ((d : ℕ) → IsDomain p.maps d → length (map_of p.maps d) ≡ p.size) → IsSound p
-  small-sound few whole = record {
-    few_words = omega (arith, size);
-    few_maps = omega (arith, maps, few);
-    maps = whole;
+  pub small-joined : AreJoined p
+  small-joined = record {
     ram = omega (arith, size, laid.bytes);
     owners = laid.words ∙ sym size;
     heaps = laid.one_heap ∙ sym maps;

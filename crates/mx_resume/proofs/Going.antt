@@ -23,7 +23,8 @@ use Rattle.mx_model.specs.declared.values.Gate.{Gate}
 use Rattle.mx_model.specs.State.{flat}
 use Rattle.mx_model.specs.Valid.{IsGate}
 use Rattle.mx_supervisor.specs.declared.supervisor.Supervisor.{Supervisor}
-use Rattle.mx_supervisor.specs.Parts.{IsSound, Parts, parts_of}
+use Rattle.mx_supervisor.specs.Parts.{AreJoined, Parts, parts_of}
+use Rattle.mx_supervisor.proofs.Joined.{joined-sound}
 use Rattle.mx_machine.specs.declared.starts.HartState.{HartState}
 use Rattle.mx_machine.specs.declared.starts.StackArea.{StackArea}
 use Rattle.mx_machine.specs.Starts.{MayResume, resumed}
@@ -52,9 +53,9 @@ use Rattle.mx_resume.specs.Parts.{AreHeldOf, head_seen}
 use Rattle.mx_resume.specs.Snapshot.{IsRefusedBy, NeedsMore, fitting, stored_need}
 
 -- what the calls ask of parts that are a valid snapshot's
-pub parts-hold : (p : Parts) → AreParts p → IsSound p × AllByRecursion (IsGate (length p.maps) p.size) p.gates
+pub parts-hold : (p : Parts) → AreParts p → AreJoined p × AllByRecursion (IsGate (length p.maps) p.size) p.gates
 parts-hold p a = (
-  subst IsSound (sym a.same) (parts-sound a.snapshot a.valid),
+  subst AreJoined (sym a.same) (joined-sound (parts_in a.snapshot) (parts-sound a.snapshot a.valid)),
   subst (λ (q : Parts). AllByRecursion (IsGate (length q.maps) q.size) q.gates) (sym a.same) (gates-fit a.snapshot a.valid),
 )
 
@@ -66,7 +67,7 @@ module _ (s : Stored) (p : Parts) (states : List HartState) (stacks : List Stack
   may-given =
       rw (from.same_parts, from.same_states, from.same_stacks, from.same_dead, from.same_turns) (may-go s from.valid)
 
-  pub all-hold : IsSound p × (AllByRecursion (IsGate (length p.maps) p.size) p.gates × MayResume p states stacks dead turns)
+  pub all-hold : AreJoined p × (AllByRecursion (IsGate (length p.maps) p.size) p.gates × MayResume p states stacks dead turns)
   all-hold = let h = parts-hold p parts-given in (h.0, (h.1, may-given))
 
   pub resumed-is : resumed p states stacks dead turns ≡ flat (state_of s)

@@ -8,7 +8,7 @@ use Rattle.mx_check.specs.Conditions.{IsWithin}
 use Rattle.mx_model.specs.declared.values.Call.{Call}
 use Rattle.mx_model.specs.Checks.{arg}
 use Rattle.mx_supervisor.specs.Heaps.{heap_at}
-use Rattle.mx_supervisor.specs.Parts.{Parts, IsSound}
+use Rattle.mx_supervisor.specs.Parts.{Parts, AreJoined}
 use Rattle.mx_supervisor.specs.Served.{range_of}
 
 record AreIn (address size words : ℕ) : Type 0 where
@@ -38,10 +38,10 @@ words-within address size words =
       | false ↦ λ e. inl refl
     ] refl
 
-pub range-within : (p : Parts) (call : Call) → IsSound p → IsIn p.size (range_of p call)
-range-within p call sound =
+pub range-within : (p : Parts) (call : Call) → AreJoined p → IsIn p.size (range_of p call)
+range-within p call joined =
     let heap = (heap_at p.heaps call.domain).area in
     elim (names_range call.number) as (λ b. IsIn p.size (if b then range_words (arg call 0) (arg call 1) p.size else (heap.first, heap.count))) [
       | true ↦ words-within (arg call 0) (arg call 1) p.size
-      | false ↦ inr (sound.areas call.domain)
+      | false ↦ inr (joined.areas call.domain)
     ]

@@ -8,6 +8,7 @@ pub mod Looking
 pub mod Numbers
 pub mod Reading
 pub mod Writing
+pub mod Joined
 pub mod Modules
 mod Giving
 mod Slots

@@ -68,7 +68,14 @@ core_of rest p = record rest {
 abbrev pub flat_of : Core → Parts → Flat
 flat_of rest p = record { core = core_of rest p; maps = p.maps; owners = p.owners }
 
--- parts that belong together: RAM, maps and owners have one number of words, and there is one heap per module, whose area lies in RAM
+-- parts that belong together: RAM and owners have as many words as the tables, and there is one heap per module, whose area lies in RAM
+pub record AreJoined (p : Parts) : Type 0 where
+  pub ram : length p.ram ≡ 4 * p.size
+  pub owners : length p.owners ≡ p.size
+  pub heaps : length p.heaps ≡ length p.maps
+  pub areas : (d : ℕ) → (heap_at p.heaps d).area.first + (heap_at p.heaps d).area.count ≤ p.size
+
+-- the same, with what the shape of all tables gives: the maps have the one number of words, and both are within the limits
 pub record IsSound (p : Parts) : Type 0 where
   pub few_words : p.size ≤ most_words
   pub few_maps : length p.maps ≤ most_modules

@@ -11,7 +11,7 @@ ghost use Rattle.mx_model.specs.Serve.{serve, serve_exit};
 ghost use Rattle.mx_model.specs.Valid.{IsGate};
 ghost use Rattle.mx_supervisor.specs.Heaps.{heap_at};
 ghost use Rattle.mx_supervisor.specs.Looks.{KeepsHarts};
-ghost use Rattle.mx_supervisor.specs.Parts.{Parts, parts_of, IsSound};
+ghost use Rattle.mx_supervisor.specs.Parts.{Parts, parts_of, AreJoined, IsSound};
 ghost use Rattle.mx_supervisor.specs.Served.{range_of, MayServe, ServesAs, IsSpared, KeepsSizes, Does, flight_after, served_row, HasAnnounced, Meets};
 ghost use Rattle.mx_supervisor.specs.Answers.{is_refusal};
 
@@ -53,7 +53,7 @@ impl<T: PermTables, const N: usize> Supervisor<T, N> {
         gates: Gates,
         heaps: Heaps,
     ) -> Supervisor<T, N>
-        requires sound { IsSound (parts_of {N = N} T.kind T.maps T.size T.limits N
+        requires joined { AreJoined (parts_of {N = N} T.kind T.maps T.size T.limits N
             (record {
               checker = checker;
               ram = ram;
@@ -84,7 +84,7 @@ impl<T: PermTables, const N: usize> Supervisor<T, N> {
     /// The range that a call may change, which is announced for it: the first word and the number of words. For calls 3 and 4 it
     /// is the range of a0 and a1, for calls 6 and 7 the caller's heap area, and (0, 0) for nothing. The number is one of these.
     pub fn announced(&self, call: &Call) -> (u32, u32)
-        requires sound { IsSound (parts_of T.kind T.maps T.size T.limits N self.now) }
+        requires joined { AreJoined (parts_of T.kind T.maps T.size T.limits N self.now) }
         requires announced { is_announced call.now.number ≡ true }
         requires domain { IsDomain (T.maps self.now.checker.tables) call.now.domain }
         ensures range { result
@@ -100,7 +100,7 @@ impl<T: PermTables, const N: usize> Supervisor<T, N> {
     /// no longer in flight afterwards; for another call the hart may look at words in its domain. No console bytes stand in `out`,
     /// and those of the call are put there.
     pub fn serve(&mut self, call: &Call, out: &mut Events) -> Answer
-        requires sound { IsSound (parts_of T.kind T.maps T.size T.limits N self.old) }
+        requires joined { AreJoined (parts_of T.kind T.maps T.size T.limits N self.old) }
         requires domain { IsDomain (T.maps self.old.checker.tables) call.now.domain }
         requires may { MayServe (parts_of T.kind T.maps T.size T.limits N self.old) call.now }
         requires empty { out.old.bytes ≡ [] }

@@ -1,8 +1,8 @@
 use Rattle.std.proofs.Common.{rules, ◌∙◌, ◌≤◌, ap, sym, subst, length}
 use Rattle.mx_check.specs.Calls.{new_harts}
 use Rattle.mx_model.specs.Gates.{AreSingle}
-use Rattle.mx_supervisor.specs.Parts.{IsSound}
-use Rattle.mx_boot.proofs.Joining.{gates-few, gates-hold, gates-single, parts-are, parts-sound}
+use Rattle.mx_supervisor.specs.Parts.{AreJoined}
+use Rattle.mx_boot.proofs.Joining.{gates-few, gates-hold, gates-single, parts-are, parts-joined}
 use Rattle.mx_boot.proofs.joined.join.Goals as goal
 
 pub gates-gates-requires-clause-single : goal.gates-gates-requires-clause-single
@@ -29,7 +29,7 @@ new-requires g c =
       (
         search rules,
         (
-          subst IsSound (sym parts) (parts-sound plan images c.plan_is_in_range.ensures c.requires.layout.faultless),
+          subst AreJoined (sym parts) (parts-joined plan images c.plan_is_in_range.ensures c.requires.layout.faultless),
           gates-hold plan images (t.maps c.new-checker.result.tables) (t.size c.new-checker.result.tables) c.gates-gates.result c.plan_is_in_range.ensures c.requires.layout.faultless maps size gates,
         ),
       ),

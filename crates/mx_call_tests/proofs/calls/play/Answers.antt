@@ -1,5 +1,6 @@
 use Rattle.std.proofs.Common.{refl, sym, ◌∙◌}
 use Rattle.mx_supervisor.specs.Parts.{parts_of}
+use Rattle.mx_supervisor.proofs.Joined.{joined-sound}
 use Rattle.mx_call_tests.proofs.RestLaws.{may-other}
 use Rattle.mx_call_tests.proofs.calls.play.Goals as goal
 
@@ -10,7 +11,7 @@ serve-requires g c =
     rw c.clear.ensures (
       assumption c,
       (
-        c.requires.sound,
+        joined-sound p c.requires.sound,
         (
           c.requires.domain,
           (may-other p call (sym c.is_announced.ensures ∙ c.if-is_announced.false) c.requires.may, refl),

@@ -3,11 +3,12 @@ use Rattle.mx_check.specs.Calls.{Checks}
 use Rattle.mx_supervisor.specs.Parts.{parts_of}
 use Rattle.mx_supervisor.specs.Looks.{KeepsHarts}
 use Rattle.mx_supervisor.proofs.Answering.{with-harts}
+use Rattle.mx_supervisor.proofs.Joined.{joined-sound}
 use Rattle.mx_call_tests.proofs.RestLaws.{may-announce, announces, has-announced, may-ready, rest-again}
 use Rattle.mx_call_tests.proofs.calls.play_announced.Goals as goal
 
 pub announced-first-requires : goal.announced-first-requires
-announced-first-requires g c = (assumption c, (c.requires.rest.sound, (c.requires.announced, c.requires.rest.domain)))
+announced-first-requires g c = (assumption c, (joined-sound _ c.requires.rest.sound, (c.requires.announced, c.requires.rest.domain)))
 
 pub announce-requires : goal.announce-requires
 announce-requires g c =
@@ -22,7 +23,7 @@ serve-requires g c =
     rw c.announce.ensures (
       assumption c,
       (
-        with-harts p (announces call.hart r p.harts) c.requires.rest.sound,
+        joined-sound _ (with-harts p (announces call.hart r p.harts) c.requires.rest.sound),
         (
           c.requires.rest.domain,
           (may-ready _ call c.requires.announced (has-announced p call r c.requires.rest c.announced-first.ensures.range), c.requires.empty),

@@ -1,5 +1,5 @@
 use Rattle.std.proofs.Common.{arith}
-use Rattle.mx_call_tests.proofs.WorldLaws.{sound-start, rest-start}
+use Rattle.mx_call_tests.proofs.WorldLaws.{joined-start, rest-start}
 use Rattle.mx_call_tests.proofs.worlds.machine.Goals as goal
 
 pub new-requires-3 : goal.new-requires-3
@@ -10,8 +10,8 @@ new-requires-3 g c =
       (
         omega arith,
         (
-          sound-start g.T.PermTables.kind (g.T.PermTables.maps t) (g.T.PermTables.size t) (g.T.PermTables.limits t) g.row.N c.words.result
-              c.args.owners c.args.gates c.args.heaps c.shape_of.ensures c.words.ensures c.requires.owners c.requires.heaps c.requires.areas,
+          joined-start g.T.PermTables.kind (g.T.PermTables.maps t) (g.T.PermTables.size t) (g.T.PermTables.limits t) g.row.N c.words.result
+              c.args.owners c.args.gates c.args.heaps c.words.ensures c.requires.owners c.requires.heaps c.requires.areas,
           c.requires.gates,
         ),
       ),

@@ -1,5 +1,5 @@
 use Rattle.std.proofs.Common.{rules, refl, ◌∙◌}
-use Rattle.mx_machine_tests.proofs.SmallLaws.{small-gates, small-sound, small-starts, some-there}
+use Rattle.mx_machine_tests.proofs.SmallLaws.{small-gates, small-joined, small-starts, some-there}
 use Rattle.mx_machine_tests.proofs.small.machine.Goals as goal
 
 pub new-supervisor-requires : goal.new-supervisor-requires
@@ -11,7 +11,7 @@ new-supervisor-requires c =
       (
         search rules,
         rw c.new.ensures (
-          small-sound _ _ _ _ _ laid tables.size maps c.if-count-gt63.false tables.shape.each,
+          small-joined _ _ _ _ _ laid tables.size maps,
           small-gates _ _ _ c.in_ok-gates.gates maps tables.size c.in_ok-gates.ensures,
         ),
       ),
@@ -26,7 +26,7 @@ new-requires-2 c =
       (
         search rules,
         rw (c.new-supervisor.ensures, c.new.ensures) (
-          small-sound _ _ _ _ _ laid tables.size maps c.if-count-gt63.false tables.shape.each,
+          small-joined _ _ _ _ _ laid tables.size maps,
           (
             small-gates _ _ _ c.in_ok-gates.gates maps tables.size c.in_ok-gates.ensures,
             small-starts _ _ _ _ _ laid tables.size maps c.in_ok-starts.starts (some-there _ c.if-harts-eq0.false) c.in_ok-starts.ensures.count refl c.in_ok-starts.ensures.each,

@@ -2,7 +2,7 @@ use Rattle.std.proofs.Common.{rules, List, ap, ◌∙◌}
 use Rattle.mx_check.specs.declared.flight.Flight.{Flight}
 use Rattle.mx_check.specs.Calls.{waiting_harts}
 use Rattle.mx_machine_tests.proofs.ResumeLaws.{may-fly, small-resumes}
-use Rattle.mx_machine_tests.proofs.SmallLaws.{small-sound}
+use Rattle.mx_machine_tests.proofs.SmallLaws.{small-joined}
 use Rattle.mx_machine_tests.proofs.small.resumed.Goals as goal
 
 pub resume-requires : goal.resume-requires
@@ -18,7 +18,7 @@ new-supervisor-requires c =
       (
         search rules,
         (
-          rw c.resume.ensures (small-sound _ _ _ _ _ laid tables.size maps c.if-count-gt63.false tables.shape.each),
+          rw c.resume.ensures (small-joined _ _ _ _ _ laid tables.size maps),
           rw c.new.ensures tt,
         ),
       ),
@@ -37,7 +37,7 @@ resume-requires-2 c =
       (
         search rules,
         rw (c.new-supervisor.ensures, c.resume.ensures) (
-          small-sound _ _ _ _ _ laid tables.size maps c.if-count-gt63.false tables.shape.each,
+          small-joined _ _ _ _ _ laid tables.size maps,
           (
             rw c.new.ensures tt,
             rw c.states_of-states.ensures (small-resumes _ _ _ _ _ _ _ _ _ _ _ _ _ _ _ laid tables.size maps

@@ -4,6 +4,7 @@ use Rattle.mx_words.specs.Announced.{is_announced}
 use Rattle.mx_check.specs.Calls.{is_ready}
 use Rattle.mx_model.specs.declared.values.Call.{Call}
 use Rattle.mx_model.specs.Events.{no_events}
+use Rattle.mx_supervisor.proofs.Joined.{joined-sound}
 use Rattle.mx_machine.specs.Harts.{hart_of, own_call, stepped}
 use Rattle.mx_machine.specs.Held.{Held}
 use Rattle.mx_machine.specs.Steps.{waits}
@@ -24,7 +25,7 @@ announce-requires g c =
     let own : c.call-call.result ≡ own_call h (hart_of m.harts h) = c.call-call.ensures ∙ ap (λ (n : Held). own_call h (hart_of n.harts h)) c.self.view_is in (
       search rules,
       (
-        r.act.fits.sound,
+        joined-sound m.parts r.act.fits.sound,
         (
           sym c.is_announced.ensures ∙ c.if-is_announced.true,
           (subst (λ (k : Call). IsDomain m.parts.maps k.domain) (sym own) r.act.domain, may-announce m h r),

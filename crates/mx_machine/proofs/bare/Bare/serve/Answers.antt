@@ -4,6 +4,7 @@ use Rattle.mx_model.specs.declared.values.Note.{Note}
 use Rattle.mx_model.specs.declared.values.Note.TheVariants as N
 use Rattle.mx_model.specs.Events.{Events}
 use Rattle.mx_supervisor.specs.Parts.{Parts, parts_of}
+use Rattle.mx_supervisor.proofs.Joined.{joined-sound}
 use Rattle.mx_machine.specs.Harts.{hart_of}
 use Rattle.mx_machine.specs.Held.{Held, rest_of}
 use Rattle.mx_machine.specs.Serving.{IsServing}
@@ -15,7 +16,7 @@ serve-answer-requires g c = (
   search rules,
   (
       let v = rw (← c.self.view_is) at c.requires.serving in
-      (v.sound, (v.domain, (v.may, ap (λ (e : Events). e.bytes) c.requires.empty)))),
+      (joined-sound _ v.sound, (v.domain, (v.may, ap (λ (e : Events). e.bytes) c.requires.empty)))),
 )
 
 pub halt-requires : goal.halt-requires

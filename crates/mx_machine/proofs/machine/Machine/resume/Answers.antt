@@ -1,6 +1,8 @@
 use Rattle.std.proofs.Common.{◌≡◌, ℕ, true, List, refl, sym, ap, subst, ◌∙◌, None}
 use Rattle.mx_check.specs.Harts.{hart_at}
+use Rattle.mx_table.specs.Tables.{IsShaped}
 use Rattle.mx_supervisor.specs.Parts.{Parts, parts_of}
+use Rattle.mx_supervisor.proofs.Joined.{sound-joined}
 use Rattle.mx_machine.specs.declared.hart.Hart.{Hart}
 use Rattle.mx_machine.specs.Harts.{hart_of, is_halted}
 use Rattle.mx_machine.specs.Held.{Held, meaning}
@@ -29,9 +31,10 @@ pub invariant_of-result : goal.invariant_of-result
 invariant_of-result g c =
     let T = g.T.PermTables in
     let p : Parts = parts_of {N = g.row.N} T.kind T.maps T.size T.limits g.row.N c.args.parts in
+    let shaped : IsShaped p.kind p.size p.limit p.maps = g.met.T.PermTables.shaped c.args.parts.checker.tables in
     let typed : AreTyped p = record {
-      words = rw (sym c.tables.ensures) c.shape_of.ensures.some_words;
-      some_maps = rw (sym c.tables.ensures) c.shape_of.ensures.some_maps;
+      words = shaped.some_words;
+      some_maps = shaped.some_maps;
       bytes = c.bytes_of.ensures;
       heaps = c.heaps_of.ensures;
       few_gates = c.get-few_gates.ensures.bounded;
@@ -41,7 +44,7 @@ invariant_of-result g c =
     let held : Held = held_resumed p c.args.harts.now c.args.stacks.now c.args.dead.now c.args.steps in
     let same : c.halt_left.new.self ≡ held = c.halt_left.ensures ∙ rw (c.any_waits-waiting.ensures, c.copy.ensures, c.resume-left.ensures) refl in
     subst IsWhole (sym same)
-    (whole-resumed p c.args.harts.now c.args.stacks.now c.args.dead.now c.args.steps c.requires.sound c.requires.may c.states_of.ensures.few c.told-dead
+    (whole-resumed p c.args.harts.now c.args.stacks.now c.args.dead.now c.args.steps (sound-joined p shaped c.requires.joined) c.requires.may c.states_of.ensures.few c.told-dead
     c.states_of.ensures.small typed c.flights_of.ensures.hearers c.spans_are_coherent.ensures.empty)
 
 pub returns : goal.returns

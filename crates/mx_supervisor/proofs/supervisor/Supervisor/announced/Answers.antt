@@ -1,8 +1,11 @@
-use Rattle.std.proofs.Common.{ℕ, sym, subst}
+use Rattle.std.proofs.Common.{ℕ, sym, subst, arith}
 use Rattle.mx_check.specs.Conditions.{IsWithin}
 use Rattle.mx_supervisor.specs.Parts.{parts_of}
 use Rattle.mx_supervisor.proofs.Announcing.{range-within}
 use Rattle.mx_supervisor.proofs.supervisor.Supervisor.announced.Goals as goal
+
+pub announced_range-requires-clause-words : goal.announced_range-requires-clause-words
+announced_range-requires-clause-words g c = let few = (g.met.T.PermTables.shaped c.tables.result.now).few_words in omega (arith, c.words-words.ensures, few)
 
 pub returns-clause-range : goal.returns-clause-range
 returns-clause-range g c =
@@ -11,4 +14,4 @@ returns-clause-range g c =
 pub returns-clause-within : goal.returns-clause-within
 returns-clause-within g c =
     let p = parts_of g.T.PermTables.kind g.T.PermTables.maps g.T.PermTables.size g.T.PermTables.limits g.row.N c.args.self.now in
-    subst (λ (r : ℕ × ℕ). IsWithin r.0 r.1 p.size) (sym (returns-clause-range g c)) (range-within p c.args.call.now c.requires.sound)
+    subst (λ (r : ℕ × ℕ). IsWithin r.0 r.1 p.size) (sym (returns-clause-range g c)) (range-within p c.args.call.now c.requires.joined)

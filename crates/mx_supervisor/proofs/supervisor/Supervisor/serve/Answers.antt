@@ -6,9 +6,15 @@ use Rattle.mx_model.specs.Serve.{serve}
 use Rattle.mx_supervisor.specs.Parts.{parts_of}
 use Rattle.mx_supervisor.specs.Served.{HasAnnounced, Meets, flight_after}
 use Rattle.mx_supervisor.proofs.Ending.{ended-meets, row-meets}
+use Rattle.mx_supervisor.proofs.Joined.{sound-joined}
 use Rattle.mx_supervisor.proofs.Looking.{may-again}
 use Rattle.mx_supervisor.proofs.ReadyLaws.{ready-kept}
 use Rattle.mx_supervisor.proofs.supervisor.Supervisor.serve.Goals as goal
+
+pub serve_row-answer-requires : goal.serve_row-answer-requires
+serve_row-answer-requires g c =
+    let p = parts_of g.T.PermTables.kind g.T.PermTables.maps g.T.PermTables.size g.T.PermTables.limits g.row.N c.args.self.now in
+    (assumption c, (sound-joined p (g.met.T.PermTables.shaped c.args.self.now.checker.tables) c.requires.joined, (c.requires.domain, (c.requires.may, c.requires.empty))))
 
 pub finish-requires : goal.finish-requires
 finish-requires g c =
