@@ -71,7 +71,7 @@ pub(crate) fn machine_of<T: PermTables, const N: usize>(
     parts: Supervisor<T, N>,
 ) -> Machine<T, N>
     requires layout { IsLayout plan.now images.now layout.now }
-    requires parts { parts_of T.kind T.maps T.size T.limits N parts
+    requires parts { parts_of T.PermTables parts
         ≡ boot_parts plan.now images.now }
     ensures { result ≡ flat (boot_state plan.now images.now) }
 {

@@ -38,11 +38,11 @@ pub fn play<T: PermTables, const N: usize>(
     out: &mut Events,
 ) -> Answer
     requires { IsAtRest call.now.hart call.now.domain
-        (parts_of T.kind T.maps T.size T.limits N machine.old) }
+        (parts_of T.PermTables machine.old) }
     ensures rest { IsAtRest call.now.hart call.now.domain
-        (parts_of T.kind T.maps T.size T.limits N machine.new) }
-    ensures sizes { KeepsSizes (parts_of T.kind T.maps T.size T.limits N machine.old)
-        (parts_of T.kind T.maps T.size T.limits N machine.new) }
+        (parts_of T.PermTables machine.new) }
+    ensures sizes { KeepsSizes (parts_of T.PermTables machine.old)
+        (parts_of T.PermTables machine.new) }
 {
     out.clear();
     if is_announced(call.number) {
@@ -59,13 +59,13 @@ fn play_announced<T: PermTables, const N: usize>(
     out: &mut Events,
 ) -> Answer
     requires rest { IsAtRest call.now.hart call.now.domain
-        (parts_of T.kind T.maps T.size T.limits N machine.old) }
+        (parts_of T.PermTables machine.old) }
     requires announced { is_announced call.now.number ≡ true }
     requires empty { out.old.bytes ≡ [] }
     ensures rest { IsAtRest call.now.hart call.now.domain
-        (parts_of T.kind T.maps T.size T.limits N machine.new) }
-    ensures sizes { KeepsSizes (parts_of T.kind T.maps T.size T.limits N machine.old)
-        (parts_of T.kind T.maps T.size T.limits N machine.new) }
+        (parts_of T.PermTables machine.new) }
+    ensures sizes { KeepsSizes (parts_of T.PermTables machine.old)
+        (parts_of T.PermTables machine.new) }
 {
     let (first, count) = machine.announced(call);
     machine.checker.announce(call.hart, first, count);

@@ -110,7 +110,7 @@ pub fn started<T: PermTables + Drop, const N: usize>(
     requires own { IsSample own }
     requires other { IsSample other }
     requires heap { heap.first + heap.count ≤ 16384 }
-    ensures { IfSome result (λ s. IsReady (parts_of T.kind T.maps T.size T.limits N s)) }
+    ensures { IfSome result (λ s. IsReady (parts_of T.PermTables s)) }
 {
     let tables = tables_of::<T>(alloc, own, other, AMPLE)?;
     let owners = owners_of(alloc, own, other, heap)?;
@@ -128,7 +128,7 @@ pub fn crowded<T: PermTables + Drop, const N: usize>(
 ) -> Option<Supervisor<T, N>>
     requires buffer { N ≤ 64 }
     requires limit { IsLimit limit }
-    ensures { IfSome result (λ s. IsReady (parts_of T.kind T.maps T.size T.limits N s)) }
+    ensures { IfSome result (λ s. IsReady (parts_of T.PermTables s)) }
 {
     let own = Span {
         first: 1024,
@@ -157,8 +157,8 @@ pub fn ask<T: PermTables, const N: usize>(
     args: [u32; 4],
     out: &mut Events,
 ) -> Answer
-    requires { IsReady (parts_of T.kind T.maps T.size T.limits N machine.old) }
-    ensures { IsReady (parts_of T.kind T.maps T.size T.limits N machine.new) }
+    requires { IsReady (parts_of T.PermTables machine.old) }
+    ensures { IsReady (parts_of T.PermTables machine.new) }
 {
     play(machine, &own_call(number, args), out)
 }
@@ -170,8 +170,8 @@ pub fn ask_inside<T: PermTables, const N: usize>(
     args: [u32; 4],
     out: &mut Events,
 ) -> Answer
-    requires { IsReady (parts_of T.kind T.maps T.size T.limits N machine.old) }
-    ensures { IsReady (parts_of T.kind T.maps T.size T.limits N machine.new) }
+    requires { IsReady (parts_of T.PermTables machine.old) }
+    ensures { IsReady (parts_of T.PermTables machine.new) }
 {
     let call = Call {
         number,
@@ -189,7 +189,7 @@ pub fn right<T: PermTables, const N: usize>(
     domain: u32,
     word: u32,
 ) -> Perm
-    requires ready { IsReady (parts_of T.kind T.maps T.size T.limits N machine.now) }
+    requires ready { IsReady (parts_of T.PermTables machine.now) }
     requires first { 1 ≤ domain }
     requires last { domain ≤ 2 }
     requires word { word < 16384 }
@@ -203,9 +203,9 @@ pub fn store<T: PermTables, const N: usize>(
     word: u32,
     value: u32,
 ) -> bool
-    requires ready { IsReady (parts_of T.kind T.maps T.size T.limits N machine.old) }
+    requires ready { IsReady (parts_of T.PermTables machine.old) }
     requires word { word < 16384 }
-    ensures { IsReady (parts_of T.kind T.maps T.size T.limits N machine.new) }
+    ensures { IsReady (parts_of T.PermTables machine.new) }
 {
     let addr = RAM_BASE + 4 * word;
     if !machine.checker.may(0, 5, 1, addr, Access::Write) {
@@ -217,14 +217,14 @@ pub fn store<T: PermTables, const N: usize>(
 
 /// The first live block of domain 1.
 pub fn first_block<T: PermTables, const N: usize>(machine: &Supervisor<T, N>) -> Option<Block>
-    requires { IsReady (parts_of T.kind T.maps T.size T.limits N machine.now) }
+    requires { IsReady (parts_of T.PermTables machine.now) }
 {
     machine.block(1, 0)
 }
 
 /// The heap area of domain 1.
 pub fn area_of<T: PermTables, const N: usize>(machine: &Supervisor<T, N>) -> Block
-    requires { IsReady (parts_of T.kind T.maps T.size T.limits N machine.now) }
+    requires { IsReady (parts_of T.PermTables machine.now) }
 {
     machine.heap_area(1)
 }
@@ -236,7 +236,7 @@ pub fn first_gate<T: PermTables, const N: usize>(machine: &Supervisor<T, N>) -> 
 
 /// What a word of RAM holds.
 pub fn word_at<T: PermTables, const N: usize>(machine: &Supervisor<T, N>, word: u32) -> u32
-    requires ready { IsReady (parts_of T.kind T.maps T.size T.limits N machine.now) }
+    requires ready { IsReady (parts_of T.PermTables machine.now) }
     requires word { word < 16384 }
 {
     machine.ram.word(word)
@@ -244,7 +244,7 @@ pub fn word_at<T: PermTables, const N: usize>(machine: &Supervisor<T, N>, word: 
 
 /// Who owns a word.
 pub fn owner_of<T: PermTables, const N: usize>(machine: &Supervisor<T, N>, word: u32) -> u32
-    requires ready { IsReady (parts_of T.kind T.maps T.size T.limits N machine.now) }
+    requires ready { IsReady (parts_of T.PermTables machine.now) }
     requires word { word < 16384 }
 {
     machine.owners.owner(word)

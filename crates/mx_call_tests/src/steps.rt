@@ -49,8 +49,8 @@ pub fn other_step<T: PermTables, const N: usize>(
     machine: &mut Supervisor<T, N>,
     steps: &[Step],
 ) -> Option<usize>
-    requires { IsReady (parts_of T.kind T.maps T.size T.limits N machine.old) }
-    ensures { IsReady (parts_of T.kind T.maps T.size T.limits N machine.new) }
+    requires { IsReady (parts_of T.PermTables machine.old) }
+    ensures { IsReady (parts_of T.PermTables machine.new) }
 {
     let mut out = Events::new();
     for (i, step) in steps.iter().enumerate() {
@@ -67,8 +67,8 @@ fn goes<T: PermTables, const N: usize>(
     step: &Step,
     out: &mut Events,
 ) -> bool
-    requires { IsReady (parts_of T.kind T.maps T.size T.limits N machine.old) }
-    ensures { IsReady (parts_of T.kind T.maps T.size T.limits N machine.new) }
+    requires { IsReady (parts_of T.PermTables machine.old) }
+    ensures { IsReady (parts_of T.PermTables machine.new) }
 {
     match *step {
         Step::Call(number, args, a0) => answers(machine, number, args, plain(a0), out),
@@ -119,8 +119,8 @@ fn answers<T: PermTables, const N: usize>(
     want: Answer,
     out: &mut Events,
 ) -> bool
-    requires { IsReady (parts_of T.kind T.maps T.size T.limits N machine.old) }
-    ensures { IsReady (parts_of T.kind T.maps T.size T.limits N machine.new) }
+    requires { IsReady (parts_of T.PermTables machine.old) }
+    ensures { IsReady (parts_of T.PermTables machine.new) }
 {
     ask(machine, number, args, out) == want
 }
@@ -132,8 +132,8 @@ fn splits<T: PermTables, const N: usize>(
     count: u32,
     out: &mut Events,
 ) -> bool
-    requires { IsReady (parts_of T.kind T.maps T.size T.limits N machine.old) }
-    ensures { IsReady (parts_of T.kind T.maps T.size T.limits N machine.new) }
+    requires { IsReady (parts_of T.PermTables machine.old) }
+    ensures { IsReady (parts_of T.PermTables machine.new) }
 {
     for i in 0..count {
         let address = first.wrapping_add(i.wrapping_mul(8));
@@ -151,8 +151,8 @@ fn stores<T: PermTables, const N: usize>(
     value: u32,
     may: bool,
 ) -> bool
-    requires { IsReady (parts_of T.kind T.maps T.size T.limits N machine.old) }
-    ensures { IsReady (parts_of T.kind T.maps T.size T.limits N machine.new) }
+    requires { IsReady (parts_of T.PermTables machine.old) }
+    ensures { IsReady (parts_of T.PermTables machine.new) }
 {
     if word >= WORDS {
         return false;
@@ -166,7 +166,7 @@ fn finds<T: PermTables, const N: usize>(
     step: Step,
     out: &Events,
 ) -> bool
-    requires { IsReady (parts_of T.kind T.maps T.size T.limits N machine.now) }
+    requires { IsReady (parts_of T.PermTables machine.now) }
 {
     match step {
         Step::Console(bytes) => three_bytes(out) == Some(bytes),

@@ -66,7 +66,7 @@ pub fn machine<T: PermTables + Drop, const N: usize>(
     requires gates { AllByRecursion (IsGate (length (T.maps tables)) (T.size tables)) gates }
     requires heaps { length heaps ≡ length (T.maps tables) }
     requires areas { AllByRecursion (EndsBy (T.size tables)) heaps }
-    ensures rest { IfSome result (λ s. IsAtRest 0 1 (parts_of T.kind T.maps T.size T.limits N s)) }
+    ensures rest { IfSome result (λ s. IsAtRest 0 1 (parts_of T.PermTables s)) }
     ensures modules { IfSome result (λ s. length (T.maps s.checker.tables) ≡ length (T.maps tables)) }
     ensures words { IfSome result (λ s. T.size s.checker.tables ≡ T.size tables) }
 {

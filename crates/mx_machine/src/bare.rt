@@ -53,7 +53,7 @@ impl<T: PermTables, const N: usize> Model for Bare<T, N> {
     ghost use Rattle.mx_supervisor.specs.Parts.{parts_of};
 
     ghost view = { λ b. record {
-      parts = parts_of T.kind T.maps T.size T.limits N b.bus.supervisor;
+      parts = parts_of T.PermTables b.bus.supervisor;
       harts = b.harts;
       stacks = b.stacks;
       dead = b.dead;

@@ -56,14 +56,14 @@ impl<T: PermTables, const N: usize> Machine<T, N> {
     /// one start for each hart of the checker, which has done nothing yet, and one stack area for each module, which lies in RAM for
     /// all harts or has no words.
     pub fn new(parts: Supervisor<T, N>, starts: &Starts, stacks: &Stacks) -> Machine<T, N>
-        requires joined { AreJoined (parts_of T.kind T.maps T.size T.limits N parts) }
+        requires joined { AreJoined (parts_of T.PermTables parts) }
         requires gates { AllByRecursion
             (IsGate (length (T.maps parts.checker.tables)) (T.size parts.checker.tables))
             parts.gates }
-        requires may { MayStart (parts_of T.kind T.maps T.size T.limits N parts)
+        requires may { MayStart (parts_of T.PermTables parts)
             starts.now stacks.now }
         ensures { result
-            ≡ started (parts_of T.kind T.maps T.size T.limits N parts) starts.now stacks.now }
+            ≡ started (parts_of T.PermTables parts) starts.now stacks.now }
     {
         spans_are_coherent();
         shape_of(parts.checker.tables());
@@ -97,14 +97,14 @@ impl<T: PermTables, const N: usize> Machine<T, N> {
         dead: &[bool; 64],
         steps: u64,
     ) -> Machine<T, N>
-        requires joined { AreJoined (parts_of T.kind T.maps T.size T.limits N parts) }
+        requires joined { AreJoined (parts_of T.PermTables parts) }
         requires gates { AllByRecursion
             (IsGate (length (T.maps parts.checker.tables)) (T.size parts.checker.tables))
             parts.gates }
-        requires may { MayResume (parts_of T.kind T.maps T.size T.limits N parts)
+        requires may { MayResume (parts_of T.PermTables parts)
             harts.now stacks.now dead.now steps }
         ensures { result
-            ≡ resumed (parts_of T.kind T.maps T.size T.limits N parts)
+            ≡ resumed (parts_of T.PermTables parts)
             harts.now stacks.now dead.now steps }
     {
         spans_are_coherent();

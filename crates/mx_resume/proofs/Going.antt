@@ -13,6 +13,7 @@ use Rattle.mx_words.specs.Need.{fits, need, within}
 use Rattle.mx_words.specs.Newest.{map}
 use Rattle.mx_words.specs.Ranges.{most_words}
 use Rattle.mx_words.specs.Runs.{Run}
+use Rattle.mx_table.specs.declared.tables.PermTables.{Ghosts}
 use Rattle.mx_table.specs.Tables.{IsRow, row_map}
 use Rattle.mx_check.specs.declared.flight.Flight.{Flight}
 use Rattle.mx_check.specs.Calls.{Checks, waiting_harts}
@@ -188,24 +189,24 @@ module _ (s : Stored) (x : code_head.Head) (rows : List (List Span)) (flown : Ha
       same kind maps size limit buffer harts ram owners gates heaps e1 e2 e3 e4 e5 e6 e7 e8 e9 e10 = rw (e1, e2, e3, e4, e5, e6, e7, e8, e9, e10) refl
 
 -- a supervisor over tables that are built of such rows
-module _ {T : Type 0} (kind : Kind) (maps : T → List (List Perm)) (size : T → ℕ) (limits : T → Need) (buffer : ℕ) (s : Stored) (x : code_head.Head) (rows : List (List Span)) (flown : Harts) (ram owners : List ℕ) (gates : List Gate) (heaps : List HeapState)
+module _ {T : Type 0} (tables : Ghosts T) (buffer : ℕ) (s : Stored) (x : code_head.Head) (rows : List (List Span)) (flown : Harts) (ram owners : List ℕ) (gates : List Gate) (heaps : List HeapState)
     (a : GivesParts s x rows flown ram owners gates heaps) (t : T)
-    (k : kind ≡ x.kind) (m : maps t ≡ list_map (row_map x.words) rows) (w : size t ≡ x.words) (l : limits t ≡ x.limit) (b : buffer ≡ x.lookaside)
+    (k : tables.kind ≡ x.kind) (m : tables.maps t ≡ list_map (row_map x.words) rows) (w : tables.size t ≡ x.words) (l : tables.limits t ≡ x.limit) (b : buffer ≡ x.lookaside)
     (checker : Checks T) (checks : checker ≡ (let c : Checks T = record { tables = t; harts = waiting_harts flown.flights x.harts } in c)) where
   abbrev over : Supervisor T buffer
   over = record { checker = checker; ram = ram; owners = owners; gates = gates; heaps = heaps }
 
-  parts-over : parts_of kind maps size limits buffer over ≡ parts_in s
+  parts-over : parts_of tables over ≡ parts_in s
   parts-over =
       let e : checker.tables ≡ t = ap (λ (c : Checks T). c.tables) checks in
-      joined s x rows flown ram owners gates heaps a kind (maps checker.tables) (size checker.tables) (limits checker.tables) buffer checker.harts
-      k (ap maps e ∙ m) (ap size e ∙ w) (ap limits e ∙ l) b (ap (λ (c : Checks T). c.harts) checks)
+      joined s x rows flown ram owners gates heaps a tables.kind (tables.maps checker.tables) (tables.size checker.tables) (tables.limits checker.tables) buffer checker.harts
+      k (ap tables.maps e ∙ m) (ap tables.size e ∙ w) (ap tables.limits e ∙ l) b (ap (λ (c : Checks T). c.harts) checks)
 
-  pub are-parts : AreParts (parts_of kind maps size limits buffer over)
+  pub are-parts : AreParts (parts_of tables over)
   are-parts = record { snapshot = s; valid = a.valid; same = parts-over }
 
-  pub parts-joined : (p : Supervisor T buffer) → p ≡ over → parts_of kind maps size limits buffer p ≡ parts_in s
-  parts-joined p e = ap (λ (y : Supervisor T buffer). parts_of kind maps size limits buffer y) e ∙ parts-over
+  pub parts-joined : (p : Supervisor T buffer) → p ≡ over → parts_of tables p ≡ parts_in s
+  parts-joined p e = ap (λ (y : Supervisor T buffer). parts_of tables y) e ∙ parts-over
 
 -- what is held, as the calls take it
 module _ (s : Stored) (f : IsStored s) (x : Held) (a : AreHeldOf s x) where

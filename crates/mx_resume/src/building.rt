@@ -94,7 +94,7 @@ fn join_on<T: PermTables, const N: usize>(
     gates: Gates,
     heaps: Heaps,
 ) -> Supervisor<T, N>
-    requires { AreParts (parts_of {N = N} T.kind T.maps T.size T.limits N
+    requires { AreParts (parts_of {N = N} T.PermTables
         (record {
           checker = checker;
           ram = ram;
@@ -121,9 +121,9 @@ fn go_on<T: PermTables, const N: usize>(
     dead: &[bool; 64],
     turns: u64,
 ) -> Machine<T, N>
-    requires { MayGo (parts_of T.kind T.maps T.size T.limits N parts)
+    requires { MayGo (parts_of T.PermTables parts)
         states.now stacks.now dead.now turns }
-    ensures { (s : Stored) → GoesFrom s (parts_of T.kind T.maps T.size T.limits N parts)
+    ensures { (s : Stored) → GoesFrom s (parts_of T.PermTables parts)
         states.now stacks.now dead.now turns → result ≡ flat (state_of s) }
 {
     Machine::resume(parts, states, stacks, dead, turns)
@@ -144,7 +144,7 @@ fn join<T: PermTables, const N: usize>(
     requires kind { T.kind ≡ head.now.kind }
     requires buffer { N ≡ head.now.lookaside }
     ensures { (s : Stored) → GivesParts s head.now rows.items harts.now ram owners gates heaps →
-        JoinsAs (λ p. parts_of T.kind T.maps T.size T.limits N p) s result }
+        JoinsAs (λ p. parts_of T.PermTables p) s result }
 {
     match tables::<T>(alloc, head, rows.as_slice()) {
         Ok(tables) => {

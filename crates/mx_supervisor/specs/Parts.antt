@@ -4,6 +4,7 @@ use Rattle.std.specs.Prelude.{map as list_map}
 use Rattle.mx_words.specs.declared.perm.Perm.{Perm}
 use Rattle.mx_words.specs.declared.tables.Kind.{Kind}
 use Rattle.mx_words.specs.declared.tables.Need.{Need}
+use Rattle.mx_table.specs.declared.tables.PermTables.{Ghosts}
 use Rattle.mx_table.specs.Tables.{map_of, most_modules, most_words, IsDomain}
 use Rattle.mx_check.specs.Harts.{Kept}
 use Rattle.mx_heap.specs.HeapState.{HeapState}
@@ -26,15 +27,14 @@ pub record Parts : Type 0 where
   pub gates : List Gate
   pub heaps : List HeapState
 
--- the parts of a supervisor over tables of a kind, by what the tables mean
-abbrev pub parts_of : {T : Type 0} {N : ℕ} → Kind → (T → List (List Perm)) → (T → ℕ) → (T → Need) →
-    ℕ → Supervisor T N → Parts
-parts_of kind maps size limit buffer s = record {
-  kind = kind;
-  maps = maps s.checker.tables;
-  size = size s.checker.tables;
-  limit = limit s.checker.tables;
-  buffer = buffer;
+-- the parts of a supervisor, by what its tables mean
+abbrev pub parts_of : {T : Type 0} {N : ℕ} → Ghosts T → Supervisor T N → Parts
+parts_of {T} {N} tables s = record {
+  kind = tables.kind;
+  maps = tables.maps s.checker.tables;
+  size = tables.size s.checker.tables;
+  limit = tables.limits s.checker.tables;
+  buffer = N;
   harts = s.checker.harts;
   ram = s.ram;
   owners = s.owners;

@@ -1,9 +1,7 @@
 -- What serving a call means: the answer and the parts afterwards are those that the model's call gives on the flat state.
 use Rattle.std.specs.Prelude.{◌≡◌, ℕ, ◌+◌, ◌<◌, ◌≤◌, true, false, List, [], length, if◌then◌else◌, Option, None, IfSome}
-use Rattle.mx_words.specs.declared.perm.Perm.{Perm}
-use Rattle.mx_words.specs.declared.tables.Kind.{Kind}
-use Rattle.mx_words.specs.declared.tables.Need.{Need}
 use Rattle.mx_words.specs.Announced.{announced, is_announced}
+use Rattle.mx_table.specs.declared.tables.PermTables.{Ghosts}
 use Rattle.mx_check.specs.declared.flight.Flight.{Flight}
 use Rattle.mx_check.specs.Calls.{is_ready}
 use Rattle.mx_check.specs.Conditions.{MayLook}
@@ -92,13 +90,11 @@ pub record Meets (row : Reads → Core → Call → Served) (call : Call) (after
   pub sound : IsSound new
 
 -- a row of the table of calls, by which the caller's call stays in flight
-abbrev pub Does : {T : Type 0} {N : ℕ} → Kind → (T → List (List Perm)) → (T → ℕ) → (T → Need) → ℕ →
-    Supervisor T N → Supervisor T N →
+abbrev pub Does : {T : Type 0} {N : ℕ} → Ghosts T → Supervisor T N → Supervisor T N →
     (Reads → Core → Call → Served) → Call → List ℕ → Answer → Type 0
-Does kind maps size limit buffer old new row call bytes answer =
+Does tables old new row call bytes answer =
     Meets row call (hart_at old.checker.harts call.hart).flight
-    (parts_of kind maps size limit buffer old) (parts_of kind maps size limit buffer new)
-    bytes answer
+    (parts_of tables old) (parts_of tables new) bytes answer
 
 -- a call by its row, without the end of its flight
 abbrev pub served_row : Reads → Core → Call → Served

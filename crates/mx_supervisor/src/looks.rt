@@ -31,11 +31,11 @@ const MOST_BYTES: u32 = 4096;
 impl<T: PermTables, const N: usize> Supervisor<T, N> {
     /// Call 2: bytes of RAM for the console.
     pub(crate) fn write(&mut self, call: &Call, out: &mut Events) -> Answer
-        requires sound { IsSound (parts_of T.kind T.maps T.size T.limits N self.old) }
+        requires sound { IsSound (parts_of T.PermTables self.old) }
         requires domain { IsDomain (T.maps self.old.checker.tables) call.now.domain }
         requires may { MayLook call.now.hart call.now.domain self.old.checker.harts }
         requires empty { out.old.bytes ≡ [] }
-        ensures does { Does T.kind T.maps T.size T.limits N
+        ensures does { Does T.PermTables
             self.old self.new serve_write call.now out.new.bytes result }
         ensures note { out.new.note ≡ out.old.note }
     {
@@ -60,10 +60,10 @@ impl<T: PermTables, const N: usize> Supervisor<T, N> {
 
     /// Call 13: a word of RAM exchanged for another.
     pub(crate) fn exchange(&mut self, call: &Call) -> Answer
-        requires sound { IsSound (parts_of T.kind T.maps T.size T.limits N self.old) }
+        requires sound { IsSound (parts_of T.PermTables self.old) }
         requires domain { IsDomain (T.maps self.old.checker.tables) call.now.domain }
         requires may { MayLook call.now.hart call.now.domain self.old.checker.harts }
-        ensures { Does T.kind T.maps T.size T.limits N
+        ensures { Does T.PermTables
             self.old self.new serve_exchange call.now [] result }
     {
         let Some(word) = self.arg_word(call) else {
@@ -83,7 +83,7 @@ impl<T: PermTables, const N: usize> Supervisor<T, N> {
 
     /// Whether some of the bytes lie outside RAM.
     fn is_outside(&self, addr: u32, count: u32) -> bool
-        requires { IsSound (parts_of T.kind T.maps T.size T.limits N self.now) }
+        requires { IsSound (parts_of T.PermTables self.now) }
         ensures { (nat_lt addr ram_base
             || nat_lt (ram_base + 4 * T.size self.now.checker.tables) (addr + count)) ≡ result }
     {
@@ -94,16 +94,16 @@ impl<T: PermTables, const N: usize> Supervisor<T, N> {
     /// Whether the caller may read each word that the bytes touch. It looks at them from the lowest on, and stops at the first that
     /// it may not read.
     fn may_read(&mut self, call: &Call, first: u32, behind: u32) -> bool
-        requires sound { IsSound (parts_of T.kind T.maps T.size T.limits N self.old) }
+        requires sound { IsSound (parts_of T.PermTables self.old) }
         requires domain { IsDomain (T.maps self.old.checker.tables) call.now.domain }
         requires may { MayLook call.now.hart call.now.domain self.old.checker.harts }
         requires inside { behind ≤ T.size self.old.checker.tables }
         ensures read { HasRead call.now (range_with_len first (behind - first))
-            (parts_of T.kind T.maps T.size T.limits N self.old)
-            (parts_of T.kind T.maps T.size T.limits N self.new) }
+            (parts_of T.PermTables self.old)
+            (parts_of T.PermTables self.new) }
         ensures answer { (rest : Core) →
             list_all (may_read (flat_reads (flat_of rest
-            (parts_of T.kind T.maps T.size T.limits N self.old))) call.now.domain)
+            (parts_of T.PermTables self.old))) call.now.domain)
             (range_with_len first (behind - first)) ≡ result }
     {
         for word in first..behind {
@@ -116,12 +116,12 @@ impl<T: PermTables, const N: usize> Supervisor<T, N> {
 
     /// Whether the caller may access a word of RAM.
     fn look(&mut self, call: &Call, word: u32, access: Access) -> bool
-        requires sound { IsSound (parts_of T.kind T.maps T.size T.limits N self.old) }
+        requires sound { IsSound (parts_of T.PermTables self.old) }
         requires domain { IsDomain (T.maps self.old.checker.tables) call.now.domain }
         requires may { MayLook call.now.hart call.now.domain self.old.checker.harts }
         requires inside { word < T.size self.old.checker.tables }
-        ensures looked { HasLooked call.now word (parts_of T.kind T.maps T.size T.limits N self.old)
-            (parts_of T.kind T.maps T.size T.limits N self.new) }
+        ensures looked { HasLooked call.now word (parts_of T.PermTables self.old)
+            (parts_of T.PermTables self.new) }
         ensures answer { allows (perm_at (map_in (T.size self.old.checker.tables)
             (T.maps self.old.checker.tables) call.now.domain) word) access ≡ result }
     {
@@ -146,11 +146,11 @@ impl<T: PermTables, const N: usize> Supervisor<T, N> {
 
     /// Puts a number into a word, and tells the one that was there.
     fn put(&mut self, word: u32, value: u32) -> u32
-        requires sound { IsSound (parts_of T.kind T.maps T.size T.limits N self.old) }
+        requires sound { IsSound (parts_of T.PermTables self.old) }
         requires inside { word < T.size self.old.checker.tables }
         ensures old { result ≡ number_at self.old.ram (4 * word) 4 }
-        ensures put { parts_of T.kind T.maps T.size T.limits N self.new
-            ≡ record (parts_of T.kind T.maps T.size T.limits N self.old)
+        ensures put { parts_of T.PermTables self.new
+            ≡ record (parts_of T.PermTables self.old)
             { ram = put_at self.old.ram (4 * word) 4 value } }
     {
         let old = self.ram.word(word);

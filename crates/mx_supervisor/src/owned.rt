@@ -22,10 +22,10 @@ use mx_words::{Perm, Span};
 impl<T: PermTables, const N: usize> Supervisor<T, N> {
     /// Call 5: another owner for the caller's words outside its heap area.
     pub(crate) fn transfer(&mut self, call: &Call) -> Answer
-        requires sound { IsSound (parts_of T.kind T.maps T.size T.limits N self.old) }
+        requires sound { IsSound (parts_of T.PermTables self.old) }
         requires domain { IsDomain (T.maps self.old.checker.tables) call.now.domain }
         requires may { MayLook call.now.hart call.now.domain self.old.checker.harts }
-        ensures { Does T.kind T.maps T.size T.limits N
+        ensures { Does T.PermTables
             self.old self.new serve_transfer call.now [] result }
     {
         let Some((first, count)) = self.arg_range(call) else {
@@ -49,10 +49,10 @@ impl<T: PermTables, const N: usize> Supervisor<T, N> {
 
     /// Call 8: a gate into the caller at one of its words, for another domain.
     pub(crate) fn add_gate(&mut self, call: &Call) -> Answer
-        requires sound { IsSound (parts_of T.kind T.maps T.size T.limits N self.old) }
+        requires sound { IsSound (parts_of T.PermTables self.old) }
         requires domain { IsDomain (T.maps self.old.checker.tables) call.now.domain }
         requires may { MayLook call.now.hart call.now.domain self.old.checker.harts }
-        ensures { Does T.kind T.maps T.size T.limits N
+        ensures { Does T.PermTables
             self.old self.new serve_gate call.now [] result }
     {
         let Some(word) = self.arg_word(call) else {
@@ -78,10 +78,10 @@ impl<T: PermTables, const N: usize> Supervisor<T, N> {
 
     /// Call 9: a gate at one of the caller's words is removed.
     pub(crate) fn remove_gate(&mut self, call: &Call) -> Answer
-        requires sound { IsSound (parts_of T.kind T.maps T.size T.limits N self.old) }
+        requires sound { IsSound (parts_of T.PermTables self.old) }
         requires domain { IsDomain (T.maps self.old.checker.tables) call.now.domain }
         requires may { MayLook call.now.hart call.now.domain self.old.checker.harts }
-        ensures { Does T.kind T.maps T.size T.limits N
+        ensures { Does T.PermTables
             self.old self.new serve_ungate call.now [] result }
     {
         let Some(word) = self.arg_word(call) else {
@@ -102,10 +102,10 @@ impl<T: PermTables, const N: usize> Supervisor<T, N> {
 
     /// Call 10: a return gate of the caller at one of its words.
     pub(crate) fn add_return_gate(&mut self, call: &Call) -> Answer
-        requires sound { IsSound (parts_of T.kind T.maps T.size T.limits N self.old) }
+        requires sound { IsSound (parts_of T.PermTables self.old) }
         requires domain { IsDomain (T.maps self.old.checker.tables) call.now.domain }
         requires may { MayLook call.now.hart call.now.domain self.old.checker.harts }
-        ensures { Does T.kind T.maps T.size T.limits N
+        ensures { Does T.PermTables
             self.old self.new serve_return_gate call.now [] result }
     {
         let Some(word) = self.arg_word(call) else {
@@ -127,10 +127,10 @@ impl<T: PermTables, const N: usize> Supervisor<T, N> {
 
     /// Call 11: the number of a permission, on the caller's words for every module, and for the caller on every word.
     pub(crate) fn query(&self, call: &Call) -> Answer
-        requires sound { IsSound (parts_of T.kind T.maps T.size T.limits N self.now) }
+        requires sound { IsSound (parts_of T.PermTables self.now) }
         requires domain { IsDomain (T.maps self.now.checker.tables) call.now.domain }
         requires may { MayLook call.now.hart call.now.domain self.now.checker.harts }
-        ensures { Does T.kind T.maps T.size T.limits N
+        ensures { Does T.PermTables
             self.now self.now serve_query call.now [] result }
     {
         let Some(word) = self.arg_word(call) else {
@@ -163,10 +163,10 @@ impl<T: PermTables, const N: usize> Supervisor<T, N> {
 
     /// Whether a number is a module's, and not the caller's.
     fn is_other(&self, call: &Call, domain: u32) -> bool
-        requires { IsSound (parts_of T.kind T.maps T.size T.limits N self.now) }
+        requires { IsSound (parts_of T.PermTables self.now) }
         ensures { (rest : Core) →
             (not (is_module (core_of rest
-            (parts_of T.kind T.maps T.size T.limits N self.now)) domain)
+            (parts_of T.PermTables self.now)) domain)
             || (domain == call.now.domain)) ≡ not result }
     {
         self.is_module(domain) && domain != call.domain
@@ -174,7 +174,7 @@ impl<T: PermTables, const N: usize> Supervisor<T, N> {
 
     /// Whether the caller may not ask for a domain's permission on a word.
     fn is_secret(&self, call: &Call, domain: u32, word: u32) -> bool
-        requires sound { IsSound (parts_of T.kind T.maps T.size T.limits N self.now) }
+        requires sound { IsSound (parts_of T.PermTables self.now) }
         requires inside { word < T.size self.now.checker.tables }
         ensures { (not (domain == call.now.domain)
             && not (slice_index self.now.owners word == call.now.domain)) ≡ result }
@@ -184,21 +184,21 @@ impl<T: PermTables, const N: usize> Supervisor<T, N> {
 
     /// Gives a domain a range. False, with nothing changed, exactly where the owners would form too many runs.
     fn try_give(&mut self, domain: u32, first: u32, count: u32) -> bool
-        requires sound { IsSound (parts_of T.kind T.maps T.size T.limits N self.old) }
+        requires sound { IsSound (parts_of T.PermTables self.old) }
         requires some { 0 < count }
         requires inside { first + count ≤ T.size self.old.checker.tables }
         ensures fits { (rest : Core) →
-            (flat_reads (flat_of rest (parts_of T.kind T.maps T.size T.limits N self.old))).few_runs
+            (flat_reads (flat_of rest (parts_of T.PermTables self.old))).few_runs
             (record { first = first; count = count; value = domain }) ≡ result }
         ensures done { result ≡ true →
-            parts_of T.kind T.maps T.size T.limits N self.new
-            ≡ record (parts_of T.kind T.maps T.size T.limits N self.old) {
+            parts_of T.PermTables self.new
+            ≡ record (parts_of T.PermTables self.old) {
               owners = laid
                   (record { first = first; count = count; value = domain }) self.old.owners;
             } }
         ensures kept { result ≡ false →
-            parts_of T.kind T.maps T.size T.limits N self.new
-            ≡ parts_of T.kind T.maps T.size T.limits N self.old }
+            parts_of T.PermTables self.new
+            ≡ parts_of T.PermTables self.old }
     {
         self.owners.give(domain, first, count).is_ok()
     }
@@ -207,12 +207,12 @@ impl<T: PermTables, const N: usize> Supervisor<T, N> {
     fn try_gate(&mut self, gate: Gate) -> bool
         ensures fits { no_gate_fits self.old.gates gate.domain gate.word ≡ not result }
         ensures done { result ≡ true →
-            parts_of T.kind T.maps T.size T.limits N self.new
-            ≡ record (parts_of T.kind T.maps T.size T.limits N self.old)
+            parts_of T.PermTables self.new
+            ≡ record (parts_of T.PermTables self.old)
             { gates = with_gate gate self.old.gates } }
         ensures kept { result ≡ false →
-            parts_of T.kind T.maps T.size T.limits N self.new
-            ≡ parts_of T.kind T.maps T.size T.limits N self.old }
+            parts_of T.PermTables self.new
+            ≡ parts_of T.PermTables self.old }
     {
         self.gates.add(gate).is_ok()
     }
@@ -220,12 +220,12 @@ impl<T: PermTables, const N: usize> Supervisor<T, N> {
     /// Removes the gate of a domain and word. False, with nothing changed, exactly where none stands there.
     fn take_gate(&mut self, domain: u32, word: u32) -> bool
         ensures stood { has_gate self.old.gates domain word ≡ result }
-        ensures done { parts_of T.kind T.maps T.size T.limits N self.new
-            ≡ record (parts_of T.kind T.maps T.size T.limits N self.old)
+        ensures done { parts_of T.PermTables self.new
+            ≡ record (parts_of T.PermTables self.old)
             { gates = without_gate domain word self.old.gates } }
         ensures kept { result ≡ false →
-            parts_of T.kind T.maps T.size T.limits N self.new
-            ≡ parts_of T.kind T.maps T.size T.limits N self.old }
+            parts_of T.PermTables self.new
+            ≡ parts_of T.PermTables self.old }
     {
         self.gates.remove(domain, word)
     }

@@ -97,12 +97,12 @@ impl<T: PermTables, const N: usize> Supervisor<T, N> {
     /// Makes a change of the caller's ready call, inside its range. False, with nothing changed, exactly where the maps would then
     /// exceed the tables' limit.
     fn try_change(&mut self, call: &Call, change: &Change) -> bool
-        requires announced { HasAnnounced (parts_of T.kind T.maps T.size T.limits N self.old)
+        requires announced { HasAnnounced (parts_of T.PermTables self.old)
             call.now }
         requires lawful { IsLawful change.now (T.size self.old.checker.tables)
             (length (T.maps self.old.checker.tables)) }
         requires inside { IsIn change.now.first change.now.count
-            (range_of (parts_of T.kind T.maps T.size T.limits N self.old) call.now) }
+            (range_of (parts_of T.PermTables self.old) call.now) }
         ensures fits { (first count : ℕ) (given : ℕ → Option Perm) →
             Gives change.now first count (length (T.maps self.old.checker.tables)) given →
             fits T.kind (T.limits self.old.checker.tables)
@@ -110,24 +110,24 @@ impl<T: PermTables, const N: usize> Supervisor<T, N> {
         ensures done { (first count : ℕ) (given : ℕ → Option Perm) →
             Gives change.now first count (length (T.maps self.old.checker.tables)) given →
             result ≡ true →
-            parts_of T.kind T.maps T.size T.limits N self.new
-            ≡ record (parts_of T.kind T.maps T.size T.limits N self.old)
+            parts_of T.PermTables self.new
+            ≡ record (parts_of T.PermTables self.old)
             { maps = changed_maps first count given (T.maps self.old.checker.tables) } }
         ensures kept { result ≡ false →
-            parts_of T.kind T.maps T.size T.limits N self.new
-            ≡ parts_of T.kind T.maps T.size T.limits N self.old }
+            parts_of T.PermTables self.new
+            ≡ parts_of T.PermTables self.old }
     {
         self.checker.change(call.hart, change).is_ok()
     }
 
     /// Call 3: a permission for one module on the caller's words.
     pub(crate) fn grant(&mut self, call: &Call) -> Answer
-        requires sound { IsSound (parts_of T.kind T.maps T.size T.limits N self.old) }
+        requires sound { IsSound (parts_of T.PermTables self.old) }
         requires domain { IsDomain (T.maps self.old.checker.tables) call.now.domain }
-        requires announced { HasAnnounced (parts_of T.kind T.maps T.size T.limits N self.old)
+        requires announced { HasAnnounced (parts_of T.PermTables self.old)
             call.now }
         requires number { call.now.number ≡ 3 }
-        ensures { Does T.kind T.maps T.size T.limits N
+        ensures { Does T.PermTables
             self.old self.new serve_grant call.now [] result }
     {
         let Some((first, count)) = self.arg_range(call) else {
@@ -152,12 +152,12 @@ impl<T: PermTables, const N: usize> Supervisor<T, N> {
 
     /// Call 4: no right on the caller's words for any other module.
     pub(crate) fn revoke_all(&mut self, call: &Call) -> Answer
-        requires sound { IsSound (parts_of T.kind T.maps T.size T.limits N self.old) }
+        requires sound { IsSound (parts_of T.PermTables self.old) }
         requires domain { IsDomain (T.maps self.old.checker.tables) call.now.domain }
-        requires announced { HasAnnounced (parts_of T.kind T.maps T.size T.limits N self.old)
+        requires announced { HasAnnounced (parts_of T.PermTables self.old)
             call.now }
         requires number { call.now.number ≡ 4 }
-        ensures { Does T.kind T.maps T.size T.limits N
+        ensures { Does T.PermTables
             self.old self.new serve_revoke_all call.now [] result }
     {
         let Some((first, count)) = self.arg_range(call) else {
@@ -175,12 +175,12 @@ impl<T: PermTables, const N: usize> Supervisor<T, N> {
 
     /// Call 6: a zero-filled block in the caller's heap area, for the caller alone.
     pub(crate) fn alloc(&mut self, call: &Call) -> Answer
-        requires sound { IsSound (parts_of T.kind T.maps T.size T.limits N self.old) }
+        requires sound { IsSound (parts_of T.PermTables self.old) }
         requires domain { IsDomain (T.maps self.old.checker.tables) call.now.domain }
-        requires announced { HasAnnounced (parts_of T.kind T.maps T.size T.limits N self.old)
+        requires announced { HasAnnounced (parts_of T.PermTables self.old)
             call.now }
         requires number { call.now.number ≡ 6 }
-        ensures { Does T.kind T.maps T.size T.limits N
+        ensures { Does T.PermTables
             self.old self.new serve_alloc call.now [] result }
     {
         let [words, _, _, _] = call.args;
@@ -203,12 +203,12 @@ impl<T: PermTables, const N: usize> Supervisor<T, N> {
 
     /// Call 7: a block of the caller ends, and no module has a right on its words.
     pub(crate) fn free(&mut self, call: &Call) -> Answer
-        requires sound { IsSound (parts_of T.kind T.maps T.size T.limits N self.old) }
+        requires sound { IsSound (parts_of T.PermTables self.old) }
         requires domain { IsDomain (T.maps self.old.checker.tables) call.now.domain }
-        requires announced { HasAnnounced (parts_of T.kind T.maps T.size T.limits N self.old)
+        requires announced { HasAnnounced (parts_of T.PermTables self.old)
             call.now }
         requires number { call.now.number ≡ 7 }
-        ensures { Does T.kind T.maps T.size T.limits N
+        ensures { Does T.PermTables
             self.old self.new serve_free call.now [] result }
     {
         let Some((first, count)) = self.arg_block(call) else {

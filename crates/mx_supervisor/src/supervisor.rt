@@ -53,7 +53,7 @@ impl<T: PermTables, const N: usize> Supervisor<T, N> {
         gates: Gates,
         heaps: Heaps,
     ) -> Supervisor<T, N>
-        requires joined { AreJoined (parts_of {N = N} T.kind T.maps T.size T.limits N
+        requires joined { AreJoined (parts_of {N = N} T.PermTables
             (record {
               checker = checker;
               ram = ram;
@@ -84,11 +84,11 @@ impl<T: PermTables, const N: usize> Supervisor<T, N> {
     /// The range that a call may change, which is announced for it: the first word and the number of words. For calls 3 and 4 it
     /// is the range of a0 and a1, for calls 6 and 7 the caller's heap area, and (0, 0) for nothing. The number is one of these.
     pub fn announced(&self, call: &Call) -> (u32, u32)
-        requires joined { AreJoined (parts_of T.kind T.maps T.size T.limits N self.now) }
+        requires joined { AreJoined (parts_of T.PermTables self.now) }
         requires announced { is_announced call.now.number ≡ true }
         requires domain { IsDomain (T.maps self.now.checker.tables) call.now.domain }
         ensures range { result
-            ≡ range_of (parts_of T.kind T.maps T.size T.limits N self.now) call.now }
+            ≡ range_of (parts_of T.PermTables self.now) call.now }
         ensures within { IsWithin result.0 result.1 (T.size self.now.checker.tables) }
     {
         let [addr, size, _, _] = call.args;
@@ -100,23 +100,23 @@ impl<T: PermTables, const N: usize> Supervisor<T, N> {
     /// no longer in flight afterwards; for another call the hart may look at words in its domain. No console bytes stand in `out`,
     /// and those of the call are put there.
     pub fn serve(&mut self, call: &Call, out: &mut Events) -> Answer
-        requires joined { AreJoined (parts_of T.kind T.maps T.size T.limits N self.old) }
+        requires joined { AreJoined (parts_of T.PermTables self.old) }
         requires domain { IsDomain (T.maps self.old.checker.tables) call.now.domain }
-        requires may { MayServe (parts_of T.kind T.maps T.size T.limits N self.old) call.now }
+        requires may { MayServe (parts_of T.PermTables self.old) call.now }
         requires empty { out.old.bytes ≡ [] }
-        ensures served { ServesAs serve call.now (parts_of T.kind T.maps T.size T.limits N self.old)
-            (parts_of T.kind T.maps T.size T.limits N self.new) out.new.bytes result }
+        ensures served { ServesAs serve call.now (parts_of T.PermTables self.old)
+            (parts_of T.PermTables self.new) out.new.bytes result }
         ensures refused { is_refusal result ≡ true →
-            IsSpared (parts_of T.kind T.maps T.size T.limits N self.old)
-            (parts_of T.kind T.maps T.size T.limits N self.new) out.new.bytes }
+            IsSpared (parts_of T.PermTables self.old)
+            (parts_of T.PermTables self.new) out.new.bytes }
         ensures note { out.new.note ≡ out.old.note }
         ensures harts { KeepsHarts call.now (flight_after call.now self.old.checker.harts)
             self.old.checker.harts self.new.checker.harts }
         ensures again { MayLook call.now.hart call.now.domain self.old.checker.harts →
             MayLook call.now.hart call.now.domain self.new.checker.harts }
-        ensures sizes { KeepsSizes (parts_of T.kind T.maps T.size T.limits N self.old)
-            (parts_of T.kind T.maps T.size T.limits N self.new) }
-        ensures sound { IsSound (parts_of T.kind T.maps T.size T.limits N self.new) }
+        ensures sizes { KeepsSizes (parts_of T.PermTables self.old)
+            (parts_of T.PermTables self.new) }
+        ensures sound { IsSound (parts_of T.PermTables self.new) }
     {
         let answer = self.serve_row(call, out);
         if is_announced(call.number) {
@@ -127,11 +127,11 @@ impl<T: PermTables, const N: usize> Supervisor<T, N> {
 
     /// A call by its number. One that was announced stays in flight.
     fn serve_row(&mut self, call: &Call, out: &mut Events) -> Answer
-        requires sound { IsSound (parts_of T.kind T.maps T.size T.limits N self.old) }
+        requires sound { IsSound (parts_of T.PermTables self.old) }
         requires domain { IsDomain (T.maps self.old.checker.tables) call.now.domain }
-        requires may { MayServe (parts_of T.kind T.maps T.size T.limits N self.old) call.now }
+        requires may { MayServe (parts_of T.PermTables self.old) call.now }
         requires empty { out.old.bytes ≡ [] }
-        ensures does { Does T.kind T.maps T.size T.limits N
+        ensures does { Does T.PermTables
             self.old self.new served_row call.now out.new.bytes result }
         ensures note { out.new.note ≡ out.old.note }
     {

@@ -50,12 +50,12 @@ pub fn announced_range(number: u32, a0: u32, a1: u32, words: u32, heap: Block) -
 impl<T: PermTables, const N: usize> Supervisor<T, N> {
     /// The words of the range of a0 and a1.
     pub(crate) fn arg_range(&self, call: &Call) -> Option<(u32, u32)>
-        requires { IsSound (parts_of T.kind T.maps T.size T.limits N self.now) }
+        requires { IsSound (parts_of T.PermTables self.now) }
         ensures there { (rest : Core) →
-            no_range (core_of rest (parts_of T.kind T.maps T.size T.limits N self.now)) call.now
+            no_range (core_of rest (parts_of T.PermTables self.now)) call.now
             ≡ not (is_some result) }
         ensures range { IfSome result (λ r. (rest : Core) →
-            arg_range (core_of rest (parts_of T.kind T.maps T.size T.limits N self.now)) call.now
+            arg_range (core_of rest (parts_of T.PermTables self.now)) call.now
             ≡ r) }
         ensures inside { IfSome result
             (λ r. (0 < r.1) × (r.0 + r.1 ≤ T.size self.now.checker.tables)) }
@@ -66,9 +66,9 @@ impl<T: PermTables, const N: usize> Supervisor<T, N> {
 
     /// The word at a0.
     pub(crate) fn arg_word(&self, call: &Call) -> Option<u32>
-        requires { IsSound (parts_of T.kind T.maps T.size T.limits N self.now) }
+        requires { IsSound (parts_of T.PermTables self.now) }
         ensures there { (rest : Core) →
-            is_word (core_of rest (parts_of T.kind T.maps T.size T.limits N self.now))
+            is_word (core_of rest (parts_of T.PermTables self.now))
             (arg call.now 0) ≡ is_some result }
         ensures word { IfSome result (λ w. arg_word call.now ≡ w) }
         ensures inside { IfSome result
@@ -83,10 +83,10 @@ impl<T: PermTables, const N: usize> Supervisor<T, N> {
 
     /// The first word and the number of words of the caller's live block that begins at a0.
     pub(crate) fn arg_block(&self, call: &Call) -> Option<(u32, u32)>
-        requires sound { IsSound (parts_of T.kind T.maps T.size T.limits N self.now) }
+        requires sound { IsSound (parts_of T.PermTables self.now) }
         requires domain { IsDomain (T.maps self.now.checker.tables) call.now.domain }
         ensures there { (rest : Core) →
-            freed_count (core_of rest (parts_of T.kind T.maps T.size T.limits N self.now)) call.now
+            freed_count (core_of rest (parts_of T.PermTables self.now)) call.now
             ≡ option_map (λ b. b.1) result }
         ensures word { IfSome result (λ b. arg_word call.now ≡ b.0) }
         ensures some { IfSome result (λ b. 0 < b.1) }
@@ -111,9 +111,9 @@ impl<T: PermTables, const N: usize> Supervisor<T, N> {
 
     /// Whether a number is a module's.
     pub(crate) fn is_module(&self, domain: u32) -> bool
-        requires { IsSound (parts_of T.kind T.maps T.size T.limits N self.now) }
+        requires { IsSound (parts_of T.PermTables self.now) }
         ensures module { (rest : Core) →
-            is_module (core_of rest (parts_of T.kind T.maps T.size T.limits N self.now)) domain
+            is_module (core_of rest (parts_of T.PermTables self.now)) domain
             ≡ result }
         ensures domain { IsTrue result ↔ IsDomain (T.maps self.now.checker.tables) domain }
     {
@@ -122,11 +122,11 @@ impl<T: PermTables, const N: usize> Supervisor<T, N> {
 
     /// Whether the caller owns each word of a range.
     pub(crate) fn owns(&self, call: &Call, first: u32, count: u32) -> bool
-        requires sound { IsSound (parts_of T.kind T.maps T.size T.limits N self.now) }
+        requires sound { IsSound (parts_of T.PermTables self.now) }
         requires some { 0 < count }
         requires inside { first + count ≤ T.size self.now.checker.tables }
         ensures { (rest : Core) →
-            owns (flat_reads (flat_of rest (parts_of T.kind T.maps T.size T.limits N self.now)))
+            owns (flat_reads (flat_of rest (parts_of T.PermTables self.now)))
             call.now (first, count) ≡ result }
     {
         self.owners.owns(call.domain, first, count)
@@ -134,7 +134,7 @@ impl<T: PermTables, const N: usize> Supervisor<T, N> {
 
     /// Whether the caller doesn't own a word.
     pub(crate) fn is_foreign(&self, call: &Call, word: u32) -> bool
-        requires sound { IsSound (parts_of T.kind T.maps T.size T.limits N self.now) }
+        requires sound { IsSound (parts_of T.PermTables self.now) }
         requires inside { word < T.size self.now.checker.tables }
         ensures { not (slice_index self.now.owners word == call.now.domain) ≡ result }
     {

@@ -80,7 +80,7 @@ pub fn with_modules<T: PermTables + Drop, const N: usize>(
     requires some { 1 ≤ modules }
     requires few { modules ≤ 63 }
     requires buffer { N ≤ 64 }
-    ensures { IfSome result (λ s. IsAtRest 0 1 (parts_of T.kind T.maps T.size T.limits N s)) }
+    ensures { IfSome result (λ s. IsAtRest 0 1 (parts_of T.PermTables s)) }
 {
     let rows = rows(alloc, modules)?;
     let Ok(tables) = T::build(alloc, MOST_WORDS, &rows, LIMIT) else {
@@ -98,8 +98,8 @@ fn ask<T: PermTables, const N: usize>(
     args: [u32; 4],
     out: &mut Events,
 ) -> u32
-    requires { IsAtRest 0 1 (parts_of T.kind T.maps T.size T.limits N machine.old) }
-    ensures { IsAtRest 0 1 (parts_of T.kind T.maps T.size T.limits N machine.new) }
+    requires { IsAtRest 0 1 (parts_of T.PermTables machine.old) }
+    ensures { IsAtRest 0 1 (parts_of T.PermTables machine.new) }
 {
     play(machine, &own_call(number, args), out).a0
 }
@@ -110,8 +110,8 @@ pub fn grants_done<T: PermTables, const N: usize>(
     domain: u32,
     rounds: u64,
 ) -> u64
-    requires { IsAtRest 0 1 (parts_of T.kind T.maps T.size T.limits N machine.old) }
-    ensures { IsAtRest 0 1 (parts_of T.kind T.maps T.size T.limits N machine.new) }
+    requires { IsAtRest 0 1 (parts_of T.PermTables machine.old) }
+    ensures { IsAtRest 0 1 (parts_of T.PermTables machine.new) }
 {
     let mut out = Events::new();
     let mut done = 0u64;
@@ -130,8 +130,8 @@ pub fn blocks_ended<T: PermTables, const N: usize>(
     words: u32,
     rounds: u64,
 ) -> u64
-    requires { IsAtRest 0 1 (parts_of T.kind T.maps T.size T.limits N machine.old) }
-    ensures { IsAtRest 0 1 (parts_of T.kind T.maps T.size T.limits N machine.new) }
+    requires { IsAtRest 0 1 (parts_of T.PermTables machine.old) }
+    ensures { IsAtRest 0 1 (parts_of T.PermTables machine.new) }
 {
     let mut out = Events::new();
     let mut ended = 0u64;
@@ -149,8 +149,8 @@ pub fn transfers_done<T: PermTables, const N: usize>(
     machine: &mut Supervisor<T, N>,
     rounds: u64,
 ) -> u64
-    requires { IsAtRest 0 1 (parts_of T.kind T.maps T.size T.limits N machine.old) }
-    ensures { IsAtRest 0 1 (parts_of T.kind T.maps T.size T.limits N machine.new) }
+    requires { IsAtRest 0 1 (parts_of T.PermTables machine.old) }
+    ensures { IsAtRest 0 1 (parts_of T.PermTables machine.new) }
 {
     times_answered(machine, 5, [WORD, 4, 1, 0], 0, rounds)
 }
@@ -160,8 +160,8 @@ pub fn queries_answered<T: PermTables, const N: usize>(
     machine: &mut Supervisor<T, N>,
     rounds: u64,
 ) -> u64
-    requires { IsAtRest 0 1 (parts_of T.kind T.maps T.size T.limits N machine.old) }
-    ensures { IsAtRest 0 1 (parts_of T.kind T.maps T.size T.limits N machine.new) }
+    requires { IsAtRest 0 1 (parts_of T.PermTables machine.old) }
+    ensures { IsAtRest 0 1 (parts_of T.PermTables machine.new) }
 {
     times_answered(machine, 11, [0x8000_4000, 1, 0, 0], 0, rounds)
 }
@@ -171,8 +171,8 @@ pub fn selves_told<T: PermTables, const N: usize>(
     machine: &mut Supervisor<T, N>,
     rounds: u64,
 ) -> u64
-    requires { IsAtRest 0 1 (parts_of T.kind T.maps T.size T.limits N machine.old) }
-    ensures { IsAtRest 0 1 (parts_of T.kind T.maps T.size T.limits N machine.new) }
+    requires { IsAtRest 0 1 (parts_of T.PermTables machine.old) }
+    ensures { IsAtRest 0 1 (parts_of T.PermTables machine.new) }
 {
     times_answered(machine, 12, [0; 4], 1, rounds)
 }
@@ -185,8 +185,8 @@ fn times_answered<T: PermTables, const N: usize>(
     want: u32,
     rounds: u64,
 ) -> u64
-    requires { IsAtRest 0 1 (parts_of T.kind T.maps T.size T.limits N machine.old) }
-    ensures { IsAtRest 0 1 (parts_of T.kind T.maps T.size T.limits N machine.new) }
+    requires { IsAtRest 0 1 (parts_of T.PermTables machine.old) }
+    ensures { IsAtRest 0 1 (parts_of T.PermTables machine.new) }
 {
     let mut out = Events::new();
     let mut times = 0u64;

@@ -207,8 +207,8 @@ fn time_rights<T: PermTables, const N: usize>(
     modules: u32,
     rounds: u64,
 ) -> io::Result<()>
-    requires { IsAtRest 0 1 (parts_of T.kind T.maps T.size T.limits N machine.old) }
-    ensures { IsAtRest 0 1 (parts_of T.kind T.maps T.size T.limits N machine.new) }
+    requires { IsAtRest 0 1 (parts_of T.PermTables machine.old) }
+    ensures { IsAtRest 0 1 (parts_of T.PermTables machine.new) }
 {
     let begun = rt.thread_cpu_time()?;
     let granted = calls::grants_done(machine, modules, rounds);
@@ -231,7 +231,7 @@ fn time_others<T: PermTables, const N: usize>(
     machine: &mut Supervisor<T, N>,
     rounds: u64,
 ) -> io::Result<()>
-    requires { IsAtRest 0 1 (parts_of T.kind T.maps T.size T.limits N machine.old) }
+    requires { IsAtRest 0 1 (parts_of T.PermTables machine.old) }
 {
     let begun = rt.thread_cpu_time()?;
     let given = calls::transfers_done(machine, rounds);

@@ -6,7 +6,7 @@ use Rattle.mx_call_tests.proofs.calls.play.Goals as goal
 
 pub serve-requires : goal.serve-requires
 serve-requires g c =
-    let p = parts_of g.T.PermTables.kind g.T.PermTables.maps g.T.PermTables.size g.T.PermTables.limits g.row.N c.args.machine.now in
+    let p = parts_of g.T.PermTables c.args.machine.now in
     let call = c.args.call.now in
     rw c.clear.ensures (
       assumption c,

@@ -12,12 +12,12 @@ announced-first-requires g c = (assumption c, (joined-sound _ c.requires.rest.so
 
 pub announce-requires : goal.announce-requires
 announce-requires g c =
-    let p = parts_of g.T.PermTables.kind g.T.PermTables.maps g.T.PermTables.size g.T.PermTables.limits g.row.N c.args.machine.now in
+    let p = parts_of g.T.PermTables c.args.machine.now in
     (omega arith, (may-announce c.args.call.now.hart c.args.call.now.domain p c.requires.rest, c.announced-first.ensures.within))
 
 pub serve-requires : goal.serve-requires
 serve-requires g c =
-    let p = parts_of g.T.PermTables.kind g.T.PermTables.maps g.T.PermTables.size g.T.PermTables.limits g.row.N c.args.machine.now in
+    let p = parts_of g.T.PermTables c.args.machine.now in
     let call = c.args.call.now in
     let r = c.announced-first.result in
     rw c.announce.ensures (
@@ -33,7 +33,7 @@ serve-requires g c =
 
 pub returns-clause-rest : goal.returns-clause-rest
 returns-clause-rest g c =
-    let p = parts_of g.T.PermTables.kind g.T.PermTables.maps g.T.PermTables.size g.T.PermTables.limits g.row.N c.args.machine.now in
+    let p = parts_of g.T.PermTables c.args.machine.now in
     let call = c.args.call.now in
     let r = c.announced-first.result in
     let harts : c.announce.new.self.harts ≡ announces call.hart r p.harts = ap (λ (x : Checks _). x.harts) c.announce.ensures in

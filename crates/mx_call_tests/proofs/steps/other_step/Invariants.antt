@@ -3,4 +3,4 @@ use Rattle.mx_call_tests.specs.Calls.{IsReady}
 use Rattle.mx_call_tests.proofs.steps.other_step.Given as goal
 
 abbrev pub invariant-loop-i : goal.invariant-loop-i
-invariant-loop-i g l = IsReady (parts_of g.T.PermTables.kind g.T.PermTables.maps g.T.PermTables.size g.T.PermTables.limits g.row.N l.machine)
+invariant-loop-i g l = IsReady (parts_of g.T.PermTables l.machine)

@@ -27,7 +27,7 @@ join_on-requires g c = (
   search rules,
   (
     search rules,
-    are-parts g.T.PermTables.kind g.T.PermTables.maps g.T.PermTables.size g.T.PermTables.limits g.row.N c.requires.held.snapshot c.args.head.now c.args.rows.items c.args.harts.now c.args.ram c.args.owners c.args.gates c.args.heaps
+    are-parts g.T.PermTables g.row.N c.requires.held.snapshot c.args.head.now c.args.rows.items c.args.harts.now c.args.ram c.args.owners c.args.gates c.args.heaps
         c.requires.held.gives c.in-Ok.tables c.requires.kind (c.in-Ok.ensures.maps ∙ ap (list_map (row_map c.args.head.now.words)) c.as_slice.ensures.value) c.in-Ok.ensures.size c.in-Ok.ensures.limit c.requires.buffer
         c.check_on-checker.result c.check_on-checker.ensures,
   ),
@@ -37,7 +37,7 @@ pub returns-in-Ok : goal.returns-in-Ok
 returns-in-Ok g c = λ s gives. (
   maps-fit s g.T.PermTables.kind c.args.head.now.limit (g.T.PermTables.maps c.in-Ok.tables) (c.requires.kind ∙ ap (λ (h : Head). h.kind) gives.same_head) (ap (λ (h : Head). h.limit) gives.same_head)
       (c.in-Ok.ensures.maps ∙ rows-maps s c.args.head.now c.as_slice.result.now gives.same_head (c.as_slice.ensures.value ∙ gives.same_rows)) c.in-Ok.ensures.fits,
-  parts-joined g.T.PermTables.kind g.T.PermTables.maps g.T.PermTables.size g.T.PermTables.limits g.row.N s c.args.head.now c.args.rows.items c.args.harts.now c.args.ram c.args.owners c.args.gates c.args.heaps
+  parts-joined g.T.PermTables g.row.N s c.args.head.now c.args.rows.items c.args.harts.now c.args.ram c.args.owners c.args.gates c.args.heaps
       gives c.in-Ok.tables c.requires.kind (c.in-Ok.ensures.maps ∙ ap (list_map (row_map c.args.head.now.words)) c.as_slice.ensures.value) c.in-Ok.ensures.size c.in-Ok.ensures.limit c.requires.buffer
       c.check_on-checker.result c.check_on-checker.ensures c.join_on.result c.join_on.ensures,
 )

@@ -3,4 +3,4 @@ use Rattle.mx_call_tests.specs.Calls.{IsAtRest}
 use Rattle.parts_speed.proofs.calls.blocks_ended.Given as goal
 
 abbrev pub invariant-loop : goal.invariant-loop
-invariant-loop g l = IsAtRest 0 1 (parts_of g.T.PermTables.kind g.T.PermTables.maps g.T.PermTables.size g.T.PermTables.limits g.row.N l.machine)
+invariant-loop g l = IsAtRest 0 1 (parts_of g.T.PermTables l.machine)

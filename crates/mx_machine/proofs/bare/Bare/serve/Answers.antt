@@ -30,14 +30,14 @@ halt-requires-then-answer g c = (
   (
       let p = g.T.PermTables in
       let m : Held = record {
-        parts = parts_of p.kind p.maps p.size p.limits g.row.N c.self.inside.bus.supervisor;
+        parts = parts_of p c.self.inside.bus.supervisor;
         harts = c.self.inside.harts;
         stacks = c.self.inside.stacks;
         dead = c.self.inside.dead;
         steps = c.self.inside.steps;
         waiting = c.self.inside.waiting;
       } in
-      let q : Parts = parts_of p.kind p.maps p.size p.limits g.row.N c.serve-answer.new.self in
+      let q : Parts = parts_of p c.serve-answer.new.self in
       let h = c.args.hart in
       let call = c.args.call.now in
       let v : IsServing m h call = rw (← c.self.view_is) at c.requires.serving in
@@ -60,14 +60,14 @@ pub returns-then-answer-clause-made : goal.returns-then-answer-clause-made
 returns-then-answer-clause-made g c =
     let p = g.T.PermTables in
     let m : Held = record {
-      parts = parts_of p.kind p.maps p.size p.limits g.row.N c.self.inside.bus.supervisor;
+      parts = parts_of p c.self.inside.bus.supervisor;
       harts = c.self.inside.harts;
       stacks = c.self.inside.stacks;
       dead = c.self.inside.dead;
       steps = c.self.inside.steps;
       waiting = c.self.inside.waiting;
     } in
-    let q : Parts = parts_of p.kind p.maps p.size p.limits g.row.N c.serve-answer.new.self in
+    let q : Parts = parts_of p c.serve-answer.new.self in
     let h = c.args.hart in
     let call = c.args.call.now in
     let v : IsServing m h call = rw (← c.self.view_is) at c.requires.serving in
@@ -85,14 +85,14 @@ pub returns-then-answer-clause-fits : goal.returns-then-answer-clause-fits
 returns-then-answer-clause-fits g c =
     let p = g.T.PermTables in
     let m : Held = record {
-      parts = parts_of p.kind p.maps p.size p.limits g.row.N c.self.inside.bus.supervisor;
+      parts = parts_of p c.self.inside.bus.supervisor;
       harts = c.self.inside.harts;
       stacks = c.self.inside.stacks;
       dead = c.self.inside.dead;
       steps = c.self.inside.steps;
       waiting = c.self.inside.waiting;
     } in
-    let q : Parts = parts_of p.kind p.maps p.size p.limits g.row.N c.serve-answer.new.self in
+    let q : Parts = parts_of p c.serve-answer.new.self in
     let h = c.args.hart in
     let call = c.args.call.now in
     let v : IsServing m h call = rw (← c.self.view_is) at c.requires.serving in
@@ -106,14 +106,14 @@ pub returns-else-answer-clause-made : goal.returns-else-answer-clause-made
 returns-else-answer-clause-made g c =
     let p = g.T.PermTables in
     let m : Held = record {
-      parts = parts_of p.kind p.maps p.size p.limits g.row.N c.self.inside.bus.supervisor;
+      parts = parts_of p c.self.inside.bus.supervisor;
       harts = c.self.inside.harts;
       stacks = c.self.inside.stacks;
       dead = c.self.inside.dead;
       steps = c.self.inside.steps;
       waiting = c.self.inside.waiting;
     } in
-    let q : Parts = parts_of p.kind p.maps p.size p.limits g.row.N c.serve-answer.new.self in
+    let q : Parts = parts_of p c.serve-answer.new.self in
     let h = c.args.hart in
     let call = c.args.call.now in
     let v : IsServing m h call = rw (← c.self.view_is) at c.requires.serving in
@@ -130,14 +130,14 @@ pub returns-else-answer-clause-fits : goal.returns-else-answer-clause-fits
 returns-else-answer-clause-fits g c =
     let p = g.T.PermTables in
     let m : Held = record {
-      parts = parts_of p.kind p.maps p.size p.limits g.row.N c.self.inside.bus.supervisor;
+      parts = parts_of p c.self.inside.bus.supervisor;
       harts = c.self.inside.harts;
       stacks = c.self.inside.stacks;
       dead = c.self.inside.dead;
       steps = c.self.inside.steps;
       waiting = c.self.inside.waiting;
     } in
-    let q : Parts = parts_of p.kind p.maps p.size p.limits g.row.N c.serve-answer.new.self in
+    let q : Parts = parts_of p c.serve-answer.new.self in
     let h = c.args.hart in
     let call = c.args.call.now in
     let v : IsServing m h call = rw (← c.self.view_is) at c.requires.serving in

@@ -15,7 +15,7 @@ start-requires-clause-areas g c = λ d. stack-at _ (length c.args.starts.now) mo
 pub invariant_of-result : goal.invariant_of-result
 invariant_of-result g c =
     let T = g.T.PermTables in
-    let p : Parts = parts_of {N = g.row.N} T.kind T.maps T.size T.limits g.row.N c.args.parts in
+    let p : Parts = parts_of {N = g.row.N} T c.args.parts in
     let shaped : IsShaped p.kind p.size p.limit p.maps = g.met.T.PermTables.shaped c.args.parts.checker.tables in
     let typed : AreTyped p = record {
       words = shaped.some_words;

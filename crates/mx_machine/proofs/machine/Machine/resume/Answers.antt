@@ -18,7 +18,7 @@ resume-left-requires g c = zero-registers _ c.args.harts.now c.requires.may.each
 pub halt_left-requires : goal.halt_left-requires
 halt_left-requires g c =
     let T = g.T.PermTables in
-    let p : Parts = parts_of {N = g.row.N} T.kind T.maps T.size T.limits g.row.N c.args.parts in (
+    let p : Parts = parts_of {N = g.row.N} T c.args.parts in (
       search fits-inside,
       (
         rw c.resume-left.ensures (as-many p c.args.harts.now c.args.stacks.now c.args.dead.now c.args.steps c.requires.may),
@@ -30,7 +30,7 @@ halt_left-requires g c =
 pub invariant_of-result : goal.invariant_of-result
 invariant_of-result g c =
     let T = g.T.PermTables in
-    let p : Parts = parts_of {N = g.row.N} T.kind T.maps T.size T.limits g.row.N c.args.parts in
+    let p : Parts = parts_of {N = g.row.N} T c.args.parts in
     let shaped : IsShaped p.kind p.size p.limit p.maps = g.met.T.PermTables.shaped c.args.parts.checker.tables in
     let typed : AreTyped p = record {
       words = shaped.some_words;
@@ -50,7 +50,7 @@ invariant_of-result g c =
 pub returns : goal.returns
 returns g c =
     let T = g.T.PermTables in
-    let p : Parts = parts_of {N = g.row.N} T.kind T.maps T.size T.limits g.row.N c.args.parts in
+    let p : Parts = parts_of {N = g.row.N} T c.args.parts in
     let held : Held = held_resumed p c.args.harts.now c.args.stacks.now c.args.dead.now c.args.steps in
     let same : c.halt_left.new.self ≡ held = c.halt_left.ensures ∙ rw (c.any_waits-waiting.ensures, c.copy.ensures, c.resume-left.ensures) refl in
     ap meaning same ∙ meaning-resumed p c.args.harts.now c.args.stacks.now c.args.dead.now c.args.steps c.requires.may

@@ -26,14 +26,14 @@ err e = Err e
 
 pub returns-in-Err-NoRoom : goal.returns-in-Err-NoRoom
 returns-in-Err-NoRoom g c =
-    let p = parts_of g.T.PermTables.kind g.T.PermTables.maps g.T.PermTables.size g.T.PermTables.limits g.row.N c.args.self.now in
+    let p = parts_of g.T.PermTables c.args.self.now in
     let none = none-of _ (c.in-Err-NoRoom.ensures.no_room.0 (ap err c.in-Err-NoRoom.field-0-is)) in
     refuses serve_alloc c.args.call.now _ 6 _ c.requires.sound c.refused-in-Err-NoRoom.ensures
     (λ rest. alloc-none (flat_reads (flat_of rest p)) (core_of rest p) c.args.call.now (ne_eqb _ _ c.if-words-eq0.false) (place-in rest p c.args.call.now ∙ none))
 
 pub returns-in-Err-BlocksFull : goal.returns-in-Err-BlocksFull
 returns-in-Err-BlocksFull g c =
-    let p = parts_of g.T.PermTables.kind g.T.PermTables.maps g.T.PermTables.size g.T.PermTables.limits g.row.N c.args.self.now in
+    let p = parts_of g.T.PermTables c.args.self.now in
     let full = c.in-Err-BlocksFull.ensures.full.0 (ap err c.in-Err-BlocksFull.field-0-is) in
     let some = some_of _ full.0 in
     refuses serve_alloc c.args.call.now _ 7 _ c.requires.sound c.refused-in-Err-BlocksFull.ensures
@@ -42,7 +42,7 @@ returns-in-Err-BlocksFull g c =
 
 pub try_change-requires : goal.try_change-requires
 try_change-requires g c =
-    let p = parts_of g.T.PermTables.kind g.T.PermTables.maps g.T.PermTables.size g.T.PermTables.limits g.row.N c.args.self.now in
+    let p = parts_of g.T.PermTables c.args.self.now in
     let gives = gives-in _ _ _ _ _ _ c.modules.ensures c.own_alone-change.ensures in
     let named : names_range c.args.call.now.number ≡ false = ap names_range c.requires.number in
     let range = range-heap p c.args.call.now named in
@@ -59,7 +59,7 @@ try_change-requires g c =
 
 pub returns-then-not-try_change : goal.returns-then-not-try_change
 returns-then-not-try_change g c =
-    let p = parts_of g.T.PermTables.kind g.T.PermTables.maps g.T.PermTables.size g.T.PermTables.limits g.row.N c.args.self.now in
+    let p = parts_of g.T.PermTables c.args.self.now in
     let gives = gives-in _ _ _ _ _ _ c.modules.ensures c.own_alone-change.ensures in
     let below = not-full _ _ c.in-Ok.first c.in-Ok.ensures.few c.in-Ok.ensures.ok (λ h. let e = c.in-Ok.ensures.full.1 h in let q : ⊥ = cc in q) in
     refuses-after serve_alloc c.args.call.now _ _ 5 _ c.requires.sound (c.try_change.ensures.kept c.if-not-try_change.true) c.refused-then-not-try_change.ensures
@@ -81,8 +81,8 @@ clear_words-requires g c =
 
 pub returns : goal.returns
 returns g c =
-    let p = parts_of g.T.PermTables.kind g.T.PermTables.maps g.T.PermTables.size g.T.PermTables.limits g.row.N c.args.self.now in
-    let q = parts_of g.T.PermTables.kind g.T.PermTables.maps g.T.PermTables.size g.T.PermTables.limits g.row.N c.try_change.new.self in
+    let p = parts_of g.T.PermTables c.args.self.now in
+    let q = parts_of g.T.PermTables c.try_change.new.self in
     let gives = gives-in _ _ _ _ _ _ c.modules.ensures c.own_alone-change.ensures in
     let made = c.try_change.ensures.done _ _ _ gives c.if-not-try_change.false in
     let below = not-full _ _ c.in-Ok.first c.in-Ok.ensures.few c.in-Ok.ensures.ok (λ h. let e = c.in-Ok.ensures.full.1 h in let q : ⊥ = cc in q) in

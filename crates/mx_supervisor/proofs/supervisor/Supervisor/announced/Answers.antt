@@ -13,5 +13,5 @@ returns-clause-range g c =
 
 pub returns-clause-within : goal.returns-clause-within
 returns-clause-within g c =
-    let p = parts_of g.T.PermTables.kind g.T.PermTables.maps g.T.PermTables.size g.T.PermTables.limits g.row.N c.args.self.now in
+    let p = parts_of g.T.PermTables c.args.self.now in
     subst (λ (r : ℕ × ℕ). IsWithin r.0 r.1 p.size) (sym (returns-clause-range g c)) (range-within p c.args.call.now c.requires.joined)

@@ -15,7 +15,7 @@ returns-in_default g c = refuses serve_exchange c.args.call.now _ 1 _ c.requires
 
 pub returns-then-not-look : goal.returns-then-not-look
 returns-then-not-look g c =
-    let p = parts_of g.T.PermTables.kind g.T.PermTables.maps g.T.PermTables.size g.T.PermTables.limits g.row.N c.args.self.now in
+    let p = parts_of g.T.PermTables c.args.self.now in
     let look = c.look.ensures.looked in
     harts-alone serve_exchange c.args.call.now p _ _ _ c.requires.sound look.same look.harts (λ e. refl)
     (λ rest bars. rw c.refused-then-not-look.ensures (looks-served rest p _ (code 12) _ _ look.same
@@ -26,8 +26,8 @@ returns-then-not-look g c =
 
 pub put-old-requires : goal.put-old-requires
 put-old-requires g c =
-    let p = parts_of g.T.PermTables.kind g.T.PermTables.maps g.T.PermTables.size g.T.PermTables.limits g.row.N c.args.self.now in
-    let q = parts_of g.T.PermTables.kind g.T.PermTables.maps g.T.PermTables.size g.T.PermTables.limits g.row.N c.look.new.self in
+    let p = parts_of g.T.PermTables c.args.self.now in
+    let q = parts_of g.T.PermTables c.look.new.self in
     let same : q ≡ record p { harts = q.harts } = c.look.ensures.looked.same in
     let sound : IsSound q = subst (λ (x : Parts). IsSound x) (sym same) (with-harts p q.harts c.requires.sound) in
     let inside : c.in-Some.word < q.size = subst (λ (n : ℕ). c.in-Some.word < n) (sym (ap (λ (x : Parts). x.size) same)) c.in-Some.ensures.inside.0 in
@@ -37,9 +37,9 @@ pub returns : goal.returns
 returns g c =
     let call = c.args.call.now in
     let w = c.in-Some.word in
-    let p = parts_of g.T.PermTables.kind g.T.PermTables.maps g.T.PermTables.size g.T.PermTables.limits g.row.N c.args.self.now in
-    let q = parts_of g.T.PermTables.kind g.T.PermTables.maps g.T.PermTables.size g.T.PermTables.limits g.row.N c.look.new.self in
-    let t = parts_of g.T.PermTables.kind g.T.PermTables.maps g.T.PermTables.size g.T.PermTables.limits g.row.N c.put-old.new.self in
+    let p = parts_of g.T.PermTables c.args.self.now in
+    let q = parts_of g.T.PermTables c.look.new.self in
+    let t = parts_of g.T.PermTables c.put-old.new.self in
     let look = c.look.ensures.looked in
     let ram = put_at p.ram (4 * w) 4 (arg call 1) in
     let same_ram : q.ram ≡ p.ram = ap (λ (x : Parts). x.ram) look.same in

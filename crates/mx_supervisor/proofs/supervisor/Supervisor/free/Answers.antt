@@ -14,7 +14,7 @@ returns-in_default g c = refuses serve_free c.args.call.now _ 8 _ c.requires.sou
 
 pub try_change-requires : goal.try_change-requires
 try_change-requires g c =
-    let p = parts_of g.T.PermTables.kind g.T.PermTables.maps g.T.PermTables.size g.T.PermTables.limits g.row.N c.args.self.now in
+    let p = parts_of g.T.PermTables c.args.self.now in
     let gives = gives-in _ _ _ _ _ _ c.modules.ensures c.none_at_all-change.ensures in
     let named : names_range c.args.call.now.number ≡ false = ap names_range c.requires.number in
     let range = range-heap p c.args.call.now named in
@@ -47,8 +47,8 @@ free-requires-clause-there g c =
 pub returns : goal.returns
 returns g c =
     let gives = gives-in _ _ _ _ _ _ c.modules.ensures c.none_at_all-change.ensures in
-    let q = parts_of g.T.PermTables.kind g.T.PermTables.maps g.T.PermTables.size g.T.PermTables.limits g.row.N c.try_change.new.self in
-    let p = parts_of g.T.PermTables.kind g.T.PermTables.maps g.T.PermTables.size g.T.PermTables.limits g.row.N c.args.self.now in
+    let q = parts_of g.T.PermTables c.try_change.new.self in
+    let p = parts_of g.T.PermTables c.args.self.now in
     free-done c.args.call.now p q (record q { heaps = c.free.new.self }) c.in-Some.first c.in-Some.count none_at_all c.done.result c.requires.sound (c.try_change.ensures.done _ _ _ gives c.if-not-try_change.false)
     (ap (λ hs. record q { heaps = hs }) c.free.ensures) c.done.ensures
     (λ rest. rw (c.in-Some.ensures.there rest, c.in-Some.ensures.word, c.try_change.ensures.fits _ _ _ gives, c.if-not-try_change.false))

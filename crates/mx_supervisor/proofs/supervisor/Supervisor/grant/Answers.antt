@@ -30,7 +30,7 @@ pub try_change-requires : goal.try_change-requires
 try_change-requires g c =
     let gives = c.to_one-change.ensures _ (c.is_module.ensures.domain.0 c.if-not-is_module.false).last in
     let named : names_range c.args.call.now.number ≡ true = ap names_range c.requires.number in
-    let range = range-named (parts_of g.T.PermTables.kind g.T.PermTables.maps g.T.PermTables.size g.T.PermTables.limits g.row.N c.args.self.now) c.args.call.now (c.in-Some.first, c.in-Some.count) named c.in-Some.ensures.range in (
+    let range = range-named (parts_of g.T.PermTables c.args.self.now) c.args.call.now (c.in-Some.first, c.in-Some.count) named c.in-Some.ensures.range in (
       assumption c,
       (
         c.requires.announced,

@@ -6,12 +6,12 @@ use Rattle.mx_supervisor.proofs.supervisor.Supervisor.look.Goals as goal
 
 pub returns-clause-looked : goal.returns-clause-looked
 returns-clause-looked g c =
-    let p = parts_of g.T.PermTables.kind g.T.PermTables.maps g.T.PermTables.size g.T.PermTables.limits g.row.N c.args.self.now in
+    let p = parts_of g.T.PermTables c.args.self.now in
     let l : HasLooked c.args.call.now c.args.word p (record p { harts = c.may.new.self.harts }) =
     has-looked c.args.call.now c.args.word p c.may.new.self.harts c.requires.sound c.requires.domain c.requires.inside c.requires.may c.may.ensures.harts in
     rw (c.may.ensures.same_maps, c.may.ensures.same_size, c.may.ensures.same_limit) l
 
 pub returns-clause-answer : goal.returns-clause-answer
 returns-clause-answer g c =
-    let p = parts_of g.T.PermTables.kind g.T.PermTables.maps g.T.PermTables.size g.T.PermTables.limits g.row.N c.args.self.now in
+    let p = parts_of g.T.PermTables c.args.self.now in
     sym (c.may.ensures.answer ∙ allowed-word p c.args.call.now.domain c.args.word c.args.access c.requires.sound c.requires.domain c.requires.inside)

@@ -6,8 +6,8 @@ use Rattle.mx_supervisor.proofs.supervisor.Supervisor.may_read.Goals as goal
 
 pub loop-word-preserved : goal.loop-word-preserved
 loop-word-preserved g c =
-    let old = parts_of g.T.PermTables.kind g.T.PermTables.maps g.T.PermTables.size g.T.PermTables.limits g.row.N c.args.self.now in
-    let now = parts_of g.T.PermTables.kind g.T.PermTables.maps g.T.PermTables.size g.T.PermTables.limits g.row.N c.loop-word.self in
+    let old = parts_of g.T.PermTables c.args.self.now in
+    let now = parts_of g.T.PermTables c.loop-word.self in
     let all = range_with_len c.args.first (c.args.behind - c.args.first) in
     let w = c.loop-word.word in
     let read : HasReadTo c.args.call.now all (w ∷ range_with_len (w + 1) (c.args.behind - (w + 1))) old now =
@@ -16,8 +16,8 @@ loop-word-preserved g c =
 
 pub returns-then-not-look-clause-read : goal.returns-then-not-look-clause-read
 returns-then-not-look-clause-read g c =
-    let old = parts_of g.T.PermTables.kind g.T.PermTables.maps g.T.PermTables.size g.T.PermTables.limits g.row.N c.args.self.now in
-    let now = parts_of g.T.PermTables.kind g.T.PermTables.maps g.T.PermTables.size g.T.PermTables.limits g.row.N c.loop-word.self in
+    let old = parts_of g.T.PermTables c.args.self.now in
+    let now = parts_of g.T.PermTables c.loop-word.self in
     let all = range_with_len c.args.first (c.args.behind - c.args.first) in
     let w = c.loop-word.word in
     let read : HasReadTo c.args.call.now all (w ∷ range_with_len (w + 1) (c.args.behind - (w + 1))) old now =
@@ -26,8 +26,8 @@ returns-then-not-look-clause-read g c =
 
 pub returns-then-not-look-clause-answer : goal.returns-then-not-look-clause-answer
 returns-then-not-look-clause-answer g c = λ rest.
-    let old = parts_of g.T.PermTables.kind g.T.PermTables.maps g.T.PermTables.size g.T.PermTables.limits g.row.N c.args.self.now in
-    let now = parts_of g.T.PermTables.kind g.T.PermTables.maps g.T.PermTables.size g.T.PermTables.limits g.row.N c.loop-word.self in
+    let old = parts_of g.T.PermTables c.args.self.now in
+    let now = parts_of g.T.PermTables c.loop-word.self in
     let all = range_with_len c.args.first (c.args.behind - c.args.first) in
     let w = c.loop-word.word in
     let read : HasReadTo c.args.call.now all (w ∷ range_with_len (w + 1) (c.args.behind - (w + 1))) old now =

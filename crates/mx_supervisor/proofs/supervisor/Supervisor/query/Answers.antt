@@ -35,4 +35,4 @@ returns g c = told serve_query c.args.call.now _ _ _ c.requires.sound c.done.ens
     let same : number (perm_at (map_in size maps d) c.in-Some.word) ≡ c.number.result =
     ap (λ (m : List Perm). number (perm_at m c.in-Some.word)) (map-in size maps d there) ∙ sym (c.number.ensures ∙ ap number c.perm.ensures) in
     rw (c.in-Some.ensures.there rest, c.is_module.ensures.module rest, c.if-not-is_module.false, c.in-Some.ensures.word, c.is_secret.ensures, c.if-is_secret.false)
-    (ap (answers (core_of rest (parts_of g.T.PermTables.kind g.T.PermTables.maps g.T.PermTables.size g.T.PermTables.limits g.row.N s))) same))
+    (ap (answers (core_of rest (parts_of g.T.PermTables s))) same))

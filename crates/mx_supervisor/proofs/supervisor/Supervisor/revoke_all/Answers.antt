@@ -16,7 +16,7 @@ returns-then-not-owns g c = refuses serve_revoke_all c.args.call.now _ 2 _ c.req
 
 pub try_change-requires : goal.try_change-requires
 try_change-requires g c =
-    let p = parts_of g.T.PermTables.kind g.T.PermTables.maps g.T.PermTables.size g.T.PermTables.limits g.row.N c.args.self.now in
+    let p = parts_of g.T.PermTables c.args.self.now in
     let gives = gives-in _ _ _ _ _ _ c.modules.ensures c.none_but-change.ensures in
     let named : names_range c.args.call.now.number ≡ true = ap names_range c.requires.number in
     let range = range-named p c.args.call.now (c.in-Some.first, c.in-Some.count) named c.in-Some.ensures.range in (

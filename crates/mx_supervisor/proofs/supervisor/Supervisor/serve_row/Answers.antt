@@ -43,8 +43,8 @@ returns-in-Exchange-clause-does g c = as-silent-row Exchange c.args.call.now _ _
 
 pub returns-in-Identify-clause-does : goal.returns-in-Identify-clause-does
 returns-in-Identify-clause-does g c = as-silent-row Self c.args.call.now _ _ _ _ _ (ap service c.in-Identify.ensures) c.requires.empty
-    (told (λ r s call. serve_self s call) c.args.call.now (parts_of g.T.PermTables.kind g.T.PermTables.maps g.T.PermTables.size g.T.PermTables.limits g.row.N c.args.self.now) _ _ c.requires.sound c.done.ensures (λ rest. refl))
+    (told (λ r s call. serve_self s call) c.args.call.now (parts_of g.T.PermTables c.args.self.now) _ _ c.requires.sound c.done.ensures (λ rest. refl))
 
 pub returns-in-Unknown-clause-does : goal.returns-in-Unknown-clause-does
 returns-in-Unknown-clause-does g c = as-silent-row Unknown c.args.call.now _ _ _ _ _ c.in-Unknown.ensures.0 c.requires.empty
-    (told (λ r s call. answers s (code 13)) c.args.call.now (parts_of g.T.PermTables.kind g.T.PermTables.maps g.T.PermTables.size g.T.PermTables.limits g.row.N c.args.self.now) _ _ c.requires.sound c.refused.ensures (λ rest. refl))
+    (told (λ r s call. answers s (code 13)) c.args.call.now (parts_of g.T.PermTables c.args.self.now) _ _ c.requires.sound c.refused.ensures (λ rest. refl))

@@ -17,7 +17,7 @@ returns-then-count-gt-MOST_BYTES-clause-does g c =
 
 pub returns-then-count-eq0-clause-does : goal.returns-then-count-eq0-clause-does
 returns-then-count-eq0-clause-does g c =
-    let p = parts_of g.T.PermTables.kind g.T.PermTables.maps g.T.PermTables.size g.T.PermTables.limits g.row.N c.args.self.now in
+    let p = parts_of g.T.PermTables c.args.self.now in
     told-bytes serve_write c.args.call.now p 0 _ _ c.requires.sound c.requires.empty c.done.ensures
     (λ rest. write-none (flat_reads (flat_of rest p)) (core_of rest p) c.args.call.now c.if-count-eq0.true)
 
@@ -36,7 +36,7 @@ may_read-requires g c =
 
 pub returns-then-not-may_read-clause-does : goal.returns-then-not-may_read-clause-does
 returns-then-not-may_read-clause-does g c =
-    let p = parts_of g.T.PermTables.kind g.T.PermTables.maps g.T.PermTables.size g.T.PermTables.limits g.row.N c.args.self.now in
+    let p = parts_of g.T.PermTables c.args.self.now in
     let bytes : AreBytes (arg c.args.call.now 0) (arg c.args.call.now 1) p.size =
     are-bytes _ _ _ c.if-count-gt-MOST_BYTES.false (omega (arith, c.if-count-eq0.false)) (c.is_outside.ensures ∙ c.if-is_outside.false) in
     harts-alone serve_write c.args.call.now p _ _ _ c.requires.sound c.may_read.ensures.read.same c.may_read.ensures.read.harts (λ e. c.requires.empty)
@@ -56,7 +56,7 @@ print-requires g c =
 
 pub returns-clause-does : goal.returns-clause-does
 returns-clause-does g c =
-    let p = parts_of g.T.PermTables.kind g.T.PermTables.maps g.T.PermTables.size g.T.PermTables.limits g.row.N c.args.self.now in
+    let p = parts_of g.T.PermTables c.args.self.now in
     let call = c.args.call.now in
     let bytes : AreBytes (arg call 0) (arg call 1) p.size =
     are-bytes _ _ _ c.if-count-gt-MOST_BYTES.false (omega (arith, c.if-count-eq0.false)) (c.is_outside.ensures ∙ c.if-is_outside.false) in
