@@ -51,8 +51,7 @@ pub(crate) fn join<T: PermTables, const N: usize>(
     requires buffer { N ≡ plan.now.lookaside }
     ensures boot { IfOk result
         (λ s. boot_of plan.now images.now ≡ Ok (boot_state plan.now images.now)) }
-    ensures parts { IfOk result
-        (λ s. parts_of T.PermTables s ≡ boot_parts plan.now images.now) }
+    ensures parts { IfOk result (λ s. parts_of T.PermTables s ≡ boot_parts plan.now images.now) }
     ensures refused { IfErr result (IsRefusedBy (boot_of plan.now images.now)) }
 {
     plan_is_in_range(plan);

@@ -71,8 +71,7 @@ pub(crate) fn machine_of<T: PermTables, const N: usize>(
     parts: Supervisor<T, N>,
 ) -> Machine<T, N>
     requires layout { IsLayout plan.now images.now layout.now }
-    requires parts { parts_of T.PermTables parts
-        ≡ boot_parts plan.now images.now }
+    requires parts { parts_of T.PermTables parts ≡ boot_parts plan.now images.now }
     ensures { result ≡ flat (boot_state plan.now images.now) }
 {
     plan_is_in_range(plan);

@@ -19,6 +19,7 @@ use Rattle.mx_model.specs.declared.values.Call.{Call}
 use Rattle.mx_supervisor.specs.Looks.{KeepsHarts}
 use Rattle.mx_supervisor.specs.Parts.{Parts, IsSound}
 use Rattle.mx_supervisor.specs.Served.{HasAnnounced, MayServe, KeepsSizes, range_of}
+use Rattle.mx_supervisor.proofs.Answering.{sound-ram, with-harts}
 use Rattle.mx_call_tests.specs.Calls.{IsAtRest}
 
 pub may-announce : (h d : ℕ) (p : Parts) → IsAtRest h d p → MayAnnounce h p.harts
@@ -111,15 +112,7 @@ length-looked buffer kind m h place domain address harts = by (word_of address (
 pub rest-accessed : (h d : ℕ) (p : Parts) (harts : List Kept) (ram : List ℕ) → IsAtRest h d p → length harts ≡ length p.harts → MayLook h d harts →
     length ram ≡ length p.ram → IsAtRest h d (record p { harts = harts; ram = ram })
 rest-accessed h d p harts ram rest count may size = record {
-  sound = record {
-    few_words = rest.sound.few_words;
-    few_maps = rest.sound.few_maps;
-    maps = rest.sound.maps;
-    ram = size ∙ rest.sound.ram;
-    owners = rest.sound.owners;
-    heaps = rest.sound.heaps;
-    areas = rest.sound.areas;
-  };
+  sound = sound-ram (record p { harts = harts }) ram (with-harts p harts rest.sound) size;
   domain = rest.domain;
   alone = count ∙ rest.alone;
   may = may;

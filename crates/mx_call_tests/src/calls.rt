@@ -37,10 +37,8 @@ pub fn play<T: PermTables, const N: usize>(
     call: &Call,
     out: &mut Events,
 ) -> Answer
-    requires { IsAtRest call.now.hart call.now.domain
-        (parts_of T.PermTables machine.old) }
-    ensures rest { IsAtRest call.now.hart call.now.domain
-        (parts_of T.PermTables machine.new) }
+    requires { IsAtRest call.now.hart call.now.domain (parts_of T.PermTables machine.old) }
+    ensures rest { IsAtRest call.now.hart call.now.domain (parts_of T.PermTables machine.new) }
     ensures sizes { KeepsSizes (parts_of T.PermTables machine.old)
         (parts_of T.PermTables machine.new) }
 {
@@ -58,12 +56,10 @@ fn play_announced<T: PermTables, const N: usize>(
     call: &Call,
     out: &mut Events,
 ) -> Answer
-    requires rest { IsAtRest call.now.hart call.now.domain
-        (parts_of T.PermTables machine.old) }
+    requires rest { IsAtRest call.now.hart call.now.domain (parts_of T.PermTables machine.old) }
     requires announced { is_announced call.now.number ≡ true }
     requires empty { out.old.bytes ≡ [] }
-    ensures rest { IsAtRest call.now.hart call.now.domain
-        (parts_of T.PermTables machine.new) }
+    ensures rest { IsAtRest call.now.hart call.now.domain (parts_of T.PermTables machine.new) }
     ensures sizes { KeepsSizes (parts_of T.PermTables machine.old)
         (parts_of T.PermTables machine.new) }
 {

@@ -16,6 +16,7 @@ use Rattle.mx_model.specs.State.{Hart as Seen}
 use Rattle.mx_model.specs.Turn.{Asks, asked, call_of, is_served_now, served}
 use Rattle.mx_model.specs.Checks.{is_ready as ready_in}
 use Rattle.mx_supervisor.specs.Served.{range_of}
+use Rattle.mx_supervisor.proofs.Answering.{with-harts}
 use Rattle.mx_machine.specs.declared.hart.Hart.{Hart}
 use Rattle.mx_machine.specs.declared.hart.Progress.{Progress}
 use Rattle.mx_machine.specs.declared.hart.Progress.TheVariants as G
@@ -110,15 +111,7 @@ module _ (m : Held) (h : ℕ) (r : MayRun m h) where
       let x = hart_of m.harts h in
       let count = count-step m.parts.harts h (announced h range_now.0 range_now.1) in
       record {
-        sound = record {
-          few_words = r.act.fits.sound.few_words;
-          few_maps = r.act.fits.sound.few_maps;
-          maps = r.act.fits.sound.maps;
-          ram = r.act.fits.sound.ram;
-          owners = r.act.fits.sound.owners;
-          heaps = r.act.fits.sound.heaps;
-          areas = r.act.fits.sound.areas;
-        };
+        sound = with-harts m.parts now_announced.parts.harts r.act.fits.sound;
         count = r.act.fits.count ∙ sym count;
         few = r.act.fits.few;
         stacks = r.act.fits.stacks;

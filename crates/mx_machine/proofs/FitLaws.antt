@@ -6,6 +6,7 @@ use Rattle.mx_check.specs.Harts.{Kept, hart_at, at_hart}
 use Rattle.mx_check.specs.Harts.{no_hart as no_kept}
 use Rattle.mx_supervisor.specs.Parts.{Parts, IsSound}
 use Rattle.mx_supervisor.specs.Served.{range_of}
+use Rattle.mx_supervisor.proofs.Answering.{sound-ram, with-harts}
 use Rattle.mx_machine.specs.declared.hart.Hart.{Hart}
 use Rattle.mx_machine.specs.Harts.{no_hart, hart_of, is_waiting}
 use Rattle.mx_machine.specs.Held.{Held}
@@ -31,15 +32,7 @@ pub record IsChange (m : Held) (h : ℕ) (x : Hart) (kept : List Kept) (ram : Li
   pub quiet : waiting ≡ false → (m.waiting ≡ false) × (is_waiting x.progress ≡ false)
 
 pub sound-changed : (p : Parts) (kept : List Kept) (ram : List ℕ) → IsSound p → length ram ≡ length p.ram → IsSound (record p { harts = kept; ram = ram })
-sound-changed p kept ram s e = record {
-  few_words = s.few_words;
-  few_maps = s.few_maps;
-  maps = s.maps;
-  ram = e ∙ s.ram;
-  owners = s.owners;
-  heaps = s.heaps;
-  areas = s.areas;
-}
+sound-changed p kept ram s e = sound-ram (record p { harts = kept }) ram (with-harts p kept s) e
 
 pub fits-change : (m : Held) (h : ℕ) (x : Hart) (kept : List Kept) (ram : List ℕ) (dead : List Bool) (waiting : Bool) → IsChange m h x kept ram dead waiting →
     Fits (changed m h x kept ram dead waiting)

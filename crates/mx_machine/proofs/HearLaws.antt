@@ -27,6 +27,7 @@ use Rattle.mx_supervisor.specs.Looks.{BarsAlike}
 use Rattle.mx_supervisor.specs.Parts.{modules_from, with_heap}
 use Rattle.mx_supervisor.specs.Served.{range_of}
 use Rattle.mx_supervisor.proofs.Ending.{range-is}
+use Rattle.mx_supervisor.proofs.Answering.{with-harts}
 use Rattle.mx_heap.specs.HeapState.{HeapState}
 use Rattle.mx_machine.specs.declared.hart.Hart.{Hart}
 use Rattle.mx_machine.specs.declared.hart.Progress.{Progress}
@@ -278,15 +279,7 @@ tied-heard m h f there i = by (cases_eq i h)
 
 pub fits-heard : (m : Held) (h : ℕ) → Fits m → h < length m.harts → Fits (heard h m)
 fits-heard m h f there = record {
-  sound = record {
-    few_words = f.sound.few_words;
-    few_maps = f.sound.few_maps;
-    maps = f.sound.maps;
-    ram = f.sound.ram;
-    owners = f.sound.owners;
-    heaps = f.sound.heaps;
-    areas = f.sound.areas;
-  };
+  sound = with-harts m.parts (heard h m).parts.harts f.sound;
   count = f.count ∙ sym (length-hears_first h (length m.parts.harts) m.parts.harts);
   few = f.few;
   stacks = f.stacks;

@@ -16,6 +16,7 @@ use Rattle.mx_check.proofs.LookLaws.{hart_at-other, hart_at-same, length-at_hart
 use Rattle.mx_model.specs.declared.values.Call.{Call}
 use Rattle.mx_supervisor.specs.Parts.{IsSound, Parts}
 use Rattle.mx_supervisor.specs.Served.{range_of}
+use Rattle.mx_supervisor.proofs.Answering.{with-harts}
 use Rattle.mx_machine.specs.declared.hart.Hart.{Hart}
 use Rattle.mx_machine.specs.declared.starts.HartStart.{HartStart}
 use Rattle.mx_machine.specs.declared.starts.HartState.{HartState}
@@ -210,15 +211,7 @@ module _ (p : Parts) (states : List HartState) (stacks : List StackArea) (dead :
 
   pub fits-resumed : Fits (held_resumed p states stacks dead steps)
   fits-resumed = record {
-    sound = record {
-      few_words = sound.few_words;
-      few_maps = sound.few_maps;
-      maps = sound.maps;
-      ram = sound.ram;
-      owners = sound.owners;
-      heaps = sound.heaps;
-      areas = sound.areas;
-    };
+    sound = with-harts p (held_resumed p states stacks dead steps).parts.harts sound;
     count = as-many ∙ sym (length-halted (list_map resumed_hart states) p.harts (length (list_map resumed_hart states)));
     few = omega (arith, few, length-map states resumed_hart);
     stacks = may.count ∙ sym sound.heaps;

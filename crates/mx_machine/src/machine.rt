@@ -60,10 +60,8 @@ impl<T: PermTables, const N: usize> Machine<T, N> {
         requires gates { AllByRecursion
             (IsGate (length (T.maps parts.checker.tables)) (T.size parts.checker.tables))
             parts.gates }
-        requires may { MayStart (parts_of T.PermTables parts)
-            starts.now stacks.now }
-        ensures { result
-            ≡ started (parts_of T.PermTables parts) starts.now stacks.now }
+        requires may { MayStart (parts_of T.PermTables parts) starts.now stacks.now }
+        ensures { result ≡ started (parts_of T.PermTables parts) starts.now stacks.now }
     {
         spans_are_coherent();
         shape_of(parts.checker.tables());
@@ -101,10 +99,8 @@ impl<T: PermTables, const N: usize> Machine<T, N> {
         requires gates { AllByRecursion
             (IsGate (length (T.maps parts.checker.tables)) (T.size parts.checker.tables))
             parts.gates }
-        requires may { MayResume (parts_of T.PermTables parts)
-            harts.now stacks.now dead.now steps }
-        ensures { result
-            ≡ resumed (parts_of T.PermTables parts)
+        requires may { MayResume (parts_of T.PermTables parts) harts.now stacks.now dead.now steps }
+        ensures { result ≡ resumed (parts_of T.PermTables parts)
             harts.now stacks.now dead.now steps }
     {
         spans_are_coherent();

@@ -1,7 +1,7 @@
 //! A small machine made by hand: modules with code and stack areas over 64 KiB of RAM, gates, and where harts start.
 ghost use Rattle.std.specs.Prelude.{◌≡◌, ℕ, ◌+◌, ◌*◌, ◌<◌, ◌≤◌, true, [], ◌∷◌, All, length, slice_index, Some, IfOk, IfSome, OnOk};
 ghost use Rattle.std.specs.List.{AllByRecursion};
-ghost use Rattle.mx_table.specs.Tables.{IsRow, IsShaped};
+ghost use Rattle.mx_table.specs.Tables.{IsRow};
 ghost use Rattle.mx_model.specs.Valid.{IsGate};
 ghost use Rattle.mx_machine_tests.specs.Small.{AreLaid, IsBegin, IsLeft, IsPlaced, left_state, left_states, unheard};
 ghost use Rattle.mx_words.specs.Ranges.{word_range};
@@ -17,7 +17,7 @@ use mx_model::Gate;
 use mx_owners::Owners;
 use mx_packed::Packed;
 use mx_supervisor::{Heaps, Supervisor};
-use mx_table::{PermTables, shape_of};
+use mx_table::PermTables;
 use mx_trie::Trie;
 use mx_words::{Need, NoMemory, Perm, RAM_BASE, Span, Spans, word_range};
 use std::alloc::Global;
@@ -267,15 +267,8 @@ fn tables_of<T: PermTables>(alloc: Global, layout: &Layout) -> Option<T>
     requires rows { All (IsRow 16384) layout.now.rows.items }
     ensures maps { IfSome result (λ t. length (T.maps t) ≡ length layout.now.rows.items) }
     ensures size { IfSome result (λ t. T.size t ≡ 16384) }
-    ensures shape { IfSome result (λ t. IsShaped T.kind (T.size t) (T.limits t) (T.maps t)) }
 {
-    match T::build(alloc, WORDS, &layout.rows, AMPLE) {
-        Ok(tables) => {
-            shape_of(&tables);
-            Some(tables)
-        }
-        Err(_) => None,
-    }
+    T::build(alloc, WORDS, &layout.rows, AMPLE).ok()
 }
 
 /// A machine of these modules, gates and starts. `None` where one of them doesn't fit, and where memory is refused.

@@ -121,8 +121,7 @@ fn go_on<T: PermTables, const N: usize>(
     dead: &[bool; 64],
     turns: u64,
 ) -> Machine<T, N>
-    requires { MayGo (parts_of T.PermTables parts)
-        states.now stacks.now dead.now turns }
+    requires { MayGo (parts_of T.PermTables parts) states.now stacks.now dead.now turns }
     ensures { (s : Stored) → GoesFrom s (parts_of T.PermTables parts)
         states.now stacks.now dead.now turns → result ≡ flat (state_of s) }
 {

@@ -41,6 +41,18 @@ with-harts p harts sound = record {
   areas = sound.areas;
 }
 
+-- nor of RAM's bytes but how many they are
+pub sound-ram : (p : Parts) (ram : List ℕ) → IsSound p → length ram ≡ length p.ram → IsSound (record p { ram = ram })
+sound-ram p ram sound e = record {
+  few_words = sound.few_words;
+  few_maps = sound.few_maps;
+  maps = sound.maps;
+  ram = e ∙ sound.ram;
+  owners = sound.owners;
+  heaps = sound.heaps;
+  areas = sound.areas;
+}
+
 -- an answer with no effect, as every refusal
 pub told-rest : (rest : Core) (p : Parts) (n : ℕ) (a : Answer) (s : Served) → a ≡ plain n → s ≡ answers (core_of rest p) n → IsServed rest p p [] a s
 told-rest rest p n a s ea es = rw (ea, es) (record { core = refl; maps = refl; owners = refl; console = refl; a0 = refl; a1 = refl; stop = refl })
@@ -191,14 +203,6 @@ ram-done row call p q t ram a sound same keeps made size ok es =
       refused = λ e. absurd (let q : ⊥ = cc in q);
       harts = keeps;
       sizes = record { size = refl; limit = refl; modules = refl };
-      sound = record {
-        few_words = sound.few_words;
-        few_maps = sound.few_maps;
-        maps = sound.maps;
-        ram = size ∙ sound.ram;
-        owners = sound.owners;
-        heaps = sound.heaps;
-        areas = sound.areas;
-      };
+      sound = sound-ram (record p { harts = q.harts }) ram (with-harts p q.harts sound) size;
     } in
     subst (λ (x : Parts). Meets row call (hart_at p.harts call.hart).flight p x [] a) (sym core) m

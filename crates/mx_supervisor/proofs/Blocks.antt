@@ -21,7 +21,7 @@ use Rattle.mx_supervisor.specs.Answers.{plain, is_refusal}
 use Rattle.mx_supervisor.specs.Heaps.{no_heap, heap_at, with_blocks_at}
 use Rattle.mx_supervisor.specs.Parts.{Parts, core_of, IsSound}
 use Rattle.mx_supervisor.specs.Served.{ServesAs, Meets}
-use Rattle.mx_supervisor.proofs.Answering.{row_on, done}
+use Rattle.mx_supervisor.proofs.Answering.{row_on, done, sound-ram}
 use Rattle.mx_supervisor.proofs.Changes.{sound-changed}
 use Rattle.mx_supervisor.proofs.Modules.{core-blocks, module-heap, module-blocks}
 
@@ -34,7 +34,7 @@ area-set (x ∷ xs) zero (suc j) blocks = refl
 area-set (x ∷ xs) (suc i) zero blocks = refl
 area-set (x ∷ xs) (suc i) (suc j) blocks = area-set xs i j blocks
 
--- parts with other blocks, and with as many other bytes
+-- parts with other blocks
 pub sound-blocks : (p : Parts) (d : ℕ) (blocks : List Area) → IsSound p → IsSound (record p { heaps = with_blocks_at d blocks p.heaps })
 sound-blocks p d blocks sound = record {
   few_words = sound.few_words;
@@ -44,17 +44,6 @@ sound-blocks p d blocks sound = record {
   owners = sound.owners;
   heaps = length-set p.heaps (d - 1) (record (heap_at p.heaps d) { blocks = blocks }) ∙ sound.heaps;
   areas = λ e. let same = area-set p.heaps (d - 1) (e - 1) blocks in subst (λ (a : Area). a.first + a.count ≤ p.size) (sym same) (sound.areas e);
-}
-
-pub sound-ram : (p : Parts) (ram : List ℕ) → IsSound p → length ram ≡ length p.ram → IsSound (record p { ram = ram })
-sound-ram p ram sound e = record {
-  few_words = sound.few_words;
-  few_maps = sound.few_maps;
-  maps = sound.maps;
-  ram = e ∙ sound.ram;
-  owners = sound.owners;
-  heaps = sound.heaps;
-  areas = sound.areas;
 }
 
 -- an address of RAM is no code

@@ -63,8 +63,7 @@ impl<T: PermTables, const N: usize> Supervisor<T, N> {
         requires sound { IsSound (parts_of T.PermTables self.old) }
         requires domain { IsDomain (T.maps self.old.checker.tables) call.now.domain }
         requires may { MayLook call.now.hart call.now.domain self.old.checker.harts }
-        ensures { Does T.PermTables
-            self.old self.new serve_exchange call.now [] result }
+        ensures { Does T.PermTables self.old self.new serve_exchange call.now [] result }
     {
         let Some(word) = self.arg_word(call) else {
             return Answer::refused(Refusal::BadRange);
@@ -99,12 +98,10 @@ impl<T: PermTables, const N: usize> Supervisor<T, N> {
         requires may { MayLook call.now.hart call.now.domain self.old.checker.harts }
         requires inside { behind ≤ T.size self.old.checker.tables }
         ensures read { HasRead call.now (range_with_len first (behind - first))
-            (parts_of T.PermTables self.old)
-            (parts_of T.PermTables self.new) }
+            (parts_of T.PermTables self.old) (parts_of T.PermTables self.new) }
         ensures answer { (rest : Core) →
-            list_all (may_read (flat_reads (flat_of rest
-            (parts_of T.PermTables self.old))) call.now.domain)
-            (range_with_len first (behind - first)) ≡ result }
+            list_all (may_read (flat_reads (flat_of rest (parts_of T.PermTables self.old)))
+            call.now.domain) (range_with_len first (behind - first)) ≡ result }
     {
         for word in first..behind {
             if !self.look(call, word, Access::Read) {
@@ -149,8 +146,7 @@ impl<T: PermTables, const N: usize> Supervisor<T, N> {
         requires sound { IsSound (parts_of T.PermTables self.old) }
         requires inside { word < T.size self.old.checker.tables }
         ensures old { result ≡ number_at self.old.ram (4 * word) 4 }
-        ensures put { parts_of T.PermTables self.new
-            ≡ record (parts_of T.PermTables self.old)
+        ensures put { parts_of T.PermTables self.new ≡ record (parts_of T.PermTables self.old)
             { ram = put_at self.old.ram (4 * word) 4 value } }
     {
         let old = self.ram.word(word);

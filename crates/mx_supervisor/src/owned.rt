@@ -25,8 +25,7 @@ impl<T: PermTables, const N: usize> Supervisor<T, N> {
         requires sound { IsSound (parts_of T.PermTables self.old) }
         requires domain { IsDomain (T.maps self.old.checker.tables) call.now.domain }
         requires may { MayLook call.now.hart call.now.domain self.old.checker.harts }
-        ensures { Does T.PermTables
-            self.old self.new serve_transfer call.now [] result }
+        ensures { Does T.PermTables self.old self.new serve_transfer call.now [] result }
     {
         let Some((first, count)) = self.arg_range(call) else {
             return Answer::refused(Refusal::BadRange);
@@ -52,8 +51,7 @@ impl<T: PermTables, const N: usize> Supervisor<T, N> {
         requires sound { IsSound (parts_of T.PermTables self.old) }
         requires domain { IsDomain (T.maps self.old.checker.tables) call.now.domain }
         requires may { MayLook call.now.hart call.now.domain self.old.checker.harts }
-        ensures { Does T.PermTables
-            self.old self.new serve_gate call.now [] result }
+        ensures { Does T.PermTables self.old self.new serve_gate call.now [] result }
     {
         let Some(word) = self.arg_word(call) else {
             return Answer::refused(Refusal::BadRange);
@@ -81,8 +79,7 @@ impl<T: PermTables, const N: usize> Supervisor<T, N> {
         requires sound { IsSound (parts_of T.PermTables self.old) }
         requires domain { IsDomain (T.maps self.old.checker.tables) call.now.domain }
         requires may { MayLook call.now.hart call.now.domain self.old.checker.harts }
-        ensures { Does T.PermTables
-            self.old self.new serve_ungate call.now [] result }
+        ensures { Does T.PermTables self.old self.new serve_ungate call.now [] result }
     {
         let Some(word) = self.arg_word(call) else {
             return Answer::refused(Refusal::BadRange);
@@ -105,8 +102,7 @@ impl<T: PermTables, const N: usize> Supervisor<T, N> {
         requires sound { IsSound (parts_of T.PermTables self.old) }
         requires domain { IsDomain (T.maps self.old.checker.tables) call.now.domain }
         requires may { MayLook call.now.hart call.now.domain self.old.checker.harts }
-        ensures { Does T.PermTables
-            self.old self.new serve_return_gate call.now [] result }
+        ensures { Does T.PermTables self.old self.new serve_return_gate call.now [] result }
     {
         let Some(word) = self.arg_word(call) else {
             return Answer::refused(Refusal::BadRange);
@@ -130,8 +126,7 @@ impl<T: PermTables, const N: usize> Supervisor<T, N> {
         requires sound { IsSound (parts_of T.PermTables self.now) }
         requires domain { IsDomain (T.maps self.now.checker.tables) call.now.domain }
         requires may { MayLook call.now.hart call.now.domain self.now.checker.harts }
-        ensures { Does T.PermTables
-            self.now self.now serve_query call.now [] result }
+        ensures { Does T.PermTables self.now self.now serve_query call.now [] result }
     {
         let Some(word) = self.arg_word(call) else {
             return Answer::refused(Refusal::BadRange);
@@ -164,10 +159,8 @@ impl<T: PermTables, const N: usize> Supervisor<T, N> {
     /// Whether a number is a module's, and not the caller's.
     fn is_other(&self, call: &Call, domain: u32) -> bool
         requires { IsSound (parts_of T.PermTables self.now) }
-        ensures { (rest : Core) →
-            (not (is_module (core_of rest
-            (parts_of T.PermTables self.now)) domain)
-            || (domain == call.now.domain)) ≡ not result }
+        ensures { (rest : Core) → (not (is_module (core_of rest
+            (parts_of T.PermTables self.now)) domain) || (domain == call.now.domain)) ≡ not result }
     {
         self.is_module(domain) && domain != call.domain
     }
@@ -197,8 +190,7 @@ impl<T: PermTables, const N: usize> Supervisor<T, N> {
                   (record { first = first; count = count; value = domain }) self.old.owners;
             } }
         ensures kept { result ≡ false →
-            parts_of T.PermTables self.new
-            ≡ parts_of T.PermTables self.old }
+            parts_of T.PermTables self.new ≡ parts_of T.PermTables self.old }
     {
         self.owners.give(domain, first, count).is_ok()
     }
@@ -206,13 +198,10 @@ impl<T: PermTables, const N: usize> Supervisor<T, N> {
     /// Adds a gate in place of the one of its domain and word. False, with nothing changed, exactly where it doesn't fit.
     fn try_gate(&mut self, gate: Gate) -> bool
         ensures fits { no_gate_fits self.old.gates gate.domain gate.word ≡ not result }
-        ensures done { result ≡ true →
-            parts_of T.PermTables self.new
-            ≡ record (parts_of T.PermTables self.old)
-            { gates = with_gate gate self.old.gates } }
+        ensures done { result ≡ true → parts_of T.PermTables self.new
+            ≡ record (parts_of T.PermTables self.old) { gates = with_gate gate self.old.gates } }
         ensures kept { result ≡ false →
-            parts_of T.PermTables self.new
-            ≡ parts_of T.PermTables self.old }
+            parts_of T.PermTables self.new ≡ parts_of T.PermTables self.old }
     {
         self.gates.add(gate).is_ok()
     }
@@ -220,12 +209,10 @@ impl<T: PermTables, const N: usize> Supervisor<T, N> {
     /// Removes the gate of a domain and word. False, with nothing changed, exactly where none stands there.
     fn take_gate(&mut self, domain: u32, word: u32) -> bool
         ensures stood { has_gate self.old.gates domain word ≡ result }
-        ensures done { parts_of T.PermTables self.new
-            ≡ record (parts_of T.PermTables self.old)
+        ensures done { parts_of T.PermTables self.new ≡ record (parts_of T.PermTables self.old)
             { gates = without_gate domain word self.old.gates } }
         ensures kept { result ≡ false →
-            parts_of T.PermTables self.new
-            ≡ parts_of T.PermTables self.old }
+            parts_of T.PermTables self.new ≡ parts_of T.PermTables self.old }
     {
         self.gates.remove(domain, word)
     }

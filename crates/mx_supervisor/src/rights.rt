@@ -97,8 +97,7 @@ impl<T: PermTables, const N: usize> Supervisor<T, N> {
     /// Makes a change of the caller's ready call, inside its range. False, with nothing changed, exactly where the maps would then
     /// exceed the tables' limit.
     fn try_change(&mut self, call: &Call, change: &Change) -> bool
-        requires announced { HasAnnounced (parts_of T.PermTables self.old)
-            call.now }
+        requires announced { HasAnnounced (parts_of T.PermTables self.old) call.now }
         requires lawful { IsLawful change.now (T.size self.old.checker.tables)
             (length (T.maps self.old.checker.tables)) }
         requires inside { IsIn change.now.first change.now.count
@@ -109,13 +108,10 @@ impl<T: PermTables, const N: usize> Supervisor<T, N> {
             (changed_maps first count given (T.maps self.old.checker.tables)) ≡ result }
         ensures done { (first count : ℕ) (given : ℕ → Option Perm) →
             Gives change.now first count (length (T.maps self.old.checker.tables)) given →
-            result ≡ true →
-            parts_of T.PermTables self.new
-            ≡ record (parts_of T.PermTables self.old)
+            result ≡ true → parts_of T.PermTables self.new ≡ record (parts_of T.PermTables self.old)
             { maps = changed_maps first count given (T.maps self.old.checker.tables) } }
         ensures kept { result ≡ false →
-            parts_of T.PermTables self.new
-            ≡ parts_of T.PermTables self.old }
+            parts_of T.PermTables self.new ≡ parts_of T.PermTables self.old }
     {
         self.checker.change(call.hart, change).is_ok()
     }
@@ -124,11 +120,9 @@ impl<T: PermTables, const N: usize> Supervisor<T, N> {
     pub(crate) fn grant(&mut self, call: &Call) -> Answer
         requires sound { IsSound (parts_of T.PermTables self.old) }
         requires domain { IsDomain (T.maps self.old.checker.tables) call.now.domain }
-        requires announced { HasAnnounced (parts_of T.PermTables self.old)
-            call.now }
+        requires announced { HasAnnounced (parts_of T.PermTables self.old) call.now }
         requires number { call.now.number ≡ 3 }
-        ensures { Does T.PermTables
-            self.old self.new serve_grant call.now [] result }
+        ensures { Does T.PermTables self.old self.new serve_grant call.now [] result }
     {
         let Some((first, count)) = self.arg_range(call) else {
             return Answer::refused(Refusal::BadRange);
@@ -154,11 +148,9 @@ impl<T: PermTables, const N: usize> Supervisor<T, N> {
     pub(crate) fn revoke_all(&mut self, call: &Call) -> Answer
         requires sound { IsSound (parts_of T.PermTables self.old) }
         requires domain { IsDomain (T.maps self.old.checker.tables) call.now.domain }
-        requires announced { HasAnnounced (parts_of T.PermTables self.old)
-            call.now }
+        requires announced { HasAnnounced (parts_of T.PermTables self.old) call.now }
         requires number { call.now.number ≡ 4 }
-        ensures { Does T.PermTables
-            self.old self.new serve_revoke_all call.now [] result }
+        ensures { Does T.PermTables self.old self.new serve_revoke_all call.now [] result }
     {
         let Some((first, count)) = self.arg_range(call) else {
             return Answer::refused(Refusal::BadRange);
@@ -177,11 +169,9 @@ impl<T: PermTables, const N: usize> Supervisor<T, N> {
     pub(crate) fn alloc(&mut self, call: &Call) -> Answer
         requires sound { IsSound (parts_of T.PermTables self.old) }
         requires domain { IsDomain (T.maps self.old.checker.tables) call.now.domain }
-        requires announced { HasAnnounced (parts_of T.PermTables self.old)
-            call.now }
+        requires announced { HasAnnounced (parts_of T.PermTables self.old) call.now }
         requires number { call.now.number ≡ 6 }
-        ensures { Does T.PermTables
-            self.old self.new serve_alloc call.now [] result }
+        ensures { Does T.PermTables self.old self.new serve_alloc call.now [] result }
     {
         let [words, _, _, _] = call.args;
         if words == 0 {
@@ -205,11 +195,9 @@ impl<T: PermTables, const N: usize> Supervisor<T, N> {
     pub(crate) fn free(&mut self, call: &Call) -> Answer
         requires sound { IsSound (parts_of T.PermTables self.old) }
         requires domain { IsDomain (T.maps self.old.checker.tables) call.now.domain }
-        requires announced { HasAnnounced (parts_of T.PermTables self.old)
-            call.now }
+        requires announced { HasAnnounced (parts_of T.PermTables self.old) call.now }
         requires number { call.now.number ≡ 7 }
-        ensures { Does T.PermTables
-            self.old self.new serve_free call.now [] result }
+        ensures { Does T.PermTables self.old self.new serve_free call.now [] result }
     {
         let Some((first, count)) = self.arg_block(call) else {
             return Answer::refused(Refusal::NotABlock);

@@ -87,8 +87,7 @@ impl<T: PermTables, const N: usize> Supervisor<T, N> {
         requires joined { AreJoined (parts_of T.PermTables self.now) }
         requires announced { is_announced call.now.number ≡ true }
         requires domain { IsDomain (T.maps self.now.checker.tables) call.now.domain }
-        ensures range { result
-            ≡ range_of (parts_of T.PermTables self.now) call.now }
+        ensures range { result ≡ range_of (parts_of T.PermTables self.now) call.now }
         ensures within { IsWithin result.0 result.1 (T.size self.now.checker.tables) }
     {
         let [addr, size, _, _] = call.args;
@@ -106,8 +105,7 @@ impl<T: PermTables, const N: usize> Supervisor<T, N> {
         requires empty { out.old.bytes ≡ [] }
         ensures served { ServesAs serve call.now (parts_of T.PermTables self.old)
             (parts_of T.PermTables self.new) out.new.bytes result }
-        ensures refused { is_refusal result ≡ true →
-            IsSpared (parts_of T.PermTables self.old)
+        ensures refused { is_refusal result ≡ true → IsSpared (parts_of T.PermTables self.old)
             (parts_of T.PermTables self.new) out.new.bytes }
         ensures note { out.new.note ≡ out.old.note }
         ensures harts { KeepsHarts call.now (flight_after call.now self.old.checker.harts)

@@ -55,8 +55,7 @@ impl<T: PermTables, const N: usize> Supervisor<T, N> {
             no_range (core_of rest (parts_of T.PermTables self.now)) call.now
             ≡ not (is_some result) }
         ensures range { IfSome result (λ r. (rest : Core) →
-            arg_range (core_of rest (parts_of T.PermTables self.now)) call.now
-            ≡ r) }
+            arg_range (core_of rest (parts_of T.PermTables self.now)) call.now ≡ r) }
         ensures inside { IfSome result
             (λ r. (0 < r.1) × (r.0 + r.1 ≤ T.size self.now.checker.tables)) }
     {
@@ -67,8 +66,7 @@ impl<T: PermTables, const N: usize> Supervisor<T, N> {
     /// The word at a0.
     pub(crate) fn arg_word(&self, call: &Call) -> Option<u32>
         requires { IsSound (parts_of T.PermTables self.now) }
-        ensures there { (rest : Core) →
-            is_word (core_of rest (parts_of T.PermTables self.now))
+        ensures there { (rest : Core) → is_word (core_of rest (parts_of T.PermTables self.now))
             (arg call.now 0) ≡ is_some result }
         ensures word { IfSome result (λ w. arg_word call.now ≡ w) }
         ensures inside { IfSome result
@@ -113,8 +111,7 @@ impl<T: PermTables, const N: usize> Supervisor<T, N> {
     pub(crate) fn is_module(&self, domain: u32) -> bool
         requires { IsSound (parts_of T.PermTables self.now) }
         ensures module { (rest : Core) →
-            is_module (core_of rest (parts_of T.PermTables self.now)) domain
-            ≡ result }
+            is_module (core_of rest (parts_of T.PermTables self.now)) domain ≡ result }
         ensures domain { IsTrue result ↔ IsDomain (T.maps self.now.checker.tables) domain }
     {
         1 <= domain && domain <= self.modules()
@@ -125,8 +122,7 @@ impl<T: PermTables, const N: usize> Supervisor<T, N> {
         requires sound { IsSound (parts_of T.PermTables self.now) }
         requires some { 0 < count }
         requires inside { first + count ≤ T.size self.now.checker.tables }
-        ensures { (rest : Core) →
-            owns (flat_reads (flat_of rest (parts_of T.PermTables self.now)))
+        ensures { (rest : Core) → owns (flat_reads (flat_of rest (parts_of T.PermTables self.now)))
             call.now (first, count) ≡ result }
     {
         self.owners.owns(call.domain, first, count)

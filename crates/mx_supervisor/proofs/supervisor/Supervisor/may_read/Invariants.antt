@@ -7,5 +7,4 @@ use Rattle.mx_supervisor.proofs.supervisor.Supervisor.may_read.Given as goal
 abbrev pub invariant-loop-word : goal.invariant-loop-word
 invariant-loop-word g l =
     HasReadTo l.call (range_with_len l.first (l.behind - l.first)) (range_with_len l.word (l.behind - l.word))
-    (parts_of g.T.PermTables l.fn.self)
-    (parts_of g.T.PermTables l.self)
+    (parts_of g.T.PermTables l.fn.self) (parts_of g.T.PermTables l.self)
