@@ -12,9 +12,7 @@ mod words;
 
 pub use caches::reports_read_no_cache;
 pub use closing::{Options, closing_of_a_flat_state, put_closing};
-pub use lines::{
-    EndState, end_line, exit_line, fault_line, hart_lines, note_line, put_end, put_note,
-};
+pub use lines::{EndState, end_line, exit_line, fault_line, hart_lines, put_end, put_note};
 pub use maps::domain_lines;
 pub use mx_tail::{Tail, put_line, put_pieces};
 pub use owners::owner_lines;

@@ -52,15 +52,6 @@ pub fn exit_line<R: Sink>(
     tail.end(sink)
 }
 
-/// Puts the line of a note.
-pub fn note_line<R: Sink>(sink: &mut R, note: &Note) -> Result<(), Failed>
-    ensures { Puts (R.state sink.old) (R.state sink.new) (note_line note.now) result }
-{
-    let mut tail = Tail::new();
-    put_note(&mut tail, sink, note)?;
-    tail.end(sink)
-}
-
 /// Puts the end line: how many turns were made, and why the run ended.
 pub fn end_line<R: Sink>(sink: &mut R, steps: u64, state: EndState) -> Result<(), Failed>
     ensures { Puts (R.state sink.old) (R.state sink.new) (end_line steps state) result }
