@@ -10,6 +10,7 @@ use mx_words::{Blob, Perm};
 use std::alloc::Global;
 
 mod audits;
+mod lines;
 mod packets;
 mod refusals;
 mod standing;

@@ -5,3 +5,4 @@
 mod boots;
 #[cfg(test)]
 mod layouts;
+pub mod manifests;

@@ -1,7 +1,8 @@
 //! Snapshots that are read back, and written again.
 
-use crate::plans::{BLOCKS, CIRCLE, OWNERS, THREE, WAITING, gates};
+use crate::plans::{BLOCKS, CIRCLE, OWNERS, WAITING, gates};
 use crate::saved::save_after;
+use mx_boot_tests::manifests::THREE_WORDS;
 use mx_io::Bytes;
 use mx_resume::{Resumed, SnapshotRefused, read_snapshot};
 use mx_snapshot::write_snapshot;
@@ -48,7 +49,7 @@ fn comes_back(alloc: Global, text: &str, harts: &[u32], turns: u32) -> bool {
 #[test]
 fn what_is_read_is_written_again(rt: HostRuntime) -> Result<(), Fail> {
     let text = gates(rt.alloc())?;
-    assert!(rt; comes_back(rt.alloc(), THREE, &[0], 1));
+    assert!(rt; comes_back(rt.alloc(), THREE_WORDS, &[0], 1));
     assert!(rt; comes_back(rt.alloc(), WAITING, &[2, 0, 0, 0, 1, 1, 1, 3], 8));
     assert!(rt; comes_back(rt.alloc(), CIRCLE, &[0], 192));
     assert!(rt; comes_back(rt.alloc(), BLOCKS, &[0], 4095));
@@ -167,7 +168,7 @@ fn a_damaged_field_has_its_fault(rt: HostRuntime) -> Result<(), Fail> {
 /// The first 8 bytes alone, a first byte that is 0, and one byte more.
 #[test]
 fn a_file_that_is_no_snapshot_has_its_fault(rt: HostRuntime) -> Result<(), Fail> {
-    let Some(saved) = save_after(rt.alloc(), THREE, &[0], 1, 100000, 0) else {
+    let Some(saved) = save_after(rt.alloc(), THREE_WORDS, &[0], 1, 100000, 0) else {
         return Err("no machine")?;
     };
     let bytes = saved.sink.as_slice();

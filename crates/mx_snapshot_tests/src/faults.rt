@@ -1,7 +1,8 @@
 //! Sinks that fail while a snapshot is written: what they hold is a prefix of it.
 
-use crate::plans::{OWNERS, THREE};
+use crate::plans::OWNERS;
 use crate::saved::save_after;
+use mx_boot_tests::manifests::THREE_WORDS;
 use std::alloc::Global;
 use std::test::Fail;
 
@@ -32,7 +33,7 @@ fn a_sink_that_fails_holds_a_prefix(rt: HostRuntime) -> Result<(), Fail> {
         (70000, 2, 269),
     ];
     for (room, failing, held) in cases {
-        let got = stopped(rt.alloc(), THREE, 1, room, failing);
+        let got = stopped(rt.alloc(), THREE_WORDS, 1, room, failing);
         assert_eq!(rt; got, Some(held));
     }
     Ok(())

@@ -4,18 +4,6 @@ use std::alloc::Global;
 use std::string::String;
 use std::test::Fail;
 
-/// Three words that exit with 5.
-pub const THREE: &str = "version = 1
-ram_kib = 64
-[[module]]
-name = \"m\"
-at = 0x80000000
-perm = \"rx\"
-words = [0x00100893, 0x00500513, 0x00000073]
-[[hart]]
-module = \"m\"
-";
-
 /// Two harts that allocate a word, one that faults in a killing module, and one that jumps to itself.
 pub const WAITING: &str = "version = 2
 ram_kib = 64

@@ -1,8 +1,9 @@
 //! Snapshots beside those of a writer in another language, which was made from the rule in docs/COMMANDS.md alone: the first byte by
 //! byte, the others by their length and their SHA-256.
 
-use crate::plans::{BLOCKS, CIRCLE, OWNERS, THREE, WAITING, gates};
+use crate::plans::{BLOCKS, CIRCLE, OWNERS, WAITING, gates};
 use crate::saved::save_after;
+use mx_boot_tests::manifests::THREE_WORDS;
 use sha2::{Digest, Sha256};
 use std::alloc::Global;
 use std::test::Fail;
@@ -56,7 +57,7 @@ fn first_other(bytes: &[u8]) -> usize {
 
 #[test]
 fn a_snapshot_after_one_step_has_the_bytes_of_another_writer(rt: HostRuntime) -> Result<(), Fail> {
-    let Some(saved) = save_after(rt.alloc(), THREE, &[0], 1, 70000, 0) else {
+    let Some(saved) = save_after(rt.alloc(), THREE_WORDS, &[0], 1, 70000, 0) else {
         return Err("no machine")?;
     };
     let bytes = saved.sink.as_slice();

@@ -1,20 +1,13 @@
 //! Runs of one module on one hart: whole reports.
 
 use crate::examples::{Example, show};
+use mx_boot_tests::manifests;
 use std::test::Fail;
 
 /// The program that leaves with 5 after three steps.
 pub const THREE_WORDS: Example = Example {
     name: "three words",
-    manifest: "version = 1\n\
-ram_kib = 64\n\
-[[module]]\n\
-name = \"m\"\n\
-at = 0x80000000\n\
-perm = \"rx\"\n\
-words = [0x00100893, 0x00500513, 0x00000073]\n\
-[[hart]]\n\
-module = \"m\"\n",
+    manifest: manifests::THREE_WORDS,
     words: &["10"],
     order: b"",
     console: "",
@@ -29,15 +22,7 @@ owner 0x80000000 0x8000000c 1\n",
 
 const THREE_WORDS_NO_STEP: Example = Example {
     name: "three words, no step",
-    manifest: "version = 1\n\
-ram_kib = 64\n\
-[[module]]\n\
-name = \"m\"\n\
-at = 0x80000000\n\
-perm = \"rx\"\n\
-words = [0x00100893, 0x00500513, 0x00000073]\n\
-[[hart]]\n\
-module = \"m\"\n",
+    manifest: manifests::THREE_WORDS,
     words: &["0"],
     order: b"",
     console: "",
@@ -337,15 +322,7 @@ fn calls_of_one_module(rt: HostRuntime) -> Result<(), Fail> {
 
 const SCHEDULE_OF_THREE_BYTES: Example = Example {
     name: "schedule of three bytes",
-    manifest: "version = 1\n\
-ram_kib = 64\n\
-[[module]]\n\
-name = \"m\"\n\
-at = 0x80000000\n\
-perm = \"rx\"\n\
-words = [0x00100893, 0x00500513, 0x00000073]\n\
-[[hart]]\n\
-module = \"m\"\n",
+    manifest: manifests::THREE_WORDS,
     words: &["10", "--schedule", "order"],
     order: b"\x01\x00\x00",
     console: "",
@@ -359,15 +336,7 @@ owner 0x80000000 0x8000000c 1\n",
 
 const EMPTY_SCHEDULE: Example = Example {
     name: "empty schedule",
-    manifest: "version = 1\n\
-ram_kib = 64\n\
-[[module]]\n\
-name = \"m\"\n\
-at = 0x80000000\n\
-perm = \"rx\"\n\
-words = [0x00100893, 0x00500513, 0x00000073]\n\
-[[hart]]\n\
-module = \"m\"\n",
+    manifest: manifests::THREE_WORDS,
     words: &["10", "--schedule", "order"],
     order: b"",
     console: "",
