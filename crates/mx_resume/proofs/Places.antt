@@ -1,5 +1,5 @@
 -- What is known of the next item of a list by those before it: runs, blocks, gates and names.
-use Rattle.std.proofs.Common.{◌≡◌, ℕ, ◌+◌, ◌<◌, ◌≤◌, ◌==◌, Bool, true, false, not, cond, ◌&&◌, ◌||◌, nat_lt, nat_le, List, [], ◌∷◌, ◌++◌, length, Option, Some, None, refl, sym, ap, ◌∙◌, subst, arith, if◌then◌else◌, length-append, lt-ltb, le-leb, leb-true, ltb-true, eqb-true, zero-add}
+use Rattle.std.proofs.Common.{◌≡◌, ℕ, ◌+◌, ◌<◌, ◌≤◌, ◌==◌, Bool, true, false, not, cond, ◌&&◌, ◌||◌, nat_lt, nat_le, List, [], ◌∷◌, ◌++◌, length, Option, Some, None, refl, ap, ◌∙◌, subst, arith, if◌then◌else◌, length-append, lt-ltb, le-leb, leb-true, ltb-true, eqb-true, zero-add}
 use Rattle.std.specs.Prelude.{option_map, find}
 use Rattle.std.specs.Prelude.{map as list_map}
 use Rattle.std.specs.List.{last_or, list_any}
@@ -18,10 +18,9 @@ use Rattle.mx_heap.proofs.RoomLaws.{met_below}
 use Rattle.mx_model.specs.declared.values.Gate.{Gate}
 use Rattle.mx_model.specs.Gates.{gate_target, has_gate, is_at, no_gate_fits, with_gate, without_gate}
 use Rattle.mx_snapshot.specs.Resuming.{spans_in}
-use Rattle.mx_snapshot.specs.Rules.{behind, has_place, is_new_name, is_next_block, is_other, run_words}
+use Rattle.mx_snapshot.specs.Rules.{behind, is_new_name, is_next_block, run_words}
 use Rattle.mx_snapshot.specs.Stored.{StoredModule}
-use Rattle.mx_resume.specs.declared.maps.Extent.{Extent}
-use Rattle.mx_resume.specs.Extents.{IsExtent, fills, last_value}
+use Rattle.mx_resume.specs.Extents.{fills, last_value}
 
 -- the last item of a list with one more
 pub last_more : {A : Type 0} (o : Option A) (xs : List A) (x : A) → last_or o (xs ++ x ∷ []) ≡ Some x
@@ -37,11 +36,6 @@ words_more before r = sum_by-append (λ x. x.count) before (r ∷ []) ∙ ap (λ
 pub count_more : {A : Type 0} (xs : List A) (x : A) → length (xs ++ x ∷ []) ≡ length xs + 1
 count_more xs x = length-append xs (x ∷ [])
 
--- a run that fills fits behind the runs so far
-pub fills_place : {A : Type 0} (words runs : ℕ) (before : List (Run A)) (e : Extent) (count : ℕ) → IsExtent before e → fills words runs e.read e.words count ≡ has_place words runs before count
-fills_place words runs before e count x =
-    ap (λ (k : ℕ). fills words runs k e.words count) (sym x.read) ∙ ap (λ (k : ℕ). fills words runs (length before) k count) (sym x.words)
-
 pub fills_inside : (words runs read filled count : ℕ) → fills words runs read filled count ≡ true → (0 < count) × (filled + count ≤ words)
 fills_inside words runs read filled count e =
     let p = and_parts (nat_lt 0 count) _ e in
@@ -55,16 +49,6 @@ fills_last words runs read filled count last e =
     let p = and_parts (nat_lt 0 count) _ e in
     let c : (read + 1 == runs) ≡ true = grind (arith, last) in
     eqb-true (filled + count) words (subst (λ (b : Bool). (if b then filled + count == words else nat_le (filled + count) words) ≡ true) c p.1)
-
--- whether a value is another than the last one, which is known
-abbrev pub differs : {A : Type 0} → (A → A → Bool) → Option A → A → Bool
-differs eq last value = option_map_or (λ a. not (eq a value)) last true
-
-pub other_last : {A : Type 0} (eq : A → A → Bool) (before : List (Run A)) (last : Option A) (value : A) → last_value before ≡ last → is_other eq before value ≡ differs eq last value
-other_last eq before last value e = mapped (last_or None before) ∙ ap (λ o. differs eq o value) e where
-  mapped : (o : Option (Run _)) → option_map_or (λ (r : Run _). not (eq r.value value)) o true ≡ differs eq (option_map (λ (r : Run _). r.value) o) value
-  mapped None = refl
-  mapped (Some r) = refl
 
 -- a run is at most one span
 pub spans_one : (first : ℕ) (r : Run Perm) → length (spans_in first (r ∷ [])) ≤ 1

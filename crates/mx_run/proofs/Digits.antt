@@ -1,6 +1,5 @@
 -- Decimal digits and the number that they spell.
 use Rattle.std.proofs.Common.{◌≡◌, ℕ, zero, suc, ◌+◌, ◌-◌, ◌*◌, ◌^◌, ◌<◌, ◌≤◌, true, List, [], ◌∷◌, length, get_or, ◌∙◌, mul_comm, arith}
-use Rattle.std.proofs.Math.Nat.{pow-le-pow_right}
 use Rattle.std.proofs.lemmas.Nat.{pow-add}
 use Rattle.std.proofs.lemmas.Bool.{and_parts}
 use Rattle.std.proofs.lemmas.Bool.Decides.{nat_tests}
@@ -18,10 +17,6 @@ digit_range c digit = grind (arith, nat_tests)
 
 pub digit_value_is : (c : ℕ) → is_ascii_digit c ≡ true → digit_value c ≡ c - 48
 digit_value_is c digit = grind (arith, nat_tests)
-
--- ten to at most the ninth
-pub pow_small : (i : ℕ) → i < 10 → 10 ^ i ≤ 1000000000
-pow_small i below = let few : i ≤ 9 = omega arith in pow-le-pow_right (omega arith) few
 
 pub pow_next : (i : ℕ) → 10 ^ (i + 1) ≡ 10 * 10 ^ i
 pow_next i = pow-add 10 i 1 ∙ mul_comm (10 ^ i) 10

@@ -1,5 +1,5 @@
 -- The images of a plan's modules, one after another.
-use Rattle.std.proofs.Common.{◌≡◌, ℕ, ◌+◌, List, [], ◌∷◌, ◌++◌, Some, None, Option, Vec, Global, Ok, Err, refl, sym, ap, subst, ◌∙◌, append_assoc}
+use Rattle.std.proofs.Common.{◌≡◌, ℕ, ◌+◌, List, [], ◌∷◌, ◌++◌, Some, None, Option, Vec, Global, Ok, Err, sym, ap, subst, ◌∙◌, append_assoc}
 use Rattle.std.specs.Prelude.{map as list_map}
 use Rattle.std.proofs.lemmas.List.{append-nil}
 use Rattle.mx_io.specs.Sink.{SinkState}
@@ -44,14 +44,6 @@ images_taken side (m ∷ ms) number images rest files taken more has =
     ∙ ap (λ (all : List (List ℕ)). rest all more) (append_assoc images (has.0 ∷ []) has.2 ∙ ap (λ (t : List (List ℕ)). images ++ t) (sym has.4))
 
 module _ {S : Type 0} (gives : S → Answer → S → Type 0) (side : Side) (number : ℕ) (m : ModulePlan) (s t : S) (r u : SinkState) where
-  -- a module of inline words has an empty image
-  pub takes_none : m.image ≡ None → TakesImage gives side number m s s r r (Ok [])
-  takes_none is = (
-    refl,
-    λ ms images rest. subst (λ (o : Option (List ℕ)). Comes (image_step side o number ms images rest) gives s s (after_images side (number + 1) ms (images ++ [] ∷ []) rest)) (sym is)
-        (λ end before now result c. c),
-  )
-
   -- the image file of a module was taken
   pub takes_some : (name : List ℕ) → m.image ≡ Some name → (bytes : Vec ℕ Global) → Takes gives (image_file side number name) s t r u (Ok bytes)
       → TakesImage gives side number m s t r u (Ok bytes.items)

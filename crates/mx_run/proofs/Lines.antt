@@ -1,18 +1,8 @@
 -- Texts of lines put on a sink.
-use Rattle.std.proofs.Common.{◌≡◌, ℕ, List, [], ◌∷◌, ◌++◌, codes, decimal, flat_map, Result, sym, ap, ◌∙◌, append_assoc}
+use Rattle.std.proofs.Common.{◌≡◌, ℕ, List, [], ◌∷◌, ◌++◌, codes, decimal, sym, ap, ◌∙◌, append_assoc}
 use Rattle.std.specs.List.{concat}
 use Rattle.std.proofs.lemmas.List.{append-nil}
-use Rattle.mx_io.specs.Sink.{SinkState, Puts}
-use Rattle.mx_io.proofs.Puts.{puts_same}
 use Rattle.mx_run.specs.Refusal.{fault_text, detail_text}
-
--- the text of a list of one item
-pub puts_single : {X A E : Type 0} {before now : SinkState} (f : X → List ℕ) (x : X) {result : Result A E} → Puts before now (f x) result → Puts before now (flat_map f (x ∷ [])) result
-puts_single f x puts = puts_same (sym (append-nil (f x))) puts
-
--- the last of several texts
-pub puts_last : {A E : Type 0} {before now : SinkState} {text : List ℕ} {result : Result A E} → Puts before now text result → Puts before now (text ++ []) result
-puts_last {text = text} puts = puts_same (sym (append-nil text)) puts
 
 -- the pieces of the line of a refused boot
 pub refused_parts : (n : ℕ) (table index place name : List ℕ) (d : ℕ) → table ++ index ≡ place

@@ -4,9 +4,8 @@ use Rattle.std.proofs.lemmas.List.{drop-drop}
 use Rattle.std.proofs.lemmas.Nat.{div-add-mod', div-mul-add, mod-mul-add, mod_below}
 use Rattle.mx_model.specs.Run.{Schedule, ByQuantum, ByBytes}
 use Rattle.mx_model.specs.State.{Core}
-use Rattle.mx_turns.specs.declared.pace.Pace.{Pace}
 use Rattle.mx_turns.specs.declared.pace.Pace.TheVariants as pace
-use Rattle.mx_turns.specs.Running.{IsRound, IsPace, IsRow, Leaves, PacesOn}
+use Rattle.mx_turns.specs.Running.{IsRound, IsPace, IsRow, PacesOn}
 
 -- a number further on in a row of q, and the first of the next row
 step_in : (t q n : ℕ) → t % q + n < q → ((t + n) / q ≡ t / q) × ((t + n) % q ≡ t % q + n)
@@ -87,9 +86,3 @@ row_quantum (ByQuantum q) c most w l h r n some is i =
           rw (t, hs, s.0) (ap Some (sym i.turn));
     }
 row_quantum (ByBytes names) c most w l h r n some is i = absurd i
-
--- fewer turns bring no change either
-pub leaves_less : (p : Pace) (m n : ℕ) → n ≤ m → Leaves p m → Leaves p n
-leaves_less pace.Alone m n few l = tt
-leaves_less (pace.Quantum w l h r) m n few left = omega (arith, few, left)
-leaves_less (pace.Bytes bytes) m n few left = omega (arith, few, left)

@@ -107,10 +107,6 @@ pub moves_nothing : (s : SinkState) → Moves [] s s [] []
 unfolding sent held
 moves_nothing s = record { put = put_nothing s; kept = refl }
 
--- nothing was added
-pub moves_none : (b m : SinkState) (mid x : List ℕ) → Moves [] b m mid x → Moves [] b m mid (x ++ [])
-moves_none b m mid x p = subst (λ (t : List ℕ). Moves [] b m mid t) (sym (append-nil x)) p
-
 module _ (b m n : SinkState) (mid x y : List ℕ) (p : Moves [] b m mid x) where
   -- one after another
   sent_both : sent x ++ sent (mid ++ y) ≡ sent (x ++ y)
@@ -151,9 +147,6 @@ pub breaks_sent : (k : ℕ) (b n : SinkState) (x : List ℕ) → Breaks k b n (s
 breaks_sent k b n x p = breaks_same k b n (sent x ++ held x) x (sent_held x) (breaks_more k b n (sent x) (held x) p)
 
 -- prefixes
-pub prefix_of : (k : ℕ) (b n : SinkState) (x : List ℕ) → FailsAt k x b n → AppendsPrefix b.written n.written x
-prefix_of k b n x p = (k, p.put)
-
 pub prefix_put : (b n : SinkState) (x y : List ℕ) → AppendsWhole b.written n.written x → AppendsPrefix b.written n.written (x ++ y)
 prefix_put b n x y p = (length x, subst (λ (t : List ℕ). AppendsWhole b.written n.written t) (sym (take-append_seam x y)) p)
 

@@ -26,9 +26,6 @@ pub record IsLeft (gates : List Gate) (d word i : ℕ) : Type 0 where
   pub found : gate_at (drop i gates) d word ≡ gate_at gates d word
   pub within : i ≤ length gates
 
-pub left-start : (gates : List Gate) (d word : ℕ) → IsLeft gates d word 0
-left-start gates d word = record { found = refl; within = omega arith }
-
 module _ (gates : List Gate) (d word i : ℕ) (k : IsLeft gates d word i) where
   next-gate : (g : Gate) → Some g ≡ slice_get gates i → gate_at gates d word ≡ cond (is_at d word g) (Some g) (gate_at (drop (suc i) gates) d word)
   next-gate g e = sym k.found ∙ ap (λ (gs : List Gate). gate_at gs d word) (some-drop gates i g e)
@@ -54,9 +51,6 @@ module _ (gates : List Gate) (d word i : ℕ) (k : IsLeft gates d word i) where
 pub record HavePassed (test : Gate → Bool) (gates : List Gate) (i : ℕ) : Type 0 where
   pub left : list_all test gates ≡ list_all test (drop i gates)
   pub within : i ≤ length gates
-
-pub passed-start : (test : Gate → Bool) (gates : List Gate) → HavePassed test gates 0
-passed-start test gates = record { left = refl; within = omega arith }
 
 module _ (test : Gate → Bool) (gates : List Gate) (i : ℕ) (k : HavePassed test gates i) where
   next-test : (g : Gate) → Some g ≡ slice_get gates i → list_all test gates ≡ (test g && list_all test (drop (suc i) gates))

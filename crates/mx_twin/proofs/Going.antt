@@ -42,18 +42,9 @@ going-start d quantum steps f g p a m n = record {
   knows = start-known d f g p n;
 }
 
-pub twins-start : (d quantum steps : ℕ) (f g : Flat) → fails d f g ≡ true → E.Ended 0 0 T.Idle ≡ twins d quantum steps f g
-twins-start d quantum steps f g e = sym (ap (λ (b : Bool). if b then E.Ended 0 0 T.Idle else twins_from d quantum steps 0 f g) e)
-
 module _ (d quantum steps harts : ℕ) (f g : Flat) (made : ℕ) (u v : Flat) (known : Bool) (k : IsGoing d quantum steps harts f g made u v known) where
   abbrev hart : ℕ
   hart = next_hart quantum made u
-
-  pub going-all : steps ≤ made → E.Agreed ≡ twins d quantum steps f g
-  going-all l =
-      let within = k.within in
-      let none : steps - made ≡ 0 = omega (arith, l) in
-      sym (k.rest ∙ ap (λ (n : ℕ). twins_from d quantum n made u v) none)
 
   pub going-halted : all_halted u.core ≡ true → all_halted v.core ≡ true → E.Agreed ≡ twins d quantum steps f g
   going-halted a b = sym (k.rest ∙ halted-agreed d quantum (steps - made) made u v k.pair a b)
