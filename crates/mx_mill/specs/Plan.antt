@@ -36,8 +36,8 @@ module_of i words = record {
 }
 
 -- the hart that begins in module i, at its first word
-abbrev pub hart_of : ℕ → HartPlan
-hart_of i = record { «module» = i; entry = None }
+abbrev pub mill_hart : ℕ → HartPlan
+mill_hart i = record { «module» = i; entry = None }
 
 -- the plan, with the words of each module
 abbrev pub plan_with : (ℕ → List ℕ) → Said
@@ -51,7 +51,7 @@ plan_with words = record {
   lookaside = 32;
   quantum = 1;
   modules = map (λ i. module_of i (words i)) (range_with_len 1 module_count);
-  harts = map hart_of (range_with_len 1 hart_count);
+  harts = map mill_hart (range_with_len 1 hart_count);
 }
 
 -- the plan of `mill k`
