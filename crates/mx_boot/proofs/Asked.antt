@@ -1,5 +1,5 @@
 -- Gates that are asked for, some after others.
-use Rattle.std.proofs.Common.{◌≡◌, ℕ, ◌+◌, ◌≤◌, List, [], ◌∷◌, ◌++◌, length, take, drop, map, slice_get, Option, Some, None, Result, Ok, Err, refl, ap, ◌∙◌, sym, subst, append_assoc}
+use Rattle.std.proofs.Common.{◌≡◌, ℕ, ◌+◌, ◌≤◌, List, [], ◌∷◌, ◌++◌, length, take, drop, map, slice_get, Option, Some, None, Result, Ok, Err, ap, ◌∙◌, sym, subst, append_assoc}
 use Rattle.std.specs.List.{flat_map}
 use Rattle.std.specs.Option.{option_or}
 use Rattle.std.proofs.lemmas.Grind.{flat_map-append}
@@ -19,10 +19,6 @@ use Rattle.mx_boot.proofs.Rows.{take_at}
 
 abbrev Done : Type 0
 Done = Result (Unit {0}) LayoutRefused
-
--- nothing is asked for
-pub asked-none : (areas : List Area) (earlier : List Gate) → AreAsked areas earlier [] earlier (Ok tt)
-asked-none areas earlier = (refl, sym (append-nil earlier))
 
 tells_rest : (first rest : Option BootFault) (refused : LayoutRefused) → first ≡ None → Tells rest refused → Tells (option_or first rest) refused
 tells_rest first rest (Fault fault) none some = ap (λ o. option_or o rest) none ∙ some
@@ -57,9 +53,6 @@ asked-stops areas earlier xs ys between later refused a =
 
 -- what each of some elements asks for, element by element
 module _ {A : Type 0} (areas : List Area) (earlier : List Gate) (ask : A → List Request) (xs : List A) where
-  pub each-begins : AreAsked areas earlier (flat_map ask (take 0 xs)) earlier (Ok tt)
-  each-begins = asked-none areas earlier
-
   so_far : (k : ℕ) (x : A) → slice_get xs k ≡ Some x → flat_map ask (take (k + 1) xs) ≡ flat_map ask (take k xs) ++ ask x
   so_far k x at = ap (flat_map ask) (take_at xs k x at) ∙ flat_map-append ask (take k xs) (x ∷ []) ∙ ap (λ r. flat_map ask (take k xs) ++ r) (append-nil (ask x))
 

@@ -1,12 +1,9 @@
 -- Gates added one after another.
-use Rattle.std.proofs.Common.{◌≡◌, ℕ, zero, suc, ◌+◌, ◌<◌, ◌≤◌, Bool, false, not, cond, nat_le, ◌&&◌, List, [], ◌∷◌, ◌++◌, length, get_or, take, refl, ap, ◌∙◌, sym, arith}
-use Rattle.std.specs.List.{AllByRecursion, list_any}
-use Rattle.std.proofs.lemmas.Bool.Decides.{nat_tests}
-use Rattle.std.proofs.lemmas.List.{take_more, length-take-le}
-use Rattle.std.proofs.lemmas.List.Folds.{list_any_none}
-use Rattle.std.proofs.lemmas.List.Elements.{All-from_recursion}
+use Rattle.std.proofs.Common.{◌≡◌, ℕ, zero, suc, ◌+◌, ◌<◌, false, not, cond, List, [], ◌∷◌, ◌++◌, length, get_or, take, refl, ap, ◌∙◌, sym, arith}
+use Rattle.std.specs.List.{AllByRecursion}
+use Rattle.std.proofs.lemmas.List.{take_more}
 use Rattle.mx_model.specs.declared.values.Gate.{Gate}
-use Rattle.mx_model.specs.Gates.{AreSingle, has_gate, is_at, no_gate_fits, with_gate, without_gate}
+use Rattle.mx_model.specs.Gates.{AreSingle, is_at, with_gate, without_gate}
 use Rattle.mx_boot.proofs.Gated.{flipped}
 
 all_taken : {X : Type 0} (P : X → Type 0) (xs : List X) (i : ℕ) (d : X) → ((j : ℕ) → j < i → j < length xs → P (get_or xs j d)) → AllByRecursion P (take i xs)
@@ -14,9 +11,6 @@ all_taken P [] zero d f = tt
 all_taken P [] (suc i) d f = tt
 all_taken P (x ∷ xs) zero d f = tt
 all_taken P (x ∷ xs) (suc i) d f = (f 0 (omega arith) (omega arith), all_taken P xs i d (λ j a b. f (suc j) (omega (arith, a)) (omega (arith, b))))
-
-none_any : {X : Type 0} (p : X → Bool) (xs : List X) → AllByRecursion (λ x. p x ≡ false) xs → list_any p xs ≡ false
-none_any p xs h = list_any_none p xs (All-from_recursion (λ x. p x ≡ false) xs h)
 
 none_left_out : (domain word : ℕ) (gs : List Gate) → AllByRecursion (λ g. is_at domain word g ≡ false) gs → without_gate domain word gs ≡ gs
 none_left_out domain word [] h = refl
@@ -29,12 +23,3 @@ module _ (all : List Gate) (single : AreSingle all) (i : ℕ) (d : Gate) (lt : i
 
   pub gate-next : with_gate (get_or all i d) (take i all) ≡ take (i + 1) all
   gate-next = ap (λ gs. gs ++ get_or all i d ∷ []) (none_left_out (get_or all i d).domain (get_or all i d).word (take i all) fresh) ∙ sym (take_more all i d lt)
-
-  pub gate-fits : length all ≤ 256 → no_gate_fits (take i all) (get_or all i d).domain (get_or all i d).word ≡ false
-  gate-fits few =
-      let long : length (take i all) ≡ i = length-take-le i all (omega (arith, lt)) in
-      let room : nat_le 256 (length (take i all)) ≡ false = ap (nat_le 256) long ∙ below i (omega (arith, lt, few)) in
-      ap (λ b. b && not (has_gate (take i all) (get_or all i d).domain (get_or all i d).word)) room
-    where
-      below : (n : ℕ) → n < 256 → nat_le 256 n ≡ false
-      below n lt = grind (arith, nat_tests)

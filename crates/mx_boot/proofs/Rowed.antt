@@ -17,7 +17,7 @@ use Rattle.mx_boot.specs.Entries.{word_at}
 use Rattle.mx_boot.specs.Faults.{shares_word}
 use Rattle.mx_boot.specs.Placed.{ArePlaced, IsApart, IsPlaced, next_area}
 use Rattle.mx_boot.proofs.Apart.{both_cover, end_is, in_ram}
-use Rattle.mx_boot.proofs.Lists.{all_both, all_each, all_mapped}
+use Rattle.mx_boot.proofs.Lists.{all_both, all_mapped}
 use Rattle.mx_boot.proofs.Nearest.{next-is, next-from, next-least, next-none}
 use Rattle.mx_boot.proofs.Owning.{is_over, newest_is}
 use Rattle.mx_boot.proofs.Rows.{at_mapped}
@@ -40,21 +40,6 @@ pub record IsRowTo (words to : ℕ) (areas : List Area) (row : List Span) : Type
   pub apart : AllByRecursion (λ a. word_at a.address < to → end_of a ≤ to) areas
   pub done : (w : ℕ) → w < to → at (map granted row) w ≡ at (map grant areas) w
   pub rest : (w : ℕ) → to ≤ w → at (map granted row) w ≡ P.None
-
-pub row-start : (words : ℕ) (areas : List Area) → IsRowTo words 0 areas []
-row-start words areas = record {
-  is = record {
-    some = λ i lt. absurd (let q : ⊥ = omega (arith, lt) in q);
-    sorted = λ i lt. absurd (let q : ⊥ = omega (arith, lt) in q);
-    inside = λ i lt. absurd (let q : ⊥ = omega (arith, lt) in q);
-  };
-  last = λ i lt. absurd (let q : ⊥ = omega (arith, lt) in q);
-  few = omega arith;
-  within = omega arith;
-  apart = all_each (λ (a : Area). word_at a.address < 0 → end_of a ≤ 0) areas (λ a lt. absurd (let q : ⊥ = omega (arith, lt) in q));
-  done = λ w lt. absurd (let q : ⊥ = omega (arith, lt) in q);
-  rest = λ w le. refl;
-}
 
 -- what holds of each span of a row and of one more
 grown : (P : ℕ → Span → Type 0) (row : List Span) (s : Span) → ((i : ℕ) → i < length row → P i (get_or row i no_span)) → P (length row) s

@@ -23,9 +23,6 @@ pub record AreRowsTo (plan : Said) (images : List (List ℕ)) (i : ℕ) (rows : 
   pub each : AllByRecursion (IsRow (ram_words plan)) rows
   pub maps : map (row_map (ram_words plan)) rows ≡ map (home_map plan) (take i (homes plan images))
 
-pub rows-start : (plan : Said) (images : List (List ℕ)) → AreRowsTo plan images 0 []
-rows-start plan images = record { each = tt; maps = refl }
-
 pub rows-next : (plan : Said) (images : List (List ℕ)) (i : ℕ) (rows : List (List Span)) (h : Home) (row : List Span) → slice_get (homes plan images) i ≡ Some h
     → AreRowsTo plan images i rows → IsRow (ram_words plan) row → row_map (ram_words plan) row ≡ home_map plan h → AreRowsTo plan images (i + 1) (rows ++ row ∷ [])
 rows-next plan images i rows h row at so_far is same = record {

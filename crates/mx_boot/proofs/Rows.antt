@@ -1,8 +1,8 @@
 -- The first of the rows of elements, one by one.
-use Rattle.std.proofs.Common.{◌≡◌, ℕ, zero, suc, ◌+◌, ◌<◌, ◌≤◌, List, [], ◌∷◌, ◌++◌, length, take, drop, map, slice_get, Option, Some, None, option_map, refl, ap, ◌∙◌, sym, subst, arith, append_assoc, get_or, find, Bool, true, false}
+use Rattle.std.proofs.Common.{◌≡◌, ℕ, zero, suc, ◌+◌, ◌≤◌, List, [], ◌∷◌, ◌++◌, length, take, drop, map, slice_get, Option, Some, None, option_map, refl, ap, ◌∙◌, sym, subst, arith, append_assoc, Bool, true, false}
 use Rattle.std.specs.List.{enumerate_from, flat_map}
 use Rattle.std.specs.Option.{option_or}
-use Rattle.std.proofs.lemmas.List.{drop_more, take_more, append-nil, map-append, drop_all}
+use Rattle.std.proofs.lemmas.List.{take_more, append-nil, map-append, drop_all}
 use Rattle.std.proofs.lemmas.Grind.{flat_map-append}
 use Rattle.std.proofs.lemmas.Option.{same_Some, slice_get-map, slice_get_within, get_or_from_slice_get}
 use Rattle.mx_words.specs.FirstRow.{Row, first_row}
@@ -52,16 +52,6 @@ one_applies test fault h = rw h refl
 
 pub one_fails : {B : Type 0} (test : Bool) (fault : B) → test ≡ false → first_row ((test, fault) ∷ []) ≡ None
 one_fails test fault h = rw h refl
-
--- the first element that passes a test, element by element
-pub find_here : {A : Type 0} (test : A → Bool) (xs : List A) (i : ℕ) (d : A) → i < length xs → test (get_or xs i d) ≡ true → find test (drop i xs) ≡ Some (get_or xs i d)
-find_here test xs i d below yes_ = rw (drop_more xs i d below, yes_) refl
-
-pub find_next : {A : Type 0} (test : A → Bool) (xs : List A) (i : ℕ) (d : A) → i < length xs → test (get_or xs i d) ≡ false → find test (drop (i + 1) xs) ≡ find test (drop i xs)
-find_next test xs i d below fails = rw (drop_more xs i d below, fails) refl
-
-pub find_end : {A : Type 0} (test : A → Bool) (xs : List A) (i : ℕ) → length xs ≤ i → find test (drop i xs) ≡ None
-find_end test xs i past = ap (find test) (drop_all i xs past)
 
 -- a list that grows by what each element of another gives
 pub grown_by_one : {A B : Type 0} (f : A → B) (xs : List A) (k : ℕ) (x : A) (old items new : List B) (y : B) → slice_get xs k ≡ Some x

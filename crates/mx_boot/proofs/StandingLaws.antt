@@ -1,5 +1,5 @@
 -- The instruction at which a hart stands, by what is read of a machine.
-use Rattle.std.proofs.Common.{◌≡◌, ℕ, zero, suc, ◌+◌, ◌-◌, ◌*◌, ◌/◌, ◌%◌, ◌<◌, ◌≤◌, Bool, true, false, not, ◌||◌, nat_le, nat_lt, List, drop, get_or, slice_range, if◌then◌else◌, Option, Some, None, refl, sym, ap, ◌∙◌, subst, arith, get_or-take, get_or-drop}
+use Rattle.std.proofs.Common.{◌≡◌, ℕ, zero, suc, ◌+◌, ◌-◌, ◌*◌, ◌/◌, ◌%◌, ◌<◌, ◌≤◌, Bool, true, false, not, nat_le, nat_lt, List, drop, get_or, slice_range, if◌then◌else◌, Option, Some, None, refl, sym, ap, ◌∙◌, subst, arith, get_or-take, get_or-drop}
 use Rattle.std.specs.Option.{option_map_or}
 use Rattle.std.proofs.lemmas.Bool.{and_parts, leb-true, ltb-true}
 use Rattle.std.proofs.lemmas.Option.{same_Some}
@@ -10,13 +10,8 @@ use Rattle.mx_words.specs.Ranges.{in_ram, ram_base, word_of}
 use Rattle.mx_words.specs.Rights.{allows}
 use Rattle.mx_isa.specs.declared.inst.Inst.{Inst}
 use Rattle.mx_isa.specs.Table.{decoded}
-use Rattle.mx_laws.specs.Standing.{standing_inst}
-use Rattle.mx_machine.specs.declared.views.HartStatus.{HartStatus}
-use Rattle.mx_machine.specs.declared.views.HartStatus.TheVariants as V
-use Rattle.mx_machine.specs.Readings.{status_told}
-use Rattle.mx_model.specs.Checks.{is_halted}
 use Rattle.mx_model.specs.Reads.{Reads}
-use Rattle.mx_model.specs.State.{Core, Status, Running, Waiting, Halted, hart_at}
+use Rattle.mx_model.specs.State.{Core}
 use Rattle.mx_model.specs.Turn.{is_denied, load_at}
 
 -- the number that some of a list's bytes hold, told of them alone
@@ -57,13 +52,6 @@ by_right c pc right = if not right then None else decoded (load_at c pc 4)
 abbrev pub standing_at : Reads → Core → ℕ → ℕ → Option Inst
 standing_at r c d pc = if is_denied r c d pc A.Execute then None else decoded (load_at c pc 4)
 
-pub outside_ram : (r : Reads) (c : Core) (d pc : ℕ) → None ≡ word_of pc c.size → None ≡ standing_at r c d pc
-outside_ram r c d pc e = subst (λ (o : Option ℕ). None ≡ by_word r c d pc o) e refl
-
-pub no_fetch : (r : Reads) (c : Core) (d pc word : ℕ) → Some word ≡ word_of pc c.size → allows (r.perm d word) A.Execute ≡ false → None ≡ standing_at r c d pc
-no_fetch r c d pc word e right =
-    subst (λ (o : Option ℕ). None ≡ by_word r c d pc o) e (subst (λ (b : Bool). None ≡ by_right c pc b) (sym right) refl)
-
 pub fetch : (r : Reads) (c : Core) (d pc word : ℕ) (x : Option Inst) (n : ℕ) (bytes : List ℕ) → Some word ≡ word_of pc c.size → allows (r.perm d word) A.Execute ≡ true
     → pc % 4 ≡ 0 → bytes ≡ slice_range c.ram (4 * word) (4 * word + 4) → n ≡ number_at bytes 0 4 → x ≡ decoded n → x ≡ standing_at r c d pc
 fetch r c d pc word x n bytes e right aligned part number is =
@@ -74,28 +62,3 @@ fetch r c d pc word x n bytes e right aligned part number is =
     let all : n ≡ load_at c pc 4 =
     number ∙ ap (λ (b : List ℕ). number_at b 0 4) part ∙ number_part 4 c.ram (4 * word) 4 0 (omega arith) ∙ ap (λ k. number_at c.ram k 4) place in
     subst (λ (o : Option ℕ). x ≡ by_word r c d pc o) e (subst (λ (b : Bool). x ≡ by_right c pc b) (sym right) (is ∙ ap decoded all))
-
--- a hart that is halted, and another
-halted_told : (s : Status) → V.Halted ≡ status_told s → is_halted s ≡ true
-halted_told Running e = absurd cc
-halted_told (Waiting call heard) e = absurd cc
-halted_told (Halted code) e = refl
-
-other_told : (s : Status) → (status_told s ≡ V.Halted → ⊥) → is_halted s ≡ false
-other_told Running n = refl
-other_told (Waiting call heard) n = refl
-other_told (Halted code) n = absurd (n refl)
-
-pub halted_stands : (r : Reads) (c : Core) (h : ℕ) (v : HartStatus) → v ≡ V.Halted → v ≡ status_told (hart_at c h).status → None ≡ standing_inst r c h
-halted_stands r c h v is told =
-    let hart = hart_at c h in
-    subst (λ (b : Bool). None ≡ (if b || is_denied r c hart.domain hart.pc A.Execute then None else decoded (load_at c hart.pc 4)))
-    (sym (halted_told hart.status (sym is ∙ told))) refl
-
-pub other_stands : (r : Reads) (c : Core) (h : ℕ) (v : HartStatus) (d pc : ℕ) (x : Option Inst) → (v ≡ V.Halted → ⊥) → v ≡ status_told (hart_at c h).status
-    → d ≡ (hart_at c h).domain → pc ≡ (hart_at c h).pc → x ≡ standing_at r c d pc → x ≡ standing_inst r c h
-other_stands r c h v d pc x not told domain place is =
-    let hart = hart_at c h in
-    let here : x ≡ standing_at r c hart.domain hart.pc = is ∙ ap (λ e. standing_at r c e pc) domain ∙ ap (standing_at r c hart.domain) place in
-    subst (λ (b : Bool). x ≡ (if b || is_denied r c hart.domain hart.pc A.Execute then None else decoded (load_at c hart.pc 4)))
-    (sym (other_told hart.status (λ e. not (told ∙ e)))) here
