@@ -21,7 +21,7 @@ use Rattle.mx_manifest.specs.declared.fault.BootFault.{BootFault}
 use Rattle.mx_manifest.specs.InRange.{IsInRange}
 use Rattle.mx_manifest.specs.Plan.{Said}
 use Rattle.mx_boot.specs.Areas.{homes, areas}
-use Rattle.mx_boot.specs.Boot.{Refusal, TooFull, boot_need, boot_state, boot_of, grants_of, hart_of, limited, module_of, unless}
+use Rattle.mx_boot.specs.Boot.{Refusal, TooFull, boot_need, boot_state, boot_of, grants_of, hart_at_boot, limited, module_of, unless}
 use Rattle.mx_boot.specs.Entries.{requests}
 use Rattle.mx_boot.specs.Faults.{harts_rows, ram_words, first_fault}
 use Rattle.mx_boot.specs.Images.{AreImages}
@@ -85,16 +85,16 @@ module _ (plan : Said) (images : List (List ℕ)) (in_range : IsInRange plan) (c
   length-modules = length-map plan.modules module_of
 
   length-harts : length core.harts ≡ length plan.harts
-  length-harts = length-map (enumerate_from 0 plan.harts) (hart_of plan images) ∙ length-enumerate_from 0 plan.harts
+  length-harts = length-map (enumerate_from 0 plan.harts) (hart_at_boot plan images) ∙ length-enumerate_from 0 plan.harts
 
   harts_valid : (h : ℕ) → h < length core.harts → IsHart (length core.modules) (length core.harts) h (hart_at core h)
   harts_valid h lt =
       let found = there plan.harts h (omega (arith, lt, length-harts)) in
-      let at = at_mapped (hart_of plan images) (enumerate_from 0 plan.harts) h (h, found.0) (at_counted plan.harts h found.0 found.1) in
-      let same : hart_at core h ≡ hart_of plan images (h, found.0) = get_or_from_slice_get core.harts h (hart_of plan images (h, found.0)) no_hart at in
+      let at = at_mapped (hart_at_boot plan images) (enumerate_from 0 plan.harts) h (h, found.0) (at_counted plan.harts h found.0 found.1) in
+      let same : hart_at core h ≡ hart_at_boot plan images (h, found.0) = get_or_from_slice_get core.harts h (hart_at_boot plan images (h, found.0)) no_hart at in
       let valid = hart_valid plan images (ram_words plan) h found.0 in_range few_words inside clear.started found.1 in
-      let one = subst (λ n. IsHart n (length plan.harts) h (hart_of plan images (h, found.0))) (sym length-modules) valid in
-      let two = subst (λ n. IsHart (length core.modules) n h (hart_of plan images (h, found.0))) (sym length-harts) one in
+      let one = subst (λ n. IsHart n (length plan.harts) h (hart_at_boot plan images (h, found.0))) (sym length-modules) valid in
+      let two = subst (λ n. IsHart (length core.modules) n h (hart_at_boot plan images (h, found.0))) (sym length-harts) one in
       subst (λ (g : Hart). IsHart (length core.modules) (length core.harts) h g) (sym same) two
 
   core_valid : AreImages images → IsValid core

@@ -13,7 +13,7 @@ use Rattle.mx_manifest.specs.InRange.{IsInRange}
 use Rattle.mx_manifest.specs.Plan.{Said}
 use Rattle.mx_words.proofs.OptionLaws.{neither}
 use Rattle.mx_boot.specs.Areas.{Home, home, pieces, heaps, stacks, stack_words, stack_area, areas}
-use Rattle.mx_boot.specs.Boot.{stack_address, hart_of}
+use Rattle.mx_boot.specs.Boot.{stack_address, hart_at_boot}
 use Rattle.mx_boot.specs.Entries.{hart_start}
 use Rattle.mx_boot.specs.Faults.{Fault, is_in_ram, at_hart, hart_rows, harts_rows}
 use Rattle.mx_boot.proofs.Apart.{in_ram}
@@ -74,7 +74,7 @@ x2_small plan images words h i m few all lt at =
 
 pub hart_valid : (plan : Said) (images : List (List ℕ)) (words h : ℕ) (hart : HartPlan) → IsInRange plan → words ≤ 16777216 → Inside words (areas plan images)
     → first_row (harts_rows plan images) ≡ None → slice_get plan.harts h ≡ Some hart
-    → IsHart (length plan.modules) (length plan.harts) h (hart_of plan images (h, hart))
+    → IsHart (length plan.modules) (length plan.harts) h (hart_at_boot plan images (h, hart))
 hart_valid plan images words h hart in_range few all clear at =
     let domain = hart_domain plan h hart in_range at in
     let lt = slice_get_within plan.harts h hart at in

@@ -24,7 +24,7 @@ use Rattle.mx_manifest.specs.InRange.{IsAligned, IsBetween, IsInRange}
 use Rattle.mx_manifest.specs.Plan.{Said}
 use Rattle.mx_boot.specs.Areas.{stack_words, stack_area, stacks, pieces, heaps, areas}
 use Rattle.mx_boot.specs.Areas as areas_spec
-use Rattle.mx_boot.specs.Boot.{boot_state, hart_of, heap_of, module_of, stack_address, stack_of}
+use Rattle.mx_boot.specs.Boot.{boot_state, hart_at_boot, heap_of, module_of, stack_address, stack_of}
 use Rattle.mx_boot.specs.Entries.{word_at}
 use Rattle.mx_boot.specs.Faults.{is_in_ram, ram_words, first_fault}
 use Rattle.mx_boot.specs.Laid.{start_of}
@@ -100,14 +100,14 @@ modules_are rest i (m ∷ ms) f =
 -- the harts, from a number on
 harts_are : (plan : Said) (images : List (List ℕ)) (stacks : List StackArea) (kept : List Kept) (h : ℕ) (hs : List HartPlan)
     → ((j : ℕ) (x : HartPlan) → slice_get hs j ≡ Some x → behind stacks x.module (h + j) ≡ option_map_or (stack_address (h + j)) (slice_get plan.modules (x.module - 1)) 0)
-    → seen_from h (started_from stacks h (map (hart_start_of (start_of plan images)) hs)) kept ≡ map (hart_of plan images) (enumerate_from h hs)
+    → seen_from h (started_from stacks h (map (hart_start_of (start_of plan images)) hs)) kept ≡ map (hart_at_boot plan images) (enumerate_from h hs)
 harts_are plan images stacks kept h [] f = refl
 harts_are plan images stacks kept h (x ∷ hs) f =
     let same : h + 0 ≡ h = omega arith in
     let here : behind stacks x.module h ≡ option_map_or (stack_address h) (slice_get plan.modules (x.module - 1)) 0 =
     subst (λ n. behind stacks x.module n ≡ option_map_or (stack_address n) (slice_get plan.modules (x.module - 1)) 0) same (f 0 x refl) in
     ap (λ n. (let y : Hart = record { regs = set (replicate 32 0) 2 n; pc = start_of plan images x; domain = x.module; frames = []; status = Running } in y) ∷ seen_from (h + 1) (started_from stacks (h + 1) (map (hart_start_of (start_of plan images)) hs)) kept) here
-    ∙ ap (λ ys. hart_of plan images (h, x) ∷ ys) (harts_are plan images stacks kept (h + 1) hs
+    ∙ ap (λ ys. hart_at_boot plan images (h, x) ∷ ys) (harts_are plan images stacks kept (h + 1) hs
     (λ j y at. let next : h + suc j ≡ h + 1 + j = omega arith in
     subst (λ n. behind stacks y.module n ≡ option_map_or (stack_address n) (slice_get plan.modules (y.module - 1)) 0) next (f (suc j) y at)))
 

@@ -77,8 +77,8 @@ stack_address h plan =
     option_map_or (λ address. address + 4 * stack_words plan * (h + 1)) plan.stack 0
 
 -- a hart with its number from 0: it is in its module, at its entry, with all registers zero but x2, its stack address
-abbrev pub hart_of : Said → List (List ℕ) → ℕ × HartPlan → Hart
-hart_of plan images placed =
+abbrev pub hart_at_boot : Said → List (List ℕ) → ℕ × HartPlan → Hart
+hart_at_boot plan images placed =
     let stack =
     option_map_or (stack_address placed.0) (slice_get plan.modules (placed.1.module - 1)) 0 in
     record {
@@ -99,7 +99,7 @@ boot_state plan images = record {
     ram = boot_ram plan images;
     modules = map module_of plan.modules;
     gates = map (λ (r : Request). r.gate) (requests plan images);
-    harts = map (hart_of plan images) (enumerate_from 0 plan.harts);
+    harts = map (hart_at_boot plan images) (enumerate_from 0 plan.harts);
     caches = replicate (length plan.harts) no_cache;
     turns = 0;
     size = ram_words plan;

@@ -5,7 +5,7 @@ use Rattle.std.proofs.lemmas.List.FromFn.{length-enumerate_from}
 use Rattle.std.specs.List.{enumerate_from}
 use Rattle.mx_manifest.specs.Plan.{Said}
 use Rattle.mx_model.specs.State.{State, flat}
-use Rattle.mx_boot.specs.Boot.{hart_of, module_of, boot_state, boot_of}
+use Rattle.mx_boot.specs.Boot.{hart_at_boot, module_of, boot_state, boot_of}
 use Rattle.mx_snapshot.specs.Kept.{IsOfPlan, kept_of}
 use Rattle.mx_snapshot.proofs.PlanLaws.{boots, boots_of_plan}
 use Rattle.mx_turns.specs.Running.{IsNew}
@@ -20,7 +20,7 @@ sized plan images =
     record {
       words = refl;
       modules = length-map plan.modules module_of;
-      harts = length-map (enumerate_from 0 plan.harts) (hart_of plan images) ∙ length-enumerate_from 0 plan.harts;
+      harts = length-map (enumerate_from 0 plan.harts) (hart_at_boot plan images) ∙ length-enumerate_from 0 plan.harts;
       turns = refl;
     }
 
