@@ -9,10 +9,11 @@ ghost use Rattle.mx_boot.specs.Seen.{seen};
 
 use crate::area::Area;
 use crate::home::{Home, home_at};
+use crate::images::Images;
 use crate::refused::{at_module, fault};
-use mx_elf::{Seg, Segs, read_image};
+use mx_elf::{Seg, Segs};
 use mx_manifest::{BootFault, Key, Numbers, Plan};
-use mx_words::{Blob, NoMemory, Perm, RAM_BASE};
+use mx_words::{NoMemory, Perm, RAM_BASE};
 use std::alloc::Global;
 
 /// The permission of a segment, by its flags and by `wx`.
@@ -97,7 +98,7 @@ pub(crate) fn add_pieces(areas: &mut Vec<Area>, home: Home) -> Result<(), NoMemo
     if home.plan.image.is_none() {
         return add(areas, inline_area(home));
     }
-    match read_image(home.bytes) {
+    match home.file.image() {
         Ok(image) => add_segments(areas, home, &image.segments),
         Err(_) => Ok(()),
     }
@@ -156,7 +157,7 @@ fn add_areas(areas: &mut Vec<Area>, home: Home, harts: u32) -> Result<(), NoMemo
 }
 
 /// The areas of all modules, in the order in which they are judged.
-pub(crate) fn areas(alloc: Global, plan: &Plan, images: &[Blob]) -> Result<Vec<Area>, NoMemory>
+pub(crate) fn areas(alloc: Global, plan: &Plan, images: &Images) -> Result<Vec<Area>, NoMemory>
     ensures { IfOk result (λ all. all.items ≡ areas plan.now images.now) }
 {
     let mut all = Vec::new(alloc);

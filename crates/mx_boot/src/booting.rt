@@ -5,8 +5,9 @@ ghost use Rattle.mx_boot.specs.Laid.{IsLayout};
 ghost use Rattle.mx_boot.specs.Machines.{IsBooted};
 
 use crate::any::AnyMachine;
+use crate::images::Images;
 use crate::joined::join;
-use crate::layout::{Layout, lay_out};
+use crate::layout::{Layout, lay_out_files};
 use crate::machine::machine_of;
 use crate::refused::{BootRefused, LayoutRefused};
 use mx_manifest::Plan;
@@ -29,7 +30,7 @@ macro_rules! made {
 fn with_segments(
     alloc: Global,
     plan: &Plan,
-    images: &[Blob],
+    images: &Images,
     layout: &Layout,
 ) -> Result<AnyMachine, BootRefused>
     requires layout { IsLayout plan.now images.now layout.now }
@@ -65,7 +66,7 @@ fn with_segments(
 fn with_multilevel(
     alloc: Global,
     plan: &Plan,
-    images: &[Blob],
+    images: &Images,
     layout: &Layout,
 ) -> Result<AnyMachine, BootRefused>
     requires layout { IsLayout plan.now images.now layout.now }
@@ -101,7 +102,7 @@ fn with_multilevel(
 fn with_packed(
     alloc: Global,
     plan: &Plan,
-    images: &[Blob],
+    images: &Images,
     layout: &Layout,
 ) -> Result<AnyMachine, BootRefused>
     requires layout { IsLayout plan.now images.now layout.now }
@@ -137,7 +138,7 @@ fn with_packed(
 fn start(
     alloc: Global,
     plan: &Plan,
-    images: &[Blob],
+    images: &Images,
     layout: &Layout,
 ) -> Result<AnyMachine, BootRefused>
     requires { IsLayout plan.now images.now layout.now }
@@ -150,15 +151,25 @@ fn start(
     }
 }
 
+/// Boots a plan with the files of its modules, as `boot` does.
+fn boot_files(alloc: Global, plan: &Plan, images: &Images) -> Result<AnyMachine, BootRefused>
+    ensures { IsBooted plan.now images.now result }
+{
+    match lay_out_files(alloc, plan, images) {
+        Ok(layout) => start(alloc, plan, images, &layout),
+        Err(LayoutRefused::Fault(fault)) => Err(BootRefused::Fault(fault)),
+        Err(LayoutRefused::NoMemory) => Err(BootRefused::NoMemory),
+    }
+}
+
 /// Boots a plan with its images, one for each module; that of an inline module is empty. The machine is the state at boot
 /// exactly where the plan has none of the faults 10 to 17 and its maps fit the limit of its tables. A fault is the first one
 /// in the order of the tests, and faults come before tables; only `NoMemory` has no cause in them.
 pub fn boot(alloc: Global, plan: &Plan, images: &[Blob]) -> Result<AnyMachine, BootRefused>
     ensures { IsBooted plan.now images.now result }
 {
-    match lay_out(alloc, plan, images) {
-        Ok(layout) => start(alloc, plan, images, &layout),
-        Err(LayoutRefused::Fault(fault)) => Err(BootRefused::Fault(fault)),
-        Err(LayoutRefused::NoMemory) => Err(BootRefused::NoMemory),
-    }
+    let Ok(files) = Images::read(alloc, images) else {
+        return Err(BootRefused::NoMemory);
+    };
+    boot_files(alloc, plan, &files)
 }

@@ -8,28 +8,29 @@ ghost use Rattle.mx_boot.specs.Entries.{entry_address, word_at};
 ghost use Rattle.mx_boot.specs.Faults.{entry_rows, holds_entry, is_entry};
 
 use crate::area::Area;
+use crate::images::ModuleFile;
 use crate::refused::fault;
 use mx_elf::{Symbols, symbol};
 use mx_manifest::{BootFault, EntryPlan, Place};
 use mx_words::RAM_BASE;
 
-/// The address that an entry means in a module with this image; None where the image has no such symbol.
-pub(crate) fn entry_address(bytes: &[u8], entry: &EntryPlan) -> Option<u32>
-    ensures { result ≡ entry_address bytes.now entry.now }
+/// The address that an entry means in a module with this file; None where the image has no such symbol.
+pub(crate) fn entry_address(file: &ModuleFile, entry: &EntryPlan) -> Option<u32>
+    ensures { result ≡ entry_address file.now entry.now }
 {
     match entry {
-        EntryPlan::Symbol(name) => symbol(bytes, name.as_str()),
+        EntryPlan::Symbol(name) => symbol(file.bytes(), name.as_str()),
         EntryPlan::Address(address) => Some(*address),
     }
 }
 
 /// The same, by symbols of the image that may be known already.
-pub(crate) fn known_address(bytes: &[u8], symbols: &Symbols, entry: &EntryPlan) -> Option<u32>
-    requires { HoldsIn bytes.now symbols.now }
-    ensures { result ≡ entry_address bytes.now entry.now }
+pub(crate) fn known_address(file: &ModuleFile, symbols: &Symbols, entry: &EntryPlan) -> Option<u32>
+    requires { HoldsIn file.now symbols.now }
+    ensures { result ≡ entry_address file.now entry.now }
 {
     match entry {
-        EntryPlan::Symbol(name) => symbols.value(bytes, name.as_str()),
+        EntryPlan::Symbol(name) => symbols.value(file.bytes(), name.as_str()),
         EntryPlan::Address(address) => Some(*address),
     }
 }

@@ -10,10 +10,11 @@ ghost use Rattle.mx_boot.specs.Seen.{seen};
 ghost use Rattle.mx_boot.specs.Faults.{flags_rows, image_rows};
 
 use crate::home::{Home, home_at};
+use crate::images::Images;
 use crate::refused::{at_module, fault};
-use mx_elf::{Segs, read_image};
+use mx_elf::Segs;
 use mx_manifest::{BootFault, Key, Plan};
-use mx_words::{Blob, Perm};
+use mx_words::Perm;
 
 /// Whether a segment is writable and executable.
 fn is_mixed(flags: u32) -> bool
@@ -49,14 +50,14 @@ fn image_fault(home: Home) -> Option<BootFault>
     if home.plan.image.is_none() {
         return None;
     }
-    match read_image(home.bytes) {
+    match home.file.image() {
         Ok(image) => flags_fault(home, &image.segments),
         Err(file) => Some(fault(10, at_module(home.domain, Key::Image), file.number)),
     }
 }
 
 /// The first fault 10 or 11 of all modules.
-pub(crate) fn images_fault(plan: &Plan, images: &[Blob]) -> Option<BootFault>
+pub(crate) fn images_fault(plan: &Plan, images: &Images) -> Option<BootFault>
     ensures { result ≡ first_row (flat_map image_rows (homes plan.now images.now)) }
 {
     for i in 0..plan.modules() {

@@ -14,12 +14,13 @@ ghost use Rattle.mx_boot.specs.Seen.{seen};
 use crate::area::Area;
 use crate::entries::{entry_fault, known_address, word_at};
 use crate::home::{Home, home_at};
+use crate::images::Images;
 use crate::named::gate_symbols;
 use crate::refused::{LayoutRefused, at_module, fault};
 use mx_elf::Symbols;
 use mx_manifest::{BootFault, GatePlan, Key, Plan};
 use mx_model::Gate;
-use mx_words::{Blob, MOST_GATES};
+use mx_words::MOST_GATES;
 use std::alloc::Global;
 
 /// A gate that is asked for.
@@ -101,7 +102,7 @@ fn ask_call(
     ensures { AreAsked areas.now gates.old.items (call_requests (seen home.entry) gate.now)
         gates.new.items result }
 {
-    let address = known_address(home.bytes, symbols, &gate.entry);
+    let address = known_address(home.file, symbols, &gate.entry);
     'names: for k in 0..gate.from.len() {
         let request = request_for(home, Key::Gates, address, gate.from.get(k));
         match ask(areas, gates, request) {
@@ -146,7 +147,7 @@ fn ask_returns(
         gates.new.items result }
 {
     'returns: for k in 0..home.plan.returns.len() {
-        let address = known_address(home.bytes, symbols, home.plan.returns.get(k));
+        let address = known_address(home.file, symbols, home.plan.returns.get(k));
         let request = request_for(home, Key::Returns, address, home.domain);
         match ask(areas, gates, request) {
             Ok(()) => {}
@@ -195,7 +196,7 @@ pub(crate) fn ask_gates(
     areas: &[Area],
     gates: &mut Vec<Gate>,
     plan: &Plan,
-    images: &[Blob],
+    images: &Images,
 ) -> Result<(), LayoutRefused>
     ensures { AreAsked areas.now gates.old.items (requests plan.now images.now)
         gates.new.items result }

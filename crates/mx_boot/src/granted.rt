@@ -14,9 +14,10 @@ use crate::area::Area;
 use crate::areas::{add_pieces, add_stack};
 use crate::entries::word_at;
 use crate::home::{Home, home_at};
+use crate::images::Images;
 use crate::layout::ram_words;
 use mx_manifest::{Plan, plan_is_in_range};
-use mx_words::{Blob, NoMemory, Span, Spans};
+use mx_words::{NoMemory, Span, Spans};
 use std::alloc::Global;
 
 /// The areas on which a module has rights.
@@ -102,7 +103,7 @@ fn add(rows: &mut Vec<Spans>, row: Spans) -> Result<(), NoMemory>
 }
 
 /// The rows of all modules, of a plan without a fault.
-pub(crate) fn rows(alloc: Global, plan: &Plan, images: &[Blob]) -> Result<Vec<Spans>, NoMemory>
+pub(crate) fn rows(alloc: Global, plan: &Plan, images: &Images) -> Result<Vec<Spans>, NoMemory>
     requires { first_fault plan.now images.now ≡ None }
     ensures rows { IfOk result (λ rows. AllByRecursion (IsRow (ram_words plan.now)) rows.items) }
     ensures maps { IfOk result (λ rows. map (row_map (ram_words plan.now)) rows.items

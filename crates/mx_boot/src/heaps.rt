@@ -7,10 +7,11 @@ ghost use Rattle.mx_boot.specs.Faults.{first_fault};
 ghost use Rattle.mx_boot.specs.Joined.{heap_state};
 
 use crate::entries::word_at;
+use crate::images::Images;
 use mx_heap::Heap;
 use mx_manifest::{ModulePlan, Plan, plan_is_in_range};
 use mx_supervisor::Heaps;
-use mx_words::{Blob, NoMemory};
+use mx_words::NoMemory;
 use std::alloc::Global;
 
 /// The heap of a module, whose area ends at most at 2^24.
@@ -25,7 +26,7 @@ fn heap(alloc: Global, plan: &ModulePlan) -> Result<Heap, NoMemory>
 }
 
 /// The heaps of all modules, of a plan without a fault.
-pub(crate) fn heaps(alloc: Global, plan: &Plan, images: &[Blob]) -> Result<Heaps, NoMemory>
+pub(crate) fn heaps(alloc: Global, plan: &Plan, images: &Images) -> Result<Heaps, NoMemory>
     requires { first_fault plan.now images.now ≡ None }
     ensures { IfOk result (λ heaps. heaps ≡ map heap_state plan.now.modules) }
 {

@@ -1,32 +1,26 @@
-//! A module with its domain and its image.
+//! A module with its domain and its file.
 
-ghost use Rattle.std.specs.Prelude.{◌≡◌, ◌-◌, ◌^◌, ◌<◌, ◌≤◌, [], length, slice_get, slice_index_or, IfSome};
+ghost use Rattle.std.specs.Prelude.{◌≡◌, ◌-◌, ◌^◌, ◌<◌, ◌≤◌, length, slice_get, IfSome};
 ghost use Rattle.mx_boot.specs.Areas.{homes};
 ghost use Rattle.mx_boot.specs.Seen.{seen};
 
+use crate::images::{Images, ModuleFile};
 use mx_manifest::{ModulePlan, Plan};
-use mx_words::Blob;
 
-/// A module with its domain and the bytes of its image.
+/// A module with its domain and its file.
 #[derive(Clone, Copy)]
-pub(crate) struct Home<'a> {
+pub(crate) struct Home<'p, 'i, 'f> {
     pub domain: u32,
-    pub plan: &'a ModulePlan,
-    pub bytes: &'a [u8],
-}
-
-/// The bytes of the image at a place; none where there is no blob.
-fn bytes_at(images: &[Blob], i: u32) -> &[u8]
-    ensures { result.now ≡ slice_index_or images.now i [] }
-{
-    match images.get(i as usize) {
-        Some(blob) => blob.as_slice(),
-        None => &[],
-    }
+    pub plan: &'p ModulePlan,
+    pub file: &'i ModuleFile<'f>,
 }
 
 /// The module at a place, which counts from 0.
-pub(crate) fn home_at<'a>(plan: &'a Plan, images: &'a [Blob], i: u32) -> Home<'a>
+pub(crate) fn home_at<'p, 'i, 'f>(
+    plan: &'p Plan,
+    images: &'i Images<'f>,
+    i: u32,
+) -> Home<'p, 'i, 'f>
     requires below { i < length plan.now.modules }
     requires small { i < 2 ^ 32 - 1 }
     ensures home { slice_get (homes plan.now images.now) i ≡ Some (seen result) }
@@ -35,6 +29,6 @@ pub(crate) fn home_at<'a>(plan: &'a Plan, images: &'a [Blob], i: u32) -> Home<'a
     Home {
         domain: i + 1,
         plan: plan.module(i),
-        bytes: bytes_at(images, i),
+        file: images.file(i),
     }
 }

@@ -9,6 +9,7 @@ ghost use Rattle.mx_boot.specs.Joined.{boot_parts};
 ghost use Rattle.mx_boot.specs.Laid.{IsLayout};
 
 use crate::heaps::heaps;
+use crate::images::Images;
 use crate::layout::Layout;
 use crate::owners::owners;
 use crate::ram::ram;
@@ -20,7 +21,6 @@ use mx_manifest::{Plan, plan_is_in_range};
 use mx_model::Gate;
 use mx_supervisor::Supervisor;
 use mx_table::PermTables;
-use mx_words::Blob;
 use std::alloc::Global;
 
 /// Gates of which no two have one domain and word.
@@ -43,7 +43,7 @@ fn gates(all: &[Gate]) -> Gates
 pub(crate) fn join<T: PermTables, const N: usize>(
     alloc: Global,
     plan: &Plan,
-    images: &[Blob],
+    images: &Images,
     layout: &Layout,
 ) -> Result<Supervisor<T, N>, BootRefused>
     requires layout { IsLayout plan.now images.now layout.now }

@@ -8,6 +8,7 @@ use crate::area::Area;
 use crate::areas::{areas, areas_fault};
 use crate::files::images_fault;
 use crate::gates::ask_gates;
+use crate::images::Images;
 use crate::refused::LayoutRefused;
 use crate::starts::add_starts;
 use mx_manifest::Plan;
@@ -33,10 +34,12 @@ pub(crate) fn ram_words(plan: &Plan) -> u32
     256 * plan.ram_kib()
 }
 
-/// Lays out a plan with its images, one for each module; that of an inline module is empty. The layout comes exactly where
-/// the plan has none of the faults 10 to 17, and a fault is the first one in the order of the tests; only `NoMemory` has no
-/// cause in them.
-pub fn lay_out(alloc: Global, plan: &Plan, images: &[Blob]) -> Result<Layout, LayoutRefused>
+/// Lays out a plan with the files of its modules, as `lay_out` does.
+pub(crate) fn lay_out_files(
+    alloc: Global,
+    plan: &Plan,
+    images: &Images,
+) -> Result<Layout, LayoutRefused>
     ensures { IsLaid plan.now images.now result }
 {
     if let Some(fault) = images_fault(plan, images) {
@@ -61,4 +64,16 @@ pub fn lay_out(alloc: Global, plan: &Plan, images: &[Blob]) -> Result<Layout, La
         }),
         Err(refused) => Err(refused),
     }
+}
+
+/// Lays out a plan with its images, one for each module; that of an inline module is empty. The layout comes exactly where
+/// the plan has none of the faults 10 to 17, and a fault is the first one in the order of the tests; only `NoMemory` has no
+/// cause in them.
+pub fn lay_out(alloc: Global, plan: &Plan, images: &[Blob]) -> Result<Layout, LayoutRefused>
+    ensures { IsLaid plan.now images.now result }
+{
+    let Ok(files) = Images::read(alloc, images) else {
+        return Err(LayoutRefused::NoMemory);
+    };
+    lay_out_files(alloc, plan, &files)
 }

@@ -11,6 +11,7 @@ mod gates;
 mod granted;
 mod heaps;
 mod home;
+mod images;
 mod joined;
 mod laws;
 mod layout;

@@ -10,12 +10,12 @@ ghost use Rattle.mx_boot.specs.Laid.{IsLayout};
 ghost use Rattle.mx_boot.specs.Starting.{hart_start_of, stack_area_of, stack_areas};
 
 use crate::entries::word_at;
+use crate::images::Images;
 use crate::layout::Layout;
 use mx_machine::{HartStart, Machine, StackArea, Stacks, Starts};
 use mx_manifest::{ModulePlan, Plan, plan_is_in_range};
 use mx_supervisor::Supervisor;
 use mx_table::PermTables;
-use mx_words::Blob;
 
 /// The stack area of a module.
 fn stack_area(plan: &ModulePlan) -> StackArea
@@ -66,7 +66,7 @@ fn starts(plan: &Plan, pcs: &[u32]) -> Starts
 /// The machine of a plan that is laid out, over its parts.
 pub(crate) fn machine_of<T: PermTables, const N: usize>(
     plan: &Plan,
-    images: &[Blob],
+    images: &Images,
     layout: &Layout,
     parts: Supervisor<T, N>,
 ) -> Machine<T, N>

@@ -41,7 +41,10 @@ fn add_returns<'a>(names: &mut Vec<&'a str>, plan: &'a ModulePlan) -> Result<(),
 }
 
 /// The symbols by which a module's gates are named: of its image, in one walk over that, where there are more than a few.
-pub(crate) fn gate_symbols<'a>(alloc: Global, home: Home<'a>) -> Result<Symbols<'a>, NoMemory>
+pub(crate) fn gate_symbols<'a>(
+    alloc: Global,
+    home: Home<'a, '_, '_>,
+) -> Result<Symbols<'a>, NoMemory>
     ensures { IfOk result (HoldsIn (seen home.entry).bytes) }
 {
     let mut names = Vec::new(alloc);
@@ -50,5 +53,5 @@ pub(crate) fn gate_symbols<'a>(alloc: Global, home: Home<'a>) -> Result<Symbols<
     if names.len() <= FEW_NAMES {
         return Ok(Symbols::none(alloc));
     }
-    Symbols::find(alloc, home.bytes, names.as_slice())
+    Symbols::find(alloc, home.file.bytes(), names.as_slice())
 }

@@ -14,10 +14,11 @@ use crate::area::Area;
 use crate::areas::{add_heap, add_pieces, add_stack};
 use crate::entries::word_at;
 use crate::home::{Home, home_at};
+use crate::images::Images;
 use crate::layout::ram_words;
 use mx_manifest::{Plan, plan_is_in_range};
 use mx_owners::Owners;
-use mx_words::{Blob, NoMemory};
+use mx_words::NoMemory;
 use std::alloc::Global;
 
 /// Adds the areas of a module's segments or inline words, unless it is sealed.
@@ -43,7 +44,7 @@ fn add_owned(areas: &mut Vec<Area>, home: Home, harts: u32) -> Result<(), NoMemo
 }
 
 /// The areas that modules own, in the order in which they are given.
-fn owned(alloc: Global, plan: &Plan, images: &[Blob]) -> Result<Vec<Area>, NoMemory>
+fn owned(alloc: Global, plan: &Plan, images: &Images) -> Result<Vec<Area>, NoMemory>
     ensures { IfOk result (λ all. all.items
         ≡ flat_map (owned_areas (length plan.now.harts)) (homes plan.now images.now)) }
 {
@@ -74,7 +75,7 @@ fn give_all(alloc: Global, areas: &[Area], words: u32) -> Result<Owners, NoMemor
 }
 
 /// The owners at boot, of a plan without a fault.
-pub(crate) fn owners(alloc: Global, plan: &Plan, images: &[Blob]) -> Result<Owners, NoMemory>
+pub(crate) fn owners(alloc: Global, plan: &Plan, images: &Images) -> Result<Owners, NoMemory>
     requires { first_fault plan.now images.now ≡ None }
     ensures { IfOk result (λ all. all ≡ (flat (boot_state plan.now images.now)).owners) }
 {

@@ -10,11 +10,12 @@ ghost use Rattle.mx_boot.specs.Placed.{HasRoom, words_content};
 ghost use Rattle.mx_boot.specs.Seen.{seen};
 
 use crate::home::{Home, home_at};
+use crate::images::Images;
 use crate::layout::ram_words;
-use mx_elf::{Seg, Segs, read_image};
+use mx_elf::{Seg, Segs};
 use mx_manifest::{Numbers, Plan, plan_is_in_range};
 use mx_memory::Ram;
-use mx_words::{Blob, NoMemory};
+use mx_words::NoMemory;
 use std::alloc::Global;
 
 /// Puts bytes from an address on.
@@ -97,13 +98,13 @@ fn put_home(ram: &mut Ram, home: Home)
         put_inline(ram, home);
         return;
     }
-    if let Ok(image) = read_image(home.bytes) {
-        put_segments(ram, home.bytes, &image.segments);
+    if let Ok(image) = home.file.image() {
+        put_segments(ram, home.file.bytes(), &image.segments);
     }
 }
 
 /// RAM at boot, of a plan without a fault.
-pub(crate) fn ram(alloc: Global, plan: &Plan, images: &[Blob]) -> Result<Ram, NoMemory>
+pub(crate) fn ram(alloc: Global, plan: &Plan, images: &Images) -> Result<Ram, NoMemory>
     requires { first_fault plan.now images.now ≡ None }
     ensures { IfOk result (λ ram. ram ≡ boot_ram plan.now images.now) }
 {

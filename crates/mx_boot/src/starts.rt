@@ -9,10 +9,9 @@ ghost use Rattle.mx_boot.specs.Seen.{seen};
 use crate::area::Area;
 use crate::entries::{entry_address, entry_fault};
 use crate::home::{Home, home_at};
+use crate::images::Images;
 use crate::refused::{LayoutRefused, at_hart};
-use mx_elf::read_image;
 use mx_manifest::{EntryPlan, HartPlan, Plan};
-use mx_words::Blob;
 
 /// Where a hart begins in a module if the manifest doesn't say it.
 fn default_entry(home: Home) -> u32
@@ -21,7 +20,7 @@ fn default_entry(home: Home) -> u32
     if home.plan.image.is_none() {
         return home.plan.at.unwrap_or(0);
     }
-    match read_image(home.bytes) {
+    match home.file.image() {
         Ok(image) => image.entry,
         Err(_) => 0,
     }
@@ -32,7 +31,7 @@ fn start_address(home: Home, entry: &Option<EntryPlan>) -> Option<u32>
     ensures { result ≡ start_address (seen home.entry) entry.now }
 {
     match entry {
-        Some(entry) => entry_address(home.bytes, entry),
+        Some(entry) => entry_address(home.file, entry),
         None => Some(default_entry(home)),
     }
 }
@@ -63,7 +62,7 @@ pub(crate) fn add_starts(
     all: &[Area],
     starts: &mut Vec<u32>,
     plan: &Plan,
-    images: &[Blob],
+    images: &Images,
 ) -> Result<(), LayoutRefused>
     requires { all.now ≡ areas plan.now images.now }
     ensures { AreStarted plan.now images.now starts.old.items starts.new.items result }

@@ -8,11 +8,12 @@ ghost use Rattle.mx_boot.specs.Booted.{IsRefusedBy};
 ghost use Rattle.mx_boot.specs.Faults.{first_fault, ram_words};
 
 use crate::granted::rows;
+use crate::images::Images;
 use crate::layout::ram_words;
 use crate::refused::BootRefused;
 use mx_manifest::{Plan, plan_is_in_range};
 use mx_table::{BuildRefused, PermTables};
-use mx_words::{Blob, Need};
+use mx_words::Need;
 use std::alloc::Global;
 
 /// The limit of a plan's tables.
@@ -31,7 +32,7 @@ fn limit(plan: &Plan) -> Need
 pub(crate) fn tables<T: PermTables>(
     alloc: Global,
     plan: &Plan,
-    images: &[Blob],
+    images: &Images,
 ) -> Result<T, BootRefused>
     requires clear { first_fault plan.now images.now ≡ None }
     requires kind { T.kind ≡ plan.now.tables }

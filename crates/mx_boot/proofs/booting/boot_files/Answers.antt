@@ -1,5 +1,5 @@
 use Rattle.mx_boot.proofs.Fitting.{boot-faulty}
-use Rattle.mx_boot.proofs.booting.boot.Goals as goal
+use Rattle.mx_boot.proofs.booting.boot_files.Goals as goal
 
 pub returns-in-Err-Fault : goal.returns-in-Err-Fault
 returns-in-Err-Fault c =

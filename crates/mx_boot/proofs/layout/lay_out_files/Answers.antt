@@ -1,7 +1,7 @@
 use Rattle.std.proofs.Common.{◌∙◌, ap, None, Ok, Err, ◌++◌, map}
 use Rattle.mx_boot.specs.Laid.{start_of}
 use Rattle.mx_boot.proofs.Steps.{at_images, at_areas, at_gates, at_harts, nowhere, images_are, areas_are, asked_are, gates_are, gates_tell, harts_are, harts_tell}
-use Rattle.mx_boot.proofs.layout.lay_out.Goals as goal
+use Rattle.mx_boot.proofs.layout.lay_out_files.Goals as goal
 
 pub returns-in-Some : goal.returns-in-Some
 returns-in-Some c = at_images c.args.plan.now c.args.images.now c.in-Some.fault (images_are c.args.plan.now c.args.images.now _ c.in-Some.ensures)
