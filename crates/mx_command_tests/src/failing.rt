@@ -1,7 +1,9 @@
 //! Each call of the store and of the sinks fails once, of each command and each refusal; also where each call moves one byte alone.
 
 use crate::outside::{Outside, PARTS, Part, WHOLE};
-use crate::rows::{OTHERS, REFUSALS, RUNS, Row, dump_of, length_of, pieces_of, refusal};
+use crate::resumes::{RESUMES, UNRESUMED};
+use crate::rows::{OTHERS, REFUSALS, RUNS, Row, length_of, refusal};
+use crate::snapshots::{dump_of, pieces_of};
 use std::alloc::Global;
 use std::process::Abort;
 use std::test::Fail;
@@ -112,6 +114,9 @@ pub fn try_call(
     call: u64,
 ) -> Result<Outside, Fail> {
     let mut outside = Outside::new(alloc, most)?;
+    for name in row.files {
+        outside.add_snapshot(alloc, name)?;
+    }
     for other in PARTS {
         if is_spare(row, other, part, most) {
             outside.fail_at(other, 1);
@@ -177,8 +182,25 @@ fn each_call_of_another_command_fails_in_turn(rt: HostRuntime) -> Result<(), Fai
 }
 
 #[test]
+fn each_call_of_a_run_that_goes_on_fails_in_turn(rt: HostRuntime) -> Result<(), Fail> {
+    for row in RESUMES {
+        in_turn(&rt, rt.alloc(), &row)?;
+    }
+    Ok(())
+}
+
+#[test]
 fn each_call_of_a_refusal_fails_in_turn(rt: HostRuntime) -> Result<(), Fail> {
     for (words, status, files, line) in REFUSALS {
+        let row = refusal(words, status, files, line);
+        in_turn(&rt, rt.alloc(), &row)?;
+    }
+    Ok(())
+}
+
+#[test]
+fn each_call_of_a_refused_snapshot_fails_in_turn(rt: HostRuntime) -> Result<(), Fail> {
+    for (words, status, files, line) in UNRESUMED {
         let row = refusal(words, status, files, line);
         in_turn(&rt, rt.alloc(), &row)?;
     }
@@ -202,8 +224,25 @@ fn other_commands_whose_calls_move_one_byte_are_the_same(rt: HostRuntime) -> Res
 }
 
 #[test]
+fn runs_that_go_on_whose_calls_move_one_byte_are_the_same(rt: HostRuntime) -> Result<(), Fail> {
+    for row in RESUMES {
+        in_crumbs(&rt, rt.alloc(), &row)?;
+    }
+    Ok(())
+}
+
+#[test]
 fn refusals_whose_calls_move_one_byte_are_the_same(rt: HostRuntime) -> Result<(), Fail> {
     for (words, status, files, line) in REFUSALS {
+        let row = refusal(words, status, files, line);
+        in_crumbs(&rt, rt.alloc(), &row)?;
+    }
+    Ok(())
+}
+
+#[test]
+fn refused_snapshots_whose_calls_move_one_byte_are_the_same(rt: HostRuntime) -> Result<(), Fail> {
+    for (words, status, files, line) in UNRESUMED {
         let row = refusal(words, status, files, line);
         in_crumbs(&rt, rt.alloc(), &row)?;
     }

@@ -1,5 +1,5 @@
-//! Tests of the commands over stores and sinks in memory: calls that fail, calls that move one byte alone, and the command
-//! `mill`.
+//! Tests of the commands over stores and sinks in memory: calls that fail, calls that move one byte alone, runs that are stopped and
+//! resumed, and the command `mill`.
 #![tactic(auto)]
 
 pub mod crumbs;
@@ -10,4 +10,12 @@ mod mills;
 #[cfg(test)]
 mod outside;
 #[cfg(test)]
+mod resumes;
+#[cfg(test)]
+mod resuming;
+#[cfg(test)]
 mod rows;
+#[cfg(test)]
+mod snapshots;
+#[cfg(test)]
+mod stops;

@@ -2,6 +2,7 @@
 
 use crate::crumbs::Crumbs;
 use crate::rows::FILES;
+use crate::snapshots::snapshot_of;
 use mx_io::{Bytes, Files};
 use mx_run::{Status, Words, mondrix};
 use std::alloc::Global;
@@ -63,6 +64,17 @@ impl Outside {
         })
     }
 
+    /// Adds the snapshot of this name, where there is one.
+    pub fn add_snapshot(&mut self, alloc: Global, name: &str) -> Result<(), Fail> {
+        match snapshot_of(alloc, name)? {
+            Some(bytes) => {
+                self.store.inner.add(name, bytes.as_slice())?;
+                Ok(())
+            }
+            None => Ok(()),
+        }
+    }
+
     /// Lists a call of a part that is to fail, by its number from 1.
     pub fn fail_at(&mut self, part: Part, call: u64) {
         match part {
@@ -85,10 +97,7 @@ impl Outside {
 
     /// The program's answer to these words, with a blank between two of them.
     pub fn ask(&mut self, alloc: Global, words: &str) -> Result<Status, Fail> {
-        let mut list = Words::new(alloc);
-        for word in words.split(' ') {
-            list.push(word)?;
-        }
+        let list = words_of(alloc, words)?;
         Ok(mondrix(
             alloc,
             &list,
@@ -98,4 +107,13 @@ impl Outside {
             &mut self.dump,
         ))
     }
+}
+
+/// Words with a blank between two of them.
+pub fn words_of(alloc: Global, words: &str) -> Result<Words, Fail> {
+    let mut list = Words::new(alloc);
+    for word in words.split(' ') {
+        list.push(word)?;
+    }
+    Ok(list)
 }

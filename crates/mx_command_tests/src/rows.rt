@@ -1,18 +1,7 @@
-//! The rows of the tests: command lines, and what comes of each where no call fails. The texts follow from the rules; those of runs,
-//! the image and the snapshot were worked out by a second simulator and another writer, which were made from the rules alone.
+//! The rows of the tests: command lines, and what comes of each where no call fails. The texts follow from the rules; those of runs
+//! and the image were worked out by a second simulator and another writer, which were made from the rules alone.
 
-use std::alloc::{AllocError, Global};
-
-/// What goes to the dump.
-#[derive(Clone, Copy, PartialEq, Eq, Debug)]
-pub enum Dump {
-    /// No byte.
-    Nothing,
-    /// RAM's bytes.
-    Ram,
-    /// The snapshot.
-    Snapshot,
-}
+use crate::snapshots::{Dump, length_of_snapshot};
 
 /// A command line, and what comes of it where no call fails.
 #[derive(Clone, Copy)]
@@ -57,7 +46,7 @@ const IMAGE: &[u8] = b"\x7f\x45\x4c\x46\x01\x01\x01\0\0\0\0\0\0\0\0\0\
 \0\0\0\0\x02\0\0\0\0\0\0\0\0\0\0\0\x74\0\0\0\x20\0\0\0\x02\0\0\0\x02\0\0\0\0\0\0\0\x10\0\0\0\
 \0\0\0\0\x03\0\0\0\0\0\0\0\0\0\0\0\x94\0\0\0\x07\0\0\0\0\0\0\0\0\0\0\0\0\0\0\0\0\0\0\0";
 
-const MANIFEST: &[u8] = b"version = 1
+pub const MANIFEST: &[u8] = b"version = 1
 ram_kib = 64
 [[module]]
 name = \"m\"
@@ -87,19 +76,22 @@ image = \"hi.elf\"
 module = \"m\"
 ";
 
-/// The files of each call. The schedule names hart 0, a hart that isn't there, and hart 0 four times.
-pub const FILES: [(&str, &[u8]); 6] = [
+/// The files of each call. The first schedule names hart 0, a hart that isn't there, and hart 0 four times; the second one hart 0 once, and
+/// the third none.
+pub const FILES: [(&str, &[u8]); 8] = [
     ("hi.s", SOURCE),
     ("hi.elf", IMAGE),
     ("hi.toml", MANIFEST),
     ("full.toml", FULL),
     ("wide.toml", WIDE),
     ("order", b"\0\x01\0\0\0\0"),
+    ("short", b"\0"),
+    ("nothing", b""),
 ];
 
-const EXIT: &str = "exit step=7 hart=0 domain=1 code=3\n";
+pub const EXIT: &str = "exit step=7 hart=0 domain=1 code=3\n";
 
-const CLOSING: &str = "end steps=7 state=halted\n\
+pub const CLOSING: &str = "end steps=7 state=halted\n\
 hart 0 status=halted domain=1 pc=0x80000018 frames=0\n\
 regs 0 00000000 00000000 00000000 00000000 00000000 00000000 00000000 00000000 00000000 00000000 00000003 00000003 00000000 00000000 00000000 00000000 00000000 00000001 00000000 00000000 00000000 00000000 00000000 00000000 00000000 00000000 00000000 00000000 00000000 00000000 00000000 00000000\n\
 domain 1 m\n\
@@ -148,7 +140,7 @@ pub const RUNS: [Row; 5] = [
         console: b"hi\n",
         early: EXIT,
         closing: CLOSING,
-        dump: Dump::Snapshot,
+        dump: Dump::Snapshot("halted.bin"),
     },
     Row {
         words: "run hi.toml 9 --schedule order --tables --counts",
@@ -179,7 +171,7 @@ pub const RUNS: [Row; 5] = [
     },
 ];
 
-/// The other commands, but for `mill`, which reads no file.
+/// The other commands, but for `resume` and for `mill`, which reads no file.
 pub const OTHERS: [Row; 3] = [
     Row {
         words: "audit hi.toml",
@@ -213,7 +205,7 @@ pub const OTHERS: [Row; 3] = [
 /// Words, the number of the status, the files that are asked for, and the line.
 pub type Refusal = (&'static str, u32, &'static [&'static str], &'static str);
 
-/// Commands that end with a refusal: one of each line but that of a short file, which no store that tells has.
+/// Commands that end with a refusal: one of each line but that of a snapshot and that of a short file, which no store that tells has.
 pub const REFUSALS: [Refusal; 10] = [
     (
         "run hi.toml",
@@ -285,60 +277,6 @@ pub fn refusal(
     }
 }
 
-/// What a snapshot after the seven turns of `hi.toml` holds before RAM's bytes.
-const FRONT: [u8; 269] = [
-    0x4D, 0x58, 0x53, 0x4E, 0x01, 0x00, 0x00, 0x00, 0x00, 0x40, 0x00, 0x00, 0x02, 0x00, 0x00, 0x00,
-    0x80, 0x00, 0x00, 0x00, 0x00, 0x10, 0x00, 0x00, 0x00, 0x10, 0x00, 0x00, 0x20, 0x00, 0x00, 0x00,
-    0x01, 0x00, 0x00, 0x00, 0x01, 0x00, 0x00, 0x00, 0x01, 0x00, 0x00, 0x00, 0x07, 0x00, 0x00, 0x00,
-    0x00, 0x00, 0x00, 0x00, 0x01, 0x00, 0x00, 0x00, 0x6D, 0x00, 0x00, 0x00, 0x00, 0x00, 0x00, 0x00,
-    0x00, 0x00, 0x00, 0x00, 0x00, 0x00, 0x00, 0x00, 0x00, 0x00, 0x00, 0x00, 0x00, 0x00, 0x00, 0x00,
-    0x00, 0x00, 0x00, 0x00, 0x00, 0x02, 0x00, 0x00, 0x00, 0x23, 0x00, 0x00, 0x00, 0xE0, 0xFF, 0x00,
-    0x00, 0x02, 0x00, 0x00, 0x00, 0x08, 0x00, 0x00, 0x00, 0x01, 0x00, 0x00, 0x00, 0xF8, 0x3F, 0x00,
-    0x00, 0x00, 0x00, 0x00, 0x00, 0x00, 0x00, 0x00, 0x00, 0x02, 0x00, 0x00, 0x00, 0x01, 0x00, 0x00,
-    0x00, 0x18, 0x00, 0x00, 0x80, 0x00, 0x00, 0x00, 0x00, 0x00, 0x00, 0x00, 0x00, 0x00, 0x00, 0x00,
-    0x00, 0x00, 0x00, 0x00, 0x00, 0x00, 0x00, 0x00, 0x00, 0x00, 0x00, 0x00, 0x00, 0x00, 0x00, 0x00,
-    0x00, 0x00, 0x00, 0x00, 0x00, 0x00, 0x00, 0x00, 0x00, 0x00, 0x00, 0x00, 0x00, 0x03, 0x00, 0x00,
-    0x00, 0x03, 0x00, 0x00, 0x00, 0x00, 0x00, 0x00, 0x00, 0x00, 0x00, 0x00, 0x00, 0x00, 0x00, 0x00,
-    0x00, 0x00, 0x00, 0x00, 0x00, 0x00, 0x00, 0x00, 0x00, 0x01, 0x00, 0x00, 0x00, 0x00, 0x00, 0x00,
-    0x00, 0x00, 0x00, 0x00, 0x00, 0x00, 0x00, 0x00, 0x00, 0x00, 0x00, 0x00, 0x00, 0x00, 0x00, 0x00,
-    0x00, 0x00, 0x00, 0x00, 0x00, 0x00, 0x00, 0x00, 0x00, 0x00, 0x00, 0x00, 0x00, 0x00, 0x00, 0x00,
-    0x00, 0x00, 0x00, 0x00, 0x00, 0x00, 0x00, 0x00, 0x00, 0x00, 0x00, 0x00, 0x00, 0x00, 0x00, 0x00,
-    0x00, 0x00, 0x00, 0x00, 0x00, 0x00, 0x00, 0x00, 0x00, 0x00, 0x00, 0x00, 0x00,
-];
-
-/// What RAM begins with; behind that it is zero.
-const CODE: [u8; 32] = [
-    0x37, 0x05, 0x00, 0x80, 0x13, 0x05, 0xC5, 0x01, 0x93, 0x05, 0x30, 0x00, 0x93, 0x08, 0x20, 0x00,
-    0x73, 0x00, 0x00, 0x00, 0x93, 0x08, 0x10, 0x00, 0x73, 0x00, 0x00, 0x00, 0x68, 0x69, 0x0A, 0x00,
-];
-
-/// The number of RAM's bytes.
-const RAM: usize = 65536;
-
-/// The bytes that go to the dump.
-pub fn dump_of(alloc: Global, dump: Dump) -> Result<Vec<u8>, AllocError> {
-    let mut bytes = Vec::new(alloc);
-    if dump == Dump::Nothing {
-        return Ok(bytes);
-    }
-    if dump == Dump::Snapshot {
-        bytes.extend_from_slice(&FRONT)?;
-    }
-    bytes.extend_from_slice(&CODE)?;
-    let zeros = vec![in alloc; 0; RAM - CODE.len()]?;
-    bytes.extend_from_slice(zeros.as_slice())?;
-    Ok(bytes)
-}
-
-/// The lengths of the pieces in which they leave: all before RAM's bytes, and these.
-pub fn pieces_of(dump: Dump) -> [usize; 2] {
-    match dump {
-        Dump::Nothing => [0, 0],
-        Dump::Ram => [0, RAM],
-        Dump::Snapshot => [FRONT.len(), RAM],
-    }
-}
-
 /// The number of a file's bytes; none of one that isn't there.
 pub fn length_of(name: &str) -> Option<usize> {
     for (file, bytes) in FILES {
@@ -346,5 +284,5 @@ pub fn length_of(name: &str) -> Option<usize> {
             return Some(bytes.len());
         }
     }
-    None
+    length_of_snapshot(name)
 }
