@@ -24,4 +24,6 @@ mod packets;
 #[cfg(test)]
 mod traces;
 #[cfg(test)]
+mod twins;
+#[cfg(test)]
 mod two_modules;

@@ -9,7 +9,7 @@ use std::alloc::Global;
 use std::test::Fail;
 
 /// The three modules.
-const MODULES: &str = "[[module]]\n\
+pub const MODULES: &str = "[[module]]\n\
 name = \"driver\"\n\
 image = \"driver.elf\"\n\
 heap = 0x80040000\n\
@@ -34,11 +34,11 @@ gates = [{ entry = \"print\", from = [\"proto\"] }]\n\
 returns = [\"print_back\"]\n";
 
 /// The first hart, which runs the driver.
-const DRIVER_HART: &str = "[[hart]]\n\
+pub const DRIVER_HART: &str = "[[hart]]\n\
 module = \"driver\"\n";
 
 /// Three harts more, each in a loop of its module.
-const IDLE_HARTS: &str = "[[hart]]\n\
+pub const IDLE_HARTS: &str = "[[hart]]\n\
 module = \"driver\"\n\
 entry = \"idle\"\n\
 [[hart]]\n\
@@ -48,12 +48,12 @@ entry = \"idle\"\n\
 module = \"console\"\n\
 entry = \"idle\"\n";
 
-const PACKED: &str = "version = 1\n\
+pub const PACKED: &str = "version = 1\n\
 ram_kib = 1024\n\
 tables = \"packed\"\n\
 lookaside = 32\n";
 
-const MULTILEVEL: &str = "version = 1\n\
+pub const MULTILEVEL: &str = "version = 1\n\
 ram_kib = 1024\n\
 tables = \"multilevel\"\n\
 lookaside = 32\n";
@@ -170,7 +170,7 @@ packet done\n\
 packet done\n";
 
 /// The image of a source, by the program's own assembler.
-fn add_image(alloc: Global, files: &mut Files, name: &str, source: &str) -> Result<(), Fail> {
+pub fn add_image(alloc: Global, files: &mut Files, name: &str, source: &str) -> Result<(), Fail> {
     let mut sources = Files::new(alloc);
     sources.add("module.s", source.as_bytes())?;
     let mut console = Bytes::new(alloc, 8192)?;
