@@ -88,9 +88,7 @@ fn a_schedule_goes_on_where_it_was(rt: HostRuntime) -> Result<(), Fail> {
     for turns in 0..7_u32 {
         let more = 9 - turns;
         let words = format!(in rt.alloc(); "run whole.toml {turns} --schedule order --save")?;
-        let others = format!(in rt.alloc();
-            "resume memory.bin {more} --schedule order --tables"
-        )?;
+        let others = format!(in rt.alloc(); "resume memory.bin {more} --schedule order --tables")?;
         let right = go_on(
             rt.alloc(),
             MANIFEST,
