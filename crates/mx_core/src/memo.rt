@@ -1,5 +1,5 @@
 //! Decoded words, kept for the turns of a row.
-ghost use Rattle.std.specs.Prelude.{◌≡◌, ◌<◌, IfSome};
+ghost use Rattle.std.specs.Prelude.{◌≡◌, ◌<◌, IfSome, slice_set};
 ghost use Rattle.mx_isa.specs.Ranges.{IsValid};
 ghost use Rattle.mx_core.specs.Memo.{quick, stays};
 
@@ -55,26 +55,28 @@ impl Memo {
         ensures valid { IfSome result IsValid }
     {
         let at = addr as usize / 4 % ENTRIES;
-        let entry = self.entries[at];
-        if entry.word == word {
-            return entry.inst;
+        if self.entries[at].word != word {
+            fill(&mut self.entries, at, word);
         }
-        self.fill(at, word)
+        // Read where it is kept, also a new one, so that no copy of it is made.
+        self.entries[at].inst
     }
+}
 
-    /// Keeps a word in place of another.
-    // Cold: the words of a loop are kept in its first round.
-    #[cold]
-    #[inline(never)]
-    fn fill(&mut self, at: usize, word: u32) -> Option<Inst>
-        requires { at < 1024 }
-        ensures inst { result ≡ quick word }
-        ensures valid { IfSome result IsValid }
-    {
-        let inst = quick(word);
-        self.entries[at] = Entry { word, inst };
-        inst
-    }
+/// Keeps a word with its instruction in place of another.
+// Cold: the words of a loop are kept in its first round.
+#[cold]
+#[inline(never)]
+fn fill(entries: &mut [Entry; ENTRIES], at: usize, word: u32)
+    requires { at < 1024 }
+    ensures kept { entries.new
+        ≡ slice_set entries.old at (record { word = word; inst = quick word }) }
+    ensures valid { IfSome (quick word) IsValid }
+{
+    entries[at] = Entry {
+        word,
+        inst: quick(word),
+    };
 }
 
 /// The instruction of a word, where a row of turns carries it out.

@@ -68,8 +68,9 @@ pub fn of_registers(op: RegOp, a: u32, b: u32) -> u32
     }
 }
 
+// The high halves are calls, for they are rare, and inlined each other operation would pay for their 64 bits.
 #[tactic(auto, unfolding(mx_model::specs::Effect::reg_result))]
-#[inline(always)]
+#[inline(never)]
 fn high_signed(a: u32, b: u32) -> u32
     ensures { result ≡ reg_result RegOp.Mulh a b }
 {
@@ -78,7 +79,7 @@ fn high_signed(a: u32, b: u32) -> u32
 }
 
 #[tactic(auto, unfolding(mx_model::specs::Effect::reg_result))]
-#[inline(always)]
+#[inline(never)]
 fn high_mixed(a: u32, b: u32) -> u32
     ensures { result ≡ reg_result RegOp.Mulhsu a b }
 {
@@ -87,7 +88,7 @@ fn high_mixed(a: u32, b: u32) -> u32
 }
 
 #[tactic(auto, unfolding(mx_model::specs::Effect::reg_result))]
-#[inline(always)]
+#[inline(never)]
 fn high_unsigned(a: u32, b: u32) -> u32
     ensures { result ≡ reg_result RegOp.Mulhu a b }
 {

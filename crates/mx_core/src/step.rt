@@ -103,7 +103,14 @@ pub fn act<B: Bus>(bus: &mut B, regs: &mut Regs, pc: u32, returns: bool, inst: I
             rd,
             rs1,
             imm,
-        } => load(bus, regs, pc, width, rd, rs1, imm),
+        } => match width {
+            // A call for each width, so that each is laid out for itself.
+            LoadWidth::Lb => load(bus, regs, pc, LoadWidth::Lb, rd, rs1, imm),
+            LoadWidth::Lh => load(bus, regs, pc, LoadWidth::Lh, rd, rs1, imm),
+            LoadWidth::Lw => load(bus, regs, pc, LoadWidth::Lw, rd, rs1, imm),
+            LoadWidth::Lbu => load(bus, regs, pc, LoadWidth::Lbu, rd, rs1, imm),
+            LoadWidth::Lhu => load(bus, regs, pc, LoadWidth::Lhu, rd, rs1, imm),
+        },
         Inst::Store {
             width,
             rs1,
