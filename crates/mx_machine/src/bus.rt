@@ -1,12 +1,15 @@
 //! The bus of a hart's turn: RAM that the checker guards.
-ghost use Rattle.std.specs.Prelude.{◌≡◌, ◌<◌, not, false, true};
+ghost use Rattle.std.specs.Prelude.{◌≡◌, ◌<◌, ◌%◌, ◌^◌, not, false, true};
+ghost use Rattle.mx_words.specs.Bytes.{IsSize, number_at};
 ghost use Rattle.mx_words.specs.declared.perm.Access.TheVariants.{Execute};
 ghost use Rattle.mx_check.specs.Conditions.{IsAtHand};
 ghost use Rattle.mx_check.specs.Harts.{hart_at};
 ghost use Rattle.mx_core.specs.Bus.{denied};
+ghost use Rattle.mx_memory.specs.Places.{place_of, IsInside};
 ghost use Rattle.mx_machine.specs.Bus.{perm_from, IsInRam, IsUsable, IsTouch};
 
 use mx_core::{Bus, Denied};
+use mx_memory::Ram;
 use mx_supervisor::Supervisor;
 use mx_table::PermTables;
 use mx_words::Access;
@@ -86,7 +89,7 @@ impl<T: PermTables, const N: usize> Bus for HartBus<T, N> {
         if !self.may(place, addr, Access::Read) {
             return Err(Denied);
         }
-        Ok(self.supervisor.ram.load(addr, size))
+        Ok(number_in(&self.supervisor.ram, addr, size))
     }
 
     #[inline(always)]
@@ -96,5 +99,22 @@ impl<T: PermTables, const N: usize> Bus for HartBus<T, N> {
         }
         self.supervisor.ram.store(addr, size, value);
         Ok(())
+    }
+}
+
+/// As `Ram::load`.
+// A call for each size, so that each is laid out in the row of turns for itself: one call for all stays a call.
+#[inline(always)]
+fn number_in(ram: &Ram, addr: u32, size: u32) -> u32
+    requires size { IsSize size }
+    requires aligned { addr % size ≡ 0 }
+    requires inside { IsInside ram.now addr size }
+    ensures number { result ≡ number_at ram.now (place_of addr) size }
+    ensures below { result < 256 ^ size }
+{
+    match size {
+        1 => ram.load(addr, 1),
+        2 => ram.load(addr, 2),
+        _ => ram.load(addr, 4),
     }
 }

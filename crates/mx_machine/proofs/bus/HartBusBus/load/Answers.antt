@@ -4,4 +4,4 @@ use Rattle.mx_machine.proofs.bus.HartBusBus.load.Goals as goal
 
 pub returns-clause-number : goal.returns-clause-number
 unfolding load_at
-returns-clause-number g c = rw (c.load.ensures.number, c.may.ensures.ram) refl
+returns-clause-number g c = rw (c.number_in.ensures.number, c.may.ensures.ram) refl
