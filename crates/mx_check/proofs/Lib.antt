@@ -7,3 +7,4 @@ pub mod ChangeLaws
 pub mod MayLaws
 pub mod StartLaws
 pub mod HandLaws
+pub mod HitLaws

@@ -59,7 +59,7 @@ flown_there harts i f flying = by (cases_lt i (length harts))
 
 -- a place's span is of the domain that is checked
 module _ (maps : List (List Perm)) (own : Option Flight) (domain : ℕ) where
-  of_domain : (kept : Option ℕ) → IfSome kept (λ d. d ≡ domain) → (s : Span) → AgreesIn maps own kept s → Agrees (map_of maps domain) own s
+  pub of_domain : (kept : Option ℕ) → IfSome kept (λ d. d ≡ domain) → (s : Span) → AgreesIn maps own kept s → Agrees (map_of maps domain) own s
   of_domain None same s a = absurd a
   of_domain (Some d) same s a = subst (λ (n : ℕ). Agrees (map_of maps n) own s) same a
 

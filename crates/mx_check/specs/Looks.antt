@@ -1,5 +1,5 @@
 -- What a check of an address does to what the checker keeps.
-use Rattle.std.specs.Prelude.{ℕ, ◌==◌, ◌&&◌, Bool, false, not, List, Option, Some, None}
+use Rattle.std.specs.Prelude.{ℕ, zero, suc, ◌==◌, ◌&&◌, Bool, false, not, List, Option, Some, None}
 use Rattle.mx_words.specs.declared.perm.Perm.{Perm}
 use Rattle.mx_words.specs.declared.perm.Perm.TheVariants as P
 use Rattle.mx_words.specs.declared.perm.Span.{Span}
@@ -63,6 +63,11 @@ after_walk most place domain s barred k =
 -- a hart after a fetch that place 0 answers
 abbrev pub hits : ℕ → Kept → Kept
 hits domain k = record k { cache = with_place_hit k.cache; domain = Some domain }
+
+-- a hart after so many of them
+abbrev pub hits_all : ℕ → ℕ → Kept → Kept
+hits_all zero domain k = k
+hits_all (suc n) domain k = hits domain (hits_all n domain k)
 
 -- a hart after a check of a word, on which a walk of the tables finds the span s
 abbrev pub looks : ℕ → ℕ → ℕ → ℕ → Span → Bool → Kept → Kept

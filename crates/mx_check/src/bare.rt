@@ -8,7 +8,7 @@ ghost use Rattle.mx_table.specs.Change.{IsLawful, changed};
 ghost use Rattle.mx_table.specs.Tables.{IsDomain, map_of};
 ghost use Rattle.mx_check.specs.Flights.{IsSet};
 ghost use Rattle.mx_check.specs.Harts.{hart_at, at_hart, announced, finished, leaves_domain, halts, has_heard};
-ghost use Rattle.mx_check.specs.Looks.{found, decided_by, decided, lookups_with, lookups_after, hits, looks, after_walk, looked, is_forbidden};
+ghost use Rattle.mx_check.specs.Looks.{found, decided_by, decided, lookups_with, lookups_after, hits_all, looks, after_walk, looked, is_forbidden};
 ghost use Rattle.mx_check.specs.Calls.{hears, is_ready, new_harts, waiting_harts};
 
 use crate::harts::Harts;
@@ -87,13 +87,15 @@ impl<T: PermTables, const N: usize> Bare<T, N> {
         }
     }
 
-    /// Counts a fetch that the hart's place 0 answers.
-    #[inline(always)]
-    pub fn hit(&mut self, hart: u32, domain: u32)
+    /// Counts so many fetches that the hart's place 0 answers.
+    pub fn hit_all(&mut self, hart: u32, domain: u32, fetches: u64)
         requires { hart < length self.old.harts }
-        ensures { self.new ≡ record self.old { harts = at_hart hart (hits domain) self.old.harts } }
+        ensures { self.new ≡ record self.old {
+          harts = at_hart hart
+              (hits_all fetches domain) self.old.harts;
+        } }
     {
-        self.harts.hit(hart, domain);
+        self.harts.hit_all(hart, domain, fetches);
     }
 
     /// The span with which the hart's place 0 answers for a word. It isn't counted.

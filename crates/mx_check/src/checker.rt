@@ -8,7 +8,7 @@ ghost use Rattle.mx_table.specs.Change.{IsLawful, changed};
 ghost use Rattle.mx_table.specs.Tables.{IsDomain, map_of};
 ghost use Rattle.mx_check.specs.Flights.{AreHearers};
 ghost use Rattle.mx_check.specs.Harts.{hart_at, at_hart, announced, finished, leaves_domain, halts, has_heard};
-ghost use Rattle.mx_check.specs.Looks.{lookups_after, looked};
+ghost use Rattle.mx_check.specs.Looks.{hits_all, lookups_after, looked};
 ghost use Rattle.mx_check.specs.Calls.{hears, is_ready, new_harts, waiting_harts};
 ghost use Rattle.mx_check.specs.Conditions.{IsAtHand, MayLook, HasHeardAll, SameButCaches, MayAnnounce, IsWithin, MayChange, IsResumable};
 
@@ -91,29 +91,29 @@ impl<T: PermTables, const N: usize> Checker<T, N> {
         self.bare.may(hart, place, domain, addr, access)
     }
 
-    /// Makes the check of a fetch at hand, at place 0: it is allowed, and counted as `may` counts it. The hart and the domain are as for
-    /// `may`.
+    /// A law: a fetch at hand is allowed. The hart and the domain are as for `may`. Nothing is counted.
     #[inline(always)]
-    pub fn fetch(&mut self, hart: u32, domain: u32, addr: u32)
-        requires may { MayLook hart domain self.old.harts }
-        requires domain { IsDomain (T.maps self.old.tables) domain }
-        requires at_hand { IsAtHand (T.size self.old.tables) (hart_at self.old.harts hart).cache
+    pub fn allows_fetch(&self, hart: u32, domain: u32, addr: u32)
+        requires may { MayLook hart domain self.now.harts }
+        requires domain { IsDomain (T.maps self.now.tables) domain }
+        requires at_hand { IsAtHand (T.size self.now.tables) (hart_at self.now.harts hart).cache
             addr }
-        ensures allowed { denies (perm (map_of (T.maps self.old.tables) domain)) addr Execute
-            ≡ false }
-        ensures harts { self.new.harts
-            ≡ looked N T.kind (map_of (T.maps self.old.tables) domain)
-            hart 0 domain addr self.old.harts }
-        ensures lookups { T.lookups self.new.tables
-            ≡ lookups_after (map_of (T.maps self.old.tables) domain) 0 domain addr
-            (hart_at self.old.harts hart).cache (T.lookups self.old.tables) }
-        ensures again { MayLook hart domain self.new.harts }
-        ensures same_maps { T.maps self.new.tables ≡ T.maps self.old.tables }
-        ensures same_size { T.size self.new.tables ≡ T.size self.old.tables }
-        ensures same_limit { T.limits self.new.tables ≡ T.limits self.old.tables }
+        ensures { denies (perm (map_of (T.maps self.now.tables) domain)) addr Execute ≡ false }
     {
-        let _ = addr;
-        self.bare.hit(hart, domain);
+        let _ = (hart, domain, addr);
+        let _ = &self.bare;
+    }
+
+    /// Counts so many fetches at hand of the hart in a domain, each as `may` counts it at place 0. No other domain is kept for the hart.
+    pub fn count_fetches(&mut self, hart: u32, domain: u32, fetches: u64)
+        requires hart { hart < length self.old.harts }
+        requires same_domain { IfSome (hart_at self.old.harts hart).domain (λ d. d ≡ domain) }
+        ensures { self.new ≡ record self.old {
+          harts = at_hart hart
+              (hits_all fetches domain) self.old.harts;
+        } }
+    {
+        self.bare.hit_all(hart, domain, fetches);
     }
 
     /// The span in the hart's place 0 where it covers a word. It is what `may` would answer by first, and isn't counted.

@@ -4,7 +4,7 @@ ghost use Rattle.std.specs.Option.{option_map};
 ghost use Rattle.mx_words.specs.Caches.{found_in_place};
 ghost use Rattle.mx_check.specs.Flights.{IsSet};
 ghost use Rattle.mx_check.specs.Harts.{hart_at, at_hart, announced, heard_by, drops, finished, leaves_domain, halts, has_heard};
-ghost use Rattle.mx_check.specs.Looks.{found, after_caches, after_walk, hits, with_domain, hart_forbids, is_forbidden};
+ghost use Rattle.mx_check.specs.Looks.{found, after_caches, after_walk, hits_all, with_domain, hart_forbids, is_forbidden};
 ghost use Rattle.mx_check.specs.Calls.{unheard, hears_one, hears, hart_lets_pass, is_ready, new_harts, waiting_harts};
 
 use crate::part::Part;
@@ -90,14 +90,13 @@ impl<const N: usize> Harts<N> {
         part.answer(place, domain, word)
     }
 
-    /// As `Part::hit`, for one hart.
-    #[inline(always)]
-    pub fn hit(&mut self, hart: u32, domain: u32)
+    /// As `Part::hit_all`, for one hart.
+    pub fn hit_all(&mut self, hart: u32, domain: u32, fetches: u64)
         requires { hart < length self.old }
-        ensures { self.new ≡ at_hart hart (hits domain) self.old }
+        ensures { self.new ≡ at_hart hart (hits_all fetches domain) self.old }
     {
         let part = &mut self.parts[hart as usize];
-        part.hit(domain);
+        part.hit_all(domain, fetches);
     }
 
     /// As `Part::at_hand`, for one hart.

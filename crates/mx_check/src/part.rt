@@ -1,9 +1,9 @@
 //! What is kept for one hart.
-ghost use Rattle.std.specs.Prelude.{◌≡◌, ◌<◌, ◌≤◌, Some, None, slice_set};
+ghost use Rattle.std.specs.Prelude.{◌≡◌, ◌+◌, ◌-◌, ◌^◌, ◌<◌, ◌≤◌, min, Some, None, slice_set};
 ghost use Rattle.std.specs.Option.{option_map};
 ghost use Rattle.mx_words.specs.Caches.{raised, found_in_place, found_kept};
 ghost use Rattle.mx_check.specs.Harts.{new_hart, no_hart, announced, heard_by, drops, finished, leaves_domain, halts, has_heard};
-ghost use Rattle.mx_check.specs.Looks.{found, after_caches, after_list, after_walk, hits, with_domain, flight_forbids};
+ghost use Rattle.mx_check.specs.Looks.{found, after_caches, after_list, after_walk, hits_all, with_domain, flight_forbids};
 ghost use Rattle.mx_check.specs.Calls.{unheard_of};
 
 use crate::Flight;
@@ -92,13 +92,15 @@ impl<const N: usize> Part<N> {
         }
     }
 
-    /// Counts a fetch that place 0 answers, and keeps the domain.
-    #[inline(always)]
-    pub fn hit(&mut self, domain: u32)
-        ensures { self.new ≡ hits domain self.old }
+    /// Counts so many fetches that place 0 answers, and keeps the domain.
+    pub fn hit_all(&mut self, domain: u32, fetches: u64)
+        ensures { self.new ≡ hits_all fetches domain self.old }
     {
+        if fetches == 0 {
+            return;
+        }
         self.domain = Some(domain);
-        self.counts.sidecar = raised(self.counts.sidecar);
+        self.counts.sidecar = raised_by(self.counts.sidecar, fetches);
     }
 
     /// The span with which place 0 answers for a word. It isn't counted.
@@ -264,4 +266,12 @@ fn raised(n: u64) -> u64
     ensures { result ≡ raised n }
 {
     if n < u64::MAX { n + 1 } else { n }
+}
+
+/// So many more, as far as they fit.
+fn raised_by(n: u64, more: u64) -> u64
+    ensures sum { result ≡ min (n + more) (2 ^ 64 - 1) }
+    ensures fits { n ≤ 2 ^ 64 - 1 }
+{
+    n.saturating_add(more)
 }

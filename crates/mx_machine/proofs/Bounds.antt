@@ -52,3 +52,12 @@ below-but a b le ne = omega arith
 
 pub one-more : (a b : ℕ) → a < b → a + 1 ≤ b
 one-more a b lt = omega arith
+
+pub few-tally : (now before n turns most most_turns : ℕ) → now + n ≡ before + n → turns ≤ most → before + most < most_turns → now + turns < most_turns
+few-tally now before n turns most most_turns e upto few = omega arith
+
+pub le-self : (a b : ℕ) → a ≡ b → a ≤ b
+le-self a b e = omega arith
+
+pub less-left : (a b : ℕ) → a < b → a ≤ b
+less-left a b lt = omega arith

@@ -38,4 +38,5 @@ pub mod KindLaws
 pub mod MapRuns
 pub mod WindowLaws
 pub mod InsideLaws
+pub mod TallyLaws
 pub mod RowLaws

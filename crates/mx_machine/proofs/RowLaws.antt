@@ -1,11 +1,13 @@
 -- Turns inside a window that are counted together: what each of them may rest on, what it makes, and what ends them.
-use Rattle.std.proofs.Common.{◌≡◌, ℕ, ◌+◌, ◌%◌, false, [], refl, sym, ap, subst, ◌∙◌, arith, Some}
+use Rattle.std.proofs.Common.{◌≡◌, ℕ, ◌+◌, ◌<◌, ◌%◌, false, List, [], length, length-set, refl, sym, ap, subst, ◌∙◌, arith, Some}
 use Rattle.mx_isa.specs.declared.inst.Inst.{Inst}
-use Rattle.mx_table.specs.Tables.{IsDomain}
+use Rattle.mx_table.specs.Tables.{IsDomain, map_of}
+use Rattle.mx_check.specs.Conditions.{IsAtHand}
+use Rattle.mx_check.specs.Harts.{hart_at}
 use Rattle.mx_core.specs.declared.outcome.Outcome.{Outcome}
 use Rattle.mx_core.specs.declared.outcome.Outcome.TheVariants as O
 use Rattle.mx_core.specs.Bus.{load_at}
-use Rattle.mx_core.specs.Exec.{action_of, touches_of}
+use Rattle.mx_core.specs.Exec.{action_of, regs_after, touches_of}
 use Rattle.mx_core.specs.Memo.{quick}
 use Rattle.mx_core.proofs.QuickLaws.{AreAway, touches-away}
 use Rattle.mx_model.specs.declared.values.TurnKind.{TurnKind}
@@ -20,12 +22,13 @@ use Rattle.mx_model.specs.Valid.{IsValid}
 use Rattle.mx_coherence.specs.Coherence.{AreWhole, flat_coherent}
 use Rattle.mx_machine.specs.declared.hart.Progress.TheVariants as P
 use Rattle.mx_machine.specs.declared.window.Window.{Window}
-use Rattle.mx_machine.specs.Actions.{after_instruction, counted, effect_for, outcome_for}
-use Rattle.mx_machine.specs.Harts.{hart_of}
+use Rattle.mx_machine.specs.Actions.{after_instruction, after_unfetched, counted, effect_for, outcome_for, perm_for}
+use Rattle.mx_machine.specs.declared.hart.Hart.{Hart}
+use Rattle.mx_machine.specs.Harts.{hart_of, stepped}
 use Rattle.mx_machine.specs.Held.{Held, meaning}
 use Rattle.mx_machine.specs.Made.{IsMade, hart_in, made_by}
-use Rattle.mx_machine.specs.Rows.{EndsBy, HasRunOn, IsQuick, IsRowTo, counted_by}
-use Rattle.mx_machine.specs.Steps.{Stops}
+use Rattle.mx_machine.specs.Rows.{EndsBy, HasRunOn, IsQuick, IsRowTo, NamesOwn, tallied}
+use Rattle.mx_machine.specs.Steps.{Stops, instructed}
 use Rattle.mx_machine.specs.Ties.{Fits, IsWhole, MayRun, RunsAlive}
 use Rattle.mx_machine.specs.Windows.{IsOpen, IsWindow}
 use Rattle.mx_machine.proofs.CaseLaws.{turn-running}
@@ -35,6 +38,7 @@ use Rattle.mx_machine.proofs.InstructLaws.{fits-instruction, from-instruction, m
 use Rattle.mx_machine.proofs.MayLaws.{aligned-pc, hart-there, made-now, none-flies, own-domain}
 use Rattle.mx_machine.proofs.StepLaws.{whole-is}
 use Rattle.mx_machine.proofs.StretchLaws.{alive-instruction, alive-now, run-more, turn-steps}
+use Rattle.mx_machine.proofs.TallyLaws.{fits-untallied, instruction-tallied, length-touched, names-own, open-tallied, open-untallied, tallied-none, there-kept}
 use Rattle.mx_machine.proofs.WindowLaws.{window-counted, window-stays}
 
 -- what an instruction inside a window may rest on, whatever number of turns is counted
@@ -46,19 +50,17 @@ pub record IsReady (m : Held) (h : ℕ) (w : Window) : Type 0 where
   pub opened : IsWindow m h w
 
 -- it doesn't depend on the number
-ready-uncounted : (m : Held) (h n : ℕ) (w : Window) → IsWhole (counted_by n m) → RunsAlive (counted_by n m) h → IsWindow (counted_by n m) h w → IsReady m h w
-ready-uncounted m h n w whole r i =
-    let f = whole.fits in
+pub row-ready : (old m : Held) (h n : ℕ) (w : Window) → IsRowTo old h n w (tallied h n m) → NamesOwn m h → IsReady m h w
+row-ready old m h n w r own =
+    let f = r.whole.fits in
+    let kept = there-kept m h n f r.alive in
     record {
-      fits = record { sound = f.sound; count = f.count; few = f.few; stacks = f.stacks; dead = f.dead; ties = f.ties; quiet = f.quiet };
-      alive = record { there = r.there; runs = r.runs; alive = r.alive };
-      domain = own-domain (counted_by n m) h whole.valid f r.there;
-      aligned = aligned-pc (counted_by n m) h whole.valid r.there;
-      opened = record { bound = i.bound; each = λ a inside. let o = i.each a inside in record { quiet = o.quiet; at_hand = o.at_hand; gate = o.gate } };
+      fits = fits-untallied m h n kept f own;
+      alive = record { there = r.alive.there; runs = r.alive.runs; alive = r.alive.alive };
+      domain = own-domain (tallied h n m) h r.whole.valid f r.alive.there;
+      aligned = aligned-pc (tallied h n m) h r.whole.valid r.alive.there;
+      opened = record { bound = r.opened.bound; each = λ a inside. open-untallied m h n kept a (r.opened.each a inside) };
     }
-
-pub row-ready : (old m : Held) (h n : ℕ) (w : Window) → IsRowTo old h n w (counted_by n m) → IsReady m h w
-row-ready old m h n w r = ready-uncounted m h n w r.whole r.alive r.opened
 
 -- a hart that stands in a window may run
 pub open-runs : (m : Held) (h : ℕ) → Fits m → RunsAlive m h → IsDomain m.parts.maps (hart_of m.harts h).domain → m.waiting ≡ false → MayRun m h
@@ -68,10 +70,9 @@ open-runs m h f r d q = record {
 }
 
 -- no turns
-pub row-none : (m : Held) (h : ℕ) (w : Window) → IsWhole m → RunsAlive m h → IsWindow m h w → IsRowTo m h 0 w (counted_by 0 m)
+pub row-none : (m : Held) (h : ℕ) (w : Window) → IsWhole m → RunsAlive m h → IsWindow m h w → IsRowTo m h 0 w (tallied h 0 m)
 row-none m h w whole r i =
-    let none : m ≡ counted_by 0 m = ap (λ n. record m { steps = n }) (let e : m.steps ≡ m.steps + 0 = omega arith in e) in
-    subst (λ (k : Held). IsRowTo m h 0 w k) none (record {
+    subst (λ (k : Held). IsRowTo m h 0 w k) (tallied-none m h) (record {
       whole = whole;
       alive = r;
       opened = i;
@@ -79,9 +80,48 @@ row-none m h w whole r i =
       run = λ f k ran. subst (λ n. HasRunOn f h n m) (let e : k ≡ k + 0 = omega arith in e) ran;
     })
 
--- an instruction more, with the turns before it counted
-instruction-counted : (m : Held) (h n : ℕ) → counted_by (n + 1) (after_instruction h false m) ≡ after_instruction h false (counted (counted_by n m))
-instruction-counted m h n = ap (λ s. record (after_instruction h false m) { steps = s }) (let e : m.steps + (n + 1) ≡ m.steps + n + 1 = omega arith in e)
+-- where the fetch of an instruction of a row is at hand, in RAM of the size of its map
+hand-there : (old m : Held) (h n : ℕ) (w : Window) → IsRowTo old h n w (tallied h n m) → IsOpen m h (hart_of m.harts h).pc →
+    IsAtHand (length (map_of m.parts.maps (hart_of m.harts h).domain)) (hart_at m.parts.harts h).cache (hart_of m.harts h).pc
+hand-there old m h n w r o =
+    let d = (hart_of m.harts h).domain in
+    let whole-map = r.whole.fits.sound.maps d (own-domain (tallied h n m) h r.whole.valid r.whole.fits r.alive.there) in
+    subst (λ (i : ℕ). IsAtHand i (hart_at m.parts.harts h).cache (hart_of m.harts h).pc) (sym whole-map) o.at_hand
+
+row-tallied : (old m k : Held) (h n : ℕ) (w : Window) → IsRowTo old h n w (tallied h n m) → IsOpen m h (hart_of m.harts h).pc → k ≡ after_unfetched h m →
+    tallied h (n + 1) k ≡ after_instruction h false (counted (tallied h n m))
+row-tallied old m k h n w r o after =
+    ap (λ (x : Held). tallied h (n + 1) x) after
+    ∙ instruction-tallied m h n r.alive.there (there-kept m h n r.whole.fits r.alive) (hand-there old m h n w r o)
+
+pub row-own : (old m k : Held) (h n : ℕ) (w : Window) (outcome : Outcome) → IsRowTo old h n w (tallied h n m) → NamesOwn m h → IsQuick m h outcome k → NamesOwn k h
+row-own old m k h n w outcome r own q = names-own m k h r.alive.there (there-kept m h n r.whole.fits r.alive) q.after own
+
+length-stepped : (harts : List Hart) (h : ℕ) (step : Hart → Hart) → length (stepped h step harts) ≡ length harts
+length-stepped harts h step = length-set harts h (step (hart_of harts h))
+
+-- what the turns of a row may rest on when they are counted
+pub record MayTally (old k : Held) (h n : ℕ) : Type 0 where
+  pub there : h < length k.harts
+  pub kept : h < length k.parts.harts
+  pub own : NamesOwn k h
+  pub steps : k.steps + n ≡ old.steps + n
+
+pub row-tally : (old m : Held) (h n : ℕ) (w : Window) → IsRowTo old h n w (tallied h n m) → NamesOwn m h → MayTally old m h n
+row-tally old m h n w r own = record { there = r.alive.there; kept = there-kept m h n r.whole.fits r.alive; own = own; steps = r.counted }
+
+pub quick-tally : (old m k : Held) (h n : ℕ) (w : Window) (outcome : Outcome) → IsRowTo old h n w (tallied h n m) → NamesOwn m h → IsQuick m h outcome k → MayTally old k h n
+quick-tally old m k h n w outcome r own q =
+    let a = after_unfetched h m in
+    let x = hart_of m.harts h in
+    let kept = there-kept m h n r.whole.fits r.alive in
+    let all : MayTally old a h n = record {
+      there = subst (λ (i : ℕ). h < i) (sym (length-stepped m.harts h (instructed (regs_after (perm_for m x) m.parts.ram x.regs x.pc false (effect_for m x)) (outcome_for m h false)))) r.alive.there;
+      kept = subst (λ (i : ℕ). h < i) (sym (length-touched m.parts h x.domain (touches_of (effect_for m x)) m.parts.harts)) kept;
+      own = names-own m a h r.alive.there kept refl own;
+      steps = r.counted;
+    } in
+    subst (λ (y : Held). MayTally old y h n) (sym q.after) all
 
 module _ (law : (q : Reads) (c : Core) (g : ℕ) → IsValid c → IsValid (turned q c g).core)
     (stays : (e : Flat) (g : ℕ) → IsValid e.core → AreWhole e → flat_coherent e → flat_coherent (flat_turn e g)) where
@@ -109,26 +149,23 @@ module _ (law : (q : Reads) (c : Core) (g : ℕ) → IsValid c → IsValid (turn
             (run-more f h (j + n) m k no_events T.Ran (r.run f j ran) made law stays fits refl);
       }
 
-  pub row-more : (old m k : Held) (h n pc : ℕ) (w : Window) → IsRowTo old h n w (counted_by n m) → IsQuick m h (O.Next pc) k → IsRowTo old h (n + 1) w (counted_by (n + 1) k)
+  pub row-more : (old m k : Held) (h n pc : ℕ) (w : Window) → IsRowTo old h n w (tallied h n m) → IsQuick m h (O.Next pc) k → IsRowTo old h (n + 1) w (tallied h (n + 1) k)
   row-more old m k h n pc w r q =
-      let o = q.opened in
-      let open-now : IsOpen (counted_by n m) h (hart_of m.harts h).pc = record { quiet = o.quiet; at_hand = o.at_hand; gate = o.gate } in
-      let more = on-more old (counted_by n m) h n pc w q.inst r open-now (sym q.answered) q.known q.effect in
-      subst (λ (x : Held). IsRowTo old h (n + 1) w x) (sym (ap (λ (x : Held). counted_by (n + 1) x) q.after ∙ instruction-counted m h n)) more
+      let open-now : IsOpen (tallied h n m) h (hart_of m.harts h).pc = open-tallied m h n (there-kept m h n r.whole.fits r.alive) (hart_of m.harts h).pc q.opened in
+      let more = on-more old (tallied h n m) h n pc w q.inst r open-now (sym q.answered) q.known q.effect in
+      subst (λ (x : Held). IsRowTo old h (n + 1) w x) (sym (row-tallied old m k h n w r q.opened q.after)) more
 
 -- a turn whose instruction stops
-pub row-ends : (old m k : Held) (h n : ℕ) (w : Window) (outcome : Outcome) → IsRowTo old h n w (counted_by n m) → IsQuick m h outcome k → Stops outcome →
-    EndsBy (counted_by n m) h outcome (counted_by (n + 1) k)
-row-ends old m k h n w outcome r q s =
-    let o = q.opened in
-    record {
-      whole = r.whole;
-      alive = r.alive;
-      opened = record { quiet = o.quiet; at_hand = o.at_hand; gate = o.gate };
-      answered = q.answered;
-      after = ap (λ (x : Held). counted_by (n + 1) x) q.after ∙ instruction-counted m h n;
-      stops = s;
-    }
+pub row-ends : (old m k : Held) (h n : ℕ) (w : Window) (outcome : Outcome) → IsRowTo old h n w (tallied h n m) → IsQuick m h outcome k → Stops outcome →
+    EndsBy (tallied h n m) h outcome (tallied h (n + 1) k)
+row-ends old m k h n w outcome r q s = record {
+  whole = r.whole;
+  alive = r.alive;
+  opened = open-tallied m h n (there-kept m h n r.whole.fits r.alive) (hart_of m.harts h).pc q.opened;
+  answered = q.answered;
+  after = row-tallied old m k h n w r q.opened q.after;
+  stops = s;
+}
 
 not-next : (o : Outcome) → ((pc : ℕ) → o ≡ O.Next pc → ⊥) → Stops o
 not-next (O.Next pc) other = other pc refl

@@ -36,7 +36,7 @@ use Rattle.mx_machine.proofs.FitLaws.{count-step, own-step}
 use Rattle.mx_machine.proofs.MadeLaws.{kept-there}
 
 -- what is at hand follows from place 0 alone
-hand-same : (size address : ℕ) (c e : Cache) → in_place e.places 0 ≡ in_place c.places 0 → IsAtHand size c address → IsAtHand size e address
+pub hand-same : (size address : ℕ) (c e : Cache) → in_place e.places 0 ≡ in_place c.places 0 → IsAtHand size c address → IsAtHand size e address
 hand-same size address c e same hand = record {
   word = hand.word;
   here = hand.here;
@@ -95,7 +95,7 @@ module _ (most : ℕ) (kind : Kind) (m : List Perm) (h d size a : ℕ) (kept : L
   fetch-hand pc at =
       subst (λ (ks : List Kept). IsAtHand size (hart_at ks h).cache a) (looked-hit most kind m h d pc kept at) (step-hand (hits d) refl)
 
-length-looked-at : (most : ℕ) (kind : Kind) (m : List Perm) (h d p : ℕ) (o : Option ℕ) (kept : List Kept) → length (looked_at most kind m h p d o kept) ≡ length kept
+pub length-looked-at : (most : ℕ) (kind : Kind) (m : List Perm) (h d p : ℕ) (o : Option ℕ) (kept : List Kept) → length (looked_at most kind m h p d o kept) ≡ length kept
 length-looked-at most kind m h d p None kept = count-step kept h (with_domain d)
 length-looked-at most kind m h d p (Some w) kept =
     count-step kept h (looks most p d w (span kind m w) (is_forbidden h (span kind m w) kept))

@@ -1,5 +1,5 @@
 -- What the parts of a turn do to what a machine holds.
-use Rattle.std.specs.Prelude.{ℕ, zero, suc, ◌+◌, Bool, true, not, ◌==◌, ◌&&◌, List, ◌∷◌, fold, slice_set, if◌then◌else◌, Option, Some, None, unwrap_or}
+use Rattle.std.specs.Prelude.{ℕ, zero, suc, ◌+◌, Bool, true, false, not, ◌==◌, ◌&&◌, List, ◌∷◌, fold, slice_set, if◌then◌else◌, Option, Some, None, unwrap_or}
 use Rattle.mx_words.specs.declared.perm.Perm.{Perm}
 use Rattle.mx_table.specs.Tables.{map_of}
 use Rattle.mx_check.specs.Calls.{hears}
@@ -67,6 +67,21 @@ after_instruction h returns m =
           stepped h
           (instructed (regs_after (perm_for m x) m.parts.ram x.regs x.pc returns (effect_for m x))
           (outcome_for m h returns)) m.harts;
+    }
+
+-- the same where no JAL or JALR is to return, but for the check of the fetch
+abbrev pub after_unfetched : ℕ → Held → Held
+after_unfetched h m =
+    let x = hart_of m.harts h in
+    record m {
+      parts = record m.parts {
+        ram = bytes_after (perm_for m x) m.parts.ram (effect_for m x);
+        harts = looks_all m.parts h x.domain (touches_of (effect_for m x)) m.parts.harts;
+      };
+      harts =
+          stepped h
+          (instructed (regs_after (perm_for m x) m.parts.ram x.regs x.pc false (effect_for m x))
+          (outcome_for m h false)) m.harts;
     }
 
 -- a domain is dead after a fault, where it is killing and the fault is none by 20

@@ -1,5 +1,7 @@
 -- Turns of one hart in a row: what holds after some of them, and what the rest of a row comes to.
-use Rattle.std.specs.Prelude.{◌≡◌, ℕ, ◌+◌, ◌<◌, false, Option, Some, None}
+use Rattle.std.specs.Prelude.{◌≡◌, ℕ, ◌+◌, ◌<◌, false, IfSome, Option, Some, None}
+use Rattle.mx_check.specs.Harts.{at_hart, hart_at}
+use Rattle.mx_check.specs.Looks.{hits_all}
 use Rattle.mx_isa.specs.declared.inst.Inst.{Inst}
 use Rattle.mx_core.specs.declared.outcome.Outcome.{Outcome}
 use Rattle.mx_core.specs.Bus.{load_at}
@@ -12,7 +14,7 @@ use Rattle.mx_model.specs.Run.{flat_kind}
 use Rattle.mx_model.specs.State.{Flat}
 use Rattle.mx_machine.specs.declared.views.Stretch.{Stretch}
 use Rattle.mx_machine.specs.declared.window.Window.{Window}
-use Rattle.mx_machine.specs.Actions.{after_instruction, effect_for, outcome_for}
+use Rattle.mx_machine.specs.Actions.{after_instruction, after_unfetched, counted, effect_for, outcome_for}
 use Rattle.mx_machine.specs.Harts.{hart_of}
 use Rattle.mx_machine.specs.Held.{Held, meaning}
 use Rattle.mx_machine.specs.Steps.{Stops}
@@ -27,11 +29,21 @@ pub record HasRunOn (f : Flat) (h n : ℕ) (m : Held) : Type 0 where
   pub ran : (i : ℕ) → i < n → flat_kind (turns_of h f i) h ≡ T.Ran
   pub steps : m.steps ≡ f.core.turns + n
 
--- so many turns more are counted
-abbrev pub counted_by : ℕ → Held → Held
-counted_by n m = record m { steps = m.steps + n }
+-- so many turns of hart h more are counted, and the fetches of their instructions, which its place 0 answered
+abbrev pub tallied : ℕ → ℕ → Held → Held
+tallied h n m = record m {
+  parts = record m.parts {
+    harts = at_hart h (hits_all n (hart_of m.harts h).domain) m.parts.harts;
+  };
+  steps = m.steps + n;
+}
 
--- an instruction of hart h inside a window, which its row carries out, in a turn that isn't counted yet
+-- no other domain is kept for hart h than its own
+abbrev pub NamesOwn : Held → ℕ → Type 0
+NamesOwn m h =
+    IfSome (hart_at m.parts.harts h).domain (λ d. d ≡ (hart_of m.harts h).domain)
+
+-- an instruction of hart h inside a window, which its row carries out, in a turn that isn't counted yet, nor its fetch
 pub record IsQuick (old : Held) (h : ℕ) (outcome : Outcome) (new : Held) : Type 0 where
   pub opened : IsOpen old h (hart_of old.harts h).pc
   pub inst : Inst
@@ -39,7 +51,7 @@ pub record IsQuick (old : Held) (h : ℕ) (outcome : Outcome) (new : Held) : Typ
   pub effect : effect_for old (hart_of old.harts h)
       ≡ effect_of_inst inst (hart_of old.harts h).regs (hart_of old.harts h).pc
   pub answered : outcome ≡ outcome_for old h false
-  pub after : new ≡ after_instruction h false old
+  pub after : new ≡ after_unfetched h old
   pub caused : HasCause outcome
 
 -- the same, where there is one
@@ -60,8 +72,8 @@ pub record EndsBy (m : Held) (h : ℕ) (outcome : Outcome) (new : Held) : Type 0
   pub whole : IsWhole m
   pub alive : RunsAlive m h
   pub opened : IsOpen m h (hart_of m.harts h).pc
-  pub answered : outcome ≡ outcome_for (counted_by 1 m) h false
-  pub after : new ≡ after_instruction h false (counted_by 1 m)
+  pub answered : outcome ≡ outcome_for (counted m) h false
+  pub after : new ≡ after_instruction h false (counted m)
   pub stops : Stops outcome
 
 -- n turns of hart h inside a window, and one more where an instruction ended them

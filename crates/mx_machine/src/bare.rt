@@ -1,5 +1,5 @@
 //! What a machine holds, and the parts of a turn, each as one step of it.
-ghost use Rattle.std.specs.Prelude.{◌≡◌, ℕ, ◌+◌, ◌%◌, ◌<◌, ◌≤◌, ◌⊎◌, ◌*◌, true, false, length, slice_index_or, Some, None};
+ghost use Rattle.std.specs.Prelude.{◌≡◌, ℕ, ◌+◌, ◌%◌, ◌^◌, ◌<◌, ◌≤◌, ◌⊎◌, ◌*◌, true, false, length, slice_index_or, Some, None};
 ghost use Rattle.mx_words.specs.Announced.{is_announced};
 ghost use Rattle.mx_words.specs.Ranges.{most_words};
 ghost use Rattle.mx_table.specs.Tables.{IsDomain};
@@ -14,11 +14,12 @@ ghost use Rattle.mx_model.specs.Effect.{effect};
 ghost use Rattle.mx_model.specs.declared.values.Note.TheVariants as Notes;
 ghost use Rattle.mx_supervisor.specs.Parts.{AreJoined, IsSound};
 ghost use Rattle.mx_supervisor.specs.Served.{range_of};
-ghost use Rattle.mx_machine.specs.Actions.{after_instruction, crossed, effect_for, halted_first, fallen, heard, killed, outcome_for, returned, with_kept, with_step};
+ghost use Rattle.mx_machine.specs.Actions.{after_instruction, after_unfetched, crossed, effect_for, halted_first, fallen, heard, killed, outcome_for, returned, with_kept, with_step};
 ghost use Rattle.mx_machine.specs.AtGate.{gate_here};
 ghost use Rattle.mx_machine.specs.Halting.{halted_at};
 ghost use Rattle.mx_machine.specs.Harts.{hart_of, is_halted};
 ghost use Rattle.mx_machine.specs.Held.{area_of};
+ghost use Rattle.mx_machine.specs.Rows.{NamesOwn, tallied};
 
 use crate::Stacks;
 use crate::bus::HartBus;
@@ -117,7 +118,7 @@ impl<T: PermTables, const N: usize> Bare<T, N> {
         self.harts.instruct(hart, &mut self.bus, returns)
     }
 
-    /// Carries out an instruction whose fetch at the hart's pc is at hand. It isn't at a return gate.
+    /// Carries out an instruction whose fetch at the hart's pc is at hand, and isn't counted. It isn't at a return gate.
     #[inline(always)]
     pub fn carry_out(&mut self, hart: u32, inst: Inst) -> Outcome
         requires sound { IsSound self.old.parts }
@@ -131,7 +132,7 @@ impl<T: PermTables, const N: usize> Bare<T, N> {
             ≡ Some inst }
         requires inst { IsInst inst }
         ensures outcome { result ≡ outcome_for self.old hart false }
-        ensures after { self.new ≡ after_instruction hart false self.old }
+        ensures after { self.new ≡ after_unfetched hart self.old }
         ensures cause { HasCause result }
         ensures effect { effect_for self.old (hart_of self.old.harts hart)
             ≡ effect inst (hart_of self.old.harts hart).regs (hart_of self.old.harts hart).pc }
@@ -141,6 +142,24 @@ impl<T: PermTables, const N: usize> Bare<T, N> {
         self.bus.domain = self.harts.domain(hart);
         self.bus.known(pc);
         self.harts.carry_out(hart, &mut self.bus, inst)
+    }
+
+    /// Counts so many turns of a hart, and the fetches of their instructions, which its place 0 answered.
+    // Never inlined: once in a row, and the turns before it want the registers.
+    #[inline(never)]
+    pub fn tally(&mut self, hart: u32, turns: u64)
+        requires there { hart < length self.old.harts }
+        requires kept { hart < length self.old.parts.harts }
+        requires own { NamesOwn self.old hart }
+        requires few { self.old.steps + turns < 2 ^ 64 }
+        ensures { self.new ≡ tallied hart turns self.old }
+    {
+        self.steps += turns;
+        let domain = self.harts.domain(hart);
+        self.bus
+            .supervisor
+            .checker
+            .count_fetches(hart, domain, turns);
     }
 
     /// Makes a killing domain dead after a fault by another cause than 20.

@@ -44,24 +44,18 @@ impl<T: PermTables, const N: usize> HartBus<T, N> {
 }
 
 impl<T: PermTables, const N: usize> HartBus<T, N> {
-    /// Touches the bus for a fetch at hand, at an address whose word is known.
+    /// A law: a fetch at hand is allowed.
     #[inline(always)]
-    pub fn known(&mut self, addr: u32)
-        requires usable { IsUsable T.maps T.size self.old }
-        requires at_hand { IsAtHand (T.size self.old.supervisor.checker.tables)
-            (hart_at self.old.supervisor.checker.harts self.old.hart).cache addr }
-        ensures allowed { denied (perm_from (T.size self.old.supervisor.checker.tables)
-            (T.maps self.old.supervisor.checker.tables) self.old.domain) addr Execute ≡ false }
-        ensures ram { self.new.supervisor.ram ≡ self.old.supervisor.ram }
-        ensures map { perm_from (T.size self.new.supervisor.checker.tables)
-            (T.maps self.new.supervisor.checker.tables) self.new.domain
-            ≡ perm_from (T.size self.old.supervisor.checker.tables)
-            (T.maps self.old.supervisor.checker.tables) self.old.domain }
-        ensures usable { IsUsable T.maps T.size self.new }
-        ensures touch { IsTouch T.kind T.maps T.size T.limits T.lookups N
-            self.old 0 addr self.new }
+    pub fn known(&self, addr: u32)
+        requires usable { IsUsable T.maps T.size self.now }
+        requires at_hand { IsAtHand (T.size self.now.supervisor.checker.tables)
+            (hart_at self.now.supervisor.checker.harts self.now.hart).cache addr }
+        ensures { denied (perm_from (T.size self.now.supervisor.checker.tables)
+            (T.maps self.now.supervisor.checker.tables) self.now.domain) addr Execute ≡ false }
     {
-        self.supervisor.checker.fetch(self.hart, self.domain, addr);
+        self.supervisor
+            .checker
+            .allows_fetch(self.hart, self.domain, addr);
     }
 }
 

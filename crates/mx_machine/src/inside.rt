@@ -80,13 +80,13 @@ impl<T: PermTables, const N: usize> Bare<T, N> {
         'turns: for made in 0..most {
             match self.quick(hart, window) {
                 None => {
-                    self.steps += made;
+                    self.tally(hart, made);
                     return Row { made, end: None };
                 }
                 Some(outcome) => match outcome {
                     Outcome::Next(_) => {}
                     _ => {
-                        self.steps += made + 1;
+                        self.tally(hart, made + 1);
                         return Row {
                             made,
                             end: Some(outcome),
@@ -95,7 +95,7 @@ impl<T: PermTables, const N: usize> Bare<T, N> {
                 },
             }
         }
-        self.steps += most;
+        self.tally(hart, most);
         Row {
             made: most,
             end: None,

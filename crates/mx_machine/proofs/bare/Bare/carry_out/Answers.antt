@@ -28,6 +28,17 @@ known-requires g c =
     let hand : IsAtHand (p.size t) (hart_at old.checker.harts h).cache (hart_of c.self.inside.harts h).pc = subst (λ (m : Held). IsAtHand m.parts.size (hart_at m.parts.harts h).cache (hart_of m.harts h).pc) (sym c.self.view_is) c.requires.at_hand in
     (search rules, (record { look = rw c.domain-self-inside.ensures look; domain = rw c.domain-self-inside.ensures dom; ram = ram }, rw c.pc-pc.ensures hand))
 
+pub carry_out-requires-clause-usable : goal.carry_out-requires-clause-usable
+carry_out-requires-clause-usable g c =
+    let p = g.T.PermTables in
+    let h = c.args.hart in
+    let old = c.self.inside.bus.supervisor in
+    let t = old.checker.tables in
+    let look : MayLook h (hart_of c.self.inside.harts h).domain old.checker.harts = subst (λ (m : Held). MayLook h (hart_of m.harts h).domain m.parts.harts) (sym c.self.view_is) c.requires.look in
+    let dom : IsDomain (p.maps t) (hart_of c.self.inside.harts h).domain = subst (λ (m : Held). IsDomain m.parts.maps (hart_of m.harts h).domain) (sym c.self.view_is) c.requires.domain in
+    let ram : length old.ram ≡ 4 * p.size t = subst (λ (m : Held). length m.parts.ram ≡ 4 * m.parts.size) (sym c.self.view_is) c.requires.sound.ram in
+    record { look = rw c.domain-self-inside.ensures look; domain = rw c.domain-self-inside.ensures dom; ram = ram }
+
 pub returns-clause-effect : goal.returns-clause-effect
 returns-clause-effect g c =
     let p = g.T.PermTables in
@@ -38,7 +49,7 @@ returns-clause-effect g c =
     let x = hart_of c.self.inside.harts h in
     let perm = perm_from (p.size t) (p.maps t) x.domain in
     let allowed : denied perm x.pc Execute ≡ false = sym (ap (λ (n : ℕ). denied (perm_from (p.size t) (p.maps t) c.domain-self-inside.result) n Execute) c.pc-pc.ensures
-    ∙ ap (λ (n : ℕ). denied (perm_from (p.size t) (p.maps t) n) x.pc Execute) c.domain-self-inside.ensures) ∙ c.known.ensures.allowed in
+    ∙ ap (λ (n : ℕ). denied (perm_from (p.size t) (p.maps t) n) x.pc Execute) c.domain-self-inside.ensures) ∙ c.known.ensures in
     let q : quick (load_at old.ram x.pc 4) ≡ Some inst = subst (λ (m : Held). quick (load_at m.parts.ram (hart_of m.harts h).pc 4) ≡ Some inst) (sym c.self.view_is) c.requires.quick in
     let eff : fetched perm old.ram x.regs x.pc ≡ effect inst x.regs x.pc = fetched-quick perm old.ram x.regs x.pc inst allowed q in
     rw (← c.self.view_is) eff
@@ -53,10 +64,10 @@ returns-clause-outcome g c =
     let x = hart_of c.self.inside.harts h in
     let perm = perm_from (p.size t) (p.maps t) x.domain in
     let allowed : denied perm x.pc Execute ≡ false = sym (ap (λ (n : ℕ). denied (perm_from (p.size t) (p.maps t) c.domain-self-inside.result) n Execute) c.pc-pc.ensures
-    ∙ ap (λ (n : ℕ). denied (perm_from (p.size t) (p.maps t) n) x.pc Execute) c.domain-self-inside.ensures) ∙ c.known.ensures.allowed in
+    ∙ ap (λ (n : ℕ). denied (perm_from (p.size t) (p.maps t) n) x.pc Execute) c.domain-self-inside.ensures) ∙ c.known.ensures in
     let q : quick (load_at old.ram x.pc 4) ≡ Some inst = subst (λ (m : Held). quick (load_at m.parts.ram (hart_of m.harts h).pc 4) ≡ Some inst) (sym c.self.view_is) c.requires.quick in
     let eff : fetched perm old.ram x.regs x.pc ≡ effect inst x.regs x.pc = fetched-quick perm old.ram x.regs x.pc inst allowed q in
-    let same = c.known.ensures.map ∙ ap (λ (n : ℕ). perm_from (p.size t) (p.maps t) n) c.domain-self-inside.ensures in
+    let same = ap (λ (n : ℕ). perm_from (p.size t) (p.maps t) n) c.domain-self-inside.ensures in
     rw (← c.self.view_is) (c.carry_out.ensures.ran.answered
     ∙ ap (λ (m : ℕ → Perm). outcome_of m x.pc false (effect inst x.regs x.pc)) same
     ∙ ap (λ (e : Effect). outcome_of perm x.pc false e) (sym eff))
@@ -71,13 +82,13 @@ returns-clause-after g c =
     let x = hart_of c.self.inside.harts h in
     let perm = perm_from (p.size t) (p.maps t) x.domain in
     let allowed : denied perm x.pc Execute ≡ false = sym (ap (λ (n : ℕ). denied (perm_from (p.size t) (p.maps t) c.domain-self-inside.result) n Execute) c.pc-pc.ensures
-    ∙ ap (λ (n : ℕ). denied (perm_from (p.size t) (p.maps t) n) x.pc Execute) c.domain-self-inside.ensures) ∙ c.known.ensures.allowed in
+    ∙ ap (λ (n : ℕ). denied (perm_from (p.size t) (p.maps t) n) x.pc Execute) c.domain-self-inside.ensures) ∙ c.known.ensures in
     let q : quick (load_at old.ram x.pc 4) ≡ Some inst = subst (λ (m : Held). quick (load_at m.parts.ram (hart_of m.harts h).pc 4) ≡ Some inst) (sym c.self.view_is) c.requires.quick in
     let eff : fetched perm old.ram x.regs x.pc ≡ effect inst x.regs x.pc = fetched-quick perm old.ram x.regs x.pc inst allowed q in
     let a : HartBus g.row.T.Denot g.row.N = record { supervisor = old; hart = h; domain = c.domain-self-inside.result } in
-    let ts : List Touch = fetch_touch c.pc-pc.result ∷ touches_of (effect inst x.regs x.pc) in
+    let ts : List Touch = touches_of (effect inst x.regs x.pc) in
     let s : AreTouched {T = g.row.T.Denot} {N = g.row.N} p.kind p.maps p.size p.limits p.lookups g.row.N a ts c.carry_out.new.bus =
-    are-touched {T = g.row.T.Denot} {N = g.row.N} p.kind p.maps p.size p.limits p.lookups g.row.N ts a c.carry_out.new.bus (c.known.new.self, (c.known.ensures.touch, c.carry_out.ensures.ran.touched.each)) in
+    are-touched {T = g.row.T.Denot} {N = g.row.N} p.kind p.maps p.size p.limits p.lookups g.row.N ts a c.carry_out.new.bus c.carry_out.ensures.ran.touched.each in
     rw (← c.self.view_is) (rw (
       s.maps_same,
       s.size_same,
@@ -89,9 +100,6 @@ returns-clause-after g c =
       c.carry_out.ensures.ran.left,
       c.carry_out.ensures.after,
       c.carry_out.ensures.ran.answered,
-      c.known.ensures.map,
-      c.known.ensures.ram,
       c.domain-self-inside.ensures,
-      c.pc-pc.ensures,
       eff,
     ) refl)

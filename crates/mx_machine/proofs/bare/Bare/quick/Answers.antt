@@ -7,7 +7,7 @@ use Rattle.mx_core.specs.Memo.{quick}
 use Rattle.mx_model.specs.Effect.{effect}
 use Rattle.mx_supervisor.specs.Parts.{IsSound, parts_of}
 use Rattle.mx_machine.specs.declared.hart.Hart.{Hart}
-use Rattle.mx_machine.specs.Actions.{after_instruction, effect_for, outcome_for}
+use Rattle.mx_machine.specs.Actions.{after_unfetched, effect_for, outcome_for}
 use Rattle.mx_machine.specs.Harts.{hart_of}
 use Rattle.mx_machine.specs.Held.{Held}
 use Rattle.mx_machine.specs.Windows.{IsOpen}
@@ -105,6 +105,6 @@ returns-in-Some g c =
       known = there;
       effect = subst (λ (k : Held). effect_for k (hart_of k.harts h) ≡ effect inst (hart_of k.harts h).regs (hart_of k.harts h).pc) is e.effect;
       answered = e.outcome ∙ ap (λ (k : Held). outcome_for k h false) is;
-      after = e.after ∙ ap (λ (k : Held). after_instruction h false k) is;
+      after = e.after ∙ ap (λ (k : Held). after_unfetched h k) is;
       caused = e.cause;
     }
