@@ -145,9 +145,24 @@ impl<T: PermTables, const N: usize> Bare<T, N> {
     }
 
     /// Counts so many turns of a hart, and the fetches of their instructions, which its place 0 answered.
-    // Never inlined: once in a row, and the turns before it want the registers.
-    #[inline(never)]
+    #[inline(always)]
     pub fn tally(&mut self, hart: u32, turns: u64)
+        requires there { hart < length self.old.harts }
+        requires kept { hart < length self.old.parts.harts }
+        requires own { NamesOwn self.old hart }
+        requires few { self.old.steps + turns < 2 ^ 64 }
+        ensures { self.new ≡ tallied hart turns self.old }
+    {
+        if turns == 0 {
+            return;
+        }
+        self.tally_some(hart, turns);
+    }
+
+    /// As `tally`.
+    // Never inlined: it comes once in a row, and the turns before it want the registers.
+    #[inline(never)]
+    fn tally_some(&mut self, hart: u32, turns: u64)
         requires there { hart < length self.old.harts }
         requires kept { hart < length self.old.parts.harts }
         requires own { NamesOwn self.old hart }
