@@ -146,11 +146,13 @@ impl Hart {
         ensures map { B.perm bus.new ≡ B.perm bus.old }
         ensures usable { B.usable bus.new }
     {
-        let outcome = act(bus, &mut self.regs, self.pc, false, inst);
-        if let Outcome::Next(pc) = outcome {
-            self.pc = pc;
+        match act(bus, &mut self.regs, self.pc, false, inst) {
+            Outcome::Next(pc) => {
+                self.pc = pc;
+                Outcome::Next(pc)
+            }
+            outcome => outcome,
         }
-        outcome
     }
 
     /// Goes on at a pc with a value in x10.
