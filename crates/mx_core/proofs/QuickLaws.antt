@@ -1,11 +1,11 @@
 -- An instruction that a row of turns carries out: what an allowed fetch of its word comes to, and which places it touches.
-use Rattle.std.proofs.Common.{◌≡◌, ◌≢◌, ℕ, Bool, true, false, not, ◌==◌, ◌%◌, cond, List, [], ◌∷◌, refl, sym, ap, ◌∙◌, arith, Option, Some, None}
+use Rattle.std.proofs.Common.{◌≡◌, ◌≢◌, ℕ, Bool, true, false, not, ◌==◌, ◌%◌, cond, List, [], ◌∷◌, refl, sym, ap, ◌∙◌, Option, Some, None}
 use Rattle.mx_words.specs.declared.perm.Perm.{Perm}
 use Rattle.mx_words.specs.declared.perm.Access.TheVariants.{Execute}
 use Rattle.mx_isa.specs.declared.inst.Inst.{Inst}
 use Rattle.mx_isa.specs.declared.inst.Inst.TheVariants.{Lui, Auipc, Jal, Jalr, Branch, Load, Store, OpImm, Op, Fence, Ecall, Ebreak}
 use Rattle.mx_isa.specs.Table.{decoded}
-use Rattle.mx_model.specs.Effect.{Effect, Goes, Faults, Loads, Stores, Calls, Jumps, effect, holds, load_size, loads_at, next, plus, reg, store_size, stores_at, taken}
+use Rattle.mx_model.specs.Effect.{Goes, Faults, Loads, Stores, effect, holds, load_size, next, plus, reg, store_size, taken}
 use Rattle.mx_core.specs.Bus.{denied, load_at, Touch}
 use Rattle.mx_core.specs.Exec.{after_fetch, effect_of, fetched, touches_of}
 use Rattle.mx_core.specs.Memo.{quick, stays, staying}

@@ -1,5 +1,5 @@
 -- Decoded words that are kept for a row of turns: which instructions a row carries out, and what an entry says.
-use Rattle.std.specs.Prelude.{◌≡◌, ℕ, Bool, true, false, not, ◌==◌, if◌then◌else◌, Option, Some, None, IfSome}
+use Rattle.std.specs.Prelude.{◌≡◌, ℕ, List, slice_set, Bool, true, false, not, ◌==◌, if◌then◌else◌, Option, Some, None}
 use Rattle.mx_isa.specs.declared.inst.Inst.{Inst}
 use Rattle.mx_isa.specs.declared.inst.Inst.TheVariants.{Load, Store, Ecall, Ebreak}
 use Rattle.mx_isa.specs.Ranges.{IsValid}
@@ -22,7 +22,13 @@ staying (Some inst) = if stays inst then Some inst else None
 abbrev pub quick : ℕ → Option Inst
 quick word = staying (decoded word)
 
--- an entry holds the instruction of its word
+-- an entry holds the instruction of its word, which a row carries out
 pub record IsDecoded (e : Entry) : Type 0 where
-  pub inst : e.inst ≡ quick e.word
-  pub valid : IfSome e.inst IsValid
+  pub inst : quick e.word ≡ Some e.inst
+  pub valid : IsValid e.inst
+
+-- a word whose instruction a row carries out is kept at a place of the entries, and any other isn't
+abbrev pub HasFilled : Option Inst → ℕ → ℕ → List Entry → Bool → List Entry → Type 0
+HasFilled None at word old answer new = (answer ≡ false) × (new ≡ old)
+HasFilled (Some inst) at word old answer new =
+    (answer ≡ true) × (new ≡ slice_set old at (record { word = word; inst = inst }))

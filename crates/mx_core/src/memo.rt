@@ -1,23 +1,27 @@
 //! Decoded words, kept for the turns of a row.
-ghost use Rattle.std.specs.Prelude.{◌≡◌, ◌<◌, IfSome, slice_set};
+ghost use Rattle.std.specs.Prelude.{◌≡◌, ◌<◌, IfSome};
 ghost use Rattle.mx_isa.specs.Ranges.{IsValid};
-ghost use Rattle.mx_core.specs.Memo.{quick, stays};
+ghost use Rattle.mx_core.specs.Memo.{HasFilled, quick, stays};
 
-use mx_isa::{Inst, decode};
+use mx_isa::{ImmOp, Inst, decode};
 use std::marker::Model;
 
 /// How many words are kept.
 const ENTRIES: usize = 1024;
 
-/// A word, and its instruction where a row of turns carries it out.
+/// The word of `addi x0, x0, 0`.
+const NOP: u32 = 0x13;
+
+/// A word that a row of turns carries out, and its instruction.
 #[derive(Clone, Copy)]
 pub struct Entry {
     pub word: u32,
-    pub inst: Option<Inst>,
+    pub inst: Inst,
 }
 
 /// Words that were fetched, each with its instruction, by the low bits of its address. RAM is read at each fetch and the word
-/// compared, so that nothing has to be forgotten where code is written.
+/// compared, so that nothing has to be forgotten where code is written. A word that a row leaves is never kept, so that one that is found
+/// needn't be asked whether it stays.
 #[derive(Drop)]
 pub struct Memo {
     entries: [Entry; ENTRIES],
@@ -36,14 +40,19 @@ impl Model for Memo {
 }
 
 impl Memo {
-    /// No word but 0, which is no instruction.
+    /// No word but that of `addi x0, x0, 0`.
     pub fn new() -> Memo {
-        let none = Entry {
-            word: 0,
-            inst: None,
+        let nop = Entry {
+            word: NOP,
+            inst: Inst::OpImm {
+                op: ImmOp::Addi,
+                rd: 0,
+                rs1: 0,
+                imm: 0,
+            },
         };
         Memo {
-            entries: [none; ENTRIES],
+            entries: [nop; ENTRIES],
         }
     }
 
@@ -56,27 +65,31 @@ impl Memo {
     {
         let at = addr as usize / 4 % ENTRIES;
         if self.entries[at].word != word {
-            fill(&mut self.entries, at, word);
+            if !fill(&mut self.entries, at, word) {
+                return None;
+            }
         }
         // Read where it is kept, also a new one, so that no copy of it is made.
-        self.entries[at].inst
+        Some(self.entries[at].inst)
     }
 }
 
-/// Keeps a word with its instruction in place of another.
+/// Keeps a word with its instruction in place of another, where a row of turns carries it out. Whether it does.
 // Cold: the words of a loop are kept in its first round.
 #[cold]
 #[inline(never)]
-fn fill(entries: &mut [Entry; ENTRIES], at: usize, word: u32)
+fn fill(entries: &mut [Entry; ENTRIES], at: usize, word: u32) -> bool
     requires { at < 1024 }
-    ensures kept { entries.new
-        ≡ slice_set entries.old at (record { word = word; inst = quick word }) }
+    ensures kept { HasFilled (quick word) at word entries.old result entries.new }
     ensures valid { IfSome (quick word) IsValid }
 {
-    entries[at] = Entry {
-        word,
-        inst: quick(word),
-    };
+    match quick(word) {
+        Some(inst) => {
+            entries[at] = Entry { word, inst };
+            true
+        }
+        None => false,
+    }
 }
 
 /// The instruction of a word, where a row of turns carries it out.
