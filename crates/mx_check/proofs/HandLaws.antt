@@ -7,23 +7,17 @@ use Rattle.mx_words.specs.declared.perm.Perm.TheVariants as P
 use Rattle.mx_words.specs.declared.perm.Span.{Span}
 use Rattle.mx_words.specs.declared.tables.Kind.{Kind}
 use Rattle.mx_words.specs.Caches.{Cache, checked, checked_at, found_in_place, found_kept, with_place_hit}
-use Rattle.mx_words.specs.Ranges.{word_of}
 use Rattle.mx_words.specs.Reach.{span}
 use Rattle.mx_words.specs.Rights.{allows}
 use Rattle.mx_check.specs.Conditions.{IsAtHand}
 use Rattle.mx_check.specs.Harts.{Kept, at_hart, hart_at}
-use Rattle.mx_check.specs.Looks.{decided, decided_at, decided_by, found, hits, is_forbidden, looked, looked_at, lookups_after, lookups_at, lookups_with}
+use Rattle.mx_check.specs.Looks.{decided, decided_at, decided_by, found, hits, is_forbidden, looked, looked_at}
 
 -- a place answers
 hit-checked : (most domain word : ℕ) (s : Span) (barred : Bool) (c : Cache) (o : Option Span) → found_in_place c.places 0 word ≡ o → option_map (λ s. s.perm) o ≡ Some P.ExecuteRead →
     checked most 0 domain word s barred c ≡ with_place_hit c
 hit-checked most domain word s barred c None e q = absurd (let z : ⊥ = cc in z)
 hit-checked most domain word s barred c (Some t) e q = ap (λ (o : Option Span). checked_at most 0 domain word s barred o c) e
-
-hit-counted : (c : Cache) (domain word n : ℕ) (o : Option Span) → found_in_place c.places 0 word ≡ o → option_map (λ s. s.perm) o ≡ Some P.ExecuteRead →
-    lookups_with (found 0 domain word c) n ≡ n
-hit-counted c domain word n None e q = absurd (let z : ⊥ = cc in z)
-hit-counted c domain word n (Some t) e q = ap (λ (o : Option Span). lookups_with (option_or o (found_kept c.kept domain word)) n) e
 
 hit-decided : (c : Cache) (domain word : ℕ) (s : Span) (o : Option Span) → found_in_place c.places 0 word ≡ o → option_map (λ s. s.perm) o ≡ Some P.ExecuteRead →
     allows (decided_by (found 0 domain word c) s) Execute ≡ true
@@ -41,13 +35,6 @@ module _ (most : ℕ) (kind : Kind) (m : List Perm) (h domain address : ℕ) (ha
       sym (ap (λ (o : Option ℕ). looked_at most kind m h 0 domain o harts) hand.here
       ∙ ap (λ (x : Cache). at_hart h (λ (k : Kept). record k { cache = x; domain = Some domain }) harts)
       (hit-checked most domain hand.word s (is_forbidden h s harts) c (found_in_place c.places 0 hand.word) refl hand.right))
-
-  -- the tables are not walked
-  pub lookups-hit : (n : ℕ) → n ≡ lookups_after m 0 domain address (hart_at harts h).cache n
-  lookups-hit n =
-      let c = (hart_at harts h).cache in
-      sym (ap (λ (o : Option ℕ). lookups_at 0 domain o c n) hand.here
-      ∙ hit-counted c domain hand.word n (found_in_place c.places 0 hand.word) refl hand.right)
 
   -- it may be executed
   pub decided-hit : allows (decided kind m 0 domain address (hart_at harts h).cache) Execute ≡ true

@@ -11,8 +11,7 @@ use Rattle.mx_words.specs.Caches.{Cache, checked, checked_at, checked_behind, fo
 use Rattle.mx_words.specs.Ranges.{word_of}
 use Rattle.mx_words.specs.Reach.{span}
 use Rattle.mx_table.specs.Tables.{map_of}
-use Rattle.mx_check.specs.declared.flight.Flight.{Flight}
-use Rattle.mx_check.specs.Coherence.{Agrees, AreCurrent, EachSpan, HasDropped, IsClear, Keeps}
+use Rattle.mx_check.specs.Coherence.{Agrees, EachSpan, HasDropped, Keeps}
 use Rattle.mx_check.specs.Harts.{Kept, at_hart, hart_at, no_hart}
 use Rattle.mx_check.specs.Looks.{hits, hits_all, is_forbidden, looked, looked_at, looks, with_domain}
 use Rattle.mx_check.proofs.KeepLaws.{keeps_step, some_weaker}

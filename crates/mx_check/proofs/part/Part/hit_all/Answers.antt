@@ -1,4 +1,3 @@
-use Rattle.std.proofs.Common.{◌≡◌, ◌<◌, arith}
 use Rattle.mx_check.specs.Harts.{Kept}
 use Rattle.mx_check.proofs.HitLaws.{hits-counted, hits-none, some-but-none}
 use Rattle.mx_check.proofs.part.Part.hit_all.Goals as goal
