@@ -131,6 +131,41 @@ pub fn act<B: Bus>(bus: &mut B, regs: &mut Regs, pc: u32, returns: bool, inst: I
     }
 }
 
+/// As `act`, where no JAL or JALR is to return. For rows of turns: a store is laid out for each width, which the few turns outside a row
+/// would not pay back.
+#[tactic(auto, unfolding(mx_model::specs::Effect::effect, mx_isa::specs::Ranges::IsValid, crate::specs::Exec::outcome_of, crate::specs::Exec::regs_after, crate::specs::Exec::bytes_after, crate::specs::Exec::touches_of))]
+#[inline(always)]
+pub fn act_on<B: Bus>(bus: &mut B, regs: &mut Regs, pc: u32, inst: Inst) -> Outcome
+    requires usable { B.usable bus.old }
+    requires aligned { pc % 4 ≡ 0 }
+    requires valid { IsValid inst }
+    ensures outcome { result ≡ outcome_of (B.perm bus.old) pc false (effect inst regs.old pc) }
+    ensures regs { regs.new
+        ≡ regs_after (B.perm bus.old) (B.bytes bus.old) regs.old pc false
+        (effect inst regs.old pc) }
+    ensures bytes { B.bytes bus.new
+        ≡ bytes_after (B.perm bus.old) (B.bytes bus.old) (effect inst regs.old pc) }
+    ensures touches { IsTouched B.touches bus.old (touches_of (effect inst regs.old pc)) bus.new }
+    ensures aligned { IsAligned result }
+    ensures cause { HasCause result }
+    ensures map { B.perm bus.new ≡ B.perm bus.old }
+    ensures usable { B.usable bus.new }
+{
+    match inst {
+        Inst::Store {
+            width,
+            rs1,
+            rs2,
+            imm,
+        } => match width {
+            StoreWidth::Sb => store(bus, regs, pc, StoreWidth::Sb, rs1, rs2, imm),
+            StoreWidth::Sh => store(bus, regs, pc, StoreWidth::Sh, rs1, rs2, imm),
+            StoreWidth::Sw => store(bus, regs, pc, StoreWidth::Sw, rs1, rs2, imm),
+        },
+        _ => act(bus, regs, pc, false, inst),
+    }
+}
+
 #[inline(always)]
 fn trap_by(cause: u32, value: u32) -> Outcome
     ensures { result ≡ trap cause value }

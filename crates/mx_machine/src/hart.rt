@@ -9,7 +9,7 @@ ghost use Rattle.mx_machine.specs.Starts.{resumed_hart};
 ghost use Rattle.mx_machine.specs.Steps.{instructed, regs_carried, regs_left, CarriesOut, Instructs, goes, waits, halts, takes_answer, enters, leaves, gives_up, returns_over};
 
 use crate::{HartState, HartStatus, HartView};
-use mx_core::{Bus, Outcome, Regs, act, exec};
+use mx_core::{Bus, Outcome, Regs, act_on, exec};
 use mx_gates::CrossStack;
 use mx_isa::Inst;
 use mx_model::{Call, Frame};
@@ -146,7 +146,7 @@ impl Hart {
         ensures map { B.perm bus.new ≡ B.perm bus.old }
         ensures usable { B.usable bus.new }
     {
-        match act(bus, &mut self.regs, self.pc, false, inst) {
+        match act_on(bus, &mut self.regs, self.pc, inst) {
             Outcome::Next(pc) => {
                 self.pc = pc;
                 Outcome::Next(pc)
