@@ -8,11 +8,10 @@ use Rattle.mx_words.specs.Hearing.{nobody}
 use Rattle.mx_isa.specs.Fields.{imm_i, imm_s, imm_b, imm_u, imm_j, extended}
 use Rattle.mx_isa.specs.Table.{decoded}
 use Rattle.mx_model.specs.Effect.{holds, imm_result, reg_result, loaded, effect}
-use Rattle.mx_model.specs.Gates.{most_gates, most_frames}
 use Rattle.mx_model.specs.Reads.{reads, flat_reads}
 use Rattle.mx_model.specs.Run.{ByQuantum, ByBytes, all_halted, is_over, run}
 use Rattle.mx_model.specs.Run.{hart_of as hart_of_turn}
-use Rattle.mx_model.specs.State.{State, Status, Running, Waiting, Halted, flat, hart_at, is_module, module_at, most_modules, no_module}
+use Rattle.mx_model.specs.State.{State, Status, Running, Waiting, Halted, flat, hart_at, is_module, module_at, no_module}
 use Rattle.mx_model.proofs.Boots.{HartEnd, end, hart_end, regs_with}
 use Rattle.mx_model.proofs.Smalls.{area, call, give, grant, hart_of, small, span_of, stack}
 
@@ -92,9 +91,3 @@ no-module = refl
 
 no-hart : hart_at answering.core 0 ≡ hart_of 0 0 (replicate 32 0) [] (Halted None)
 no-hart = refl
-
-most-modules : ◌≡◌ {A = ℕ} most_modules 63
-most-modules = refl
-
-most-gates-and-frames : most_gates ∷ most_frames ∷ [] ≡ 256 ∷ 64 ∷ []
-most-gates-and-frames = refl

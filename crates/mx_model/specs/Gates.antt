@@ -3,16 +3,9 @@
 use Rattle.std.specs.Prelude.{◌≡◌, ℕ, ◌-◌, Bool, false, not, if◌then◌else◌, ◌==◌, ◌&&◌, nat_le, List, [], ◌∷◌, ◌++◌, length, take, reverse, filter, find, slice_index, Option, Some, None, option_map}
 use Rattle.std.specs.Option.{option_map_or}
 use Rattle.std.specs.List.{AllPairs, list_any, last_or}
-use Rattle.mx_words.specs.declared.limits.TheConstants.{MOST_GATES, MOST_FRAMES}
+pub use Rattle.mx_words.specs.Limits.{most_gates, most_frames}
 use Rattle.mx_model.specs.declared.values.Gate.{Gate}
 use Rattle.mx_model.specs.declared.values.Frame.{Frame}
-
--- how many gates stand at most, and how many frames a cross stack holds at most
-abbrev pub most_gates : ℕ
-most_gates = MOST_GATES
-
-abbrev pub most_frames : ℕ
-most_frames = MOST_FRAMES
 
 -- whether a gate is for a domain at a word
 abbrev pub is_at : ℕ → ℕ → Gate → Bool

@@ -3,7 +3,7 @@
 -- The rules: docs/MACHINE.md, "Memory, domains, harts".
 use Rattle.std.specs.Prelude.{ℕ, ◌-◌, Bool, false, ◌&&◌, nat_le, List, [], length, replicate, slice_index_or, slice_set, Option, None}
 use Rattle.std.specs.Prelude.{map as list_map}
-use Rattle.mx_words.specs.declared.limits.TheConstants.{MOST_MODULES}
+pub use Rattle.mx_words.specs.Limits.{most_modules}
 use Rattle.mx_words.specs.declared.perm.Perm.{Perm}
 use Rattle.mx_words.specs.declared.tables.Kind.{Kind}
 use Rattle.mx_words.specs.declared.tables.Need.{Need}
@@ -91,10 +91,6 @@ no_module = record {
 -- a hart that isn't there is halted
 abbrev pub no_hart : Hart
 no_hart = record { regs = replicate 32 0; pc = 0; domain = 0; frames = []; status = Halted None }
-
--- how many modules there are at most
-abbrev pub most_modules : ℕ
-most_modules = MOST_MODULES
 
 -- module d; modules count from 1, and none is asked for by 0, the supervisor's number
 abbrev pub module_at : Core → ℕ → Module

@@ -14,7 +14,8 @@ ghost use Rattle.mx_resume.specs.Taking.{IsTaken};
 
 use crate::SnapshotRefused;
 use crate::reading::{between, fault, long_number, number, out_of_range, piece};
-use mx_words::{Kind, MOST_MODULES, MOST_WORDS, Need};
+use mx_table::MODULES;
+use mx_words::{Kind, MOST_WORDS, Need};
 
 /// The first eight bytes of a snapshot: MXSN, and the version 1.
 const SIGN: [u8; 8] = [0x4D, 0x58, 0x53, 0x4E, 1, 0, 0, 0];
@@ -115,7 +116,7 @@ pub(crate) fn read_head(bytes: &[u8], at: &mut usize) -> Result<Head, SnapshotRe
     let spill = between(bytes, at, 0, 1048576)?;
     let lookaside = lookaside(bytes, at)?;
     let quantum = between(bytes, at, 1, 1000000)?;
-    let modules = between(bytes, at, 1, MOST_MODULES)?;
+    let modules = between(bytes, at, 1, MODULES)?;
     let harts = between(bytes, at, 1, 4)?;
     let turns = turns(bytes, at)?;
     Ok(Head {

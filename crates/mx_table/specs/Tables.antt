@@ -1,7 +1,7 @@
 -- What tables of permissions mean: one map per domain, a limit, and a count of lookups.
 use Rattle.std.specs.Prelude.{◌≡◌, ℕ, ◌+◌, ◌-◌, ◌<◌, ◌≤◌, List, [], slice_index_or, length, IsTrue, IsFalse}
 use Rattle.std.specs.Prelude.{map as list_map}
-use Rattle.mx_words.specs.declared.limits.TheConstants.{MOST_MODULES}
+pub use Rattle.mx_words.specs.Limits.{most_modules}
 pub use Rattle.mx_words.specs.Ranges.{most_words}
 use Rattle.mx_words.specs.declared.perm.Perm.{Perm}
 use Rattle.mx_words.specs.declared.perm.Perm.TheVariants as P
@@ -12,10 +12,6 @@ use Rattle.mx_words.specs.Newest.{Grant, map}
 use Rattle.mx_words.specs.Need.{need, within, fits}
 use Rattle.mx_table.specs.declared.refused.BuildRefused.{BuildRefused}
 use Rattle.mx_table.specs.declared.refused.BuildRefused.TheVariants.{TablesFull, NoMemory}
-
--- the greatest number of domains
-abbrev pub most_modules : ℕ
-most_modules = MOST_MODULES
 
 -- domain d's map; domains count from 1
 abbrev pub map_of : List (List Perm) → ℕ → List Perm

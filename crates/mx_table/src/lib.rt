@@ -10,4 +10,4 @@ pub use refused::BuildRefused;
 pub use tables::{PermTables, shape_of};
 
 /// The greatest number of modules, and so of domains but the supervisor.
-pub const MODULES: u32 = mx_words::MOST_MODULES;
+pub const MODULES: u32 = mx_words::MOST_MODULES as u32;

@@ -11,11 +11,16 @@ use Rattle.mx_words.specs.Bytes.{number_at, put_at, cleared_at}
 use Rattle.mx_words.specs.Changes.{changed_maps, granted_all}
 use Rattle.mx_words.specs.FirstFit.{Area, place, with_block, without_block, block_words, most_blocks}
 use Rattle.mx_words.specs.FirstRow.{first_row}
-use Rattle.mx_words.specs.Hearing.{most_harts, is_in, nobody, with_hearer, heard_range, unheard_range, forbids_keeping, lets_pass}
+use Rattle.mx_words.specs.Hearing.{is_in, nobody, with_hearer, heard_range, unheard_range, forbids_keeping, lets_pass}
+use Rattle.mx_words.specs.Limits.{most_modules, most_domains, most_harts, most_gates, most_frames, most_kept}
 use Rattle.mx_words.specs.Newest.{Laid, Grant, at, map, owners, laid}
 use Rattle.mx_words.specs.Ranges.{most_words, address_of, covers, overlaps, in_ram, word_of, word_range, range_words}
 use Rattle.mx_words.specs.Rights.{number, from_number, same, allows, perm, denies}
 use Rattle.mx_words.specs.Starts.{is_start, is_owner_start}
+
+-- the greatest numbers
+limits : most_modules ∷ most_domains ∷ most_harts ∷ most_gates ∷ most_frames ∷ most_kept ∷ [] ≡ 63 ∷ 64 ∷ 4 ∷ 256 ∷ 64 ∷ 64 ∷ []
+limits = refl
 
 -- addresses: RAM of 17 words ends before 0x80000044
 greatest-ram : ◌≡◌ {A = ℕ} most_words (65536 * 1024 / 4)
@@ -179,9 +184,6 @@ announced-nothing : list_map (λ n. announced n 0x80000009 5 17 (10, 4)) (3 ∷ 
 announced-nothing = refl
 
 -- sets of harts: who has heard a call, and whom it holds up
-four-harts : ◌≡◌ {A = ℕ} most_harts 4
-four-harts = refl
-
 nobody-heard : nobody ≡ false ∷ false ∷ false ∷ false ∷ []
 nobody-heard = refl
 

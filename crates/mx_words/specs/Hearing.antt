@@ -2,15 +2,12 @@
 -- The rules: docs/MACHINE.md, "Announced calls".
 use Rattle.std.specs.Prelude.{ℕ, Bool, true, false, ◌==◌, ◌&&◌, ◌||◌, List, replicate, slice_index_or, slice_set, if◌then◌else◌, Option, Some, None}
 use Rattle.mx_words.specs.declared.perm.Span.{Span}
+pub use Rattle.mx_words.specs.Limits.{most_harts}
 use Rattle.mx_words.specs.Caches.{meets}
 
 -- whether hart h is in a set of harts
 abbrev pub is_in : List Bool → ℕ → Bool
 is_in set h = slice_index_or set h false
-
--- how many harts there are at most
-abbrev pub most_harts : ℕ
-most_harts = 4
 
 -- nobody has heard a call that was just announced
 abbrev pub nobody : List Bool

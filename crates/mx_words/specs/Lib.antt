@@ -14,3 +14,4 @@ pub mod FirstRow
 pub mod FirstFit
 pub mod Announced
 pub mod Starts
+pub mod Limits

@@ -10,7 +10,9 @@ mod spans;
 mod tables;
 
 pub use blob::Blob;
-pub use limits::{MOST_FRAMES, MOST_GATES, MOST_MODULES};
+pub use limits::{
+    MOST_DOMAINS, MOST_FRAMES, MOST_GATES, MOST_HARTS, MOST_KEPT, MOST_MODULES,
+};
 pub use perm::{Access, Perm, Span};
 pub use ranges::{MOST_WORDS, RAM_BASE, word_of, word_range};
 pub use spans::Spans;
