@@ -15,3 +15,4 @@ pub mod FirstFit
 pub mod Announced
 pub mod Starts
 pub mod Limits
+pub mod Calls

@@ -3,6 +3,7 @@
 #![tactic(auto)]
 
 mod blob;
+mod calls;
 mod limits;
 mod perm;
 mod ranges;
@@ -10,6 +11,9 @@ mod spans;
 mod tables;
 
 pub use blob::Blob;
+pub use calls::{
+    ALLOC_CALL, EXCHANGE_CALL, FREE_CALL, GRANT_CALL, REVOKE_ALL_CALL, WRITE_CALL,
+};
 pub use limits::{
     MOST_DOMAINS, MOST_FRAMES, MOST_GATES, MOST_HARTS, MOST_KEPT, MOST_MODULES,
 };
