@@ -41,10 +41,8 @@ impl Blob {
     pub fn with_capacity(alloc: Global, count: u32) -> Result<Blob, NoMemory>
         ensures { IfOk result (λ blob. blob ≡ []) }
     {
-        match Vec::with_capacity(alloc, count as usize) {
-            Ok(items) => Ok(Blob { items }),
-            Err(_) => Err(NoMemory),
-        }
+        let items = Vec::with_capacity(alloc, count as usize)?;
+        Ok(Blob { items })
     }
 
     /// Appends a byte. The list holds fewer than 2^31 bytes. Where memory is refused, it stays as it was.
@@ -53,10 +51,8 @@ impl Blob {
         ensures ok { OnOk result (self.new ≡ self.old ++ item ∷ []) }
         ensures err { OnErr result (self.new ≡ self.old) }
     {
-        match self.items.push(item) {
-            Ok(()) => Ok(()),
-            Err(_) => Err(NoMemory),
-        }
+        self.items.push(item)?;
+        Ok(())
     }
 
     /// Appends bytes in one piece. The list then holds at most 2^31 bytes. Where memory is refused, it stays as it was.
@@ -65,10 +61,8 @@ impl Blob {
         ensures ok { OnOk result (self.new ≡ self.old ++ items.now) }
         ensures err { OnErr result (self.new ≡ self.old) }
     {
-        match self.items.extend_from_slice(items) {
-            Ok(()) => Ok(()),
-            Err(_) => Err(NoMemory),
-        }
+        self.items.extend_from_slice(items)?;
+        Ok(())
     }
 
     /// The number of bytes.

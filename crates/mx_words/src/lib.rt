@@ -22,6 +22,28 @@ pub use ranges::{MOST_WORDS, RAM_BASE, word_of, word_range};
 pub use spans::Spans;
 pub use tables::{Kind, Level, Need, Shown};
 
+use std::alloc::{AllocError, AllocFailed};
+
 /// An allocation was refused. The one answer that no contract ties to a cause.
 #[derive(Clone, Copy, PartialEq, Eq, Debug)]
 pub struct NoMemory;
+
+impl From<AllocError> for NoMemory {
+    ghost use Rattle.std.specs.Prelude.{◌≡◌};
+
+    ghost from_gives = { λ _ refused. refused ≡ record {} };
+
+    fn from(_e: AllocError) -> NoMemory {
+        NoMemory
+    }
+}
+
+impl<T: Drop> From<AllocFailed<T>> for NoMemory {
+    ghost use Rattle.std.specs.Prelude.{◌≡◌};
+
+    ghost from_gives = { λ _ refused. refused ≡ record {} };
+
+    fn from(_e: AllocFailed<T>) -> NoMemory {
+        NoMemory
+    }
+}
