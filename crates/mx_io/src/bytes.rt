@@ -40,15 +40,13 @@ impl Bytes {
     pub fn new(alloc: Global, room: u64) -> Result<Bytes, NoMemory>
         ensures { IfOk result (λ bytes. bytes ≡ no_bytes room) }
     {
-        match Vec::with_capacity(alloc, room as usize) {
-            Ok(written) => Ok(Bytes {
-                written,
-                room,
-                calls: Calls::new(),
-                faults: 0,
-            }),
-            Err(_) => Err(NoMemory),
-        }
+        let written = Vec::with_capacity(alloc, room as usize)?;
+        Ok(Bytes {
+            written,
+            room,
+            calls: Calls::new(),
+            faults: 0,
+        })
     }
 
     /// Lists the number of a call that is to fail. Calls of `write` are counted from 1. Eight numbers are

@@ -63,9 +63,7 @@ impl Files {
         ensures ok { OnOk result (self.new ≡ with_file self.old name.now bytes.now) }
         ensures err { OnErr result (self.new ≡ self.old) }
     {
-        let Ok(bytes) = Vec::from_slice(self.alloc, bytes) else {
-            return Err(NoMemory);
-        };
+        let bytes = Vec::from_slice(self.alloc, bytes)?;
         add(self.alloc, &mut self.entries, name, bytes)
     }
 

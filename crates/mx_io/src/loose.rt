@@ -59,9 +59,7 @@ impl Loose {
         ensures ok { OnOk result (self.new ≡ with_loose self.old name.now size bytes.now) }
         ensures err { OnErr result (self.new ≡ self.old) }
     {
-        let Ok(bytes) = Vec::from_slice(self.alloc, bytes) else {
-            return Err(NoMemory);
-        };
+        let bytes = Vec::from_slice(self.alloc, bytes)?;
         let file = LooseFile { size, bytes };
         add(self.alloc, &mut self.entries, name, file)
     }

@@ -39,11 +39,7 @@ pub(crate) fn add<V: Drop>(
         (named entries.new.items ≡ (name.now, value) ∷ named entries.old.items) }
     ensures err { OnErr result (named entries.new.items ≡ named entries.old.items) }
 {
-    let Ok(name) = String::from_str(alloc, name) else {
-        return Err(NoMemory);
-    };
-    match entries.push_front(Named { name, value }) {
-        Ok(()) => Ok(()),
-        Err(_) => Err(NoMemory),
-    }
+    let name = String::from_str(alloc, name)?;
+    entries.push_front(Named { name, value })?;
+    Ok(())
 }
