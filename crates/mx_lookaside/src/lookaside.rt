@@ -2,15 +2,16 @@
 
 ghost use Rattle.std.specs.Prelude.{◌≡◌, ◌≤◌, [], length};
 ghost use Rattle.mx_words.specs.Caches.{is_for, found_kept, kept_with, kept_without};
+ghost use Rattle.mx_words.specs.Limits.{most_kept};
 
-use mx_words::{Perm, Span};
+use mx_words::{MOST_KEPT, Perm, Span};
 use std::marker::Model;
 
 /// How many slots the ring has, whatever `N` is.
-const SLOTS: usize = 64;
+const SLOTS: usize = MOST_KEPT;
 
 /// At most `N` entries, the newest first: a protection domain and a span of RAM words that its table gave. The ring has
-/// 64 slots, so `N` is at most 64.
+/// `MOST_KEPT` slots, so `N` is at most that.
 #[derive(Drop)]
 pub struct Lookaside<const N: usize> {
     slots: [(u32, Span); SLOTS],
@@ -21,19 +22,21 @@ pub struct Lookaside<const N: usize> {
 impl<const N: usize> Model for Lookaside<N> {
     ghost use Rattle.std.specs.Prelude.{◌≡◌, ◌<◌, ◌≤◌, List, length};
     ghost use Rattle.mx_words.specs.Caches.{Entry};
+    ghost use Rattle.mx_words.specs.Limits.{most_kept};
     ghost use Rattle.mx_lookaside.specs.Window.{window};
 
     ghost Value = { List Entry };
 
     ghost view = { λ l. window l.newest l.len l.slots };
 
-    ghost invariant = { λ l. (length l.slots ≡ 64) × (l.newest < 64) × (l.len ≤ N) × (N ≤ 64) };
+    ghost invariant = { λ l. (length l.slots ≡ most_kept) × (l.newest < most_kept)
+        × (l.len ≤ N) × (N ≤ most_kept) };
 }
 
 impl<const N: usize> Lookaside<N> {
-    /// No entry. `N` is at most 64, since the ring has 64 slots.
+    /// No entry. `N` is at most `MOST_KEPT`, the slots that the ring has.
     pub fn new() -> Lookaside<N>
-        requires { N ≤ 64 }
+        requires { N ≤ most_kept }
         ensures { result ≡ [] }
     {
         let unused = Span {
