@@ -1,5 +1,5 @@
 //! A change of rights.
-use mx_words::Perm;
+use mx_words::{MOST_DOMAINS, Perm};
 
 /// Permissions for the words `first` to `first + count - 1`, in the domains that it names.
 #[derive(Clone, Copy, PartialEq, Eq, Debug)]
@@ -10,5 +10,5 @@ pub struct Change {
     pub count: u32,
     /// By domain number, the permission that it gets on the range; where nothing stands, the domain keeps its own. Domain 0, the
     /// supervisor, has no map: nothing stands at 0.
-    pub perms: [Option<Perm>; 64],
+    pub perms: [Option<Perm>; MOST_DOMAINS],
 }
