@@ -189,20 +189,14 @@ impl<const WORDS: usize> Pool<WORDS> {
 fn zeros(alloc: Global, size: usize) -> Result<Vec<u32>, NoMemory>
     ensures { IfOk result (λ v. v.items ≡ replicate size 0) }
 {
-    match Vec::from_elem(alloc, 0, size) {
-        Ok(words) => Ok(words),
-        Err(_) => Err(NoMemory),
-    }
+    Ok(Vec::from_elem(alloc, 0, size)?)
 }
 
 // `number` marks, none of them set.
 fn no_marks(alloc: Global, number: usize) -> Result<Vec<bool>, NoMemory>
     ensures { IfOk result (λ v. v.items ≡ replicate number false) }
 {
-    match Vec::from_elem(alloc, false, number) {
-        Ok(marks) => Ok(marks),
-        Err(_) => Err(NoMemory),
-    }
+    Ok(Vec::from_elem(alloc, false, number)?)
 }
 
 // The numbers of `frames` frames, the lowest last.
