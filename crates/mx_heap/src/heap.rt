@@ -54,14 +54,8 @@ impl Heap {
         ensures { IfOk result (λ h. h
             ≡ record { area = record { first = first; count = count }; blocks = [] }) }
     {
-        let mut parts = match Vec::with_capacity(alloc, 2 * MOST_BLOCKS as usize + 1) {
-            Ok(parts) => parts,
-            Err(_) => return Err(NoMemory),
-        };
-        let blocks = match Vec::with_capacity(alloc, MOST_BLOCKS as usize) {
-            Ok(blocks) => blocks,
-            Err(_) => return Err(NoMemory),
-        };
+        let mut parts = Vec::with_capacity(alloc, 2 * MOST_BLOCKS as usize + 1)?;
+        let blocks = Vec::with_capacity(alloc, MOST_BLOCKS as usize)?;
         if count > 0 {
             parts.push_reserved(Part {
                 first,
