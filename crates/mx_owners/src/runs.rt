@@ -23,10 +23,7 @@ pub fn room(alloc: Global) -> Result<Vec<Run>, NoMemory>
     ensures items { IfOk result (λ v. v.items ≡ []) }
     ensures capacity { IfOk result (λ v. most_owner_runs + 2 ≤ vec_capacity v) }
 {
-    match Vec::with_capacity(alloc, MOST_RUNS + 2) {
-        Ok(runs) => Ok(runs),
-        Err(_) => Err(NoMemory),
-    }
+    Ok(Vec::with_capacity(alloc, MOST_RUNS + 2)?)
 }
 
 // The place of a word's run, by halves of the runs that there are.
