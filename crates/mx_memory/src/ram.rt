@@ -27,10 +27,8 @@ impl Ram {
         requires { words ≤ 2 ^ 24 }
         ensures { IfOk result (λ ram. ram ≡ replicate (4 * words) 0) }
     {
-        match vec![in alloc; 0u8; 4 * words as usize] {
-            Ok(bytes) => Ok(Ram { bytes }),
-            Err(_) => Err(NoMemory),
-        }
+        let bytes = vec![in alloc; 0u8; 4 * words as usize]?;
+        Ok(Ram { bytes })
     }
 
     /// RAM that holds these bytes, at most 2^26: a copy.
@@ -38,10 +36,8 @@ impl Ram {
         requires { length bytes.now ≤ 2 ^ 26 }
         ensures { IfOk result (λ ram. ram ≡ bytes.now) }
     {
-        match Vec::from_slice(alloc, bytes) {
-            Ok(bytes) => Ok(Ram { bytes }),
-            Err(_) => Err(NoMemory),
-        }
+        let bytes = Vec::from_slice(alloc, bytes)?;
+        Ok(Ram { bytes })
     }
 
     /// The number that the 1, 2 or 4 bytes at an address hold. The address is a multiple of the
