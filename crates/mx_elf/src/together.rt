@@ -76,10 +76,7 @@ fn unknown<'a>(alloc: Global, names: &[&'a str]) -> Result<Values<'a>, NoMemory>
 {
     let mut values = HashMap::new(alloc);
     'names: for name in names {
-        match values.insert(name.as_bytes(), None) {
-            Ok(_) => {}
-            Err(_) => return Err(NoMemory),
-        }
+        values.insert(name.as_bytes(), None)?;
     }
     Ok(values)
 }
