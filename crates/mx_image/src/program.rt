@@ -58,10 +58,8 @@ impl<'a> ProgramBuilder<'a> {
         ensures ok { OnOk result (self.new ≡ with_segment segment self.old) }
         ensures err { OnErr result (self.new ≡ self.old) }
     {
-        match self.segments.push(segment) {
-            Ok(()) => Ok(()),
-            Err(_) => Err(NoMemory),
-        }
+        self.segments.push(segment)?;
+        Ok(())
     }
 
     /// Appends a byte to the last segment. At least one segment is begun, and all together hold fewer than 2^31 bytes.
