@@ -93,9 +93,7 @@ impl<'a> ProgramBuilder<'a> {
         ensures ok { OnOk result (self.new ≡ with_label (label name.now address) self.old) }
         ensures err { OnErr result (self.new ≡ self.old) }
     {
-        match self.labels.push(NamedAddress { name, address }) {
-            Ok(()) => Ok(()),
-            Err(_) => Err(NoMemory),
-        }
+        self.labels.push(NamedAddress { name, address })?;
+        Ok(())
     }
 }
