@@ -47,10 +47,8 @@ fn define<'a>(
     if definition(labels, name).is_some() {
         return Ok(());
     }
-    match labels.insert(name, LabelPlace { address, line }) {
-        Ok(_) => Ok(()),
-        Err(_) => Err(NoMemory),
-    }
+    labels.insert(name, LabelPlace { address, line })?;
+    Ok(())
 }
 
 /// The labels of a source.
