@@ -35,10 +35,8 @@ impl PlainBus {
             (λ bus. (bus.0 ≡ replicate (4 * words) 0) × (bus.1 ≡ replicate words Perm.None)) }
     {
         let ram = Ram::new(alloc, words)?;
-        match vec![in alloc; Perm::None; words as usize] {
-            Ok(perms) => Ok(PlainBus { ram, perms }),
-            Err(_) => Err(NoMemory),
-        }
+        let perms = vec![in alloc; Perm::None; words as usize]?;
+        Ok(PlainBus { ram, perms })
     }
 
     /// Gives a permission to words `first` to `first + count - 1`.

@@ -90,9 +90,7 @@ pub(crate) fn list_of<M: WordMap>(alloc: Global, map: &M) -> Result<PlainMap, No
 {
     let mut perms = Vec::new(alloc);
     for word in 0..map.words() {
-        if perms.push(map.at(word)).is_err() {
-            return Err(NoMemory);
-        }
+        perms.push(map.at(word))?;
     }
     Ok(PlainMap { perms })
 }

@@ -87,9 +87,7 @@ fn maps_of(alloc: Global, words: u32, rows: &[Spans]) -> Result<Vec<PlainMap>, N
     let mut maps = Vec::new(alloc);
     for spans in rows {
         let map = list_of(alloc, &Row { spans, words })?;
-        if maps.push(map).is_err() {
-            return Err(NoMemory);
-        }
+        maps.push(map)?;
     }
     Ok(maps)
 }
