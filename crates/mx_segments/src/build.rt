@@ -3,7 +3,7 @@ ghost use Rattle.std.specs.Prelude.{◌≡◌, ℕ, ◌+◌, ◌*◌, ◌<◌, �
 ghost use Rattle.mx_words.specs.Need.{segment_frames};
 ghost use Rattle.mx_words.specs.Newest.{map};
 ghost use Rattle.mx_pool.specs.Frames.{free_in};
-ghost use Rattle.mx_table.specs.Tables.{most_words, row_map, IsRow};
+ghost use Rattle.mx_table.specs.Tables.{most_words, row_map, IsRow, most_modules};
 ghost use Rattle.mx_table.specs.Rows.{first_spans};
 ghost use Rattle.mx_segments.specs.Lists.{HasRoom};
 ghost use Rattle.mx_segments.specs.Store.{frames_in, IsStore, KeepsOthers};
@@ -81,7 +81,7 @@ fn lay_row(leaf: &mut Pool<64>, chains: &mut Chains, row: u32, words: u32, spans
 pub(crate) fn lay_rows(leaf: &mut Pool<64>, chains: &mut Chains, words: u32, rows: &[Spans])
     requires store { IsStore leaf.old chains.old.lists }
     requires rows { length chains.old.lists ≡ length rows.now }
-    requires few { length rows.now ≤ 63 }
+    requires few { length rows.now ≤ most_modules }
     requires some { 1 ≤ words }
     requires small { words ≤ most_words }
     requires spans { All (IsRow words) rows.now }

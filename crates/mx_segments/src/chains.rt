@@ -1,5 +1,6 @@
 //! Lists of frame numbers, one for each domain.
 ghost use Rattle.std.specs.Prelude.{◌≡◌, ◌+◌, ◌-◌, ◌<◌, ◌≤◌, [], ◌∷◌, ◌++◌, length, take, replicate, slice_index, slice_set, vec_len, vec_capacity, IfOk};
+ghost use Rattle.mx_words.specs.Limits.{most_modules};
 ghost use Rattle.mx_segments.specs.Lists.{list_at, chain_of, most_frames};
 
 use mx_words::NoMemory;
@@ -18,13 +19,14 @@ pub struct Chains {
 
 impl Model for Chains {
     ghost use Rattle.std.specs.Prelude.{All, map, length, vec_items, ◌≤◌};
+    ghost use Rattle.mx_words.specs.Limits.{most_modules};
     ghost use Rattle.mx_segments.specs.Lists.{Chained, IsRoomy, most_frames};
 
     ghost Value = { Chained };
 
     ghost view = { λ c. record { lists = map vec_items c.lists.items; room = c.room } };
 
-    ghost invariant = { λ c. (length c.lists.items ≤ 63)
+    ghost invariant = { λ c. (length c.lists.items ≤ most_modules)
         × ((c.room ≤ most_frames) × All (IsRoomy c.room) c.lists.items) };
 }
 
@@ -69,7 +71,7 @@ impl Chains {
     // The number of lists.
     pub(crate) fn count(&self) -> u32
         ensures count { result ≡ length self.now.lists }
-        ensures few { length self.now.lists ≤ 63 }
+        ensures few { length self.now.lists ≤ most_modules }
     {
         self.lists.len() as u32
     }
@@ -126,7 +128,7 @@ fn cut(list: &mut Vec<u32>) -> u32
 
 /// Empty lists for `rows` domains, each with memory for `room` frame numbers, at most 2^18.
 pub(crate) fn empty_chains(alloc: Global, rows: u32, room: u32) -> Result<Chains, NoMemory>
-    requires rows { rows ≤ 63 }
+    requires rows { rows ≤ most_modules }
     requires room { room ≤ most_frames }
     ensures lists { IfOk result (λ c. c.lists ≡ replicate rows []) }
     ensures room { IfOk result (λ c. c.room ≡ room) }

@@ -3,6 +3,7 @@ ghost use Rattle.std.specs.Prelude.{◌≡◌, ℕ, ◌+◌, ◌-◌, ◌*◌, �
 ghost use Rattle.mx_words.specs.Changes.{changed_map};
 ghost use Rattle.mx_words.specs.Counting.{sum_below};
 ghost use Rattle.mx_words.specs.Need.{segment_frames};
+ghost use Rattle.mx_words.specs.Limits.{most_domains};
 ghost use Rattle.mx_pool.specs.Frames.{free_in};
 ghost use Rattle.mx_table.specs.Change.{given};
 ghost use Rattle.mx_table.specs.Tables.{most_words, most_modules};
@@ -19,7 +20,7 @@ use mx_words::Perm;
 
 // What a change gives a domain.
 fn given_to(change: &Change, domain: u32) -> Option<Perm>
-    requires { domain < 64 }
+    requires { domain < most_domains }
     ensures { result ≡ given change.now domain }
 {
     change.perms[domain as usize]

@@ -1,7 +1,7 @@
 //! How many frames a row of spans needs, counted before any frame is taken.
 ghost use Rattle.std.specs.Prelude.{◌≡◌, ◌+◌, ◌*◌, ◌<◌, ◌≤◌, length, sum_by, All};
 ghost use Rattle.mx_words.specs.Need.{segment_frames};
-ghost use Rattle.mx_table.specs.Tables.{most_words, row_map, IsRow};
+ghost use Rattle.mx_table.specs.Tables.{most_words, row_map, IsRow, most_modules};
 ghost use Rattle.mx_table.specs.Rows.{end_at, first_spans};
 ghost use Rattle.mx_segments.specs.Lists.{most_frames};
 ghost use Rattle.mx_segments.specs.Tally.{IsTally, counted_before, perm_before, begins_at, begins_behind};
@@ -112,7 +112,7 @@ pub(crate) fn frames_of(row: &Spans, words: u32) -> u32
 /// How many frames all rows' maps need.
 pub(crate) fn frames_of_all(rows: &[Spans], words: u32) -> u32
     requires rows { All (IsRow words) rows.now }
-    requires few { length rows.now ≤ 63 }
+    requires few { length rows.now ≤ most_modules }
     requires some { 1 ≤ words }
     requires small { words ≤ most_words }
     ensures { result ≡ sum_by (λ row. segment_frames (row_map words row)) rows.now }
