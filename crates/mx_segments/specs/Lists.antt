@@ -3,8 +3,8 @@ use Rattle.std.specs.declared.alloc.Global.{Global}
 use Rattle.std.specs.Prelude.{ℕ, ◌+◌, ◌-◌, ◌/◌, ◌^◌, ◌≤◌, min, List, [], slice_index_or, Vec, vec_len, vec_capacity}
 
 -- the greatest number of frames in one list: as many as the entries of 2^24 words fill
-abbrev pub most_frames : ℕ
-most_frames = 2 ^ 18
+abbrev pub longest_list : ℕ
+longest_list = 2 ^ 18
 
 -- the list at a row; rows count from 0
 abbrev pub list_at : List (List ℕ) → ℕ → List ℕ

@@ -1,7 +1,7 @@
 //! Lists of frame numbers, one for each domain.
 ghost use Rattle.std.specs.Prelude.{◌≡◌, ◌+◌, ◌-◌, ◌<◌, ◌≤◌, [], ◌∷◌, ◌++◌, length, take, replicate, slice_index, slice_set, vec_len, vec_capacity, IfOk};
 ghost use Rattle.mx_words.specs.Limits.{most_modules};
-ghost use Rattle.mx_segments.specs.Lists.{list_at, chain_of, most_frames};
+ghost use Rattle.mx_segments.specs.Lists.{list_at, chain_of, longest_list};
 
 use mx_words::NoMemory;
 use std::alloc::Global;
@@ -20,14 +20,14 @@ pub struct Chains {
 impl Model for Chains {
     ghost use Rattle.std.specs.Prelude.{All, map, length, vec_items, ◌≤◌};
     ghost use Rattle.mx_words.specs.Limits.{most_modules};
-    ghost use Rattle.mx_segments.specs.Lists.{Chained, IsRoomy, most_frames};
+    ghost use Rattle.mx_segments.specs.Lists.{Chained, IsRoomy, longest_list};
 
     ghost Value = { Chained };
 
     ghost view = { λ c. record { lists = map vec_items c.lists.items; room = c.room } };
 
     ghost invariant = { λ c. (length c.lists.items ≤ most_modules)
-        × ((c.room ≤ most_frames) × All (IsRoomy c.room) c.lists.items) };
+        × ((c.room ≤ longest_list) × All (IsRoomy c.room) c.lists.items) };
 }
 
 impl Chains {
@@ -54,7 +54,7 @@ impl Chains {
     pub(crate) fn len_at(&self, row: u32) -> u32
         requires { row < length self.now.lists }
         ensures len { result ≡ length (list_at self.now.lists row) }
-        ensures few { length (list_at self.now.lists row) ≤ most_frames }
+        ensures few { length (list_at self.now.lists row) ≤ longest_list }
     {
         self.lists[row as usize].len() as u32
     }
@@ -129,7 +129,7 @@ fn cut(list: &mut Vec<u32>) -> u32
 /// Empty lists for `rows` domains, each with memory for `room` frame numbers, at most 2^18.
 pub(crate) fn empty_chains(alloc: Global, rows: u32, room: u32) -> Result<Chains, NoMemory>
     requires rows { rows ≤ most_modules }
-    requires room { room ≤ most_frames }
+    requires room { room ≤ longest_list }
     ensures lists { IfOk result (λ c. c.lists ≡ replicate rows []) }
     ensures room { IfOk result (λ c. c.room ≡ room) }
 {

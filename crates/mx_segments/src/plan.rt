@@ -6,7 +6,7 @@ ghost use Rattle.mx_words.specs.Runs.{runs};
 ghost use Rattle.mx_words.specs.Newest.{laid};
 ghost use Rattle.mx_words.specs.Changes.{grant_of};
 ghost use Rattle.mx_table.specs.Tables.{most_words};
-ghost use Rattle.mx_segments.specs.Lists.{most_frames};
+ghost use Rattle.mx_segments.specs.Lists.{longest_list};
 ghost use Rattle.mx_segments.specs.Store.{IsStore};
 ghost use Rattle.mx_segments.specs.Sound.{map_in, IsSound};
 ghost use Rattle.mx_segments.specs.Plan.{IsPlan, kept, total};
@@ -151,7 +151,7 @@ pub(crate) fn frames_after(
     requires inside { first + count ≤ words }
     ensures frames { result ≡ (runs
         (laid (grant_of first count perm) (map_in words leaf.now chains.now.lists row)) + 63) / 64 }
-    ensures most { result ≤ most_frames }
+    ensures most { result ≤ longest_list }
 {
     if has_already(leaf, chains, row, words, first, count, perm) {
         return chains.len_at(row);

@@ -7,7 +7,7 @@ ghost use Rattle.mx_words.specs.Limits.{most_domains};
 ghost use Rattle.mx_pool.specs.Frames.{free_in};
 ghost use Rattle.mx_table.specs.Change.{given};
 ghost use Rattle.mx_table.specs.Tables.{most_words, most_modules};
-ghost use Rattle.mx_segments.specs.Lists.{most_frames, HasRoom};
+ghost use Rattle.mx_segments.specs.Lists.{longest_list, HasRoom};
 ghost use Rattle.mx_segments.specs.Store.{IsStore, KeepsOthers};
 ghost use Rattle.mx_segments.specs.Sound.{map_in, IsSound};
 
@@ -91,7 +91,7 @@ fn row_need(leaf: &Pool<64>, chains: &Chains, row: u32, words: u32, change: &Cha
     ensures need { result
         ≡ segment_frames (changed_map change.now.first change.now.count (given change.now (row + 1))
         (map_in words leaf.now chains.now.lists row)) }
-    ensures most { result ≤ most_frames }
+    ensures most { result ≤ longest_list }
 {
     match given_to(change, row + 1) {
         Some(perm) => frames_after(leaf, chains, row, words, change.first, change.count, perm),

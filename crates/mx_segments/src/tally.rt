@@ -3,7 +3,7 @@ ghost use Rattle.std.specs.Prelude.{◌≡◌, ◌+◌, ◌*◌, ◌<◌, ◌≤
 ghost use Rattle.mx_words.specs.Need.{segment_frames};
 ghost use Rattle.mx_table.specs.Tables.{most_words, row_map, IsRow, most_modules};
 ghost use Rattle.mx_table.specs.Rows.{end_at, first_spans};
-ghost use Rattle.mx_segments.specs.Lists.{most_frames};
+ghost use Rattle.mx_segments.specs.Lists.{longest_list};
 ghost use Rattle.mx_segments.specs.Tally.{IsTally, counted_before, perm_before, begins_at, begins_behind};
 
 use crate::plan::{Plan, differ};
@@ -95,7 +95,7 @@ pub(crate) fn frames_of(row: &Spans, words: u32) -> u32
     requires some { 1 ≤ words }
     requires small { words ≤ most_words }
     ensures need { result ≡ segment_frames (row_map words row.now) }
-    ensures most { result ≤ most_frames }
+    ensures most { result ≤ longest_list }
 {
     let mut tally = Tally {
         end: 0,
