@@ -135,12 +135,8 @@ pub(crate) fn empty_chains(alloc: Global, rows: u32, room: u32) -> Result<Chains
 {
     let mut lists = Vec::new(alloc);
     for _ in 0..rows {
-        let Ok(list) = Vec::with_capacity(alloc, room as usize) else {
-            return Err(NoMemory);
-        };
-        let Ok(()) = lists.push(list) else {
-            return Err(NoMemory);
-        };
+        let list = Vec::with_capacity(alloc, room as usize)?;
+        lists.push(list)?;
     }
     Ok(Chains { lists, room })
 }
