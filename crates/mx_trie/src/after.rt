@@ -313,7 +313,7 @@ fn need_changed<L: LeafForm>(
     need: Need,
 ) -> Need
     requires read { IsRead L.kind words upper.now leaf.now spill.now root }
-    requires row { row < 63 }
+    requires row { row < most_modules }
     requires some { 0 < change.now.count }
     requires inside { change.now.first + change.now.count ≤ words }
     requires part { IsNeedWith L.kind (read_map L.kind upper.now leaf.now spill.now words root) need }

@@ -14,7 +14,7 @@ use mx_table::Change;
 
 /// What a change gives a domain, counted from 0, if anything.
 pub(crate) fn laying_of(words: u32, row: u32, change: &Change) -> Option<Laying>
-    requires row { row < 63 }
+    requires row { row < most_modules }
     requires some { 0 < change.now.count }
     requires inside { change.now.first + change.now.count ≤ words }
     requires few { words ≤ most_words }

@@ -1,5 +1,6 @@
 //! The root tables of all domains.
 ghost use Rattle.std.specs.Prelude.{◌≡◌, ℕ, ◌-◌, ◌<◌, ◌≤◌, List, [], ◌∷◌, ◌++◌, length, slice_index, OnOk};
+ghost use Rattle.mx_words.specs.Limits.{most_modules};
 
 use mx_words::NoMemory;
 use std::alloc::Global;
@@ -16,7 +17,7 @@ impl Model for Roots {
 
     ghost view = { λ r. r.frames.items };
 
-    ghost invariant = { λ r. length r.frames.items ≤ 63 };
+    ghost invariant = { λ r. length r.frames.items ≤ most_modules };
 }
 
 impl Roots {
@@ -29,9 +30,9 @@ impl Roots {
         }
     }
 
-    /// Appends the frame of the next domain's root table. There are fewer than 63.
+    /// Appends the frame of the next domain's root table. There are fewer than the greatest number of modules.
     pub(crate) fn push(&mut self, frame: u32) -> Result<(), NoMemory>
-        requires { length self.old < 63 }
+        requires { length self.old < most_modules }
         ensures { OnOk result (self.new ≡ self.old ++ frame ∷ []) }
     {
         match self.frames.push(frame) {
@@ -60,7 +61,7 @@ impl Roots {
     /// The number of domains.
     pub(crate) fn count(&self) -> u32
         ensures value { result ≡ length self.now }
-        ensures few { result ≤ 63 }
+        ensures few { result ≤ most_modules }
     {
         self.frames.len() as u32
     }
