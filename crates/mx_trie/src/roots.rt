@@ -35,10 +35,8 @@ impl Roots {
         requires { length self.old < most_modules }
         ensures { OnOk result (self.new ≡ self.old ++ frame ∷ []) }
     {
-        match self.frames.push(frame) {
-            Ok(()) => Ok(()),
-            Err(_) => Err(NoMemory),
-        }
+        self.frames.push(frame)?;
+        Ok(())
     }
 
     /// The frame of a domain's root table. The domain is one of 1 to the number of domains.
