@@ -8,6 +8,7 @@ use Rattle.mx_manifest.specs.declared.parts.GatePlan.{GatePlan}
 use Rattle.mx_manifest.specs.declared.parts.HartPlan.{HartPlan}
 use Rattle.mx_manifest.specs.declared.parts.ModulePlan.{ModulePlan}
 use Rattle.mx_words.specs.declared.perm.Perm.TheVariants as perms
+use Rattle.mx_words.specs.Limits.{most_modules, most_harts, most_gates, IsBuffer}
 use Rattle.mx_manifest.specs.Forms.{is_name_byte}
 use Rattle.mx_manifest.specs.Plan.{Said}
 
@@ -41,7 +42,7 @@ Each P xs = EachNumbered (λ n x. P x) xs
 -- a gate of module `own` among `count` modules
 pub record IsGate (count own : ℕ) (gate : GatePlan) : Type 0 where
   pub entry : IsEntry gate.entry
-  pub from_count : IsBetween 1 63 (length gate.from)
+  pub from_count : IsBetween 1 most_modules (length gate.from)
   pub from : Each (λ domain. IsBetween 1 count domain × (domain ≢ own)) gate.from
 
 -- module `own` among `count` modules
@@ -62,9 +63,9 @@ pub record IsModule (count own : ℕ) (plan : ModulePlan) : Type 0 where
   pub stack : IfSome plan.stack IsAligned
   pub stack_words : IfSome plan.stack_words (IsBetween 1 1048576)
   pub stack_whole : is_some plan.stack ≡ is_some plan.stack_words
-  pub gate_count : length plan.gates ≤ 256
+  pub gate_count : length plan.gates ≤ most_gates
   pub gates : Each (IsGate count own) plan.gates
-  pub return_count : length plan.returns ≤ 256
+  pub return_count : length plan.returns ≤ most_gates
   pub returns : Each IsEntry plan.returns
 
 -- no two modules have one name
@@ -85,10 +86,10 @@ pub record IsInRange (plan : Said) : Type 0 where
   pub upper : plan.upper ≤ 4096
   pub leaf : plan.leaf ≤ 262144
   pub spill : plan.spill ≤ 1048576
-  pub lookaside : (plan.lookaside ≡ 8) ⊎ (plan.lookaside ≡ 32) ⊎ (plan.lookaside ≡ 64)
+  pub lookaside : IsBuffer plan.lookaside
   pub quantum : IsBetween 1 1000000 plan.quantum
-  pub module_count : IsBetween 1 63 (length plan.modules)
-  pub hart_count : IsBetween 1 4 (length plan.harts)
+  pub module_count : IsBetween 1 most_modules (length plan.modules)
+  pub hart_count : IsBetween 1 most_harts (length plan.harts)
   pub modules : EachNumbered (IsModule (length plan.modules)) plan.modules
   pub names_apart : HasNamesApart plan.modules
   pub harts : Each (IsHart (length plan.modules)) plan.harts

@@ -1,6 +1,7 @@
 -- The table of keys: for each key, in listed order, where it is required and what its value may be.
 -- Where a key is neither required nor there, its default is told by specs/Plan.
 use Rattle.std.specs.Prelude.{ℕ, List, [], ◌∷◌}
+use Rattle.mx_words.specs.Limits.{most_modules, most_harts, most_gates, most_kept}
 use Rattle.mx_manifest.specs.declared.fault.Key.{Key}
 use Rattle.mx_manifest.specs.declared.fault.Key.TheVariants as key
 use Rattle.mx_manifest.specs.declared.row.Row.{Row}
@@ -31,10 +32,10 @@ top_rows version =
     ∷ row key.Upper Never (Integer 0 (most version 1024 4096))
     ∷ row key.Leaf Never (Integer 0 (most version 65536 262144))
     ∷ row key.Spill Never (Integer 0 (most version 262144 1048576))
-    ∷ row key.Lookaside Never (Choice 8 32 64)
+    ∷ row key.Lookaside Never (Choice 8 32 most_kept)
     ∷ row key.Quantum Never (Integer 1 1000000)
-    ∷ row key.Module Always (Array 1 (most version 15 63) each.Table)
-    ∷ row key.Hart Always (Array 1 4 each.Table)
+    ∷ row key.Module Always (Array 1 (most version 15 most_modules) each.Table)
+    ∷ row key.Hart Always (Array 1 most_harts each.Table)
     ∷ []
 
 -- a module, up to its gates
@@ -50,14 +51,14 @@ early_rows version =
     ∷ row key.HeapWords (With key.Heap) (Integer 1 (most version 4194304 16777216))
     ∷ row key.Stack (With key.StackWords) (Aligned 0 4294967295)
     ∷ row key.StackWords (With key.Stack) (Integer 1 1048576)
-    ∷ row key.Gates Never (Array 0 256 each.Table)
+    ∷ row key.Gates Never (Array 0 most_gates each.Table)
     ∷ []
 
 -- a module, after its gates
 abbrev pub late_rows : Version → List Row
-late_rows One = row key.Returns Never (Array 0 256 each.Entry) ∷ []
+late_rows One = row key.Returns Never (Array 0 most_gates each.Entry) ∷ []
 late_rows Two =
-    row key.Returns Never (Array 0 256 each.Entry)
+    row key.Returns Never (Array 0 most_gates each.Entry)
     ∷ row key.OnFault Never (Text OnFault)
     ∷ row key.Seal Never Boolean
     ∷ []
@@ -66,7 +67,7 @@ late_rows Two =
 abbrev pub gate_rows : Version → List Row
 gate_rows version =
     row key.Entry Always Entry
-    ∷ record { name = From; asked = Always; form = Array 1 (most version 15 63) each.Text }
+    ∷ record { name = From; asked = Always; form = Array 1 (most version 15 most_modules) each.Text }
     ∷ []
 
 -- a hart

@@ -5,6 +5,7 @@ ghost use Rattle.std.specs.Option.{option_map_or};
 ghost use Rattle.std.specs.Str.{bytes_eq};
 ghost use Rattle.toml.specs.Data.{as_bool};
 ghost use Rattle.toml.specs.View.{view};
+ghost use Rattle.mx_words.specs.Limits.{most_modules, most_gates};
 ghost use Rattle.mx_manifest.specs.Reads.{value_at, number_of, number_at, text_at, text_of};
 ghost use Rattle.mx_manifest.specs.Faults.{domain_of, version_of, module_names};
 ghost use Rattle.mx_manifest.specs.InRange.{Each, IsInRange};
@@ -80,7 +81,7 @@ fn entry_plan(alloc: Global, value: &Value) -> Result<EntryPlan, NoMemory>
 }
 
 fn entries(alloc: Global, values: &[Value]) -> Result<Entries, NoMemory>
-    requires { length values.now ≤ 256 }
+    requires { length values.now ≤ most_gates }
     ensures { IfOk result (λ entries. entries ≡ map entry_plan (map view values.now)) }
 {
     let mut entries = Vec::new(alloc);
@@ -122,7 +123,7 @@ fn word_list(alloc: Global, values: &[Value]) -> Result<Numbers, NoMemory>
 }
 
 fn domains(alloc: Global, names: &Names, values: &[Value]) -> Result<Numbers, NoMemory>
-    requires names { length names.now ≤ 63 }
+    requires names { length names.now ≤ most_modules }
     requires few { length values.now ≤ 65536 }
     ensures { IfOk result
         (λ domains. domains ≡ map (domain_of names.now) (map text_of (map view values.now))) }
@@ -138,7 +139,7 @@ fn domains(alloc: Global, names: &Names, values: &[Value]) -> Result<Numbers, No
 }
 
 fn gate_plan(alloc: Global, names: &Names, gate: Section) -> Result<GatePlan, NoMemory>
-    requires names { length names.now ≤ 63 }
+    requires names { length names.now ≤ most_modules }
     requires few { length (gate_plan names.now (section_view gate)).from ≤ 65536 }
     ensures { IfOk result (λ plan. plan ≡ gate_plan names.now (section_view gate.entry)) }
 {
@@ -151,8 +152,8 @@ fn gate_plan(alloc: Global, names: &Names, gate: Section) -> Result<GatePlan, No
 }
 
 fn gate_plans(alloc: Global, names: &Names, gates: &[Value]) -> Result<GatePlans, NoMemory>
-    requires names { length names.now ≤ 63 }
-    requires few { length gates.now ≤ 256 }
+    requires names { length names.now ≤ most_modules }
+    requires few { length gates.now ≤ most_gates }
     requires froms { Each (λ gate. length gate.from ≤ 65536)
         (map (gate_plan names.now) (map view gates.now)) }
     ensures { IfOk result (λ plans. plans ≡ map (gate_plan names.now) (map view gates.now)) }
@@ -189,7 +190,7 @@ fn is_sealed(section: Section) -> bool
 }
 
 fn module_plan(alloc: Global, names: &Names, section: Section) -> Result<ModulePlan, NoMemory>
-    requires names { length names.now ≤ 63 }
+    requires names { length names.now ≤ most_modules }
     requires short { HasShortLists (module_plan names.now (section_view section)) }
     ensures { IfOk result (λ plan. plan ≡ module_plan names.now (section_view section.entry)) }
 {
@@ -221,7 +222,7 @@ fn module_plans(
     names: &Names,
     modules: &[Value],
 ) -> Result<Vec<ModulePlan>, NoMemory>
-    requires names { length names.now ≤ 63 }
+    requires names { length names.now ≤ most_modules }
     requires short { Each HasShortLists (map (module_plan names.now) (map view modules.now)) }
     ensures { IfOk result
         (λ plans. plans.items ≡ map (module_plan names.now) (map view modules.now)) }
@@ -237,7 +238,7 @@ fn module_plans(
 }
 
 fn hart_plan(alloc: Global, names: &Names, hart: Section) -> Result<HartPlan, NoMemory>
-    requires { length names.now ≤ 63 }
+    requires { length names.now ≤ most_modules }
     ensures { IfOk result (λ plan. plan ≡ hart_plan names.now (section_view hart.entry)) }
 {
     let entry = match hart.value_at(Key::Entry) {
@@ -249,7 +250,7 @@ fn hart_plan(alloc: Global, names: &Names, hart: Section) -> Result<HartPlan, No
 }
 
 fn hart_plans(alloc: Global, names: &Names, harts: &[Value]) -> Result<Vec<HartPlan>, NoMemory>
-    requires { length names.now ≤ 63 }
+    requires { length names.now ≤ most_modules }
     ensures { IfOk result (λ plans. plans.items ≡ map (hart_plan names.now) (map view harts.now)) }
 {
     let mut plans = Vec::new(alloc);
@@ -287,7 +288,7 @@ pub(crate) fn plan_of(
 ) -> Result<Plan, NoMemory>
     requires version { version ≡ version_of (section_view top) }
     requires names { names.now ≡ module_names (section_view top) }
-    requires few { length names.now ≤ 63 }
+    requires few { length names.now ≤ most_modules }
     requires in_range { IsInRange (plan_of (section_view top)) }
     ensures { IfOk result (λ plan. plan ≡ plan_of (section_view top.entry)) }
 {

@@ -4,6 +4,7 @@ ghost use Rattle.std.specs.Prelude.{◌≡◌, ◌≤◌, ◌++◌, [], ◌∷�
 ghost use Rattle.std.specs.List.{list_all, list_any};
 ghost use Rattle.std.specs.Str.{bytes_eq};
 ghost use Rattle.toml.specs.View.{view};
+ghost use Rattle.mx_words.specs.Limits.{most_modules, most_harts};
 ghost use Rattle.mx_manifest.specs.Judged.{Tells};
 ghost use Rattle.mx_manifest.specs.Reads.{text_at, text_of};
 ghost use Rattle.mx_manifest.specs.Faults.{each_fault, module_name, domain_of, repeat_fault, from_texts, is_other, is_from_others, from_fault, hart_domain, hart_fault, modules, harts, module_names, names_fault};
@@ -54,7 +55,7 @@ impl<'a> Names<'a> {
 
     /// The number of the module with a name, from 1; 0 where there is none.
     pub fn domain(&self, name: &str) -> u32
-        requires { length self.now ≤ 63 }
+        requires { length self.now ≤ most_modules }
         ensures { result ≡ domain_of self.now name.now }
     {
         self.set.get_index_of(name).map_or(0, |i| i as u32 + 1)
@@ -71,7 +72,7 @@ pub(crate) fn module_name<'a>(section: Section<'a>) -> &'a str
 /// The names of all modules, or fault 7 of the first module that has an earlier module's name.
 #[tactic(auto, unfolding(crate::specs::Faults::each_fault))]
 fn read_names<'a>(alloc: Global, modules: &'a [Value]) -> Result<Names<'a>, ManifestFault>
-    requires { length modules.now ≤ 63 }
+    requires { length modules.now ≤ most_modules }
     ensures names { IfOk result (λ names. names ≡ map module_name (map view modules.now)) }
     ensures apart { let names = map module_name (map view modules.now) in
         OnOk result (each_fault Part.Module (repeat_fault names) (map view modules.now) ≡ None) }
@@ -110,7 +111,7 @@ pub(crate) fn from_values<'a>(gate: Section<'a>) -> &'a [Value]
 
 /// Whether a name is that of a module other than module `n`.
 fn is_other(names: &Names, n: u32, name: &str) -> bool
-    requires { length names.now ≤ 63 }
+    requires { length names.now ≤ most_modules }
     ensures { result ≡ is_other names.now n name.now }
 {
     let domain = names.domain(name);
@@ -118,7 +119,7 @@ fn is_other(names: &Names, n: u32, name: &str) -> bool
 }
 
 fn are_others(names: &Names, n: u32, values: &[Value]) -> bool
-    requires { length names.now ≤ 63 }
+    requires { length names.now ≤ most_modules }
     ensures { result ≡ list_all (λ v. is_other names.now n (text_of (view v))) values.now }
 {
     values
@@ -127,14 +128,14 @@ fn are_others(names: &Names, n: u32, values: &[Value]) -> bool
 }
 
 fn is_from_others(names: &Names, n: u32, gate: Section) -> bool
-    requires { length names.now ≤ 63 }
+    requires { length names.now ≤ most_modules }
     ensures { result ≡ is_from_others names.now n (section_view gate.entry) }
 {
     are_others(names, n, from_values(gate))
 }
 
 fn are_from_others(names: &Names, n: u32, gates: &[Value]) -> bool
-    requires { length names.now ≤ 63 }
+    requires { length names.now ≤ most_modules }
     ensures { result ≡ list_all (λ v. is_from_others names.now n (view v)) gates.now }
 {
     gates
@@ -144,7 +145,7 @@ fn are_from_others(names: &Names, n: u32, gates: &[Value]) -> bool
 
 /// Fault 8 of module `n`: a name in `from` is no other module's.
 fn from_fault(names: &Names, n: u32, section: Section) -> Option<KeyFault>
-    requires { length names.now ≤ 63 }
+    requires { length names.now ≤ most_modules }
     ensures { result ≡ from_fault names.now n (section_view section.entry) }
 {
     let all = are_from_others(names, n, section.elements_at(Key::Gates));
@@ -154,8 +155,8 @@ fn from_fault(names: &Names, n: u32, section: Section) -> Option<KeyFault>
 /// The first fault 8 of the modules.
 #[tactic(auto, unfolding(crate::specs::Faults::each_fault))]
 fn froms_fault(names: &Names, modules: &[Value]) -> Option<BootFault>
-    requires few { length modules.now ≤ 63 }
-    requires names { length names.now ≤ 63 }
+    requires few { length modules.now ≤ most_modules }
+    requires names { length names.now ≤ most_modules }
     ensures { result ≡ each_fault Part.Module (from_fault names.now) (map view modules.now) }
 {
     for (i, module) in modules.iter().enumerate() {
@@ -177,7 +178,7 @@ fn home_name<'a>(hart: Section<'a>) -> &'a str
 
 /// The domain that a hart names; 0 where there is none.
 pub(crate) fn hart_domain(names: &Names, hart: Section) -> u32
-    requires { length names.now ≤ 63 }
+    requires { length names.now ≤ most_modules }
     ensures { result ≡ hart_domain names.now (section_view hart.entry) }
 {
     names.domain(home_name(hart))
@@ -186,8 +187,8 @@ pub(crate) fn hart_domain(names: &Names, hart: Section) -> u32
 /// The first fault 8 of the harts.
 #[tactic(auto, unfolding(crate::specs::Faults::each_fault))]
 fn homes_fault(names: &Names, harts: &[Value]) -> Option<BootFault>
-    requires few { length harts.now ≤ 4 }
-    requires names { length names.now ≤ 63 }
+    requires few { length harts.now ≤ most_harts }
+    requires names { length names.now ≤ most_modules }
     ensures { result ≡ each_fault Part.Hart (λ n. hart_fault names.now) (map view harts.now) }
 {
     for (i, hart) in harts.iter().enumerate() {
@@ -203,8 +204,8 @@ fn homes_fault(names: &Names, harts: &[Value]) -> Option<BootFault>
 /// The names of the modules, where each is one module's and all names in gates and harts are found; else the first
 /// fault 7 or 8.
 pub(crate) fn resolve_names<'a>(alloc: Global, top: Section<'a>) -> Result<Names<'a>, ManifestFault>
-    requires modules { length (modules (section_view top)) ≤ 63 }
-    requires harts { length (harts (section_view top)) ≤ 4 }
+    requires modules { length (modules (section_view top)) ≤ most_modules }
+    requires harts { length (harts (section_view top)) ≤ most_harts }
     ensures names { IfOk result (λ names. names ≡ module_names (section_view top.entry)) }
     ensures clear { let top = section_view top.entry in
         OnOk result (names_fault (module_names top) top ≡ None) }

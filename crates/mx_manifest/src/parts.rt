@@ -1,6 +1,7 @@
 //! What a plan says of modules, gates and harts.
 
 ghost use Rattle.std.specs.Prelude.{◌≡◌, ◌<◌, ◌≤◌, List, length, slice_get};
+ghost use Rattle.mx_words.specs.Limits.{most_gates};
 
 use crate::{Numbers, Text};
 use mx_words::Perm;
@@ -15,7 +16,7 @@ pub enum EntryPlan {
     Address(u32),
 }
 
-/// A list of at most 256 entries.
+/// A list of entries, at most as many as gates may stand.
 #[derive(Drop)]
 pub struct Entries {
     items: Vec<EntryPlan>,
@@ -23,18 +24,19 @@ pub struct Entries {
 
 impl Model for Entries {
     ghost use Rattle.std.specs.Prelude.{◌≤◌, List, length};
+    ghost use Rattle.mx_words.specs.Limits.{most_gates};
     ghost use Rattle.mx_manifest.specs.declared.parts.EntryPlan.{EntryPlan};
 
     ghost Value = { List EntryPlan };
 
     ghost view = { λ e. e.items.items };
 
-    ghost invariant = { λ e. length e.items.items ≤ 256 };
+    ghost invariant = { λ e. length e.items.items ≤ most_gates };
 }
 
 impl Entries {
     pub(crate) fn new(items: Vec<EntryPlan>) -> Entries
-        requires { length items.items ≤ 256 }
+        requires { length items.items ≤ most_gates }
         ensures { result ≡ items.items }
     {
         Entries { items }
@@ -65,7 +67,7 @@ pub struct GatePlan {
     pub from: Numbers,
 }
 
-/// A list of at most 256 gates.
+/// A list of gates, at most as many as may stand.
 #[derive(Drop)]
 pub struct GatePlans {
     items: Vec<GatePlan>,
@@ -73,18 +75,19 @@ pub struct GatePlans {
 
 impl Model for GatePlans {
     ghost use Rattle.std.specs.Prelude.{◌≤◌, List, length};
+    ghost use Rattle.mx_words.specs.Limits.{most_gates};
     ghost use Rattle.mx_manifest.specs.declared.parts.GatePlan.{GatePlan};
 
     ghost Value = { List GatePlan };
 
     ghost view = { λ g. g.items.items };
 
-    ghost invariant = { λ g. length g.items.items ≤ 256 };
+    ghost invariant = { λ g. length g.items.items ≤ most_gates };
 }
 
 impl GatePlans {
     pub(crate) fn new(items: Vec<GatePlan>) -> GatePlans
-        requires { length items.items ≤ 256 }
+        requires { length items.items ≤ most_gates }
         ensures { result ≡ items.items }
     {
         GatePlans { items }

@@ -1,6 +1,7 @@
 //! The plan of a machine, as its manifest gives it.
 
-ghost use Rattle.std.specs.Prelude.{◌≡◌, ◌<◌, ◌≤◌, ◌+◌, ◌%◌, ◌⊎◌, length, slice_get};
+ghost use Rattle.std.specs.Prelude.{◌≡◌, ◌<◌, ◌≤◌, ◌+◌, ◌%◌, length, slice_get};
+ghost use Rattle.mx_words.specs.Limits.{most_modules, most_harts, IsBuffer};
 ghost use Rattle.mx_manifest.specs.InRange.{IsBetween, IsModule, IsHart, IsInRange};
 ghost use Rattle.mx_manifest.specs.Plan.{Said};
 
@@ -87,7 +88,7 @@ impl Plan {
     /// The size of the lookaside buffer: 8, 32 or 64 spans.
     pub fn lookaside(&self) -> u32
         ensures value { result ≡ self.now.lookaside }
-        ensures sizes { (result ≡ 8) ⊎ (result ≡ 32) ⊎ (result ≡ 64) }
+        ensures sizes { IsBuffer result }
     {
         self.lookaside
     }
@@ -103,7 +104,7 @@ impl Plan {
     /// The number of modules, 1 to 63.
     pub fn modules(&self) -> u32
         ensures value { result ≡ length self.now.modules }
-        ensures range { IsBetween 1 63 result }
+        ensures range { IsBetween 1 most_modules result }
     {
         self.modules.len() as u32
     }
@@ -111,7 +112,7 @@ impl Plan {
     /// The number of harts, 1 to 4.
     pub fn harts(&self) -> u32
         ensures value { result ≡ length self.now.harts }
-        ensures range { IsBetween 1 4 result }
+        ensures range { IsBetween 1 most_harts result }
     {
         self.harts.len() as u32
     }

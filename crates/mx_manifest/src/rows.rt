@@ -1,10 +1,18 @@
 //! The table of keys, in listed order.
 
 ghost use Rattle.std.specs.Prelude.{◌≡◌};
+ghost use Rattle.mx_words.specs.Limits.{most_gates};
 ghost use Rattle.mx_manifest.specs.Rows.{most, row, top_rows, early_rows, late_rows, gate_rows, hart_rows};
 
 use crate::Key;
 use crate::row::{Asked, Form, ItemForm, Name, Row, TextForm, Version};
+use mx_words::{MOST_GATES, MOST_HARTS, MOST_KEPT, MOST_MODULES};
+
+// The limits, as numbers of the table.
+const MODULES: u32 = MOST_MODULES as u32;
+const HARTS: u32 = MOST_HARTS as u32;
+const GATES: u32 = MOST_GATES as u32;
+const KEPT: u32 = MOST_KEPT as u32;
 
 /// What version 1 allows at most, or version 2.
 fn most(version: Version, one: u32, two: u32) -> u32
@@ -34,7 +42,7 @@ pub(crate) fn top_rows(version: Version) -> [Row; 10]
     let upper = Form::Integer(0, most(version, 1024, 4096));
     let leaf = Form::Integer(0, most(version, 65536, 262144));
     let spill = Form::Integer(0, most(version, 262144, 1048576));
-    let modules = Form::Array(1, most(version, 15, 63), ItemForm::Table);
+    let modules = Form::Array(1, most(version, 15, MODULES), ItemForm::Table);
     [
         row(Key::Version, Asked::Always, Form::Integer(1, 2)),
         row(Key::RamKib, Asked::Always, ram),
@@ -42,10 +50,10 @@ pub(crate) fn top_rows(version: Version) -> [Row; 10]
         row(Key::Upper, Asked::Never, upper),
         row(Key::Leaf, Asked::Never, leaf),
         row(Key::Spill, Asked::Never, spill),
-        row(Key::Lookaside, Asked::Never, Form::Choice(8, 32, 64)),
+        row(Key::Lookaside, Asked::Never, Form::Choice(8, 32, KEPT)),
         row(Key::Quantum, Asked::Never, Form::Integer(1, 1000000)),
         row(Key::Module, Asked::Always, modules),
-        row(Key::Hart, Asked::Always, Form::Array(1, 4, ItemForm::Table)),
+        row(Key::Hart, Asked::Always, Form::Array(1, HARTS, ItemForm::Table)),
     ]
 }
 
@@ -78,19 +86,19 @@ pub(crate) fn early_rows(version: Version) -> [Row; 11]
         row(
             Key::Gates,
             Asked::Never,
-            Form::Array(0, 256, ItemForm::Table),
+            Form::Array(0, GATES, ItemForm::Table),
         ),
     ]
 }
 
 /// `returns` of a module.
 pub(crate) fn returns_row() -> Row
-    ensures { result ≡ row Key.Returns Asked.Never (Form.Array 0 256 ItemForm.Entry) }
+    ensures { result ≡ row Key.Returns Asked.Never (Form.Array 0 most_gates ItemForm.Entry) }
 {
     row(
         Key::Returns,
         Asked::Never,
-        Form::Array(0, 256, ItemForm::Entry),
+        Form::Array(0, GATES, ItemForm::Entry),
     )
 }
 
@@ -119,7 +127,7 @@ pub(crate) fn gate_rows(version: Version) -> [Row; 2]
     let from = Row {
         name: Name::From,
         asked: Asked::Always,
-        form: Form::Array(1, most(version, 15, 63), ItemForm::Text),
+        form: Form::Array(1, most(version, 15, MODULES), ItemForm::Text),
     };
     [row(Key::Entry, Asked::Always, Form::Entry), from]
 }

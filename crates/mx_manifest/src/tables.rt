@@ -4,6 +4,7 @@ ghost use Rattle.std.specs.Prelude.{◌≡◌, ◌≤◌, ◌++◌, map, length,
 ghost use Rattle.std.specs.List.{list_all};
 ghost use Rattle.std.specs.Map.{keys_of};
 ghost use Rattle.toml.specs.View.{view, table_view};
+ghost use Rattle.mx_words.specs.Limits.{most_modules, most_harts};
 ghost use Rattle.mx_manifest.specs.Keys.{name_text, name_key};
 ghost use Rattle.mx_manifest.specs.Reads.{names_in};
 ghost use Rattle.mx_manifest.specs.Faults.{fault_where, is_asked, value_fault, row_fault, rows_fault, is_listed, unlisted_fault, table_fault, gate_fault, first_of, image_fault, module_fault, placed, each_fault, tables_fault};
@@ -246,7 +247,7 @@ fn module_fault(version: Version, section: Section) -> Option<KeyFault>
 /// The first fault of the modules' tables.
 #[tactic(auto, unfolding(crate::specs::Faults::each_fault))]
 fn modules_fault(version: Version, modules: &[Value]) -> Option<BootFault>
-    requires { length modules.now ≤ 63 }
+    requires { length modules.now ≤ most_modules }
     ensures { result ≡ each_fault Part.Module (λ n. module_fault version) (map view modules.now) }
 {
     for (i, module) in modules.iter().enumerate() {
@@ -261,7 +262,7 @@ fn modules_fault(version: Version, modules: &[Value]) -> Option<BootFault>
 /// The first fault of the harts' tables.
 #[tactic(auto, unfolding(crate::specs::Faults::each_fault))]
 fn harts_fault(harts: &[Value]) -> Option<BootFault>
-    requires { length harts.now ≤ 4 }
+    requires { length harts.now ≤ most_harts }
     ensures { result ≡ each_fault Part.Hart (λ n. table_fault hart_rows) (map view harts.now) }
 {
     let rows = hart_rows();
