@@ -86,9 +86,7 @@ fn entries(alloc: Global, values: &[Value]) -> Result<Entries, NoMemory>
 {
     let mut entries = Vec::new(alloc);
     for value in values {
-        if entries.push(entry_plan(alloc, value)?).is_err() {
-            return Err(NoMemory);
-        }
+        entries.push(entry_plan(alloc, value)?)?;
     }
     Ok(Entries::new(entries))
 }
@@ -116,10 +114,8 @@ fn word_list(alloc: Global, values: &[Value]) -> Result<Numbers, NoMemory>
     ensures { IfOk result
         (λ words. words ≡ map (λ word. unwrap_or (number_of word) 0) (map view values.now)) }
 {
-    match values.iter().map(|value| word(value)).collect(alloc) {
-        Ok(words) => Ok(Numbers::new(words)),
-        Err(_) => Err(NoMemory),
-    }
+    let words: Vec<u32> = values.iter().map(|value| word(value)).collect(alloc)?;
+    Ok(Numbers::new(words))
 }
 
 fn domains(alloc: Global, names: &Names, values: &[Value]) -> Result<Numbers, NoMemory>
@@ -128,14 +124,11 @@ fn domains(alloc: Global, names: &Names, values: &[Value]) -> Result<Numbers, No
     ensures { IfOk result
         (λ domains. domains ≡ map (domain_of names.now) (map text_of (map view values.now))) }
 {
-    match values
+    let domains: Vec<u32> = values
         .iter()
         .map(|value| names.domain(text_of(value)))
-        .collect(alloc)
-    {
-        Ok(domains) => Ok(Numbers::new(domains)),
-        Err(_) => Err(NoMemory),
-    }
+        .collect(alloc)?;
+    Ok(Numbers::new(domains))
 }
 
 fn gate_plan(alloc: Global, names: &Names, gate: Section) -> Result<GatePlan, NoMemory>
@@ -161,9 +154,7 @@ fn gate_plans(alloc: Global, names: &Names, gates: &[Value]) -> Result<GatePlans
     let mut plans = Vec::new(alloc);
     for gate in gates {
         let plan = gate_plan(alloc, names, Section::Inner(gate))?;
-        if plans.push(plan).is_err() {
-            return Err(NoMemory);
-        }
+        plans.push(plan)?;
     }
     Ok(GatePlans::new(plans))
 }
@@ -230,9 +221,7 @@ fn module_plans(
     let mut plans = Vec::new(alloc);
     for module in modules {
         let plan = module_plan(alloc, names, Section::Inner(module))?;
-        let Ok(()) = plans.push(plan) else {
-            return Err(NoMemory);
-        };
+        plans.push(plan)?;
     }
     Ok(plans)
 }
@@ -256,9 +245,7 @@ fn hart_plans(alloc: Global, names: &Names, harts: &[Value]) -> Result<Vec<HartP
     let mut plans = Vec::new(alloc);
     for hart in harts {
         let plan = hart_plan(alloc, names, Section::Inner(hart))?;
-        if plans.push(plan).is_err() {
-            return Err(NoMemory);
-        }
+        plans.push(plan)?;
     }
     Ok(plans)
 }

@@ -23,10 +23,8 @@ impl Text {
     pub fn new(alloc: Global, text: &str) -> Result<Text, NoMemory>
         ensures { IfOk result (λ t. t ≡ text.now) }
     {
-        match String::from_str(alloc, text) {
-            Ok(text) => Ok(Text { text }),
-            Err(_) => Err(NoMemory),
-        }
+        let text = String::from_str(alloc, text)?;
+        Ok(Text { text })
     }
 
     /// The text.

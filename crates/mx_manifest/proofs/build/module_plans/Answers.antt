@@ -10,4 +10,4 @@ module_plan-requires-clause-short c =
 pub loop-module-preserved : goal.loop-module-preserved
 loop-module-preserved c =
     built_more (module_plan c.args.names.now) c.args.modules.now c.loop-module.module-index c.module-item.result c.loop-module.plans.items c.push.new.self.items c.in_ok-plan.plan
-    c.loop-module-test.true c.module-item.is c.loop-module.invariant c.in_ok-plan.ensures c.in-Ok.ensures.items
+    c.loop-module-test.true c.module-item.is c.loop-module.invariant c.in_ok-plan.ensures c.in_ok-push.ensures.items

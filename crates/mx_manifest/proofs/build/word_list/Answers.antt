@@ -8,10 +8,10 @@ use Rattle.mx_manifest.proofs.build.word_list.Goals as goal
 
 pub new-requires : goal.new-requires
 new-requires c =
-    let made : c.in-Ok.words.items ≡ map (λ v. unwrap_or (number_of (view v)) 0) c.args.values.now = search (rules, chains) in
-    collected_length (λ v. unwrap_or (number_of (view v)) 0) c.args.values.now 65536 c.in-Ok.words.items made c.requires
+    let made : c.in_ok-words.words.items ≡ map (λ v. unwrap_or (number_of (view v)) 0) c.args.values.now = search (rules, chains) in
+    collected_length (λ v. unwrap_or (number_of (view v)) 0) c.args.values.now 65536 c.in_ok-words.words.items made c.requires
 
-pub returns-in-Ok : goal.returns-in-Ok
-returns-in-Ok c =
-    let made : c.in-Ok.words.items ≡ map (λ v. unwrap_or (number_of (view v)) 0) c.args.values.now = search (rules, chains) in
+pub returns : goal.returns
+returns c =
+    let made : c.in_ok-words.words.items ≡ map (λ v. unwrap_or (number_of (view v)) 0) c.args.values.now = search (rules, chains) in
     c.new.ensures ∙ made ∙ map_data (λ d. unwrap_or (number_of d) 0) c.args.values.now
