@@ -47,10 +47,8 @@ impl<'a> Names<'a> {
         ensures added { IfOk result
             (λ fresh. self.new ≡ (if fresh then self.old ++ name.now ∷ [] else self.old)) }
     {
-        match self.set.insert(name) {
-            Ok(fresh) => Ok(fresh),
-            Err(_) => Err(NoMemory),
-        }
+        let fresh = self.set.insert(name)?;
+        Ok(fresh)
     }
 
     /// The number of the module with a name, from 1; 0 where there is none.
