@@ -3,6 +3,7 @@ use Rattle.std.specs.Prelude.{◌≡◌, ◌≢◌, ℕ, ◌≤◌, Bool, true, 
 use Rattle.mx_words.specs.declared.perm.Perm.{Perm}
 use Rattle.mx_words.specs.declared.perm.Span.{Span}
 use Rattle.mx_words.specs.Caches.{Cache, Entry, covers_word, meets}
+use Rattle.mx_words.specs.Limits.{most_harts}
 use Rattle.mx_words.specs.Ranges.{covers}
 use Rattle.mx_words.specs.Rights.{perm_at}
 use Rattle.mx_table.specs.Tables.{map_of}
@@ -52,4 +53,4 @@ pub record Keeps (maps : List (List Perm)) (harts : List Kept) : Type 0 where
   pub dropped : (h i : ℕ) → (hart_at harts h).halted ≡ false → i ≢ h →
       IfSome (hart_at harts i).flight (HasDropped h (hart_at harts h).cache)
   pub hearers : (h : ℕ) → IfSome (hart_at harts h).flight (AreHearers (length harts) h)
-  pub few : length harts ≤ 4
+  pub few : length harts ≤ most_harts

@@ -1,6 +1,7 @@
 -- Lists of calls in flight.
 use Rattle.std.specs.Prelude.{◌≡◌, ◌≢◌, ℕ, ◌<◌, ◌==◌, Bool, true, List, find, length, Option}
 use Rattle.mx_words.specs.Hearing.{is_in}
+use Rattle.mx_words.specs.Limits.{most_harts}
 use Rattle.mx_check.specs.declared.flight.Flight.{Flight}
 
 -- whether a call is of hart h
@@ -13,7 +14,7 @@ flight_of flights h = find (is_of h) flights
 
 -- a call's set of harts has a place for each of the four
 abbrev pub IsSet : Flight → Type 0
-IsSet f = length f.heard ≡ 4
+IsSet f = length f.heard ≡ most_harts
 
 -- whoever has heard a call of hart h is another one of so many harts
 abbrev pub IsHeardByOthers : ℕ → ℕ → Flight → Type 0

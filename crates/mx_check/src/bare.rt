@@ -4,6 +4,7 @@ ghost use Rattle.mx_words.specs.Caches.{raised, found_in_place};
 ghost use Rattle.mx_words.specs.Need.{fits};
 ghost use Rattle.mx_words.specs.Reach.{span};
 ghost use Rattle.mx_words.specs.Rights.{perm_at, allows};
+ghost use Rattle.mx_words.specs.Limits.{most_harts, most_kept};
 ghost use Rattle.mx_table.specs.Change.{IsLawful, changed};
 ghost use Rattle.mx_table.specs.Tables.{IsDomain, map_of};
 ghost use Rattle.mx_check.specs.Flights.{IsSet};
@@ -35,8 +36,8 @@ impl<T: PermTables, const N: usize> Model for Bare<T, N> {
 impl<T: PermTables, const N: usize> Bare<T, N> {
     /// Tables and harts that have done nothing yet.
     pub fn new(tables: T, harts: u32) -> Bare<T, N>
-        requires size { N ≤ 64 }
-        requires few { harts ≤ 4 }
+        requires size { N ≤ most_kept }
+        requires few { harts ≤ most_harts }
         ensures { result ≡ record { tables = tables; harts = new_harts harts } }
     {
         Bare {
@@ -47,8 +48,8 @@ impl<T: PermTables, const N: usize> Bare<T, N> {
 
     /// Tables and harts of which some have calls in flight.
     pub fn resume(tables: T, harts: u32, flights: &Flights) -> Bare<T, N>
-        requires size { N ≤ 64 }
-        requires few { harts ≤ 4 }
+        requires size { N ≤ most_kept }
+        requires few { harts ≤ most_harts }
         ensures value { result
             ≡ record { tables = tables; harts = waiting_harts flights.now harts } }
         ensures sets { All IsSet flights.now }

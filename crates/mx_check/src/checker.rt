@@ -4,6 +4,7 @@ ghost use Rattle.mx_words.specs.declared.perm.Access.TheVariants.{Execute};
 ghost use Rattle.mx_words.specs.Caches.{found_in_place};
 ghost use Rattle.mx_words.specs.Need.{fits};
 ghost use Rattle.mx_words.specs.Rights.{perm_at, perm, denies};
+ghost use Rattle.mx_words.specs.Limits.{most_harts, most_kept};
 ghost use Rattle.mx_table.specs.Change.{IsLawful, changed};
 ghost use Rattle.mx_table.specs.Tables.{IsDomain, map_of};
 ghost use Rattle.mx_check.specs.Flights.{AreHearers};
@@ -44,8 +45,8 @@ impl<T: PermTables, const N: usize> Model for Checker<T, N> {
 impl<T: PermTables, const N: usize> Checker<T, N> {
     /// A checker of at most 4 harts with empty caches, no call in flight and no hart halted. `N` is at most 64.
     pub fn new(tables: T, harts: u32) -> Checker<T, N>
-        requires size { N ≤ 64 }
-        requires few { harts ≤ 4 }
+        requires size { N ≤ most_kept }
+        requires few { harts ≤ most_harts }
         ensures { result ≡ record { tables = tables; harts = new_harts harts } }
     {
         Checker {
@@ -56,8 +57,8 @@ impl<T: PermTables, const N: usize> Checker<T, N> {
     /// A checker with empty caches, no hart halted and these calls in flight. Each is of a hart below `harts`, its range is empty or
     /// lies in RAM, and only other harts below `harts` have heard it.
     pub fn resume(tables: T, harts: u32, flights: &Flights) -> Checker<T, N>
-        requires size { N ≤ 64 }
-        requires few { harts ≤ 4 }
+        requires size { N ≤ most_kept }
+        requires few { harts ≤ most_harts }
         requires flights { All (IsResumable harts (T.size tables)) flights.now }
         ensures { result ≡ record { tables = tables; harts = waiting_harts flights.now harts } }
     {
@@ -147,7 +148,7 @@ impl<T: PermTables, const N: usize> Checker<T, N> {
         ensures heard { HasHeardAll hart self.new.harts }
         ensures own { SameButCaches (hart_at self.new.harts hart) (hart_at self.old.harts hart) }
         ensures same_length { length self.new.harts ≡ length self.old.harts }
-        ensures few { length self.new.harts ≤ 4 }
+        ensures few { length self.new.harts ≤ most_harts }
     {
         self.bare.hear(hart);
     }
@@ -165,7 +166,7 @@ impl<T: PermTables, const N: usize> Checker<T, N> {
     pub fn ready(&self, hart: u32) -> bool
         requires { hart < length self.now.harts }
         ensures ready { result ≡ is_ready hart self.now.harts }
-        ensures few { length self.now.harts ≤ 4 }
+        ensures few { length self.now.harts ≤ most_harts }
     {
         self.bare.ready(hart)
     }
@@ -247,7 +248,7 @@ impl<T: PermTables, const N: usize> Checker<T, N> {
 /// A law: there are at most four harts; the set of those that have heard a call in flight has a place for each of the four, and in
 /// it are only other harts that there are. A machine's state is valid only with such sets.
 pub fn flights_of<T: PermTables, const N: usize>(checker: &Checker<T, N>)
-    ensures few { length checker.now.harts ≤ 4 }
+    ensures few { length checker.now.harts ≤ most_harts }
     ensures hearers { (h : ℕ) → IfSome (hart_at checker.now.harts h).flight
         (AreHearers (length checker.now.harts) h) }
 {

@@ -1,11 +1,10 @@
 //! Calls that are announced and haven't taken effect yet.
 ghost use Rattle.std.specs.Prelude.{◌≡◌, ◌<◌, ◌≤◌, None, [], ◌∷◌, ◌++◌, length, All};
+ghost use Rattle.mx_words.specs.Limits.{most_harts};
 ghost use Rattle.mx_check.specs.Flights.{flight_of, IsSet};
 
+use mx_words::MOST_HARTS;
 use std::marker::Model;
-
-/// How many harts a machine has at most.
-const HARTS: usize = 4;
 
 /// An announced call of a hart, which changes rights on no other words than its range.
 #[derive(Clone, Copy, PartialEq, Eq, Debug)]
@@ -17,18 +16,19 @@ pub struct Flight {
     /// The number of words of the range, 0 for none.
     pub count: u32,
     /// By hart number, whether that hart has had a turn since the announcement.
-    pub heard: [bool; 4],
+    pub heard: [bool; MOST_HARTS],
 }
 
 /// At most four calls in flight, at most one of each hart.
 #[derive(Drop)]
 pub struct Flights {
-    items: [Flight; HARTS],
+    items: [Flight; MOST_HARTS],
     len: usize,
 }
 
 impl Model for Flights {
     ghost use Rattle.std.specs.Prelude.{◌≡◌, ◌≤◌, List, length, take, All};
+    ghost use Rattle.mx_words.specs.Limits.{most_harts};
     ghost use Rattle.mx_check.specs.declared.flight.Flight.{Flight};
 
     ghost Value = { List Flight };
@@ -36,7 +36,8 @@ impl Model for Flights {
     ghost view = { λ f. take f.len f.items };
 
     ghost invariant = { λ f.
-        (length f.items ≡ 4) × (f.len ≤ 4) × All (λ x. length x.heard ≡ 4) f.items };
+        (length f.items ≡ most_harts) × (f.len ≤ most_harts)
+        × All (λ x. length x.heard ≡ most_harts) f.items };
 }
 
 impl Flights {
@@ -48,17 +49,17 @@ impl Flights {
             hart: 0,
             first: 0,
             count: 0,
-            heard: [false; HARTS],
+            heard: [false; MOST_HARTS],
         };
         Flights {
-            items: [unused; HARTS],
+            items: [unused; MOST_HARTS],
             len: 0,
         }
     }
 
     /// Appends a call. Fewer than four are held, and none of its hart.
     pub fn push(&mut self, flight: Flight)
-        requires room { length self.old < 4 }
+        requires room { length self.old < most_harts }
         requires apart { flight_of self.old flight.hart ≡ None }
         ensures { self.new ≡ self.old ++ flight ∷ [] }
     {

@@ -2,6 +2,7 @@
 ghost use Rattle.std.specs.Prelude.{◌≡◌, ◌<◌, ◌≤◌, Some, None, length, All};
 ghost use Rattle.std.specs.Option.{option_map};
 ghost use Rattle.mx_words.specs.Caches.{found_in_place};
+ghost use Rattle.mx_words.specs.Limits.{most_harts, most_kept};
 ghost use Rattle.mx_check.specs.Flights.{IsSet};
 ghost use Rattle.mx_check.specs.Harts.{hart_at, at_hart, announced, heard_by, drops, finished, leaves_domain, halts, has_heard};
 ghost use Rattle.mx_check.specs.Looks.{found, after_caches, after_walk, hits_all, with_domain, hart_forbids, is_forbidden};
@@ -9,35 +10,33 @@ ghost use Rattle.mx_check.specs.Calls.{unheard, hears_one, hears, hart_lets_pass
 
 use crate::part::Part;
 use crate::{Counts, Flight, Flights};
-use mx_words::{Perm, Span};
+use mx_words::{MOST_HARTS, Perm, Span};
 use std::marker::Model;
-
-/// How many harts there is room for.
-const MOST: usize = 4;
 
 /// What is kept for each of 1 to 4 harts.
 #[derive(Drop)]
 pub struct Harts<const N: usize> {
-    parts: [Part<N>; MOST],
+    parts: [Part<N>; MOST_HARTS],
     len: u32,
 }
 
 impl<const N: usize> Model for Harts<N> {
     ghost use Rattle.std.specs.Prelude.{◌≡◌, ◌≤◌, List, length, take};
+    ghost use Rattle.mx_words.specs.Limits.{most_harts};
     ghost use Rattle.mx_check.specs.Harts.{Kept};
 
     ghost Value = { List Kept };
 
     ghost view = { λ h. take h.len h.parts };
 
-    ghost invariant = { λ h. (length h.parts ≡ 4) × (h.len ≤ 4) };
+    ghost invariant = { λ h. (length h.parts ≡ most_harts) × (h.len ≤ most_harts) };
 }
 
 impl<const N: usize> Harts<N> {
     /// So many harts that have done nothing yet, 1 to 4.
     pub fn new(harts: u32) -> Harts<N>
-        requires size { N ≤ 64 }
-        requires few { harts ≤ 4 }
+        requires size { N ≤ most_kept }
+        requires few { harts ≤ most_harts }
         ensures { result ≡ new_harts harts }
     {
         Harts {
@@ -53,8 +52,8 @@ impl<const N: usize> Harts<N> {
 
     /// So many harts, 1 to 4, of which those in the list have their calls in flight.
     pub fn waiting(flights: &Flights, harts: u32) -> Harts<N>
-        requires size { N ≤ 64 }
-        requires few { harts ≤ 4 }
+        requires size { N ≤ most_kept }
+        requires few { harts ≤ most_harts }
         ensures value { result ≡ waiting_harts flights.now harts }
         ensures sets { All IsSet flights.now }
     {
@@ -72,7 +71,7 @@ impl<const N: usize> Harts<N> {
     /// The number of harts.
     pub fn len(&self) -> u32
         ensures number { result ≡ length self.now }
-        ensures bounded { result ≤ 4 }
+        ensures bounded { result ≤ most_harts }
     {
         self.len
     }

@@ -2,6 +2,7 @@
 ghost use Rattle.std.specs.Prelude.{◌≡◌, ◌+◌, ◌-◌, ◌^◌, ◌<◌, ◌≤◌, min, Some, None, slice_set};
 ghost use Rattle.std.specs.Option.{option_map};
 ghost use Rattle.mx_words.specs.Caches.{raised, found_in_place, found_kept};
+ghost use Rattle.mx_words.specs.Limits.{most_harts, most_kept};
 ghost use Rattle.mx_check.specs.Harts.{new_hart, no_hart, announced, heard_by, drops, finished, leaves_domain, halts, has_heard};
 ghost use Rattle.mx_check.specs.Looks.{found, after_caches, after_list, after_walk, hits_all, with_domain, flight_forbids};
 ghost use Rattle.mx_check.specs.Calls.{unheard_of};
@@ -9,7 +10,7 @@ ghost use Rattle.mx_check.specs.Calls.{unheard_of};
 use crate::Flight;
 use mx_lookaside::Lookaside;
 use mx_sidecar::Sidecars;
-use mx_words::{Perm, Span};
+use mx_words::{MOST_HARTS, Perm, Span};
 use std::marker::Model;
 
 /// How many checks of a hart its places answered, how many its lookaside buffer, and how many a walk of the tables. A count that
@@ -57,7 +58,7 @@ impl<const N: usize> Model for Part<N> {
 impl<const N: usize> Part<N> {
     /// Empty caches, and the given call in flight.
     pub fn new(flight: Option<Flight>) -> Part<N>
-        requires { N ≤ 64 }
+        requires { N ≤ most_kept }
         ensures { result ≡ record new_hart { flight = flight } }
     {
         Part {
@@ -155,13 +156,13 @@ impl<const N: usize> Part<N> {
             hart,
             first,
             count,
-            heard: [false; 4],
+            heard: [false; MOST_HARTS],
         });
     }
 
     /// The range of the call in flight that the hart `by` hasn't heard.
     pub fn unheard(&self, by: u32) -> Option<(u32, u32)>
-        requires { by < 4 }
+        requires { by < most_harts }
         ensures { result ≡ unheard_of by self.now.flight }
     {
         match self.flight {
@@ -172,7 +173,7 @@ impl<const N: usize> Part<N> {
 
     /// Marks that the hart `by` has heard the call in flight.
     pub fn mark(&mut self, by: u32)
-        requires { by < 4 }
+        requires { by < most_harts }
         ensures { self.new ≡ heard_by by self.old }
     {
         if let Some(mut flight) = self.flight {
@@ -183,7 +184,7 @@ impl<const N: usize> Part<N> {
 
     /// Whether a span meets the range of the call in flight, where the hart `by` has heard it.
     pub fn hart_forbids(&self, by: u32, span: &Span) -> bool
-        requires { by < 4 }
+        requires { by < most_harts }
         ensures { result ≡ flight_forbids by span.now self.now.flight }
     {
         match self.flight {
@@ -194,7 +195,7 @@ impl<const N: usize> Part<N> {
 
     /// Whether the hart `by` has heard the call in flight.
     pub fn heard(&self, by: u32) -> bool
-        requires { by < 4 }
+        requires { by < most_harts }
         ensures { result ≡ has_heard self.now.flight by }
     {
         match self.flight {
