@@ -19,7 +19,7 @@ use Rattle.mx_model.specs.Effect.{next}
 use Rattle.mx_model.specs.Gates.{with_gate, without_gate, has_gate, no_gate_fits}
 use Rattle.mx_model.specs.Reads.{Change}
 use Rattle.mx_model.specs.Serve.{Service, Exit, Write, Grant, RevokeAll, Transfer, Alloc, Free, AddGate, RemoveGate, AddReturnGate, Query, Self, Exchange, Unknown, service, code, arg_word, write_words, change_of, to_one, none_but, own_alone, none_at_all}
-use Rattle.mx_uncached.specs.Plain.{Plain, hart_of, module_of, is_module, perm_of, may, owner_of, change, would_fit, few_runs, with_module, go, halt, note}
+use Rattle.mx_uncached.specs.Plain.{Plain, plain_hart, module_of, is_module, perm_of, may, owner_of, change, would_fit, few_runs, with_module, go, halt, note}
 
 -- the words of the range of a0 and a1, and whether that is no range
 abbrev pub range : Plain → Call → ℕ × ℕ
@@ -137,11 +137,11 @@ tests Unknown p c = (true, 13) ∷ []
 
 -- the answer in x10; hart h goes on after its ECALL
 abbrev pub answer : ℕ → ℕ → Plain → Plain
-answer h a0 p = let hart = hart_of p h in go h (slice_set hart.regs 10 a0) (next hart.pc) p
+answer h a0 p = let hart = plain_hart p h in go h (slice_set hart.regs 10 a0) (next hart.pc) p
 
 -- an exit: hart h ends with the code, of which there is a note
 abbrev pub exit : ℕ → ℕ → Plain → Plain
-exit h code p = halt h (Some code) (note (N.Exit p.turns h (hart_of p h).domain code) p)
+exit h code p = halt h (Some code) (note (N.Exit p.turns h (plain_hart p h).domain code) p)
 
 -- the a1 bytes from a0 on go to the console
 abbrev pub write : Call → Plain → Plain
@@ -169,7 +169,7 @@ allocate c first p =
 -- a word for another: RAM's goes to x11, and that of a1 to RAM
 abbrev pub exchange : ℕ → Call → Plain → Plain
 exchange h c p =
-    let hart = hart_of p h in
+    let hart = plain_hart p h in
     let old = number_at p.ram (4 * arg_word c) 4 in
     go h (slice_set (slice_set hart.regs 10 0) 11 old) (next hart.pc)
     (record p { ram = put_at p.ram (4 * arg_word c) 4 (arg c 1) })

@@ -47,8 +47,8 @@ pub record Plain : Type 0 where
   pub limit : Need
 
 -- hart h; one that isn't there is halted
-abbrev pub hart_of : Plain → ℕ → Hart
-hart_of p h = slice_index_or p.harts h no_hart
+abbrev pub plain_hart : Plain → ℕ → Hart
+plain_hart p h = slice_index_or p.harts h no_hart
 
 -- module d
 abbrev pub module_of : Plain → ℕ → Module
@@ -104,11 +104,11 @@ with_module d m p = record p { modules = slice_set p.modules (d - 1) m }
 
 -- hart h goes on, with these registers and this pc
 abbrev pub go : ℕ → List ℕ → ℕ → Plain → Plain
-go h regs pc p = with_hart h (record (hart_of p h) { regs = regs; pc = pc; status = Running }) p
+go h regs pc p = with_hart h (record (plain_hart p h) { regs = regs; pc = pc; status = Running }) p
 
 -- hart h ends, with an exit code or none
 abbrev pub halt : ℕ → Option ℕ → Plain → Plain
-halt h code p = with_hart h (record (hart_of p h) { status = Halted code }) p
+halt h code p = with_hart h (record (plain_hart p h) { status = Halted code }) p
 
 -- one note more
 abbrev pub note : Note → Plain → Plain

@@ -17,13 +17,13 @@ use Rattle.mx_model.specs.Gates.{call_gate, is_return, most_frames, top, below_t
 use Rattle.mx_model.specs.Run.{Schedule, ByQuantum, ByBytes, is_over}
 use Rattle.mx_model.specs.State.{Hart, Status, Running, Waiting, Halted}
 use Rattle.mx_model.specs.Turn.{call_of, fault_answer, saved, restored}
-use Rattle.mx_uncached.specs.Plain.{Plain, hart_of, module_of, is_denied, loaded_at, store, with_hart, with_module, go, halt, note}
+use Rattle.mx_uncached.specs.Plain.{Plain, plain_hart, module_of, is_denied, loaded_at, store, with_hart, with_module, go, halt, note}
 use Rattle.mx_uncached.specs.Calls.{serve}
 
 -- hart h gives up its top frame, and goes on in the caller as the frame says
 abbrev pub give_up : ℕ → List ℕ → Frame → Plain → Plain
 give_up h regs frame p =
-    let hart = hart_of p h in
+    let hart = plain_hart p h in
     with_hart h (record hart {
       regs = restored regs frame.kept;
       pc = frame.back;
@@ -41,14 +41,14 @@ kill d cause p =
 -- a fault ends a hart with no frame; with one it gives it up, and x10 tells the cause
 abbrev pub recover : ℕ → ℕ → Plain → Plain
 recover h cause p =
-    let hart = hart_of p h in
+    let hart = plain_hart p h in
     option_map_or (λ frame. give_up h (slice_set hart.regs 10 (fault_answer cause)) frame p)
     (top hart.frames) (halt h None p)
 
 -- a fault of hart h
 abbrev pub fault : ℕ → ℕ → ℕ → Plain → Plain
 fault h cause value p =
-    let hart = hart_of p h in
+    let hart = plain_hart p h in
     let told = N.Fault p.turns h hart.domain hart.pc (record { cause = cause; value = value }) in
     recover h cause (kill hart.domain cause (note told p))
 
@@ -61,7 +61,7 @@ stack_address p d h =
 -- hart h crosses into a domain: a frame is pushed, and x2 is the domain's stack
 abbrev pub cross : ℕ → ℕ → Plain → Plain
 cross h target p =
-    let hart = hart_of p h in
+    let hart = plain_hart p h in
     let frame : Frame =
     record { back = reg hart.regs 1; caller = hart.domain; kept = saved hart.regs } in
     let stack = unwrap_or (nearest hart.frames target) (stack_address p target h) in
@@ -75,7 +75,7 @@ cross h target p =
 -- case 5: hart h is at a call gate into a domain
 abbrev pub at_gate : ℕ → ℕ → Plain → Plain
 at_gate h target p =
-    let hart = hart_of p h in
+    let hart = plain_hart p h in
     let back = reg hart.regs 1 in
     if not (back % 4 == 0) then fault h 19 back p else
     if (module_of p target).dead then go h (slice_set hart.regs 10 (fault_answer 20)) back p else
@@ -85,7 +85,7 @@ at_gate h target p =
 -- case 7: hart h leaves at a return gate, by a jump that writes rd
 abbrev pub at_return : ℕ → ℕ → ℕ → Plain → Plain
 at_return h rd target p =
-    let hart = hart_of p h in
+    let hart = plain_hart p h in
     option_map_or (λ (frame : Frame).
     if frame.back == target then give_up h (written hart.regs rd (next hart.pc)) frame p
     else fault h 17 target p)
@@ -100,7 +100,7 @@ all_heard h heard p =
 -- case 8: hart h makes a call; an announced one waits for the other harts
 abbrev pub ask : ℕ → Plain → Plain
 ask h p =
-    let hart = hart_of p h in
+    let hart = plain_hart p h in
     let call = call_of h hart in
     if not (is_announced call.number) || all_heard h nobody p then serve h call p
     else with_hart h (record hart { status = Waiting call nobody }) p
@@ -110,17 +110,17 @@ abbrev pub execute : ℕ → Effect → Plain → Plain
 execute h (Goes regs pc) p = go h regs pc p
 execute h (Faults cause value) p = fault h cause value p
 execute h (Loads base address width rd) p =
-    let hart = hart_of p h in
+    let hart = plain_hart p h in
     let bytes = loaded_at p address (load_size width) in
     if is_denied p hart.domain A.Read address then fault h 5 address p
     else go h (written hart.regs rd (loaded width bytes)) (next hart.pc) p
 execute h (Stores base address size value) p =
-    let hart = hart_of p h in
+    let hart = plain_hart p h in
     if is_denied p hart.domain A.Write address then fault h 7 address p
     else go h hart.regs (next hart.pc) (store address size value p)
 execute h Calls p = ask h p
 execute h (Jumps rd target) p =
-    let hart = hart_of p h in
+    let hart = plain_hart p h in
     if option_map_or (is_return p.gates hart.domain) (word_of hart.pc p.size) false
     then at_return h rd target p
     else by_target target (go h (written hart.regs rd (next hart.pc)) target p)
@@ -129,7 +129,7 @@ execute h (Jumps rd target) p =
 -- case 6: hart h fetches
 abbrev pub fetch : ℕ → Plain → Plain
 fetch h p =
-    let hart = hart_of p h in
+    let hart = plain_hart p h in
     let word = loaded_at p hart.pc 4 in
     if is_denied p hart.domain A.Execute hart.pc then fault h 1 hart.pc p else
     option_map_or (λ inst. execute h (effect inst hart.regs hart.pc) p)
@@ -138,7 +138,7 @@ fetch h p =
 -- case 4: hart h's domain is dead; or case 5, or case 6
 abbrev pub step : ℕ → Plain → Plain
 step h p =
-    let hart = hart_of p h in
+    let hart = plain_hart p h in
     let gate = option_map_or (call_gate p.gates hart.domain) (word_of hart.pc p.size) None in
     if (module_of p hart.domain).dead then fault h 20 hart.pc p
     else option_map_or (λ target. at_gate h target p) gate (fetch h p)
@@ -163,7 +163,7 @@ hear h p =
 abbrev pub plain_turn : Plain → ℕ → Plain
 plain_turn p h =
     let counted = record p { turns = p.turns + 1 } in
-    let status = (hart_of p h).status in
+    let status = (plain_hart p h).status in
     if is_halted status then counted else move h status (hear h counted)
 
 -- the hart that makes the next turn
