@@ -2,22 +2,24 @@
 ghost use Rattle.std.specs.Prelude.{◌≡◌, ℕ, ◌+◌, ◌<◌, ◌≤◌, ◌↔◌, true, [], ◌∷◌, ◌++◌, length, slice_get, slice_set, IfOk, IsNone, IsSome, IsErrOf, IfSome, Some};
 ghost use Rattle.std.specs.Option.{option_map};
 ghost use Rattle.mx_words.specs.FirstFit.{without_block, block_words, most_blocks};
+ghost use Rattle.mx_words.specs.Limits.{most_modules};
 ghost use Rattle.mx_heap.specs.HeapState.{LiesIn, area_of, may_live};
 ghost use Rattle.mx_supervisor.specs.Heaps.{told_heap, heap_in, heap_at, room_in, with_live, with_blocks_at, with_block_at};
 ghost use Rattle.mx_supervisor.specs.Told.{IsTold};
 
 use arrayvec::ArrayVec;
 use mx_heap::{Block, Heap, HeapError};
+use mx_words::MOST_MODULES;
 use std::marker::Model;
 
 /// The area of no words.
 const NO_AREA: Block = Block { first: 0, count: 0 };
 
-/// A list of at most 63 heaps, one for each module in the modules' order. An area of no words counts as (0, 0).
+/// A list of heaps, one for each module in the modules' order. An area of no words counts as (0, 0).
 #[derive(Drop)]
 pub struct Heaps {
     // A slot in use holds a heap: `Option` is there because a heap has no default.
-    slots: ArrayVec<Option<Heap>, 63>,
+    slots: ArrayVec<Option<Heap>, MOST_MODULES>,
 }
 
 impl Model for Heaps {
@@ -41,9 +43,9 @@ impl Heaps {
         }
     }
 
-    /// Appends the heap of the next module. Fewer than 63 are held.
+    /// Appends the heap of the next module. Fewer than the greatest number of modules are held.
     pub fn push(&mut self, heap: Heap)
-        requires { length self.old < 63 }
+        requires { length self.old < most_modules }
         ensures { self.new ≡ self.old ++ told_heap heap ∷ [] }
     {
         self.slots.push(Some(heap));

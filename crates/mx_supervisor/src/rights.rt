@@ -4,6 +4,7 @@ ghost use Rattle.mx_words.specs.declared.perm.Perm.{Perm};
 ghost use Rattle.mx_words.specs.declared.perm.Perm.TheVariants as P;
 ghost use Rattle.mx_words.specs.Changes.{changed_maps};
 ghost use Rattle.mx_words.specs.Need.{fits};
+ghost use Rattle.mx_words.specs.Limits.{most_modules, most_domains};
 ghost use Rattle.mx_table.specs.Change.{IsLawful};
 ghost use Rattle.mx_table.specs.Tables.{IsDomain};
 ghost use Rattle.mx_model.specs.Serve.{to_one, none_but, own_alone, none_at_all, serve_grant, serve_revoke_all, serve_alloc, serve_free};
@@ -16,11 +17,11 @@ use crate::{Answer, Supervisor};
 use mx_heap::HeapError;
 use mx_model::Call;
 use mx_table::{Change, PermTables};
-use mx_words::{Perm, RAM_BASE};
+use mx_words::{MOST_DOMAINS, Perm, RAM_BASE};
 
 /// Puts what a domain gets into the array of a change.
-fn put_right(perms: &mut [Option<Perm>; 64], domain: u32, right: Option<Perm>)
-    requires { domain < 64 }
+fn put_right(perms: &mut [Option<Perm>; MOST_DOMAINS], domain: u32, right: Option<Perm>)
+    requires { domain < most_domains }
     ensures { perms.new ≡ slice_set perms.old domain right }
 {
     perms[domain as usize] = right;
@@ -29,11 +30,11 @@ fn put_right(perms: &mut [Option<Perm>; 64], domain: u32, right: Option<Perm>)
 /// A permission for one domain on a range.
 fn to_one(first: u32, count: u32, domain: u32, perm: Perm) -> Change
     requires some { 1 ≤ domain }
-    requires few { domain ≤ 63 }
+    requires few { domain ≤ most_modules }
     ensures { (modules : ℕ) → domain ≤ modules →
         Gives result first count modules (to_one domain perm) }
 {
-    let mut perms = [None; 64];
+    let mut perms = [None; MOST_DOMAINS];
     put_right(&mut perms, domain, Some(perm));
     Change {
         first,
@@ -44,10 +45,10 @@ fn to_one(first: u32, count: u32, domain: u32, perm: Perm) -> Change
 
 /// What each module gets by a change that takes the rights of all others than the caller; the caller gets `own`.
 fn none_else(first: u32, count: u32, caller: u32, own: Option<Perm>, modules: u32) -> Change
-    requires { modules ≤ 63 }
+    requires { modules ≤ most_modules }
     ensures { Gives result first count modules (none_else caller own) }
 {
-    let mut perms = [None; 64];
+    let mut perms = [None; MOST_DOMAINS];
     for domain in 1..modules + 1 {
         put_right(&mut perms, domain, right_for(domain, caller, own));
     }
@@ -71,7 +72,7 @@ fn right_for(domain: u32, caller: u32, own: Option<Perm>) -> Option<Perm>
 
 /// None for all modules but the caller.
 fn none_but(first: u32, count: u32, caller: u32, modules: u32) -> Change
-    requires { modules ≤ 63 }
+    requires { modules ≤ most_modules }
     ensures { Gives result first count modules (none_but caller) }
 {
     none_else(first, count, caller, None, modules)
@@ -79,7 +80,7 @@ fn none_but(first: u32, count: u32, caller: u32, modules: u32) -> Change
 
 /// Read-write for the caller and none for the others.
 fn own_alone(first: u32, count: u32, caller: u32, modules: u32) -> Change
-    requires { modules ≤ 63 }
+    requires { modules ≤ most_modules }
     ensures { Gives result first count modules (own_alone caller) }
 {
     none_else(first, count, caller, Some(Perm::ReadWrite), modules)
@@ -87,7 +88,7 @@ fn own_alone(first: u32, count: u32, caller: u32, modules: u32) -> Change
 
 /// None for all modules, the caller too.
 fn none_at_all(first: u32, count: u32, caller: u32, modules: u32) -> Change
-    requires { modules ≤ 63 }
+    requires { modules ≤ most_modules }
     ensures { Gives result first count modules none_at_all }
 {
     none_else(first, count, caller, Some(Perm::None), modules)
