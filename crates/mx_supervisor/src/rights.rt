@@ -5,6 +5,7 @@ ghost use Rattle.mx_words.specs.declared.perm.Perm.TheVariants as P;
 ghost use Rattle.mx_words.specs.Changes.{changed_maps};
 ghost use Rattle.mx_words.specs.Need.{fits};
 ghost use Rattle.mx_words.specs.Limits.{most_modules, most_domains};
+ghost use Rattle.mx_words.specs.Calls.{grant_call, revoke_all_call, alloc_call, free_call};
 ghost use Rattle.mx_table.specs.Change.{IsLawful};
 ghost use Rattle.mx_table.specs.Tables.{IsDomain};
 ghost use Rattle.mx_model.specs.Serve.{to_one, none_but, own_alone, none_at_all, serve_grant, serve_revoke_all, serve_alloc, serve_free};
@@ -122,7 +123,7 @@ impl<T: PermTables, const N: usize> Supervisor<T, N> {
         requires sound { IsSound (parts_of T.PermTables self.old) }
         requires domain { IsDomain (T.maps self.old.checker.tables) call.now.domain }
         requires announced { HasAnnounced (parts_of T.PermTables self.old) call.now }
-        requires number { call.now.number ≡ 3 }
+        requires number { call.now.number ≡ grant_call }
         ensures { Does T.PermTables self.old self.new serve_grant call.now [] result }
     {
         let Some((first, count)) = self.arg_range(call) else {
@@ -150,7 +151,7 @@ impl<T: PermTables, const N: usize> Supervisor<T, N> {
         requires sound { IsSound (parts_of T.PermTables self.old) }
         requires domain { IsDomain (T.maps self.old.checker.tables) call.now.domain }
         requires announced { HasAnnounced (parts_of T.PermTables self.old) call.now }
-        requires number { call.now.number ≡ 4 }
+        requires number { call.now.number ≡ revoke_all_call }
         ensures { Does T.PermTables self.old self.new serve_revoke_all call.now [] result }
     {
         let Some((first, count)) = self.arg_range(call) else {
@@ -171,7 +172,7 @@ impl<T: PermTables, const N: usize> Supervisor<T, N> {
         requires sound { IsSound (parts_of T.PermTables self.old) }
         requires domain { IsDomain (T.maps self.old.checker.tables) call.now.domain }
         requires announced { HasAnnounced (parts_of T.PermTables self.old) call.now }
-        requires number { call.now.number ≡ 6 }
+        requires number { call.now.number ≡ alloc_call }
         ensures { Does T.PermTables self.old self.new serve_alloc call.now [] result }
     {
         let [words, _, _, _] = call.args;
@@ -197,7 +198,7 @@ impl<T: PermTables, const N: usize> Supervisor<T, N> {
         requires sound { IsSound (parts_of T.PermTables self.old) }
         requires domain { IsDomain (T.maps self.old.checker.tables) call.now.domain }
         requires announced { HasAnnounced (parts_of T.PermTables self.old) call.now }
-        requires number { call.now.number ≡ 7 }
+        requires number { call.now.number ≡ free_call }
         ensures { Does T.PermTables self.old self.new serve_free call.now [] result }
     {
         let Some((first, count)) = self.arg_block(call) else {

@@ -16,20 +16,23 @@ use crate::Supervisor;
 use mx_heap::Block;
 use mx_model::Call;
 use mx_table::PermTables;
-use mx_words::{word_of, word_range};
+use mx_words::{ALLOC_CALL, FREE_CALL, GRANT_CALL, REVOKE_ALL_CALL, word_of, word_range};
 
 /// Whether a call is announced before it takes effect.
 pub fn is_announced(number: u32) -> bool
     ensures { result ≡ is_announced number }
 {
-    number == 3 || number == 4 || number == 6 || number == 7
+    number == GRANT_CALL
+        || number == REVOKE_ALL_CALL
+        || number == ALLOC_CALL
+        || number == FREE_CALL
 }
 
 /// Whether an announced call names the range that it may change.
 pub fn names_range(number: u32) -> bool
     ensures { result ≡ names_range number }
 {
-    number == 3 || number == 4
+    number == GRANT_CALL || number == REVOKE_ALL_CALL
 }
 
 /// The range that an announced call may change, in a RAM of `words` words, at most 2^24: the first word and the number of words.
