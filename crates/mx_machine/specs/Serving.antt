@@ -1,5 +1,6 @@
 -- A hart's call that is served: what holds before.
 use Rattle.std.specs.Prelude.{◌≡◌, ◌≢◌, ℕ, ◌<◌, ◌≤◌, false, length, IfSome}
+use Rattle.mx_words.specs.Limits.{most_harts, most_domains}
 use Rattle.mx_table.specs.Tables.{IsDomain}
 use Rattle.mx_check.specs.Harts.{hart_at}
 use Rattle.mx_model.specs.declared.values.Call.{Call}
@@ -14,9 +15,9 @@ use Rattle.mx_machine.specs.Ties.{IsTied}
 pub record IsServing (m : Held) (h : ℕ) (call : Call) : Type 0 where
   pub sound : IsSound m.parts
   pub count : length m.harts ≡ length m.parts.harts
-  pub few : length m.harts ≤ 4
+  pub few : length m.harts ≤ most_harts
   pub stacks : length m.stacks ≡ length m.parts.heaps
-  pub dead : length m.dead ≡ 64
+  pub dead : length m.dead ≡ most_domains
   pub there : h < length m.harts
   pub own : call ≡ own_call h (hart_of m.harts h)
   pub domain : IsDomain m.parts.maps call.domain

@@ -1,6 +1,7 @@
 -- Numbers of 32 bits in what a machine starts or resumes with.
 use Rattle.std.specs.Prelude.{◌≡◌, ℕ, ◌^◌, ◌<◌, ◌≤◌, List, length, slice_index}
 use Rattle.std.specs.List.{AllByRecursion}
+use Rattle.mx_words.specs.Limits.{most_frames}
 use Rattle.mx_model.specs.declared.values.Frame.{Frame}
 use Rattle.mx_machine.specs.declared.starts.HartStart.{HartStart}
 use Rattle.mx_machine.specs.declared.starts.HartState.{HartState}
@@ -14,13 +15,13 @@ pub record AreSmall (n : ℕ) (xs : List ℕ) : Type 0 where
 abbrev pub IsSmallStart : HartStart → Type 0
 IsSmallStart s = s.pc < 2 ^ 32
 
--- those of a frame, and of at most 64 frames
+-- those of a frame, and of the frames of a cross stack
 pub record IsSmallFrame (f : Frame) : Type 0 where
   pub back : f.back < 2 ^ 32
   pub kept : AreSmall 15 f.kept
 
 pub record AreSmallFrames (fs : List Frame) : Type 0 where
-  pub few : length fs ≤ 64
+  pub few : length fs ≤ most_frames
   pub each : AllByRecursion IsSmallFrame fs
 
 -- those of what a hart resumes with

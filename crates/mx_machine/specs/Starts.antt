@@ -4,6 +4,7 @@ use Rattle.std.specs.List.{AllByRecursion}
 use Rattle.std.specs.Prelude.{map as list_map}
 use Rattle.mx_words.specs.Announced.{is_announced}
 use Rattle.mx_words.specs.Caches.{no_cache}
+use Rattle.mx_words.specs.Limits.{most_domains}
 use Rattle.mx_table.specs.Tables.{IsDomain}
 use Rattle.mx_check.specs.Calls.{new_harts}
 use Rattle.mx_check.specs.Harts.{Kept, hart_at}
@@ -26,7 +27,7 @@ use Rattle.mx_machine.specs.Ties.{HasRange}
 
 -- no domain is dead
 abbrev pub none_dead : List Bool
-none_dead = replicate 64 false
+none_dead = replicate most_domains false
 
 -- a hart starts at a pc in a domain, with all registers zero but x2, the address after the domain's stack area for the hart
 abbrev pub started_hart : List StackArea → ℕ → HartStart → Hart

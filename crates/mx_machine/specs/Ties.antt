@@ -1,5 +1,6 @@
 -- What is true of every machine: its meaning is valid and its caches coherent, and what it keeps in two places agrees.
 use Rattle.std.specs.Prelude.{◌≡◌, ℕ, ◌<◌, ◌≤◌, false, length, slice_index_or, Option, Some, None, IfSome}
+use Rattle.mx_words.specs.Limits.{most_harts, most_domains}
 use Rattle.mx_table.specs.Tables.{IsDomain}
 use Rattle.mx_check.specs.declared.flight.Flight.{Flight}
 use Rattle.mx_check.specs.Conditions.{HasHeardAll}
@@ -42,9 +43,9 @@ pub record IsTied (range : Call → ℕ × ℕ) (h : ℕ) (x : Hart) (k : Kept) 
 pub record Fits (m : Held) : Type 0 where
   pub sound : IsSound m.parts
   pub count : length m.harts ≡ length m.parts.harts
-  pub few : length m.harts ≤ 4
+  pub few : length m.harts ≤ most_harts
   pub stacks : length m.stacks ≡ length m.parts.heaps
-  pub dead : length m.dead ≡ 64
+  pub dead : length m.dead ≡ most_domains
   pub ties : (h : ℕ) → IsTied (range_of m.parts) h (hart_of m.harts h) (hart_at m.parts.harts h)
   pub quiet : m.waiting ≡ false → (h : ℕ) → is_waiting (hart_of m.harts h).progress ≡ false
 

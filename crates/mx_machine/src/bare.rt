@@ -2,6 +2,7 @@
 ghost use Rattle.std.specs.Prelude.{◌≡◌, ℕ, ◌+◌, ◌%◌, ◌^◌, ◌<◌, ◌≤◌, ◌⊎◌, ◌*◌, true, false, length, slice_index_or, Some, None};
 ghost use Rattle.mx_words.specs.Announced.{is_announced};
 ghost use Rattle.mx_words.specs.Ranges.{most_words};
+ghost use Rattle.mx_words.specs.Limits.{most_frames};
 ghost use Rattle.mx_table.specs.Tables.{IsDomain};
 ghost use Rattle.mx_check.specs.Calls.{is_ready};
 ghost use Rattle.mx_check.specs.Conditions.{HasHeardAll, IsAtHand, MayLook, MayAnnounce, IsWithin};
@@ -28,7 +29,7 @@ use mx_core::Outcome;
 use mx_isa::Inst;
 use mx_model::{Call, Fault, Note};
 use mx_table::PermTables;
-use mx_words::word_of;
+use mx_words::{MOST_DOMAINS, word_of};
 use std::marker::Model;
 
 /// The cause of a fault in a dead domain, which kills none.
@@ -41,7 +42,7 @@ pub struct Bare<T: PermTables, const N: usize> {
     pub bus: HartBus<T, N>,
     pub harts: Harts,
     pub stacks: Stacks,
-    pub dead: [bool; 64],
+    pub dead: [bool; MOST_DOMAINS],
     pub steps: u64,
     pub waiting: bool,
 }
@@ -207,7 +208,7 @@ impl<T: PermTables, const N: usize> Bare<T, N> {
     pub fn enter(&mut self, hart: u32, target: u32)
         requires there { hart < length self.old.harts }
         requires kept { hart < length self.old.parts.harts }
-        requires room { length (hart_of self.old.harts hart).frames < 64 }
+        requires room { length (hart_of self.old.harts hart).frames < most_frames }
         requires target { 1 ≤ target }
         requires area { ((area_of self.old.stacks target).words ≡ 0)
             ⊎ ((area_of self.old.stacks target).first

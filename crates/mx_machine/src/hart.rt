@@ -1,5 +1,6 @@
 //! One hart: its registers, pc, domain and frames, and the steps that a turn makes of them.
 ghost use Rattle.std.specs.Prelude.{◌≡◌, ◌<◌, ◌%◌, is_some, unwrap_or, option_map, length, replicate, slice_index, slice_set};
+ghost use Rattle.mx_words.specs.Limits.{most_frames};
 ghost use Rattle.mx_isa.specs.Ranges.{IsValid as IsInst};
 ghost use Rattle.mx_model.specs.Gates.{nearest, top};
 ghost use Rattle.mx_model.specs.Turn.{restored, saved};
@@ -197,9 +198,9 @@ impl Hart {
         self.frames.nearest(domain).unwrap_or(own)
     }
 
-    /// Enters a domain with a stack address in x2. Fewer than 64 frames are held.
+    /// Enters a domain with a stack address in x2. There is room for one frame more.
     pub fn enter(&mut self, domain: u32, stack: u32)
-        requires { length self.old.frames < 64 }
+        requires { length self.old.frames < most_frames }
         ensures { self.new ≡ enters domain stack self.old }
     {
         let frame = Frame {

@@ -3,6 +3,7 @@ ghost use Rattle.std.specs.Prelude.{◌≡◌, ℕ, ◌<◌, ◌≤◌, ◌%◌,
 ghost use Rattle.std.specs.List.{list_any, list_all, AllByRecursion};
 ghost use Rattle.std.specs.Prelude.{map as list_map};
 ghost use Rattle.mx_words.specs.Ranges.{most_words};
+ghost use Rattle.mx_words.specs.Limits.{most_harts, most_frames};
 ghost use Rattle.mx_isa.specs.Ranges.{IsValid as IsInst};
 ghost use Rattle.mx_core.specs.Memo.{quick};
 ghost use Rattle.mx_model.specs.Effect.{reg};
@@ -18,34 +19,33 @@ use crate::{HartStates, HartView, Stacks, Starts};
 use mx_core::{Bus, Memo, Outcome};
 use mx_isa::Inst;
 use mx_model::{Call, Frame};
+use mx_words::MOST_HARTS;
 use std::marker::Model;
 
-/// How many harts there is room for.
-const MOST: usize = 4;
-
-/// At most 4 harts, and beside them the decoded words that their turns find again. Nothing of those is seen.
+/// The harts, and beside them the decoded words that their turns find again. Nothing of those is seen.
 #[derive(Drop)]
 pub struct Harts {
-    items: [Hart; MOST],
+    items: [Hart; MOST_HARTS],
     len: u32,
     memo: Memo,
 }
 
 impl Model for Harts {
     ghost use Rattle.std.specs.Prelude.{◌≡◌, ◌≤◌, List, length, take};
+    ghost use Rattle.mx_words.specs.Limits.{most_harts};
     ghost use Rattle.mx_machine.specs.declared.hart.Hart.{Hart};
 
     ghost Value = { List Hart };
 
     ghost view = { λ h. take h.len h.items };
 
-    ghost invariant = { λ h. (length h.items ≡ 4) × (h.len ≤ 4) };
+    ghost invariant = { λ h. (length h.items ≡ most_harts) × (h.len ≤ most_harts) };
 }
 
 impl Harts {
     /// The harts that start in these places, with the stack addresses of their domains.
     pub fn start(starts: &Starts, stacks: &Stacks) -> Harts
-        requires few { length starts.now ≤ 4 }
+        requires few { length starts.now ≤ most_harts }
         requires each { AllByRecursion (λ s. 1 ≤ s.domain) starts.now }
         requires areas { (d : ℕ) →
             ((area_of stacks.now d).words ≡ 0)
@@ -85,7 +85,7 @@ impl Harts {
     /// The number of harts.
     pub fn len(&self) -> u32
         ensures number { result ≡ length self.now }
-        ensures few { result ≤ 4 }
+        ensures few { result ≤ most_harts }
     {
         self.len
     }
@@ -317,7 +317,7 @@ impl Harts {
     /// As `Hart::enter`, for one hart.
     pub fn enter(&mut self, hart: u32, domain: u32, stack: u32)
         requires hart { hart < length self.old }
-        requires room { length (hart_of self.old hart).frames < 64 }
+        requires room { length (hart_of self.old hart).frames < most_frames }
         ensures { self.new ≡ stepped hart (enters domain stack) self.old }
     {
         let part = &mut self.items[hart as usize];

@@ -25,6 +25,7 @@ use mx_memory::bytes_of;
 use mx_model::{Events, TurnKind, flat_of_a_turn, turns_keep_validity};
 use mx_supervisor::{Supervisor, heaps_of};
 use mx_table::{PermTables, shape_of};
+use mx_words::MOST_DOMAINS;
 use std::marker::Model;
 
 /// A machine of 1 to 4 harts over a supervisor. What it means is a flat state of the abstract machine (docs/MACHINE.md): RAM's bytes,
@@ -73,7 +74,7 @@ impl<T: PermTables, const N: usize> Machine<T, N> {
             bare: Bare {
                 harts: Harts::start(starts, stacks),
                 stacks: stacks.copy(),
-                dead: [false; 64],
+                dead: [false; MOST_DOMAINS],
                 steps: 0,
                 waiting: false,
                 bus: HartBus {
@@ -92,7 +93,7 @@ impl<T: PermTables, const N: usize> Machine<T, N> {
         parts: Supervisor<T, N>,
         harts: &HartStates,
         stacks: &Stacks,
-        dead: &[bool; 64],
+        dead: &[bool; MOST_DOMAINS],
         steps: u64,
     ) -> Machine<T, N>
         requires joined { AreJoined (parts_of T.PermTables parts) }

@@ -7,17 +7,15 @@ ghost use Rattle.mx_machine.specs.Starts.{no_state, resumed_hart};
 ghost use Rattle.mx_machine.specs.Smalls.{AreSmall, AreSmallFrames, IsSmallFrame, IsSmallStart, IsSmallState};
 ghost use Rattle.mx_machine.specs.Held.{area_of, behind};
 ghost use Rattle.mx_words.specs.Ranges.{most_words};
+ghost use Rattle.mx_words.specs.Limits.{most_harts, most_modules};
 
 use crate::HartStatus;
 use crate::hart::Hart;
 use arrayvec::ArrayVec;
 use mx_gates::CrossStack;
 use mx_model::Frame;
-use mx_words::RAM_BASE;
+use mx_words::{MOST_HARTS, MOST_MODULES, RAM_BASE};
 use std::marker::Model;
-
-/// How many harts a machine has at most.
-const HARTS: usize = 4;
 
 /// Where a hart starts: in a domain, from 1 on, at a pc that is a multiple of 4.
 #[derive(Clone, Copy, PartialEq, Eq, Debug, Default)]
@@ -28,10 +26,10 @@ pub struct HartStart {
     pub pc: u32,
 }
 
-/// A list of at most 4 starts, one for each hart from 0 on.
+/// A list of starts, one for each hart from 0 on.
 #[derive(Drop)]
 pub struct Starts {
-    items: ArrayVec<HartStart, HARTS>,
+    items: ArrayVec<HartStart, MOST_HARTS>,
 }
 
 impl Model for Starts {
@@ -53,9 +51,9 @@ impl Starts {
         }
     }
 
-    /// Appends the start of the next hart. Fewer than 4 are held.
+    /// Appends the start of the next hart. Fewer than the greatest number of harts are held.
     pub fn push(&mut self, item: HartStart)
-        requires { length self.old < 4 }
+        requires { length self.old < most_harts }
         ensures { self.new ≡ self.old ++ item ∷ [] }
     {
         self.items.push(item);
@@ -64,7 +62,7 @@ impl Starts {
     /// The number of starts.
     pub(crate) fn len(&self) -> u32
         ensures number { result ≡ length self.now }
-        ensures few { result ≤ 4 }
+        ensures few { result ≤ most_harts }
     {
         self.items.len() as u32
     }
@@ -89,10 +87,10 @@ pub struct StackArea {
     pub kills: bool,
 }
 
-/// A list of at most 63 stack areas, one for each module in the modules' order.
+/// A list of stack areas, one for each module in the modules' order.
 #[derive(Drop)]
 pub struct Stacks {
-    items: ArrayVec<StackArea, 63>,
+    items: ArrayVec<StackArea, MOST_MODULES>,
 }
 
 impl Model for Stacks {
@@ -114,9 +112,9 @@ impl Stacks {
         }
     }
 
-    /// Appends the area of the next module. Fewer than 63 are held.
+    /// Appends the area of the next module. Fewer than the greatest number of modules are held.
     pub fn push(&mut self, item: StackArea)
-        requires { length self.old < 63 }
+        requires { length self.old < most_modules }
         ensures { self.new ≡ self.old ++ item ∷ [] }
     {
         self.items.push(item);
@@ -195,10 +193,10 @@ impl Default for HartState {
     }
 }
 
-/// A list of at most 4 harts to resume, from hart 0 on.
+/// A list of harts to resume, from hart 0 on.
 #[derive(Drop)]
 pub struct HartStates {
-    items: ArrayVec<HartState, HARTS>,
+    items: ArrayVec<HartState, MOST_HARTS>,
 }
 
 impl Model for HartStates {
@@ -220,9 +218,9 @@ impl HartStates {
         }
     }
 
-    /// Appends the next hart. Fewer than 4 are held.
+    /// Appends the next hart. Fewer than the greatest number of harts are held.
     pub fn push(&mut self, item: HartState)
-        requires { length self.old < 4 }
+        requires { length self.old < most_harts }
         ensures { self.new ≡ self.old ++ item ∷ [] }
     {
         self.items.push(item);
@@ -231,7 +229,7 @@ impl HartStates {
     /// The number of harts.
     pub(crate) fn len(&self) -> u32
         ensures number { result ≡ length self.now }
-        ensures few { result ≤ 4 }
+        ensures few { result ≤ most_harts }
     {
         self.items.len() as u32
     }
@@ -248,9 +246,9 @@ impl HartStates {
     }
 }
 
-/// A law: there are at most 4 starts, and each pc is a number of 32 bits.
+/// A law: the starts are at most as many as the harts may be, and each pc is a number of 32 bits.
 pub(crate) fn starts_of(starts: &Starts)
-    ensures few { length starts.now ≤ 4 }
+    ensures few { length starts.now ≤ most_harts }
     ensures small { AllByRecursion IsSmallStart starts.now }
 {
     for hart in 0..starts.len() {
@@ -267,9 +265,10 @@ fn start_of(start: &HartStart)
     let _pc = start.pc;
 }
 
-/// A law: there are at most 4 states, each with at most 64 frames, and what they hold are numbers of 32 bits.
+/// A law: the states are at most as many as the harts may be, each has at most as many frames as a cross stack holds, and
+/// what they hold are numbers of 32 bits.
 pub(crate) fn states_of(states: &HartStates)
-    ensures few { length states.now ≤ 4 }
+    ensures few { length states.now ≤ most_harts }
     ensures small { AllByRecursion IsSmallState states.now }
 {
     for hart in 0..states.len() {
