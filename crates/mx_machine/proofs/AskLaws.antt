@@ -21,7 +21,7 @@ use Rattle.mx_machine.specs.declared.hart.Hart.{Hart}
 use Rattle.mx_machine.specs.declared.hart.Progress.{Progress}
 use Rattle.mx_machine.specs.declared.hart.Progress.TheVariants as G
 use Rattle.mx_machine.specs.Actions.{with_kept}
-use Rattle.mx_machine.specs.Harts.{no_hart, hart_of, is_halted, own_call, seen, seen_with, status_by}
+use Rattle.mx_machine.specs.Harts.{no_hart, hart_among, is_halted, own_call, seen, seen_with, status_by}
 use Rattle.mx_machine.specs.Held.{Held, rest_of}
 use Rattle.mx_machine.specs.Made.{IsMade, core_in, made_by, hart_in, reads_of}
 use Rattle.mx_machine.specs.Serving.{IsServing}
@@ -34,11 +34,11 @@ use Rattle.mx_machine.proofs.HearLaws.{bars-alike, ready-now}
 use Rattle.mx_machine.proofs.InstructLaws.{seen-running}
 
 -- the call of a running hart
-pub call-is : (m : Held) (h : ℕ) → MayRun m h → call_of h (hart_in m h) ≡ own_call h (hart_of m.harts h)
+pub call-is : (m : Held) (h : ℕ) → MayRun m h → call_of h (hart_in m h) ≡ own_call h (hart_among m.harts h)
 call-is m h r = ap (call_of h) (seen-running m h r)
 
 -- a call that isn't announced is served
-pub serving-plain : (m : Held) (h : ℕ) → MayRun m h → is_announced (own_call h (hart_of m.harts h)).number ≡ false → IsServing m h (own_call h (hart_of m.harts h))
+pub serving-plain : (m : Held) (h : ℕ) → MayRun m h → is_announced (own_call h (hart_among m.harts h)).number ≡ false → IsServing m h (own_call h (hart_among m.harts h))
 serving-plain m h r e = record {
   sound = r.act.fits.sound;
   count = r.act.fits.count;
@@ -61,10 +61,10 @@ flying-range : (range : ℕ × ℕ) (o : Option Flight) → IsFlying range o →
 flying-range range None e = absurd e
 flying-range range (Some f) e = (e.first, e.count)
 
-pub serving-waiting : (m : Held) (h : ℕ) → MayAct m h → (hart_of m.harts h).progress ≡ G.Waiting → is_announced (own_call h (hart_of m.harts h)).number ≡ true →
-    is_ready h m.parts.harts ≡ true → IsServing m h (own_call h (hart_of m.harts h))
+pub serving-waiting : (m : Held) (h : ℕ) → MayAct m h → (hart_among m.harts h).progress ≡ G.Waiting → is_announced (own_call h (hart_among m.harts h)).number ≡ true →
+    is_ready h m.parts.harts ≡ true → IsServing m h (own_call h (hart_among m.harts h))
 serving-waiting m h a w n e =
-    let x = hart_of m.harts h in
+    let x = hart_among m.harts h in
     let k = hart_at m.parts.harts h in
     let flying : IsFlying (range_of m.parts (own_call h x)) k.flight =
     subst (λ (p : Progress). FliesWhileWaiting (range_of m.parts (own_call h x)) k.flight p) w (a.fits.ties h).flight in
@@ -91,10 +91,10 @@ serving-waiting m h a w n e =
 -- a call that was just announced
 module _ (m : Held) (h : ℕ) (r : MayRun m h) where
   abbrev pub range_now : ℕ × ℕ
-  range_now = range_of m.parts (own_call h (hart_of m.harts h))
+  range_now = range_of m.parts (own_call h (hart_among m.harts h))
 
   abbrev pub now_announced : Held
-  now_announced = with_kept h (announced h (range_of m.parts (own_call h (hart_of m.harts h))).0 (range_of m.parts (own_call h (hart_of m.harts h))).1) m
+  now_announced = with_kept h (announced h (range_of m.parts (own_call h (hart_among m.harts h))).0 (range_of m.parts (own_call h (hart_among m.harts h))).1) m
 
   own-announced : hart_at now_announced.parts.harts h ≡ announced h range_now.0 range_now.1 (hart_at m.parts.harts h)
   own-announced = own-step m.parts.harts h (announced h range_now.0 range_now.1) (kept-there m h r.act)
@@ -102,13 +102,13 @@ module _ (m : Held) (h : ℕ) (r : MayRun m h) where
   others-announced : (i : ℕ) → i ≢ h → hart_at now_announced.parts.harts i ≡ hart_at m.parts.harts i
   others-announced i ne = others-step m.parts.harts h (announced h range_now.0 range_now.1) i ne
 
-  tied-others : (i : ℕ) → i ≢ h → IsTied (range_of m.parts) i (hart_of m.harts i) (hart_at now_announced.parts.harts i)
-  tied-others i ne = subst (λ (k : Kept). IsTied (range_of m.parts) i (hart_of m.harts i) k) (sym (others-announced i ne)) (r.act.fits.ties i)
+  tied-others : (i : ℕ) → i ≢ h → IsTied (range_of m.parts) i (hart_among m.harts i) (hart_at now_announced.parts.harts i)
+  tied-others i ne = subst (λ (k : Kept). IsTied (range_of m.parts) i (hart_among m.harts i) k) (sym (others-announced i ne)) (r.act.fits.ties i)
 
-  pub serving-announced : is_announced (own_call h (hart_of m.harts h)).number ≡ true → is_ready h now_announced.parts.harts ≡ true →
-      IsServing now_announced h (own_call h (hart_of m.harts h))
+  pub serving-announced : is_announced (own_call h (hart_among m.harts h)).number ≡ true → is_ready h now_announced.parts.harts ≡ true →
+      IsServing now_announced h (own_call h (hart_among m.harts h))
   serving-announced n e =
-      let x = hart_of m.harts h in
+      let x = hart_among m.harts h in
       let count = count-step m.parts.harts h (announced h range_now.0 range_now.1) in
       record {
         sound = with-harts m.parts now_announced.parts.harts r.act.fits.sound;
@@ -137,7 +137,7 @@ module _ (m : Held) (h : ℕ) (r : MayRun m h) where
   -- the state is the same
   pub core-announced : core_in now_announced ≡ core_in m
   core-announced =
-      let x = hart_of m.harts h in
+      let x = hart_among m.harts h in
       let p = now_announced.parts in
       let k = hart_at p.harts h in
       ap (λ (hs : List Hart). core_in (record m { parts = p; harts = hs })) (sym (set-get_or m.harts h no_hart))
@@ -149,11 +149,11 @@ module _ (m : Held) (h : ℕ) (r : MayRun m h) where
 
   -- the call waits
   abbrev pub now_waiting : Held
-  now_waiting = changed m h (waits (hart_of m.harts h)) now_announced.parts.harts m.parts.ram m.dead true
+  now_waiting = changed m h (waits (hart_among m.harts h)) now_announced.parts.harts m.parts.ram m.dead true
 
   pub fits-waiting : Fits now_waiting
   fits-waiting =
-      let x = hart_of m.harts h in
+      let x = hart_among m.harts h in
       let c : IsChange m h (waits x) now_announced.parts.harts m.parts.ram m.dead true = record {
         fits = r.act.fits;
         there = r.act.there;
@@ -167,43 +167,43 @@ module _ (m : Held) (h : ℕ) (r : MayRun m h) where
       } in
       fits-change m h (waits x) now_announced.parts.harts m.parts.ram m.dead true c
 
-  waiting-core : core_in now_waiting ≡ with_hart h (record (hart_in m h) { status = Waiting (own_call h (hart_of m.harts h)) nobody }) (core_in m)
+  waiting-core : core_in now_waiting ≡ with_hart h (record (hart_in m h) { status = Waiting (own_call h (hart_among m.harts h)) nobody }) (core_in m)
   waiting-core =
-      let x = hart_of m.harts h in
+      let x = hart_among m.harts h in
       core-step m h (waits x) now_announced.parts (λ i ne. ap (λ (k : Kept). k.flight) (others-announced i ne))
       ∙ ap (with_hart h (seen h (waits x) (hart_at now_announced.parts.harts h))) (core-kept (rest_of m) m.parts h (announced h range_now.0 range_now.1) refl)
       ∙ ap (λ (k : Kept). with_hart h (seen h (waits x) k) (core_in m)) own-announced
       ∙ sym (ap (λ (y : Seen). with_hart h (record y { status = Waiting (own_call h x) nobody }) (core_in m)) (seen-running m h r))
 
   -- whether it is served at once
-  served-if : (b c : Bool) → is_announced (own_call h (hart_of m.harts h)).number ≡ b → is_ready h now_announced.parts.harts ≡ c →
-      is_served_now (core_in m) h (own_call h (hart_of m.harts h)) ≡ (not b || c)
+  served-if : (b c : Bool) → is_announced (own_call h (hart_among m.harts h)).number ≡ b → is_ready h now_announced.parts.harts ≡ c →
+      is_served_now (core_in m) h (own_call h (hart_among m.harts h)) ≡ (not b || c)
   served-if b c eb ec =
       ap (λ (z : Bool). not z || ready_in (core_in m) h nobody) eb
       ∙ ap (λ (z : Bool). not b || z) (ready-now m h range_now.0 range_now.1 r.act.fits r.act.there ∙ ec)
 
-  asks-as : (z : Bool) → is_served_now (core_in m) h (own_call h (hart_of m.harts h)) ≡ z →
-      made_by m h (Asks (call_of h (hart_in m h))) ≡ asked (reads_of m) (core_in m) h (hart_in m h) (own_call h (hart_of m.harts h)) z
+  asks-as : (z : Bool) → is_served_now (core_in m) h (own_call h (hart_among m.harts h)) ≡ z →
+      made_by m h (Asks (call_of h (hart_in m h))) ≡ asked (reads_of m) (core_in m) h (hart_in m h) (own_call h (hart_among m.harts h)) z
   asks-as z e =
       ap (λ (c : Call). asked (reads_of m) (core_in m) h (hart_in m h) c (is_served_now (core_in m) h c)) (call-is m h r)
-      ∙ ap (λ (b : Bool). asked (reads_of m) (core_in m) h (hart_in m h) (own_call h (hart_of m.harts h)) b) e
+      ∙ ap (λ (b : Bool). asked (reads_of m) (core_in m) h (hart_in m h) (own_call h (hart_among m.harts h)) b) e
 
-  pub made-waiting : is_announced (own_call h (hart_of m.harts h)).number ≡ true → is_ready h now_announced.parts.harts ≡ false →
+  pub made-waiting : is_announced (own_call h (hart_among m.harts h)).number ≡ true → is_ready h now_announced.parts.harts ≡ false →
       IsMade m now_waiting no_events T.Called (made_by m h (Asks (call_of h (hart_in m h))))
   made-waiting n e =
       subst (λ d. IsMade m now_waiting no_events T.Called d) (sym (asks-as false (served-if true false n e)))
       (record { core = waiting-core; maps = refl; owners = refl; console = refl; note = refl; kind = refl })
 
   -- served at once, announced or not
-  pub made-served : (b c : Bool) → is_announced (own_call h (hart_of m.harts h)).number ≡ b → is_ready h now_announced.parts.harts ≡ c → (not b || c) ≡ true →
-      made_by m h (Asks (call_of h (hart_in m h))) ≡ served (reads_of m) (core_in m) h (hart_in m h) (own_call h (hart_of m.harts h))
+  pub made-served : (b c : Bool) → is_announced (own_call h (hart_among m.harts h)).number ≡ b → is_ready h now_announced.parts.harts ≡ c → (not b || c) ≡ true →
+      made_by m h (Asks (call_of h (hart_in m h))) ≡ served (reads_of m) (core_in m) h (hart_in m h) (own_call h (hart_among m.harts h))
   made-served b c eb ec t = asks-as true (served-if b c eb ec ∙ t)
 
   -- from the machine in which the call was announced
   pub from-announced : (n : Held) (events : Events) →
-      IsMade now_announced n events T.Called (served (reads_of now_announced) (core_in now_announced) h (hart_in now_announced h) (own_call h (hart_of m.harts h))) →
-      IsMade m n events T.Called (served (reads_of m) (core_in m) h (hart_in m h) (own_call h (hart_of m.harts h)))
+      IsMade now_announced n events T.Called (served (reads_of now_announced) (core_in now_announced) h (hart_in now_announced h) (own_call h (hart_among m.harts h))) →
+      IsMade m n events T.Called (served (reads_of m) (core_in m) h (hart_in m h) (own_call h (hart_among m.harts h)))
   from-announced n events i =
-      let e = ap (λ (c : Core). served (reads_of m) c h (seen_at c h) (own_call h (hart_of m.harts h))) core-announced in
+      let e = ap (λ (c : Core). served (reads_of m) c h (seen_at c h) (own_call h (hart_among m.harts h))) core-announced in
       subst (λ d. IsMade m n events T.Called d) e
       (record { core = i.core; maps = i.maps; owners = i.owners; console = i.console; note = i.note; kind = i.kind })

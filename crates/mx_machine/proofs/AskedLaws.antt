@@ -11,7 +11,7 @@ use Rattle.mx_model.specs.Events.{Events}
 use Rattle.mx_model.specs.Turn.{Asks, Made, call_of, served}
 use Rattle.mx_supervisor.specs.Served.{range_of}
 use Rattle.mx_machine.specs.Actions.{with_kept}
-use Rattle.mx_machine.specs.Harts.{hart_of, own_call}
+use Rattle.mx_machine.specs.Harts.{hart_among, own_call}
 use Rattle.mx_machine.specs.Held.{Held}
 use Rattle.mx_machine.specs.Made.{IsMade, core_in, made_by, hart_in, reads_of}
 use Rattle.mx_machine.specs.Serving.{IsServing}
@@ -28,14 +28,14 @@ pub may-announce : (m : Held) (h : ℕ) → MayRun m h → MayAnnounce h m.parts
 may-announce m h r = record { hart = kept-there m h r.act; running = running-kept m h r; free = running-free m h r }
 
 -- the machine in which a call was announced
-pub announced-call : (m : Held) (h : ℕ) (call : Call) (r : MayRun m h) → call ≡ own_call h (hart_of m.harts h) →
+pub announced-call : (m : Held) (h : ℕ) (call : Call) (r : MayRun m h) → call ≡ own_call h (hart_among m.harts h) →
     with_kept h (announced h (range_of m.parts call).0 (range_of m.parts call).1) m ≡ now_announced m h r
 announced-call m h call r e = ap (λ (k : Call). with_kept h (announced h (range_of m.parts k).0 (range_of m.parts k).1) m) e
 
 -- a call that was announced and is ready
-module _ (m s : Held) (h : ℕ) (call : Call) (r : MayRun m h) (own : call ≡ own_call h (hart_of m.harts h)) (now : s ≡ now_announced m h r)
+module _ (m s : Held) (h : ℕ) (call : Call) (r : MayRun m h) (own : call ≡ own_call h (hart_among m.harts h)) (now : s ≡ now_announced m h r)
     (must : is_announced call.number ≡ true) (ready : is_ready h s.parts.harts ≡ true) where
-  must' : is_announced (own_call h (hart_of m.harts h)).number ≡ true
+  must' : is_announced (own_call h (hart_among m.harts h)).number ≡ true
   must' = ap (λ (k : Call). is_announced k.number) (sym own) ∙ must
 
   ready' : is_ready h (now_announced m h r).parts.harts ≡ true
@@ -44,28 +44,28 @@ module _ (m s : Held) (h : ℕ) (call : Call) (r : MayRun m h) (own : call ≡ o
   pub asked-serving : IsServing s h call
   asked-serving =
       subst (λ (k : Call). IsServing s h k) (sym own)
-      (subst (λ (n : Held). IsServing n h (own_call h (hart_of m.harts h))) (sym now) (serving-announced m h r must' ready'))
+      (subst (λ (n : Held). IsServing n h (own_call h (hart_among m.harts h))) (sym now) (serving-announced m h r must' ready'))
 
   pub asked-made : (n : Held) (e : Events) → IsMade s n e T.Called (served (reads_of s) (core_in s) h (hart_in s h) call) →
       IsMade m n e T.Called (made_by m h (Asks (call_of h (hart_in m h))))
   asked-made n e i =
       subst (λ (d : Made). IsMade m n e T.Called d) (sym (made-served m h r true true must' ready' refl))
       (from-announced m h r n e
-      (subst (λ (t : Held). IsMade t n e T.Called (served (reads_of t) (core_in t) h (hart_in t h) (own_call h (hart_of m.harts h)))) now
+      (subst (λ (t : Held). IsMade t n e T.Called (served (reads_of t) (core_in t) h (hart_in t h) (own_call h (hart_among m.harts h)))) now
       (subst (λ (k : Call). IsMade s n e T.Called (served (reads_of s) (core_in s) h (hart_in s h) k)) own i)))
 
 -- a call that isn't announced
-module _ (m s : Held) (h : ℕ) (call : Call) (r : MayRun m h) (own : call ≡ own_call h (hart_of m.harts h)) (same : s ≡ m) (plain : is_announced call.number ≡ false) where
-  plain' : is_announced (own_call h (hart_of m.harts h)).number ≡ false
+module _ (m s : Held) (h : ℕ) (call : Call) (r : MayRun m h) (own : call ≡ own_call h (hart_among m.harts h)) (same : s ≡ m) (plain : is_announced call.number ≡ false) where
+  plain' : is_announced (own_call h (hart_among m.harts h)).number ≡ false
   plain' = ap (λ (k : Call). is_announced k.number) (sym own) ∙ plain
 
   pub plain-serving : IsServing s h call
   plain-serving =
-      subst (λ (k : Call). IsServing s h k) (sym own) (subst (λ (n : Held). IsServing n h (own_call h (hart_of m.harts h))) (sym same) (serving-plain m h r plain'))
+      subst (λ (k : Call). IsServing s h k) (sym own) (subst (λ (n : Held). IsServing n h (own_call h (hart_among m.harts h))) (sym same) (serving-plain m h r plain'))
 
   pub plain-made : (n : Held) (e : Events) → IsMade s n e T.Called (served (reads_of s) (core_in s) h (hart_in s h) call) →
       IsMade m n e T.Called (made_by m h (Asks (call_of h (hart_in m h))))
   plain-made n e i =
       subst (λ (d : Made). IsMade m n e T.Called d) (sym (made-served m h r false _ plain' refl refl))
-      (subst (λ (t : Held). IsMade t n e T.Called (served (reads_of t) (core_in t) h (hart_in t h) (own_call h (hart_of m.harts h)))) same
+      (subst (λ (t : Held). IsMade t n e T.Called (served (reads_of t) (core_in t) h (hart_in t h) (own_call h (hart_among m.harts h)))) same
       (subst (λ (k : Call). IsMade s n e T.Called (served (reads_of s) (core_in s) h (hart_in s h) k)) own i))

@@ -29,7 +29,7 @@ use Rattle.mx_supervisor.proofs.Modules.{length-modules}
 use Rattle.mx_machine.specs.declared.hart.Progress.{Progress}
 use Rattle.mx_machine.specs.declared.hart.Progress.TheVariants as G
 use Rattle.mx_machine.specs.Actions.{counted, heard}
-use Rattle.mx_machine.specs.Harts.{hart_of, hearers, own_call, status_by}
+use Rattle.mx_machine.specs.Harts.{hart_among, hearers, own_call, status_by}
 use Rattle.mx_machine.specs.Held.{Held, meaning, rest_of}
 use Rattle.mx_machine.specs.Made.{core_in, made_by, made_after_hearing, hart_in, instruction, reads_of}
 use Rattle.mx_machine.specs.AtGate.{IsAtGate, gate_here}
@@ -41,35 +41,35 @@ use Rattle.mx_machine.proofs.HomeLaws.{module-dead, modules-beside}
 use Rattle.mx_machine.proofs.InstructLaws.{seen-running}
 
 -- a running hart, in a dead domain or in a live one
-runs-as : (m : Held) (h : ℕ) (b : Bool) → MayRun m h → get_or m.dead (hart_of m.harts h).domain false ≡ b →
+runs-as : (m : Held) (h : ℕ) (b : Bool) → MayRun m h → get_or m.dead (hart_among m.harts h).domain false ≡ b →
     made_after_hearing m h ≡ enacted (reads_of m) (core_in m) h (runs_in (reads_of m) (core_in m) h (hart_in m h) b)
 runs-as m h b r e =
     let q = reads_of m in
     let c = core_in m in
     let s = hart_in m h in
-    let x = hart_of m.harts h in
+    let x = hart_among m.harts h in
     ap (λ (t : Status). enacted q c h (by_status q c h s t)) (ap (λ (y : Seen). y.status) (seen-running m h r))
     ∙ ap (λ (d : Bool). enacted q c h (runs_in q c h s d))
     (ap (λ (y : Seen). (module_at c y.domain).dead) (seen-running m h r) ∙ module-dead m x.domain r.act.fits (here m x.domain r.act.fits r.act.domain) ∙ e)
 
-pub acts-dead : (m : Held) (h pc : ℕ) → MayRun m h → get_or m.dead (hart_of m.harts h).domain false ≡ true → pc ≡ (hart_of m.harts h).pc → made_after_hearing m h ≡ made_by m h (Traps 20 pc)
+pub acts-dead : (m : Held) (h pc : ℕ) → MayRun m h → get_or m.dead (hart_among m.harts h).domain false ≡ true → pc ≡ (hart_among m.harts h).pc → made_after_hearing m h ≡ made_by m h (Traps 20 pc)
 acts-dead m h pc r e p =
     runs-as m h true r e
     ∙ ap (λ (n : ℕ). made_by m h (Traps 20 n)) (ap (λ (y : Seen). y.pc) (seen-running m h r) ∙ sym p)
 
 -- the gate at its pc, as the machine looks it up
-gate-is : (m : Held) (h d pc : ℕ) (o : Option ℕ) → MayRun m h → d ≡ (hart_of m.harts h).domain → pc ≡ (hart_of m.harts h).pc → gate_here m d pc ≡ o →
+gate-is : (m : Held) (h d pc : ℕ) (o : Option ℕ) → MayRun m h → d ≡ (hart_among m.harts h).domain → pc ≡ (hart_among m.harts h).pc → gate_here m d pc ≡ o →
     target_from (core_in m) (hart_in m h).domain (hart_in m h).pc ≡ o
 gate-is m h d pc o r ed ep e =
     ap (λ (y : Seen). target_from (core_in m) y.domain y.pc) (seen-running m h r)
-    ∙ ap (λ n. gate_here m n (hart_of m.harts h).pc) (sym ed) ∙ ap (λ n. gate_here m d n) (sym ep) ∙ e
+    ∙ ap (λ n. gate_here m n (hart_among m.harts h).pc) (sym ed) ∙ ap (λ n. gate_here m d n) (sym ep) ∙ e
 
-pub at-gate-here : (m : Held) (h d pc t : ℕ) → MayRun m h → d ≡ (hart_of m.harts h).domain → pc ≡ (hart_of m.harts h).pc → get_or m.dead d false ≡ false → gate_here m d pc ≡ Some t →
+pub at-gate-here : (m : Held) (h d pc t : ℕ) → MayRun m h → d ≡ (hart_among m.harts h).domain → pc ≡ (hart_among m.harts h).pc → get_or m.dead d false ≡ false → gate_here m d pc ≡ Some t →
     IsAtGate m h t
 at-gate-here m h d pc t r ed ep alive e = record {
   run = r;
   alive = ap (λ n. get_or m.dead n false) (sym ed) ∙ alive;
-  gate = ap (λ n. gate_here m n (hart_of m.harts h).pc) (sym ed) ∙ ap (λ n. gate_here m d n) (sym ep) ∙ e;
+  gate = ap (λ n. gate_here m n (hart_among m.harts h).pc) (sym ed) ∙ ap (λ n. gate_here m d n) (sym ep) ∙ e;
 }
 
 -- the gate leads into a module
@@ -90,7 +90,7 @@ target-domain m d pc t v f e =
     record { first = p.first; last = omega (arith, p.last, length-modules (rest_of m) 1 m.parts.heaps, f.sound.heaps) }
 
 -- no gate, a return gate, and a call gate
-pub acts-plain : (m : Held) (h d pc : ℕ) → MayRun m h → d ≡ (hart_of m.harts h).domain → pc ≡ (hart_of m.harts h).pc → get_or m.dead d false ≡ false → gate_here m d pc ≡ None →
+pub acts-plain : (m : Held) (h d pc : ℕ) → MayRun m h → d ≡ (hart_among m.harts h).domain → pc ≡ (hart_among m.harts h).pc → get_or m.dead d false ≡ false → gate_here m d pc ≡ None →
     (made_after_hearing m h ≡ instruction m h) × (false ≡ is_return_at (core_in m) (hart_in m h).domain (hart_in m h).pc)
 acts-plain m h d pc r ed ep alive e =
     let g = at-no-gate (core_in m) (hart_in m h).domain (hart_in m h).pc (gate-is m h d pc None r ed ep e) in (
@@ -99,10 +99,10 @@ acts-plain m h d pc r ed ep alive e =
       sym g.1,
     )
 
-pub acts-return : (m : Held) (h t : ℕ) → IsAtGate m h t → t ≡ (hart_of m.harts h).domain →
+pub acts-return : (m : Held) (h t : ℕ) → IsAtGate m h t → t ≡ (hart_among m.harts h).domain →
     (made_after_hearing m h ≡ instruction m h) × (true ≡ is_return_at (core_in m) (hart_in m h).domain (hart_in m h).pc)
 acts-return m h t a own =
-    let x = hart_of m.harts h in
+    let x = hart_among m.harts h in
     let own' : t ≡ (hart_in m h).domain = own ∙ sym (ap (λ (y : Seen). y.domain) (seen-running m h a.run)) in
     let g = at-return-gate (core_in m) (hart_in m h).domain (hart_in m h).pc t (gate-is m h x.domain x.pc (Some t) a.run refl refl a.gate) own' in (
       runs-as m h false a.run a.alive ∙ ap (λ (o : Option ℕ). enacted (reads_of m) (core_in m) h (runs_at (reads_of m) (core_in m) h (hart_in m h) o)) g.0,
@@ -119,10 +119,10 @@ at-gate-looks c s t =
       | false ↦ refl
     ]
 
-pub acts-gate : (m : Held) (h t : ℕ) → IsAtGate m h t → t ≢ (hart_of m.harts h).domain → made_after_hearing m h ≡ made_by m h (at_gate (core_in m) (hart_in m h) t).action
+pub acts-gate : (m : Held) (h t : ℕ) → IsAtGate m h t → t ≢ (hart_among m.harts h).domain → made_after_hearing m h ≡ made_by m h (at_gate (core_in m) (hart_in m h) t).action
 acts-gate m h t a other =
     let s = hart_in m h in
-    let x = hart_of m.harts h in
+    let x = hart_among m.harts h in
     let other' : t ≢ s.domain = λ q. other (q ∙ ap (λ (y : Seen). y.domain) (seen-running m h a.run)) in
     let g = at-call-gate (core_in m) s.domain s.pc t (gate-is m h x.domain x.pc (Some t) a.run refl refl a.gate) other' in
     runs-as m h false a.run a.alive
@@ -130,8 +130,8 @@ acts-gate m h t a other =
     ∙ ap (λ (ls : List Look). acted (reads_of m) (looked_all (reads_of m) h ls (core_in m)) h s (at_gate (core_in m) s t).action) (at-gate-looks (core_in m) s t)
 
 -- at a call gate by its three tests
-gate-by : (m : Held) (h t : ℕ) (a b f : Bool) → MayRun m h → IsDomain m.parts.maps t → (reg (hart_of m.harts h).regs 1 % 4 == 0) ≡ a → get_or m.dead t false ≡ b →
-    nat_le most_frames (length (hart_of m.harts h).frames) ≡ f →
+gate-by : (m : Held) (h t : ℕ) (a b f : Bool) → MayRun m h → IsDomain m.parts.maps t → (reg (hart_among m.harts h).regs 1 % 4 == 0) ≡ a → get_or m.dead t false ≡ b →
+    nat_le most_frames (length (hart_among m.harts h).frames) ≡ f →
     (at_gate (core_in m) (hart_in m h) t).action
     ≡ (cond (not a) (traps 19 (reg (hart_in m h).regs 1)) (cond b (without_look Bounces) (cond f (traps 16 (hart_in m h).pc) (without_look (Crosses t))))).action
 gate-by m h t a b f r dom ea eb ef =
@@ -147,39 +147,39 @@ gate-by m h t a b f r dom ea eb ef =
     ∙ ap (λ (z : Bool). (cond (not a) one (cond z two (cond full three four))).action) (module-dead m t r.act.fits (here m t r.act.fits dom) ∙ eb)
     ∙ ap (λ (z : Bool). (cond (not a) one (cond b two (cond z three four))).action) (ap (λ (y : Seen). nat_le most_frames (length y.frames)) (seen-running m h r) ∙ ef)
 
-pub gate-crooked : (m : Held) (h t link : ℕ) → MayRun m h → IsDomain m.parts.maps t → link ≡ reg (hart_of m.harts h).regs 1 → (link % 4 == 0) ≡ false →
+pub gate-crooked : (m : Held) (h t link : ℕ) → MayRun m h → IsDomain m.parts.maps t → link ≡ reg (hart_among m.harts h).regs 1 → (link % 4 == 0) ≡ false →
     made_by m h (at_gate (core_in m) (hart_in m h) t).action ≡ made_by m h (Traps 19 link)
 gate-crooked m h t link r dom el e =
     ap (made_by m h) (gate-by m h t false _ _ r dom (ap (λ n. n % 4 == 0) (sym el) ∙ e) refl refl)
     ∙ ap (λ n. made_by m h (Traps 19 n)) (ap (λ (y : Seen). reg y.regs 1) (seen-running m h r) ∙ sym el)
 
-pub gate-bounces : (m : Held) (h t link : ℕ) → MayRun m h → IsDomain m.parts.maps t → link ≡ reg (hart_of m.harts h).regs 1 → (link % 4 == 0) ≡ true → get_or m.dead t false ≡ true →
+pub gate-bounces : (m : Held) (h t link : ℕ) → MayRun m h → IsDomain m.parts.maps t → link ≡ reg (hart_among m.harts h).regs 1 → (link % 4 == 0) ≡ true → get_or m.dead t false ≡ true →
     made_by m h (at_gate (core_in m) (hart_in m h) t).action ≡ made_by m h Bounces
 gate-bounces m h t link r dom el e d = ap (made_by m h) (gate-by m h t true true _ r dom (ap (λ n. n % 4 == 0) (sym el) ∙ e) d refl)
 
-pub gate-full : (m : Held) (h t link pc : ℕ) → MayRun m h → IsDomain m.parts.maps t → link ≡ reg (hart_of m.harts h).regs 1 → (link % 4 == 0) ≡ true → get_or m.dead t false ≡ false →
-    nat_le most_frames (length (hart_of m.harts h).frames) ≡ true → pc ≡ (hart_of m.harts h).pc →
+pub gate-full : (m : Held) (h t link pc : ℕ) → MayRun m h → IsDomain m.parts.maps t → link ≡ reg (hart_among m.harts h).regs 1 → (link % 4 == 0) ≡ true → get_or m.dead t false ≡ false →
+    nat_le most_frames (length (hart_among m.harts h).frames) ≡ true → pc ≡ (hart_among m.harts h).pc →
     made_by m h (at_gate (core_in m) (hart_in m h) t).action ≡ made_by m h (Traps 16 pc)
 gate-full m h t link pc r dom el e d f ep =
     ap (made_by m h) (gate-by m h t true false true r dom (ap (λ n. n % 4 == 0) (sym el) ∙ e) d f)
     ∙ ap (λ n. made_by m h (Traps 16 n)) (ap (λ (y : Seen). y.pc) (seen-running m h r) ∙ sym ep)
 
-pub gate-crosses : (m : Held) (h t link : ℕ) → MayRun m h → IsDomain m.parts.maps t → link ≡ reg (hart_of m.harts h).regs 1 → (link % 4 == 0) ≡ true → get_or m.dead t false ≡ false →
-    nat_le most_frames (length (hart_of m.harts h).frames) ≡ false → made_by m h (at_gate (core_in m) (hart_in m h) t).action ≡ made_by m h (Crosses t)
+pub gate-crosses : (m : Held) (h t link : ℕ) → MayRun m h → IsDomain m.parts.maps t → link ≡ reg (hart_among m.harts h).regs 1 → (link % 4 == 0) ≡ true → get_or m.dead t false ≡ false →
+    nat_le most_frames (length (hart_among m.harts h).frames) ≡ false → made_by m h (at_gate (core_in m) (hart_in m h) t).action ≡ made_by m h (Crosses t)
 gate-crosses m h t link r dom el e d f = ap (made_by m h) (gate-by m h t true false false r dom (ap (λ n. n % 4 == 0) (sym el) ∙ e) d f)
 
 -- a waiting hart
-seen-waiting : (m : Held) (h : ℕ) → (hart_of m.harts h).progress ≡ G.Waiting →
-    (hart_in m h).status ≡ Waiting (own_call h (hart_of m.harts h)) (hearers (kept_at m.parts.harts h).flight)
+seen-waiting : (m : Held) (h : ℕ) → (hart_among m.harts h).progress ≡ G.Waiting →
+    (hart_in m h).status ≡ Waiting (own_call h (hart_among m.harts h)) (hearers (kept_at m.parts.harts h).flight)
 seen-waiting m h w =
-    let x = hart_of m.harts h in
+    let x = hart_among m.harts h in
     ap (λ (s : Seen). s.status) (hart-in m h) ∙ ap (λ (p : Progress). status_by (own_call h x) (kept_at m.parts.harts h).flight p) w
 
-pub acts-waiting : (m : Held) (h : ℕ) (b : Bool) → (hart_of m.harts h).progress ≡ G.Waiting → is_ready (core_in m) h (hearers (kept_at m.parts.harts h).flight) ≡ b →
-    made_after_hearing m h ≡ made_by m h (if b then Serves (own_call h (hart_of m.harts h)) else Waits)
+pub acts-waiting : (m : Held) (h : ℕ) (b : Bool) → (hart_among m.harts h).progress ≡ G.Waiting → is_ready (core_in m) h (hearers (kept_at m.parts.harts h).flight) ≡ b →
+    made_after_hearing m h ≡ made_by m h (if b then Serves (own_call h (hart_among m.harts h)) else Waits)
 acts-waiting m h b w e =
     ap (λ (t : Status). enacted (reads_of m) (core_in m) h (by_status (reads_of m) (core_in m) h (hart_in m h) t)) (seen-waiting m h w)
-    ∙ ap (λ (z : Bool). made_by m h (if z then Serves (own_call h (hart_of m.harts h)) else Waits)) e
+    ∙ ap (λ (z : Bool). made_by m h (if z then Serves (own_call h (hart_among m.harts h)) else Waits)) e
 
 -- the turn is counted
 pub core-counted : (m : Held) → core_in (counted m) ≡ counted_in (core_in m)
@@ -203,11 +203,11 @@ awake : (q : Reads) (c : Core) (h : ℕ) → is_halted_in (hart_at c h).status �
     turned q c h ≡ enacted q (hears h (counted_in c)) h (decide q (hears h (counted_in c)) h)
 awake q c h e = ap (λ (b : Bool). let n = cond b (counted_in c) (hears h (counted_in c)) in enacted q n h (decide q n h)) e
 
-halted-by : (call : Call) (m : Held) (h : ℕ) (p : Progress) → is_halted_in (status_by call (kept_at m.parts.harts h).flight p) ≡ false → (hart_of m.harts h).progress ≡ p →
-    call ≡ own_call h (hart_of m.harts h) → is_halted_in (hart_in m h).status ≡ false
+halted-by : (call : Call) (m : Held) (h : ℕ) (p : Progress) → is_halted_in (status_by call (kept_at m.parts.harts h).flight p) ≡ false → (hart_among m.harts h).progress ≡ p →
+    call ≡ own_call h (hart_among m.harts h) → is_halted_in (hart_in m h).status ≡ false
 halted-by call m h p e w q =
     ap (λ (s : Seen). is_halted_in s.status) (hart-in m h)
-    ∙ ap (λ (g : Progress). is_halted_in (status_by (own_call h (hart_of m.harts h)) (kept_at m.parts.harts h).flight g)) w
+    ∙ ap (λ (g : Progress). is_halted_in (status_by (own_call h (hart_among m.harts h)) (kept_at m.parts.harts h).flight g)) w
     ∙ ap (λ (c : Call). is_halted_in (status_by c (kept_at m.parts.harts h).flight p)) (sym q) ∙ e
 
 heard-turn : (m : Held) (h : ℕ) → Fits m → h < length m.harts → is_halted_in (hart_in m h).status ≡ false → flat_made (meaning m) h ≡ made_after_hearing (heard h (counted m)) h
@@ -216,15 +216,15 @@ heard-turn m h f l e =
     ∙ sym (ap (λ (c : Core). enacted (reads_of m) c h (decide (reads_of m) c h))
     (core-heard (counted m) h (fits-counted m f) l ∙ ap (hears h) (core-counted m)))
 
-pub turn-running : (m : Held) (h : ℕ) → Fits m → h < length m.harts → (hart_of m.harts h).progress ≡ G.Running → flat_made (meaning m) h ≡ made_after_hearing (heard h (counted m)) h
-turn-running m h f l w = heard-turn m h f l (halted-by (own_call h (hart_of m.harts h)) m h G.Running refl w refl)
+pub turn-running : (m : Held) (h : ℕ) → Fits m → h < length m.harts → (hart_among m.harts h).progress ≡ G.Running → flat_made (meaning m) h ≡ made_after_hearing (heard h (counted m)) h
+turn-running m h f l w = heard-turn m h f l (halted-by (own_call h (hart_among m.harts h)) m h G.Running refl w refl)
 
-pub turn-waiting : (m : Held) (h : ℕ) → Fits m → h < length m.harts → (hart_of m.harts h).progress ≡ G.Waiting → flat_made (meaning m) h ≡ made_after_hearing (heard h (counted m)) h
-turn-waiting m h f l w = heard-turn m h f l (halted-by (own_call h (hart_of m.harts h)) m h G.Waiting refl w refl)
+pub turn-waiting : (m : Held) (h : ℕ) → Fits m → h < length m.harts → (hart_among m.harts h).progress ≡ G.Waiting → flat_made (meaning m) h ≡ made_after_hearing (heard h (counted m)) h
+turn-waiting m h f l w = heard-turn m h f l (halted-by (own_call h (hart_among m.harts h)) m h G.Waiting refl w refl)
 
-pub turn-halted : (m : Held) (h : ℕ) (code : Option ℕ) → (hart_of m.harts h).progress ≡ G.Halted code → flat_made (meaning m) h ≡ made T.Idle (counted_in (core_in m))
+pub turn-halted : (m : Held) (h : ℕ) (code : Option ℕ) → (hart_among m.harts h).progress ≡ G.Halted code → flat_made (meaning m) h ≡ made T.Idle (counted_in (core_in m))
 turn-halted m h code w =
-    let x = hart_of m.harts h in
+    let x = hart_among m.harts h in
     turned-halted (reads_of m) (core_in m) h (hart_in m h) code refl
     (ap (λ (s : Seen). s.status) (hart-in m h) ∙ ap (λ (p : Progress). status_by (own_call h x) (kept_at m.parts.harts h).flight p) w)
 

@@ -7,7 +7,7 @@ use Rattle.mx_check.specs.Harts.{halts as counts_as_halted}
 use Rattle.mx_check.specs.Harts.{no_hart as no_kept}
 use Rattle.mx_machine.specs.declared.hart.Hart.{Hart}
 use Rattle.mx_machine.specs.Actions.{halted_first}
-use Rattle.mx_machine.specs.Harts.{hart_of, is_halted}
+use Rattle.mx_machine.specs.Harts.{hart_among, is_halted}
 use Rattle.mx_machine.proofs.FitLaws.{count-step, others-step, own-step}
 
 -- calls in flight stay where a hart counts as halted
@@ -34,10 +34,10 @@ count-at false kept n = refl
 
 pub halted-count : (n : ℕ) (harts : List Hart) (kept : List Kept) → length (halted_first n harts kept) ≡ length kept
 halted-count zero harts kept = refl
-halted-count (suc n) harts kept = count-at (is_halted (hart_of harts n).progress) (halted_first n harts kept) n ∙ halted-count n harts kept
+halted-count (suc n) harts kept = count-at (is_halted (hart_among harts n).progress) (halted_first n harts kept) n ∙ halted-count n harts kept
 
 pub halted-flight : (n : ℕ) (harts : List Hart) (kept : List Kept) (h : ℕ) → (hart_at (halted_first n harts kept) h).flight ≡ (hart_at kept h).flight
 halted-flight zero harts kept h = refl
-halted-flight (suc n) harts kept h = flight-at (is_halted (hart_of harts n).progress) (halted_first n harts kept) n h ∙ halted-flight n harts kept h
+halted-flight (suc n) harts kept h = flight-at (is_halted (hart_among harts n).progress) (halted_first n harts kept) n h ∙ halted-flight n harts kept h
 
 -- the place after one, and where a loop ends

@@ -3,11 +3,11 @@ use Rattle.std.proofs.Common.{◌≡◌, ℕ, ◌<◌, List, length, get_or, set
 use Rattle.std.proofs.lemmas.List.{get_or_default}
 use Rattle.std.proofs.SliceLists.{take-set}
 use Rattle.mx_machine.specs.declared.hart.Hart.{Hart}
-use Rattle.mx_machine.specs.Harts.{no_hart, hart_of, stepped}
+use Rattle.mx_machine.specs.Harts.{no_hart, hart_among, stepped}
 
 module _ (n : ℕ) (items : List Hart) (harts : List Hart) (h : ℕ) (d : Hart) (view : take n items ≡ harts) (there : h < length harts) where
   -- the part that is read is the hart
-  pub hart_read : get_or items h d ≡ hart_of harts h
+  pub hart_read : get_or items h d ≡ hart_among harts h
   hart_read =
       let long : h < length (take n items) = omega (arith, ap length view) in
       let low : h < n = omega (arith, length-take n items) in

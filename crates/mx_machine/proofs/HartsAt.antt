@@ -5,7 +5,7 @@ use Rattle.mx_check.specs.Harts.{Kept, hart_at}
 use Rattle.mx_model.specs.State.{Hart as Seen}
 use Rattle.mx_model.specs.State.{no_hart as nobody_seen}
 use Rattle.mx_machine.specs.declared.hart.Hart.{Hart}
-use Rattle.mx_machine.specs.Harts.{no_hart, hart_of, own_call, seen, seen_with, seen_from, status_by}
+use Rattle.mx_machine.specs.Harts.{no_hart, hart_among, own_call, seen, seen_with, seen_from, status_by}
 use Rattle.mx_machine.specs.Held.{Held}
 use Rattle.mx_machine.specs.Made.{hart_in}
 
@@ -20,10 +20,10 @@ seen-at n (suc i) (x ∷ xs) kept = let e : (n + 1) + i ≡ n + suc i = omega ar
     seen-at (n + 1) i xs kept ∙ ap (λ k. seen k (get_or xs i no_hart) (hart_at kept k)) e
 
 -- hart h of the state
-pub hart-seen : (xs : List Hart) (kept : List Kept) (h : ℕ) → get_or (seen_from 0 xs kept) h nobody_seen ≡ seen h (hart_of xs h) (hart_at kept h)
+pub hart-seen : (xs : List Hart) (kept : List Kept) (h : ℕ) → get_or (seen_from 0 xs kept) h nobody_seen ≡ seen h (hart_among xs h) (hart_at kept h)
 hart-seen xs kept h = seen-at 0 h xs kept ∙ ap (λ k. seen k (get_or xs h no_hart) (hart_at kept k)) (zero-add h)
 
-pub hart-in : (m : Held) (h : ℕ) → hart_in m h ≡ seen h (hart_of m.harts h) (hart_at m.parts.harts h)
+pub hart-in : (m : Held) (h : ℕ) → hart_in m h ≡ seen h (hart_among m.harts h) (hart_at m.parts.harts h)
 hart-in m h = hart-seen m.harts m.parts.harts h
 
 -- of what the checker keeps of a hart, its call in flight alone is seen

@@ -33,7 +33,7 @@ use Rattle.mx_machine.specs.declared.hart.Hart.{Hart}
 use Rattle.mx_machine.specs.declared.hart.Progress.{Progress}
 use Rattle.mx_machine.specs.declared.hart.Progress.TheVariants as G
 use Rattle.mx_machine.specs.Actions.{heard}
-use Rattle.mx_machine.specs.Harts.{hart_of, hearers, is_halted, no_hart, own_call, seen, seen_from, status_by}
+use Rattle.mx_machine.specs.Harts.{hart_among, hearers, is_halted, no_hart, own_call, seen, seen_from, status_by}
 use Rattle.mx_machine.specs.Held.{Held, rest_of}
 use Rattle.mx_machine.specs.Made.{core_in}
 use Rattle.mx_machine.specs.Ties.{Fits, FliesWhileWaiting, IsFlying, IsTied}
@@ -44,7 +44,7 @@ use mathlib.Core.Bool.{not-not}
 
 -- the other harts are tied
 abbrev pub OthersTied : Held → ℕ → Type 0
-OthersTied m h = (i : ℕ) → i ≢ h → IsTied (range_of m.parts) i (hart_of m.harts i) (hart_at m.parts.harts i)
+OthersTied m h = (i : ℕ) → i ≢ h → IsTied (range_of m.parts) i (hart_among m.harts i) (hart_at m.parts.harts i)
 
 -- where no call is in flight, hearing changes nothing, and all are heard
 pub heard-quiet : (kept : List Kept) (h : ℕ) → ((i : ℕ) → (hart_at kept i).flight ≡ None) → hears h kept ≡ kept
@@ -88,18 +88,18 @@ halted-seen call flight G.Waiting = refl
 halted-seen call flight (G.Halted code) = refl
 
 -- an equation of each hart of the state is one of each hart of the machine
-module _ {Y : Type 0} (f : ℕ → Seen → Y) (g : ℕ → Y) (xs : List Hart) (kept : List Kept) (each : (j : ℕ) → f j (seen j (hart_of xs j) (hart_at kept j)) ≡ g j) where
+module _ {Y : Type 0} (f : ℕ → Seen → Y) (g : ℕ → Y) (xs : List Hart) (kept : List Kept) (each : (j : ℕ) → f j (seen j (hart_among xs j) (hart_at kept j)) ≡ g j) where
   numbered : (j : ℕ) → f (0 + j) (get_or (seen_from 0 xs kept) j nobody_seen) ≡ g (0 + j)
   numbered j =
       ap (f (0 + j)) (hart-seen xs kept j)
-      ∙ ap (λ k. f k (seen j (hart_of xs j) (hart_at kept j))) (zero-add j) ∙ each j ∙ ap g (sym (zero-add j))
+      ∙ ap (λ k. f k (seen j (hart_among xs j) (hart_at kept j))) (zero-add j) ∙ each j ∙ ap g (sym (zero-add j))
 
 -- what a choice takes of another hart's call in flight
 module _ (m : Held) (h : ℕ) (choice : List Bool → ℕ × ℕ → Option (ℕ × ℕ)) where
-  taken-other : (j : ℕ) → IsTied (range_of m.parts) j (hart_of m.harts j) (hart_at m.parts.harts j) →
-      flight_range (core_in m) choice (seen j (hart_of m.harts j) (hart_at m.parts.harts j)).status ≡ taken choice (hart_at m.parts.harts j).flight
+  taken-other : (j : ℕ) → IsTied (range_of m.parts) j (hart_among m.harts j) (hart_at m.parts.harts j) →
+      flight_range (core_in m) choice (seen j (hart_among m.harts j) (hart_at m.parts.harts j)).status ≡ taken choice (hart_at m.parts.harts j).flight
   taken-other j t =
-      let x = hart_of m.harts j in
+      let x = hart_among m.harts j in
       let k = hart_at m.parts.harts j in
       status-taken choice (core_in m) (own_call j x) (range_of m.parts (own_call j x)) k.flight x.progress (range-is (rest_of m) m.parts (own_call j x)) t.flight
 
@@ -109,14 +109,14 @@ unheard-taken h None = refl
 unheard-taken h (Some f) = refl
 
 unheard-alike : (m : Held) (h : ℕ) → OthersTied m h → (j : ℕ) →
-    cond (j == h) None (flight_range (core_in m) (unheard_range h) (seen j (hart_of m.harts j) (hart_at m.parts.harts j)).status) ≡ unheard h j m.parts.harts
+    cond (j == h) None (flight_range (core_in m) (unheard_range h) (seen j (hart_among m.harts j) (hart_at m.parts.harts j)).status) ≡ unheard h j m.parts.harts
 unheard-alike m h others j = by (cases_eq j h)
   where
     by : (j ≡ h) ⊎ (j ≢ h) →
-        cond (j == h) None (flight_range (core_in m) (unheard_range h) (seen j (hart_of m.harts j) (hart_at m.parts.harts j)).status) ≡ unheard h j m.parts.harts
+        cond (j == h) None (flight_range (core_in m) (unheard_range h) (seen j (hart_among m.harts j) (hart_at m.parts.harts j)).status) ≡ unheard h j m.parts.harts
     by (inl e) =
         let same : (j == h) ≡ true = eq-eqb j h e in
-        ap (λ b. cond b None (flight_range (core_in m) (unheard_range h) (seen j (hart_of m.harts j) (hart_at m.parts.harts j)).status)) same
+        ap (λ b. cond b None (flight_range (core_in m) (unheard_range h) (seen j (hart_among m.harts j) (hart_at m.parts.harts j)).status)) same
         ∙ sym (ap (λ b. cond b None (unheard_of h (hart_at m.parts.harts j).flight)) same)
     by (inr ne) =
         ap (λ (o : Option (ℕ × ℕ)). cond (j == h) None o)
@@ -132,39 +132,39 @@ bars-taken h s (Some f) = by (is_in f.heard h)
     by false = refl
 
 hart-bars : (m : Held) (h : ℕ) (s : Span) → OthersTied m h → (j : ℕ) →
-    some_passes (λ (r : ℕ × ℕ). meets s r.0 r.1) (cond (j == h) None (flight_range (core_in m) (heard_range h) (seen j (hart_of m.harts j) (hart_at m.parts.harts j)).status))
+    some_passes (λ (r : ℕ × ℕ). meets s r.0 r.1) (cond (j == h) None (flight_range (core_in m) (heard_range h) (seen j (hart_among m.harts j) (hart_at m.parts.harts j)).status))
     ≡ hart_forbids h s m.parts.harts j
 hart-bars m h s others j = by (cases_eq j h)
   where
     by : (j ≡ h) ⊎ (j ≢ h) →
-        some_passes (λ (r : ℕ × ℕ). meets s r.0 r.1) (cond (j == h) None (flight_range (core_in m) (heard_range h) (seen j (hart_of m.harts j) (hart_at m.parts.harts j)).status))
+        some_passes (λ (r : ℕ × ℕ). meets s r.0 r.1) (cond (j == h) None (flight_range (core_in m) (heard_range h) (seen j (hart_among m.harts j) (hart_at m.parts.harts j)).status))
         ≡ hart_forbids h s m.parts.harts j
     by (inl e) =
         let same : (j == h) ≡ true = eq-eqb j h e in
         ap (λ b. some_passes (λ (r : ℕ × ℕ). meets s r.0 r.1)
-        (cond b None (flight_range (core_in m) (heard_range h) (seen j (hart_of m.harts j) (hart_at m.parts.harts j)).status))) same
+        (cond b None (flight_range (core_in m) (heard_range h) (seen j (hart_among m.harts j) (hart_at m.parts.harts j)).status))) same
         ∙ sym (ap (λ b. not b && flight_forbids h s (hart_at m.parts.harts j).flight) same)
     by (inr ne) =
         let other : (j == h) ≡ false = ne_eqb j h ne in
         ap (λ b. some_passes (λ (r : ℕ × ℕ). meets s r.0 r.1)
-        (cond b None (flight_range (core_in m) (heard_range h) (seen j (hart_of m.harts j) (hart_at m.parts.harts j)).status))) other
+        (cond b None (flight_range (core_in m) (heard_range h) (seen j (hart_among m.harts j) (hart_at m.parts.harts j)).status))) other
         ∙ ap (λ (o : Option (ℕ × ℕ)). some_passes (λ (r : ℕ × ℕ). meets s r.0 r.1) o) (taken-other m h (heard_range h) j (others j ne))
         ∙ bars-taken h s (hart_at m.parts.harts j).flight
         ∙ sym (ap (λ b. not b && flight_forbids h s (hart_at m.parts.harts j).flight) other)
 
 -- each hart of the state, once hart h has heard its call
 hart-hears : (m : Held) (h : ℕ) → Fits m → h < length m.harts → (j : ℕ) →
-    cond (j == h) (seen j (hart_of m.harts j) (hart_at m.parts.harts j))
-    (record (seen j (hart_of m.harts j) (hart_at m.parts.harts j)) { status = heard_by h (seen j (hart_of m.harts j) (hart_at m.parts.harts j)).status })
-    ≡ seen j (hart_of m.harts j) (hart_at (hears h m.parts.harts) j)
+    cond (j == h) (seen j (hart_among m.harts j) (hart_at m.parts.harts j))
+    (record (seen j (hart_among m.harts j) (hart_at m.parts.harts j)) { status = heard_by h (seen j (hart_among m.harts j) (hart_at m.parts.harts j)).status })
+    ≡ seen j (hart_among m.harts j) (hart_at (hears h m.parts.harts) j)
 hart-hears m h f there j = by (cases_eq j h)
   where
     by : (j ≡ h) ⊎ (j ≢ h) →
-        cond (j == h) (seen j (hart_of m.harts j) (hart_at m.parts.harts j))
-        (record (seen j (hart_of m.harts j) (hart_at m.parts.harts j)) { status = heard_by h (seen j (hart_of m.harts j) (hart_at m.parts.harts j)).status })
-        ≡ seen j (hart_of m.harts j) (hart_at (hears h m.parts.harts) j)
+        cond (j == h) (seen j (hart_among m.harts j) (hart_at m.parts.harts j))
+        (record (seen j (hart_among m.harts j) (hart_at m.parts.harts j)) { status = heard_by h (seen j (hart_among m.harts j) (hart_at m.parts.harts j)).status })
+        ≡ seen j (hart_among m.harts j) (hart_at (hears h m.parts.harts) j)
     by (inl e) =
-        let x = hart_of m.harts j in
+        let x = hart_among m.harts j in
         let k = hart_at m.parts.harts j in
         let same : (j == h) ≡ true = eq-eqb j h e in
         let own : (hart_at (hears h m.parts.harts) h).flight ≡ (hart_at m.parts.harts h).flight =
@@ -174,7 +174,7 @@ hart-hears m h f there j = by (cases_eq j h)
         ap (λ b. cond b (seen j x k) (record (seen j x k) { status = heard_by h (seen j x k).status })) same
         ∙ ap (λ (o : Option Flight). record (seen j x k) { status = status_by (own_call j x) o x.progress }) flight
     by (inr ne) =
-        let x = hart_of m.harts j in
+        let x = hart_among m.harts j in
         let k = hart_at m.parts.harts j in
         let t = f.ties j in
         let other : (j == h) ≡ false = ne_eqb j h ne in
@@ -214,11 +214,11 @@ module _ (m : Held) (h : ℕ) (f : Fits m) (there : h < length m.harts) where
   harts-heard : (heard_in h (core_in m)).harts ≡ seen_from 0 m.harts (hears h m.parts.harts)
   harts-heard =
       edited (λ (p : ℕ × Seen). cond (p.0 == h) p.1 (record p.1 { status = heard_by h p.1.status })) (hears h m.parts.harts) 0 m.harts m.parts.harts
-      (λ j. ap (λ k. cond (k == h) (seen k (hart_of m.harts j) (hart_at m.parts.harts k))
-      (record (seen k (hart_of m.harts j) (hart_at m.parts.harts k)) { status = heard_by h (seen k (hart_of m.harts j) (hart_at m.parts.harts k)).status }))
+      (λ j. ap (λ k. cond (k == h) (seen k (hart_among m.harts j) (hart_at m.parts.harts k))
+      (record (seen k (hart_among m.harts j) (hart_at m.parts.harts k)) { status = heard_by h (seen k (hart_among m.harts j) (hart_at m.parts.harts k)).status }))
       (zero-add j)
       ∙ hart-hears m h f there j
-      ∙ ap (λ k. seen k (hart_of m.harts j) (hart_at (hears h m.parts.harts) k)) (sym (zero-add j)))
+      ∙ ap (λ k. seen k (hart_among m.harts j) (hart_at (hears h m.parts.harts) k)) (sym (zero-add j)))
 
   ranges-heard : (c : Cache) →
       fold (λ cache (r : ℕ × ℕ). without_range r.0 r.1 cache) c (unheard_ranges (core_in m) h)
@@ -257,12 +257,12 @@ tied-still range i x now before halted domain flight t = record {
   domain = subst (λ (o : Option ℕ). IfSome o (λ d. d ≡ x.domain)) (sym domain) t.domain;
 }
 
-tied-heard : (m : Held) (h : ℕ) → Fits m → h < length m.harts → (i : ℕ) → IsTied (range_of m.parts) i (hart_of m.harts i) (hart_at (hears h m.parts.harts) i)
+tied-heard : (m : Held) (h : ℕ) → Fits m → h < length m.harts → (i : ℕ) → IsTied (range_of m.parts) i (hart_among m.harts i) (hart_at (hears h m.parts.harts) i)
 tied-heard m h f there i = by (cases_eq i h)
   where
-    by : (i ≡ h) ⊎ (i ≢ h) → IsTied (range_of m.parts) i (hart_of m.harts i) (hart_at (hears h m.parts.harts) i)
+    by : (i ≡ h) ⊎ (i ≢ h) → IsTied (range_of m.parts) i (hart_among m.harts i) (hart_at (hears h m.parts.harts) i)
     by (inl e) =
-        let x = hart_of m.harts i in
+        let x = hart_among m.harts i in
         let k = hart_at m.parts.harts i in
         let own : SameButCaches (hart_at (hears h m.parts.harts) i) k =
         subst (λ (n : ℕ). SameButCaches (hart_at (hears h m.parts.harts) n) (hart_at m.parts.harts n)) (sym e)
@@ -270,7 +270,7 @@ tied-heard m h f there i = by (cases_eq i h)
         tied-still (range_of m.parts) i x (hart_at (hears h m.parts.harts) i) k own.halted own.domain
         (subst (λ (o : Option Flight). FliesWhileWaiting (range_of m.parts (own_call i x)) o x.progress) (sym own.flight) (f.ties i).flight) (f.ties i)
     by (inr ne) =
-        let x = hart_of m.harts i in
+        let x = hart_among m.harts i in
         let k = hart_at m.parts.harts i in
         let other : IsHeard h (hart_at (hears h m.parts.harts) i) k = heard-at m.parts.harts h i ne in
         tied-still (range_of m.parts) i x (hart_at (hears h m.parts.harts) i) k other.halted other.domain
@@ -297,17 +297,17 @@ ready-counted m h heard f =
     sym (all-numbered (λ (p : ℕ × Seen). lets_pass h heard p.0 (halted_by p.1.status)) low nobody_seen 0 (seen_from 0 m.harts m.parts.harts)
     (numbered (λ k (x : Seen). lets_pass h heard k (halted_by x.status)) low m.harts m.parts.harts
     (λ j. ap (λ b. lets_pass h heard j b)
-    (halted-seen (own_call j (hart_of m.harts j)) (hart_at m.parts.harts j).flight (hart_of m.harts j).progress ∙ sym (f.ties j).halted))))
+    (halted-seen (own_call j (hart_among m.harts j)) (hart_at m.parts.harts j).flight (hart_among m.harts j).progress ∙ sym (f.ties j).halted))))
     ∙ ap (λ n. all_below n low) (as-many m f.count)
 
 -- a waiting hart's call may take effect in both or in neither
-pub ready-alike : (m : Held) (h : ℕ) → Fits m → h < length m.harts → (hart_of m.harts h).progress ≡ G.Waiting →
+pub ready-alike : (m : Held) (h : ℕ) → Fits m → h < length m.harts → (hart_among m.harts h).progress ≡ G.Waiting →
     is_ready (core_in m) h (hearers (hart_at m.parts.harts h).flight) ≡ ready_kept h m.parts.harts
 ready-alike m h f there w =
     by (hart_at m.parts.harts h).flight
-    (subst (λ (p : Progress). FliesWhileWaiting (range_of m.parts (own_call h (hart_of m.harts h))) (hart_at m.parts.harts h).flight p) w (f.ties h).flight)
+    (subst (λ (p : Progress). FliesWhileWaiting (range_of m.parts (own_call h (hart_among m.harts h))) (hart_at m.parts.harts h).flight p) w (f.ties h).flight)
   where
-    by : (o : Option Flight) → IsFlying (range_of m.parts (own_call h (hart_of m.harts h))) o → is_ready (core_in m) h (hearers o) ≡ ready_with h o m.parts.harts
+    by : (o : Option Flight) → IsFlying (range_of m.parts (own_call h (hart_among m.harts h))) o → is_ready (core_in m) h (hearers o) ≡ ready_with h o m.parts.harts
     by None t = absurd t
     by (Some fl) t = ready-counted m h fl.heard f
 

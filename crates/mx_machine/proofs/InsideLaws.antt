@@ -8,7 +8,7 @@ use Rattle.mx_model.specs.Valid.{IsValid}
 use Rattle.mx_machine.specs.declared.hart.Progress.TheVariants as P
 use Rattle.mx_machine.specs.Actions.{counted, heard}
 use Rattle.mx_machine.specs.AtGate.{gate_here}
-use Rattle.mx_machine.specs.Harts.{hart_of}
+use Rattle.mx_machine.specs.Harts.{hart_among}
 use Rattle.mx_machine.specs.Held.{Held}
 use Rattle.mx_machine.specs.Made.{core_in, hart_in, instruction, made_after_hearing}
 use Rattle.mx_machine.specs.Ties.{IsWhole, MayRun, RunsAlive}
@@ -25,23 +25,23 @@ pub record ActsInside (m : Held) (h : ℕ) (n : Held) : Type 0 where
   pub run : MayRun n h
   pub plain : false ≡ is_return_at (core_in n) (hart_in n h).domain (hart_in n h).pc
   pub acts : made_after_hearing n h ≡ instruction n h
-  pub at_hand : IsAtHand n.parts.size (kept_at n.parts.harts h).cache (hart_of n.harts h).pc
+  pub at_hand : IsAtHand n.parts.size (kept_at n.parts.harts h).cache (hart_among n.harts h).pc
 
 module _ (m : Held) (h : ℕ) (w : IsWhole m) (r : RunsAlive m h) where
-  pub acts-inside : (n : Held) → n ≡ counted m → IsOpen m h (hart_of m.harts h).pc → ActsInside m h n
+  pub acts-inside : (n : Held) → n ≡ counted m → IsOpen m h (hart_among m.harts h).pc → ActsInside m h n
   acts-inside n is o =
       let still = none-flies m w.fits o.quiet in
       let quiet : heard h (counted m) ≡ counted m = ap (λ (kept : List Kept). record (counted m) { parts = record m.parts { harts = kept } }) (heard-quiet m.parts.harts h still) in
       let after : n ≡ heard h (counted m) = is ∙ sym quiet in
       let all : HasHeardAll h n.parts.harts = subst (λ (k : Held). HasHeardAll h k.parts.harts) (sym is) (all-quiet m.parts.harts h still) in
       let run : MayRun n h = record { act = acts-now m h w P.Running r.runs refl n after all; runs = stands-now m h w P.Running r.runs refl n after } in
-      let gate = ap (λ (k : Held). gate_here k (hart_of k.harts h).domain (hart_of k.harts h).pc) is ∙ o.gate in
-      let plain = acts-plain n h (hart_of n.harts h).domain (hart_of n.harts h).pc run refl refl (alive-now m n h r after) gate in
+      let gate = ap (λ (k : Held). gate_here k (hart_among k.harts h).domain (hart_among k.harts h).pc) is ∙ o.gate in
+      let plain = acts-plain n h (hart_among n.harts h).domain (hart_among n.harts h).pc run refl refl (alive-now m n h r after) gate in
       record {
         after = after;
         valid = valid-now m h w P.Running r.runs refl n after;
         run = run;
         plain = plain.1;
         acts = plain.0;
-        at_hand = subst (λ (k : Held). IsAtHand k.parts.size (kept_at k.parts.harts h).cache (hart_of k.harts h).pc) (sym is) o.at_hand;
+        at_hand = subst (λ (k : Held). IsAtHand k.parts.size (kept_at k.parts.harts h).cache (hart_among k.harts h).pc) (sym is) o.at_hand;
       }

@@ -29,7 +29,7 @@ use Rattle.mx_supervisor.specs.Served.{range_of}
 use Rattle.mx_machine.specs.declared.hart.Hart.{Hart}
 use Rattle.mx_machine.specs.declared.hart.Progress.{Progress}
 use Rattle.mx_machine.specs.Actions.{after_instruction, effect_for, outcome_for, perm_for}
-use Rattle.mx_machine.specs.Harts.{no_hart, hart_of, is_waiting, own_call, seen, seen_with, status_by}
+use Rattle.mx_machine.specs.Harts.{no_hart, hart_among, is_waiting, own_call, seen, seen_with, status_by}
 use Rattle.mx_machine.specs.Held.{Held, rest_of}
 use Rattle.mx_machine.specs.Made.{IsMade, core_in, made_by, hart_in, instruction, reads_of}
 use Rattle.mx_machine.specs.Steps.{Stops, instructed, pc_after}
@@ -42,9 +42,9 @@ use Rattle.mx_machine.proofs.HearLaws.{bars-alike}
 use Rattle.mx_machine.proofs.LookLaws.{StayTied, looks-core, stay-all}
 
 -- a running hart of the state
-pub seen-running : (m : Held) (h : ℕ) → MayRun m h → hart_in m h ≡ seen_with Running (hart_of m.harts h)
+pub seen-running : (m : Held) (h : ℕ) → MayRun m h → hart_in m h ≡ seen_with Running (hart_among m.harts h)
 seen-running m h r =
-    let x = hart_of m.harts h in
+    let x = hart_among m.harts h in
     hart-in m h ∙ ap (λ (p : Progress). seen_with (status_by (own_call h x) (hart_at m.parts.harts h).flight p) x) r.runs
 
 -- RAM keeps its length
@@ -89,14 +89,14 @@ action-still h hart a b (O.Back rd target) s = refl
 
 -- the machine after an instruction fits
 module _ (m : Held) (h : ℕ) (returns : Bool) (r : MayRun m h) where
-  after-stays : let x = hart_of m.harts h in StayTied h x.domain m.parts.harts (after_instruction h returns m).parts.harts
+  after-stays : let x = hart_among m.harts h in StayTied h x.domain m.parts.harts (after_instruction h returns m).parts.harts
   after-stays =
-      let x = hart_of m.harts h in
+      let x = hart_among m.harts h in
       stay-all m.parts h x.domain (fetch_touch x.pc ∷ touches_of (effect_for m x)) m.parts.harts (kept-there m h r.act) (r.act.fits.ties h).domain
 
   pub fits-instruction : Fits (after_instruction h returns m)
   fits-instruction =
-      let x = hart_of m.harts h in
+      let x = hart_among m.harts h in
       let regs = regs_after (perm_for m x) m.parts.ram x.regs x.pc returns (effect_for m x) in
       let y = instructed regs (outcome_for m h returns) x in
       let ram = bytes_after (perm_for m x) m.parts.ram (effect_for m x) in
@@ -121,10 +121,10 @@ module _ (m : Held) (h : ℕ) (returns : Bool) (r : MayRun m h) where
   -- the hart may still run
   pub runs-instruction : MayRun (after_instruction h returns m) h
   runs-instruction =
-      let x = hart_of m.harts h in
+      let x = hart_among m.harts h in
       let regs = regs_after (perm_for m x) m.parts.ram x.regs x.pc returns (effect_for m x) in
       let y = instructed regs (outcome_for m h returns) x in
-      let own : hart_of (set m.harts h y) h ≡ y = get_or-set_same m.harts h y no_hart r.act.there in
+      let own : hart_among (set m.harts h y) h ≡ y = get_or-set_same m.harts h y no_hart r.act.there in
       let s = after-stays in
       record {
         act = record {
@@ -137,10 +137,10 @@ module _ (m : Held) (h : ℕ) (returns : Bool) (r : MayRun m h) where
       }
 
 -- the state after an instruction, by what the model says of it
-module _ (m : Held) (h : ℕ) (returns : Bool) (r : MayRun m h) (whole : length (map_of m.parts.maps (hart_of m.harts h).domain) ≡ m.parts.size)
+module _ (m : Held) (h : ℕ) (returns : Bool) (r : MayRun m h) (whole : length (map_of m.parts.maps (hart_among m.harts h).domain) ≡ m.parts.size)
     (turns_back : returns ≡ is_return_at (core_in m) (hart_in m h).domain (hart_in m h).pc) where
   abbrev pub running_hart : Seen
-  running_hart = seen_with Running (hart_of m.harts h)
+  running_hart = seen_with Running (hart_among m.harts h)
 
   abbrev pub looks_before : List Look
   looks_before = looks_of (core_in m) running_hart.domain (fetch_touch running_hart.pc ∷ touches_of (effect_in (reads_of m) (core_in m) running_hart))
@@ -150,7 +150,7 @@ module _ (m : Held) (h : ℕ) (returns : Bool) (r : MayRun m h) (whole : length 
   behind_looks = record (core_in m) { ram = bytes_in (reads_of m) (core_in m) running_hart; caches = (looked_all (reads_of m) h looks_before (core_in m)).caches }
 
   abbrev pub regs_now : List ℕ
-  regs_now = regs_after (perm_for m (hart_of m.harts h)) m.parts.ram (hart_of m.harts h).regs (hart_of m.harts h).pc returns (effect_for m (hart_of m.harts h))
+  regs_now = regs_after (perm_for m (hart_among m.harts h)) m.parts.ram (hart_among m.harts h).regs (hart_among m.harts h).pc returns (effect_for m (hart_among m.harts h))
 
   at-running : is_return_at (core_in m) running_hart.domain running_hart.pc ≡ returns
   at-running = sym (turns_back ∙ ap (λ (s : Seen). is_return_at (core_in m) s.domain s.pc) (seen-running m h r))
@@ -161,7 +161,7 @@ module _ (m : Held) (h : ℕ) (returns : Bool) (r : MayRun m h) (whole : length 
       let q = reads_of m in
       let c = core_in m in
       let s = running_hart in
-      let x = hart_of m.harts h in
+      let x = hart_among m.harts h in
       ap (λ (y : Seen). acted q (looked_all q h (runs_at q c h y None).looks c) h y (runs_at q c h y None).action) (seen-running m h r)
       ∙ ap (λ (ls : List Look). acted q (looked_all q h ls c) h s (runs_at q c h s None).action) (looks-alike q c h s)
       ∙ ap (λ (e : Core). acted q e h s (runs_at q c h s None).action) (looked_all-caches q h looks_before c)
@@ -169,9 +169,9 @@ module _ (m : Held) (h : ℕ) (returns : Bool) (r : MayRun m h) (whole : length 
       ∙ ap (λ (b : Bool). acted q behind_looks h s (action_of h s (regs_after (perm_for m x) m.parts.ram x.regs x.pc b (effect_for m x)) (outcome_of (perm_for m x) x.pc b (effect_for m x)))) at-running
 
   after-core : core_in (after_instruction h returns m)
-      ≡ with_hart h (seen h (instructed regs_now (outcome_for m h returns) (hart_of m.harts h)) (hart_at (after_instruction h returns m).parts.harts h)) behind_looks
+      ≡ with_hart h (seen h (instructed regs_now (outcome_for m h returns) (hart_among m.harts h)) (hart_at (after_instruction h returns m).parts.harts h)) behind_looks
   after-core =
-      let x = hart_of m.harts h in
+      let x = hart_among m.harts h in
       let y = instructed regs_now (outcome_for m h returns) x in
       let p = (after_instruction h returns m).parts in
       let s = after-stays m h returns r in
@@ -183,7 +183,7 @@ module _ (m : Held) (h : ℕ) (returns : Bool) (r : MayRun m h) (whole : length 
   -- it goes on
   pub made-next : (pc : ℕ) → outcome_for m h returns ≡ O.Next pc → IsMade m (after_instruction h returns m) no_events T.Ran (instruction m h)
   made-next pc e =
-      let x = hart_of m.harts h in
+      let x = hart_among m.harts h in
       let k = hart_at (after_instruction h returns m).parts.harts h in
       let y = instructed regs_now (O.Next pc) x in
       let end = acted (reads_of m) behind_looks h running_hart (action_of h running_hart regs_now (O.Next pc)) in
@@ -197,7 +197,7 @@ module _ (m : Held) (h : ℕ) (returns : Bool) (r : MayRun m h) (whole : length 
   -- it stops: the hart stands as before
   core-stopped : Stops (outcome_for m h returns) → core_in (after_instruction h returns m) ≡ behind_looks
   core-stopped st =
-      let x = hart_of m.harts h in
+      let x = hart_among m.harts h in
       let k = hart_at (after_instruction h returns m).parts.harts h in
       let still : instructed regs_now (outcome_for m h returns) x ≡ x =
       ap (λ (regs : List ℕ). instructed regs (outcome_for m h returns) x) (regs-still (perm_for m x) m.parts.ram x.regs x.pc returns (effect_for m x) st)

@@ -15,7 +15,7 @@ use Rattle.mx_model.specs.Turn.{Asks, Bounces, Crosses, Decided, Made, Returns, 
 use Rattle.mx_model.proofs.TurnCases.{ready, turned-dead, turned-serves, turned-waits}
 use Rattle.mx_machine.specs.declared.hart.Progress.{Progress}
 use Rattle.mx_machine.specs.declared.hart.Progress.TheVariants as G
-use Rattle.mx_machine.specs.Harts.{hart_of, hearers, own_call, status_by}
+use Rattle.mx_machine.specs.Harts.{hart_among, hearers, own_call, status_by}
 use Rattle.mx_machine.specs.Held.{Held, meaning}
 use Rattle.mx_machine.specs.Made.{core_in, hart_in, made_by, reads_of}
 use Rattle.mx_machine.specs.Ties.{IsWhole, RunsAlive}
@@ -72,43 +72,43 @@ gate-ended m h t =
 
 -- a hart that is halted, waits or runs in a dead domain carries out no instruction
 module _ (m : Held) (h : ℕ) (w : IsWhole m) (ran : flat_kind (meaning m) h ≡ T.Ran) where
-  status-is : (p : Progress) → (hart_of m.harts h).progress ≡ p → (hart_in m h).status ≡ status_by (own_call h (hart_of m.harts h)) (kept_at m.parts.harts h).flight p
+  status-is : (p : Progress) → (hart_among m.harts h).progress ≡ p → (hart_in m h).status ≡ status_by (own_call h (hart_among m.harts h)) (kept_at m.parts.harts h).flight p
   status-is p at =
-      ap (λ (s : Seen). s.status) (hart-in m h) ∙ ap (λ (p : Progress). status_by (own_call h (hart_of m.harts h)) (kept_at m.parts.harts h).flight p) at
+      ap (λ (s : Seen). s.status) (hart-in m h) ∙ ap (λ (p : Progress). status_by (own_call h (hart_among m.harts h)) (kept_at m.parts.harts h).flight p) at
 
-  ran-halted : (code : Option ℕ) → (hart_of m.harts h).progress ≡ G.Halted code → ⊥
+  ran-halted : (code : Option ℕ) → (hart_among m.harts h).progress ≡ G.Halted code → ⊥
   ran-halted code at =
       let e : T.Idle ≡ T.Ran = sym (ap (λ (d : Made). d.kind) (turn-halted m h code at)) ∙ ran in
       cc
 
-  ran-waiting-by : (b : Bool) → (hart_of m.harts h).progress ≡ G.Waiting → is_ready (ready (core_in m) h) h (hearers (kept_at m.parts.harts h).flight) ≡ b → ⊥
+  ran-waiting-by : (b : Bool) → (hart_among m.harts h).progress ≡ G.Waiting → is_ready (ready (core_in m) h) h (hearers (kept_at m.parts.harts h).flight) ≡ b → ⊥
   ran-waiting-by true at e =
       called-ended
-      (sym (ap (λ (d : Made). d.kind) (turned-serves (reads_of m) (core_in m) h (hart_in m h) (own_call h (hart_of m.harts h)) (hearers (kept_at m.parts.harts h).flight) refl (status-is G.Waiting at) e)) ∙ ran)
+      (sym (ap (λ (d : Made). d.kind) (turned-serves (reads_of m) (core_in m) h (hart_in m h) (own_call h (hart_among m.harts h)) (hearers (kept_at m.parts.harts h).flight) refl (status-is G.Waiting at) e)) ∙ ran)
   ran-waiting-by false at e =
       let k : T.Waited ≡ T.Ran =
-      sym (ap (λ (d : Made). d.kind) (turned-waits (reads_of m) (core_in m) h (hart_in m h) (own_call h (hart_of m.harts h)) (hearers (kept_at m.parts.harts h).flight) refl (status-is G.Waiting at) e)) ∙ ran in
+      sym (ap (λ (d : Made). d.kind) (turned-waits (reads_of m) (core_in m) h (hart_in m h) (own_call h (hart_among m.harts h)) (hearers (kept_at m.parts.harts h).flight) refl (status-is G.Waiting at) e)) ∙ ran in
       cc
 
-  ran-live : (b : Bool) → (hart_of m.harts h).progress ≡ G.Running → get_or m.dead (hart_of m.harts h).domain false ≡ b → b ≡ false
+  ran-live : (b : Bool) → (hart_among m.harts h).progress ≡ G.Running → get_or m.dead (hart_among m.harts h).domain false ≡ b → b ≡ false
   ran-live true at e =
-      let d = (hart_of m.harts h).domain in
+      let d = (hart_among m.harts h).domain in
       let own = own-domain m h w.valid w.fits (hart-there m h w G.Running at refl) in
       let dead = ap (λ (y : Seen). (module_at (core_in m) y.domain).dead) (hart-in m h) ∙ module-dead m d w.fits (here m d w.fits own) ∙ e in
       absurd (trapped-ended (sym (ap (λ (d : Made). d.kind) (turned-dead (reads_of m) (core_in m) h (hart_in m h) refl (status-is G.Running at) dead)) ∙ ran))
   ran-live false at e = refl
 
-  ran-by : (p : Progress) → (hart_of m.harts h).progress ≡ p → RunsAlive m h
+  ran-by : (p : Progress) → (hart_among m.harts h).progress ≡ p → RunsAlive m h
   ran-by G.Running at = record {
     there = hart-there m h w G.Running at refl;
     runs = at;
-    alive = ran-live (get_or m.dead (hart_of m.harts h).domain false) at refl;
+    alive = ran-live (get_or m.dead (hart_among m.harts h).domain false) at refl;
   }
   ran-by G.Waiting at = absurd (ran-waiting-by (is_ready (ready (core_in m) h) h (hearers (kept_at m.parts.harts h).flight)) at refl)
   ran-by (G.Halted code) at = absurd (ran-halted code at)
 
   pub ran-alive : RunsAlive m h
-  ran-alive = ran-by (hart_of m.harts h).progress refl
+  ran-alive = ran-by (hart_among m.harts h).progress refl
 
 -- a row that ends with an instruction was begun by a hart that ran in a live domain
 pub ran-first : (m : Held) (h room : ℕ) → IsWhole m → (0 < room → RunsAlive m h) → flat_kind (turns_of h (meaning m) room) h ≡ T.Ran → RunsAlive m h

@@ -20,7 +20,7 @@ use Rattle.mx_supervisor.specs.Served.{range_of}
 use Rattle.mx_machine.specs.declared.hart.Hart.{Hart}
 use Rattle.mx_machine.specs.declared.hart.Progress.{Progress}
 use Rattle.mx_machine.specs.Actions.{crossed, dead_after, fallen, gives_up_kept, killed, kills_by, returned, with_step}
-use Rattle.mx_machine.specs.Harts.{hart_of, is_halted, is_waiting, own_call, seen}
+use Rattle.mx_machine.specs.Harts.{hart_among, is_halted, is_waiting, own_call, seen}
 use Rattle.mx_machine.specs.Held.{Held, behind, rest_of}
 use Rattle.mx_machine.specs.Made.{IsMade, core_in, made_by}
 use Rattle.mx_machine.specs.Steps.{enters, gives_up_over, goes, returns_by}
@@ -39,12 +39,12 @@ here m d f p = record { low = p.first; high = omega (arith, p.last, f.sound.heap
 
 pub running-free : (m : Held) (h : ℕ) → MayRun m h → (hart_at m.parts.harts h).flight ≡ None
 running-free m h r =
-    subst (λ (p : Progress). FliesWhileWaiting (range_of m.parts (own_call h (hart_of m.harts h))) (hart_at m.parts.harts h).flight p) r.runs (r.act.fits.ties h).flight
+    subst (λ (p : Progress). FliesWhileWaiting (range_of m.parts (own_call h (hart_among m.harts h))) (hart_at m.parts.harts h).flight p) r.runs (r.act.fits.ties h).flight
 
 pub running-kept : (m : Held) (h : ℕ) → MayRun m h → (hart_at m.parts.harts h).halted ≡ false
 running-kept m h r = (r.act.fits.ties h).halted ∙ ap is_halted r.runs
 
-pub may-look : (m : Held) (h : ℕ) → MayRun m h → MayLook h (hart_of m.harts h).domain m.parts.harts
+pub may-look : (m : Held) (h : ℕ) → MayRun m h → MayLook h (hart_among m.harts h).domain m.parts.harts
 may-look m h r = record {
   hart = kept-there m h r.act;
   running = running-kept m h r;
@@ -81,7 +81,7 @@ dead-count dead d true = length-set dead d true
 dead-count dead d false = refl
 
 fall-tied : (m : Held) (h cause : ℕ) (o : Option Frame) → MayRun m h →
-    IsTied (range_of m.parts) h (gives_up_over cause (hart_of m.harts h) o) (gives_up_kept o (hart_at m.parts.harts h))
+    IsTied (range_of m.parts) h (gives_up_over cause (hart_among m.harts h) o) (gives_up_kept o (hart_at m.parts.harts h))
 fall-tied m h cause None r = record { halted = refl; flight = running-free m h r; domain = (r.act.fits.ties h).domain }
 fall-tied m h cause (Some f) r = record { halted = running-kept m h r; flight = running-free m h r; domain = tt }
 
@@ -89,26 +89,26 @@ fall-still : (cause : ℕ) (x : Hart) (o : Option Frame) → is_waiting (gives_u
 fall-still cause x None = refl
 fall-still cause x (Some f) = refl
 
-pub fits-trap : (m : Held) (h cause : ℕ) → MayRun m h → Fits (fallen h cause (killed (hart_of m.harts h).domain cause m))
+pub fits-trap : (m : Held) (h cause : ℕ) → MayRun m h → Fits (fallen h cause (killed (hart_among m.harts h).domain cause m))
 fits-trap m h cause r =
-    let x = hart_of m.harts h in
+    let x = hart_among m.harts h in
     let o = top x.frames in
     step-fits m h (gives_up_over cause x o) (gives_up_kept o) (dead_after m.dead x.domain (kills_by m x.domain cause)) r.act
     (dead-count m.dead x.domain (kills_by m x.domain cause) ∙ r.act.fits.dead) (fall-tied m h cause o r) (fall-still cause x o)
 
 fall-core : (m : Held) (h cause : ℕ) (o : Option Frame) → MayRun m h →
-    let x = hart_of m.harts h in
+    let x = hart_among m.harts h in
     core_in (changed m h (gives_up_over cause x o) (at_hart h (gives_up_kept o) m.parts.harts) m.parts.ram (dead_after m.dead x.domain (kills_by m x.domain cause)) m.waiting)
     ≡ given_up (killed_in x.domain cause (core_in m)) h (seen h x (hart_at m.parts.harts h)) cause o
 fall-core m h cause None r =
-    let x = hart_of m.harts h in
+    let x = hart_among m.harts h in
     let k = killed x.domain cause m in
     let s = seen h x (hart_at m.parts.harts h) in
     let end : Seen = record s { status = Halted None } in
     core-step k h (gives_up_over cause x None) (record m.parts { harts = at_hart h counts_as_halted m.parts.harts }) (fly-step m.parts.harts h counts_as_halted)
     ∙ ap (with_hart h end) (core-kept (rest_of k) m.parts h counts_as_halted refl ∙ core-killed m x.domain cause r.act.fits (here m x.domain r.act.fits r.act.domain))
 fall-core m h cause (Some f) r =
-    let x = hart_of m.harts h in
+    let x = hart_among m.harts h in
     let k = killed x.domain cause m in
     let y = gives_up_over cause x (Some f) in
     let end : Seen = seen h y (hart_at m.parts.harts h) in
@@ -117,11 +117,11 @@ fall-core m h cause (Some f) r =
     ∙ ap (empties_places h) (core-killed m x.domain cause r.act.fits (here m x.domain r.act.fits r.act.domain)))
 
 pub made-trap : (m : Held) (h cause value : ℕ) → MayRun m h →
-    let x = hart_of m.harts h in
+    let x = hart_among m.harts h in
     IsMade m (fallen h cause (killed x.domain cause m))
     (record { bytes = []; note = Some (N.Fault m.steps h x.domain x.pc (record { cause = cause; value = value })) }) T.Trapped (made_by m h (Traps cause value))
 made-trap m h cause value r =
-    let x = hart_of m.harts h in
+    let x = hart_among m.harts h in
     let e = hart-in m h in
     record {
       core = fall-core m h cause (top x.frames) r
@@ -134,9 +134,9 @@ made-trap m h cause value r =
     }
 
 -- a dead target
-pub fits-bounce : (m : Held) (h pc value : ℕ) → MayRun m h → Fits (with_step h (goes (slice_set (hart_of m.harts h).regs 10 value) pc) m)
+pub fits-bounce : (m : Held) (h pc value : ℕ) → MayRun m h → Fits (with_step h (goes (slice_set (hart_among m.harts h).regs 10 value) pc) m)
 fits-bounce m h pc value r =
-    let x = hart_of m.harts h in
+    let x = hart_among m.harts h in
     let c : IsChange m h (goes (slice_set x.regs 10 value) pc x) m.parts.harts m.parts.ram m.dead m.waiting = record {
       fits = r.act.fits;
       there = r.act.there;
@@ -149,10 +149,10 @@ fits-bounce m h pc value r =
     } in
     fits-change m h (goes (slice_set x.regs 10 value) pc x) m.parts.harts m.parts.ram m.dead m.waiting c
 
-pub made-bounce : (m : Held) (h link : ℕ) → MayRun m h → link ≡ reg (hart_of m.harts h).regs 1 →
-    IsMade m (with_step h (goes (slice_set (hart_of m.harts h).regs 10 (fault_answer 20)) link) m) (record { bytes = []; note = None }) T.Returned (made_by m h Bounces)
+pub made-bounce : (m : Held) (h link : ℕ) → MayRun m h → link ≡ reg (hart_among m.harts h).regs 1 →
+    IsMade m (with_step h (goes (slice_set (hart_among m.harts h).regs 10 (fault_answer 20)) link) m) (record { bytes = []; note = None }) T.Returned (made_by m h Bounces)
 made-bounce m h link r l =
-    let x = hart_of m.harts h in
+    let x = hart_among m.harts h in
     let y = goes (slice_set x.regs 10 (fault_answer 20)) link x in
     record {
       core = core-step m h y m.parts (λ i ne. refl)
@@ -168,14 +168,14 @@ made-bounce m h link r l =
 -- a crossing
 pub fits-cross : (m : Held) (h target : ℕ) → MayRun m h → Fits (crossed h target m)
 fits-cross m h target r =
-    let x = hart_of m.harts h in
+    let x = hart_among m.harts h in
     let stack = unwrap_or (nearest x.frames target) (behind m.stacks target h) in
     step-fits m h (enters target stack x) leaves_domain m.dead r.act r.act.fits.dead (record { halted = running-kept m h r; flight = running-free m h r; domain = tt }) refl
 
 pub made-cross : (m : Held) (h target : ℕ) → MayRun m h → IsDomain m.parts.maps target →
     IsMade m (crossed h target m) (record { bytes = []; note = None }) T.Crossed (made_by m h (Crosses target))
 made-cross m h target r t =
-    let x = hart_of m.harts h in
+    let x = hart_among m.harts h in
     let own = behind m.stacks target h in
     let stack = unwrap_or (nearest x.frames target) own in
     let y = enters target stack x in
@@ -193,16 +193,16 @@ made-cross m h target r t =
     }
 
 -- a return over the top frame
-pub fits-return : (m : Held) (h rd : ℕ) (f : Frame) → MayRun m h → top (hart_of m.harts h).frames ≡ Some f → Fits (returned h rd m)
+pub fits-return : (m : Held) (h rd : ℕ) (f : Frame) → MayRun m h → top (hart_among m.harts h).frames ≡ Some f → Fits (returned h rd m)
 fits-return m h rd f r e =
-    let x = hart_of m.harts h in
+    let x = hart_among m.harts h in
     subst (λ (o : Option Frame). Fits (changed m h (returns_by rd x o) (at_hart h leaves_domain m.parts.harts) m.parts.ram m.dead m.waiting)) (sym e)
     (step-fits m h (returns_by rd x (Some f)) leaves_domain m.dead r.act r.act.fits.dead (record { halted = running-kept m h r; flight = running-free m h r; domain = tt }) refl)
 
-pub made-return : (m : Held) (h rd : ℕ) (f : Frame) → MayRun m h → top (hart_of m.harts h).frames ≡ Some f →
+pub made-return : (m : Held) (h rd : ℕ) (f : Frame) → MayRun m h → top (hart_among m.harts h).frames ≡ Some f →
     IsMade m (returned h rd m) (record { bytes = []; note = None }) T.Returned (made_by m h (Returns rd f))
 made-return m h rd f r e =
-    let x = hart_of m.harts h in
+    let x = hart_among m.harts h in
     let y = returns_by rd x (Some f) in
     record {
       core = ap (λ (o : Option Frame). core_in (changed m h (returns_by rd x o) (at_hart h leaves_domain m.parts.harts) m.parts.ram m.dead m.waiting)) e

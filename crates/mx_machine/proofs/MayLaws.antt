@@ -15,7 +15,7 @@ use Rattle.mx_machine.specs.declared.hart.Hart.{Hart}
 use Rattle.mx_machine.specs.declared.hart.Progress.{Progress}
 use Rattle.mx_machine.specs.declared.hart.Progress.TheVariants as G
 use Rattle.mx_machine.specs.Actions.{counted, heard}
-use Rattle.mx_machine.specs.Harts.{hart_of, is_halted, is_waiting, own_call}
+use Rattle.mx_machine.specs.Harts.{hart_among, is_halted, is_waiting, own_call}
 use Rattle.mx_machine.specs.Held.{Held, meaning, rest_of}
 use Rattle.mx_machine.specs.Made.{IsMade, core_in, made_after_hearing}
 use Rattle.mx_machine.specs.Ties.{Fits, FliesWhileWaiting, IsWhole, MayAct}
@@ -25,20 +25,20 @@ use Rattle.mx_machine.proofs.HearLaws.{fits-heard}
 use Rattle.mx_supervisor.specs.Served.{range_of}
 
 -- a hart that isn't halted is there
-pub there-alive : (xs : List Hart) (h : ℕ) → is_halted (hart_of xs h).progress ≡ false → h < length xs
+pub there-alive : (xs : List Hart) (h : ℕ) → is_halted (hart_among xs h).progress ≡ false → h < length xs
 there-alive [] h e = absurd (let z : ⊥ = cc in z)
 there-alive (x ∷ xs) zero e = omega arith
 there-alive (x ∷ xs) (suc h) e = let l : h < length xs = there-alive xs h e in omega arith
 
 -- it stands at an instruction of a module
-pub aligned-pc : (m : Held) (h : ℕ) → IsValid (core_in m) → h < length m.harts → (hart_of m.harts h).pc % 4 ≡ 0
+pub aligned-pc : (m : Held) (h : ℕ) → IsValid (core_in m) → h < length m.harts → (hart_among m.harts h).pc % 4 ≡ 0
 aligned-pc m h v there =
     ap (λ (s : Seen). s.pc % 4) (sym (hart-in m h)) ∙ (v.harts h (subst (λ n. h < n) (sym (length-seen 0 m.harts m.parts.harts)) there)).pc.aligned
 
-pub own-domain : (m : Held) (h : ℕ) → IsValid (core_in m) → Fits m → h < length m.harts → IsDomain m.parts.maps (hart_of m.harts h).domain
+pub own-domain : (m : Held) (h : ℕ) → IsValid (core_in m) → Fits m → h < length m.harts → IsDomain m.parts.maps (hart_among m.harts h).domain
 own-domain m h v f there =
     let d = (v.harts h (subst (λ n. h < n) (sym (length-seen 0 m.harts m.parts.harts)) there)).domain in
-    let last : (hart_of m.harts h).domain ≤ length (core_in m).modules = subst (λ (s : Seen). s.domain ≤ length (core_in m).modules) (hart-in m h) d.last in
+    let last : (hart_among m.harts h).domain ≤ length (core_in m).modules = subst (λ (s : Seen). s.domain ≤ length (core_in m).modules) (hart-in m h) d.last in
     record {
       first = subst (λ (s : Seen). 1 ≤ s.domain) (hart-in m h) d.first;
       last = omega (arith, last, length-modules (rest_of m) 1 m.parts.heaps, f.sound.heaps);
@@ -52,16 +52,16 @@ still-free range flight (G.Halted code) t e = t
 
 pub none-flies : (m : Held) → Fits m → m.waiting ≡ false → (i : ℕ) → (kept_at m.parts.harts i).flight ≡ None
 none-flies m f q i =
-    still-free (range_of m.parts (own_call i (hart_of m.harts i))) (kept_at m.parts.harts i).flight (hart_of m.harts i).progress (f.ties i).flight (f.quiet q i)
+    still-free (range_of m.parts (own_call i (hart_among m.harts i))) (kept_at m.parts.harts i).flight (hart_among m.harts i).progress (f.ties i).flight (f.quiet q i)
 
 -- a halted hart rests in a turn that counts
-pub made-idle : (m : Held) (h : ℕ) (code : Option ℕ) → (hart_of m.harts h).progress ≡ G.Halted code → IsMade m (counted m) no_events T.Idle (flat_made (meaning m) h)
+pub made-idle : (m : Held) (h : ℕ) (code : Option ℕ) → (hart_among m.harts h).progress ≡ G.Halted code → IsMade m (counted m) no_events T.Idle (flat_made (meaning m) h)
 made-idle m h code e =
     subst (λ d. IsMade m (counted m) no_events T.Idle d) (sym (turn-halted m h code e))
     (record { core = core-counted m; maps = refl; owners = refl; console = refl; note = refl; kind = refl })
 
 -- a hart that isn't halted hears the others in a turn that counts
-module _ (m : Held) (h : ℕ) (w : IsWhole m) (p : Progress) (at : (hart_of m.harts h).progress ≡ p) (alive : is_halted p ≡ false) where
+module _ (m : Held) (h : ℕ) (w : IsWhole m) (p : Progress) (at : (hart_among m.harts h).progress ≡ p) (alive : is_halted p ≡ false) where
   pub hart-there : h < length m.harts
   hart-there = there-alive m.harts h (ap is_halted at ∙ alive)
 
@@ -94,8 +94,8 @@ module _ (m : Held) (h : ℕ) (w : IsWhole m) (p : Progress) (at : (hart_of m.ha
         subst (λ (n : Held). IsValid (core_in n)) (sym is)
         (valid-heard (counted m) h (fits-counted m w.fits) hart-there (valid-counted m w.valid))
 
-    pub stands-now : (hart_of old.harts h).progress ≡ p
-    stands-now = ap (λ (n : Held). (hart_of n.harts h).progress) is ∙ at
+    pub stands-now : (hart_among old.harts h).progress ≡ p
+    stands-now = ap (λ (n : Held). (hart_among n.harts h).progress) is ∙ at
 
     -- what it makes then is what the turn makes
     pub made-now : (new : Held) (events : Events) (answer : TurnKind) → flat_made (meaning m) h ≡ made_after_hearing (heard h (counted m)) h →

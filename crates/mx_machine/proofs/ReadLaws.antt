@@ -20,7 +20,7 @@ use Rattle.mx_machine.specs.declared.hart.Progress.{Progress}
 use Rattle.mx_machine.specs.declared.hart.Progress.TheVariants as G
 use Rattle.mx_machine.specs.declared.starts.StackArea.{StackArea}
 use Rattle.mx_machine.specs.declared.views.HartView.{HartView}
-use Rattle.mx_machine.specs.Harts.{hart_of, is_halted, own_call, seen_from, status_by}
+use Rattle.mx_machine.specs.Harts.{hart_among, is_halted, own_call, seen_from, status_by}
 use Rattle.mx_machine.specs.Held.{Held, area_of, rest_of}
 use Rattle.mx_machine.specs.Made.{core_in, hart_in}
 use Rattle.mx_machine.specs.Readings.{IsAreaOf, IsViewOf, TellsHart, status_by_progress, status_told, was_heard}
@@ -82,9 +82,9 @@ status-seen call flight G.Waiting = refl
 status-seen call flight (G.Halted code) = refl
 
 -- a hart that is told
-pub view-told : (m : Held) (h : ℕ) (view : HartView) → TellsHart (hart_of m.harts h) view → IsViewOf (hart_in m h) view
+pub view-told : (m : Held) (h : ℕ) (view : HartView) → TellsHart (hart_among m.harts h) view → IsViewOf (hart_in m h) view
 view-told m h view t = subst (λ (x : Seen). IsViewOf x view) (sym (hart-in m h)) (record {
-  status = t.status ∙ status-seen (own_call h (hart_of m.harts h)) (hart_at m.parts.harts h).flight (hart_of m.harts h).progress;
+  status = t.status ∙ status-seen (own_call h (hart_among m.harts h)) (hart_at m.parts.harts h).flight (hart_among m.harts h).progress;
   domain = t.domain;
   pc = t.pc;
   frames = t.frames;
@@ -100,7 +100,7 @@ heard-seen range call by o (G.Halted code) e = ap (λ (x : Option Flight). has_h
 
 pub heard-told : (m : Held) (h by : ℕ) → Fits m → has_heard (hart_at m.parts.harts h).flight by ≡ was_heard (hart_in m h).status by
 heard-told m h by f =
-    let x = hart_of m.harts h in
+    let x = hart_among m.harts h in
     let o = (hart_at m.parts.harts h).flight in
     heard-seen (range_of m.parts (own_call h x)) (own_call h x) by o x.progress (f.ties h).flight
     ∙ sym (ap (λ (y : Seen). was_heard y.status by) (hart-in m h))

@@ -24,7 +24,7 @@ use Rattle.mx_machine.specs.declared.hart.Progress.TheVariants as P
 use Rattle.mx_machine.specs.declared.window.Window.{Window}
 use Rattle.mx_machine.specs.Actions.{after_instruction, after_unfetched, counted, effect_for, outcome_for, perm_for}
 use Rattle.mx_machine.specs.declared.hart.Hart.{Hart}
-use Rattle.mx_machine.specs.Harts.{hart_of, stepped}
+use Rattle.mx_machine.specs.Harts.{hart_among, stepped}
 use Rattle.mx_machine.specs.Held.{Held, meaning}
 use Rattle.mx_machine.specs.Made.{IsMade, hart_in, made_by}
 use Rattle.mx_machine.specs.Rows.{EndsBy, HasRunOn, IsQuick, IsRowTo, NamesOwn, tallied}
@@ -45,8 +45,8 @@ use Rattle.mx_machine.proofs.WindowLaws.{window-counted, window-stays}
 pub record IsReady (m : Held) (h : ℕ) (w : Window) : Type 0 where
   pub fits : Fits m
   pub alive : RunsAlive m h
-  pub domain : IsDomain m.parts.maps (hart_of m.harts h).domain
-  pub aligned : (hart_of m.harts h).pc % 4 ≡ 0
+  pub domain : IsDomain m.parts.maps (hart_among m.harts h).domain
+  pub aligned : (hart_among m.harts h).pc % 4 ≡ 0
   pub opened : IsWindow m h w
 
 -- it doesn't depend on the number
@@ -63,7 +63,7 @@ row-ready old m h n w r own =
     }
 
 -- a hart that stands in a window may run
-pub open-runs : (m : Held) (h : ℕ) → Fits m → RunsAlive m h → IsDomain m.parts.maps (hart_of m.harts h).domain → m.waiting ≡ false → MayRun m h
+pub open-runs : (m : Held) (h : ℕ) → Fits m → RunsAlive m h → IsDomain m.parts.maps (hart_among m.harts h).domain → m.waiting ≡ false → MayRun m h
 open-runs m h f r d q = record {
   act = record { fits = f; there = r.there; heard = all-quiet m.parts.harts h (none-flies m f q); domain = d };
   runs = r.runs;
@@ -81,14 +81,14 @@ row-none m h w whole r i =
     })
 
 -- where the fetch of an instruction of a row is at hand, in RAM of the size of its map
-hand-there : (old m : Held) (h n : ℕ) (w : Window) → IsRowTo old h n w (tallied h n m) → IsOpen m h (hart_of m.harts h).pc →
-    IsAtHand (length (map_of m.parts.maps (hart_of m.harts h).domain)) (hart_at m.parts.harts h).cache (hart_of m.harts h).pc
+hand-there : (old m : Held) (h n : ℕ) (w : Window) → IsRowTo old h n w (tallied h n m) → IsOpen m h (hart_among m.harts h).pc →
+    IsAtHand (length (map_of m.parts.maps (hart_among m.harts h).domain)) (hart_at m.parts.harts h).cache (hart_among m.harts h).pc
 hand-there old m h n w r o =
-    let d = (hart_of m.harts h).domain in
+    let d = (hart_among m.harts h).domain in
     let whole-map = r.whole.fits.sound.maps d (own-domain (tallied h n m) h r.whole.valid r.whole.fits r.alive.there) in
-    subst (λ (i : ℕ). IsAtHand i (hart_at m.parts.harts h).cache (hart_of m.harts h).pc) (sym whole-map) o.at_hand
+    subst (λ (i : ℕ). IsAtHand i (hart_at m.parts.harts h).cache (hart_among m.harts h).pc) (sym whole-map) o.at_hand
 
-row-tallied : (old m k : Held) (h n : ℕ) (w : Window) → IsRowTo old h n w (tallied h n m) → IsOpen m h (hart_of m.harts h).pc → k ≡ after_unfetched h m →
+row-tallied : (old m k : Held) (h n : ℕ) (w : Window) → IsRowTo old h n w (tallied h n m) → IsOpen m h (hart_among m.harts h).pc → k ≡ after_unfetched h m →
     tallied h (n + 1) k ≡ after_instruction h false (counted (tallied h n m))
 row-tallied old m k h n w r o after =
     ap (λ (x : Held). tallied h (n + 1) x) after
@@ -98,7 +98,7 @@ pub row-own : (old m k : Held) (h n : ℕ) (w : Window) (outcome : Outcome) → 
 row-own old m k h n w outcome r own q = names-own m k h r.alive.there (there-kept m h n r.whole.fits r.alive) q.after own
 
 length-stepped : (harts : List Hart) (h : ℕ) (step : Hart → Hart) → length (stepped h step harts) ≡ length harts
-length-stepped harts h step = length-set harts h (step (hart_of harts h))
+length-stepped harts h step = length-set harts h (step (hart_among harts h))
 
 -- what the turns of a row may rest on when they are counted
 pub record MayTally (old k : Held) (h n : ℕ) : Type 0 where
@@ -113,7 +113,7 @@ row-tally old m h n w r own = record { there = r.alive.there; kept = there-kept 
 pub quick-tally : (old m k : Held) (h n : ℕ) (w : Window) (outcome : Outcome) → IsRowTo old h n w (tallied h n m) → NamesOwn m h → IsQuick m h outcome k → MayTally old k h n
 quick-tally old m k h n w outcome r own q =
     let a = after_unfetched h m in
-    let x = hart_of m.harts h in
+    let x = hart_among m.harts h in
     let kept = there-kept m h n r.whole.fits r.alive in
     let all : MayTally old a h n = record {
       there = subst (λ (i : ℕ). h < i) (sym (length-stepped m.harts h (instructed (regs_after (perm_for m x) m.parts.ram x.regs x.pc false (effect_for m x)) (outcome_for m h false)))) r.alive.there;
@@ -126,12 +126,12 @@ quick-tally old m k h n w outcome r own q =
 module _ (law : (q : Reads) (c : Core) (g : ℕ) → IsValid c → IsValid (turned q c g).core)
     (stays : (e : Flat) (g : ℕ) → IsValid e.core → AreWhole e → flat_coherent e → flat_coherent (flat_turn e g)) where
   -- a turn inside a window whose instruction goes on
-  on-more : (old m : Held) (h n pc : ℕ) (w : Window) (inst : Inst) → IsRowTo old h n w m → IsOpen m h (hart_of m.harts h).pc → outcome_for (counted m) h false ≡ O.Next pc →
-      quick (load_at m.parts.ram (hart_of m.harts h).pc 4) ≡ Some inst → effect_for (counted m) (hart_of m.harts h) ≡ effect inst (hart_of m.harts h).regs (hart_of m.harts h).pc →
+  on-more : (old m : Held) (h n pc : ℕ) (w : Window) (inst : Inst) → IsRowTo old h n w m → IsOpen m h (hart_among m.harts h).pc → outcome_for (counted m) h false ≡ O.Next pc →
+      quick (load_at m.parts.ram (hart_among m.harts h).pc 4) ≡ Some inst → effect_for (counted m) (hart_among m.harts h) ≡ effect inst (hart_among m.harts h).regs (hart_among m.harts h).pc →
       IsRowTo old h (n + 1) w (after_instruction h false (counted m))
   on-more old m h n pc w inst r o e q eff =
       let a = acts-inside m h r.whole r.alive (counted m) refl o in
-      let x = hart_of m.harts h in
+      let x = hart_among m.harts h in
       let k = after_instruction h false (counted m) in
       let whole-map = a.run.act.fits.sound.maps x.domain a.run.act.domain in
       let next = made-next (counted m) h false a.run whole-map a.plain pc e in
@@ -151,7 +151,7 @@ module _ (law : (q : Reads) (c : Core) (g : ℕ) → IsValid c → IsValid (turn
 
   pub row-more : (old m k : Held) (h n pc : ℕ) (w : Window) → IsRowTo old h n w (tallied h n m) → IsQuick m h (O.Next pc) k → IsRowTo old h (n + 1) w (tallied h (n + 1) k)
   row-more old m k h n pc w r q =
-      let open-now : IsOpen (tallied h n m) h (hart_of m.harts h).pc = open-tallied m h n (there-kept m h n r.whole.fits r.alive) (hart_of m.harts h).pc q.opened in
+      let open-now : IsOpen (tallied h n m) h (hart_among m.harts h).pc = open-tallied m h n (there-kept m h n r.whole.fits r.alive) (hart_among m.harts h).pc q.opened in
       let more = on-more old (tallied h n m) h n pc w q.inst r open-now (sym q.answered) q.known q.effect in
       subst (λ (x : Held). IsRowTo old h (n + 1) w x) (sym (row-tallied old m k h n w r q.opened q.after)) more
 
@@ -161,7 +161,7 @@ pub row-ends : (old m k : Held) (h n : ℕ) (w : Window) (outcome : Outcome) →
 row-ends old m k h n w outcome r q s = record {
   whole = r.whole;
   alive = r.alive;
-  opened = open-tallied m h n (there-kept m h n r.whole.fits r.alive) (hart_of m.harts h).pc q.opened;
+  opened = open-tallied m h n (there-kept m h n r.whole.fits r.alive) (hart_among m.harts h).pc q.opened;
   answered = q.answered;
   after = row-tallied old m k h n w r q.opened q.after;
   stops = s;
@@ -185,7 +185,7 @@ module _ (m now : Held) (h : ℕ) (outcome : Outcome) (e : EndsBy m h outcome no
       IsMade m new events answer (flat_made (meaning m) h)
   ends-made new events answer made =
       let a = ends-acts in
-      let x = hart_of m.harts h in
+      let x = hart_among m.harts h in
       let n = counted m in
       let whole-map = a.run.act.fits.sound.maps x.domain a.run.act.domain in
       let there : IsMade (after_instruction h false n) new events answer (made_by (after_instruction h false n) h (action_of h (hart_in (after_instruction h false n) h) [] outcome)) =

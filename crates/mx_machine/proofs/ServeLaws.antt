@@ -27,7 +27,7 @@ use Rattle.mx_supervisor.specs.Looks.{BarsAlike, KeepsHarts}
 use Rattle.mx_supervisor.specs.Parts.{Parts, IsSound, core_of}
 use Rattle.mx_supervisor.specs.Served.{IsServed, KeepsSizes, flight_after, range_of}
 use Rattle.mx_machine.specs.declared.hart.Hart.{Hart}
-use Rattle.mx_machine.specs.Harts.{no_hart, hart_of, is_waiting, own_call, seen}
+use Rattle.mx_machine.specs.Harts.{no_hart, hart_among, is_waiting, own_call, seen}
 use Rattle.mx_machine.specs.Held.{Held, rest_of}
 use Rattle.mx_machine.specs.Made.{IsMade, core_in, hart_in, reads_of}
 use Rattle.mx_machine.specs.Serving.{IsServing}
@@ -126,7 +126,7 @@ module _ (m : Held) (h : ℕ) (call : Call) (q : Parts) (bytes : List ℕ) (a : 
   s = serve (reads_of m) (core_in m) call
 
   abbrev x : Hart
-  x = hart_of m.harts h
+  x = hart_among m.harts h
 
   hart-is : call.hart ≡ h
   hart-is = ap (λ (c : Call). c.hart) v.own
@@ -176,13 +176,13 @@ module _ (m : Held) (h : ℕ) (call : Call) (q : Parts) (bytes : List ℕ) (a : 
     quiet = λ e i. still e i (cases_eq i h);
   }
     where
-      by : (i : ℕ) → (i ≡ h) ⊎ (i ≢ h) → IsTied (range_of q) i (hart_of (set m.harts h y) i) (hart_at kept i)
+      by : (i : ℕ) → (i ≡ h) ⊎ (i ≢ h) → IsTied (range_of q) i (hart_among (set m.harts h y) i) (hart_at kept i)
       by i (inl e) =
-          subst (λ j. IsTied (range_of q) j (hart_of (set m.harts h y) j) (hart_at kept j)) (sym e)
+          subst (λ j. IsTied (range_of q) j (hart_among (set m.harts h y) j) (hart_at kept j)) (sym e)
           (subst (λ (t : Hart). IsTied (range_of q) h t (hart_at kept h)) (sym (get_or-set_same m.harts h y no_hart v.there)) tie)
       by i (inr ne) =
           let t = v.others i ne in
-          let l = hart_of m.harts i in
+          let l = hart_among m.harts i in
           let u = hart_at m.parts.harts i in
           let moved : IsTied (range_of q) i l u = record {
             halted = t.halted;
@@ -192,18 +192,18 @@ module _ (m : Held) (h : ℕ) (call : Call) (q : Parts) (bytes : List ℕ) (a : 
           subst (λ (t : Hart). IsTied (range_of q) i t (hart_at kept i)) (sym (get_or-set_other m.harts h i y no_hart ne))
           (subst (λ (u : Kept). IsTied (range_of q) i l u) (sym (others i ne ∙ others-kept i ne)) moved)
 
-      still : m.waiting ≡ false → (i : ℕ) → (i ≡ h) ⊎ (i ≢ h) → is_waiting (hart_of (set m.harts h y) i).progress ≡ false
+      still : m.waiting ≡ false → (i : ℕ) → (i ≡ h) ⊎ (i ≢ h) → is_waiting (hart_among (set m.harts h y) i).progress ≡ false
       still e i (inl p) =
-          ap (λ j. is_waiting (hart_of (set m.harts h y) j).progress) p
+          ap (λ j. is_waiting (hart_among (set m.harts h y) j).progress) p
           ∙ ap (λ (t : Hart). is_waiting t.progress) (get_or-set_same m.harts h y no_hart v.there) ∙ w
       still e i (inr ne) = ap (λ (t : Hart). is_waiting t.progress) (get_or-set_other m.harts h i y no_hart ne) ∙ v.quiet e i
 
   -- the hart goes on
-  pub fits-answered : Fits (record m { parts = q; harts = set m.harts h (takes_answer a.a0 a.a1 (hart_of m.harts h)) })
+  pub fits-answered : Fits (record m { parts = q; harts = set m.harts h (takes_answer a.a0 a.a1 (hart_among m.harts h)) })
   fits-answered = served-fits (takes_answer a.a0 a.a1 x) q.harts refl (λ i ne. refl) (record { halted = own-halted; flight = own-flight; domain = own-domain }) refl
 
   pub made-answered : a.stop ≡ false →
-      IsMade m (record m { parts = q; harts = set m.harts h (takes_answer a.a0 a.a1 (hart_of m.harts h)) }) (record { bytes = bytes; note = None }) T.Called
+      IsMade m (record m { parts = q; harts = set m.harts h (takes_answer a.a0 a.a1 (hart_among m.harts h)) }) (record { bytes = bytes; note = None }) T.Called
       (served (reads_of m) (core_in m) h (hart_in m h) call)
   made-answered e =
       let goes_on : s.stop ≡ false = sym d.stop ∙ e in
@@ -224,7 +224,7 @@ module _ (m : Held) (h : ℕ) (call : Call) (q : Parts) (bytes : List ℕ) (a : 
       }
 
   -- or it ended
-  pub fits-ended : Fits (record m { parts = record q { harts = at_hart h counts_as_halted q.harts }; harts = set m.harts h (halts (Some a.a0) (hart_of m.harts h)) })
+  pub fits-ended : Fits (record m { parts = record q { harts = at_hart h counts_as_halted q.harts }; harts = set m.harts h (halts (Some a.a0) (hart_among m.harts h)) })
   fits-ended =
       let there : h < length q.harts = omega (arith, v.there, v.count, k.count) in
       let own = own-step q.harts h counts_as_halted there in
@@ -232,8 +232,8 @@ module _ (m : Held) (h : ℕ) (call : Call) (q : Parts) (bytes : List ℕ) (a : 
       (subst (λ (u : Kept). IsTied (range_of q) h (halts (Some a.a0) x) u) (sym own) (record { halted = refl; flight = own-flight; domain = own-domain })) refl
 
   pub made-ended : a.stop ≡ true →
-      IsMade m (record m { parts = record q { harts = at_hart h counts_as_halted q.harts }; harts = set m.harts h (halts (Some a.a0) (hart_of m.harts h)) })
-      (record { bytes = bytes; note = Some (N.Exit m.steps h (hart_of m.harts h).domain a.a0) }) T.Called
+      IsMade m (record m { parts = record q { harts = at_hart h counts_as_halted q.harts }; harts = set m.harts h (halts (Some a.a0) (hart_among m.harts h)) })
+      (record { bytes = bytes; note = Some (N.Exit m.steps h (hart_among m.harts h).domain a.a0) }) T.Called
       (served (reads_of m) (core_in m) h (hart_in m h) call)
   made-ended e =
       let ends : s.stop ≡ true = sym d.stop ∙ e in

@@ -24,7 +24,7 @@ use Rattle.mx_machine.specs.declared.starts.StackArea.{StackArea}
 use Rattle.mx_machine.specs.declared.views.HartStatus.{HartStatus}
 use Rattle.mx_machine.specs.declared.views.HartStatus.TheVariants as V
 use Rattle.mx_machine.specs.Actions.{halted_first}
-use Rattle.mx_machine.specs.Harts.{hart_of, is_halted, is_waiting, no_hart, own_call}
+use Rattle.mx_machine.specs.Harts.{hart_among, is_halted, is_waiting, no_hart, own_call}
 use Rattle.mx_machine.specs.Held.{Held}
 use Rattle.mx_machine.specs.Starts.{FliesIfWaiting, MayResume, MayStart, no_state, none_dead, progress_of, resumed_hart, started_from, started_hart}
 use Rattle.mx_machine.specs.Ties.{Fits, IsFlying, IsTied}
@@ -49,11 +49,11 @@ pub no_start : HartStart
 no_start = record { domain = 0; pc = 0 }
 
 module _ (p : Parts) (starts : List HartStart) (stacks : List StackArea) (sound : IsSound p) (may : MayStart p starts stacks) (few : length starts ≤ 4) where
-  pub hart-there : (h : ℕ) → h < length starts → hart_of (started_from stacks 0 starts) h ≡ started_hart stacks h (get_or starts h no_start)
+  pub hart-there : (h : ℕ) → h < length starts → hart_among (started_from stacks 0 starts) h ≡ started_hart stacks h (get_or starts h no_start)
   hart-there h lt =
       started-at stacks h starts ∙ ap (λ (o : Option HartStart). option_map_or (started_hart stacks h) o no_hart) (slice_get-get_or starts h no_start lt)
 
-  hart-past : (h : ℕ) → length starts ≤ h → hart_of (started_from stacks 0 starts) h ≡ no_hart
+  hart-past : (h : ℕ) → length starts ≤ h → hart_among (started_from stacks 0 starts) h ≡ no_hart
   hart-past h le = get_or_past (started_from stacks 0 starts) h no_hart (omega (arith, le, length-started stacks 0 starts))
 
   kept-there : (h : ℕ) → h < length starts → hart_at p.harts h ≡ new_hart
@@ -64,15 +64,15 @@ module _ (p : Parts) (starts : List HartStart) (stacks : List StackArea) (sound 
       ap (λ (ks : List Kept). hart_at ks h) may.new
       ∙ get_or_past (new_harts (length starts)) h nothing_kept (omega (arith, le, length-replicate (length starts) new_hart))
 
-  ties-started : (h : ℕ) → (h < length starts) ⊎ (length starts ≤ h) → IsTied (range_of p) h (hart_of (started_from stacks 0 starts) h) (hart_at p.harts h)
+  ties-started : (h : ℕ) → (h < length starts) ⊎ (length starts ≤ h) → IsTied (range_of p) h (hart_among (started_from stacks 0 starts) h) (hart_at p.harts h)
   ties-started h (inl lt) =
-      tied-as (range_of p) h (hart_of (started_from stacks 0 starts) h) (started_hart stacks h (get_or starts h no_start)) (hart_at p.harts h) new_hart
+      tied-as (range_of p) h (hart_among (started_from stacks 0 starts) h) (started_hart stacks h (get_or starts h no_start)) (hart_at p.harts h) new_hart
       (hart-there h lt) (kept-there h lt) (tied-start (range_of p) stacks h (get_or starts h no_start))
   ties-started h (inr le) =
-      tied-as (range_of p) h (hart_of (started_from stacks 0 starts) h) no_hart (hart_at p.harts h) nothing_kept
+      tied-as (range_of p) h (hart_among (started_from stacks 0 starts) h) no_hart (hart_at p.harts h) nothing_kept
       (hart-past h le) (kept-past h le) (tied-nobody (range_of p) h)
 
-  quiet-started : (h : ℕ) → (h < length starts) ⊎ (length starts ≤ h) → is_waiting (hart_of (started_from stacks 0 starts) h).progress ≡ false
+  quiet-started : (h : ℕ) → (h < length starts) ⊎ (length starts ≤ h) → is_waiting (hart_among (started_from stacks 0 starts) h).progress ≡ false
   quiet-started h (inl lt) = ap (λ (x : Hart). is_waiting x.progress) (hart-there h lt)
   quiet-started h (inr le) = ap (λ (x : Hart). is_waiting x.progress) (hart-past h le)
 
@@ -91,7 +91,7 @@ module _ (p : Parts) (starts : List HartStart) (stacks : List StackArea) (sound 
 module _ (xs : List Hart) (kept : List Kept) where
   pub length-halted : (n : ℕ) → length (halted_first n xs kept) ≡ length kept
   length-halted zero = refl
-  length-halted (suc n) = by (is_halted (hart_of xs n).progress) (length-halted n)
+  length-halted (suc n) = by (is_halted (hart_among xs n).progress) (length-halted n)
     where
       by : (b : Bool) → length (halted_first n xs kept) ≡ length kept →
           length (cond b (at_hart n counts_as_halted (halted_first n xs kept)) (halted_first n xs kept)) ≡ length kept
@@ -111,31 +111,31 @@ module _ (xs : List Hart) (kept : List Kept) where
   halted-past zero h le = refl
   halted-past (suc n) h le =
       let other : h ≢ n = λ e. absurd (omega (arith, e, le)) in
-      one-other n h (is_halted (hart_of xs n).progress) (halted_first n xs kept) other ∙ halted-past n h (omega (arith, le))
+      one-other n h (is_halted (hart_among xs n).progress) (halted_first n xs kept) other ∙ halted-past n h (omega (arith, le))
 
   pub halted-below : (n h : ℕ) → n ≤ length kept → h < n →
-      hart_at (halted_first n xs kept) h ≡ cond (is_halted (hart_of xs h).progress) (counts_as_halted (hart_at kept h)) (hart_at kept h)
+      hart_at (halted_first n xs kept) h ≡ cond (is_halted (hart_among xs h).progress) (counts_as_halted (hart_at kept h)) (hart_at kept h)
   halted-below zero h most lt = absurd (omega (arith, lt))
   halted-below (suc n) h most lt = by (halted-below n h (omega (arith, most))) (cases_eq h n)
     where
       before : List Kept
       before = halted_first n xs kept
 
-      by : (h < n → hart_at (halted_first n xs kept) h ≡ cond (is_halted (hart_of xs h).progress) (counts_as_halted (hart_at kept h)) (hart_at kept h)) →
+      by : (h < n → hart_at (halted_first n xs kept) h ≡ cond (is_halted (hart_among xs h).progress) (counts_as_halted (hart_at kept h)) (hart_at kept h)) →
           (h ≡ n) ⊎ (h ≢ n) →
-          hart_at (halted_first (suc n) xs kept) h ≡ cond (is_halted (hart_of xs h).progress) (counts_as_halted (hart_at kept h)) (hart_at kept h)
+          hart_at (halted_first (suc n) xs kept) h ≡ cond (is_halted (hart_among xs h).progress) (counts_as_halted (hart_at kept h)) (hart_at kept h)
       by rest (inl e) =
           let long : n < length (halted_first n xs kept) = omega (arith, most, length-halted n) in
-          subst (λ (j : ℕ). hart_at (halted_first (suc n) xs kept) j ≡ cond (is_halted (hart_of xs j).progress) (counts_as_halted (hart_at kept j)) (hart_at kept j)) (sym e)
-          (one-same n (is_halted (hart_of xs n).progress) (halted_first n xs kept) long
-          ∙ ap (λ (k : Kept). cond (is_halted (hart_of xs n).progress) (counts_as_halted k) k) (halted-past n n (omega arith)))
+          subst (λ (j : ℕ). hart_at (halted_first (suc n) xs kept) j ≡ cond (is_halted (hart_among xs j).progress) (counts_as_halted (hart_at kept j)) (hart_at kept j)) (sym e)
+          (one-same n (is_halted (hart_among xs n).progress) (halted_first n xs kept) long
+          ∙ ap (λ (k : Kept). cond (is_halted (hart_among xs n).progress) (counts_as_halted k) k) (halted-past n n (omega arith)))
       by rest (inr ne) =
-          one-other n h (is_halted (hart_of xs n).progress) (halted_first n xs kept) ne ∙ rest (omega (arith, lt, ne))
+          one-other n h (is_halted (hart_among xs n).progress) (halted_first n xs kept) ne ∙ rest (omega (arith, lt, ne))
 
   -- no caches and no call in flight change
   pub caches-halted : (n : ℕ) → list_map (λ (k : Kept). k.cache) (halted_first n xs kept) ≡ list_map (λ (k : Kept). k.cache) kept
   caches-halted zero = refl
-  caches-halted (suc n) = by (is_halted (hart_of xs n).progress) (caches-halted n)
+  caches-halted (suc n) = by (is_halted (hart_among xs n).progress) (caches-halted n)
     where
       by : (b : Bool) → list_map (λ (k : Kept). k.cache) (halted_first n xs kept) ≡ list_map (λ (k : Kept). k.cache) kept →
           list_map (λ (k : Kept). k.cache) (cond b (at_hart n counts_as_halted (halted_first n xs kept)) (halted_first n xs kept))
@@ -152,7 +152,7 @@ module _ (xs : List Hart) (kept : List Kept) where
   flight-halted n h most = by (cases_lt h n)
     where
       by : (h < n) ⊎ (n ≤ h) → (hart_at (halted_first n xs kept) h).flight ≡ (hart_at kept h).flight
-      by (inl lt) = ap (λ (k : Kept). k.flight) (halted-below n h most lt) ∙ flight-one (is_halted (hart_of xs h).progress) (hart_at kept h)
+      by (inl lt) = ap (λ (k : Kept). k.flight) (halted-below n h most lt) ∙ flight-one (is_halted (hart_among xs h).progress) (hart_at kept h)
       by (inr le) = ap (λ (k : Kept). k.flight) (halted-past n h le)
 
 -- one hart that resumes
@@ -186,25 +186,25 @@ module _ (p : Parts) (states : List HartState) (stacks : List StackArea) (dead :
   as-many = length-map states resumed_hart ∙ sym may.same_harts
 
   ties-resumed : (h : ℕ) → (h < length states) ⊎ (length states ≤ h) →
-      IsTied (range_of p) h (hart_of (list_map resumed_hart states) h)
+      IsTied (range_of p) h (hart_among (list_map resumed_hart states) h)
       (hart_at (halted_first (length (list_map resumed_hart states)) (list_map resumed_hart states) p.harts) h)
   ties-resumed h (inl lt) =
       let harts = list_map resumed_hart states in
       let s = get_or states h no_state in
       let k = hart_at p.harts h in
       let u = may.unused h lt in
-      let x : hart_of harts h ≡ resumed_hart s = get_or-map resumed_hart states h no_state no_hart lt in
+      let x : hart_among harts h ≡ resumed_hart s = get_or-map resumed_hart states h no_state no_hart lt in
       let below : h < length harts = omega (arith, lt, length-map states resumed_hart) in
       let kept : hart_at (halted_first (length harts) harts p.harts) h ≡ cond (is_halted (progress_of s.status)) (counts_as_halted k) k =
       halted-below harts p.harts (length harts) h (omega (arith, as-many)) below
       ∙ ap (λ (y : Hart). cond (is_halted y.progress) (counts_as_halted k) k) x in
-      tied-as (range_of p) h (hart_of harts h) (resumed_hart s) (hart_at (halted_first (length harts) harts p.harts) h)
+      tied-as (range_of p) h (hart_among harts h) (resumed_hart s) (hart_at (halted_first (length harts) harts p.harts) h)
       (cond (is_halted (progress_of s.status)) (counts_as_halted k) k) x kept
       (tied-by p h s k u.halted u.domain s.status u.flight)
   ties-resumed h (inr le) =
       let harts = list_map resumed_hart states in
       let past : length harts ≤ h = omega (arith, le, length-map states resumed_hart) in
-      tied-as (range_of p) h (hart_of harts h) no_hart (hart_at (halted_first (length harts) harts p.harts) h) nothing_kept
+      tied-as (range_of p) h (hart_among harts h) no_hart (hart_at (halted_first (length harts) harts p.harts) h) nothing_kept
       (get_or_past harts h no_hart past)
       (halted-past harts p.harts (length harts) h past ∙ get_or_past p.harts h nothing_kept (omega (arith, le, may.same_harts)))
       (tied-nobody (range_of p) h)

@@ -7,7 +7,7 @@ use Rattle.std.proofs.Math.Nat.{le-mul_of_pos_right, mul-le-mul_left}
 use Rattle.mx_machine.specs.declared.hart.Hart.{Hart}
 use Rattle.mx_machine.specs.declared.starts.HartStart.{HartStart}
 use Rattle.mx_machine.specs.declared.starts.StackArea.{StackArea}
-use Rattle.mx_machine.specs.Harts.{no_hart, hart_of}
+use Rattle.mx_machine.specs.Harts.{no_hart, hart_among}
 use Rattle.mx_machine.specs.Starts.{started_from, started_hart}
 
 -- hart i of those that start from number n on, and of those that resume
@@ -35,17 +35,17 @@ length-started stacks n [] = refl
 length-started stacks n (s ∷ rest) = ap suc (length-started stacks (n + 1) rest)
 
 -- at most four are their list
-pub four-are : (xs : List Hart) (n : ℕ) (a b c d : Hart) → n ≡ length xs → n ≤ 4 → a ≡ hart_of xs 0 → b ≡ hart_of xs 1 → c ≡ hart_of xs 2 → d ≡ hart_of xs 3 →
+pub four-are : (xs : List Hart) (n : ℕ) (a b c d : Hart) → n ≡ length xs → n ≤ 4 → a ≡ hart_among xs 0 → b ≡ hart_among xs 1 → c ≡ hart_among xs 2 → d ≡ hart_among xs 3 →
     take n (a ∷ b ∷ c ∷ d ∷ []) ≡ xs
 four-are xs n a b c d e le ea eb ec ed =
     ap (λ k. take k (a ∷ b ∷ c ∷ d ∷ [])) e
     ∙ ap (λ (x : Hart). take (length xs) (x ∷ b ∷ c ∷ d ∷ [])) ea
-    ∙ ap (λ (x : Hart). take (length xs) (hart_of xs 0 ∷ x ∷ c ∷ d ∷ [])) eb
-    ∙ ap (λ (x : Hart). take (length xs) (hart_of xs 0 ∷ hart_of xs 1 ∷ x ∷ d ∷ [])) ec
-    ∙ ap (λ (x : Hart). take (length xs) (hart_of xs 0 ∷ hart_of xs 1 ∷ hart_of xs 2 ∷ x ∷ [])) ed
+    ∙ ap (λ (x : Hart). take (length xs) (hart_among xs 0 ∷ x ∷ c ∷ d ∷ [])) eb
+    ∙ ap (λ (x : Hart). take (length xs) (hart_among xs 0 ∷ hart_among xs 1 ∷ x ∷ d ∷ [])) ec
+    ∙ ap (λ (x : Hart). take (length xs) (hart_among xs 0 ∷ hart_among xs 1 ∷ hart_among xs 2 ∷ x ∷ [])) ed
     ∙ by xs (omega (arith, e, le))
   where
-    by : (xs : List Hart) → length xs ≤ 4 → take (length xs) (hart_of xs 0 ∷ hart_of xs 1 ∷ hart_of xs 2 ∷ hart_of xs 3 ∷ []) ≡ xs
+    by : (xs : List Hart) → length xs ≤ 4 → take (length xs) (hart_among xs 0 ∷ hart_among xs 1 ∷ hart_among xs 2 ∷ hart_among xs 3 ∷ []) ≡ xs
     by [] le = refl
     by (x ∷ []) le = refl
     by (x ∷ y ∷ []) le = refl

@@ -36,7 +36,7 @@ use Rattle.mx_machine.specs.declared.starts.StackArea.{StackArea}
 use Rattle.mx_machine.specs.declared.views.HartStatus.{HartStatus}
 use Rattle.mx_machine.specs.declared.views.HartStatus.TheVariants as V
 use Rattle.mx_machine.specs.Actions.{halted_first}
-use Rattle.mx_machine.specs.Harts.{hart_of, is_halted, no_hart, own_call, seen, seen_with, status_by}
+use Rattle.mx_machine.specs.Harts.{hart_among, is_halted, no_hart, own_call, seen, seen_with, status_by}
 use Rattle.mx_machine.specs.Held.{Held, area_of, behind, beside, home, meaning, no_area, rest_of}
 use Rattle.mx_machine.specs.Made.{core_in}
 use Rattle.mx_machine.specs.Smalls.{IsSmallFrame, IsSmallStart, IsSmallState}
@@ -78,7 +78,7 @@ pub record HasValidParts (m : Held) : Type 0 where
   pub one_gate : AreSingle m.parts.gates
   pub some_harts : 1 ≤ length m.harts
   pub stacks : AllByRecursion (IsStack m.parts.size (length m.harts)) m.stacks
-  pub harts : (h : ℕ) → h < length m.harts → IsHart (length m.parts.maps) (length m.harts) h (seen h (hart_of m.harts h) (hart_at m.parts.harts h))
+  pub harts : (h : ℕ) → h < length m.harts → IsHart (length m.parts.maps) (length m.harts) h (seen h (hart_among m.harts h) (hart_at m.parts.harts h))
 
 module _ (m : Held) (f : Fits m) (v : HasValidParts m) where
   as-modules : length (core_in m).modules ≡ length m.parts.maps
@@ -241,7 +241,7 @@ kept_resumed p states = halted_first (length (list_map resumed_hart states)) (li
 module _ (p : Parts) (starts : List HartStart) (stacks : List StackArea) (sound : IsSound p) (may : MayStart p starts stacks) (few : length starts ≤ 4)
     (small : AllByRecursion IsSmallStart starts) (typed : AreTyped p) (coherent : (r : Reads) (c : Core) → HasEmptyCaches c → IsCoherent r c) where
   each-start : (h : ℕ) → h < length starts →
-      IsHart (length p.maps) (length starts) h (seen h (hart_of (started_from stacks 0 starts) h) (hart_at p.harts h))
+      IsHart (length p.maps) (length starts) h (seen h (hart_among (started_from stacks 0 starts) h) (hart_at p.harts h))
   each-start h lt =
       let s = get_or starts h no_start in
       let area = area-fits (area_of stacks s.domain) most_words (length starts) h (stack-at p.size (length starts) most_words s.domain stacks sound.few_words may.areas) lt in
@@ -260,7 +260,7 @@ module _ (p : Parts) (starts : List HartStart) (stacks : List StackArea) (sound 
     one_gate = typed.one_gate;
     some_harts = omega (arith, may.some_harts, length-started stacks 0 starts);
     stacks = subst (λ n. AllByRecursion (IsStack p.size n) stacks) (sym (length-started stacks 0 starts)) may.areas;
-    harts = λ h lt. subst (λ n. IsHart (length p.maps) n h (seen h (hart_of (started_from stacks 0 starts) h) (hart_at p.harts h))) (sym (length-started stacks 0 starts))
+    harts = λ h lt. subst (λ n. IsHart (length p.maps) n h (seen h (hart_among (started_from stacks 0 starts) h) (hart_at p.harts h))) (sym (length-started stacks 0 starts))
         (each-start h (omega (arith, lt, length-started stacks 0 starts)));
   }
 
@@ -298,14 +298,14 @@ module _ (p : Parts) (states : List HartState) (stacks : List StackArea) (dead :
   flies-not h s V.Waiting o t e = cc
   flies-not h s V.Halted o t e = t
 
-  free-at : (h : ℕ) → (h < length states) ⊎ (length states ≤ h) → is_halted (hart_of (list_map resumed_hart states) h).progress ≡ true → (hart_at p.harts h).flight ≡ None
+  free-at : (h : ℕ) → (h < length states) ⊎ (length states ≤ h) → is_halted (hart_among (list_map resumed_hart states) h).progress ≡ true → (hart_at p.harts h).flight ≡ None
   free-at h (inl lt) e =
       let s = get_or states h no_state in
-      let x : hart_of (list_map resumed_hart states) h ≡ resumed_hart s = get_or-map resumed_hart states h no_state no_hart lt in
+      let x : hart_among (list_map resumed_hart states) h ≡ resumed_hart s = get_or-map resumed_hart states h no_state no_hart lt in
       flies-not h s s.status (hart_at p.harts h).flight (may.unused h lt).flight (sym (ap (λ (y : Hart). is_halted y.progress) x) ∙ e)
   free-at h (inr le) e = ap (λ (k : Kept). k.flight) (get_or_past p.harts h nothing_kept (omega (arith, le, may.same_harts)))
 
-  pub free-resumed : (h : ℕ) → is_halted (hart_of (list_map resumed_hart states) h).progress ≡ true → (hart_at p.harts h).flight ≡ None
+  pub free-resumed : (h : ℕ) → is_halted (hart_among (list_map resumed_hart states) h).progress ≡ true → (hart_at p.harts h).flight ≡ None
   free-resumed h = free-at h (cases_lt h (length states))
 
 -- a machine that resumes
@@ -313,7 +313,7 @@ module _ (p : Parts) (states : List HartState) (stacks : List StackArea) (dead :
     (may : MayResume p states stacks dead steps) (few : length states ≤ 4) (places : length dead ≡ 64) (small : AllByRecursion IsSmallState states) (typed : AreTyped p)
     (hearers : (h : ℕ) → IfSome (hart_at p.harts h).flight (AreHearers (length p.harts) h))
     (coherent : (r : Reads) (c : Core) → HasEmptyCaches c → IsCoherent r c) where
-  each-left : (h : ℕ) → h < length states → IsHart (length p.maps) (length states) h (seen h (hart_of (list_map resumed_hart states) h) (hart_at (kept_resumed p states) h))
+  each-left : (h : ℕ) → h < length states → IsHart (length p.maps) (length states) h (seen h (hart_among (list_map resumed_hart states) h) (hart_at (kept_resumed p states) h))
   each-left h lt =
       let s = get_or states h no_state in
       let k = hart_at (kept_resumed p states) h in
@@ -334,7 +334,7 @@ module _ (p : Parts) (states : List HartState) (stacks : List StackArea) (dead :
     one_gate = typed.one_gate;
     some_harts = omega (arith, may.some_harts, length-map states resumed_hart);
     stacks = subst (λ n. AllByRecursion (IsStack p.size n) stacks) (sym (length-map states resumed_hart)) may.areas;
-    harts = λ h lt. subst (λ n. IsHart (length p.maps) n h (seen h (hart_of (list_map resumed_hart states) h) (hart_at (kept_resumed p states) h)))
+    harts = λ h lt. subst (λ n. IsHart (length p.maps) n h (seen h (hart_among (list_map resumed_hart states) h) (hart_at (kept_resumed p states) h)))
         (sym (length-map states resumed_hart)) (each-left h (omega (arith, lt, length-map states resumed_hart)));
   }
 

@@ -13,7 +13,7 @@ use Rattle.mx_model.proofs.KeepLaws.{keeps-turned}
 use Rattle.mx_coherence.specs.Coherence.{AreWhole, flat_coherent}
 use Rattle.mx_machine.specs.declared.hart.Hart.{Hart}
 use Rattle.mx_machine.specs.Actions.{after_instruction, counted, effect_for, heard, outcome_for, perm_for}
-use Rattle.mx_machine.specs.Harts.{no_hart, hart_of}
+use Rattle.mx_machine.specs.Harts.{no_hart, hart_among}
 use Rattle.mx_machine.specs.Held.{Held, meaning}
 use Rattle.mx_machine.specs.Made.{IsMade, core_in}
 use Rattle.mx_machine.specs.Rows.{HasRunOn}
@@ -31,18 +31,18 @@ turns-more h f n =
     ap (turns_of h f) e
 
 -- a hart that runs in a live domain does so after an instruction
-pub alive-instruction : (m : Held) (h : ℕ) (returns : Bool) → MayRun m h → get_or m.dead (hart_of m.harts h).domain false ≡ false →
+pub alive-instruction : (m : Held) (h : ℕ) (returns : Bool) → MayRun m h → get_or m.dead (hart_among m.harts h).domain false ≡ false →
     RunsAlive (after_instruction h returns m) h
 alive-instruction m h returns r alive =
-    let x = hart_of m.harts h in
+    let x = hart_among m.harts h in
     let regs = regs_after (perm_for m x) m.parts.ram x.regs x.pc returns (effect_for m x) in
     let y : Hart = instructed regs (outcome_for m h returns) x in
-    let own : hart_of (set m.harts h y) h ≡ y = get_or-set_same m.harts h y no_hart r.act.there in
+    let own : hart_among (set m.harts h y) h ≡ y = get_or-set_same m.harts h y no_hart r.act.there in
     let n = runs-instruction m h returns r in
     record { there = n.act.there; runs = n.runs; alive = ap (λ (z : Hart). get_or m.dead z.domain false) own ∙ alive }
 
-pub alive-now : (m n : Held) (h : ℕ) → RunsAlive m h → n ≡ heard h (counted m) → get_or n.dead (hart_of n.harts h).domain false ≡ false
-alive-now m n h r is = ap (λ (k : Held). get_or k.dead (hart_of k.harts h).domain false) is ∙ r.alive
+pub alive-now : (m n : Held) (h : ℕ) → RunsAlive m h → n ≡ heard h (counted m) → get_or n.dead (hart_among n.harts h).domain false ≡ false
+alive-now m n h r is = ap (λ (k : Held). get_or k.dead (hart_among k.harts h).domain false) is ∙ r.alive
 
 pub run-none : (m : Held) (h : ℕ) → IsWhole m → HasRunOn (meaning m) h 0 m
 run-none m h w = record { whole = w; at = refl; ran = λ i below. absurd (let z : ⊥ = omega arith in z); steps = omega arith }

@@ -18,7 +18,7 @@ use Rattle.mx_supervisor.specs.Parts.{IsSound, Parts}
 use Rattle.mx_supervisor.specs.Served.{range_of}
 use Rattle.mx_machine.specs.declared.hart.Hart.{Hart}
 use Rattle.mx_machine.specs.Actions.{after_instruction, after_unfetched, counted, effect_for, looks_all, outcome_for, perm_for}
-use Rattle.mx_machine.specs.Harts.{hart_of, no_hart, own_call}
+use Rattle.mx_machine.specs.Harts.{hart_among, no_hart, own_call}
 use Rattle.mx_machine.specs.Held.{Held}
 use Rattle.mx_machine.specs.Rows.{NamesOwn, tallied}
 use Rattle.mx_machine.specs.Steps.{instructed}
@@ -58,13 +58,13 @@ module _ (q : Parts) (h d : ℕ) where
 
 -- what is counted of a hart
 module _ (m : Held) (h n : ℕ) (there : h < length m.parts.harts) where
-  own-kept : hart_at (tallied h n m).parts.harts h ≡ hits_all n (hart_of m.harts h).domain (hart_at m.parts.harts h)
-  own-kept = own-step m.parts.harts h (hits_all n (hart_of m.harts h).domain) there
+  own-kept : hart_at (tallied h n m).parts.harts h ≡ hits_all n (hart_among m.harts h).domain (hart_at m.parts.harts h)
+  own-kept = own-step m.parts.harts h (hits_all n (hart_among m.harts h).domain) there
 
   places-kept : in_place (hart_at (tallied h n m).parts.harts h).cache.places 0 ≡ in_place (hart_at m.parts.harts h).cache.places 0
   places-kept =
       ap (λ (k : Kept). in_place k.cache.places 0) own-kept
-      ∙ ap (λ (ps : List (Option Span)). in_place ps 0) (hits-same n (hart_of m.harts h).domain (hart_at m.parts.harts h)).places
+      ∙ ap (λ (ps : List (Option Span)). in_place ps 0) (hits-same n (hart_among m.harts h).domain (hart_at m.parts.harts h)).places
 
   pub open-tallied : (a : ℕ) → IsOpen m h a → IsOpen (tallied h n m) h a
   open-tallied a o = record {
@@ -81,9 +81,9 @@ module _ (m : Held) (h n : ℕ) (there : h < length m.parts.harts) where
   }
 
   module _ (f : Fits (tallied h n m)) (own : NamesOwn m h) where
-    own-tied : IsTied (range_of m.parts) h (hart_of m.harts h) (hart_at m.parts.harts h)
+    own-tied : IsTied (range_of m.parts) h (hart_among m.harts h) (hart_at m.parts.harts h)
     own-tied =
-        let x = hart_of m.harts h in
+        let x = hart_among m.harts h in
         let k = hart_at m.parts.harts h in
         let s = hits-same n x.domain k in
         let t : IsTied (range_of m.parts) h x (hits_all n x.domain k) = subst (λ (y : Kept). IsTied (range_of m.parts) h x y) own-kept (f.ties h) in
@@ -93,10 +93,10 @@ module _ (m : Held) (h n : ℕ) (there : h < length m.parts.harts) where
           domain = own;
         }
 
-    tied-there : (i : ℕ) → (i ≡ h) ⊎ (i ≢ h) → IsTied (range_of m.parts) i (hart_of m.harts i) (hart_at m.parts.harts i)
-    tied-there i (inl e) = subst (λ (j : ℕ). IsTied (range_of m.parts) j (hart_of m.harts j) (hart_at m.parts.harts j)) (sym e) own-tied
+    tied-there : (i : ℕ) → (i ≡ h) ⊎ (i ≢ h) → IsTied (range_of m.parts) i (hart_among m.harts i) (hart_at m.parts.harts i)
+    tied-there i (inl e) = subst (λ (j : ℕ). IsTied (range_of m.parts) j (hart_among m.harts j) (hart_at m.parts.harts j)) (sym e) own-tied
     tied-there i (inr ne) =
-        subst (λ (y : Kept). IsTied (range_of m.parts) i (hart_of m.harts i) y) (others-step m.parts.harts h (hits_all n (hart_of m.harts h).domain) i ne) (f.ties i)
+        subst (λ (y : Kept). IsTied (range_of m.parts) i (hart_among m.harts i) y) (others-step m.parts.harts h (hits_all n (hart_among m.harts h).domain) i ne) (f.ties i)
 
     sound-untallied : IsSound m.parts
     sound-untallied = let s = f.sound in record {
@@ -112,7 +112,7 @@ module _ (m : Held) (h n : ℕ) (there : h < length m.parts.harts) where
     pub fits-untallied : Fits m
     fits-untallied = record {
       sound = sound-untallied;
-      count = f.count ∙ count-step m.parts.harts h (hits_all n (hart_of m.harts h).domain);
+      count = f.count ∙ count-step m.parts.harts h (hits_all n (hart_among m.harts h).domain);
       few = f.few;
       stacks = f.stacks;
       dead = f.dead;
@@ -121,24 +121,24 @@ module _ (m : Held) (h n : ℕ) (there : h < length m.parts.harts) where
     }
 
 pub there-kept : (m : Held) (h n : ℕ) → Fits (tallied h n m) → RunsAlive (tallied h n m) h → h < length m.parts.harts
-there-kept m h n f r = subst (λ (i : ℕ). h < i) (f.count ∙ count-step m.parts.harts h (hits_all n (hart_of m.harts h).domain)) r.there
+there-kept m h n f r = subst (λ (i : ℕ). h < i) (f.count ∙ count-step m.parts.harts h (hits_all n (hart_among m.harts h).domain)) r.there
 
 -- no turn
 pub tallied-none : (m : Held) (h : ℕ) → m ≡ tallied h 0 m
 tallied-none m h =
     ap (λ (n : ℕ). record m { steps = n }) (let e : m.steps ≡ m.steps + 0 = omega arith in e)
-    ∙ ap (λ (ks : List Kept). record m { parts = record m.parts { harts = ks }; steps = m.steps + 0 }) (sym (none-hit h (hart_of m.harts h).domain m.parts.harts))
+    ∙ ap (λ (ks : List Kept). record m { parts = record m.parts { harts = ks }; steps = m.steps + 0 }) (sym (none-hit h (hart_among m.harts h).domain m.parts.harts))
 
 -- an instruction leaves the domain
-unfetched-domain : (m : Held) (h : ℕ) → h < length m.harts → (hart_of (after_unfetched h m).harts h).domain ≡ (hart_of m.harts h).domain
+unfetched-domain : (m : Held) (h : ℕ) → h < length m.harts → (hart_among (after_unfetched h m).harts h).domain ≡ (hart_among m.harts h).domain
 unfetched-domain m h there =
-    let x = hart_of m.harts h in
+    let x = hart_among m.harts h in
     let y : Hart = instructed (regs_after (perm_for m x) m.parts.ram x.regs x.pc false (effect_for m x)) (outcome_for m h false) x in
     ap (λ (z : Hart). z.domain) (get_or-set_same m.harts h y no_hart there)
 
 pub names-own : (m k : Held) (h : ℕ) → h < length m.harts → h < length m.parts.harts → k ≡ after_unfetched h m → NamesOwn m h → NamesOwn k h
 names-own m k h there kept after own =
-    let x = hart_of m.harts h in
+    let x = hart_among m.harts h in
     let stays = (stay-all m.parts h x.domain (touches_of (effect_for m x)) m.parts.harts kept own).domain in
     let left = looks_all m.parts h x.domain (touches_of (effect_for m x)) m.parts.harts in
     let there' : NamesOwn (after_unfetched h m) h = subst (λ (d : ℕ). IfSome (hart_at left h).domain (λ e. e ≡ d)) (sym (unfetched-domain m h there)) stays in
@@ -146,11 +146,11 @@ names-own m k h there kept after own =
 
 -- an instruction more, with the turns before it counted
 module _ (m : Held) (h n : ℕ) (there : h < length m.harts) (kept : h < length m.parts.harts)
-    (hand : IsAtHand (length (map_of m.parts.maps (hart_of m.harts h).domain)) (hart_at m.parts.harts h).cache (hart_of m.harts h).pc) where
-  tallied-harts : at_hart h (hits_all (n + 1) (hart_of (after_unfetched h m).harts h).domain) (after_unfetched h m).parts.harts
+    (hand : IsAtHand (length (map_of m.parts.maps (hart_among m.harts h).domain)) (hart_at m.parts.harts h).cache (hart_among m.harts h).pc) where
+  tallied-harts : at_hart h (hits_all (n + 1) (hart_among (after_unfetched h m).harts h).domain) (after_unfetched h m).parts.harts
       ≡ (after_instruction h false (counted (tallied h n m))).parts.harts
   tallied-harts =
-      let x = hart_of m.harts h in
+      let x = hart_among m.harts h in
       let d = x.domain in
       let q = m.parts in
       let ts = touches_of (effect_for m x) in
@@ -167,6 +167,6 @@ module _ (m : Held) (h n : ℕ) (there : h < length m.harts) (kept : h < length 
   pub instruction-tallied : tallied h (n + 1) (after_unfetched h m) ≡ after_instruction h false (counted (tallied h n m))
   instruction-tallied =
       let a = after_unfetched h m in
-      let old = at_hart h (hits_all (n + 1) (hart_of a.harts h).domain) a.parts.harts in
+      let old = at_hart h (hits_all (n + 1) (hart_among a.harts h).domain) a.parts.harts in
       ap (λ (s : ℕ). record a { parts = record a.parts { harts = old }; steps = s }) (let e : m.steps + (n + 1) ≡ m.steps + n + 1 = omega arith in e)
       ∙ ap (λ (ks : List Kept). record a { parts = record a.parts { harts = ks }; steps = m.steps + n + 1 }) tallied-harts

@@ -14,7 +14,7 @@ use Rattle.mx_model.specs.Valid.{IsStatus, IsValid}
 use Rattle.mx_machine.specs.declared.hart.Hart.{Hart}
 use Rattle.mx_machine.specs.declared.hart.Progress.{Progress}
 use Rattle.mx_machine.specs.declared.hart.Progress.TheVariants as G
-use Rattle.mx_machine.specs.Harts.{no_hart, hart_of, hearers, is_waiting, own_call, status_by}
+use Rattle.mx_machine.specs.Harts.{no_hart, hart_among, hearers, is_waiting, own_call, status_by}
 use Rattle.mx_machine.specs.Held.{Held}
 use Rattle.mx_machine.specs.Made.{IsMade, core_in, made_after_hearing, hart_in, reads_of}
 use Rattle.mx_machine.specs.Ties.{Fits, MayAct}
@@ -22,16 +22,16 @@ use Rattle.mx_machine.proofs.CaseLaws.{acts-waiting}
 use Rattle.mx_machine.proofs.HartsAt.{hart-in, length-seen}
 use Rattle.mx_machine.proofs.HearLaws.{ready-alike}
 
-pub made-waits : (m : Held) (h : ℕ) → MayAct m h → (hart_of m.harts h).progress ≡ G.Waiting → is_ready h m.parts.harts ≡ false → IsMade m m no_events T.Waited (made_after_hearing m h)
+pub made-waits : (m : Held) (h : ℕ) → MayAct m h → (hart_among m.harts h).progress ≡ G.Waiting → is_ready h m.parts.harts ≡ false → IsMade m m no_events T.Waited (made_after_hearing m h)
 made-waits m h a w e =
     subst (λ d. IsMade m m no_events T.Waited d) (sym (acts-waiting m h false w (ready-alike m h a.fits a.there w ∙ e)))
     (record { core = refl; maps = refl; owners = refl; console = refl; note = refl; kind = refl })
 
 -- a waiting hart of a valid state waits on an announced call
-pub waiting-announced : (m : Held) (h : ℕ) → IsValid (core_in m) → h < length m.harts → (hart_of m.harts h).progress ≡ G.Waiting →
-    is_announced (own_call h (hart_of m.harts h)).number ≡ true
+pub waiting-announced : (m : Held) (h : ℕ) → IsValid (core_in m) → h < length m.harts → (hart_among m.harts h).progress ≡ G.Waiting →
+    is_announced (own_call h (hart_among m.harts h)).number ≡ true
 waiting-announced m h v l w =
-    let x = hart_of m.harts h in
+    let x = hart_among m.harts h in
     let k = kept_at m.parts.harts h in
     let s = hart_in m h in
     let status : s.status ≡ Waiting (own_call h x) (hearers k.flight) =
@@ -56,8 +56,8 @@ fits-settled n f = record {
   quiet = λ e i. none-waits n.harts i e;
 }
 
-pub made-settled : (m n : Held) (h : ℕ) (w : Bool) (events : Events) → MayAct m h → (hart_of m.harts h).progress ≡ G.Waiting → is_ready h m.parts.harts ≡ true →
-    IsMade m n events T.Called (served (reads_of m) (core_in m) h (hart_in m h) (own_call h (hart_of m.harts h))) →
+pub made-settled : (m n : Held) (h : ℕ) (w : Bool) (events : Events) → MayAct m h → (hart_among m.harts h).progress ≡ G.Waiting → is_ready h m.parts.harts ≡ true →
+    IsMade m n events T.Called (served (reads_of m) (core_in m) h (hart_in m h) (own_call h (hart_among m.harts h))) →
     IsMade m (record n { waiting = w }) events T.Called (made_after_hearing m h)
 made-settled m n h w events a p e i =
     subst (λ d. IsMade m (record n { waiting = w }) events T.Called d) (sym (acts-waiting m h true p (ready-alike m h a.fits a.there p ∙ e)))

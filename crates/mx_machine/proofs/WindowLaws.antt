@@ -27,7 +27,7 @@ use Rattle.mx_machine.specs.declared.window.Window.{Window}
 use Rattle.mx_machine.specs.Actions.{after_instruction, counted, effect_for, looks_all, outcome_for, perm_for}
 use Rattle.mx_machine.specs.AtGate.{gate_here}
 use Rattle.mx_machine.specs.Bus.{IsInRam}
-use Rattle.mx_machine.specs.Harts.{hart_of, no_hart}
+use Rattle.mx_machine.specs.Harts.{hart_among, no_hart}
 use Rattle.mx_machine.specs.Held.{Held}
 use Rattle.mx_machine.specs.Steps.{instructed}
 use Rattle.mx_machine.specs.Ties.{MayRun}
@@ -112,11 +112,11 @@ away-hand q h d size a (t ∷ ts) kept there away hand =
     (look-hand q.buffer q.kind m h d size a kept there hand t.place t.address away.0)
 
 -- an instruction whose fetch is at hand, and which touches other places, leaves what is at hand
-module _ (m : Held) (h : ℕ) (r : MayRun m h) (hand : IsAtHand m.parts.size (hart_at m.parts.harts h).cache (hart_of m.harts h).pc)
-    (away : AreAway (touches_of (effect_for m (hart_of m.harts h)))) where
+module _ (m : Held) (h : ℕ) (r : MayRun m h) (hand : IsAtHand m.parts.size (hart_at m.parts.harts h).cache (hart_among m.harts h).pc)
+    (away : AreAway (touches_of (effect_for m (hart_among m.harts h)))) where
   kept-hand : (a : ℕ) → IsAtHand m.parts.size (hart_at m.parts.harts h).cache a → IsAtHand m.parts.size (hart_at (after_instruction h false m).parts.harts h).cache a
   kept-hand a at =
-      let x = hart_of m.harts h in
+      let x = hart_among m.harts h in
       let q = m.parts in
       let ms = map_of q.maps x.domain in
       let there = kept-there m h r.act in
@@ -127,9 +127,9 @@ module _ (m : Held) (h : ℕ) (r : MayRun m h) (hand : IsAtHand m.parts.size (ha
       away-hand q h x.domain q.size a (touches_of (effect_for m x)) first (subst (λ n. h < n) (sym long) there) away
       (fetch-hand q.buffer q.kind ms h x.domain q.size a q.harts there at x.pc fetched-hand)
 
-  same-domain : (hart_of (after_instruction h false m).harts h).domain ≡ (hart_of m.harts h).domain
+  same-domain : (hart_among (after_instruction h false m).harts h).domain ≡ (hart_among m.harts h).domain
   same-domain =
-      let x = hart_of m.harts h in
+      let x = hart_among m.harts h in
       let y : Hart = instructed (regs_after (perm_for m x) m.parts.ram x.regs x.pc false (effect_for m x)) (outcome_for m h false) x in
       ap (λ (z : Hart). z.domain) (get_or-set_same m.harts h y no_hart r.act.there)
 
@@ -178,12 +178,12 @@ executable P.ExecuteRead e = refl
 -- words of a span that place 0 holds and that may be executed, between gates and in RAM
 module _ (m : Held) (h word first end : ℕ) (s : Span) (quiet : m.waiting ≡ false) (few : m.parts.size ≤ most_words)
     (found : found_in_place (hart_at m.parts.harts h).cache.places 0 word ≡ Some s) (right : allows s.perm Execute ≡ true)
-    (clear : (w : ℕ) → first ≤ w → w < end → gate_target m.parts.gates (hart_of m.harts h).domain w ≡ None)
+    (clear : (w : ℕ) → first ≤ w → w < end → gate_target m.parts.gates (hart_among m.harts h).domain w ≡ None)
     (low : s.first ≤ first) (high : end ≤ s.first + s.count) (within : end ≤ m.parts.size) where
   found-open : (a w : ℕ) → word_of a m.parts.size ≡ Some w → first ≤ w → w < end → IsOpen m h a
   found-open a w here from upto =
       let places = (hart_at m.parts.harts h).cache.places in
-      let d = (hart_of m.harts h).domain in
+      let d = (hart_among m.harts h).domain in
       let inside : covers_word s w ≡ true = covers_in s.first s.count w (omega (arith, low, from)) (omega (arith, high, upto)) in
       let answers : found_in_place places 0 w ≡ Some s = ap (λ (o : Option Span). option_map_or (λ (x : Span). cond (covers_word x w) (Some x) None) o None) (place-holds places word s found)
       ∙ ap (λ (b : Bool). cond b (Some s) None) inside in

@@ -15,7 +15,7 @@ use Rattle.mx_model.specs.Gates.{nearest, top}
 use Rattle.mx_supervisor.specs.Parts.{Parts}
 use Rattle.mx_machine.specs.declared.hart.Hart.{Hart}
 use Rattle.mx_machine.specs.Bus.{perm_from}
-use Rattle.mx_machine.specs.Harts.{hart_of, is_halted, stepped}
+use Rattle.mx_machine.specs.Harts.{hart_among, is_halted, stepped}
 use Rattle.mx_machine.specs.Held.{Held, area_of, behind}
 use Rattle.mx_machine.specs.Steps.{instructed, enters, gives_up, returns_over}
 
@@ -50,12 +50,12 @@ effect_for m x = fetched (perm_for m x) m.parts.ram x.regs x.pc
 -- the answer of the instruction at its pc, and what it leaves
 abbrev pub outcome_for : Held → ℕ → Bool → Outcome
 outcome_for m h returns =
-    let x = hart_of m.harts h in
+    let x = hart_among m.harts h in
     outcome_of (perm_for m x) x.pc returns (effect_for m x)
 
 abbrev pub after_instruction : ℕ → Bool → Held → Held
 after_instruction h returns m =
-    let x = hart_of m.harts h in
+    let x = hart_among m.harts h in
     record m {
       parts = record m.parts {
         ram = bytes_after (perm_for m x) m.parts.ram (effect_for m x);
@@ -72,7 +72,7 @@ after_instruction h returns m =
 -- the same where no JAL or JALR is to return, but for the check of the fetch
 abbrev pub after_unfetched : ℕ → Held → Held
 after_unfetched h m =
-    let x = hart_of m.harts h in
+    let x = hart_among m.harts h in
     record m {
       parts = record m.parts {
         ram = bytes_after (perm_for m x) m.parts.ram (effect_for m x);
@@ -102,12 +102,13 @@ gives_up_kept (Some frame) = leaves_domain
 -- hart h gives up its top frame after a fault, or is halted
 abbrev pub fallen : ℕ → ℕ → Held → Held
 fallen h cause m =
-    with_kept h (gives_up_kept (top (hart_of m.harts h).frames)) (with_step h (gives_up cause) m)
+    with_kept h (gives_up_kept (top (hart_among m.harts h).frames)) (with_step h (gives_up cause) m)
 
 -- hart h crosses into a domain
 abbrev pub crossed : ℕ → ℕ → Held → Held
 crossed h target m =
-    let stack = unwrap_or (nearest (hart_of m.harts h).frames target) (behind m.stacks target h) in
+    let stack =
+        unwrap_or (nearest (hart_among m.harts h).frames target) (behind m.stacks target h) in
     with_kept h leaves_domain (with_step h (enters target stack) m)
 
 -- hart h returns over its top frame
@@ -118,6 +119,6 @@ returned h rd m = with_kept h leaves_domain (with_step h (returns_over rd) m)
 abbrev pub halted_first : ℕ → List Hart → List Kept → List Kept
 halted_first zero harts kept = kept
 halted_first (suc n) harts kept =
-    if is_halted (hart_of harts n).progress
+    if is_halted (hart_among harts n).progress
     then at_hart n counts_as_halted (halted_first n harts kept)
     else halted_first n harts kept

@@ -17,11 +17,11 @@ no_hart =
     record { regs = replicate 32 0; pc = 0; domain = 0; frames = []; progress = G.Halted None }
 
 -- hart h, and the harts after a step of hart h
-abbrev pub hart_of : List Hart → ℕ → Hart
-hart_of harts h = slice_index_or harts h no_hart
+abbrev pub hart_among : List Hart → ℕ → Hart
+hart_among harts h = slice_index_or harts h no_hart
 
 abbrev pub stepped : ℕ → (Hart → Hart) → List Hart → List Hart
-stepped h step harts = slice_set harts h (step (hart_of harts h))
+stepped h step harts = slice_set harts h (step (hart_among harts h))
 
 -- a hart of the state, with a status
 abbrev pub seen_with : Status → Hart → Seen

@@ -15,7 +15,7 @@ use Rattle.mx_model.specs.State.{Flat}
 use Rattle.mx_machine.specs.declared.views.Stretch.{Stretch}
 use Rattle.mx_machine.specs.declared.window.Window.{Window}
 use Rattle.mx_machine.specs.Actions.{after_instruction, after_unfetched, counted, effect_for, outcome_for}
-use Rattle.mx_machine.specs.Harts.{hart_of}
+use Rattle.mx_machine.specs.Harts.{hart_among}
 use Rattle.mx_machine.specs.Held.{Held, meaning}
 use Rattle.mx_machine.specs.Steps.{Stops}
 use Rattle.mx_machine.specs.Ties.{IsWhole, RunsAlive}
@@ -33,7 +33,7 @@ pub record HasRunOn (f : Flat) (h n : ℕ) (m : Held) : Type 0 where
 abbrev pub tallied : ℕ → ℕ → Held → Held
 tallied h n m = record m {
   parts = record m.parts {
-    harts = at_hart h (hits_all n (hart_of m.harts h).domain) m.parts.harts;
+    harts = at_hart h (hits_all n (hart_among m.harts h).domain) m.parts.harts;
   };
   steps = m.steps + n;
 }
@@ -41,15 +41,15 @@ tallied h n m = record m {
 -- no other domain is kept for hart h than its own
 abbrev pub NamesOwn : Held → ℕ → Type 0
 NamesOwn m h =
-    IfSome (hart_at m.parts.harts h).domain (λ d. d ≡ (hart_of m.harts h).domain)
+    IfSome (hart_at m.parts.harts h).domain (λ d. d ≡ (hart_among m.harts h).domain)
 
 -- an instruction of hart h inside a window, which its row carries out, in a turn that isn't counted yet, nor its fetch
 pub record IsQuick (old : Held) (h : ℕ) (outcome : Outcome) (new : Held) : Type 0 where
-  pub opened : IsOpen old h (hart_of old.harts h).pc
+  pub opened : IsOpen old h (hart_among old.harts h).pc
   pub inst : Inst
-  pub known : quick (load_at old.parts.ram (hart_of old.harts h).pc 4) ≡ Some inst
-  pub effect : effect_for old (hart_of old.harts h)
-      ≡ effect_of_inst inst (hart_of old.harts h).regs (hart_of old.harts h).pc
+  pub known : quick (load_at old.parts.ram (hart_among old.harts h).pc 4) ≡ Some inst
+  pub effect : effect_for old (hart_among old.harts h)
+      ≡ effect_of_inst inst (hart_among old.harts h).regs (hart_among old.harts h).pc
   pub answered : outcome ≡ outcome_for old h false
   pub after : new ≡ after_unfetched h old
   pub caused : HasCause outcome
@@ -71,7 +71,7 @@ pub record IsRowTo (old : Held) (h n : ℕ) (w : Window) (new : Held) : Type 0 w
 pub record EndsBy (m : Held) (h : ℕ) (outcome : Outcome) (new : Held) : Type 0 where
   pub whole : IsWhole m
   pub alive : RunsAlive m h
-  pub opened : IsOpen m h (hart_of m.harts h).pc
+  pub opened : IsOpen m h (hart_among m.harts h).pc
   pub answered : outcome ≡ outcome_for (counted m) h false
   pub after : new ≡ after_instruction h false (counted m)
   pub stops : Stops outcome

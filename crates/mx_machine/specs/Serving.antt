@@ -7,7 +7,7 @@ use Rattle.mx_model.specs.declared.values.Call.{Call}
 use Rattle.mx_supervisor.specs.Parts.{IsSound}
 use Rattle.mx_supervisor.specs.Served.{MayServe, range_of}
 use Rattle.mx_supervisor.specs.Looks.{BarsAlike}
-use Rattle.mx_machine.specs.Harts.{hart_of, is_waiting, own_call}
+use Rattle.mx_machine.specs.Harts.{hart_among, is_waiting, own_call}
 use Rattle.mx_machine.specs.Held.{Held, rest_of}
 use Rattle.mx_machine.specs.Ties.{IsTied}
 
@@ -19,12 +19,12 @@ pub record IsServing (m : Held) (h : ℕ) (call : Call) : Type 0 where
   pub stacks : length m.stacks ≡ length m.parts.heaps
   pub dead : length m.dead ≡ most_domains
   pub there : h < length m.harts
-  pub own : call ≡ own_call h (hart_of m.harts h)
+  pub own : call ≡ own_call h (hart_among m.harts h)
   pub domain : IsDomain m.parts.maps call.domain
   pub may : MayServe m.parts call
   pub bars : BarsAlike (rest_of m) m.parts h
   pub running : (hart_at m.parts.harts h).halted ≡ false
-  pub kept_domain : IfSome (hart_at m.parts.harts h).domain (λ d. d ≡ (hart_of m.harts h).domain)
+  pub kept_domain : IfSome (hart_at m.parts.harts h).domain (λ d. d ≡ (hart_among m.harts h).domain)
   pub others : (i : ℕ) → i ≢ h →
-      IsTied (range_of m.parts) i (hart_of m.harts i) (hart_at m.parts.harts i)
-  pub quiet : m.waiting ≡ false → (i : ℕ) → is_waiting (hart_of m.harts i).progress ≡ false
+      IsTied (range_of m.parts) i (hart_among m.harts i) (hart_at m.parts.harts i)
+  pub quiet : m.waiting ≡ false → (i : ℕ) → is_waiting (hart_among m.harts i).progress ≡ false

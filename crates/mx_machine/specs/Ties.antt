@@ -13,7 +13,7 @@ use Rattle.mx_supervisor.specs.Served.{range_of}
 use Rattle.mx_machine.specs.declared.hart.Hart.{Hart}
 use Rattle.mx_machine.specs.declared.hart.Progress.{Progress}
 use Rattle.mx_machine.specs.declared.hart.Progress.TheVariants as G
-use Rattle.mx_machine.specs.Harts.{hart_of, own_call, is_halted, is_waiting}
+use Rattle.mx_machine.specs.Harts.{hart_among, own_call, is_halted, is_waiting}
 use Rattle.mx_machine.specs.Held.{Held, meaning}
 
 -- a call in flight has a range
@@ -46,8 +46,8 @@ pub record Fits (m : Held) : Type 0 where
   pub few : length m.harts ≤ most_harts
   pub stacks : length m.stacks ≡ length m.parts.heaps
   pub dead : length m.dead ≡ most_domains
-  pub ties : (h : ℕ) → IsTied (range_of m.parts) h (hart_of m.harts h) (hart_at m.parts.harts h)
-  pub quiet : m.waiting ≡ false → (h : ℕ) → is_waiting (hart_of m.harts h).progress ≡ false
+  pub ties : (h : ℕ) → IsTied (range_of m.parts) h (hart_among m.harts h) (hart_at m.parts.harts h)
+  pub quiet : m.waiting ≡ false → (h : ℕ) → is_waiting (hart_among m.harts h).progress ≡ false
 
 -- what is true of a machine at every moment between its calls
 pub record IsWhole (m : Held) : Type 0 where
@@ -60,15 +60,15 @@ pub record MayAct (m : Held) (h : ℕ) : Type 0 where
   pub fits : Fits m
   pub there : h < length m.harts
   pub heard : HasHeardAll h m.parts.harts
-  pub domain : IsDomain m.parts.maps (hart_of m.harts h).domain
+  pub domain : IsDomain m.parts.maps (hart_among m.harts h).domain
 
 -- hart h may act, and it runs
 pub record MayRun (m : Held) (h : ℕ) : Type 0 where
   pub act : MayAct m h
-  pub runs : (hart_of m.harts h).progress ≡ G.Running
+  pub runs : (hart_among m.harts h).progress ≡ G.Running
 
 -- hart h runs in a live domain
 pub record RunsAlive (m : Held) (h : ℕ) : Type 0 where
   pub there : h < length m.harts
-  pub runs : (hart_of m.harts h).progress ≡ G.Running
-  pub alive : slice_index_or m.dead (hart_of m.harts h).domain false ≡ false
+  pub runs : (hart_among m.harts h).progress ≡ G.Running
+  pub alive : slice_index_or m.dead (hart_among m.harts h).domain false ≡ false

@@ -11,7 +11,7 @@ use Rattle.mx_machine.specs.declared.turns.Going.TheVariants as G
 use Rattle.mx_machine.specs.declared.window.Window.{Window}
 use Rattle.mx_machine.specs.AtGate.{gate_here}
 use Rattle.mx_machine.specs.Goings.{kind_of}
-use Rattle.mx_machine.specs.Harts.{hart_of}
+use Rattle.mx_machine.specs.Harts.{hart_among}
 use Rattle.mx_machine.specs.Held.{Held, meaning}
 use Rattle.mx_machine.specs.Made.{IsMade}
 use Rattle.mx_machine.specs.Ties.{Fits, RunsAlive}
@@ -20,7 +20,7 @@ use Rattle.mx_machine.specs.Ties.{Fits, RunsAlive}
 pub record IsOpen (m : Held) (h address : ℕ) : Type 0 where
   pub quiet : m.waiting ≡ false
   pub at_hand : IsAtHand m.parts.size (hart_at m.parts.harts h).cache address
-  pub gate : gate_here m (hart_of m.harts h).domain address ≡ None
+  pub gate : gate_here m (hart_among m.harts h).domain address ≡ None
 
 -- so it is at each address of a window
 pub record IsWindow (m : Held) (h : ℕ) (w : Window) : Type 0 where

@@ -18,7 +18,7 @@ ghost use Rattle.mx_supervisor.specs.Served.{range_of};
 ghost use Rattle.mx_machine.specs.Actions.{after_instruction, after_unfetched, crossed, effect_for, halted_first, fallen, heard, killed, outcome_for, returned, with_kept, with_step};
 ghost use Rattle.mx_machine.specs.AtGate.{gate_here};
 ghost use Rattle.mx_machine.specs.Halting.{halted_at};
-ghost use Rattle.mx_machine.specs.Harts.{hart_of, is_halted};
+ghost use Rattle.mx_machine.specs.Harts.{hart_among, is_halted};
 ghost use Rattle.mx_machine.specs.Held.{area_of};
 ghost use Rattle.mx_machine.specs.Rows.{NamesOwn, tallied};
 
@@ -107,9 +107,9 @@ impl<T: PermTables, const N: usize> Bare<T, N> {
     pub fn instruct(&mut self, hart: u32, returns: bool) -> Outcome
         requires sound { IsSound self.old.parts }
         requires there { hart < length self.old.harts }
-        requires look { MayLook hart (hart_of self.old.harts hart).domain self.old.parts.harts }
-        requires domain { IsDomain self.old.parts.maps (hart_of self.old.harts hart).domain }
-        requires aligned { (hart_of self.old.harts hart).pc % 4 ≡ 0 }
+        requires look { MayLook hart (hart_among self.old.harts hart).domain self.old.parts.harts }
+        requires domain { IsDomain self.old.parts.maps (hart_among self.old.harts hart).domain }
+        requires aligned { (hart_among self.old.harts hart).pc % 4 ≡ 0 }
         ensures outcome { result ≡ outcome_for self.old hart returns }
         ensures after { self.new ≡ after_instruction hart returns self.old }
         ensures cause { HasCause result }
@@ -124,19 +124,20 @@ impl<T: PermTables, const N: usize> Bare<T, N> {
     pub fn carry_out(&mut self, hart: u32, inst: Inst) -> Outcome
         requires sound { IsSound self.old.parts }
         requires there { hart < length self.old.harts }
-        requires look { MayLook hart (hart_of self.old.harts hart).domain self.old.parts.harts }
-        requires domain { IsDomain self.old.parts.maps (hart_of self.old.harts hart).domain }
-        requires aligned { (hart_of self.old.harts hart).pc % 4 ≡ 0 }
+        requires look { MayLook hart (hart_among self.old.harts hart).domain self.old.parts.harts }
+        requires domain { IsDomain self.old.parts.maps (hart_among self.old.harts hart).domain }
+        requires aligned { (hart_among self.old.harts hart).pc % 4 ≡ 0 }
         requires at_hand { IsAtHand self.old.parts.size (hart_at self.old.parts.harts hart).cache
-            (hart_of self.old.harts hart).pc }
-        requires quick { quick (load_at self.old.parts.ram (hart_of self.old.harts hart).pc 4)
+            (hart_among self.old.harts hart).pc }
+        requires quick { quick (load_at self.old.parts.ram (hart_among self.old.harts hart).pc 4)
             ≡ Some inst }
         requires inst { IsInst inst }
         ensures outcome { result ≡ outcome_for self.old hart false }
         ensures after { self.new ≡ after_unfetched hart self.old }
         ensures cause { HasCause result }
-        ensures effect { effect_for self.old (hart_of self.old.harts hart)
-            ≡ effect inst (hart_of self.old.harts hart).regs (hart_of self.old.harts hart).pc }
+        ensures effect { effect_for self.old (hart_among self.old.harts hart)
+            ≡ effect inst (hart_among self.old.harts hart).regs
+            (hart_among self.old.harts hart).pc }
     {
         let pc = self.harts.pc(hart);
         self.bus.hart = hart;
@@ -208,7 +209,7 @@ impl<T: PermTables, const N: usize> Bare<T, N> {
     pub fn enter(&mut self, hart: u32, target: u32)
         requires there { hart < length self.old.harts }
         requires kept { hart < length self.old.parts.harts }
-        requires room { length (hart_of self.old.harts hart).frames < most_frames }
+        requires room { length (hart_among self.old.harts hart).frames < most_frames }
         requires target { 1 ≤ target }
         requires area { ((area_of self.old.stacks target).words ≡ 0)
             ⊎ ((area_of self.old.stacks target).first
@@ -252,8 +253,8 @@ impl<T: PermTables, const N: usize> Bare<T, N> {
     pub fn fault(&self, hart: u32, fault: Fault) -> Note
         requires { hart < length self.now.harts }
         ensures { result
-            ≡ Notes.Fault self.now.steps hart (hart_of self.now.harts hart).domain
-            (hart_of self.now.harts hart).pc fault }
+            ≡ Notes.Fault self.now.steps hart (hart_among self.now.harts hart).domain
+            (hart_among self.now.harts hart).pc fault }
     {
         Note::Fault {
             step: self.steps,
@@ -267,7 +268,7 @@ impl<T: PermTables, const N: usize> Bare<T, N> {
     /// Counts the harts that are halted here as halted in the checker.
     pub fn halt_left(&mut self)
         requires count { length self.old.harts ≡ length self.old.parts.harts }
-        requires free { (h : ℕ) → is_halted (hart_of self.old.harts h).progress ≡ true →
+        requires free { (h : ℕ) → is_halted (hart_among self.old.harts h).progress ≡ true →
             (hart_at self.old.parts.harts h).flight ≡ None }
         ensures { self.new
             ≡ record self.old {
@@ -285,7 +286,7 @@ impl<T: PermTables, const N: usize> Bare<T, N> {
     /// Counts a hart as halted in the checker where it is halted here.
     fn halt_one(&mut self, hart: u32)
         requires kept { hart < length self.old.parts.harts }
-        requires free { is_halted (hart_of self.old.harts hart).progress ≡ true →
+        requires free { is_halted (hart_among self.old.harts hart).progress ≡ true →
             (hart_at self.old.parts.harts hart).flight ≡ None }
         ensures { self.new
             ≡ record self.old {

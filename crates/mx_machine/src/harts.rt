@@ -8,7 +8,7 @@ ghost use Rattle.mx_isa.specs.Ranges.{IsValid as IsInst};
 ghost use Rattle.mx_core.specs.Memo.{quick};
 ghost use Rattle.mx_model.specs.Effect.{reg};
 ghost use Rattle.mx_model.specs.Gates.{nearest, top};
-ghost use Rattle.mx_machine.specs.Harts.{hart_of, stepped, own_call, is_halted, is_waiting};
+ghost use Rattle.mx_machine.specs.Harts.{hart_among, stepped, own_call, is_halted, is_waiting};
 ghost use Rattle.mx_machine.specs.Held.{area_of};
 ghost use Rattle.mx_machine.specs.Readings.{TellsHart};
 ghost use Rattle.mx_machine.specs.Starts.{started_from, resumed_hart};
@@ -92,7 +92,7 @@ impl Harts {
 
     /// Whether a hart runs, waits or is halted; one that isn't there is halted.
     pub fn progress(&self, hart: u32) -> Progress
-        ensures { result ≡ (hart_of self.now hart).progress }
+        ensures { result ≡ (hart_among self.now hart).progress }
     {
         if hart >= self.len {
             return Progress::Halted(None);
@@ -103,7 +103,7 @@ impl Harts {
 
     /// Whether a hart waits.
     pub fn waits(&self, hart: u32) -> bool
-        ensures { result ≡ is_waiting (hart_of self.now hart).progress }
+        ensures { result ≡ is_waiting (hart_among self.now hart).progress }
     {
         match self.progress(hart) {
             Progress::Running => false,
@@ -114,7 +114,7 @@ impl Harts {
 
     /// Whether a hart is halted, or isn't there.
     pub fn is_halted(&self, hart: u32) -> bool
-        ensures { result ≡ is_halted (hart_of self.now hart).progress }
+        ensures { result ≡ is_halted (hart_among self.now hart).progress }
     {
         match self.progress(hart) {
             Progress::Running => false,
@@ -150,7 +150,7 @@ impl Harts {
     /// The pc of a hart.
     pub fn pc(&self, hart: u32) -> u32
         requires { hart < length self.now }
-        ensures { result ≡ (hart_of self.now hart).pc }
+        ensures { result ≡ (hart_among self.now hart).pc }
     {
         let part = &self.items[hart as usize];
         part.pc
@@ -159,7 +159,7 @@ impl Harts {
     /// The domain of a hart.
     pub fn domain(&self, hart: u32) -> u32
         requires { hart < length self.now }
-        ensures { result ≡ (hart_of self.now hart).domain }
+        ensures { result ≡ (hart_among self.now hart).domain }
     {
         let part = &self.items[hart as usize];
         part.domain
@@ -168,7 +168,7 @@ impl Harts {
     /// The x1 of a hart.
     pub fn link(&self, hart: u32) -> u32
         requires { hart < length self.now }
-        ensures { result ≡ reg (hart_of self.now hart).regs 1 }
+        ensures { result ≡ reg (hart_among self.now hart).regs 1 }
     {
         let part = &self.items[hart as usize];
         part.regs.get(1)
@@ -177,7 +177,7 @@ impl Harts {
     /// How many frames a hart has.
     pub fn depth(&self, hart: u32) -> u32
         requires { hart < length self.now }
-        ensures { result ≡ length (hart_of self.now hart).frames }
+        ensures { result ≡ length (hart_among self.now hart).frames }
     {
         let part = &self.items[hart as usize];
         part.frames.depth()
@@ -186,7 +186,7 @@ impl Harts {
     /// The return address of the top frame of a hart.
     pub fn back(&self, hart: u32) -> Option<u32>
         requires { hart < length self.now }
-        ensures { result ≡ option_map (λ f. f.back) (top (hart_of self.now hart).frames) }
+        ensures { result ≡ option_map (λ f. f.back) (top (hart_among self.now hart).frames) }
     {
         let part = &self.items[hart as usize];
         part.back()
@@ -195,7 +195,7 @@ impl Harts {
     /// Frame `i` of a hart, from the bottom.
     pub fn frame(&self, hart: u32, i: u32) -> Option<Frame>
         requires { hart < length self.now }
-        ensures { result ≡ slice_get (hart_of self.now hart).frames i }
+        ensures { result ≡ slice_get (hart_among self.now hart).frames i }
     {
         let part = &self.items[hart as usize];
         part.frames.frame(i)
@@ -204,7 +204,7 @@ impl Harts {
     /// As `Hart::view`, for one hart.
     pub fn view(&self, hart: u32) -> HartView
         requires { hart < length self.now }
-        ensures { TellsHart (hart_of self.now hart) result }
+        ensures { TellsHart (hart_among self.now hart) result }
     {
         let part = &self.items[hart as usize];
         part.view()
@@ -213,7 +213,7 @@ impl Harts {
     /// As `Hart::call`, for one hart.
     pub fn call(&self, hart: u32) -> Call
         requires { hart < length self.now }
-        ensures { result ≡ own_call hart (hart_of self.now hart) }
+        ensures { result ≡ own_call hart (hart_among self.now hart) }
     {
         let part = &self.items[hart as usize];
         part.call(hart)
@@ -222,7 +222,7 @@ impl Harts {
     /// As `Hart::stack_in`, for one hart.
     pub fn stack_in(&self, hart: u32, domain: u32, own: u32) -> u32
         requires { hart < length self.now }
-        ensures { result ≡ unwrap_or (nearest (hart_of self.now hart).frames domain) own }
+        ensures { result ≡ unwrap_or (nearest (hart_among self.now hart).frames domain) own }
     {
         let part = &self.items[hart as usize];
         part.stack_in(domain, own)
@@ -233,12 +233,13 @@ impl Harts {
     pub fn instruct<B: Bus>(&mut self, hart: u32, bus: &mut B, returns: bool) -> Outcome
         requires hart { hart < length self.old }
         requires usable { B.usable bus.old }
-        requires aligned { (hart_of self.old hart).pc % 4 ≡ 0 }
-        ensures ran { Instructs B.perm B.bytes B.touches returns (hart_of self.old hart)
+        requires aligned { (hart_among self.old hart).pc % 4 ≡ 0 }
+        ensures ran { Instructs B.perm B.bytes B.touches returns (hart_among self.old hart)
             bus.old result bus.new }
         ensures after { self.new
             ≡ stepped hart
-            (instructed (regs_left B.perm B.bytes returns (hart_of self.old hart) bus.old) result)
+            (instructed (regs_left B.perm B.bytes returns (hart_among self.old hart) bus.old)
+            result)
             self.old }
         ensures map { B.perm bus.new ≡ B.perm bus.old }
         ensures usable { B.usable bus.new }
@@ -262,13 +263,14 @@ impl Harts {
     pub fn carry_out<B: Bus>(&mut self, hart: u32, bus: &mut B, inst: Inst) -> Outcome
         requires hart { hart < length self.old }
         requires usable { B.usable bus.old }
-        requires aligned { (hart_of self.old hart).pc % 4 ≡ 0 }
+        requires aligned { (hart_among self.old hart).pc % 4 ≡ 0 }
         requires inst { IsInst inst }
-        ensures ran { CarriesOut B.perm B.bytes B.touches inst (hart_of self.old hart)
+        ensures ran { CarriesOut B.perm B.bytes B.touches inst (hart_among self.old hart)
             bus.old result bus.new }
         ensures after { self.new
             ≡ stepped hart
-            (instructed (regs_carried B.perm B.bytes inst (hart_of self.old hart) bus.old) result)
+            (instructed (regs_carried B.perm B.bytes inst (hart_among self.old hart) bus.old)
+            result)
             self.old }
         ensures map { B.perm bus.new ≡ B.perm bus.old }
         ensures usable { B.usable bus.new }
@@ -281,7 +283,7 @@ impl Harts {
     pub fn go_with(&mut self, hart: u32, pc: u32, value: u32)
         requires { hart < length self.old }
         ensures { self.new
-            ≡ stepped hart (goes (slice_set (hart_of self.old hart).regs 10 value) pc) self.old }
+            ≡ stepped hart (goes (slice_set (hart_among self.old hart).regs 10 value) pc) self.old }
     {
         let part = &mut self.items[hart as usize];
         part.go_with(pc, value);
@@ -317,7 +319,7 @@ impl Harts {
     /// As `Hart::enter`, for one hart.
     pub fn enter(&mut self, hart: u32, domain: u32, stack: u32)
         requires hart { hart < length self.old }
-        requires room { length (hart_of self.old hart).frames < most_frames }
+        requires room { length (hart_among self.old hart).frames < most_frames }
         ensures { self.new ≡ stepped hart (enters domain stack) self.old }
     {
         let part = &mut self.items[hart as usize];
@@ -328,7 +330,7 @@ impl Harts {
     pub fn give_up(&mut self, hart: u32, cause: u32) -> bool
         requires hart { hart < length self.old }
         requires cause { cause < 256 }
-        ensures frame { result ≡ is_some (top (hart_of self.old hart).frames) }
+        ensures frame { result ≡ is_some (top (hart_among self.old hart).frames) }
         ensures after { self.new ≡ stepped hart (gives_up cause) self.old }
     {
         let part = &mut self.items[hart as usize];
@@ -353,7 +355,7 @@ fn start_of(starts: &Starts, stacks: &Stacks, hart: u32) -> Hart
         ((area_of stacks.now d).words ≡ 0)
         ⊎ ((area_of stacks.now d).first + (area_of stacks.now d).words * length starts.now
         ≤ most_words) }
-    ensures { result ≡ hart_of (started_from stacks.now 0 starts.now) hart }
+    ensures { result ≡ hart_among (started_from stacks.now 0 starts.now) hart }
 {
     match starts.get(hart) {
         Some(start) => {

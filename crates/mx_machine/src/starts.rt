@@ -2,7 +2,7 @@
 ghost use Rattle.std.specs.Prelude.{◌≡◌, ◌<◌, ◌≤◌, ◌+◌, ◌*◌, ◌⊎◌, [], ◌∷◌, ◌++◌, length, slice_get, slice_index};
 ghost use Rattle.std.specs.List.{AllByRecursion};
 ghost use Rattle.std.specs.Prelude.{map as list_map};
-ghost use Rattle.mx_machine.specs.Harts.{hart_of};
+ghost use Rattle.mx_machine.specs.Harts.{hart_among};
 ghost use Rattle.mx_machine.specs.Starts.{no_state, resumed_hart};
 ghost use Rattle.mx_machine.specs.Smalls.{AreSmall, AreSmallFrames, IsSmallFrame, IsSmallStart, IsSmallState};
 ghost use Rattle.mx_machine.specs.Held.{area_of, behind};
@@ -237,7 +237,7 @@ impl HartStates {
     /// A hart as it was left. One that isn't there is halted.
     pub(crate) fn hart(&self, hart: u32) -> Hart
         requires { AllByRecursion (λ s. slice_index s.regs 0 ≡ 0) self.now }
-        ensures { result ≡ hart_of (list_map resumed_hart self.now) hart }
+        ensures { result ≡ hart_among (list_map resumed_hart self.now) hart }
     {
         match self.items.as_slice().get(hart as usize) {
             Some(state) => Hart::resume(state),

@@ -8,7 +8,7 @@ ghost use Rattle.mx_model.specs.Valid.{IsValid};
 ghost use Rattle.mx_machine.specs.Actions.{after_instruction};
 ghost use Rattle.mx_machine.specs.AtGate.{IsAtGate};
 ghost use Rattle.mx_machine.specs.Goings.{kind_of};
-ghost use Rattle.mx_machine.specs.Harts.{hart_of};
+ghost use Rattle.mx_machine.specs.Harts.{hart_among};
 ghost use Rattle.mx_machine.specs.Held.{meaning};
 ghost use Rattle.mx_machine.specs.Made.{IsMade, core_in, hart_in, reads_of, made_by, instruction, made_after_hearing};
 ghost use Rattle.mx_machine.specs.Serving.{IsServing};
@@ -89,7 +89,7 @@ impl<T: PermTables, const N: usize> Bare<T, N> {
     fn wait_on(&mut self, hart: u32, out: &mut Events) -> TurnKind
         requires valid { IsValid (meaning self.old).core }
         requires act { MayAct self.old hart }
-        requires waits { (hart_of self.old.harts hart).progress ≡ G.Waiting }
+        requires waits { (hart_among self.old.harts hart).progress ≡ G.Waiting }
         requires empty { out.old ≡ no_events }
         ensures made { IsMade self.old self.new out.new result (made_after_hearing self.old hart) }
         ensures fits { Fits self.new }

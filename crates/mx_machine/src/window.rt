@@ -5,7 +5,7 @@ ghost use Rattle.mx_table.specs.Tables.{IsDomain};
 ghost use Rattle.mx_core.specs.Bus.{load_at};
 ghost use Rattle.mx_model.specs.Events.{no_events};
 ghost use Rattle.mx_machine.specs.Bus.{IsInRam};
-ghost use Rattle.mx_machine.specs.Harts.{hart_of};
+ghost use Rattle.mx_machine.specs.Harts.{hart_among};
 ghost use Rattle.mx_machine.specs.Rows.{IsQuickTurn};
 ghost use Rattle.mx_machine.specs.Ties.{Fits, IsWhole, RunsAlive};
 ghost use Rattle.mx_machine.specs.Windows.{IsTurnOn, IsWindow};
@@ -45,8 +45,8 @@ impl<T: PermTables, const N: usize> Bare<T, N> {
     pub fn quick(&mut self, hart: u32, window: &Window) -> Option<Outcome>
         requires fits { Fits self.old }
         requires alive { RunsAlive self.old hart }
-        requires domain { IsDomain self.old.parts.maps (hart_of self.old.harts hart).domain }
-        requires aligned { (hart_of self.old.harts hart).pc % 4 ≡ 0 }
+        requires domain { IsDomain self.old.parts.maps (hart_among self.old.harts hart).domain }
+        requires aligned { (hart_among self.old.harts hart).pc % 4 ≡ 0 }
         requires window { IsWindow self.old hart window.now }
         ensures { IsQuickTurn self.old hart result self.new }
     {

@@ -5,7 +5,7 @@ use Rattle.mx_check.specs.Calls.{is_ready}
 use Rattle.mx_model.specs.declared.values.Call.{Call}
 use Rattle.mx_model.specs.Events.{no_events}
 use Rattle.mx_supervisor.proofs.Joined.{joined-sound}
-use Rattle.mx_machine.specs.Harts.{hart_of, own_call, stepped}
+use Rattle.mx_machine.specs.Harts.{hart_among, own_call, stepped}
 use Rattle.mx_machine.specs.Held.{Held}
 use Rattle.mx_machine.specs.Steps.{waits}
 use Rattle.mx_machine.specs.Ties.{Fits}
@@ -22,7 +22,7 @@ announce-requires g c =
     let m = c.args.self.now in
     let h = c.args.hart in
     let r = c.requires.run in
-    let own : c.call-call.result ≡ own_call h (hart_of m.harts h) = c.call-call.ensures ∙ ap (λ (n : Held). own_call h (hart_of n.harts h)) c.self.view_is in (
+    let own : c.call-call.result ≡ own_call h (hart_among m.harts h) = c.call-call.ensures ∙ ap (λ (n : Held). own_call h (hart_among n.harts h)) c.self.view_is in (
       search rules,
       (
         joined-sound m.parts r.act.fits.sound,
@@ -42,7 +42,7 @@ returns-then-not-announce-clause-made g c =
     let m = c.args.self.now in
     let h = c.args.hart in
     let r = c.requires.run in
-    let own : c.call-call.result ≡ own_call h (hart_of m.harts h) = c.call-call.ensures ∙ ap (λ (n : Held). own_call h (hart_of n.harts h)) c.self.view_is in
+    let own : c.call-call.result ≡ own_call h (hart_among m.harts h) = c.call-call.ensures ∙ ap (λ (n : Held). own_call h (hart_among n.harts h)) c.self.view_is in
     let now : c.announce.new.self ≡ now_announced m h r = c.announce.ensures.after ∙ announced-call m h c.call-call.result r own in
     let must = ap (λ (k : Call). is_announced k.number) (sym own) ∙ sym c.is_announced.ensures ∙ c.if-is_announced.true in
     let late = ap (λ (n : Held). is_ready h n.parts.harts) (sym now) ∙ sym c.announce.ensures.ready ∙ c.if-not-announce.true in
@@ -55,7 +55,7 @@ returns-then-not-announce-clause-fits g c =
     let m = c.args.self.now in
     let h = c.args.hart in
     let r = c.requires.run in
-    let own : c.call-call.result ≡ own_call h (hart_of m.harts h) = c.call-call.ensures ∙ ap (λ (n : Held). own_call h (hart_of n.harts h)) c.self.view_is in
+    let own : c.call-call.result ≡ own_call h (hart_among m.harts h) = c.call-call.ensures ∙ ap (λ (n : Held). own_call h (hart_among n.harts h)) c.self.view_is in
     let now : c.announce.new.self ≡ now_announced m h r = c.announce.ensures.after ∙ announced-call m h c.call-call.result r own in
     subst (λ (n : Held). Fits n)
     (sym (rw c.wait.ensures (ap (λ (n : Held). record n { harts = stepped h waits n.harts; waiting = true }) (c.self-then-is_announced.view_is ∙ now))))
@@ -69,7 +69,7 @@ serve-requires g c = (
         let h = c.args.hart in
         let r = c.requires.run in
         let call = c.call-call.result in
-        let own : call ≡ own_call h (hart_of m.harts h) = c.call-call.ensures ∙ ap (λ (n : Held). own_call h (hart_of n.harts h)) c.self.view_is in
+        let own : call ≡ own_call h (hart_among m.harts h) = c.call-call.ensures ∙ ap (λ (n : Held). own_call h (hart_among n.harts h)) c.self.view_is in
         elim c.else-is_announced.branch [
           | else-is_announced-via-then-is_announced+else-not-announce w ↦
               asked-serving m c.else-is_announced.self h call r own (w.self-is ∙ w.announce.ensures.after ∙ announced-call m h call r own)
@@ -88,7 +88,7 @@ returns-clause-made g c =
     let h = c.args.hart in
     let r = c.requires.run in
     let call = c.call-call.result in
-    let own : call ≡ own_call h (hart_of m.harts h) = c.call-call.ensures ∙ ap (λ (n : Held). own_call h (hart_of n.harts h)) c.self.view_is in
+    let own : call ≡ own_call h (hart_among m.harts h) = c.call-call.ensures ∙ ap (λ (n : Held). own_call h (hart_among n.harts h)) c.self.view_is in
     elim c.else-is_announced.branch [
       | else-is_announced-via-then-is_announced+else-not-announce w ↦
           asked-made m c.else-is_announced.self h call r own (w.self-is ∙ w.announce.ensures.after ∙ announced-call m h call r own)

@@ -1,6 +1,6 @@
 use Rattle.std.proofs.Common.{true, sym, subst, ◌∙◌, ap}
 use Rattle.mx_machine.specs.Goings.{kind_of}
-use Rattle.mx_machine.specs.Harts.{hart_of}
+use Rattle.mx_machine.specs.Harts.{hart_among}
 use Rattle.mx_machine.specs.Held.{Held}
 use Rattle.mx_machine.specs.Made.{IsMade}
 use Rattle.mx_machine.specs.Ties.{RunsAlive}
@@ -14,14 +14,14 @@ execute-requires g c =
     let m = c.args.self.now in
     let h = c.args.hart in
     let at = c.requires.at in
-    let d = c.domain-domain.ensures ∙ ap (λ (k : Held). (hart_of k.harts h).domain) c.self.view_is in
+    let d = c.domain-domain.ensures ∙ ap (λ (k : Held). (hart_among k.harts h).domain) c.self.view_is in
     (assumption c, (c.requires.valid, (at.run, ((acts-return m h c.args.target at (c.if-target-domain.true ∙ d)).1, c.requires.empty))))
 
 pub returns-then-target-domain : goal.returns-then-target-domain
 returns-then-target-domain g c =
     let m = c.args.self.now in
     let h = c.args.hart in
-    let d = c.domain-domain.ensures ∙ ap (λ (k : Held). (hart_of k.harts h).domain) c.self.view_is in
+    let d = c.domain-domain.ensures ∙ ap (λ (k : Held). (hart_among k.harts h).domain) c.self.view_is in
     let back = acts-return m h c.args.target c.requires.at (c.if-target-domain.true ∙ d) in
     let at = c.requires.at in
     record {
@@ -36,7 +36,7 @@ returns-then-target-domain g c =
 pub pass-requires : goal.pass-requires
 pass-requires g c =
     let m = c.args.self.now in
-    let x = hart_of m.harts c.args.hart in
+    let x = hart_among m.harts c.args.hart in
     let at = c.requires.at in
     (assumption c, (c.requires.valid, (at.run, (target-domain m x.domain x.pc c.args.target c.requires.valid at.run.act.fits at.gate, c.requires.empty))))
 
@@ -44,7 +44,7 @@ pub returns-else-target-domain : goal.returns-else-target-domain
 returns-else-target-domain g c =
     let m = c.args.self.now in
     let h = c.args.hart in
-    let d = c.domain-domain.ensures ∙ ap (λ (k : Held). (hart_of k.harts h).domain) c.self.view_is in
+    let d = c.domain-domain.ensures ∙ ap (λ (k : Held). (hart_among k.harts h).domain) c.self.view_is in
     let gate = acts-gate m h c.args.target c.requires.at (λ e. c.if-target-domain.false (e ∙ sym d)) in
     record {
       made = subst (λ e. IsMade m c.pass.new.self c.pass.new.out c.pass.result e) (sym gate) c.pass.ensures.made;

@@ -11,7 +11,7 @@ use Rattle.mx_core.proofs.QuickLaws.{fetched-quick}
 use Rattle.mx_model.specs.Effect.{Effect, effect}
 use Rattle.mx_machine.specs.declared.bus.HartBus.{HartBus}
 use Rattle.mx_machine.specs.Bus.{perm_from}
-use Rattle.mx_machine.specs.Harts.{hart_of}
+use Rattle.mx_machine.specs.Harts.{hart_among}
 use Rattle.mx_machine.specs.Held.{Held}
 use Rattle.mx_machine.proofs.TouchLaws.{AreTouched, are-touched}
 use Rattle.mx_machine.proofs.bare.Bare.carry_out.Goals as goal
@@ -22,10 +22,10 @@ known-requires g c =
     let h = c.args.hart in
     let old = c.self.inside.bus.supervisor in
     let t = old.checker.tables in
-    let look : MayLook h (hart_of c.self.inside.harts h).domain old.checker.harts = subst (λ (m : Held). MayLook h (hart_of m.harts h).domain m.parts.harts) (sym c.self.view_is) c.requires.look in
-    let dom : IsDomain (p.maps t) (hart_of c.self.inside.harts h).domain = subst (λ (m : Held). IsDomain m.parts.maps (hart_of m.harts h).domain) (sym c.self.view_is) c.requires.domain in
+    let look : MayLook h (hart_among c.self.inside.harts h).domain old.checker.harts = subst (λ (m : Held). MayLook h (hart_among m.harts h).domain m.parts.harts) (sym c.self.view_is) c.requires.look in
+    let dom : IsDomain (p.maps t) (hart_among c.self.inside.harts h).domain = subst (λ (m : Held). IsDomain m.parts.maps (hart_among m.harts h).domain) (sym c.self.view_is) c.requires.domain in
     let ram : length old.ram ≡ 4 * p.size t = subst (λ (m : Held). length m.parts.ram ≡ 4 * m.parts.size) (sym c.self.view_is) c.requires.sound.ram in
-    let hand : IsAtHand (p.size t) (hart_at old.checker.harts h).cache (hart_of c.self.inside.harts h).pc = subst (λ (m : Held). IsAtHand m.parts.size (hart_at m.parts.harts h).cache (hart_of m.harts h).pc) (sym c.self.view_is) c.requires.at_hand in
+    let hand : IsAtHand (p.size t) (hart_at old.checker.harts h).cache (hart_among c.self.inside.harts h).pc = subst (λ (m : Held). IsAtHand m.parts.size (hart_at m.parts.harts h).cache (hart_among m.harts h).pc) (sym c.self.view_is) c.requires.at_hand in
     (search rules, (record { look = rw c.domain-self-inside.ensures look; domain = rw c.domain-self-inside.ensures dom; ram = ram }, rw c.pc-pc.ensures hand))
 
 pub carry_out-requires-clause-usable : goal.carry_out-requires-clause-usable
@@ -34,8 +34,8 @@ carry_out-requires-clause-usable g c =
     let h = c.args.hart in
     let old = c.self.inside.bus.supervisor in
     let t = old.checker.tables in
-    let look : MayLook h (hart_of c.self.inside.harts h).domain old.checker.harts = subst (λ (m : Held). MayLook h (hart_of m.harts h).domain m.parts.harts) (sym c.self.view_is) c.requires.look in
-    let dom : IsDomain (p.maps t) (hart_of c.self.inside.harts h).domain = subst (λ (m : Held). IsDomain m.parts.maps (hart_of m.harts h).domain) (sym c.self.view_is) c.requires.domain in
+    let look : MayLook h (hart_among c.self.inside.harts h).domain old.checker.harts = subst (λ (m : Held). MayLook h (hart_among m.harts h).domain m.parts.harts) (sym c.self.view_is) c.requires.look in
+    let dom : IsDomain (p.maps t) (hart_among c.self.inside.harts h).domain = subst (λ (m : Held). IsDomain m.parts.maps (hart_among m.harts h).domain) (sym c.self.view_is) c.requires.domain in
     let ram : length old.ram ≡ 4 * p.size t = subst (λ (m : Held). length m.parts.ram ≡ 4 * m.parts.size) (sym c.self.view_is) c.requires.sound.ram in
     record { look = rw c.domain-self-inside.ensures look; domain = rw c.domain-self-inside.ensures dom; ram = ram }
 
@@ -46,11 +46,11 @@ returns-clause-effect g c =
     let inst = c.args.inst in
     let old = c.self.inside.bus.supervisor in
     let t = old.checker.tables in
-    let x = hart_of c.self.inside.harts h in
+    let x = hart_among c.self.inside.harts h in
     let perm = perm_from (p.size t) (p.maps t) x.domain in
     let allowed : denied perm x.pc Execute ≡ false = sym (ap (λ (n : ℕ). denied (perm_from (p.size t) (p.maps t) c.domain-self-inside.result) n Execute) c.pc-pc.ensures
     ∙ ap (λ (n : ℕ). denied (perm_from (p.size t) (p.maps t) n) x.pc Execute) c.domain-self-inside.ensures) ∙ c.known.ensures in
-    let q : quick (load_at old.ram x.pc 4) ≡ Some inst = subst (λ (m : Held). quick (load_at m.parts.ram (hart_of m.harts h).pc 4) ≡ Some inst) (sym c.self.view_is) c.requires.quick in
+    let q : quick (load_at old.ram x.pc 4) ≡ Some inst = subst (λ (m : Held). quick (load_at m.parts.ram (hart_among m.harts h).pc 4) ≡ Some inst) (sym c.self.view_is) c.requires.quick in
     let eff : fetched perm old.ram x.regs x.pc ≡ effect inst x.regs x.pc = fetched-quick perm old.ram x.regs x.pc inst allowed q in
     rw (← c.self.view_is) eff
 
@@ -61,11 +61,11 @@ returns-clause-outcome g c =
     let inst = c.args.inst in
     let old = c.self.inside.bus.supervisor in
     let t = old.checker.tables in
-    let x = hart_of c.self.inside.harts h in
+    let x = hart_among c.self.inside.harts h in
     let perm = perm_from (p.size t) (p.maps t) x.domain in
     let allowed : denied perm x.pc Execute ≡ false = sym (ap (λ (n : ℕ). denied (perm_from (p.size t) (p.maps t) c.domain-self-inside.result) n Execute) c.pc-pc.ensures
     ∙ ap (λ (n : ℕ). denied (perm_from (p.size t) (p.maps t) n) x.pc Execute) c.domain-self-inside.ensures) ∙ c.known.ensures in
-    let q : quick (load_at old.ram x.pc 4) ≡ Some inst = subst (λ (m : Held). quick (load_at m.parts.ram (hart_of m.harts h).pc 4) ≡ Some inst) (sym c.self.view_is) c.requires.quick in
+    let q : quick (load_at old.ram x.pc 4) ≡ Some inst = subst (λ (m : Held). quick (load_at m.parts.ram (hart_among m.harts h).pc 4) ≡ Some inst) (sym c.self.view_is) c.requires.quick in
     let eff : fetched perm old.ram x.regs x.pc ≡ effect inst x.regs x.pc = fetched-quick perm old.ram x.regs x.pc inst allowed q in
     let same = ap (λ (n : ℕ). perm_from (p.size t) (p.maps t) n) c.domain-self-inside.ensures in
     rw (← c.self.view_is) (c.carry_out.ensures.ran.answered
@@ -79,11 +79,11 @@ returns-clause-after g c =
     let inst = c.args.inst in
     let old = c.self.inside.bus.supervisor in
     let t = old.checker.tables in
-    let x = hart_of c.self.inside.harts h in
+    let x = hart_among c.self.inside.harts h in
     let perm = perm_from (p.size t) (p.maps t) x.domain in
     let allowed : denied perm x.pc Execute ≡ false = sym (ap (λ (n : ℕ). denied (perm_from (p.size t) (p.maps t) c.domain-self-inside.result) n Execute) c.pc-pc.ensures
     ∙ ap (λ (n : ℕ). denied (perm_from (p.size t) (p.maps t) n) x.pc Execute) c.domain-self-inside.ensures) ∙ c.known.ensures in
-    let q : quick (load_at old.ram x.pc 4) ≡ Some inst = subst (λ (m : Held). quick (load_at m.parts.ram (hart_of m.harts h).pc 4) ≡ Some inst) (sym c.self.view_is) c.requires.quick in
+    let q : quick (load_at old.ram x.pc 4) ≡ Some inst = subst (λ (m : Held). quick (load_at m.parts.ram (hart_among m.harts h).pc 4) ≡ Some inst) (sym c.self.view_is) c.requires.quick in
     let eff : fetched perm old.ram x.regs x.pc ≡ effect inst x.regs x.pc = fetched-quick perm old.ram x.regs x.pc inst allowed q in
     let a : HartBus g.row.T.Denot g.row.N = record { supervisor = old; hart = h; domain = c.domain-self-inside.result } in
     let ts : List Touch = touches_of (effect inst x.regs x.pc) in

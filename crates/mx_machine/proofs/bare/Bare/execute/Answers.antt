@@ -3,7 +3,7 @@ use Rattle.mx_core.specs.declared.outcome.Outcome.{Outcome}
 use Rattle.mx_core.specs.declared.outcome.Outcome.TheVariants as O
 use Rattle.mx_core.specs.Exec.{HasCause}
 use Rattle.mx_model.specs.Turn.{call_of}
-use Rattle.mx_machine.specs.Harts.{hart_of}
+use Rattle.mx_machine.specs.Harts.{hart_among}
 use Rattle.mx_machine.specs.Made.{hart_in}
 use Rattle.mx_machine.proofs.MadeLaws.{may-look}
 use Rattle.mx_machine.proofs.InstructLaws.{fits-instruction, from-instruction, made-next, runs-instruction}
@@ -47,7 +47,7 @@ returns-in-Next g c =
     let e = sym c.instruct.ensures.outcome ∙ c.in-Next.is in
     record {
       made = rw (c.instruct.ensures.after, c.requires.empty)
-          (made-next m h c.args.returns r (r.act.fits.sound.maps (hart_of m.harts h).domain r.act.domain) c.requires.returns _ e);
+          (made-next m h c.args.returns r (r.act.fits.sound.maps (hart_among m.harts h).domain r.act.domain) c.requires.returns _ e);
       fits = rw c.instruct.ensures.after (fits-instruction m h c.args.returns r);
       on = λ none. (c.instruct.ensures.after, c.requires.empty);
       ran = λ ran. refl;
@@ -61,7 +61,7 @@ returns-in-Trap g c =
     let e = sym c.instruct.ensures.outcome ∙ c.in-Trap.is in
     let made = rw c.instruct.ensures.after at c.trap.ensures.made in
     record {
-      made = from-instruction m h c.args.returns r (r.act.fits.sound.maps (hart_of m.harts h).domain r.act.domain) c.requires.returns
+      made = from-instruction m h c.args.returns r (r.act.fits.sound.maps (hart_among m.harts h).domain r.act.domain) c.requires.returns
           c.trap.new.self c.trap.new.out c.trap.result (O.Trap c.in-Trap.fault) e tt made;
       fits = c.trap.ensures.fits;
       on = λ none. absurd (let z : ⊥ = cc in z);
@@ -76,7 +76,7 @@ returns-in-Call g c =
     let e = sym c.instruct.ensures.outcome ∙ c.in-Call.is in
     let made = rw c.instruct.ensures.after at c.ask.ensures.made in
     record {
-      made = from-instruction m h c.args.returns r (r.act.fits.sound.maps (hart_of m.harts h).domain r.act.domain) c.requires.returns
+      made = from-instruction m h c.args.returns r (r.act.fits.sound.maps (hart_among m.harts h).domain r.act.domain) c.requires.returns
           c.ask.new.self c.ask.new.out c.ask.result O.Call e tt made;
       fits = c.ask.ensures.fits;
       on = λ none. absurd (let z : ⊥ = cc in z);
@@ -91,7 +91,7 @@ returns-in-Back g c =
     let e = sym c.instruct.ensures.outcome ∙ c.in-Back.is in
     let made = rw c.instruct.ensures.after at c.go_back.ensures.made in
     record {
-      made = from-instruction m h c.args.returns r (r.act.fits.sound.maps (hart_of m.harts h).domain r.act.domain) c.requires.returns
+      made = from-instruction m h c.args.returns r (r.act.fits.sound.maps (hart_among m.harts h).domain r.act.domain) c.requires.returns
           c.go_back.new.self c.go_back.new.out c.go_back.result (O.Back c.in-Back.rd c.in-Back.target) e tt made;
       fits = c.go_back.ensures.fits;
       on = λ none. absurd (let z : ⊥ = cc in z);

@@ -2,7 +2,7 @@ use Rattle.std.proofs.Common.{rules, ◌≡◌, ℕ, ◌<◌, length, sym, ap, s
 use Rattle.mx_check.specs.Harts.{hart_at}
 use Rattle.mx_machine.specs.Actions.{halted_first}
 use Rattle.mx_machine.specs.Halting.{halted_at}
-use Rattle.mx_machine.specs.Harts.{hart_of, is_halted}
+use Rattle.mx_machine.specs.Harts.{hart_among, is_halted}
 use Rattle.mx_machine.specs.Held.{Held}
 use Rattle.mx_machine.proofs.HaltLaws.{halted-count, halted-flight}
 use Rattle.mx_machine.proofs.bare.Bare.halt_left.Goals as goal
@@ -17,7 +17,7 @@ halt_one-requires g c =
       (
         subst (λ (n : Held). i < length n.parts.harts) (sym now) (subst (λ k. i < k) count c.loop-hart-test.true),
         λ halted. ap (λ (n : Held). (hart_at n.parts.harts i).flight) now ∙ halted-flight i m.harts m.parts.harts i
-            ∙ c.requires.free i (ap (λ (n : Held). is_halted (hart_of n.harts i).progress) (sym now) ∙ halted),
+            ∙ c.requires.free i (ap (λ (n : Held). is_halted (hart_among n.harts i).progress) (sym now) ∙ halted),
       ),
     )
 

@@ -8,7 +8,7 @@ use Rattle.mx_model.specs.Effect.{effect}
 use Rattle.mx_supervisor.specs.Parts.{IsSound, parts_of}
 use Rattle.mx_machine.specs.declared.hart.Hart.{Hart}
 use Rattle.mx_machine.specs.Actions.{after_unfetched, effect_for, outcome_for}
-use Rattle.mx_machine.specs.Harts.{hart_of}
+use Rattle.mx_machine.specs.Harts.{hart_among}
 use Rattle.mx_machine.specs.Held.{Held}
 use Rattle.mx_machine.specs.Windows.{IsOpen}
 use Rattle.mx_machine.proofs.MadeLaws.{may-look}
@@ -23,7 +23,7 @@ word-word-requires g c =
     let h = c.args.hart in
     let f = c.requires.fits in
     let r = c.requires.alive in
-    let pc-is : c.pc-pc.result ≡ (hart_of m.harts h).pc = c.pc-pc.ensures ∙ ap (λ (k : Held). (hart_of k.harts h).pc) c.self.view_is in
+    let pc-is : c.pc-pc.result ≡ (hart_among m.harts h).pc = c.pc-pc.ensures ∙ ap (λ (k : Held). (hart_among k.harts h).pc) c.self.view_is in
     let at-pc : IsOpen m h c.pc-pc.result = c.requires.window.each c.pc-pc.result (sym c.if-not-holds.ensures) in
     (assumption c, (f.sound.ram, (hand-inside m.parts.size c.pc-pc.result (hart_at m.parts.harts h).cache at-pc.at_hand, rw pc-is c.requires.aligned)))
 
@@ -34,9 +34,9 @@ carry_out-requires g c =
     let h = c.args.hart in
     let f = c.requires.fits in
     let r = c.requires.alive in
-    let pc-is : c.pc-pc.result ≡ (hart_of m.harts h).pc = c.pc-pc.ensures ∙ ap (λ (k : Held). (hart_of k.harts h).pc) c.self.view_is in
+    let pc-is : c.pc-pc.result ≡ (hart_among m.harts h).pc = c.pc-pc.ensures ∙ ap (λ (k : Held). (hart_among k.harts h).pc) c.self.view_is in
     let at-pc : IsOpen m h c.pc-pc.result = c.requires.window.each c.pc-pc.result (sym c.if-not-holds.ensures) in
-    let o : IsOpen m h (hart_of m.harts h).pc = subst (λ (a : ℕ). IsOpen m h a) pc-is at-pc in
+    let o : IsOpen m h (hart_among m.harts h).pc = subst (λ (a : ℕ). IsOpen m h a) pc-is at-pc in
     let inside = c.self.inside in
     let v : Held = record {
       parts = parts_of p inside.bus.supervisor;
@@ -50,7 +50,7 @@ carry_out-requires g c =
     let is : n ≡ m = ap (λ (hs : List Hart). record v { harts = hs }) c.inst.ensures.same ∙ c.self.view_is in
     let inst = c.in-Some.inst in
     let known : quick (load_at m.parts.ram c.pc-pc.result 4) ≡ Some inst = sym (ap quick c.word-word.ensures) ∙ sym c.in-Some.ensures.inst in
-    let there : quick (load_at m.parts.ram (hart_of m.harts h).pc 4) ≡ Some inst = sym (ap (λ (a : ℕ). quick (load_at m.parts.ram a 4)) pc-is) ∙ known in
+    let there : quick (load_at m.parts.ram (hart_among m.harts h).pc 4) ≡ Some inst = sym (ap (λ (a : ℕ). quick (load_at m.parts.ram a 4)) pc-is) ∙ known in
     let run = open-runs m h f r c.requires.domain o.quiet in (
       assumption c,
       (
@@ -58,14 +58,14 @@ carry_out-requires g c =
         (
           subst (λ (k : Held). h < length k.harts) (sym is) r.there,
           (
-            subst (λ (k : Held). MayLook h (hart_of k.harts h).domain k.parts.harts) (sym is) (may-look m h run),
+            subst (λ (k : Held). MayLook h (hart_among k.harts h).domain k.parts.harts) (sym is) (may-look m h run),
             (
-              subst (λ (k : Held). IsDomain k.parts.maps (hart_of k.harts h).domain) (sym is) c.requires.domain,
+              subst (λ (k : Held). IsDomain k.parts.maps (hart_among k.harts h).domain) (sym is) c.requires.domain,
               (
-                subst (λ (k : Held). (hart_of k.harts h).pc % 4 ≡ 0) (sym is) c.requires.aligned,
+                subst (λ (k : Held). (hart_among k.harts h).pc % 4 ≡ 0) (sym is) c.requires.aligned,
                 (
-                  subst (λ (k : Held). IsAtHand k.parts.size (hart_at k.parts.harts h).cache (hart_of k.harts h).pc) (sym is) o.at_hand,
-                  (subst (λ (k : Held). quick (load_at k.parts.ram (hart_of k.harts h).pc 4) ≡ Some inst) (sym is) there, c.in-Some.ensures.valid),
+                  subst (λ (k : Held). IsAtHand k.parts.size (hart_at k.parts.harts h).cache (hart_among k.harts h).pc) (sym is) o.at_hand,
+                  (subst (λ (k : Held). quick (load_at k.parts.ram (hart_among k.harts h).pc 4) ≡ Some inst) (sym is) there, c.in-Some.ensures.valid),
                 ),
               ),
             ),
@@ -81,9 +81,9 @@ returns-in-Some g c =
     let h = c.args.hart in
     let f = c.requires.fits in
     let r = c.requires.alive in
-    let pc-is : c.pc-pc.result ≡ (hart_of m.harts h).pc = c.pc-pc.ensures ∙ ap (λ (k : Held). (hart_of k.harts h).pc) c.self.view_is in
+    let pc-is : c.pc-pc.result ≡ (hart_among m.harts h).pc = c.pc-pc.ensures ∙ ap (λ (k : Held). (hart_among k.harts h).pc) c.self.view_is in
     let at-pc : IsOpen m h c.pc-pc.result = c.requires.window.each c.pc-pc.result (sym c.if-not-holds.ensures) in
-    let o : IsOpen m h (hart_of m.harts h).pc = subst (λ (a : ℕ). IsOpen m h a) pc-is at-pc in
+    let o : IsOpen m h (hart_among m.harts h).pc = subst (λ (a : ℕ). IsOpen m h a) pc-is at-pc in
     let inside = c.self.inside in
     let v : Held = record {
       parts = parts_of p inside.bus.supervisor;
@@ -97,13 +97,13 @@ returns-in-Some g c =
     let is : n ≡ m = ap (λ (hs : List Hart). record v { harts = hs }) c.inst.ensures.same ∙ c.self.view_is in
     let inst = c.in-Some.inst in
     let known : quick (load_at m.parts.ram c.pc-pc.result 4) ≡ Some inst = sym (ap quick c.word-word.ensures) ∙ sym c.in-Some.ensures.inst in
-    let there : quick (load_at m.parts.ram (hart_of m.harts h).pc 4) ≡ Some inst = sym (ap (λ (a : ℕ). quick (load_at m.parts.ram a 4)) pc-is) ∙ known in
+    let there : quick (load_at m.parts.ram (hart_among m.harts h).pc 4) ≡ Some inst = sym (ap (λ (a : ℕ). quick (load_at m.parts.ram a 4)) pc-is) ∙ known in
     let e = c.carry_out.ensures in
     record {
       opened = o;
       inst = inst;
       known = there;
-      effect = subst (λ (k : Held). effect_for k (hart_of k.harts h) ≡ effect inst (hart_of k.harts h).regs (hart_of k.harts h).pc) is e.effect;
+      effect = subst (λ (k : Held). effect_for k (hart_among k.harts h) ≡ effect inst (hart_among k.harts h).regs (hart_among k.harts h).pc) is e.effect;
       answered = e.outcome ∙ ap (λ (k : Held). outcome_for k h false) is;
       after = e.after ∙ ap (λ (k : Held). after_unfetched h k) is;
       caused = e.cause;

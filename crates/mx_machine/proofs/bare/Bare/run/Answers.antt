@@ -1,6 +1,6 @@
 use Rattle.std.proofs.Common.{ℕ, false, sym, subst, ◌∙◌, ap, arith, get_or}
 use Rattle.mx_machine.specs.Goings.{kind_of}
-use Rattle.mx_machine.specs.Harts.{hart_of}
+use Rattle.mx_machine.specs.Harts.{hart_among}
 use Rattle.mx_machine.specs.Held.{Held}
 use Rattle.mx_machine.specs.Made.{IsMade}
 use Rattle.mx_machine.proofs.CaseLaws.{at-gate-here, acts-dead, acts-plain}
@@ -16,8 +16,8 @@ pub execute-requires : goal.execute-requires
 execute-requires g c =
     let m = c.args.self.now in
     let h = c.args.hart in
-    let d = c.domain-domain.ensures ∙ ap (λ (m : Held). (hart_of m.harts h).domain) c.self.view_is in
-    let p = c.pc-pc.ensures ∙ ap (λ (m : Held). (hart_of m.harts h).pc) c.self.view_is in
+    let d = c.domain-domain.ensures ∙ ap (λ (m : Held). (hart_among m.harts h).domain) c.self.view_is in
+    let p = c.pc-pc.ensures ∙ ap (λ (m : Held). (hart_among m.harts h).pc) c.self.view_is in
     let alive = sym c.is_dead.ensures ∙ c.if-is_dead.false in
     let plain = acts-plain m h c.domain-domain.result c.pc-pc.result c.requires.run d p alive (sym c.in-None.ensures) in
     (assumption c, (c.requires.valid, (c.requires.run, (plain.1, c.requires.empty))))
@@ -26,8 +26,8 @@ pub returns-in-None : goal.returns-in-None
 returns-in-None g c =
     let m = c.args.self.now in
     let h = c.args.hart in
-    let d = c.domain-domain.ensures ∙ ap (λ (m : Held). (hart_of m.harts h).domain) c.self.view_is in
-    let p = c.pc-pc.ensures ∙ ap (λ (m : Held). (hart_of m.harts h).pc) c.self.view_is in
+    let d = c.domain-domain.ensures ∙ ap (λ (m : Held). (hart_among m.harts h).domain) c.self.view_is in
+    let p = c.pc-pc.ensures ∙ ap (λ (m : Held). (hart_among m.harts h).pc) c.self.view_is in
     let alive = sym c.is_dead.ensures ∙ c.if-is_dead.false in
     let plain = acts-plain m h c.domain-domain.result c.pc-pc.result c.requires.run d p alive (sym c.in-None.ensures) in
     record {
@@ -39,8 +39,8 @@ pub returns-then-is_dead : goal.returns-then-is_dead
 returns-then-is_dead g c =
     let m = c.args.self.now in
     let h = c.args.hart in
-    let d = c.domain-domain.ensures ∙ ap (λ (m : Held). (hart_of m.harts h).domain) c.self.view_is in
-    let p = c.pc-pc.ensures ∙ ap (λ (m : Held). (hart_of m.harts h).pc) c.self.view_is in
+    let d = c.domain-domain.ensures ∙ ap (λ (m : Held). (hart_among m.harts h).domain) c.self.view_is in
+    let p = c.pc-pc.ensures ∙ ap (λ (m : Held). (hart_among m.harts h).pc) c.self.view_is in
     let dead = ap (λ (n : ℕ). get_or m.dead n false) (sym d) ∙ sym c.is_dead.ensures ∙ c.if-is_dead.true in
     record {
       made = subst (λ e. IsMade m c.trap.new.self c.trap.new.out c.trap.result e) (sym (acts-dead m h c.pc-pc.result c.requires.run dead p)) c.trap.ensures.made;
@@ -51,8 +51,8 @@ pub at_gate-requires : goal.at_gate-requires
 at_gate-requires g c =
     let m = c.args.self.now in
     let h = c.args.hart in
-    let d = c.domain-domain.ensures ∙ ap (λ (m : Held). (hart_of m.harts h).domain) c.self.view_is in
-    let p = c.pc-pc.ensures ∙ ap (λ (m : Held). (hart_of m.harts h).pc) c.self.view_is in
+    let d = c.domain-domain.ensures ∙ ap (λ (m : Held). (hart_among m.harts h).domain) c.self.view_is in
+    let p = c.pc-pc.ensures ∙ ap (λ (m : Held). (hart_among m.harts h).pc) c.self.view_is in
     let alive = sym c.is_dead.ensures ∙ c.if-is_dead.false in
     let at = at-gate-here m h c.domain-domain.result c.pc-pc.result c.in-Some.target c.requires.run d p alive (sym c.in-Some.ensures) in
     (assumption c, (c.requires.valid, (at, c.requires.empty)))

@@ -5,7 +5,7 @@ use Rattle.mx_model.specs.declared.values.Note.TheVariants as N
 use Rattle.mx_model.specs.Events.{Events}
 use Rattle.mx_supervisor.specs.Parts.{Parts, parts_of}
 use Rattle.mx_supervisor.proofs.Joined.{joined-sound}
-use Rattle.mx_machine.specs.Harts.{hart_of}
+use Rattle.mx_machine.specs.Harts.{hart_among}
 use Rattle.mx_machine.specs.Held.{Held, rest_of}
 use Rattle.mx_machine.specs.Serving.{IsServing}
 use Rattle.mx_machine.proofs.ServeLaws.{fits-answered, fits-ended, made-answered, made-ended, own-flight, served-moved, serving-bars}
@@ -75,8 +75,8 @@ returns-then-answer-clause-made g c =
     let a = c.serve-answer.result in
     let bytes = c.serve-answer.new.out.bytes in
     let served = s.served (rest_of m) (serving-bars m h call v) in
-    let own : call.domain ≡ (hart_of m.harts h).domain = ap (λ (c : Call). c.domain) v.own in
-    let out : c.set_note.new.self ≡ record { bytes = bytes; note = Some (N.Exit m.steps h (hart_of m.harts h).domain a.a0) } =
+    let own : call.domain ≡ (hart_among m.harts h).domain = ap (λ (c : Call). c.domain) v.own in
+    let out : c.set_note.new.self ≡ record { bytes = bytes; note = Some (N.Exit m.steps h (hart_among m.harts h).domain a.a0) } =
     c.set_note.ensures ∙ ap (λ (d : ℕ). record { bytes = bytes; note = Some (N.Exit m.steps h d a.a0) }) own in
     served-moved m _ _ _ _ _ h call c.self.view_is (rw (c.halt.ensures, c.halt-then-answer.ensures) refl) (sym out)
     (made-ended m h call q bytes a v served s.harts s.sizes s.sound c.if-answer.true)

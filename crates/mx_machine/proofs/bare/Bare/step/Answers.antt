@@ -4,7 +4,7 @@ use Rattle.mx_model.specs.Run.{flat_made}
 use Rattle.mx_model.specs.declared.values.TurnKind.TheVariants as T
 use Rattle.mx_machine.specs.declared.hart.Progress.TheVariants as G
 use Rattle.mx_machine.specs.Actions.{counted, heard}
-use Rattle.mx_machine.specs.Harts.{hart_of}
+use Rattle.mx_machine.specs.Harts.{hart_among}
 use Rattle.mx_machine.specs.Held.{Held, meaning}
 use Rattle.mx_machine.specs.Made.{IsMade}
 use Rattle.mx_machine.specs.Ties.{Fits}
@@ -16,7 +16,7 @@ pub returns-in-Halted : goal.returns-in-Halted
 returns-in-Halted g c =
     let m = c.args.self.now in
     let h = c.args.hart in
-    let at = sym (ap (λ (n : Held). (hart_of n.harts h).progress) c.self.view_is) ∙ sym c.progress.ensures ∙ c.in-Halted.is in
+    let at = sym (ap (λ (n : Held). (hart_among n.harts h).progress) c.self.view_is) ∙ sym c.progress.ensures ∙ c.in-Halted.is in
     record {
       made = subst (λ (n : Held). IsMade m (counted n) c.clear.new.out T.Idle (flat_made (meaning m) h)) (sym c.self.view_is)
           (subst (λ (e : Events). IsMade m (counted m) e T.Idle (flat_made (meaning m) h)) (sym c.clear.ensures) (made-idle m h c.in-Halted.field-0 at));
@@ -27,7 +27,7 @@ pub hear-requires : goal.hear-requires
 hear-requires g c =
     let m = c.args.self.now in
     let h = c.args.hart in
-    let at = sym (ap (λ (n : Held). (hart_of n.harts h).progress) c.self.view_is) ∙ sym c.progress.ensures ∙ c.in-Waiting.is in
+    let at = sym (ap (λ (n : Held). (hart_among n.harts h).progress) c.self.view_is) ∙ sym c.progress.ensures ∙ c.in-Waiting.is in
     (assumption c, may-hear m h c.requires.whole G.Waiting at refl _ c.self.view_is)
 
 pub wait_on-requires : goal.wait_on-requires
@@ -35,7 +35,7 @@ wait_on-requires g c =
     let m = c.args.self.now in
     let h = c.args.hart in
     let w = c.requires.whole in
-    let at = sym (ap (λ (n : Held). (hart_of n.harts h).progress) c.self.view_is) ∙ sym c.progress.ensures ∙ c.in-Waiting.is in
+    let at = sym (ap (λ (n : Held). (hart_among n.harts h).progress) c.self.view_is) ∙ sym c.progress.ensures ∙ c.in-Waiting.is in
     let is = c.hear.ensures.after ∙ ap (λ (n : Held). heard h (counted n)) c.self.view_is in (
       assumption c,
       (
@@ -52,7 +52,7 @@ returns-in-Waiting g c =
     let m = c.args.self.now in
     let h = c.args.hart in
     let w = c.requires.whole in
-    let at = sym (ap (λ (n : Held). (hart_of n.harts h).progress) c.self.view_is) ∙ sym c.progress.ensures ∙ c.in-Waiting.is in
+    let at = sym (ap (λ (n : Held). (hart_among n.harts h).progress) c.self.view_is) ∙ sym c.progress.ensures ∙ c.in-Waiting.is in
     let is = c.hear.ensures.after ∙ ap (λ (n : Held). heard h (counted n)) c.self.view_is in
     record {
       made = made-now m h w G.Waiting at refl c.hear.new.self is c.wait_on.new.self c.wait_on.new.out c.wait_on.result
@@ -64,7 +64,7 @@ pub hear-requires-in-Running : goal.hear-requires-in-Running
 hear-requires-in-Running g c =
     let m = c.args.self.now in
     let h = c.args.hart in
-    let at = sym (ap (λ (n : Held). (hart_of n.harts h).progress) c.self.view_is) ∙ sym c.progress.ensures ∙ c.in-Running.is in
+    let at = sym (ap (λ (n : Held). (hart_among n.harts h).progress) c.self.view_is) ∙ sym c.progress.ensures ∙ c.in-Running.is in
     (assumption c, may-hear m h c.requires.whole G.Running at refl _ c.self.view_is)
 
 pub run-requires : goal.run-requires
@@ -73,7 +73,7 @@ run-requires g c =
     let h = c.args.hart in
     let w = c.requires.whole in
     let hears = c.hear-in-Running in
-    let at = sym (ap (λ (n : Held). (hart_of n.harts h).progress) c.self.view_is) ∙ sym c.progress.ensures ∙ c.in-Running.is in
+    let at = sym (ap (λ (n : Held). (hart_among n.harts h).progress) c.self.view_is) ∙ sym c.progress.ensures ∙ c.in-Running.is in
     let is = hears.ensures.after ∙ ap (λ (n : Held). heard h (counted n)) c.self.view_is in (
       assumption c,
       (
@@ -88,7 +88,7 @@ returns-in-Running g c =
     let h = c.args.hart in
     let w = c.requires.whole in
     let hears = c.hear-in-Running in
-    let at = sym (ap (λ (n : Held). (hart_of n.harts h).progress) c.self.view_is) ∙ sym c.progress.ensures ∙ c.in-Running.is in
+    let at = sym (ap (λ (n : Held). (hart_among n.harts h).progress) c.self.view_is) ∙ sym c.progress.ensures ∙ c.in-Running.is in
     let is = hears.ensures.after ∙ ap (λ (n : Held). heard h (counted n)) c.self.view_is in
     record {
       made = made-now m h w G.Running at refl hears.new.self is c.run.new.self c.run.new.out c.run.result

@@ -2,7 +2,7 @@ use Rattle.std.proofs.Common.{◌≡◌, false, sym, subst, ◌∙◌, ap, refl,
 use Rattle.mx_machine.specs.Goings.{kind_of}
 use Rattle.mx_machine.specs.declared.hart.Progress.TheVariants as G
 use Rattle.mx_machine.specs.Actions.{counted, heard}
-use Rattle.mx_machine.specs.Harts.{hart_of}
+use Rattle.mx_machine.specs.Harts.{hart_among}
 use Rattle.mx_machine.specs.Held.{Held}
 use Rattle.mx_machine.specs.Made.{IsMade}
 use Rattle.mx_machine.specs.Ties.{MayRun, RunsAlive}
@@ -34,8 +34,8 @@ at_gate-requires g c =
     let n = c.hear.new.self in
     let is : n ≡ heard h (counted m) = c.hear.ensures.after ∙ ap (λ (k : Held). heard h (counted k)) c.self.view_is in
     let run : MayRun n h = record { act = acts-now m h w G.Running at refl n is c.hear.ensures.all; runs = stands-now m h w G.Running at refl n is } in
-    let d : c.domain-domain.result ≡ (hart_of n.harts h).domain = c.domain-domain.ensures ∙ ap (λ (k : Held). (hart_of k.harts h).domain) c.self-2.view_is in
-    let p : c.pc-pc.result ≡ (hart_of n.harts h).pc = c.pc-pc.ensures ∙ ap (λ (k : Held). (hart_of k.harts h).pc) c.self-2.view_is in
+    let d : c.domain-domain.result ≡ (hart_among n.harts h).domain = c.domain-domain.ensures ∙ ap (λ (k : Held). (hart_among k.harts h).domain) c.self-2.view_is in
+    let p : c.pc-pc.result ≡ (hart_among n.harts h).pc = c.pc-pc.ensures ∙ ap (λ (k : Held). (hart_among k.harts h).pc) c.self-2.view_is in
     let alive : get_or n.dead c.domain-domain.result false ≡ false = ap (λ x. get_or n.dead x false) d ∙ alive-now m n h c.requires.alive is in
     let gate = at-gate-here n h c.domain-domain.result c.pc-pc.result c.in-Some.target run d p alive (sym c.in-Some.ensures) in
     (assumption c, (valid-now m h w G.Running at refl n is, (gate, c.requires.empty)))
@@ -65,8 +65,8 @@ execute-requires g c =
     let n = c.hear.new.self in
     let is : n ≡ heard h (counted m) = c.hear.ensures.after ∙ ap (λ (k : Held). heard h (counted k)) c.self.view_is in
     let run : MayRun n h = record { act = acts-now m h w G.Running at refl n is c.hear.ensures.all; runs = stands-now m h w G.Running at refl n is } in
-    let d : c.domain-domain.result ≡ (hart_of n.harts h).domain = c.domain-domain.ensures ∙ ap (λ (k : Held). (hart_of k.harts h).domain) c.self-2.view_is in
-    let p : c.pc-pc.result ≡ (hart_of n.harts h).pc = c.pc-pc.ensures ∙ ap (λ (k : Held). (hart_of k.harts h).pc) c.self-2.view_is in
+    let d : c.domain-domain.result ≡ (hart_among n.harts h).domain = c.domain-domain.ensures ∙ ap (λ (k : Held). (hart_among k.harts h).domain) c.self-2.view_is in
+    let p : c.pc-pc.result ≡ (hart_among n.harts h).pc = c.pc-pc.ensures ∙ ap (λ (k : Held). (hart_among k.harts h).pc) c.self-2.view_is in
     let live = alive-now m n h c.requires.alive is in
     let alive : get_or n.dead c.domain-domain.result false ≡ false = ap (λ x. get_or n.dead x false) d ∙ live in
     let plain = acts-plain n h c.domain-domain.result c.pc-pc.result run d p alive (sym c.in-None.ensures) in
@@ -81,8 +81,8 @@ returns-in-None g c =
     let n = c.hear.new.self in
     let is : n ≡ heard h (counted m) = c.hear.ensures.after ∙ ap (λ (k : Held). heard h (counted k)) c.self.view_is in
     let run : MayRun n h = record { act = acts-now m h w G.Running at refl n is c.hear.ensures.all; runs = stands-now m h w G.Running at refl n is } in
-    let d : c.domain-domain.result ≡ (hart_of n.harts h).domain = c.domain-domain.ensures ∙ ap (λ (k : Held). (hart_of k.harts h).domain) c.self-2.view_is in
-    let p : c.pc-pc.result ≡ (hart_of n.harts h).pc = c.pc-pc.ensures ∙ ap (λ (k : Held). (hart_of k.harts h).pc) c.self-2.view_is in
+    let d : c.domain-domain.result ≡ (hart_among n.harts h).domain = c.domain-domain.ensures ∙ ap (λ (k : Held). (hart_among k.harts h).domain) c.self-2.view_is in
+    let p : c.pc-pc.result ≡ (hart_among n.harts h).pc = c.pc-pc.ensures ∙ ap (λ (k : Held). (hart_among k.harts h).pc) c.self-2.view_is in
     let live = alive-now m n h c.requires.alive is in
     let alive : get_or n.dead c.domain-domain.result false ≡ false = ap (λ x. get_or n.dead x false) d ∙ live in
     let plain = acts-plain n h c.domain-domain.result c.pc-pc.result run d p alive (sym c.in-None.ensures) in

@@ -6,7 +6,7 @@ use Rattle.mx_model.specs.declared.values.TurnKind.TheVariants as T
 use Rattle.mx_model.specs.Events.{Events}
 use Rattle.mx_model.specs.Turn.{served}
 use Rattle.mx_machine.specs.declared.hart.Hart.{Hart}
-use Rattle.mx_machine.specs.Harts.{hart_of, is_waiting, own_call}
+use Rattle.mx_machine.specs.Harts.{hart_among, is_waiting, own_call}
 use Rattle.mx_machine.specs.Held.{Held}
 use Rattle.mx_machine.specs.Made.{IsMade, core_in, made_after_hearing, hart_in, reads_of}
 use Rattle.mx_machine.specs.Serving.{IsServing}
@@ -42,7 +42,7 @@ serve-requires g c = (
     let m = c.args.self.now in
         let h = c.args.hart in
         let a = c.requires.act in
-        let own : c.call-call.result ≡ own_call h (hart_of m.harts h) = c.call-call.ensures ∙ ap (λ (n : Held). own_call h (hart_of n.harts h)) c.self.view_is in
+        let own : c.call-call.result ≡ own_call h (hart_among m.harts h) = c.call-call.ensures ∙ ap (λ (n : Held). own_call h (hart_among n.harts h)) c.self.view_is in
         let ready : is_ready h m.parts.harts ≡ true =
         ap (λ (n : Held). is_ready h n.parts.harts) (sym c.self.view_is) ∙ sym c.ready.ensures.ready ∙ c.if-not-ready.false in
         subst (λ (k : Call). IsServing m h k) (sym own)
@@ -60,7 +60,7 @@ returns-clause-made g c =
     let h = c.args.hart in
     let n = c.serve.new.self in
     let w = c.any_waits-self-inside.result in
-    let own : c.call-call.result ≡ own_call h (hart_of m.harts h) = c.call-call.ensures ∙ ap (λ (n : Held). own_call h (hart_of n.harts h)) c.self.view_is in
+    let own : c.call-call.result ≡ own_call h (hart_among m.harts h) = c.call-call.ensures ∙ ap (λ (n : Held). own_call h (hart_among n.harts h)) c.self.view_is in
     let ready : is_ready h m.parts.harts ≡ true =
     ap (λ (n : Held). is_ready h n.parts.harts) (sym c.self.view_is) ∙ sym c.ready.ensures.ready ∙ c.if-not-ready.false in
     made-moved m (record n { waiting = w }) _ _ _ _ _ _ (sym (ap (λ (n : Held). record n { waiting = w }) c.self-2.view_is)) refl refl

@@ -1,6 +1,6 @@
 use Rattle.std.proofs.Common.{ap, get_or, ◌∙◌}
 use Rattle.mx_machine.specs.declared.hart.Hart.{Hart}
-use Rattle.mx_machine.specs.Harts.{hart_of}
+use Rattle.mx_machine.specs.Harts.{hart_among}
 use Rattle.mx_machine.specs.Steps.{instructed, regs_carried}
 use Rattle.mx_machine.proofs.HartList.{hart_read, hart_written}
 use Rattle.mx_machine.proofs.harts.Harts.carry_out.Goals as goal
@@ -10,5 +10,5 @@ returns-clause-after g c =
     let part = c.index-self-hart.result in
     let read = hart_read c.self.inside.len c.self.inside.items c.args.self.now c.args.hart part c.self.view_is c.requires.hart in
     hart_written c.self.inside.len c.self.inside.items c.args.self.now c.args.hart part c.self.view_is c.requires.hart
-    (instructed (regs_carried g.B.Bus.perm g.B.Bus.bytes c.args.inst (hart_of c.args.self.now c.args.hart) c.args.bus.now) c.carry_out.result) _
+    (instructed (regs_carried g.B.Bus.perm g.B.Bus.bytes c.args.inst (hart_among c.args.self.now c.args.hart) c.args.bus.now) c.carry_out.result) _
     (c.carry_out.ensures.after ∙ ap (λ (x : Hart). instructed (regs_carried g.B.Bus.perm g.B.Bus.bytes c.args.inst x c.args.bus.now) c.carry_out.result (get_or c.self.inside.items c.args.hart part)) read)

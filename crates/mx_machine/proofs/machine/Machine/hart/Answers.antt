@@ -1,6 +1,6 @@
 use Rattle.std.proofs.Common.{subst}
 use Rattle.mx_model.specs.State.{Flat, hart_at}
-use Rattle.mx_machine.specs.Harts.{hart_of}
+use Rattle.mx_machine.specs.Harts.{hart_among}
 use Rattle.mx_machine.specs.Readings.{IsViewOf, TellsHart}
 use Rattle.mx_machine.proofs.ReadLaws.{view-told}
 use Rattle.mx_machine.proofs.machine.Machine.hart.Goals as goal
@@ -9,4 +9,4 @@ pub returns : goal.returns
 returns g c =
     subst (λ (f : Flat). IsViewOf (hart_at f.core c.args.hart) c.view.result) c.self.view_is
     (view-told c.self.inside.bare c.args.hart c.view.result
-    (subst (λ x. TellsHart (hart_of x.bare.harts c.args.hart) c.view.result) c.self-inside.view_is c.view.ensures))
+    (subst (λ x. TellsHart (hart_among x.bare.harts c.args.hart) c.view.result) c.self-inside.view_is c.view.ensures))

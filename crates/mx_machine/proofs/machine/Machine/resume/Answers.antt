@@ -4,7 +4,7 @@ use Rattle.mx_table.specs.Tables.{IsShaped}
 use Rattle.mx_supervisor.specs.Parts.{Parts, parts_of}
 use Rattle.mx_supervisor.proofs.Joined.{sound-joined}
 use Rattle.mx_machine.specs.declared.hart.Hart.{Hart}
-use Rattle.mx_machine.specs.Harts.{hart_of, is_halted}
+use Rattle.mx_machine.specs.Harts.{hart_among, is_halted}
 use Rattle.mx_machine.specs.Held.{Held, meaning}
 use Rattle.mx_machine.specs.Ties.{IsWhole}
 use Rattle.mx_machine.proofs.SizeLaws.{fits-inside}
@@ -22,7 +22,7 @@ halt_left-requires g c =
       search fits-inside,
       (
         rw c.resume-left.ensures (as-many p c.args.harts.now c.args.stacks.now c.args.dead.now c.args.steps c.requires.may),
-        subst (λ (xs : List Hart). (h : ℕ) → is_halted (hart_of xs h).progress ≡ true → (hart_at p.harts h).flight ≡ None) (sym c.resume-left.ensures)
+        subst (λ (xs : List Hart). (h : ℕ) → is_halted (hart_among xs h).progress ≡ true → (hart_at p.harts h).flight ≡ None) (sym c.resume-left.ensures)
             (free-resumed p c.args.harts.now c.args.stacks.now c.args.dead.now c.args.steps c.requires.may),
       ),
     )
