@@ -2,6 +2,7 @@
 
 ghost use Rattle.std.specs.Prelude.{◌≡◌, ◌++◌, ◌≤◌, [], ◌∷◌, length, map, find, unwrap_or, IfOk, IfSome, OnOk};
 ghost use Rattle.mx_words.specs.FirstRow.{first_row};
+ghost use Rattle.mx_words.specs.Limits.{most_harts};
 ghost use Rattle.mx_elf.specs.Segment.{permission_of, word_count};
 ghost use Rattle.mx_boot.specs.Areas.{areas, areas_of, heaps, inline_area, pieces, segment_area, stacks};
 ghost use Rattle.mx_boot.specs.Faults.{area_rows, areas_rows, is_in_ram, shares_word};
@@ -126,7 +127,7 @@ pub(crate) fn add_heap(areas: &mut Vec<Area>, home: Home) -> Result<(), NoMemory
 /// Adds a module's stack area with words for each hart, if it has one.
 pub(crate) fn add_stack(areas: &mut Vec<Area>, home: Home, harts: u32) -> Result<(), NoMemory>
     requires few { IfSome (seen home).plan.stack_words (λ words. words ≤ 1048576) }
-    requires harts { harts ≤ 4 }
+    requires harts { harts ≤ most_harts }
     ensures { OnOk result (areas.new.items ≡ areas.old.items ++ stacks harts (seen home.entry)) }
 {
     match home.plan.stack {
@@ -148,7 +149,7 @@ pub(crate) fn add_stack(areas: &mut Vec<Area>, home: Home, harts: u32) -> Result
 /// Adds the areas of a module.
 fn add_areas(areas: &mut Vec<Area>, home: Home, harts: u32) -> Result<(), NoMemory>
     requires few { IfSome (seen home).plan.stack_words (λ words. words ≤ 1048576) }
-    requires harts { harts ≤ 4 }
+    requires harts { harts ≤ most_harts }
     ensures { OnOk result (areas.new.items ≡ areas.old.items ++ areas_of harts (seen home.entry)) }
 {
     add_pieces(areas, home)?;

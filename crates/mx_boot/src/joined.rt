@@ -1,6 +1,7 @@
 //! The parts of the machine at boot, joined.
 
 ghost use Rattle.std.specs.Prelude.{◌≡◌, ◌≤◌, None, Ok, length, IfOk, IfErr};
+ghost use Rattle.mx_words.specs.Limits.{most_gates};
 ghost use Rattle.mx_model.specs.Gates.{AreSingle};
 ghost use Rattle.mx_supervisor.specs.Parts.{parts_of};
 ghost use Rattle.mx_boot.specs.Boot.{boot_of, boot_state};
@@ -26,7 +27,7 @@ use std::alloc::Global;
 /// Gates of which no two have one domain and word.
 fn gates(all: &[Gate]) -> Gates
     requires single { AreSingle all.now }
-    requires few { length all.now ≤ 256 }
+    requires few { length all.now ≤ most_gates }
     ensures { result ≡ all.now }
 {
     let mut gates = Gates::new();

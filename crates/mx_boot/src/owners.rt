@@ -3,6 +3,7 @@
 ghost use Rattle.std.specs.Prelude.{◌≡◌, ◌<◌, ◌≤◌, ◌++◌, None, length, map, IfOk, IfSome, OnOk};
 ghost use Rattle.std.specs.List.{AllByRecursion, flat_map};
 ghost use Rattle.mx_words.specs.Newest.{owners};
+ghost use Rattle.mx_words.specs.Limits.{most_harts};
 ghost use Rattle.mx_model.specs.State.{flat};
 ghost use Rattle.mx_boot.specs.Areas.{homes};
 ghost use Rattle.mx_boot.specs.Boot.{boot_state, give, owned_pieces};
@@ -34,7 +35,7 @@ fn add_owned_pieces(areas: &mut Vec<Area>, home: Home) -> Result<(), NoMemory>
 /// Adds the areas that a module owns.
 fn add_owned(areas: &mut Vec<Area>, home: Home, harts: u32) -> Result<(), NoMemory>
     requires few { IfSome (seen home).plan.stack_words (λ words. words ≤ 1048576) }
-    requires harts { harts ≤ 4 }
+    requires harts { harts ≤ most_harts }
     ensures { OnOk result
         (areas.new.items ≡ areas.old.items ++ owned_areas harts (seen home.entry)) }
 {
