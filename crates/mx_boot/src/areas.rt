@@ -75,10 +75,8 @@ fn inline_area(home: Home) -> Area
 fn add(areas: &mut Vec<Area>, area: Area) -> Result<(), NoMemory>
     ensures { OnOk result (areas.new.items ≡ areas.old.items ++ area ∷ []) }
 {
-    match areas.push(area) {
-        Ok(()) => Ok(()),
-        Err(_) => Err(NoMemory),
-    }
+    areas.push(area)?;
+    Ok(())
 }
 
 /// Adds the areas of loaded segments.

@@ -97,10 +97,8 @@ fn row_of(alloc: Global, home: Home, harts: u32, words: u32) -> Result<Spans, No
 fn add(rows: &mut Vec<Spans>, row: Spans) -> Result<(), NoMemory>
     ensures { OnOk result (rows.new.items ≡ rows.old.items ++ row ∷ []) }
 {
-    match rows.push(row) {
-        Ok(()) => Ok(()),
-        Err(_) => Err(NoMemory),
-    }
+    rows.push(row)?;
+    Ok(())
 }
 
 /// The rows of all modules, of a plan without a fault.
