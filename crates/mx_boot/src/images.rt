@@ -76,10 +76,8 @@ impl<'a> Model for Images<'a> {
 fn add<'a>(files: &mut Vec<ModuleFile<'a>>, file: ModuleFile<'a>) -> Result<(), NoMemory>
     ensures { OnOk result (files.new.items ≡ files.old.items ++ file.entry ∷ []) }
 {
-    match files.push(file) {
-        Ok(()) => Ok(()),
-        Err(_) => Err(NoMemory),
-    }
+    files.push(file)?;
+    Ok(())
 }
 
 impl<'a> Images<'a> {

@@ -15,13 +15,10 @@ const FEW_NAMES: usize = 16;
 
 /// Adds the name of an entry that is a symbol. Which names are looked up together decides nothing but the time.
 fn add_name<'a>(names: &mut Vec<&'a str>, entry: &'a EntryPlan) -> Result<(), NoMemory> {
-    match entry {
-        EntryPlan::Symbol(name) => match names.push(name.as_str()) {
-            Ok(()) => Ok(()),
-            Err(_) => Err(NoMemory),
-        },
-        EntryPlan::Address(_) => Ok(()),
+    if let EntryPlan::Symbol(name) = entry {
+        names.push(name.as_str())?;
     }
+    Ok(())
 }
 
 /// Adds the names of a module's call gates.
