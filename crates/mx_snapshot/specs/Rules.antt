@@ -7,6 +7,7 @@ use Rattle.std.specs.Str.{bytes_eq}
 use Rattle.mx_words.specs.declared.perm.Perm.{Perm}
 use Rattle.mx_words.specs.Announced.{is_announced}
 use Rattle.mx_words.specs.FirstFit.{Area}
+use Rattle.mx_words.specs.Limits.{most_kept}
 use Rattle.mx_words.specs.Ranges.{most_words}
 use Rattle.mx_words.specs.Rights.{same}
 use Rattle.mx_words.specs.Runs.{Run}
@@ -23,7 +24,7 @@ is_ram words = is_within 16384 most_words words && (words % 1024 == 0)
 
 -- the sizes of a lookaside buffer
 abbrev pub is_buffer : ℕ → Bool
-is_buffer n = n == 8 || n == 32 || n == 64
+is_buffer n = n == 8 || n == 32 || n == most_kept
 
 -- an area lies in a RAM of `words` words, and one of no words is at word 0
 abbrev pub is_area : ℕ → ℕ → ℕ → Bool

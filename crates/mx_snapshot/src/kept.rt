@@ -1,6 +1,7 @@
 //! What a run keeps of a plan.
 
-ghost use Rattle.std.specs.Prelude.{◌≡◌, ◌<◌, ◌≤◌, ◌⊎◌, length, map, slice_get, Some, IfOk};
+ghost use Rattle.std.specs.Prelude.{◌≡◌, ◌<◌, ◌≤◌, length, map, slice_get, Some, IfOk};
+ghost use Rattle.mx_words.specs.Limits.{most_modules, IsBuffer};
 ghost use Rattle.mx_manifest.specs.declared.parts.ModulePlan.{ModulePlan};
 ghost use Rattle.mx_manifest.specs.InRange.{IsBetween, IsName};
 ghost use Rattle.mx_snapshot.specs.Kept.{IsKept, kept_of};
@@ -99,7 +100,7 @@ impl Kept {
     /// The size of the lookaside buffer: 8, 32 or 64 spans.
     pub fn lookaside(&self) -> u32
         ensures value { result ≡ self.now.lookaside }
-        ensures sizes { (result ≡ 8) ⊎ (result ≡ 32) ⊎ (result ≡ 64) }
+        ensures sizes { IsBuffer result }
     {
         self.lookaside
     }
@@ -115,7 +116,7 @@ impl Kept {
     /// The number of modules, 1 to 63.
     pub fn modules(&self) -> u32
         ensures value { result ≡ length self.now.names }
-        ensures range { IsBetween 1 63 result }
+        ensures range { IsBetween 1 most_modules result }
     {
         self.names.len() as u32
     }
