@@ -140,10 +140,7 @@ fn names(alloc: Global, plan: &Plan) -> Result<Vec<Text>, NoMemory>
     let mut names = Vec::new(alloc);
     'modules: for i in 0..plan.modules() {
         let name = Text::new(alloc, plan.module(i).name.as_str())?;
-        match names.push(name) {
-            Ok(()) => {}
-            Err(_) => return Err(NoMemory),
-        }
+        names.push(name)?;
     }
     Ok(names)
 }
