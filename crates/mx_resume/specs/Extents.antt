@@ -1,6 +1,7 @@
 -- How far the runs of a list are read, and which numbers of the head are known.
 use Rattle.std.specs.Prelude.{◌≡◌, ℕ, ◌+◌, ◌-◌, ◌^◌, ◌≤◌, Bool, nat_le, nat_lt, ◌==◌, ◌&&◌, List, length, if◌then◌else◌, Option, None, option_map}
 use Rattle.std.specs.List.{last_or}
+use Rattle.mx_words.specs.Limits.{most_modules, most_harts}
 use Rattle.mx_words.specs.Ranges.{most_words}
 use Rattle.mx_words.specs.Runs.{Run}
 use Rattle.mx_snapshot.specs.Rules.{run_words}
@@ -30,7 +31,7 @@ pub record HasBounds (h : Head) : Type 0 where
   pub leaf : h.limit.leaf ≤ 262144
   pub spill : h.limit.spill ≤ 1048576
   pub some_modules : 1 ≤ h.modules
-  pub few_modules : h.modules ≤ 63
+  pub few_modules : h.modules ≤ most_modules
   pub some_harts : 1 ≤ h.harts
-  pub few_harts : h.harts ≤ 4
+  pub few_harts : h.harts ≤ most_harts
   pub few_turns : h.turns ≤ 2 ^ 63 - 1

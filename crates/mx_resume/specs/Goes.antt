@@ -5,6 +5,7 @@ use Rattle.mx_words.specs.declared.perm.Perm.{Perm}
 use Rattle.mx_words.specs.declared.perm.Span.{Span}
 use Rattle.mx_words.specs.declared.tables.Kind.{Kind}
 use Rattle.mx_words.specs.declared.tables.Need.{Need}
+use Rattle.mx_words.specs.Limits.{most_harts, most_kept}
 use Rattle.mx_words.specs.Need.{need, within}
 use Rattle.mx_check.specs.declared.flight.Flight.{Flight}
 use Rattle.mx_check.specs.Conditions.{IsResumable}
@@ -66,8 +67,8 @@ IsOverfull kind limit maps NoMemory = Unit {0}
 
 -- flights with which a checker of so many harts may go on, in a RAM of so many words, with such a buffer
 pub record MayFly (words buffer : ℕ) (h : Head) (flights : List Flight) : Type 0 where
-  pub size : buffer ≤ 64
-  pub few : h.harts ≤ 4
+  pub size : buffer ≤ most_kept
+  pub few : h.harts ≤ most_harts
   pub each : All (IsResumable h.harts words) flights
 
 -- parts that some valid snapshot gives

@@ -1,6 +1,7 @@
 //! The areas of a module, and the live blocks of its heap area.
 ghost use Rattle.std.specs.Prelude.{◌≡◌, ℕ, ◌*◌, ◌+◌, ◌<◌, ◌≤◌, [], List, IfOk};
 ghost use Rattle.mx_words.specs.FirstFit.{Area};
+ghost use Rattle.mx_words.specs.Limits.{most_harts};
 ghost use Rattle.mx_heap.specs.HeapState.{area_of};
 ghost use Rattle.mx_snapshot.specs.Fields.{block_in};
 ghost use Rattle.mx_snapshot.specs.Reader.{list_of, number, such};
@@ -47,7 +48,7 @@ pub(crate) fn stack_words(
     first: u32,
     harts: u32,
 ) -> Result<u32, SnapshotRefused>
-    requires { harts ≤ 4 }
+    requires { harts ≤ most_harts }
     ensures { IsTaken (λ n. n) (such (λ (n : ℕ). is_area words first (n * harts)) number bytes.now at.old)
         at.new result }
 {

@@ -29,7 +29,7 @@ use mx_segments::Segments;
 use mx_supervisor::{Heaps, Supervisor};
 use mx_table::{BuildRefused, PermTables};
 use mx_trie::{Trie, Vector};
-use mx_words::{Kind, Spans};
+use mx_words::{Kind, MOST_DOMAINS, Spans};
 use std::alloc::Global;
 
 /// All that is stored but the names of modules.
@@ -44,7 +44,7 @@ pub(crate) struct Held {
     /// The stack areas of all modules, and whether they are killing.
     pub stacks: Stacks,
     /// By domain whether it is dead.
-    pub dead: [bool; 64],
+    pub dead: [bool; MOST_DOMAINS],
     /// The owners of all words.
     pub owners: Owners,
     /// The gates.
@@ -118,7 +118,7 @@ fn go_on<T: PermTables, const N: usize>(
     parts: Supervisor<T, N>,
     states: &HartStates,
     stacks: &Stacks,
-    dead: &[bool; 64],
+    dead: &[bool; MOST_DOMAINS],
     turns: u64,
 ) -> Machine<T, N>
     requires { MayGo (parts_of T.PermTables parts) states.now stacks.now dead.now turns }

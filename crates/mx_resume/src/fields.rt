@@ -24,8 +24,11 @@ use mx_gates::Gates;
 use mx_memory::Ram;
 use mx_owners::Owners;
 use mx_snapshot::Kept;
-use mx_words::Blob;
+use mx_words::{Blob, MOST_GATES};
 use std::alloc::Global;
+
+/// The greatest number of gates, as a field.
+const MOST: u32 = MOST_GATES as u32;
 
 /// How many bytes a snapshot has at most that is read.
 const MOST_BYTES: usize = 1073741824;
@@ -68,7 +71,7 @@ fn read_fields(alloc: Global, bytes: &[u8], at: &mut usize) -> Result<Fields, Sn
     let modules = read_modules(alloc, bytes, at, &head)?;
     let runs = between(bytes, at, 1, 4096)?;
     let owners = read_owners(alloc, bytes, at, &head, runs)?;
-    let count = between(bytes, at, 0, 256)?;
+    let count = between(bytes, at, 0, MOST)?;
     let gates = read_gates(bytes, at, &head, count)?;
     let harts = read_harts(bytes, at, &head, &modules.heaps)?;
     let ram = ram(alloc, bytes, at, head.words)?;

@@ -1,5 +1,6 @@
 //! The frames of a hart.
 ghost use Rattle.std.specs.Prelude.{◌≡◌, ℕ, ◌≤◌, [], List};
+ghost use Rattle.mx_words.specs.Limits.{most_frames};
 ghost use Rattle.mx_model.specs.declared.values.Frame.{Frame};
 ghost use Rattle.mx_snapshot.specs.Fields.{frame_in};
 ghost use Rattle.mx_snapshot.specs.Reader.{list_of, number};
@@ -37,14 +38,14 @@ fn frame(bytes: &[u8], at: &mut usize, head: &Head) -> Result<Frame, SnapshotRef
     Ok(Frame { back, caller, kept })
 }
 
-/// So many frames from the bottom, at most 64.
+/// So many frames from the bottom, at most as many as a cross stack holds.
 pub(crate) fn read_frames(
     bytes: &[u8],
     at: &mut usize,
     head: &Head,
     count: u32,
 ) -> Result<CrossStack, SnapshotRefused>
-    requires { count ≤ 64 }
+    requires { count ≤ most_frames }
     ensures { IsTaken (λ frames. frames)
         (list_of count (frame_in (head_seen head.now)) [] bytes.now at.old) at.new result }
 {

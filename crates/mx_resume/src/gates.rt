@@ -1,5 +1,6 @@
 //! The gates.
 ghost use Rattle.std.specs.Prelude.{◌≡◌, ◌≤◌, false, [], IfOk};
+ghost use Rattle.mx_words.specs.Limits.{most_gates};
 ghost use Rattle.mx_model.specs.Gates.{has_gate};
 ghost use Rattle.mx_snapshot.specs.Fields.{gate_in};
 ghost use Rattle.mx_snapshot.specs.Reader.{list_of, number, such};
@@ -51,14 +52,14 @@ fn gate(bytes: &[u8], at: &mut usize, head: &Head, gates: &Gates) -> Result<Gate
     })
 }
 
-/// So many gates, at most 256.
+/// So many gates, at most as many as may stand.
 pub(crate) fn read_gates(
     bytes: &[u8],
     at: &mut usize,
     head: &Head,
     count: u32,
 ) -> Result<Gates, SnapshotRefused>
-    requires { count ≤ 256 }
+    requires { count ≤ most_gates }
     ensures { IsTaken (λ g. g)
         (list_of count (gate_in (head_seen head.now)) [] bytes.now at.old) at.new result }
 {

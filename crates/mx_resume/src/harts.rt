@@ -1,6 +1,7 @@
 //! The harts, and the calls on which they wait.
 ghost use Rattle.std.specs.Prelude.{◌≡◌, ◌<◌, ◌≤◌, ◌^◌, true, None, [], ◌∷◌, ◌++◌, length, slice_index, List, IfOk};
 ghost use Rattle.mx_words.specs.Announced.{is_announced};
+ghost use Rattle.mx_words.specs.Limits.{most_harts};
 ghost use Rattle.mx_check.specs.Flights.{flight_of};
 ghost use Rattle.mx_machine.specs.declared.views.HartStatus.TheVariants.{Waiting};
 ghost use Rattle.mx_snapshot.specs.Fields.{hart_in};
@@ -20,6 +21,10 @@ use crate::registers::{pc, registers, status};
 use mx_check::{Flight, Flights};
 use mx_machine::{HartState, HartStates, HartStatus};
 use mx_supervisor::{Heaps, announced_range};
+use mx_words::MOST_FRAMES;
+
+/// The greatest number of frames, as a field.
+const FRAMES: u32 = MOST_FRAMES as u32;
 
 /// A hart.
 #[derive(Drop)]
@@ -41,7 +46,7 @@ pub(crate) struct Harts {
 
 /// Whether bit `i` of a number is 1.
 fn has_bit(number: u32, i: u32) -> bool
-    requires { i < 4 }
+    requires { i < most_harts }
     ensures { result ≡ has_bit number i }
 {
     number / 2_u32.pow(i) % 2 == 1
@@ -49,8 +54,8 @@ fn has_bit(number: u32, i: u32) -> bool
 
 /// Whether a call of a hart may have been heard by these harts: by others that there are, and by none where there is no call.
 fn is_heard(harts: u32, hart: u32, status: HartStatus, heard: u32) -> bool
-    requires harts { harts ≤ 4 }
-    requires hart { hart < 4 }
+    requires harts { harts ≤ most_harts }
+    requires hart { hart < most_harts }
     ensures { result ≡ is_heard harts hart status heard }
 {
     if status == HartStatus::Waiting {
@@ -68,8 +73,8 @@ fn heard(
     hart: u32,
     status: HartStatus,
 ) -> Result<u32, SnapshotRefused>
-    requires harts { harts ≤ 4 }
-    requires hart { hart < 4 }
+    requires harts { harts ≤ most_harts }
+    requires hart { hart < most_harts }
     ensures { IsTaken (λ n. n) (such (is_heard harts hart status) number bytes.now at.old)
         at.new result }
 {
@@ -90,7 +95,7 @@ fn read_hart(
     number: u32,
 ) -> Result<Hart, SnapshotRefused>
     requires head { HasBounds head.now }
-    requires number { number < 4 }
+    requires number { number < most_harts }
     ensures taken { (before : List StoredHart) → length before ≡ number →
         IsTaken hart_seen (hart_in (head_seen head.now) before bytes.now at.old) at.new result }
     ensures domain { IfOk result (λ hart. 1 ≤ hart.state.domain) }
@@ -101,7 +106,7 @@ fn read_hart(
     let domain = between(bytes, at, 1, head.modules)?;
     let pc = pc(bytes, at)?;
     let regs = registers(bytes, at, status)?;
-    let count = between(bytes, at, 0, 64)?;
+    let count = between(bytes, at, 0, FRAMES)?;
     let frames = read_frames(bytes, at, head, count)?;
     let heard = heard(bytes, at, head.harts, number, status)?;
     Ok(Hart {
@@ -145,7 +150,7 @@ fn add_flight(flights: &mut Flights, words: u32, heaps: &Heaps, number: u32, har
     requires domain { 1 ≤ hart.now.state.domain }
     requires call { hart.now.state.status ≡ Waiting →
         is_announced (slice_index hart.now.state.regs 17) ≡ true }
-    requires room { length flights.old < 4 }
+    requires room { length flights.old < most_harts }
     requires apart { flight_of flights.old number ≡ None }
     ensures { flights.new ≡ flights.old
         ++ own_flights words heaps.now number (hart_seen hart.now) hart.now.state.status }
@@ -171,7 +176,7 @@ impl Harts {
     /// Adds the hart of a number, which comes after those that there are.
     fn push(&mut self, words: u32, heaps: &Heaps, number: u32, hart: Hart)
         requires words { words ≤ 2 ^ 24 }
-        requires number { number < 4 }
+        requires number { number < most_harts }
         requires those { (before : List StoredHart) × (length before ≡ number)
             × (self.old ≡ harts_in_code words heaps.now before) }
         requires domain { 1 ≤ hart.state.domain }

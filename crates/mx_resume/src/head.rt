@@ -15,10 +15,14 @@ ghost use Rattle.mx_resume.specs.Taking.{IsTaken};
 use crate::SnapshotRefused;
 use crate::reading::{between, fault, long_number, number, out_of_range, piece};
 use mx_table::MODULES;
-use mx_words::{Kind, MOST_WORDS, Need};
+use mx_words::{Kind, MOST_HARTS, MOST_KEPT, MOST_WORDS, Need};
 
 /// The first eight bytes of a snapshot: MXSN, and the version 1.
 const SIGN: [u8; 8] = [0x4D, 0x58, 0x53, 0x4E, 1, 0, 0, 0];
+
+/// The greatest numbers of harts and of kept spans, as fields.
+const HARTS: u32 = MOST_HARTS as u32;
+const KEPT: u32 = MOST_KEPT as u32;
 
 /// The most turns after which a snapshot is read.
 const MOST_TURNS: u64 = (1 << 63) - 1;
@@ -83,7 +87,7 @@ fn lookaside(bytes: &[u8], at: &mut usize) -> Result<u32, SnapshotRefused>
 {
     let first = *at;
     let size = number(bytes, at)?;
-    if size != 8 && size != 32 && size != 64 {
+    if size != 8 && size != 32 && size != KEPT {
         return Err(out_of_range(first));
     }
     Ok(size)
@@ -117,7 +121,7 @@ pub(crate) fn read_head(bytes: &[u8], at: &mut usize) -> Result<Head, SnapshotRe
     let lookaside = lookaside(bytes, at)?;
     let quantum = between(bytes, at, 1, 1000000)?;
     let modules = between(bytes, at, 1, MODULES)?;
-    let harts = between(bytes, at, 1, 4)?;
+    let harts = between(bytes, at, 1, HARTS)?;
     let turns = turns(bytes, at)?;
     Ok(Head {
         words,

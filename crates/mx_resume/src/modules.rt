@@ -2,6 +2,7 @@
 ghost use Rattle.std.specs.Prelude.{◌≡◌, ◌+◌, ◌<◌, ◌≤◌, [], ◌∷◌, ◌++◌, length, List, IfOk, IfErr, OnOk};
 ghost use Rattle.std.specs.Prelude.{map as list_map};
 ghost use Rattle.mx_words.specs.Ranges.{most_words};
+ghost use Rattle.mx_words.specs.Limits.{most_domains};
 ghost use Rattle.mx_supervisor.specs.Heaps.{told_heap};
 ghost use Rattle.mx_snapshot.specs.Fields.{module_in};
 ghost use Rattle.mx_snapshot.specs.Reader.{list_of};
@@ -21,7 +22,7 @@ use mx_heap::Heap;
 use mx_machine::{StackArea, Stacks};
 use mx_manifest::Text;
 use mx_supervisor::Heaps;
-use mx_words::Spans;
+use mx_words::{MOST_DOMAINS, Spans};
 use std::alloc::Global;
 
 /// A module.
@@ -49,7 +50,7 @@ pub(crate) struct Modules {
     /// Their stack areas, and whether they are killing.
     pub stacks: Stacks,
     /// By domain whether it is dead.
-    pub dead: [bool; 64],
+    pub dead: [bool; MOST_DOMAINS],
     /// The spans on which each has rights.
     pub rows: Vec<Spans>,
 }
@@ -118,14 +119,14 @@ impl Modules {
             names: Vec::new(alloc),
             heaps: Heaps::new(),
             stacks: Stacks::new(),
-            dead: [false; 64],
+            dead: [false; MOST_DOMAINS],
             rows: Vec::new(alloc),
         }
     }
 
     /// Adds a module, of the domain that comes next.
     fn push(&mut self, domain: u32, added: Module) -> Result<(), SnapshotRefused>
-        requires domain { domain < 64 }
+        requires domain { domain < most_domains }
         requires told { told_heap added.heap ≡ added.heap }
         requires those { (before : List StoredModule) × (length before + 1 ≡ domain)
             × AreModulesOf before self.old }
