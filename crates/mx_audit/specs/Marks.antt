@@ -1,4 +1,4 @@
--- Marks of domains, one for each number below 64, as an audit finds the live ones.
+-- Marks of domains, one for each that there may be, as an audit finds the live ones.
 use Rattle.std.specs.Prelude.{◌↔◌, ℕ, ◌<◌, Bool, false, not, List, length, slice_index_or, count_by, IsTrue}
 use Rattle.std.specs.List.{AllByRecursion}
 use Rattle.mx_model.specs.declared.values.Frame.{Frame}

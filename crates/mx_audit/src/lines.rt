@@ -12,7 +12,7 @@ use crate::audited::Audit;
 use crate::living::is_marked;
 use mx_io::{Failed, Piece, Sink};
 use mx_tail::{Tail, put_pieces};
-use mx_words::{RAM_BASE, Span, Spans};
+use mx_words::{MOST_DOMAINS, RAM_BASE, Span, Spans};
 
 /// Puts the report of an audit: a line for each live domain, by number, with its module's name; one for each run of sealed words, by
 /// address, with its first address and the address after it; and how many words are sealed. The names are those of the modules in
@@ -47,7 +47,7 @@ fn put_audit<R: Sink>(
 fn put_live<R: Sink>(
     tail: &mut Tail,
     sink: &mut R,
-    live: &[bool; 64],
+    live: &[bool; MOST_DOMAINS],
     names: &[&str],
 ) -> Result<(), Failed>
     ensures { Passes tail.old (R.state sink.old) (R.state sink.new) tail.new

@@ -2,18 +2,20 @@
 
 ghost use Rattle.std.specs.Bool.{OnFalse, OnTrue};
 ghost use Rattle.std.specs.Prelude.{◌≡◌, ◌<◌, true, length, slice_set};
+ghost use Rattle.mx_words.specs.Limits.{most_domains};
 ghost use Rattle.mx_model.specs.State.{hart_at};
 ghost use Rattle.mx_boot.specs.Machines.{meaning};
 ghost use Rattle.mx_audit.specs.Marks.{KeepMarks, MarkHart, MarkHarts, MarkLive, MarkOnlyLive, MarkTargets, is_marked, unmarked};
 
 use mx_boot::{AnyMachine, any_machine_is_valid};
+use mx_words::MOST_DOMAINS;
 
 /// Marks the live domains: those of the harts and of the callers of their frames, and then targets of gates until a pass over the gates
 /// marks none. Each pass but the last marks a domain.
-pub(crate) fn live_domains(machine: &AnyMachine) -> [bool; 64]
+pub(crate) fn live_domains(machine: &AnyMachine) -> [bool; MOST_DOMAINS]
     ensures { MarkLive (meaning machine.now).core result }
 {
-    let mut live = [false; 64];
+    let mut live = [false; MOST_DOMAINS];
     mark_harts(machine, &mut live);
     'passes: loop {
         if !mark_targets(machine, &mut live) {
@@ -22,15 +24,15 @@ pub(crate) fn live_domains(machine: &AnyMachine) -> [bool; 64]
     }
 }
 
-/// Whether a domain is marked. None above 63 is.
-pub(crate) fn is_marked(live: &[bool; 64], domain: usize) -> bool
+/// Whether a domain is marked. None that there can't be is.
+pub(crate) fn is_marked(live: &[bool; MOST_DOMAINS], domain: usize) -> bool
     ensures { result ≡ is_marked live.now domain }
 {
-    domain < 64 && live[domain]
+    domain < MOST_DOMAINS && live[domain]
 }
 
 // Marks the domains in which harts are, and those to which they can return.
-fn mark_harts(machine: &AnyMachine, live: &mut [bool; 64])
+fn mark_harts(machine: &AnyMachine, live: &mut [bool; MOST_DOMAINS])
     requires only { MarkOnlyLive (meaning machine.now).core live.old }
     ensures only { MarkOnlyLive (meaning machine.now).core live.new }
     ensures harts { MarkHarts (meaning machine.now).core live.new }
@@ -40,7 +42,7 @@ fn mark_harts(machine: &AnyMachine, live: &mut [bool; 64])
     }
 }
 
-fn mark_hart(machine: &AnyMachine, hart: u32, live: &mut [bool; 64])
+fn mark_hart(machine: &AnyMachine, hart: u32, live: &mut [bool; MOST_DOMAINS])
     requires hart { hart < length (meaning machine.now).core.harts }
     requires only { MarkOnlyLive (meaning machine.now).core live.old }
     ensures only { MarkOnlyLive (meaning machine.now).core live.new }
@@ -58,7 +60,7 @@ fn mark_hart(machine: &AnyMachine, hart: u32, live: &mut [bool; 64])
 }
 
 // Marks the targets of the gates of marked domains, in one pass over the gates, and tells whether that marked a domain.
-fn mark_targets(machine: &AnyMachine, live: &mut [bool; 64]) -> bool
+fn mark_targets(machine: &AnyMachine, live: &mut [bool; MOST_DOMAINS]) -> bool
     requires only { MarkOnlyLive (meaning machine.now).core live.old }
     ensures only { MarkOnlyLive (meaning machine.now).core live.new }
     ensures kept { KeepMarks live.old live.new }
@@ -79,8 +81,8 @@ fn mark_targets(machine: &AnyMachine, live: &mut [bool; 64]) -> bool
 }
 
 // Marks a domain.
-fn mark(live: &mut [bool; 64], domain: u32)
-    requires { domain < 64 }
+fn mark(live: &mut [bool; MOST_DOMAINS], domain: u32)
+    requires { domain < most_domains }
     ensures { live.new ≡ slice_set live.old domain true }
 {
     live[domain as usize] = true;

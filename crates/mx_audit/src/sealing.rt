@@ -9,7 +9,7 @@ ghost use Rattle.mx_audit.specs.Stretches.{run_between};
 
 use crate::stretch::{Stretch, stretch_at};
 use mx_boot::{AnyMachine, any_machine_is_valid};
-use mx_words::{NoMemory, Perm, Span, Spans};
+use mx_words::{MOST_DOMAINS, NoMemory, Perm, Span, Spans};
 use std::alloc::Global;
 
 /// The maximal runs of a machine's sealed words, where just the live domains are marked. It goes from edge to edge of the owners and
@@ -17,7 +17,7 @@ use std::alloc::Global;
 pub(crate) fn sealed_runs(
     alloc: Global,
     machine: &AnyMachine,
-    live: &[bool; 64],
+    live: &[bool; MOST_DOMAINS],
 ) -> Result<Spans, NoMemory>
     requires { MarkLive (meaning machine.now).core live.now }
     ensures { IfOk result (λ runs. runs
@@ -28,7 +28,7 @@ pub(crate) fn sealed_runs(
     let mut known = [Stretch {
         end: 0,
         exposed: false,
-    }; 64];
+    }; MOST_DOMAINS];
     // The sealed words from `first` up to `word` are still without a run.
     let mut first = 0;
     let mut word = 0;

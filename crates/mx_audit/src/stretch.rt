@@ -8,7 +8,7 @@ ghost use Rattle.mx_audit.specs.Stretches.{AllTell, Tells, is_exposed, exposes};
 
 use crate::living::is_marked;
 use mx_boot::{AnyMachine, any_machine_is_valid};
-use mx_words::Perm;
+use mx_words::{MOST_DOMAINS, Perm};
 
 /// What is known of words up to one.
 #[derive(Clone, Copy)]
@@ -47,8 +47,8 @@ impl Stretch {
 /// where it ends, so that each run is asked for once while the words go up.
 pub(crate) fn stretch_at(
     machine: &AnyMachine,
-    live: &[bool; 64],
-    known: &mut [Stretch; 64],
+    live: &[bool; MOST_DOMAINS],
+    known: &mut [Stretch; MOST_DOMAINS],
     word: u32,
 ) -> Stretch
     requires word { word < (meaning machine.now).core.size }
@@ -70,8 +70,8 @@ pub(crate) fn stretch_at(
 // The stretch of the owners from a word on.
 fn owners_at(
     machine: &AnyMachine,
-    live: &[bool; 64],
-    known: &mut [Stretch; 64],
+    live: &[bool; MOST_DOMAINS],
+    known: &mut [Stretch; MOST_DOMAINS],
     word: u32,
 ) -> Stretch
     requires word { word < (meaning machine.now).core.size }
@@ -95,8 +95,8 @@ fn owners_at(
 // The stretch of the rights of a live domain from a word on.
 fn rights_at(
     machine: &AnyMachine,
-    live: &[bool; 64],
-    known: &mut [Stretch; 64],
+    live: &[bool; MOST_DOMAINS],
+    known: &mut [Stretch; MOST_DOMAINS],
     domain: u32,
     word: u32,
 ) -> Stretch
