@@ -2,6 +2,7 @@
 ghost use Rattle.std.specs.Prelude.{◌≡◌, ◌↔◌, ℕ, ◌%◌, ◌≤◌, true};
 ghost use Rattle.mx_words.specs.declared.perm.Access.{Access};
 ghost use Rattle.mx_words.specs.declared.perm.Access.TheVariants as A;
+ghost use Rattle.mx_words.specs.Calls.{write_call, exchange_call};
 ghost use Rattle.mx_isa.specs.declared.inst.Inst.TheVariants.{Load, Store};
 ghost use Rattle.mx_isa.specs.declared.inst.LoadWidth.{LoadWidth};
 ghost use Rattle.mx_isa.specs.declared.inst.StoreWidth.{StoreWidth};
@@ -29,10 +30,10 @@ pub fn denied_exactly()
     ensures store { (s : State) (h base from offset : ℕ) (width : StoreWidth) →
         Executes s h (Store width base from offset) →
         FaultsExactly s h (address_by s h base offset) (store_size width) A.Write 7 6 }
-    ensures write { (s : State) (h : ℕ) → MakesCall s h 2 → register s h 11 ≤ 4096 →
+    ensures write { (s : State) (h : ℕ) → MakesCall s h write_call → register s h 11 ≤ 4096 →
         InRam s (register s h 10) (register s h 11) → answers_no_right s h
         ↔ SomeDenied s (domain_at s.core h) (register s h 10) (register s h 11) A.Read }
-    ensures exchange { (s : State) (h : ℕ) → MakesCall s h 13 → register s h 10 % 4 ≡ 0 →
+    ensures exchange { (s : State) (h : ℕ) → MakesCall s h exchange_call → register s h 10 % 4 ≡ 0 →
         InRam s (register s h 10) 1 → answers_no_right s h
         ↔ IsDenied s (domain_at s.core h) (register s h 10) A.Write }
 {}
