@@ -19,10 +19,7 @@ fn no_images(alloc: Global) -> Result<Vec<Blob>, NoMemory>
 {
     let mut images = Vec::new(alloc);
     'modules: for _ in 0..MODULES {
-        match images.push(Blob::new(alloc)) {
-            Ok(()) => {}
-            Err(_) => return Err(NoMemory),
-        }
+        images.push(Blob::new(alloc))?;
     }
     Ok(images)
 }

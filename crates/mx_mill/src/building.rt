@@ -16,13 +16,9 @@ pub(crate) fn put(alloc: Global, table: &mut Table, key: &str, value: Value) -> 
     ensures { OnOk result
         (table_view table.new ≡ with_member key.now (view value) (table_view table.old)) }
 {
-    let Ok(key) = String::from_str(alloc, key) else {
-        return Err(NoMemory);
-    };
-    match table.insert(key, value) {
-        Ok(_) => Ok(()),
-        Err(_) => Err(NoMemory),
-    }
+    let key = String::from_str(alloc, key)?;
+    table.insert(key, value)?;
+    Ok(())
 }
 
 /// Adds a value at the end of an array.
@@ -31,9 +27,7 @@ pub(crate) fn add(array: &mut Array, value: Value) -> Result<(), NoMemory>
     ensures { OnOk result (items_view array.new.items
         ≡ push_item (items_view array.old.items) (view value)) }
 {
-    if array.push(value).is_err() {
-        return Err(NoMemory);
-    }
+    array.push(value)?;
     Ok(())
 }
 
@@ -48,10 +42,7 @@ pub(crate) fn number(n: u32) -> Value
 pub(crate) fn text(alloc: Global, text: &str) -> Result<Value, NoMemory>
     ensures { IfOk result (λ v. view v ≡ string text.now) }
 {
-    match Value::string(alloc, text) {
-        Ok(value) => Ok(value),
-        Err(_) => Err(NoMemory),
-    }
+    Ok(Value::string(alloc, text)?)
 }
 
 /// An array of one value.

@@ -22,13 +22,9 @@ use toml::{Table, Value};
 fn name(alloc: Global, domain: u32) -> Result<Value, NoMemory>
     ensures { IfOk result (λ v. view v ≡ string (name domain)) }
 {
-    let Ok(mut name) = String::from_str(alloc, "m") else {
-        return Err(NoMemory);
-    };
-    match name.push_str(Buffer::new().format(domain)) {
-        Ok(()) => Ok(Value::String(name)),
-        Err(_) => Err(NoMemory),
-    }
+    let mut name = String::from_str(alloc, "m")?;
+    name.push_str(Buffer::new().format(domain))?;
+    Ok(Value::String(name))
 }
 
 // The gate of a module.
