@@ -56,13 +56,9 @@ impl Words {
         ensures ok { OnOk result (self.new ≡ self.old ++ word.now ∷ []) }
         ensures err { OnErr result (self.new ≡ self.old) }
     {
-        match String::from_str(self.alloc, word) {
-            Ok(text) => match self.list.push(text) {
-                Ok(()) => Ok(()),
-                Err(_) => Err(NoMemory),
-            },
-            Err(_) => Err(NoMemory),
-        }
+        let text = String::from_str(self.alloc, word)?;
+        self.list.push(text)?;
+        Ok(())
     }
 
     /// What the words ask, or nothing exactly where they have no meaning. Takes no memory.
