@@ -153,10 +153,7 @@ pub(crate) fn names(alloc: Global, kept: &Kept) -> Result<Vec<&str>, NoMemory>
 {
     let mut names = Vec::new(alloc);
     'modules: for i in 0..kept.modules() {
-        match names.push(kept.name(i)) {
-            Ok(()) => {}
-            Err(_) => return Err(NoMemory),
-        }
+        names.push(kept.name(i))?;
     }
     Ok(names)
 }
