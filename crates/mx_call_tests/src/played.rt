@@ -1,6 +1,7 @@
 //! Supervisors of two modules over 64 KiB of RAM, for any tables, and what a hart in domain 1 asks and finds.
 ghost use Rattle.std.specs.Prelude.{◌≡◌, ◌+◌, ◌<◌, ◌≤◌, length, IfSome};
 ghost use Rattle.std.specs.List.{AllByRecursion};
+ghost use Rattle.mx_words.specs.Limits.{most_kept};
 ghost use Rattle.mx_model.specs.Valid.{IsGate};
 ghost use Rattle.mx_table.specs.Tables.{IsLimit};
 ghost use Rattle.mx_supervisor.specs.Parts.{parts_of};
@@ -106,7 +107,7 @@ pub fn started<T: PermTables + Drop, const N: usize>(
     other: Span,
     heap: Block,
 ) -> Option<Supervisor<T, N>>
-    requires buffer { N ≤ 64 }
+    requires buffer { N ≤ most_kept }
     requires own { IsSample own }
     requires other { IsSample other }
     requires heap { heap.first + heap.count ≤ 16384 }
@@ -126,7 +127,7 @@ pub fn crowded<T: PermTables + Drop, const N: usize>(
     limit: Need,
     blocks: u32,
 ) -> Option<Supervisor<T, N>>
-    requires buffer { N ≤ 64 }
+    requires buffer { N ≤ most_kept }
     requires limit { IsLimit limit }
     ensures { IfSome result (λ s. IsReady (parts_of T.PermTables s)) }
 {

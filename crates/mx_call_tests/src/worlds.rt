@@ -1,6 +1,7 @@
 //! Supervisors of one hart over any tables.
 ghost use Rattle.std.specs.Prelude.{◌≡◌, ℕ, ◌+◌, ◌<◌, ◌≤◌, length, IfSome};
 ghost use Rattle.std.specs.List.{AllByRecursion};
+ghost use Rattle.mx_words.specs.Limits.{most_modules, most_kept};
 ghost use Rattle.mx_model.specs.Valid.{IsGate};
 ghost use Rattle.mx_supervisor.specs.Parts.{parts_of};
 ghost use Rattle.mx_call_tests.specs.Calls.{IsAtRest, EndsBy};
@@ -35,7 +36,7 @@ fn filled_heap(alloc: Global, area: Block, blocks: u32) -> Option<Heap>
 #[tactic(auto, using(crate::proofs::WorldLaws::pushed_ends))]
 pub fn one_heap(alloc: Global, modules: u32, area: Block, blocks: u32) -> Option<Heaps>
     requires some { 1 ≤ modules }
-    requires few { modules ≤ 63 }
+    requires few { modules ≤ most_modules }
     requires inside { area.first + area.count ≤ 16777216 }
     ensures count { IfSome result (λ h. length h ≡ modules) }
     ensures areas { IfSome result (λ h. (n : ℕ) → area.first + area.count ≤ n
@@ -61,7 +62,7 @@ pub fn machine<T: PermTables + Drop, const N: usize>(
     gates: Gates,
     heaps: Heaps,
 ) -> Option<Supervisor<T, N>>
-    requires buffer { N ≤ 64 }
+    requires buffer { N ≤ most_kept }
     requires owners { length owners ≡ T.size tables }
     requires gates { AllByRecursion (IsGate (length (T.maps tables)) (T.size tables)) gates }
     requires heaps { length heaps ≡ length (T.maps tables) }

@@ -2,6 +2,7 @@
 use Rattle.std.specs.Prelude.{◌≡◌, ℕ, ◌+◌, ◌*◌, ◌%◌, ◌≤◌, false, List, [], ◌∷◌, length, All, replicate, slice_index}
 use Rattle.std.specs.List.{AllByRecursion}
 use Rattle.mx_words.specs.declared.perm.Span.{Span}
+use Rattle.mx_words.specs.Limits.{most_harts}
 use Rattle.mx_check.specs.declared.flight.Flight.{Flight}
 use Rattle.mx_heap.specs.HeapState.{HeapState}
 use Rattle.mx_table.specs.Tables.{IsRow}
@@ -61,4 +62,4 @@ left_states d0 pc0 regs0 d1 pc1 regs1 d2 pc2 regs2 =
 
 -- a call of hart 0 in flight that no hart has heard
 abbrev pub unheard : ℕ → ℕ → Flight
-unheard first count = record { hart = 0; first = first; count = count; heard = replicate 4 false }
+unheard first count = record { hart = 0; first = first; count = count; heard = replicate most_harts false }

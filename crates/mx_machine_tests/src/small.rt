@@ -5,6 +5,7 @@ ghost use Rattle.mx_table.specs.Tables.{IsRow};
 ghost use Rattle.mx_model.specs.Valid.{IsGate};
 ghost use Rattle.mx_machine_tests.specs.Small.{AreLaid, IsBegin, IsLeft, IsPlaced, left_state, left_states, unheard};
 ghost use Rattle.mx_words.specs.Ranges.{word_range};
+ghost use Rattle.mx_words.specs.Limits.{most_modules, most_harts};
 
 use mx_check::{Checker, Flight, Flights};
 use mx_gates::{CrossStack, Gates};
@@ -19,7 +20,7 @@ use mx_packed::Packed;
 use mx_supervisor::{Heaps, Supervisor};
 use mx_table::PermTables;
 use mx_trie::Trie;
-use mx_words::{Need, NoMemory, Perm, RAM_BASE, Span, Spans, word_range};
+use mx_words::{MOST_DOMAINS, MOST_HARTS, Need, NoMemory, Perm, RAM_BASE, Span, Spans, word_range};
 use std::alloc::Global;
 
 /// 64 KiB of RAM.
@@ -78,7 +79,7 @@ fn row(alloc: Global, part: &Module, harts: u32) -> Result<Spans, NoMemory>
     requires placed { IsPlaced part.now.first (length part.now.words.now) part.now.stack.first
         part.now.stack.words }
     requires some { 1 ≤ harts }
-    requires few { harts ≤ 4 }
+    requires few { harts ≤ most_harts }
     ensures { IfOk result (IsRow 16384) }
 {
     let mut row = Spans::new(alloc);
@@ -118,7 +119,7 @@ fn own(owners: &mut Owners, part: &Module, domain: u32, harts: u32)
         part.now.stack.words }
     requires heap { part.now.heap.first + part.now.heap.count ≤ 16384 }
     requires some { 1 ≤ harts }
-    requires few { harts ≤ 4 }
+    requires few { harts ≤ most_harts }
     ensures { length owners.new ≡ 16384 }
 {
     let _ = owners.give(domain, part.first, part.words.len() as u32);
@@ -158,12 +159,12 @@ impl Layout {
     fn add(&mut self, alloc: Global, part: &Module, count: u32, harts: u32) -> Result<(), NoMemory>
         requires laid { AreLaid count harts self.old.rows.items self.old.ram self.old.owners self.old.heaps
             self.old.stacks }
-        requires room { count < 63 }
+        requires room { count < most_modules }
         requires placed { IsPlaced part.now.first (length part.now.words.now) part.now.stack.first
             part.now.stack.words }
         requires heap { part.now.heap.first + part.now.heap.count ≤ 16384 }
         requires some { 1 ≤ harts }
-        requires few { harts ≤ 4 }
+        requires few { harts ≤ most_harts }
         ensures { OnOk result
             (AreLaid (count + 1) harts self.new.rows.items self.new.ram self.new.owners
             self.new.heaps self.new.stacks) }
@@ -184,8 +185,8 @@ impl Layout {
 /// Modules laid out for so many harts. `None` where one doesn't lie in RAM, for more than 63, and where memory is refused.
 fn lay_out(alloc: Global, modules: &[Module], harts: u32) -> Option<Layout>
     requires some { 1 ≤ harts }
-    requires few { harts ≤ 4 }
-    requires modules { length modules.now ≤ 63 }
+    requires few { harts ≤ most_harts }
+    requires modules { length modules.now ≤ most_modules }
     ensures { IfSome result
         (λ l. AreLaid (length modules.now) harts l.rows.items l.ram l.owners l.heaps l.stacks) }
 {
@@ -236,7 +237,7 @@ fn is_gate(gate: Gate, modules: u32) -> bool
 
 /// Starts in so many modules. `None` where one isn't in a module at a multiple of 4, and for more than 4.
 fn starts_of(starts: &[HartStart], modules: u32) -> Option<Starts>
-    requires { length starts.now ≤ 4 }
+    requires { length starts.now ≤ most_harts }
     ensures count { IfSome result (λ s. length s ≡ length starts.now) }
     ensures each { IfSome result (AllByRecursion (IsBegin modules)) }
 {
@@ -263,7 +264,7 @@ fn is_begin(start: HartStart, modules: u32) -> bool
 /// Tables with the permissions of modules that are laid out. `None` where they don't fit, and where memory is refused.
 fn tables_of<T: PermTables>(alloc: Global, layout: &Layout) -> Option<T>
     requires some { 1 ≤ length layout.now.rows.items }
-    requires few { length layout.now.rows.items ≤ 63 }
+    requires few { length layout.now.rows.items ≤ most_modules }
     requires rows { All (IsRow 16384) layout.now.rows.items }
     ensures maps { IfSome result (λ t. length (T.maps t) ≡ length layout.now.rows.items) }
     ensures size { IfSome result (λ t. T.size t ≡ 16384) }
@@ -351,7 +352,7 @@ fn flights_of(first: u32, count: u32) -> Flights
         hart: 0,
         first,
         count,
-        heard: [false; 4],
+        heard: [false; MOST_HARTS],
     });
     flights
 }
@@ -415,6 +416,6 @@ pub fn resumed(
         Gates::new(),
         layout.heaps,
     );
-    let dead = [false; 64];
+    let dead = [false; MOST_DOMAINS];
     Some(Machine::resume(supervisor, &states, &layout.stacks, &dead, steps))
 }

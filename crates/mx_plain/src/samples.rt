@@ -5,7 +5,7 @@ ghost use Rattle.mx_table.specs.Change.{IsLawful, given, changed};
 ghost use Rattle.mx_table.specs.Tables.{most_words, row_map, IsRow, IsLimit, IsRefused};
 
 use mx_table::{BuildRefused, Change, PermTables};
-use mx_words::{Need, NoMemory, Perm, Span, Spans};
+use mx_words::{MOST_DOMAINS, Need, NoMemory, Perm, Span, Spans};
 use std::alloc::Global;
 
 /// A row of `count` spans like `span`, each of which begins `step` words after the one before.
@@ -91,7 +91,7 @@ pub fn grant(first: u32, count: u32, perm: Perm) -> Change
     ensures lawful { (words modules : ℕ) → first + count ≤ words → 1 ≤ modules →
         IsLawful result words modules }
 {
-    let mut perms = [None; 64];
+    let mut perms = [None; MOST_DOMAINS];
     perms[1] = Some(perm);
     Change {
         first,

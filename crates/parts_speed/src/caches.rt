@@ -1,11 +1,12 @@
 //! Calls of the caches of one hart.
 
 ghost use Rattle.std.specs.Prelude.{◌≤◌};
+ghost use Rattle.mx_words.specs.Limits.{most_kept};
 
 use arrayvec::ArrayVec;
 use mx_lookaside::Lookaside;
 use mx_sidecar::Sidecars;
-use mx_words::{Perm, Span};
+use mx_words::{MOST_KEPT, Perm, Span};
 
 /// The 16 words from a line's first word on.
 fn line(i: u64) -> Span {
@@ -18,7 +19,7 @@ fn line(i: u64) -> Span {
 
 /// Keeps so many spans, and counts how many of the last 100 are still found.
 pub fn entries_kept<const N: usize>(rounds: u64) -> u64
-    requires { N ≤ 64 }
+    requires { N ≤ most_kept }
 {
     let mut buffer: Lookaside<N> = Lookaside::new();
     for i in 0..rounds {
@@ -34,10 +35,10 @@ pub fn entries_kept<const N: usize>(rounds: u64) -> u64
     kept
 }
 
-/// Keeps so many spans in a vector of 64, where the oldest is taken out first, and counts those of the last 100 that stand in
-/// it. A lookaside buffer would be so without its ring.
+/// Keeps so many spans in a vector of `MOST_KEPT`, where the oldest is taken out first, and counts those of the last 100
+/// that stand in it. A lookaside buffer would be so without its ring.
 pub fn entries_in_vector(rounds: u64) -> u64 {
-    let mut entries: ArrayVec<Kept, 64> = ArrayVec::new();
+    let mut entries: ArrayVec<Kept, MOST_KEPT> = ArrayVec::new();
     for i in 0..rounds {
         if entries.is_full() {
             entries.remove(0);

@@ -1,5 +1,6 @@
 //! Supervisor calls of a hart that is alone, over tables of 64 MiB of RAM.
 ghost use Rattle.std.specs.Prelude.{◌≡◌, ◌≤◌, All, length, vec_len, IfSome};
+ghost use Rattle.mx_words.specs.Limits.{most_modules, most_kept};
 ghost use Rattle.mx_table.specs.Tables.{IsRow};
 ghost use Rattle.mx_supervisor.specs.Parts.{parts_of};
 ghost use Rattle.mx_call_tests.specs.Calls.{IsAtRest};
@@ -78,8 +79,8 @@ pub fn with_modules<T: PermTables + Drop, const N: usize>(
     modules: u32,
 ) -> Option<Supervisor<T, N>>
     requires some { 1 ≤ modules }
-    requires few { modules ≤ 63 }
-    requires buffer { N ≤ 64 }
+    requires few { modules ≤ most_modules }
+    requires buffer { N ≤ most_kept }
     ensures { IfSome result (λ s. IsAtRest 0 1 (parts_of T.PermTables s)) }
 {
     let rows = rows(alloc, modules)?;

@@ -3,6 +3,7 @@
 #![tactic(auto)]
 
 ghost use Rattle.std.specs.Prelude.{◌≤◌};
+ghost use Rattle.mx_words.specs.Limits.{most_modules};
 ghost use Rattle.mx_supervisor.specs.Parts.{parts_of};
 ghost use Rattle.mx_call_tests.specs.Calls.{IsAtRest};
 
@@ -190,7 +191,7 @@ fn time_calls(
     rounds: u64,
 ) -> io::Result<()>
     requires some { 1 ≤ modules }
-    requires few { modules ≤ 63 }
+    requires few { modules ≤ most_modules }
 {
     let Some(mut machine) = calls::with_modules::<Trie<Packed>, 32>(alloc, modules) else {
         return eprintln!(rt; "no memory");

@@ -7,7 +7,7 @@ ghost use Rattle.mx_table.specs.Names.{NamesUpTo};
 use crate::mix::Mix;
 use crate::numbers::Numbers;
 use mx_table::Change;
-use mx_words::Perm;
+use mx_words::{MOST_DOMAINS, Perm};
 
 /// The first words of the places where short changes crowd: round a page's edge, and within a page.
 const CROWDS: [u32; 2] = [1000, 3300];
@@ -111,12 +111,12 @@ fn far_first(numbers: &mut Numbers, last: u32) -> u32
 }
 
 /// What a change gives: to one of the domains always, to each of the others now and then.
-fn perms(numbers: &mut Numbers, domains: u32) -> [Option<Perm>; 64]
+fn perms(numbers: &mut Numbers, domains: u32) -> [Option<Perm>; MOST_DOMAINS]
     requires domains { 0 < domains }
     requires few_domains { domains ≤ most_modules }
     ensures { NamesUpTo domains result }
 {
-    let mut perms = [None; 64];
+    let mut perms = [None; MOST_DOMAINS];
     let always = 1 + numbers.below(domains);
     for domain in 1..domains + 1 {
         if domain == always || numbers.below(4) == 0 {

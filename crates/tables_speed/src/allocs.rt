@@ -7,7 +7,7 @@ ghost use Rattle.mx_table.specs.Tables.{most_modules, IsRow};
 use crate::calls::Range;
 use mx_plain::{row, try_change};
 use mx_table::{Change, PermTables};
-use mx_words::{MOST_WORDS, Need, NoMemory, Perm, Span, Spans};
+use mx_words::{MOST_DOMAINS, MOST_WORDS, Need, NoMemory, Perm, Span, Spans};
 use std::alloc::Global;
 
 /// What the tables may take.
@@ -69,7 +69,7 @@ fn hand(range: Range, domains: u32, perm: Perm) -> Change
     requires words { 0 < range.count }
     ensures { range.first + range.count ≤ 16777216 → IsLawful result 16777216 domains }
 {
-    let mut perms = [None; 64];
+    let mut perms = [None; MOST_DOMAINS];
     for domain in 1..domains + 1 {
         perms[domain as usize] = Some(Perm::None);
     }

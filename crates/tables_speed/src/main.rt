@@ -3,6 +3,7 @@
 #![tactic(auto)]
 
 ghost use Rattle.std.specs.Prelude.{◌≡◌, ◌+◌, ◌*◌, ◌/◌, ◌<◌, ◌≤◌, ◌^◌, length};
+ghost use Rattle.mx_words.specs.Limits.{most_modules};
 
 mod allocs;
 mod calls;
@@ -157,7 +158,7 @@ fn time_domains<T: PermTables + Drop>(
     rounds: u64,
 ) -> io::Result<()>
     requires some { 1 ≤ domains }
-    requires few { domains ≤ 63 }
+    requires few { domains ≤ most_modules }
 {
     let Some(mut tables) = allocs::tables::<T>(alloc, domains) else {
         return eprintln!(rt; "no memory");
@@ -210,7 +211,7 @@ fn time_allocs<T: PermTables>(
     rounds: u64,
 ) -> io::Result<()>
     requires some { 1 ≤ domains }
-    requires few { domains ≤ 63 }
+    requires few { domains ≤ most_modules }
     requires domains { length (T.maps tables.old) ≡ domains }
     requires size { T.size tables.old ≡ 16777216 }
     requires words { 16 ≤ range.count }

@@ -7,7 +7,7 @@ ghost use Rattle.mx_table_tests.specs.Revoke.{called, IsReader};
 
 use mx_check::{Checker, Counts};
 use mx_table::{Change, PermTables};
-use mx_words::{Access, Perm, RAM_BASE};
+use mx_words::{Access, MOST_DOMAINS, Perm, RAM_BASE};
 
 /// A check of word 0 by hart 0 at place 5 in a domain, which the hart then leaves.
 fn visit<T: PermTables, const N: usize>(
@@ -46,7 +46,7 @@ pub fn withdrawal() -> Change
     ensures first { result.first ≡ 1024 }
     ensures count { result.count ≡ 4 }
 {
-    let mut perms = [None; 64];
+    let mut perms = [None; MOST_DOMAINS];
     perms[2] = Some(Perm::None);
     Change {
         first: 1024,
