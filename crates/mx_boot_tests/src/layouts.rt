@@ -78,9 +78,7 @@ pub(crate) fn blobs_of(alloc: Global, files: &[File]) -> Result<Vec<Blob>, NoMem
     let mut blobs = Vec::new(alloc);
     for each in files {
         let blob = blob_of(alloc, *each)?;
-        if blobs.push(blob).is_err() {
-            return Err(NoMemory);
-        }
+        blobs.push(blob)?;
     }
     Ok(blobs)
 }

@@ -1,6 +1,6 @@
 -- Small machines made by hand: their parts belong together, and they may start.
 use Rattle.std.proofs.Common.{◌≡◌, ℕ, zero, suc, ◌+◌, ◌-◌, ◌<◌, ◌≤◌, ◌≢◌, ◌⊎◌, ◌==◌, inl, inr, Bool, true, cond, List, [], ◌∷◌, ◌++◌, length, get_or, replicate, rules, Ok, Err, if◌then◌else◌, false, refl, sym, ap, subst, ◌∙◌, arith}
-use Rattle.std.specs.Prelude.{All, OnErr, OnOk, is_err, is_ok}
+use Rattle.std.specs.Prelude.{All, OnErr, OnOk}
 use Rattle.std.specs.declared.result.Result.{Result}
 use Rattle.std.specs.List.{AllByRecursion}
 use Rattle.std.proofs.lemmas.Bool.{cases_lt}
@@ -83,11 +83,6 @@ module _ (p : Parts) (count harts : ℕ) (rows : List (List Span)) (stacks : Lis
     count = laid.one_area ∙ sym maps;
     areas = subst (λ n. AllByRecursion (IsStack n (length starts)) stacks) (sym size) (subst (λ n. AllByRecursion (IsStack 16384 n) stacks) (sym number) laid.areas);
   }
-
--- a list to which an element was appended
-pub pushed : {X A E : Type 0} (r : Result A E) (new old : List X) (x : X) → is_err r ≡ false → new ≡ (if is_ok r then old ++ x ∷ [] else old) → new ≡ old ++ x ∷ []
-pushed (Ok a) new old x e p = p
-pushed (Err a) new old x e p = absurd (let q : ⊥ = cc in q)
 
 -- a module more is laid out
 pub laid-more : (count harts : ℕ) (rows more : List (List Span)) (ram owners ram' owners' : List ℕ) (heaps heaps' : List HeapState) (stacks stacks' : List StackArea)

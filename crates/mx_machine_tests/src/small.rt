@@ -171,9 +171,7 @@ impl Layout {
     {
         let row = row(alloc, part, harts)?;
         let heap = Heap::new(alloc, part.heap.first, part.heap.count)?;
-        if self.rows.push(row).is_err() {
-            return Err(NoMemory);
-        }
+        self.rows.push(row)?;
         self.heaps.push(heap);
         self.stacks.push(part.stack);
         fill(&mut self.ram, part);

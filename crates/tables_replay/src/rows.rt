@@ -24,9 +24,7 @@ pub fn rows(
     for _ in 0..domains {
         let spans = numbers.below(mix.spans());
         let row = row(alloc, numbers, mix, words, spans)?;
-        if rows.push(row).is_err() {
-            return Err(NoMemory);
-        }
+        rows.push(row)?;
     }
     Ok(rows)
 }

@@ -44,9 +44,7 @@ fn rows(alloc: Global, domains: u32) -> Result<Vec<Spans>, NoMemory>
     for domain in 0..domains {
         let spans = if domain == 0 { 2 } else { 0 };
         let row = row_of(alloc, spans)?;
-        if rows.push(row).is_err() {
-            return Err(NoMemory);
-        }
+        rows.push(row)?;
     }
     Ok(rows)
 }

@@ -131,9 +131,7 @@ fn images(alloc: Global) -> Result<Vec<Blob>, NoMemory> {
     let mut images = Vec::new(alloc);
     for words in [DRIVER.as_slice(), PROTO.as_slice(), CONSOLE.as_slice()] {
         let image = image(alloc, words)?;
-        if images.push(image).is_err() {
-            return Err(NoMemory);
-        }
+        images.push(image)?;
     }
     Ok(images)
 }
