@@ -28,10 +28,7 @@ pub fn own_call(number: u32, args: [u32; 4]) -> Call
 fn is_announced(number: u32) -> bool
     ensures { result ≡ is_announced number }
 {
-    number == GRANT_CALL
-        || number == REVOKE_ALL_CALL
-        || number == ALLOC_CALL
-        || number == FREE_CALL
+    number == GRANT_CALL || number == REVOKE_ALL_CALL || number == ALLOC_CALL || number == FREE_CALL
 }
 
 /// Serves a call of a supervisor's only hart. A call that changes rights is announced first; no other hart has to hear it. What

@@ -108,7 +108,7 @@ fallen h cause m =
 abbrev pub crossed : ℕ → ℕ → Held → Held
 crossed h target m =
     let stack =
-        unwrap_or (nearest (hart_among m.harts h).frames target) (behind m.stacks target h) in
+    unwrap_or (nearest (hart_among m.harts h).frames target) (behind m.stacks target h) in
     with_kept h leaves_domain (with_step h (enters target stack) m)
 
 -- hart h returns over its top frame

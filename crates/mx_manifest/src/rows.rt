@@ -10,8 +10,11 @@ use mx_words::{MOST_GATES, MOST_HARTS, MOST_KEPT, MOST_MODULES};
 
 // The limits, as numbers of the table.
 const MODULES: u32 = MOST_MODULES as u32;
+
 const HARTS: u32 = MOST_HARTS as u32;
+
 const GATES: u32 = MOST_GATES as u32;
+
 const KEPT: u32 = MOST_KEPT as u32;
 
 /// What version 1 allows at most, or version 2.
@@ -53,7 +56,11 @@ pub(crate) fn top_rows(version: Version) -> [Row; 10]
         row(Key::Lookaside, Asked::Never, Form::Choice(8, 32, KEPT)),
         row(Key::Quantum, Asked::Never, Form::Integer(1, 1000000)),
         row(Key::Module, Asked::Always, modules),
-        row(Key::Hart, Asked::Always, Form::Array(1, HARTS, ItemForm::Table)),
+        row(
+            Key::Hart,
+            Asked::Always,
+            Form::Array(1, HARTS, ItemForm::Table),
+        ),
     ]
 }
 

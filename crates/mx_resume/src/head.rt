@@ -22,6 +22,7 @@ const SIGN: [u8; 8] = [0x4D, 0x58, 0x53, 0x4E, 1, 0, 0, 0];
 
 /// The greatest numbers of harts and of kept spans, as fields.
 const HARTS: u32 = MOST_HARTS as u32;
+
 const KEPT: u32 = MOST_KEPT as u32;
 
 /// The most turns after which a snapshot is read.

@@ -22,10 +22,7 @@ use mx_words::{ALLOC_CALL, FREE_CALL, GRANT_CALL, REVOKE_ALL_CALL, word_of, word
 pub fn is_announced(number: u32) -> bool
     ensures { result ≡ is_announced number }
 {
-    number == GRANT_CALL
-        || number == REVOKE_ALL_CALL
-        || number == ALLOC_CALL
-        || number == FREE_CALL
+    number == GRANT_CALL || number == REVOKE_ALL_CALL || number == ALLOC_CALL || number == FREE_CALL
 }
 
 /// Whether an announced call names the range that it may change.

@@ -11,18 +11,13 @@ mod spans;
 mod tables;
 
 pub use blob::Blob;
-pub use calls::{
-    ALLOC_CALL, EXCHANGE_CALL, FREE_CALL, GRANT_CALL, REVOKE_ALL_CALL, WRITE_CALL,
-};
-pub use limits::{
-    MOST_DOMAINS, MOST_FRAMES, MOST_GATES, MOST_HARTS, MOST_KEPT, MOST_MODULES,
-};
+pub use calls::{ALLOC_CALL, EXCHANGE_CALL, FREE_CALL, GRANT_CALL, REVOKE_ALL_CALL, WRITE_CALL};
+pub use limits::{MOST_DOMAINS, MOST_FRAMES, MOST_GATES, MOST_HARTS, MOST_KEPT, MOST_MODULES};
 pub use perm::{Access, Perm, Span};
 pub use ranges::{MOST_WORDS, RAM_BASE, word_of, word_range};
 pub use spans::Spans;
-pub use tables::{Kind, Level, Need, Shown};
-
 use std::alloc::{AllocError, AllocFailed};
+pub use tables::{Kind, Level, Need, Shown};
 
 /// An allocation was refused. The one answer that no contract ties to a cause.
 #[derive(Clone, Copy, PartialEq, Eq, Debug)]
