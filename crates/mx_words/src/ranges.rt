@@ -13,11 +13,9 @@ pub fn word_of(addr: u32, words: u32) -> Option<u32>
     requires { words ≤ 2 ^ 24 }
     ensures { result ≡ word_of addr words }
 {
-    if addr >= RAM_BASE && addr - RAM_BASE < 4 * words {
-        Some((addr - RAM_BASE) / 4)
-    } else {
-        None
-    }
+    // Below RAM the difference wraps to 2^31 and more.
+    let word = addr.wrapping_sub(RAM_BASE) / 4;
+    if word < words { Some(word) } else { None }
 }
 
 /// The words that the `len` bytes from `addr` on touch, as the first word and their number, in a RAM of `words` words, at most
