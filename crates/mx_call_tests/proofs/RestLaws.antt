@@ -13,8 +13,8 @@ use Rattle.mx_words.proofs.OptionLaws.{if_some_after}
 use Rattle.mx_check.specs.declared.flight.Flight.{Flight}
 use Rattle.mx_check.specs.Calls.{ready_with, hart_lets_pass}
 use Rattle.mx_check.specs.Conditions.{MayLook, MayAnnounce}
-use Rattle.mx_check.specs.Harts.{Kept, no_hart, hart_at, at_hart, announced}
-use Rattle.mx_check.specs.Looks.{looked, looked_at, looks, with_domain, is_forbidden}
+use Rattle.mx_check.specs.Harts.{Kept, nothing_kept, kept_at, at_hart, announced}
+use Rattle.mx_check.specs.Looks.{looked_at_address, looked_at, looks, with_domain, is_forbidden}
 use Rattle.mx_model.specs.declared.values.Call.{Call}
 use Rattle.mx_supervisor.specs.Looks.{KeepsHarts}
 use Rattle.mx_supervisor.specs.Parts.{Parts, IsSound}
@@ -34,11 +34,11 @@ ready-alone h f harts n z e = rw (z, e) refl
 abbrev pub announces : ℕ → ℕ × ℕ → List Kept → List Kept
 announces h r harts = at_hart h (announced h r.0 r.1) harts
 
-own-part : (h : ℕ) (r : ℕ × ℕ) (harts : List Kept) → h < length harts → hart_at (announces h r harts) h ≡ announced h r.0 r.1 (hart_at harts h)
-own-part h r harts there = get_or-set_same harts h (announced h r.0 r.1 (hart_at harts h)) no_hart there
+own-part : (h : ℕ) (r : ℕ × ℕ) (harts : List Kept) → h < length harts → kept_at (announces h r harts) h ≡ announced h r.0 r.1 (kept_at harts h)
+own-part h r harts there = get_or-set_same harts h (announced h r.0 r.1 (kept_at harts h)) nothing_kept there
 
 count-announces : (h : ℕ) (r : ℕ × ℕ) (harts : List Kept) → length (announces h r harts) ≡ length harts
-count-announces h r harts = length-set harts h (announced h r.0 r.1 (hart_at harts h))
+count-announces h r harts = length-set harts h (announced h r.0 r.1 (kept_at harts h))
 
 pub has-announced : (p : Parts) (call : Call) (r : ℕ × ℕ) → IsAtRest call.hart call.domain p → r ≡ range_of p call →
     HasAnnounced (record p { harts = announces call.hart r p.harts }) call
@@ -64,15 +64,15 @@ pub may-other : (q : Parts) (call : Call) → is_announced call.number ≡ false
 may-other q call is h = record { announced = λ e. absurd (let z : ⊥ = cc (e, is) in z); other = λ e. h }
 
 -- after a hart alone there is none
-none-behind : (harts : List Kept) (h i : ℕ) → h < length harts → length harts ≡ 1 → i ≢ h → hart_at harts i ≡ no_hart
-none-behind harts h i there e ne = get_or_past harts i no_hart (omega (arith, there, e, ne))
+none-behind : (harts : List Kept) (h i : ℕ) → h < length harts → length harts ≡ 1 → i ≢ h → kept_at harts i ≡ nothing_kept
+none-behind harts h i there e ne = get_or_past harts i nothing_kept (omega (arith, there, e, ne))
 
 -- what a served call leaves of a hart that announced it
 pub rest-again : (call : Call) (p q t : Parts) (r : ℕ × ℕ) → IsAtRest call.hart call.domain p → q.harts ≡ announces call.hart r p.harts →
     length q.maps ≡ length p.maps → KeepsHarts call None q.harts t.harts → KeepsSizes q t → IsSound t → IsAtRest call.hart call.domain t
 rest-again call p q t r rest harts modules keeps sizes sound =
-    let own : hart_at q.harts call.hart ≡ announced call.hart r.0 r.1 (hart_at p.harts call.hart) =
-    ap (λ (hs : List Kept). hart_at hs call.hart) harts ∙ own-part call.hart r p.harts rest.may.hart in
+    let own : kept_at q.harts call.hart ≡ announced call.hart r.0 r.1 (kept_at p.harts call.hart) =
+    ap (λ (hs : List Kept). kept_at hs call.hart) harts ∙ own-part call.hart r p.harts rest.may.hart in
     let count : length t.harts ≡ 1 = keeps.count ∙ ap length harts ∙ count-announces call.hart r p.harts ∙ rest.alone in
     let last : length t.maps ≡ length p.maps = sizes.modules ∙ modules in
     let there : call.hart < length t.harts = let h = rest.may.hart in let e = rest.alone in omega (arith, h, e, count) in
@@ -85,7 +85,7 @@ rest-again call p q t r rest harts modules keeps sizes sound =
         running = keeps.halted ∙ ap (λ (k : Kept). k.halted) own ∙ rest.may.running;
         free = keeps.flight;
         heard = λ i ne. subst (λ (k : Kept). IfSome k.flight (λ f. is_in f.heard call.hart ≡ true)) (sym (none-behind t.harts call.hart i there count ne)) tt;
-        same_domain = if_some_after (λ x. x ≡ call.domain) call.domain (hart_at p.harts call.hart).domain (hart_at t.harts call.hart).domain
+        same_domain = if_some_after (λ x. x ≡ call.domain) call.domain (kept_at p.harts call.hart).domain (kept_at t.harts call.hart).domain
             (elim keeps.domain [ inl e ↦ inl (e ∙ ap (λ (k : Kept). k.domain) own) | inr e ↦ inr e ]) refl rest.may.same_domain;
       };
     }
@@ -101,12 +101,12 @@ rest-after h d p t rest count may sizes sound = record {
 
 -- a look of a hart leaves their number
 pub length-looked : (buffer : ℕ) (kind : Kind) (m : List Perm) (h place domain address : ℕ) (harts : List Kept) →
-    length (looked buffer kind m h place domain address harts) ≡ length harts
+    length (looked_at_address buffer kind m h place domain address harts) ≡ length harts
 length-looked buffer kind m h place domain address harts = by (word_of address (length m))
   where
     by : (o : Option ℕ) → length (looked_at buffer kind m h place domain o harts) ≡ length harts
-    by None = length-set harts h (with_domain domain (hart_at harts h))
-    by (Some word) = length-set harts h (looks buffer place domain word (span kind m word) (is_forbidden h (span kind m word) harts) (hart_at harts h))
+    by None = length-set harts h (with_domain domain (kept_at harts h))
+    by (Some word) = length-set harts h (looks buffer place domain word (span kind m word) (is_forbidden h (span kind m word) harts) (kept_at harts h))
 
 -- what an access of the hart leaves of it
 pub rest-accessed : (h d : ℕ) (p : Parts) (harts : List Kept) (ram : List ℕ) → IsAtRest h d p → length harts ≡ length p.harts → MayLook h d harts →

@@ -18,9 +18,9 @@ use Rattle.mx_table.specs.Tables.{map_of}
 use Rattle.mx_words.specs.declared.perm.Perm.TheVariants as P
 use Rattle.mx_check.specs.declared.flight.Flight.{Flight}
 use Rattle.mx_words.specs.Hearing.{is_in}
-use Rattle.mx_check.specs.Harts.{Kept, no_hart, hart_at}
+use Rattle.mx_check.specs.Harts.{Kept, nothing_kept, kept_at}
 use Rattle.mx_check.specs.Calls.{hart_lets_pass, ready_with, is_ready}
-use Rattle.mx_check.specs.Coherence.{EachSpan, is_spared, Agrees, AgreesIn, AreCurrent, HasDropped, Keeps}
+use Rattle.mx_check.specs.Coherence.{EachSpan, is_spared, AgreesWithMap, AgreesIn, AreCurrent, HasDropped, Keeps}
 use Rattle.mx_check.specs.Conditions.{IsInside}
 use Rattle.mx_check.proofs.SpanLaws.{each_weaker, outside_range}
 
@@ -66,18 +66,18 @@ each_both {E} {F} {P} {Q} c a b = record {
     place (Some s) p q = (p, q)
 
 -- the range of a ready call: each other running hart has heard it
-ready-heard : (harts : List Kept) (h i : ℕ) (f : Flight) → (hart_at harts h).flight ≡ Some f → is_ready h harts ≡ true → i < length harts → i ≢ h →
-    (hart_at harts i).halted ≡ false → is_in f.heard i ≡ true
+ready-heard : (harts : List Kept) (h i : ℕ) (f : Flight) → (kept_at harts h).flight ≡ Some f → is_ready h harts ≡ true → i < length harts → i ≢ h →
+    (kept_at harts i).halted ≡ false → is_in f.heard i ≡ true
 ready-heard harts h i f flying ready lt ne running =
     let all : all_below (length harts) (hart_lets_pass h f harts) ≡ true = sym (ap (λ (o : Option Flight). ready_with h o harts) flying) ∙ ready in
     let at : hart_lets_pass h f harts i ≡ true = all_below-at (length harts) i (hart_lets_pass h f harts) all lt in
     let other : (i == h) ≡ false = ne_eqb i h ne in
-    sym (ap (λ b. b || (hart_at harts i).halted || is_in f.heard i) other ∙ ap (λ b. false || b || is_in f.heard i) running) ∙ at
+    sym (ap (λ b. b || (kept_at harts i).halted || is_in f.heard i) other ∙ ap (λ b. false || b || is_in f.heard i) running) ∙ at
 
 module _ (maps : List (List Perm)) (harts : List Kept) (h : ℕ) (c : Change) (f : Flight) (keeps : Keeps maps harts)
-    (flying : (hart_at harts h).flight ≡ Some f) (ready : is_ready h harts ≡ true) (inside : IsInside c f) where
+    (flying : (kept_at harts h).flight ≡ Some f) (ready : is_ready h harts ≡ true) (inside : IsInside c f) where
   -- the caller's spans agree with the changed maps but for the words of its call
-  own_agrees : (d : ℕ) (own : Option Flight) (s : Span) → own ≡ Some f → Agrees (map_of maps d) own s → Agrees (map_of (changed c maps) d) own s
+  own_agrees : (d : ℕ) (own : Option Flight) (s : Span) → own ≡ Some f → AgreesWithMap (map_of maps d) own s → AgreesWithMap (map_of (changed c maps) d) own s
   own_agrees d own s e a = record {
     at = λ word in_span spared.
         let out : covers f.first f.count word ≡ false = sym (ap (λ (o : Option Flight). is_spared o word) e) ∙ spared in
@@ -89,7 +89,7 @@ module _ (maps : List (List Perm)) (harts : List Kept) (h : ℕ) (c : Change) (f
   own_agrees_in (Some d) own s e a = own_agrees d own s e a
 
   -- those of a hart that keeps no span of the range agree as before
-  clear_agrees : (d : ℕ) (own : Option Flight) (s : Span) → Agrees (map_of maps d) own s → meets s f.first f.count ≡ false → Agrees (map_of (changed c maps) d) own s
+  clear_agrees : (d : ℕ) (own : Option Flight) (s : Span) → AgreesWithMap (map_of maps d) own s → meets s f.first f.count ≡ false → AgreesWithMap (map_of (changed c maps) d) own s
   clear_agrees d own s a apart = record {
     at = λ word in_span spared. changed-outside c maps d word (outside c f word inside (outside_range s f.first f.count word apart in_span)) ∙ a.at word in_span spared;
   }
@@ -98,23 +98,23 @@ module _ (maps : List (List Perm)) (harts : List Kept) (h : ℕ) (c : Change) (f
   clear_agrees_in None own s a apart = a
   clear_agrees_in (Some d) own s a apart = clear_agrees d own s a apart
 
-  dropped_there : (i : ℕ) → (hart_at harts i).halted ≡ false → i ≢ h → HasDropped i (hart_at harts i).cache f
+  dropped_there : (i : ℕ) → (kept_at harts i).halted ≡ false → i ≢ h → HasDropped i (kept_at harts i).cache f
   dropped_there i running ne =
-      let F : Option Flight → Type 0 = λ o. IfSome o (HasDropped i (hart_at harts i).cache) in
+      let F : Option Flight → Type 0 = λ o. IfSome o (HasDropped i (kept_at harts i).cache) in
       subst F flying (keeps.dropped i h running (λ e. ne (sym e)))
 
-  agrees_there : (i : ℕ) → (hart_at harts i).halted ≡ false → (i ≡ h) ⊎ (i ≢ h) → (i < length harts) ⊎ (length harts ≤ i) → AreCurrent (changed c maps) (hart_at harts i)
+  agrees_there : (i : ℕ) → (kept_at harts i).halted ≡ false → (i ≡ h) ⊎ (i ≢ h) → (i < length harts) ⊎ (length harts ≤ i) → AreCurrent (changed c maps) (kept_at harts i)
   agrees_there i running (inl e) lt =
-      let k = hart_at harts i in
-      let flown : k.flight ≡ Some f = ap (λ n. (hart_at harts n).flight) e ∙ flying in
+      let k = kept_at harts i in
+      let flown : k.flight ≡ Some f = ap (λ n. (kept_at harts n).flight) e ∙ flying in
       each_weaker (λ d s a. own_agrees d k.flight s flown a) (λ s a. own_agrees_in k.domain k.flight s flown a) k.cache (keeps.agree i running)
   agrees_there i running (inr ne) (inl lt) =
-      let k = hart_at harts i in
+      let k = kept_at harts i in
       let heard : is_in f.heard i ≡ true = ready-heard harts h i f flying ready lt ne running in
       each_weaker (λ d s a. clear_agrees d k.flight s a.0 a.1) (λ s a. clear_agrees_in k.domain k.flight s a.0 a.1) k.cache
       (each_both k.cache (keeps.agree i running) (dropped_there i running ne heard))
   agrees_there i running (inr ne) (inr le) =
-      let past : hart_at harts i ≡ no_hart = get_or_past harts i no_hart le in
+      let past : kept_at harts i ≡ nothing_kept = get_or_past harts i nothing_kept le in
       let clash : true ≡ false = sym (ap (λ (k : Kept). k.halted) past) ∙ running in
       absurd (cc)
 
@@ -128,10 +128,10 @@ module _ (maps : List (List Perm)) (harts : List Kept) (h : ℕ) (c : Change) (f
 
 -- the same from the conditions as they are stated
 pub change-keeps-ready : (maps : List (List Perm)) (harts : List Kept) (h : ℕ) (c : Change) → Keeps maps harts → is_ready h harts ≡ true →
-    IfSome (hart_at harts h).flight (IsInside c) → Keeps (changed c maps) harts
-change-keeps-ready maps harts h c keeps ready inside = by (hart_at harts h).flight refl inside
+    IfSome (kept_at harts h).flight (IsInside c) → Keeps (changed c maps) harts
+change-keeps-ready maps harts h c keeps ready inside = by (kept_at harts h).flight refl inside
   where
-    by : (o : Option Flight) → (hart_at harts h).flight ≡ o → IfSome o (IsInside c) → Keeps (changed c maps) harts
+    by : (o : Option Flight) → (kept_at harts h).flight ≡ o → IfSome o (IsInside c) → Keeps (changed c maps) harts
     by None e p =
         let clash : false ≡ true = sym (ap (λ (o : Option Flight). ready_with h o harts) e) ∙ ready in
         absurd (cc)

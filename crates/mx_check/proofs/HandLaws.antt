@@ -10,8 +10,8 @@ use Rattle.mx_words.specs.Caches.{Cache, checked, checked_at, found_in_place, fo
 use Rattle.mx_words.specs.Reach.{span}
 use Rattle.mx_words.specs.Rights.{allows}
 use Rattle.mx_check.specs.Conditions.{IsAtHand}
-use Rattle.mx_check.specs.Harts.{Kept, at_hart, hart_at}
-use Rattle.mx_check.specs.Looks.{decided, decided_at, decided_by, found, hits, is_forbidden, looked, looked_at}
+use Rattle.mx_check.specs.Harts.{Kept, at_hart, kept_at}
+use Rattle.mx_check.specs.Looks.{decided, decided_at, decided_by, found, hits, is_forbidden, looked_at_address, looked_at}
 
 -- a place answers
 hit-checked : (most domain word : ℕ) (s : Span) (barred : Bool) (c : Cache) (o : Option Span) → found_in_place c.places 0 word ≡ o → option_map (λ s. s.perm) o ≡ Some P.ExecuteRead →
@@ -26,19 +26,19 @@ hit-decided c domain word s (Some t) e q =
     let right : t.perm ≡ P.ExecuteRead = cc in
     ap (λ (o : Option Span). allows (decided_by (option_or o (found_kept c.kept domain word)) s) Execute) e ∙ ap (λ (p : Perm). allows p Execute) right
 
-module _ (most : ℕ) (kind : Kind) (m : List Perm) (h domain address : ℕ) (harts : List Kept) (hand : IsAtHand (length m) (hart_at harts h).cache address) where
+module _ (most : ℕ) (kind : Kind) (m : List Perm) (h domain address : ℕ) (harts : List Kept) (hand : IsAtHand (length m) (kept_at harts h).cache address) where
   -- the harts after the check
-  pub looked-hit : at_hart h (hits domain) harts ≡ looked most kind m h 0 domain address harts
+  pub looked-hit : at_hart h (hits domain) harts ≡ looked_at_address most kind m h 0 domain address harts
   looked-hit =
       let s = span kind m hand.word in
-      let c = (hart_at harts h).cache in
+      let c = (kept_at harts h).cache in
       sym (ap (λ (o : Option ℕ). looked_at most kind m h 0 domain o harts) hand.here
       ∙ ap (λ (x : Cache). at_hart h (λ (k : Kept). record k { cache = x; domain = Some domain }) harts)
       (hit-checked most domain hand.word s (is_forbidden h s harts) c (found_in_place c.places 0 hand.word) refl hand.right))
 
   -- it may be executed
-  pub decided-hit : allows (decided kind m 0 domain address (hart_at harts h).cache) Execute ≡ true
+  pub decided-hit : allows (decided kind m 0 domain address (kept_at harts h).cache) Execute ≡ true
   decided-hit =
-      let c = (hart_at harts h).cache in
+      let c = (kept_at harts h).cache in
       ap (λ (o : Option ℕ). allows (decided_at kind m 0 domain o c) Execute) hand.here
       ∙ hit-decided c domain hand.word (span kind m hand.word) (found_in_place c.places 0 hand.word) refl hand.right

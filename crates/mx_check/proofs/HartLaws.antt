@@ -3,16 +3,16 @@ use Rattle.std.proofs.Common.{◌≡◌, ℕ, zero, suc, ◌<◌, ◌≤◌, Lis
 use Rattle.std.proofs.lemmas.List.{get_or_default}
 use Rattle.std.proofs.SliceLists.{take-set}
 use Rattle.mx_words.specs.Counting.{list_below}
-use Rattle.mx_check.specs.Harts.{Kept, no_hart, hart_at, at_hart}
+use Rattle.mx_check.specs.Harts.{Kept, nothing_kept, kept_at, at_hart}
 
 module _ (n : ℕ) (parts : List Kept) (harts : List Kept) (h : ℕ) (d : Kept) (view : take n parts ≡ harts) (there : h < length harts) where
   -- the part that is read is the hart's
-  pub hart_read : get_or parts h d ≡ hart_at harts h
+  pub hart_read : get_or parts h d ≡ kept_at harts h
   hart_read =
       let long : h < length (take n parts) = omega (arith, ap length view) in
       let low : h < n = omega (arith, length-take n parts) in
       let inside : h < length parts = omega (arith, length-take n parts) in
-      get_or_default parts h d no_hart inside ∙ sym (get_or-take n parts h no_hart low) ∙ ap (λ (hs : List Kept). get_or hs h no_hart) view
+      get_or_default parts h d nothing_kept inside ∙ sym (get_or-take n parts h nothing_kept low) ∙ ap (λ (hs : List Kept). get_or hs h nothing_kept) view
 
   -- a part that is written is the hart's step
   pub hart_written : (step : Kept → Kept) (k : Kept) → k ≡ step (get_or parts h d) → take n (set parts h k) ≡ at_hart h step harts

@@ -11,11 +11,11 @@ use Rattle.mx_words.specs.Caches.{Cache, checked, checked_at, checked_behind, fo
 use Rattle.mx_words.specs.Ranges.{word_of}
 use Rattle.mx_words.specs.Reach.{span}
 use Rattle.mx_table.specs.Tables.{map_of}
-use Rattle.mx_check.specs.Coherence.{Agrees, EachSpan, HasDropped, Keeps}
-use Rattle.mx_check.specs.Harts.{Kept, at_hart, hart_at, no_hart}
-use Rattle.mx_check.specs.Looks.{hits, hits_all, is_forbidden, looked, looked_at, looks, with_domain}
+use Rattle.mx_check.specs.Coherence.{AgreesWithMap, EachSpan, HasDropped, Keeps}
+use Rattle.mx_check.specs.Harts.{Kept, at_hart, kept_at, nothing_kept}
+use Rattle.mx_check.specs.Looks.{hits, hits_all, is_forbidden, looked_at_address, looked_at, looks, with_domain}
 use Rattle.mx_check.proofs.KeepLaws.{keeps_step, some_weaker}
-use Rattle.mx_check.proofs.LookLaws.{at_hart-twice, hart_at-same, is_forbidden-same, length-at_hart}
+use Rattle.mx_check.proofs.LookLaws.{at_hart-twice, kept_at-same, is_forbidden-same, length-at_hart}
 use Rattle.mx_check.proofs.MayLaws.{of_domain}
 use Rattle.mx_check.proofs.SpanLaws.{each_weaker}
 
@@ -76,13 +76,13 @@ module _ (most : ℕ) (kind : Kind) (m : List Perm) (h p domain : ℕ) (harts : 
   hit-at (Some w) =
       let s = span kind m w in
       let b = is_forbidden h s harts in
-      let k = hart_at harts h in
+      let k = kept_at harts h in
       ap (λ (x : Bool). at_hart h (looks most p domain w s x) (at_hart h (hits domain) harts)) (is_forbidden-same h s harts (hits domain))
       ∙ at_hart-twice harts h (looks most p domain w s b) (hits domain) there
       ∙ ap (λ (c : Cache). set harts h (record k { cache = c; domain = Some domain })) (checked-hit most p domain w s k.cache b)
       ∙ sym (at_hart-twice harts h (hits domain) (looks most p domain w s b) there)
 
-  pub hit-after : (address : ℕ) → looked most kind m h p domain address (at_hart h (hits domain) harts) ≡ at_hart h (hits domain) (looked most kind m h p domain address harts)
+  pub hit-after : (address : ℕ) → looked_at_address most kind m h p domain address (at_hart h (hits domain) harts) ≡ at_hart h (hits domain) (looked_at_address most kind m h p domain address harts)
   hit-after address = hit-at (word_of address (length m))
 
 -- what they keep of a hart
@@ -101,7 +101,7 @@ hits-named (suc n) domain k same = refl
 
 -- none leaves the harts, and one more is one after the others
 pub none-hit : (h domain : ℕ) (harts : List Kept) → at_hart h (hits_all 0 domain) harts ≡ harts
-none-hit h domain harts = set-get_or harts h no_hart
+none-hit h domain harts = set-get_or harts h nothing_kept
 
 pub more-hit : (h n domain : ℕ) (harts : List Kept) → h < length harts → at_hart h (hits domain) (at_hart h (hits_all n domain) harts) ≡ at_hart h (hits_all (suc n) domain) harts
 more-hit h n domain harts there = at_hart-twice harts h (hits domain) (hits_all n domain) there
@@ -111,22 +111,22 @@ again : (E : ℕ → Span → Type 0) (P : Span → Type 0) (c : Cache) → Each
 again E P c each = record { entries = each.entries; places = each.places }
 
 module _ (maps : List (List Perm)) (h domain : ℕ) where
-  hit-keeps : (harts : List Kept) → Keeps maps harts → h < length harts → IfSome (hart_at harts h).domain (λ d. d ≡ domain) → Keeps maps (at_hart h (hits domain) harts)
+  hit-keeps : (harts : List Kept) → Keeps maps harts → h < length harts → IfSome (kept_at harts h).domain (λ d. d ≡ domain) → Keeps maps (at_hart h (hits domain) harts)
   hit-keeps harts keeps there same =
-      let k = hart_at harts h in
+      let k = kept_at harts h in
       keeps_step maps harts h (hits domain) keeps there
-      (λ running. again (λ d s. Agrees (map_of maps d) k.flight s) (λ s. Agrees (map_of maps domain) k.flight s) k.cache
+      (λ running. again (λ d s. AgreesWithMap (map_of maps d) k.flight s) (λ s. AgreesWithMap (map_of maps domain) k.flight s) k.cache
       (each_weaker (λ d s a. a) (of_domain maps k.flight domain k.domain same) k.cache (keeps.agree h running)))
       (λ i running apart. some_weaker (HasDropped h k.cache) (HasDropped h (with_place_hit k.cache))
-      (λ f p hit. again (λ d s. meets s f.first f.count ≡ false) (λ s. meets s f.first f.count ≡ false) k.cache (p hit)) (hart_at harts i).flight (keeps.dropped h i running apart))
+      (λ f p hit. again (λ d s. meets s f.first f.count ≡ false) (λ s. meets s f.first f.count ≡ false) k.cache (p hit)) (kept_at harts i).flight (keeps.dropped h i running apart))
       (λ i running apart. keeps.dropped i h running (λ e. apart (sym e)))
       (keeps.hearers h)
 
-  pub hits-keep : (n : ℕ) (harts : List Kept) → Keeps maps harts → h < length harts → IfSome (hart_at harts h).domain (λ d. d ≡ domain) → Keeps maps (at_hart h (hits_all n domain) harts)
+  pub hits-keep : (n : ℕ) (harts : List Kept) → Keeps maps harts → h < length harts → IfSome (kept_at harts h).domain (λ d. d ≡ domain) → Keeps maps (at_hart h (hits_all n domain) harts)
   hits-keep zero harts keeps there same = subst (λ (hs : List Kept). Keeps maps hs) (sym (none-hit h domain harts)) keeps
   hits-keep (suc n) harts keeps there same =
       let before = at_hart h (hits_all n domain) harts in
-      let named : IfSome (hart_at before h).domain (λ d. d ≡ domain) =
-      subst (λ (k : Kept). IfSome k.domain (λ d. d ≡ domain)) (sym (hart_at-same harts h (hits_all n domain) there)) (hits-named n domain (hart_at harts h) same) in
+      let named : IfSome (kept_at before h).domain (λ d. d ≡ domain) =
+      subst (λ (k : Kept). IfSome k.domain (λ d. d ≡ domain)) (sym (kept_at-same harts h (hits_all n domain) there)) (hits-named n domain (kept_at harts h) same) in
       let still : h < length before = subst (λ (i : ℕ). h < i) (sym (length-at_hart harts h (hits_all n domain))) there in
       subst (λ (hs : List Kept). Keeps maps hs) (more-hit h n domain harts there) (hit-keeps before (hits-keep n harts keeps there same) still named)

@@ -7,7 +7,7 @@ use Rattle.mx_words.specs.declared.perm.Span.{Span}
 use Rattle.mx_words.specs.Counting.{all_below}
 use Rattle.mx_words.specs.Caches.{found_in_place, found_kept}
 use Rattle.mx_words.proofs.OptionLaws.{neither, unmapped}
-use Rattle.mx_check.specs.Harts.{Kept, no_hart, hart_at, at_hart}
+use Rattle.mx_check.specs.Harts.{Kept, nothing_kept, kept_at, at_hart}
 use Rattle.mx_check.specs.Looks.{flight_forbids, hart_forbids, is_forbidden, found, after_caches, after_walk, looks}
 
 -- two tests that agree below a number
@@ -20,29 +20,29 @@ all_below_agree (suc n) p q agree =
 -- the harts after a step of hart h
 module _ (harts : List Kept) (h : ℕ) (step : Kept → Kept) where
   pub length-at_hart : length (at_hart h step harts) ≡ length harts
-  length-at_hart = length-set harts h (step (hart_at harts h))
+  length-at_hart = length-set harts h (step (kept_at harts h))
 
-  pub hart_at-same : h < length harts → hart_at (at_hart h step harts) h ≡ step (hart_at harts h)
-  hart_at-same there = get_or-set_same harts h (step (hart_at harts h)) no_hart there
+  pub kept_at-same : h < length harts → kept_at (at_hart h step harts) h ≡ step (kept_at harts h)
+  kept_at-same there = get_or-set_same harts h (step (kept_at harts h)) nothing_kept there
 
-  pub hart_at-other : (i : ℕ) → i ≢ h → hart_at (at_hart h step harts) i ≡ hart_at harts i
-  hart_at-other i other = get_or-set_other harts h i (step (hart_at harts h)) no_hart other
+  pub kept_at-other : (i : ℕ) → i ≢ h → kept_at (at_hart h step harts) i ≡ kept_at harts i
+  kept_at-other i other = get_or-set_other harts h i (step (kept_at harts h)) nothing_kept other
 
 -- two steps of one hart
 pub at_hart-twice : (harts : List Kept) (h : ℕ) (f g : Kept → Kept) → h < length harts → at_hart h f (at_hart h g harts) ≡ at_hart h (λ k. f (g k)) harts
 at_hart-twice harts h f g there =
-    set-set harts h (g (hart_at harts h)) (f (hart_at (at_hart h g harts) h))
-    ∙ ap (λ (k : Kept). set harts h (f k)) (hart_at-same harts h g there)
+    set-set harts h (g (kept_at harts h)) (f (kept_at (at_hart h g harts) h))
+    ∙ ap (λ (k : Kept). set harts h (f k)) (kept_at-same harts h g there)
 
 -- whether a hart's call bars a span, after a step that leaves the calls in flight
-pub hart_forbids-other : (h : ℕ) (s : Span) (harts other : List Kept) (i : ℕ) → ((i ≢ h) → (hart_at other i).flight ≡ (hart_at harts i).flight) →
+pub hart_forbids-other : (h : ℕ) (s : Span) (harts other : List Kept) (i : ℕ) → ((i ≢ h) → (kept_at other i).flight ≡ (kept_at harts i).flight) →
     hart_forbids h s other i ≡ hart_forbids h s harts i
 hart_forbids-other h s harts other i same = by (cases_eq i h)
   where
     by : (i ≡ h) ⊎ (i ≢ h) → hart_forbids h s other i ≡ hart_forbids h s harts i
     by (inl e) =
         let own : (i == h) ≡ true = eq-eqb i h e in
-        ap (λ b. not b && flight_forbids h s (hart_at other i).flight) own ∙ sym (ap (λ b. not b && flight_forbids h s (hart_at harts i).flight) own)
+        ap (λ b. not b && flight_forbids h s (kept_at other i).flight) own ∙ sym (ap (λ b. not b && flight_forbids h s (kept_at harts i).flight) own)
     by (inr ne) = ap (λ f. not (i == h) && flight_forbids h s f) (same ne)
 
 pub is_forbidden-same : (h : ℕ) (s : Span) (harts : List Kept) (step : Kept → Kept) → is_forbidden h s (at_hart h step harts) ≡ is_forbidden h s harts
@@ -50,7 +50,7 @@ is_forbidden-same h s harts step =
     let other = at_hart h step harts in
     ap (λ n. not (all_below n (λ i. not (hart_forbids h s other i)))) (length-at_hart harts h step)
     ∙ ap not (all_below_agree (length harts) (λ i. not (hart_forbids h s other i)) (λ i. not (hart_forbids h s harts i))
-    (λ i lt. ap not (hart_forbids-other h s harts other i (λ ne. ap (λ (k : Kept). k.flight) (hart_at-other harts h step i ne)))))
+    (λ i lt. ap not (hart_forbids-other h s harts other i (λ ne. ap (λ (k : Kept). k.flight) (kept_at-other harts h step i ne)))))
 
 -- a walk after the asking is the whole check
 asked_walked : (most place domain word : ℕ) (s : Span) (barred : Bool) (k : Kept) (a b : Option Span) → a ≡ None → b ≡ None →
@@ -62,11 +62,11 @@ asked_walked most place domain word s barred k a b ea eb ia ib =
     rw (pa, pb) refl
 
 pub walk_is_look : (most h place domain word : ℕ) (s : Span) (harts : List Kept) → h < length harts →
-    None ≡ option_map (λ (s : Span). s.perm) (found place domain word (hart_at harts h).cache) →
+    None ≡ option_map (λ (s : Span). s.perm) (found place domain word (kept_at harts h).cache) →
     at_hart h (after_walk most place domain s (is_forbidden h s (at_hart h (after_caches place domain word) harts))) (at_hart h (after_caches place domain word) harts)
     ≡ at_hart h (looks most place domain word s (is_forbidden h s harts)) harts
 walk_is_look most h place domain word s harts there miss =
-    let k = hart_at harts h in
+    let k = kept_at harts h in
     let none : found place domain word k.cache ≡ None = unmapped (λ (s : Span). s.perm) (found place domain word k.cache) (sym miss) in
     let parts = neither (found_in_place k.cache.places place word) (found_kept k.cache.kept domain word) none in
     ap (λ (b : Bool). at_hart h (after_walk most place domain s b) (at_hart h (after_caches place domain word) harts)) (is_forbidden-same h s harts (after_caches place domain word))

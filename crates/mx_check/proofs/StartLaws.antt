@@ -11,16 +11,16 @@ use Rattle.mx_table.specs.Tables.{map_of}
 use Rattle.mx_check.specs.declared.flight.Flight.{Flight}
 use Rattle.mx_check.specs.Flights.{is_of, flight_of, IsSet, IsHeardByOthers, AreHearers}
 use Rattle.mx_words.specs.Hearing.{is_in}
-use Rattle.mx_check.specs.Harts.{Kept, new_hart, no_hart, hart_at}
+use Rattle.mx_check.specs.Harts.{Kept, new_hart, nothing_kept, kept_at}
 use Rattle.mx_check.specs.Conditions.{MayLook, IsResumable}
 use Rattle.mx_check.specs.Calls.{new_harts, waiting_hart, waiting_harts}
-use Rattle.mx_check.specs.Coherence.{EachSpan, Agrees, AgreesIn, IsClear, HasDropped, Keeps}
+use Rattle.mx_check.specs.Coherence.{EachSpan, AgreesWithMap, AgreesIn, IsClear, HasDropped, Keeps}
 use Rattle.mx_check.proofs.SpanLaws.{each_none}
 
 -- harts whose caches are empty
-module _ (maps : List (List Perm)) (harts : List Kept) (empty : (i : ℕ) → (hart_at harts i).cache ≡ no_cache)
-    (hearers : (i : ℕ) → IfSome (hart_at harts i).flight (AreHearers (length harts) i)) (few : length harts ≤ 4) where
-  dropped_from : (h : ℕ) (o : Option Flight) → IfSome o (HasDropped h (hart_at harts h).cache)
+module _ (maps : List (List Perm)) (harts : List Kept) (empty : (i : ℕ) → (kept_at harts i).cache ≡ no_cache)
+    (hearers : (i : ℕ) → IfSome (kept_at harts i).flight (AreHearers (length harts) i)) (few : length harts ≤ 4) where
+  dropped_from : (h : ℕ) (o : Option Flight) → IfSome o (HasDropped h (kept_at harts h).cache)
   dropped_from h None = tt
   dropped_from h (Some f) =
       λ hit. subst (λ c. IsClear f.first f.count c) (sym (empty h)) (each_none (λ d s. meets s f.first f.count ≡ false) (λ s. meets s f.first f.count ≡ false))
@@ -28,19 +28,19 @@ module _ (maps : List (List Perm)) (harts : List Kept) (empty : (i : ℕ) → (h
   pub empty-keeps : Keeps maps harts
   empty-keeps = record {
     agree = λ h running.
-        let k = hart_at harts h in
-        subst (λ c. EachSpan (λ d s. Agrees (map_of maps d) k.flight s) (AgreesIn maps k.flight k.domain) c) (sym (empty h))
-        (each_none (λ d s. Agrees (map_of maps d) k.flight s) (AgreesIn maps k.flight k.domain));
-    dropped = λ h i running apart. dropped_from h (hart_at harts i).flight;
+        let k = kept_at harts h in
+        subst (λ c. EachSpan (λ d s. AgreesWithMap (map_of maps d) k.flight s) (AgreesIn maps k.flight k.domain) c) (sym (empty h))
+        (each_none (λ d s. AgreesWithMap (map_of maps d) k.flight s) (AgreesIn maps k.flight k.domain));
+    dropped = λ h i running apart. dropped_from h (kept_at harts i).flight;
     hearers = hearers;
     few = few;
   }
 
 module _ (maps : List (List Perm)) (n : ℕ) (few : n ≤ 4) where
-  new_at : (i : ℕ) → (i < n) ⊎ (n ≤ i) → ((hart_at (new_harts n) i).cache ≡ no_cache) × ((hart_at (new_harts n) i).flight ≡ None)
-  new_at i (inl lt) = let e = get_or-replicate n i new_hart no_hart lt in (ap (λ (k : Kept). k.cache) e, ap (λ (k : Kept). k.flight) e)
+  new_at : (i : ℕ) → (i < n) ⊎ (n ≤ i) → ((kept_at (new_harts n) i).cache ≡ no_cache) × ((kept_at (new_harts n) i).flight ≡ None)
+  new_at i (inl lt) = let e = get_or-replicate n i new_hart nothing_kept lt in (ap (λ (k : Kept). k.cache) e, ap (λ (k : Kept). k.flight) e)
   new_at i (inr le) =
-      let e = get_or_past (new_harts n) i no_hart (omega (arith, length-replicate n new_hart)) in
+      let e = get_or_past (new_harts n) i nothing_kept (omega (arith, length-replicate n new_hart)) in
       (ap (λ (k : Kept). k.cache) e, ap (λ (k : Kept). k.flight) e)
 
   pub new-keeps : Keeps maps (new_harts n)
@@ -66,28 +66,28 @@ module _ (maps : List (List Perm)) (flights : List Flight) (n words : ℕ) (few 
   as_many : length (waiting_harts flights n) ≡ n
   as_many = length-list_below n (waiting_hart flights)
 
-  waiting_at : (i : ℕ) → (i < n) ⊎ (n ≤ i) → ((hart_at (waiting_harts flights n) i).cache ≡ no_cache) × IfSome (hart_at (waiting_harts flights n) i).flight (AreHearers n i)
+  waiting_at : (i : ℕ) → (i < n) ⊎ (n ≤ i) → ((kept_at (waiting_harts flights n) i).cache ≡ no_cache) × IfSome (kept_at (waiting_harts flights n) i).flight (AreHearers n i)
   waiting_at i (inl lt) =
-      let e = list_below-at n i (waiting_hart flights) no_hart lt in
+      let e = list_below-at n i (waiting_hart flights) nothing_kept lt in
       (ap (λ (k : Kept). k.cache) e, subst (λ (k : Kept). IfSome k.flight (AreHearers n i)) (sym e) (flight_of-hearers n words i flights sets all))
   waiting_at i (inr le) =
-      let e = get_or_past (waiting_harts flights n) i no_hart (omega (arith, as_many)) in
+      let e = get_or_past (waiting_harts flights n) i nothing_kept (omega (arith, as_many)) in
       (ap (λ (k : Kept). k.cache) e, subst (λ (k : Kept). IfSome k.flight (AreHearers n i)) (sym e) tt)
 
   pub waiting-keeps : Keeps maps (waiting_harts flights n)
   waiting-keeps =
       empty-keeps maps (waiting_harts flights n) (λ i. (waiting_at i (cases_lt i n)).0)
-      (λ i. subst (λ k. IfSome (hart_at (waiting_harts flights n) i).flight (AreHearers k i)) (sym as_many) (waiting_at i (cases_lt i n)).1)
+      (λ i. subst (λ k. IfSome (kept_at (waiting_harts flights n) i).flight (AreHearers k i)) (sym as_many) (waiting_at i (cases_lt i n)).1)
       (omega (arith, as_many))
 
 -- a hart that has done nothing yet may check in any domain
-new_flight : (n i : ℕ) → (i < n) ⊎ (n ≤ i) → (hart_at (new_harts n) i).flight ≡ None
-new_flight n i (inl lt) = ap (λ (k : Kept). k.flight) (get_or-replicate n i new_hart no_hart lt)
-new_flight n i (inr le) = ap (λ (k : Kept). k.flight) (get_or_past (new_harts n) i no_hart (omega (arith, length-replicate n new_hart)))
+new_flight : (n i : ℕ) → (i < n) ⊎ (n ≤ i) → (kept_at (new_harts n) i).flight ≡ None
+new_flight n i (inl lt) = ap (λ (k : Kept). k.flight) (get_or-replicate n i new_hart nothing_kept lt)
+new_flight n i (inr le) = ap (λ (k : Kept). k.flight) (get_or_past (new_harts n) i nothing_kept (omega (arith, length-replicate n new_hart)))
 
 pub new_may : (n h domain : ℕ) → h < n → MayLook h domain (new_harts n)
 new_may n h domain lt =
-    let now = get_or-replicate n h new_hart no_hart lt in
+    let now = get_or-replicate n h new_hart nothing_kept lt in
     record {
       hart = omega (arith, length-replicate n new_hart);
       running = ap (λ (k : Kept). k.halted) now;

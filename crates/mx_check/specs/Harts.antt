@@ -16,17 +16,17 @@ pub record Kept : Type 0 where
 abbrev pub new_hart : Kept
 new_hart = record { cache = no_cache; halted = false; domain = None; flight = None }
 
--- a hart that isn't there counts as halted
-abbrev pub no_hart : Kept
-no_hart = record { cache = no_cache; halted = true; domain = None; flight = None }
+-- nothing is kept for a hart that isn't there, and it counts as halted
+abbrev pub nothing_kept : Kept
+nothing_kept = record { cache = no_cache; halted = true; domain = None; flight = None }
 
 -- what is kept for hart h
-abbrev pub hart_at : List Kept → ℕ → Kept
-hart_at harts h = slice_index_or harts h no_hart
+abbrev pub kept_at : List Kept → ℕ → Kept
+kept_at harts h = slice_index_or harts h nothing_kept
 
 -- hart h after a step of its own; the others stay
 abbrev pub at_hart : ℕ → (Kept → Kept) → List Kept → List Kept
-at_hart h step harts = slice_set harts h (step (hart_at harts h))
+at_hart h step harts = slice_set harts h (step (kept_at harts h))
 
 -- the hart has a call in flight that changes at most the words first to first + count - 1
 abbrev pub announced : ℕ → ℕ → ℕ → Kept → Kept
@@ -41,16 +41,16 @@ abbrev pub heard_by : ℕ → Kept → Kept
 heard_by h k = record k { flight = option_map (marked h) k.flight }
 
 -- the hart drops its spans that meet a range
-abbrev pub drops : ℕ → ℕ → Kept → Kept
-drops first count k = record k { cache = without_range first count k.cache }
+abbrev pub drops_range : ℕ → ℕ → Kept → Kept
+drops_range first count k = record k { cache = without_range first count k.cache }
 
 -- the hart's call ends, and it drops its own spans that meet the call's range
-abbrev pub ended : Option Flight → Cache → Cache
-ended None c = c
-ended (Some f) c = without_range f.first f.count c
+abbrev pub without_flight_range : Option Flight → Cache → Cache
+without_flight_range None c = c
+without_flight_range (Some f) c = without_range f.first f.count c
 
 abbrev pub finished : Kept → Kept
-finished k = record k { cache = ended k.flight k.cache; flight = None }
+finished k = record k { cache = without_flight_range k.flight k.cache; flight = None }
 
 -- the hart's places are emptied, and no domain is kept for it
 abbrev pub leaves_domain : Kept → Kept

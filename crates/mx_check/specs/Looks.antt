@@ -10,7 +10,7 @@ use Rattle.mx_words.specs.Ranges.{word_of}
 use Rattle.mx_words.specs.Reach.{span}
 use Rattle.mx_check.specs.declared.flight.Flight.{Flight}
 use Rattle.mx_words.specs.Hearing.{forbids_keeping}
-use Rattle.mx_check.specs.Harts.{Kept, hart_at, at_hart}
+use Rattle.mx_check.specs.Harts.{Kept, kept_at, at_hart}
 use Rattle.std.specs.Prelude.{length}
 use Rattle.std.specs.Option.{option_or}
 
@@ -21,7 +21,7 @@ flight_forbids h s (Some f) = forbids_keeping h f.heard (f.first, f.count) s
 
 -- whether the call of hart i keeps hart h from keeping a span
 abbrev pub hart_forbids : ℕ → Span → List Kept → ℕ → Bool
-hart_forbids h s harts i = not (i == h) && flight_forbids h s (hart_at harts i).flight
+hart_forbids h s harts i = not (i == h) && flight_forbids h s (kept_at harts i).flight
 
 -- whether a span meets the range of a call in flight of another hart that hart h has heard
 abbrev pub is_forbidden : ℕ → Span → List Kept → Bool
@@ -38,8 +38,8 @@ answered_by place (Some s) o c = with_place_hit c
 answered_by place None (Some s) c = with_kept_hit place s c
 answered_by place None None c = c
 
-abbrev pub answered : ℕ → ℕ → ℕ → Cache → Cache
-answered place domain word c =
+abbrev pub with_any_hit : ℕ → ℕ → ℕ → Cache → Cache
+with_any_hit place domain word c =
     answered_by place (found_in_place c.places place word) (found_kept c.kept domain word) c
 
 -- a hart after a look for a word in its list alone
@@ -54,7 +54,7 @@ with_domain domain k = record k { domain = Some domain }
 -- a hart after a look for a word in its caches, and after a walk that found a span
 abbrev pub after_caches : ℕ → ℕ → ℕ → Kept → Kept
 after_caches place domain word k =
-    record k { cache = answered place domain word k.cache; domain = Some domain }
+    record k { cache = with_any_hit place domain word k.cache; domain = Some domain }
 
 abbrev pub after_walk : ℕ → ℕ → ℕ → Span → Bool → Kept → Kept
 after_walk most place domain s barred k =
@@ -83,8 +83,8 @@ looked_at most kind m h place domain (Some word) harts =
     harts
 
 -- the harts after hart h checks an address in a domain with the map m: the buffers hold `most` entries
-abbrev pub looked : ℕ → Kind → List Perm → ℕ → ℕ → ℕ → ℕ → List Kept → List Kept
-looked most kind m h place domain address harts =
+abbrev pub looked_at_address : ℕ → Kind → List Perm → ℕ → ℕ → ℕ → ℕ → List Kept → List Kept
+looked_at_address most kind m h place domain address harts =
     looked_at most kind m h place domain (word_of address (length m)) harts
 
 -- the count of lookups after a check: it rises where neither the place nor the list answers

@@ -8,8 +8,8 @@ ghost use Rattle.mx_words.specs.Limits.{most_harts, most_kept};
 ghost use Rattle.mx_table.specs.Change.{IsLawful, changed};
 ghost use Rattle.mx_table.specs.Tables.{IsDomain, map_of};
 ghost use Rattle.mx_check.specs.Flights.{IsSet};
-ghost use Rattle.mx_check.specs.Harts.{hart_at, at_hart, announced, finished, leaves_domain, halts, has_heard};
-ghost use Rattle.mx_check.specs.Looks.{found, decided_by, decided, lookups_with, lookups_after, hits_all, looks, after_walk, looked, is_forbidden};
+ghost use Rattle.mx_check.specs.Harts.{kept_at, at_hart, announced, finished, leaves_domain, halts, has_heard};
+ghost use Rattle.mx_check.specs.Looks.{found, decided_by, decided, lookups_with, lookups_after, hits_all, looks, after_walk, looked_at_address, is_forbidden};
 ghost use Rattle.mx_check.specs.Calls.{hears, is_ready, new_harts, waiting_harts};
 
 use crate::harts::Harts;
@@ -68,13 +68,13 @@ impl<T: PermTables, const N: usize> Bare<T, N> {
         requires domain { IsDomain (T.maps self.old.tables) domain }
         ensures answer { result
             ≡ allows (decided T.kind (map_of (T.maps self.old.tables) domain) place domain addr
-            (hart_at self.old.harts hart).cache) access }
+            (kept_at self.old.harts hart).cache) access }
         ensures harts { self.new.harts
-            ≡ looked N T.kind (map_of (T.maps self.old.tables) domain)
+            ≡ looked_at_address N T.kind (map_of (T.maps self.old.tables) domain)
             hart place domain addr self.old.harts }
         ensures lookups { T.lookups self.new.tables
             ≡ lookups_after (map_of (T.maps self.old.tables) domain) place domain addr
-            (hart_at self.old.harts hart).cache (T.lookups self.old.tables) }
+            (kept_at self.old.harts hart).cache (T.lookups self.old.tables) }
         ensures same_maps { T.maps self.new.tables ≡ T.maps self.old.tables }
         ensures same_size { T.size self.new.tables ≡ T.size self.old.tables }
         ensures same_limit { T.limits self.new.tables ≡ T.limits self.old.tables }
@@ -102,7 +102,7 @@ impl<T: PermTables, const N: usize> Bare<T, N> {
     /// The span with which the hart's place 0 answers for a word. It isn't counted.
     pub fn at_hand(&self, hart: u32, word: u32) -> Option<Span>
         requires { hart < length self.now.harts }
-        ensures { result ≡ found_in_place (hart_at self.now.harts hart).cache.places 0 word }
+        ensures { result ≡ found_in_place (kept_at self.now.harts hart).cache.places 0 word }
     {
         self.harts.at_hand(hart, word)
     }
@@ -115,14 +115,14 @@ impl<T: PermTables, const N: usize> Bare<T, N> {
         requires domain { IsDomain (T.maps self.old.tables) domain }
         requires word { word < T.size self.old.tables }
         ensures answer { result
-            ≡ decided_by (found place domain word (hart_at self.old.harts hart).cache)
+            ≡ decided_by (found place domain word (kept_at self.old.harts hart).cache)
             (span T.kind (map_of (T.maps self.old.tables) domain) word) }
         ensures harts { let s = span T.kind (map_of (T.maps self.old.tables) domain) word in
             self.new.harts
             ≡ at_hart hart (looks N place domain word s (is_forbidden hart s self.old.harts))
             self.old.harts }
         ensures lookups { T.lookups self.new.tables
-            ≡ lookups_with (found place domain word (hart_at self.old.harts hart).cache)
+            ≡ lookups_with (found place domain word (kept_at self.old.harts hart).cache)
             (T.lookups self.old.tables) }
         ensures same_maps { T.maps self.new.tables ≡ T.maps self.old.tables }
         ensures same_size { T.size self.new.tables ≡ T.size self.old.tables }
@@ -233,9 +233,9 @@ impl<T: PermTables, const N: usize> Bare<T, N> {
     /// The hart's counts.
     pub fn counts(&self, hart: u32) -> Counts
         requires { hart < length self.now.harts }
-        ensures sidecar { result.sidecar ≡ (hart_at self.now.harts hart).cache.sidecar }
-        ensures lookaside { result.lookaside ≡ (hart_at self.now.harts hart).cache.lookaside }
-        ensures walks { result.walks ≡ (hart_at self.now.harts hart).cache.walks }
+        ensures sidecar { result.sidecar ≡ (kept_at self.now.harts hart).cache.sidecar }
+        ensures lookaside { result.lookaside ≡ (kept_at self.now.harts hart).cache.lookaside }
+        ensures walks { result.walks ≡ (kept_at self.now.harts hart).cache.walks }
     {
         self.harts.counts(hart)
     }
@@ -260,7 +260,7 @@ impl<T: PermTables, const N: usize> Bare<T, N> {
     pub fn heard(&self, hart: u32, by: u32) -> bool
         requires hart { hart < length self.now.harts }
         requires by { by < length self.now.harts }
-        ensures { result ≡ has_heard (hart_at self.now.harts hart).flight by }
+        ensures { result ≡ has_heard (kept_at self.now.harts hart).flight by }
     {
         self.harts.heard(hart, by)
     }

@@ -8,8 +8,8 @@ ghost use Rattle.mx_words.specs.Limits.{most_harts, most_kept};
 ghost use Rattle.mx_table.specs.Change.{IsLawful, changed};
 ghost use Rattle.mx_table.specs.Tables.{IsDomain, map_of};
 ghost use Rattle.mx_check.specs.Flights.{AreHearers};
-ghost use Rattle.mx_check.specs.Harts.{hart_at, at_hart, announced, finished, leaves_domain, halts, has_heard};
-ghost use Rattle.mx_check.specs.Looks.{hits_all, lookups_after, looked};
+ghost use Rattle.mx_check.specs.Harts.{kept_at, at_hart, announced, finished, leaves_domain, halts, has_heard};
+ghost use Rattle.mx_check.specs.Looks.{hits_all, lookups_after, looked_at_address};
 ghost use Rattle.mx_check.specs.Calls.{hears, is_ready, new_harts, waiting_harts};
 ghost use Rattle.mx_check.specs.Conditions.{IsAtHand, MayLook, HasHeardAll, SameButCaches, MayAnnounce, IsWithin, MayChange, IsResumable};
 
@@ -79,11 +79,11 @@ impl<T: PermTables, const N: usize> Checker<T, N> {
         ensures answer { result
             ≡ not (denies (perm (map_of (T.maps self.old.tables) domain)) addr access) }
         ensures harts { self.new.harts
-            ≡ looked N T.kind (map_of (T.maps self.old.tables) domain)
+            ≡ looked_at_address N T.kind (map_of (T.maps self.old.tables) domain)
             hart place domain addr self.old.harts }
         ensures lookups { T.lookups self.new.tables
             ≡ lookups_after (map_of (T.maps self.old.tables) domain) place domain addr
-            (hart_at self.old.harts hart).cache (T.lookups self.old.tables) }
+            (kept_at self.old.harts hart).cache (T.lookups self.old.tables) }
         ensures again { MayLook hart domain self.new.harts }
         ensures same_maps { T.maps self.new.tables ≡ T.maps self.old.tables }
         ensures same_size { T.size self.new.tables ≡ T.size self.old.tables }
@@ -97,7 +97,7 @@ impl<T: PermTables, const N: usize> Checker<T, N> {
     pub fn allows_fetch(&self, hart: u32, domain: u32, addr: u32)
         requires may { MayLook hart domain self.now.harts }
         requires domain { IsDomain (T.maps self.now.tables) domain }
-        requires at_hand { IsAtHand (T.size self.now.tables) (hart_at self.now.harts hart).cache
+        requires at_hand { IsAtHand (T.size self.now.tables) (kept_at self.now.harts hart).cache
             addr }
         ensures { denies (perm (map_of (T.maps self.now.tables) domain)) addr Execute ≡ false }
     {
@@ -108,7 +108,7 @@ impl<T: PermTables, const N: usize> Checker<T, N> {
     /// Counts so many fetches at hand of the hart in a domain, each as `may` counts it at place 0. No other domain is kept for the hart.
     pub fn count_fetches(&mut self, hart: u32, domain: u32, fetches: u64)
         requires hart { hart < length self.old.harts }
-        requires same_domain { IfSome (hart_at self.old.harts hart).domain (λ d. d ≡ domain) }
+        requires same_domain { IfSome (kept_at self.old.harts hart).domain (λ d. d ≡ domain) }
         ensures { self.new ≡ record self.old {
           harts = at_hart hart
               (hits_all fetches domain) self.old.harts;
@@ -120,7 +120,7 @@ impl<T: PermTables, const N: usize> Checker<T, N> {
     /// The span in the hart's place 0 where it covers a word. It is what `may` would answer by first, and isn't counted.
     pub fn at_hand(&self, hart: u32, word: u32) -> Option<Span>
         requires { hart < length self.now.harts }
-        ensures { result ≡ found_in_place (hart_at self.now.harts hart).cache.places 0 word }
+        ensures { result ≡ found_in_place (kept_at self.now.harts hart).cache.places 0 word }
     {
         self.bare.at_hand(hart, word)
     }
@@ -143,10 +143,10 @@ impl<T: PermTables, const N: usize> Checker<T, N> {
     #[inline(never)]
     pub fn hear(&mut self, hart: u32)
         requires hart { hart < length self.old.harts }
-        requires running { (hart_at self.old.harts hart).halted ≡ false }
+        requires running { (kept_at self.old.harts hart).halted ≡ false }
         ensures after { self.new ≡ record self.old { harts = hears hart self.old.harts } }
         ensures heard { HasHeardAll hart self.new.harts }
-        ensures own { SameButCaches (hart_at self.new.harts hart) (hart_at self.old.harts hart) }
+        ensures own { SameButCaches (kept_at self.new.harts hart) (kept_at self.old.harts hart) }
         ensures same_length { length self.new.harts ≡ length self.old.harts }
         ensures few { length self.new.harts ≤ most_harts }
     {
@@ -156,7 +156,7 @@ impl<T: PermTables, const N: usize> Checker<T, N> {
     /// Counts the hart as halted from here on. It has no call in flight.
     pub fn halt(&mut self, hart: u32)
         requires hart { hart < length self.old.harts }
-        requires free { (hart_at self.old.harts hart).flight ≡ None }
+        requires free { (kept_at self.old.harts hart).flight ≡ None }
         ensures { self.new ≡ record self.old { harts = at_hart hart halts self.old.harts } }
     {
         self.bare.halt(hart);
@@ -212,9 +212,9 @@ impl<T: PermTables, const N: usize> Checker<T, N> {
     /// How many checks of the hart its places answered, how many its buffer, and how many a walk.
     pub fn counts(&self, hart: u32) -> Counts
         requires { hart < length self.now.harts }
-        ensures sidecar { result.sidecar ≡ (hart_at self.now.harts hart).cache.sidecar }
-        ensures lookaside { result.lookaside ≡ (hart_at self.now.harts hart).cache.lookaside }
-        ensures walks { result.walks ≡ (hart_at self.now.harts hart).cache.walks }
+        ensures sidecar { result.sidecar ≡ (kept_at self.now.harts hart).cache.sidecar }
+        ensures lookaside { result.lookaside ≡ (kept_at self.now.harts hart).cache.lookaside }
+        ensures walks { result.walks ≡ (kept_at self.now.harts hart).cache.walks }
     {
         self.bare.counts(hart)
     }
@@ -239,7 +239,7 @@ impl<T: PermTables, const N: usize> Checker<T, N> {
     pub fn heard(&self, hart: u32, by: u32) -> bool
         requires hart { hart < length self.now.harts }
         requires by { by < length self.now.harts }
-        ensures { result ≡ has_heard (hart_at self.now.harts hart).flight by }
+        ensures { result ≡ has_heard (kept_at self.now.harts hart).flight by }
     {
         self.bare.heard(hart, by)
     }
@@ -249,7 +249,7 @@ impl<T: PermTables, const N: usize> Checker<T, N> {
 /// it are only other harts that there are. A machine's state is valid only with such sets.
 pub fn flights_of<T: PermTables, const N: usize>(checker: &Checker<T, N>)
     ensures few { length checker.now.harts ≤ most_harts }
-    ensures hearers { (h : ℕ) → IfSome (hart_at checker.now.harts h).flight
+    ensures hearers { (h : ℕ) → IfSome (kept_at checker.now.harts h).flight
         (AreHearers (length checker.now.harts) h) }
 {
     let _ = &checker.bare;

@@ -4,7 +4,7 @@ ghost use Rattle.std.specs.Option.{option_map};
 ghost use Rattle.mx_words.specs.Caches.{found_in_place};
 ghost use Rattle.mx_words.specs.Limits.{most_harts, most_kept};
 ghost use Rattle.mx_check.specs.Flights.{IsSet};
-ghost use Rattle.mx_check.specs.Harts.{hart_at, at_hart, announced, heard_by, drops, finished, leaves_domain, halts, has_heard};
+ghost use Rattle.mx_check.specs.Harts.{kept_at, at_hart, announced, heard_by, drops_range, finished, leaves_domain, halts, has_heard};
 ghost use Rattle.mx_check.specs.Looks.{found, after_caches, after_walk, hits_all, with_domain, hart_forbids, is_forbidden};
 ghost use Rattle.mx_check.specs.Calls.{unheard, hears_one, hears, hart_lets_pass, is_ready, new_harts, waiting_harts};
 
@@ -82,7 +82,7 @@ impl<const N: usize> Harts<N> {
         requires hart { hart < length self.old }
         requires place { place < 32 }
         ensures answer { result
-            ≡ option_map (λ s. s.perm) (found place domain word (hart_at self.old hart).cache) }
+            ≡ option_map (λ s. s.perm) (found place domain word (kept_at self.old hart).cache) }
         ensures after { self.new ≡ at_hart hart (after_caches place domain word) self.old }
     {
         let part = &mut self.parts[hart as usize];
@@ -101,7 +101,7 @@ impl<const N: usize> Harts<N> {
     /// As `Part::at_hand`, for one hart.
     pub fn at_hand(&self, hart: u32, word: u32) -> Option<Span>
         requires { hart < length self.now }
-        ensures { result ≡ found_in_place (hart_at self.now hart).cache.places 0 word }
+        ensures { result ≡ found_in_place (kept_at self.now hart).cache.places 0 word }
     {
         let part = &self.parts[hart as usize];
         part.at_hand(word)
@@ -138,7 +138,7 @@ impl<const N: usize> Harts<N> {
     /// As `Part::drop_overlap`, for one hart.
     pub fn drop_overlap(&mut self, hart: u32, first: u32, count: u32)
         requires { hart < length self.old }
-        ensures { self.new ≡ at_hart hart (drops first count) self.old }
+        ensures { self.new ≡ at_hart hart (drops_range first count) self.old }
     {
         let part = &mut self.parts[hart as usize];
         part.drop_overlap(first, count);
@@ -184,7 +184,7 @@ impl<const N: usize> Harts<N> {
     /// The call in flight of a hart.
     pub fn flight(&self, hart: u32) -> Option<Flight>
         requires { hart < length self.now }
-        ensures { result ≡ (hart_at self.now hart).flight }
+        ensures { result ≡ (kept_at self.now hart).flight }
     {
         let part = &self.parts[hart as usize];
         part.flight()
@@ -194,7 +194,7 @@ impl<const N: usize> Harts<N> {
     pub fn heard(&self, hart: u32, by: u32) -> bool
         requires hart { hart < length self.now }
         requires by { by < length self.now }
-        ensures { result ≡ has_heard (hart_at self.now hart).flight by }
+        ensures { result ≡ has_heard (kept_at self.now hart).flight by }
     {
         let part = &self.parts[hart as usize];
         part.heard(by)
@@ -203,9 +203,9 @@ impl<const N: usize> Harts<N> {
     /// The counts of a hart.
     pub fn counts(&self, hart: u32) -> Counts
         requires { hart < length self.now }
-        ensures sidecar { result.sidecar ≡ (hart_at self.now hart).cache.sidecar }
-        ensures lookaside { result.lookaside ≡ (hart_at self.now hart).cache.lookaside }
-        ensures walks { result.walks ≡ (hart_at self.now hart).cache.walks }
+        ensures sidecar { result.sidecar ≡ (kept_at self.now hart).cache.sidecar }
+        ensures lookaside { result.lookaside ≡ (kept_at self.now hart).cache.lookaside }
+        ensures walks { result.walks ≡ (kept_at self.now hart).cache.walks }
     {
         let part = &self.parts[hart as usize];
         part.counts()

@@ -3,7 +3,7 @@ ghost use Rattle.std.specs.Prelude.{◌≡◌, ◌+◌, ◌-◌, ◌^◌, ◌<�
 ghost use Rattle.std.specs.Option.{option_map};
 ghost use Rattle.mx_words.specs.Caches.{raised, found_in_place, found_kept};
 ghost use Rattle.mx_words.specs.Limits.{most_harts, most_kept};
-ghost use Rattle.mx_check.specs.Harts.{new_hart, no_hart, announced, heard_by, drops, finished, leaves_domain, halts, has_heard};
+ghost use Rattle.mx_check.specs.Harts.{new_hart, nothing_kept, announced, heard_by, drops_range, finished, leaves_domain, halts, has_heard};
 ghost use Rattle.mx_check.specs.Looks.{found, after_caches, after_list, after_walk, hits_all, with_domain, flight_forbids};
 ghost use Rattle.mx_check.specs.Calls.{unheard_of};
 
@@ -206,7 +206,7 @@ impl<const N: usize> Part<N> {
 
     /// Drops the spans that meet a range.
     pub fn drop_overlap(&mut self, first: u32, count: u32)
-        ensures { self.new ≡ drops first count self.old }
+        ensures { self.new ≡ drops_range first count self.old }
     {
         self.places.drop_overlap(first, count);
         self.kept.drop_overlap(first, count);

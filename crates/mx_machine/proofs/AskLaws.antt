@@ -6,12 +6,12 @@ use Rattle.mx_words.specs.Announced.{is_announced}
 use Rattle.mx_words.specs.Hearing.{nobody}
 use Rattle.mx_check.specs.declared.flight.Flight.{Flight}
 use Rattle.mx_check.specs.Calls.{is_ready}
-use Rattle.mx_check.specs.Harts.{Kept, hart_at, announced}
+use Rattle.mx_check.specs.Harts.{Kept, kept_at, announced}
 use Rattle.mx_model.specs.declared.values.Call.{Call}
 use Rattle.mx_model.specs.declared.values.TurnKind.TheVariants as T
 use Rattle.mx_model.specs.Events.{Events, no_events}
 use Rattle.mx_model.specs.State.{Core, Waiting, with_hart}
-use Rattle.mx_model.specs.State.{hart_at as seen_at, no_hart as nobody_seen}
+use Rattle.mx_model.specs.State.{kept_at as seen_at, no_hart as nobody_seen}
 use Rattle.mx_model.specs.State.{Hart as Seen}
 use Rattle.mx_model.specs.Turn.{Asks, asked, call_of, is_served_now, served}
 use Rattle.mx_model.specs.Checks.{is_ready as ready_in}
@@ -65,7 +65,7 @@ pub serving-waiting : (m : Held) (h : ℕ) → MayAct m h → (hart_among m.hart
     is_ready h m.parts.harts ≡ true → IsServing m h (own_call h (hart_among m.harts h))
 serving-waiting m h a w n e =
     let x = hart_among m.harts h in
-    let k = hart_at m.parts.harts h in
+    let k = kept_at m.parts.harts h in
     let flying : IsFlying (range_of m.parts (own_call h x)) k.flight =
     subst (λ (p : Progress). FliesWhileWaiting (range_of m.parts (own_call h x)) k.flight p) w (a.fits.ties h).flight in
     record {
@@ -96,13 +96,13 @@ module _ (m : Held) (h : ℕ) (r : MayRun m h) where
   abbrev pub now_announced : Held
   now_announced = with_kept h (announced h (range_of m.parts (own_call h (hart_among m.harts h))).0 (range_of m.parts (own_call h (hart_among m.harts h))).1) m
 
-  own-announced : hart_at now_announced.parts.harts h ≡ announced h range_now.0 range_now.1 (hart_at m.parts.harts h)
+  own-announced : kept_at now_announced.parts.harts h ≡ announced h range_now.0 range_now.1 (kept_at m.parts.harts h)
   own-announced = own-step m.parts.harts h (announced h range_now.0 range_now.1) (kept-there m h r.act)
 
-  others-announced : (i : ℕ) → i ≢ h → hart_at now_announced.parts.harts i ≡ hart_at m.parts.harts i
+  others-announced : (i : ℕ) → i ≢ h → kept_at now_announced.parts.harts i ≡ kept_at m.parts.harts i
   others-announced i ne = others-step m.parts.harts h (announced h range_now.0 range_now.1) i ne
 
-  tied-others : (i : ℕ) → i ≢ h → IsTied (range_of m.parts) i (hart_among m.harts i) (hart_at now_announced.parts.harts i)
+  tied-others : (i : ℕ) → i ≢ h → IsTied (range_of m.parts) i (hart_among m.harts i) (kept_at now_announced.parts.harts i)
   tied-others i ne = subst (λ (k : Kept). IsTied (range_of m.parts) i (hart_among m.harts i) k) (sym (others-announced i ne)) (r.act.fits.ties i)
 
   pub serving-announced : is_announced (own_call h (hart_among m.harts h)).number ≡ true → is_ready h now_announced.parts.harts ≡ true →
@@ -139,7 +139,7 @@ module _ (m : Held) (h : ℕ) (r : MayRun m h) where
   core-announced =
       let x = hart_among m.harts h in
       let p = now_announced.parts in
-      let k = hart_at p.harts h in
+      let k = kept_at p.harts h in
       ap (λ (hs : List Hart). core_in (record m { parts = p; harts = hs })) (sym (set-get_or m.harts h no_hart))
       ∙ core-step m h x p (λ i ne. ap (λ (k : Kept). k.flight) (others-announced i ne))
       ∙ ap (with_hart h (seen h x k)) (core-kept (rest_of m) m.parts h (announced h range_now.0 range_now.1) refl)
@@ -171,7 +171,7 @@ module _ (m : Held) (h : ℕ) (r : MayRun m h) where
   waiting-core =
       let x = hart_among m.harts h in
       core-step m h (waits x) now_announced.parts (λ i ne. ap (λ (k : Kept). k.flight) (others-announced i ne))
-      ∙ ap (with_hart h (seen h (waits x) (hart_at now_announced.parts.harts h))) (core-kept (rest_of m) m.parts h (announced h range_now.0 range_now.1) refl)
+      ∙ ap (with_hart h (seen h (waits x) (kept_at now_announced.parts.harts h))) (core-kept (rest_of m) m.parts h (announced h range_now.0 range_now.1) refl)
       ∙ ap (λ (k : Kept). with_hart h (seen h (waits x) k) (core_in m)) own-announced
       ∙ sym (ap (λ (y : Seen). with_hart h (record y { status = Waiting (own_call h x) nobody }) (core_in m)) (seen-running m h r))
 

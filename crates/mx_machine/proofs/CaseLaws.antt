@@ -4,7 +4,7 @@ use Rattle.std.specs.Prelude.{IfSome, option_map, is_some}
 use Rattle.std.specs.Option.{option_map_or}
 use Rattle.mx_words.specs.Ranges.{word_of}
 use Rattle.mx_table.specs.Tables.{IsDomain}
-use Rattle.mx_check.specs.Harts.{hart_at as kept_at}
+use Rattle.mx_check.specs.Harts.{kept_at}
 use Rattle.mx_model.specs.declared.values.Call.{Call}
 use Rattle.mx_model.specs.declared.values.Gate.{Gate}
 use Rattle.mx_model.specs.declared.values.Note.{Note}

@@ -4,8 +4,8 @@ use Rattle.std.proofs.Common.{map as list_map}
 use Rattle.std.proofs.Math.ListN.{get_or-map}
 use Rattle.std.proofs.lemmas.List.{map-set, set-get_or}
 use Rattle.mx_words.specs.Caches.{Cache, no_cache, left_domain}
-use Rattle.mx_check.specs.Harts.{Kept, hart_at, at_hart, leaves_domain}
-use Rattle.mx_check.specs.Harts.{no_hart as no_kept}
+use Rattle.mx_check.specs.Harts.{Kept, kept_at, at_hart, leaves_domain}
+use Rattle.mx_check.specs.Harts.{nothing_kept}
 use Rattle.mx_model.specs.Checks.{empties_places}
 use Rattle.mx_model.specs.State.{Core, Module, with_hart}
 use Rattle.mx_model.specs.State.{Hart as Seen}
@@ -19,10 +19,10 @@ use Rattle.mx_machine.proofs.HomeLaws.{modules-beside}
 
 -- calls in flight of the harts but h stay
 abbrev pub FlyAlike : ℕ → List Kept → List Kept → Type 0
-FlyAlike h kept other = (i : ℕ) → i ≢ h → (hart_at kept i).flight ≡ (hart_at other i).flight
+FlyAlike h kept other = (i : ℕ) → i ≢ h → (kept_at kept i).flight ≡ (kept_at other i).flight
 
 pub core-step : (m : Held) (h : ℕ) (x : Hart) (p : Parts) → FlyAlike h p.harts m.parts.harts →
-    core_in (record m { parts = p; harts = set m.harts h x }) ≡ with_hart h (seen h x (hart_at p.harts h)) (core_of (rest_of m) p)
+    core_in (record m { parts = p; harts = set m.harts h x }) ≡ with_hart h (seen h x (kept_at p.harts h)) (core_of (rest_of m) p)
 core-step m h x p e =
     let harts = seen_from 0 (set m.harts h x) p.harts in
     ap (λ (ms : List Module). record (core_of (rest_of m) p) { modules = ms; harts = harts })
@@ -31,15 +31,15 @@ core-step m h x p e =
 
 -- the caches of the state are those of the checker
 
-pub caches-at : (kept : List Kept) (h : ℕ) → get_or (list_map (λ (k : Kept). k.cache) kept) h no_cache ≡ (hart_at kept h).cache
-caches-at kept h = get_or-map (λ (k : Kept). k.cache) kept h no_kept
+pub caches-at : (kept : List Kept) (h : ℕ) → get_or (list_map (λ (k : Kept). k.cache) kept) h no_cache ≡ (kept_at kept h).cache
+caches-at kept h = get_or-map (λ (k : Kept). k.cache) kept h nothing_kept
 
 pub caches-step : (kept : List Kept) (h : ℕ) (step : Kept → Kept) →
-    list_map (λ (k : Kept). k.cache) (at_hart h step kept) ≡ set (list_map (λ (k : Kept). k.cache) kept) h (step (hart_at kept h)).cache
-caches-step kept h step = map-set (λ (k : Kept). k.cache) kept h (step (hart_at kept h))
+    list_map (λ (k : Kept). k.cache) (at_hart h step kept) ≡ set (list_map (λ (k : Kept). k.cache) kept) h (step (kept_at kept h)).cache
+caches-step kept h step = map-set (λ (k : Kept). k.cache) kept h (step (kept_at kept h))
 
 -- a step that leaves a hart's caches
-pub caches-still : (kept : List Kept) (h : ℕ) (step : Kept → Kept) → (step (hart_at kept h)).cache ≡ (hart_at kept h).cache →
+pub caches-still : (kept : List Kept) (h : ℕ) (step : Kept → Kept) → (step (kept_at kept h)).cache ≡ (kept_at kept h).cache →
     list_map (λ (k : Kept). k.cache) (at_hart h step kept) ≡ list_map (λ (k : Kept). k.cache) kept
 caches-still kept h step e =
     let cs = list_map (λ (k : Kept). k.cache) kept in
@@ -55,7 +55,7 @@ caches-left kept h =
 
 -- the state of parts in which the checker keeps another thing of hart h
 module _ (rest : Core) (p : Parts) (h : ℕ) where
-  pub core-kept : (step : Kept → Kept) → (step (hart_at p.harts h)).cache ≡ (hart_at p.harts h).cache →
+  pub core-kept : (step : Kept → Kept) → (step (kept_at p.harts h)).cache ≡ (kept_at p.harts h).cache →
       core_of rest (record p { harts = at_hart h step p.harts }) ≡ core_of rest p
   core-kept step e = ap (λ (cs : List Cache). record (core_of rest p) { caches = cs }) (caches-still p.harts h step e)
 

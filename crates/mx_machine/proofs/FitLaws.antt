@@ -2,8 +2,8 @@
 use Rattle.std.proofs.Common.{◌≡◌, ◌≢◌, ℕ, ◌<◌, ◌≤◌, ◌⊎◌, inl, inr, Bool, false, List, length, set, sym, ap, subst, ◌∙◌}
 use Rattle.std.proofs.lemmas.Bool.{cases_eq}
 use Rattle.std.proofs.lemmas.List.{get_or-set_same, get_or-set_other, length-set}
-use Rattle.mx_check.specs.Harts.{Kept, hart_at, at_hart}
-use Rattle.mx_check.specs.Harts.{no_hart as no_kept}
+use Rattle.mx_check.specs.Harts.{Kept, kept_at, at_hart}
+use Rattle.mx_check.specs.Harts.{nothing_kept}
 use Rattle.mx_supervisor.specs.Parts.{Parts, IsSound}
 use Rattle.mx_supervisor.specs.Served.{range_of}
 use Rattle.mx_supervisor.proofs.Answering.{sound-ram, with-harts}
@@ -25,8 +25,8 @@ pub record IsChange (m : Held) (h : ℕ) (x : Hart) (kept : List Kept) (ram : Li
   pub fits : Fits m
   pub there : h < length m.harts
   pub count : length kept ≡ length m.parts.harts
-  pub others : (i : ℕ) → i ≢ h → hart_at kept i ≡ hart_at m.parts.harts i
-  pub tied : IsTied (range_of m.parts) h x (hart_at kept h)
+  pub others : (i : ℕ) → i ≢ h → kept_at kept i ≡ kept_at m.parts.harts i
+  pub tied : IsTied (range_of m.parts) h x (kept_at kept h)
   pub bytes : length ram ≡ length m.parts.ram
   pub deads : length dead ≡ 64
   pub quiet : waiting ≡ false → (m.waiting ≡ false) × (is_waiting x.progress ≡ false)
@@ -46,12 +46,12 @@ fits-change m h x kept ram dead waiting c = record {
   quiet = λ w i. still w i (cases_eq i h);
 }
   where
-    tie : (i : ℕ) → (i ≡ h) ⊎ (i ≢ h) → IsTied (range_of m.parts) i (hart_among (set m.harts h x) i) (hart_at kept i)
+    tie : (i : ℕ) → (i ≡ h) ⊎ (i ≢ h) → IsTied (range_of m.parts) i (hart_among (set m.harts h x) i) (kept_at kept i)
     tie i (inl e) =
-        subst (λ j. IsTied (range_of m.parts) j (hart_among (set m.harts h x) j) (hart_at kept j)) (sym e)
-        (subst (λ (y : Hart). IsTied (range_of m.parts) h y (hart_at kept h)) (sym (get_or-set_same m.harts h x no_hart c.there)) c.tied)
+        subst (λ j. IsTied (range_of m.parts) j (hart_among (set m.harts h x) j) (kept_at kept j)) (sym e)
+        (subst (λ (y : Hart). IsTied (range_of m.parts) h y (kept_at kept h)) (sym (get_or-set_same m.harts h x no_hart c.there)) c.tied)
     tie i (inr ne) =
-        subst (λ (y : Hart). IsTied (range_of m.parts) i y (hart_at kept i)) (sym (get_or-set_other m.harts h i x no_hart ne))
+        subst (λ (y : Hart). IsTied (range_of m.parts) i y (kept_at kept i)) (sym (get_or-set_other m.harts h i x no_hart ne))
         (subst (λ (k : Kept). IsTied (range_of m.parts) i (hart_among m.harts i) k) (sym (c.others i ne)) (c.fits.ties i))
 
     still : waiting ≡ false → (i : ℕ) → (i ≡ h) ⊎ (i ≢ h) → is_waiting (hart_among (set m.harts h x) i).progress ≡ false
@@ -63,10 +63,10 @@ fits-change m h x kept ram dead waiting c = record {
 
 -- a step of the checker for hart h
 pub count-step : (kept : List Kept) (h : ℕ) (step : Kept → Kept) → length (at_hart h step kept) ≡ length kept
-count-step kept h step = length-set kept h (step (hart_at kept h))
+count-step kept h step = length-set kept h (step (kept_at kept h))
 
-pub own-step : (kept : List Kept) (h : ℕ) (step : Kept → Kept) → h < length kept → hart_at (at_hart h step kept) h ≡ step (hart_at kept h)
-own-step kept h step l = get_or-set_same kept h (step (hart_at kept h)) no_kept l
+pub own-step : (kept : List Kept) (h : ℕ) (step : Kept → Kept) → h < length kept → kept_at (at_hart h step kept) h ≡ step (kept_at kept h)
+own-step kept h step l = get_or-set_same kept h (step (kept_at kept h)) nothing_kept l
 
-pub others-step : (kept : List Kept) (h : ℕ) (step : Kept → Kept) (i : ℕ) → i ≢ h → hart_at (at_hart h step kept) i ≡ hart_at kept i
-others-step kept h step i ne = get_or-set_other kept h i (step (hart_at kept h)) no_kept ne
+pub others-step : (kept : List Kept) (h : ℕ) (step : Kept → Kept) (i : ℕ) → i ≢ h → kept_at (at_hart h step kept) i ≡ kept_at kept i
+others-step kept h step i ne = get_or-set_other kept h i (step (kept_at kept h)) nothing_kept ne

@@ -13,10 +13,10 @@ use Rattle.mx_check.specs.declared.flight.Flight.{Flight}
 use Rattle.mx_check.specs.Calls.{hears, ready_with, unheard, unheard_of}
 use Rattle.mx_check.specs.Calls.{is_ready as ready_kept}
 use Rattle.mx_check.specs.Conditions.{HasHeardAll, SameButCaches}
-use Rattle.mx_check.specs.Harts.{Kept, hart_at, at_hart, announced, marked}
+use Rattle.mx_check.specs.Harts.{Kept, kept_at, at_hart, announced, marked}
 use Rattle.mx_check.specs.Looks.{flight_forbids, hart_forbids, is_forbidden}
 use Rattle.mx_check.proofs.HearLaws.{hears_own, length-hears_first}
-use Rattle.mx_check.proofs.LookLaws.{all_below_agree, hart_at-other, hart_at-same, length-at_hart}
+use Rattle.mx_check.proofs.LookLaws.{all_below_agree, kept_at-other, kept_at-same, length-at_hart}
 use Rattle.mx_model.specs.declared.values.Call.{Call}
 use Rattle.mx_model.specs.Checks.{call_range, flight_range, heard_by, heard_ranges, is_ready, unheard_ranges}
 use Rattle.mx_model.specs.Checks.{hears as heard_in, is_halted as halted_by}
@@ -44,13 +44,13 @@ use mathlib.Core.Bool.{not-not}
 
 -- the other harts are tied
 abbrev pub OthersTied : Held → ℕ → Type 0
-OthersTied m h = (i : ℕ) → i ≢ h → IsTied (range_of m.parts) i (hart_among m.harts i) (hart_at m.parts.harts i)
+OthersTied m h = (i : ℕ) → i ≢ h → IsTied (range_of m.parts) i (hart_among m.harts i) (kept_at m.parts.harts i)
 
 -- where no call is in flight, hearing changes nothing, and all are heard
-pub heard-quiet : (kept : List Kept) (h : ℕ) → ((i : ℕ) → (hart_at kept i).flight ≡ None) → hears h kept ≡ kept
+pub heard-quiet : (kept : List Kept) (h : ℕ) → ((i : ℕ) → (kept_at kept i).flight ≡ None) → hears h kept ≡ kept
 heard-quiet kept h q = quiet-first kept h (length kept) q
 
-pub all-quiet : (kept : List Kept) (h : ℕ) → ((i : ℕ) → (hart_at kept i).flight ≡ None) → HasHeardAll h kept
+pub all-quiet : (kept : List Kept) (h : ℕ) → ((i : ℕ) → (kept_at kept i).flight ≡ None) → HasHeardAll h kept
 all-quiet kept h q i other = subst (λ (o : Option Flight). IfSome o (λ f. is_in f.heard h ≡ true)) (sym (q i)) tt
 
 -- the range that a choice takes of a call in flight
@@ -88,19 +88,19 @@ halted-seen call flight G.Waiting = refl
 halted-seen call flight (G.Halted code) = refl
 
 -- an equation of each hart of the state is one of each hart of the machine
-module _ {Y : Type 0} (f : ℕ → Seen → Y) (g : ℕ → Y) (xs : List Hart) (kept : List Kept) (each : (j : ℕ) → f j (seen j (hart_among xs j) (hart_at kept j)) ≡ g j) where
+module _ {Y : Type 0} (f : ℕ → Seen → Y) (g : ℕ → Y) (xs : List Hart) (kept : List Kept) (each : (j : ℕ) → f j (seen j (hart_among xs j) (kept_at kept j)) ≡ g j) where
   numbered : (j : ℕ) → f (0 + j) (get_or (seen_from 0 xs kept) j nobody_seen) ≡ g (0 + j)
   numbered j =
       ap (f (0 + j)) (hart-seen xs kept j)
-      ∙ ap (λ k. f k (seen j (hart_among xs j) (hart_at kept j))) (zero-add j) ∙ each j ∙ ap g (sym (zero-add j))
+      ∙ ap (λ k. f k (seen j (hart_among xs j) (kept_at kept j))) (zero-add j) ∙ each j ∙ ap g (sym (zero-add j))
 
 -- what a choice takes of another hart's call in flight
 module _ (m : Held) (h : ℕ) (choice : List Bool → ℕ × ℕ → Option (ℕ × ℕ)) where
-  taken-other : (j : ℕ) → IsTied (range_of m.parts) j (hart_among m.harts j) (hart_at m.parts.harts j) →
-      flight_range (core_in m) choice (seen j (hart_among m.harts j) (hart_at m.parts.harts j)).status ≡ taken choice (hart_at m.parts.harts j).flight
+  taken-other : (j : ℕ) → IsTied (range_of m.parts) j (hart_among m.harts j) (kept_at m.parts.harts j) →
+      flight_range (core_in m) choice (seen j (hart_among m.harts j) (kept_at m.parts.harts j)).status ≡ taken choice (kept_at m.parts.harts j).flight
   taken-other j t =
       let x = hart_among m.harts j in
-      let k = hart_at m.parts.harts j in
+      let k = kept_at m.parts.harts j in
       status-taken choice (core_in m) (own_call j x) (range_of m.parts (own_call j x)) k.flight x.progress (range-is (rest_of m) m.parts (own_call j x)) t.flight
 
 -- what hart h hasn't heard
@@ -109,18 +109,18 @@ unheard-taken h None = refl
 unheard-taken h (Some f) = refl
 
 unheard-alike : (m : Held) (h : ℕ) → OthersTied m h → (j : ℕ) →
-    cond (j == h) None (flight_range (core_in m) (unheard_range h) (seen j (hart_among m.harts j) (hart_at m.parts.harts j)).status) ≡ unheard h j m.parts.harts
+    cond (j == h) None (flight_range (core_in m) (unheard_range h) (seen j (hart_among m.harts j) (kept_at m.parts.harts j)).status) ≡ unheard h j m.parts.harts
 unheard-alike m h others j = by (cases_eq j h)
   where
     by : (j ≡ h) ⊎ (j ≢ h) →
-        cond (j == h) None (flight_range (core_in m) (unheard_range h) (seen j (hart_among m.harts j) (hart_at m.parts.harts j)).status) ≡ unheard h j m.parts.harts
+        cond (j == h) None (flight_range (core_in m) (unheard_range h) (seen j (hart_among m.harts j) (kept_at m.parts.harts j)).status) ≡ unheard h j m.parts.harts
     by (inl e) =
         let same : (j == h) ≡ true = eq-eqb j h e in
-        ap (λ b. cond b None (flight_range (core_in m) (unheard_range h) (seen j (hart_among m.harts j) (hart_at m.parts.harts j)).status)) same
-        ∙ sym (ap (λ b. cond b None (unheard_of h (hart_at m.parts.harts j).flight)) same)
+        ap (λ b. cond b None (flight_range (core_in m) (unheard_range h) (seen j (hart_among m.harts j) (kept_at m.parts.harts j)).status)) same
+        ∙ sym (ap (λ b. cond b None (unheard_of h (kept_at m.parts.harts j).flight)) same)
     by (inr ne) =
         ap (λ (o : Option (ℕ × ℕ)). cond (j == h) None o)
-        (taken-other m h (unheard_range h) j (others j ne) ∙ unheard-taken h (hart_at m.parts.harts j).flight)
+        (taken-other m h (unheard_range h) j (others j ne) ∙ unheard-taken h (kept_at m.parts.harts j).flight)
 
 -- what bars a span
 bars-taken : (h : ℕ) (s : Span) (o : Option Flight) → some_passes (λ (r : ℕ × ℕ). meets s r.0 r.1) (taken (heard_range h) o) ≡ flight_forbids h s o
@@ -132,50 +132,50 @@ bars-taken h s (Some f) = by (is_in f.heard h)
     by false = refl
 
 hart-bars : (m : Held) (h : ℕ) (s : Span) → OthersTied m h → (j : ℕ) →
-    some_passes (λ (r : ℕ × ℕ). meets s r.0 r.1) (cond (j == h) None (flight_range (core_in m) (heard_range h) (seen j (hart_among m.harts j) (hart_at m.parts.harts j)).status))
+    some_passes (λ (r : ℕ × ℕ). meets s r.0 r.1) (cond (j == h) None (flight_range (core_in m) (heard_range h) (seen j (hart_among m.harts j) (kept_at m.parts.harts j)).status))
     ≡ hart_forbids h s m.parts.harts j
 hart-bars m h s others j = by (cases_eq j h)
   where
     by : (j ≡ h) ⊎ (j ≢ h) →
-        some_passes (λ (r : ℕ × ℕ). meets s r.0 r.1) (cond (j == h) None (flight_range (core_in m) (heard_range h) (seen j (hart_among m.harts j) (hart_at m.parts.harts j)).status))
+        some_passes (λ (r : ℕ × ℕ). meets s r.0 r.1) (cond (j == h) None (flight_range (core_in m) (heard_range h) (seen j (hart_among m.harts j) (kept_at m.parts.harts j)).status))
         ≡ hart_forbids h s m.parts.harts j
     by (inl e) =
         let same : (j == h) ≡ true = eq-eqb j h e in
         ap (λ b. some_passes (λ (r : ℕ × ℕ). meets s r.0 r.1)
-        (cond b None (flight_range (core_in m) (heard_range h) (seen j (hart_among m.harts j) (hart_at m.parts.harts j)).status))) same
-        ∙ sym (ap (λ b. not b && flight_forbids h s (hart_at m.parts.harts j).flight) same)
+        (cond b None (flight_range (core_in m) (heard_range h) (seen j (hart_among m.harts j) (kept_at m.parts.harts j)).status))) same
+        ∙ sym (ap (λ b. not b && flight_forbids h s (kept_at m.parts.harts j).flight) same)
     by (inr ne) =
         let other : (j == h) ≡ false = ne_eqb j h ne in
         ap (λ b. some_passes (λ (r : ℕ × ℕ). meets s r.0 r.1)
-        (cond b None (flight_range (core_in m) (heard_range h) (seen j (hart_among m.harts j) (hart_at m.parts.harts j)).status))) other
+        (cond b None (flight_range (core_in m) (heard_range h) (seen j (hart_among m.harts j) (kept_at m.parts.harts j)).status))) other
         ∙ ap (λ (o : Option (ℕ × ℕ)). some_passes (λ (r : ℕ × ℕ). meets s r.0 r.1) o) (taken-other m h (heard_range h) j (others j ne))
-        ∙ bars-taken h s (hart_at m.parts.harts j).flight
-        ∙ sym (ap (λ b. not b && flight_forbids h s (hart_at m.parts.harts j).flight) other)
+        ∙ bars-taken h s (kept_at m.parts.harts j).flight
+        ∙ sym (ap (λ b. not b && flight_forbids h s (kept_at m.parts.harts j).flight) other)
 
 -- each hart of the state, once hart h has heard its call
 hart-hears : (m : Held) (h : ℕ) → Fits m → h < length m.harts → (j : ℕ) →
-    cond (j == h) (seen j (hart_among m.harts j) (hart_at m.parts.harts j))
-    (record (seen j (hart_among m.harts j) (hart_at m.parts.harts j)) { status = heard_by h (seen j (hart_among m.harts j) (hart_at m.parts.harts j)).status })
-    ≡ seen j (hart_among m.harts j) (hart_at (hears h m.parts.harts) j)
+    cond (j == h) (seen j (hart_among m.harts j) (kept_at m.parts.harts j))
+    (record (seen j (hart_among m.harts j) (kept_at m.parts.harts j)) { status = heard_by h (seen j (hart_among m.harts j) (kept_at m.parts.harts j)).status })
+    ≡ seen j (hart_among m.harts j) (kept_at (hears h m.parts.harts) j)
 hart-hears m h f there j = by (cases_eq j h)
   where
     by : (j ≡ h) ⊎ (j ≢ h) →
-        cond (j == h) (seen j (hart_among m.harts j) (hart_at m.parts.harts j))
-        (record (seen j (hart_among m.harts j) (hart_at m.parts.harts j)) { status = heard_by h (seen j (hart_among m.harts j) (hart_at m.parts.harts j)).status })
-        ≡ seen j (hart_among m.harts j) (hart_at (hears h m.parts.harts) j)
+        cond (j == h) (seen j (hart_among m.harts j) (kept_at m.parts.harts j))
+        (record (seen j (hart_among m.harts j) (kept_at m.parts.harts j)) { status = heard_by h (seen j (hart_among m.harts j) (kept_at m.parts.harts j)).status })
+        ≡ seen j (hart_among m.harts j) (kept_at (hears h m.parts.harts) j)
     by (inl e) =
         let x = hart_among m.harts j in
-        let k = hart_at m.parts.harts j in
+        let k = kept_at m.parts.harts j in
         let same : (j == h) ≡ true = eq-eqb j h e in
-        let own : (hart_at (hears h m.parts.harts) h).flight ≡ (hart_at m.parts.harts h).flight =
+        let own : (kept_at (hears h m.parts.harts) h).flight ≡ (kept_at m.parts.harts h).flight =
         (hears_own m.parts.harts h (omega (arith, there, f.count))).flight in
-        let flight : k.flight ≡ (hart_at (hears h m.parts.harts) j).flight =
-        subst (λ (n : ℕ). (hart_at m.parts.harts n).flight ≡ (hart_at (hears h m.parts.harts) n).flight) (sym e) (sym own) in
+        let flight : k.flight ≡ (kept_at (hears h m.parts.harts) j).flight =
+        subst (λ (n : ℕ). (kept_at m.parts.harts n).flight ≡ (kept_at (hears h m.parts.harts) n).flight) (sym e) (sym own) in
         ap (λ b. cond b (seen j x k) (record (seen j x k) { status = heard_by h (seen j x k).status })) same
         ∙ ap (λ (o : Option Flight). record (seen j x k) { status = status_by (own_call j x) o x.progress }) flight
     by (inr ne) =
         let x = hart_among m.harts j in
-        let k = hart_at m.parts.harts j in
+        let k = kept_at m.parts.harts j in
         let t = f.ties j in
         let other : (j == h) ≡ false = ne_eqb j h ne in
         ap (λ b. cond b (seen j x k) (record (seen j x k) { status = heard_by h (seen j x k).status })) other
@@ -186,17 +186,17 @@ hart-hears m h f there j = by (cases_eq j h)
 -- the harts of the state after an edit of each by its number
 module _ (edit : ℕ × Seen → Seen) (new : List Kept) where
   edited : (i : ℕ) (xs : List Hart) (kept : List Kept) →
-      ((j : ℕ) → edit (i + j, seen (i + j) (get_or xs j no_hart) (hart_at kept (i + j))) ≡ seen (i + j) (get_or xs j no_hart) (hart_at new (i + j))) →
+      ((j : ℕ) → edit (i + j, seen (i + j) (get_or xs j no_hart) (kept_at kept (i + j))) ≡ seen (i + j) (get_or xs j no_hart) (kept_at new (i + j))) →
       list_map edit (enumerate_from i (seen_from i xs kept)) ≡ seen_from i xs new
   edited i [] kept e = refl
   edited i (x ∷ xs) kept e =
       let n : i ≡ i + 0 = omega arith in
-      let first : edit (i, seen i x (hart_at kept i)) ≡ seen i x (hart_at new i) =
-      ap (λ k. edit (k, seen k x (hart_at kept k))) n ∙ e 0 ∙ ap (λ k. seen k x (hart_at new k)) (sym n) in
+      let first : edit (i, seen i x (kept_at kept i)) ≡ seen i x (kept_at new i) =
+      ap (λ k. edit (k, seen k x (kept_at kept k))) n ∙ e 0 ∙ ap (λ k. seen k x (kept_at new k)) (sym n) in
       ap (λ (y : Seen). y ∷ list_map edit (enumerate_from (i + 1) (seen_from (i + 1) xs kept))) first
-      ∙ ap (λ (ys : List Seen). seen i x (hart_at new i) ∷ ys) (edited (i + 1) xs kept (λ j.
+      ∙ ap (λ (ys : List Seen). seen i x (kept_at new i) ∷ ys) (edited (i + 1) xs kept (λ j.
       let q : (i + 1) + j ≡ i + suc j = omega arith in
-      ap (λ k. edit (k, seen k (get_or xs j no_hart) (hart_at kept k))) q ∙ e (suc j) ∙ ap (λ k. seen k (get_or xs j no_hart) (hart_at new k)) (sym q)))
+      ap (λ k. edit (k, seen k (get_or xs j no_hart) (kept_at kept k))) q ∙ e (suc j) ∙ ap (λ k. seen k (get_or xs j no_hart) (kept_at new k)) (sym q)))
 
 -- the modules don't depend on the harts
 modules-alike : (a b : Core) (d : ℕ) (heaps : List HeapState) → ((n : ℕ) → module_at a n ≡ module_at b n) → modules_from a d heaps ≡ modules_from b d heaps
@@ -214,11 +214,11 @@ module _ (m : Held) (h : ℕ) (f : Fits m) (there : h < length m.harts) where
   harts-heard : (heard_in h (core_in m)).harts ≡ seen_from 0 m.harts (hears h m.parts.harts)
   harts-heard =
       edited (λ (p : ℕ × Seen). cond (p.0 == h) p.1 (record p.1 { status = heard_by h p.1.status })) (hears h m.parts.harts) 0 m.harts m.parts.harts
-      (λ j. ap (λ k. cond (k == h) (seen k (hart_among m.harts j) (hart_at m.parts.harts k))
-      (record (seen k (hart_among m.harts j) (hart_at m.parts.harts k)) { status = heard_by h (seen k (hart_among m.harts j) (hart_at m.parts.harts k)).status }))
+      (λ j. ap (λ k. cond (k == h) (seen k (hart_among m.harts j) (kept_at m.parts.harts k))
+      (record (seen k (hart_among m.harts j) (kept_at m.parts.harts k)) { status = heard_by h (seen k (hart_among m.harts j) (kept_at m.parts.harts k)).status }))
       (zero-add j)
       ∙ hart-hears m h f there j
-      ∙ ap (λ k. seen k (hart_among m.harts j) (hart_at (hears h m.parts.harts) k)) (sym (zero-add j)))
+      ∙ ap (λ k. seen k (hart_among m.harts j) (kept_at (hears h m.parts.harts) k)) (sym (zero-add j)))
 
   ranges-heard : (c : Cache) →
       fold (λ cache (r : ℕ × ℕ). without_range r.0 r.1 cache) c (unheard_ranges (core_in m) h)
@@ -234,7 +234,7 @@ module _ (m : Held) (h : ℕ) (f : Fits m) (there : h < length m.harts) where
   caches-heard =
       let kept = m.parts.harts in
       caches-first kept h (omega (arith, there, f.count)) (length kept)
-      ∙ ap (λ (c : Cache). set (caches_of kept) h c) (sym (ranges-heard (hart_at kept h).cache))
+      ∙ ap (λ (c : Cache). set (caches_of kept) h c) (sym (ranges-heard (kept_at kept h).cache))
       ∙ ap (λ (c : Cache). set (caches_of kept) h (fold (λ cache (r : ℕ × ℕ). without_range r.0 r.1 cache) c (unheard_ranges (core_in m) h)))
       (sym (cache-kept kept h))
 
@@ -257,23 +257,23 @@ tied-still range i x now before halted domain flight t = record {
   domain = subst (λ (o : Option ℕ). IfSome o (λ d. d ≡ x.domain)) (sym domain) t.domain;
 }
 
-tied-heard : (m : Held) (h : ℕ) → Fits m → h < length m.harts → (i : ℕ) → IsTied (range_of m.parts) i (hart_among m.harts i) (hart_at (hears h m.parts.harts) i)
+tied-heard : (m : Held) (h : ℕ) → Fits m → h < length m.harts → (i : ℕ) → IsTied (range_of m.parts) i (hart_among m.harts i) (kept_at (hears h m.parts.harts) i)
 tied-heard m h f there i = by (cases_eq i h)
   where
-    by : (i ≡ h) ⊎ (i ≢ h) → IsTied (range_of m.parts) i (hart_among m.harts i) (hart_at (hears h m.parts.harts) i)
+    by : (i ≡ h) ⊎ (i ≢ h) → IsTied (range_of m.parts) i (hart_among m.harts i) (kept_at (hears h m.parts.harts) i)
     by (inl e) =
         let x = hart_among m.harts i in
-        let k = hart_at m.parts.harts i in
-        let own : SameButCaches (hart_at (hears h m.parts.harts) i) k =
-        subst (λ (n : ℕ). SameButCaches (hart_at (hears h m.parts.harts) n) (hart_at m.parts.harts n)) (sym e)
+        let k = kept_at m.parts.harts i in
+        let own : SameButCaches (kept_at (hears h m.parts.harts) i) k =
+        subst (λ (n : ℕ). SameButCaches (kept_at (hears h m.parts.harts) n) (kept_at m.parts.harts n)) (sym e)
         (hears_own m.parts.harts h (omega (arith, there, f.count))) in
-        tied-still (range_of m.parts) i x (hart_at (hears h m.parts.harts) i) k own.halted own.domain
+        tied-still (range_of m.parts) i x (kept_at (hears h m.parts.harts) i) k own.halted own.domain
         (subst (λ (o : Option Flight). FliesWhileWaiting (range_of m.parts (own_call i x)) o x.progress) (sym own.flight) (f.ties i).flight) (f.ties i)
     by (inr ne) =
         let x = hart_among m.harts i in
-        let k = hart_at m.parts.harts i in
-        let other : IsHeard h (hart_at (hears h m.parts.harts) i) k = heard-at m.parts.harts h i ne in
-        tied-still (range_of m.parts) i x (hart_at (hears h m.parts.harts) i) k other.halted other.domain
+        let k = kept_at m.parts.harts i in
+        let other : IsHeard h (kept_at (hears h m.parts.harts) i) k = heard-at m.parts.harts h i ne in
+        tied-still (range_of m.parts) i x (kept_at (hears h m.parts.harts) i) k other.halted other.domain
         (subst (λ (o : Option Flight). FliesWhileWaiting (range_of m.parts (own_call i x)) o x.progress) (sym other.flight)
         (flies-heard h (range_of m.parts (own_call i x)) k.flight x.progress (f.ties i).flight)) (f.ties i)
 
@@ -290,22 +290,22 @@ fits-heard m h f there = record {
 
 -- whether a call that these harts have heard may take effect
 ready-counted : (m : Held) (h : ℕ) (heard : List Bool) → Fits m →
-    is_ready (core_in m) h heard ≡ all_below (length m.parts.harts) (λ i. lets_pass h heard i (hart_at m.parts.harts i).halted)
+    is_ready (core_in m) h heard ≡ all_below (length m.parts.harts) (λ i. lets_pass h heard i (kept_at m.parts.harts i).halted)
 unfolding all_below
 ready-counted m h heard f =
-    let low : ℕ → Bool = λ i. lets_pass h heard i (hart_at m.parts.harts i).halted in
+    let low : ℕ → Bool = λ i. lets_pass h heard i (kept_at m.parts.harts i).halted in
     sym (all-numbered (λ (p : ℕ × Seen). lets_pass h heard p.0 (halted_by p.1.status)) low nobody_seen 0 (seen_from 0 m.harts m.parts.harts)
     (numbered (λ k (x : Seen). lets_pass h heard k (halted_by x.status)) low m.harts m.parts.harts
     (λ j. ap (λ b. lets_pass h heard j b)
-    (halted-seen (own_call j (hart_among m.harts j)) (hart_at m.parts.harts j).flight (hart_among m.harts j).progress ∙ sym (f.ties j).halted))))
+    (halted-seen (own_call j (hart_among m.harts j)) (kept_at m.parts.harts j).flight (hart_among m.harts j).progress ∙ sym (f.ties j).halted))))
     ∙ ap (λ n. all_below n low) (as-many m f.count)
 
 -- a waiting hart's call may take effect in both or in neither
 pub ready-alike : (m : Held) (h : ℕ) → Fits m → h < length m.harts → (hart_among m.harts h).progress ≡ G.Waiting →
-    is_ready (core_in m) h (hearers (hart_at m.parts.harts h).flight) ≡ ready_kept h m.parts.harts
+    is_ready (core_in m) h (hearers (kept_at m.parts.harts h).flight) ≡ ready_kept h m.parts.harts
 ready-alike m h f there w =
-    by (hart_at m.parts.harts h).flight
-    (subst (λ (p : Progress). FliesWhileWaiting (range_of m.parts (own_call h (hart_among m.harts h))) (hart_at m.parts.harts h).flight p) w (f.ties h).flight)
+    by (kept_at m.parts.harts h).flight
+    (subst (λ (p : Progress). FliesWhileWaiting (range_of m.parts (own_call h (hart_among m.harts h))) (kept_at m.parts.harts h).flight p) w (f.ties h).flight)
   where
     by : (o : Option Flight) → IsFlying (range_of m.parts (own_call h (hart_among m.harts h))) o → is_ready (core_in m) h (hearers o) ≡ ready_with h o m.parts.harts
     by None t = absurd t
@@ -313,13 +313,13 @@ ready-alike m h f there w =
 
 -- a hart counts as halted as before it announced a call
 halted-still : (kept : List Kept) (h first count i : ℕ) → h < length kept →
-    (hart_at (at_hart h (announced h first count) kept) i).halted ≡ (hart_at kept i).halted
+    (kept_at (at_hart h (announced h first count) kept) i).halted ≡ (kept_at kept i).halted
 halted-still kept h first count i there = by (cases_eq i h)
   where
-    by : (i ≡ h) ⊎ (i ≢ h) → (hart_at (at_hart h (announced h first count) kept) i).halted ≡ (hart_at kept i).halted
-    by (inl e) = subst (λ (n : ℕ). (hart_at (at_hart h (announced h first count) kept) n).halted ≡ (hart_at kept n).halted) (sym e)
-        (ap (λ (k : Kept). k.halted) (hart_at-same kept h (announced h first count) there))
-    by (inr ne) = ap (λ (k : Kept). k.halted) (hart_at-other kept h (announced h first count) i ne)
+    by : (i ≡ h) ⊎ (i ≢ h) → (kept_at (at_hart h (announced h first count) kept) i).halted ≡ (kept_at kept i).halted
+    by (inl e) = subst (λ (n : ℕ). (kept_at (at_hart h (announced h first count) kept) n).halted ≡ (kept_at kept n).halted) (sym e)
+        (ap (λ (k : Kept). k.halted) (kept_at-same kept h (announced h first count) there))
+    by (inr ne) = ap (λ (k : Kept). k.halted) (kept_at-other kept h (announced h first count) i ne)
 
 -- and so may a call that is just announced
 pub ready-now : (m : Held) (h first count : ℕ) → Fits m → h < length m.harts →
@@ -329,10 +329,10 @@ ready-now m h first count f there =
     let long : h < length kept = omega (arith, there, f.count) in
     let new = at_hart h (announced h first count) kept in
     ready-counted m h nobody f
-    ∙ all_below_agree (length kept) (λ i. lets_pass h nobody i (hart_at kept i).halted) (λ i. lets_pass h nobody i (hart_at new i).halted)
+    ∙ all_below_agree (length kept) (λ i. lets_pass h nobody i (kept_at kept i).halted) (λ i. lets_pass h nobody i (kept_at new i).halted)
     (λ i lt. ap (λ b. lets_pass h nobody i b) (sym (halted-still kept h first count i long)))
-    ∙ ap (λ n. all_below n (λ i. lets_pass h nobody i (hart_at new i).halted)) (sym (length-at_hart kept h (announced h first count)))
-    ∙ ap (λ (o : Option Flight). ready_with h o new) (ap (λ (k : Kept). k.flight) (sym (hart_at-same kept h (announced h first count) long)))
+    ∙ ap (λ n. all_below n (λ i. lets_pass h nobody i (kept_at new i).halted)) (sym (length-at_hart kept h (announced h first count)))
+    ∙ ap (λ (o : Option Flight). ready_with h o new) (ap (λ (k : Kept). k.flight) (sym (kept_at-same kept h (announced h first count) long)))
 
 -- the calls that keep hart h from keeping a span are the same in both
 bars-at : (m : Held) (h : ℕ) (s : Span) → length m.harts ≡ length m.parts.harts → OthersTied m h →

@@ -10,9 +10,9 @@ use Rattle.mx_words.specs.Caches.{Cache, no_cache, without_range}
 use Rattle.mx_words.specs.Hearing.{is_in}
 use Rattle.mx_check.specs.declared.flight.Flight.{Flight}
 use Rattle.mx_check.specs.Calls.{unheard_of, unheard, hears_range, hears_one, hears_first, hears}
-use Rattle.mx_check.specs.Harts.{Kept, no_hart, hart_at, at_hart, marked, heard_by, drops}
+use Rattle.mx_check.specs.Harts.{Kept, nothing_kept, kept_at, at_hart, marked, heard_by, drops_range}
 use Rattle.mx_check.proofs.HearLaws.{length-hears_first}
-use Rattle.mx_check.proofs.LookLaws.{length-at_hart, hart_at-same, hart_at-other}
+use Rattle.mx_check.proofs.LookLaws.{length-at_hart, kept_at-same, kept_at-other}
 
 -- another hart after hart h has heard its call
 pub record IsHeard (h : ℕ) (now before : Kept) : Type 0 where
@@ -42,27 +42,27 @@ marked-none h (Some f) e = by (is_in f.heard h) refl e
     by true is e = ap (λ (f : Flight). Some f) (marked-again h f is)
     by false is e = cc
 
-unheard-none : (h n : ℕ) (harts : List Kept) → n ≢ h → unheard h n harts ≡ None → unheard_of h (hart_at harts n).flight ≡ None
-unheard-none h n harts apart e = sym (ap (λ b. cond b None (unheard_of h (hart_at harts n).flight)) (ne_eqb n h apart)) ∙ e
+unheard-none : (h n : ℕ) (harts : List Kept) → n ≢ h → unheard h n harts ≡ None → unheard_of h (kept_at harts n).flight ≡ None
+unheard-none h n harts apart e = sym (ap (λ b. cond b None (unheard_of h (kept_at harts n).flight)) (ne_eqb n h apart)) ∙ e
 
 -- one call is heard
 module _ (harts : List Kept) (h n : ℕ) (apart : n ≢ h) (other : n < length harts) where
-  heard-range : (o : Option (ℕ × ℕ)) → unheard h n harts ≡ o → IsHeard h (hart_at (hears_range h n o harts) n) (hart_at harts n)
+  heard-range : (o : Option (ℕ × ℕ)) → unheard h n harts ≡ o → IsHeard h (kept_at (hears_range h n o harts) n) (kept_at harts n)
   heard-range None e =
-      record { cache = refl; halted = refl; domain = refl; flight = sym (marked-none h (hart_at harts n).flight (unheard-none h n harts apart e)) }
+      record { cache = refl; halted = refl; domain = refl; flight = sym (marked-none h (kept_at harts n).flight (unheard-none h n harts apart e)) }
   heard-range (Some r) e =
-      let dropped = at_hart h (drops r.0 r.1) harts in
-      heard-is h _ (hart_at harts n)
-      (hart_at-same dropped n (heard_by h) (omega (arith, other, length-at_hart harts h (drops r.0 r.1)))
-      ∙ ap (heard_by h) (hart_at-other harts h (drops r.0 r.1) n apart))
+      let dropped = at_hart h (drops_range r.0 r.1) harts in
+      heard-is h _ (kept_at harts n)
+      (kept_at-same dropped n (heard_by h) (omega (arith, other, length-at_hart harts h (drops_range r.0 r.1)))
+      ∙ ap (heard_by h) (kept_at-other harts h (drops_range r.0 r.1) n apart))
 
 -- the others' stay
-still-range : (harts : List Kept) (h n : ℕ) (o : Option (ℕ × ℕ)) (i : ℕ) → i ≢ n → i ≢ h → hart_at (hears_range h n o harts) i ≡ hart_at harts i
+still-range : (harts : List Kept) (h n : ℕ) (o : Option (ℕ × ℕ)) (i : ℕ) → i ≢ n → i ≢ h → kept_at (hears_range h n o harts) i ≡ kept_at harts i
 still-range harts h n None i other apart = refl
 still-range harts h n (Some r) i other apart =
-    hart_at-other (at_hart h (drops r.0 r.1) harts) n (heard_by h) i other ∙ hart_at-other harts h (drops r.0 r.1) i apart
+    kept_at-other (at_hart h (drops_range r.0 r.1) harts) n (heard_by h) i other ∙ kept_at-other harts h (drops_range r.0 r.1) i apart
 
-still-first : (harts : List Kept) (h n i : ℕ) → n ≤ i → i ≢ h → hart_at (hears_first h n harts) i ≡ hart_at harts i
+still-first : (harts : List Kept) (h n i : ℕ) → n ≤ i → i ≢ h → kept_at (hears_first h n harts) i ≡ kept_at harts i
 still-first harts h zero i le apart = refl
 still-first harts h (suc n) i le apart =
     let other : i ≢ n = λ e. absurd (omega (arith, e, le)) in
@@ -75,7 +75,7 @@ heard-joined h a b c p e = subst (λ (k : Kept). IsHeard h a k) e p
 heard-before : (h : ℕ) (a b c : Kept) → a ≡ b → IsHeard h b c → IsHeard h a c
 heard-before h a b c e p = subst (λ (k : Kept). IsHeard h k c) (sym e) p
 
-heard-first : (harts : List Kept) (h n i : ℕ) → n ≤ length harts → i < n → i ≢ h → IsHeard h (hart_at (hears_first h n harts) i) (hart_at harts i)
+heard-first : (harts : List Kept) (h n i : ℕ) → n ≤ length harts → i < n → i ≢ h → IsHeard h (kept_at (hears_first h n harts) i) (kept_at harts i)
 heard-first harts h zero i most lt apart = absurd (omega (arith, lt))
 heard-first harts h (suc n) i most lt apart = by (heard-first harts h n i (omega (arith, most))) (cases_eq i n)
   where
@@ -85,38 +85,38 @@ heard-first harts h (suc n) i most lt apart = by (heard-first harts h n i (omega
     long : length (hears_first h n harts) ≡ length harts
     long = length-hears_first h n harts
 
-    by : (i < n → i ≢ h → IsHeard h (hart_at (hears_first h n harts) i) (hart_at harts i)) → (i ≡ n) ⊎ (i ≢ n) →
-        IsHeard h (hart_at (hears_one h n (hears_first h n harts)) i) (hart_at harts i)
+    by : (i < n → i ≢ h → IsHeard h (kept_at (hears_first h n harts) i) (kept_at harts i)) → (i ≡ n) ⊎ (i ≢ n) →
+        IsHeard h (kept_at (hears_one h n (hears_first h n harts)) i) (kept_at harts i)
     by rest (inl e) =
         let apart : n ≢ h = λ x. apart (e ∙ x) in
-        subst (λ (m : ℕ). IsHeard h (hart_at (hears_one h n (hears_first h n harts)) m) (hart_at harts m)) (sym e)
-        (heard-joined h _ (hart_at (hears_first h n harts) n) (hart_at harts n)
+        subst (λ (m : ℕ). IsHeard h (kept_at (hears_one h n (hears_first h n harts)) m) (kept_at harts m)) (sym e)
+        (heard-joined h _ (kept_at (hears_first h n harts) n) (kept_at harts n)
         (heard-range (hears_first h n harts) h n apart (omega (arith, long, most)) (unheard h n (hears_first h n harts)) refl)
         (still-first harts h n n (omega arith) apart))
     by rest (inr other) =
-        heard-before h _ (hart_at (hears_first h n harts) i) (hart_at harts i)
+        heard-before h _ (kept_at (hears_first h n harts) i) (kept_at harts i)
         (still-range (hears_first h n harts) h n (unheard h n (hears_first h n harts)) i other apart)
         (rest (omega (arith, lt, other)) apart)
 
 -- each other hart's call is heard
-heard-past : (h : ℕ) (k : Kept) → k ≡ no_hart → IsHeard h k k
+heard-past : (h : ℕ) (k : Kept) → k ≡ nothing_kept → IsHeard h k k
 heard-past h k e = subst (λ (x : Kept). IsHeard h x x) (sym e) (record { cache = refl; halted = refl; domain = refl; flight = refl })
 
-pub heard-at : (harts : List Kept) (h i : ℕ) → i ≢ h → IsHeard h (hart_at (hears h harts) i) (hart_at harts i)
+pub heard-at : (harts : List Kept) (h i : ℕ) → i ≢ h → IsHeard h (kept_at (hears h harts) i) (kept_at harts i)
 heard-at harts h i apart = by (cases_lt i (length harts))
   where
-    by : (i < length harts) ⊎ (length harts ≤ i) → IsHeard h (hart_at (hears h harts) i) (hart_at harts i)
+    by : (i < length harts) ⊎ (length harts ≤ i) → IsHeard h (kept_at (hears h harts) i) (kept_at harts i)
     by (inl lt) = heard-first harts h (length harts) i (omega arith) lt apart
     by (inr le) =
-        heard-before h _ (hart_at harts i) (hart_at harts i) (still-first harts h (length harts) i le apart)
-        (heard-past h (hart_at harts i) (get_or_past harts i no_hart le))
+        heard-before h _ (kept_at harts i) (kept_at harts i) (still-first harts h (length harts) i le apart)
+        (heard-past h (kept_at harts i) (get_or_past harts i nothing_kept le))
 
 -- the caches of all harts
 abbrev pub caches_of : List Kept → List Cache
 caches_of harts = list_map (λ (k : Kept). k.cache) harts
 
-pub cache-kept : (harts : List Kept) (h : ℕ) → get_or (caches_of harts) h no_cache ≡ (hart_at harts h).cache
-cache-kept harts h = get_or-map (λ (k : Kept). k.cache) harts h no_hart
+pub cache-kept : (harts : List Kept) (h : ℕ) → get_or (caches_of harts) h no_cache ≡ (kept_at harts h).cache
+cache-kept harts h = get_or-map (λ (k : Kept). k.cache) harts h nothing_kept
 
 -- a cache without the spans of a range, where there is one; and after the first n ranges
 abbrev pub without_one : Option (ℕ × ℕ) → Cache → Cache
@@ -128,13 +128,13 @@ without_first range zero c = c
 without_first range (suc n) c = without_one (range n) (without_first range n c)
 
 caches-range : (harts : List Kept) (h n : ℕ) (o : Option (ℕ × ℕ)) →
-    caches_of (hears_range h n o harts) ≡ set (caches_of harts) h (without_one o (hart_at harts h).cache)
+    caches_of (hears_range h n o harts) ≡ set (caches_of harts) h (without_one o (kept_at harts h).cache)
 caches-range harts h n None =
-    sym (ap (λ (hs : List Kept). caches_of hs) (set-get_or harts h no_hart)) ∙ map-set (λ (k : Kept). k.cache) harts h (hart_at harts h)
+    sym (ap (λ (hs : List Kept). caches_of hs) (set-get_or harts h nothing_kept)) ∙ map-set (λ (k : Kept). k.cache) harts h (kept_at harts h)
 caches-range harts h n (Some r) =
-    let dropped = at_hart h (drops r.0 r.1) harts in
-    map-set_same (λ (k : Kept). k.cache) dropped n (heard_by h (hart_at dropped n)) no_hart refl
-    ∙ map-set (λ (k : Kept). k.cache) harts h (drops r.0 r.1 (hart_at harts h))
+    let dropped = at_hart h (drops_range r.0 r.1) harts in
+    map-set_same (λ (k : Kept). k.cache) dropped n (heard_by h (kept_at dropped n)) nothing_kept refl
+    ∙ map-set (λ (k : Kept). k.cache) harts h (drops_range r.0 r.1 (kept_at harts h))
 
 -- what is unheard doesn't depend on the calls heard before
 unheard-first : (harts : List Kept) (h n : ℕ) → unheard h n (hears_first h n harts) ≡ unheard h n harts
@@ -143,37 +143,37 @@ unheard-first harts h n = by (cases_eq n h)
     by : (n ≡ h) ⊎ (n ≢ h) → unheard h n (hears_first h n harts) ≡ unheard h n harts
     by (inl e) =
         let same : (n == h) ≡ true = eq-eqb n h e in
-        ap (λ b. cond b None (unheard_of h (hart_at (hears_first h n harts) n).flight)) same
-        ∙ sym (ap (λ b. cond b None (unheard_of h (hart_at harts n).flight)) same)
+        ap (λ b. cond b None (unheard_of h (kept_at (hears_first h n harts) n).flight)) same
+        ∙ sym (ap (λ b. cond b None (unheard_of h (kept_at harts n).flight)) same)
     by (inr ne) = ap (λ (k : Kept). cond (n == h) None (unheard_of h k.flight)) (still-first harts h n n (omega arith) ne)
 
 module _ (harts : List Kept) (h : ℕ) (there : h < length harts) where
   -- hart h drops what it hears of, and no other hart's caches change
   pub caches-first : (n : ℕ) →
-      caches_of (hears_first h n harts) ≡ set (caches_of harts) h (without_first (λ i. unheard h i harts) n (hart_at harts h).cache)
+      caches_of (hears_first h n harts) ≡ set (caches_of harts) h (without_first (λ i. unheard h i harts) n (kept_at harts h).cache)
   caches-first zero =
-      sym (ap (λ (hs : List Kept). caches_of hs) (set-get_or harts h no_hart)) ∙ map-set (λ (k : Kept). k.cache) harts h (hart_at harts h)
+      sym (ap (λ (hs : List Kept). caches_of hs) (set-get_or harts h nothing_kept)) ∙ map-set (λ (k : Kept). k.cache) harts h (kept_at harts h)
   caches-first (suc n) =
       let before = hears_first h n harts in
-      let c = without_first (λ i. unheard h i harts) n (hart_at harts h).cache in
+      let c = without_first (λ i. unheard h i harts) n (kept_at harts h).cache in
       let long : h < length (caches_of harts) = omega (arith, there, length-map harts (λ (k : Kept). k.cache)) in
-      let own : (hart_at before h).cache ≡ c =
+      let own : (kept_at before h).cache ≡ c =
       sym (cache-kept before h) ∙ ap (λ (cs : List Cache). get_or cs h no_cache) (caches-first n) ∙ get_or-set_same (caches_of harts) h c no_cache long in
       caches-range before h n (unheard h n before)
-      ∙ ap (λ (cs : List Cache). set cs h (without_one (unheard h n before) (hart_at before h).cache)) (caches-first n)
-      ∙ set-set (caches_of harts) h c (without_one (unheard h n before) (hart_at before h).cache)
+      ∙ ap (λ (cs : List Cache). set cs h (without_one (unheard h n before) (kept_at before h).cache)) (caches-first n)
+      ∙ set-set (caches_of harts) h c (without_one (unheard h n before) (kept_at before h).cache)
       ∙ ap (λ (x : Cache). set (caches_of harts) h (without_one (unheard h n before) x)) own
       ∙ ap (λ (o : Option (ℕ × ℕ)). set (caches_of harts) h (without_one o c)) (unheard-first harts h n)
 
 -- where no call is in flight, nothing is heard
-unheard-quiet : (harts : List Kept) (h n : ℕ) → (hart_at harts n).flight ≡ None → unheard h n harts ≡ None
+unheard-quiet : (harts : List Kept) (h n : ℕ) → (kept_at harts n).flight ≡ None → unheard h n harts ≡ None
 unheard-quiet harts h n q = ap (λ o. cond (n == h) None (unheard_of h o)) q ∙ by (n == h)
   where
     by : (b : Bool) → cond {A = Option (ℕ × ℕ)} b None None ≡ None
     by true = refl
     by false = refl
 
-pub quiet-first : (harts : List Kept) (h n : ℕ) → ((i : ℕ) → (hart_at harts i).flight ≡ None) → hears_first h n harts ≡ harts
+pub quiet-first : (harts : List Kept) (h n : ℕ) → ((i : ℕ) → (kept_at harts i).flight ≡ None) → hears_first h n harts ≡ harts
 quiet-first harts h zero q = refl
 quiet-first harts h (suc n) q =
     ap (λ (hs : List Kept). hears_one h n hs) (quiet-first harts h n q) ∙ ap (λ (o : Option (ℕ × ℕ)). hears_range h n o harts) (unheard-quiet harts h n (q n))

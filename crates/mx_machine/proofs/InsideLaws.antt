@@ -2,7 +2,7 @@
 use Rattle.std.proofs.Common.{◌≡◌, ℕ, false, List, refl, sym, ap, subst, ◌∙◌}
 use Rattle.mx_check.specs.Conditions.{HasHeardAll, IsAtHand}
 use Rattle.mx_check.specs.Harts.{Kept}
-use Rattle.mx_check.specs.Harts.{hart_at as kept_at}
+use Rattle.mx_check.specs.Harts.{kept_at}
 use Rattle.mx_model.specs.Turn.{is_return_at}
 use Rattle.mx_model.specs.Valid.{IsValid}
 use Rattle.mx_machine.specs.declared.hart.Progress.TheVariants as P

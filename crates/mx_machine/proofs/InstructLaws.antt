@@ -7,7 +7,7 @@ use Rattle.mx_words.specs.declared.perm.Access.TheVariants as A
 use Rattle.mx_words.specs.Caches.{Cache}
 use Rattle.mx_words.specs.Hearing.{is_in}
 use Rattle.mx_table.specs.Tables.{map_of, IsDomain}
-use Rattle.mx_check.specs.Harts.{Kept, hart_at}
+use Rattle.mx_check.specs.Harts.{Kept, kept_at}
 use Rattle.mx_core.specs.declared.outcome.Outcome.{Outcome}
 use Rattle.mx_core.specs.declared.outcome.Outcome.TheVariants as O
 use Rattle.mx_core.specs.Bus.{denied, load_at, store_at}
@@ -19,7 +19,7 @@ use Rattle.mx_model.specs.Checks.{Look, looked_all}
 use Rattle.mx_model.specs.Effect.{Effect, Goes, Faults, Loads, Stores, Calls, Jumps, load_size, loaded, next, written}
 use Rattle.mx_model.specs.Events.{Events, no_events}
 use Rattle.mx_model.specs.State.{Core, Running, with_hart}
-use Rattle.mx_model.specs.State.{hart_at as hart_at_seen}
+use Rattle.mx_model.specs.State.{kept_at as hart_at_seen}
 use Rattle.mx_model.specs.State.{no_hart as nobody_seen}
 use Rattle.mx_model.specs.State.{Hart as Seen}
 use Rattle.mx_model.specs.Turn.{Action, acted, is_return_at, runs_at}
@@ -45,7 +45,7 @@ use Rattle.mx_machine.proofs.LookLaws.{StayTied, looks-core, stay-all}
 pub seen-running : (m : Held) (h : ℕ) → MayRun m h → hart_in m h ≡ seen_with Running (hart_among m.harts h)
 seen-running m h r =
     let x = hart_among m.harts h in
-    hart-in m h ∙ ap (λ (p : Progress). seen_with (status_by (own_call h x) (hart_at m.parts.harts h).flight p) x) r.runs
+    hart-in m h ∙ ap (λ (p : Progress). seen_with (status_by (own_call h x) (kept_at m.parts.harts h).flight p) x) r.runs
 
 -- RAM keeps its length
 bytes-count : (perm : ℕ → Perm) (bytes : List ℕ) (e : Effect) → length (bytes_after perm bytes e) ≡ length bytes
@@ -109,7 +109,7 @@ module _ (m : Held) (h : ℕ) (returns : Bool) (r : MayRun m h) where
         others = s.others;
         tied = record {
           halted = s.halted ∙ (r.act.fits.ties h).halted;
-          flight = subst (λ (p : Progress). FliesWhileWaiting (range_of m.parts (own_call h y)) (hart_at kept h).flight p) (sym r.runs) (s.flight ∙ running-free m h r);
+          flight = subst (λ (p : Progress). FliesWhileWaiting (range_of m.parts (own_call h y)) (kept_at kept h).flight p) (sym r.runs) (s.flight ∙ running-free m h r);
           domain = s.domain;
         };
         bytes = bytes-count (perm_for m x) m.parts.ram (effect_for m x);
@@ -169,7 +169,7 @@ module _ (m : Held) (h : ℕ) (returns : Bool) (r : MayRun m h) (whole : length 
       ∙ ap (λ (b : Bool). acted q behind_looks h s (action_of h s (regs_after (perm_for m x) m.parts.ram x.regs x.pc b (effect_for m x)) (outcome_of (perm_for m x) x.pc b (effect_for m x)))) at-running
 
   after-core : core_in (after_instruction h returns m)
-      ≡ with_hart h (seen h (instructed regs_now (outcome_for m h returns) (hart_among m.harts h)) (hart_at (after_instruction h returns m).parts.harts h)) behind_looks
+      ≡ with_hart h (seen h (instructed regs_now (outcome_for m h returns) (hart_among m.harts h)) (kept_at (after_instruction h returns m).parts.harts h)) behind_looks
   after-core =
       let x = hart_among m.harts h in
       let y = instructed regs_now (outcome_for m h returns) x in
@@ -178,13 +178,13 @@ module _ (m : Held) (h : ℕ) (returns : Bool) (r : MayRun m h) (whole : length 
       let looked_at_all = looks-core (rest_of m) m.parts h x.domain r.act.domain whole (fetch_touch x.pc ∷ touches_of (effect_for m x)) m.parts.harts
       (bars-alike m h r.act.fits.count (λ i ne. r.act.fits.ties i)).at in
       core-step m h y p (λ i ne. ap (λ (k : Kept). k.flight) (s.others i ne))
-      ∙ ap (λ (cs : List Cache). with_hart h (seen h y (hart_at p.harts h)) (record (core_in m) { ram = p.ram; caches = cs })) (ap (λ (c : Core). c.caches) looked_at_all)
+      ∙ ap (λ (cs : List Cache). with_hart h (seen h y (kept_at p.harts h)) (record (core_in m) { ram = p.ram; caches = cs })) (ap (λ (c : Core). c.caches) looked_at_all)
 
   -- it goes on
   pub made-next : (pc : ℕ) → outcome_for m h returns ≡ O.Next pc → IsMade m (after_instruction h returns m) no_events T.Ran (instruction m h)
   made-next pc e =
       let x = hart_among m.harts h in
-      let k = hart_at (after_instruction h returns m).parts.harts h in
+      let k = kept_at (after_instruction h returns m).parts.harts h in
       let y = instructed regs_now (O.Next pc) x in
       let end = acted (reads_of m) behind_looks h running_hart (action_of h running_hart regs_now (O.Next pc)) in
       let core : core_in (after_instruction h returns m) ≡ end.core = after-core
@@ -198,7 +198,7 @@ module _ (m : Held) (h : ℕ) (returns : Bool) (r : MayRun m h) (whole : length 
   core-stopped : Stops (outcome_for m h returns) → core_in (after_instruction h returns m) ≡ behind_looks
   core-stopped st =
       let x = hart_among m.harts h in
-      let k = hart_at (after_instruction h returns m).parts.harts h in
+      let k = kept_at (after_instruction h returns m).parts.harts h in
       let still : instructed regs_now (outcome_for m h returns) x ≡ x =
       ap (λ (regs : List ℕ). instructed regs (outcome_for m h returns) x) (regs-still (perm_for m x) m.parts.ram x.regs x.pc returns (effect_for m x) st)
       ∙ ap (λ (pc : ℕ). record x { pc = pc }) (pc-still (outcome_for m h returns) x.pc st) in

@@ -1,7 +1,7 @@
 -- What a turn was: an instruction is carried out only by a hart that runs in a live domain, and not at a call gate, by a return, a call or a fault.
 use Rattle.std.proofs.Common.{◌≡◌, ◌≢◌, ℕ, zero, suc, ◌<◌, ◌%◌, Bool, true, false, not, ◌==◌, nat_le, length, get_or, refl, sym, ap, ◌∙◌, arith, if◌then◌else◌, Option, Some, None}
 use Rattle.std.specs.Option.{option_map_or}
-use Rattle.mx_check.specs.Harts.{hart_at as kept_at}
+use Rattle.mx_check.specs.Harts.{kept_at}
 use Rattle.mx_model.specs.declared.values.Call.{Call}
 use Rattle.mx_model.specs.declared.values.Frame.{Frame}
 use Rattle.mx_model.specs.declared.values.TurnKind.TheVariants as T

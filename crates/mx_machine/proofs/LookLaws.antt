@@ -11,9 +11,9 @@ use Rattle.mx_words.specs.Caches.{Cache, checked, meets, no_cache}
 use Rattle.mx_words.specs.Ranges.{word_of}
 use Rattle.mx_words.specs.Reach.{span}
 use Rattle.mx_table.specs.Tables.{map_of, IsDomain}
-use Rattle.mx_check.specs.Harts.{Kept, hart_at}
+use Rattle.mx_check.specs.Harts.{Kept, kept_at}
 use Rattle.mx_check.specs.Looks.{is_forbidden, looked_at, looks, with_domain}
-use Rattle.mx_check.specs.Looks.{looked as looked_kept}
+use Rattle.mx_check.specs.Looks.{looked_at_address}
 use Rattle.mx_check.proofs.LookLaws.{is_forbidden-same}
 use Rattle.mx_core.specs.Bus.{Touch}
 use Rattle.mx_core.specs.Exec.{looks_of}
@@ -39,7 +39,7 @@ module _ (rest : Core) (p : Parts) (h d : ℕ) (dom : IsDomain p.maps d) (whole 
 
   -- one check of an address
   abbrev pub checks : ℕ → ℕ → List Kept → List Kept
-  checks place address kept = looked_kept p.buffer p.kind (map_of p.maps d) h place d address kept
+  checks place address kept = looked_at_address p.buffer p.kind (map_of p.maps d) h place d address kept
 
   at-word : (kept : List Kept) (place : ℕ) (o : Option ℕ) → Bars kept →
       keeping (looked_at p.buffer p.kind (map_of p.maps d) h place d o kept)
@@ -88,10 +88,10 @@ module _ (rest : Core) (p : Parts) (h d : ℕ) (dom : IsDomain p.maps d) (whole 
 -- what checks keep of the harts
 pub record StayTied (h d : ℕ) (old new : List Kept) : Type 0 where
   pub count : length new ≡ length old
-  pub others : (i : ℕ) → i ≢ h → hart_at new i ≡ hart_at old i
-  pub halted : (hart_at new h).halted ≡ (hart_at old h).halted
-  pub flight : (hart_at new h).flight ≡ (hart_at old h).flight
-  pub domain : IfSome (hart_at new h).domain (λ e. e ≡ d)
+  pub others : (i : ℕ) → i ≢ h → kept_at new i ≡ kept_at old i
+  pub halted : (kept_at new h).halted ≡ (kept_at old h).halted
+  pub flight : (kept_at new h).flight ≡ (kept_at old h).flight
+  pub domain : IfSome (kept_at new h).domain (λ e. e ≡ d)
 
 stay-at : (most : ℕ) (p : Parts) (h d place : ℕ) (o : Option ℕ) (kept : List Kept) → h < length kept →
     StayTied h d kept (looked_at p.buffer p.kind (map_of p.maps d) h place d o kept)
@@ -116,7 +116,7 @@ stay-at most p h d place (Some w) kept l =
       domain = subst (λ (k : Kept). IfSome k.domain (λ e. e ≡ d)) (sym e) refl;
     }
 
-pub stay-all : (p : Parts) (h d : ℕ) (ts : List Touch) (kept : List Kept) → h < length kept → IfSome (hart_at kept h).domain (λ e. e ≡ d) →
+pub stay-all : (p : Parts) (h d : ℕ) (ts : List Touch) (kept : List Kept) → h < length kept → IfSome (kept_at kept h).domain (λ e. e ≡ d) →
     StayTied h d kept (looks_all p h d ts kept)
 stay-all p h d [] kept l e = record { count = refl; others = λ i ne. refl; halted = refl; flight = refl; domain = e }
 stay-all p h d (t ∷ ts) kept l e =

@@ -4,7 +4,7 @@ use Rattle.std.specs.Prelude.{slice_set}
 use Rattle.std.proofs.lemmas.List.{length-set}
 use Rattle.mx_table.specs.Tables.{IsDomain}
 use Rattle.mx_check.specs.Conditions.{MayLook}
-use Rattle.mx_check.specs.Harts.{Kept, hart_at, at_hart, leaves_domain}
+use Rattle.mx_check.specs.Harts.{Kept, kept_at, at_hart, leaves_domain}
 use Rattle.mx_check.specs.Harts.{halts as counts_as_halted}
 use Rattle.mx_model.specs.declared.values.Frame.{Frame}
 use Rattle.mx_model.specs.declared.values.Note.TheVariants as N
@@ -37,11 +37,11 @@ kept-there m h a = omega (arith, a.there, a.fits.count)
 pub here : (m : Held) (d : ℕ) → Fits m → IsDomain m.parts.maps d → IsHere m d
 here m d f p = record { low = p.first; high = omega (arith, p.last, f.sound.heaps) }
 
-pub running-free : (m : Held) (h : ℕ) → MayRun m h → (hart_at m.parts.harts h).flight ≡ None
+pub running-free : (m : Held) (h : ℕ) → MayRun m h → (kept_at m.parts.harts h).flight ≡ None
 running-free m h r =
-    subst (λ (p : Progress). FliesWhileWaiting (range_of m.parts (own_call h (hart_among m.harts h))) (hart_at m.parts.harts h).flight p) r.runs (r.act.fits.ties h).flight
+    subst (λ (p : Progress). FliesWhileWaiting (range_of m.parts (own_call h (hart_among m.harts h))) (kept_at m.parts.harts h).flight p) r.runs (r.act.fits.ties h).flight
 
-pub running-kept : (m : Held) (h : ℕ) → MayRun m h → (hart_at m.parts.harts h).halted ≡ false
+pub running-kept : (m : Held) (h : ℕ) → MayRun m h → (kept_at m.parts.harts h).halted ≡ false
 running-kept m h r = (r.act.fits.ties h).halted ∙ ap is_halted r.runs
 
 pub may-look : (m : Held) (h : ℕ) → MayRun m h → MayLook h (hart_among m.harts h).domain m.parts.harts
@@ -59,7 +59,7 @@ fly-step kept h step i ne = ap (λ (k : Kept). k.flight) (others-step kept h ste
 
 -- a change of hart h by steps of its own
 step-fits : (m : Held) (h : ℕ) (x : Hart) (step : Kept → Kept) (dead : List Bool) → MayAct m h → length dead ≡ 64 →
-    IsTied (range_of m.parts) h x (step (hart_at m.parts.harts h)) → is_waiting x.progress ≡ false →
+    IsTied (range_of m.parts) h x (step (kept_at m.parts.harts h)) → is_waiting x.progress ≡ false →
     Fits (changed m h x (at_hart h step m.parts.harts) m.parts.ram dead m.waiting)
 step-fits m h x step dead a e tie w =
     let kept = at_hart h step m.parts.harts in
@@ -81,7 +81,7 @@ dead-count dead d true = length-set dead d true
 dead-count dead d false = refl
 
 fall-tied : (m : Held) (h cause : ℕ) (o : Option Frame) → MayRun m h →
-    IsTied (range_of m.parts) h (gives_up_over cause (hart_among m.harts h) o) (gives_up_kept o (hart_at m.parts.harts h))
+    IsTied (range_of m.parts) h (gives_up_over cause (hart_among m.harts h) o) (gives_up_kept o (kept_at m.parts.harts h))
 fall-tied m h cause None r = record { halted = refl; flight = running-free m h r; domain = (r.act.fits.ties h).domain }
 fall-tied m h cause (Some f) r = record { halted = running-kept m h r; flight = running-free m h r; domain = tt }
 
@@ -99,11 +99,11 @@ fits-trap m h cause r =
 fall-core : (m : Held) (h cause : ℕ) (o : Option Frame) → MayRun m h →
     let x = hart_among m.harts h in
     core_in (changed m h (gives_up_over cause x o) (at_hart h (gives_up_kept o) m.parts.harts) m.parts.ram (dead_after m.dead x.domain (kills_by m x.domain cause)) m.waiting)
-    ≡ given_up (killed_in x.domain cause (core_in m)) h (seen h x (hart_at m.parts.harts h)) cause o
+    ≡ given_up (killed_in x.domain cause (core_in m)) h (seen h x (kept_at m.parts.harts h)) cause o
 fall-core m h cause None r =
     let x = hart_among m.harts h in
     let k = killed x.domain cause m in
-    let s = seen h x (hart_at m.parts.harts h) in
+    let s = seen h x (kept_at m.parts.harts h) in
     let end : Seen = record s { status = Halted None } in
     core-step k h (gives_up_over cause x None) (record m.parts { harts = at_hart h counts_as_halted m.parts.harts }) (fly-step m.parts.harts h counts_as_halted)
     ∙ ap (with_hart h end) (core-kept (rest_of k) m.parts h counts_as_halted refl ∙ core-killed m x.domain cause r.act.fits (here m x.domain r.act.fits r.act.domain))
@@ -111,7 +111,7 @@ fall-core m h cause (Some f) r =
     let x = hart_among m.harts h in
     let k = killed x.domain cause m in
     let y = gives_up_over cause x (Some f) in
-    let end : Seen = seen h y (hart_at m.parts.harts h) in
+    let end : Seen = seen h y (kept_at m.parts.harts h) in
     core-step k h y (record m.parts { harts = at_hart h leaves_domain m.parts.harts }) (fly-step m.parts.harts h leaves_domain)
     ∙ ap (with_hart h end) (core-left (rest_of k) m.parts h
     ∙ ap (empties_places h) (core-killed m x.domain cause r.act.fits (here m x.domain r.act.fits r.act.domain)))
@@ -181,8 +181,8 @@ made-cross m h target r t =
     let y = enters target stack x in
     record {
       core = core-step m h y (record m.parts { harts = at_hart h leaves_domain m.parts.harts }) (fly-step m.parts.harts h leaves_domain)
-          ∙ ap (with_hart h (seen h y (hart_at m.parts.harts h))) (core-left (rest_of m) m.parts h)
-          ∙ ap (λ (a : ℕ). empties_places h (with_hart h (seen h (enters target (unwrap_or (nearest x.frames target) a) x) (hart_at m.parts.harts h)) (core_in m)))
+          ∙ ap (with_hart h (seen h y (kept_at m.parts.harts h))) (core-left (rest_of m) m.parts h)
+          ∙ ap (λ (a : ℕ). empties_places h (with_hart h (seen h (enters target (unwrap_or (nearest x.frames target) a) x) (kept_at m.parts.harts h)) (core_in m)))
           (sym (stack-behind m target h r.act.fits (here m target r.act.fits t)))
           ∙ sym (ap (λ (s : Seen). crossed_in (core_in m) h s target) (hart-in m h));
       maps = refl;
@@ -207,7 +207,7 @@ made-return m h rd f r e =
     record {
       core = ap (λ (o : Option Frame). core_in (changed m h (returns_by rd x o) (at_hart h leaves_domain m.parts.harts) m.parts.ram m.dead m.waiting)) e
           ∙ core-step m h y (record m.parts { harts = at_hart h leaves_domain m.parts.harts }) (fly-step m.parts.harts h leaves_domain)
-          ∙ ap (with_hart h (seen h y (hart_at m.parts.harts h))) (core-left (rest_of m) m.parts h)
+          ∙ ap (with_hart h (seen h y (kept_at m.parts.harts h))) (core-left (rest_of m) m.parts h)
           ∙ sym (ap (λ (s : Seen). over_frame (core_in m) h s f (written s.regs rd (next s.pc))) (hart-in m h));
       maps = refl;
       owners = refl;

@@ -5,7 +5,7 @@ use Rattle.std.proofs.lemmas.Bool.{ne_eqb}
 use Rattle.mx_words.specs.declared.perm.Perm.{Perm}
 use Rattle.mx_table.specs.Tables.{IsDomain, map_of}
 use Rattle.mx_check.specs.declared.flight.Flight.{Flight}
-use Rattle.mx_check.specs.Harts.{Kept, hart_at, has_heard}
+use Rattle.mx_check.specs.Harts.{Kept, kept_at, has_heard}
 use Rattle.mx_model.specs.declared.values.Call.{Call}
 use Rattle.mx_model.specs.Checks.{is_halted as stands_halted}
 use Rattle.mx_model.specs.Reads.{map_in}
@@ -84,7 +84,7 @@ status-seen call flight (G.Halted code) = refl
 -- a hart that is told
 pub view-told : (m : Held) (h : ℕ) (view : HartView) → TellsHart (hart_among m.harts h) view → IsViewOf (hart_in m h) view
 view-told m h view t = subst (λ (x : Seen). IsViewOf x view) (sym (hart-in m h)) (record {
-  status = t.status ∙ status-seen (own_call h (hart_among m.harts h)) (hart_at m.parts.harts h).flight (hart_among m.harts h).progress;
+  status = t.status ∙ status-seen (own_call h (hart_among m.harts h)) (kept_at m.parts.harts h).flight (hart_among m.harts h).progress;
   domain = t.domain;
   pc = t.pc;
   frames = t.frames;
@@ -98,10 +98,10 @@ heard-seen range call by None G.Waiting e = absurd e
 heard-seen range call by (Some x) G.Waiting e = refl
 heard-seen range call by o (G.Halted code) e = ap (λ (x : Option Flight). has_heard x by) e
 
-pub heard-told : (m : Held) (h by : ℕ) → Fits m → has_heard (hart_at m.parts.harts h).flight by ≡ was_heard (hart_in m h).status by
+pub heard-told : (m : Held) (h by : ℕ) → Fits m → has_heard (kept_at m.parts.harts h).flight by ≡ was_heard (hart_in m h).status by
 heard-told m h by f =
     let x = hart_among m.harts h in
-    let o = (hart_at m.parts.harts h).flight in
+    let o = (kept_at m.parts.harts h).flight in
     heard-seen (range_of m.parts (own_call h x)) (own_call h x) by o x.progress (f.ties h).flight
     ∙ sym (ap (λ (y : Seen). was_heard y.status by) (hart-in m h))
 
@@ -110,7 +110,7 @@ pub all-halted : (n : ℕ) (xs : List Hart) (kept : List Kept) →
     list_all (λ (y : Seen). stands_halted y.status) (seen_from n xs kept) ≡ list_all (λ (x : Hart). is_halted x.progress) xs
 all-halted n [] kept = refl
 all-halted n (x ∷ xs) kept =
-    ap (λ b. b && list_all (λ (y : Seen). stands_halted y.status) (seen_from (n + 1) xs kept)) (halted-seen (own_call n x) (hart_at kept n).flight x.progress)
+    ap (λ b. b && list_all (λ (y : Seen). stands_halted y.status) (seen_from (n + 1) xs kept)) (halted-seen (own_call n x) (kept_at kept n).flight x.progress)
     ∙ ap (λ b. is_halted x.progress && b) (all-halted (n + 1) xs kept)
 
 -- a hart of the state is one that the checker keeps

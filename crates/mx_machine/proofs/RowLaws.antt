@@ -3,7 +3,7 @@ use Rattle.std.proofs.Common.{◌≡◌, ℕ, ◌+◌, ◌<◌, ◌%◌, false, 
 use Rattle.mx_isa.specs.declared.inst.Inst.{Inst}
 use Rattle.mx_table.specs.Tables.{IsDomain, map_of}
 use Rattle.mx_check.specs.Conditions.{IsAtHand}
-use Rattle.mx_check.specs.Harts.{hart_at}
+use Rattle.mx_check.specs.Harts.{kept_at}
 use Rattle.mx_core.specs.declared.outcome.Outcome.{Outcome}
 use Rattle.mx_core.specs.declared.outcome.Outcome.TheVariants as O
 use Rattle.mx_core.specs.Bus.{load_at}
@@ -82,11 +82,11 @@ row-none m h w whole r i =
 
 -- where the fetch of an instruction of a row is at hand, in RAM of the size of its map
 hand-there : (old m : Held) (h n : ℕ) (w : Window) → IsRowTo old h n w (tallied h n m) → IsOpen m h (hart_among m.harts h).pc →
-    IsAtHand (length (map_of m.parts.maps (hart_among m.harts h).domain)) (hart_at m.parts.harts h).cache (hart_among m.harts h).pc
+    IsAtHand (length (map_of m.parts.maps (hart_among m.harts h).domain)) (kept_at m.parts.harts h).cache (hart_among m.harts h).pc
 hand-there old m h n w r o =
     let d = (hart_among m.harts h).domain in
     let whole-map = r.whole.fits.sound.maps d (own-domain (tallied h n m) h r.whole.valid r.whole.fits r.alive.there) in
-    subst (λ (i : ℕ). IsAtHand i (hart_at m.parts.harts h).cache (hart_among m.harts h).pc) (sym whole-map) o.at_hand
+    subst (λ (i : ℕ). IsAtHand i (kept_at m.parts.harts h).cache (hart_among m.harts h).pc) (sym whole-map) o.at_hand
 
 row-tallied : (old m k : Held) (h n : ℕ) (w : Window) → IsRowTo old h n w (tallied h n m) → IsOpen m h (hart_among m.harts h).pc → k ≡ after_unfetched h m →
     tallied h (n + 1) k ≡ after_instruction h false (counted (tallied h n m))

@@ -5,7 +5,7 @@ use Rattle.std.proofs.lemmas.Bool.{cases_eq}
 use Rattle.std.proofs.lemmas.List.{get_or-set_same, get_or-set_other, length-set}
 use Rattle.mx_words.specs.Announced.{announced, is_announced}
 use Rattle.mx_words.specs.FirstFit.{Area}
-use Rattle.mx_check.specs.Harts.{Kept, hart_at, at_hart}
+use Rattle.mx_check.specs.Harts.{Kept, kept_at, at_hart}
 use Rattle.mx_check.specs.Harts.{halts as counts_as_halted}
 use Rattle.mx_model.specs.declared.values.Call.{Call}
 use Rattle.mx_model.specs.Checks.{Look, arg, looked_all}
@@ -131,40 +131,40 @@ module _ (m : Held) (h : ℕ) (call : Call) (q : Parts) (bytes : List ℕ) (a : 
   hart-is : call.hart ≡ h
   hart-is = ap (λ (c : Call). c.hart) v.own
 
-  others-kept : (i : ℕ) → i ≢ h → hart_at q.harts i ≡ hart_at m.parts.harts i
+  others-kept : (i : ℕ) → i ≢ h → kept_at q.harts i ≡ kept_at m.parts.harts i
   others-kept i ne = k.others i (λ e. ne (e ∙ hart-is))
 
-  fly-alike : (i : ℕ) → i ≢ h → (hart_at q.harts i).flight ≡ (hart_at m.parts.harts i).flight
+  fly-alike : (i : ℕ) → i ≢ h → (kept_at q.harts i).flight ≡ (kept_at m.parts.harts i).flight
   fly-alike i ne = ap (λ (y : Kept). y.flight) (others-kept i ne)
 
   ranges-stay : (c : Call) → range_of q c ≡ range_of m.parts c
   ranges-stay c = range-served (rest_of m) m.parts q s.core c z.size d.core (heaps-serve (reads_of m) (core_in m) call)
 
-  own-halted : (hart_at q.harts h).halted ≡ false
-  own-halted = ap (λ i. (hart_at q.harts i).halted) (sym hart-is) ∙ k.halted ∙ ap (λ i. (hart_at m.parts.harts i).halted) hart-is ∙ v.running
+  own-halted : (kept_at q.harts h).halted ≡ false
+  own-halted = ap (λ i. (kept_at q.harts i).halted) (sym hart-is) ∙ k.halted ∙ ap (λ i. (kept_at m.parts.harts i).halted) hart-is ∙ v.running
 
-  flight-ended : (b : Bool) → is_announced call.number ≡ b → cond b None (hart_at m.parts.harts call.hart).flight ≡ None
+  flight-ended : (b : Bool) → is_announced call.number ≡ b → cond b None (kept_at m.parts.harts call.hart).flight ≡ None
   flight-ended true e = refl
   flight-ended false e = (v.may.other e).free
 
-  pub own-flight : (hart_at q.harts h).flight ≡ None
-  own-flight = ap (λ i. (hart_at q.harts i).flight) (sym hart-is) ∙ k.flight ∙ flight-ended (is_announced call.number) refl
+  pub own-flight : (kept_at q.harts h).flight ≡ None
+  own-flight = ap (λ i. (kept_at q.harts i).flight) (sym hart-is) ∙ k.flight ∙ flight-ended (is_announced call.number) refl
 
-  own-domain : IfSome (hart_at q.harts h).domain (λ e. e ≡ x.domain)
+  own-domain : IfSome (kept_at q.harts h).domain (λ e. e ≡ x.domain)
   own-domain = by k.domain
     where
-      to : IfSome (hart_at q.harts call.hart).domain (λ e. e ≡ x.domain) → IfSome (hart_at q.harts h).domain (λ e. e ≡ x.domain)
-      to t = subst (λ i. IfSome (hart_at q.harts i).domain (λ e. e ≡ x.domain)) hart-is t
+      to : IfSome (kept_at q.harts call.hart).domain (λ e. e ≡ x.domain) → IfSome (kept_at q.harts h).domain (λ e. e ≡ x.domain)
+      to t = subst (λ i. IfSome (kept_at q.harts i).domain (λ e. e ≡ x.domain)) hart-is t
 
-      by : ((hart_at q.harts call.hart).domain ≡ (hart_at m.parts.harts call.hart).domain) ⊎ ((hart_at q.harts call.hart).domain ≡ Some call.domain) →
-          IfSome (hart_at q.harts h).domain (λ e. e ≡ x.domain)
+      by : ((kept_at q.harts call.hart).domain ≡ (kept_at m.parts.harts call.hart).domain) ⊎ ((kept_at q.harts call.hart).domain ≡ Some call.domain) →
+          IfSome (kept_at q.harts h).domain (λ e. e ≡ x.domain)
       by (inl e) = to (subst (λ (o : Option ℕ). IfSome o (λ e. e ≡ x.domain)) (sym e)
-          (subst (λ i. IfSome (hart_at m.parts.harts i).domain (λ e. e ≡ x.domain)) (sym hart-is) v.kept_domain))
+          (subst (λ i. IfSome (kept_at m.parts.harts i).domain (λ e. e ≡ x.domain)) (sym hart-is) v.kept_domain))
       by (inr e) = to (subst (λ (o : Option ℕ). IfSome o (λ e. e ≡ x.domain)) (sym e) (ap (λ (c : Call). c.domain) v.own))
 
   -- all fits with another hart h, where what the checker keeps of it is tied
-  served-fits : (y : Hart) (kept : List Kept) → length kept ≡ length q.harts → ((i : ℕ) → i ≢ h → hart_at kept i ≡ hart_at q.harts i) →
-      IsTied (range_of q) h y (hart_at kept h) → is_waiting y.progress ≡ false →
+  served-fits : (y : Hart) (kept : List Kept) → length kept ≡ length q.harts → ((i : ℕ) → i ≢ h → kept_at kept i ≡ kept_at q.harts i) →
+      IsTied (range_of q) h y (kept_at kept h) → is_waiting y.progress ≡ false →
       Fits (record m { parts = record q { harts = kept }; harts = set m.harts h y })
   served-fits y kept count others tie w = record {
     sound = sound-changed q kept q.ram sound refl;
@@ -176,20 +176,20 @@ module _ (m : Held) (h : ℕ) (call : Call) (q : Parts) (bytes : List ℕ) (a : 
     quiet = λ e i. still e i (cases_eq i h);
   }
     where
-      by : (i : ℕ) → (i ≡ h) ⊎ (i ≢ h) → IsTied (range_of q) i (hart_among (set m.harts h y) i) (hart_at kept i)
+      by : (i : ℕ) → (i ≡ h) ⊎ (i ≢ h) → IsTied (range_of q) i (hart_among (set m.harts h y) i) (kept_at kept i)
       by i (inl e) =
-          subst (λ j. IsTied (range_of q) j (hart_among (set m.harts h y) j) (hart_at kept j)) (sym e)
-          (subst (λ (t : Hart). IsTied (range_of q) h t (hart_at kept h)) (sym (get_or-set_same m.harts h y no_hart v.there)) tie)
+          subst (λ j. IsTied (range_of q) j (hart_among (set m.harts h y) j) (kept_at kept j)) (sym e)
+          (subst (λ (t : Hart). IsTied (range_of q) h t (kept_at kept h)) (sym (get_or-set_same m.harts h y no_hart v.there)) tie)
       by i (inr ne) =
           let t = v.others i ne in
           let l = hart_among m.harts i in
-          let u = hart_at m.parts.harts i in
+          let u = kept_at m.parts.harts i in
           let moved : IsTied (range_of q) i l u = record {
             halted = t.halted;
             flight = subst (λ (r : ℕ × ℕ). FliesWhileWaiting r u.flight l.progress) (sym (ranges-stay (own_call i l))) t.flight;
             domain = t.domain;
           } in
-          subst (λ (t : Hart). IsTied (range_of q) i t (hart_at kept i)) (sym (get_or-set_other m.harts h i y no_hart ne))
+          subst (λ (t : Hart). IsTied (range_of q) i t (kept_at kept i)) (sym (get_or-set_other m.harts h i y no_hart ne))
           (subst (λ (u : Kept). IsTied (range_of q) i l u) (sym (others i ne ∙ others-kept i ne)) moved)
 
       still : m.waiting ≡ false → (i : ℕ) → (i ≡ h) ⊎ (i ≢ h) → is_waiting (hart_among (set m.harts h y) i).progress ≡ false
@@ -208,7 +208,7 @@ module _ (m : Held) (h : ℕ) (call : Call) (q : Parts) (bytes : List ℕ) (a : 
   made-answered e =
       let goes_on : s.stop ≡ false = sym d.stop ∙ e in
       let l = hart_in m h in
-      let on : ℕ → Option ℕ → Seen = λ a0 a1. record { regs = answered (seen h x (hart_at m.parts.harts h)) a0 a1; pc = next x.pc; domain = x.domain; frames = x.frames; status = Running } in
+      let on : ℕ → Option ℕ → Seen = λ a0 a1. record { regs = answered (seen h x (kept_at m.parts.harts h)) a0 a1; pc = next x.pc; domain = x.domain; frames = x.frames; status = Running } in
       record {
         core = core-step m h (takes_answer a.a0 a.a1 x) q fly-alike
             ∙ ap (with_hart h (on a.a0 a.a1)) d.core

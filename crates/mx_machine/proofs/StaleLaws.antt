@@ -9,8 +9,8 @@ use Rattle.mx_words.specs.Newest.{map}
 use Rattle.mx_words.proofs.OverlayLaws.{length-map_of}
 use Rattle.mx_table.specs.Tables.{IsDomain}
 use Rattle.mx_check.specs.Calls.{new_harts}
-use Rattle.mx_check.specs.Harts.{Kept, hart_at, new_hart}
-use Rattle.mx_check.specs.Harts.{no_hart as nothing_kept}
+use Rattle.mx_check.specs.Harts.{Kept, kept_at, new_hart}
+use Rattle.mx_check.specs.Harts.{nothing_kept}
 use Rattle.mx_model.specs.Reads.{map_in}
 use Rattle.mx_supervisor.specs.Parts.{Parts}
 use Rattle.mx_supervisor.proofs.Maps.{map-in}
@@ -25,24 +25,24 @@ use Rattle.mx_machine.specs.Ties.{Fits}
 use Rattle.mx_machine.proofs.CoreLaws.{caches-at}
 
 pub empty-caches : (m : Held) (kept : List Kept) → list_map (λ (k : Kept). k.cache) m.parts.harts ≡ list_map (λ (k : Kept). k.cache) kept →
-    ((h : ℕ) → (hart_at kept h).cache ≡ no_cache) → HasEmptyCaches (core_in m)
+    ((h : ℕ) → (kept_at kept h).cache ≡ no_cache) → HasEmptyCaches (core_in m)
 empty-caches m kept same each h =
     subst (λ (k : Cache). IsEmpty k) (sym (ap (λ (cs : List Cache). get_or cs h no_cache) same ∙ caches-at kept h ∙ each h))
     (record { places = refl; kept = refl })
 
 -- a checker that has done nothing, and one that has at most announced calls
-pub new-cache : (n h : ℕ) → (hart_at (new_harts n) h).cache ≡ no_cache
+pub new-cache : (n h : ℕ) → (kept_at (new_harts n) h).cache ≡ no_cache
 new-cache n h = by (cases_lt h n)
   where
-    by : (h < n) ⊎ (n ≤ h) → (hart_at (new_harts n) h).cache ≡ no_cache
+    by : (h < n) ⊎ (n ≤ h) → (kept_at (new_harts n) h).cache ≡ no_cache
     by (inl lt) = ap (λ (k : Kept). k.cache) (get_or-replicate n h new_hart nothing_kept lt)
     by (inr le) = ap (λ (k : Kept). k.cache) (get_or_past (new_harts n) h nothing_kept (omega (arith, length-replicate n new_hart, le)))
 
 pub unused-cache : (p : Parts) (states : List HartState) (stacks : List StackArea) (dead : List Bool) (steps : ℕ) → MayResume p states stacks dead steps →
-    (h : ℕ) → (hart_at p.harts h).cache ≡ no_cache
+    (h : ℕ) → (kept_at p.harts h).cache ≡ no_cache
 unused-cache p states stacks dead steps may h = by (cases_lt h (length states))
   where
-    by : (h < length states) ⊎ (length states ≤ h) → (hart_at p.harts h).cache ≡ no_cache
+    by : (h < length states) ⊎ (length states ≤ h) → (kept_at p.harts h).cache ≡ no_cache
     by (inl lt) = (may.unused h lt).cache
     by (inr le) = ap (λ (k : Kept). k.cache) (get_or_past p.harts h nothing_kept (omega (arith, le, may.same_harts)))
 

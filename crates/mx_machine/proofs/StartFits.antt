@@ -10,9 +10,9 @@ use Rattle.std.proofs.lemmas.List.{get_or-map, get_or-replicate, get_or_past, le
 use Rattle.std.proofs.lemmas.Option.{slice_get-get_or}
 use Rattle.mx_check.specs.declared.flight.Flight.{Flight}
 use Rattle.mx_check.specs.Calls.{new_harts}
-use Rattle.mx_check.specs.Harts.{Kept, at_hart, hart_at, new_hart}
-use Rattle.mx_check.specs.Harts.{halts as counts_as_halted, no_hart as nothing_kept}
-use Rattle.mx_check.proofs.LookLaws.{hart_at-other, hart_at-same, length-at_hart}
+use Rattle.mx_check.specs.Harts.{Kept, at_hart, kept_at, new_hart}
+use Rattle.mx_check.specs.Harts.{halts as counts_as_halted, nothing_kept}
+use Rattle.mx_check.proofs.LookLaws.{kept_at-other, kept_at-same, length-at_hart}
 use Rattle.mx_model.specs.declared.values.Call.{Call}
 use Rattle.mx_supervisor.specs.Parts.{IsSound, Parts}
 use Rattle.mx_supervisor.specs.Served.{range_of}
@@ -56,20 +56,20 @@ module _ (p : Parts) (starts : List HartStart) (stacks : List StackArea) (sound 
   hart-past : (h : ℕ) → length starts ≤ h → hart_among (started_from stacks 0 starts) h ≡ no_hart
   hart-past h le = get_or_past (started_from stacks 0 starts) h no_hart (omega (arith, le, length-started stacks 0 starts))
 
-  kept-there : (h : ℕ) → h < length starts → hart_at p.harts h ≡ new_hart
-  kept-there h lt = ap (λ (ks : List Kept). hart_at ks h) may.new ∙ get_or-replicate (length starts) h new_hart nothing_kept lt
+  kept-there : (h : ℕ) → h < length starts → kept_at p.harts h ≡ new_hart
+  kept-there h lt = ap (λ (ks : List Kept). kept_at ks h) may.new ∙ get_or-replicate (length starts) h new_hart nothing_kept lt
 
-  kept-past : (h : ℕ) → length starts ≤ h → hart_at p.harts h ≡ nothing_kept
+  kept-past : (h : ℕ) → length starts ≤ h → kept_at p.harts h ≡ nothing_kept
   kept-past h le =
-      ap (λ (ks : List Kept). hart_at ks h) may.new
+      ap (λ (ks : List Kept). kept_at ks h) may.new
       ∙ get_or_past (new_harts (length starts)) h nothing_kept (omega (arith, le, length-replicate (length starts) new_hart))
 
-  ties-started : (h : ℕ) → (h < length starts) ⊎ (length starts ≤ h) → IsTied (range_of p) h (hart_among (started_from stacks 0 starts) h) (hart_at p.harts h)
+  ties-started : (h : ℕ) → (h < length starts) ⊎ (length starts ≤ h) → IsTied (range_of p) h (hart_among (started_from stacks 0 starts) h) (kept_at p.harts h)
   ties-started h (inl lt) =
-      tied-as (range_of p) h (hart_among (started_from stacks 0 starts) h) (started_hart stacks h (get_or starts h no_start)) (hart_at p.harts h) new_hart
+      tied-as (range_of p) h (hart_among (started_from stacks 0 starts) h) (started_hart stacks h (get_or starts h no_start)) (kept_at p.harts h) new_hart
       (hart-there h lt) (kept-there h lt) (tied-start (range_of p) stacks h (get_or starts h no_start))
   ties-started h (inr le) =
-      tied-as (range_of p) h (hart_among (started_from stacks 0 starts) h) no_hart (hart_at p.harts h) nothing_kept
+      tied-as (range_of p) h (hart_among (started_from stacks 0 starts) h) no_hart (kept_at p.harts h) nothing_kept
       (hart-past h le) (kept-past h le) (tied-nobody (range_of p) h)
 
   quiet-started : (h : ℕ) → (h < length starts) ⊎ (length starts ≤ h) → is_waiting (hart_among (started_from stacks 0 starts) h).progress ≡ false
@@ -98,35 +98,35 @@ module _ (xs : List Hart) (kept : List Kept) where
       by true e = length-at_hart (halted_first n xs kept) n counts_as_halted ∙ e
       by false e = e
 
-  one-other : (n h : ℕ) (b : Bool) (ks : List Kept) → h ≢ n → hart_at (cond b (at_hart n counts_as_halted ks) ks) h ≡ hart_at ks h
-  one-other n h true ks ne = hart_at-other ks n counts_as_halted h ne
+  one-other : (n h : ℕ) (b : Bool) (ks : List Kept) → h ≢ n → kept_at (cond b (at_hart n counts_as_halted ks) ks) h ≡ kept_at ks h
+  one-other n h true ks ne = kept_at-other ks n counts_as_halted h ne
   one-other n h false ks ne = refl
 
   one-same : (n : ℕ) (b : Bool) (ks : List Kept) → n < length ks →
-      hart_at (cond b (at_hart n counts_as_halted ks) ks) n ≡ cond b (counts_as_halted (hart_at ks n)) (hart_at ks n)
-  one-same n true ks lt = hart_at-same ks n counts_as_halted lt
+      kept_at (cond b (at_hart n counts_as_halted ks) ks) n ≡ cond b (counts_as_halted (kept_at ks n)) (kept_at ks n)
+  one-same n true ks lt = kept_at-same ks n counts_as_halted lt
   one-same n false ks lt = refl
 
-  pub halted-past : (n h : ℕ) → n ≤ h → hart_at (halted_first n xs kept) h ≡ hart_at kept h
+  pub halted-past : (n h : ℕ) → n ≤ h → kept_at (halted_first n xs kept) h ≡ kept_at kept h
   halted-past zero h le = refl
   halted-past (suc n) h le =
       let other : h ≢ n = λ e. absurd (omega (arith, e, le)) in
       one-other n h (is_halted (hart_among xs n).progress) (halted_first n xs kept) other ∙ halted-past n h (omega (arith, le))
 
   pub halted-below : (n h : ℕ) → n ≤ length kept → h < n →
-      hart_at (halted_first n xs kept) h ≡ cond (is_halted (hart_among xs h).progress) (counts_as_halted (hart_at kept h)) (hart_at kept h)
+      kept_at (halted_first n xs kept) h ≡ cond (is_halted (hart_among xs h).progress) (counts_as_halted (kept_at kept h)) (kept_at kept h)
   halted-below zero h most lt = absurd (omega (arith, lt))
   halted-below (suc n) h most lt = by (halted-below n h (omega (arith, most))) (cases_eq h n)
     where
       before : List Kept
       before = halted_first n xs kept
 
-      by : (h < n → hart_at (halted_first n xs kept) h ≡ cond (is_halted (hart_among xs h).progress) (counts_as_halted (hart_at kept h)) (hart_at kept h)) →
+      by : (h < n → kept_at (halted_first n xs kept) h ≡ cond (is_halted (hart_among xs h).progress) (counts_as_halted (kept_at kept h)) (kept_at kept h)) →
           (h ≡ n) ⊎ (h ≢ n) →
-          hart_at (halted_first (suc n) xs kept) h ≡ cond (is_halted (hart_among xs h).progress) (counts_as_halted (hart_at kept h)) (hart_at kept h)
+          kept_at (halted_first (suc n) xs kept) h ≡ cond (is_halted (hart_among xs h).progress) (counts_as_halted (kept_at kept h)) (kept_at kept h)
       by rest (inl e) =
           let long : n < length (halted_first n xs kept) = omega (arith, most, length-halted n) in
-          subst (λ (j : ℕ). hart_at (halted_first (suc n) xs kept) j ≡ cond (is_halted (hart_among xs j).progress) (counts_as_halted (hart_at kept j)) (hart_at kept j)) (sym e)
+          subst (λ (j : ℕ). kept_at (halted_first (suc n) xs kept) j ≡ cond (is_halted (hart_among xs j).progress) (counts_as_halted (kept_at kept j)) (kept_at kept j)) (sym e)
           (one-same n (is_halted (hart_among xs n).progress) (halted_first n xs kept) long
           ∙ ap (λ (k : Kept). cond (is_halted (hart_among xs n).progress) (counts_as_halted k) k) (halted-past n n (omega arith)))
       by rest (inr ne) =
@@ -141,18 +141,18 @@ module _ (xs : List Hart) (kept : List Kept) where
           list_map (λ (k : Kept). k.cache) (cond b (at_hart n counts_as_halted (halted_first n xs kept)) (halted_first n xs kept))
           ≡ list_map (λ (k : Kept). k.cache) kept
       by true e =
-          map-set_same (λ (k : Kept). k.cache) (halted_first n xs kept) n (counts_as_halted (hart_at (halted_first n xs kept) n)) nothing_kept refl ∙ e
+          map-set_same (λ (k : Kept). k.cache) (halted_first n xs kept) n (counts_as_halted (kept_at (halted_first n xs kept) n)) nothing_kept refl ∙ e
       by false e = e
 
   flight-one : (b : Bool) (k : Kept) → (cond b (counts_as_halted k) k).flight ≡ k.flight
   flight-one true k = refl
   flight-one false k = refl
 
-  pub flight-halted : (n h : ℕ) → n ≤ length kept → (hart_at (halted_first n xs kept) h).flight ≡ (hart_at kept h).flight
+  pub flight-halted : (n h : ℕ) → n ≤ length kept → (kept_at (halted_first n xs kept) h).flight ≡ (kept_at kept h).flight
   flight-halted n h most = by (cases_lt h n)
     where
-      by : (h < n) ⊎ (n ≤ h) → (hart_at (halted_first n xs kept) h).flight ≡ (hart_at kept h).flight
-      by (inl lt) = ap (λ (k : Kept). k.flight) (halted-below n h most lt) ∙ flight-one (is_halted (hart_among xs h).progress) (hart_at kept h)
+      by : (h < n) ⊎ (n ≤ h) → (kept_at (halted_first n xs kept) h).flight ≡ (kept_at kept h).flight
+      by (inl lt) = ap (λ (k : Kept). k.flight) (halted-below n h most lt) ∙ flight-one (is_halted (hart_among xs h).progress) (kept_at kept h)
       by (inr le) = ap (λ (k : Kept). k.flight) (halted-past n h le)
 
 -- one hart that resumes
@@ -187,24 +187,24 @@ module _ (p : Parts) (states : List HartState) (stacks : List StackArea) (dead :
 
   ties-resumed : (h : ℕ) → (h < length states) ⊎ (length states ≤ h) →
       IsTied (range_of p) h (hart_among (list_map resumed_hart states) h)
-      (hart_at (halted_first (length (list_map resumed_hart states)) (list_map resumed_hart states) p.harts) h)
+      (kept_at (halted_first (length (list_map resumed_hart states)) (list_map resumed_hart states) p.harts) h)
   ties-resumed h (inl lt) =
       let harts = list_map resumed_hart states in
       let s = get_or states h no_state in
-      let k = hart_at p.harts h in
+      let k = kept_at p.harts h in
       let u = may.unused h lt in
       let x : hart_among harts h ≡ resumed_hart s = get_or-map resumed_hart states h no_state no_hart lt in
       let below : h < length harts = omega (arith, lt, length-map states resumed_hart) in
-      let kept : hart_at (halted_first (length harts) harts p.harts) h ≡ cond (is_halted (progress_of s.status)) (counts_as_halted k) k =
+      let kept : kept_at (halted_first (length harts) harts p.harts) h ≡ cond (is_halted (progress_of s.status)) (counts_as_halted k) k =
       halted-below harts p.harts (length harts) h (omega (arith, as-many)) below
       ∙ ap (λ (y : Hart). cond (is_halted y.progress) (counts_as_halted k) k) x in
-      tied-as (range_of p) h (hart_among harts h) (resumed_hart s) (hart_at (halted_first (length harts) harts p.harts) h)
+      tied-as (range_of p) h (hart_among harts h) (resumed_hart s) (kept_at (halted_first (length harts) harts p.harts) h)
       (cond (is_halted (progress_of s.status)) (counts_as_halted k) k) x kept
       (tied-by p h s k u.halted u.domain s.status u.flight)
   ties-resumed h (inr le) =
       let harts = list_map resumed_hart states in
       let past : length harts ≤ h = omega (arith, le, length-map states resumed_hart) in
-      tied-as (range_of p) h (hart_among harts h) no_hart (hart_at (halted_first (length harts) harts p.harts) h) nothing_kept
+      tied-as (range_of p) h (hart_among harts h) no_hart (kept_at (halted_first (length harts) harts p.harts) h) nothing_kept
       (get_or_past harts h no_hart past)
       (halted-past harts p.harts (length harts) h past ∙ get_or_past p.harts h nothing_kept (omega (arith, le, may.same_harts)))
       (tied-nobody (range_of p) h)

@@ -12,8 +12,8 @@ use Rattle.mx_table.specs.Tables.{IsDomain}
 use Rattle.mx_check.specs.declared.flight.Flight.{Flight}
 use Rattle.mx_check.specs.Flights.{AreHearers}
 use Rattle.mx_check.specs.Calls.{new_harts}
-use Rattle.mx_check.specs.Harts.{Kept, hart_at}
-use Rattle.mx_check.specs.Harts.{no_hart as nothing_kept}
+use Rattle.mx_check.specs.Harts.{Kept, kept_at}
+use Rattle.mx_check.specs.Harts.{nothing_kept}
 use Rattle.mx_heap.specs.HeapState.{HeapState}
 use Rattle.mx_model.specs.declared.values.Frame.{Frame}
 use Rattle.mx_model.specs.Gates.{AreSingle, most_gates}
@@ -78,7 +78,7 @@ pub record HasValidParts (m : Held) : Type 0 where
   pub one_gate : AreSingle m.parts.gates
   pub some_harts : 1 ≤ length m.harts
   pub stacks : AllByRecursion (IsStack m.parts.size (length m.harts)) m.stacks
-  pub harts : (h : ℕ) → h < length m.harts → IsHart (length m.parts.maps) (length m.harts) h (seen h (hart_among m.harts h) (hart_at m.parts.harts h))
+  pub harts : (h : ℕ) → h < length m.harts → IsHart (length m.parts.maps) (length m.harts) h (seen h (hart_among m.harts h) (kept_at m.parts.harts h))
 
 module _ (m : Held) (f : Fits m) (v : HasValidParts m) where
   as-modules : length (core_in m).modules ≡ length m.parts.maps
@@ -241,12 +241,12 @@ kept_resumed p states = halted_first (length (list_map resumed_hart states)) (li
 module _ (p : Parts) (starts : List HartStart) (stacks : List StackArea) (sound : IsSound p) (may : MayStart p starts stacks) (few : length starts ≤ 4)
     (small : AllByRecursion IsSmallStart starts) (typed : AreTyped p) (coherent : (r : Reads) (c : Core) → HasEmptyCaches c → IsCoherent r c) where
   each-start : (h : ℕ) → h < length starts →
-      IsHart (length p.maps) (length starts) h (seen h (hart_among (started_from stacks 0 starts) h) (hart_at p.harts h))
+      IsHart (length p.maps) (length starts) h (seen h (hart_among (started_from stacks 0 starts) h) (kept_at p.harts h))
   each-start h lt =
       let s = get_or starts h no_start in
       let area = area-fits (area_of stacks s.domain) most_words (length starts) h (stack-at p.size (length starts) most_words s.domain stacks sound.few_words may.areas) lt in
-      subst (λ (x : Hart). IsHart (length p.maps) (length starts) h (seen h x (hart_at p.harts h))) (sym (hart-there p starts stacks sound may few h lt))
-      (hart-starts p stacks (length starts) h s (hart_at p.harts h) (all-in (IsStart p) starts no_start may.each h lt)
+      subst (λ (x : Hart). IsHart (length p.maps) (length starts) h (seen h x (kept_at p.harts h))) (sym (hart-there p starts stacks sound may few h lt))
+      (hart-starts p stacks (length starts) h s (kept_at p.harts h) (all-in (IsStart p) starts no_start may.each h lt)
       (all-in IsSmallStart starts no_start small h lt) area)
 
   started-parts : HasValidParts (held_started p starts stacks)
@@ -260,7 +260,7 @@ module _ (p : Parts) (starts : List HartStart) (stacks : List StackArea) (sound 
     one_gate = typed.one_gate;
     some_harts = omega (arith, may.some_harts, length-started stacks 0 starts);
     stacks = subst (λ n. AllByRecursion (IsStack p.size n) stacks) (sym (length-started stacks 0 starts)) may.areas;
-    harts = λ h lt. subst (λ n. IsHart (length p.maps) n h (seen h (hart_among (started_from stacks 0 starts) h) (hart_at p.harts h))) (sym (length-started stacks 0 starts))
+    harts = λ h lt. subst (λ n. IsHart (length p.maps) n h (seen h (hart_among (started_from stacks 0 starts) h) (kept_at p.harts h))) (sym (length-started stacks 0 starts))
         (each-start h (omega (arith, lt, length-started stacks 0 starts)));
   }
 
@@ -280,7 +280,7 @@ module _ (p : Parts) (states : List HartState) (stacks : List StackArea) (dead :
   pub as-many : length (list_map resumed_hart states) ≡ length p.harts
   as-many = length-map states resumed_hart ∙ sym may.same_harts
 
-  same-flight : (h : ℕ) → (hart_at (kept_resumed p states) h).flight ≡ (hart_at p.harts h).flight
+  same-flight : (h : ℕ) → (kept_at (kept_resumed p states) h).flight ≡ (kept_at p.harts h).flight
   same-flight h = flight-halted (list_map resumed_hart states) p.harts (length (list_map resumed_hart states)) h (omega (arith, as-many))
 
   pub meaning-resumed : meaning (held_resumed p states stacks dead steps) ≡ resumed p states stacks dead steps
@@ -298,30 +298,30 @@ module _ (p : Parts) (states : List HartState) (stacks : List StackArea) (dead :
   flies-not h s V.Waiting o t e = cc
   flies-not h s V.Halted o t e = t
 
-  free-at : (h : ℕ) → (h < length states) ⊎ (length states ≤ h) → is_halted (hart_among (list_map resumed_hart states) h).progress ≡ true → (hart_at p.harts h).flight ≡ None
+  free-at : (h : ℕ) → (h < length states) ⊎ (length states ≤ h) → is_halted (hart_among (list_map resumed_hart states) h).progress ≡ true → (kept_at p.harts h).flight ≡ None
   free-at h (inl lt) e =
       let s = get_or states h no_state in
       let x : hart_among (list_map resumed_hart states) h ≡ resumed_hart s = get_or-map resumed_hart states h no_state no_hart lt in
-      flies-not h s s.status (hart_at p.harts h).flight (may.unused h lt).flight (sym (ap (λ (y : Hart). is_halted y.progress) x) ∙ e)
+      flies-not h s s.status (kept_at p.harts h).flight (may.unused h lt).flight (sym (ap (λ (y : Hart). is_halted y.progress) x) ∙ e)
   free-at h (inr le) e = ap (λ (k : Kept). k.flight) (get_or_past p.harts h nothing_kept (omega (arith, le, may.same_harts)))
 
-  pub free-resumed : (h : ℕ) → is_halted (hart_among (list_map resumed_hart states) h).progress ≡ true → (hart_at p.harts h).flight ≡ None
+  pub free-resumed : (h : ℕ) → is_halted (hart_among (list_map resumed_hart states) h).progress ≡ true → (kept_at p.harts h).flight ≡ None
   free-resumed h = free-at h (cases_lt h (length states))
 
 -- a machine that resumes
 module _ (p : Parts) (states : List HartState) (stacks : List StackArea) (dead : List Bool) (steps : ℕ) (sound : IsSound p)
     (may : MayResume p states stacks dead steps) (few : length states ≤ 4) (places : length dead ≡ 64) (small : AllByRecursion IsSmallState states) (typed : AreTyped p)
-    (hearers : (h : ℕ) → IfSome (hart_at p.harts h).flight (AreHearers (length p.harts) h))
+    (hearers : (h : ℕ) → IfSome (kept_at p.harts h).flight (AreHearers (length p.harts) h))
     (coherent : (r : Reads) (c : Core) → HasEmptyCaches c → IsCoherent r c) where
-  each-left : (h : ℕ) → h < length states → IsHart (length p.maps) (length states) h (seen h (hart_among (list_map resumed_hart states) h) (hart_at (kept_resumed p states) h))
+  each-left : (h : ℕ) → h < length states → IsHart (length p.maps) (length states) h (seen h (hart_among (list_map resumed_hart states) h) (kept_at (kept_resumed p states) h))
   each-left h lt =
       let s = get_or states h no_state in
-      let k = hart_at (kept_resumed p states) h in
+      let k = kept_at (kept_resumed p states) h in
       subst (λ (x : Hart). IsHart (length p.maps) (length states) h (seen h x k)) (sym (get_or-map resumed_hart states h no_state no_hart lt))
       (hart-resumes p (length states) h s (all-in (IsHartState p) states no_state may.each h lt) (all-in IsSmallState states no_state small h lt) k
       (subst (λ (o : Option Flight). FliesIfWaiting p h s s.status o) (sym (same-flight p states stacks dead steps may h)) (may.unused h lt).flight)
       (subst (λ (o : Option Flight). IfSome o (AreHearers (length states) h)) (sym (same-flight p states stacks dead steps may h))
-      (subst (λ n. IfSome (hart_at p.harts h).flight (AreHearers n h)) may.same_harts (hearers h))))
+      (subst (λ n. IfSome (kept_at p.harts h).flight (AreHearers n h)) may.same_harts (hearers h))))
 
   resumed-parts : HasValidParts (held_resumed p states stacks dead steps)
   resumed-parts = record {
@@ -334,7 +334,7 @@ module _ (p : Parts) (states : List HartState) (stacks : List StackArea) (dead :
     one_gate = typed.one_gate;
     some_harts = omega (arith, may.some_harts, length-map states resumed_hart);
     stacks = subst (λ n. AllByRecursion (IsStack p.size n) stacks) (sym (length-map states resumed_hart)) may.areas;
-    harts = λ h lt. subst (λ n. IsHart (length p.maps) n h (seen h (hart_among (list_map resumed_hart states) h) (hart_at (kept_resumed p states) h)))
+    harts = λ h lt. subst (λ n. IsHart (length p.maps) n h (seen h (hart_among (list_map resumed_hart states) h) (kept_at (kept_resumed p states) h)))
         (sym (length-map states resumed_hart)) (each-left h (omega (arith, lt, length-map states resumed_hart)));
   }
 

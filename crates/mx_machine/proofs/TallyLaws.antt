@@ -8,8 +8,8 @@ use Rattle.mx_words.specs.Ranges.{word_of}
 use Rattle.mx_table.specs.Tables.{map_of}
 use Rattle.mx_check.specs.declared.flight.Flight.{Flight}
 use Rattle.mx_check.specs.Conditions.{IsAtHand}
-use Rattle.mx_check.specs.Harts.{Kept, at_hart, hart_at}
-use Rattle.mx_check.specs.Looks.{hits, hits_all, looked}
+use Rattle.mx_check.specs.Harts.{Kept, at_hart, kept_at}
+use Rattle.mx_check.specs.Looks.{hits, hits_all, looked_at_address}
 use Rattle.mx_check.proofs.HandLaws.{looked-hit}
 use Rattle.mx_check.proofs.HitLaws.{hit-after, hits-same, more-hit, none-hit}
 use Rattle.mx_core.specs.Bus.{Touch}
@@ -34,13 +34,13 @@ module _ (q : Parts) (h d : ℕ) where
   length-touched [] kept = refl
   length-touched (t ∷ ts) kept =
       let m = map_of q.maps d in
-      length-touched ts (looked q.buffer q.kind m h t.place d t.address kept) ∙ length-looked-at q.buffer q.kind m h d t.place (word_of t.address (length m)) kept
+      length-touched ts (looked_at_address q.buffer q.kind m h t.place d t.address kept) ∙ length-looked-at q.buffer q.kind m h d t.place (word_of t.address (length m)) kept
 
   touched-hit : (ts : List Touch) (kept : List Kept) → h < length kept → looks_all q h d ts (at_hart h (hits d) kept) ≡ at_hart h (hits d) (looks_all q h d ts kept)
   touched-hit [] kept there = refl
   touched-hit (t ∷ ts) kept there =
       let m = map_of q.maps d in
-      let next = looked q.buffer q.kind m h t.place d t.address kept in
+      let next = looked_at_address q.buffer q.kind m h t.place d t.address kept in
       let long = length-looked-at q.buffer q.kind m h d t.place (word_of t.address (length m)) kept in
       ap (λ (ks : List Kept). looks_all q h d ts ks) (hit-after q.buffer q.kind m h t.place d kept there t.address)
       ∙ touched-hit ts next (subst (λ (n : ℕ). h < n) (sym long) there)
@@ -58,33 +58,33 @@ module _ (q : Parts) (h d : ℕ) where
 
 -- what is counted of a hart
 module _ (m : Held) (h n : ℕ) (there : h < length m.parts.harts) where
-  own-kept : hart_at (tallied h n m).parts.harts h ≡ hits_all n (hart_among m.harts h).domain (hart_at m.parts.harts h)
+  own-kept : kept_at (tallied h n m).parts.harts h ≡ hits_all n (hart_among m.harts h).domain (kept_at m.parts.harts h)
   own-kept = own-step m.parts.harts h (hits_all n (hart_among m.harts h).domain) there
 
-  places-kept : in_place (hart_at (tallied h n m).parts.harts h).cache.places 0 ≡ in_place (hart_at m.parts.harts h).cache.places 0
+  places-kept : in_place (kept_at (tallied h n m).parts.harts h).cache.places 0 ≡ in_place (kept_at m.parts.harts h).cache.places 0
   places-kept =
       ap (λ (k : Kept). in_place k.cache.places 0) own-kept
-      ∙ ap (λ (ps : List (Option Span)). in_place ps 0) (hits-same n (hart_among m.harts h).domain (hart_at m.parts.harts h)).places
+      ∙ ap (λ (ps : List (Option Span)). in_place ps 0) (hits-same n (hart_among m.harts h).domain (kept_at m.parts.harts h)).places
 
   pub open-tallied : (a : ℕ) → IsOpen m h a → IsOpen (tallied h n m) h a
   open-tallied a o = record {
     quiet = o.quiet;
-    at_hand = hand-same m.parts.size a (hart_at m.parts.harts h).cache (hart_at (tallied h n m).parts.harts h).cache places-kept o.at_hand;
+    at_hand = hand-same m.parts.size a (kept_at m.parts.harts h).cache (kept_at (tallied h n m).parts.harts h).cache places-kept o.at_hand;
     gate = o.gate;
   }
 
   pub open-untallied : (a : ℕ) → IsOpen (tallied h n m) h a → IsOpen m h a
   open-untallied a o = record {
     quiet = o.quiet;
-    at_hand = hand-same m.parts.size a (hart_at (tallied h n m).parts.harts h).cache (hart_at m.parts.harts h).cache (sym places-kept) o.at_hand;
+    at_hand = hand-same m.parts.size a (kept_at (tallied h n m).parts.harts h).cache (kept_at m.parts.harts h).cache (sym places-kept) o.at_hand;
     gate = o.gate;
   }
 
   module _ (f : Fits (tallied h n m)) (own : NamesOwn m h) where
-    own-tied : IsTied (range_of m.parts) h (hart_among m.harts h) (hart_at m.parts.harts h)
+    own-tied : IsTied (range_of m.parts) h (hart_among m.harts h) (kept_at m.parts.harts h)
     own-tied =
         let x = hart_among m.harts h in
-        let k = hart_at m.parts.harts h in
+        let k = kept_at m.parts.harts h in
         let s = hits-same n x.domain k in
         let t : IsTied (range_of m.parts) h x (hits_all n x.domain k) = subst (λ (y : Kept). IsTied (range_of m.parts) h x y) own-kept (f.ties h) in
         record {
@@ -93,8 +93,8 @@ module _ (m : Held) (h n : ℕ) (there : h < length m.parts.harts) where
           domain = own;
         }
 
-    tied-there : (i : ℕ) → (i ≡ h) ⊎ (i ≢ h) → IsTied (range_of m.parts) i (hart_among m.harts i) (hart_at m.parts.harts i)
-    tied-there i (inl e) = subst (λ (j : ℕ). IsTied (range_of m.parts) j (hart_among m.harts j) (hart_at m.parts.harts j)) (sym e) own-tied
+    tied-there : (i : ℕ) → (i ≡ h) ⊎ (i ≢ h) → IsTied (range_of m.parts) i (hart_among m.harts i) (kept_at m.parts.harts i)
+    tied-there i (inl e) = subst (λ (j : ℕ). IsTied (range_of m.parts) j (hart_among m.harts j) (kept_at m.parts.harts j)) (sym e) own-tied
     tied-there i (inr ne) =
         subst (λ (y : Kept). IsTied (range_of m.parts) i (hart_among m.harts i) y) (others-step m.parts.harts h (hits_all n (hart_among m.harts h).domain) i ne) (f.ties i)
 
@@ -141,12 +141,12 @@ names-own m k h there kept after own =
     let x = hart_among m.harts h in
     let stays = (stay-all m.parts h x.domain (touches_of (effect_for m x)) m.parts.harts kept own).domain in
     let left = looks_all m.parts h x.domain (touches_of (effect_for m x)) m.parts.harts in
-    let there' : NamesOwn (after_unfetched h m) h = subst (λ (d : ℕ). IfSome (hart_at left h).domain (λ e. e ≡ d)) (sym (unfetched-domain m h there)) stays in
+    let there' : NamesOwn (after_unfetched h m) h = subst (λ (d : ℕ). IfSome (kept_at left h).domain (λ e. e ≡ d)) (sym (unfetched-domain m h there)) stays in
     subst (λ (y : Held). NamesOwn y h) (sym after) there'
 
 -- an instruction more, with the turns before it counted
 module _ (m : Held) (h n : ℕ) (there : h < length m.harts) (kept : h < length m.parts.harts)
-    (hand : IsAtHand (length (map_of m.parts.maps (hart_among m.harts h).domain)) (hart_at m.parts.harts h).cache (hart_among m.harts h).pc) where
+    (hand : IsAtHand (length (map_of m.parts.maps (hart_among m.harts h).domain)) (kept_at m.parts.harts h).cache (hart_among m.harts h).pc) where
   tallied-harts : at_hart h (hits_all (n + 1) (hart_among (after_unfetched h m).harts h).domain) (after_unfetched h m).parts.harts
       ≡ (after_instruction h false (counted (tallied h n m))).parts.harts
   tallied-harts =
@@ -156,8 +156,8 @@ module _ (m : Held) (h n : ℕ) (there : h < length m.harts) (kept : h < length 
       let ts = touches_of (effect_for m x) in
       let left = looks_all q h d ts q.harts in
       let before = at_hart h (hits_all n d) q.harts in
-      let at : IsAtHand (length (map_of q.maps d)) (hart_at before h).cache x.pc =
-      hand-same (length (map_of q.maps d)) x.pc (hart_at q.harts h).cache (hart_at before h).cache (places-kept m h n kept) hand in
+      let at : IsAtHand (length (map_of q.maps d)) (kept_at before h).cache x.pc =
+      hand-same (length (map_of q.maps d)) x.pc (kept_at q.harts h).cache (kept_at before h).cache (places-kept m h n kept) hand in
       ap (λ (e : ℕ). at_hart h (hits_all (n + 1) e) left) (unfetched-domain m h there)
       ∙ ap (λ (i : ℕ). at_hart h (hits_all i d) left) (add-one n)
       ∙ sym (touched-hits q h d (suc n) ts q.harts kept)

@@ -7,14 +7,14 @@ use Rattle.mx_words.specs.declared.tables.Kind.{Kind}
 use Rattle.mx_words.specs.declared.tables.Need.{Need}
 use Rattle.mx_table.specs.Tables.{map_of}
 use Rattle.mx_check.specs.Harts.{Kept}
-use Rattle.mx_check.specs.Looks.{looked}
+use Rattle.mx_check.specs.Looks.{looked_at_address}
 use Rattle.mx_core.specs.Bus.{Touch, Through}
 use Rattle.mx_machine.specs.declared.bus.HartBus.{HartBus}
 use Rattle.mx_machine.specs.Bus.{IsTouch}
 
 -- what the checks of touches leave of the harts
 abbrev pub looks_over : Kind → ℕ → List (List Perm) → ℕ → ℕ → List Touch → List Kept → List Kept
-looks_over kind most ms d h ts kept = fold (λ kept (t : Touch). looked most kind (map_of ms d) h t.place d t.address kept) kept ts
+looks_over kind most ms d h ts kept = fold (λ kept (t : Touch). looked_at_address most kind (map_of ms d) h t.place d t.address kept) kept ts
 
 module _ {T : Type 0} {N : ℕ} (kind : Kind) (maps : T → List (List Perm)) (size : T → ℕ) (limit : T → Need) (lookups : T → ℕ) (most : ℕ) where
   pub record AreTouched (a : HartBus T N) (ts : List Touch) (b : HartBus T N) : Type 0 where

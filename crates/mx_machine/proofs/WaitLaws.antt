@@ -3,7 +3,7 @@ use Rattle.std.proofs.Common.{◌≡◌, ℕ, zero, suc, ◌<◌, Bool, true, fa
 use Rattle.std.specs.List.{list_any}
 use Rattle.std.proofs.lemmas.Bool.{or_parts}
 use Rattle.mx_check.specs.Calls.{is_ready}
-use Rattle.mx_check.specs.Harts.{hart_at as kept_at}
+use Rattle.mx_check.specs.Harts.{kept_at}
 use Rattle.mx_words.specs.Announced.{is_announced}
 use Rattle.mx_model.specs.declared.values.TurnKind.TheVariants as T
 use Rattle.mx_model.specs.Events.{Events, no_events}

@@ -14,8 +14,8 @@ use Rattle.mx_words.proofs.OverlayLaws.{covers_in}
 use Rattle.mx_words.specs.Reach.{span}
 use Rattle.mx_table.specs.Tables.{map_of}
 use Rattle.mx_check.specs.Conditions.{IsAtHand}
-use Rattle.mx_check.specs.Harts.{Kept, at_hart, hart_at}
-use Rattle.mx_check.specs.Looks.{hits, is_forbidden, looked, looked_at, looks, with_domain}
+use Rattle.mx_check.specs.Harts.{Kept, at_hart, kept_at}
+use Rattle.mx_check.specs.Looks.{hits, is_forbidden, looked_at_address, looked_at, looks, with_domain}
 use Rattle.mx_check.proofs.HandLaws.{looked-hit}
 use Rattle.mx_core.specs.Bus.{Touch}
 use Rattle.mx_core.specs.Exec.{regs_after, touches_of}
@@ -74,26 +74,26 @@ module _ (most p domain word : ℕ) (walked : Span) (other : p ≢ 0) where
   checked-elsewhere c b = at-elsewhere c b (found_in_place c.places p word)
 
 -- after a check of hart h
-module _ (most : ℕ) (kind : Kind) (m : List Perm) (h d size a : ℕ) (kept : List Kept) (there : h < length kept) (hand : IsAtHand size (hart_at kept h).cache a) where
-  step-hand : (step : Kept → Kept) → in_place (step (hart_at kept h)).cache.places 0 ≡ in_place (hart_at kept h).cache.places 0 →
-      IsAtHand size (hart_at (at_hart h step kept) h).cache a
+module _ (most : ℕ) (kind : Kind) (m : List Perm) (h d size a : ℕ) (kept : List Kept) (there : h < length kept) (hand : IsAtHand size (kept_at kept h).cache a) where
+  step-hand : (step : Kept → Kept) → in_place (step (kept_at kept h)).cache.places 0 ≡ in_place (kept_at kept h).cache.places 0 →
+      IsAtHand size (kept_at (at_hart h step kept) h).cache a
   step-hand step same =
-      hand-same size a (hart_at kept h).cache (hart_at (at_hart h step kept) h).cache
+      hand-same size a (kept_at kept h).cache (kept_at (at_hart h step kept) h).cache
       (ap (λ (k : Kept). in_place k.cache.places 0) (own-step kept h step there) ∙ same) hand
 
-  look-hand-at : (p : ℕ) (o : Option ℕ) → p ≢ 0 → IsAtHand size (hart_at (looked_at most kind m h p d o kept) h).cache a
+  look-hand-at : (p : ℕ) (o : Option ℕ) → p ≢ 0 → IsAtHand size (kept_at (looked_at most kind m h p d o kept) h).cache a
   look-hand-at p None other = step-hand (with_domain d) refl
   look-hand-at p (Some w) other =
       let s = span kind m w in
       let b = is_forbidden h s kept in
-      step-hand (looks most p d w s b) (checked-elsewhere most p d w s other (hart_at kept h).cache b)
+      step-hand (looks most p d w s b) (checked-elsewhere most p d w s other (kept_at kept h).cache b)
 
-  look-hand : (p address : ℕ) → p ≢ 0 → IsAtHand size (hart_at (looked most kind m h p d address kept) h).cache a
+  look-hand : (p address : ℕ) → p ≢ 0 → IsAtHand size (kept_at (looked_at_address most kind m h p d address kept) h).cache a
   look-hand p address other = look-hand-at p (word_of address (length m)) other
 
-  fetch-hand : (pc : ℕ) → IsAtHand (length m) (hart_at kept h).cache pc → IsAtHand size (hart_at (looked most kind m h 0 d pc kept) h).cache a
+  fetch-hand : (pc : ℕ) → IsAtHand (length m) (kept_at kept h).cache pc → IsAtHand size (kept_at (looked_at_address most kind m h 0 d pc kept) h).cache a
   fetch-hand pc at =
-      subst (λ (ks : List Kept). IsAtHand size (hart_at ks h).cache a) (looked-hit most kind m h d pc kept at) (step-hand (hits d) refl)
+      subst (λ (ks : List Kept). IsAtHand size (kept_at ks h).cache a) (looked-hit most kind m h d pc kept at) (step-hand (hits d) refl)
 
 pub length-looked-at : (most : ℕ) (kind : Kind) (m : List Perm) (h d p : ℕ) (o : Option ℕ) (kept : List Kept) → length (looked_at most kind m h p d o kept) ≡ length kept
 length-looked-at most kind m h d p None kept = count-step kept h (with_domain d)
@@ -101,28 +101,28 @@ length-looked-at most kind m h d p (Some w) kept =
     count-step kept h (looks most p d w (span kind m w) (is_forbidden h (span kind m w) kept))
 
 -- after touches at other places
-away-hand : (q : Parts) (h d size a : ℕ) (ts : List Touch) (kept : List Kept) → h < length kept → AreAway ts → IsAtHand size (hart_at kept h).cache a →
-    IsAtHand size (hart_at (looks_all q h d ts kept) h).cache a
+away-hand : (q : Parts) (h d size a : ℕ) (ts : List Touch) (kept : List Kept) → h < length kept → AreAway ts → IsAtHand size (kept_at kept h).cache a →
+    IsAtHand size (kept_at (looks_all q h d ts kept) h).cache a
 away-hand q h d size a [] kept there away hand = hand
 away-hand q h d size a (t ∷ ts) kept there away hand =
     let m = map_of q.maps d in
-    let next = looked q.buffer q.kind m h t.place d t.address kept in
+    let next = looked_at_address q.buffer q.kind m h t.place d t.address kept in
     let long = length-looked-at q.buffer q.kind m h d t.place (word_of t.address (length m)) kept in
     away-hand q h d size a ts next (subst (λ n. h < n) (sym long) there) away.1
     (look-hand q.buffer q.kind m h d size a kept there hand t.place t.address away.0)
 
 -- an instruction whose fetch is at hand, and which touches other places, leaves what is at hand
-module _ (m : Held) (h : ℕ) (r : MayRun m h) (hand : IsAtHand m.parts.size (hart_at m.parts.harts h).cache (hart_among m.harts h).pc)
+module _ (m : Held) (h : ℕ) (r : MayRun m h) (hand : IsAtHand m.parts.size (kept_at m.parts.harts h).cache (hart_among m.harts h).pc)
     (away : AreAway (touches_of (effect_for m (hart_among m.harts h)))) where
-  kept-hand : (a : ℕ) → IsAtHand m.parts.size (hart_at m.parts.harts h).cache a → IsAtHand m.parts.size (hart_at (after_instruction h false m).parts.harts h).cache a
+  kept-hand : (a : ℕ) → IsAtHand m.parts.size (kept_at m.parts.harts h).cache a → IsAtHand m.parts.size (kept_at (after_instruction h false m).parts.harts h).cache a
   kept-hand a at =
       let x = hart_among m.harts h in
       let q = m.parts in
       let ms = map_of q.maps x.domain in
       let there = kept-there m h r.act in
-      let first = looked q.buffer q.kind ms h 0 x.domain x.pc q.harts in
+      let first = looked_at_address q.buffer q.kind ms h 0 x.domain x.pc q.harts in
       let whole = r.act.fits.sound.maps x.domain r.act.domain in
-      let fetched-hand = subst (λ n. IsAtHand n (hart_at q.harts h).cache x.pc) (sym whole) hand in
+      let fetched-hand = subst (λ n. IsAtHand n (kept_at q.harts h).cache x.pc) (sym whole) hand in
       let long = length-looked-at q.buffer q.kind ms h x.domain 0 (word_of x.pc (length ms)) q.harts in
       away-hand q h x.domain q.size a (touches_of (effect_for m x)) first (subst (λ n. h < n) (sym long) there) away
       (fetch-hand q.buffer q.kind ms h x.domain q.size a q.harts there at x.pc fetched-hand)
@@ -177,12 +177,12 @@ executable P.ExecuteRead e = refl
 
 -- words of a span that place 0 holds and that may be executed, between gates and in RAM
 module _ (m : Held) (h word first end : ℕ) (s : Span) (quiet : m.waiting ≡ false) (few : m.parts.size ≤ most_words)
-    (found : found_in_place (hart_at m.parts.harts h).cache.places 0 word ≡ Some s) (right : allows s.perm Execute ≡ true)
+    (found : found_in_place (kept_at m.parts.harts h).cache.places 0 word ≡ Some s) (right : allows s.perm Execute ≡ true)
     (clear : (w : ℕ) → first ≤ w → w < end → gate_target m.parts.gates (hart_among m.harts h).domain w ≡ None)
     (low : s.first ≤ first) (high : end ≤ s.first + s.count) (within : end ≤ m.parts.size) where
   found-open : (a w : ℕ) → word_of a m.parts.size ≡ Some w → first ≤ w → w < end → IsOpen m h a
   found-open a w here from upto =
-      let places = (hart_at m.parts.harts h).cache.places in
+      let places = (kept_at m.parts.harts h).cache.places in
       let d = (hart_among m.harts h).domain in
       let inside : covers_word s w ≡ true = covers_in s.first s.count w (omega (arith, low, from)) (omega (arith, high, upto)) in
       let answers : found_in_place places 0 w ≡ Some s = ap (λ (o : Option Span). option_map_or (λ (x : Span). cond (covers_word x w) (Some x) None) o None) (place-holds places word s found)

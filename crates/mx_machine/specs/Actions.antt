@@ -5,7 +5,7 @@ use Rattle.mx_table.specs.Tables.{map_of}
 use Rattle.mx_check.specs.Calls.{hears}
 use Rattle.mx_check.specs.Harts.{Kept, at_hart, leaves_domain}
 use Rattle.mx_check.specs.Harts.{halts as counts_as_halted}
-use Rattle.mx_check.specs.Looks.{looked}
+use Rattle.mx_check.specs.Looks.{looked_at_address}
 use Rattle.mx_core.specs.declared.outcome.Outcome.{Outcome}
 use Rattle.mx_core.specs.Bus.{Touch}
 use Rattle.mx_core.specs.Exec.{fetched, outcome_of, regs_after, bytes_after, fetch_touch, touches_of}
@@ -37,7 +37,7 @@ heard h m = record m { parts = record m.parts { harts = hears h m.parts.harts } 
 -- the checks of a domain's touches by hart h
 abbrev pub looks_all : Parts → ℕ → ℕ → List Touch → List Kept → List Kept
 looks_all p h d touches harts =
-    fold (λ kept (t : Touch). looked p.buffer p.kind (map_of p.maps d) h t.place d t.address kept)
+    fold (λ kept (t : Touch). looked_at_address p.buffer p.kind (map_of p.maps d) h t.place d t.address kept)
     harts touches
 
 -- the permissions of a hart, and the effect of the instruction at its pc

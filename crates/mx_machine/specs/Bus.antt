@@ -9,8 +9,8 @@ use Rattle.mx_words.specs.Ranges.{ram_base, word_of}
 use Rattle.mx_words.specs.Rights.{perm_at}
 use Rattle.mx_table.specs.Tables.{map_of, IsDomain}
 use Rattle.mx_check.specs.Conditions.{MayLook}
-use Rattle.mx_check.specs.Harts.{hart_at}
-use Rattle.mx_check.specs.Looks.{looked, lookups_after}
+use Rattle.mx_check.specs.Harts.{kept_at}
+use Rattle.mx_check.specs.Looks.{looked_at_address, lookups_after}
 use Rattle.mx_model.specs.Reads.{map_in}
 use Rattle.mx_machine.specs.declared.bus.HartBus.{HartBus}
 
@@ -43,9 +43,9 @@ pub record IsTouch {T : Type 0} {N : ℕ} (kind : Kind) (maps : T → List (List
   pub same_gates : new.supervisor.gates ≡ old.supervisor.gates
   pub same_heaps : new.supervisor.heaps ≡ old.supervisor.heaps
   pub harts_after : new.supervisor.checker.harts
-      ≡ looked most kind (map_of (maps old.supervisor.checker.tables) old.domain)
+      ≡ looked_at_address most kind (map_of (maps old.supervisor.checker.tables) old.domain)
       old.hart place old.domain address old.supervisor.checker.harts
   pub counted : lookups new.supervisor.checker.tables
       ≡ lookups_after (map_of (maps old.supervisor.checker.tables) old.domain)
       place old.domain address
-      (hart_at old.supervisor.checker.harts old.hart).cache (lookups old.supervisor.checker.tables)
+      (kept_at old.supervisor.checker.harts old.hart).cache (lookups old.supervisor.checker.tables)

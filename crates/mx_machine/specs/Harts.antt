@@ -2,7 +2,7 @@
 use Rattle.std.specs.Prelude.{ℕ, ◌+◌, Bool, true, false, List, [], ◌∷◌, replicate, slice_index_or, slice_set, Option, Some, None}
 use Rattle.mx_words.specs.Hearing.{nobody}
 use Rattle.mx_check.specs.declared.flight.Flight.{Flight}
-use Rattle.mx_check.specs.Harts.{Kept, hart_at}
+use Rattle.mx_check.specs.Harts.{Kept, kept_at}
 use Rattle.mx_model.specs.declared.values.Call.{Call}
 use Rattle.mx_model.specs.State.{Status, Running, Waiting, Halted}
 use Rattle.mx_model.specs.State.{Hart as Seen}
@@ -50,7 +50,7 @@ seen h x k = seen_with (status_by (own_call h x) k.flight x.progress) x
 -- the harts of the state from hart h on
 abbrev pub seen_from : ℕ → List Hart → List Kept → List Seen
 seen_from h [] kept = []
-seen_from h (x ∷ xs) kept = seen h x (hart_at kept h) ∷ seen_from (h + 1) xs kept
+seen_from h (x ∷ xs) kept = seen h x (kept_at kept h) ∷ seen_from (h + 1) xs kept
 
 -- whether a hart is halted, and whether it waits
 abbrev pub is_halted : Progress → Bool

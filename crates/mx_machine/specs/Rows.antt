@@ -1,6 +1,6 @@
 -- Turns of one hart in a row: what holds after some of them, and what the rest of a row comes to.
 use Rattle.std.specs.Prelude.{◌≡◌, ℕ, ◌+◌, ◌<◌, false, IfSome, Option, Some, None}
-use Rattle.mx_check.specs.Harts.{at_hart, hart_at}
+use Rattle.mx_check.specs.Harts.{at_hart, kept_at}
 use Rattle.mx_check.specs.Looks.{hits_all}
 use Rattle.mx_isa.specs.declared.inst.Inst.{Inst}
 use Rattle.mx_core.specs.declared.outcome.Outcome.{Outcome}
@@ -41,7 +41,7 @@ tallied h n m = record m {
 -- no other domain is kept for hart h than its own
 abbrev pub NamesOwn : Held → ℕ → Type 0
 NamesOwn m h =
-    IfSome (hart_at m.parts.harts h).domain (λ d. d ≡ (hart_among m.harts h).domain)
+    IfSome (kept_at m.parts.harts h).domain (λ d. d ≡ (hart_among m.harts h).domain)
 
 -- an instruction of hart h inside a window, which its row carries out, in a turn that isn't counted yet, nor its fetch
 pub record IsQuick (old : Held) (h : ℕ) (outcome : Outcome) (new : Held) : Type 0 where

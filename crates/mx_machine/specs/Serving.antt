@@ -2,7 +2,7 @@
 use Rattle.std.specs.Prelude.{◌≡◌, ◌≢◌, ℕ, ◌<◌, ◌≤◌, false, length, IfSome}
 use Rattle.mx_words.specs.Limits.{most_harts, most_domains}
 use Rattle.mx_table.specs.Tables.{IsDomain}
-use Rattle.mx_check.specs.Harts.{hart_at}
+use Rattle.mx_check.specs.Harts.{kept_at}
 use Rattle.mx_model.specs.declared.values.Call.{Call}
 use Rattle.mx_supervisor.specs.Parts.{IsSound}
 use Rattle.mx_supervisor.specs.Served.{MayServe, range_of}
@@ -23,8 +23,8 @@ pub record IsServing (m : Held) (h : ℕ) (call : Call) : Type 0 where
   pub domain : IsDomain m.parts.maps call.domain
   pub may : MayServe m.parts call
   pub bars : BarsAlike (rest_of m) m.parts h
-  pub running : (hart_at m.parts.harts h).halted ≡ false
-  pub kept_domain : IfSome (hart_at m.parts.harts h).domain (λ d. d ≡ (hart_among m.harts h).domain)
+  pub running : (kept_at m.parts.harts h).halted ≡ false
+  pub kept_domain : IfSome (kept_at m.parts.harts h).domain (λ d. d ≡ (hart_among m.harts h).domain)
   pub others : (i : ℕ) → i ≢ h →
-      IsTied (range_of m.parts) i (hart_among m.harts i) (hart_at m.parts.harts i)
+      IsTied (range_of m.parts) i (hart_among m.harts i) (kept_at m.parts.harts i)
   pub quiet : m.waiting ≡ false → (i : ℕ) → is_waiting (hart_among m.harts i).progress ≡ false

@@ -7,7 +7,7 @@ use Rattle.mx_words.specs.Caches.{no_cache}
 use Rattle.mx_words.specs.Limits.{most_domains}
 use Rattle.mx_table.specs.Tables.{IsDomain}
 use Rattle.mx_check.specs.Calls.{new_harts}
-use Rattle.mx_check.specs.Harts.{Kept, hart_at}
+use Rattle.mx_check.specs.Harts.{Kept, kept_at}
 use Rattle.mx_check.specs.declared.flight.Flight.{Flight}
 use Rattle.mx_model.specs.declared.values.Frame.{Frame}
 use Rattle.mx_model.specs.State.{Flat}
@@ -127,7 +127,7 @@ pub record MayResume (p : Parts) (states : List HartState) (stacks : List StackA
   pub same_harts : length p.harts ≡ length states
   pub each : AllByRecursion (IsHartState p) states
   pub unused : (h : ℕ) → h < length states →
-      IsUnused p h (slice_index_or states h no_state) (hart_at p.harts h)
+      IsUnused p h (slice_index_or states h no_state) (kept_at p.harts h)
   pub count : length stacks ≡ length p.maps
   pub areas : AllByRecursion (IsStack p.size (length states)) stacks
   pub dead_modules : (d : ℕ) → slice_index_or dead d false ≡ true → IsDomain p.maps d

@@ -4,7 +4,7 @@ use Rattle.mx_words.specs.Limits.{most_harts, most_domains}
 use Rattle.mx_table.specs.Tables.{IsDomain}
 use Rattle.mx_check.specs.declared.flight.Flight.{Flight}
 use Rattle.mx_check.specs.Conditions.{HasHeardAll}
-use Rattle.mx_check.specs.Harts.{Kept, hart_at}
+use Rattle.mx_check.specs.Harts.{Kept, kept_at}
 use Rattle.mx_model.specs.declared.values.Call.{Call}
 use Rattle.mx_model.specs.Valid.{IsValid}
 use Rattle.mx_coherence.specs.Coherence.{flat_coherent}
@@ -46,7 +46,7 @@ pub record Fits (m : Held) : Type 0 where
   pub few : length m.harts ≤ most_harts
   pub stacks : length m.stacks ≡ length m.parts.heaps
   pub dead : length m.dead ≡ most_domains
-  pub ties : (h : ℕ) → IsTied (range_of m.parts) h (hart_among m.harts h) (hart_at m.parts.harts h)
+  pub ties : (h : ℕ) → IsTied (range_of m.parts) h (hart_among m.harts h) (kept_at m.parts.harts h)
   pub quiet : m.waiting ≡ false → (h : ℕ) → is_waiting (hart_among m.harts h).progress ≡ false
 
 -- what is true of a machine at every moment between its calls

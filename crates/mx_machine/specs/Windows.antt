@@ -2,7 +2,7 @@
 use Rattle.std.specs.Prelude.{◌≡◌, ℕ, ◌+◌, ◌^◌, ◌≤◌, true, false, None}
 use Rattle.mx_words.specs.Ranges.{covers}
 use Rattle.mx_check.specs.Conditions.{IsAtHand}
-use Rattle.mx_check.specs.Harts.{hart_at}
+use Rattle.mx_check.specs.Harts.{kept_at}
 use Rattle.mx_model.specs.declared.values.TurnKind.TheVariants as T
 use Rattle.mx_model.specs.Events.{Events, no_events}
 use Rattle.mx_model.specs.Run.{flat_made}
@@ -19,7 +19,7 @@ use Rattle.mx_machine.specs.Ties.{Fits, RunsAlive}
 -- no hart waits, the fetch of an address is at hand for hart h, and no gate of its domain stands there
 pub record IsOpen (m : Held) (h address : ℕ) : Type 0 where
   pub quiet : m.waiting ≡ false
-  pub at_hand : IsAtHand m.parts.size (hart_at m.parts.harts h).cache address
+  pub at_hand : IsAtHand m.parts.size (kept_at m.parts.harts h).cache address
   pub gate : gate_here m (hart_among m.harts h).domain address ≡ None
 
 -- so it is at each address of a window

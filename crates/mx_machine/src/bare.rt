@@ -6,7 +6,7 @@ ghost use Rattle.mx_words.specs.Limits.{most_frames};
 ghost use Rattle.mx_table.specs.Tables.{IsDomain};
 ghost use Rattle.mx_check.specs.Calls.{is_ready};
 ghost use Rattle.mx_check.specs.Conditions.{HasHeardAll, IsAtHand, MayLook, MayAnnounce, IsWithin};
-ghost use Rattle.mx_check.specs.Harts.{hart_at, announced};
+ghost use Rattle.mx_check.specs.Harts.{kept_at, announced};
 ghost use Rattle.mx_isa.specs.Ranges.{IsValid as IsInst};
 ghost use Rattle.mx_core.specs.Bus.{load_at};
 ghost use Rattle.mx_core.specs.Exec.{HasCause};
@@ -91,9 +91,9 @@ impl<T: PermTables, const N: usize> Bare<T, N> {
     #[inline(always)]
     pub fn hear(&mut self, hart: u32)
         requires hart { hart < length self.old.parts.harts }
-        requires running { (hart_at self.old.parts.harts hart).halted ≡ false }
+        requires running { (kept_at self.old.parts.harts hart).halted ≡ false }
         requires quiet { self.old.waiting ≡ false → (i : ℕ) →
-            (hart_at self.old.parts.harts i).flight ≡ None }
+            (kept_at self.old.parts.harts i).flight ≡ None }
         ensures after { self.new ≡ heard hart self.old }
         ensures all { HasHeardAll hart self.new.parts.harts }
     {
@@ -127,7 +127,7 @@ impl<T: PermTables, const N: usize> Bare<T, N> {
         requires look { MayLook hart (hart_among self.old.harts hart).domain self.old.parts.harts }
         requires domain { IsDomain self.old.parts.maps (hart_among self.old.harts hart).domain }
         requires aligned { (hart_among self.old.harts hart).pc % 4 ≡ 0 }
-        requires at_hand { IsAtHand self.old.parts.size (hart_at self.old.parts.harts hart).cache
+        requires at_hand { IsAtHand self.old.parts.size (kept_at self.old.parts.harts hart).cache
             (hart_among self.old.harts hart).pc }
         requires quick { quick (load_at self.old.parts.ram (hart_among self.old.harts hart).pc 4)
             ≡ Some inst }
@@ -194,7 +194,7 @@ impl<T: PermTables, const N: usize> Bare<T, N> {
     pub fn fall(&mut self, hart: u32, cause: u32)
         requires there { hart < length self.old.harts }
         requires kept { hart < length self.old.parts.harts }
-        requires free { (hart_at self.old.parts.harts hart).flight ≡ None }
+        requires free { (kept_at self.old.parts.harts hart).flight ≡ None }
         requires cause { cause < 256 }
         ensures { self.new ≡ fallen hart cause self.old }
     {
@@ -269,7 +269,7 @@ impl<T: PermTables, const N: usize> Bare<T, N> {
     pub fn halt_left(&mut self)
         requires count { length self.old.harts ≡ length self.old.parts.harts }
         requires free { (h : ℕ) → is_halted (hart_among self.old.harts h).progress ≡ true →
-            (hart_at self.old.parts.harts h).flight ≡ None }
+            (kept_at self.old.parts.harts h).flight ≡ None }
         ensures { self.new
             ≡ record self.old {
               parts = record self.old.parts {
@@ -287,7 +287,7 @@ impl<T: PermTables, const N: usize> Bare<T, N> {
     fn halt_one(&mut self, hart: u32)
         requires kept { hart < length self.old.parts.harts }
         requires free { is_halted (hart_among self.old.harts hart).progress ≡ true →
-            (hart_at self.old.parts.harts hart).flight ≡ None }
+            (kept_at self.old.parts.harts hart).flight ≡ None }
         ensures { self.new
             ≡ record self.old {
               parts = record self.old.parts

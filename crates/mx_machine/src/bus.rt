@@ -3,7 +3,7 @@ ghost use Rattle.std.specs.Prelude.{◌≡◌, ◌<◌, ◌%◌, ◌^◌, not, f
 ghost use Rattle.mx_words.specs.Bytes.{IsSize, number_at};
 ghost use Rattle.mx_words.specs.declared.perm.Access.TheVariants.{Execute};
 ghost use Rattle.mx_check.specs.Conditions.{IsAtHand};
-ghost use Rattle.mx_check.specs.Harts.{hart_at};
+ghost use Rattle.mx_check.specs.Harts.{kept_at};
 ghost use Rattle.mx_core.specs.Bus.{denied};
 ghost use Rattle.mx_memory.specs.Places.{place_of, IsInside};
 ghost use Rattle.mx_machine.specs.Bus.{perm_from, IsInRam, IsUsable, IsTouch};
@@ -49,7 +49,7 @@ impl<T: PermTables, const N: usize> HartBus<T, N> {
     pub fn known(&self, addr: u32)
         requires usable { IsUsable T.maps T.size self.now }
         requires at_hand { IsAtHand (T.size self.now.supervisor.checker.tables)
-            (hart_at self.now.supervisor.checker.harts self.now.hart).cache addr }
+            (kept_at self.now.supervisor.checker.harts self.now.hart).cache addr }
         ensures { denied (perm_from (T.size self.now.supervisor.checker.tables)
             (T.maps self.now.supervisor.checker.tables) self.now.domain) addr Execute ≡ false }
     {

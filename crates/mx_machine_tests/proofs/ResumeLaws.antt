@@ -11,7 +11,7 @@ use Rattle.mx_table.proofs.NamedLaws.{everywhere}
 use Rattle.mx_check.specs.declared.flight.Flight.{Flight}
 use Rattle.mx_check.specs.Calls.{waiting_hart, waiting_harts}
 use Rattle.mx_check.specs.Conditions.{IsResumable}
-use Rattle.mx_check.specs.Harts.{Kept, hart_at}
+use Rattle.mx_check.specs.Harts.{Kept, kept_at}
 use Rattle.mx_model.specs.declared.values.Call.{Call}
 use Rattle.mx_supervisor.specs.Heaps.{heap_at}
 use Rattle.mx_supervisor.specs.Parts.{Parts}
@@ -33,15 +33,15 @@ may-fly first count size e inside =
     All-cons (IsResumable 3 size) (unheard first count) []
     (record { hart = omega arith; range = inr (subst (λ n. first + count ≤ n) (sym e) inside); heard = λ i h. no-one 4 i h }) (All-nil (IsResumable 3 size))
 
-kept-first : (fs : List Flight) → hart_at (waiting_harts fs 3) 0 ≡ waiting_hart fs 0
+kept-first : (fs : List Flight) → kept_at (waiting_harts fs 3) 0 ≡ waiting_hart fs 0
 unfolding list_below
 kept-first fs = refl
 
-kept-second : (fs : List Flight) → hart_at (waiting_harts fs 3) 1 ≡ waiting_hart fs 1
+kept-second : (fs : List Flight) → kept_at (waiting_harts fs 3) 1 ≡ waiting_hart fs 1
 unfolding list_below
 kept-second fs = refl
 
-kept-third : (fs : List Flight) → hart_at (waiting_harts fs 3) 2 ≡ waiting_hart fs 2
+kept-third : (fs : List Flight) → kept_at (waiting_harts fs 3) 2 ≡ waiting_hart fs 2
 unfolding list_below
 kept-third fs = refl
 
@@ -75,9 +75,9 @@ module _ (p : Parts) (count first words d0 pc0 : ℕ) (regs0 : List ℕ) (d1 pc1
       ∙ ap (λ n. range_words (slice_index regs0 10) (slice_index regs0 11) n) size
       ∙ ap (λ (o : Option (ℕ × ℕ)). unwrap_or o (0, 0)) range
 
-  unused : (h : ℕ) → h < 3 → IsUnused p h (get_or (left_states d0 pc0 regs0 d1 pc1 regs1 d2 pc2 regs2) h no_state) (hart_at p.harts h)
+  unused : (h : ℕ) → h < 3 → IsUnused p h (get_or (left_states d0 pc0 regs0 d1 pc1 regs1 d2 pc2 regs2) h no_state) (kept_at p.harts h)
   unused zero l =
-      subst (λ (k : Kept). IsUnused p 0 (left_state V.Waiting d0 pc0 regs0) k) (sym (ap (λ (hs : List Kept). hart_at hs 0) harts ∙ kept-first fs)) (record {
+      subst (λ (k : Kept). IsUnused p 0 (left_state V.Waiting d0 pc0 regs0) k) (sym (ap (λ (hs : List Kept). kept_at hs 0) harts ∙ kept-first fs)) (record {
         cache = refl;
         halted = refl;
         domain = refl;
@@ -87,10 +87,10 @@ module _ (p : Parts) (count first words d0 pc0 : ℕ) (regs0 : List ℕ) (d1 pc1
         };
       })
   unused (suc zero) l =
-      subst (λ (k : Kept). IsUnused p 1 (left_state V.Halted d1 pc1 regs1) k) (sym (ap (λ (hs : List Kept). hart_at hs 1) harts ∙ kept-second fs))
+      subst (λ (k : Kept). IsUnused p 1 (left_state V.Halted d1 pc1 regs1) k) (sym (ap (λ (hs : List Kept). kept_at hs 1) harts ∙ kept-second fs))
       (record { cache = refl; halted = refl; domain = refl; flight = refl })
   unused (suc (suc zero)) l =
-      subst (λ (k : Kept). IsUnused p 2 (left_state V.Running d2 pc2 regs2) k) (sym (ap (λ (hs : List Kept). hart_at hs 2) harts ∙ kept-third fs))
+      subst (λ (k : Kept). IsUnused p 2 (left_state V.Running d2 pc2 regs2) k) (sym (ap (λ (hs : List Kept). kept_at hs 2) harts ∙ kept-third fs))
       (record { cache = refl; halted = refl; domain = refl; flight = refl })
   unused (suc (suc (suc h))) l = absurd (omega (arith, l))
 

@@ -13,7 +13,7 @@ use Rattle.mx_check.specs.declared.flight.Flight.{Flight}
 use Rattle.mx_check.specs.Calls.{waiting_hart, waiting_harts}
 use Rattle.mx_check.specs.Flights.{flight_of}
 use Rattle.mx_check.specs.Harts.{Kept}
-use Rattle.mx_check.specs.Harts.{hart_at as kept_at, no_hart as nothing_kept}
+use Rattle.mx_check.specs.Harts.{kept_at, nothing_kept}
 use Rattle.mx_heap.specs.HeapState.{HeapState}
 use Rattle.mx_model.specs.State.{Core, Flat, Hart, Module, Stack, flat, module_at, most_modules, no_module}
 use Rattle.mx_supervisor.specs.Heaps.{no_area, told_heap}

@@ -14,7 +14,7 @@ use Rattle.mx_check.specs.declared.flight.Flight.{Flight}
 use Rattle.mx_check.specs.Calls.{waiting_hart}
 use Rattle.mx_check.specs.Conditions.{IsResumable}
 use Rattle.mx_check.specs.Harts.{Kept}
-use Rattle.mx_check.specs.Harts.{hart_at as kept_at}
+use Rattle.mx_check.specs.Harts.{kept_at}
 use Rattle.mx_heap.specs.HeapState.{HeapState}
 use Rattle.mx_model.specs.declared.values.Frame.{Frame}
 use Rattle.mx_model.specs.State.{most_modules}

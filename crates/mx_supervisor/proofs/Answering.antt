@@ -1,7 +1,7 @@
 -- How a row of the table of calls meets the model's: by what it changed, and by its answer.
 use Rattle.std.proofs.Common.{◌≡◌, ℕ, true, false, List, [], length, refl, sym, subst, inl, ◌∙◌, ap, Some, ◌≤◌, nat_le, arith}
 use Rattle.std.proofs.lemmas.Bool.{leb-true}
-use Rattle.mx_check.specs.Harts.{Kept, hart_at}
+use Rattle.mx_check.specs.Harts.{Kept, kept_at}
 use Rattle.mx_model.specs.declared.values.Call.{Call}
 use Rattle.mx_model.specs.declared.values.Gate.{Gate}
 use Rattle.mx_words.specs.Newest.{Give, laid}
@@ -20,7 +20,7 @@ abbrev pub row_on : (Reads → Core → Call → Served) → Call → Parts → 
 row_on row call p rest = row (flat_reads (flat_of rest p)) (core_of rest p) call
 
 -- nothing changed
-pub same-harts : (call : Call) (harts : List Kept) → KeepsHarts call (hart_at harts call.hart).flight harts harts
+pub same-harts : (call : Call) (harts : List Kept) → KeepsHarts call (kept_at harts call.hart).flight harts harts
 same-harts call harts = record { count = refl; others = λ i ne. refl; halted = refl; flight = refl; domain = inl refl }
 
 pub same-sizes : (p : Parts) → KeepsSizes p p
@@ -58,7 +58,7 @@ pub told-rest : (rest : Core) (p : Parts) (n : ℕ) (a : Answer) (s : Served) �
 told-rest rest p n a s ea es = rw (ea, es) (record { core = refl; maps = refl; owners = refl; console = refl; a0 = refl; a1 = refl; stop = refl })
 
 pub told : (row : Reads → Core → Call → Served) (call : Call) (p : Parts) (n : ℕ) (a : Answer) → IsSound p → a ≡ plain n →
-    ((rest : Core) → row_on row call p rest ≡ answers (core_of rest p) n) → Meets row call (hart_at p.harts call.hart).flight p p [] a
+    ((rest : Core) → row_on row call p rest ≡ answers (core_of rest p) n) → Meets row call (kept_at p.harts call.hart).flight p p [] a
 told row call p n a sound ea es = record {
   served = λ rest bars. told-rest rest p n a (row_on row call p rest) ea (es rest);
   refused = λ e. same-parts p;
@@ -68,25 +68,25 @@ told row call p n a sound ea es = record {
 }
 
 pub refuses : (row : Reads → Core → Call → Served) (call : Call) (p : Parts) (n : ℕ) (a : Answer) → IsSound p → a ≡ refusal n →
-    ((rest : Core) → row_on row call p rest ≡ answers (core_of rest p) (code n)) → Meets row call (hart_at p.harts call.hart).flight p p [] a
+    ((rest : Core) → row_on row call p rest ≡ answers (core_of rest p) (code n)) → Meets row call (kept_at p.harts call.hart).flight p p [] a
 refuses row call p n a sound ea es = told row call p (code n) a sound ea es
 
 -- the same of parts that are those from before
 pub refuses-after : (row : Reads → Core → Call → Served) (call : Call) (p q : Parts) (n : ℕ) (a : Answer) → IsSound p → q ≡ p → a ≡ refusal n →
-    ((rest : Core) → row_on row call p rest ≡ answers (core_of rest p) (code n)) → Meets row call (hart_at p.harts call.hart).flight p q [] a
+    ((rest : Core) → row_on row call p rest ≡ answers (core_of rest p) (code n)) → Meets row call (kept_at p.harts call.hart).flight p q [] a
 refuses-after row call p q n a sound same ea es =
-    subst (λ (q : Parts). Meets row call (hart_at p.harts call.hart).flight p q [] a) (sym same) (refuses row call p n a sound ea es)
+    subst (λ (q : Parts). Meets row call (kept_at p.harts call.hart).flight p q [] a) (sym same) (refuses row call p n a sound ea es)
 
 -- the same, where no console bytes stand
 pub told-bytes : (row : Reads → Core → Call → Served) (call : Call) (p : Parts) (n : ℕ) (bytes : List ℕ) (a : Answer) → IsSound p → bytes ≡ [] → a ≡ plain n →
-    ((rest : Core) → row_on row call p rest ≡ answers (core_of rest p) n) → Meets row call (hart_at p.harts call.hart).flight p p bytes a
+    ((rest : Core) → row_on row call p rest ≡ answers (core_of rest p) n) → Meets row call (kept_at p.harts call.hart).flight p p bytes a
 told-bytes row call p n bytes a sound none ea es =
-    subst (λ (b : List ℕ). Meets row call (hart_at p.harts call.hart).flight p p b a) (sym none) (told row call p n a sound ea es)
+    subst (λ (b : List ℕ). Meets row call (kept_at p.harts call.hart).flight p p b a) (sym none) (told row call p n a sound ea es)
 
 -- looks alone, or nothing but what the checker keeps of the harts
 pub harts-alone : (row : Reads → Core → Call → Served) (call : Call) (p q : Parts) (bytes : List ℕ) (a : Answer) → IsSound p → q ≡ record p { harts = q.harts } →
-    KeepsHarts call (hart_at p.harts call.hart).flight p.harts q.harts → (is_refusal a ≡ true → bytes ≡ []) →
-    ServesAs row call p q bytes a → Meets row call (hart_at p.harts call.hart).flight p q bytes a
+    KeepsHarts call (kept_at p.harts call.hart).flight p.harts q.harts → (is_refusal a ≡ true → bytes ≡ []) →
+    ServesAs row call p q bytes a → Meets row call (kept_at p.harts call.hart).flight p q bytes a
 harts-alone row call p q bytes a sound same keeps none served = record {
   served = served;
   refused = λ e. subst (λ (t : Parts). IsSpared p t bytes) (sym same)
@@ -131,11 +131,11 @@ small-answer a n e few is =
 
 -- a call that is done: its answer is no refusal
 pub done : (row : Reads → Core → Call → Served) (call : Call) (p q : Parts) (bytes : List ℕ) (a : Answer) → IsSound q → is_refusal a ≡ false →
-    q.harts ≡ p.harts → KeepsSizes p q → ServesAs row call p q bytes a → Meets row call (hart_at p.harts call.hart).flight p q bytes a
+    q.harts ≡ p.harts → KeepsSizes p q → ServesAs row call p q bytes a → Meets row call (kept_at p.harts call.hart).flight p q bytes a
 done row call p q bytes a sound e same sizes served = record {
   served = served;
   refused = λ f. absurd (let q : ⊥ = cc in q);
-  harts = subst (λ (harts : List Kept). KeepsHarts call (hart_at p.harts call.hart).flight p.harts harts) (sym same) (same-harts call p.harts);
+  harts = subst (λ (harts : List Kept). KeepsHarts call (kept_at p.harts call.hart).flight p.harts harts) (sym same) (same-harts call p.harts);
   sizes = sizes;
   sound = sound;
 }
@@ -143,7 +143,7 @@ done row call p q bytes a sound e same sizes served = record {
 -- other gates, answered by 0
 pub gates-done : (row : Reads → Core → Call → Served) (call : Call) (p q : Parts) (gates : List Gate) (a : Answer) → IsSound p → q ≡ record p { gates = gates } →
     a ≡ plain 0 → ((rest : Core) → row_on row call p rest ≡ answers (record (core_of rest p) { gates = gates }) 0) →
-    Meets row call (hart_at p.harts call.hart).flight p q [] a
+    Meets row call (kept_at p.harts call.hart).flight p q [] a
 gates-done row call p q gates a sound eq ea es =
     let t : Parts = record p { gates = gates } in
     let sound_t : IsSound t = record {
@@ -157,14 +157,14 @@ gates-done row call p q gates a sound eq ea es =
     } in
     let served : ServesAs row call p t [] (plain 0) = λ rest bars. rw (es rest)
     (record { core = refl; maps = refl; owners = refl; console = refl; a0 = refl; a1 = refl; stop = refl }) in
-    let m : Meets row call (hart_at p.harts call.hart).flight p t [] (plain 0) =
+    let m : Meets row call (kept_at p.harts call.hart).flight p t [] (plain 0) =
     done row call p t [] (plain 0) sound_t refl refl (record { size = refl; limit = refl; modules = refl }) served in
     rw (eq, ea) m
 
 -- a give, answered by 0
 pub give-done : (row : Reads → Core → Call → Served) (call : Call) (p q : Parts) (give : Give) (a : Answer) → IsSound p → q ≡ record p { owners = laid give p.owners } →
     a ≡ plain 0 → ((rest : Core) → row_on row call p rest ≡ record (answers (core_of rest p) 0) { give = Some give }) →
-    Meets row call (hart_at p.harts call.hart).flight p q [] a
+    Meets row call (kept_at p.harts call.hart).flight p q [] a
 give-done row call p q give a sound eq ea es =
     let t : Parts = record p { owners = laid give p.owners } in
     let sound_t : IsSound t = record {
@@ -178,19 +178,19 @@ give-done row call p q give a sound eq ea es =
     } in
     let served : ServesAs row call p t [] (plain 0) = λ rest bars. rw (es rest)
     (record { core = refl; maps = refl; owners = refl; console = refl; a0 = refl; a1 = refl; stop = refl }) in
-    let m : Meets row call (hart_at p.harts call.hart).flight p t [] (plain 0) =
+    let m : Meets row call (kept_at p.harts call.hart).flight p t [] (plain 0) =
     done row call p t [] (plain 0) sound_t refl refl (record { size = refl; limit = refl; modules = refl }) served in
     rw (eq, ea) m
 
 -- bytes of RAM after looks alone, with the answers in a0 and a1
 pub ram-done : (row : Reads → Core → Call → Served) (call : Call) (p q t : Parts) (ram : List ℕ) (a : Answer) → IsSound p → q ≡ record p { harts = q.harts } →
-    KeepsHarts call (hart_at p.harts call.hart).flight p.harts q.harts → t ≡ record q { ram = ram } → length ram ≡ length p.ram → is_refusal a ≡ false →
+    KeepsHarts call (kept_at p.harts call.hart).flight p.harts q.harts → t ≡ record q { ram = ram } → length ram ≡ length p.ram → is_refusal a ≡ false →
     ((rest : Core) → BarsAlike rest p call.hart → row_on row call p rest ≡ record (answers (record (core_of rest q) { ram = ram }) a.a0) { a1 = a.a1; stop = a.stop }) →
-    Meets row call (hart_at p.harts call.hart).flight p t [] a
+    Meets row call (kept_at p.harts call.hart).flight p t [] a
 ram-done row call p q t ram a sound same keeps made size ok es =
     let u : Parts = record p { harts = q.harts; ram = ram } in
     let core : t ≡ u = made ∙ ap (λ (x : Parts). record x { ram = ram }) same in
-    let m : Meets row call (hart_at p.harts call.hart).flight p u [] a = record {
+    let m : Meets row call (kept_at p.harts call.hart).flight p u [] a = record {
       served = λ rest bars. rw (es rest bars) (record {
         core = ap (λ (x : Parts). record (core_of rest x) { ram = ram }) (sym same);
         maps = refl;
@@ -205,4 +205,4 @@ ram-done row call p q t ram a sound same keeps made size ok es =
       sizes = record { size = refl; limit = refl; modules = refl };
       sound = sound-ram (record p { harts = q.harts }) ram (with-harts p q.harts sound) size;
     } in
-    subst (λ (x : Parts). Meets row call (hart_at p.harts call.hart).flight p x [] a) (sym core) m
+    subst (λ (x : Parts). Meets row call (kept_at p.harts call.hart).flight p x [] a) (sym core) m

@@ -10,7 +10,7 @@ use Rattle.mx_words.specs.FirstFit.{Area, place, most_blocks, with_block, withou
 use Rattle.mx_words.specs.Ranges.{address_of}
 use Rattle.mx_words.proofs.ChangeLaws.{length-changed_from}
 use Rattle.mx_heap.specs.HeapState.{HeapState}
-use Rattle.mx_check.specs.Harts.{hart_at}
+use Rattle.mx_check.specs.Harts.{kept_at}
 use Rattle.mx_model.specs.declared.values.Call.{Call}
 use Rattle.mx_model.specs.Checks.{arg}
 use Rattle.mx_model.specs.Reads.{Reads}
@@ -56,14 +56,14 @@ pub free-done : (call : Call) (p q u : Parts) (first count : ℕ) (given : ℕ �
     u ≡ record q { heaps = with_blocks_at call.domain (without_block first (heap_at q.heaps call.domain).blocks) q.heaps } → a ≡ plain 0 →
     ((rest : Core) → row_on serve_free call p rest ≡ changes (with_blocks call (without_block first (module_at (core_of rest p) call.domain).blocks) (core_of rest p))
     (record { first = first; count = count; given = given })) →
-    Meets serve_free call (hart_at p.harts call.hart).flight p u [] a
+    Meets serve_free call (kept_at p.harts call.hart).flight p u [] a
 free-done call p q u first count given a sound eq eu ea es =
     let t : Parts = record p { maps = changed_maps first count given p.maps } in
     let blocks : List Area = without_block first (heap_at p.heaps call.domain).blocks in
     let v : Parts = record t { heaps = with_blocks_at call.domain blocks p.heaps } in
     let served : ServesAs serve_free call p v [] (plain 0) = λ rest bars. rw (es rest, module-blocks rest p call.domain)
     (record { core = core-blocks rest p call blocks; maps = refl; owners = refl; console = refl; a0 = refl; a1 = refl; stop = refl }) in
-    let m : Meets serve_free call (hart_at p.harts call.hart).flight p v [] (plain 0) =
+    let m : Meets serve_free call (kept_at p.harts call.hart).flight p v [] (plain 0) =
     done serve_free call p v [] (plain 0) (sound-blocks t call.domain blocks (sound-changed p first count given sound)) refl refl
     (record { size = refl; limit = refl; modules = length-changed_from first count given 1 p.maps }) served in
     let whole : u ≡ v = eu ∙ ap (λ (x : Parts). record x { heaps = with_blocks_at call.domain (without_block first (heap_at x.heaps call.domain).blocks) x.heaps }) eq in
@@ -78,7 +78,7 @@ pub alloc-done : (call : Call) (p q u : Parts) (first : ℕ) (given : ℕ → Op
       ram = cleared_at q.ram (4 * first) (4 * arg call 0);
     } → a ≡ plain (address_of first) →
     ((rest : Core) → row_on serve_alloc call p rest ≡ record (allocated (core_of rest p) call first) { change = Some (record { first = first; count = arg call 0; given = given }) }) →
-    Meets serve_alloc call (hart_at p.harts call.hart).flight p u [] a
+    Meets serve_alloc call (kept_at p.harts call.hart).flight p u [] a
 alloc-done call p q u first given a sound few long eq eu ea es =
     let t : Parts = record p { maps = changed_maps first (arg call 0) given p.maps } in
     let b : Area = record { first = first; count = arg call 0 } in
@@ -88,7 +88,7 @@ alloc-done call p q u first given a sound few long eq eu ea es =
     let served : ServesAs serve_alloc call p v [] (plain (address_of first)) = λ rest bars. rw (es rest, module-blocks rest p call.domain)
     (record { core = core-blocks rest (record p { ram = ram }) call blocks; maps = refl; owners = refl; console = refl; a0 = refl; a1 = refl; stop = refl }) in
     let refused : is_refusal (plain (address_of first)) ≡ false = address-not-code first few in
-    let m : Meets serve_alloc call (hart_at p.harts call.hart).flight p v [] (plain (address_of first)) =
+    let m : Meets serve_alloc call (kept_at p.harts call.hart).flight p v [] (plain (address_of first)) =
     done serve_alloc call p v [] (plain (address_of first))
     (sound-ram (record t { heaps = with_blocks_at call.domain blocks p.heaps }) ram (sound-blocks t call.domain blocks (sound-changed p first (arg call 0) given sound)) long)
     refused refl (record { size = refl; limit = refl; modules = length-changed_from first (arg call 0) given 1 p.maps }) served in

@@ -5,7 +5,7 @@ use Rattle.mx_words.specs.declared.perm.Perm.{Perm}
 use Rattle.mx_words.specs.Changes.{changed_maps}
 use Rattle.mx_words.proofs.ChangeLaws.{length-changed_from, changed_from-at}
 use Rattle.mx_table.specs.Tables.{map_of}
-use Rattle.mx_check.specs.Harts.{hart_at}
+use Rattle.mx_check.specs.Harts.{kept_at}
 use Rattle.mx_model.specs.declared.values.Call.{Call}
 use Rattle.mx_model.specs.Reads.{Reads}
 use Rattle.mx_model.specs.Serve.{Served, changes}
@@ -50,12 +50,12 @@ sound-changed p first count given sound =
 pub changes-done : (row : Reads → Core → Call → Served) (call : Call) (p q : Parts) (first count : ℕ) (given : ℕ → Option Perm) (a : Answer) →
     IsSound p → q ≡ record p { maps = changed_maps first count given p.maps } → a ≡ plain 0 →
     ((rest : Core) → row_on row call p rest ≡ changes (core_of rest p) (record { first = first; count = count; given = given })) →
-    Meets row call (hart_at p.harts call.hart).flight p q [] a
+    Meets row call (kept_at p.harts call.hart).flight p q [] a
 changes-done row call p q first count given a sound eq ea es =
     let t : Parts = record p { maps = changed_maps first count given p.maps } in
     let served : ServesAs row call p t [] (plain 0) = λ rest bars. rw (es rest)
     (record { core = refl; maps = refl; owners = refl; console = refl; a0 = refl; a1 = refl; stop = refl }) in
-    let m : Meets row call (hart_at p.harts call.hart).flight p t [] (plain 0) =
+    let m : Meets row call (kept_at p.harts call.hart).flight p t [] (plain 0) =
     done row call p t [] (plain 0) (sound-changed p first count given sound) refl refl
     (record { size = refl; limit = refl; modules = length-changed_from first count given 1 p.maps }) served in
     rw (eq, ea) m

@@ -7,7 +7,7 @@ use Rattle.mx_table.specs.declared.change.Change.{Change}
 use Rattle.mx_table.specs.Change.{given, changed}
 use Rattle.mx_check.specs.declared.flight.Flight.{Flight}
 use Rattle.mx_check.specs.Conditions.{IsInside, MayChange}
-use Rattle.mx_check.specs.Harts.{hart_at}
+use Rattle.mx_check.specs.Harts.{kept_at}
 use Rattle.mx_model.specs.declared.values.Call.{Call}
 use Rattle.mx_supervisor.specs.Parts.{Parts}
 use Rattle.mx_supervisor.specs.Rights.{Gives}
@@ -42,7 +42,7 @@ pub may-change : (p : Parts) (call : Call) (c : Change) → HasAnnounced p call 
 may-change p call c announced inside = record {
   hart = announced.hart;
   ready = announced.ready;
-  inside = inside-of (hart_at p.harts call.hart).flight (range_of p call) c announced.range inside;
+  inside = inside-of (kept_at p.harts call.hart).flight (range_of p call) c announced.range inside;
 }
 
 -- what a refused and a done change tell

@@ -9,7 +9,7 @@ use Rattle.mx_words.specs.Caches.{Cache, without_range}
 use Rattle.mx_words.specs.FirstFit.{Area}
 use Rattle.mx_check.specs.declared.flight.Flight.{Flight}
 use Rattle.mx_check.specs.Calls.{ready_with}
-use Rattle.mx_check.specs.Harts.{Kept, no_hart, hart_at, at_hart, ended, finished}
+use Rattle.mx_check.specs.Harts.{Kept, nothing_kept, kept_at, at_hart, without_flight_range, finished}
 use Rattle.mx_model.specs.declared.values.Call.{Call}
 use Rattle.mx_model.specs.Checks.{arg, call_range, drops}
 use Rattle.mx_model.specs.Reads.{flat_reads}
@@ -30,37 +30,37 @@ range-is rest p call =
 
 -- what a ready call drops at its end
 ended-is : (h : ℕ) (harts : List Kept) (o : Option Flight) (r : ℕ × ℕ) (c : Cache) → IfSome o (λ f. (f.first ≡ r.0) × (f.count ≡ r.1)) → ready_with h o harts ≡ true →
-    ended o c ≡ without_range r.0 r.1 c
+    without_flight_range o c ≡ without_range r.0 r.1 c
 ended-is h harts None r c range ready = absurd (let q : ⊥ = cc in q)
 ended-is h harts (Some f) r c range ready =
     ap (λ n. without_range n f.count c) range.0 ∙ ap (λ n. without_range r.0 n c) range.1
 
 -- the state after it
-core-ended : (rest : Core) (call : Call) (p q : Parts) → HasAnnounced p call → (hart_at q.harts call.hart).flight ≡ (hart_at p.harts call.hart).flight →
+core-ended : (rest : Core) (call : Call) (p q : Parts) → HasAnnounced p call → (kept_at q.harts call.hart).flight ≡ (kept_at p.harts call.hart).flight →
     core_of rest (record q { harts = at_hart call.hart finished q.harts }) ≡ drops call.hart (call_range (core_of rest p) call) (core_of rest q)
 core-ended rest call p q announced same =
     let h = call.hart in
-    let k = hart_at q.harts h in
+    let k = kept_at q.harts h in
     let caches = list_map cache_of q.harts in
     let r = range_of p call in
-    let kept : cache_of k ≡ cache_at (core_of rest q) h = sym (get_or-map cache_of q.harts h no_hart) in
+    let kept : cache_of k ≡ cache_at (core_of rest q) h = sym (get_or-map cache_of q.harts h nothing_kept) in
     ap (λ (cs : List Cache). record (core_of rest q) { caches = cs }) (
     map-set cache_of q.harts h (finished k)
-    ∙ ap (λ (o : Option Flight). set caches h (ended o (cache_of k))) same
-    ∙ ap (λ (c : Cache). set caches h c) (ended-is h p.harts (hart_at p.harts h).flight r (cache_of k) announced.range announced.ready)
+    ∙ ap (λ (o : Option Flight). set caches h (without_flight_range o (cache_of k))) same
+    ∙ ap (λ (c : Cache). set caches h c) (ended-is h p.harts (kept_at p.harts h).flight r (cache_of k) announced.range announced.ready)
     ∙ ap (λ (c : Cache). set caches h (without_range r.0 r.1 c)) kept)
     ∙ ap (λ (x : ℕ × ℕ). drops h x (core_of rest q)) (sym (range-is rest p call))
 
 -- what the checker keeps after it
-harts-ended : (call : Call) (old now : List Kept) → call.hart < length old → KeepsHarts call (hart_at old call.hart).flight old now →
+harts-ended : (call : Call) (old now : List Kept) → call.hart < length old → KeepsHarts call (kept_at old call.hart).flight old now →
     KeepsHarts call None old (at_hart call.hart finished now)
 harts-ended call old now there keeps =
     let h = call.hart in
     let is : h < length now = let e = keeps.count in omega (arith, e, there) in
-    let own : hart_at (at_hart h finished now) h ≡ finished (hart_at now h) = get_or-set_same now h (finished (hart_at now h)) no_hart is in
+    let own : kept_at (at_hart h finished now) h ≡ finished (kept_at now h) = get_or-set_same now h (finished (kept_at now h)) nothing_kept is in
     record {
-      count = length-set now h (finished (hart_at now h)) ∙ keeps.count;
-      others = λ i ne. get_or-set_other now h i (finished (hart_at now h)) no_hart ne ∙ keeps.others i ne;
+      count = length-set now h (finished (kept_at now h)) ∙ keeps.count;
+      others = λ i ne. get_or-set_other now h i (finished (kept_at now h)) nothing_kept ne ∙ keeps.others i ne;
       halted = ap (λ (k : Kept). k.halted) own ∙ keeps.halted;
       flight = ap (λ (k : Kept). k.flight) own;
       domain = elim keeps.domain [ inl e ↦ inl (ap (λ (k : Kept). k.domain) own ∙ e) | inr e ↦ inr (ap (λ (k : Kept). k.domain) own ∙ e) ];
@@ -68,7 +68,7 @@ harts-ended call old now there keeps =
 
 -- an announced call as a whole
 pub ended-meets : (call : Call) (p q : Parts) (bytes : List ℕ) (a : Answer) → is_announced call.number ≡ true → HasAnnounced p call →
-    Meets served_row call (hart_at p.harts call.hart).flight p q bytes a →
+    Meets served_row call (kept_at p.harts call.hart).flight p q bytes a →
     Meets serve call (flight_after call p.harts) p (record q { harts = at_hart call.hart finished q.harts }) bytes a
 ended-meets call p q bytes a is announced m =
     let after : None ≡ flight_after call p.harts = rw is in
@@ -92,9 +92,9 @@ ended-meets call p q bytes a is announced m =
 
 -- another call as a whole
 pub row-meets : (call : Call) (p q : Parts) (bytes : List ℕ) (a : Answer) → is_announced call.number ≡ false →
-    Meets served_row call (hart_at p.harts call.hart).flight p q bytes a → Meets serve call (flight_after call p.harts) p q bytes a
+    Meets served_row call (kept_at p.harts call.hart).flight p q bytes a → Meets serve call (flight_after call p.harts) p q bytes a
 row-meets call p q bytes a is m =
-    let after : (hart_at p.harts call.hart).flight ≡ flight_after call p.harts = rw is in
+    let after : (kept_at p.harts call.hart).flight ≡ flight_after call p.harts = rw is in
     record {
       served = λ rest bars. rw is (m.served rest bars);
       refused = m.refused;

@@ -18,9 +18,9 @@ use Rattle.mx_words.proofs.OptionLaws.{if_some_after}
 use Rattle.mx_table.specs.Tables.{map_of, IsDomain}
 use Rattle.mx_check.specs.declared.flight.Flight.{Flight}
 use Rattle.mx_check.specs.Conditions.{MayLook}
-use Rattle.mx_check.specs.Harts.{Kept, no_hart, hart_at, at_hart}
+use Rattle.mx_check.specs.Harts.{Kept, nothing_kept, kept_at, at_hart}
 use Rattle.mx_check.specs.Looks.{hart_forbids, is_forbidden, looks}
-use Rattle.mx_check.specs.Looks.{looked as looked_harts}
+use Rattle.mx_check.specs.Looks.{looked_at_address}
 use Rattle.mx_check.proofs.LookLaws.{all_below_agree, hart_forbids-other}
 use Rattle.mx_model.specs.declared.values.Call.{Call}
 use Rattle.mx_model.specs.Checks.{looked}
@@ -41,7 +41,7 @@ word-of-address w size lt =
     rw (low, high, round)
 
 -- whether a span is barred, from what else is kept of the other harts
-pub barred-kept : (h : ℕ) (s : Span) (old new : List Kept) → length new ≡ length old → ((i : ℕ) → i ≢ h → hart_at new i ≡ hart_at old i) →
+pub barred-kept : (h : ℕ) (s : Span) (old new : List Kept) → length new ≡ length old → ((i : ℕ) → i ≢ h → kept_at new i ≡ kept_at old i) →
     is_forbidden h s new ≡ is_forbidden h s old
 barred-kept h s old new count same =
     ap (λ n. not (all_below n (λ i. not (hart_forbids h s new i)))) count
@@ -57,7 +57,7 @@ bars-kept rest p call flight harts keeps bars = record {
 
 -- what the checker says of a look at the word of an address
 pub looked-word : (p : Parts) (h d w : ℕ) → IsSound p → IsDomain p.maps d → w < p.size →
-    looked_harts p.buffer p.kind (map_of p.maps d) h 10 d (address_of w) p.harts
+    looked_at_address p.buffer p.kind (map_of p.maps d) h 10 d (address_of w) p.harts
     ≡ at_hart h (looks p.buffer 10 d w (span p.kind (map_of p.maps d) w) (is_forbidden h (span p.kind (map_of p.maps d) w) p.harts)) p.harts
 looked-word p h d w sound there lt =
     let size : length (map_of p.maps d) ≡ p.size = sound.maps d there in
@@ -65,13 +65,13 @@ looked-word p h d w sound there lt =
 
 -- a step of the caller's hart that keeps all but caches and domain
 pub step-keeps : (call : Call) (harts : List Kept) (step : Kept → Kept) → call.hart < length harts →
-    (step (hart_at harts call.hart)).halted ≡ (hart_at harts call.hart).halted → (step (hart_at harts call.hart)).flight ≡ (hart_at harts call.hart).flight →
-    (step (hart_at harts call.hart)).domain ≡ Some call.domain → KeepsHarts call (hart_at harts call.hart).flight harts (at_hart call.hart step harts)
+    (step (kept_at harts call.hart)).halted ≡ (kept_at harts call.hart).halted → (step (kept_at harts call.hart)).flight ≡ (kept_at harts call.hart).flight →
+    (step (kept_at harts call.hart)).domain ≡ Some call.domain → KeepsHarts call (kept_at harts call.hart).flight harts (at_hart call.hart step harts)
 step-keeps call harts step there halted flight domain =
-    let now : hart_at (at_hart call.hart step harts) call.hart ≡ step (hart_at harts call.hart) = get_or-set_same harts call.hart (step (hart_at harts call.hart)) no_hart there in
+    let now : kept_at (at_hart call.hart step harts) call.hart ≡ step (kept_at harts call.hart) = get_or-set_same harts call.hart (step (kept_at harts call.hart)) nothing_kept there in
     record {
-      count = length-set harts call.hart (step (hart_at harts call.hart));
-      others = λ i ne. get_or-set_other harts call.hart i (step (hart_at harts call.hart)) no_hart ne;
+      count = length-set harts call.hart (step (kept_at harts call.hart));
+      others = λ i ne. get_or-set_other harts call.hart i (step (kept_at harts call.hart)) nothing_kept ne;
       halted = ap (λ (k : Kept). k.halted) now ∙ halted;
       flight = ap (λ (k : Kept). k.flight) now ∙ flight;
       domain = inr (ap (λ (k : Kept). k.domain) now ∙ domain);
@@ -90,16 +90,16 @@ core-look rest p h d w there bars =
     let t = span p.kind (map_in p.size p.maps d) w in
     let same : s ≡ t = sym (ap (λ (m : List Perm). span p.kind m w) (map-in p.size p.maps d there)) in
     let caches = list_map cache_of p.harts in
-    let kept : cache_of (hart_at p.harts h) ≡ cache_at (core_of rest p) h = sym (get_or-map cache_of p.harts h no_hart) in
+    let kept : cache_of (kept_at p.harts h) ≡ cache_at (core_of rest p) h = sym (get_or-map cache_of p.harts h nothing_kept) in
     ap (λ (cs : List Cache). record (core_of rest p) { caches = cs }) (
-    map-set cache_of p.harts h (looks p.buffer 10 d w s (is_forbidden h s p.harts) (hart_at p.harts h))
+    map-set cache_of p.harts h (looks p.buffer 10 d w s (is_forbidden h s p.harts) (kept_at p.harts h))
     ∙ ap (λ (c : Cache). set caches h (checked p.buffer 10 d w s (is_forbidden h s p.harts) c)) kept
     ∙ ap (λ (x : Span). set caches h (checked p.buffer 10 d w x (is_forbidden h x p.harts) (cache_at (core_of rest p) h))) same
     ∙ ap (λ b. set caches h (checked p.buffer 10 d w t b (cache_at (core_of rest p) h))) (sym (bars.at t)))
 
 -- the look of a call's hart
 pub has-looked : (call : Call) (w : ℕ) (p : Parts) (harts : List Kept) → IsSound p → IsDomain p.maps call.domain → w < p.size → MayLook call.hart call.domain p.harts →
-    harts ≡ looked_harts p.buffer p.kind (map_of p.maps call.domain) call.hart 10 call.domain (address_of w) p.harts →
+    harts ≡ looked_at_address p.buffer p.kind (map_of p.maps call.domain) call.hart 10 call.domain (address_of w) p.harts →
     HasLooked call w p (record p { harts = harts })
 has-looked call w p harts sound there lt may is =
     let s = span p.kind (map_of p.maps call.domain) w in
@@ -118,8 +118,8 @@ allowed-word p d w access sound there lt =
     rw (size, word-of-address w p.size lt, map-in p.size p.maps d there) (not-not (allows (perm_at (map_of p.maps d) w) access))
 
 -- two steps of the caller's hart, and whether it may look again
-pub keeps-both : (call : Call) (a b c : List Kept) → KeepsHarts call (hart_at a call.hart).flight a b → KeepsHarts call (hart_at b call.hart).flight b c →
-    KeepsHarts call (hart_at a call.hart).flight a c
+pub keeps-both : (call : Call) (a b c : List Kept) → KeepsHarts call (kept_at a call.hart).flight a b → KeepsHarts call (kept_at b call.hart).flight b c →
+    KeepsHarts call (kept_at a call.hart).flight a c
 keeps-both call a b c x y = record {
   count = y.count ∙ x.count;
   others = λ i ne. y.others i ne ∙ x.others i ne;
@@ -128,12 +128,12 @@ keeps-both call a b c x y = record {
   domain = elim y.domain [ inl same ↦ elim x.domain [ inl before ↦ inl (same ∙ before) | inr named ↦ inr (same ∙ named) ] | inr named ↦ inr named ];
 }
 
-pub may-again : (call : Call) (flight : Option Flight) (a b : List Kept) → flight ≡ (hart_at a call.hart).flight → KeepsHarts call flight a b →
+pub may-again : (call : Call) (flight : Option Flight) (a b : List Kept) → flight ≡ (kept_at a call.hart).flight → KeepsHarts call flight a b →
     MayLook call.hart call.domain a → MayLook call.hart call.domain b
 may-again call flight a b same keeps may = record {
   hart = let e = keeps.count in let h = may.hart in omega (arith, e, h);
   running = keeps.halted ∙ may.running;
   free = keeps.flight ∙ same ∙ may.free;
   heard = λ i ne. subst (λ (k : Kept). IfSome k.flight (λ f. is_in f.heard call.hart ≡ true)) (sym (keeps.others i ne)) (may.heard i ne);
-  same_domain = if_some_after (λ x. x ≡ call.domain) call.domain (hart_at a call.hart).domain (hart_at b call.hart).domain keeps.domain refl may.same_domain;
+  same_domain = if_some_after (λ x. x ≡ call.domain) call.domain (kept_at a call.hart).domain (kept_at b call.hart).domain keeps.domain refl may.same_domain;
 }

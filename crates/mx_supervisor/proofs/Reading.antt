@@ -4,7 +4,7 @@ use Rattle.std.specs.List.{list_all, prefix_len, range_with_len}
 use Rattle.mx_words.specs.declared.perm.Access.TheVariants as A
 use Rattle.mx_words.specs.Rights.{allows, perm_at}
 use Rattle.mx_check.specs.Conditions.{MayLook}
-use Rattle.mx_check.specs.Harts.{Kept, hart_at}
+use Rattle.mx_check.specs.Harts.{Kept, kept_at}
 use Rattle.mx_model.specs.declared.values.Call.{Call}
 use Rattle.mx_model.specs.Checks.{looked}
 use Rattle.mx_model.specs.Reads.{Reads, flat_reads, map_in}
@@ -21,7 +21,7 @@ readable p d w = allows (perm_at (map_in p.size p.maps d) w) A.Read
 
 -- what is left decides, where the checker now keeps these harts: whether all words may be read, and the state after all looks
 pub record LeftDecides (call : Call) (words left : List ℕ) (old : Parts) (harts : List Kept) : Type 0 where
-  pub keeps : KeepsHarts call (hart_at old.harts call.hart).flight old.harts harts
+  pub keeps : KeepsHarts call (kept_at old.harts call.hart).flight old.harts harts
   pub answer : list_all (readable old call.domain) words ≡ list_all (readable old call.domain) left
   pub core : (rest : Core) → BarsAlike rest old call.hart →
       read_through (flat_reads (flat_of rest old)) call.hart call.domain words (core_of rest old)

@@ -5,7 +5,7 @@ use Rattle.std.specs.List.{list_any, prefix_len}
 use Rattle.mx_words.specs.declared.perm.Span.{Span}
 use Rattle.mx_words.specs.Caches.{meets}
 use Rattle.mx_check.specs.declared.flight.Flight.{Flight}
-use Rattle.mx_check.specs.Harts.{Kept, hart_at}
+use Rattle.mx_check.specs.Harts.{Kept, kept_at}
 use Rattle.mx_check.specs.Looks.{is_forbidden}
 use Rattle.mx_model.specs.declared.values.Call.{Call}
 use Rattle.mx_model.specs.Checks.{heard_ranges, looked, looked_all}
@@ -23,16 +23,16 @@ pub record BarsAlike (rest : Core) (p : Parts) (h : ℕ) : Type 0 where
 -- beside caches, the checker keeps of the harts what it kept, but for the caller's call in flight and the domain of its looks
 pub record KeepsHarts (call : Call) (after : Option Flight) (old new : List Kept) : Type 0 where
   pub count : length new ≡ length old
-  pub others : (i : ℕ) → i ≢ call.hart → hart_at new i ≡ hart_at old i
-  pub halted : (hart_at new call.hart).halted ≡ (hart_at old call.hart).halted
-  pub flight : (hart_at new call.hart).flight ≡ after
-  pub domain : ((hart_at new call.hart).domain ≡ (hart_at old call.hart).domain)
-      ⊎ ((hart_at new call.hart).domain ≡ Some call.domain)
+  pub others : (i : ℕ) → i ≢ call.hart → kept_at new i ≡ kept_at old i
+  pub halted : (kept_at new call.hart).halted ≡ (kept_at old call.hart).halted
+  pub flight : (kept_at new call.hart).flight ≡ after
+  pub domain : ((kept_at new call.hart).domain ≡ (kept_at old call.hart).domain)
+      ⊎ ((kept_at new call.hart).domain ≡ Some call.domain)
 
 -- the parts after a call's hart looked at a word at place 10: nothing but what the checker keeps of the harts changed
 pub record HasLooked (call : Call) (word : ℕ) (old new : Parts) : Type 0 where
   pub same : new ≡ record old { harts = new.harts }
-  pub harts : KeepsHarts call (hart_at old.harts call.hart).flight old.harts new.harts
+  pub harts : KeepsHarts call (kept_at old.harts call.hart).flight old.harts new.harts
   pub core : (rest : Core) → BarsAlike rest old call.hart →
       core_of rest new
       ≡ looked (flat_reads (flat_of rest old)) call.hart (core_of rest old)
@@ -46,7 +46,7 @@ read_through r h d ws c =
 -- the parts after it looked at words in order, up to the first that its domain may not read
 pub record HasRead (call : Call) (words : List ℕ) (old new : Parts) : Type 0 where
   pub same : new ≡ record old { harts = new.harts }
-  pub harts : KeepsHarts call (hart_at old.harts call.hart).flight old.harts new.harts
+  pub harts : KeepsHarts call (kept_at old.harts call.hart).flight old.harts new.harts
   pub core : (rest : Core) → BarsAlike rest old call.hart →
       core_of rest new
       ≡ read_through (flat_reads (flat_of rest old)) call.hart call.domain words

@@ -5,7 +5,7 @@ use Rattle.mx_table.specs.declared.tables.PermTables.{Ghosts}
 use Rattle.mx_check.specs.declared.flight.Flight.{Flight}
 use Rattle.mx_check.specs.Calls.{is_ready}
 use Rattle.mx_check.specs.Conditions.{MayLook}
-use Rattle.mx_check.specs.Harts.{hart_at, Kept}
+use Rattle.mx_check.specs.Harts.{kept_at, Kept}
 use Rattle.mx_model.specs.declared.values.Call.{Call}
 use Rattle.mx_model.specs.Checks.{arg}
 use Rattle.mx_model.specs.Reads.{Reads, flat_reads}
@@ -33,7 +33,7 @@ IsIn first count range = (range.0 ≤ first) × (first + count ≤ range.0 + ran
 pub record HasAnnounced (p : Parts) (call : Call) : Type 0 where
   pub hart : call.hart < length p.harts
   pub ready : is_ready call.hart p.harts ≡ true
-  pub range : IfSome (hart_at p.harts call.hart).flight
+  pub range : IfSome (kept_at p.harts call.hart).flight
       (λ f. (f.first ≡ (range_of p call).0) × (f.count ≡ (range_of p call).1))
 
 -- a call may be served: it was announced and is ready, or its hart may look at words
@@ -78,7 +78,7 @@ pub record KeepsSizes (old new : Parts) : Type 0 where
 -- the caller's call in flight after it was served
 abbrev pub flight_after : Call → List Kept → Option Flight
 flight_after call harts =
-    if is_announced call.number then None else (hart_at harts call.hart).flight
+    if is_announced call.number then None else (kept_at harts call.hart).flight
 
 -- all that is said of a call, where a flight is the caller's afterwards
 pub record Meets (row : Reads → Core → Call → Served) (call : Call) (after : Option Flight)
@@ -93,7 +93,7 @@ pub record Meets (row : Reads → Core → Call → Served) (call : Call) (after
 abbrev pub Does : {T : Type 0} {N : ℕ} → Ghosts T → Supervisor T N → Supervisor T N →
     (Reads → Core → Call → Served) → Call → List ℕ → Answer → Type 0
 Does tables old new row call bytes answer =
-    Meets row call (hart_at old.checker.harts call.hart).flight
+    Meets row call (kept_at old.checker.harts call.hart).flight
     (parts_of tables old) (parts_of tables new) bytes answer
 
 -- a call by its row, without the end of its flight

@@ -5,7 +5,7 @@ ghost use Rattle.std.specs.Option.{option_map};
 ghost use Rattle.mx_words.specs.Announced.{is_announced};
 ghost use Rattle.mx_table.specs.Tables.{IsDomain};
 ghost use Rattle.mx_check.specs.Conditions.{MayLook, IsWithin};
-ghost use Rattle.mx_check.specs.Harts.{hart_at};
+ghost use Rattle.mx_check.specs.Harts.{kept_at};
 ghost use Rattle.mx_heap.specs.HeapState.{area_of};
 ghost use Rattle.mx_model.specs.Serve.{serve, serve_exit};
 ghost use Rattle.mx_model.specs.Valid.{IsGate};
@@ -180,7 +180,7 @@ impl<T: PermTables, const N: usize> Supervisor<T, N> {
 /// Call 1: the hart ends, unless it has a frame on its cross stack.
 fn exit(call: &Call) -> Answer
     ensures { (p : Parts) → IsSound p →
-        Meets (λ r c call. serve_exit c call) call.now (hart_at p.harts call.now.hart).flight
+        Meets (λ r c call. serve_exit c call) call.now (kept_at p.harts call.now.hart).flight
         p p [] result }
 {
     if call.nested {

@@ -1,6 +1,6 @@
 use Rattle.mx_check.proofs.HearLaws.{hear-keeps, heard_all, hears_own, length-hears_first}
 use Rattle.std.proofs.Common.{ℕ, ◌<◌, ◌≤◌, length, ap, ◌∙◌, sym, subst}
-use Rattle.mx_check.specs.Harts.{hart_at}
+use Rattle.mx_check.specs.Harts.{kept_at}
 use Rattle.mx_check.specs.Calls.{Checks}
 use Rattle.mx_check.specs.Conditions.{SameButCaches}
 use Rattle.mx_check.proofs.checker.Checker.hear.Goals as goal
@@ -14,7 +14,7 @@ returns-clause-heard g c = rw c.hear.ensures (heard_all _ _ _ c.self.invariant (
 pub returns-clause-own : goal.returns-clause-own
 returns-clause-own g c =
     let there : c.args.hart < length c.self.inside.bare.harts = rw c.self.view_is c.requires.hart in
-    let own : SameButCaches (hart_at c.hear.new.self.harts c.args.hart) (hart_at c.self.inside.bare.harts c.args.hart) = rw c.hear.ensures (hears_own c.self.inside.bare.harts c.args.hart there) in
+    let own : SameButCaches (kept_at c.hear.new.self.harts c.args.hart) (kept_at c.self.inside.bare.harts c.args.hart) = rw c.hear.ensures (hears_own c.self.inside.bare.harts c.args.hart there) in
     rw (← c.self.view_is) own
 
 pub returns-clause-same_length : goal.returns-clause-same_length

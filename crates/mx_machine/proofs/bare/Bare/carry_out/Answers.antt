@@ -3,7 +3,7 @@ use Rattle.mx_words.specs.declared.perm.Access.TheVariants.{Execute}
 use Rattle.mx_words.specs.declared.perm.Perm.{Perm}
 use Rattle.mx_table.specs.Tables.{IsDomain}
 use Rattle.mx_check.specs.Conditions.{IsAtHand, MayLook}
-use Rattle.mx_check.specs.Harts.{hart_at}
+use Rattle.mx_check.specs.Harts.{kept_at}
 use Rattle.mx_core.specs.Bus.{Touch, denied, load_at}
 use Rattle.mx_core.specs.Exec.{fetched, fetch_touch, outcome_of, touches_of}
 use Rattle.mx_core.specs.Memo.{quick}
@@ -25,7 +25,7 @@ known-requires g c =
     let look : MayLook h (hart_among c.self.inside.harts h).domain old.checker.harts = subst (λ (m : Held). MayLook h (hart_among m.harts h).domain m.parts.harts) (sym c.self.view_is) c.requires.look in
     let dom : IsDomain (p.maps t) (hart_among c.self.inside.harts h).domain = subst (λ (m : Held). IsDomain m.parts.maps (hart_among m.harts h).domain) (sym c.self.view_is) c.requires.domain in
     let ram : length old.ram ≡ 4 * p.size t = subst (λ (m : Held). length m.parts.ram ≡ 4 * m.parts.size) (sym c.self.view_is) c.requires.sound.ram in
-    let hand : IsAtHand (p.size t) (hart_at old.checker.harts h).cache (hart_among c.self.inside.harts h).pc = subst (λ (m : Held). IsAtHand m.parts.size (hart_at m.parts.harts h).cache (hart_among m.harts h).pc) (sym c.self.view_is) c.requires.at_hand in
+    let hand : IsAtHand (p.size t) (kept_at old.checker.harts h).cache (hart_among c.self.inside.harts h).pc = subst (λ (m : Held). IsAtHand m.parts.size (kept_at m.parts.harts h).cache (hart_among m.harts h).pc) (sym c.self.view_is) c.requires.at_hand in
     (search rules, (record { look = rw c.domain-self-inside.ensures look; domain = rw c.domain-self-inside.ensures dom; ram = ram }, rw c.pc-pc.ensures hand))
 
 pub carry_out-requires-clause-usable : goal.carry_out-requires-clause-usable

@@ -1,5 +1,5 @@
 use Rattle.std.proofs.Common.{rules, ◌≡◌, ℕ, ◌<◌, length, sym, ap, subst, ◌∙◌, suc, ◌+◌, arith}
-use Rattle.mx_check.specs.Harts.{hart_at}
+use Rattle.mx_check.specs.Harts.{kept_at}
 use Rattle.mx_machine.specs.Actions.{halted_first}
 use Rattle.mx_machine.specs.Halting.{halted_at}
 use Rattle.mx_machine.specs.Harts.{hart_among, is_halted}
@@ -16,7 +16,7 @@ halt_one-requires g c =
       search rules,
       (
         subst (λ (n : Held). i < length n.parts.harts) (sym now) (subst (λ k. i < k) count c.loop-hart-test.true),
-        λ halted. ap (λ (n : Held). (hart_at n.parts.harts i).flight) now ∙ halted-flight i m.harts m.parts.harts i
+        λ halted. ap (λ (n : Held). (kept_at n.parts.harts i).flight) now ∙ halted-flight i m.harts m.parts.harts i
             ∙ c.requires.free i (ap (λ (n : Held). is_halted (hart_among n.harts i).progress) (sym now) ∙ halted),
       ),
     )

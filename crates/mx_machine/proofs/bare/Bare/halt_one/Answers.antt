@@ -1,5 +1,5 @@
 use Rattle.std.proofs.Common.{rules, ◌≡◌, ◌<◌, Bool, true, false, cond, None, length, sym, ap, subst, ◌∙◌}
-use Rattle.mx_check.specs.Harts.{at_hart, hart_at}
+use Rattle.mx_check.specs.Harts.{at_hart, kept_at}
 use Rattle.mx_check.specs.Harts.{halts as counts_as_halted}
 use Rattle.mx_machine.specs.Harts.{hart_among, is_halted}
 use Rattle.mx_machine.specs.Held.{Held}
@@ -13,7 +13,7 @@ halt-requires g c =
       search rules,
       (
         subst (λ (n : Held). h < length n.parts.harts) (sym c.self.view_is) c.requires.kept,
-        subst (λ (n : Held). (hart_at n.parts.harts h).flight ≡ None) (sym c.self.view_is) (c.requires.free halted),
+        subst (λ (n : Held). (kept_at n.parts.harts h).flight ≡ None) (sym c.self.view_is) (c.requires.free halted),
       ),
     )
 

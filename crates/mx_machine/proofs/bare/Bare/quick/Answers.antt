@@ -1,7 +1,7 @@
 use Rattle.std.proofs.Common.{◌≡◌, ℕ, ◌<◌, ◌%◌, false, List, length, Some, sym, ap, subst, ◌∙◌}
 use Rattle.mx_table.specs.Tables.{IsDomain}
 use Rattle.mx_check.specs.Conditions.{IsAtHand, MayLook}
-use Rattle.mx_check.specs.Harts.{hart_at}
+use Rattle.mx_check.specs.Harts.{kept_at}
 use Rattle.mx_core.specs.Bus.{load_at}
 use Rattle.mx_core.specs.Memo.{quick}
 use Rattle.mx_model.specs.Effect.{effect}
@@ -25,7 +25,7 @@ word-word-requires g c =
     let r = c.requires.alive in
     let pc-is : c.pc-pc.result ≡ (hart_among m.harts h).pc = c.pc-pc.ensures ∙ ap (λ (k : Held). (hart_among k.harts h).pc) c.self.view_is in
     let at-pc : IsOpen m h c.pc-pc.result = c.requires.window.each c.pc-pc.result (sym c.if-not-holds.ensures) in
-    (assumption c, (f.sound.ram, (hand-inside m.parts.size c.pc-pc.result (hart_at m.parts.harts h).cache at-pc.at_hand, rw pc-is c.requires.aligned)))
+    (assumption c, (f.sound.ram, (hand-inside m.parts.size c.pc-pc.result (kept_at m.parts.harts h).cache at-pc.at_hand, rw pc-is c.requires.aligned)))
 
 pub carry_out-requires : goal.carry_out-requires
 carry_out-requires g c =
@@ -64,7 +64,7 @@ carry_out-requires g c =
               (
                 subst (λ (k : Held). (hart_among k.harts h).pc % 4 ≡ 0) (sym is) c.requires.aligned,
                 (
-                  subst (λ (k : Held). IsAtHand k.parts.size (hart_at k.parts.harts h).cache (hart_among k.harts h).pc) (sym is) o.at_hand,
+                  subst (λ (k : Held). IsAtHand k.parts.size (kept_at k.parts.harts h).cache (hart_among k.harts h).pc) (sym is) o.at_hand,
                   (subst (λ (k : Held). quick (load_at k.parts.ram (hart_among k.harts h).pc 4) ≡ Some inst) (sym is) there, c.in-Some.ensures.valid),
                 ),
               ),

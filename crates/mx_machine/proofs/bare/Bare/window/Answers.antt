@@ -2,7 +2,7 @@ use Rattle.std.proofs.Common.{◌≡◌, ℕ, ◌+◌, ◌<◌, ◌≤◌, false
 use Rattle.mx_words.specs.declared.perm.Access.TheVariants.{Execute}
 use Rattle.mx_words.specs.Caches.{found_in_place}
 use Rattle.mx_words.specs.Rights.{allows}
-use Rattle.mx_check.specs.Harts.{hart_at}
+use Rattle.mx_check.specs.Harts.{kept_at}
 use Rattle.mx_model.specs.Gates.{gate_target}
 use Rattle.mx_machine.specs.Harts.{hart_among}
 use Rattle.mx_machine.specs.Held.{Held}
@@ -20,8 +20,8 @@ returns-then-first-end g c =
     let end = c.min-end.result in
     let d = (hart_among m.harts h).domain in
     let quiet : m.waiting ≡ false = sym (ap (λ (k : Held). k.waiting) c.self.view_is) ∙ c.if-self.false in
-    let found : found_in_place (hart_at m.parts.harts h).cache.places 0 word ≡ Some s = sym (c.at_hand.ensures
-    ∙ ap (λ (k : Held). found_in_place (hart_at k.parts.harts h).cache.places 0 word) c.self.view_is) ∙ c.in-Some-at_hand.is in
+    let found : found_in_place (kept_at m.parts.harts h).cache.places 0 word ≡ Some s = sym (c.at_hand.ensures
+    ∙ ap (λ (k : Held). found_in_place (kept_at k.parts.harts h).cache.places 0 word) c.self.view_is) ∙ c.in-Some-at_hand.is in
     let right : allows s.perm Execute ≡ true = sym c.allows.ensures ∙ c.if-not-allows.false in
     let words : c.words-words.result ≡ m.parts.size = c.words-words.ensures ∙ ap g.T.PermTables.size c.tables.ensures ∙ ap (λ (k : Held). k.parts.size) c.self.view_is in
     let upto : end ≤ c.min.result = least-le c.min.result c.words-words.result end c.min-end.ensures in

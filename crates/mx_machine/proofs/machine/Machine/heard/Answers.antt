@@ -1,6 +1,6 @@
 use Rattle.std.proofs.Common.{◌≡◌, ◌<◌, length, ap, sym, subst, ◌∙◌}
 use Rattle.mx_check.specs.Harts.{has_heard}
-use Rattle.mx_check.specs.Harts.{hart_at as kept_at}
+use Rattle.mx_check.specs.Harts.{kept_at}
 use Rattle.mx_model.specs.State.{Flat, hart_at}
 use Rattle.mx_machine.specs.Readings.{was_heard}
 use Rattle.mx_machine.proofs.ReadLaws.{heard-told, kept-there}

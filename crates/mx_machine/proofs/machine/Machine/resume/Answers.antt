@@ -1,5 +1,5 @@
 use Rattle.std.proofs.Common.{◌≡◌, ℕ, true, List, refl, sym, ap, subst, ◌∙◌, None}
-use Rattle.mx_check.specs.Harts.{hart_at}
+use Rattle.mx_check.specs.Harts.{kept_at}
 use Rattle.mx_table.specs.Tables.{IsShaped}
 use Rattle.mx_supervisor.specs.Parts.{Parts, parts_of}
 use Rattle.mx_supervisor.proofs.Joined.{sound-joined}
@@ -22,7 +22,7 @@ halt_left-requires g c =
       search fits-inside,
       (
         rw c.resume-left.ensures (as-many p c.args.harts.now c.args.stacks.now c.args.dead.now c.args.steps c.requires.may),
-        subst (λ (xs : List Hart). (h : ℕ) → is_halted (hart_among xs h).progress ≡ true → (hart_at p.harts h).flight ≡ None) (sym c.resume-left.ensures)
+        subst (λ (xs : List Hart). (h : ℕ) → is_halted (hart_among xs h).progress ≡ true → (kept_at p.harts h).flight ≡ None) (sym c.resume-left.ensures)
             (free-resumed p c.args.harts.now c.args.stacks.now c.args.dead.now c.args.steps c.requires.may),
       ),
     )
