@@ -15,12 +15,12 @@ use std::marker::Model;
 
 /// What is kept for each of 1 to 4 harts.
 #[derive(Drop)]
-pub struct Harts<const N: usize> {
+pub struct KeptHarts<const N: usize> {
     parts: [Part<N>; MOST_HARTS],
     len: u32,
 }
 
-impl<const N: usize> Model for Harts<N> {
+impl<const N: usize> Model for KeptHarts<N> {
     ghost use Rattle.std.specs.Prelude.{◌≡◌, ◌≤◌, List, length, take};
     ghost use Rattle.mx_words.specs.Limits.{most_harts};
     ghost use Rattle.mx_check.specs.Harts.{Kept};
@@ -32,14 +32,14 @@ impl<const N: usize> Model for Harts<N> {
     ghost invariant = { λ h. (length h.parts ≡ most_harts) × (h.len ≤ most_harts) };
 }
 
-impl<const N: usize> Harts<N> {
+impl<const N: usize> KeptHarts<N> {
     /// So many harts that have done nothing yet, 1 to 4.
-    pub fn new(harts: u32) -> Harts<N>
+    pub fn new(harts: u32) -> KeptHarts<N>
         requires size { N ≤ most_kept }
         requires few { harts ≤ most_harts }
         ensures { result ≡ new_harts harts }
     {
-        Harts {
+        KeptHarts {
             parts: [
                 Part::new(None),
                 Part::new(None),
@@ -51,13 +51,13 @@ impl<const N: usize> Harts<N> {
     }
 
     /// So many harts, 1 to 4, of which those in the list have their calls in flight.
-    pub fn waiting(flights: &Flights, harts: u32) -> Harts<N>
+    pub fn waiting(flights: &Flights, harts: u32) -> KeptHarts<N>
         requires size { N ≤ most_kept }
         requires few { harts ≤ most_harts }
         ensures value { result ≡ waiting_harts flights.now harts }
         ensures sets { All IsSet flights.now }
     {
-        Harts {
+        KeptHarts {
             parts: [
                 Part::new(flights.of(0)),
                 Part::new(flights.of(1)),

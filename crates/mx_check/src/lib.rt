@@ -3,7 +3,7 @@
 //! every other running hart has heard it.
 #![tactic(auto)]
 
-mod bare;
+mod cached_tables;
 mod checker;
 mod flight;
 mod harts;

@@ -11,9 +11,9 @@ use Rattle.mx_check.proofs.checker.Checker.allows_fetch.Goals as goal
 
 pub returns : goal.returns
 returns g c =
-    let t = c.self.inside.bare.tables in
+    let t = c.self.inside.cached.tables in
     let maps = g.T.PermTables.maps t in
-    let harts = c.self.inside.bare.harts in
+    let harts = c.self.inside.cached.harts in
     let m = map_of maps c.args.domain in
     let may : MayLook c.args.hart c.args.domain harts = rw c.self.view_is c.requires.may in
     let dom : IsDomain maps c.args.domain = rw c.self.view_is c.requires.domain in

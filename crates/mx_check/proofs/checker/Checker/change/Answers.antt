@@ -9,7 +9,7 @@ use Rattle.mx_check.proofs.checker.Checker.change.Goals as goal
 pub invariant_of-self : goal.invariant_of-self
 invariant_of-self g c =
     let maps = g.T.PermTables.maps in
-    let old = c.self.inside.bare in
+    let old = c.self.inside.cached in
     let new = c.change.new.self in
     let may : MayChange c.args.hart c.args.change.now old.harts = rw c.self.view_is c.requires.may in
     let kept : Keeps (changed c.args.change.now (maps old.tables)) old.harts = change-keeps-ready (maps old.tables) old.harts c.args.hart c.args.change.now c.self.invariant may.ready may.inside in

@@ -13,16 +13,16 @@ returns-clause-heard g c = rw c.hear.ensures (heard_all _ _ _ c.self.invariant (
 
 pub returns-clause-own : goal.returns-clause-own
 returns-clause-own g c =
-    let there : c.args.hart < length c.self.inside.bare.harts = rw c.self.view_is c.requires.hart in
-    let own : SameButCaches (kept_at c.hear.new.self.harts c.args.hart) (kept_at c.self.inside.bare.harts c.args.hart) = rw c.hear.ensures (hears_own c.self.inside.bare.harts c.args.hart there) in
+    let there : c.args.hart < length c.self.inside.cached.harts = rw c.self.view_is c.requires.hart in
+    let own : SameButCaches (kept_at c.hear.new.self.harts c.args.hart) (kept_at c.self.inside.cached.harts c.args.hart) = rw c.hear.ensures (hears_own c.self.inside.cached.harts c.args.hart there) in
     rw (← c.self.view_is) own
 
 pub returns-clause-same_length : goal.returns-clause-same_length
 returns-clause-same_length g c =
     ap (λ (x : Checks _). length x.harts) c.hear.ensures
-    ∙ length-hears_first c.args.hart (length c.self.inside.bare.harts) c.self.inside.bare.harts
+    ∙ length-hears_first c.args.hart (length c.self.inside.cached.harts) c.self.inside.cached.harts
     ∙ ap (λ (x : Checks _). length x.harts) c.self.view_is
 
 pub returns-clause-few : goal.returns-clause-few
 returns-clause-few g c = subst (λ (n : ℕ). n ≤ 4) (sym (ap (λ (x : Checks _). length x.harts) c.hear.ensures
-    ∙ length-hears_first c.args.hart (length c.self.inside.bare.harts) c.self.inside.bare.harts)) c.self.invariant.few
+    ∙ length-hears_first c.args.hart (length c.self.inside.cached.harts) c.self.inside.cached.harts)) c.self.invariant.few

@@ -6,8 +6,8 @@ use Rattle.mx_check.proofs.checker.Checker.may.Goals as goal
 
 pub invariant_of-self : goal.invariant_of-self
 invariant_of-self g c =
-    let maps = g.T.PermTables.maps c.self.inside.bare.tables in
-    let harts = c.self.inside.bare.harts in
+    let maps = g.T.PermTables.maps c.self.inside.cached.tables in
+    let harts = c.self.inside.cached.harts in
     let may : MayLook c.args.hart c.args.domain harts = rw c.self.view_is c.requires.may in
     rw (c.may.ensures.harts, c.may.ensures.same_maps)
     (looked-keeps g.T.PermTables.kind maps harts c.args.hart c.args.domain g.row.N c.args.place c.args.addr c.self.invariant may
@@ -15,8 +15,8 @@ invariant_of-self g c =
 
 pub returns-clause-answer : goal.returns-clause-answer
 returns-clause-answer g c =
-    let maps = g.T.PermTables.maps c.self.inside.bare.tables in
-    let harts = c.self.inside.bare.harts in
+    let maps = g.T.PermTables.maps c.self.inside.cached.tables in
+    let harts = c.self.inside.cached.harts in
     let may : MayLook c.args.hart c.args.domain harts = rw c.self.view_is c.requires.may in
     rw (← c.self.view_is) (c.may.ensures.answer
     ∙ answer_is g.T.PermTables.kind maps harts c.args.hart c.args.domain g.row.N c.args.place c.args.addr c.self.invariant may
@@ -24,8 +24,8 @@ returns-clause-answer g c =
 
 pub returns-clause-again : goal.returns-clause-again
 returns-clause-again g c =
-    let maps = g.T.PermTables.maps c.self.inside.bare.tables in
-    let harts = c.self.inside.bare.harts in
+    let maps = g.T.PermTables.maps c.self.inside.cached.tables in
+    let harts = c.self.inside.cached.harts in
     let may : MayLook c.args.hart c.args.domain harts = rw c.self.view_is c.requires.may in
     rw c.may.ensures.harts
     (may_again g.T.PermTables.kind maps harts c.args.hart c.args.domain g.row.N c.args.place c.args.addr c.self.invariant may

@@ -3,7 +3,7 @@ use Rattle.mx_check.specs.declared.flight.Flight.{Flight}
 use Rattle.mx_check.specs.Harts.{new_hart}
 use Rattle.mx_check.specs.Calls.{waiting_hart}
 use Rattle.mx_check.proofs.HartLaws.{four_made}
-use Rattle.mx_check.proofs.harts.Harts.waiting.Goals as goal
+use Rattle.mx_check.proofs.harts.KeptHarts.waiting.Goals as goal
 
 pub returns-clause-value : goal.returns-clause-value
 returns-clause-value g c =

@@ -1,6 +1,6 @@
 use Rattle.std.proofs.Common.{◌≡◌, length}
 use Rattle.mx_check.specs.Calls.{hears_first}
-use Rattle.mx_check.proofs.harts.Harts.hear.Given as goal
+use Rattle.mx_check.proofs.harts.KeptHarts.hear.Given as goal
 
 abbrev pub invariant-loop-i : goal.invariant-loop-i
 invariant-loop-i g l = record {

@@ -1,6 +1,6 @@
 use Rattle.mx_check.specs.Looks.{after_caches}
 use Rattle.mx_check.proofs.HartLaws.{hart_written}
-use Rattle.mx_check.proofs.harts.Harts.answer.Goals as goal
+use Rattle.mx_check.proofs.harts.KeptHarts.answer.Goals as goal
 
 pub returns-clause-after : goal.returns-clause-after
 returns-clause-after g c =

@@ -12,7 +12,7 @@ ghost use Rattle.mx_check.specs.Harts.{kept_at, at_hart, announced, finished, le
 ghost use Rattle.mx_check.specs.Looks.{found, decided_by, decided, lookups_with, lookups_after, hits_all, looks, after_walk, looked_at_address, is_forbidden};
 ghost use Rattle.mx_check.specs.Calls.{hears, is_ready, new_harts, waiting_harts};
 
-use crate::harts::Harts;
+use crate::harts::KeptHarts;
 use crate::{Counts, Flights, TablesFull};
 use mx_table::{Change, PermTables};
 use mx_words::{Access, Perm, Span, word_of};
@@ -20,12 +20,12 @@ use std::marker::Model;
 
 /// Tables, and the caches, calls and marks of each hart, with no promise about what the caches hold.
 #[derive(Drop)]
-pub struct Bare<T: PermTables, const N: usize> {
+pub struct CachedTables<T: PermTables, const N: usize> {
     tables: T,
-    harts: Harts<N>,
+    harts: KeptHarts<N>,
 }
 
-impl<T: PermTables, const N: usize> Model for Bare<T, N> {
+impl<T: PermTables, const N: usize> Model for CachedTables<T, N> {
     ghost use Rattle.mx_check.specs.Calls.{Checks};
 
     ghost Value = { Checks T };
@@ -33,30 +33,30 @@ impl<T: PermTables, const N: usize> Model for Bare<T, N> {
     ghost view = { λ b. record { tables = b.tables; harts = b.harts } };
 }
 
-impl<T: PermTables, const N: usize> Bare<T, N> {
+impl<T: PermTables, const N: usize> CachedTables<T, N> {
     /// Tables and harts that have done nothing yet.
-    pub fn new(tables: T, harts: u32) -> Bare<T, N>
+    pub fn new(tables: T, harts: u32) -> CachedTables<T, N>
         requires size { N ≤ most_kept }
         requires few { harts ≤ most_harts }
         ensures { result ≡ record { tables = tables; harts = new_harts harts } }
     {
-        Bare {
+        CachedTables {
             tables,
-            harts: Harts::new(harts),
+            harts: KeptHarts::new(harts),
         }
     }
 
     /// Tables and harts of which some have calls in flight.
-    pub fn resume(tables: T, harts: u32, flights: &Flights) -> Bare<T, N>
+    pub fn resume(tables: T, harts: u32, flights: &Flights) -> CachedTables<T, N>
         requires size { N ≤ most_kept }
         requires few { harts ≤ most_harts }
         ensures value { result
             ≡ record { tables = tables; harts = waiting_harts flights.now harts } }
         ensures sets { All IsSet flights.now }
     {
-        Bare {
+        CachedTables {
             tables,
-            harts: Harts::waiting(flights, harts),
+            harts: KeptHarts::waiting(flights, harts),
         }
     }
 

@@ -1,5 +1,5 @@
 use Rattle.std.proofs.Common.{◌≡◌, length, ap, ◌∙◌, arith, length-set}
-use Rattle.mx_check.proofs.harts.Harts.hear_one.Goals as goal
+use Rattle.mx_check.proofs.harts.KeptHarts.hear_one.Goals as goal
 
 pub mark-requires : goal.mark-requires
 mark-requires g c =

@@ -5,7 +5,7 @@ use Rattle.mx_check.specs.Harts.{Kept, at_hart}
 use Rattle.mx_check.specs.Looks.{after_walk, is_forbidden}
 use Rattle.mx_check.specs.Calls.{Checks}
 use Rattle.mx_check.proofs.LookLaws.{walk_is_look}
-use Rattle.mx_check.proofs.bare.Bare.look.Goals as goal
+use Rattle.mx_check.proofs.cached_tables.CachedTables.look.Goals as goal
 
 pub returns-in-None-clause-harts : goal.returns-in-None-clause-harts
 returns-in-None-clause-harts g c =

@@ -1,6 +1,6 @@
 use Rattle.mx_check.specs.Looks.{hits_all}
 use Rattle.mx_check.proofs.HartLaws.{hart_written}
-use Rattle.mx_check.proofs.harts.Harts.hit_all.Goals as goal
+use Rattle.mx_check.proofs.harts.KeptHarts.hit_all.Goals as goal
 
 pub returns : goal.returns
 returns g c =
