@@ -11,7 +11,7 @@ use Rattle.mx_model.specs.declared.values.Call.{Call}
 use Rattle.mx_model.specs.declared.values.TurnKind.TheVariants as T
 use Rattle.mx_model.specs.Events.{Events, no_events}
 use Rattle.mx_model.specs.State.{Core, Waiting, with_hart}
-use Rattle.mx_model.specs.State.{kept_at as seen_at, no_hart as nobody_seen}
+use Rattle.mx_model.specs.State.{kept_at as seen_at, no_held_hart as nobody_seen}
 use Rattle.mx_model.specs.State.{Hart as Seen}
 use Rattle.mx_model.specs.Turn.{Asks, asked, call_of, is_served_now, served}
 use Rattle.mx_model.specs.Checks.{is_ready as ready_in}
@@ -21,7 +21,7 @@ use Rattle.mx_machine.specs.declared.hart.Hart.{Hart}
 use Rattle.mx_machine.specs.declared.hart.Progress.{Progress}
 use Rattle.mx_machine.specs.declared.hart.Progress.TheVariants as G
 use Rattle.mx_machine.specs.Actions.{with_kept}
-use Rattle.mx_machine.specs.Harts.{no_hart, hart_among, is_halted, own_call, seen, seen_with, status_by}
+use Rattle.mx_machine.specs.Harts.{no_held_hart, hart_among, is_halted, own_call, seen, seen_with, status_by}
 use Rattle.mx_machine.specs.Held.{Held, rest_of}
 use Rattle.mx_machine.specs.Made.{IsMade, core_in, made_by, hart_in, reads_of}
 use Rattle.mx_machine.specs.Serving.{IsServing}
@@ -140,7 +140,7 @@ module _ (m : Held) (h : ℕ) (r : MayRun m h) where
       let x = hart_among m.harts h in
       let p = now_announced.parts in
       let k = kept_at p.harts h in
-      ap (λ (hs : List Hart). core_in (record m { parts = p; harts = hs })) (sym (set-get_or m.harts h no_hart))
+      ap (λ (hs : List Hart). core_in (record m { parts = p; harts = hs })) (sym (set-get_or m.harts h no_held_hart))
       ∙ core-step m h x p (λ i ne. ap (λ (k : Kept). k.flight) (others-announced i ne))
       ∙ ap (with_hart h (seen h x k)) (core-kept (rest_of m) m.parts h (announced h range_now.0 range_now.1) refl)
       ∙ ap (λ (g : Progress). with_hart h (seen_with (status_by (own_call h x) k.flight g) x) (core_in m)) r.runs

@@ -8,7 +8,7 @@ use Rattle.mx_supervisor.specs.Parts.{Parts, IsSound}
 use Rattle.mx_supervisor.specs.Served.{range_of}
 use Rattle.mx_supervisor.proofs.Answering.{sound-ram, with-harts}
 use Rattle.mx_machine.specs.declared.hart.Hart.{Hart}
-use Rattle.mx_machine.specs.Harts.{no_hart, hart_among, is_waiting}
+use Rattle.mx_machine.specs.Harts.{no_held_hart, hart_among, is_waiting}
 use Rattle.mx_machine.specs.Held.{Held}
 use Rattle.mx_machine.specs.Ties.{Fits, IsTied}
 
@@ -49,17 +49,17 @@ fits-change m h x kept ram dead waiting c = record {
     tie : (i : ℕ) → (i ≡ h) ⊎ (i ≢ h) → IsTied (range_of m.parts) i (hart_among (set m.harts h x) i) (kept_at kept i)
     tie i (inl e) =
         subst (λ j. IsTied (range_of m.parts) j (hart_among (set m.harts h x) j) (kept_at kept j)) (sym e)
-        (subst (λ (y : Hart). IsTied (range_of m.parts) h y (kept_at kept h)) (sym (get_or-set_same m.harts h x no_hart c.there)) c.tied)
+        (subst (λ (y : Hart). IsTied (range_of m.parts) h y (kept_at kept h)) (sym (get_or-set_same m.harts h x no_held_hart c.there)) c.tied)
     tie i (inr ne) =
-        subst (λ (y : Hart). IsTied (range_of m.parts) i y (kept_at kept i)) (sym (get_or-set_other m.harts h i x no_hart ne))
+        subst (λ (y : Hart). IsTied (range_of m.parts) i y (kept_at kept i)) (sym (get_or-set_other m.harts h i x no_held_hart ne))
         (subst (λ (k : Kept). IsTied (range_of m.parts) i (hart_among m.harts i) k) (sym (c.others i ne)) (c.fits.ties i))
 
     still : waiting ≡ false → (i : ℕ) → (i ≡ h) ⊎ (i ≢ h) → is_waiting (hart_among (set m.harts h x) i).progress ≡ false
     still w i (inl e) =
         ap (λ j. is_waiting (hart_among (set m.harts h x) j).progress) e
-        ∙ ap (λ (y : Hart). is_waiting y.progress) (get_or-set_same m.harts h x no_hart c.there) ∙ (c.quiet w).1
+        ∙ ap (λ (y : Hart). is_waiting y.progress) (get_or-set_same m.harts h x no_held_hart c.there) ∙ (c.quiet w).1
     still w i (inr ne) =
-        ap (λ (y : Hart). is_waiting y.progress) (get_or-set_other m.harts h i x no_hart ne) ∙ c.fits.quiet (c.quiet w).0 i
+        ap (λ (y : Hart). is_waiting y.progress) (get_or-set_other m.harts h i x no_held_hart ne) ∙ c.fits.quiet (c.quiet w).0 i
 
 -- a step of the checker for hart h
 pub count-step : (kept : List Kept) (h : ℕ) (step : Kept → Kept) → length (at_hart h step kept) ≡ length kept

@@ -3,9 +3,9 @@ use Rattle.std.proofs.Common.{◌≡◌, ◌≢◌, ℕ, zero, suc, ◌+◌, ◌
 use Rattle.mx_check.specs.declared.flight.Flight.{Flight}
 use Rattle.mx_check.specs.Harts.{Kept, kept_at}
 use Rattle.mx_model.specs.State.{Hart as Seen}
-use Rattle.mx_model.specs.State.{no_hart as nobody_seen}
+use Rattle.mx_model.specs.State.{no_held_hart as nobody_seen}
 use Rattle.mx_machine.specs.declared.hart.Hart.{Hart}
-use Rattle.mx_machine.specs.Harts.{no_hart, hart_among, own_call, seen, seen_with, seen_from, status_by}
+use Rattle.mx_machine.specs.Harts.{no_held_hart, hart_among, own_call, seen, seen_with, seen_from, status_by}
 use Rattle.mx_machine.specs.Held.{Held}
 use Rattle.mx_machine.specs.Made.{hart_in}
 
@@ -13,15 +13,15 @@ pub length-seen : (h : ℕ) (xs : List Hart) (kept : List Kept) → length (seen
 length-seen h [] kept = refl
 length-seen h (x ∷ xs) kept = ap suc (length-seen (h + 1) xs kept)
 
-seen-at : (n i : ℕ) (xs : List Hart) (kept : List Kept) → get_or (seen_from n xs kept) i nobody_seen ≡ seen (n + i) (get_or xs i no_hart) (kept_at kept (n + i))
+seen-at : (n i : ℕ) (xs : List Hart) (kept : List Kept) → get_or (seen_from n xs kept) i nobody_seen ≡ seen (n + i) (get_or xs i no_held_hart) (kept_at kept (n + i))
 seen-at n i [] kept = refl
 seen-at n zero (x ∷ xs) kept = let e : n ≡ n + 0 = omega arith in ap (λ k. seen k x (kept_at kept k)) e
 seen-at n (suc i) (x ∷ xs) kept = let e : (n + 1) + i ≡ n + suc i = omega arith in
-    seen-at (n + 1) i xs kept ∙ ap (λ k. seen k (get_or xs i no_hart) (kept_at kept k)) e
+    seen-at (n + 1) i xs kept ∙ ap (λ k. seen k (get_or xs i no_held_hart) (kept_at kept k)) e
 
 -- hart h of the state
 pub hart-seen : (xs : List Hart) (kept : List Kept) (h : ℕ) → get_or (seen_from 0 xs kept) h nobody_seen ≡ seen h (hart_among xs h) (kept_at kept h)
-hart-seen xs kept h = seen-at 0 h xs kept ∙ ap (λ k. seen k (get_or xs h no_hart) (kept_at kept k)) (zero-add h)
+hart-seen xs kept h = seen-at 0 h xs kept ∙ ap (λ k. seen k (get_or xs h no_held_hart) (kept_at kept k)) (zero-add h)
 
 pub hart-in : (m : Held) (h : ℕ) → hart_in m h ≡ seen h (hart_among m.harts h) (kept_at m.parts.harts h)
 hart-in m h = hart-seen m.harts m.parts.harts h

@@ -22,7 +22,7 @@ use Rattle.mx_model.specs.Checks.{call_range, flight_range, heard_by, heard_rang
 use Rattle.mx_model.specs.Checks.{hears as heard_in, is_halted as halted_by}
 use Rattle.mx_model.specs.State.{Core, Module, Status, module_at}
 use Rattle.mx_model.specs.State.{Hart as Seen}
-use Rattle.mx_model.specs.State.{no_hart as nobody_seen}
+use Rattle.mx_model.specs.State.{no_held_hart as nobody_seen}
 use Rattle.mx_supervisor.specs.Looks.{BarsAlike}
 use Rattle.mx_supervisor.specs.Parts.{modules_from, with_heap}
 use Rattle.mx_supervisor.specs.Served.{range_of}
@@ -33,7 +33,7 @@ use Rattle.mx_machine.specs.declared.hart.Hart.{Hart}
 use Rattle.mx_machine.specs.declared.hart.Progress.{Progress}
 use Rattle.mx_machine.specs.declared.hart.Progress.TheVariants as G
 use Rattle.mx_machine.specs.Actions.{heard}
-use Rattle.mx_machine.specs.Harts.{hart_among, hearers, is_halted, no_hart, own_call, seen, seen_from, status_by}
+use Rattle.mx_machine.specs.Harts.{hart_among, hearers, is_halted, no_held_hart, own_call, seen, seen_from, status_by}
 use Rattle.mx_machine.specs.Held.{Held, rest_of}
 use Rattle.mx_machine.specs.Made.{core_in}
 use Rattle.mx_machine.specs.Ties.{Fits, FliesWhileWaiting, IsFlying, IsTied}
@@ -186,7 +186,7 @@ hart-hears m h f there j = by (cases_eq j h)
 -- the harts of the state after an edit of each by its number
 module _ (edit : ℕ × Seen → Seen) (new : List Kept) where
   edited : (i : ℕ) (xs : List Hart) (kept : List Kept) →
-      ((j : ℕ) → edit (i + j, seen (i + j) (get_or xs j no_hart) (kept_at kept (i + j))) ≡ seen (i + j) (get_or xs j no_hart) (kept_at new (i + j))) →
+      ((j : ℕ) → edit (i + j, seen (i + j) (get_or xs j no_held_hart) (kept_at kept (i + j))) ≡ seen (i + j) (get_or xs j no_held_hart) (kept_at new (i + j))) →
       list_map edit (enumerate_from i (seen_from i xs kept)) ≡ seen_from i xs new
   edited i [] kept e = refl
   edited i (x ∷ xs) kept e =
@@ -196,7 +196,7 @@ module _ (edit : ℕ × Seen → Seen) (new : List Kept) where
       ap (λ (y : Seen). y ∷ list_map edit (enumerate_from (i + 1) (seen_from (i + 1) xs kept))) first
       ∙ ap (λ (ys : List Seen). seen i x (kept_at new i) ∷ ys) (edited (i + 1) xs kept (λ j.
       let q : (i + 1) + j ≡ i + suc j = omega arith in
-      ap (λ k. edit (k, seen k (get_or xs j no_hart) (kept_at kept k))) q ∙ e (suc j) ∙ ap (λ k. seen k (get_or xs j no_hart) (kept_at new k)) (sym q)))
+      ap (λ k. edit (k, seen k (get_or xs j no_held_hart) (kept_at kept k))) q ∙ e (suc j) ∙ ap (λ k. seen k (get_or xs j no_held_hart) (kept_at new k)) (sym q)))
 
 -- the modules don't depend on the harts
 modules-alike : (a b : Core) (d : ℕ) (heaps : List HeapState) → ((n : ℕ) → module_at a n ≡ module_at b n) → modules_from a d heaps ≡ modules_from b d heaps

@@ -20,7 +20,7 @@ use Rattle.mx_model.specs.Effect.{Effect, Goes, Faults, Loads, Stores, Calls, Ju
 use Rattle.mx_model.specs.Events.{Events, no_events}
 use Rattle.mx_model.specs.State.{Core, Running, with_hart}
 use Rattle.mx_model.specs.State.{kept_at as hart_at_seen}
-use Rattle.mx_model.specs.State.{no_hart as nobody_seen}
+use Rattle.mx_model.specs.State.{no_held_hart as nobody_seen}
 use Rattle.mx_model.specs.State.{Hart as Seen}
 use Rattle.mx_model.specs.Turn.{Action, acted, is_return_at, runs_at}
 use Rattle.mx_model.proofs.ListLaws.{length-put_at}
@@ -29,7 +29,7 @@ use Rattle.mx_supervisor.specs.Served.{range_of}
 use Rattle.mx_machine.specs.declared.hart.Hart.{Hart}
 use Rattle.mx_machine.specs.declared.hart.Progress.{Progress}
 use Rattle.mx_machine.specs.Actions.{after_instruction, effect_for, outcome_for, perm_for}
-use Rattle.mx_machine.specs.Harts.{no_hart, hart_among, is_waiting, own_call, seen, seen_with, status_by}
+use Rattle.mx_machine.specs.Harts.{no_held_hart, hart_among, is_waiting, own_call, seen, seen_with, status_by}
 use Rattle.mx_machine.specs.Held.{Held, rest_of}
 use Rattle.mx_machine.specs.Made.{IsMade, core_in, made_by, hart_in, instruction, reads_of}
 use Rattle.mx_machine.specs.Steps.{Stops, instructed, pc_after}
@@ -124,7 +124,7 @@ module _ (m : Held) (h : ℕ) (returns : Bool) (r : MayRun m h) where
       let x = hart_among m.harts h in
       let regs = regs_after (perm_for m x) m.parts.ram x.regs x.pc returns (effect_for m x) in
       let y = instructed regs (outcome_for m h returns) x in
-      let own : hart_among (set m.harts h y) h ≡ y = get_or-set_same m.harts h y no_hart r.act.there in
+      let own : hart_among (set m.harts h y) h ≡ y = get_or-set_same m.harts h y no_held_hart r.act.there in
       let s = after-stays in
       record {
         act = record {

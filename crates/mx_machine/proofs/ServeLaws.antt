@@ -27,7 +27,7 @@ use Rattle.mx_supervisor.specs.Looks.{BarsAlike, KeepsHarts}
 use Rattle.mx_supervisor.specs.Parts.{Parts, IsSound, core_of}
 use Rattle.mx_supervisor.specs.Served.{IsServed, KeepsSizes, flight_after, range_of}
 use Rattle.mx_machine.specs.declared.hart.Hart.{Hart}
-use Rattle.mx_machine.specs.Harts.{no_hart, hart_among, is_waiting, own_call, seen}
+use Rattle.mx_machine.specs.Harts.{no_held_hart, hart_among, is_waiting, own_call, seen}
 use Rattle.mx_machine.specs.Held.{Held, rest_of}
 use Rattle.mx_machine.specs.Made.{IsMade, core_in, hart_in, reads_of}
 use Rattle.mx_machine.specs.Serving.{IsServing}
@@ -179,7 +179,7 @@ module _ (m : Held) (h : ℕ) (call : Call) (q : Parts) (bytes : List ℕ) (a : 
       by : (i : ℕ) → (i ≡ h) ⊎ (i ≢ h) → IsTied (range_of q) i (hart_among (set m.harts h y) i) (kept_at kept i)
       by i (inl e) =
           subst (λ j. IsTied (range_of q) j (hart_among (set m.harts h y) j) (kept_at kept j)) (sym e)
-          (subst (λ (t : Hart). IsTied (range_of q) h t (kept_at kept h)) (sym (get_or-set_same m.harts h y no_hart v.there)) tie)
+          (subst (λ (t : Hart). IsTied (range_of q) h t (kept_at kept h)) (sym (get_or-set_same m.harts h y no_held_hart v.there)) tie)
       by i (inr ne) =
           let t = v.others i ne in
           let l = hart_among m.harts i in
@@ -189,14 +189,14 @@ module _ (m : Held) (h : ℕ) (call : Call) (q : Parts) (bytes : List ℕ) (a : 
             flight = subst (λ (r : ℕ × ℕ). FliesWhileWaiting r u.flight l.progress) (sym (ranges-stay (own_call i l))) t.flight;
             domain = t.domain;
           } in
-          subst (λ (t : Hart). IsTied (range_of q) i t (kept_at kept i)) (sym (get_or-set_other m.harts h i y no_hart ne))
+          subst (λ (t : Hart). IsTied (range_of q) i t (kept_at kept i)) (sym (get_or-set_other m.harts h i y no_held_hart ne))
           (subst (λ (u : Kept). IsTied (range_of q) i l u) (sym (others i ne ∙ others-kept i ne)) moved)
 
       still : m.waiting ≡ false → (i : ℕ) → (i ≡ h) ⊎ (i ≢ h) → is_waiting (hart_among (set m.harts h y) i).progress ≡ false
       still e i (inl p) =
           ap (λ j. is_waiting (hart_among (set m.harts h y) j).progress) p
-          ∙ ap (λ (t : Hart). is_waiting t.progress) (get_or-set_same m.harts h y no_hart v.there) ∙ w
-      still e i (inr ne) = ap (λ (t : Hart). is_waiting t.progress) (get_or-set_other m.harts h i y no_hart ne) ∙ v.quiet e i
+          ∙ ap (λ (t : Hart). is_waiting t.progress) (get_or-set_same m.harts h y no_held_hart v.there) ∙ w
+      still e i (inr ne) = ap (λ (t : Hart). is_waiting t.progress) (get_or-set_other m.harts h i y no_held_hart ne) ∙ v.quiet e i
 
   -- the hart goes on
   pub fits-answered : Fits (record m { parts = q; harts = set m.harts h (takes_answer a.a0 a.a1 (hart_among m.harts h)) })

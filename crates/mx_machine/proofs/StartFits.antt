@@ -24,7 +24,7 @@ use Rattle.mx_machine.specs.declared.starts.StackArea.{StackArea}
 use Rattle.mx_machine.specs.declared.views.HartStatus.{HartStatus}
 use Rattle.mx_machine.specs.declared.views.HartStatus.TheVariants as V
 use Rattle.mx_machine.specs.Actions.{halted_first}
-use Rattle.mx_machine.specs.Harts.{hart_among, is_halted, is_waiting, no_hart, own_call}
+use Rattle.mx_machine.specs.Harts.{hart_among, is_halted, is_waiting, no_held_hart, own_call}
 use Rattle.mx_machine.specs.Held.{Held}
 use Rattle.mx_machine.specs.Starts.{FliesIfWaiting, MayResume, MayStart, no_state, none_dead, progress_of, resumed_hart, started_from, started_hart}
 use Rattle.mx_machine.specs.Ties.{Fits, IsFlying, IsTied}
@@ -37,7 +37,7 @@ tied-as range h x y k l ex ek t = subst (λ (z : Hart). IsTied range h z k) (sym
 tied-start : (range : Call → ℕ × ℕ) (stacks : List StackArea) (h : ℕ) (s : HartStart) → IsTied range h (started_hart stacks h s) new_hart
 tied-start range stacks h s = record { halted = refl; flight = refl; domain = tt }
 
-tied-nobody : (range : Call → ℕ × ℕ) (h : ℕ) → IsTied range h no_hart nothing_kept
+tied-nobody : (range : Call → ℕ × ℕ) (h : ℕ) → IsTied range h no_held_hart nothing_kept
 tied-nobody range h = record { halted = refl; flight = refl; domain = tt }
 
 -- what a machine that starts holds
@@ -51,10 +51,10 @@ no_start = record { domain = 0; pc = 0 }
 module _ (p : Parts) (starts : List HartStart) (stacks : List StackArea) (sound : IsSound p) (may : MayStart p starts stacks) (few : length starts ≤ 4) where
   pub hart-there : (h : ℕ) → h < length starts → hart_among (started_from stacks 0 starts) h ≡ started_hart stacks h (get_or starts h no_start)
   hart-there h lt =
-      started-at stacks h starts ∙ ap (λ (o : Option HartStart). option_map_or (started_hart stacks h) o no_hart) (slice_get-get_or starts h no_start lt)
+      started-at stacks h starts ∙ ap (λ (o : Option HartStart). option_map_or (started_hart stacks h) o no_held_hart) (slice_get-get_or starts h no_start lt)
 
-  hart-past : (h : ℕ) → length starts ≤ h → hart_among (started_from stacks 0 starts) h ≡ no_hart
-  hart-past h le = get_or_past (started_from stacks 0 starts) h no_hart (omega (arith, le, length-started stacks 0 starts))
+  hart-past : (h : ℕ) → length starts ≤ h → hart_among (started_from stacks 0 starts) h ≡ no_held_hart
+  hart-past h le = get_or_past (started_from stacks 0 starts) h no_held_hart (omega (arith, le, length-started stacks 0 starts))
 
   kept-there : (h : ℕ) → h < length starts → kept_at p.harts h ≡ new_hart
   kept-there h lt = ap (λ (ks : List Kept). kept_at ks h) may.new ∙ get_or-replicate (length starts) h new_hart nothing_kept lt
@@ -69,7 +69,7 @@ module _ (p : Parts) (starts : List HartStart) (stacks : List StackArea) (sound 
       tied-as (range_of p) h (hart_among (started_from stacks 0 starts) h) (started_hart stacks h (get_or starts h no_start)) (kept_at p.harts h) new_hart
       (hart-there h lt) (kept-there h lt) (tied-start (range_of p) stacks h (get_or starts h no_start))
   ties-started h (inr le) =
-      tied-as (range_of p) h (hart_among (started_from stacks 0 starts) h) no_hart (kept_at p.harts h) nothing_kept
+      tied-as (range_of p) h (hart_among (started_from stacks 0 starts) h) no_held_hart (kept_at p.harts h) nothing_kept
       (hart-past h le) (kept-past h le) (tied-nobody (range_of p) h)
 
   quiet-started : (h : ℕ) → (h < length starts) ⊎ (length starts ≤ h) → is_waiting (hart_among (started_from stacks 0 starts) h).progress ≡ false
@@ -193,7 +193,7 @@ module _ (p : Parts) (states : List HartState) (stacks : List StackArea) (dead :
       let s = get_or states h no_state in
       let k = kept_at p.harts h in
       let u = may.unused h lt in
-      let x : hart_among harts h ≡ resumed_hart s = get_or-map resumed_hart states h no_state no_hart lt in
+      let x : hart_among harts h ≡ resumed_hart s = get_or-map resumed_hart states h no_state no_held_hart lt in
       let below : h < length harts = omega (arith, lt, length-map states resumed_hart) in
       let kept : kept_at (halted_first (length harts) harts p.harts) h ≡ cond (is_halted (progress_of s.status)) (counts_as_halted k) k =
       halted-below harts p.harts (length harts) h (omega (arith, as-many)) below
@@ -204,8 +204,8 @@ module _ (p : Parts) (states : List HartState) (stacks : List StackArea) (dead :
   ties-resumed h (inr le) =
       let harts = list_map resumed_hart states in
       let past : length harts ≤ h = omega (arith, le, length-map states resumed_hart) in
-      tied-as (range_of p) h (hart_among harts h) no_hart (kept_at (halted_first (length harts) harts p.harts) h) nothing_kept
-      (get_or_past harts h no_hart past)
+      tied-as (range_of p) h (hart_among harts h) no_held_hart (kept_at (halted_first (length harts) harts p.harts) h) nothing_kept
+      (get_or_past harts h no_held_hart past)
       (halted-past harts p.harts (length harts) h past ∙ get_or_past p.harts h nothing_kept (omega (arith, le, may.same_harts)))
       (tied-nobody (range_of p) h)
 

@@ -7,23 +7,23 @@ use Rattle.std.proofs.Math.Nat.{le-mul_of_pos_right, mul-le-mul_left}
 use Rattle.mx_machine.specs.declared.hart.Hart.{Hart}
 use Rattle.mx_machine.specs.declared.starts.HartStart.{HartStart}
 use Rattle.mx_machine.specs.declared.starts.StackArea.{StackArea}
-use Rattle.mx_machine.specs.Harts.{no_hart, hart_among}
+use Rattle.mx_machine.specs.Harts.{no_held_hart, hart_among}
 use Rattle.mx_machine.specs.Starts.{started_from, started_hart}
 
 -- hart i of those that start from number n on, and of those that resume
 started-from : (stacks : List StackArea) (n i : ℕ) (starts : List HartStart) →
-    get_or (started_from stacks n starts) i no_hart ≡ option_map_or (started_hart stacks (n + i)) (slice_get starts i) no_hart
+    get_or (started_from stacks n starts) i no_held_hart ≡ option_map_or (started_hart stacks (n + i)) (slice_get starts i) no_held_hart
 started-from stacks n i [] = refl
 started-from stacks n zero (s ∷ rest) = let e : n ≡ n + 0 = omega arith in ap (λ k. started_hart stacks k s) e
 started-from stacks n (suc i) (s ∷ rest) =
     let e : (n + 1) + i ≡ n + suc i = omega arith in
-    started-from stacks (n + 1) i rest ∙ ap (λ k. option_map_or (started_hart stacks k) (slice_get rest i) no_hart) e
+    started-from stacks (n + 1) i rest ∙ ap (λ k. option_map_or (started_hart stacks k) (slice_get rest i) no_held_hart) e
 
 pub started-at : (stacks : List StackArea) (i : ℕ) (starts : List HartStart) →
-    get_or (started_from stacks 0 starts) i no_hart ≡ option_map_or (started_hart stacks i) (slice_get starts i) no_hart
+    get_or (started_from stacks 0 starts) i no_held_hart ≡ option_map_or (started_hart stacks i) (slice_get starts i) no_held_hart
 started-at stacks i starts =
     let e : 0 + i ≡ i = omega arith in
-    started-from stacks 0 i starts ∙ ap (λ k. option_map_or (started_hart stacks k) (slice_get starts i) no_hart) e
+    started-from stacks 0 i starts ∙ ap (λ k. option_map_or (started_hart stacks k) (slice_get starts i) no_held_hart) e
 
 pub mapped-at : {X Y : Type 0} (f : X → Y) (xs : List X) (i : ℕ) (d : Y) → get_or (list_map f xs) i d ≡ option_map_or f (slice_get xs i) d
 mapped-at f [] i d = refl

@@ -20,7 +20,7 @@ use Rattle.mx_model.specs.Gates.{AreSingle, most_gates}
 use Rattle.mx_model.specs.Reads.{Reads, flat_reads}
 use Rattle.mx_model.specs.State.{Core, Module, no_module}
 use Rattle.mx_model.specs.State.{Hart as Seen}
-use Rattle.mx_model.specs.State.{no_hart as nobody_seen}
+use Rattle.mx_model.specs.State.{no_held_hart as nobody_seen}
 use Rattle.mx_model.specs.Valid.{IsFrame, IsGate, IsHart, IsHome, IsModule, IsPc, IsRegisters, IsValid}
 use Rattle.mx_model.proofs.JoinLaws.{all-weaker}
 use Rattle.mx_model.proofs.ListLaws.{all-at, all-in}
@@ -36,7 +36,7 @@ use Rattle.mx_machine.specs.declared.starts.StackArea.{StackArea}
 use Rattle.mx_machine.specs.declared.views.HartStatus.{HartStatus}
 use Rattle.mx_machine.specs.declared.views.HartStatus.TheVariants as V
 use Rattle.mx_machine.specs.Actions.{halted_first}
-use Rattle.mx_machine.specs.Harts.{hart_among, is_halted, no_hart, own_call, seen, seen_with, status_by}
+use Rattle.mx_machine.specs.Harts.{hart_among, is_halted, no_held_hart, own_call, seen, seen_with, status_by}
 use Rattle.mx_machine.specs.Held.{Held, area_of, behind, beside, home, meaning, no_area, rest_of}
 use Rattle.mx_machine.specs.Made.{core_in}
 use Rattle.mx_machine.specs.Smalls.{IsSmallFrame, IsSmallStart, IsSmallState}
@@ -301,7 +301,7 @@ module _ (p : Parts) (states : List HartState) (stacks : List StackArea) (dead :
   free-at : (h : ℕ) → (h < length states) ⊎ (length states ≤ h) → is_halted (hart_among (list_map resumed_hart states) h).progress ≡ true → (kept_at p.harts h).flight ≡ None
   free-at h (inl lt) e =
       let s = get_or states h no_state in
-      let x : hart_among (list_map resumed_hart states) h ≡ resumed_hart s = get_or-map resumed_hart states h no_state no_hart lt in
+      let x : hart_among (list_map resumed_hart states) h ≡ resumed_hart s = get_or-map resumed_hart states h no_state no_held_hart lt in
       flies-not h s s.status (kept_at p.harts h).flight (may.unused h lt).flight (sym (ap (λ (y : Hart). is_halted y.progress) x) ∙ e)
   free-at h (inr le) e = ap (λ (k : Kept). k.flight) (get_or_past p.harts h nothing_kept (omega (arith, le, may.same_harts)))
 
@@ -317,7 +317,7 @@ module _ (p : Parts) (states : List HartState) (stacks : List StackArea) (dead :
   each-left h lt =
       let s = get_or states h no_state in
       let k = kept_at (kept_resumed p states) h in
-      subst (λ (x : Hart). IsHart (length p.maps) (length states) h (seen h x k)) (sym (get_or-map resumed_hart states h no_state no_hart lt))
+      subst (λ (x : Hart). IsHart (length p.maps) (length states) h (seen h x k)) (sym (get_or-map resumed_hart states h no_state no_held_hart lt))
       (hart-resumes p (length states) h s (all-in (IsHartState p) states no_state may.each h lt) (all-in IsSmallState states no_state small h lt) k
       (subst (λ (o : Option Flight). FliesIfWaiting p h s s.status o) (sym (same-flight p states stacks dead steps may h)) (may.unused h lt).flight)
       (subst (λ (o : Option Flight). IfSome o (AreHearers (length states) h)) (sym (same-flight p states stacks dead steps may h))

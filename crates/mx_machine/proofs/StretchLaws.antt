@@ -13,7 +13,7 @@ use Rattle.mx_model.proofs.KeepLaws.{keeps-turned}
 use Rattle.mx_coherence.specs.Coherence.{AreWhole, flat_coherent}
 use Rattle.mx_machine.specs.declared.hart.Hart.{Hart}
 use Rattle.mx_machine.specs.Actions.{after_instruction, counted, effect_for, heard, outcome_for, perm_for}
-use Rattle.mx_machine.specs.Harts.{no_hart, hart_among}
+use Rattle.mx_machine.specs.Harts.{no_held_hart, hart_among}
 use Rattle.mx_machine.specs.Held.{Held, meaning}
 use Rattle.mx_machine.specs.Made.{IsMade, core_in}
 use Rattle.mx_machine.specs.Rows.{HasRunOn}
@@ -37,7 +37,7 @@ alive-instruction m h returns r alive =
     let x = hart_among m.harts h in
     let regs = regs_after (perm_for m x) m.parts.ram x.regs x.pc returns (effect_for m x) in
     let y : Hart = instructed regs (outcome_for m h returns) x in
-    let own : hart_among (set m.harts h y) h ≡ y = get_or-set_same m.harts h y no_hart r.act.there in
+    let own : hart_among (set m.harts h y) h ≡ y = get_or-set_same m.harts h y no_held_hart r.act.there in
     let n = runs-instruction m h returns r in
     record { there = n.act.there; runs = n.runs; alive = ap (λ (z : Hart). get_or m.dead z.domain false) own ∙ alive }
 

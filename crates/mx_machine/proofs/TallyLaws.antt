@@ -18,7 +18,7 @@ use Rattle.mx_supervisor.specs.Parts.{IsSound, Parts}
 use Rattle.mx_supervisor.specs.Served.{range_of}
 use Rattle.mx_machine.specs.declared.hart.Hart.{Hart}
 use Rattle.mx_machine.specs.Actions.{after_instruction, after_unfetched, counted, effect_for, looks_all, outcome_for, perm_for}
-use Rattle.mx_machine.specs.Harts.{hart_among, no_hart, own_call}
+use Rattle.mx_machine.specs.Harts.{hart_among, no_held_hart, own_call}
 use Rattle.mx_machine.specs.Held.{Held}
 use Rattle.mx_machine.specs.Rows.{NamesOwn, tallied}
 use Rattle.mx_machine.specs.Steps.{instructed}
@@ -134,7 +134,7 @@ unfetched-domain : (m : Held) (h : ℕ) → h < length m.harts → (hart_among (
 unfetched-domain m h there =
     let x = hart_among m.harts h in
     let y : Hart = instructed (regs_after (perm_for m x) m.parts.ram x.regs x.pc false (effect_for m x)) (outcome_for m h false) x in
-    ap (λ (z : Hart). z.domain) (get_or-set_same m.harts h y no_hart there)
+    ap (λ (z : Hart). z.domain) (get_or-set_same m.harts h y no_held_hart there)
 
 pub names-own : (m k : Held) (h : ℕ) → h < length m.harts → h < length m.parts.harts → k ≡ after_unfetched h m → NamesOwn m h → NamesOwn k h
 names-own m k h there kept after own =

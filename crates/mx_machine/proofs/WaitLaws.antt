@@ -14,7 +14,7 @@ use Rattle.mx_model.specs.Valid.{IsStatus, IsValid}
 use Rattle.mx_machine.specs.declared.hart.Hart.{Hart}
 use Rattle.mx_machine.specs.declared.hart.Progress.{Progress}
 use Rattle.mx_machine.specs.declared.hart.Progress.TheVariants as G
-use Rattle.mx_machine.specs.Harts.{no_hart, hart_among, hearers, is_waiting, own_call, status_by}
+use Rattle.mx_machine.specs.Harts.{no_held_hart, hart_among, hearers, is_waiting, own_call, status_by}
 use Rattle.mx_machine.specs.Held.{Held}
 use Rattle.mx_machine.specs.Made.{IsMade, core_in, made_after_hearing, hart_in, reads_of}
 use Rattle.mx_machine.specs.Ties.{Fits, MayAct}
@@ -40,7 +40,7 @@ waiting-announced m h v l w =
     (v.harts h (subst (λ n. h < n) (sym (length-seen 0 m.harts m.parts.harts)) l)).status).announced
 
 -- whether some hart may wait is looked up again
-pub none-waits : (xs : List Hart) (i : ℕ) → list_any (λ (x : Hart). is_waiting x.progress) xs ≡ false → is_waiting (get_or xs i no_hart).progress ≡ false
+pub none-waits : (xs : List Hart) (i : ℕ) → list_any (λ (x : Hart). is_waiting x.progress) xs ≡ false → is_waiting (get_or xs i no_held_hart).progress ≡ false
 none-waits [] i e = refl
 none-waits (x ∷ xs) zero e = (or_parts (is_waiting x.progress) (list_any (λ (x : Hart). is_waiting x.progress) xs) e).0
 none-waits (x ∷ xs) (suc i) e = none-waits xs i (or_parts (is_waiting x.progress) (list_any (λ (x : Hart). is_waiting x.progress) xs) e).1

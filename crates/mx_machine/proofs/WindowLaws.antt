@@ -27,7 +27,7 @@ use Rattle.mx_machine.specs.declared.window.Window.{Window}
 use Rattle.mx_machine.specs.Actions.{after_instruction, counted, effect_for, looks_all, outcome_for, perm_for}
 use Rattle.mx_machine.specs.AtGate.{gate_here}
 use Rattle.mx_machine.specs.Bus.{IsInRam}
-use Rattle.mx_machine.specs.Harts.{hart_among, no_hart}
+use Rattle.mx_machine.specs.Harts.{hart_among, no_held_hart}
 use Rattle.mx_machine.specs.Held.{Held}
 use Rattle.mx_machine.specs.Steps.{instructed}
 use Rattle.mx_machine.specs.Ties.{MayRun}
@@ -131,7 +131,7 @@ module _ (m : Held) (h : ℕ) (r : MayRun m h) (hand : IsAtHand m.parts.size (ke
   same-domain =
       let x = hart_among m.harts h in
       let y : Hart = instructed (regs_after (perm_for m x) m.parts.ram x.regs x.pc false (effect_for m x)) (outcome_for m h false) x in
-      ap (λ (z : Hart). z.domain) (get_or-set_same m.harts h y no_hart r.act.there)
+      ap (λ (z : Hart). z.domain) (get_or-set_same m.harts h y no_held_hart r.act.there)
 
   open-stays : (a : ℕ) → IsOpen m h a → IsOpen (after_instruction h false m) h a
   open-stays a o = record {

@@ -12,13 +12,13 @@ use Rattle.mx_machine.specs.declared.hart.Progress.{Progress}
 use Rattle.mx_machine.specs.declared.hart.Progress.TheVariants as G
 
 -- a hart that isn't there is halted
-abbrev pub no_hart : Hart
-no_hart =
+abbrev pub no_held_hart : Hart
+no_held_hart =
     record { regs = replicate 32 0; pc = 0; domain = 0; frames = []; progress = G.Halted None }
 
 -- hart h, and the harts after a step of hart h
 abbrev pub hart_among : List Hart → ℕ → Hart
-hart_among harts h = slice_index_or harts h no_hart
+hart_among harts h = slice_index_or harts h no_held_hart
 
 abbrev pub stepped : ℕ → (Hart → Hart) → List Hart → List Hart
 stepped h step harts = slice_set harts h (step (hart_among harts h))

@@ -21,7 +21,7 @@ use Rattle.mx_machine.specs.declared.starts.HartState.{HartState}
 use Rattle.mx_machine.specs.declared.starts.StackArea.{StackArea}
 use Rattle.mx_machine.specs.declared.views.HartStatus.{HartStatus}
 use Rattle.mx_machine.specs.declared.views.HartStatus.TheVariants as V
-use Rattle.mx_machine.specs.Harts.{no_hart, seen_from, own_call}
+use Rattle.mx_machine.specs.Harts.{no_held_hart, seen_from, own_call}
 use Rattle.mx_machine.specs.Held.{behind, state_of}
 use Rattle.mx_machine.specs.Ties.{HasRange}
 
@@ -31,7 +31,7 @@ none_dead = replicate most_domains false
 
 -- a hart starts at a pc in a domain, with all registers zero but x2, the address after the domain's stack area for the hart
 abbrev pub started_hart : List StackArea → ℕ → HartStart → Hart
-started_hart stacks h s = record no_hart {
+started_hart stacks h s = record no_held_hart {
   regs = slice_set (replicate 32 0) 2 (behind stacks s.domain h);
   pc = s.pc;
   domain = s.domain;

@@ -5,7 +5,7 @@ ghost use Rattle.mx_isa.specs.Ranges.{IsValid as IsInst};
 ghost use Rattle.mx_model.specs.Gates.{nearest, top};
 ghost use Rattle.mx_model.specs.Turn.{restored, saved};
 ghost use Rattle.mx_machine.specs.Readings.{status_by_progress, TellsHart};
-ghost use Rattle.mx_machine.specs.Harts.{no_hart, own_call};
+ghost use Rattle.mx_machine.specs.Harts.{no_held_hart, own_call};
 ghost use Rattle.mx_machine.specs.Starts.{resumed_hart};
 ghost use Rattle.mx_machine.specs.Steps.{instructed, regs_carried, regs_left, CarriesOut, Instructs, goes, waits, halts, takes_answer, enters, leaves, gives_up, returns_over};
 
@@ -42,7 +42,7 @@ pub struct Hart {
 impl Hart {
     /// A hart that isn't there.
     pub fn none() -> Hart
-        ensures { result ≡ no_hart }
+        ensures { result ≡ no_held_hart }
     {
         Hart {
             regs: Regs::new(),
@@ -56,7 +56,7 @@ impl Hart {
     /// A hart that has made no turn, with a stack address in x2.
     pub fn start(domain: u32, pc: u32, stack: u32) -> Hart
         ensures { result
-            ≡ record no_hart {
+            ≡ record no_held_hart {
               regs = slice_set (replicate 32 0) 2 stack;
               pc = pc;
               domain = domain;
