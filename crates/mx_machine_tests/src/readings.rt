@@ -163,7 +163,7 @@ fn gate_and_frame(machine: &Small) -> Option<(Option<Gate>, Option<Frame>)> {
 
 /// What is read of a machine without heap areas, gates, frames and waiting calls.
 #[derive(Clone, Copy)]
-struct Bare {
+struct BareReadings {
     counts: Option<(u64, u64, u64)>,
     blocks: Option<(Block, Option<Block>, Option<Block>)>,
     gate_and_frame: Option<(Option<Gate>, Option<Frame>)>,
@@ -171,10 +171,10 @@ struct Bare {
 }
 
 /// The counts of the machine of three words, and what isn't there.
-fn bare_three_words(alloc: Global) -> Result<Bare, Fail> {
+fn bare_three_words(alloc: Global) -> Result<BareReadings, Fail> {
     let played = three_words(alloc)?;
     let machine = &played.machine;
-    Ok(Bare {
+    Ok(BareReadings {
         counts: counts(machine),
         blocks: blocks(machine),
         gate_and_frame: gate_and_frame(machine),

@@ -44,7 +44,7 @@ use Rattle.mx_snapshot.proofs.ValidLists.{each_holds}
 use Rattle.mx_snapshot.proofs.ValidMay.{flights-fit, gates-fit, may-go, parts-sound}
 use Rattle.mx_snapshot.proofs.ValidRuns.{row-fits, row-same}
 use Rattle.mx_resume.specs.declared.building.Held.{Held}
-use Rattle.mx_resume.specs.declared.harts.Harts.{Harts}
+use Rattle.mx_resume.specs.declared.harts.ResumingHarts.{ResumingHarts}
 use Rattle.mx_resume.specs.declared.head.Head as code_head
 use Rattle.mx_resume.specs.declared.refused.SnapshotRefused.{SnapshotRefused}
 use Rattle.mx_resume.specs.declared.refused.SnapshotRefused.TheVariants.{Fault, TablesFull, NoMemory}
@@ -159,7 +159,7 @@ at_most n e = ⊎_elim
     (λ (o : (n ≡ 32) ⊎ (n ≡ 64)). ⊎_elim (λ (b : n ≡ 32). (let r : n ≤ 64 = omega (arith, b) in r)) (λ (d : n ≡ 64). (let r : n ≤ 64 = omega (arith, d) in r)) o)
     e
 
-module _ (s : Stored) (x : code_head.Head) (rows : List (List Span)) (flown : Harts) (ram owners : List ℕ) (gates : List Gate) (heaps : List HeapState) (a : GivesParts s x rows flown ram owners gates heaps) where
+module _ (s : Stored) (x : code_head.Head) (rows : List (List Span)) (flown : ResumingHarts) (ram owners : List ℕ) (gates : List Gate) (heaps : List HeapState) (a : GivesParts s x rows flown ram owners gates heaps) where
   pub may-fly : (words buffer : ℕ) → words ≡ x.words → buffer ≡ x.lookaside → MayFly words buffer x flown.flights
   may-fly words buffer w b =
       let f = a.valid in
@@ -170,7 +170,7 @@ module _ (s : Stored) (x : code_head.Head) (rows : List (List Span)) (flown : Ha
       record {
         size = omega (arith, small, same);
         few = (bounds-of s f x a.same_head).few_harts;
-        each = subst (λ (fs : List Flight). All (IsResumable x.harts words) fs) (sym (ap (λ (y : Harts). y.flights) a.same_harts)) two;
+        each = subst (λ (fs : List Flight). All (IsResumable x.harts words) fs) (sym (ap (λ (y : ResumingHarts). y.flights) a.same_harts)) two;
       }
 
   pub joined : (kind : Kind) (maps : List (List Perm)) (size : ℕ) (limit : Need) (buffer : ℕ) (harts : List Kept)
@@ -179,7 +179,7 @@ module _ (s : Stored) (x : code_head.Head) (rows : List (List Span)) (flown : Ha
   joined kind maps size limit buffer harts k m n l b h =
       same kind maps size limit buffer harts ram owners gates heaps
       (k ∙ ap (λ (y : Head). y.kind) a.same_head) (m ∙ rows-maps s x rows a.same_head a.same_rows) (n ∙ ap (λ (y : Head). y.words) a.same_head) (l ∙ ap (λ (y : Head). y.limit) a.same_head) (b ∙ ap (λ (y : Head). y.lookaside) a.same_head)
-      (h ∙ ap (λ (y : Harts). waiting_harts y.flights x.harts) a.same_harts ∙ ap (waiting_harts (flights_in s)) (ap (λ (y : Head). y.harts) a.same_head ∙ sym a.valid.hart_count))
+      (h ∙ ap (λ (y : ResumingHarts). waiting_harts y.flights x.harts) a.same_harts ∙ ap (waiting_harts (flights_in s)) (ap (λ (y : Head). y.harts) a.same_head ∙ sym a.valid.hart_count))
       a.same_ram a.same_owners a.same_gates a.same_heaps
     where
       same : (kind : Kind) (maps : List (List Perm)) (size : ℕ) (limit : Need) (buffer : ℕ) (harts : List Kept) (ram owners : List ℕ) (gates : List Gate) (heaps : List HeapState)
@@ -189,7 +189,7 @@ module _ (s : Stored) (x : code_head.Head) (rows : List (List Span)) (flown : Ha
       same kind maps size limit buffer harts ram owners gates heaps e1 e2 e3 e4 e5 e6 e7 e8 e9 e10 = rw (e1, e2, e3, e4, e5, e6, e7, e8, e9, e10) refl
 
 -- a supervisor over tables that are built of such rows
-module _ {T : Type 0} (tables : Ghosts T) (buffer : ℕ) (s : Stored) (x : code_head.Head) (rows : List (List Span)) (flown : Harts) (ram owners : List ℕ) (gates : List Gate) (heaps : List HeapState)
+module _ {T : Type 0} (tables : Ghosts T) (buffer : ℕ) (s : Stored) (x : code_head.Head) (rows : List (List Span)) (flown : ResumingHarts) (ram owners : List ℕ) (gates : List Gate) (heaps : List HeapState)
     (a : GivesParts s x rows flown ram owners gates heaps) (t : T)
     (k : tables.kind ≡ x.kind) (m : tables.maps t ≡ list_map (row_map x.words) rows) (w : tables.size t ≡ x.words) (l : tables.limits t ≡ x.limit) (b : buffer ≡ x.lookaside)
     (checker : Checks T) (checks : checker ≡ (let c : Checks T = record { tables = t; harts = waiting_harts flown.flights x.harts } in c)) where
@@ -226,7 +226,7 @@ module _ (s : Stored) (f : IsStored s) (x : Held) (a : AreHeldOf s x) where
   goes-from p e = record {
     valid = f;
     same_parts = e;
-    same_states = ap (λ (y : Harts). y.states) a.harts;
+    same_states = ap (λ (y : ResumingHarts). y.states) a.harts;
     same_stacks = a.stacks;
     same_dead = a.dead;
     same_turns = ap (λ (y : Head). y.turns) a.head;

@@ -22,7 +22,7 @@ use Rattle.mx_snapshot.specs.Resuming.{dead_in, heap_in, parts_in, spans_in, sta
 use Rattle.mx_snapshot.specs.Stored.{Stored, StoredModule}
 use Rattle.mx_resume.specs.declared.building.Held.{Held}
 use Rattle.mx_resume.specs.declared.fields.Fields.{Fields}
-use Rattle.mx_resume.specs.declared.harts.Harts.{Harts}
+use Rattle.mx_resume.specs.declared.harts.ResumingHarts.{ResumingHarts}
 use Rattle.mx_resume.specs.declared.head.Head.{Head}
 use Rattle.mx_resume.specs.declared.refused.SnapshotRefused.{SnapshotRefused}
 use Rattle.mx_resume.specs.declared.refused.SnapshotRefused.TheVariants.{Fault, TablesFull, NoMemory}
@@ -93,7 +93,7 @@ pub record MayGo (p : Parts) (states : List HartState) (stacks : List StackArea)
   pub from : GoesFrom snapshot p states stacks dead turns
 
 -- of what a supervisor is joined that goes on from a snapshot
-pub record GivesParts (s : Stored) (h : Head) (rows : List (List Span)) (harts : Harts)
+pub record GivesParts (s : Stored) (h : Head) (rows : List (List Span)) (harts : ResumingHarts)
     (ram owners : List ℕ) (gates : List Gate) (heaps : List HeapState) : Type 0 where
   pub valid : IsStored s
   pub same_head : head_seen h ≡ s.head
@@ -104,7 +104,7 @@ pub record GivesParts (s : Stored) (h : Head) (rows : List (List Span)) (harts :
   pub same_gates : gates ≡ s.gates
   pub same_heaps : heaps ≡ list_map heap_in s.modules
 
-pub record MayJoin (h : Head) (rows : List (List Span)) (harts : Harts) (ram owners : List ℕ)
+pub record MayJoin (h : Head) (rows : List (List Span)) (harts : ResumingHarts) (ram owners : List ℕ)
     (gates : List Gate) (heaps : List HeapState) : Type 0 where
   pub snapshot : Stored
   pub gives : GivesParts snapshot h rows harts ram owners gates heaps

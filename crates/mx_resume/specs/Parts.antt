@@ -12,7 +12,7 @@ use Rattle.mx_snapshot.specs.Stored.{Head, Stored, StoredHart, StoredModule}
 use Rattle.mx_resume.specs.declared.building.Held.{Held}
 use Rattle.mx_resume.specs.declared.fields.Fields.{Fields}
 use Rattle.mx_resume.specs.declared.harts.Hart as code_hart
-use Rattle.mx_resume.specs.declared.harts.Harts.{Harts}
+use Rattle.mx_resume.specs.declared.harts.ResumingHarts.{ResumingHarts}
 use Rattle.mx_resume.specs.declared.head.Head as code_head
 use Rattle.mx_resume.specs.declared.maps.MapRun.{MapRun}
 use Rattle.mx_resume.specs.declared.modules.Module.{Module}
@@ -80,11 +80,11 @@ hart_seen x = record {
 }
 
 -- the harts, in a RAM of so many words with these heaps
-abbrev pub harts_in_code : ℕ → List HeapState → List StoredHart → Harts
+abbrev pub harts_in_code : ℕ → List HeapState → List StoredHart → ResumingHarts
 harts_in_code words heaps xs =
     record { states = list_map state_in xs; flights = flights_from words heaps 0 xs }
 
-abbrev pub AreHartsOf : ℕ → List HeapState → List StoredHart → Harts → Type 0
+abbrev pub AreHartsOf : ℕ → List HeapState → List StoredHart → ResumingHarts → Type 0
 AreHartsOf words heaps xs x = x ≡ harts_in_code words heaps xs
 
 -- all fields

@@ -16,7 +16,7 @@ ghost use Rattle.mx_resume.specs.Goes.{IsHeld, IsOverfull, JoinsAs, MayFly, MayG
 ghost use Rattle.mx_resume.specs.Parts.{AreHeldOf};
 
 use crate::SnapshotRefused;
-use crate::harts::Harts;
+use crate::harts::ResumingHarts;
 use crate::head::Head;
 use mx_boot::AnyMachine;
 use mx_check::Checker;
@@ -50,7 +50,7 @@ pub(crate) struct Held {
     /// The gates.
     pub gates: Gates,
     /// The harts.
-    pub harts: Harts,
+    pub harts: ResumingHarts,
     /// RAM.
     pub ram: Ram,
 }
@@ -76,7 +76,11 @@ fn tables<T: PermTables>(alloc: Global, head: &Head, rows: &[Spans]) -> Result<T
 }
 
 /// A checker over tables, in which the harts that wait have their calls in flight.
-fn check_on<T: PermTables, const N: usize>(tables: T, head: &Head, harts: &Harts) -> Checker<T, N>
+fn check_on<T: PermTables, const N: usize>(
+    tables: T,
+    head: &Head,
+    harts: &ResumingHarts,
+) -> Checker<T, N>
     requires { MayFly (T.size tables) N head.now harts.now.flights }
     ensures { result ≡ record {
       tables = tables;
@@ -133,7 +137,7 @@ fn join<T: PermTables, const N: usize>(
     alloc: Global,
     head: &Head,
     rows: Vec<Spans>,
-    harts: &Harts,
+    harts: &ResumingHarts,
     ram: Ram,
     owners: Owners,
     gates: Gates,

@@ -14,7 +14,7 @@ ghost use Rattle.mx_resume.specs.Taking.{IsTaken, TakesAs};
 
 use crate::building::{Held, build};
 use crate::gates::read_gates;
-use crate::harts::{Harts, read_harts};
+use crate::harts::{ResumingHarts, read_harts};
 use crate::head::{Head, read_head};
 use crate::modules::{Modules, read_modules};
 use crate::owners::read_owners;
@@ -45,7 +45,7 @@ pub(crate) struct Fields {
     /// The gates.
     pub gates: Gates,
     /// The harts.
-    pub harts: Harts,
+    pub harts: ResumingHarts,
     /// RAM.
     pub ram: Ram,
 }

@@ -37,7 +37,7 @@ pub(crate) struct Hart {
 
 /// All harts.
 #[derive(Drop)]
-pub(crate) struct Harts {
+pub(crate) struct ResumingHarts {
     /// With what each resumes.
     pub states: HartStates,
     /// The calls of those that wait.
@@ -162,12 +162,12 @@ fn add_flight(flights: &mut Flights, words: u32, heaps: &Heaps, number: u32, har
     }
 }
 
-impl Harts {
+impl ResumingHarts {
     /// No hart.
-    fn new() -> Harts
+    fn new() -> ResumingHarts
         ensures { result ≡ record { states = []; flights = [] } }
     {
-        Harts {
+        ResumingHarts {
             states: HartStates::new(),
             flights: Flights::new(),
         }
@@ -197,12 +197,12 @@ pub(crate) fn read_harts(
     at: &mut usize,
     head: &Head,
     heaps: &Heaps,
-) -> Result<Harts, SnapshotRefused>
+) -> Result<ResumingHarts, SnapshotRefused>
     requires { HasBounds head.now }
     ensures { TakesAs (AreHartsOf head.now.words heaps.now)
         (list_of head.now.harts (hart_in (head_seen head.now)) [] bytes.now at.old) at.new result }
 {
-    let mut harts = Harts::new();
+    let mut harts = ResumingHarts::new();
     'harts: for number in 0..head.harts {
         let hart = read_hart(bytes, at, head, number)?;
         harts.push(head.words, heaps, number, hart);

@@ -1,6 +1,6 @@
 use Rattle.mx_resume.specs.Parts.{hart_seen}
 use Rattle.mx_resume.proofs.Calls.{call_new, calls_few, hart_added, states_few}
-use Rattle.mx_resume.proofs.harts.Harts.push.Goals as goal
+use Rattle.mx_resume.proofs.harts.ResumingHarts.push.Goals as goal
 
 pub add_flight-requires-clause-room : goal.add_flight-requires-clause-room
 add_flight-requires-clause-room c = let t = c.requires.those in calls_few c.args.words c.args.heaps.now t.0 c.args.number c.args.self.now t.1 c.requires.number t.2
