@@ -1,8 +1,10 @@
 -- A plan that the code counts is the map's.
 use Rattle.std.proofs.Common.{◌≡◌, ℕ, ◌+◌, ◌-◌, ◌<◌, ◌≤◌, min, Bool, true, false, not, ◌==◌, ◌&&◌, ◌||◌, nat_lt, List, length, sym, ◌∙◌, ap, arith}
+use denote.Enum.Bare.{sameb}
 use Rattle.std.proofs.lemmas.Bool.Decides.{nat_tests}
 use Rattle.mx_words.specs.declared.perm.Perm.{Perm}
 use Rattle.mx_words.specs.Rights.{same, perm_at}
+use Rattle.mx_words.specs.contracts.perm.Perm.{the_type}
 use Rattle.mx_words.specs.Counting.{count_below}
 use Rattle.mx_words.specs.Newest.{laid}
 use Rattle.mx_words.specs.Changes.{grant_of}
@@ -12,6 +14,10 @@ use Rattle.mx_words.proofs.RunLaws.{runs-count}
 use Rattle.mx_segments.specs.declared.plan.Plan.{Plan}
 use Rattle.mx_segments.specs.Plan.{IsPlan, total}
 use Rattle.mx_segments.proofs.ChangeLaws.{before-le, behind-le, total_is, length-new}
+
+-- whether permissions differ, told by a test of the two
+pub differ : (p q : Perm) → not (sameb the_type p q) ≡ not (same p q)
+differ p q = grind arith
 
 pub and_true : (a b : ℕ) (x y : Bool) → a < b → x ≡ y → x ≡ (nat_lt a b && y)
 and_true a b x y lt e = let t : nat_lt a b ≡ true = grind (arith, nat_tests) in e ∙ sym (ap (λ s. s && y) t)

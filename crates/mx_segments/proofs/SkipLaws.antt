@@ -1,14 +1,12 @@
 -- A range whose words have a permission already.
-use Rattle.std.proofs.Common.{◌≡◌, ℕ, ◌+◌, ◌<◌, ◌≤◌, List, length, arith, subst, sym, eq-eqb}
+use Rattle.std.proofs.Common.{◌≡◌, ℕ, ◌+◌, ◌<◌, ◌≤◌, List, length, arith, subst, sym}
 use Rattle.mx_words.specs.declared.perm.Perm.{Perm}
 use Rattle.mx_words.specs.declared.perm.Span.{Span}
 use Rattle.mx_words.specs.declared.tables.Kind.TheVariants as K
-use Rattle.mx_words.specs.Rights.{number}
 use Rattle.mx_words.specs.Newest.{laid}
 use Rattle.mx_words.specs.Changes.{grant_of}
 use Rattle.mx_words.specs.Reach.{span}
 use Rattle.mx_words.proofs.ReachLaws.{IsUniformRound, within_round}
-use Rattle.mx_words.proofs.RunLaws.{same_eq}
 use Rattle.mx_table.proofs.ChangeLaws.{laid_already}
 use Rattle.std.proofs.Common.{◌∙◌}
 
@@ -20,7 +18,7 @@ run_round m i run inside is =
 
 -- where the first word's run has the permission and ends after the range, the range has it
 pub run_has : (m : List Perm) (first count : ℕ) (p : Perm) (run : Span) → first < length m → run ≡ span K.Segments m first →
-    number run.perm ≡ number p → first + count ≤ run.first + run.count → laid (grant_of first count p) m ≡ m
-run_has m first count p run inside is e far =
+    run.perm ≡ p → first + count ≤ run.first + run.count → laid (grant_of first count p) m ≡ m
+run_has m first count p run inside is same far =
     let r : IsUniformRound m first run = run_round m first run inside is in
-    laid_already m first count p (λ k from to. r.alike k (omega (arith, r.left)) (omega arith) ∙ same_eq run.perm p (eq-eqb (number run.perm) (number p) e))
+    laid_already m first count p (λ k from to. r.alike k (omega (arith, r.left)) (omega arith) ∙ same)

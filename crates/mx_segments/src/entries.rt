@@ -153,7 +153,7 @@ pub(crate) fn has_already(
         ≡ map_in words leaf.now chains.now.lists row }
 {
     let run = run_in(leaf, chains, row, words, first);
-    run.perm.number() == perm.number() && first + count <= run.first + run.count
+    run.perm == perm && first + count <= run.first + run.count
 }
 
 /// The stored entry of a word's run in the map at a row, with the run.

@@ -61,13 +61,6 @@ impl Plan {
     }
 }
 
-/// Whether two permissions differ.
-pub(crate) fn differ(one: Perm, other: Perm) -> bool
-    ensures { result ≡ not (same one other) }
-{
-    one.number() != other.number()
-}
-
 // Whether a run begins at a word that gets a permission, after a word that keeps its own.
 fn starts_at(leaf: &Pool<64>, chains: &Chains, row: u32, words: u32, first: u32, perm: Perm) -> bool
     requires store { IsStore leaf.now chains.now.lists }
@@ -81,7 +74,7 @@ fn starts_at(leaf: &Pool<64>, chains: &Chains, row: u32, words: u32, first: u32,
     if first == 0 {
         return true;
     }
-    differ(perm_in(leaf, chains, row, words, first - 1), perm)
+    perm_in(leaf, chains, row, words, first - 1) != perm
 }
 
 // The permission of a word in the map at a row, none outside RAM.
@@ -128,7 +121,7 @@ pub(crate) fn plan_of(
         behind: runs_before(leaf, chains, row, words, behind + 1),
         all: runs_before(leaf, chains, row, words, words),
         starts: starts_at(leaf, chains, row, words, first, perm),
-        ends: behind < words && differ(perm, next),
+        ends: behind < words && perm != next,
         next,
     }
 }

@@ -6,7 +6,7 @@ ghost use Rattle.mx_table.specs.Rows.{end_at, first_spans};
 ghost use Rattle.mx_segments.specs.Lists.{longest_list};
 ghost use Rattle.mx_segments.specs.Tally.{IsTally, counted_before, perm_before, begins_at, begins_behind};
 
-use crate::plan::{Plan, differ};
+use crate::plan::Plan;
 use mx_words::{Perm, Span, Spans};
 
 /// The runs of the map of a row's first spans. From word `end` on the map has no permission.
@@ -51,7 +51,7 @@ fn is_begun(tally: &Tally, span: Span) -> bool
     if span.first == 0 {
         return true;
     }
-    differ(perm_of_previous(tally, span.first), span.perm)
+    perm_of_previous(tally, span.first) != span.perm
 }
 
 // Whether a run begins right after the next span.
@@ -59,7 +59,7 @@ fn is_ended(span: Span, words: u32) -> bool
     requires { span.first + span.count ≤ words }
     ensures { result ≡ begins_behind span words }
 {
-    span.first + span.count < words && differ(span.perm, Perm::None)
+    span.first + span.count < words && span.perm != Perm::None
 }
 
 // The tally with span `n` of a row, which lies after those before it.
