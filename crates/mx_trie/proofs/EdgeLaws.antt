@@ -3,7 +3,6 @@ use Rattle.std.proofs.Common.{◌≡◌, ◌≢◌, ℕ, ◌-◌, ◌*◌, ◌/�
 use Rattle.mx_words.specs.declared.perm.Perm.{Perm}
 use Rattle.mx_words.specs.declared.perm.Span.{Span}
 use Rattle.mx_words.specs.declared.tables.Kind.{Kind}
-use Rattle.mx_words.specs.Rights.{number}
 use Rattle.mx_words.specs.Runs.{page_words, region_words}
 use Rattle.mx_words.specs.Reach.{line_at}
 use Rattle.mx_words.specs.Blocks.{is_broken}
@@ -35,7 +34,7 @@ broken_region m x at inside broken =
 -- a page in which two neighbours of one eighth differ
 pub edge_page : (m : List Perm) (at : ℕ) (before here : Span) → at % 128 ≢ 0 → IsRound m (at - 1) before →
     IsRound m at here →
-    number here.perm ≢ number before.perm → is_broken page_words m (at / 1024) ≡ true
+    here.perm ≢ before.perm → is_broken page_words m (at / 1024) ≡ true
 edge_page m at before here within last first other = true_from_ne_false _ (λ e. let part = (even-of 1024 128 m (at / 1024) refl refl (omega arith) e).parts (at % 1024 / 128) (omega arith) in
     grind (arith, part.alike (at % 128), part.alike (at % 128 - 1), round-perm m at here first, round-perm m (at - 1) before last))
 

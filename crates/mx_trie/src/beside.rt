@@ -20,7 +20,7 @@ fn before<V: View>(view: &V, at: u32, perm: Perm, most: u32) -> u32
     let mut begin = at;
     while 0 < begin && at - begin < most {
         let span = view.around(begin - 1);
-        if span.perm.number() != perm.number() {
+        if span.perm != perm {
             return at - begin;
         }
         begin = span.first;
@@ -38,7 +38,7 @@ fn behind<V: View>(view: &V, words: u32, at: u32, perm: Perm, most: u32) -> u32
     let mut end = at;
     while end < words && end - at < most {
         let span = view.around(end);
-        if span.perm.number() != perm.number() {
+        if span.perm != perm {
             return end - at;
         }
         end = span.first + span.count;

@@ -11,7 +11,6 @@ use crate::view::View;
 use mx_words::MOST_WORDS;
 
 /// Whether a word has another permission than the word before it, which lies in the same eighth of a page.
-#[tactic(auto, using(crate::proofs::EdgeLaws::edge_page))]
 fn is_edge<V: View>(view: &V, at: u32) -> bool
     requires lawful { V.lawful view.now }
     ensures { result ≡ true → is_broken page_words (V.map view.now) (at / 1024) ≡ true }
@@ -21,7 +20,7 @@ fn is_edge<V: View>(view: &V, at: u32) -> bool
     }
     let before = view.around(at - 1);
     let here = view.around(at);
-    here.perm.number() != before.perm.number()
+    here.perm != before.perm
 }
 
 /// Whether a page isn't eighth-uniform. The edges of the words `first` to `end - 1` are looked at first.

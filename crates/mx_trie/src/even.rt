@@ -45,7 +45,7 @@ fn is_line_of<L: LeafForm>(entry: u32, line: u32, perm: Perm) -> bool
         ((k : ℕ) → k < 16 → perm_at m (line * 16 + k) ≡ perm) → ⊥ }
 {
     match line_perm::<L>(entry, line) {
-        Some(found) => found.number() == perm.number(),
+        Some(found) => found == perm,
         None => false,
     }
 }

@@ -82,7 +82,7 @@ fn left_behind(lay: &Laying, beside: &Beside, most: u32, line: u32, old: u32, pe
     if begin >= lay.words || old < gap {
         return old;
     }
-    if perm.number() != lay.perm.number() {
+    if perm != lay.perm {
         return gap;
     }
     (begin - lay.first + beside.before).min(most)
@@ -102,7 +102,7 @@ fn right_before(lay: &Laying, beside: &Beside, most: u32, line: u32, old: u32, p
     if old < gap {
         return old;
     }
-    if perm.number() != lay.perm.number() {
+    if perm != lay.perm {
         return gap;
     }
     (lay.end - end + beside.behind).min(most)

@@ -171,7 +171,7 @@ fn is_alike(entry: u32, one: u32, other: u32) -> bool
     ensures yes { result ≡ true → vector_perm entry one ≡ vector_perm entry other }
     ensures no { result ≡ false → vector_perm entry one ≢ vector_perm entry other }
 {
-    perm_in(entry / 4, one).number() == perm_in(entry / 4, other).number()
+    perm_in(entry / 4, one) == perm_in(entry / 4, other)
 }
 
 /// The entry of line `k` of a page that has a vector.

@@ -23,7 +23,7 @@ fn is_uniform<V: View>(view: &V, first: u32, count: u32) -> bool
     let mut at = span.first + span.count;
     while at < first + count {
         let next = view.around(at);
-        if next.perm.number() != span.perm.number() {
+        if next.perm != span.perm {
             return false;
         }
         at = next.first + next.count;
@@ -41,7 +41,7 @@ pub(crate) fn has_perm<V: View>(view: &V, first: u32, end: u32, perm: Perm) -> b
     let mut at = first;
     while at < end {
         let span = view.around(at);
-        if span.perm.number() != perm.number() {
+        if span.perm != perm {
             return false;
         }
         at = span.first + span.count;
