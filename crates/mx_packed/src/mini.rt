@@ -31,7 +31,7 @@ pub(crate) fn run_count(perms: &[Perm; 16]) -> u32
     let mut place = 15;
     while place > 0 {
         place -= 1;
-        if perms[place].number() != perms[place + 1].number() {
+        if perms[place] != perms[place + 1] {
             count += 1;
         }
     }
@@ -65,9 +65,9 @@ fn codes(perms: &[Perm; 16]) -> (u32, u32)
     let mut place = 15;
     while place > 0 {
         place -= 1;
-        let here = perms[place].number();
-        if here != perms[place + 1].number() {
-            values = here + 4 * values;
+        let here = perms[place];
+        if here != perms[place + 1] {
+            values = here.number() + 4 * values;
             starts = place as u32 + 1 + 16 * starts;
         }
     }

@@ -1,6 +1,8 @@
-use Rattle.std.proofs.Common.{◌≡◌, ◌≢◌, ◌+◌, ◌-◌, ◌*◌, ◌^◌, ◌<◌, length, drop, sym, ap, ◌∙◌, arith, length-drop}
-use Rattle.mx_words.specs.Rights.{number, perm_at}
-use Rattle.mx_words.proofs.NumberLaws.{number-small}
+use Rattle.std.proofs.Common.{◌≡◌, ◌+◌, ◌-◌, ◌*◌, ◌^◌, ◌<◌, length, drop, sym, ap, ◌∙◌, arith, rules, length-drop}
+use denote.Enum.Bare.{differs_true, differs_false}
+use Rattle.mx_words.specs.Rights.{number}
+use Rattle.mx_words.specs.contracts.perm.Perm.{the_type}
+use Rattle.mx_words.proofs.NumberLaws.{number-small, number-one_to_one}
 use Rattle.mx_trie.specs.Codes.{value_code, start_code}
 use Rattle.mx_trie.proofs.RunCodes.{value_code-same, value_code-other, value_code-last, value_code-below, start_code-same, start_code-other, start_code-last, start_code-below, runs-drop}
 use Rattle.mx_packed.proofs.mini.codes.Goals as goal
@@ -19,7 +21,7 @@ pub overflow_add-values : goal.overflow_add-values
 overflow_add-values c =
     let few : value_code (drop c.loop-place.place c.args.perms.now) < 4 ^ 4 =
     value_code-below (drop c.loop-place.place c.args.perms.now) 4 (omega (arith, runs-drop c.loop-place.place c.args.perms.now)) in
-    let small : c.number-here.result < 4 = rw c.number-here.ensures (number-small _) in
+    let small : c.number.result < 4 = rw c.number.ensures (number-small _) in
     omega arith
 
 pub overflow_mul-starts : goal.overflow_mul-starts
@@ -28,33 +30,29 @@ overflow_mul-starts c =
     start_code-below c.loop-place.place (drop c.loop-place.place c.args.perms.now) 3 (omega (arith, length-drop c.loop-place.place c.args.perms.now)) (omega (arith, runs-drop c.loop-place.place c.args.perms.now)) in
     omega arith
 
-pub overflow_add-starts-then-here-number : goal.overflow_add-starts-then-here-number
-overflow_add-starts-then-here-number c =
+pub overflow_add-starts-then-ne : goal.overflow_add-starts-then-ne
+overflow_add-starts-then-ne c =
     let few : start_code c.loop-place.place (drop c.loop-place.place c.args.perms.now) < 16 ^ 3 =
     start_code-below c.loop-place.place (drop c.loop-place.place c.args.perms.now) 3 (omega (arith, length-drop c.loop-place.place c.args.perms.now)) (omega (arith, runs-drop c.loop-place.place c.args.perms.now)) in
     omega arith
 
-pub loop-place-preserved-then-here-number : goal.loop-place-preserved-then-here-number
-loop-place-preserved-then-here-number c =
+pub loop-place-preserved-then-ne : goal.loop-place-preserved-then-ne
+loop-place-preserved-then-ne c =
     let back : c.loop-place.place - 1 + 1 ≡ c.loop-place.place = omega arith in
     let below : c.loop-place.place < length c.args.perms.now = omega arith in
-    let next : c.number.result ≡ number (perm_at c.args.perms.now c.loop-place.place) = rw back at c.number.ensures in
-    let ne : number (perm_at c.args.perms.now (c.loop-place.place - 1)) ≢ number (perm_at c.args.perms.now c.loop-place.place) =
-    λ e. c.if-here-number.true (c.number-here.ensures ∙ e ∙ sym next) in
-    let v = value_code-other c.args.perms.now (c.loop-place.place - 1) c.loop-place.place back below ne in
-    let s = start_code-other c.args.perms.now (c.loop-place.place - 1) c.loop-place.place back below ne in
+    let ne = differs_true the_type _ _ (rw back at (sym c.if-ne.ensures)) in
+    let v = value_code-other _ _ _ back below (λ e. ne (number-one_to_one _ _ e)) in
+    let s = start_code-other _ _ _ back below (λ e. ne (number-one_to_one _ _ e)) in
     (omega arith, cc, rw back (ap (λ n. c.loop-place.place + 16 * n) c.loop-place.invariant.2 ∙ sym s))
 
 pub loop-place-preserved : goal.loop-place-preserved
 loop-place-preserved c =
     let back : c.loop-place.place - 1 + 1 ≡ c.loop-place.place = omega arith in
     let below : c.loop-place.place < length c.args.perms.now = omega arith in
-    let next : c.number.result ≡ number (perm_at c.args.perms.now c.loop-place.place) = rw back at c.number.ensures in
-    let e : number (perm_at c.args.perms.now (c.loop-place.place - 1)) ≡ number (perm_at c.args.perms.now c.loop-place.place) =
-    sym c.number-here.ensures ∙ c.if-here-number.false ∙ next in (
+    let same = differs_false the_type (search rules) _ _ (rw back at (sym c.if-ne.ensures)) in (
       omega arith,
-      c.loop-place.invariant.1 ∙ sym (value_code-same c.args.perms.now (c.loop-place.place - 1) c.loop-place.place back below e),
-      c.loop-place.invariant.2 ∙ sym (start_code-same c.args.perms.now (c.loop-place.place - 1) c.loop-place.place back below e),
+      c.loop-place.invariant.1 ∙ sym (value_code-same _ _ _ back below (ap number same)),
+      c.loop-place.invariant.2 ∙ sym (start_code-same _ _ _ back below (ap number same)),
     )
 
 pub returns-clause-values_below : goal.returns-clause-values_below
