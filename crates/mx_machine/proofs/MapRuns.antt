@@ -1,11 +1,10 @@
 -- The run of a word in a map, found from span to span.
-use Rattle.std.proofs.Common.{◌≡◌, ◌≢◌, ℕ, ◌+◌, ◌<◌, ◌≤◌, ◌⊎◌, inl, inr, List, length, sym, ap, ◌∙◌, subst, arith}
-use Rattle.std.proofs.lemmas.Bool.{cases_lt, eq-eqb}
+use Rattle.std.proofs.Common.{◌≡◌, ◌≢◌, ℕ, ◌+◌, ◌<◌, ◌≤◌, ◌⊎◌, inl, inr, List, length, sym, ◌∙◌, subst, arith}
+use Rattle.std.proofs.lemmas.Bool.{cases_lt}
 use Rattle.mx_words.specs.declared.perm.Perm.{Perm}
 use Rattle.mx_words.specs.declared.perm.Span.{Span}
-use Rattle.mx_words.specs.Rights.{number, perm_at}
+use Rattle.mx_words.specs.Rights.{perm_at}
 use Rattle.mx_words.proofs.ReachLaws.{IsUniformRound, span_round}
-use Rattle.mx_words.proofs.RunLaws.{same_eq}
 use Rattle.mx_model.specs.Reads.{flat_reads, map_in}
 use Rattle.mx_model.specs.State.{Flat}
 
@@ -35,13 +34,6 @@ alike_more m i end s a r e =
     by : (w : ℕ) → i ≤ w → w < s.first + s.count → (w < end) ⊎ (end ≤ w) → perm_at m w ≡ perm_at m i
     by w lo hi (inl lt) = a.alike w lo lt
     by w lo hi (inr le) = let left = r.left in r.alike w (omega arith) hi ∙ e
-
--- permissions of one number, and of two
-pub number_eq : (p q : Perm) → number p ≡ number q → p ≡ q
-number_eq p q e = same_eq p q (eq-eqb (number p) (number q) e)
-
-pub number_ne : (p q : Perm) → number p ≢ number q → p ≢ q
-number_ne p q ne = λ e. ne (ap number e)
 
 -- a span of another permission behind them ends the run
 pub round_other : (m : List Perm) (i end : ℕ) (s : Span) → IsUniformRound m end s → s.perm ≢ perm_at m i → perm_at m end ≢ perm_at m i

@@ -101,7 +101,7 @@ impl<T: PermTables, const N: usize> Machine<T, N> {
         let mut end = span.first + span.count;
         'spans: while end < words {
             let next = self.span(domain, end);
-            if next.perm.number() != span.perm.number() {
+            if next.perm != span.perm {
                 return end;
             }
             end = next.first + next.count;

@@ -1,6 +1,8 @@
-use Rattle.std.proofs.Common.{◌<◌, sym, ◌∙◌, arith}
+use Rattle.std.proofs.Common.{◌<◌, sym, ◌∙◌, arith, rules}
+use denote.Enum.Bare.{differs_true, differs_false}
+use Rattle.mx_words.specs.contracts.perm.Perm.{the_type}
 use Rattle.mx_model.specs.Reads.{map_in}
-use Rattle.mx_machine.proofs.MapRuns.{alike_span, alike_more, number_eq, number_ne, round_other, round_perm, walk_round}
+use Rattle.mx_machine.proofs.MapRuns.{alike_span, alike_more, round_other, round_perm, walk_round}
 use Rattle.mx_machine.proofs.machine.Machine.perm_end.Goals as goal
 
 pub overflow_add-end : goal.overflow_add-end
@@ -50,7 +52,7 @@ spans-preserved g c =
     let small : c.spans.end < f.core.size = omega (arith, c.spans-test.true, c.words-words.ensures) in
     let round = walk_round f c.args.domain c.spans.end c.span-next.result c.span-next.ensures whole small in
     let start = walk_round f c.args.domain c.args.word c.span-span.result c.span-span.ensures whole c.requires.word in
-    let one = number_eq c.span-next.result.perm c.span-span.result.perm (sym c.number.ensures ∙ c.if-number.false ∙ c.number-in-spans.ensures) in
+    let one = differs_false the_type (search rules) _ _ (sym c.if-ne.ensures) in
     alike_more m c.args.word c.spans.end c.span-next.result c.spans.invariant round (one ∙ round_perm m c.args.word c.span-span.result start)
 
 pub returns-clause-within : goal.returns-clause-within
@@ -61,12 +63,12 @@ returns-clause-within g c =
 pub returns-clause-same : goal.returns-clause-same
 returns-clause-same g c = c.spans.invariant.alike
 
-pub returns-then-number-clause-ends : goal.returns-then-number-clause-ends
-returns-then-number-clause-ends g c = λ small.
+pub returns-then-ne-clause-ends : goal.returns-then-ne-clause-ends
+returns-then-ne-clause-ends g c = λ small.
     let f = c.args.self.now in
     let m = map_in f.core.size f.maps c.args.domain in
     let whole = c.machine_is_valid.ensures.whole c.args.domain c.requires.domain in
     let round = walk_round f c.args.domain c.spans.end c.span-next.result c.span-next.ensures whole small in
     let start = walk_round f c.args.domain c.args.word c.span-span.result c.span-span.ensures whole c.requires.word in
-    let two = number_ne c.span-next.result.perm c.span-span.result.perm (λ e. c.if-number.true (c.number.ensures ∙ e ∙ sym c.number-in-spans.ensures)) in
+    let two = differs_true the_type _ _ (sym c.if-ne.ensures) in
     round_other m c.args.word c.spans.end c.span-next.result round (λ e. two (e ∙ sym (round_perm m c.args.word c.span-span.result start)))
