@@ -1,7 +1,7 @@
 -- What a change of one range does to the blocks of a map: at most two more are broken, and at most two more lines crowded, also where
 -- only a first part of the range is laid over and the block after it is counted as broken.
-use Rattle.std.proofs.Common.{◌≡◌, ◌≢◌, ℕ, zero, suc, ◌+◌, ◌-◌, ◌*◌, ◌/◌, ◌<◌, ◌≤◌, ◌⊎◌, inl, inr, ◌==◌, ◌||◌, Bool, true, false, not, List, [], ◌∷◌, ◌++◌, length, drop, replicate, slice_index_or, refl, sym, ap, ◌∙◌, arith, eq-eqb, length-take, length-drop, length-append}
-use Rattle.std.proofs.lemmas.List.{get_or_append_left, length-replicate, get_or_past}
+use Rattle.std.proofs.Common.{◌≡◌, ◌≢◌, ℕ, zero, suc, ◌+◌, ◌-◌, ◌*◌, ◌/◌, ◌<◌, ◌≤◌, ◌⊎◌, inl, inr, ◌==◌, ◌||◌, Bool, true, false, not, List, length, drop, replicate, refl, sym, ap, ◌∙◌, arith, eq-eqb, length-take, length-drop, length-append}
+use Rattle.std.proofs.lemmas.List.{get_or_append_left, length-replicate}
 use Rattle.std.proofs.Math.Nat.{div-mul-le_self, lt-div-mul-add, suc-mul}
 use Rattle.std.proofs.lemmas.Nat.{mul-le}
 use Rattle.std.proofs.lemmas.Bool.{cases_lt, cases_eq, le-ltb, ne_eqb, or_parts}
@@ -134,16 +134,6 @@ whole-at block p long alike k below =
 
 -- a change of one range, or of a first part of it, breaks at most two more blocks, with the block after it counted as broken
 module _ (m : List Perm) (first count : ℕ) (p : Perm) (inside : first + count ≤ length m) where
-  pub broken-after : (size part k : ℕ) → size / 8 ≡ part → size ≡ 8 * part → 0 < part → length m ≤ k * size →
-      count_below k (λ b. is_broken size (laid (grant_of first count p) m) b || (b == (first + count) / size)) ≤ broken_blocks size m + 2
-  broken-after size part k is eight some within =
-      let more = count_two_more k (first / size) ((first + count) / size) (is_broken size m)
-      (λ b. is_broken size (laid (grant_of first count p) m) b || (b == (first + count) / size))
-      (λ b below other behind whole.
-      ap (λ v. v || (b == (first + count) / size)) (broken-stays m first count p inside size part b is eight some other behind whole)
-      ∙ ne_eqb b ((first + count) / size) behind) in
-      omega (arith, more, broken_blocks-count size m k (omega arith) within)
-
   pub broken_blocks-after : (size part k : ℕ) → size / 8 ≡ part → size ≡ 8 * part → 0 < part → length m ≤ k * size →
       broken_blocks size (laid (grant_of first count p) m) ≤ broken_blocks size m + 2
   broken_blocks-after size part k is eight some within =
@@ -174,70 +164,3 @@ module _ (m : List Perm) (first count : ℕ) (p : Perm) (inside : first + count 
       let more = count_two_more k (first / line_words) ((first + count) / line_words) (λ b. is_crowded (block_of line_words m b)) (λ b. is_crowded (block_of line_words (laid (grant_of first count p) m) b))
       (λ b below other behind few. crowded-stays b other behind few) in
       omega (arith, more, crowded_lines-count m k within, crowded_lines-count (laid (grant_of first count p) m) k long)
-
--- words that have no permission, with more of them after
-get_or-replicate_same : (n i : ℕ) (p : Perm) → slice_index_or (replicate n p) i p ≡ p
-get_or-replicate_same zero i p = get_or_past [] i p (omega arith)
-get_or-replicate_same (suc n) zero p = refl
-get_or-replicate_same (suc n) (suc i) p = get_or-replicate_same n i p
-
-get_or-append_replicate : (ps : List Perm) (n j : ℕ) → ((i : ℕ) → i < length ps → perm_at ps i ≡ P.None) → perm_at (ps ++ replicate n P.None) j ≡ P.None
-get_or-append_replicate [] n j each = get_or-replicate_same n j P.None
-get_or-append_replicate (p ∷ ps) n zero each = each 0 (omega arith)
-get_or-append_replicate (p ∷ ps) n (suc j) each = get_or-append_replicate ps n j (λ i below. each (suc i) (omega arith))
-
--- a map up to word k, and no permission from there on, breaks at most one more block, with the block of word k counted as broken
-module _ (m n : List Perm) (k : ℕ) (long : length n ≡ length m) (agree : (i : ℕ) → i < k → perm_at n i ≡ perm_at m i) (none : (i : ℕ) → k ≤ i → perm_at n i ≡ P.None) where
-  -- a block that doesn't hold word k is as before, or has no permission
-  cut-either : (size b : ℕ) → 0 < size → b ≢ k / size →
-      ((j : ℕ) → j < size → perm_at n (b * size + j) ≡ perm_at m (b * size + j)) ⊎ ((j : ℕ) → j < size → perm_at n (b * size + j) ≡ P.None)
-  cut-either size b some other = cases (cases_lt b (k / size))
-    where
-      cases : (b < k / size) ⊎ (k / size ≤ b) →
-          ((j : ℕ) → j < size → perm_at n (b * size + j) ≡ perm_at m (b * size + j)) ⊎ ((j : ℕ) → j < size → perm_at n (b * size + j) ≡ P.None)
-      cases (inl h) = inl (λ j below. agree (b * size + j) (omega (arith, block-below size b k some h)))
-      cases (inr h) = let begin : k < b * size = block-above size b k some (omega arith) in inr (λ j below. none (b * size + j) (omega arith))
-
-  broken-cut-stays : (size part b : ℕ) → size / 8 ≡ part → size ≡ 8 * part → 0 < part → b ≢ k / size → is_broken size m b ≡ false → is_broken size n b ≡ false
-  broken-cut-stays size part b is eight some other whole = cases (cut-either size b (omega arith) other)
-    where
-      cases : ((j : ℕ) → j < size → perm_at n (b * size + j) ≡ perm_at m (b * size + j)) ⊎ ((j : ℕ) → j < size → perm_at n (b * size + j) ≡ P.None) → is_broken size n b ≡ false
-      cases (inl h) = is_broken-same size n m b long h ∙ whole
-      cases (inr h) =
-          let zero_more : b * size + 0 ≡ b * size = omega arith in
-          whole-even size part n b is eight some (record { alike = λ j below. h j below ∙ sym (ap (perm_at n) (sym zero_more) ∙ h 0 (omega arith)) })
-
-  pub broken-cut : (size part count : ℕ) → size / 8 ≡ part → size ≡ 8 * part → 0 < part → length m ≤ count * size →
-      count_below count (λ b. is_broken size n b || (b == k / size)) ≤ broken_blocks size m + 1
-  broken-cut size part count is eight some within =
-      let more = count_one_more count (k / size) (is_broken size m) (λ b. is_broken size n b || (b == k / size))
-      (λ b below other whole. ap (λ v. v || (b == k / size)) (broken-cut-stays size part b is eight some other whole) ∙ ne_eqb b (k / size) other) in
-      omega (arith, more, broken_blocks-count size m count (omega arith) within)
-
-  crowded-cut-stays : (b : ℕ) → b ≢ k / line_words → is_crowded (block_of line_words m b) ≡ false → is_crowded (block_of line_words n b) ≡ false
-  crowded-cut-stays b other few = cases (cut-either line_words b (omega arith) other)
-    where
-      cases : ((j : ℕ) → j < line_words → perm_at n (b * line_words + j) ≡ perm_at m (b * line_words + j)) ⊎ ((j : ℕ) → j < line_words → perm_at n (b * line_words + j) ≡ P.None) →
-          is_crowded (block_of line_words n b) ≡ false
-      cases (inl h) = ap is_crowded (block_of-same line_words n m b long h) ∙ few
-      cases (inr h) =
-          let block : List Perm = block_of line_words n b in
-          let one : runs (whole_line block) ≤ 1 =
-          uniform_runs (whole_line block) P.None (λ j below. whole-none block (λ i inside. block-none i inside h) j) in
-          le-ltb 4 (runs (whole_line block)) (omega arith)
-        where
-          block-none : (i : ℕ) → i < length (block_of line_words n b) → ((j : ℕ) → j < line_words → perm_at n (b * line_words + j) ≡ P.None) → perm_at (block_of line_words n b) i ≡ P.None
-          block-none i inside h =
-              let short : i < line_words = omega (arith, length-take line_words (drop (b * line_words) n)) in
-              block_of-at line_words n b i short ∙ h i short
-
-          whole-none : (block : List Perm) → ((i : ℕ) → i < length block → perm_at block i ≡ P.None) → (j : ℕ) → perm_at (whole_line block) j ≡ P.None
-          whole-none [] each j = get_or-replicate_same (line_words - 0) j P.None
-          whole-none (p ∷ ps) each zero = each 0 (omega arith)
-          whole-none (p ∷ ps) each (suc j) = get_or-append_replicate ps (line_words - suc (length ps)) j (λ i below. each (suc i) (omega arith))
-
-  pub crowded-cut : (count : ℕ) → length m ≤ count * line_words → crowded_lines n ≤ crowded_lines m + 1
-  crowded-cut count within =
-      let long' : length n ≤ count * line_words = omega (arith, long) in
-      let more = count_one_more count (k / line_words) (λ b. is_crowded (block_of line_words m b)) (λ b. is_crowded (block_of line_words n b)) (λ b below other few. crowded-cut-stays b other few) in
-      omega (arith, more, crowded_lines-count m count within, crowded_lines-count n count long')

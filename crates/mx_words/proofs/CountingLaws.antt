@@ -160,17 +160,6 @@ count_below_find (suc n) p k lt = by (p n) refl (λ (h : k < count_below n p). w
           | inr h ↦ (n, record { below = omega arith; passes = e; place = sym h })
         ]
 
--- counts that are apart come from numbers that are apart
-pub count_below-order : (i j : ℕ) (p : ℕ → Bool) → count_below i p < count_below j p → i < j
-count_below-order i j p lt =
-    elim (cases_lt i j) [ inl h ↦ h | inr h ↦ absurd (omega (arith, count_below-mono j i p h)) ]
-
--- all numbers below a bound pass
-pub all_below_is : (n : ℕ) (p : ℕ → Bool) → ((i : ℕ) → i < n → p i ≡ true) → all_below n p ≡ true
-unfolding all_below
-all_below_is zero p passing = refl
-all_below_is (suc n) p passing = rw (all_below_is n p (λ i lt. passing i (omega arith)), passing n (omega arith)) refl
-
 pub all_below-at : (n i : ℕ) (p : ℕ → Bool) → all_below n p ≡ true → i < n → p i ≡ true
 unfolding all_below
 all_below-at zero i p all lt = absurd (omega arith)

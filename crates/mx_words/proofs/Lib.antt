@@ -12,7 +12,6 @@ pub mod MaximalRuns
 pub mod PieceLaws
 pub mod BlockLaws
 pub mod ReachLaws
-pub mod LocalReach
 pub mod BrokenLaws
 pub mod FirstRowLaws
 pub mod NumberLaws

@@ -1,5 +1,5 @@
 -- Laws on values laid over lists, by index; and the maps of appended grants and gives.
-use Rattle.std.proofs.Common.{◌≡◌, ℕ, zero, suc, ◌+◌, ◌<◌, ◌≤◌, true, false, cond, List, [], ◌∷◌, ◌++◌, length, get_or, refl, sym, ◌∙◌, ap, arith, inl, inr, ◌⊎◌}
+use Rattle.std.proofs.Common.{◌≡◌, ℕ, zero, suc, ◌+◌, ◌<◌, ◌≤◌, true, false, cond, List, [], ◌∷◌, ◌++◌, length, get_or, refl, sym, ◌∙◌, ap, arith, inl, inr}
 use Rattle.std.proofs.lemmas.Bool.{cases_lt}
 use Rattle.std.proofs.lemmas.Bool.Decides.{nat_tests}
 use Rattle.std.proofs.lemmas.List.{same_lists, get_or_past}
@@ -70,43 +70,6 @@ laid_behind e xs i d le = elim (cases_lt i (length xs)) [
 pub laid_is : {A : Type 0} (e : Laid A) (xs ys : List A) → length ys ≡ length xs → ((i : ℕ) (d : A) → i < length xs → get_or ys i d ≡ laid_at i (get_or xs i d) e) → ys ≡ laid e xs
 laid_is e xs ys len each = same_lists ys (laid e xs) (len ∙ sym (length-laid e xs))
     (λ i d lt. let below : i < length xs = omega (arith, len) in each i d below ∙ sym (laid-at e xs i d below))
-
--- the same value laid over a range, and then over the words after it
-pub laid-more : {A : Type 0} (first c k : ℕ) (v : A) (xs : List A) →
-    laid (record { first = first + c; count = k; value = v }) (laid (record { first = first; count = c; value = v }) xs) ≡ laid (record { first = first; count = c + k; value = v }) xs
-laid-more {A} first c k v xs =
-    laid_is whole xs (laid second (laid once xs)) (length-laid second (laid once xs) ∙ length-laid once xs)
-    (λ i d below.
-    let inside : i < length (laid once xs) = omega (arith, length-laid once xs) in
-    laid-at second (laid once xs) i d inside ∙ ap (λ x. laid_at i x second) (laid-at once xs i d below)
-    ∙ step i (get_or xs i d) (cases_lt i first) (cases_lt i (first + c)) (cases_lt i (first + c + k)))
-  where
-    once : Laid A
-    once = record { first = first; count = c; value = v }
-
-    second : Laid A
-    second = record { first = first + c; count = k; value = v }
-
-    whole : Laid A
-    whole = record { first = first; count = c + k; value = v }
-
-    step : (i : ℕ) (x : A) → (i < first) ⊎ (first ≤ i) → (i < first + c) ⊎ (first + c ≤ i) → (i < first + c + k) ⊎ (first + c + k ≤ i) →
-        laid_at i (laid_at i x once) second ≡ laid_at i x whole
-    step i x (inl a) b e = laid_at_below i (laid_at i x once) second (omega arith) ∙ laid_at_below i x once a ∙ sym (laid_at_below i x whole a)
-    step i x (inr a) (inl b) e = laid_at_below i (laid_at i x once) second b ∙ laid_at_in i x once a b ∙ sym (laid_at_in i x whole a (omega arith))
-    step i x (inr a) (inr b) (inl e) = laid_at_in i (laid_at i x once) second b e ∙ sym (laid_at_in i x whole a (omega arith))
-    step i x (inr a) (inr b) (inr e) = laid_at_behind i (laid_at i x once) second e ∙ laid_at_behind i x once b ∙ sym (laid_at_behind i x whole (omega arith))
-
--- a value laid over no words
-pub laid-none : {A : Type 0} (first : ℕ) (v : A) (xs : List A) → laid (record { first = first; count = 0; value = v }) xs ≡ xs
-laid-none {A} first v xs = sym (laid_is nothing xs xs refl (λ i d below. sym (step i (get_or xs i d) (cases_lt i first))))
-  where
-    nothing : Laid A
-    nothing = record { first = first; count = 0; value = v }
-
-    step : (i : ℕ) (x : A) → (i < first) ⊎ (first ≤ i) → laid_at i x nothing ≡ x
-    step i x (inl a) = laid_at_below i x nothing a
-    step i x (inr a) = laid_at_behind i x nothing (omega arith)
 
 -- maps and owners by index
 pub newest-append : {A : Type 0} (d : A) (es : List (Laid A)) (e : Laid A) (i : ℕ) → newest d (es ++ e ∷ []) i ≡ laid_at i (newest d es i) e

@@ -59,10 +59,7 @@ module _ {A : Type 0} (eq : A → A → Bool) (default : A) where
           by_eq true = at_run (r.count + 1) y rs (eq x y)
           by_eq false = at_run 1 y (r ∷ rs) (eq x y)
 
-  -- a run begins at the first place, and after it where the element differs from that before
-  pub begins_first : (xs : List A) → begins eq default xs 0 ≡ true
-  begins_first xs = refl
-
+  -- behind the first place a run begins where the element differs from that before
   pub begins_behind : (xs : List A) (i : ℕ) → begins eq default xs (i + 1) ≡ not (eq (get_or xs i default) (get_or xs (i + 1) default))
   begins_behind xs i =
       let far : (i + 1 == 0) ≡ false = grind (arith, nat_tests) in
@@ -110,10 +107,6 @@ runs-count m = length-runs_of same P.None m
 
 pub owner_runs-count : (os : List ℕ) → owner_runs os ≡ count_below (length os) (is_owner_start os)
 owner_runs-count os = length-runs_of (λ a b. a == b) 0 os
-
--- a run begins at a word exactly where it is the first or its permission differs from that of the word before
-pub is_start-first : (m : List Perm) → is_start m 0 ≡ true
-is_start-first m = refl
 
 pub is_start-behind : (m : List Perm) (i : ℕ) → is_start m (i + 1) ≡ not (same (perm_at m i) (perm_at m (i + 1)))
 is_start-behind m i = begins_behind same P.None m i
@@ -210,7 +203,3 @@ span_within_is m low high first behind i fits r =
     ∙ ap (span_of (perm_at m i) i (i - first)) (right_length m low high first behind i fits r)
     ∙ ap (λ n. record { first = n; count = (i - first) + (behind - i); perm = perm_at m i }) at_first
     ∙ ap (λ n. record { first = first; count = n; perm = perm_at m i }) long
-
--- the span has its word in it
-pub span_covers : (m : List Perm) (low high first behind i : ℕ) → IsRound m low high first behind i → (first ≤ i) × (i < first + (behind - first))
-span_covers m low high first behind i r = let left = r.left in let right = r.right in (left, omega arith)
