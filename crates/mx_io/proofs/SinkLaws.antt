@@ -1,12 +1,9 @@
 -- Writes to bytes in memory and to the system meet the trait of the sinks.
-use Rattle.std.proofs.Common.{◌≡◌, ℕ, zero, suc, ◌+◌, ◌-◌, ◌^◌, ◌<◌, ◌≤◌, Bool, true, false, ◌&&◌, ◌||◌, cond, min, List, [], take, length, Option, refl, sym, ◌∙◌, ap, arith, Ok, Err, nat_eq, nat_lt}
+use Rattle.std.proofs.Common.{◌≡◌, ℕ, zero, suc, ◌+◌, ◌-◌, ◌^◌, ◌<◌, ◌≤◌, Bool, true, false, ◌&&◌, ◌||◌, cond, min, List, length, refl, sym, ◌∙◌, ap, arith, Ok, Err, nat_eq, nat_lt}
 use Rattle.std.proofs.lemmas.Bool.{lt-ltb, eqb-true, and_parts, or_parts, both_ways}
-use Rattle.mx_io.specs.Count.{raised}
 use Rattle.mx_io.specs.Calls.{fails_next, after_call, is_quiet}
-use Rattle.mx_io.specs.Texts.{AppendsWhole}
 use Rattle.mx_io.specs.Sink.{Writes}
 use Rattle.mx_io.specs.Bytes.{BytesState, refuses, takes, after_refusal, after_taking, bytes_sink}
-use Rattle.mx_io.specs.Real.{stream}
 use Rattle.mx_io.proofs.Text.{appends_nothing}
 use Rattle.mx_io.proofs.CallLaws.{Rose-raised, fails_next-quiet, is_quiet-after_call}
 
@@ -54,35 +51,4 @@ module _ {E : Type 0} (s : BytesState) (piece : List ℕ) (fits : s.faults < 2 ^
         nothing = tt;
         failed = tt;
         sure = λ more room. (refl, room_left (is_quiet s.calls) (is_quiet (after_call s.calls)) s.room (length piece) (is_quiet-after_call s.calls made) more room);
-      }
-
-module _ {E : Type 0} {before now : Option (List ℕ)} (faults : ℕ) (bytes : List ℕ) (fits : faults < 2 ^ 64) where
-  -- a write to a writer that takes nothing, with its fault counted
-  pub stream_refused : {e : E} → AppendsWhole before now [] → Writes (stream before faults) (stream now (raised faults)) bytes (Err e)
-  stream_refused same =
-      record {
-        later = omega arith;
-        counted = omega arith;
-        kept = tt;
-        bound = tt;
-        moves = tt;
-        taken = tt;
-        nothing = same;
-        failed = Rose-raised faults;
-        sure = λ more room. absurd (omega arith);
-      }
-
-  -- a write to a writer that takes some bytes
-  pub stream_taken : {k : ℕ} → 0 < k → k ≤ length bytes → AppendsWhole before now (take k bytes) → Writes {E = E} (stream before faults) (stream now faults) bytes (Ok k)
-  stream_taken some bound taken =
-      record {
-        later = omega arith;
-        counted = fits;
-        kept = refl;
-        bound = bound;
-        moves = λ _. some;
-        taken = taken;
-        nothing = tt;
-        failed = tt;
-        sure = λ more room. absurd (omega arith);
       }

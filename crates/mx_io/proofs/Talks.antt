@@ -24,9 +24,6 @@ each-map P Q f [] e = tt
 each-map P Q f (a ∷ more) e = (f a e.0, each-map P Q f more e.1)
 
 module _ {S : Type 0} (gives : S → Answer → S → Type 0) where
-  pub talks_none : (s : S) → Talks gives s [] s
-  talks_none s = refl
-
   pub talks_one : {s t : S} (a : Answer) → gives s a t → Talks gives s (a ∷ []) t
   talks_one {s} {t} a step = (t, step, refl)
 

@@ -2,9 +2,9 @@
 use Rattle.std.proofs.Common.{◌≡◌, ℕ, ◌+◌, ◌<◌, ◌≤◌, List, [], ◌++◌, length, take, drop, refl, sym, ap, ◌∙◌, subst, inl, inr, arith, append_assoc, length-append, Option, None, Some, Result, Ok, Err, flat_map, get_or, add-one}
 use Rattle.std.proofs.lemmas.List.{take-append-drop, append-nil, length-drop, take-append-le, drop_all}
 use Rattle.std.proofs.Math.Seq.{drop-cons, take-append_seam, take-append-add}
-use Rattle.std.specs.Io.KnownBytes.{Appends, Keeps}
+use Rattle.std.specs.Io.KnownBytes.{Appends}
 use Rattle.mx_io.specs.Count.{Rose, Stays}
-use Rattle.mx_io.specs.Texts.{AppendsWhole, AppendsPrefix, AppendsFront}
+use Rattle.mx_io.specs.Texts.{AppendsWhole}
 use Rattle.mx_io.specs.Sink.{SinkState, Writes, Puts}
 use Rattle.mx_io.proofs.Puts.{not_ok}
 
@@ -18,18 +18,9 @@ grows_both (Some u) None c x y p q = absurd p
 grows_both (Some u) (Some v) None x y p q = absurd q
 grows_both (Some u) (Some v) (Some w) x y p q = q ∙ ap (λ bs. bs ++ y) p ∙ append_assoc u x y
 
-grows_kept : (a b : Option (List ℕ)) → Keeps a b → Appends a b []
-grows_kept None b k = tt
-grows_kept (Some u) None k = absurd k
-grows_kept (Some u) (Some v) k = k ∙ sym (append-nil u)
-
 -- nothing was appended
 pub appends_nothing : (a : Option (List ℕ)) → AppendsWhole a a []
 appends_nothing a = record { grows = grows_nothing a }
-
--- the bytes that are told stayed
-pub appends_kept : {a b : Option (List ℕ)} → Keeps a b → AppendsWhole a b []
-appends_kept {a} {b} k = record { grows = grows_kept a b k }
 
 -- an equal text was appended
 pub appends_same : {a b : Option (List ℕ)} {x y : List ℕ} → x ≡ y → AppendsWhole a b x → AppendsWhole a b y
@@ -42,10 +33,6 @@ appends_both {a} {b} {c} {x} {y} p q = record { grows = grows_both a b c x y p.g
 -- a text was appended, and then nothing
 pub appends_then_nothing : {a b c : Option (List ℕ)} {x : List ℕ} → AppendsWhole a b x → AppendsWhole b c [] → AppendsWhole a c x
 appends_then_nothing {x = x} p q = appends_same (append-nil x) (appends_both p q)
-
--- what isn't the whole text is a prefix
-pub front_prefix : {a b : Option (List ℕ)} {x : List ℕ} → AppendsFront a b x → AppendsPrefix a b x
-front_prefix f = (f.0, f.2)
 
 -- a count that rose has risen at any later time too
 pub Rose-later : (a b c : ℕ) → Rose a b → b ≤ c → Rose a c
