@@ -1,7 +1,7 @@
 -- Facts of all elements of a list, under the edits that a turn makes; bytes and numbers in them.
 use Rattle.std.proofs.Common.{◌≡◌, ℕ, zero, suc, ◌+◌, ◌/◌, ◌%◌, ◌^◌, ◌<◌, ◌≤◌, Bool, true, false, not, cond, nat_lt, ◌||◌, List, [], ◌∷◌, ◌++◌, length, get_or, set, take, drop, replicate, refl, ◌∙◌, ap, arith, Option, Some}
 use mathlib.Core.List.{reverse_aux}
-use Rattle.std.specs.Prelude.{reverse, filter, find, IfSome, slice_index}
+use Rattle.std.specs.Prelude.{reverse, filter, find, IfSome}
 use Rattle.std.specs.List.{AllByRecursion, list_any, last_or}
 use Rattle.std.proofs.lemmas.List.{length-set}
 use Rattle.std.proofs.lemmas.Grind.{common_steps}
@@ -83,10 +83,6 @@ length-with_block b (x ∷ xs) = elim (nat_lt b.first x.first) as (λ t. length 
   | true ↦ refl
   | false ↦ ap suc (length-with_block b xs)
 ]
-
--- all bytes are below 256
-pub record AreBytes (xs : List ℕ) : Type 0 where
-  pub each : (i : ℕ) → slice_index xs i < 256
 
 bytes-set : (xs : List ℕ) (k v : ℕ) → ((i : ℕ) → get_or xs i 0 < 256) → v < 256 → (i : ℕ) → get_or (set xs k v) i 0 < 256
 bytes-set [] k v h p i = h i

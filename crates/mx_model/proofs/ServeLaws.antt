@@ -61,9 +61,6 @@ served-judged c (Some n) s v p q = served-answers c (code n) v (code-small n p)
 served-same : (c : Core) (tests : List (Row ℕ)) (s : Served) → IsValid c → AreCodes tests → IsServed s → IsServed (judged c (first_row tests) s)
 served-same c tests s v p q = served-judged c (first_row tests) s v (codes-failed tests p) (λ e. q)
 
-arg-small : (modules h : ℕ) (call : Call) (i : ℕ) → IsCall modules h call → arg call i < 2 ^ 32
-arg-small modules h call i p = p.small i
-
 -- write and exchange
 served-written_out : (r : Reads) (c : Core) (h : ℕ) (call : Call) → IsValid c → IsCall (length c.modules) h call → IsServed (written_out r c call)
 served-written_out r c h call v p =

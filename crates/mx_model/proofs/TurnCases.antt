@@ -1,7 +1,6 @@
 -- What a turn is, by the hart as it is read before it: halted, waiting, in a dead domain, at a call gate, or at an instruction.
-use Rattle.std.proofs.Common.{◌≡◌, ℕ, ◌<◌, ◌≤◌, Bool, true, false, not, cond, nat_lt, nat_le, ◌==◌, ◌%◌, List, [], ◌∷◌, length, get_or, refl, sym, ◌∙◌, ap, subst, zero-add, if◌then◌else◌, Option, Some, None}
+use Rattle.std.proofs.Common.{◌≡◌, ℕ, ◌<◌, ◌≤◌, Bool, true, false, cond, nat_lt, List, [], ◌∷◌, length, get_or, refl, sym, ◌∙◌, ap, subst, zero-add, if◌then◌else◌, Option, Some, None}
 use Rattle.std.proofs.Common.{map as list_map}
-use Rattle.std.specs.Prelude.{slice_set}
 use Rattle.std.specs.List.{enumerate_from}
 use Rattle.std.proofs.Math.ListN.{get_or-eq_default}
 use Rattle.std.proofs.lemmas.Bool.{eq-eqb, ltb-true, ltb-false}
@@ -13,11 +12,10 @@ use Rattle.mx_words.specs.declared.perm.Access.TheVariants as A
 use Rattle.mx_model.specs.declared.values.Call.{Call}
 use Rattle.mx_model.specs.declared.values.TurnKind.TheVariants as T
 use Rattle.mx_model.specs.Checks.{Look, hears, heard_by, is_halted, is_ready, looked, looked_all, looks_at}
-use Rattle.mx_model.specs.Effect.{Effect, Faults, effect, reg}
-use Rattle.mx_model.specs.Gates.{most_frames}
+use Rattle.mx_model.specs.Effect.{Effect, Faults, effect}
 use Rattle.mx_model.specs.Reads.{Reads}
 use Rattle.mx_model.specs.State.{Core, Hart, Status, Running, Waiting, Halted, no_hart, hart_at, module_at}
-use Rattle.mx_model.specs.Turn.{Decided, Made, Serves, Waits, Bounces, Crosses, acted, after_look, by_effect, by_status, by_word, call_gate_at, counted, crossed, fault_answer, fetches, heard_first, is_denied, load_at, made, runs_at, runs_in, served, trapped, traps, turned, with_regs, without_look}
+use Rattle.mx_model.specs.Turn.{Decided, Made, Serves, Waits, acted, after_look, by_effect, by_status, by_word, call_gate_at, counted, fetches, heard_first, is_denied, load_at, made, runs_at, runs_in, served, trapped, turned}
 use Rattle.mx_model.proofs.ValidParts.{hearing}
 
 -- looks change caches alone
@@ -114,48 +112,6 @@ turned-alive : (r : Reads) (c : Core) (h : ℕ) (hart : Hart) (gate : Option ℕ
     turned r c h ≡ acts r (ready c h) h hart (runs_at r (ready c h) h hart gate)
 turned-alive r c h hart gate p =
     turned-running r c h hart false p.now p.running p.alive ∙ ap (λ (x : Option ℕ). acts r (ready c h) h hart (runs_at r (ready c h) h hart x)) p.at
-
--- at a call gate, by its three tests
-abbrev gate_by : Hart → ℕ → Bool → Bool → Bool → Decided
-gate_by hart target straight dead full =
-    if not straight then traps 19 (reg hart.regs 1) else
-    if dead then without_look Bounces else
-    if full then traps 16 hart.pc else
-    without_look (Crosses target)
-
-turned-at_gate : (r : Reads) (c : Core) (h : ℕ) (hart : Hart) (target : ℕ) (straight dead full : Bool) → IsAlive c h hart (Some target) →
-    (reg hart.regs 1 % 4 == 0) ≡ straight → (module_at c target).dead ≡ dead → nat_le most_frames (length hart.frames) ≡ full →
-    turned r c h ≡ acts r (ready c h) h hart (gate_by hart target straight dead full)
-turned-at_gate r c h hart target straight dead full p x y z =
-    let k = reg hart.regs 1 % 4 == 0 in
-    let m = (module_at c target).dead in
-    turned-alive r c h hart (Some target) p
-    ∙ ap (λ (b : Bool). acts r (ready c h) h hart (gate_by hart target b m (nat_le most_frames (length hart.frames)))) x
-    ∙ ap (λ (b : Bool). acts r (ready c h) h hart (gate_by hart target straight b (nat_le most_frames (length hart.frames)))) y
-    ∙ ap (λ (b : Bool). acts r (ready c h) h hart (gate_by hart target straight dead b)) z
-
--- x1 is no multiple of 4
-pub turned-crooked : (r : Reads) (c : Core) (h : ℕ) (hart : Hart) (target : ℕ) → IsAlive c h hart (Some target) → (reg hart.regs 1 % 4 == 0) ≡ false →
-    turned r c h ≡ trapped (ready c h) h hart 19 (reg hart.regs 1)
-turned-crooked r c h hart target p x = turned-at_gate r c h hart target false _ _ p x refl refl
-
--- the target is dead
-pub turned-bounces : (r : Reads) (c : Core) (h : ℕ) (hart : Hart) (target : ℕ) → IsAlive c h hart (Some target) → (reg hart.regs 1 % 4 == 0) ≡ true →
-    (module_at c target).dead ≡ true →
-    turned r c h ≡ made T.Returned (with_regs h hart (slice_set hart.regs 10 (fault_answer 20)) (reg hart.regs 1) (ready c h))
-turned-bounces r c h hart target p x y = turned-at_gate r c h hart target true true _ p x y refl
-
--- the cross stack is full
-pub turned-full : (r : Reads) (c : Core) (h : ℕ) (hart : Hart) (target : ℕ) → IsAlive c h hart (Some target) → (reg hart.regs 1 % 4 == 0) ≡ true →
-    (module_at c target).dead ≡ false → nat_le most_frames (length hart.frames) ≡ true →
-    turned r c h ≡ trapped (ready c h) h hart 16 hart.pc
-turned-full r c h hart target p x y z = turned-at_gate r c h hart target true false true p x y z
-
--- or the hart crosses
-pub turned-crosses : (r : Reads) (c : Core) (h : ℕ) (hart : Hart) (target : ℕ) → IsAlive c h hart (Some target) → (reg hart.regs 1 % 4 == 0) ≡ true →
-    (module_at c target).dead ≡ false → nat_le most_frames (length hart.frames) ≡ false →
-    turned r c h ≡ made T.Crossed (crossed (ready c h) h hart target)
-turned-crosses r c h hart target p x y z = turned-at_gate r c h hart target true false false p x y z
 
 -- a fetch, denied or not, as an effect: a denied one faults by 1, and a word that is no instruction by 2
 abbrev pub effect_of_word : Hart → ℕ → Option Inst → Effect

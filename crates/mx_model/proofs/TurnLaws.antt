@@ -103,9 +103,6 @@ stack-small c d h v l =
       | false ↦ omega (arith, inside, few, part)
     ]
 
-saved-stack-small : (modules : ℕ) (f : Frame) → IsFrame modules f → saved_stack f < 2 ^ 32
-saved-stack-small modules f p = p.small 0
-
 nearest-small : (modules : ℕ) (o : Option Frame) (n : ℕ) → IfSome o (IsFrame modules) → n < 2 ^ 32 → unwrap_or (option_map_or (λ f. Some (saved_stack f)) o None) n < 2 ^ 32
 nearest-small modules None n p q = q
 nearest-small modules (Some f) n p q = p.small 0
