@@ -49,10 +49,6 @@ ends s m = plain (after s m)
 abbrev pub at : State → Core → Plain
 at s c = plain (record s { core = c })
 
--- nothing is done
-pub stays : (s : State) (c : Core) (kind : TurnKind) → ends s (made kind c) ≡ at s c
-stays s c kind = quiet _
-
 -- the hart goes on
 pub goes : (s : State) (c : Core) (kind : TurnKind) (h : ℕ) (regs : List ℕ) (pc : ℕ) →
     ends s (made kind (with_regs h (hart_at c h) regs pc c)) ≡ go h regs pc (at s c)
