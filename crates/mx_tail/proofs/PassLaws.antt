@@ -7,7 +7,7 @@ use Rattle.mx_io.specs.declared.Failed.{Failed}
 use Rattle.mx_io.proofs.Text.{flat_map-drop}
 use Rattle.mx_io.proofs.Puts.{puts_same}
 use Rattle.mx_tail.specs.Tail.{sent, held, IsPieces, Adds, Passes}
-use Rattle.mx_tail.proofs.TailLaws.{sent_held, sent_short, held_short, length-sent, sent_behind, held_behind, sent_more, puts_nothing, puts_next, puts_stop}
+use Rattle.mx_tail.proofs.TailLaws.{sent_held, length-sent, sent_behind, sent_more, puts_nothing, puts_next, puts_stop}
 
 pub passes_same : {A E : Type 0} {b c : List ℕ} {s t : SinkState} {text other : List ℕ} {r : Result A E} → text ≡ other → Passes b s t c text r → Passes b s t c other r
 passes_same {A} {E} {b} {c} {s} {t} {r = r} e p = subst (λ (xs : List ℕ). Passes {A = A} {E = E} b s t c xs r) e p
@@ -47,15 +47,6 @@ passes_adds {b = b} {text = text} {r = Ok a} p =
     let all = b ++ text in
     record { whole = (sent all, sym (ap (λ xs. sent all ++ xs) p.kept ∙ sent_held all), (length all / 4096, length-sent all), p.left); stopped = tt }
 passes_adds {b = b} {text = text} {r = Err e} p = record { whole = tt; stopped = p.left }
-
--- where fewer bytes than a piece has are held, a text that passed was added
-pub adds_passes : {A E : Type 0} {b c : List ℕ} {s t : SinkState} {text : List ℕ} {r : Result A E} → length c < 4096 → Passes b s t c text r → Adds b s t c text r
-adds_passes {b = b} {c} {text = text} {r = Ok a} few p =
-    let v = p.whole in
-    let gone : v.0 ≡ sent (b ++ text) = sym (ap sent v.1 ∙ sent_behind v.0 c v.2.0 v.2.1 ∙ ap (λ xs. v.0 ++ xs) (sent_short c few) ∙ append-nil v.0) in
-    let left : c ≡ held (b ++ text) = sym (ap held v.1 ∙ held_behind v.0 c v.2.0 v.2.1 ∙ held_short c few) in
-    record { left = puts_same gone v.3; kept = left }
-adds_passes {r = Err e} few p = record { left = p.stopped; kept = tt }
 
 -- where it failed, what was put on the sink is a prefix of what was held and then the text
 pub passes_failed : {A E : Type 0} {b c : List ℕ} {s t : SinkState} {text : List ℕ} {e : E} → Passes {A = A} b s t c text (Err e) → Puts {A = A} s t (b ++ text) (Err e)

@@ -1,5 +1,5 @@
 -- Laws of what has left for the sink and what is held.
-use Rattle.std.proofs.Common.{◌≡◌, ℕ, ◌+◌, ◌*◌, ◌/◌, ◌<◌, List, [], ◌∷◌, ◌++◌, length, get_or, take, drop, refl, sym, ap, ◌∙◌, subst, arith, append_assoc, length-append, length-take, length-drop, Result, Ok, Err}
+use Rattle.std.proofs.Common.{◌≡◌, ℕ, ◌+◌, ◌*◌, ◌/◌, ◌<◌, List, [], ◌∷◌, ◌++◌, length, get_or, take, drop, refl, sym, ap, ◌∙◌, subst, arith, append_assoc, length-append, length-take, Result, Ok, Err}
 use Rattle.std.proofs.lemmas.List.{take-append-drop, append-nil, drop_all, drop_more}
 use Rattle.std.proofs.Math.Seq.{take-append-add, drop-append-add}
 use Rattle.mx_io.proofs.Puts.{puts_same}
@@ -19,10 +19,6 @@ sent_short all h = let e : length all / 4096 * 4096 ≡ 0 = omega arith in ap (�
 pub held_short : (all : List ℕ) → length all < 4096 → held all ≡ all
 unfolding held
 held_short all h = let e : length all / 4096 * 4096 ≡ 0 = omega arith in ap (λ n. drop n all) e
-
-pub few_held : (all : List ℕ) → length (held all) < 4096
-unfolding held
-few_held all = omega (arith, length-drop (length all / 4096 * 4096) all)
 
 pub length-sent : (all : List ℕ) → length (sent all) ≡ length all / 4096 * 4096
 unfolding sent
@@ -84,13 +80,6 @@ adds_next {b = b} {c = c} {first = first} {second = second} {result = Err e} p q
 pub adds_stop : {A E : Type 0} {b c : List ℕ} (d : List ℕ) {s t : SinkState} {first : List ℕ} (second : List ℕ) {e : E} → Adds {A = A} b s t c first (Err e) → Adds {A = A} b s t d (first ++ second) (Err e)
 adds_stop {b = b} d {first = first} second p =
     record { left = puts_same (sent_twice b first second (held (b ++ first)) refl) (puts_stop (sent (held (b ++ first) ++ second)) p.left); kept = tt }
-
--- bytes were added to an empty buffer and what is held was put on the sink, or adding them failed
-pub adds_end : {A E B F : Type 0} {c : List ℕ} {s t u : SinkState} {all : List ℕ} {a : A} {r : Result B F} → Adds {A = A} {E = E} [] s t c all (Ok a) → Puts t u c r → Puts s u all r
-adds_end {all = all} p q = puts_same (ap (λ xs. sent all ++ xs) p.kept ∙ sent_held all) (puts_next p.left q)
-
-pub adds_failed : {A E : Type 0} {c : List ℕ} {s t : SinkState} {all : List ℕ} {e : E} → Adds {A = A} [] s t c all (Err e) → Puts {A = A} s t all (Err e)
-adds_failed {all = all} p = puts_same (sent_held all) (puts_stop (held all) p.left)
 
 -- one byte was added, and is held
 pub push_held : {A E : Type 0} (b : List ℕ) (x : ℕ) (c : List ℕ) (s : SinkState) {a : A} → c ≡ b ++ x ∷ [] → length c < 4096 → Adds {A = A} {E = E} b s s c (x ∷ []) (Ok a)
