@@ -1,6 +1,6 @@
 -- The slots of a ring of 64 that are in use, place by place and after a write.
 use Rattle.std.proofs.Common.{◌≡◌, ℕ, zero, suc, ◌+◌, ◌-◌, ◌%◌, ◌<◌, ◌≤◌, min, List, ◌∷◌, ◌++◌, length, get_or, set, take, drop, inl, inr, sym, ap, ◌∙◌, arith, length-append, length-drop, length-set, length-take-le, get_or-drop, get_or-take, get_or-set_same, get_or-set_other}
-use Rattle.std.proofs.lemmas.List.{same_lists, take-take, take_min, get_or_append_left, get_or-append_right}
+use Rattle.std.proofs.lemmas.List.{same_lists, take_min, get_or_append_left, get_or-append_right}
 use Rattle.std.proofs.lemmas.Bool.{cases_lt, cases_eq}
 use Rattle.mx_lookaside.specs.Window.{window}
 
@@ -19,10 +19,6 @@ module _ {X : Type 0} (k n : ℕ) (xs : List X) (start : k < 64) (fits : n ≤ 6
       ]
 
 module _ {X : Type 0} (k n : ℕ) (xs : List X) (start : k < 64) (fits : n ≤ 64) (long : length xs ≡ 64) where
-  -- fewer slots are a part of them
-  pub take-window : (m : ℕ) → m ≤ n → take m (window k n xs) ≡ window k m xs
-  take-window m fewer = take-take m n _ fewer
-
   -- a write to the i-th slot in use
   pub set-window : (i : ℕ) (x : X) → i < n → window k n (set xs ((k + i) % 64) x) ≡ set (window k n xs) i x
   set-window i x in_use =
