@@ -2,7 +2,6 @@
 use Rattle.std.proofs.Common.{ℕ, zero, suc, ◌≡◌, ◌≢◌, ◌+◌, ◌<◌, ◌≤◌, ⊎_elim, true, false, not, cond, List, [], ◌∷◌, length, refl, sym, ◌∙◌, ap, subst, arith, nat_lt, map}
 use Rattle.std.specs.List.{position_or_len, insert, remove}
 use Rattle.std.proofs.lemmas.Bool.{cases_Bool, cases_lt, ne_eqb, eq-eqb, ltb-true, ltb-false}
-use Rattle.std.proofs.lemmas.List.{length-map}
 use Rattle.std.proofs.lemmas.List.Sums.{fails_before_first, passes_at_first}
 use Rattle.mx_words.specs.FirstFit.{Area, AreApart, with_block, without_block}
 use Rattle.mx_heap.specs.declared.block.Block.{Block}
@@ -77,6 +76,3 @@ pub stored_rising : (first count : ℕ) (ps : List Part) (live capacity : ℕ) (
     AreRising bs
 stored_rising first count ps live capacity bs room h =
     apart_rising first (first + count) bs (subst (λ (areas : List Area). AreApart first (first + count) areas) (sym h.listed) (Fill-apart first (first + count) true ps h.are.fill))
-
-pub stored_few : (first count : ℕ) (ps : List Part) (live capacity : ℕ) (bs : List Block) (room : ℕ) → AreStored first count ps live capacity bs room → length bs ≡ live
-stored_few first count ps live capacity bs room h = sym (length-map bs area_of) ∙ ap (λ (areas : List Area). length areas) h.listed ∙ sym h.are.counted
