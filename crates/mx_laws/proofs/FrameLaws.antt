@@ -35,11 +35,6 @@ top-split (x ∷ xs) f e =
 abbrev put_back : List ℕ → List ℕ → List ℕ → List ℕ
 put_back regs ns ks = fold (λ rs (p : ℕ × ℕ). slice_set rs p.0 p.1) regs (zip ns ks)
 
-length-put_back : (regs ns ks : List ℕ) → length (put_back regs ns ks) ≡ length regs
-length-put_back regs [] ks = refl
-length-put_back regs (n ∷ ns) [] = refl
-length-put_back regs (n ∷ ns) (k ∷ ks) = length-put_back (set regs n k) ns ks ∙ length-set regs n k
-
 other-any : (n m : ℕ) (ns : List ℕ) → list_any (λ i. i == n) (m ∷ ns) ≡ false → (n ≢ m) × (list_any (λ i. i == n) ns ≡ false)
 other-any n m ns e = elim (m == n) as (λ b. (m == n) ≡ b → b || list_any (λ i. i == n) ns ≡ false → (n ≢ m) × (list_any (λ i. i == n) ns ≡ false)) [
   | true ↦ λ t f. absurd (let q : ⊥ = cc in q)
