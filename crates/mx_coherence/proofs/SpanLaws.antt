@@ -1,14 +1,13 @@
 -- What holds of each span of a hart's caches, through a check, a drop and an emptying.
-use Rattle.std.proofs.Common.{◌≡◌, ℕ, ◌<◌, ◌≤◌, ◌⊎◌, inl, inr, ◌==◌, Bool, true, false, cond, not, List, [], ◌∷◌, length, get_or, find, Option, Some, None, refl, sym, ap, subst, ◌∙◌, arith}
+use Rattle.std.proofs.Common.{◌≡◌, ℕ, ◌==◌, Bool, true, false, cond, not, List, [], ◌∷◌, get_or, find, Option, Some, None, refl, sym, ap, subst, ◌∙◌, arith}
 use Rattle.std.specs.Prelude.{All, IfSome}
 use Rattle.std.specs.Option.{option_map_or}
 use Rattle.std.proofs.lemmas.Bool.Decides.{nat_tests}
-use Rattle.std.proofs.lemmas.Bool.{cases_lt, eqb-true, and_parts}
-use Rattle.std.proofs.lemmas.List.{get_or_past}
+use Rattle.std.proofs.lemmas.Bool.{eqb-true, and_parts}
 use Rattle.std.proofs.lemmas.List.Elements.{All-set, All-take, All-cons, All-nil, All-head, All-tail, All-weaker, All-map, All-replicate}
 use Rattle.mx_words.specs.declared.perm.Span.{Span}
 use Rattle.mx_words.specs.Ranges.{covers}
-use Rattle.mx_words.specs.Caches.{Cache, Entry, covers_word, meets, is_for, in_place, found_in_place, found_kept, kept_without, without_range, left_domain, checked, checked_at, checked_behind, with_walk}
+use Rattle.mx_words.specs.Caches.{Cache, Entry, covers_word, meets, is_for, found_in_place, found_kept, kept_without, without_range, left_domain, checked, checked_at, checked_behind, with_walk}
 use Rattle.mx_coherence.specs.Spans.{EachSpan, IsClear, IsEmpty}
 
 -- weaker facts
@@ -37,23 +36,6 @@ each_left {E} {P} Q c each = record {
   entries = each.entries;
   places = All-replicate (λ (o : Option Span). IfSome o Q) 32 None tt;
 }
-
--- what a place answers covers the word
-pub has_found_in_place : (P : Span → Type 0) (places : List (Option Span)) (p word : ℕ) (s : Span) → All (λ (o : Option Span). IfSome o P) places →
-    found_in_place places p word ≡ Some s → P s × (covers_word s word ≡ true)
-has_found_in_place P places p word s all e = by (in_place places p) (there (cases_lt p (length places))) e
-  where
-    there : (p < length places) ⊎ (length places ≤ p) → IfSome (in_place places p) P
-    there (inl lt) = all p None lt
-    there (inr le) = subst (λ (o : Option Span). IfSome o P) (sym (get_or_past places p None le)) tt
-
-    at : (t : Span) (b : Bool) → P t → covers_word t word ≡ b → cond b (Some t) None ≡ Some s → P s × (covers_word s word ≡ true)
-    at t true holds covers e = let same : t ≡ s = cc in (subst P same holds, ap (λ (x : Span). covers_word x word) (sym same) ∙ covers)
-    at t false holds covers e = cc
-
-    by : (o : Option Span) → IfSome o P → option_map_or (λ s. cond (covers_word s word) (Some s) None) o None ≡ Some s → P s × (covers_word s word ≡ true)
-    by None holds e = cc
-    by (Some t) holds e = at t (covers_word t word) holds refl e
 
 -- what the list answers is of the domain and covers the word
 pub has_found_kept : (E : ℕ → Span → Type 0) (kept : List Entry) (domain word : ℕ) (s : Span) → All (λ (e : Entry). E e.0 e.1) kept →
