@@ -20,10 +20,6 @@ use Rattle.mx_laws.proofs.Lawful.{present}
 use Rattle.mx_laws.proofs.TurnParts.{apart, by-action}
 use Rattle.mx_runs.specs.GateCalls.{depth_of}
 
--- a kind that isn't a crossing; and one of these by which a hart leaves a call
-abbrev IsNoCrossing : TurnKind → Type 0
-IsNoCrossing k = k ≢ T.Crossed
-
 abbrev pub IsLeaving : TurnKind → Type 0
 IsLeaving k = (k ≡ T.Returned) ⊎ (k ≡ T.Trapped)
 

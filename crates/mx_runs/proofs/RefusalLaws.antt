@@ -198,9 +198,6 @@ IsLow s = s.stop ≡ false → s.a0 < code 15
 low-judged : (e : Core) (o : Option ℕ) (s : Served) → o ≡ None → IsLow s → IsLow (judged e o s)
 low-judged e o s q p = subst (λ (x : Option ℕ). IsLow (judged e x s)) (sym q) p
 
-low-answers : (s : Served) → s.a0 < code 15 → IsLow s
-low-answers s p e = p
-
 low-write : (r : Reads) (c : Core) (call : Call) (outside : Bool) →
     first_row {A =
     ℕ} ((nat_lt 4096 (arg call 1), 11) ∷ (outside, 1) ∷ (

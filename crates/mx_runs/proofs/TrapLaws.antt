@@ -13,7 +13,7 @@ use Rattle.mx_isa.specs.Table.{decoded}
 use Rattle.mx_model.specs.declared.values.Fault.{Fault}
 use Rattle.mx_model.specs.declared.values.Frame.{Frame}
 use Rattle.mx_model.specs.declared.values.Note.TheVariants as N
-use Rattle.mx_model.specs.Checks.{Look, looked_all}
+use Rattle.mx_model.specs.Checks.{looked_all}
 use Rattle.mx_model.specs.Effect.{Effect, Goes, Faults, Loads, Stores, Calls, Jumps, effect, holds, load_size, next, plus, reg, store_size, taken}
 use Rattle.mx_model.specs.Gates.{top}
 use Rattle.mx_model.specs.Reads.{Reads, reads}
@@ -73,10 +73,6 @@ trap-turned r c e h x a cause value own turns is = (
             refl;
       })))),
 )
-
--- looks leave the number of turns
-turns-looked : (r : Reads) (h : ℕ) (looks : List Look) (c : Core) → (looked_all r h looks c).turns ≡ c.turns
-turns-looked r h looks c = ap (λ (e : Core). e.turns) (looked_all-caches r h looks c)
 
 -- a fault of an instruction itself is by 0, 3, 4 or 6
 pub record IsOwnCause (cause : ℕ) : Type 0 where
