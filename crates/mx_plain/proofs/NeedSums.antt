@@ -1,5 +1,5 @@
 -- The need of some maps, one map after the other.
-use Rattle.std.proofs.Common.{◌≡◌, ℕ, ◌+◌, ◌<◌, ◌≤◌, List, [], ◌∷◌, length, get_or, take, map, sum_by, refl, sym, ◌∙◌, ap, arith}
+use Rattle.std.proofs.Common.{◌≡◌, ℕ, ◌+◌, ◌<◌, List, [], ◌∷◌, length, get_or, take, map, sum_by, sym, ◌∙◌, ap, arith}
 use Rattle.std.proofs.lemmas.List.{get_or-map, length-map}
 use Rattle.std.proofs.lemmas.List.Sums.{sum_by_more}
 use Rattle.mx_words.specs.declared.perm.Perm.{Perm}
@@ -34,24 +34,11 @@ need_more K.Packed ms i m lt at =
     ∙ ap (λ n. three (sum_by upper_frames (take (i + 1) ms)) n (sum_by crowded_lines (take i ms) + sum_by crowded_lines (m ∷ []))) (sym (one (broken_blocks page_words) ms i m lt at))
     ∙ ap (λ n. three (sum_by upper_frames (take (i + 1) ms)) (sum_by (broken_blocks page_words) (take (i + 1) ms)) n) (sym (one crowded_lines ms i m lt at))
 
--- no map
-pub need_none : (kind : Kind) → three 0 0 0 ≡ need kind []
-need_none K.Segments = refl
-need_none K.Multilevel = refl
-need_none K.Packed = refl
-
 pub few_more : (i : ℕ) (a b : Need) → IsFew i a → IsFew 1 b → IsFew (i + 1) (sum_of a b)
 few_more i a b few one = record {
   upper = (let x = few.upper in let y = one.upper in omega arith);
   leaf = (let x = few.leaf in let y = one.leaf in omega arith);
   spill = (let x = few.spill in let y = one.spill in omega arith);
-}
-
-pub few_many : (i : ℕ) (a : Need) → i ≤ 63 → IsFew i a → IsFew 63 a
-few_many i a most few = record {
-  upper = (let x = few.upper in omega arith);
-  leaf = (let x = few.leaf in omega arith);
-  spill = (let x = few.spill in omega arith);
 }
 
 pub row_map-at : (words : ℕ) (rows : List (List Span)) (i : ℕ) → i < length rows → get_or (map (row_map words) rows) i [] ≡ row_map words (get_or rows i [])
