@@ -1,6 +1,6 @@
 -- Going over records one by one.
-use Rattle.std.proofs.Common.{◌≡◌, ℕ, suc, ◌+◌, ◌-◌, ◌*◌, ◌<◌, ◌≤◌, Bool, true, false, [], ◌∷◌, refl, ap, arith}
-use Rattle.std.specs.Prelude.{Some, find}
+use Rattle.std.proofs.Common.{◌≡◌, ℕ, suc, ◌+◌, ◌-◌, ◌*◌, ◌<◌, ◌≤◌, Bool, false, [], ◌∷◌, refl, ap, arith}
+use Rattle.std.specs.Prelude.{find}
 use Rattle.mx_elf.specs.Field.{places}
 
 -- all records are those from the first on
@@ -23,11 +23,6 @@ pub places-last : (start size count k : ℕ) → count ≤ k → places (start +
 places-last start size count k le =
     let a : count - k ≡ 0 = omega arith in
     rw a refl
-
--- the first record that passes a test, from one on
-pub find-here : (p : ℕ → Bool) (start size count k : ℕ) → k < count → p (start + size * k) ≡ true
-    → find p (places (start + size * k) size (count - k)) ≡ Some (start + size * k)
-find-here p start size count k lt holds = rw (places-next start size count k lt, holds) refl
 
 pub find-later : (p : ℕ → Bool) (start size count k : ℕ) → k < count → p (start + size * k) ≡ false
     → find p (places (start + size * k) size (count - k)) ≡ find p (places (start + size * (k + 1)) size (count - (k + 1)))
