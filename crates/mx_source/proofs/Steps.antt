@@ -64,10 +64,6 @@ pub pieces-some : (operands : List ℕ) → (length operands == 0) ≡ false
 unfolding pieces_of
 pieces-some operands some = rw some (pieces-first operands)
 
--- there is at most one more part than characters
-length-onto_first : (c : ℕ) (part : List ℕ) (more : List (List ℕ)) → length (onto_first c (part ∷ more)) ≡ length (part ∷ more)
-length-onto_first c part more = refl
-
 pub length-parts : (mark : ℕ) (quotes : Quotes) (text : List ℕ) → length (parts mark quotes text) ≤ length text + 1
 length-parts mark quotes [] = omega arith
 length-parts mark quotes (c ∷ cs) =
