@@ -25,9 +25,6 @@ pub record IsLeft (start : Program) (all : List ℕ) (p : Program) (left : List 
   pub begun : 0 < length p.segments
   pub bytes : byte_count p.segments + length left ≡ byte_count start.segments + length all
 
-pub left_all : (start : Program) (all : List ℕ) → 0 < length start.segments → IsLeft start all start all
-left_all start all begun = record { same = refl; begun = begun; bytes = refl }
-
 module _ (start : Program) (all : List ℕ) (p : Program) (left : List ℕ) (is : IsLeft start all p left) where
   -- after one of them
   pub left_byte : (b : ℕ) (rest : List ℕ) (q : Program) → left ≡ b ∷ rest → q ≡ with_byte b p → IsLeft start all q rest
@@ -47,10 +44,6 @@ module _ (start : Program) (all : List ℕ) (p : Program) (left : List ℕ) (is 
         begun = rw added (omega (arith, is.begun, g.segments));
         bytes = rw added (omega (arith, is.bytes, ap length e, length-append xs rest, g.bytes));
       }
-
-  -- there is room for one
-  pub room_for : (b : ℕ) (rest : List ℕ) → left ≡ b ∷ rest → byte_count p.segments < byte_count start.segments + length all
-  room_for b rest e = omega (arith, is.bytes, ap length e)
 
 -- zeros in two pieces
 pub zeros_split : (n k m : ℕ) → k + m ≡ n → replicate {A = ℕ} n 0 ≡ replicate k 0 ++ replicate m 0
