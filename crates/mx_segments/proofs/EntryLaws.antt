@@ -13,16 +13,13 @@ use Rattle.mx_words.specs.Starts.{is_start}
 use Rattle.mx_words.proofs.NumberLaws.{number-small, from_number-number}
 use Rattle.mx_words.proofs.CountingLaws.{IsCounted, count_below_find, count_below_is, count_below_yes, count_below-mono, count_below_after, count_below_same, list_below_is}
 use Rattle.mx_words.proofs.RunLaws.{runs-count, same_in_run, start_differs, same_from, same_eq, IsRound}
-use Rattle.mx_segments.specs.Entries.{entry_word, perm_of, word_of_entry, begins_before, run_start, entry_of, read_at, read_map, IsChain}
+use Rattle.mx_segments.specs.Entries.{entry_word, perm_of, begins_before, run_start, entry_of, read_at, read_map, IsChain}
 
 entry_rest : (word : ℕ) (p : Perm) → entry_word word p % 4 ≡ number p
 entry_rest word p = omega (arith, number-small p)
 
 pub perm_of-entry : (word : ℕ) (p : Perm) → perm_of (entry_word word p) ≡ p
 perm_of-entry word p = ap (λ n. unwrap_or (from_number n) P.None) (entry_rest word p) ∙ from_number-number p
-
-pub word_of-entry : (word : ℕ) (p : Perm) → word_of_entry (entry_word word p) ≡ word
-word_of-entry word p = omega (arith, number-small p)
 
 pub begins_before-entry : (i : ℕ) (p : Perm) (x : ℕ) → i < x → begins_before (entry_word i p) x ≡ true
 begins_before-entry i p x lt =

@@ -16,9 +16,9 @@ use Rattle.mx_words.proofs.CountingLaws.{IsCounted, count_below-mono, count_belo
 use Rattle.mx_words.proofs.RunLaws.{IsRound, span_within_is}
 use Rattle.mx_pool.specs.Frames.{Frames}
 use Rattle.mx_segments.specs.Store.{frames_in, word_in}
-use Rattle.mx_segments.specs.Entries.{perm_of, word_of_entry, begins_before, run_start, entry_of, entry_word}
+use Rattle.mx_segments.specs.Entries.{perm_of, begins_before, run_start, entry_of, entry_word}
 use Rattle.mx_segments.specs.Sound.{map_in, IsSound}
-use Rattle.mx_segments.proofs.EntryLaws.{runs_are, runs_held, before_passes, behind_fails, run_at, round, run_start_is, run_start_end, stored_entry, stored_some, stored_run, perm_of-entry, word_of-entry}
+use Rattle.mx_segments.proofs.EntryLaws.{runs_are, runs_held, before_passes, behind_fails, run_at, round, run_start_is, run_start_end, stored_entry, stored_some, stored_run, perm_of-entry}
 
 abbrev made : ℕ → ℕ → Perm → Span
 made first next p = record { first = first; count = next - first; perm = p }
@@ -82,9 +82,6 @@ module _ (words : ℕ) (fs : Frames) (ls : List (List ℕ)) (row : ℕ) (sound :
   pub entry_read : (i e : ℕ) → i < 64 * frames → e ≡ stored i → 0 < e → e ≡ entry_of map i
   entry_read i e lt is some = is ∙ stored_entry words frames stored map sound i (stored_run words frames stored map sound i lt (omega arith))
 
-  pub run_there : (i e : ℕ) → i < 64 * frames → e ≡ stored i → 0 < e → i < runs map
-  run_there i e lt is some = stored_run words frames stored map sound i lt (omega arith)
-
   pub no_run : (i e : ℕ) → e ≡ stored i → e ≡ 0 → runs map ≤ i
   no_run i e is none = elim (cases_lt i (runs map)) [
     | inl h ↦ absurd (omega (arith, stored_some words frames stored map sound i h))
@@ -93,9 +90,6 @@ module _ (words : ℕ) (fs : Frames) (ls : List (List ℕ)) (row : ℕ) (sound :
 
   pub start_end : (i : ℕ) → runs map ≤ i → run_start map i ≡ words
   start_end i le = run_start_end words frames stored map sound i le
-
-  pub start_read : (i e : ℕ) → e ≡ entry_of map i → word_of_entry e ≡ run_start map i
-  start_read i e is = ap word_of_entry is ∙ word_of-entry (run_start map i) (perm_at map (run_start map i))
 
   -- the span of a word's run
   round_of : (i n : ℕ) → i < words → n ≡ count_below (min (i + 1) words) (is_start map) → IsRound map 0 words (run_start map (n - 1)) (run_start map n) i
@@ -134,7 +128,3 @@ module _ (words : ℕ) (fs : Frames) (ls : List (List ℕ)) (row : ℕ) (sound :
       let entry : e ≡ entry_word first (perm_at map i) =
       is ∙ ap stored k ∙ r.1.entry ∙ ap (λ x. entry_word x (perm_at map i)) (sym (is_first ∙ start)) in
       ap (shown first next) entry ∙ ap shown_run (span_read i n first next (perm_at map i) lt at is_first is_next refl)
-
-  -- a run begins in RAM
-  pub start_within : (i n first : ℕ) → i < words → n ≡ count_below (min (i + 1) words) (is_start map) → first ≡ run_start map (n - 1) → first < words
-  start_within i n first lt at is_first = let r = round_of i n lt at in let left = r.left in omega (arith, is_first)

@@ -1,25 +1,14 @@
 -- What the writes of a word, and a frame more or less, do to the words of the lists.
 use Rattle.std.proofs.Common.{◌≡◌, ◌≢◌, ℕ, ◌+◌, ◌-◌, ◌*◌, ◌/◌, ◌%◌, ◌<◌, ◌≤◌, true, false, List, [], ◌∷◌, ◌++◌, Option, Some, None, is_some, unwrap_or, length, get_or, set, take, replicate, sum_by, refl, sym, ◌∙◌, ap, subst, arith, inl, inr, ◌⊎◌, length-take, get_or-set_same, get_or-set_other, get_or-take}
 use Rattle.std.proofs.lemmas.Bool.{cases_lt, cases_eq}
-use Rattle.std.proofs.lemmas.List.{get_or_append_left, get_or_push, get_or_past, get_or-replicate, length_push}
+use Rattle.std.proofs.lemmas.List.{get_or_append_left, get_or_push, get_or-replicate, length_push}
 use Rattle.std.proofs.lemmas.List.Sums.{sum_by-set}
 use Rattle.mx_pool.specs.Frames.{Frames, frame_at, IsTaken, word_at, free_in}
 use Rattle.mx_segments.specs.Lists.{list_at}
 use Rattle.mx_segments.specs.Store.{frames_in, frame_in, word_in, IsStore, KeepsOthers}
 
--- a row that has frames is one of the rows
-pub row_within : (lists : List (List ℕ)) (row i : ℕ) → i < frames_in lists row → row < length lists
-row_within lists row i lt = elim (cases_lt row (length lists)) [
-  | inl h ↦ h
-  | inr h ↦ (let none : frames_in lists row ≡ 0 = ap (λ (l : List ℕ). length l) (get_or_past lists row [] h) in absurd (omega (arith, none)))
-]
-
 pub place_within : (n i : ℕ) → i < 64 * n → i / 64 < n
 place_within n i lt = omega arith
-
--- the place of a word in its frame
-pub same_place : (i j : ℕ) → i / 64 ≡ j / 64 → i % 64 ≡ j % 64 → i ≡ j
-same_place i j q r = omega arith
 
 taken_differs : (fs : Frames) (f g : ℕ) → IsTaken fs g → frame_at fs f ≡ None → g ≢ f
 taken_differs fs f g taken free e =
@@ -46,15 +35,6 @@ module _ (fs fs' : Frames) (ls : List (List ℕ)) (st : IsStore fs ls) (row i : 
     apart = st.apart;
     counted = (let c = st.counted in omega (arith, free, total));
   }
-
-  pub put_elsewhere : ((k : ℕ) → k ≢ i % 64 → word_at fs' (frame_in ls row (i / 64)) k ≡ word_at fs (frame_in ls row (i / 64)) k) →
-      (j : ℕ) → j < 64 * frames_in ls row → j ≢ i → word_in fs' ls row j ≡ word_in fs ls row j
-  put_elsewhere others j lt ne = elim (cases_eq (frame_in ls row (j / 64)) (frame_in ls row (i / 64))) [
-    | inl e ↦ (let place = (st.apart row (j / 64) row (i / 64) (place_within (frames_in ls row) j lt) (place_within (frames_in ls row) i within) e).1 in
-        let differ : j % 64 ≢ i % 64 = λ r. ne (same_place j i place r) in
-        ap (λ f. word_at fs' f (j % 64)) e ∙ others (j % 64) differ ∙ ap (λ f. word_at fs f (j % 64)) (sym e))
-    | inr apart ↦ word_still fs fs' (frame_in ls row (i / 64)) elsewhere (frame_in ls row (j / 64)) (j % 64) apart
-  ]
 
   pub put_others : length fs' ≡ length fs → KeepsOthers fs ls fs' ls row
   put_others total = record {
