@@ -59,9 +59,6 @@ module _ (kind : Kind) (k : IsTrieKind kind) (upper leaf spill : Frames) (lay : 
         at-next m known domain =
             subst (λ w. IsRegion kind upper' leaf' spill' m next w) (sym is) (way.ahead m known domain next below (omega arith))
 
-        pub next-table : is_pointer e ≡ true → IsMidTable kind upper' leaf' spill' (target e)
-        next-table = search (arith, way.table.tables)
-
         -- the root table's own frame is still taken after the region's change
         pub root-taken : (upper'' leaf'' spill'' : Frames) (e' : ℕ) →
             IsRegionChanged kind upper' leaf' spill' upper'' leaf'' spill'' lay beside next e e' → IsTaken upper'' root
