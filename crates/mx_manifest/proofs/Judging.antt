@@ -55,18 +55,8 @@ names_first : (top : Data) → names_fault (module_names top) top ≡ first_of (
 unfolding repeats_in froms_in homes_in
 names_first top = refl
 
-pub tells_repeat : (top : Data) (fault : ManifestFault) → Tells (repeats_in top) fault → Tells (names_fault (module_names top) top) fault
-tells_repeat top (Fault fault) h = names_first top ∙ rw h refl
-tells_repeat top NoMemory h = tt
-
-pub tells_from : (top : Data) (fault : BootFault) → repeats_in top ≡ None → froms_in top ≡ Some fault → names_fault (module_names top) top ≡ Some fault
-tells_from top fault a h = names_first top ∙ rw (a, h) refl
-
 pub tells_home : (top : Data) (fault : BootFault) → repeats_in top ≡ None → froms_in top ≡ None → homes_in top ≡ Some fault → names_fault (module_names top) top ≡ Some fault
 tells_home top fault a b h = names_first top ∙ rw (a, b, h) refl
-
-pub names_clear : (top : Data) → repeats_in top ≡ None → froms_in top ≡ None → homes_in top ≡ None → names_fault (module_names top) top ≡ None
-names_clear top a b h = names_first top ∙ rw (a, b, h) refl
 
 -- all steps
 pub tables_of : (top : Data) (version : Version) (found : Option BootFault) → version ≡ version_of top → found ≡ tables_fault version top → tables_fault (version_of top) top ≡ found

@@ -1,5 +1,5 @@
 -- Loops that look for the first fault.
-use Rattle.std.proofs.Common.{◌≡◌, ℕ, ◌+◌, ◌<◌, List, [], ◌∷◌, length, get_or, drop, map, Option, Some, None, refl, ap, ◌∙◌, sym}
+use Rattle.std.proofs.Common.{◌≡◌, ℕ, ◌+◌, ◌<◌, List, length, get_or, drop, map, Option, Some, None, refl, ap, ◌∙◌, sym}
 use Rattle.std.proofs.lemmas.List.{drop_more}
 use Rattle.std.specs.List.{enumerate_from}
 use Rattle.toml.specs.Data.{Data}
@@ -14,37 +14,9 @@ use Rattle.mx_manifest.specs.Faults.{first_of, placed, numbered_fault}
 abbrev pub first_from : {A F : Type 0} → (A → Option F) → ℕ → List A → Option F
 first_from test i xs = first_of (map test (drop i xs))
 
-pub first_next : {A F : Type 0} (test : A → Option F) (xs : List A) (i : ℕ) (d : A) → i < length xs → test (get_or xs i d) ≡ None
-    → first_from test (i + 1) xs ≡ first_from test i xs
-first_next test xs i d below none = rw (drop_more xs i d below, none) refl
-
-pub first_here : {A F : Type 0} (test : A → Option F) (xs : List A) (i : ℕ) (d : A) (fault : F) → i < length xs → test (get_or xs i d) ≡ Some fault
-    → Some fault ≡ first_from test i xs
-first_here test xs i d fault below some = rw (drop_more xs i d below, some) refl
-
-pub first_end : {A F : Type 0} (test : A → Option F) (xs : List A) → first_from test (length xs) xs ≡ None
-first_end test [] = refl
-first_end test (x ∷ xs) = first_end test xs
-
 -- the same of values by their data
 abbrev pub found_from : {F : Type 0} → (Data → Option F) → ℕ → List Value → Option F
 found_from test i values = first_of (map test (map view (drop i values)))
-
-pub found_next : {F : Type 0} (test : Data → Option F) (values : List Value) (i : ℕ) (v : Value) → i < length values → v ≡ get_or values i v → test (view v) ≡ None
-    → found_from test (i + 1) values ≡ found_from test i values
-found_next test values i v below at none =
-    let here : test (view (get_or values i v)) ≡ None = ap (λ w. test (view w)) (sym at) ∙ none in
-    rw (drop_more values i v below, here) refl
-
-pub found_here : {F : Type 0} (test : Data → Option F) (values : List Value) (i : ℕ) (v : Value) (fault : F) → i < length values → v ≡ get_or values i v → test (view v) ≡ Some fault
-    → Some fault ≡ found_from test i values
-found_here test values i v fault below at some =
-    let here : test (view (get_or values i v)) ≡ Some fault = ap (λ w. test (view w)) (sym at) ∙ some in
-    rw (drop_more values i v below, here) refl
-
-pub found_end : {F : Type 0} (test : Data → Option F) (values : List Value) → found_from test (length values) values ≡ None
-found_end test [] = refl
-found_end test (v ∷ values) = found_end test values
 
 -- the same of numbered tables
 abbrev pub each_from : Part → (ℕ → Data → Option KeyFault) → ℕ → List Value → Option BootFault
@@ -63,10 +35,3 @@ pub each_here : (sort : Part) (test : ℕ → Data → Option KeyFault) (values 
 each_here sort test values i v fault below at some =
     let here : placed sort (i + 1) (test (i + 1) (view (get_or values i v))) ≡ Some fault = ap (λ w. placed sort (i + 1) (test (i + 1) (view w))) (sym at) ∙ some in
     rw (drop_more values i v below, here) refl
-
-each_end_from : (sort : Part) (test : ℕ → Data → Option KeyFault) (values : List Value) (n : ℕ) → first_of (map (numbered_fault sort test) (enumerate_from n (map view (drop (length values) values)))) ≡ None
-each_end_from sort test [] n = refl
-each_end_from sort test (v ∷ values) n = each_end_from sort test values n
-
-pub each_end : (sort : Part) (test : ℕ → Data → Option KeyFault) (values : List Value) → each_from sort test (length values) values ≡ None
-each_end sort test values = each_end_from sort test values (length values + 1)

@@ -15,11 +15,6 @@ use Rattle.mx_manifest.proofs.Values.{length-data}
 pub length-taken : {A : Type 0} (i : ℕ) (xs : List A) → length (take i xs) ≤ length xs
 length-taken i xs = omega (arith, length-take i xs)
 
--- a list that a loop has made
-pub made_length : {B : Type 0} (f : Data → B) (values : List Value) (i most : ℕ) (made : List B) → made ≡ map f (map view (take i values)) → length values ≤ most → length made ≤ most
-made_length f values i most made is few =
-    omega (arith, ap length is, length-map (map view (take i values)) f, length-data (take i values), length-taken i values)
-
 pub collected_length : {A B : Type 0} (f : A → B) (xs : List A) (most : ℕ) (made : List B) → made ≡ map f xs → length xs ≤ most → length made ≤ most
 collected_length f xs most made is few = omega (arith, ap length is, length-map xs f)
 
