@@ -1,5 +1,5 @@
 -- Looks at words in order, up to the first that may not be read.
-use Rattle.std.proofs.Common.{◌≡◌, ℕ, suc, ◌+◌, ◌-◌, ◌<◌, ◌≤◌, Bool, true, false, ◌&&◌, List, [], ◌∷◌, refl, sym, ap, subst, ◌∙◌, arith}
+use Rattle.std.proofs.Common.{◌≡◌, ℕ, suc, ◌+◌, ◌-◌, ◌<◌, Bool, true, false, ◌&&◌, List, ◌∷◌, refl, sym, ap, subst, ◌∙◌, arith}
 use Rattle.std.specs.List.{list_all, prefix_len, range_with_len}
 use Rattle.mx_words.specs.declared.perm.Access.TheVariants as A
 use Rattle.mx_words.specs.Rights.{allows, perm_at}
@@ -12,7 +12,6 @@ use Rattle.mx_model.specs.Serve.{look_of, may_read}
 use Rattle.mx_model.specs.State.{Core}
 use Rattle.mx_supervisor.specs.Looks.{BarsAlike, KeepsHarts, HasLooked, HasRead, read_through}
 use Rattle.mx_supervisor.specs.Parts.{Parts, core_of, flat_of}
-use Rattle.mx_supervisor.proofs.Answering.{same-harts}
 use Rattle.mx_supervisor.proofs.Looking.{bars-kept, keeps-both, may-again}
 
 -- whether a domain may read a word
@@ -42,14 +41,6 @@ first-look r h d w ws c ok =
 
 last-look : (r : Reads) (h d w : ℕ) (ws : List ℕ) (c : Core) → may_read r d w ≡ false → read_through r h d (w ∷ ws) c ≡ looked r h c (look_of d w)
 last-look r h d w ws c bad = rw bad
-
--- at the start
-pub read-start : (call : Call) (words : List ℕ) (p : Parts) → MayLook call.hart call.domain p.harts → HasReadTo call words words p p
-read-start call words p may = record {
-  same = refl;
-  may = may;
-  decides = record { keeps = same-harts call p.harts; answer = refl; core = λ rest bars. refl };
-}
 
 -- one more word may be read
 left-more : (call : Call) (w : ℕ) (words ws : List ℕ) (old : Parts) (harts next : List Kept) → LeftDecides call words (w ∷ ws) old harts → readable old call.domain w ≡ true →
@@ -100,19 +91,6 @@ read-stop call w words ws old now next read look bad =
       read.decides.answer ∙ ap (λ b. b && list_all (readable old call.domain) ws) was,
     )
 
--- none is left
-pub read-over : (call : Call) (words : List ℕ) (old now : Parts) → HasReadTo call words [] old now → HasRead call words old now × (list_all (readable old call.domain) words ≡ true)
-read-over call words old now read =
-    let has : HasRead call words old (record old { harts = now.harts }) = record {
-      same = refl;
-      harts = read.decides.keeps;
-      core = λ rest bars. sym (read.decides.core rest bars);
-    } in
-    (subst (λ (q : Parts). HasRead call words old q) (sym read.same) has, read.decides.answer)
-
 -- the words left in a range
 pub range-step : (w behind : ℕ) → w < behind → range_with_len w (behind - w) ≡ w ∷ range_with_len (w + 1) (behind - (w + 1))
 range-step w behind lt = let e : behind - w ≡ suc (behind - (w + 1)) = omega arith in rw e
-
-pub range-end : (w behind : ℕ) → behind ≤ w → range_with_len w (behind - w) ≡ []
-range-end w behind le = let e : behind - w ≡ 0 = omega arith in rw e

@@ -1,12 +1,12 @@
 -- What is true of each module's heap.
-use Rattle.std.proofs.Common.{◌≡◌, ℕ, ◌+◌, ◌-◌, ◌<◌, ◌≤◌, ◌⊎◌, inl, inr, cond, List, [], ◌∷◌, length, get_or, eq-eqb, refl, sym, ap, subst, ◌∙◌, arith, Option, None}
+use Rattle.std.proofs.Common.{◌≡◌, ℕ, ◌+◌, ◌<◌, ◌≤◌, ◌⊎◌, inl, inr, cond, List, [], ◌∷◌, length, get_or, eq-eqb, refl, sym, ap, subst, ◌∙◌, arith, Option, None}
 use Rattle.std.proofs.Common.{map as list_map}
-use Rattle.std.proofs.lemmas.Bool.{cases_eq, cases_lt, ne_eqb}
+use Rattle.std.proofs.lemmas.Bool.{cases_eq, ne_eqb}
 use Rattle.std.proofs.lemmas.List.{get_or-map, get_or_past, length-map}
 use Rattle.mx_words.specs.FirstFit.{Area, AreApart}
 use Rattle.mx_words.proofs.AreaLaws.{apart_ordered}
 use Rattle.mx_heap.specs.HeapState.{HeapState, IsHeap}
-use Rattle.mx_supervisor.specs.Heaps.{heap_at, heap_in, no_area, no_heap, told_heap, told_area}
+use Rattle.mx_supervisor.specs.Heaps.{heap_in, no_area, no_heap, told_heap, told_area}
 use Rattle.mx_supervisor.specs.Told.{IsTold}
 
 -- an area of no words has no block
@@ -40,13 +40,6 @@ first-more heaps i h a same here = record { at = λ j lt. by j lt (cases_eq j i)
     by : (j : ℕ) → j < i + 1 → (j ≡ i) ⊎ (j ≡ i → ⊥) → IsTold (get_or heaps j no_heap)
     by j lt (inl e) = subst IsTold (same ∙ ap (λ k. get_or heaps k no_heap) (sym e)) here
     by j lt (inr ne) = a.at j (omega (arith, lt, ne))
-
-pub first-all : (heaps : List HeapState) (i : ℕ) → length heaps ≤ i → AreToldFirst i heaps → (domain : ℕ) → IsTold (heap_at heaps domain)
-first-all heaps i le a domain = by (domain - 1) (cases_lt (domain - 1) (length heaps))
-  where
-    by : (k : ℕ) → (k < length heaps) ⊎ (length heaps ≤ k) → IsTold (get_or heaps k no_heap)
-    by k (inl lt) = a.at k (omega (arith, lt, le))
-    by k (inr past) = subst IsTold (sym (get_or_past heaps k no_heap past)) told-none
 
 -- one more heap is told so: the one in the next slot
 pub first-there : (slots ws : List (Option HeapState)) (heaps : List HeapState) (i : ℕ) (slot : Option HeapState) → list_map heap_in slots ≡ heaps → ws ≡ slots →
