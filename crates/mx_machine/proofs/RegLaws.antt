@@ -1,9 +1,9 @@
 -- Registers that are written one after another.
-use Rattle.std.proofs.Common.{◌≡◌, ◌≢◌, ℕ, zero, suc, ◌+◌, ◌<◌, ◌≤◌, ◌⊎◌, inl, inr, ◌==◌, true, false, not, cond, List, [], ◌∷◌, length, get_or, set, take, refl, sym, ap, subst, ◌∙◌, arith, eq-eqb, get_or-set_same, get_or-set_other}
+use Rattle.std.proofs.Common.{◌≡◌, ℕ, zero, suc, ◌+◌, ◌<◌, ◌≤◌, ◌==◌, true, false, not, cond, List, [], ◌∷◌, length, get_or, set, take, refl, sym, ap, ◌∙◌, arith}
 use Rattle.std.specs.Prelude.{fold, min, zip}
 use Rattle.std.specs.List.{list_all}
-use Rattle.std.proofs.lemmas.Bool.{cases_eq, ne_eqb, and_parts, not-true}
-use Rattle.std.proofs.lemmas.List.{ext_get_or, take_all}
+use Rattle.std.proofs.lemmas.Bool.{and_parts, not-true}
+use Rattle.std.proofs.lemmas.List.{take_all}
 use Rattle.std.proofs.lemmas.List.Sums.{fold_more}
 use Rattle.std.proofs.lemmas.Slice.Zip.{length-zip, get_or-zip}
 use Rattle.mx_model.specs.Effect.{written}
@@ -41,36 +41,3 @@ back-all regs now kept i n le e =
 -- two lists agree in the first n
 pub record AgreeFirst (n : ℕ) (xs ys : List ℕ) : Type 0 where
   pub at : (j : ℕ) → j < n → get_or xs j 0 ≡ get_or ys j 0
-
-pub agree-none : (xs ys : List ℕ) → AgreeFirst 0 xs ys
-agree-none xs ys = record { at = λ j lt. absurd (omega (arith, lt)) }
-
-pub agree-all : (n : ℕ) (xs ys : List ℕ) → length xs ≡ n → length ys ≡ n → (i : ℕ) → n ≤ i → AgreeFirst i xs ys → xs ≡ ys
-agree-all n xs ys ex ey i le a = ext_get_or 0 xs ys (ex ∙ sym ey) (λ j lt. a.at j (omega (arith, lt, ex, le)))
-
-pub agree-more : (xs ys : List ℕ) (i : ℕ) → i < length xs → AgreeFirst i xs ys → AgreeFirst (i + 1) (set xs i (get_or ys i 0)) ys
-agree-more xs ys i there a = record { at = λ j lt. by j lt (cases_eq j i) }
-  where
-    by : (j : ℕ) → j < i + 1 → (j ≡ i) ⊎ (j ≢ i) → get_or (set xs i (get_or ys i 0)) j 0 ≡ get_or ys j 0
-    by j lt (inl e) =
-        ap (λ k. get_or (set xs i (get_or ys i 0)) k 0) e ∙ get_or-set_same xs i (get_or ys i 0) 0 there ∙ ap (λ k. get_or ys k 0) (sym e)
-    by j lt (inr ne) = get_or-set_other xs i j (get_or ys i 0) 0 ne ∙ a.at j (omega (arith, lt, ne))
-
--- the registers agree with values of which the first is zero, after one more is written
-pub agree-written : (regs values : List ℕ) (r : ℕ) → r < length regs → get_or values 0 0 ≡ 0 → get_or regs 0 0 ≡ 0 → AgreeFirst r regs values →
-    AgreeFirst (r + 1) (written regs r (get_or values r 0)) values
-agree-written regs values r there zero_value zero_reg a = by (cases_eq r 0)
-  where
-    by : (r ≡ 0) ⊎ (r ≢ 0) → AgreeFirst (r + 1) (written regs r (get_or values r 0)) values
-    by (inl e) = record {
-      at = λ j lt.
-          let first : j ≡ 0 = omega (arith, lt, e) in
-          let same : (r == 0) ≡ true = eq-eqb r 0 e in
-          ap (λ k. get_or (written regs r (get_or values r 0)) k 0) first
-          ∙ ap (λ b. get_or (cond b regs (set regs r (get_or values r 0))) 0 0) same
-          ∙ zero_reg ∙ sym zero_value ∙ ap (λ k. get_or values k 0) (sym first);
-    }
-    by (inr ne) =
-        let whole : written regs r (get_or values r 0) ≡ set regs r (get_or values r 0) =
-        ap (λ b. cond b regs (set regs r (get_or values r 0))) (ne_eqb r 0 ne) in
-        subst (λ (xs : List ℕ). AgreeFirst (r + 1) xs values) (sym whole) (agree-more regs values r there a)

@@ -9,9 +9,6 @@ use Rattle.std.proofs.lemmas.Option.{slice_get-get_or, slice_get_within}
 pub record AllFirst {X : Type 0} (P : X → Type 0) (n : ℕ) (xs : List X) : Type 0 where
   pub at : (i : ℕ) (x : X) → i < n → slice_get xs i ≡ Some x → P x
 
-pub first-none : {X : Type 0} (P : X → Type 0) (xs : List X) → AllFirst P 0 xs
-first-none P xs = record { at = λ i x lt e. absurd (omega (arith, lt)) }
-
 some-same : {X : Type 0} (o : Option X) (x y : X) → o ≡ Some x → o ≡ Some y → x ≡ y
 some-same o x y e f = let both : Some x ≡ Some y = sym e ∙ f in cc
 

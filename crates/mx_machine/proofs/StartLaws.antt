@@ -1,9 +1,8 @@
 -- The harts with which a machine starts or resumes, one by one.
 use Rattle.std.proofs.Common.{◌≡◌, ℕ, zero, suc, ◌+◌, ◌*◌, ◌<◌, ◌≤◌, ◌⊎◌, inl, inr, List, [], ◌∷◌, length, get_or, take, refl, ap, ◌∙◌, arith}
-use Rattle.std.proofs.Common.{map as list_map}
 use Rattle.std.specs.Option.{option_map_or}
 use Rattle.std.specs.Prelude.{slice_get}
-use Rattle.std.proofs.Math.Nat.{le-mul_of_pos_right, mul-le-mul_left}
+use Rattle.std.proofs.Math.Nat.{mul-le-mul_left}
 use Rattle.mx_machine.specs.declared.hart.Hart.{Hart}
 use Rattle.mx_machine.specs.declared.starts.HartStart.{HartStart}
 use Rattle.mx_machine.specs.declared.starts.StackArea.{StackArea}
@@ -24,11 +23,6 @@ pub started-at : (stacks : List StackArea) (i : ℕ) (starts : List HartStart) �
 started-at stacks i starts =
     let e : 0 + i ≡ i = omega arith in
     started-from stacks 0 i starts ∙ ap (λ k. option_map_or (started_hart stacks k) (slice_get starts i) no_held_hart) e
-
-pub mapped-at : {X Y : Type 0} (f : X → Y) (xs : List X) (i : ℕ) (d : Y) → get_or (list_map f xs) i d ≡ option_map_or f (slice_get xs i) d
-mapped-at f [] i d = refl
-mapped-at f (x ∷ xs) zero d = refl
-mapped-at f (x ∷ xs) (suc i) d = mapped-at f xs i d
 
 pub length-started : (stacks : List StackArea) (n : ℕ) (starts : List HartStart) → length (started_from stacks n starts) ≡ length starts
 length-started stacks n [] = refl
@@ -61,9 +55,3 @@ area-fits a most n h (inr le) lt =
     let up : h + 1 ≤ n = omega (arith, lt) in
     let more : a.words * (h + 1) ≤ a.words * n = mul-le-mul_left a.words up in
     inr (omega (arith, le, more))
-
-pub hart-fits : (a : StackArea) (most h : ℕ) → 0 < a.words → a.first + a.words * (h + 1) ≤ most → h + 1 ≤ most
-hart-fits a most h some le =
-    let more : h + 1 ≤ (h + 1) * a.words = le-mul_of_pos_right (h + 1) some in
-    let turned : (h + 1) * a.words ≡ a.words * (h + 1) = omega arith in
-    omega (arith, le, more, turned)
