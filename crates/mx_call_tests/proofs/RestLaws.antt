@@ -90,15 +90,6 @@ rest-again call p q t r rest harts modules keeps sizes sound =
       };
     }
 
--- what another call leaves of it
-pub rest-after : (h d : ℕ) (p t : Parts) → IsAtRest h d p → length t.harts ≡ length p.harts → MayLook h d t.harts → KeepsSizes p t → IsSound t → IsAtRest h d t
-rest-after h d p t rest count may sizes sound = record {
-  sound = sound;
-  domain = record { first = rest.domain.first; last = let h = rest.domain.last in let e = sizes.modules in omega (arith, h, e) };
-  alone = count ∙ rest.alone;
-  may = may;
-}
-
 -- a look of a hart leaves their number
 pub length-looked : (buffer : ℕ) (kind : Kind) (m : List Perm) (h place domain address : ℕ) (harts : List Kept) →
     length (looked_at_address buffer kind m h place domain address harts) ≡ length harts
