@@ -1,5 +1,5 @@
 -- Small machines made by hand: their parts belong together, and they may start.
-use Rattle.std.proofs.Common.{◌≡◌, ℕ, zero, suc, ◌+◌, ◌-◌, ◌<◌, ◌≤◌, ◌≢◌, ◌⊎◌, ◌==◌, inl, inr, Bool, true, cond, List, [], ◌∷◌, ◌++◌, length, get_or, replicate, rules, Ok, Err, if◌then◌else◌, false, refl, sym, ap, subst, ◌∙◌, arith}
+use Rattle.std.proofs.Common.{◌≡◌, ℕ, zero, suc, ◌+◌, ◌-◌, ◌≤◌, ◌≢◌, ◌⊎◌, ◌==◌, inl, inr, Bool, true, cond, List, [], ◌∷◌, ◌++◌, length, replicate, rules, Ok, Err, if◌then◌else◌, false, refl, sym, ap, subst, ◌∙◌, arith}
 use Rattle.std.specs.Prelude.{All, OnErr, OnOk}
 use Rattle.std.specs.declared.result.Result.{Result}
 use Rattle.std.specs.List.{AllByRecursion}
@@ -18,40 +18,11 @@ use Rattle.mx_model.proofs.JoinLaws.{all-weaker}
 use Rattle.mx_model.proofs.ListLaws.{all-append, all-at, all-filter}
 use Rattle.mx_supervisor.specs.Heaps.{heap_at, no_area, no_heap, told_heap}
 use Rattle.mx_supervisor.specs.Parts.{Parts, AreJoined}
-use Rattle.mx_table.specs.Tables.{IsRow, no_span}
+use Rattle.mx_table.specs.Tables.{IsRow}
 use Rattle.mx_machine.specs.declared.starts.HartStart.{HartStart}
 use Rattle.mx_machine.specs.declared.starts.StackArea.{StackArea}
 use Rattle.mx_machine.specs.Starts.{IsStack, IsStart, MayStart}
 use Rattle.mx_machine_tests.specs.Small.{AreLaid, HasArea, IsBegin, IsPlaced}
-
--- a row of one span, and of two
-pub row-one : (s : Span) → 0 < s.count → s.first + s.count ≤ 16384 → IsRow 16384 (s ∷ [])
-row-one s some inside = record { some = λ i l. count i l; sorted = λ i l. absurd (omega (arith, l)); inside = λ i l. end i l }
-  where
-    count : (i : ℕ) → i < 1 → 0 < (get_or (s ∷ []) i no_span).count
-    count zero l = some
-    count (suc i) l = absurd (omega (arith, l))
-
-    end : (i : ℕ) → i < 1 → (get_or (s ∷ []) i no_span).first + (get_or (s ∷ []) i no_span).count ≤ 16384
-    end zero l = inside
-    end (suc i) l = absurd (omega (arith, l))
-
-pub row-two : (s t : Span) → 0 < s.count → 0 < t.count → s.first + s.count ≤ t.first → t.first + t.count ≤ 16384 → IsRow 16384 (s ∷ t ∷ [])
-row-two s t some more apart inside = record { some = λ i l. count i l; sorted = λ i l. order i l; inside = λ i l. end i l }
-  where
-    count : (i : ℕ) → i < 2 → 0 < (get_or (s ∷ t ∷ []) i no_span).count
-    count zero l = some
-    count (suc zero) l = more
-    count (suc (suc i)) l = absurd (omega (arith, l))
-
-    order : (i : ℕ) → i + 1 < 2 → (get_or (s ∷ t ∷ []) i no_span).first + (get_or (s ∷ t ∷ []) i no_span).count ≤ (get_or (s ∷ t ∷ []) (i + 1) no_span).first
-    order zero l = apart
-    order (suc i) l = absurd (omega (arith, l))
-
-    end : (i : ℕ) → i < 2 → (get_or (s ∷ t ∷ []) i no_span).first + (get_or (s ∷ t ∷ []) i no_span).count ≤ 16384
-    end zero l = omega (arith, apart, inside)
-    end (suc zero) l = inside
-    end (suc (suc i)) l = absurd (omega (arith, l))
 
 -- a heap that is told lies where it lies
 told-area : (heap : HeapState) → HasArea heap → HasArea (told_heap heap)
