@@ -179,13 +179,6 @@ pub ready : (plan : Said) (images : List (List ℕ)) → IsInRange plan → firs
 ready plan images in_range none i h at =
     all_at (IsReady (ram_words plan) (length plan.harts)) (homes plan images) i h (homes_ready plan images in_range (faultless plan images none).placed) at
 
--- RAM has some words, and no more than may be
-pub some_words : (plan : Said) → IsInRange plan → 0 < ram_words plan
-some_words plan in_range = let r = in_range.ram_kib in omega (arith, r.0)
-
-pub few_words : (plan : Said) → IsInRange plan → ram_words plan ≤ 16777216
-few_words plan in_range = let r = in_range.ram_kib in omega (arith, r.1)
-
 -- what all modules own lies in RAM
 pub owned_placed : (plan : Said) (images : List (List ℕ)) → IsInRange plan → first_fault plan images ≡ None → AllByRecursion (IsPlaced (ram_words plan)) (flat_map (owned_areas (length plan.harts)) (homes plan images))
 owned_placed plan images in_range none =

@@ -78,11 +78,6 @@ caches_none : (n : ℕ) → map (λ (k : Kept). k.cache) (replicate n new_hart) 
 caches_none zero = refl
 caches_none (suc n) = ap (λ cs. no_cache ∷ cs) (caches_none n)
 
--- modules from a domain on
-get_behind : {X : Type 0} (xs : List X) (x d : X) (ys : List X) → get_or (xs ++ x ∷ ys) (length xs) d ≡ x
-get_behind [] x d ys = refl
-get_behind (z ∷ xs) x d ys = get_behind xs x d ys
-
 homes_at : (d i : ℕ) (all : List StackArea) (x : StackArea) → slice_get all i ≡ Some x → slice_get (homes_from none_dead d all) i ≡ Some (home none_dead (d + i) x)
 homes_at d i [] x e = absurd cc
 homes_at d zero (a ∷ all) x e = ap (λ o. option_map (home none_dead d) o) e ∙ ap (λ n. Some (home none_dead n x)) (let same : d ≡ d + 0 = omega arith in same)
