@@ -1,5 +1,5 @@
 -- What stretches tell: of one source after another, and from one word on or a later one.
-use Rattle.std.proofs.Common.{◌≡◌, ℕ, zero, suc, ◌+◌, ◌-◌, ◌<◌, ◌≤◌, ◌⊎◌, inl, inr, min, Bool, true, false, not, ◌||◌, List, [], ◌∷◌, ◌++◌, nat_lt, if◌then◌else◌, length, replicate, set, slice_get, Some, refl, sym, ap, ◌∙◌, subst, arith, append_assoc}
+use Rattle.std.proofs.Common.{◌≡◌, ℕ, zero, suc, ◌+◌, ◌-◌, ◌<◌, ◌≤◌, min, Bool, true, false, not, ◌||◌, List, [], ◌∷◌, ◌++◌, nat_lt, if◌then◌else◌, length, replicate, slice_get, Some, refl, sym, ap, ◌∙◌, subst, arith, append_assoc}
 use Rattle.std.proofs.lemmas.Bool.{and_left, ltb-true}
 use Rattle.mx_words.specs.declared.perm.Perm.TheVariants as P
 use Rattle.mx_words.specs.declared.perm.Span.{Span}
@@ -21,24 +21,6 @@ tells-later f test w v s l t = record { within = t.within; alike = λ u p q. t.a
 
 pub all-later : (f : Flat) (marks : List Bool) (w v : ℕ) (known : List Stretch) → w ≤ v → AllTell f marks w known → AllTell f marks v known
 all-later f marks w v known l t source s e = tells-later f (exposes f marks source) w v s l (t source s e)
-
--- one of a list renewed
-at-set : {X : Type 0} (xs : List X) (i j : ℕ) (x y : X) → slice_get (set xs i x) j ≡ Some y → ((j ≡ i) × (y ≡ x)) ⊎ (slice_get xs j ≡ Some y)
-at-set [] i j x y e = inr e
-at-set (a ∷ xs) zero zero x y e = let same : y ≡ x = cc in inl (refl, same)
-at-set (a ∷ xs) zero (suc j) x y e = inr e
-at-set (a ∷ xs) (suc i) zero x y e = inr e
-at-set (a ∷ xs) (suc i) (suc j) x y e = elim (at-set xs i j x y e) [
-  | inl p ↦ inl (ap suc p.0, p.1)
-  | inr p ↦ inr p
-]
-
-pub all-set : (f : Flat) (marks : List Bool) (w source : ℕ) (known : List Stretch) (s : Stretch) → AllTell f marks w known → Tells f (exposes f marks source) w s →
-    AllTell f marks w (set known source s)
-all-set f marks w source known s t p other x e = elim (at-set known source other s x e) [
-  | inl q ↦ subst (λ i. Tells f (exposes f marks i) w x) (sym q.0) (subst (λ y. Tells f (exposes f marks source) w y) (sym q.1) p)
-  | inr q ↦ t other x q
-]
 
 -- of one source more
 tells-suc : (f : Flat) (marks : List Bool) (n w : ℕ) (a b s : Stretch) → s.end ≡ min a.end b.end → s.exposed ≡ (a.exposed || b.exposed) →
