@@ -6,7 +6,6 @@ use Rattle.std.proofs.lemmas.Bool.{eq-eqb, eqb-true, ne_eqb}
 use Rattle.std.proofs.lemmas.List.{append-nil, ext_get_or, get_or-map, get_or_append_left, length-map, map-append, set-append_right}
 use Rattle.mx_words.specs.declared.perm.Perm.{Perm}
 use Rattle.mx_words.specs.Caches.{Cache, no_cache}
-use Rattle.mx_words.specs.FirstFit.{Area}
 use Rattle.mx_words.specs.Newest.{Grant, map, owners}
 use Rattle.mx_words.proofs.CountingLaws.{length-list_below, list_below-at}
 use Rattle.mx_check.specs.declared.flight.Flight.{Flight}
@@ -16,7 +15,6 @@ use Rattle.mx_check.specs.Harts.{Kept}
 use Rattle.mx_check.specs.Harts.{kept_at, nothing_kept}
 use Rattle.mx_heap.specs.HeapState.{HeapState}
 use Rattle.mx_model.specs.State.{Core, Flat, Hart, Module, Stack, flat, module_at, most_modules, no_module}
-use Rattle.mx_supervisor.specs.Heaps.{no_area, told_heap}
 use Rattle.mx_supervisor.specs.Parts.{modules_from, with_heap}
 use Rattle.mx_machine.specs.declared.starts.StackArea.{StackArea}
 use Rattle.mx_machine.specs.declared.views.HartStatus.{HartStatus}
@@ -26,12 +24,12 @@ use Rattle.mx_machine.specs.Held.{beside, home, homes_from, told}
 use Rattle.mx_machine.specs.Held.{no_area as no_stack}
 use Rattle.mx_machine.specs.Starts.{progress_of, resumed, resumed_hart}
 use Rattle.mx_snapshot.proofs.ValidHarts.{no_stored}
-use Rattle.mx_snapshot.proofs.ValidLists.{area-none, each_at}
+use Rattle.mx_snapshot.proofs.ValidLists.{each_at}
 use Rattle.mx_snapshot.proofs.ValidState.{home-fits}
 use Rattle.mx_snapshot.specs.Fits.{IsStored, IsStoredModule}
 use Rattle.mx_snapshot.specs.Resumed.{core_of, hart_in_state, laid_runs, running, state_of, status_in}
 use Rattle.mx_snapshot.specs.Resuming.{dead_in, flight_in, flights_from, flights_in, heap_in, own_flights, parts_in, stack_in, state_in}
-use Rattle.mx_snapshot.specs.Stored.{Head, Stored, StoredHart, StoredModule}
+use Rattle.mx_snapshot.specs.Stored.{Stored, StoredHart, StoredModule}
 
 -- the call of a hart in flight, where it waits
 abbrev pub flight_if : ℕ → List HeapState → ℕ → StoredHart → HartStatus → Option Flight
@@ -173,15 +171,6 @@ told-same a none = elim (a.words == 0) as (λ b. (a.words == 0) ≡ b → ◌≡
   | true ↦ λ e. ap (λ (n : ℕ). record { first = n; words = a.words }) (sym (none (eqb-true a.words 0 e)))
   | false ↦ λ e. refl
 ] refl
-
-pub heap-told : (h : Head) (before : List StoredModule) (m : StoredModule) → IsStoredModule h before m → told_heap (heap_in m) ≡ heap_in m
-heap-told h before m is = ap (λ (area : Area). record (heap_in m) { area = area }) (elim (m.home.heap.count == 0) as (λ b. (m.home.heap.count == 0) ≡ b → cond b no_area m.home.heap ≡ m.home.heap) [
-  | true ↦ λ e.
-      let none = eqb-true m.home.heap.count 0 e in
-      let first = area-none h.words m.home.heap.first m.home.heap.count is.heap none in
-      ap (λ (n : ℕ). record { first = n; count = 0 }) (sym first) ∙ ap (λ (n : ℕ). record { first = m.home.heap.first; count = n }) (sym none)
-  | false ↦ λ e. refl
-] refl)
 
 -- a module by its stack area and its heap
 homes-at : (dead : List Bool) (d : ℕ) (stacks : List StackArea) (i j : ℕ) → d + i ≡ j → i < length stacks → get_or (homes_from dead d stacks) i no_module ≡ home dead j (get_or stacks i no_stack)
