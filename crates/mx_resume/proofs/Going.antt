@@ -43,14 +43,13 @@ use Rattle.mx_snapshot.proofs.ValidKept.{stored-kept}
 use Rattle.mx_snapshot.proofs.ValidLists.{each_holds}
 use Rattle.mx_snapshot.proofs.ValidMay.{flights-fit, gates-fit, may-go, parts-sound}
 use Rattle.mx_snapshot.proofs.ValidRuns.{row-fits, row-same}
-use Rattle.mx_resume.specs.declared.building.Held.{Held}
 use Rattle.mx_resume.specs.declared.harts.ResumingHarts.{ResumingHarts}
 use Rattle.mx_resume.specs.declared.head.Head as code_head
 use Rattle.mx_resume.specs.declared.refused.SnapshotRefused.{SnapshotRefused}
 use Rattle.mx_resume.specs.declared.refused.SnapshotRefused.TheVariants.{Fault, TablesFull, NoMemory}
 use Rattle.mx_resume.specs.Extents.{HasBounds}
-use Rattle.mx_resume.specs.Goes.{AreParts, GivesParts, GoesFrom, IsHeld, IsOverfull, MayFly, MayGo, MayJoin}
-use Rattle.mx_resume.specs.Parts.{AreHeldOf, head_seen}
+use Rattle.mx_resume.specs.Goes.{AreParts, GivesParts, GoesFrom, IsOverfull, MayFly}
+use Rattle.mx_resume.specs.Parts.{head_seen}
 use Rattle.mx_resume.specs.Snapshot.{IsRefusedBy, NeedsMore, fitting, stored_need}
 
 -- what the calls ask of parts that are a valid snapshot's
@@ -207,34 +206,3 @@ module _ {T : Type 0} (tables : Ghosts T) (buffer : ℕ) (s : Stored) (x : code_
 
   pub parts-joined : (p : Supervisor T buffer) → p ≡ over → parts_of tables p ≡ parts_in s
   parts-joined p e = ap (λ (y : Supervisor T buffer). parts_of tables y) e ∙ parts-over
-
--- what is held, as the calls take it
-module _ (s : Stored) (f : IsStored s) (x : Held) (a : AreHeldOf s x) where
-  pub gives-parts : GivesParts s x.head x.rows.items x.harts x.ram x.owners x.gates x.heaps
-  gives-parts = record {
-    valid = f;
-    same_head = a.head;
-    same_rows = a.rows;
-    same_harts = a.harts;
-    same_ram = a.ram;
-    same_owners = a.owners;
-    same_gates = a.gates;
-    same_heaps = a.heaps;
-  }
-
-  pub goes-from : (p : Parts) → p ≡ parts_in s → GoesFrom s p x.harts.states x.stacks x.dead x.head.turns
-  goes-from p e = record {
-    valid = f;
-    same_parts = e;
-    same_states = ap (λ (y : ResumingHarts). y.states) a.harts;
-    same_stacks = a.stacks;
-    same_dead = a.dead;
-    same_turns = ap (λ (y : Head). y.turns) a.head;
-  }
-
-module _ (x : Held) (h : IsHeld x) where
-  pub may-join : MayJoin x.head x.rows.items x.harts x.ram x.owners x.gates x.heaps
-  may-join = record { snapshot = h.snapshot; gives = gives-parts h.snapshot h.valid x h.holds }
-
-  pub may-go-on : (p : Parts) → p ≡ parts_in h.snapshot → MayGo p x.harts.states x.stacks x.dead x.head.turns
-  may-go-on p e = record { snapshot = h.snapshot; from = goes-from h.snapshot h.valid x h.holds p e }
