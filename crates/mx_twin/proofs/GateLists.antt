@@ -1,5 +1,5 @@
 -- Lists that are read from place to place until none is left.
-use Rattle.std.proofs.Common.{◌≡◌, ℕ, zero, suc, ◌+◌, ◌<◌, ◌≤◌, Bool, true, false, ◌&&◌, cond, List, [], ◌∷◌, ◌++◌, length, drop, slice_get, refl, sym, ◌∙◌, ap, arith, add-one, Some, None}
+use Rattle.std.proofs.Common.{◌≡◌, ℕ, zero, suc, ◌+◌, ◌<◌, ◌≤◌, Bool, true, false, ◌&&◌, cond, List, [], ◌∷◌, length, drop, slice_get, refl, sym, ◌∙◌, ap, arith, add-one, Some, None}
 use Rattle.std.specs.List.{list_all}
 use Rattle.std.specs.Option.{option_map}
 use Rattle.mx_model.specs.declared.values.Gate.{Gate}
@@ -70,12 +70,3 @@ module _ (test : Gate → Bool) (gates : List Gate) (i : ℕ) (k : HavePassed te
 
   pub passed-all : None ≡ slice_get gates i → true ≡ list_all test gates
   passed-all e = sym (k.left ∙ ap (λ (gs : List Gate). list_all test gs) (none-drop gates i e))
-
--- two lists
-pub all-append : (test : Gate → Bool) (xs ys : List Gate) → list_all test (xs ++ ys) ≡ (list_all test xs && list_all test ys)
-all-append test [] ys = refl
-all-append test (x ∷ xs) ys = ap (λ (b : Bool). test x && b) (all-append test xs ys) ∙ by (test x)
-  where
-    by : (b : Bool) → (b && (list_all test xs && list_all test ys)) ≡ ((b && list_all test xs) && list_all test ys)
-    by true = refl
-    by false = refl
