@@ -1,9 +1,9 @@
 -- The entries of a map's runs, and how the words of a list mean a map.
-use Rattle.std.specs.Prelude.{ℕ, ◌≡◌, ◌+◌, ◌-◌, ◌*◌, ◌/◌, ◌%◌, ◌<◌, ◌≤◌, Bool, true, ◌&&◌, nat_lt, nat_le, List, length, unwrap_or}
+use Rattle.std.specs.Prelude.{ℕ, ◌≡◌, ◌+◌, ◌-◌, ◌*◌, ◌%◌, ◌<◌, ◌≤◌, Bool, true, ◌&&◌, nat_lt, nat_le, List, length, unwrap_or}
 use Rattle.mx_words.specs.declared.perm.Perm.{Perm}
 use Rattle.mx_words.specs.declared.perm.Perm.TheVariants as P
 use Rattle.mx_words.specs.Rights.{number, from_number, perm_at}
-use Rattle.mx_words.specs.Ranges.{ram_base, address_of}
+use Rattle.mx_words.specs.Ranges.{address_of}
 use Rattle.mx_words.specs.Counting.{count_below, list_below}
 use Rattle.mx_words.specs.Runs.{runs}
 use Rattle.mx_words.specs.Need.{segment_frames}
@@ -17,10 +17,6 @@ entry_word word p = address_of word + number p
 -- the permission of an entry
 abbrev pub perm_of : ℕ → Perm
 perm_of entry = unwrap_or (from_number (entry % 4)) P.None
-
--- the word at which an entry's run begins
-abbrev pub word_of_entry : ℕ → ℕ
-word_of_entry entry = (entry - ram_base) / 4
 
 -- whether a stored word is an entry of a run that begins before a word; 0 is no entry
 abbrev pub begins_before : ℕ → ℕ → Bool

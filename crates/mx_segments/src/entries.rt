@@ -10,7 +10,7 @@ ghost use Rattle.mx_words.specs.Reach.{span, stored};
 ghost use Rattle.mx_words.specs.Starts.{is_start};
 ghost use Rattle.mx_table.specs.Tables.{most_words};
 ghost use Rattle.mx_segments.specs.Store.{frames_in, IsStore};
-ghost use Rattle.mx_segments.specs.Entries.{begins_before, perm_of, word_of_entry, run_start, entry_of};
+ghost use Rattle.mx_segments.specs.Entries.{begins_before, perm_of, run_start, entry_of};
 ghost use Rattle.mx_segments.specs.Sound.{map_in, IsSound};
 
 use crate::Chains;
