@@ -1,15 +1,14 @@
 -- A served call of a domain of a closed set spares a word that no domain of the set owns or may write: its bytes stay, and no change of rights and
 -- no give covers it. And no give covers a word of a heap area.
 use Rattle.std.proofs.Common.{◌≡◌, ◌≢◌, inl, inr, ⊎_elim, ℕ, ◌+◌, ◌-◌, ◌*◌, ◌<◌, ◌≤◌, Bool, true, false, not, cond, nat_lt, nat_le, ◌==◌, ◌&&◌, ◌||◌, List, [], ◌∷◌, length, refl, sym, ◌∙◌, ap, subst, arith, eqb-true, IsTrue, Option, Some, None, unwrap_or, is_none}
-use Rattle.std.specs.Prelude.{IfSome, slice_index, slice_index_or, option_map, find}
+use Rattle.std.specs.Prelude.{IfSome, slice_index, slice_index_or}
 use Rattle.std.specs.List.{AllByRecursion, range_with_len}
 use Rattle.std.proofs.lemmas.Bool.{ltb-true, ltb-false, lt-ltb, leb-true, not-false, and_parts, or_parts}
 use Rattle.mx_words.specs.declared.perm.Perm.{Perm}
 use Rattle.mx_words.specs.declared.perm.Perm.TheVariants as P
 use Rattle.mx_words.specs.declared.perm.Access.TheVariants as A
 use Rattle.mx_words.specs.Announced.{is_announced}
-use Rattle.mx_words.specs.FirstFit.{Area, AreApart, has_room, block_words, most_blocks}
-use Rattle.mx_words.proofs.AreaLaws.{apart_ordered}
+use Rattle.mx_words.specs.FirstFit.{Area, has_room, block_words, most_blocks}
 use Rattle.mx_words.specs.FirstRow.{first_row, Row}
 use Rattle.mx_words.specs.Newest.{Give}
 use Rattle.mx_words.specs.Ranges.{covers, overlaps}
