@@ -1,8 +1,8 @@
-use Rattle.std.proofs.Common.{◌≡◌, ℕ, ◌+◌, List, [], ◌∷◌, ◌++◌, Ok, Err, arith}
+use Rattle.std.proofs.Common.{◌≡◌, ◌+◌, Ok, Err, arith}
 use Rattle.std.specs.Prelude.{OnOk, OnErr}
 use Rattle.std.specs.List.{AllByRecursion}
 use Rattle.mx_model.specs.declared.values.Gate.{Gate}
-use Rattle.mx_model.specs.Gates.{with_gate, is_at}
+use Rattle.mx_model.specs.Gates.{with_gate}
 use Rattle.mx_model.specs.Valid.{IsGate}
 use Rattle.mx_model.proofs.ListLaws.{all-append, all-filter}
 use Rattle.mx_call_tests.proofs.played.gates_from.Goals as goal
