@@ -1,17 +1,15 @@
 -- Announced calls: the change lies in the announced range, of which the caller drops its own spans.
 use Rattle.std.proofs.Common.{◌≡◌, ◌≢◌, ℕ, ◌+◌, ◌*◌, ◌<◌, ◌≤◌, ◌⊎◌, inl, inr, Bool, true, false, not, cond, ◌==◌, ◌&&◌, nat_le, List, [], ◌∷◌, length, refl, sym, ap, subst, ◌∙◌, arith, Option, Some, None, unwrap_or, is_none}
-use Rattle.std.specs.Prelude.{IfSome, find}
+use Rattle.std.specs.Prelude.{IfSome}
 use Rattle.std.specs.List.{list_any, range_with_len}
-use Rattle.std.specs.Option.{option_map}
-use Rattle.std.proofs.lemmas.Bool.{and_parts, cases_eq, eqb-true, leb-true, ne_eqb}
+use Rattle.std.proofs.lemmas.Bool.{and_parts, cases_eq, leb-true, ne_eqb}
 use Rattle.mx_words.specs.declared.perm.Perm.{Perm}
 use Rattle.mx_words.specs.Announced.{is_announced, names_range}
 use Rattle.mx_words.specs.Bytes.{cleared_at}
 use Rattle.mx_words.specs.Caches.{Cache, without_range}
-use Rattle.mx_words.specs.FirstFit.{Area, AreApart, block_words, has_room, most_blocks, with_block, without_block}
+use Rattle.mx_words.specs.FirstFit.{Area, block_words, has_room, most_blocks, with_block, without_block}
 use Rattle.mx_words.specs.FirstRow.{Row, first_row}
 use Rattle.mx_words.specs.Ranges.{covers, overlaps, range_words}
-use Rattle.mx_words.proofs.AreaLaws.{apart_ordered}
 use Rattle.mx_words.proofs.OverlayLaws.{covers_from, covers_in}
 use Rattle.mx_model.specs.declared.values.Call.{Call}
 use Rattle.mx_model.specs.Checks.{arg, call_range, drops}

@@ -1,5 +1,5 @@
 -- Why coherence asks for a valid state: one in which a hart waits on a call in another's name, which no valid state has. Computed.
-use Rattle.std.proofs.Common.{◌≡◌, false, List, [], ◌∷◌, refl, None}
+use Rattle.std.proofs.Common.{◌≡◌, false, [], ◌∷◌, refl, None}
 use Rattle.mx_words.specs.declared.perm.Perm.TheVariants as P
 use Rattle.mx_words.specs.Bytes.{cleared_at, number_at, put_at}
 use Rattle.mx_words.specs.Hearing.{nobody}
