@@ -1,7 +1,6 @@
 -- Why each premise of a law is asked: for each a state, or two, that lack it alone, and what the law would say of them is false. Computed.
-use Rattle.std.proofs.Common.{◌≡◌, ℕ, ◌==◌, Bool, true, false, List, [], ◌∷◌, length, take, replicate, refl, if◌then◌else◌, None}
+use Rattle.std.proofs.Common.{◌≡◌, ℕ, ◌==◌, Bool, true, false, [], ◌∷◌, length, take, replicate, refl, if◌then◌else◌, None}
 use Rattle.std.proofs.Common.{map as list_map}
-use Rattle.mx_words.specs.declared.perm.Perm.{Perm}
 use Rattle.mx_words.specs.declared.perm.Perm.TheVariants as P
 use Rattle.mx_words.specs.Bytes.{cleared_at, number_at, put_at}
 use Rattle.mx_words.specs.Hearing.{nobody}
