@@ -1,5 +1,4 @@
 use Rattle.std.proofs.Common.{◌≡◌, ◌+◌, ◌-◌, drop, take, refl, sym, ap, ◌∙◌, arith, None, Some}
-use Rattle.std.specs.Option.{option_or}
 use Rattle.mx_words.specs.Caches.{found_kept}
 use Rattle.mx_lookaside.proofs.Entries.{found-append}
 use Rattle.mx_lookaside.proofs.Ring.{window_runs}
