@@ -1,11 +1,11 @@
-use Rattle.std.proofs.Common.{rules, ◌≡◌, ℕ, ◌*◌, false, length, List, ◌∷◌, Some, refl, sym, ap, subst, ◌∙◌}
+use Rattle.std.proofs.Common.{rules, ◌≡◌, ℕ, ◌*◌, false, length, List, Some, refl, sym, ap, subst, ◌∙◌}
 use Rattle.mx_words.specs.declared.perm.Access.TheVariants.{Execute}
 use Rattle.mx_words.specs.declared.perm.Perm.{Perm}
 use Rattle.mx_table.specs.Tables.{IsDomain}
 use Rattle.mx_check.specs.Conditions.{IsAtHand, MayLook}
 use Rattle.mx_check.specs.Harts.{kept_at}
 use Rattle.mx_core.specs.Bus.{Touch, denied, load_at}
-use Rattle.mx_core.specs.Exec.{fetched, fetch_touch, outcome_of, touches_of}
+use Rattle.mx_core.specs.Exec.{fetched, outcome_of, touches_of}
 use Rattle.mx_core.specs.Memo.{quick}
 use Rattle.mx_core.proofs.QuickLaws.{fetched-quick}
 use Rattle.mx_model.specs.Effect.{Effect, effect}
