@@ -1,11 +1,10 @@
 -- Modules that are added one after another.
-use Rattle.std.proofs.Common.{◌≡◌, ℕ, ◌+◌, ◌<◌, ◌≤◌, Bool, List, [], ◌∷◌, ◌++◌, length, set, refl, sym, ap, ◌∙◌, subst, arith, length-append}
+use Rattle.std.proofs.Common.{◌≡◌, ℕ, ◌+◌, ◌<◌, Bool, List, [], ◌∷◌, ◌++◌, length, set, sym, ap, ◌∙◌, arith}
 use Rattle.std.specs.Prelude.{map as list_map}
 use Rattle.std.proofs.lemmas.List.{map-append}
 use Rattle.mx_words.specs.declared.perm.Span.{Span}
 use Rattle.mx_heap.specs.HeapState.{HeapState}
 use Rattle.mx_supervisor.specs.Heaps.{told_heap}
-use Rattle.mx_machine.specs.declared.starts.StackArea.{StackArea}
 use Rattle.mx_snapshot.specs.Resuming.{dead_in, heap_in, spans_in, stack_in}
 use Rattle.mx_snapshot.specs.Stored.{StoredModule}
 use Rattle.mx_snapshot.proofs.ValidGoes.{dead-more}

@@ -1,6 +1,6 @@
 -- Readers one behind another: the refusal of the first is that of both.
-use Rattle.std.proofs.Common.{◌≡◌, ℕ, Bool, true, false, List, refl, sym, ap, ◌∙◌, subst, if◌then◌else◌}
-use Rattle.mx_snapshot.specs.Reader.{Taken, Took, Fails, Reader, goes_on, tested}
+use Rattle.std.proofs.Common.{◌≡◌, ℕ, List, sym, ap, subst}
+use Rattle.mx_snapshot.specs.Reader.{Taken, Reader, goes_on}
 use Rattle.mx_resume.specs.declared.refused.SnapshotRefused.{SnapshotRefused}
 use Rattle.mx_resume.specs.declared.refused.SnapshotRefused.TheVariants.{Fault, TablesFull, NoMemory}
 use Rattle.mx_resume.specs.Taking.{Misses}

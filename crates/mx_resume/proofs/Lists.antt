@@ -1,7 +1,7 @@
 -- Lists of items that are read one after another: what is left of one is read as the whole.
-use Rattle.std.proofs.Common.{◌≡◌, ℕ, zero, suc, ◌+◌, ◌-◌, ◌<◌, ◌≤◌, List, [], ◌∷◌, ◌++◌, length, take, set, refl, sym, ap, ◌∙◌, subst, arith}
+use Rattle.std.proofs.Common.{◌≡◌, ℕ, suc, ◌+◌, ◌-◌, ◌<◌, ◌≤◌, List, [], ◌∷◌, ◌++◌, length, take, set, sym, ap, ◌∙◌, subst, arith}
 use Rattle.std.proofs.lemmas.List.{take_more_set}
-use Rattle.mx_snapshot.specs.Reader.{Taken, Took, Fails, Reader, goes_on, list_of}
+use Rattle.mx_snapshot.specs.Reader.{Taken, Took, Reader, goes_on, list_of}
 use Rattle.mx_resume.specs.declared.refused.SnapshotRefused.{SnapshotRefused}
 use Rattle.mx_resume.specs.Taking.{Misses}
 use Rattle.mx_resume.proofs.Chains.{misses_first}

@@ -1,24 +1,21 @@
 -- What is known of the next item of a list by those before it: runs, blocks, gates and names.
-use Rattle.std.proofs.Common.{◌≡◌, ℕ, ◌+◌, ◌<◌, ◌≤◌, ◌==◌, Bool, true, false, not, cond, ◌&&◌, ◌||◌, nat_lt, nat_le, List, [], ◌∷◌, ◌++◌, length, Option, Some, None, refl, ap, ◌∙◌, subst, arith, if◌then◌else◌, length-append, lt-ltb, le-leb, leb-true, ltb-true, eqb-true, zero-add}
+use Rattle.std.proofs.Common.{◌≡◌, ℕ, ◌+◌, ◌<◌, ◌≤◌, ◌==◌, Bool, true, false, not, cond, ◌&&◌, ◌||◌, nat_lt, nat_le, List, [], ◌∷◌, ◌++◌, length, Option, Some, None, refl, ap, ◌∙◌, subst, arith, if◌then◌else◌, length-append, leb-true, ltb-true, eqb-true, zero-add}
 use Rattle.std.specs.Prelude.{option_map, find}
 use Rattle.std.specs.Prelude.{map as list_map}
 use Rattle.std.specs.List.{last_or, list_any}
 use Rattle.std.specs.Option.{is_some, option_map_or}
 use Rattle.std.specs.Str.{bytes_eq}
-use Rattle.std.proofs.lemmas.Bool.{and_from, and_parts}
+use Rattle.std.proofs.lemmas.Bool.{and_parts}
 use Rattle.std.proofs.lemmas.Bool.Decides.{nat_tests}
 use Rattle.std.proofs.lemmas.List.Sums.{sum_by-append}
 use Rattle.mx_words.specs.declared.perm.Perm.{Perm}
 use Rattle.mx_words.specs.declared.perm.Perm.TheVariants as P
-use Rattle.mx_words.specs.FirstFit.{Area, AreApart, most_blocks, with_block}
+use Rattle.mx_words.specs.FirstFit.{Area}
 use Rattle.mx_words.specs.Runs.{Run}
-use Rattle.mx_heap.specs.HeapState.{HeapState, IsHeap, may_live}
-use Rattle.mx_heap.proofs.BlockLaws.{with_block_between}
-use Rattle.mx_heap.proofs.RoomLaws.{met_below}
 use Rattle.mx_model.specs.declared.values.Gate.{Gate}
-use Rattle.mx_model.specs.Gates.{gate_target, has_gate, is_at, no_gate_fits, with_gate, without_gate}
+use Rattle.mx_model.specs.Gates.{gate_target, has_gate, is_at, no_gate_fits, without_gate}
 use Rattle.mx_snapshot.specs.Resuming.{spans_in}
-use Rattle.mx_snapshot.specs.Rules.{behind, is_new_name, is_next_block, run_words}
+use Rattle.mx_snapshot.specs.Rules.{behind, run_words}
 use Rattle.mx_snapshot.specs.Stored.{StoredModule}
 use Rattle.mx_resume.specs.Extents.{fills, last_value}
 

@@ -1,11 +1,11 @@
 -- Registers that are put into an array.
-use Rattle.std.proofs.Common.{◌≡◌, ◌≢◌, ℕ, ◌+◌, ◌<◌, ◌≤◌, ◌==◌, Bool, true, false, not, ◌||◌, List, length, get_or, set, take, refl, sym, ap, ◌∙◌, subst, arith, eqb-true}
+use Rattle.std.proofs.Common.{◌≡◌, ◌≢◌, ℕ, ◌+◌, ◌<◌, ◌≤◌, ◌==◌, Bool, true, false, List, length, get_or, set, take, refl, sym, ap, ◌∙◌, subst, arith, eqb-true}
 use Rattle.std.proofs.lemmas.Bool.Decides.{nat_tests}
 use Rattle.std.proofs.lemmas.List.{get_or-set_other, get_or-set_same, length-take-le}
 use Rattle.mx_words.specs.Announced.{is_announced}
 use Rattle.mx_machine.specs.declared.views.HartStatus.{HartStatus}
 use Rattle.mx_machine.specs.declared.views.HartStatus.TheVariants.{Waiting}
-use Rattle.mx_snapshot.specs.Reader.{Taken, Took, number, such}
+use Rattle.mx_snapshot.specs.Reader.{Took, number, such}
 use Rattle.mx_snapshot.specs.Rules.{is_register}
 use Rattle.mx_resume.specs.declared.refused.SnapshotRefused.{SnapshotRefused}
 use Rattle.mx_resume.specs.Taking.{Misses}

@@ -1,16 +1,16 @@
 -- The whole file, and the machine and the plan of what it stores.
-use Rattle.std.proofs.Common.{◌≡◌, ℕ, ◌-◌, ◌^◌, ◌<◌, ◌≤◌, Bool, true, false, nat_lt, List, [], ◌∷◌, suc, length, get_or, Result, Ok, Err, IfOk, IfErr, refl, sym, ap, ◌∙◌, subst, arith, if◌then◌else◌}
+use Rattle.std.proofs.Common.{◌≡◌, ℕ, ◌-◌, ◌^◌, ◌<◌, ◌≤◌, Bool, false, nat_lt, List, [], ◌∷◌, suc, length, get_or, Result, Ok, Err, IfOk, IfErr, refl, sym, ap, ◌∙◌, subst, arith, if◌then◌else◌}
 use Rattle.std.proofs.Common.{map as list_map}
 use Rattle.std.proofs.lemmas.Bool.Decides.{nat_tests}
 use Rattle.mx_words.specs.declared.tables.Kind.{Kind}
 use Rattle.mx_words.specs.declared.tables.Need.{Need}
-use Rattle.mx_model.specs.State.{Flat, flat}
+use Rattle.mx_model.specs.State.{Flat}
 use Rattle.mx_boot.specs.Machines.{meaning}
 use Rattle.mx_snapshot.specs.Fields.{ended, fields_in, most_bytes, stored_in}
 use Rattle.mx_snapshot.specs.Fits.{AreBytes, IsStored}
 use Rattle.mx_snapshot.specs.Kept.{IsKept, IsOfPlan, KeptPlan}
-use Rattle.mx_snapshot.specs.Reader.{Taken, Took, Fails}
-use Rattle.mx_snapshot.specs.Resumed.{plan_of, state_of}
+use Rattle.mx_snapshot.specs.Reader.{Took, Fails}
+use Rattle.mx_snapshot.specs.Resumed.{plan_of}
 use Rattle.mx_snapshot.specs.Stored.{Head, Stored, StoredModule}
 use Rattle.mx_snapshot.proofs.ValidKept.{stored-kept}
 use Rattle.mx_snapshot.proofs.ValidState.{plan-is}
@@ -21,7 +21,7 @@ use Rattle.mx_resume.specs.declared.refused.SnapshotRefused.TheVariants.{Fault, 
 use Rattle.mx_resume.specs.declared.resumed.Resumed.{Resumed}
 use Rattle.mx_resume.specs.Goes.{Resumes}
 use Rattle.mx_resume.specs.Parts.{AreFieldsOf, AreHeldOf}
-use Rattle.mx_resume.specs.Snapshot.{FaultAt, IsRefusedBy, IsResumed, fitting, of_taken, snapshot_of}
+use Rattle.mx_resume.specs.Snapshot.{IsRefusedBy, IsResumed, fitting, of_taken, snapshot_of}
 use Rattle.mx_resume.specs.Taking.{Misses}
 
 -- a file that is not too long, with nothing behind the last field
