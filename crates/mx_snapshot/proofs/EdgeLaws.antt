@@ -5,7 +5,7 @@ use Rattle.mx_words.specs.declared.perm.Perm.{Perm}
 use Rattle.mx_words.specs.Rights.{same, perm_at}
 use Rattle.mx_words.specs.Runs.{Run, runs_of}
 use Rattle.mx_report.specs.Runs.{run_texts}
-use Rattle.mx_report.proofs.RunTexts.{map_from, map_behind, owners_from, owners_behind}
+use Rattle.mx_report.proofs.RunTexts.{map_from, owners_from}
 use Rattle.mx_snapshot.specs.Stored.{run_with}
 
 -- what is put of a run by its first word and the word behind it

@@ -9,7 +9,6 @@ use Rattle.mx_words.specs.FirstFit.{Area}
 use Rattle.mx_words.specs.Runs.{Run}
 use Rattle.mx_model.specs.declared.values.Frame.{Frame}
 use Rattle.mx_model.specs.declared.values.Gate.{Gate}
-use Rattle.mx_machine.specs.declared.views.HartStatus.{HartStatus}
 use Rattle.mx_machine.specs.declared.views.HartStatus.TheVariants as V
 use Rattle.mx_snapshot.specs.Stored.{Head, StoredHart, StoredModule, bits_of}
 use Rattle.mx_snapshot.specs.Spelling.{numbers, sign}

@@ -1,26 +1,21 @@
 -- Worked examples of what a snapshot stores, of its bytes and of reading it, computed. The bytes are those that a writer in another
 -- language makes from the rule.
-use Rattle.std.proofs.Common.{◌≡◌, ℕ, ◌+◌, ◌*◌, ◌^◌, true, false, List, [], ◌∷◌, ◌++◌, length, take, replicate, refl, ap, Some, None}
+use Rattle.std.proofs.Common.{◌≡◌, [], ◌∷◌, ◌++◌, length, take, replicate, refl, None}
 use Rattle.std.specs.Prelude.{slice_set}
 use Rattle.mx_words.specs.declared.perm.Perm.TheVariants as P
 use Rattle.mx_words.specs.declared.tables.Kind.TheVariants as K
 use Rattle.mx_words.specs.Bytes.{number_at, put_at, cleared_at}
-use Rattle.mx_words.specs.FirstFit.{Area}
-use Rattle.mx_words.specs.Runs.{Run}
 use Rattle.mx_isa.specs.Fields.{imm_i, imm_s, imm_b, imm_u, imm_j, extended}
 use Rattle.mx_isa.specs.Table.{decoded}
-use Rattle.mx_image.specs.Image.{little_endian}
-use Rattle.mx_model.specs.declared.values.Frame.{Frame}
 use Rattle.mx_model.specs.Effect.{holds, imm_result, reg_result, loaded, effect}
 use Rattle.mx_model.specs.Run.{ByQuantum, run}
 use Rattle.mx_model.specs.State.{State, flat, no_module}
 use Rattle.mx_model.proofs.Boots.{one_module}
-use Rattle.mx_machine.specs.declared.views.HartStatus.{HartStatus}
 use Rattle.mx_machine.specs.declared.views.HartStatus.TheVariants as V
 use Rattle.mx_snapshot.specs.Kept.{KeptPlan}
-use Rattle.mx_snapshot.specs.Stored.{Head, Stored, StoredHart, StoredModule, bits_of, stored_of}
-use Rattle.mx_snapshot.specs.Spelling.{area_bytes, block_bytes, counted, flag_bytes, name_bytes, state_bytes, frame_bytes, gate_bytes, hart_bytes, head_bytes, map_run_bytes, module_bytes, numbers, owner_run_bytes, front_bytes, spelling}
-use Rattle.mx_snapshot.specs.Reader.{Taken, Took, Fails}
+use Rattle.mx_snapshot.specs.Stored.{Stored, stored_of}
+use Rattle.mx_snapshot.specs.Spelling.{area_bytes, block_bytes, counted, flag_bytes, name_bytes, state_bytes, frame_bytes, gate_bytes, hart_bytes, head_bytes, map_run_bytes, module_bytes, owner_run_bytes, front_bytes, spelling}
+use Rattle.mx_snapshot.specs.Reader.{Took, Fails}
 use Rattle.mx_snapshot.specs.Fields.{block_in, fields_in, frame_in, gate_in, hart_in, head_in, map_run_in, module_in, owner_run_in, stored_in}
 
 -- three words, of which one was carried out: a7 = 1, a0 = 5, exit

@@ -1,6 +1,6 @@
 use Rattle.std.proofs.lemmas.Result.{err_from_is_err_and}
 use Rattle.mx_snapshot.specs.Spelling.{frame_bytes}
-use Rattle.mx_tail.proofs.PassLaws.{passes_next, passes_stop, passes_last, passes_same}
+use Rattle.mx_tail.proofs.PassLaws.{passes_next, passes_stop, passes_last}
 use Rattle.mx_snapshot.proofs.harts.put_frame.Goals as goal
 
 pub returns-in_err-put_numbers : goal.returns-in_err-put_numbers

@@ -1,4 +1,4 @@
-use Rattle.std.proofs.Common.{◌<◌, ◌≤◌, arith, length, sym, ◌∙◌}
+use Rattle.std.proofs.Common.{◌≤◌, arith, length, sym, ◌∙◌}
 use Rattle.mx_boot.specs.Machines.{meaning}
 use Rattle.mx_heap.specs.HeapState.{area_of}
 use Rattle.mx_model.specs.State.{module_at}

@@ -4,7 +4,6 @@ use Rattle.std.proofs.lemmas.Result.{err_from_is_err_and}
 use Rattle.mx_boot.specs.Machines.{meaning}
 use Rattle.mx_model.specs.State.{module_at}
 use Rattle.mx_model.proofs.ValidParts.{home-at}
-use Rattle.mx_words.specs.FirstFit.{Area}
 use Rattle.mx_tail.proofs.PassLaws.{passes_same, coming_all, coming_item, coming_item_stop, coming_items}
 use Rattle.mx_snapshot.specs.Spelling.{block_bytes}
 use Rattle.mx_snapshot.proofs.PlaceLaws.{none_at}

@@ -2,7 +2,7 @@ use Rattle.std.proofs.Common.{ℕ, List, ◌+◌, ◌-◌, length, ap, arith}
 use Rattle.std.proofs.lemmas.Result.{err_from_is_err_and}
 use Rattle.mx_boot.specs.Machines.{meaning}
 use Rattle.mx_snapshot.specs.Spelling.{module_bytes}
-use Rattle.mx_snapshot.specs.Stored.{named_module, stored_module}
+use Rattle.mx_snapshot.specs.Stored.{stored_module}
 use Rattle.mx_snapshot.proofs.PlaceLaws.{named_at}
 use Rattle.mx_tail.proofs.PassLaws.{passes_same, coming_range, coming_number, coming_number_stop, coming_numbers}
 use Rattle.mx_snapshot.proofs.modules.put_modules.Goals as goal
