@@ -1,5 +1,5 @@
 -- What is left of a turn when its caches are forgotten: the parts of a turn, one by one.
-use Rattle.std.proofs.Common.{◌≡◌, ℕ, true, false, not, ◌==◌, ◌&&◌, ◌++◌, List, [], ◌∷◌, refl, ◌∙◌, ap, if◌then◌else◌, Option, Some, None}
+use Rattle.std.proofs.Common.{◌≡◌, ℕ, true, false, not, ◌==◌, ◌&&◌, ◌++◌, List, [], refl, ◌∙◌, ap, if◌then◌else◌, Option, Some, None}
 use Rattle.std.specs.Prelude.{slice_set}
 use Rattle.std.specs.Option.{option_map_or}
 use Rattle.std.proofs.lemmas.List.{append-nil}
@@ -10,7 +10,6 @@ use Rattle.mx_model.specs.declared.values.Note.TheVariants as N
 use Rattle.mx_model.specs.declared.values.TurnKind.{TurnKind}
 use Rattle.mx_model.specs.declared.values.TurnKind.TheVariants as T
 use Rattle.mx_model.specs.Gates.{top}
-use Rattle.mx_model.specs.Reads.{Reads}
 use Rattle.mx_model.specs.Run.{after}
 use Rattle.mx_model.specs.State.{Core, State, hart_at, module_at}
 use Rattle.mx_model.specs.State.{with_module as with_module_of}
