@@ -1,25 +1,19 @@
 -- Loading segments one by one.
-use Rattle.std.proofs.Common.{◌≡◌, ℕ, ◌+◌, ◌-◌, ◌*◌, ◌<◌, ◌≤◌, true, false, List, [], ◌∷◌, ◌++◌, length, refl, sym, ap, ◌∙◌, append_assoc}
+use Rattle.std.proofs.Common.{◌≡◌, ℕ, ◌+◌, ◌-◌, ◌*◌, ◌<◌, true, false, List, [], ◌∷◌, ◌++◌, length, refl, sym, ap, ◌∙◌, append_assoc}
 use Rattle.std.specs.Prelude.{Some, None}
 use Rattle.std.specs.Option.{option_or}
-use Rattle.std.proofs.lemmas.List.{append-nil, length-append}
+use Rattle.std.proofs.lemmas.List.{length-append}
 use Rattle.mx_elf.specs.declared.segment.Seg.{Seg}
 use Rattle.mx_elf.specs.Field.{places}
 use Rattle.mx_elf.specs.Image.{first_fault, segment_rows, is_loaded, segment_at, segments_at, rows_from}
 use Rattle.mx_words.proofs.FirstRowLaws.{first_row-append}
-use Rattle.mx_elf.proofs.Places.{places-first, places-next, places-last}
+use Rattle.mx_elf.proofs.Places.{places-next}
 
 -- what is loaded before the k-th header, and what its faults have to do with those of all
 pub record IsSoFar (bytes : List ℕ) (first count k : ℕ) (items : List Seg) : Type 0 where
   pub segments : items ++ segments_at bytes (places (first + 32 * k) 32 (count - k)) ≡ segments_at bytes (places first 32 count)
   pub faults : first_fault (rows_from (length bytes) (length items) (segments_at bytes (places (first + 32 * k) 32 (count - k))))
       ≡ first_fault (rows_from (length bytes) 0 (segments_at bytes (places first 32 count)))
-
-pub begins : (bytes : List ℕ) (first count : ℕ) (items : List Seg) → items ≡ [] → IsSoFar bytes first count 0 items
-begins bytes first count items none = record {
-  segments = rw (none, places-first first 32 count) refl;
-  faults = rw (none, places-first first 32 count) refl;
-}
 
 pub passes : (bytes : List ℕ) (first count k : ℕ) (items : List Seg) → k < count → is_loaded bytes (first + 32 * k) ≡ false
     → IsSoFar bytes first count k items → IsSoFar bytes first count (k + 1) items
@@ -61,11 +55,3 @@ stops bytes first count k items number lt holds some h =
     let rest = segments_at bytes (places (first + 32 * (k + 1)) 32 (count - (k + 1))) in
     sym h.faults ∙ ap (λ xs. first_fault (rows_from (length bytes) (length items) xs)) (here bytes first count k lt holds)
     ∙ faults-here (length bytes) (length items) s rest ∙ ap (λ o. option_or o (first_fault (rows_from (length bytes) (length items + 1) rest))) some
-
-pub ends : (bytes : List ℕ) (first count k : ℕ) (items : List Seg) → count ≤ k → IsSoFar bytes first count k items
-    → (items ≡ segments_at bytes (places first 32 count)) × (first_fault (rows_from (length bytes) 0 (segments_at bytes (places first 32 count))) ≡ None)
-ends bytes first count k items le h =
-    let e : segments_at bytes (places (first + 32 * k) 32 (count - k)) ≡ [] = rw (places-last first 32 count k le) refl in (
-      sym (append-nil items) ∙ ap (λ xs. items ++ xs) (sym e) ∙ h.segments,
-      sym h.faults ∙ ap (λ xs. first_fault (rows_from (length bytes) (length items) xs)) e,
-    )

@@ -1,5 +1,5 @@
 -- Going over records one by one.
-use Rattle.std.proofs.Common.{◌≡◌, ℕ, suc, ◌+◌, ◌-◌, ◌*◌, ◌<◌, ◌≤◌, Bool, false, [], ◌∷◌, refl, ap, arith}
+use Rattle.std.proofs.Common.{◌≡◌, ℕ, suc, ◌+◌, ◌-◌, ◌*◌, ◌<◌, Bool, false, ◌∷◌, refl, ap, arith}
 use Rattle.std.specs.Prelude.{find}
 use Rattle.mx_elf.specs.Field.{places}
 
@@ -17,12 +17,6 @@ places-next start size count k lt =
     let a : count - k ≡ suc (count - (k + 1)) = omega arith in
     let b : start + size * k + size ≡ start + size * (k + 1) = grind arith in
     rw (a) (ap (λ (at : ℕ). (start + size * k) ∷ places at size (count - (k + 1))) b)
-
--- after the last one there is none
-pub places-last : (start size count k : ℕ) → count ≤ k → places (start + size * k) size (count - k) ≡ []
-places-last start size count k le =
-    let a : count - k ≡ 0 = omega arith in
-    rw a refl
 
 pub find-later : (p : ℕ → Bool) (start size count k : ℕ) → k < count → p (start + size * k) ≡ false
     → find p (places (start + size * k) size (count - k)) ≡ find p (places (start + size * (k + 1)) size (count - (k + 1)))
