@@ -19,10 +19,6 @@ prefix-whole p (x ∷ xs) y ys h f =
     rw q.0 (omega (arith, prefix-whole p xs y ys q.1 f))
 
 module _ (name : List ℕ) (k : Keyword) (os : List (List ℕ)) (mnemonic : is_mnemonic name ≡ true) (keyword : keyword_of name ≡ Some k) (are : AreParts os) (more : 0 < length os) (operands : list_all is_operand os ≡ true) where
-  -- the word and its operands
-  whole : List ℕ
-  whole = name ++ 32 ∷ joined os
-
   word : is_word name ≡ true
   word = (and_parts (nat_lt 0 (length name) && list_all is_solid name && list_all is_in_name name && list_all is_in_word name) (is_word name) mnemonic).1
 
