@@ -217,9 +217,6 @@ module _ (maps : List (List Perm)) (harts : List Kept) (h : ℕ) (keeps : Keeps 
   heard_first zero i most lt ne = absurd (omega arith)
   heard_first (suc n) i most lt ne = by (heard_first n i (omega arith)) (cases_eq i n)
     where
-      before : List Kept
-      before = hears_first h n harts
-
       long : length (hears_first h n harts) ≡ length harts
       long = length-hears_first h n harts
 

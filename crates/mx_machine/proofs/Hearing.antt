@@ -79,9 +79,6 @@ heard-first : (harts : List Kept) (h n i : ℕ) → n ≤ length harts → i < n
 heard-first harts h zero i most lt apart = absurd (omega (arith, lt))
 heard-first harts h (suc n) i most lt apart = by (heard-first harts h n i (omega (arith, most))) (cases_eq i n)
   where
-    before : List Kept
-    before = hears_first h n harts
-
     long : length (hears_first h n harts) ≡ length harts
     long = length-hears_first h n harts
 

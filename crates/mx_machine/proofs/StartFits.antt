@@ -118,9 +118,6 @@ module _ (xs : List Hart) (kept : List Kept) where
   halted-below zero h most lt = absurd (omega (arith, lt))
   halted-below (suc n) h most lt = by (halted-below n h (omega (arith, most))) (cases_eq h n)
     where
-      before : List Kept
-      before = halted_first n xs kept
-
       by : (h < n → kept_at (halted_first n xs kept) h ≡ cond (is_halted (hart_among xs h).progress) (counts_as_halted (kept_at kept h)) (kept_at kept h)) →
           (h ≡ n) ⊎ (h ≢ n) →
           kept_at (halted_first (suc n) xs kept) h ≡ cond (is_halted (hart_among xs h).progress) (counts_as_halted (kept_at kept h)) (kept_at kept h)
