@@ -4,3 +4,4 @@ pub mod Looks
 pub mod Calls
 pub mod Coherence
 pub mod Conditions
+pub mod Lends

@@ -13,7 +13,8 @@ ghost use Rattle.mx_check.specs.Looks.{hits_all, lookups_after, looked_at_addres
 ghost use Rattle.mx_check.specs.Calls.{hears, is_ready, new_harts, waiting_harts};
 ghost use Rattle.mx_check.specs.Conditions.{IsAtHand, MayLook, HasHeardAll, SameButCaches, MayAnnounce, IsWithin, MayChange, IsResumable};
 
-use crate::cached_tables::CachedTables;
+use crate::harts::KeptHarts;
+use crate::look::may;
 use crate::{Counts, Flights, TablesFull};
 use mx_table::{Change, PermTables};
 use mx_words::{Access, Perm, Span};
@@ -28,7 +29,8 @@ use std::marker::Model;
 /// Hart numbers are below the number of harts, domains are those of the tables, from 1 on, and words are below those of RAM.
 #[derive(Drop)]
 pub struct Checker<T: PermTables, const N: usize> {
-    cached: CachedTables<T, N>,
+    tables: T,
+    harts: KeptHarts<N>,
 }
 
 impl<T: PermTables, const N: usize> Model for Checker<T, N> {
@@ -37,9 +39,9 @@ impl<T: PermTables, const N: usize> Model for Checker<T, N> {
 
     ghost Value = { Checks T };
 
-    ghost view = { λ c. c.cached };
+    ghost view = { λ c. record { tables = c.tables; harts = c.harts } };
 
-    ghost invariant = { λ c. Keeps (T.maps c.cached.tables) c.cached.harts };
+    ghost invariant = { λ c. Keeps (T.maps c.tables) c.harts };
 }
 
 impl<T: PermTables, const N: usize> Checker<T, N> {
@@ -50,7 +52,8 @@ impl<T: PermTables, const N: usize> Checker<T, N> {
         ensures { result ≡ record { tables = tables; harts = new_harts harts } }
     {
         Checker {
-            cached: CachedTables::new(tables, harts),
+            tables,
+            harts: KeptHarts::new(harts),
         }
     }
 
@@ -63,7 +66,8 @@ impl<T: PermTables, const N: usize> Checker<T, N> {
         ensures { result ≡ record { tables = tables; harts = waiting_harts flights.now harts } }
     {
         Checker {
-            cached: CachedTables::resume(tables, harts, flights),
+            tables,
+            harts: KeptHarts::waiting(flights, harts),
         }
     }
 
@@ -89,7 +93,15 @@ impl<T: PermTables, const N: usize> Checker<T, N> {
         ensures same_size { T.size self.new.tables ≡ T.size self.old.tables }
         ensures same_limit { T.limits self.new.tables ≡ T.limits self.old.tables }
     {
-        self.cached.may(hart, place, domain, addr, access)
+        may(
+            &mut self.tables,
+            &mut self.harts,
+            hart,
+            place,
+            domain,
+            addr,
+            access,
+        )
     }
 
     /// A law: a fetch at hand is allowed. The hart and the domain are as for `may`. Nothing is counted.
@@ -102,7 +114,7 @@ impl<T: PermTables, const N: usize> Checker<T, N> {
         ensures { denies (perm (map_of (T.maps self.now.tables) domain)) addr Execute ≡ false }
     {
         let _ = (hart, domain, addr);
-        let _ = &self.cached;
+        let _ = &self.harts;
     }
 
     /// Counts so many fetches at hand of the hart in a domain, each as `may` counts it at place 0. No other domain is kept for the hart.
@@ -114,7 +126,7 @@ impl<T: PermTables, const N: usize> Checker<T, N> {
               (hits_all fetches domain) self.old.harts;
         } }
     {
-        self.cached.hit_all(hart, domain, fetches);
+        self.harts.hart_mut(hart).hit_all(domain, fetches);
     }
 
     /// The span in the hart's place 0 where it covers a word. It is what `may` would answer by first, and isn't counted.
@@ -122,7 +134,7 @@ impl<T: PermTables, const N: usize> Checker<T, N> {
         requires { hart < length self.now.harts }
         ensures { result ≡ found_in_place (kept_at self.now.harts hart).cache.places 0 word }
     {
-        self.cached.at_hand(hart, word)
+        self.harts.hart(hart).at_hand(word)
     }
 
     /// Announces a call of the hart that changes rights on at most `count` words from `first` on. The hart isn't halted and has no
@@ -135,7 +147,7 @@ impl<T: PermTables, const N: usize> Checker<T, N> {
               (announced hart first count) self.old.harts;
         } }
     {
-        self.cached.announce(hart, first, count);
+        self.harts.hart_mut(hart).announce(hart, first, count);
     }
 
     /// Lets the hart hear every call in flight of another hart. For each that it hears for the first time, it drops its spans that
@@ -150,7 +162,7 @@ impl<T: PermTables, const N: usize> Checker<T, N> {
         ensures same_length { length self.new.harts ≡ length self.old.harts }
         ensures few { length self.new.harts ≤ most_harts }
     {
-        self.cached.hear(hart);
+        self.harts.hear(hart);
     }
 
     /// Counts the hart as halted from here on. It has no call in flight.
@@ -159,7 +171,7 @@ impl<T: PermTables, const N: usize> Checker<T, N> {
         requires free { (kept_at self.old.harts hart).flight ≡ None }
         ensures { self.new ≡ record self.old { harts = at_hart hart halts self.old.harts } }
     {
-        self.cached.halt(hart);
+        self.harts.hart_mut(hart).halt();
     }
 
     /// Whether the hart has a call in flight that may take effect: each other hart that isn't halted has heard it.
@@ -168,7 +180,7 @@ impl<T: PermTables, const N: usize> Checker<T, N> {
         ensures ready { result ≡ is_ready hart self.now.harts }
         ensures few { length self.now.harts ≤ most_harts }
     {
-        self.cached.ready(hart)
+        self.harts.is_ready(hart)
     }
 
     /// Makes a change of the hart's ready call, inside the range that it announced. `TablesFull` exactly where the maps would then
@@ -188,7 +200,12 @@ impl<T: PermTables, const N: usize> Checker<T, N> {
         ensures same_size { T.size self.new.tables ≡ T.size self.old.tables }
         ensures same_limit { T.limits self.new.tables ≡ T.limits self.old.tables }
     {
-        self.cached.change(change)
+        if self.tables.fits(change) {
+            self.tables.apply(change);
+            Ok(())
+        } else {
+            Err(TablesFull)
+        }
     }
 
     /// Ends the hart's ready call, and drops the hart's own spans that meet its range.
@@ -197,7 +214,7 @@ impl<T: PermTables, const N: usize> Checker<T, N> {
         requires ready { is_ready hart self.old.harts ≡ true }
         ensures { self.new ≡ record self.old { harts = at_hart hart finished self.old.harts } }
     {
-        self.cached.finish(hart);
+        self.harts.hart_mut(hart).finish();
     }
 
     /// Empties all places of the hart, at a crossing, a return and a fault that gives up a frame. No domain is kept for it then; its
@@ -206,7 +223,7 @@ impl<T: PermTables, const N: usize> Checker<T, N> {
         requires { hart < length self.old.harts }
         ensures { self.new ≡ record self.old { harts = at_hart hart leaves_domain self.old.harts } }
     {
-        self.cached.leave_domain(hart);
+        self.harts.hart_mut(hart).leave();
     }
 
     /// How many checks of the hart its places answered, how many its buffer, and how many a walk.
@@ -216,7 +233,7 @@ impl<T: PermTables, const N: usize> Checker<T, N> {
         ensures lookaside { result.lookaside ≡ (kept_at self.now.harts hart).cache.lookaside }
         ensures walks { result.walks ≡ (kept_at self.now.harts hart).cache.walks }
     {
-        self.cached.counts(hart)
+        self.harts.hart(hart).counts()
     }
 
     /// The permission of a RAM word in a domain's map. It counts nothing.
@@ -225,14 +242,14 @@ impl<T: PermTables, const N: usize> Checker<T, N> {
         requires word { word < T.size self.now.tables }
         ensures { result ≡ perm_at (map_of (T.maps self.now.tables) domain) word }
     {
-        self.cached.perm(domain, word)
+        self.tables.perm(domain, word)
     }
 
     /// The tables.
     pub fn tables(&self) -> &T
         ensures { result.now ≡ self.now.tables }
     {
-        self.cached.tables()
+        &self.tables
     }
 
     /// Whether a call of `hart` is in flight and the hart `by` has heard it.
@@ -241,7 +258,7 @@ impl<T: PermTables, const N: usize> Checker<T, N> {
         requires by { by < length self.now.harts }
         ensures { result ≡ has_heard (kept_at self.now.harts hart).flight by }
     {
-        self.cached.heard(hart, by)
+        self.harts.hart(hart).heard(by)
     }
 }
 
@@ -252,5 +269,5 @@ pub fn flights_of<T: PermTables, const N: usize>(checker: &Checker<T, N>)
     ensures hearers { (h : ℕ) → IfSome (kept_at checker.now.harts h).flight
         (AreHearers (length checker.now.harts) h) }
 {
-    let _ = &checker.cached;
+    let _ = &checker.harts;
 }

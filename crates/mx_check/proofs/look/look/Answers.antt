@@ -1,0 +1,14 @@
+use Rattle.std.proofs.Common.{List, ap, set, ◌∙◌}
+use Rattle.mx_words.specs.Reach.{span}
+use Rattle.mx_table.specs.Tables.{map_of}
+use Rattle.mx_check.specs.Harts.{Kept, at_hart}
+use Rattle.mx_check.specs.Looks.{after_walk, is_forbidden}
+use Rattle.mx_check.proofs.LookLaws.{walk_is_look}
+use Rattle.mx_check.proofs.look.look.Goals as goal
+
+pub returns-in-None-clause-harts : goal.returns-in-None-clause-harts
+returns-in-None-clause-harts g c =
+    let s = span g.T.PermTables.kind (map_of (g.T.PermTables.maps c.args.tables.now) c.args.domain) c.args.word in
+    let step : List Kept → List Kept = λ hs. at_hart c.args.hart (after_walk g.row.N c.args.place c.args.domain s (is_forbidden c.args.hart s hs)) hs in
+    rw c.hart_mut.ensures.value at (c.walk.ensures.harts ∙ ap (λ k. step (set c.args.harts.now c.args.hart k)) c.answer.ensures.after)
+    ∙ walk_is_look g.row.N c.args.hart c.args.place c.args.domain c.args.word s c.args.harts.now c.requires.hart (rw c.hart_mut.ensures.value at c.in-None.ensures.answer)
