@@ -1,5 +1,5 @@
 -- Whether blocks have one permission, from tests of the words one by one.
-use Rattle.std.proofs.Common.{◌≡◌, ℕ, suc, ◌+◌, ◌-◌, ◌*◌, ◌/◌, ◌%◌, ◌<◌, ◌≤◌, ◌⊎◌, inl, inr, ◌↔◌, IsTrue, Bool, true, false, List, length, take, drop, replicate, refl, sym, ◌∙◌, ap, arith, length-take, length-append, get_or-take, get_or-drop}
+use Rattle.std.proofs.Common.{◌≡◌, ◌≢◌, ℕ, suc, ◌+◌, ◌-◌, ◌*◌, ◌/◌, ◌%◌, ◌<◌, ◌≤◌, ◌⊎◌, inl, inr, ◌↔◌, IsTrue, Bool, true, false, List, length, take, drop, replicate, refl, sym, ◌∙◌, ap, arith, length-take, length-append, get_or-take, get_or-drop}
 use Rattle.std.proofs.lemmas.Bool.{cases_lt}
 use Rattle.std.proofs.lemmas.List.{get_or_past, ext_get_or, get_or_append_left, get_or-append_right, length-replicate, get_or-replicate}
 use Rattle.std.proofs.Math.Nat.{div-mul-le_self, lt-div-mul-add, suc-mul}
@@ -12,19 +12,14 @@ use Rattle.mx_words.specs.Runs.{is_eighth_uniform, is_crowded, line_words, whole
 use Rattle.mx_words.proofs.RunLaws.{same_from, same_eq}
 use Rattle.mx_words.proofs.BlockLaws.{even_from, even_is}
 
--- a test that fails of two words
-pub other_at : (m : List Perm) (i j : ℕ) (p q : Perm) (b : Bool) → p ≡ perm_at m i → q ≡ perm_at m j → b ≡ same p q → b ≡ false → same (perm_at m i) (perm_at m j) ≡ false
-other_at m i j p q b e f test fails = ap (same (perm_at m i)) (sym f) ∙ ap (λ r. same r q) (sym e) ∙ sym test ∙ fails
-
 -- a word of another permission than the first one's
-pub uniform_no : (m : List Perm) (first count word : ℕ) → first ≤ word → word < first + count → same (perm_at m word) (perm_at m first) ≡ false →
+pub uniform_no : (m : List Perm) (first count word : ℕ) → first ≤ word → word < first + count → perm_at m word ≢ perm_at m first →
     IsTrue false ↔ IsUniform m first count
 uniform_no m first count word from below differs = (
   λ e. cc,
   λ u.
       let at : first + (word - first) ≡ word = omega arith in
-      let alike : perm_at m word ≡ perm_at m first = ap (perm_at m) (sym at) ∙ u.alike (word - first) (omega arith) in
-      sym differs ∙ same_from (perm_at m word) (perm_at m first) alike,
+      absurd (differs (ap (perm_at m) (sym at) ∙ u.alike (word - first) (omega arith))),
 )
 
 -- all words have the first one's permission

@@ -1,12 +1,18 @@
 -- Lengths of runs from tests of the words, one by one.
 use Rattle.std.proofs.Common.{◌≡◌, ℕ, ◌+◌, ◌-◌, ◌<◌, ◌≤◌, ◌⊎◌, inl, inr, true, false, min, List, length, get_or, drop, slice_range, sym, ◌∙◌, ap, arith, length-take, length-drop}
+use denote.Enum.Bare.{sameb}
 use Rattle.std.proofs.lemmas.Bool.{cases_lt}
 use Rattle.std.specs.List.{prefix_len, suffix_len}
 use Rattle.std.proofs.lemmas.List.Sums.{prefix_len_is, suffix_len_is}
 use Rattle.mx_words.specs.declared.perm.Perm.{Perm}
 use Rattle.mx_words.specs.declared.perm.Perm.TheVariants as P
 use Rattle.mx_words.specs.Rights.{same, perm_at}
+use Rattle.mx_words.specs.contracts.perm.Perm.{the_type}
 use Rattle.mx_words.proofs.RunLaws.{slice-at, length-slice}
+
+-- whether permissions are the same, told by a test of the two
+pub same_is : (p q : Perm) → sameb the_type p q ≡ same p q
+same_is p q = grind arith
 
 -- the last `count` words before `end` have a permission, and the one before them, where it isn't before `low`, has another one
 pub alike_before_is : (m : List Perm) (p : Perm) (low end count : ℕ) → end ≤ length m → low + count ≤ end →

@@ -4,7 +4,7 @@ ghost use Rattle.mx_words.specs.Blocks.{block_of, IsUniform, IsEven};
 ghost use Rattle.mx_words.specs.Runs.{is_eighth_uniform, is_crowded, broken_blocks, crowded_lines, line_words, region_words, whole_line};
 ghost use Rattle.mx_table.specs.Tables.{most_words};
 
-use crate::maps::{WordMap, same};
+use crate::maps::WordMap;
 use crate::runs::runs;
 use mx_words::Perm;
 
@@ -39,14 +39,14 @@ fn is_uniform<M: WordMap>(map: &M, first: u32, count: u32) -> bool
     let perm = map.at(first);
     let end = map.words().min(first + count);
     for word in first..end {
-        if !same(map.at(word), perm) {
+        if map.at(word) != perm {
             return false;
         }
     }
     if end == first + count {
         return true;
     }
-    same(perm, Perm::None)
+    perm == Perm::None
 }
 
 /// Whether each of the eight parts of `part` words, from word `first` on, has one permission.

@@ -1,7 +1,7 @@
 //! Maps that are read word by word: a plain list, a list after a change, and a row of spans.
 ghost use Rattle.std.specs.Prelude.{◌≡◌, ◌+◌, ◌≤◌, ◌++◌, List, length, take, drop, replicate, IfOk};
 ghost use Rattle.mx_words.specs.declared.perm.Perm.{Perm};
-ghost use Rattle.mx_words.specs.Rights.{perm_at, same};
+ghost use Rattle.mx_words.specs.Rights.{perm_at};
 ghost use Rattle.mx_words.specs.Newest.{laid, laid_at};
 ghost use Rattle.mx_words.specs.Changes.{grant_of, changed_map};
 ghost use Rattle.mx_table.specs.Tables.{most_words, granted, row_map};
@@ -22,13 +22,6 @@ pub(crate) trait WordMap {
     /// The permission of a word, none outside RAM.
     fn at(&self, word: u32) -> Perm
         ensures { result ≡ perm_at (list self.now) word };
-}
-
-/// Whether two permissions are the same.
-pub(crate) fn same(p: Perm, q: Perm) -> bool
-    ensures { result ≡ same p q }
-{
-    p.number() == q.number()
 }
 
 /// A domain's permissions, a word each.

@@ -5,7 +5,7 @@ ghost use Rattle.mx_words.specs.Rights.{same};
 ghost use Rattle.mx_words.specs.Runs.{runs};
 ghost use Rattle.mx_words.specs.Starts.{is_start};
 
-use crate::maps::{PlainMap, WordMap, same};
+use crate::maps::{PlainMap, WordMap};
 use mx_words::Perm;
 
 /// Whether a run begins at a word.
@@ -15,7 +15,7 @@ fn begins<M: WordMap>(map: &M, word: u32) -> bool
     if word == 0 {
         return true;
     }
-    !same(map.at(word - 1), map.at(word))
+    map.at(word - 1) != map.at(word)
 }
 
 /// The number of runs.
@@ -40,7 +40,7 @@ pub(crate) fn alike_before(map: &PlainMap, perm: Perm, low: u32, end: u32) -> u3
     ensures most { low + result ≤ end }
 {
     let mut count = 0;
-    while low + count < end && same(perm, map.at(end - count - 1)) {
+    while low + count < end && perm == map.at(end - count - 1) {
         count += 1;
     }
     count
@@ -53,7 +53,7 @@ pub(crate) fn alike_from(map: &PlainMap, perm: Perm, first: u32, high: u32) -> u
 {
     let end = high.min(map.words());
     let mut word = first;
-    while word < end && same(perm, map.at(word)) {
+    while word < end && perm == map.at(word) {
         word += 1;
     }
     word - first

@@ -8,7 +8,7 @@ ghost use Rattle.mx_table.specs.Tables.{most_words};
 ghost use Rattle.mx_plain.specs.LineRuns.{runs_in, run_number, count_at, IsInLine};
 
 use crate::blocks::{LINE, PAGE, REGION, line_from};
-use crate::maps::{PlainMap, WordMap, same};
+use crate::maps::{PlainMap, WordMap};
 use crate::spans::{block_round, left_reach, level_of, right_reach, span_within};
 use mx_words::{Kind, Level, Perm, RAM_BASE, Shown, Span};
 
@@ -73,7 +73,7 @@ fn with_word(perm: Perm, runs: LineRuns) -> LineRuns
 {
     let mut places = runs.places;
     let from = runs.from as usize;
-    if from < 16 && same(perm, places[from].perm) {
+    if from < 16 && perm == places[from].perm {
         places[from].count += 1;
         return LineRuns {
             from: runs.from,
