@@ -1,127 +1,53 @@
 -- From the cause of a status to it, and what a status shows of a store.
-use Rattle.std.proofs.Common.{◌≡◌, ◌≢◌, ℕ, ◌+◌, ◌⊎◌, Bool, List, [], ◌∷◌, ◌++◌, Option, Some, None, IfSome, Result, Ok, Err, refl, sym, ap, subst, ◌∙◌, inl, inr, append_assoc}
+use Rattle.std.proofs.Common.{◌≡◌, ◌≢◌, ℕ, ◌+◌, ◌⊎◌, Bool, List, [], ◌∷◌, ◌++◌, Option, Some, None, IfSome, Result, Ok, refl, sym, ap, subst, ◌∙◌, inl, inr}
 use Rattle.std.specs.Prelude.{map as list_map}
 use Rattle.std.specs.FinMap.{get}
-use Rattle.std.proofs.lemmas.List.{append-nil, append_cancel_left}
+use Rattle.std.proofs.lemmas.List.{append-nil}
 use Rattle.mx_io.specs.Count.{Rose}
 use Rattle.mx_io.specs.Store.{FileMap, StoreState}
 use Rattle.mx_io.specs.Answer.{Answer, HasSucceeded, IsOf, Tells, Talks}
 use Rattle.mx_io.proofs.Talks.{Each, each-front, each-rest, talks_told}
-use Rattle.mx_model.specs.Run.{Schedule, ByQuantum, ByBytes}
 use Rattle.mx_model.specs.State.{State}
 use Rattle.mx_manifest.specs.declared.fault.BootFault.{BootFault}
 use Rattle.mx_manifest.specs.declared.fault.Key.{Key}
-use Rattle.mx_manifest.specs.declared.parts.ModulePlan.{ModulePlan}
 use Rattle.mx_manifest.specs.Plan.{Said}
 use Rattle.mx_boot.specs.Boot.{Refusal, Faulty, TooFull, boot_of}
-use Rattle.mx_snapshot.specs.Kept.{KeptPlan, kept_of}
-use Rattle.mx_snapshot.specs.Resumed.{plan_of, state_of}
 use Rattle.mx_snapshot.specs.Stored.{Stored}
-use Rattle.mx_resume.specs.Snapshot.{Unread, FaultAt, NeedsMore, snapshot_of}
-use Rattle.mx_run.specs.declared.side.Side.{Side}
-use Rattle.mx_run.specs.declared.side.Side.TheVariants.{First, Second}
-use Rattle.mx_run.specs.declared.status.FileRole.{FileRole}
-use Rattle.mx_run.specs.declared.status.Status.{Status}
-use Rattle.mx_run.specs.declared.status.Status.TheVariants.{Ran, Usage, Refused, TablesFull, StoreFault, ShortFile, NoFile, ConsoleFault, ReportFault, DumpFault, WantOfMemory, AsmFault, Unlike, NoDomain, SecondRefused, SecondTablesFull, SnapshotFault}
-use Rattle.mx_run.specs.Words.{Order, Pair, Request, Go, Asm, Audit, Twin, Mill}
-use Rattle.mx_run.specs.declared.order.Way.{Way}
-use Rattle.mx_run.specs.declared.order.Way.TheVariants as way
-use Rattle.mx_plan.specs.Manifest.{judged}
-use Rattle.mx_run.specs.Finding.{Finding, Absent, Large, Short, Broken, Whole, Finds}
+use Rattle.mx_resume.specs.Snapshot.{Unread, FaultAt, NeedsMore}
+use Rattle.mx_commands.specs.declared.side.Side.{Side}
+use Rattle.mx_commands.specs.declared.side.Side.TheVariants.{First, Second}
+use Rattle.mx_commands.specs.declared.status.FileRole.{FileRole}
+use Rattle.mx_commands.specs.declared.status.Status.{Status}
+use Rattle.mx_commands.specs.declared.status.Status.TheVariants.{Ran, Usage, Refused, TablesFull, StoreFault, ShortFile, NoFile, ConsoleFault, ReportFault, DumpFault, WantOfMemory, AsmFault, Unlike, NoDomain, SecondRefused, SecondTablesFull, SnapshotFault}
+use Rattle.mx_commands.specs.Order.{Pair}
+use Rattle.mx_run.specs.Words.{Request, Go, Asm, Audit, Twin, Mill}
+use Rattle.mx_commands.specs.declared.order.Way.{Way}
+use Rattle.mx_commands.specs.Finding.{Finding, Absent, Large, Short, Broken, Whole}
 use Rattle.mx_mill.specs.Mill.{mill_text}
-use Rattle.mx_run.specs.Next.{Outcome, Wanted, Next, Read, End, refusal, reported, lack_of, bytes_of, unless, after_file}
-use Rattle.mx_run.specs.Boots.{Rest, refused_by, after_images, manifest_file, image_file, booted, planned, after_boot}
-use Rattle.mx_run.specs.Commands.{schedule_file, source_file, scheduled, run_of, run_from, booted_run, going, assembled, audited, after_first, next}
-use Rattle.mx_run.specs.Compared.{alike, alike_by, compared, unlike}
-use Rattle.mx_run.specs.Resumed.{Onward, unread_by, snapshot_file, resumed, after_snapshot}
+use Rattle.mx_commands.specs.Next.{Outcome, Wanted, Read, End, refusal, reported, lack_of}
+use Rattle.mx_commands.specs.Boots.{Rest, refused_by, booted, planned}
+use Rattle.mx_commands.specs.Commands.{run_from, going, assembled, after_first}
+use Rattle.mx_run.specs.Commands.{next}
+use Rattle.mx_commands.specs.Compared.{alike, alike_by, compared, unlike}
+use Rattle.mx_commands.specs.Resumed.{unread_by, resumed}
 use Rattle.mx_run.specs.Leads.{Leads}
-use Rattle.mx_run.specs.Causes.{LeadsToStatus, FindsAll, Reaches, FindsLast, HasImage, HasImages, HasFault, IsFaulty, IsRefused, IsUnread, IsUnassembled, Compares, IsUnlike, HasNoDomain, Cause}
-use Rattle.mx_run.proofs.Findings.{finds_decided}
-use Rattle.mx_run.proofs.ImageSteps.{image_step, images_taken}
-use Rattle.mx_run.proofs.Leads.{read_same, read_end}
+use Rattle.mx_run.specs.Causes.{LeadsToStatus, HasFault, IsFaulty, IsRefused, IsUnread, IsUnassembled, Compares, IsUnlike, HasNoDomain, Cause}
+use Rattle.mx_commands.specs.Leads.{FindsAll, Reaches, FindsLast}
+use Rattle.mx_commands.proofs.ImageSteps.{images_taken}
+use Rattle.mx_commands.proofs.Leads.{read_end}
 use Rattle.mx_run.proofs.Promises.{if_some}
-use Rattle.mx_run.proofs.Shortfalls.{broken_shows, short_never, absent_named, absent_found}
-use Rattle.mx_run.proofs.Causes.{status_same, all_found, leads_all, all_with, status_caused}
-
--- wherever a step reads a file, it ends where that isn't whole
-abbrev Shaped : (List Finding → Next) → Type 0
-Shaped step = (others : List Finding) (file : Wanted) → step others ≡ Read file → (found : Finding) (status : Status) → lack_of file found ≡ Some status
-    → step (others ++ found ∷ []) ≡ End (refusal file.name status)
-
-shape_end : (o : Outcome) → Shaped (λ _. End o)
-shape_end o others file is found status lack = absurd (read_end (sym is))
-
-module _ (file : Wanted) (rest : List ℕ → List Finding → Next) (each : (bytes : List ℕ) → Shaped (rest bytes)) where
-  shape_finding : (x : Finding) (more : List Finding) (last : Wanted) → after_file file rest (x ∷ more) ≡ Read last → (found : Finding) (status : Status) → lack_of last found ≡ Some status
-      → after_file file rest (x ∷ (more ++ found ∷ [])) ≡ End (refusal last.name status)
-  shape_finding Absent more last is found status lack = absurd (read_end (sym is))
-  shape_finding Large more last is found status lack = absurd (read_end (sym is))
-  shape_finding (Short told got) more last is found status lack = absurd (read_end (sym is))
-  shape_finding Broken more last is found status lack = absurd (read_end (sym is))
-  shape_finding (Whole bytes) more last is found status lack = each bytes more last is found status lack
-
-  shape_file : Shaped (after_file file rest)
-  shape_file [] last is found status lack =
-      let same : file ≡ last = read_same is in
-      let here : lack_of file found ≡ Some status = subst (λ (w : Wanted). lack_of w found ≡ Some status) (sym same) lack in
-      ap (λ o. unless file o (rest (bytes_of found) [])) here ∙ ap (λ (w : Wanted). End (refusal w.name status)) same
-  shape_file (x ∷ more) last is found status lack = shape_finding x more last is found status lack
-
-shape_image : (side : Side) (o : Option (List ℕ)) (number : ℕ) (ms : List ModulePlan) (images : List (List ℕ)) (rest : List (List ℕ) → List Finding → Next)
-    → ((images : List (List ℕ)) → Shaped (after_images side (number + 1) ms images rest)) → Shaped (image_step side o number ms images rest)
-shape_image side None number ms images rest each = each (images ++ [] ∷ [])
-shape_image side (Some name) number ms images rest each =
-    shape_file (image_file side number name) (λ bytes. after_images side (number + 1) ms (images ++ bytes ∷ []) rest) (λ bytes. each (images ++ bytes ∷ []))
-
-shape_images : (side : Side) (ms : List ModulePlan) (number : ℕ) (images : List (List ℕ)) (rest : List (List ℕ) → List Finding → Next) → ((images : List (List ℕ)) → Shaped (rest images))
-    → Shaped (after_images side number ms images rest)
-shape_images side [] number images rest each = each images
-shape_images side (m ∷ ms) number images rest each = shape_image side m.image number ms images rest (λ images. shape_images side ms (number + 1) images rest each)
-
-shape_run : (quantum : ℕ) (made : Schedule → Outcome) (name : Option (List ℕ)) → Shaped (scheduled quantum made name)
-shape_run quantum made None = shape_end (made (ByQuantum quantum))
-shape_run quantum made (Some name) = shape_file (schedule_file name) (λ bytes more. End (made (ByBytes bytes))) (λ bytes. shape_end (made (ByBytes bytes)))
-
-module _ (side : Side) (name : List ℕ) (rest : Rest) (each : (plan : Said) (s : State) → Shaped (rest plan s)) where
-  shape_state : (plan : Said) (boot : Result State Refusal) → Shaped (booted side name rest plan boot)
-  shape_state plan (Ok s) = each plan s
-  shape_state plan (Err why) = shape_end (refusal name (refused_by side why))
-
-  shape_plan : (plan : Result Said BootFault) → Shaped (planned side name rest plan)
-  shape_plan (Ok plan) = shape_images side plan.modules 1 [] (λ images. booted side name rest plan (boot_of plan images)) (λ images. shape_state plan (boot_of plan images))
-  shape_plan (Err fault) = shape_end (refusal name (refused_by side (Faulty fault)))
-
-  shape_boot : Shaped (after_boot side name rest)
-  shape_boot = shape_file (manifest_file side name) (λ bytes. planned side name rest (judged bytes)) (λ bytes. shape_plan (judged bytes))
-
-module _ (name : List ℕ) (rest : Onward) (each : (kept : KeptPlan) (s : State) → Shaped (rest kept s)) where
-  shape_stored : (stored : Result Stored Unread) → Shaped (resumed name rest stored)
-  shape_stored (Ok stored) = each (plan_of stored) (state_of stored)
-  shape_stored (Err why) = shape_end (refusal name (unread_by why))
-
-  shape_snapshot : Shaped (after_snapshot name rest)
-  shape_snapshot = shape_file (snapshot_file name) (λ bytes. resumed name rest (snapshot_of bytes)) (λ bytes. shape_stored (snapshot_of bytes))
-
-shape_from : (o : Order) (kept : KeptPlan) (s : State) → Shaped (run_from o kept s)
-shape_from o kept s = shape_run kept.quantum (run_of o kept s) o.schedule
-
-shape_booted : (o : Order) → Shaped (booted_run o)
-shape_booted o = shape_boot First o.file (λ plan s. run_from o (kept_of plan) s) (λ plan s. shape_from o (kept_of plan) s)
-
-shape_way : (o : Order) (w : Way) → Shaped (going o w)
-shape_way o way.Run = shape_booted o
-shape_way o way.Resume = shape_snapshot o.file (run_from o) (shape_from o)
-shape_way o way.Trace = shape_booted o
+use Rattle.mx_commands.proofs.Shortfalls.{broken_shows, short_never, absent_named, absent_found}
+use Rattle.mx_commands.proofs.StepCauses.{status_same, all_found, leads_all, all_with}
+use Rattle.mx_run.proofs.Causes.{status_caused}
+use Rattle.mx_commands.proofs.Shapes.{Shaped, reached, shape_end, shape_way, shape_assembling, shape_auditing, shape_comparing}
 
 shape_request : (asked : Option Request) → Shaped (next asked)
 shape_request None = shape_end (refusal [] Usage)
 shape_request (Some (Go o)) = shape_way o o.way
-shape_request (Some (Asm source)) = shape_file (source_file source) (λ bytes more. End (assembled source bytes)) (λ bytes. shape_end (assembled source bytes))
+shape_request (Some (Asm source)) = shape_assembling source
 shape_request (Some (Mill k)) = shape_end (reported (mill_text k))
-shape_request (Some (Twin p)) =
-    shape_boot First p.first (after_first p)
-    (λ plan s. shape_boot Second p.second (λ other t more. End (compared p plan s other t)) (λ other t. shape_end (compared p plan s other t)))
-shape_request (Some (Audit name)) = shape_boot First name (λ plan s more. End (audited plan s)) (λ plan s. shape_end (audited plan s))
+shape_request (Some (Twin p)) = shape_comparing p
+shape_request (Some (Audit name)) = shape_auditing name
 
 module _ (asked : Option Request) (answers : List Answer) where
   -- what was found leads to this status
@@ -216,34 +142,6 @@ module _ (asked : Option Request) (answers : List Answer) where
   caused_status (SecondTablesFull need limit) c other = led_by_boot Second (TooFull need limit) c
   caused_status (SnapshotFault at number) c other =
       elim c [ inl h ↦ led_by_lack h.0 Large (SnapshotFault at number) h.2 (ap (λ s. Some s) h.1) | inr h ↦ led_by_unread (FaultAt at number) h ]
-
--- what is found of a file that is reached, where the step ends
-reached : (others : List Finding) (step : List Finding → Next) (answers before last : List Answer) (found : List Finding) (outcome : Outcome) (file : Wanted) → answers ≡ before ++ last
-    → FindsAll step answers found → step found ≡ End outcome → FindsAll step before others → step others ≡ Read file
-    → (x : Finding) × (more : List Finding) × (first : List Answer) × (rest : List Answer) × (found ≡ others ++ x ∷ more) × (last ≡ first ++ rest) × Finds file.most file.name first x
-    × FindsAll (λ later. step (others ++ x ∷ later)) rest more
-reached [] step answers before last [] outcome file is all end some read = absurd (read_end (sym read ∙ end))
-reached [] step answers before last (x ∷ more) outcome file is all end some read =
-    let same : all.0 ≡ file = read_same (sym all.3 ∙ read) in (
-      x,
-      more,
-      all.1,
-      all.2,
-      refl,
-      sym (is ∙ ap (λ xs. xs ++ last) some) ∙ all.4,
-      subst (λ (w : Wanted). Finds w.most w.name all.1 x) same all.5,
-      all.6,
-    )
-reached (o ∷ os) step answers before last [] outcome file is all end some read = absurd (read_end (sym some.3 ∙ end))
-reached (o ∷ os) step answers before last (x ∷ more) outcome file is all end some read =
-    let same : all.0 ≡ some.0 = read_same (sym all.3 ∙ some.3) in
-    let both : (all.1 ++ all.2) ≡ (some.1 ++ (some.2 ++ last)) = sym all.4 ∙ is ∙ ap (λ xs. xs ++ last) some.4 ∙ append_assoc some.1 some.2 last in
-    let finds = subst (λ (w : Wanted). Finds w.most w.name all.1 x) same all.5 in
-    let d = finds_decided some.0.most some.0.name all.1 some.1 all.2 (some.2 ++ last) x o both finds some.5 in
-    let rests = append_cancel_left some.1 all.2 (some.2 ++ last) (subst (λ (first : List Answer). (first ++ all.2) ≡ (some.1 ++ (some.2 ++ last))) d.1 both) in
-    let r = reached os (λ later. step (o ∷ later)) all.2 some.2 last more outcome file rests
-    (subst (λ (y : Finding). FindsAll (λ later. step (y ∷ later)) all.2 more) d.0 all.6) (subst (λ (y : Finding). step (y ∷ more) ≡ End outcome) d.0 end) some.6 read in
-    (r.0, r.1, r.2, r.3, ap (λ y. y ∷ more) d.0 ∙ ap (λ ys. o ∷ ys) r.4, r.5, r.6, r.7)
 
 reached_end : (asked : Option Request) (others : List Finding) (x : Finding) (file : Wanted) (status : Status) (rest : List Answer) (more found : List Finding) (outcome : Outcome)
     → next asked others ≡ Read file → lack_of file x ≡ Some status → found ≡ others ++ x ∷ more → FindsAll (λ later. next asked (others ++ x ∷ later)) rest more

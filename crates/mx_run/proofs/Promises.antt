@@ -6,18 +6,20 @@ use Rattle.mx_io.specs.Store.{StoreState}
 use Rattle.mx_io.specs.Answer.{Answer, Tells}
 use Rattle.mx_io.proofs.Text.{Stays-not-Rose}
 use Rattle.mx_io.proofs.Talks.{talks_told, all_succeeded}
-use Rattle.mx_run.specs.declared.status.Status.{Status}
-use Rattle.mx_run.specs.declared.status.Status.TheVariants.{WantOfMemory}
+use Rattle.mx_commands.specs.declared.status.Status.{Status}
+use Rattle.mx_commands.specs.declared.status.Status.TheVariants.{WantOfMemory}
 use Rattle.mx_run.specs.Words.{Request}
-use Rattle.mx_run.specs.Next.{Outcome}
+use Rattle.mx_commands.specs.Next.{Outcome}
 use Rattle.mx_run.specs.Commands.{next}
 use Rattle.mx_run.specs.Leads.{IsOutcome}
 use Rattle.mx_turns.specs.declared.fault.SinkFault.{SinkFault}
 use Rattle.mx_turns.specs.declared.fault.SinkFault.TheVariants as F
 use Rattle.mx_turns.specs.Ends.{Sinks, Texts, CountsKept, HasRoom, IsSinkFault}
-use Rattle.mx_run.specs.Top.{EndsBy, Ends, WritesNothing, Answered, Reacts}
+use Rattle.mx_commands.specs.Ends.{EndsBy, Ends, WritesNothing}
+use Rattle.mx_run.specs.Top.{Answered, Reacts}
 use Rattle.mx_run.specs.Promise.{CountsStay, Gives, Headline, Completeness}
-use Rattle.mx_run.proofs.Leads.{leads_over, one_outcome}
+use Rattle.mx_commands.proofs.Leads.{leads_over}
+use Rattle.mx_run.proofs.Outcomes.{one_outcome}
 
 pub if_some : {A : Type 0} (o : Option A) (P : A → Type 0) → ((a : A) → o ≡ Some a → P a) → IfSome o P
 if_some None P each = tt

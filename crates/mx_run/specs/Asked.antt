@@ -1,36 +1,11 @@
--- What the code keeps of the words, and of the files that it reads.
-use Rattle.std.specs.Prelude.{◌<◌, ◌^◌, option_copied, ⊤}
-use Rattle.mx_run.specs.Words.{Order, Pair, Request, Go, Asm, Audit, Twin, Mill, Parsed, Stands, Lacks, Meaningless}
-use Rattle.mx_run.specs.Next.{Wanted}
-use Rattle.mx_run.specs.declared.wanted.Wanted as files
-use Rattle.mx_run.specs.declared.order.Order as orders
-use Rattle.mx_run.specs.declared.order.Pair as pairs
+-- What the code keeps of the words.
+use Rattle.std.specs.Prelude.{◌<◌, ◌^◌, ⊤}
+use Rattle.mx_commands.specs.Asked.{order_of, pair_asked}
+use Rattle.mx_run.specs.Words.{Request, Go, Asm, Audit, Twin, Mill, Parsed, Stands, Lacks, Meaningless}
 use Rattle.mx_run.specs.declared.words.Asked.{Asked}
 use Rattle.mx_run.specs.declared.words.Asked.TheVariants as asked
-use Rattle.mx_run.specs.declared.order.Parse.{Parse}
-use Rattle.mx_run.specs.declared.order.Parse.TheVariants as parse
-
--- the order of a run
-abbrev pub order_of : orders.Order → Order
-order_of o = record {
-  way = o.way;
-  file = o.file.now;
-  steps = o.steps;
-  schedule = option_copied o.schedule;
-  from = o.from;
-  dump = o.dump;
-  tables = o.tables;
-  counts = o.counts;
-}
-
--- the pair of a comparison
-abbrev pub pair_asked : pairs.Pair → Pair
-pair_asked p = record {
-  first = p.first.now;
-  second = p.second.now;
-  domain = p.domain;
-  steps = p.steps;
-}
+use Rattle.mx_commands.specs.declared.options.Parse.{Parse}
+use Rattle.mx_commands.specs.declared.options.Parse.TheVariants as parse
 
 -- the request that the words make
 abbrev pub request_of : Asked → Request
@@ -58,12 +33,3 @@ abbrev pub ParsesFewSteps : Parse → Type 0
 ParsesFewSteps (parse.Stands order) = order.steps < 10 ^ 10
 ParsesFewSteps (parse.Lacks order flag) = order.steps < 10 ^ 10
 ParsesFewSteps parse.Meaningless = ⊤
-
--- the file that is to be read
-abbrev pub wanted_of : files.Wanted → Wanted
-wanted_of file = record {
-  role = file.role;
-  name = file.name.now;
-  most = file.most;
-  large = file.large;
-}

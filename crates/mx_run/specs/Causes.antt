@@ -1,6 +1,5 @@
 -- Why a call ends with a status: by what the words ask, and by what the store answered of the files that were read.
-use Rattle.std.specs.Prelude.{◌≡◌, ◌≢◌, ℕ, ◌<◌, ◌⊎◌, false, List, [], ◌∷◌, ◌++◌, Option, Some, None, Ok, Err, IfSome, ⊤}
-use Rattle.std.specs.Prelude.{map as list_map}
+use Rattle.std.specs.Prelude.{◌≡◌, ◌≢◌, ℕ, ◌<◌, ◌⊎◌, false, List, [], ◌∷◌, ◌++◌, Option, Some, None, Ok, Err, IfSome, ⊤, map as list_map}
 use Rattle.std.specs.FinMap.{get}
 use Rattle.mx_io.specs.Count.{Rose}
 use Rattle.mx_io.specs.Store.{StoreState}
@@ -9,52 +8,32 @@ use Rattle.mx_manifest.specs.declared.fault.BootFault.{BootFault}
 use Rattle.mx_manifest.specs.declared.fault.Key.{Key}
 use Rattle.mx_manifest.specs.declared.fault.Key.TheVariants as key
 use Rattle.mx_manifest.specs.declared.fault.Part.TheVariants as part
-use Rattle.mx_manifest.specs.declared.parts.ModulePlan.{ModulePlan}
 use Rattle.mx_manifest.specs.Plan.{Said}
 use Rattle.mx_model.specs.State.{State}
 use Rattle.mx_boot.specs.Boot.{Refusal, Faulty, TooFull, boot_of}
-use Rattle.mx_run.specs.declared.side.Side.{Side}
-use Rattle.mx_run.specs.declared.side.Side.TheVariants.{First, Second}
-use Rattle.mx_run.specs.declared.status.FileRole.{FileRole}
-use Rattle.mx_run.specs.declared.status.Status.{Status}
-use Rattle.mx_run.specs.declared.status.Status.TheVariants.{Ran, Usage, Refused, TablesFull, StoreFault, ShortFile, NoFile, ConsoleFault, ReportFault, DumpFault, WantOfMemory, AsmFault, Unlike, NoDomain, SecondRefused, SecondTablesFull, SnapshotFault}
-use Rattle.mx_run.specs.Words.{Order, Pair, Request, Go, Asm, Twin}
-use Rattle.mx_run.specs.declared.order.Way.TheVariants.{Resume}
+use Rattle.mx_commands.specs.declared.side.Side.{Side}
+use Rattle.mx_commands.specs.declared.side.Side.TheVariants.{First, Second}
+use Rattle.mx_commands.specs.declared.status.FileRole.{FileRole}
+use Rattle.mx_commands.specs.declared.status.Status.{Status}
+use Rattle.mx_commands.specs.declared.status.Status.TheVariants.{Ran, Usage, Refused, TablesFull, StoreFault, ShortFile, NoFile, ConsoleFault, ReportFault, DumpFault, WantOfMemory, AsmFault, Unlike, NoDomain, SecondRefused, SecondTablesFull, SnapshotFault}
+use Rattle.mx_commands.specs.Order.{Order, Pair}
+use Rattle.mx_run.specs.Words.{Request, Go, Asm, Twin}
+use Rattle.mx_commands.specs.declared.order.Way.TheVariants.{Resume}
 use Rattle.mx_plan.specs.Manifest.{judged}
 use Rattle.mx_resume.specs.Snapshot.{Unread, FaultAt, NeedsMore, snapshot_of}
-use Rattle.mx_run.specs.Finding.{Finding, Absent, Large, Short, Broken, Whole, Finds}
-use Rattle.mx_run.specs.Next.{Outcome, Wanted, Next, Read}
-use Rattle.mx_run.specs.Boots.{Rest, after_boot, refused_by, size_fault}
-use Rattle.mx_run.specs.Commands.{assembled, next}
-use Rattle.mx_run.specs.Compared.{first_unlike, is_domain}
+use Rattle.mx_commands.specs.Finding.{Finding, Absent, Large, Short, Broken, Whole}
+use Rattle.mx_commands.specs.Next.{Outcome, Wanted}
+use Rattle.mx_commands.specs.Boots.{Rest, after_boot, refused_by, size_fault, HasImages}
+use Rattle.mx_commands.specs.Commands.{assembled}
+use Rattle.mx_run.specs.Commands.{next}
+use Rattle.mx_commands.specs.Compared.{first_unlike, is_domain}
 use Rattle.mx_run.specs.Leads.{Leads}
+use Rattle.mx_commands.specs.Leads.{FindsAll, Reaches, FindsLast}
 
 -- the answers lead to an outcome with this status
 abbrev pub LeadsToStatus : Option Request → List Answer → Status → Type 0
 LeadsToStatus asked answers status =
     (outcome : Outcome) × Leads asked answers outcome × (outcome.status ≡ status)
-
--- what the answers say of the files that are read, one after another
-abbrev pub FindsAll : (List Finding → Next) → List Answer → List Finding → Type 0
-FindsAll step answers [] = answers ≡ []
-FindsAll step answers (found ∷ more) =
-    (file : Wanted) × (first : List Answer) × (rest : List Answer)
-    × (step [] ≡ Read file) × (answers ≡ first ++ rest) × Finds file.most file.name first found
-    × FindsAll (λ later. step (found ∷ later)) rest more
-
--- after others this file is read, and these answers follow
-pub record Reaches (step : List Finding → Next) (answers : List Answer) (file : Wanted)
-    (last : List Answer) : Type 0 where
-  pub others : List Finding
-  pub before : List Answer
-  pub parts : answers ≡ before ++ last
-  pub finds : FindsAll step before others
-  pub read : step others ≡ Read file
-
--- the file that is read last, and what the last answers say of it
-abbrev pub FindsLast : (List Finding → Next) → List Answer → Wanted → Finding → Type 0
-FindsLast step answers file found = (last : List Answer) × Reaches step answers file last
-    × Finds file.most file.name last found
 
 -- the file that is read last is read for this, and found so
 abbrev pub IsFound : Option Request → List Answer → FileRole → Finding → Type 0
@@ -65,18 +44,6 @@ IsFound asked answers role found =
 abbrev pub IsOver : Option Request → List Answer → Status → Type 0
 IsOver asked answers status =
     (file : Wanted) × (file.large ≡ status) × FindsLast (next asked) answers file Large
-
--- the image of a module is the first of the files left to it; that of inline words is empty, and takes none
-abbrev pub HasImage : Option (List ℕ) → List (List ℕ) → List ℕ → List (List ℕ) → Type 0
-HasImage None files image more = (image ≡ []) × (files ≡ more)
-HasImage (Some name) files image more = files ≡ image ∷ more
-
--- the images of modules, in order, by the bytes of all these files
-abbrev pub HasImages : List ModulePlan → List (List ℕ) → List (List ℕ) → Type 0
-HasImages [] files images = (files ≡ []) × (images ≡ [])
-HasImages (m ∷ ms) files images =
-    (image : List ℕ) × (more : List (List ℕ)) × (others : List (List ℕ))
-    × HasImage m.image files image more × (images ≡ image ∷ others) × HasImages ms more others
 
 -- after these findings a command boots the manifest of this name, of this side
 pub record BootsAfter (asked : Option Request) (before : List Finding) (side : Side) (name : List ℕ)

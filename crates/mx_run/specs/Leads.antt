@@ -1,35 +1,15 @@
 -- From answers of a store, or from its files, to the outcome of a call.
-use Rattle.std.specs.Prelude.{◌≡◌, ℕ, zero, suc, List, [], ◌∷◌, ◌++◌, Option}
+use Rattle.std.specs.Prelude.{◌≡◌, ℕ, List, Option}
 use Rattle.mx_io.specs.Store.{FileMap}
 use Rattle.mx_io.specs.Answer.{Answer}
 use Rattle.mx_run.specs.Words.{Request}
-use Rattle.mx_run.specs.Finding.{Finding, Finds, found_in}
-use Rattle.mx_run.specs.Next.{Outcome, Wanted, Next, Read, End}
+use Rattle.mx_commands.specs.Next.{Outcome}
 use Rattle.mx_run.specs.Commands.{next}
-
--- what is done by what is found, where so many files are read: the first of the answers say what is found of the next one, and it
--- goes on by what was found; with the last answer the outcome stands
-abbrev pub LeadsBy : ℕ → (List Finding → Next) → List Answer → Outcome → Type 0
-LeadsBy zero step answers outcome = (step [] ≡ End outcome) × (answers ≡ [])
-LeadsBy (suc n) step answers outcome =
-    (file : Wanted) × (first : List Answer) × (rest : List Answer) × (found : Finding)
-    × (step [] ≡ Read file) × (answers ≡ first ++ rest) × Finds file.most file.name first found
-    × LeadsBy n (λ more. step (found ∷ more)) rest outcome
-
--- the answers lead to this outcome
-abbrev pub LeadsTo : (List Finding → Next) → List Answer → Outcome → Type 0
-LeadsTo step answers outcome = (n : ℕ) × LeadsBy n step answers outcome
+use Rattle.mx_commands.specs.Leads.{LeadsTo, LeadsOver}
 
 -- the answers of a whole call lead to this outcome
 abbrev pub Leads : Option Request → List Answer → Outcome → Type 0
 Leads asked answers outcome = LeadsTo (next asked) answers outcome
-
--- the same where every file is found as it stands
-abbrev pub LeadsOver : ℕ → (List Finding → Next) → FileMap → Outcome → Type 0
-LeadsOver zero step files outcome = step [] ≡ End outcome
-LeadsOver (suc n) step files outcome =
-    (file : Wanted) × (step [] ≡ Read file)
-    × LeadsOver n (λ more. step (found_in files file.most file.name ∷ more)) files outcome
 
 -- what is asked leads to this outcome over the files
 abbrev pub IsOutcome : Option Request → FileMap → Outcome → Type 0

@@ -5,9 +5,10 @@ use Rattle.std.specs.declared.vec.IntoIter.{IntoIter}
 use Rattle.std.specs.declared.alloc.Global.{Global}
 use Rattle.mx_io.specs.Answer.{Answer}
 use Rattle.mx_turns.specs.Ends.{Sinks}
-use Rattle.mx_run.specs.declared.status.Status.{Status}
-use Rattle.mx_run.specs.Status.{number_of}
-use Rattle.mx_run.specs.Top.{Answered, WritesNothing}
+use Rattle.mx_commands.specs.declared.status.Status.{Status}
+use Rattle.mx_commands.specs.Status.{number_of}
+use Rattle.mx_run.specs.Top.{Answered}
+use Rattle.mx_commands.specs.Ends.{WritesNothing}
 use Rattle.mx_run.specs.Words.{meaning}
 
 -- the words after the program's name, or one empty word, which has no meaning, where they are not text

@@ -3,10 +3,10 @@ use Rattle.std.specs.Prelude.{◌≡◌, ◌≢◌, ◌⊎◌, IsTrue, Option, I
 use Rattle.mx_io.specs.Count.{Stays}
 use Rattle.mx_io.specs.Store.{StoreState}
 use Rattle.mx_turns.specs.Ends.{Sinks, Holds, HasRoom, CountsKept}
-use Rattle.mx_run.specs.declared.status.Status.{Status}
-use Rattle.mx_run.specs.declared.status.Status.TheVariants.{WantOfMemory}
+use Rattle.mx_commands.specs.declared.status.Status.{Status}
+use Rattle.mx_commands.specs.declared.status.Status.TheVariants.{WantOfMemory}
 use Rattle.mx_run.specs.Words.{Request}
-use Rattle.mx_run.specs.Next.{Outcome}
+use Rattle.mx_commands.specs.Next.{Outcome}
 use Rattle.mx_run.specs.Leads.{IsOutcome}
 
 -- the counts of faults stay

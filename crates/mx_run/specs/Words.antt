@@ -4,31 +4,12 @@ use Rattle.std.specs.Char.{is_ascii_digit}
 use Rattle.std.specs.List.{list_all}
 use Rattle.std.specs.Str.{bytes_eq}
 use Rattle.std.specs.Str.Parse.{digits_value}
-use Rattle.mx_turns.specs.declared.task.Dump.{Dump}
 use Rattle.mx_turns.specs.declared.task.Dump.TheVariants as D
-use Rattle.mx_run.specs.declared.order.Flag.{Flag}
-use Rattle.mx_run.specs.declared.order.Flag.TheVariants as flag
-use Rattle.mx_run.specs.declared.order.Way.{Way}
-use Rattle.mx_run.specs.declared.order.Way.TheVariants as way
-
--- what a run is asked: its way; a manifest or a snapshot by its name, for at most so many steps; a schedule by its name; of a trace the
--- first turn that has a line; what goes to the dump; and whether the report has the lines of the tables and of the counts
-pub record Order : Type 0 where
-  pub way : Way
-  pub file : List ℕ
-  pub steps : ℕ
-  pub schedule : Option (List ℕ)
-  pub from : Option ℕ
-  pub dump : Option Dump
-  pub tables : Bool
-  pub counts : Bool
-
--- two manifests by their names, a domain of both, and the most steps
-pub record Pair : Type 0 where
-  pub first : List ℕ
-  pub second : List ℕ
-  pub domain : ℕ
-  pub steps : ℕ
+use Rattle.mx_run.specs.declared.options.Flag.{Flag}
+use Rattle.mx_run.specs.declared.options.Flag.TheVariants as flag
+use Rattle.mx_commands.specs.declared.order.Way.{Way}
+use Rattle.mx_commands.specs.declared.order.Way.TheVariants as way
+use Rattle.mx_commands.specs.Order.{Order, Pair, plain_order}
 
 -- what the words ask: a run of some way, to assemble a source by its name, to audit a manifest by its name, or to compare a domain of two
 pub data Request : Type 0 where
@@ -122,19 +103,6 @@ abbrev pub asked_by : Parsed → Option Request
 asked_by (Stands o) = Some (Go o)
 asked_by (Lacks o flag) = None
 asked_by Meaningless = None
-
--- an order without options
-abbrev pub plain_order : Way → List ℕ → ℕ → Order
-plain_order way file steps = record {
-  way = way;
-  file = file;
-  steps = steps;
-  schedule = None;
-  from = None;
-  dump = None;
-  tables = false;
-  counts = false;
-}
 
 -- a run of some way: a file's name, a number of steps, and options in any order
 abbrev pub go_request : Way → List (List ℕ) → Option Request

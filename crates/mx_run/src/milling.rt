@@ -3,10 +3,10 @@
 ghost use Rattle.mx_io.specs.Sink.{SinkState};
 ghost use Rattle.mx_mill.specs.Mill.{mill_text};
 ghost use Rattle.mx_turns.specs.Ends.{sinks};
-ghost use Rattle.mx_run.specs.Next.{reported};
-ghost use Rattle.mx_run.specs.Top.{EndsOrWants};
+ghost use Rattle.mx_commands.specs.Next.{reported};
+ghost use Rattle.mx_commands.specs.Ends.{EndsOrWants};
 
-use crate::status::Status;
+use mx_commands::Status;
 use mx_io::Sink;
 use mx_mill::{MillFault, mill};
 use std::alloc::Global;

@@ -7,9 +7,9 @@ ghost use Rattle.mx_io.specs.Real.{file_sink, folder_store, stderr_sink, stdout_
 ghost use Rattle.mx_turns.specs.Ends.{sinks};
 ghost use Rattle.mx_run.specs.Program.{Executes, Given};
 
-use crate::status::Status;
 use crate::top::mondrix;
 use crate::words::Words;
+use mx_commands::Status;
 use mx_io::{FileSink, Folder, FolderStore, Maker, StderrSink, StdoutSink};
 use mx_words::NoMemory;
 use std::alloc::Global;

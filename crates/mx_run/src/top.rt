@@ -2,23 +2,20 @@
 
 ghost use Rattle.std.specs.Prelude.{◌<◌, ◌^◌, Some};
 ghost use Rattle.mx_io.specs.Sink.{SinkState};
-ghost use Rattle.mx_run.specs.Asked.{order_of};
+ghost use Rattle.mx_commands.specs.Asked.{order_of};
 ghost use Rattle.mx_run.specs.Commands.{next};
 ghost use Rattle.mx_run.specs.Words.{Go, meaning};
 ghost use Rattle.mx_turns.specs.Ends.{sinks};
-ghost use Rattle.mx_run.specs.Top.{Answered, Continues, Reacts};
+ghost use Rattle.mx_run.specs.Top.{Answered, Reacts};
+ghost use Rattle.mx_commands.specs.Ends.{Continues};
 ghost use Rattle.mx_run.specs.Promise.{Headline, Completeness};
 
-use crate::assembling::write_image;
-use crate::auditing::audit_manifest;
-use crate::comparing::compare_manifests;
 use crate::milling::write_mill;
-use crate::order::{Order, Way};
-use crate::refusal::refuse;
-use crate::resuming::resume_snapshot;
-use crate::running::run_manifest;
-use crate::status::Status;
 use crate::words::{Asked, Words};
+use mx_commands::{
+    Order, Status, Way, audit_manifest, compare_manifests, refuse, resume_snapshot, run_manifest,
+    write_image,
+};
 use mx_io::{Sink, Store};
 use std::alloc::Global;
 

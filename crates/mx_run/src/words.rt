@@ -2,10 +2,12 @@
 
 ghost use Rattle.std.specs.Prelude.{◌≡◌, ◌^◌, ◌<◌, [], ◌∷◌, ◌++◌, map, fold, option_map, OnOk, OnErr, IfSome, string_bytes};
 ghost use Rattle.std.specs.Option.{option_copied};
-ghost use Rattle.mx_run.specs.Asked.{order_of, pair_asked, request_of, parsed_of, HasFewSteps, ParsesFewSteps};
+ghost use Rattle.mx_commands.specs.Asked.{order_of, pair_asked};
+ghost use Rattle.mx_run.specs.Asked.{request_of, parsed_of, HasFewSteps, ParsesFewSteps};
 ghost use Rattle.mx_run.specs.Words.{Stands, with_word, asked_by, go_request, meaning, mill_number, only_name, pair_of};
 
-use crate::order::{Order, Pair, Parse, Way, is_name, is_number, number, plain_order, with_word};
+use crate::options::{Parse, is_name, is_number, number, plain_order, with_word};
+use mx_commands::{Order, Pair, Way};
 use mx_words::NoMemory;
 use std::alloc::Global;
 use std::marker::Model;

@@ -1,4 +1,4 @@
-use Rattle.mx_run.proofs.Leads.{leads_decided}
+use Rattle.mx_run.proofs.Outcomes.{leads_decided}
 use Rattle.mx_run.proofs.laws.answers_decide.Goals as goal
 
 pub returns : goal.returns

@@ -1,5 +1,4 @@
-use Rattle.mx_run.proofs.Leads.{one_outcome}
-use Rattle.mx_run.proofs.Outcomes.{some_outcome}
+use Rattle.mx_run.proofs.Outcomes.{one_outcome, some_outcome}
 use Rattle.mx_run.proofs.laws.files_decide.Goals as goal
 
 pub returns-clause-some : goal.returns-clause-some

@@ -1,4 +1,4 @@
-use Rattle.mx_run.proofs.Schedules.{resume_refused}
+use Rattle.mx_run.proofs.Causes.{resume_refused}
 use Rattle.mx_run.proofs.laws.large_schedules_refuse.Goals as goal
 
 pub returns : goal.returns

@@ -1,6 +1,6 @@
 use Rattle.std.proofs.Common.{refl, inl, inr}
-use Rattle.mx_run.specs.declared.status.Status.TheVariants.{Ran}
-use Rattle.mx_run.proofs.Endings.{ends_reported, ends_unreported}
+use Rattle.mx_commands.specs.declared.status.Status.TheVariants.{Ran}
+use Rattle.mx_commands.proofs.Endings.{ends_reported, ends_unreported}
 use Rattle.mx_run.proofs.milling.write_mill.Goals as goal
 
 pub returns-in-Ok : goal.returns-in-Ok

@@ -1,6 +1,6 @@
-use Rattle.mx_run.specs.declared.order.Way.TheVariants.{Run, Resume, Trace}
-use Rattle.mx_run.specs.Asked.{order_of}
-use Rattle.mx_run.proofs.Continued.{continues_way}
+use Rattle.mx_commands.specs.declared.order.Way.TheVariants.{Run, Resume, Trace}
+use Rattle.mx_commands.specs.Asked.{order_of}
+use Rattle.mx_run.proofs.Reactions.{continues_way}
 use Rattle.mx_run.proofs.top.go.Goals as goal
 
 pub returns-in-Run : goal.returns-in-Run

@@ -1,11 +1,12 @@
 use Rattle.std.proofs.Common.{◌≡◌, Option, Some, refl, subst}
 use Rattle.mx_mill.specs.Mill.{mill_text}
-use Rattle.mx_run.specs.Asked.{order_of, pair_asked}
-use Rattle.mx_run.specs.Next.{End, reported}
+use Rattle.mx_commands.specs.Asked.{order_of, pair_asked}
+use Rattle.mx_commands.specs.Next.{End, reported}
 use Rattle.mx_run.specs.Words.{Request, Go, Asm, Audit, Twin, Mill, meaning}
 use Rattle.mx_turns.specs.Ends.{sinks}
 use Rattle.mx_run.specs.Top.{Reacts}
-use Rattle.mx_run.proofs.Continued.{continues_end, reacts_some, reacts_none}
+use Rattle.mx_commands.proofs.Continued.{continues_end}
+use Rattle.mx_run.proofs.Reactions.{reacts_some, reacts_none}
 use Rattle.mx_run.proofs.top.react.Goals as goal
 
 pub returns-in-Some-Go : goal.returns-in-Some-Go

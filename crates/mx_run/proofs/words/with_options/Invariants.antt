@@ -1,5 +1,6 @@
 use Rattle.std.proofs.Common.{◌≡◌, drop, map, fold, string_bytes}
-use Rattle.mx_run.specs.Asked.{order_of, parsed_of, ParsesFewSteps}
+use Rattle.mx_commands.specs.Asked.{order_of}
+use Rattle.mx_run.specs.Asked.{parsed_of, ParsesFewSteps}
 use Rattle.mx_run.specs.Words.{Stands, with_word}
 use Rattle.mx_run.proofs.words.with_options.Given as goal
 

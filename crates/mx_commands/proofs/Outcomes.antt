@@ -1,0 +1,109 @@
+-- Over every list of files a command leads to an outcome: each file is read once, and what is found of it ends the call or goes on.
+use Rattle.std.proofs.Common.{ℕ, suc, ◌+◌, List, [], ◌∷◌, ◌++◌, Option, Some, None, Result, Ok, Err, refl}
+use Rattle.mx_io.specs.Store.{FileMap}
+use Rattle.mx_model.specs.Run.{Schedule, ByQuantum, ByBytes}
+use Rattle.mx_model.specs.State.{State}
+use Rattle.mx_manifest.specs.declared.fault.BootFault.{BootFault}
+use Rattle.mx_manifest.specs.declared.parts.ModulePlan.{ModulePlan}
+use Rattle.mx_manifest.specs.Plan.{Said}
+use Rattle.mx_boot.specs.Boot.{Refusal, Faulty, boot_of}
+use Rattle.mx_snapshot.specs.Kept.{KeptPlan, kept_of}
+use Rattle.mx_snapshot.specs.Resumed.{plan_of, state_of}
+use Rattle.mx_snapshot.specs.Stored.{Stored}
+use Rattle.mx_resume.specs.Snapshot.{Unread, snapshot_of}
+use Rattle.mx_commands.specs.declared.side.Side.{Side}
+use Rattle.mx_commands.specs.declared.side.Side.TheVariants.{First, Second}
+use Rattle.mx_commands.specs.declared.status.Status.TheVariants.{StoreFault, ShortFile, NoFile}
+use Rattle.mx_commands.specs.Order.{Order, Pair}
+use Rattle.mx_commands.specs.declared.order.Way.{Way}
+use Rattle.mx_commands.specs.declared.order.Way.TheVariants as way
+use Rattle.mx_plan.specs.Manifest.{judged}
+use Rattle.mx_commands.specs.Finding.{Finding, Absent, Large, Short, Broken, Whole, found_in}
+use Rattle.mx_commands.specs.Next.{Outcome, Wanted, Next, End, refusal, after_file}
+use Rattle.mx_commands.specs.Boots.{Rest, refused_by, after_images, manifest_file, image_file, booted, planned, after_boot}
+use Rattle.mx_commands.specs.Commands.{schedule_file, source_file, scheduled, run_of, run_from, booted_run, going, assembled, audited, after_first, assembling, auditing, comparing}
+use Rattle.mx_commands.specs.Compared.{compared}
+use Rattle.mx_commands.specs.Resumed.{Onward, unread_by, snapshot_file, resumed, after_snapshot}
+use Rattle.mx_commands.specs.Leads.{LeadsOver}
+use Rattle.mx_commands.proofs.ImageSteps.{image_step}
+
+module _ (files : FileMap) where
+  -- a step leads to an outcome over the files
+  abbrev pub HasOutcome : (List Finding → Next) → Type 0
+  HasOutcome step = (outcome : Outcome) × ((n : ℕ) × LeadsOver n step files outcome)
+
+  -- whatever is found of a file, where the rest leads to one by all bytes
+  by_finding : (file : Wanted) (rest : List ℕ → List Finding → Next) → ((bytes : List ℕ) → HasOutcome (rest bytes)) → (found : Finding)
+      → HasOutcome (λ more. after_file file rest (found ∷ more))
+  by_finding file rest each Absent = (refusal file.name (NoFile file.role), (0, refl))
+  by_finding file rest each Large = (refusal file.name file.large, (0, refl))
+  by_finding file rest each (Short told got) = (refusal file.name (ShortFile file.role told got), (0, refl))
+  by_finding file rest each Broken = (refusal file.name StoreFault, (0, refl))
+  by_finding file rest each (Whole bytes) = each bytes
+
+  -- a file is read, and then the rest follows
+  by_file : (file : Wanted) (rest : List ℕ → List Finding → Next) → ((bytes : List ℕ) → HasOutcome (rest bytes)) → HasOutcome (after_file file rest)
+  by_file file rest each =
+      let later = by_finding file rest each (found_in files file.most file.name) in
+      (later.0, (suc later.1.0, (file, refl, later.1.1)))
+
+  -- the images of modules, of which each is a file or none
+  by_images : (side : Side) (ms : List ModulePlan) (number : ℕ) (images : List (List ℕ)) (rest : List (List ℕ) → List Finding → Next)
+      → ((images : List (List ℕ)) → HasOutcome (rest images)) → HasOutcome (after_images side number ms images rest)
+  by_images side [] number images rest each = each images
+  by_images side (m ∷ ms) number images rest each =
+      elim m.image as (λ o. HasOutcome (image_step side o number ms images rest)) [
+        | None ↦ by_images side ms (number + 1) (images ++ [] ∷ []) rest each
+        | Some name ↦ by_file (image_file side number name) (λ bytes. after_images side (number + 1) ms (images ++ bytes ∷ []) rest)
+            (λ bytes. by_images side ms (number + 1) (images ++ bytes ∷ []) rest each)
+      ]
+
+  by_schedule : (quantum : ℕ) (made : Schedule → Outcome) (name : Option (List ℕ)) → HasOutcome (scheduled quantum made name)
+  by_schedule quantum made None = (made (ByQuantum quantum), (0, refl))
+  by_schedule quantum made (Some name) =
+      by_file (schedule_file name) (λ bytes more. End (made (ByBytes bytes))) (λ bytes. (made (ByBytes bytes), (0, refl)))
+
+  -- a boot of a side, where the rest leads to one from every plan and state
+  module _ (side : Side) (name : List ℕ) (rest : Rest) (each : (plan : Said) (s : State) → HasOutcome (rest plan s)) where
+    by_state : (plan : Said) (boot : Result State Refusal) → HasOutcome (booted side name rest plan boot)
+    by_state plan (Ok s) = each plan s
+    by_state plan (Err why) = (refusal name (refused_by side why), (0, refl))
+
+    by_plan : (plan : Result Said BootFault) → HasOutcome (planned side name rest plan)
+    by_plan (Ok plan) = by_images side plan.modules 1 [] (λ images. booted side name rest plan (boot_of plan images)) (λ images. by_state plan (boot_of plan images))
+    by_plan (Err fault) = (refusal name (refused_by side (Faulty fault)), (0, refl))
+
+    by_boot : HasOutcome (after_boot side name rest)
+    by_boot = by_file (manifest_file side name) (λ bytes. planned side name rest (judged bytes)) (λ bytes. by_plan (judged bytes))
+
+  -- a snapshot, where the rest leads to one from every plan and state
+  module _ (name : List ℕ) (rest : Onward) (each : (kept : KeptPlan) (s : State) → HasOutcome (rest kept s)) where
+    by_stored : (stored : Result Stored Unread) → HasOutcome (resumed name rest stored)
+    by_stored (Ok stored) = each (plan_of stored) (state_of stored)
+    by_stored (Err why) = (refusal name (unread_by why), (0, refl))
+
+    by_snapshot : HasOutcome (after_snapshot name rest)
+    by_snapshot = by_file (snapshot_file name) (λ bytes. resumed name rest (snapshot_of bytes)) (λ bytes. by_stored (snapshot_of bytes))
+
+  by_run : (o : Order) (kept : KeptPlan) (s : State) → HasOutcome (run_from o kept s)
+  by_run o kept s = by_schedule kept.quantum (run_of o kept s) o.schedule
+
+  by_booted : (o : Order) → HasOutcome (booted_run o)
+  by_booted o = by_boot First o.file (λ plan s. run_from o (kept_of plan) s) (λ plan s. by_run o (kept_of plan) s)
+
+  pub by_way : (o : Order) (w : Way) → HasOutcome (going o w)
+  by_way o way.Run = by_booted o
+  by_way o way.Resume = by_snapshot o.file (run_from o) (by_run o)
+  by_way o way.Trace = by_booted o
+
+  pub by_assembling : (source : List ℕ) → HasOutcome (assembling source)
+  by_assembling source =
+      by_file (source_file source) (λ bytes more. End (assembled source bytes)) (λ bytes. (assembled source bytes, (0, refl)))
+
+  pub by_auditing : (name : List ℕ) → HasOutcome (auditing name)
+  by_auditing name = by_boot First name (λ plan s more. End (audited plan s)) (λ plan s. (audited plan s, (0, refl)))
+
+  pub by_comparing : (p : Pair) → HasOutcome (comparing p)
+  by_comparing p =
+      by_boot First p.first (after_first p)
+      (λ plan s. by_boot Second p.second (λ other t more. End (compared p plan s other t)) (λ other t. (compared p plan s other t, (0, refl))))

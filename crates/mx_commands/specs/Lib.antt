@@ -1,0 +1,15 @@
+pub mod Asked
+pub mod Booting
+pub mod Boots
+pub mod Commands
+pub mod Compared
+pub mod Ends
+pub mod Finding
+pub mod Leads
+pub mod Next
+pub mod Order
+pub mod Reading
+pub mod Refusal
+pub mod Resumed
+pub mod Resuming
+pub mod Status

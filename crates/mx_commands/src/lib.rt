@@ -1,0 +1,24 @@
+//! The commands of a command line: each from what is asked to its texts, by the files of a store.
+#![tactic(auto)]
+
+mod assembling;
+mod auditing;
+mod booting;
+mod comparing;
+mod order;
+mod reading;
+mod refusal;
+mod resuming;
+mod running;
+mod side;
+mod status;
+mod wanted;
+
+pub use assembling::write_image;
+pub use auditing::audit_manifest;
+pub use comparing::compare_manifests;
+pub use order::{Order, Pair, Way};
+pub use refusal::refuse;
+pub use resuming::resume_snapshot;
+pub use running::run_manifest;
+pub use status::{FileRole, Status};

@@ -1,0 +1,48 @@
+//! What a run and a comparison are asked.
+
+use mx_turns::Dump;
+
+/// How a run is made.
+#[derive(Clone, Copy, PartialEq, Eq, Debug)]
+pub enum Way {
+    /// With the report of its end.
+    Run,
+    /// The same from a snapshot on.
+    Resume,
+    /// With a line for each turn.
+    Trace,
+}
+
+/// What a run is asked. A name has 1 to 255 bytes.
+#[derive(Clone, Copy)]
+pub struct Order<'a> {
+    /// How it is made.
+    pub way: Way,
+    /// The name of the manifest, or of the snapshot.
+    pub file: &'a str,
+    /// The most steps to make, at most 9999999999.
+    pub steps: u64,
+    /// The schedule's name.
+    pub schedule: Option<&'a str>,
+    /// The first turn that has a line.
+    pub from: Option<u64>,
+    /// What goes to the dump.
+    pub dump: Option<Dump>,
+    /// Whether the report has the lines of the tables.
+    pub tables: bool,
+    /// Whether the report has the lines of the counts.
+    pub counts: bool,
+}
+
+/// Two machines to be compared. A name has 1 to 255 bytes.
+#[derive(Clone, Copy)]
+pub struct Pair<'a> {
+    /// The first manifest's name.
+    pub first: &'a str,
+    /// The second manifest's name.
+    pub second: &'a str,
+    /// The number of the domain that is compared, at most 9999999999.
+    pub domain: u64,
+    /// The most steps to make, at most 9999999999.
+    pub steps: u64,
+}

@@ -1,0 +1,148 @@
+//! The files that a command reads.
+
+ghost use Rattle.std.specs.Prelude.{◌≡◌, ◌≤◌, IfOk, vec_len};
+ghost use Rattle.mx_io.specs.Sink.{SinkState};
+ghost use Rattle.mx_commands.specs.Asked.{wanted_of};
+ghost use Rattle.mx_commands.specs.Boots.{manifest_file, image_file, size_fault};
+ghost use Rattle.mx_commands.specs.Commands.{schedule_file, source_file};
+ghost use Rattle.mx_commands.specs.Reading.{Refuses, Takes};
+ghost use Rattle.mx_commands.specs.Resumed.{snapshot_file};
+ghost use Rattle.mx_turns.specs.Ends.{sinks};
+
+use crate::reading::{ReadFault, read_file};
+use crate::refusal::refuse;
+use crate::side::{Side, image_role, manifest_role, refused};
+use crate::status::{FileRole, Status};
+use mx_io::{Sink, Store};
+use mx_manifest::{BootFault, Key, Part, Place};
+use std::alloc::Global;
+
+/// The most bytes of a manifest or of a source.
+const TEXT_LIMIT: u64 = 1048576;
+
+/// The most bytes of an image or of a schedule.
+const FILE_LIMIT: u64 = 16777216;
+
+/// The most bytes of a snapshot.
+const SNAPSHOT_LIMIT: u64 = 1073741824;
+
+/// A file that is to be read.
+#[derive(Clone, Copy)]
+pub(crate) struct Wanted<'a> {
+    /// What it is read for.
+    pub role: FileRole,
+    /// Its name, 1 to 255 bytes.
+    pub name: &'a str,
+    /// The most bytes that it may have.
+    pub most: u64,
+    /// How the call ends where it has more.
+    pub large: Status,
+}
+
+/// A side's manifest of this name.
+pub(crate) fn manifest_file(side: Side, name: &str) -> Wanted<'_>
+    ensures { wanted_of result ≡ manifest_file side name.now }
+{
+    Wanted {
+        role: manifest_role(side),
+        name,
+        most: TEXT_LIMIT,
+        large: refused(side, size_fault(Part::Manifest, 0, Key::NoKey)),
+    }
+}
+
+/// The image of this name, of a side's module with this number from 1.
+pub(crate) fn image_file(side: Side, number: u32, name: &str) -> Wanted<'_>
+    ensures { wanted_of result ≡ image_file side number name.now }
+{
+    Wanted {
+        role: image_role(side, number),
+        name,
+        most: FILE_LIMIT,
+        large: refused(side, size_fault(Part::Module, number, Key::Image)),
+    }
+}
+
+/// The schedule of this name.
+pub(crate) fn schedule_file(name: &str) -> Wanted<'_>
+    ensures { wanted_of result ≡ schedule_file name.now }
+{
+    Wanted {
+        role: FileRole::Schedule,
+        name,
+        most: FILE_LIMIT,
+        large: refused(Side::First, size_fault(Part::Schedule, 0, Key::NoKey)),
+    }
+}
+
+/// The source of this name.
+pub(crate) fn source_file(name: &str) -> Wanted<'_>
+    ensures { wanted_of result ≡ source_file name.now }
+{
+    Wanted {
+        role: FileRole::Source,
+        name,
+        most: TEXT_LIMIT,
+        large: Status::AsmFault {
+            line: 0,
+            number: 11,
+        },
+    }
+}
+
+/// The snapshot of this name.
+pub(crate) fn snapshot_file(name: &str) -> Wanted<'_>
+    ensures { wanted_of result ≡ snapshot_file name.now }
+{
+    Wanted {
+        role: FileRole::Snapshot,
+        name,
+        most: SNAPSHOT_LIMIT,
+        large: Status::SnapshotFault { at: 0, number: 1 },
+    }
+}
+
+// A file over its limit: fault 9 at its place.
+fn size_fault(part: Part, index: u32, key: Key) -> BootFault
+    ensures { result ≡ size_fault part index key }
+{
+    BootFault {
+        number: 9,
+        place: Place { part, index, key },
+        detail: 0,
+    }
+}
+
+/// The bytes of a file, or the end of a call whose file isn't there whole: its line is the whole report.
+pub(crate) fn take_file<S: Store, R: Sink>(
+    alloc: Global,
+    file: &Wanted<'_>,
+    store: &mut S,
+    report: &mut R,
+) -> Result<Vec<u8>, Status>
+    ensures takes { Takes S.gives (wanted_of file.now) store.old store.new
+        (R.state report.old) (R.state report.new) result }
+    ensures fits { IfOk result (λ bytes. vec_len bytes ≤ file.now.most) }
+{
+    match read_file(alloc, store, file.name, file.most) {
+        Ok(bytes) => Ok(bytes),
+        Err(fault) => Err(refuse_file(report, file, fault)),
+    }
+}
+
+/// Ends a call whose file isn't there whole, with its line as the whole report.
+fn refuse_file<R: Sink>(report: &mut R, file: &Wanted<'_>, fault: ReadFault) -> Status
+    ensures { (console dump : SinkState) → Refuses (wanted_of file.now) fault
+        (sinks console (R.state report.old) dump) (sinks console (R.state report.new) dump) result }
+{
+    let role = file.role;
+    match fault {
+        ReadFault::Absent => refuse(report, file.name, Status::NoFile(role)),
+        ReadFault::Large => refuse(report, file.name, file.large),
+        ReadFault::Short(told, got) => {
+            refuse(report, file.name, Status::ShortFile { role, told, got })
+        }
+        ReadFault::Broken => refuse(report, file.name, Status::StoreFault),
+        ReadFault::NoMemory => Status::WantOfMemory,
+    }
+}

@@ -1,4 +1,0 @@
-use Rattle.mx_run.proofs.comparing.compare_booted.Goals as goal
-
-pub returns : goal.returns
-returns g c = c.compare_plans-status.ensures

@@ -1,4 +1,0 @@
-use Rattle.mx_run.proofs.resuming.run_taken.Goals as goal
-
-pub returns : goal.returns
-returns g c = c.run_from-status.ensures
