@@ -14,7 +14,10 @@ use mx_io::{Failed, Sink, Store, put_all};
 use std::alloc::Global;
 use std::str::from_utf8;
 
-/// Assembles the source of this name and writes its image to the console.
+/// Assembles the source of this name, at most 1048576 bytes of text, and writes its image to the console.
+///
+/// A source that isn't there whole, or that has a fault, has its line as the report, and the console gets nothing.
+/// Where memory is wanting nothing is written.
 pub fn write_image<S: Store, C: Sink, R: Sink>(
     alloc: Global,
     source: &str,

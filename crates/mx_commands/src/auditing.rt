@@ -23,6 +23,9 @@ use mx_words::NoMemory;
 use std::alloc::Global;
 
 /// Boots the manifest of this name, and writes the audit of its machine, which makes no turn, as the report.
+///
+/// Where a file isn't there whole or the boot is refused the report is that one line. Where memory is wanting nothing
+/// is written.
 pub fn audit_manifest<S: Store, R: Sink>(
     alloc: Global,
     name: &str,

@@ -27,7 +27,9 @@ use mx_manifest::{Key, Plan};
 use mx_twin::{run_twin, twin_line};
 use std::alloc::Global;
 
-/// Boots two manifests, one after the other, and compares what a domain sees of their machines after each turn.
+/// Boots two manifests, one after the other, and compares what a domain sees of their machines after each turn. The
+/// report is one line: that they stay alike, where they first differ, or the refusal, as `Unlike` or `NoDomain`. Where
+/// memory is wanting nothing is written.
 pub fn compare_manifests<S: Store, R: Sink>(
     alloc: Global,
     pair: &Pair<'_>,

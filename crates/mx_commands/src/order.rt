@@ -5,11 +5,11 @@ use mx_turns::Dump;
 /// How a run is made.
 #[derive(Clone, Copy, PartialEq, Eq, Debug)]
 pub enum Way {
-    /// With the report of its end.
+    /// From a manifest's boot, with the report of its end.
     Run,
     /// The same from a snapshot on.
     Resume,
-    /// With a line for each turn.
+    /// From a manifest's boot, with a line for each turn.
     Trace,
 }
 
@@ -22,11 +22,11 @@ pub struct Order<'a> {
     pub file: &'a str,
     /// The most steps to make, at most 9999999999.
     pub steps: u64,
-    /// The schedule's name.
+    /// The schedule's name; with none the harts take turns by the plan's quantum.
     pub schedule: Option<&'a str>,
-    /// The first turn that has a line.
+    /// Of a trace the first turn that has a line, at most 9999999999; none is turn 0.
     pub from: Option<u64>,
-    /// What goes to the dump.
+    /// What goes to the dump, if anything; nothing of a trace.
     pub dump: Option<Dump>,
     /// Whether the report has the lines of the tables.
     pub tables: bool,
@@ -34,14 +34,14 @@ pub struct Order<'a> {
     pub counts: bool,
 }
 
-/// Two machines to be compared. A name has 1 to 255 bytes.
+/// Two machines to be compared, each at boot. A name has 1 to 255 bytes.
 #[derive(Clone, Copy)]
 pub struct Pair<'a> {
     /// The first manifest's name.
     pub first: &'a str,
     /// The second manifest's name.
     pub second: &'a str,
-    /// The number of the domain that is compared, at most 9999999999.
+    /// The number of the domain that is compared, from 1, at most 9999999999.
     pub domain: u64,
     /// The most steps to make, at most 9999999999.
     pub steps: u64,

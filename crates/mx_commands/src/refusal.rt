@@ -14,8 +14,9 @@ use mx_manifest::{BootFault, Key, Part};
 use mx_report::put_line;
 use mx_words::Need;
 
-/// Ends a call that refuses: its line is the whole report, or the report's fault is the status. The other
-/// two sinks get nothing.
+/// Ends a call that refuses: the line of the status is the whole report, or the report's fault is the status. The name
+/// is that of the file that it is about, or empty; a status without a line, as `Ran`, has an empty report. The other
+/// two sinks get nothing. Takes no memory.
 pub fn refuse<R: Sink>(report: &mut R, name: &str, status: Status) -> Status
     ensures { (console dump : SinkState) → Ends (refusal name.now status)
         (sinks console (R.state report.old) dump) (sinks console (R.state report.new) dump) result }

@@ -24,7 +24,12 @@ use mx_resume::{Resumed, SnapshotRefused, read_snapshot};
 use mx_words::Blob;
 use std::alloc::Global;
 
-/// Reads the snapshot of an order, and makes the run that goes on from it.
+/// Reads the snapshot of an order, at most 1073741824 bytes, and makes the run that goes on from it. The turns that it
+/// makes are counted on from those of the snapshot.
+///
+/// A snapshot that isn't there whole, has a fault or needs more for its tables than its limit has its line as the
+/// report, and nothing else is written. Where memory is wanting nothing is written; no memory is taken and no file read
+/// after the first turn.
 pub fn resume_snapshot<S: Store, C: Sink, R: Sink, D: Sink>(
     alloc: Global,
     order: &Order<'_>,

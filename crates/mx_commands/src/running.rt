@@ -26,7 +26,12 @@ use mx_turns::{Schedule, SinkFault, Task, TraceTask, make_run, make_trace};
 use mx_words::NoMemory;
 use std::alloc::Global;
 
-/// Boots the manifest of an order, and makes its run.
+/// Boots the manifest of an order, and makes its run, or its trace. The texts are the console's bytes, the report and
+/// what goes to the dump.
+///
+/// Where a file isn't there whole or the boot is refused the report is that one line, and nothing else is written.
+/// Where memory is wanting nothing is written; no memory is taken and no file read after the first turn. The first sink
+/// that fails ends the run.
 pub fn run_manifest<S: Store, C: Sink, R: Sink, D: Sink>(
     alloc: Global,
     order: &Order<'_>,
