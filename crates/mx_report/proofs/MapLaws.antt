@@ -1,6 +1,6 @@
 -- Rights on the words of a map, found from span to span.
 use Rattle.std.proofs.Common.{◌≡◌, ◌≢◌, ℕ, suc, ◌+◌, ◌-◌, ◌<◌, ◌≤◌, ◌⊎◌, inl, inr, Bool, true, false, not, ◌||◌, List, [], ◌∷◌, length, get_or, take, drop, refl, ap, ◌∙◌, arith, length-take, length-drop, get_or-take, get_or-drop}
-use Rattle.std.proofs.lemmas.Bool.{cases_lt, not-false}
+use Rattle.std.proofs.lemmas.Bool.{cases_lt}
 use Rattle.mx_words.specs.declared.perm.Perm.{Perm}
 use Rattle.std.specs.List.{list_any}
 use Rattle.std.proofs.lemmas.List.Folds.{list_any_at}
@@ -8,19 +8,8 @@ use Rattle.mx_words.specs.declared.perm.Perm.TheVariants as P
 use Rattle.mx_words.specs.declared.perm.Span.{Span}
 use Rattle.mx_words.specs.Rights.{same, perm_at}
 use Rattle.mx_words.proofs.ReachLaws.{IsUniformRound}
-use Rattle.mx_words.proofs.RunLaws.{same_eq, same_from}
+use Rattle.mx_words.proofs.RunLaws.{same_eq}
 use Rattle.mx_report.specs.Texts.{has_rights}
-
--- permissions that differ, and that don't
-pub differ_ne : (p q : Perm) → not (same p q) ≡ true → p ≢ q
-differ_ne p q h e = absurd (both (not (same p q)) h (ap not (same_from p q e)))
-  where
-    both : (b : Bool) → b ≡ true → b ≡ false → ⊥
-    both true e f = cc
-    both false e f = cc
-
-pub differ_eq : (p q : Perm) → not (same p q) ≡ false → p ≡ q
-differ_eq p q h = same_eq p q (not-false (same p q) h)
 
 -- some of a part's words has a permission, and none has
 pub some_right : (m : List Perm) (first count w : ℕ) → first + count ≤ length m → first ≤ w → w < first + count → perm_at m w ≢ P.None → has_rights m first count ≡ true

@@ -1,8 +1,7 @@
 //! Lines of a domain and of its map.
-ghost use Rattle.std.specs.Prelude.{◌≡◌, ◌<◌, ◌≤◌, ◌+◌, not, length};
+ghost use Rattle.std.specs.Prelude.{◌≡◌, ◌<◌, ◌≤◌, ◌+◌, length};
 ghost use Rattle.mx_io.specs.Sink.{Puts};
 ghost use Rattle.mx_words.specs.Ranges.{most_words};
-ghost use Rattle.mx_words.specs.Rights.{same};
 ghost use Rattle.mx_model.specs.State.{module_at};
 ghost use Rattle.mx_model.specs.Valid.{IsModule};
 ghost use Rattle.mx_tail.specs.Tail.{Passes};
@@ -98,13 +97,6 @@ fn put_maps<R: Sink, T: PermTables, const N: usize>(
         word = end;
     }
     Ok(())
-}
-
-/// Whether two permissions are different ones.
-pub(crate) fn differ(p: Perm, q: Perm) -> bool
-    ensures { result ≡ not (same p q) }
-{
-    p.number() != q.number()
 }
 
 fn permission_name(perm: Perm) -> &'static str

@@ -8,7 +8,6 @@ ghost use Rattle.mx_tail.specs.Tail.{Passes};
 ghost use Rattle.mx_report.specs.Lines.{kind_name, tables_line, level_name, shown_line, counts_text};
 ghost use Rattle.mx_report.specs.Texts.{all_items, counts_lines, domain_map, flat_told, has_rights, shown_lines, shown_text, table_lines};
 
-use crate::maps::differ;
 use crate::words::address;
 use crate::{Tail, put_pieces};
 use mx_check::Counts;
@@ -175,7 +174,7 @@ fn has_rights<T: PermTables, const N: usize>(
     let mut word = first;
     'spans: while word < end {
         let span = machine.span(domain, word);
-        if differ(span.perm, Perm::None) {
+        if span.perm != Perm::None {
             return true;
         }
         word = span.first + span.count;

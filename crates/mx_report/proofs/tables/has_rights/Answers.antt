@@ -1,12 +1,14 @@
-use Rattle.std.proofs.Common.{◌<◌, sym, ◌∙◌, arith}
+use Rattle.std.proofs.Common.{◌<◌, sym, ◌∙◌, arith, rules}
+use denote.Enum.Bare.{differs_true, differs_false}
 use Rattle.mx_model.specs.Reads.{map_in}
 use Rattle.mx_words.specs.declared.perm.Perm.TheVariants as P
+use Rattle.mx_words.specs.contracts.perm.Perm.{the_type}
 use Rattle.mx_machine.proofs.MapRuns.{round_perm, walk_round}
-use Rattle.mx_report.proofs.MapLaws.{differ_ne, differ_eq, some_right, no_right, none_more}
+use Rattle.mx_report.proofs.MapLaws.{some_right, no_right, none_more}
 use Rattle.mx_report.proofs.tables.has_rights.Goals as goal
 
-pub returns-then-differ : goal.returns-then-differ
-returns-then-differ g c =
+pub returns-then-ne : goal.returns-then-ne
+returns-then-ne g c =
     let f = c.args.machine.now in
     let m = map_in f.core.size f.maps c.args.domain in
     let whole = c.machine_is_valid.ensures.whole c.args.domain c.requires.domain in
@@ -15,7 +17,7 @@ returns-then-differ g c =
     let round = walk_round f c.args.domain c.spans.word c.span-span.result c.span-span.ensures whole small in
     let low = c.spans.invariant.low in
     sym (some_right m c.args.first c.args.count c.spans.word (omega (arith, whole, c.requires.inside)) low (omega (arith, c.spans-test.true))
-    (λ e. differ_ne c.span-span.result.perm P.None (sym c.differ.ensures ∙ c.if-differ.true) (round_perm m c.spans.word c.span-span.result round ∙ e)))
+    (λ e. differs_true the_type c.span-span.result.perm P.None (sym c.if-ne.ensures) (round_perm m c.spans.word c.span-span.result round ∙ e)))
 
 pub overflow_add-word : goal.overflow_add-word
 overflow_add-word g c =
@@ -51,7 +53,7 @@ spans-preserved g c =
     let right = round.right in
     record {
       low = omega arith;
-      none = none_more m c.args.first c.spans.word c.span-span.result c.spans.invariant.none round (differ_eq c.span-span.result.perm P.None (sym c.differ.ensures ∙ c.if-differ.false));
+      none = none_more m c.args.first c.spans.word c.span-span.result c.spans.invariant.none round (differs_false the_type (search rules) c.span-span.result.perm P.None (sym c.if-ne.ensures));
     }
 
 pub returns : goal.returns
