@@ -62,7 +62,7 @@ fn same_run(a: &AnyMachine, b: &AnyMachine, at: u32, end: u32, one: Perm, other:
         || list_all (same_word (meaning a.now).core (meaning b.now).core)
         (range_with_len at (end - at)))) }
 {
-    one.number() == other.number() && (!one.allows(Access::Read) || same_bytes(a, b, at, end))
+    one == other && (!one.allows(Access::Read) || same_bytes(a, b, at, end))
 }
 
 /// The end of words from `at` on, up to `end` at most, that a domain sees alike in both. `None` exactly where it doesn't see all up to
