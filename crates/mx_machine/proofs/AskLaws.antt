@@ -11,7 +11,7 @@ use Rattle.mx_model.specs.declared.values.Call.{Call}
 use Rattle.mx_model.specs.declared.values.TurnKind.TheVariants as T
 use Rattle.mx_model.specs.Events.{Events, no_events}
 use Rattle.mx_model.specs.State.{Core, Waiting, with_hart}
-use Rattle.mx_model.specs.State.{kept_at as seen_at, no_held_hart as nobody_seen}
+use Rattle.mx_model.specs.State.{hart_at as seen_at, no_hart as nobody_seen}
 use Rattle.mx_model.specs.State.{Hart as Seen}
 use Rattle.mx_model.specs.Turn.{Asks, asked, call_of, is_served_now, served}
 use Rattle.mx_model.specs.Checks.{is_ready as ready_in}

@@ -3,7 +3,7 @@ use Rattle.std.proofs.Common.{◌≡◌, ◌≢◌, ℕ, zero, suc, ◌+◌, ◌
 use Rattle.mx_check.specs.declared.flight.Flight.{Flight}
 use Rattle.mx_check.specs.Harts.{Kept, kept_at}
 use Rattle.mx_model.specs.State.{Hart as Seen}
-use Rattle.mx_model.specs.State.{no_held_hart as nobody_seen}
+use Rattle.mx_model.specs.State.{no_hart as nobody_seen}
 use Rattle.mx_machine.specs.declared.hart.Hart.{Hart}
 use Rattle.mx_machine.specs.Harts.{no_held_hart, hart_among, own_call, seen, seen_with, seen_from, status_by}
 use Rattle.mx_machine.specs.Held.{Held}

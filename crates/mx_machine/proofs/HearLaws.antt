@@ -22,7 +22,7 @@ use Rattle.mx_model.specs.Checks.{call_range, flight_range, heard_by, heard_rang
 use Rattle.mx_model.specs.Checks.{hears as heard_in, is_halted as halted_by}
 use Rattle.mx_model.specs.State.{Core, Module, Status, module_at}
 use Rattle.mx_model.specs.State.{Hart as Seen}
-use Rattle.mx_model.specs.State.{no_held_hart as nobody_seen}
+use Rattle.mx_model.specs.State.{no_hart as nobody_seen}
 use Rattle.mx_supervisor.specs.Looks.{BarsAlike}
 use Rattle.mx_supervisor.specs.Parts.{modules_from, with_heap}
 use Rattle.mx_supervisor.specs.Served.{range_of}

@@ -19,8 +19,8 @@ use Rattle.mx_model.specs.Checks.{Look, looked_all}
 use Rattle.mx_model.specs.Effect.{Effect, Goes, Faults, Loads, Stores, Calls, Jumps, load_size, loaded, next, written}
 use Rattle.mx_model.specs.Events.{Events, no_events}
 use Rattle.mx_model.specs.State.{Core, Running, with_hart}
-use Rattle.mx_model.specs.State.{kept_at as hart_at_seen}
-use Rattle.mx_model.specs.State.{no_held_hart as nobody_seen}
+use Rattle.mx_model.specs.State.{hart_at as hart_at_seen}
+use Rattle.mx_model.specs.State.{no_hart as nobody_seen}
 use Rattle.mx_model.specs.State.{Hart as Seen}
 use Rattle.mx_model.specs.Turn.{Action, acted, is_return_at, runs_at}
 use Rattle.mx_model.proofs.ListLaws.{length-put_at}

@@ -20,7 +20,7 @@ use Rattle.mx_model.specs.Gates.{AreSingle, most_gates}
 use Rattle.mx_model.specs.Reads.{Reads, flat_reads}
 use Rattle.mx_model.specs.State.{Core, Module, no_module}
 use Rattle.mx_model.specs.State.{Hart as Seen}
-use Rattle.mx_model.specs.State.{no_held_hart as nobody_seen}
+use Rattle.mx_model.specs.State.{no_hart as nobody_seen}
 use Rattle.mx_model.specs.Valid.{IsFrame, IsGate, IsHart, IsHome, IsModule, IsPc, IsRegisters, IsValid}
 use Rattle.mx_model.proofs.JoinLaws.{all-weaker}
 use Rattle.mx_model.proofs.ListLaws.{all-at, all-in}
