@@ -12,3 +12,9 @@ returns-in_err-put_asked_tables g c =
 pub returns : goal.returns
 unfolding asked_lines
 returns g c = passes_next c.in_ok-put_asked_tables.ensures (passes_last c.put_asked_counts.ensures)
+
+pub put_asked_tables-requires : goal.put_asked_tables-requires
+put_asked_tables-requires g c = search
+
+pub put_asked_counts-requires : goal.put_asked_counts-requires
+put_asked_counts-requires g c = search

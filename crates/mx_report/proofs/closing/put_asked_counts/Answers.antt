@@ -3,3 +3,6 @@ use Rattle.mx_report.proofs.closing.put_asked_counts.Goals as goal
 
 pub returns-else-options : goal.returns-else-options
 returns-else-options g c = rw c.if-options.false (passes_nothing _ _)
+
+pub put_counts-requires : goal.put_counts-requires
+put_counts-requires g c = search

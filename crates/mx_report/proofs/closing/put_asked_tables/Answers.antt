@@ -3,3 +3,6 @@ use Rattle.mx_report.proofs.closing.put_asked_tables.Goals as goal
 
 pub returns-else-options : goal.returns-else-options
 returns-else-options g c = rw c.if-options.false (passes_nothing _ _)
+
+pub put_tables-requires : goal.put_tables-requires
+put_tables-requires g c = search

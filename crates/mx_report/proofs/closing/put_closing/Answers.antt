@@ -44,3 +44,18 @@ pub returns : goal.returns
 unfolding closing_of
 returns g c =
     (passes_next (passes_same (ap (λ n. end_line n c.args.end) c.steps.ensures) c.in_ok-put_end.ensures.passes) (passes_next (c.in_ok-put_harts.ensures) (passes_next (c.in_ok-put_domains.ensures) (passes_next (c.in_ok-put_owners.ensures) (passes_last (passes_same (asked_same c.args.options _ _ _ _ _ _ c.requires.kind c.requires.limit) c.put_asked.ensures))))))
+
+pub steps-requires : goal.steps-requires
+steps-requires g c = search
+
+pub put_harts-requires : goal.put_harts-requires
+put_harts-requires g c = search
+
+pub put_domains-requires : goal.put_domains-requires
+put_domains-requires g c = search
+
+pub put_owners-requires : goal.put_owners-requires
+put_owners-requires g c = search
+
+pub put_asked-requires : goal.put_asked-requires
+put_asked-requires g c = search

@@ -1,4 +1,4 @@
-use Rattle.std.proofs.Common.{ℕ, List, Bor, refl, ◌+◌, ◌-◌, length, ap, arith}
+use Rattle.std.proofs.Common.{rules, ℕ, List, Bor, refl, ◌+◌, ◌-◌, length, ap, arith}
 use Rattle.std.proofs.lemmas.Result.{err_from_is_err_and}
 use Rattle.mx_model.specs.Reads.{map_in}
 use Rattle.mx_model.specs.State.{module_at}
@@ -31,3 +31,9 @@ returns g c =
     let f = c.args.machine.now in
     let n = length c.args.machine.now.core.modules in
     coming_numbers _ (c.loop-i.i + 1) (n - c.loop-i.i) (omega (arith, c.loop-i-test.false, c.modules-i-end.ensures)) c.loop-i.invariant
+
+pub modules-i-end-requires : goal.modules-i-end-requires
+modules-i-end-requires g c = search
+
+pub put_domain-requires : goal.put_domain-requires
+put_domain-requires g c = (search, search rules)

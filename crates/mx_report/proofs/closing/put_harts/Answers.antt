@@ -1,4 +1,4 @@
-use Rattle.std.proofs.Common.{◌+◌, ◌-◌, length, ap, arith}
+use Rattle.std.proofs.Common.{rules, ◌+◌, ◌-◌, length, ap, arith}
 use Rattle.std.proofs.lemmas.Result.{err_from_is_err_and}
 use Rattle.mx_model.specs.State.{hart_at}
 use Rattle.mx_report.specs.Lines.{view_lines}
@@ -26,3 +26,9 @@ pub returns : goal.returns
 returns g c =
     let n = length c.args.machine.now.core.harts in
     coming_numbers _ c.loop-hart.hart (n - c.loop-hart.hart) (omega (arith, c.loop-hart-test.false, c.harts-hart-end.ensures)) c.loop-hart.invariant
+
+pub harts-hart-end-requires : goal.harts-hart-end-requires
+harts-hart-end-requires g c = search
+
+pub hart-requires : goal.hart-requires
+hart-requires g c = (search, search rules)

@@ -9,3 +9,6 @@ returns-in_err-put_domain g c =
 
 pub returns : goal.returns
 returns g c = whole_end c.new-tail.ensures c.in_ok-put_domain.ensures c.end.ensures.puts
+
+pub put_domain-requires : goal.put_domain-requires
+put_domain-requires g c = search

@@ -1,4 +1,4 @@
-use Rattle.std.proofs.Common.{drop, ap, arith}
+use Rattle.std.proofs.Common.{rules, drop, ap, arith}
 use Rattle.std.proofs.lemmas.Result.{err_from_is_err_and}
 use Rattle.mx_words.specs.Rights.{same}
 use Rattle.mx_words.specs.Runs.{runs_of}
@@ -47,3 +47,15 @@ returns g c =
     let f = c.args.machine.now in
     let m = map_in f.core.size f.maps c.args.domain in
     coming_none (coming_same (map_behind (map_text c.args.domain) m c.runs.word (omega (arith, c.runs-test.false, c.words.ensures, c.machine_is_valid.ensures.whole c.args.domain c.requires))) c.runs.invariant.coming)
+
+pub machine_is_valid-requires : goal.machine_is_valid-requires
+machine_is_valid-requires g c = search
+
+pub words-requires : goal.words-requires
+words-requires g c = search
+
+pub perm_end-end-requires : goal.perm_end-end-requires
+perm_end-end-requires g c = (search, search rules)
+
+pub perm-requires : goal.perm-requires
+perm-requires g c = (search, search rules)

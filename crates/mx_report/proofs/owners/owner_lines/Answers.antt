@@ -9,3 +9,6 @@ returns-in_err-put_owners g c =
 
 pub returns : goal.returns
 returns g c = whole_end c.new-tail.ensures c.in_ok-put_owners.ensures c.end.ensures.puts
+
+pub put_owners-requires : goal.put_owners-requires
+put_owners-requires g c = search

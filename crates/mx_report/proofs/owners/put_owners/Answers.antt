@@ -1,4 +1,4 @@
-use Rattle.std.proofs.Common.{◌==◌, drop, ap, arith}
+use Rattle.std.proofs.Common.{rules, ◌==◌, drop, ap, arith}
 use Rattle.std.proofs.lemmas.Result.{err_from_is_err_and}
 use Rattle.mx_words.specs.Runs.{runs_of}
 use Rattle.mx_report.specs.Lines.{owner_text}
@@ -41,3 +41,15 @@ pub returns : goal.returns
 returns g c =
     let os = c.args.machine.now.owners in
     coming_none (coming_same (owners_behind owner_text os c.runs.word (omega (arith, c.runs-test.false, c.words.ensures, c.machine_is_valid.ensures.owners))) c.runs.invariant.coming)
+
+pub machine_is_valid-requires : goal.machine_is_valid-requires
+machine_is_valid-requires g c = search
+
+pub words-requires : goal.words-requires
+words-requires g c = search
+
+pub owner_end-end-requires : goal.owner_end-end-requires
+owner_end-end-requires g c = (search, search rules)
+
+pub owner-requires : goal.owner-requires
+owner-requires g c = (search, search rules)

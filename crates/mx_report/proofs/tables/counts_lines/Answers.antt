@@ -9,3 +9,6 @@ returns-in_err-put_counts g c =
 
 pub returns : goal.returns
 returns g c = whole_end c.new-tail.ensures c.in_ok-put_counts.ensures c.end.ensures.puts
+
+pub put_counts-requires : goal.put_counts-requires
+put_counts-requires g c = search

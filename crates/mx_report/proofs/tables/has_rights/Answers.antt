@@ -12,7 +12,6 @@ returns-then-ne g c =
     let f = c.args.machine.now in
     let m = map_in f.core.size f.maps c.args.domain in
     let whole = c.machine_is_valid.ensures.whole c.args.domain c.requires.domain in
-    let few = c.machine_is_valid.ensures.valid.few_words in
     let small : c.spans.word < f.core.size = omega (arith, c.spans-test.true, c.requires.inside) in
     let round = walk_round f c.args.domain c.spans.word c.span-span.result c.span-span.ensures whole small in
     let low = c.spans.invariant.low in
@@ -22,7 +21,6 @@ returns-then-ne g c =
 pub overflow_add-word : goal.overflow_add-word
 overflow_add-word g c =
     let f = c.args.machine.now in
-    let m = map_in f.core.size f.maps c.args.domain in
     let whole = c.machine_is_valid.ensures.whole c.args.domain c.requires.domain in
     let few = c.machine_is_valid.ensures.valid.few_words in
     let small : c.spans.word < f.core.size = omega (arith, c.spans-test.true, c.requires.inside) in
@@ -33,9 +31,7 @@ overflow_add-word g c =
 pub spans-smaller : goal.spans-smaller
 spans-smaller g c =
     let f = c.args.machine.now in
-    let m = map_in f.core.size f.maps c.args.domain in
     let whole = c.machine_is_valid.ensures.whole c.args.domain c.requires.domain in
-    let few = c.machine_is_valid.ensures.valid.few_words in
     let small : c.spans.word < f.core.size = omega (arith, c.spans-test.true, c.requires.inside) in
     let round = walk_round f c.args.domain c.spans.word c.span-span.result c.span-span.ensures whole small in
     let right = round.right in
@@ -46,7 +42,6 @@ spans-preserved g c =
     let f = c.args.machine.now in
     let m = map_in f.core.size f.maps c.args.domain in
     let whole = c.machine_is_valid.ensures.whole c.args.domain c.requires.domain in
-    let few = c.machine_is_valid.ensures.valid.few_words in
     let small : c.spans.word < f.core.size = omega (arith, c.spans-test.true, c.requires.inside) in
     let round = walk_round f c.args.domain c.spans.word c.span-span.result c.span-span.ensures whole small in
     let low = c.spans.invariant.low in
@@ -61,3 +56,9 @@ returns g c =
     let f = c.args.machine.now in
     let m = map_in f.core.size f.maps c.args.domain in
     sym (no_right m c.args.first c.args.count (λ w lo hi. c.spans.invariant.none w lo (omega (arith, c.spans-test.false))))
+
+pub machine_is_valid-requires : goal.machine_is_valid-requires
+machine_is_valid-requires g c = search
+
+pub span-span-requires : goal.span-span-requires
+span-span-requires g c = (search, search rules)

@@ -1,4 +1,4 @@
-use Rattle.std.proofs.Common.{◌+◌, ◌-◌, length, arith}
+use Rattle.std.proofs.Common.{rules, ◌+◌, ◌-◌, length, arith}
 use Rattle.std.proofs.lemmas.Result.{err_from_is_err_and}
 use Rattle.mx_model.specs.State.{cache_at}
 use Rattle.mx_report.specs.Texts.{counts_lines}
@@ -25,3 +25,9 @@ pub returns : goal.returns
 returns g c =
     let n = length c.args.machine.now.core.harts in
     coming_numbers _ c.loop-hart.hart (n - c.loop-hart.hart) (omega (arith, c.loop-hart-test.false, c.harts-hart-end.ensures)) c.loop-hart.invariant
+
+pub harts-hart-end-requires : goal.harts-hart-end-requires
+harts-hart-end-requires g c = search
+
+pub counts-requires : goal.counts-requires
+counts-requires g c = (search, search rules)

@@ -27,8 +27,7 @@ put_item-requires g c =
     let lt : c.items.word < f.core.size = omega (arith, c.items-test.true, c.words.ensures) in
     let inside = (shown_round f c.args.domain c.items.word c.shown-item.result c.shown-item.ensures whole lt).inside in
     let fits : c.shown-item.result.first + c.shown-item.result.count ≤ f.core.size = omega (arith, whole, inside) in
-    let valid = c.requires in
-    search rules
+    (search, (c.requires, fits))
 
 pub returns-in_err-put_item : goal.returns-in_err-put_item
 returns-in_err-put_item g c =
@@ -85,3 +84,12 @@ returns g c =
     let m = map_in f.core.size f.maps c.args.domain in
     let whole = c.machine_is_valid.ensures.whole c.args.domain c.requires in
     coming_numbers (item_text c.args.domain f.core.kind m) c.items.word (length m - c.items.word) (omega (arith, c.items-test.false, c.words.ensures, whole)) c.items.invariant.coming
+
+pub machine_is_valid-requires : goal.machine_is_valid-requires
+machine_is_valid-requires g c = search
+
+pub words-requires : goal.words-requires
+words-requires g c = search
+
+pub shown-item-requires : goal.shown-item-requires
+shown-item-requires g c = (search, search rules)

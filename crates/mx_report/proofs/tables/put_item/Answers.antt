@@ -6,3 +6,9 @@ use Rattle.mx_report.proofs.tables.put_item.Goals as goal
 pub returns-else-has_rights : goal.returns-else-has_rights
 returns-else-has_rights g c =
     passes_same (shown_none _ _ c.args.item.now (sym c.has_rights.ensures ∙ c.if-has_rights.false)) (passes_nothing _ _)
+
+pub machine_is_valid-requires : goal.machine_is_valid-requires
+machine_is_valid-requires g c = search
+
+pub has_rights-requires : goal.has_rights-requires
+has_rights-requires g c = search

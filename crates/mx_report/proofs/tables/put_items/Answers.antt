@@ -1,4 +1,4 @@
-use Rattle.std.proofs.Common.{◌+◌, ◌-◌, length, arith}
+use Rattle.std.proofs.Common.{rules, ◌+◌, ◌-◌, length, arith}
 use Rattle.std.proofs.lemmas.Result.{err_from_is_err_and}
 use Rattle.mx_report.specs.Texts.{all_items}
 use Rattle.mx_tail.proofs.PassLaws.{coming_range, coming_number, coming_number_stop, coming_numbers}
@@ -23,3 +23,9 @@ pub returns : goal.returns
 returns g c =
     let n = length c.args.machine.now.core.modules in
     coming_numbers _ (c.loop-i.i + 1) (n - c.loop-i.i) (omega (arith, c.loop-i-test.false, c.modules-i-end.ensures)) c.loop-i.invariant
+
+pub modules-i-end-requires : goal.modules-i-end-requires
+modules-i-end-requires g c = search
+
+pub put_domain_items-requires : goal.put_domain_items-requires
+put_domain_items-requires g c = (search, search rules)

@@ -16,3 +16,9 @@ pub returns : goal.returns
 unfolding table_lines
 returns g c =
     passes_next (passes_same (ap (λ (u : Need). tables_line c.args.kind u c.args.limit) c.used.ensures) c.in_ok-put_used.ensures) (passes_last c.put_items.ensures)
+
+pub used-requires : goal.used-requires
+used-requires g c = search
+
+pub put_items-requires : goal.put_items-requires
+put_items-requires g c = search

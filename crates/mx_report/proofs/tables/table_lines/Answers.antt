@@ -9,3 +9,6 @@ returns-in_err-put_tables g c =
 
 pub returns : goal.returns
 returns g c = whole_end c.new-tail.ensures c.in_ok-put_tables.ensures c.end.ensures.puts
+
+pub put_tables-requires : goal.put_tables-requires
+put_tables-requires g c = search
