@@ -24,6 +24,7 @@ pub mod Rowing
 pub mod Rows
 pub mod Started
 pub mod Starting
+pub mod Stepped
 pub mod Steps
 pub mod Ready
 pub mod StandingLaws
