@@ -6,3 +6,6 @@ returns-else-options g c = rw c.if-options.false (passes_nothing _ _)
 
 pub put_tables-requires : goal.put_tables-requires
 put_tables-requires g c = search
+
+pub returns-then-options : goal.returns-then-options
+returns-then-options g c = rw c.if-options.true c.put_tables.ensures

@@ -1,4 +1,4 @@
-use Rattle.std.proofs.Common.{sym, ◌∙◌}
+use Rattle.std.proofs.Common.{sym, ◌∙◌, arith}
 use Rattle.mx_tail.proofs.PassLaws.{passes_same, passes_nothing}
 use Rattle.mx_report.proofs.ItemLaws.{shown_none}
 use Rattle.mx_report.proofs.tables.put_item.Goals as goal
@@ -12,3 +12,8 @@ machine_is_valid-requires g c = search
 
 pub has_rights-requires : goal.has_rights-requires
 has_rights-requires g c = search
+
+pub put_shown-requires : goal.put_shown-requires
+put_shown-requires g c =
+    let few = c.machine_is_valid.ensures.valid.few_words in
+    omega (arith, c.requires.inside)
