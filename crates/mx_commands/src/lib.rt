@@ -21,4 +21,5 @@ pub use order::{Order, Pair, Way};
 pub use refusal::refuse;
 pub use resuming::resume_snapshot;
 pub use running::run_manifest;
+pub use side::Side;
 pub use status::{FileRole, Status};

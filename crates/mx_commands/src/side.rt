@@ -10,7 +10,7 @@ use mx_words::Need;
 
 /// Which of two machines a boot is of.
 #[derive(Clone, Copy, PartialEq, Eq, Debug)]
-pub(crate) enum Side {
+pub enum Side {
     /// The first, or the only one.
     First,
     /// The second.

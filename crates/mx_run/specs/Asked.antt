@@ -4,8 +4,8 @@ use Rattle.mx_commands.specs.Asked.{order_of, pair_asked}
 use Rattle.mx_run.specs.Words.{Request, Go, Asm, Audit, Twin, Mill, Parsed, Stands, Lacks, Meaningless}
 use Rattle.mx_run.specs.declared.words.Asked.{Asked}
 use Rattle.mx_run.specs.declared.words.Asked.TheVariants as asked
-use Rattle.mx_commands.specs.declared.options.Parse.{Parse}
-use Rattle.mx_commands.specs.declared.options.Parse.TheVariants as parse
+use Rattle.mx_run.specs.declared.options.Parse.{Parse}
+use Rattle.mx_run.specs.declared.options.Parse.TheVariants as parse
 
 -- the request that the words make
 abbrev pub request_of : Asked → Request
