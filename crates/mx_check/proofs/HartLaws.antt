@@ -1,8 +1,9 @@
--- A list of harts in the first places of an array: what a read of one of them says of the list, and the list of the first.
-use Rattle.std.proofs.Common.{◌≡◌, ℕ, zero, suc, ◌<◌, ◌≤◌, List, [], ◌∷◌, length, get_or, take, replicate, refl, sym, ap, ◌∙◌, arith, length-take, get_or-take}
+-- A list of harts in the first places of an array: what a read and a write of one of them say of the list.
+use Rattle.std.proofs.Common.{◌≡◌, ℕ, zero, suc, ◌<◌, ◌≤◌, List, [], ◌∷◌, length, get_or, set, take, replicate, refl, sym, ap, ◌∙◌, arith, length-take, get_or-take}
 use Rattle.std.proofs.lemmas.List.{get_or_default}
+use Rattle.std.proofs.SliceLists.{take-set}
 use Rattle.mx_words.specs.Counting.{list_below}
-use Rattle.mx_check.specs.Harts.{Kept, nothing_kept, kept_at}
+use Rattle.mx_check.specs.Harts.{Kept, nothing_kept, kept_at, at_hart}
 
 module _ (n : ℕ) (parts : List Kept) (harts : List Kept) (h : ℕ) (d : Kept) (view : take n parts ≡ harts) (there : h < length harts) where
   -- the part that is read is the hart's
@@ -12,6 +13,13 @@ module _ (n : ℕ) (parts : List Kept) (harts : List Kept) (h : ℕ) (d : Kept) 
       let low : h < n = omega (arith, length-take n parts) in
       let inside : h < length parts = omega (arith, length-take n parts) in
       get_or_default parts h d nothing_kept inside ∙ sym (get_or-take n parts h nothing_kept low) ∙ ap (λ (hs : List Kept). get_or hs h nothing_kept) view
+
+  -- a part that is written is the hart's step
+  pub hart_written : (step : Kept → Kept) (k : Kept) → k ≡ step (get_or parts h d) → take n (set parts h k) ≡ at_hart h step harts
+  hart_written step k e =
+      take-set parts n h k
+      ∙ ap (λ (hs : List Kept). set hs h k) view
+      ∙ ap (λ (x : Kept). set harts h x) (e ∙ ap step hart_read)
 
 -- the first of four harts
 pub four_taken : (n : ℕ) (f : ℕ → Kept) → n ≤ 4 → take n (f 0 ∷ f 1 ∷ f 2 ∷ f 3 ∷ []) ≡ list_below n f

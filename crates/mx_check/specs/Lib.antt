@@ -4,4 +4,3 @@ pub mod Looks
 pub mod Calls
 pub mod Coherence
 pub mod Conditions
-pub mod Lends

@@ -13,8 +13,7 @@ ghost use Rattle.mx_check.specs.Looks.{hits_all, lookups_after, looked_at_addres
 ghost use Rattle.mx_check.specs.Calls.{hears, is_ready, new_harts, waiting_harts};
 ghost use Rattle.mx_check.specs.Conditions.{IsAtHand, MayLook, HasHeardAll, SameButCaches, MayAnnounce, IsWithin, MayChange, IsResumable};
 
-use crate::harts::KeptHarts;
-use crate::look::may;
+use crate::cached_tables::CachedTables;
 use crate::{Counts, Flights, TablesFull};
 use mx_table::{Change, PermTables};
 use mx_words::{Access, Perm, Span};
@@ -29,8 +28,7 @@ use std::marker::Model;
 /// Hart numbers are below the number of harts, domains are those of the tables, from 1 on, and words are below those of RAM.
 #[derive(Drop)]
 pub struct Checker<T: PermTables, const N: usize> {
-    tables: T,
-    harts: KeptHarts<N>,
+    cached: CachedTables<T, N>,
 }
 
 impl<T: PermTables, const N: usize> Model for Checker<T, N> {
@@ -39,9 +37,9 @@ impl<T: PermTables, const N: usize> Model for Checker<T, N> {
 
     ghost Value = { Checks T };
 
-    ghost view = { λ c. record { tables = c.tables; harts = c.harts } };
+    ghost view = { λ c. c.cached };
 
-    ghost invariant = { λ c. Keeps (T.maps c.tables) c.harts };
+    ghost invariant = { λ c. Keeps (T.maps c.cached.tables) c.cached.harts };
 }
 
 impl<T: PermTables, const N: usize> Checker<T, N> {
@@ -52,8 +50,7 @@ impl<T: PermTables, const N: usize> Checker<T, N> {
         ensures { result ≡ record { tables = tables; harts = new_harts harts } }
     {
         Checker {
-            tables,
-            harts: KeptHarts::new(harts),
+            cached: CachedTables::new(tables, harts),
         }
     }
 
@@ -66,8 +63,7 @@ impl<T: PermTables, const N: usize> Checker<T, N> {
         ensures { result ≡ record { tables = tables; harts = waiting_harts flights.now harts } }
     {
         Checker {
-            tables,
-            harts: KeptHarts::waiting(flights, harts),
+            cached: CachedTables::resume(tables, harts, flights),
         }
     }
 
@@ -93,15 +89,7 @@ impl<T: PermTables, const N: usize> Checker<T, N> {
         ensures same_size { T.size self.new.tables ≡ T.size self.old.tables }
         ensures same_limit { T.limits self.new.tables ≡ T.limits self.old.tables }
     {
-        may(
-            &mut self.tables,
-            &mut self.harts,
-            hart,
-            place,
-            domain,
-            addr,
-            access,
-        )
+        self.cached.may(hart, place, domain, addr, access)
     }
 
     /// A law: a fetch at hand is allowed. The hart and the domain are as for `may`. Nothing is counted.
@@ -114,7 +102,7 @@ impl<T: PermTables, const N: usize> Checker<T, N> {
         ensures { denies (perm (map_of (T.maps self.now.tables) domain)) addr Execute ≡ false }
     {
         let _ = (hart, domain, addr);
-        let _ = &self.harts;
+        let _ = &self.cached;
     }
 
     /// Counts so many fetches at hand of the hart in a domain, each as `may` counts it at place 0. No other domain is kept for the hart.
@@ -126,7 +114,7 @@ impl<T: PermTables, const N: usize> Checker<T, N> {
               (hits_all fetches domain) self.old.harts;
         } }
     {
-        self.harts.hart_mut(hart).hit_all(domain, fetches);
+        self.cached.hit_all(hart, domain, fetches);
     }
 
     /// The span in the hart's place 0 where it covers a word. It is what `may` would answer by first, and isn't counted.
@@ -134,7 +122,7 @@ impl<T: PermTables, const N: usize> Checker<T, N> {
         requires { hart < length self.now.harts }
         ensures { result ≡ found_in_place (kept_at self.now.harts hart).cache.places 0 word }
     {
-        self.harts.hart(hart).at_hand(word)
+        self.cached.at_hand(hart, word)
     }
 
     /// Announces a call of the hart that changes rights on at most `count` words from `first` on. The hart isn't halted and has no
@@ -147,7 +135,7 @@ impl<T: PermTables, const N: usize> Checker<T, N> {
               (announced hart first count) self.old.harts;
         } }
     {
-        self.harts.hart_mut(hart).announce(hart, first, count);
+        self.cached.announce(hart, first, count);
     }
 
     /// Lets the hart hear every call in flight of another hart. For each that it hears for the first time, it drops its spans that
@@ -162,7 +150,7 @@ impl<T: PermTables, const N: usize> Checker<T, N> {
         ensures same_length { length self.new.harts ≡ length self.old.harts }
         ensures few { length self.new.harts ≤ most_harts }
     {
-        self.harts.hear(hart);
+        self.cached.hear(hart);
     }
 
     /// Counts the hart as halted from here on. It has no call in flight.
@@ -171,7 +159,7 @@ impl<T: PermTables, const N: usize> Checker<T, N> {
         requires free { (kept_at self.old.harts hart).flight ≡ None }
         ensures { self.new ≡ record self.old { harts = at_hart hart halts self.old.harts } }
     {
-        self.harts.hart_mut(hart).halt();
+        self.cached.halt(hart);
     }
 
     /// Whether the hart has a call in flight that may take effect: each other hart that isn't halted has heard it.
@@ -180,7 +168,7 @@ impl<T: PermTables, const N: usize> Checker<T, N> {
         ensures ready { result ≡ is_ready hart self.now.harts }
         ensures few { length self.now.harts ≤ most_harts }
     {
-        self.harts.is_ready(hart)
+        self.cached.ready(hart)
     }
 
     /// Makes a change of the hart's ready call, inside the range that it announced. `TablesFull` exactly where the maps would then
@@ -200,12 +188,7 @@ impl<T: PermTables, const N: usize> Checker<T, N> {
         ensures same_size { T.size self.new.tables ≡ T.size self.old.tables }
         ensures same_limit { T.limits self.new.tables ≡ T.limits self.old.tables }
     {
-        if self.tables.fits(change) {
-            self.tables.apply(change);
-            Ok(())
-        } else {
-            Err(TablesFull)
-        }
+        self.cached.change(change)
     }
 
     /// Ends the hart's ready call, and drops the hart's own spans that meet its range.
@@ -214,7 +197,7 @@ impl<T: PermTables, const N: usize> Checker<T, N> {
         requires ready { is_ready hart self.old.harts ≡ true }
         ensures { self.new ≡ record self.old { harts = at_hart hart finished self.old.harts } }
     {
-        self.harts.hart_mut(hart).finish();
+        self.cached.finish(hart);
     }
 
     /// Empties all places of the hart, at a crossing, a return and a fault that gives up a frame. No domain is kept for it then; its
@@ -223,7 +206,7 @@ impl<T: PermTables, const N: usize> Checker<T, N> {
         requires { hart < length self.old.harts }
         ensures { self.new ≡ record self.old { harts = at_hart hart leaves_domain self.old.harts } }
     {
-        self.harts.hart_mut(hart).leave();
+        self.cached.leave_domain(hart);
     }
 
     /// How many checks of the hart its places answered, how many its buffer, and how many a walk.
@@ -233,7 +216,7 @@ impl<T: PermTables, const N: usize> Checker<T, N> {
         ensures lookaside { result.lookaside ≡ (kept_at self.now.harts hart).cache.lookaside }
         ensures walks { result.walks ≡ (kept_at self.now.harts hart).cache.walks }
     {
-        self.harts.hart(hart).counts()
+        self.cached.counts(hart)
     }
 
     /// The permission of a RAM word in a domain's map. It counts nothing.
@@ -242,14 +225,14 @@ impl<T: PermTables, const N: usize> Checker<T, N> {
         requires word { word < T.size self.now.tables }
         ensures { result ≡ perm_at (map_of (T.maps self.now.tables) domain) word }
     {
-        self.tables.perm(domain, word)
+        self.cached.perm(domain, word)
     }
 
     /// The tables.
     pub fn tables(&self) -> &T
         ensures { result.now ≡ self.now.tables }
     {
-        &self.tables
+        self.cached.tables()
     }
 
     /// Whether a call of `hart` is in flight and the hart `by` has heard it.
@@ -258,7 +241,7 @@ impl<T: PermTables, const N: usize> Checker<T, N> {
         requires by { by < length self.now.harts }
         ensures { result ≡ has_heard (kept_at self.now.harts hart).flight by }
     {
-        self.harts.hart(hart).heard(by)
+        self.cached.heard(hart, by)
     }
 }
 
@@ -269,5 +252,5 @@ pub fn flights_of<T: PermTables, const N: usize>(checker: &Checker<T, N>)
     ensures hearers { (h : ℕ) → IfSome (kept_at checker.now.harts h).flight
         (AreHearers (length checker.now.harts) h) }
 {
-    let _ = &checker.harts;
+    let _ = &checker.cached;
 }

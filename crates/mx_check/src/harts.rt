@@ -1,22 +1,22 @@
 //! What is kept for each of the harts.
-ghost use Rattle.std.specs.Prelude.{◌≡◌, ◌<◌, ◌≤◌, length, All};
-ghost use Rattle.std.specs.Borrow.{sem};
+ghost use Rattle.std.specs.Prelude.{◌≡◌, ◌<◌, ◌≤◌, Some, None, length, All};
+ghost use Rattle.std.specs.Option.{option_map};
+ghost use Rattle.mx_words.specs.Caches.{found_in_place};
 ghost use Rattle.mx_words.specs.Limits.{most_harts, most_kept};
 ghost use Rattle.mx_check.specs.Flights.{IsSet};
-ghost use Rattle.mx_check.specs.Harts.{kept_at};
-ghost use Rattle.mx_check.specs.Looks.{hart_forbids, is_forbidden};
+ghost use Rattle.mx_check.specs.Harts.{kept_at, at_hart, announced, heard_by, drops_range, finished, leaves_domain, halts, has_heard};
+ghost use Rattle.mx_check.specs.Looks.{found, after_caches, after_walk, hits_all, with_domain, hart_forbids, is_forbidden};
 ghost use Rattle.mx_check.specs.Calls.{unheard, hears_one, hears, hart_lets_pass, is_ready, new_harts, waiting_harts};
 
 use crate::part::Part;
-use crate::{Flight, Flights};
-use arrayvec::ArrayVec;
-use mx_words::{MOST_HARTS, Span};
+use crate::{Counts, Flight, Flights};
+use mx_words::{MOST_HARTS, Perm, Span};
 use std::marker::Model;
 
 /// What is kept for each of 1 to 4 harts.
 #[derive(Drop)]
 pub struct KeptHarts<const N: usize> {
-    parts: ArrayVec<Part<N>, MOST_HARTS>,
+    parts: [Part<N>; MOST_HARTS],
     len: u32,
 }
 
@@ -27,14 +27,12 @@ impl<const N: usize> Model for KeptHarts<N> {
 
     ghost Value = { List Kept };
 
-    ghost view = { λ h. take h.len h.parts.items };
+    ghost view = { λ h. take h.len h.parts };
 
-    ghost invariant = { λ h. (length h.parts.items ≡ most_harts) × (h.len ≤ most_harts) };
+    ghost invariant = { λ h. (length h.parts ≡ most_harts) × (h.len ≤ most_harts) };
 }
 
 impl<const N: usize> KeptHarts<N> {
-    ghost use Rattle.mx_check.specs.Lends.{lends_hart};
-
     /// So many harts that have done nothing yet, 1 to 4.
     pub fn new(harts: u32) -> KeptHarts<N>
         requires size { N ≤ most_kept }
@@ -42,15 +40,12 @@ impl<const N: usize> KeptHarts<N> {
         ensures { result ≡ new_harts harts }
     {
         KeptHarts {
-            parts: ArrayVec::from_array_in(
-                (),
-                [
-                    Part::new(None),
-                    Part::new(None),
-                    Part::new(None),
-                    Part::new(None),
-                ],
-            ),
+            parts: [
+                Part::new(None),
+                Part::new(None),
+                Part::new(None),
+                Part::new(None),
+            ],
             len: harts,
         }
     }
@@ -63,15 +58,12 @@ impl<const N: usize> KeptHarts<N> {
         ensures sets { All IsSet flights.now }
     {
         KeptHarts {
-            parts: ArrayVec::from_array_in(
-                (),
-                [
-                    Part::new(flights.of(0)),
-                    Part::new(flights.of(1)),
-                    Part::new(flights.of(2)),
-                    Part::new(flights.of(3)),
-                ],
-            ),
+            parts: [
+                Part::new(flights.of(0)),
+                Part::new(flights.of(1)),
+                Part::new(flights.of(2)),
+                Part::new(flights.of(3)),
+            ],
             len: harts,
         }
     }
@@ -84,28 +76,139 @@ impl<const N: usize> KeptHarts<N> {
         self.len
     }
 
-    /// A hart.
+    /// As `Part::answer`, for one hart.
     #[inline(always)]
-    pub fn hart(&self, hart: u32) -> &Part<N>
-        requires { hart < length self.now }
-        ensures value { result.now ≡ kept_at self.now hart }
-        ensures few { length self.now ≤ most_harts }
+    pub fn answer(&mut self, hart: u32, place: u32, domain: u32, word: u32) -> Option<Perm>
+        requires hart { hart < length self.old }
+        requires place { place < 32 }
+        ensures answer { result
+            ≡ option_map (λ s. s.perm) (found place domain word (kept_at self.old hart).cache) }
+        ensures after { self.new ≡ at_hart hart (after_caches place domain word) self.old }
     {
-        &self.parts[hart as usize]
+        let part = &mut self.parts[hart as usize];
+        part.answer(place, domain, word)
     }
 
-    /// A hart, for writing.
-    #[inline(always)]
-    pub fn hart_mut(&mut self, hart: u32) -> &mut Part<N>
+    /// As `Part::hit_all`, for one hart.
+    pub fn hit_all(&mut self, hart: u32, domain: u32, fetches: u64)
         requires { hart < length self.old }
-        ensures* writes_back { sem 𝓛 (lends_hart N.row self.entry hart result) }
-        ensures value { result.now ≡ kept_at self.old hart }
-        ensures few { length self.old ≤ most_harts }
+        ensures { self.new ≡ at_hart hart (hits_all fetches domain) self.old }
     {
-        match self.parts.get_mut(hart as usize) {
-            Some(part) => part,
-            None => unreachable!(),
-        }
+        let part = &mut self.parts[hart as usize];
+        part.hit_all(domain, fetches);
+    }
+
+    /// As `Part::at_hand`, for one hart.
+    pub fn at_hand(&self, hart: u32, word: u32) -> Option<Span>
+        requires { hart < length self.now }
+        ensures { result ≡ found_in_place (kept_at self.now hart).cache.places 0 word }
+    {
+        let part = &self.parts[hart as usize];
+        part.at_hand(word)
+    }
+
+    /// As `Part::keep`, for one hart.
+    pub fn keep(&mut self, hart: u32, place: u32, domain: u32, span: Span, barred: bool)
+        requires hart { hart < length self.old }
+        requires place { place < 32 }
+        ensures { self.new ≡ at_hart hart (after_walk N place domain span barred) self.old }
+    {
+        let part = &mut self.parts[hart as usize];
+        part.keep(place, domain, span, barred);
+    }
+
+    /// As `Part::name`, for one hart.
+    pub fn name(&mut self, hart: u32, domain: u32)
+        requires { hart < length self.old }
+        ensures { self.new ≡ at_hart hart (with_domain domain) self.old }
+    {
+        let part = &mut self.parts[hart as usize];
+        part.name(domain);
+    }
+
+    /// As `Part::announce`, for one hart.
+    pub fn announce(&mut self, hart: u32, first: u32, count: u32)
+        requires { hart < length self.old }
+        ensures { self.new ≡ at_hart hart (announced hart first count) self.old }
+    {
+        let part = &mut self.parts[hart as usize];
+        part.announce(hart, first, count);
+    }
+
+    /// As `Part::drop_overlap`, for one hart.
+    pub fn drop_overlap(&mut self, hart: u32, first: u32, count: u32)
+        requires { hart < length self.old }
+        ensures { self.new ≡ at_hart hart (drops_range first count) self.old }
+    {
+        let part = &mut self.parts[hart as usize];
+        part.drop_overlap(first, count);
+    }
+
+    /// As `Part::finish`, for one hart.
+    pub fn finish(&mut self, hart: u32)
+        requires { hart < length self.old }
+        ensures { self.new ≡ at_hart hart finished self.old }
+    {
+        let part = &mut self.parts[hart as usize];
+        part.finish();
+    }
+
+    /// As `Part::leave`, for one hart.
+    pub fn leave(&mut self, hart: u32)
+        requires { hart < length self.old }
+        ensures { self.new ≡ at_hart hart leaves_domain self.old }
+    {
+        let part = &mut self.parts[hart as usize];
+        part.leave();
+    }
+
+    /// As `Part::halt`, for one hart.
+    pub fn halt(&mut self, hart: u32)
+        requires { hart < length self.old }
+        ensures { self.new ≡ at_hart hart halts self.old }
+    {
+        let part = &mut self.parts[hart as usize];
+        part.halt();
+    }
+
+    /// Marks that the hart `by` has heard the call of a hart.
+    fn mark(&mut self, hart: u32, by: u32)
+        requires hart { hart < length self.old }
+        requires by { by < length self.old }
+        ensures { self.new ≡ at_hart hart (heard_by by) self.old }
+    {
+        let part = &mut self.parts[hart as usize];
+        part.mark(by);
+    }
+
+    /// The call in flight of a hart.
+    pub fn flight(&self, hart: u32) -> Option<Flight>
+        requires { hart < length self.now }
+        ensures { result ≡ (kept_at self.now hart).flight }
+    {
+        let part = &self.parts[hart as usize];
+        part.flight()
+    }
+
+    /// Whether the call of a hart is in flight and the hart `by` has heard it.
+    pub fn heard(&self, hart: u32, by: u32) -> bool
+        requires hart { hart < length self.now }
+        requires by { by < length self.now }
+        ensures { result ≡ has_heard (kept_at self.now hart).flight by }
+    {
+        let part = &self.parts[hart as usize];
+        part.heard(by)
+    }
+
+    /// The counts of a hart.
+    pub fn counts(&self, hart: u32) -> Counts
+        requires { hart < length self.now }
+        ensures sidecar { result.sidecar ≡ (kept_at self.now hart).cache.sidecar }
+        ensures lookaside { result.lookaside ≡ (kept_at self.now hart).cache.lookaside }
+        ensures walks { result.walks ≡ (kept_at self.now hart).cache.walks }
+    {
+        let part = &self.parts[hart as usize];
+        part.counts()
     }
 
     /// The range of the call of hart `i`, where the hart hasn't heard it.
@@ -117,7 +220,8 @@ impl<const N: usize> KeptHarts<N> {
         if i == hart {
             return None;
         }
-        self.hart(i).unheard(hart)
+        let part = &self.parts[i as usize];
+        part.unheard(hart)
     }
 
     /// Lets the hart hear the call of hart `i`: it drops its spans that meet the range.
@@ -128,8 +232,8 @@ impl<const N: usize> KeptHarts<N> {
         ensures same_length { length self.new ≡ length self.old }
     {
         if let Some((first, count)) = self.unheard(hart, i) {
-            self.hart_mut(hart).drop_overlap(first, count);
-            self.hart_mut(i).mark(hart);
+            self.drop_overlap(hart, first, count);
+            self.mark(i, hart);
         }
     }
 
@@ -150,7 +254,8 @@ impl<const N: usize> KeptHarts<N> {
         requires other { i < length self.now }
         ensures { result ≡ hart_forbids hart span.now self.now i }
     {
-        i != hart && self.hart(i).hart_forbids(hart, span)
+        let part = &self.parts[i as usize];
+        i != hart && part.hart_forbids(hart, span)
     }
 
     /// Whether a span meets the range of a call in flight of another hart that the hart has heard.
@@ -171,7 +276,8 @@ impl<const N: usize> KeptHarts<N> {
         requires { i < length self.now }
         ensures { result ≡ hart_lets_pass hart flight.now self.now i }
     {
-        i == hart || self.hart(i).is_halted() || flight.heard[i as usize]
+        let part = &self.parts[i as usize];
+        i == hart || part.is_halted() || flight.heard[i as usize]
     }
 
     /// Whether the call of a hart may take effect: each other hart that isn't halted has heard it.
@@ -180,7 +286,7 @@ impl<const N: usize> KeptHarts<N> {
         requires { hart < length self.now }
         ensures { result ≡ is_ready hart self.now }
     {
-        let Some(flight) = self.hart(hart).flight() else {
+        let Some(flight) = self.flight(hart) else {
             return false;
         };
         let mut ready = true;

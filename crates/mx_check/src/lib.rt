@@ -3,10 +3,10 @@
 //! every other running hart has heard it.
 #![tactic(auto)]
 
+mod cached_tables;
 mod checker;
 mod flight;
 mod harts;
-mod look;
 mod part;
 
 pub use checker::{Checker, flights_of};

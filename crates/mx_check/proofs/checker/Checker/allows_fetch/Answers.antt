@@ -3,7 +3,6 @@ use Rattle.std.proofs.lemmas.Bool.{not-true}
 use Rattle.mx_words.specs.declared.perm.Access.TheVariants.{Execute}
 use Rattle.mx_words.specs.Rights.{denies, perm}
 use Rattle.mx_table.specs.Tables.{IsDomain, map_of}
-use Rattle.mx_check.specs.Calls.{Checks}
 use Rattle.mx_check.specs.Conditions.{IsAtHand, MayLook}
 use Rattle.mx_check.specs.Harts.{kept_at}
 use Rattle.mx_check.proofs.HandLaws.{decided-hit}
@@ -12,13 +11,13 @@ use Rattle.mx_check.proofs.checker.Checker.allows_fetch.Goals as goal
 
 pub returns : goal.returns
 returns g c =
-    let t = c.self.inside.tables in
+    let t = c.self.inside.cached.tables in
     let maps = g.T.PermTables.maps t in
-    let harts = c.self.inside.harts in
+    let harts = c.self.inside.cached.harts in
     let m = map_of maps c.args.domain in
-    let may : MayLook c.args.hart c.args.domain harts = subst (λ (x : Checks _). MayLook c.args.hart c.args.domain x.harts) (sym c.self.view_is) c.requires.may in
-    let dom : IsDomain maps c.args.domain = subst (λ (x : Checks _). IsDomain (g.T.PermTables.maps x.tables) c.args.domain) (sym c.self.view_is) c.requires.domain in
-    let at : IsAtHand (g.T.PermTables.size t) (kept_at harts c.args.hart).cache c.args.addr = subst (λ (x : Checks _). IsAtHand (g.T.PermTables.size x.tables) (kept_at x.harts c.args.hart).cache c.args.addr) (sym c.self.view_is) c.requires.at_hand in
+    let may : MayLook c.args.hart c.args.domain harts = rw c.self.view_is c.requires.may in
+    let dom : IsDomain maps c.args.domain = rw c.self.view_is c.requires.domain in
+    let at : IsAtHand (g.T.PermTables.size t) (kept_at harts c.args.hart).cache c.args.addr = rw c.self.view_is c.requires.at_hand in
     let hand : IsAtHand (length m) (kept_at harts c.args.hart).cache c.args.addr = subst (λ n. IsAtHand n (kept_at harts c.args.hart).cache c.args.addr) (sym ((g.met.T.PermTables.shaped t).each c.args.domain dom)) at in
     rw (← c.self.view_is) (not-true (denies (perm m) c.args.addr Execute)
     (sym (answer_is g.T.PermTables.kind maps harts c.args.hart c.args.domain g.row.N 0 c.args.addr c.self.invariant may (word_round g.T.PermTables.kind m c.args.addr) Execute)

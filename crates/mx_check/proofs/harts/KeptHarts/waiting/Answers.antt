@@ -1,4 +1,4 @@
-use Rattle.std.proofs.Common.{Option, take, ap, ◌∙◌}
+use Rattle.std.proofs.Common.{Option, ap, ◌∙◌}
 use Rattle.mx_check.specs.declared.flight.Flight.{Flight}
 use Rattle.mx_check.specs.Harts.{new_hart}
 use Rattle.mx_check.specs.Calls.{waiting_hart}
@@ -7,8 +7,7 @@ use Rattle.mx_check.proofs.harts.KeptHarts.waiting.Goals as goal
 
 pub returns-clause-value : goal.returns-clause-value
 returns-clause-value g c =
-    ap (take c.args.harts) c.from_array_in.ensures.items
-    ∙ four_made c.args.harts (waiting_hart c.args.flights.now) _ _ _ _ c.requires.few
+    four_made c.args.harts (waiting_hart c.args.flights.now) _ _ _ _ c.requires.few
     (c.new.ensures ∙ ap (λ (f : Option Flight). record new_hart { flight = f }) c.of.ensures.value)
     (c.new-2.ensures ∙ ap (λ (f : Option Flight). record new_hart { flight = f }) c.of-2.ensures.value)
     (c.new-3.ensures ∙ ap (λ (f : Option Flight). record new_hart { flight = f }) c.of-3.ensures.value)
