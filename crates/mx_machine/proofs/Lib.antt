@@ -7,6 +7,7 @@ pub mod HartList
 pub mod RegLaws
 pub mod RangeLaws
 pub mod TouchLaws
+pub mod ViewLaws
 pub mod HomeLaws
 pub mod CoreLaws
 pub mod StaleLaws

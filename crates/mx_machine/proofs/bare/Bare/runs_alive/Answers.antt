@@ -1,10 +1,18 @@
-use Rattle.std.proofs.Common.{◌≡◌, ℕ, false, not, refl, sym, ap, ◌∙◌, get_or}
+use Rattle.std.proofs.Common.{◌≡◌, ℕ, ◌<◌, false, not, length, refl, sym, ap, subst, ◌∙◌, get_or}
 use Rattle.std.proofs.lemmas.Bool.{not-true}
 use Rattle.mx_machine.specs.declared.hart.Progress.TheVariants as G
 use Rattle.mx_machine.specs.Harts.{hart_among}
 use Rattle.mx_machine.specs.Held.{Held}
 use Rattle.mx_machine.proofs.MayLaws.{hart-there}
 use Rattle.mx_machine.proofs.bare.Bare.runs_alive.Goals as goal
+
+pub domain-requires : goal.domain-requires
+domain-requires g c =
+    let m = c.args.self.now in
+    let h = c.args.hart in
+    let at : (hart_among m.harts h).progress ≡ G.Running =
+    sym (ap (λ (n : Held). (hart_among n.harts h).progress) c.self.view_is) ∙ sym c.progress.ensures ∙ c.in-Running.is in
+    subst (λ (n : Held). h < length n.harts) (sym c.self.view_is) (hart-there m h c.requires.whole G.Running at refl)
 
 pub returns-in-Running : goal.returns-in-Running
 returns-in-Running g c =
