@@ -5,7 +5,7 @@ export LC_ALL=C
 [ -z "${MONDRIX-}" ] || MONDRIX=$(realpath "$MONDRIX") || exit 1
 program=${MONDRIX:-$(cd "$here/../.." && pwd -P)/crates/mondrix/out/mondrix}
 if [ ! -x "$program" ]; then
-    echo "no $program: run 'rt run' in crates/mondrix first" >&2
+    echo "no $program: './mondrix run examples/first/first.toml 10' builds it" >&2
     exit 1
 fi
 kib=${KIB:-65536}
