@@ -17,6 +17,12 @@ pub build_pages-requires-clause-upper_room : goal.build_pages-requires-clause-up
 build_pages-requires-clause-upper_room g c =
     broken-room (is_broken region_words (g.V.View.map c.args.view.now) c.args.region) _ (sym (not-not _) ∙ ap not (sym c.is_region_even.ensures ∙ c.if-is_region_even.false)) c.requires.upper_room
 
+pub build_pages-requires-clause-leaf_room : goal.build_pages-requires-clause-leaf_room
+build_pages-requires-clause-leaf_room g c = c.requires.leaf_room
+
+pub build_pages-requires-clause-spill_room : goal.build_pages-requires-clause-spill_room
+build_pages-requires-clause-spill_room g c = c.requires.spill_room
+
 pub returns-else-is_region_even : goal.returns-else-is_region_even
 returns-else-is_region_even g c =
     let f : ℕ = c.build_pages.result in

@@ -18,6 +18,17 @@ change_lines-requires-clause-stands g c =
     let some = c.requires.stands in
     record { map = some.map; known = some.known; lines = (c.open_page-frame.ensures.opened c.args.spill.now c.requires.table).shown some.map some.known some.page }
 
+pub change_lines-requires-clause-room : goal.change_lines-requires-clause-room
+change_lines-requires-clause-room g c = c.requires.spill_room
+
+pub change_lines-requires-2-clause-room : goal.change_lines-requires-2-clause-room
+change_lines-requires-2-clause-room g c = c.requires.spill_room
+
+pub change_lines-requires-2-clause-stands : goal.change_lines-requires-2-clause-stands
+change_lines-requires-2-clause-stands g c =
+    let some = c.requires.stands in
+    record { map = some.map; known = some.known; lines = some.page.lines (eq-eqb _ 0 c.if-entry-ne0.false) }
+
 pub close_page-requires-clause-table : goal.close_page-requires-clause-table
 close_page-requires-clause-table g c =
     let some = c.requires.stands in

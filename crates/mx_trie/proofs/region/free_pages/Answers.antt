@@ -3,9 +3,20 @@ use Rattle.std.proofs.lemmas.Bool.{ne_eqb}
 use Rattle.mx_trie.specs.Walk.{Frames, is_pointer}
 use Rattle.mx_trie.specs.OnWay.{ArePagesEmptied}
 use Rattle.mx_trie.specs.Steps.{IsPageFreed}
-use Rattle.mx_trie.proofs.RegionPages.{pages-emptied, pages-passed, pages-freed}
+use Rattle.mx_trie.proofs.RegionPages.{page-at, pages-same, pages-emptied, pages-passed, pages-freed}
 use Rattle.mx_trie.proofs.region.free_pages.Goals as goal
 use Rattle.mx_trie.proofs.region.free_pages.Goals.{then-old-eq0, else-old-eq0}
+
+pub loop-place-init : goal.loop-place-init
+loop-place-init g c = record {
+  moved = pages-same g.L.LeafForm.kind c.args.upper.now c.args.leaf.now c.args.spill.now c.args.frame c.requires;
+  closed = λ k lt. absurd (omega arith);
+}
+
+pub free_page-requires : goal.free_page-requires
+free_page-requires g c =
+    page-at g.L.LeafForm.kind c.loop-place.upper c.loop-place.leaf c.loop-place.spill c.args.frame c.loop-place.place c.get-old.result c.loop-place-test.true c.get-old.ensures
+    c.loop-place.invariant.moved.table
 
 pub set-requires : goal.set-requires
 set-requires g c = (omega arith, (c.loop-place.invariant.moved.table.node.self, c.loop-place-test.true))
