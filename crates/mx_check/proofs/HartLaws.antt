@@ -41,18 +41,8 @@ four_alike (suc (suc (suc (suc (suc n))))) k le = absurd (omega arith)
 
 module _ (n : ℕ) (f : ℕ → Kept) (a b c d : Kept) (le : n ≤ 4) (e0 : a ≡ f 0) (e1 : b ≡ f 1) (e2 : c ≡ f 2) (e3 : d ≡ f 3) where
   pub four_made : take n (a ∷ b ∷ c ∷ d ∷ []) ≡ list_below n f
-  four_made =
-      ap (λ (x : Kept). take n (x ∷ b ∷ c ∷ d ∷ [])) e0
-      ∙ ap (λ (x : Kept). take n (f 0 ∷ x ∷ c ∷ d ∷ [])) e1
-      ∙ ap (λ (x : Kept). take n (f 0 ∷ f 1 ∷ x ∷ d ∷ [])) e2
-      ∙ ap (λ (x : Kept). take n (f 0 ∷ f 1 ∷ f 2 ∷ x ∷ [])) e3
-      ∙ four_taken n f le
+  four_made = rw (e0, e1, e2, e3) (four_taken n f le)
 
 module _ (n : ℕ) (k a b c d : Kept) (le : n ≤ 4) (e0 : a ≡ k) (e1 : b ≡ k) (e2 : c ≡ k) (e3 : d ≡ k) where
   pub four_new : take n (a ∷ b ∷ c ∷ d ∷ []) ≡ replicate n k
-  four_new =
-      ap (λ (x : Kept). take n (x ∷ b ∷ c ∷ d ∷ [])) e0
-      ∙ ap (λ (x : Kept). take n (k ∷ x ∷ c ∷ d ∷ [])) e1
-      ∙ ap (λ (x : Kept). take n (k ∷ k ∷ x ∷ d ∷ [])) e2
-      ∙ ap (λ (x : Kept). take n (k ∷ k ∷ k ∷ x ∷ [])) e3
-      ∙ four_alike n k le
+  four_new = rw (e0, e1, e2, e3) (four_alike n k le)

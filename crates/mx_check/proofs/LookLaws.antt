@@ -72,3 +72,12 @@ walk_is_look most h place domain word s harts there miss =
     ap (λ (b : Bool). at_hart h (after_walk most place domain s b) (at_hart h (after_caches place domain word) harts)) (is_forbidden-same h s harts (after_caches place domain word))
     ∙ at_hart-twice harts h (after_walk most place domain s (is_forbidden h s harts)) (after_caches place domain word) there
     ∙ ap (λ (x : Kept). set harts h x) (asked_walked most place domain word s (is_forbidden h s harts) k _ _ parts.0 parts.1 refl refl)
+
+-- the same of the harts that the asking left, and of those after the walk
+pub walked_is_look : (most h place domain word : ℕ) (s : Span) (harts asked after : List Kept) → h < length harts →
+    None ≡ option_map (λ (s : Span). s.perm) (found place domain word (kept_at harts h).cache) →
+    asked ≡ at_hart h (after_caches place domain word) harts → after ≡ at_hart h (after_walk most place domain s (is_forbidden h s asked)) asked →
+    after ≡ at_hart h (looks most place domain word s (is_forbidden h s harts)) harts
+walked_is_look most h place domain word s harts asked after there miss ask walk =
+    walk ∙ ap (λ (hs : List Kept). at_hart h (after_walk most place domain s (is_forbidden h s hs)) hs) ask
+    ∙ walk_is_look most h place domain word s harts there miss

@@ -131,7 +131,7 @@ pub outside_range : (s : Span) (first count word : ℕ) → meets s first count 
 outside_range s first count word apart inside = by (covers first count word) refl
   where
     meeting : covers first count word ≡ true → meets s first count ≡ true
-    meeting e = grind (arith, nat_tests)
+    meeting e = search (arith, nat_tests)
 
     by : (b : Bool) → covers first count word ≡ b → covers first count word ≡ false
     by false e = e
