@@ -1,5 +1,5 @@
 -- Looks at words in order, up to the first that may not be read.
-use Rattle.std.proofs.Common.{◌≡◌, ℕ, suc, ◌+◌, ◌-◌, ◌<◌, Bool, true, false, ◌&&◌, List, ◌∷◌, refl, sym, ap, subst, ◌∙◌, arith}
+use Rattle.std.proofs.Common.{◌≡◌, ℕ, suc, ◌+◌, ◌-◌, ◌<◌, ◌≤◌, Bool, true, false, ◌&&◌, List, [], ◌∷◌, refl, sym, ap, subst, ◌∙◌, arith}
 use Rattle.std.specs.List.{list_all, prefix_len, range_with_len}
 use Rattle.mx_words.specs.declared.perm.Access.TheVariants as A
 use Rattle.mx_words.specs.Rights.{allows, perm_at}
@@ -12,6 +12,7 @@ use Rattle.mx_model.specs.Serve.{look_of, may_read}
 use Rattle.mx_model.specs.State.{Core}
 use Rattle.mx_supervisor.specs.Looks.{BarsAlike, KeepsHarts, HasLooked, HasRead, read_through}
 use Rattle.mx_supervisor.specs.Parts.{Parts, core_of, flat_of}
+use Rattle.mx_supervisor.proofs.Answering.{same-harts}
 use Rattle.mx_supervisor.proofs.Looking.{bars-kept, keeps-both, may-again}
 
 -- whether a domain may read a word
@@ -94,3 +95,29 @@ read-stop call w words ws old now next read look bad =
 -- the words left in a range
 pub range-step : (w behind : ℕ) → w < behind → range_with_len w (behind - w) ≡ w ∷ range_with_len (w + 1) (behind - (w + 1))
 range-step w behind lt = let e : behind - w ≡ suc (behind - (w + 1)) = omega arith in rw e
+
+-- none is looked at yet
+pub read-none : (call : Call) (words : List ℕ) (p : Parts) → MayLook call.hart call.domain p.harts →
+    HasReadTo call words words p p
+read-none call words p may =
+    record {
+      same = refl;
+      may = may;
+      decides = record { keeps = same-harts call p.harts; answer = refl; core = λ rest bars. refl };
+    }
+
+-- all may be read
+pub read-end : (call : Call) (w behind : ℕ) (words : List ℕ) (old now : Parts) → behind ≤ w →
+    HasReadTo call words (range_with_len w (behind - w)) old now →
+    HasRead call words old now × (list_all (readable old call.domain) words ≡ true)
+read-end call w behind words old now le read =
+    let e : behind - w ≡ 0 = omega (arith, le) in
+    let done : HasReadTo call words [] old now =
+    subst (λ (n : ℕ). HasReadTo call words (range_with_len w n) old now) e read in (
+      record {
+        same = read.same;
+        harts = read.decides.keeps;
+        core = λ rest bars. ap (core_of rest) read.same ∙ sym (done.decides.core rest bars);
+      },
+      done.decides.answer,
+    )

@@ -38,3 +38,12 @@ returns g c = gates-done serve_gate c.args.call.now _ _ _ _ c.requires.sound (c.
       c.try_gate.ensures.fits,
       c.if-not-try_gate.false,
     ))
+
+pub is_other-requires : goal.is_other-requires
+is_other-requires g c = (assumption c, c.requires.sound)
+
+pub is_foreign-requires : goal.is_foreign-requires
+is_foreign-requires g c = (assumption c, (c.requires.sound, c.in-Some.ensures.inside.0))
+
+pub arg_word-requires : goal.arg_word-requires
+arg_word-requires g c = search

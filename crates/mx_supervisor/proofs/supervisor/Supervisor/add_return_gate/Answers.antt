@@ -17,3 +17,9 @@ returns-then-not-try_gate g c = refuses-after serve_return_gate c.args.call.now 
 pub returns : goal.returns
 returns g c = gates-done serve_return_gate c.args.call.now _ _ _ _ c.requires.sound (c.try_gate.ensures.done c.if-not-try_gate.false) c.done.ensures
     (λ rest. rw (c.in-Some.ensures.there rest, c.in-Some.ensures.word, c.is_foreign.ensures, c.if-is_foreign.false, c.try_gate.ensures.fits, c.if-not-try_gate.false))
+
+pub arg_word-requires : goal.arg_word-requires
+arg_word-requires g c = search
+
+pub is_foreign-requires : goal.is_foreign-requires
+is_foreign-requires g c = (assumption c, (c.requires.sound, c.in-Some.ensures.inside.0))

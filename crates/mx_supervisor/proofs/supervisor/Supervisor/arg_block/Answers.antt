@@ -11,3 +11,6 @@ returns-in-Some-block-clause-there g c = λ rest.
 pub returns-in-None-clause-there : goal.returns-in-None-clause-there
 returns-in-None-clause-there g c = λ rest.
     rw (c.in-Some.ensures.there, module-blocks, c.in-Some.ensures.word, ← c.in-None.ensures.count)
+
+pub arg_word-requires : goal.arg_word-requires
+arg_word-requires g c = search

@@ -50,3 +50,10 @@ returns g c =
     exchange-done (flat_reads (flat_of rest p)) (core_of rest p) call w (c.in-Some.ensures.there rest) c.in-Some.ensures.word (c.look.ensures.answer ∙ c.if-not-look.false)
     ∙ ap (λ (s : Core). record (answers (record s { ram = ram }) 0) { a1 = Some (number_at p.ram (4 * w) 4) }) (sym (look.core rest bars))
     ∙ ap (λ n. record (answers (record (core_of rest q) { ram = ram }) 0) { a1 = Some n }) old)
+
+pub arg_word-requires : goal.arg_word-requires
+arg_word-requires g c = search
+
+pub look-requires : goal.look-requires
+look-requires g c =
+    (assumption c, (c.requires.sound, (c.requires.domain, (c.requires.may, c.in-Some.ensures.inside.0))))

@@ -1,4 +1,4 @@
-use Rattle.std.proofs.Common.{◌≡◌, false, ap, arith, length}
+use Rattle.std.proofs.Common.{◌≡◌, ℕ, ◌≤◌, false, ap, arith, length, le_trans}
 use Rattle.mx_words.specs.Announced.{names_range}
 use Rattle.mx_model.specs.Serve.{serve_free, none_at_all}
 use Rattle.mx_supervisor.specs.Heaps.{heap_at}
@@ -7,6 +7,9 @@ use Rattle.mx_supervisor.proofs.Answering.{refuses, refuses-after}
 use Rattle.mx_supervisor.proofs.Blocks.{free-done}
 use Rattle.mx_supervisor.proofs.Changes.{lawful-of, in-of, range-heap, gives-in}
 use Rattle.mx_supervisor.proofs.supervisor.Supervisor.free.Goals as goal
+
+there-at : (d a b m : ℕ) → a ≡ b → b ≡ m → d ≤ m → d ≤ a
+there-at d a b m e f h = omega (arith, e, f, h)
 
 pub returns-in_default : goal.returns-in_default
 returns-in_default g c = refuses serve_free c.args.call.now _ 8 _ c.requires.sound c.refused.ensures
@@ -23,7 +26,7 @@ try_change-requires g c =
       (
         c.requires.announced,
         (
-          lawful-of _ _ _ _ _ _ gives c.in-Some.ensures.some (omega (arith, high, area)),
+          lawful-of _ _ _ _ _ _ gives c.in-Some.ensures.some (le_trans high area),
           rw range (in-of _ _ _ _ _ ((heap_at p.heaps c.args.call.now.domain).area.first, (heap_at p.heaps c.args.call.now.domain).area.count) gives low high),
         ),
       ),
@@ -42,7 +45,7 @@ returns-then-not-try_change g c =
 pub free-requires-clause-there : goal.free-requires-clause-there
 free-requires-clause-there g c =
     let q = c.try_change.ensures.done _ _ _ (gives-in _ _ _ _ _ _ c.modules.ensures c.none_at_all-change.ensures) c.if-not-try_change.false in
-    let n = ap (λ (x : Parts). length x.heaps) q in let h = c.requires.sound.heaps in let d = c.requires.domain.last in omega (arith, n, h, d)
+    there-at _ _ _ _ (ap (λ (x : Parts). length x.heaps) q) c.requires.sound.heaps c.requires.domain.last
 
 pub returns : goal.returns
 returns g c =
@@ -52,3 +55,6 @@ returns g c =
     free-done c.args.call.now p q (record q { heaps = c.free.new.self }) c.in-Some.first c.in-Some.count none_at_all c.done.result c.requires.sound (c.try_change.ensures.done _ _ _ gives c.if-not-try_change.false)
     (ap (λ hs. record q { heaps = hs }) c.free.ensures) c.done.ensures
     (λ rest. rw (c.in-Some.ensures.there rest, c.in-Some.ensures.word, c.try_change.ensures.fits _ _ _ gives, c.if-not-try_change.false))
+
+pub arg_block-requires : goal.arg_block-requires
+arg_block-requires g c = search

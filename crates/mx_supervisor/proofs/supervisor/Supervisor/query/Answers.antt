@@ -1,4 +1,4 @@
-use Rattle.std.proofs.Common.{◌≡◌, List, ap, sym, ◌∙◌}
+use Rattle.std.proofs.Common.{rules, ◌≡◌, List, ap, sym, ◌∙◌}
 use Rattle.mx_words.specs.declared.perm.Perm.{Perm}
 use Rattle.mx_words.specs.Rights.{number, perm_at}
 use Rattle.mx_table.specs.Tables.{IsDomain}
@@ -36,3 +36,16 @@ returns g c = told serve_query c.args.call.now _ _ _ c.requires.sound c.done.ens
     ap (λ (m : List Perm). number (perm_at m c.in-Some.word)) (map-in size maps d there) ∙ sym (c.number.ensures ∙ ap number c.perm.ensures) in
     rw (c.in-Some.ensures.there rest, c.is_module.ensures.module rest, c.if-not-is_module.false, c.in-Some.ensures.word, c.is_secret.ensures, c.if-is_secret.false)
     (ap (answers (core_of rest (parts_of g.T.PermTables s))) same))
+
+pub is_module-requires : goal.is_module-requires
+is_module-requires g c = (assumption c, c.requires.sound)
+
+pub is_secret-requires : goal.is_secret-requires
+is_secret-requires g c = (assumption c, (c.requires.sound, c.in-Some.ensures.inside.0))
+
+pub arg_word-requires : goal.arg_word-requires
+arg_word-requires g c = search
+
+pub perm-requires : goal.perm-requires
+perm-requires g c =
+    (search rules, (c.is_module.ensures.domain.0 c.if-not-is_module.false, c.in-Some.ensures.inside.0))

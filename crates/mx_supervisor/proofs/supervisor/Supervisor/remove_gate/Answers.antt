@@ -21,3 +21,12 @@ returns-then-not-take_gate g c = refuses-after serve_ungate c.args.call.now _ _ 
 pub returns : goal.returns
 returns g c = gates-done serve_ungate c.args.call.now _ _ _ _ c.requires.sound c.take_gate.ensures.done c.done.ensures
     (λ rest. rw (c.in-Some.ensures.there rest, c.is_module.ensures.module rest, c.if-not-is_module.false, c.in-Some.ensures.word, c.is_foreign.ensures, c.if-is_foreign.false, c.take_gate.ensures.stood, c.if-not-take_gate.false))
+
+pub is_module-requires : goal.is_module-requires
+is_module-requires g c = (assumption c, c.requires.sound)
+
+pub is_foreign-requires : goal.is_foreign-requires
+is_foreign-requires g c = (assumption c, (c.requires.sound, c.in-Some.ensures.inside.0))
+
+pub arg_word-requires : goal.arg_word-requires
+arg_word-requires g c = search

@@ -1,4 +1,4 @@
-use Rattle.std.proofs.Common.{◌≡◌, true, ap, arith}
+use Rattle.std.proofs.Common.{◌≡◌, true, ap, le_refl}
 use Rattle.mx_model.specs.Serve.{serve_revoke_all}
 use Rattle.mx_words.specs.Announced.{names_range}
 use Rattle.mx_supervisor.specs.Parts.{parts_of}
@@ -25,7 +25,7 @@ try_change-requires g c =
         c.requires.announced,
         (
           lawful-of _ _ _ _ _ _ gives c.in-Some.ensures.inside.0 c.in-Some.ensures.inside.1,
-          rw range (in-of _ _ _ _ _ (c.in-Some.first, c.in-Some.count) gives (omega arith) (omega arith)),
+          rw range (in-of _ _ _ _ _ (c.in-Some.first, c.in-Some.count) gives (le_refl _) (le_refl _)),
         ),
       ),
     )
@@ -53,3 +53,9 @@ returns g c =
       c.try_change.ensures.fits _ _ _ (gives-in _ _ _ _ _ _ c.modules.ensures c.none_but-change.ensures),
       c.if-not-try_change.false,
     ))
+
+pub arg_range-requires : goal.arg_range-requires
+arg_range-requires g c = search
+
+pub owns-requires : goal.owns-requires
+owns-requires g c = (assumption c, (c.requires.sound, c.in-Some.ensures.inside))

@@ -1,4 +1,4 @@
-use Rattle.std.proofs.Common.{◌≡◌, ◌<◌, true, length, refl, sym, ◌∙◌, arith}
+use Rattle.std.proofs.Common.{◌≡◌, ℕ, ◌<◌, true, length, refl, sym, subst, ◌∙◌, arith}
 use Rattle.mx_words.specs.Announced.{is_announced}
 use Rattle.mx_check.specs.Calls.{is_ready}
 use Rattle.mx_check.specs.Harts.{at_hart, finished}
@@ -23,7 +23,7 @@ finish-requires g c =
     let keeps = c.serve_row-answer.ensures.does.harts in
     let old = c.args.self.now.checker.harts in
     let now = c.serve_row-answer.new.self.checker.harts in
-    let hart : call.hart < length now = let e = keeps.count in let h = was.hart in omega (arith, e, h) in
+    let hart : call.hart < length now = subst (λ (n : ℕ). call.hart < n) (sym keeps.count) was.hart in
     let ready : is_ready call.hart now ≡ true = ready-kept call old now keeps ∙ was.ready in
     (omega arith, (hart, ready))
 
@@ -74,3 +74,22 @@ returns-else-is_announced-clause-served g c =
 pub returns-else-is_announced-clause-again : goal.returns-else-is_announced-clause-again
 returns-else-is_announced-clause-again g c = λ may.
     may-again c.args.call.now _ c.args.self.now.checker.harts c.serve_row-answer.new.self.checker.harts refl c.serve_row-answer.ensures.does.harts may
+
+pub returns-then-is_announced-clause-sizes : goal.returns-then-is_announced-clause-sizes
+returns-then-is_announced-clause-sizes g c =
+    let s = c.serve_row-answer.ensures.does.sizes in
+    rw c.finish.ensures (record { size = s.size; limit = s.limit; modules = s.modules })
+
+pub returns-else-is_announced-clause-refused : goal.returns-else-is_announced-clause-refused
+returns-else-is_announced-clause-refused g c = search
+
+pub returns-else-is_announced-clause-harts : goal.returns-else-is_announced-clause-harts
+returns-else-is_announced-clause-harts g c =
+    (row-meets c.args.call.now _ _ _ _ (sym c.is_announced.ensures ∙ c.if-is_announced.false)
+    c.serve_row-answer.ensures.does).harts
+
+pub returns-else-is_announced-clause-sizes : goal.returns-else-is_announced-clause-sizes
+returns-else-is_announced-clause-sizes g c = search
+
+pub returns-else-is_announced-clause-sound : goal.returns-else-is_announced-clause-sound
+returns-else-is_announced-clause-sound g c = search

@@ -1,4 +1,5 @@
-use Rattle.std.proofs.Common.{ap, refl}
+use Rattle.std.proofs.Common.{ap, refl, arith}
+use Rattle.mx_words.specs.Announced.{is_announced}
 use Rattle.mx_model.specs.Serve.{Exit, Write, Grant, RevokeAll, Transfer, Alloc, Free, AddGate, RemoveGate, AddReturnGate, Query, Self, Exchange, Unknown, service, serve_self, answers, code}
 use Rattle.mx_supervisor.specs.Parts.{parts_of}
 use Rattle.mx_supervisor.proofs.Answering.{told}
@@ -48,3 +49,66 @@ returns-in-Identify-clause-does g c = as-silent-row Self c.args.call.now _ _ _ _
 pub returns-in-Unknown-clause-does : goal.returns-in-Unknown-clause-does
 returns-in-Unknown-clause-does g c = as-silent-row Unknown c.args.call.now _ _ _ _ _ c.in-Unknown.ensures.0 c.requires.empty
     (told (λ r s call. answers s (code 13)) c.args.call.now (parts_of g.T.PermTables c.args.self.now) _ _ c.requires.sound c.refused.ensures (λ rest. refl))
+
+pub write-requires : goal.write-requires
+write-requires g c =
+    let may = c.requires.may.other (ap is_announced c.in-Write.ensures) in
+    (assumption c, (c.requires.sound, (c.requires.domain, (may, c.requires.empty))))
+
+pub transfer-requires : goal.transfer-requires
+transfer-requires g c =
+    let may = c.requires.may.other (ap is_announced c.in-Transfer.ensures) in
+    (assumption c, (c.requires.sound, (c.requires.domain, may)))
+
+pub add_gate-requires : goal.add_gate-requires
+add_gate-requires g c =
+    (assumption c, (c.requires.sound, (c.requires.domain, c.requires.may.other (ap is_announced c.in-AddGate.ensures))))
+
+pub remove_gate-requires : goal.remove_gate-requires
+remove_gate-requires g c =
+    let may = c.requires.may.other (ap is_announced c.in-RemoveGate.ensures) in
+    (assumption c, (c.requires.sound, (c.requires.domain, may)))
+
+pub add_return_gate-requires : goal.add_return_gate-requires
+add_return_gate-requires g c =
+    let may = c.requires.may.other (ap is_announced c.in-AddReturnGate.ensures) in
+    (assumption c, (c.requires.sound, (c.requires.domain, may)))
+
+pub query-requires : goal.query-requires
+query-requires g c =
+    (assumption c, (c.requires.sound, (c.requires.domain, c.requires.may.other (ap is_announced c.in-Query.ensures))))
+
+pub exchange-requires : goal.exchange-requires
+exchange-requires g c =
+    let may = c.requires.may.other (ap is_announced c.in-Exchange.ensures) in
+    (assumption c, (c.requires.sound, (c.requires.domain, may)))
+
+pub grant-requires : goal.grant-requires
+grant-requires g c =
+    let may = c.requires.may.announced (ap is_announced c.in-Grant.ensures) in
+    (assumption c, (c.requires.sound, (c.requires.domain, (may, c.in-Grant.ensures))))
+
+pub revoke_all-requires : goal.revoke_all-requires
+revoke_all-requires g c =
+    let may = c.requires.may.announced (ap is_announced c.in-RevokeAll.ensures) in
+    (assumption c, (c.requires.sound, (c.requires.domain, (may, c.in-RevokeAll.ensures))))
+
+pub alloc-requires : goal.alloc-requires
+alloc-requires g c =
+    let may = c.requires.may.announced (ap is_announced c.in-Alloc.ensures) in
+    (assumption c, (c.requires.sound, (c.requires.domain, (may, c.in-Alloc.ensures))))
+
+pub free-requires : goal.free-requires
+free-requires g c =
+    let may = c.requires.may.announced (ap is_announced c.in-Free.ensures) in
+    (assumption c, (c.requires.sound, (c.requires.domain, (may, c.in-Free.ensures))))
+
+pub overflow_mul-call : goal.overflow_mul-call
+overflow_mul-call g c =
+    let may = c.requires.may.other (ap is_announced c.in-Identify.ensures) in
+    omega (arith, may.hart, c.flights_of.ensures.few)
+
+pub overflow_add-call : goal.overflow_add-call
+overflow_add-call g c =
+    let may = c.requires.may.other (ap is_announced c.in-Identify.ensures) in
+    omega (arith, may.hart, c.flights_of.ensures.few, c.requires.domain.last, c.requires.sound.few_maps)
