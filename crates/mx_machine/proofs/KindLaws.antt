@@ -4,6 +4,7 @@ use Rattle.std.specs.Option.{option_map_or}
 use Rattle.mx_check.specs.Harts.{kept_at}
 use Rattle.mx_model.specs.declared.values.Call.{Call}
 use Rattle.mx_model.specs.declared.values.Frame.{Frame}
+use Rattle.mx_model.specs.declared.values.TurnKind.{TurnKind}
 use Rattle.mx_model.specs.declared.values.TurnKind.TheVariants as T
 use Rattle.mx_model.specs.Checks.{is_ready}
 use Rattle.mx_model.specs.Effect.{reg}
@@ -15,6 +16,7 @@ use Rattle.mx_model.specs.Turn.{Asks, Bounces, Crosses, Decided, Made, Returns, 
 use Rattle.mx_model.proofs.TurnCases.{ready, turned-dead, turned-serves, turned-waits}
 use Rattle.mx_machine.specs.declared.hart.Progress.{Progress}
 use Rattle.mx_machine.specs.declared.hart.Progress.TheVariants as G
+use Rattle.mx_machine.specs.declared.turns.Going.TheVariants as Goes
 use Rattle.mx_machine.specs.Harts.{hart_among, hearers, own_call, status_by}
 use Rattle.mx_machine.specs.Held.{Held, meaning}
 use Rattle.mx_machine.specs.Made.{core_in, hart_in, made_by, reads_of}
@@ -25,6 +27,10 @@ use Rattle.mx_machine.proofs.HartsAt.{hart-in}
 use Rattle.mx_machine.proofs.HomeLaws.{module-dead}
 use Rattle.mx_machine.proofs.MadeLaws.{here}
 use Rattle.mx_machine.proofs.MayLaws.{hart-there, own-domain}
+
+-- an ended turn doesn't go on
+pub ended-on : (last : TurnKind) → Goes.Ended last ≡ Goes.On → ⊥
+ended-on last e = cc
 
 -- a fault, a call and a return are no instruction carried out
 pub trapped-ended : T.Trapped ≢ T.Ran

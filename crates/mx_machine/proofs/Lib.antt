@@ -22,6 +22,7 @@ pub mod ReturnLaws
 pub mod WaitLaws
 pub mod MayLaws
 pub mod SizeLaws
+pub mod InnerSizes
 pub mod Bounds
 pub mod StepLaws
 pub mod StretchLaws

@@ -1,4 +1,4 @@
-use Rattle.std.proofs.Common.{rules, ◌≡◌, ◌<◌, true, length, refl, ap, sym, subst, ◌∙◌}
+use Rattle.std.proofs.Common.{◌≡◌, ◌<◌, true, length, refl, ap, sym, subst, ◌∙◌}
 use Rattle.mx_table.specs.Tables.{IsDomain}
 use Rattle.mx_words.specs.Announced.{is_announced}
 use Rattle.mx_check.specs.Calls.{is_ready}
@@ -23,7 +23,7 @@ announce-requires g c =
     let h = c.args.hart in
     let r = c.requires.run in
     let own : c.call-call.result ≡ own_call h (hart_among m.harts h) = c.call-call.ensures ∙ ap (λ (n : Held). own_call h (hart_among n.harts h)) c.self.view_is in (
-      search rules,
+      assumption c,
       (
         joined-sound m.parts r.act.fits.sound,
         (
@@ -63,7 +63,7 @@ returns-then-not-announce-clause-fits g c =
 
 pub serve-requires : goal.serve-requires
 serve-requires g c = (
-  search rules,
+  assumption c,
   (
     let m = c.args.self.now in
         let h = c.args.hart in

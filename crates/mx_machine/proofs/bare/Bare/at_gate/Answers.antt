@@ -1,11 +1,11 @@
-use Rattle.std.proofs.Common.{true, sym, subst, ◌∙◌, ap}
+use Rattle.std.proofs.Common.{◌<◌, true, length, sym, subst, ◌∙◌, ap}
 use Rattle.mx_machine.specs.Goings.{kind_of}
 use Rattle.mx_machine.specs.Harts.{hart_among}
 use Rattle.mx_machine.specs.Held.{Held}
 use Rattle.mx_machine.specs.Made.{IsMade}
 use Rattle.mx_machine.specs.Ties.{RunsAlive}
 use Rattle.mx_machine.proofs.CaseLaws.{acts-gate, acts-return, target-domain}
-use Rattle.mx_machine.proofs.KindLaws.{gate-ended}
+use Rattle.mx_machine.proofs.KindLaws.{ended-on, gate-ended}
 use Rattle.mx_machine.proofs.StretchLaws.{alive-instruction}
 use Rattle.mx_machine.proofs.bare.Bare.at_gate.Goals as goal
 
@@ -49,6 +49,10 @@ returns-else-target-domain g c =
     record {
       made = subst (λ e. IsMade m c.pass.new.self c.pass.new.out c.pass.result e) (sym gate) c.pass.ensures.made;
       fits = c.pass.ensures.fits;
-      on = λ on. absurd (let z : ⊥ = cc in z);
+      on = λ on. absurd (ended-on _ on);
       ran = λ ran. absurd (gate-ended m h c.args.target (sym c.pass.ensures.made.kind ∙ ran));
     }
+
+pub domain-domain-requires : goal.domain-domain-requires
+domain-domain-requires g c =
+    subst (λ (m : Held). c.args.hart < length m.harts) (sym c.self.view_is) c.requires.at.run.act.there

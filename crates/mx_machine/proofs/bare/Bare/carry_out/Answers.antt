@@ -1,4 +1,4 @@
-use Rattle.std.proofs.Common.{rules, ◌≡◌, ℕ, ◌*◌, ◌%◌, ◌<◌, false, length, List, Some, refl, sym, ap, subst, ◌∙◌}
+use Rattle.std.proofs.Common.{◌≡◌, ℕ, ◌*◌, ◌%◌, ◌<◌, false, length, List, Some, refl, sym, ap, subst, ◌∙◌}
 use Rattle.mx_words.specs.declared.perm.Access.TheVariants.{Execute}
 use Rattle.mx_words.specs.declared.perm.Perm.{Perm}
 use Rattle.mx_table.specs.Tables.{IsDomain}
@@ -17,6 +17,7 @@ use Rattle.mx_machine.specs.Bus.{perm_from}
 use Rattle.mx_machine.specs.Harts.{hart_among, stepped}
 use Rattle.mx_machine.specs.Held.{Held}
 use Rattle.mx_machine.specs.Steps.{instructed}
+use Rattle.mx_machine.proofs.InnerSizes.{bus-inside}
 use Rattle.mx_machine.proofs.TouchLaws.{AreTouched, are-touched}
 use Rattle.mx_machine.proofs.ViewLaws.{carried_in, held_of, touched-held}
 use Rattle.mx_machine.proofs.bare.Bare.carry_out.Goals as goal
@@ -32,7 +33,7 @@ known-requires g c =
     let ram : length old.ram ≡ 4 * p.size t = subst (λ (m : Held). length m.parts.ram ≡ 4 * m.parts.size) (sym c.self.view_is) c.requires.sound.ram in
     let hand : IsAtHand (p.size t) (kept_at old.checker.harts h).cache (hart_among c.self.inside.harts h).pc = subst (λ (m : Held). IsAtHand m.parts.size (kept_at m.parts.harts h).cache (hart_among m.harts h).pc) (sym c.self.view_is) c.requires.at_hand in
     let d = sym c.domain-self-inside.ensures in (
-      search rules,
+      search bus-inside,
       (
         record { look = subst (λ (n : ℕ). MayLook h n old.checker.harts) d look; domain = subst (λ (n : ℕ). IsDomain (p.maps t) n) d dom; ram = ram },
         subst (λ (n : ℕ). IsAtHand (p.size t) (kept_at old.checker.harts h).cache n) (sym c.pc-pc.ensures) hand,
@@ -122,3 +123,13 @@ carry_out-requires-clause-inst g c = c.requires.inst
 
 pub returns-clause-cause : goal.returns-clause-cause
 returns-clause-cause g c = c.carry_out.ensures.ran.caused
+
+pub pc-pc-requires : goal.pc-pc-requires
+pc-pc-requires g c = subst (λ (m : Held). c.args.hart < length m.harts) (sym c.self.view_is) c.requires.there
+
+pub domain-self-inside-requires : goal.domain-self-inside-requires
+domain-self-inside-requires g c =
+    subst (λ (m : Held). c.args.hart < length m.harts) (sym c.self.view_is) c.requires.there
+
+pub carry_out-requires-room-B-Bus : goal.carry_out-requires-room-B-Bus
+carry_out-requires-room-B-Bus g c κs within = search bus-inside

@@ -7,7 +7,7 @@ use Rattle.mx_machine.specs.Harts.{hart_among}
 use Rattle.mx_machine.specs.Made.{hart_in}
 use Rattle.mx_machine.proofs.MadeLaws.{may-look}
 use Rattle.mx_machine.proofs.InstructLaws.{fits-instruction, from-instruction, made-next, runs-instruction}
-use Rattle.mx_machine.proofs.KindLaws.{asks-ended, return-ended, trapped-ended}
+use Rattle.mx_machine.proofs.KindLaws.{asks-ended, ended-on, return-ended, trapped-ended}
 use Rattle.mx_machine.proofs.MayLaws.{aligned-pc}
 use Rattle.mx_machine.proofs.bare.Bare.execute.Goals as goal
 
@@ -64,7 +64,7 @@ returns-in-Trap g c =
       made = from-instruction m h c.args.returns r (r.act.fits.sound.maps (hart_among m.harts h).domain r.act.domain) c.requires.returns
           c.trap.new.self c.trap.new.out c.trap.result (O.Trap c.in-Trap.fault) e tt made;
       fits = c.trap.ensures.fits;
-      on = λ none. absurd (let z : ⊥ = cc in z);
+      on = λ on. absurd (ended-on _ on);
       ran = λ ran. absurd (trapped-ended (sym c.trap.ensures.made.kind ∙ ran));
     }
 
@@ -79,7 +79,7 @@ returns-in-Call g c =
       made = from-instruction m h c.args.returns r (r.act.fits.sound.maps (hart_among m.harts h).domain r.act.domain) c.requires.returns
           c.ask.new.self c.ask.new.out c.ask.result O.Call e tt made;
       fits = c.ask.ensures.fits;
-      on = λ none. absurd (let z : ⊥ = cc in z);
+      on = λ on. absurd (ended-on _ on);
       ran = λ ran. absurd (asks-ended c.instruct.new.self h (call_of h (hart_in c.instruct.new.self h)) (sym c.ask.ensures.made.kind ∙ ran));
     }
 
@@ -94,6 +94,6 @@ returns-in-Back g c =
       made = from-instruction m h c.args.returns r (r.act.fits.sound.maps (hart_among m.harts h).domain r.act.domain) c.requires.returns
           c.go_back.new.self c.go_back.new.out c.go_back.result (O.Back c.in-Back.rd c.in-Back.target) e tt made;
       fits = c.go_back.ensures.fits;
-      on = λ none. absurd (let z : ⊥ = cc in z);
+      on = λ on. absurd (ended-on _ on);
       ran = λ ran. absurd (return-ended c.instruct.new.self h c.in-Back.rd c.in-Back.target (sym c.go_back.ensures.made.kind ∙ ran));
     }

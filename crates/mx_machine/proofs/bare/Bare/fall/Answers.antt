@@ -1,6 +1,6 @@
-use Rattle.std.proofs.Common.{◌≡◌, true, false, List, refl, ap, sym, ◌∙◌, Option, Some, None}
+use Rattle.std.proofs.Common.{◌≡◌, ◌<◌, true, false, length, List, refl, ap, sym, subst, ◌∙◌, Option, Some, None}
 use Rattle.std.specs.Prelude.{is_some}
-use Rattle.mx_check.specs.Harts.{Kept, leaves_domain}
+use Rattle.mx_check.specs.Harts.{Kept, kept_at, leaves_domain}
 use Rattle.mx_check.specs.Harts.{halts as counts_as_halted}
 use Rattle.mx_model.specs.declared.values.Frame.{Frame}
 use Rattle.mx_model.specs.Gates.{top}
@@ -9,6 +9,7 @@ use Rattle.mx_machine.specs.Actions.{fallen, gives_up_kept, with_kept, with_step
 use Rattle.mx_machine.specs.Harts.{hart_among}
 use Rattle.mx_machine.specs.Held.{Held}
 use Rattle.mx_machine.specs.Steps.{gives_up}
+use Rattle.mx_machine.proofs.InnerSizes.{checker-inside}
 use Rattle.mx_machine.proofs.ViewLaws.{held_of}
 use Rattle.mx_machine.proofs.bare.Bare.fall.Goals as goal
 
@@ -43,3 +44,25 @@ returns-else-give_up g c =
     ∙ ap (λ (hs : List Hart). with_kept h counts_as_halted (record v { harts = hs })) c.give_up.ensures.after
     ∙ ap (λ (f : Kept → Kept). with_kept h f (with_step h (gives_up c.args.cause) v)) (sym (kept-none o (sym c.give_up.ensures.frame ∙ c.if-give_up.false)))
     ∙ ap (λ (m : Held). fallen h c.args.cause m) c.self.view_is
+
+pub give_up-requires-clause-hart : goal.give_up-requires-clause-hart
+give_up-requires-clause-hart g c =
+    subst (λ (m : Held). c.args.hart < length m.harts) (sym c.self.view_is) c.requires.there
+
+pub give_up-requires-clause-cause : goal.give_up-requires-clause-cause
+give_up-requires-clause-cause g c = c.requires.cause
+
+pub leave_domain-requires : goal.leave_domain-requires
+leave_domain-requires g c = (
+  search checker-inside,
+  subst (λ (m : Held). c.args.hart < length m.parts.harts) (sym c.self.view_is) c.requires.kept,
+)
+
+pub halt-requires : goal.halt-requires
+halt-requires g c = (
+  search checker-inside,
+  (
+    subst (λ (m : Held). c.args.hart < length m.parts.harts) (sym c.self.view_is) c.requires.kept,
+    subst (λ (m : Held). (kept_at m.parts.harts c.args.hart).flight ≡ None) (sym c.self.view_is) c.requires.free,
+  ),
+)

@@ -1,4 +1,4 @@
-use Rattle.std.proofs.Common.{rules, ◌≡◌, ℕ, ◌<◌, length, sym, ap, subst, ◌∙◌, suc, ◌+◌, arith}
+use Rattle.std.proofs.Common.{◌≡◌, ℕ, ◌<◌, length, sym, ap, subst, ◌∙◌, suc, ◌+◌, arith}
 use Rattle.mx_check.specs.Harts.{kept_at}
 use Rattle.mx_machine.specs.Actions.{halted_first}
 use Rattle.mx_machine.specs.Halting.{halted_at}
@@ -13,7 +13,7 @@ halt_one-requires g c =
     let i = c.loop-hart.hart in
     let now : c.loop-hart.self ≡ record m { parts = record m.parts { harts = halted_first i m.harts m.parts.harts } } = c.loop-hart.invariant in
     let count = c.len-hart-end.ensures.number ∙ ap (λ (n : Held). length n.harts) c.self.view_is ∙ c.requires.count ∙ sym (halted-count i m.harts m.parts.harts) in (
-      search rules,
+      search,
       (
         subst (λ (n : Held). i < length n.parts.harts) (sym now) (subst (λ k. i < k) count c.loop-hart-test.true),
         λ halted. ap (λ (n : Held). (kept_at n.parts.harts i).flight) now ∙ halted-flight i m.harts m.parts.harts i

@@ -1,8 +1,9 @@
-use Rattle.std.proofs.Common.{rules, ◌≡◌, ◌<◌, Bool, true, false, cond, None, length, sym, ap, subst, ◌∙◌}
+use Rattle.std.proofs.Common.{◌≡◌, ◌<◌, Bool, true, false, cond, None, length, sym, ap, subst, ◌∙◌}
 use Rattle.mx_check.specs.Harts.{at_hart, kept_at}
 use Rattle.mx_check.specs.Harts.{halts as counts_as_halted}
 use Rattle.mx_machine.specs.Harts.{hart_among, is_halted}
 use Rattle.mx_machine.specs.Held.{Held}
+use Rattle.mx_machine.proofs.InnerSizes.{checker-inside}
 use Rattle.mx_machine.proofs.bare.Bare.halt_one.Goals as goal
 
 pub halt-requires : goal.halt-requires
@@ -10,7 +11,7 @@ halt-requires g c =
     let h = c.args.hart in
     let halted : is_halted (hart_among c.args.self.now.harts h).progress ≡ true =
     ap (λ (n : Held). is_halted (hart_among n.harts h).progress) (sym c.self.view_is) ∙ sym c.is_halted.ensures ∙ c.if-is_halted.true in (
-      search rules,
+      search checker-inside,
       (
         subst (λ (n : Held). h < length n.parts.harts) (sym c.self.view_is) c.requires.kept,
         subst (λ (n : Held). (kept_at n.parts.harts h).flight ≡ None) (sym c.self.view_is) (c.requires.free halted),

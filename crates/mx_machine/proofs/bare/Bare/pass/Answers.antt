@@ -1,4 +1,4 @@
-use Rattle.std.proofs.Common.{rules, ◌≡◌, ◌<◌, ◌%◌, length, refl, ap, sym, subst, ◌∙◌, arith, eq-eqb}
+use Rattle.std.proofs.Common.{◌≡◌, ◌<◌, ◌%◌, length, refl, ap, sym, subst, ◌∙◌, arith, eq-eqb}
 use Rattle.std.proofs.lemmas.Bool.{ne_eqb}
 use Rattle.std.specs.Prelude.{slice_set}
 use Rattle.mx_model.specs.Effect.{reg}
@@ -24,7 +24,7 @@ pub link-link-requires : goal.link-link-requires
 link-link-requires g c = subst (λ (n : Held). c.args.hart < length n.harts) (sym c.self.view_is) c.requires.run.act.there
 
 pub trap-requires : goal.trap-requires
-trap-requires g c = (search rules, (c.requires.run, (cause-19, c.requires.empty)))
+trap-requires g c = (assumption c, (c.requires.run, (cause-19, c.requires.empty)))
 
 pub returns-then-link-ne0-clause-made : goal.returns-then-link-ne0-clause-made
 returns-then-link-ne0-clause-made g c =
@@ -39,7 +39,7 @@ pub returns-then-link-ne0-clause-fits : goal.returns-then-link-ne0-clause-fits
 returns-then-link-ne0-clause-fits g c = c.trap.ensures.fits
 
 pub is_dead-requires : goal.is_dead-requires
-is_dead-requires g c = search rules
+is_dead-requires g c = assumption c
 
 pub go_with-requires : goal.go_with-requires
 go_with-requires g c = subst (λ (n : Held). c.args.hart < length n.harts) (sym c.self.view_is) c.requires.run.act.there
@@ -72,7 +72,7 @@ pub pc-pc-requires : goal.pc-pc-requires
 pc-pc-requires g c = subst (λ (n : Held). c.args.hart < length n.harts) (sym c.self.view_is) c.requires.run.act.there
 
 pub trap-requires-then-depth-ge-FRAMES : goal.trap-requires-then-depth-ge-FRAMES
-trap-requires-then-depth-ge-FRAMES g c = (search rules, (c.requires.run, (cause-16, c.requires.empty)))
+trap-requires-then-depth-ge-FRAMES g c = (assumption c, (c.requires.run, (cause-16, c.requires.empty)))
 
 pub returns-then-depth-ge-FRAMES-clause-made : goal.returns-then-depth-ge-FRAMES-clause-made
 returns-then-depth-ge-FRAMES-clause-made g c =
@@ -92,7 +92,7 @@ returns-then-depth-ge-FRAMES-clause-fits g c = c.trap-then-depth-ge-FRAMES.ensur
 
 pub enter-requires : goal.enter-requires
 enter-requires g c = (
-  search rules,
+  assumption c,
   (
       let m = c.args.self.now in
       let h = c.args.hart in

@@ -1,4 +1,4 @@
-use Rattle.std.proofs.Common.{◌≡◌, ℕ, ◌<◌, ◌%◌, false, List, length, Some, sym, ap, subst, ◌∙◌}
+use Rattle.std.proofs.Common.{◌≡◌, ℕ, ◌<◌, ◌%◌, false, List, length, Some, refl, sym, ap, subst, ◌∙◌}
 use Rattle.mx_table.specs.Tables.{IsDomain}
 use Rattle.mx_check.specs.Conditions.{IsAtHand, MayLook}
 use Rattle.mx_check.specs.Harts.{kept_at}
@@ -14,6 +14,7 @@ use Rattle.mx_machine.specs.Windows.{IsOpen}
 use Rattle.mx_machine.proofs.MadeLaws.{may-look}
 use Rattle.mx_machine.proofs.RowLaws.{open-runs}
 use Rattle.mx_machine.proofs.WindowLaws.{hand-inside}
+use Rattle.mx_machine.proofs.ViewLaws.{held_of}
 use Rattle.mx_machine.proofs.bare.Bare.quick.Goals as goal
 
 pub word-word-requires : goal.word-word-requires
@@ -108,3 +109,17 @@ returns-in-Some g c =
       after = e.after ∙ ap (λ (k : Held). after_unfetched h k) is;
       caused = e.cause;
     }
+
+pub pc-pc-requires : goal.pc-pc-requires
+pc-pc-requires g c = subst (λ (m : Held). c.args.hart < length m.harts) (sym c.self.view_is) c.requires.alive.there
+
+pub holds-requires : goal.holds-requires
+holds-requires g c = c.requires.window.bound
+
+pub returns-then-not-holds : goal.returns-then-not-holds
+returns-then-not-holds g c = refl
+
+pub returns-in-None : goal.returns-in-None
+returns-in-None g c =
+    ap (λ (hs : List Hart). held_of g.T.PermTables (record c.self.inside { harts = hs })) c.inst.ensures.same
+    ∙ c.self.view_is

@@ -1,4 +1,4 @@
-use Rattle.std.proofs.Common.{ℕ, false, sym, subst, ◌∙◌, ap, arith, get_or}
+use Rattle.std.proofs.Common.{ℕ, ◌<◌, false, length, sym, subst, ◌∙◌, ap, arith, get_or}
 use Rattle.mx_machine.specs.Goings.{kind_of}
 use Rattle.mx_machine.specs.Harts.{hart_among}
 use Rattle.mx_machine.specs.Held.{Held}
@@ -56,3 +56,16 @@ at_gate-requires g c =
     let alive = sym c.is_dead.ensures ∙ c.if-is_dead.false in
     let at = at-gate-here m h c.domain-domain.result c.pc-pc.result c.in-Some.target c.requires.run d p alive (sym c.in-Some.ensures) in
     (assumption c, (c.requires.valid, (at, c.requires.empty)))
+
+pub domain-domain-requires : goal.domain-domain-requires
+domain-domain-requires g c =
+    subst (λ (n : Held). c.args.hart < length n.harts) (sym c.self.view_is) c.requires.run.act.there
+
+pub pc-pc-requires : goal.pc-pc-requires
+pc-pc-requires g c = subst (λ (n : Held). c.args.hart < length n.harts) (sym c.self.view_is) c.requires.run.act.there
+
+pub is_dead-requires : goal.is_dead-requires
+is_dead-requires g c = assumption c
+
+pub returns-in-Some : goal.returns-in-Some
+returns-in-Some g c = record { made = rw c.kind-in-Some.ensures c.at_gate.ensures.made; fits = c.at_gate.ensures.fits }

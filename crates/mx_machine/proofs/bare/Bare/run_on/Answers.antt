@@ -20,6 +20,15 @@ turns-init g c = record {
   alive = c.before_last-room.ensures.alive;
 }
 
+pub turn_on-requires : goal.turn_on-requires
+turn_on-requires g c =
+    let i = c.turns.invariant in
+    let within : c.min-first.result ≤ c.before_last-room.result = least-le c.before_last-room.result 4 c.min-first.result c.min-first.ensures in
+    let inside : c.turns.ran < c.before_last-room.result = less-le c.turns.ran c.min-first.result c.before_last-room.result c.turns-test.true within in
+    let below : c.turns.ran < c.args.most = less-less c.turns.ran c.before_last-room.result c.args.most inside c.before_last-room.ensures.below in
+    let few = few-last c.turns.self.steps c.args.self.now.steps c.turns.ran c.args.most 18446744073709551616 i.run.steps below c.requires.few in
+    (assumption c, (i.run.whole, (i.alive inside, (few, i.empty))))
+
 pub turns-preserved : goal.turns-preserved
 turns-preserved g c =
     let m = c.turns.self in

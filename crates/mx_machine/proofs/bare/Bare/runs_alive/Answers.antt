@@ -41,3 +41,6 @@ returns-in-Halted g c =
     let at : (hart_among m.harts h).progress ≡ G.Halted c.in-Halted.field-0 =
     sym (ap (λ (n : Held). (hart_among n.harts h).progress) c.self.view_is) ∙ sym c.progress.ensures ∙ c.in-Halted.is in
     (λ live. cc, λ alive. let e : G.Halted c.in-Halted.field-0 ≡ G.Running = sym at ∙ alive.runs in cc)
+
+pub is_dead-requires : goal.is_dead-requires
+is_dead-requires g c = assumption c

@@ -1,4 +1,4 @@
-use Rattle.std.proofs.Common.{rules, ◌≡◌, ℕ, ◌<◌, Option, Some, None, refl, ap, sym, subst, ◌∙◌}
+use Rattle.std.proofs.Common.{◌≡◌, ℕ, ◌<◌, Option, Some, None, refl, ap, sym, subst, ◌∙◌}
 use Rattle.mx_model.specs.declared.values.Call.{Call}
 use Rattle.mx_model.specs.declared.values.Note.{Note}
 use Rattle.mx_model.specs.declared.values.Note.TheVariants as N
@@ -9,11 +9,12 @@ use Rattle.mx_machine.specs.Harts.{hart_among}
 use Rattle.mx_machine.specs.Held.{Held, rest_of}
 use Rattle.mx_machine.specs.Serving.{IsServing}
 use Rattle.mx_machine.proofs.ServeLaws.{fits-answered, fits-ended, made-answered, made-ended, own-flight, served-moved, serving-bars}
+use Rattle.mx_machine.proofs.InnerSizes.{checker-inside, supervisor-inside}
 use Rattle.mx_machine.proofs.bare.Bare.serve.Goals as goal
 
 pub serve-answer-requires : goal.serve-answer-requires
 serve-answer-requires g c = (
-  search rules,
+  search supervisor-inside,
   (
       let v = rw (← c.self.view_is) at c.requires.serving in
       (joined-sound _ v.sound, (v.domain, (v.may, ap (λ (e : Events). e.bytes) c.requires.empty)))),
@@ -26,7 +27,7 @@ halt-requires g c =
 
 pub halt-requires-then-answer : goal.halt-requires-then-answer
 halt-requires-then-answer g c = (
-  search rules,
+  search checker-inside,
   (
       let p = g.T.PermTables in
       let m : Held = record {

@@ -1,4 +1,4 @@
-use Rattle.std.proofs.Common.{sym, subst, ◌∙◌, ap, refl}
+use Rattle.std.proofs.Common.{◌+◌, ◌<◌, ◌^◌, arith, sym, subst, ◌∙◌, ap, refl}
 use Rattle.mx_model.specs.Events.{Events}
 use Rattle.mx_model.specs.Run.{flat_made}
 use Rattle.mx_model.specs.declared.values.TurnKind.TheVariants as T
@@ -95,3 +95,7 @@ returns-in-Running g c =
           (turn-running m h w.fits (hart-there m h w G.Running at refl) at) c.run.ensures.made;
       fits = c.run.ensures.fits;
     }
+
+pub overflow_add-self : goal.overflow_add-self
+overflow_add-self g c =
+    record { fits = subst (λ (m : Held). m.steps + 1 < 2 ^ 64) (sym c.self.view_is) (omega (arith, c.requires.few)) }

@@ -1,4 +1,4 @@
-use Rattle.std.proofs.Common.{◌≡◌, false, sym, subst, ◌∙◌, ap, refl, get_or}
+use Rattle.std.proofs.Common.{◌≡◌, false, sym, subst, ◌∙◌, ap, refl, get_or, ◌+◌, ◌<◌, ◌^◌, length, arith}
 use Rattle.mx_machine.specs.Goings.{kind_of}
 use Rattle.mx_machine.specs.declared.hart.Progress.TheVariants as G
 use Rattle.mx_machine.specs.Actions.{counted, heard}
@@ -13,6 +13,18 @@ use Rattle.mx_machine.proofs.bare.Bare.turn_on.Goals as goal
 
 pub hear-requires : goal.hear-requires
 hear-requires g c = (assumption c, may-hear c.args.self.now c.args.hart c.requires.whole G.Running c.requires.alive.runs refl _ c.self.view_is)
+
+pub domain-domain-requires : goal.domain-domain-requires
+domain-domain-requires g c =
+    let h = c.args.hart in
+    let is = c.self-2.view_is ∙ c.hear.ensures.after ∙ ap (λ (k : Held). heard h (counted k)) c.self.view_is in
+    subst (λ (k : Held). h < length k.harts) (sym is) c.requires.alive.there
+
+pub pc-pc-requires : goal.pc-pc-requires
+pc-pc-requires g c =
+    let h = c.args.hart in
+    let is = c.self-2.view_is ∙ c.hear.ensures.after ∙ ap (λ (k : Held). heard h (counted k)) c.self.view_is in
+    subst (λ (k : Held). h < length k.harts) (sym is) c.requires.alive.there
 
 pub gate-requires : goal.gate-requires
 gate-requires g c =
@@ -96,3 +108,7 @@ returns-in-None g c =
           (subst (λ (k : Held). RunsAlive k h) (sym e.0) (alive-instruction n h false run live), e.1);
       ran = c.execute.ensures.ran;
     }
+
+pub overflow_add-self : goal.overflow_add-self
+overflow_add-self g c =
+    record { fits = subst (λ (m : Held). m.steps + 1 < 2 ^ 64) (sym c.self.view_is) (omega (arith, c.requires.few)) }

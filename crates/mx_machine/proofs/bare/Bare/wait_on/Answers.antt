@@ -1,4 +1,4 @@
-use Rattle.std.proofs.Common.{rules, ◌≡◌, ◌<◌, true, false, length, refl, ap, sym, subst, ◌∙◌}
+use Rattle.std.proofs.Common.{◌≡◌, ◌<◌, true, false, length, refl, ap, sym, subst, ◌∙◌}
 use Rattle.std.specs.List.{list_any}
 use Rattle.mx_check.specs.Calls.{is_ready}
 use Rattle.mx_model.specs.declared.values.Call.{Call}
@@ -15,11 +15,12 @@ use Rattle.mx_machine.proofs.AskLaws.{serving-waiting}
 use Rattle.mx_machine.proofs.AskedLaws.{made-moved}
 use Rattle.mx_machine.proofs.MadeLaws.{kept-there}
 use Rattle.mx_machine.proofs.WaitLaws.{fits-settled, made-settled, made-waits, waiting-announced}
+use Rattle.mx_machine.proofs.InnerSizes.{checker-inside}
 use Rattle.mx_machine.proofs.bare.Bare.wait_on.Goals as goal
 
 pub ready-requires : goal.ready-requires
 ready-requires g c =
-    (search rules, subst (λ (n : Held). c.args.hart < length n.parts.harts) (sym c.self.view_is) (kept-there c.args.self.now c.args.hart c.requires.act))
+    (search checker-inside, subst (λ (n : Held). c.args.hart < length n.parts.harts) (sym c.self.view_is) (kept-there c.args.self.now c.args.hart c.requires.act))
 
 pub returns-then-not-ready-clause-made : goal.returns-then-not-ready-clause-made
 returns-then-not-ready-clause-made g c =
@@ -37,7 +38,7 @@ call-call-requires g c = subst (λ (n : Held). c.args.hart < length n.harts) (sy
 
 pub serve-requires : goal.serve-requires
 serve-requires g c = (
-  search rules,
+  assumption c,
   (
     let m = c.args.self.now in
         let h = c.args.hart in

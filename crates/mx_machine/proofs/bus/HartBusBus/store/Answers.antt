@@ -1,4 +1,4 @@
-use Rattle.std.proofs.Common.{◌≡◌, ℕ, ◌-◌, true, false, not, Bool, List, length, cond, ap, sym, ◌∙◌}
+use Rattle.std.proofs.Common.{◌≡◌, ℕ, ◌-◌, false, not, Bool, List, length, cond, ap, sym, ◌∙◌}
 use Rattle.mx_words.specs.Bytes.{put_at}
 use Rattle.mx_words.specs.Ranges.{ram_base}
 use Rattle.mx_words.specs.declared.perm.Access.TheVariants as A

@@ -1,10 +1,16 @@
-use Rattle.std.proofs.Common.{◌≡◌, ap, sym, subst, ◌∙◌}
+use Rattle.std.proofs.Common.{◌≡◌, ◌<◌, length, ap, sym, subst, ◌∙◌}
 use Rattle.std.specs.Prelude.{slice_get}
 use Rattle.mx_model.specs.State.{Flat, hart_at}
 use Rattle.mx_model.specs.State.{Hart as Seen}
 use Rattle.mx_machine.specs.Harts.{hart_among}
-use Rattle.mx_machine.proofs.HartsAt.{hart-in}
+use Rattle.mx_machine.proofs.HartsAt.{hart-in, length-seen}
 use Rattle.mx_machine.proofs.machine.Machine.frame.Goals as goal
+
+pub frame-requires : goal.frame-requires
+frame-requires g c =
+    let m = c.self.inside.bare in
+    subst (λ x. c.args.hart < length x.bare.harts) (sym c.self-inside.view_is)
+    (subst (λ n. c.args.hart < n) (length-seen 0 m.harts m.parts.harts) (subst (λ (f : Flat). c.args.hart < length f.core.harts) (sym c.self.view_is) c.requires))
 
 pub returns : goal.returns
 returns g c =

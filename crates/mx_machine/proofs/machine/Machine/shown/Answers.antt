@@ -1,4 +1,4 @@
-use Rattle.std.proofs.Common.{◌≡◌, List, length, ap, sym, subst, ◌∙◌}
+use Rattle.std.proofs.Common.{◌≡◌, ◌<◌, List, length, ap, sym, subst, ◌∙◌}
 use Rattle.mx_words.specs.declared.perm.Perm.{Perm}
 use Rattle.mx_words.specs.Reach.{stored}
 use Rattle.mx_table.specs.Tables.{IsDomain, map_of}
@@ -18,6 +18,12 @@ shown-requires-clause-domain g c =
     (subst (λ x. IsDomain x.bare.parts.maps c.args.domain) (sym c.self-inside.view_is)
     (domain-in c.self.inside.bare c.self.invariant.fits c.args.domain
     (subst (λ (f : Flat). IsModule (length f.core.modules) c.args.domain) (sym c.self.view_is) c.requires.domain)))
+
+pub shown-requires-clause-word : goal.shown-requires-clause-word
+shown-requires-clause-word g c =
+    subst (λ t. c.args.word < g.T.PermTables.size t) (sym c.tables.ensures)
+    (subst (λ x. c.args.word < x.bare.parts.size) (sym c.self-inside.view_is)
+    (subst (λ (f : Flat). c.args.word < f.core.size) (sym c.self.view_is) c.requires.word))
 
 pub returns : goal.returns
 returns g c =
