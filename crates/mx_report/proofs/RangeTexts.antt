@@ -21,3 +21,10 @@ pub at_number : {X : Type 0} (f : X → List ℕ) (xs : List X) (i : ℕ) (d : X
 at_number f xs i d e =
     let back : i ≡ i + 1 - 1 = omega arith in
     sym (get_or-map f xs i d) ∙ ap (get_or (map f xs) i) e ∙ ap (λ j. get_or (map f xs) j []) back
+
+-- of n numbers, those from i on: one more than those after it, and none behind the last
+pub one_less : (n i end : ℕ) → i < end → end ≡ n → n - i ≡ suc (n - (i + 1))
+one_less n i end lt e = omega arith
+
+pub none_left : (n i end : ℕ) → end ≤ i → end ≡ n → n - i ≡ 0
+none_left n i end le e = omega arith

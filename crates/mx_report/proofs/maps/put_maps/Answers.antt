@@ -1,4 +1,4 @@
-use Rattle.std.proofs.Common.{rules, drop, ap, arith}
+use Rattle.std.proofs.Common.{rules, drop, ap, arith, le_trans, zero-le}
 use Rattle.std.proofs.lemmas.Result.{err_from_is_err_and}
 use Rattle.mx_words.specs.Rights.{same}
 use Rattle.mx_words.specs.Runs.{runs_of}
@@ -12,7 +12,7 @@ use Rattle.mx_report.proofs.maps.put_maps.Goals as goal
 
 pub runs-init : goal.runs-init
 unfolding map_lines
-runs-init g c = record { within = omega arith; coming = coming_all _ _ _ }
+runs-init g c = record { within = zero-le; coming = coming_all _ _ _ }
 
 pub returns-in_err-put_map : goal.returns-in_err-put_map
 returns-in_err-put_map g c =
@@ -35,9 +35,8 @@ runs-preserved g c =
     let end = c.perm_end-end.result in
     let told = c.perm_end-end.ensures in
     let from = map_from text m f.core.size c.runs.word end (c.machine_is_valid.ensures.whole c.args.domain c.requires) told.behind told.within told.same told.ends in
-    let within = told.within in
     record {
-      within = omega (arith, within, c.machine_is_valid.ensures.whole c.args.domain c.requires);
+      within = told.within;
       coming = coming_next (coming_same from c.runs.invariant.coming)
           (passes_same (ap (text c.runs.word end) c.perm.ensures) c.in_ok-put_map.ensures);
     }
@@ -59,3 +58,8 @@ perm_end-end-requires g c = (search, search rules)
 
 pub perm-requires : goal.perm-requires
 perm-requires g c = (search, search rules)
+
+pub put_map-requires : goal.put_map-requires
+put_map-requires g c =
+    let few = c.machine_is_valid.ensures.valid.few_words in
+    record { first = le_trans c.runs.invariant.within few; end = le_trans c.perm_end-end.ensures.within few }

@@ -1,4 +1,4 @@
-use Rattle.std.proofs.Common.{rules, ◌==◌, drop, ap, arith}
+use Rattle.std.proofs.Common.{rules, ◌==◌, drop, ap, arith, le_trans, zero-le}
 use Rattle.std.proofs.lemmas.Result.{err_from_is_err_and}
 use Rattle.mx_words.specs.Runs.{runs_of}
 use Rattle.mx_report.specs.Lines.{owner_text}
@@ -10,7 +10,7 @@ use Rattle.mx_report.proofs.owners.put_owners.Goals as goal
 
 pub runs-init : goal.runs-init
 unfolding owner_lines
-runs-init g c = record { within = omega arith; coming = coming_all _ _ _ }
+runs-init g c = record { within = zero-le; coming = coming_all _ _ _ }
 
 pub returns-in_err-put_owner : goal.returns-in_err-put_owner
 returns-in_err-put_owner g c =
@@ -53,3 +53,8 @@ owner_end-end-requires g c = (search, search rules)
 
 pub owner-requires : goal.owner-requires
 owner-requires g c = (search, search rules)
+
+pub put_owner-requires : goal.put_owner-requires
+put_owner-requires g c =
+    let few = c.machine_is_valid.ensures.valid.few_words in
+    record { first = le_trans c.runs.invariant.within few; end = le_trans c.owner_end-end.ensures.within few }

@@ -62,3 +62,11 @@ machine_is_valid-requires g c = search
 
 pub span-span-requires : goal.span-span-requires
 span-span-requires g c = (search, search rules)
+
+pub overflow_add-end : goal.overflow_add-end
+overflow_add-end g c =
+    let few = c.machine_is_valid.ensures.valid.few_words in
+    omega (arith, c.requires.inside, few)
+
+pub spans-init : goal.spans-init
+spans-init g c = record { low = omega arith; none = λ w lo hi. absurd (omega arith) }

@@ -17,3 +17,6 @@ pub put_shown-requires : goal.put_shown-requires
 put_shown-requires g c =
     let few = c.machine_is_valid.ensures.valid.few_words in
     omega (arith, c.requires.inside)
+
+pub returns-then-has_rights : goal.returns-then-has_rights
+returns-then-has_rights g c = rw (sym c.has_rights.ensures ∙ c.if-has_rights.true) c.put_shown.ensures
