@@ -27,7 +27,7 @@ new-requires g c =
     c.in-Ok.ensures c.in-Ok-owners.ensures gates c.in-Ok-heaps.ensures in (
       search rules,
       (
-        search rules,
+        search,
         (
           subst AreJoined (sym parts) (parts-joined plan images c.plan_is_in_range.ensures c.requires.layout.faultless),
           gates-hold plan images (t.maps c.new-checker.result.tables) (t.size c.new-checker.result.tables) c.gates-gates.result c.plan_is_in_range.ensures c.requires.layout.faultless maps size gates,

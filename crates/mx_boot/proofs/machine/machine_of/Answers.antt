@@ -1,4 +1,5 @@
-use Rattle.std.proofs.Common.{rules, ◌∙◌, ap}
+use Rattle.std.proofs.Common.{◌∙◌, ap, length}
+use Rattle.std.proofs.lemmas.List.{length-map}
 use Rattle.mx_machine.specs.Starts.{started}
 use Rattle.mx_boot.specs.Joined.{boot_parts}
 use Rattle.mx_boot.specs.Laid.{start_of}
@@ -7,12 +8,21 @@ use Rattle.mx_boot.proofs.Ready.{ready}
 use Rattle.mx_boot.proofs.Starting.{boots-as}
 use Rattle.mx_boot.proofs.machine.machine_of.Goals as goal
 
+pub plan_is_in_range-requires : goal.plan_is_in_range-requires
+plan_is_in_range-requires g c = search
+
+pub starts-starts-requires : goal.starts-starts-requires
+starts-starts-requires g c = ap length (c.as_slice.ensures.value ∙ c.requires.layout.starts) ∙ length-map _ _
+
+pub stacks-stacks-requires : goal.stacks-stacks-requires
+stacks-stacks-requires g c = search
+
 pub new-requires : goal.new-requires
 new-requires g c =
     let starts = c.starts-starts.ensures (start_of c.args.plan.now c.args.images.now) (c.as_slice.ensures.value ∙ c.requires.layout.starts) in (
-      search rules,
+      search,
       (
-        search rules,
+        search,
         ready c.args.plan.now c.args.images.now c.plan_is_in_range.ensures c.requires.layout.faultless _ c.starts-starts.result c.stacks-stacks.result
             c.requires.parts starts c.stacks-stacks.ensures,
       ),

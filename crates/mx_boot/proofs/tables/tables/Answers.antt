@@ -1,4 +1,4 @@
-use Rattle.std.proofs.Common.{◌∙◌, ap, sym, length, map, Err, arith}
+use Rattle.std.proofs.Common.{◌∙◌, ◌≤◌, ap, sym, subst, length, map, Err}
 use Rattle.mx_words.specs.Need.{within}
 use Rattle.mx_table.specs.Tables.{row_map}
 use Rattle.mx_boot.specs.Boot.{TooFull, limit_of}
@@ -8,14 +8,12 @@ use Rattle.mx_boot.proofs.tables.tables.Goals as goal
 pub build-requires-clause-some_rows : goal.build-requires-clause-some_rows
 build-requires-clause-some_rows g c =
     let count = length-rows c.args.plan.now c.args.images.now c.in-Ok.rows.items c.in-Ok.ensures.maps in
-    let some = c.plan_is_in_range.ensures.module_count in
-    omega (arith, count, some.0, ap length c.as_slice.ensures.value)
+    subst (λ n. 1 ≤ n) (sym (ap length c.as_slice.ensures.value ∙ count)) c.plan_is_in_range.ensures.module_count.0
 
 pub build-requires-clause-few_rows : goal.build-requires-clause-few_rows
 build-requires-clause-few_rows g c =
     let count = length-rows c.args.plan.now c.args.images.now c.in-Ok.rows.items c.in-Ok.ensures.maps in
-    let some = c.plan_is_in_range.ensures.module_count in
-    omega (arith, count, some.1, ap length c.as_slice.ensures.value)
+    subst (λ n. n ≤ 63) (sym (ap length c.as_slice.ensures.value ∙ count)) c.plan_is_in_range.ensures.module_count.1
 
 pub returns-in-Ok-build-clause-boot : goal.returns-in-Ok-build-clause-boot
 returns-in-Ok-build-clause-boot g c =
