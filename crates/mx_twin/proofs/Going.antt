@@ -42,12 +42,29 @@ going-start d quantum steps f g p a m n = record {
   knows = start-known d f g p n;
 }
 
+-- a run whose start fails, and numbers of turns and harts in it
+pub going-fails : (d quantum steps : ℕ) (f g : Flat) → fails d f g ≡ true →
+    E.Ended 0 0 T.Idle ≡ twins d quantum steps f g
+going-fails d quantum steps f g e =
+    sym (ap (λ (b : Bool). if b then E.Ended 0 0 T.Idle else twins_from d quantum steps 0 f g) e)
+
+pub few-turns : (t s made steps : ℕ) → t ≡ s + made → made < steps → s + steps < 18446744073709551616 →
+    t < 18446744073709551615
+few-turns t s made steps e l few = omega arith
+
+pub hart-below : (a n harts all : ℕ) → n ≡ harts → harts ≡ all → 1 ≤ all → a % harts < n
+hart-below a n harts all e f some = omega arith
+
 module _ (d quantum steps harts : ℕ) (f g : Flat) (made : ℕ) (u v : Flat) (known : Bool) (k : IsGoing d quantum steps harts f g made u v known) where
   abbrev hart : ℕ
   hart = next_hart quantum made u
 
   pub going-halted : all_halted u.core ≡ true → all_halted v.core ≡ true → E.Agreed ≡ twins d quantum steps f g
   going-halted a b = sym (k.rest ∙ halted-agreed d quantum (steps - made) made u v k.pair a b)
+
+  pub going-out : steps ≤ made → E.Agreed ≡ twins d quantum steps f g
+  going-out l =
+      sym (k.rest ∙ ap (λ (n : ℕ). twins_from d quantum n made u v) (let z : steps - made ≡ 0 = omega (arith, l) in z))
 
   pub going-stop : made < steps → IsRight d (flat_turn u hart) (flat_turn v hart) None →
       E.Ended (made + 1) hart (flat_kind u hart) ≡ twins d quantum steps f g

@@ -1,9 +1,11 @@
 use Rattle.std.proofs.Common.{List, Bool, ◌+◌, true, sym, ◌∙◌, subst, IsTrue}
+use borrow.Author.Count.{falls}
 use Rattle.std.proofs.lemmas.Bool.{OnFalse_from, both_ways}
+use Rattle.std.proofs.lemmas.Option.{slice_get_within}
 use Rattle.mx_boot.specs.Machines.{meaning}
 use Rattle.mx_model.specs.declared.values.Gate.{Gate}
 use Rattle.mx_audit.specs.Marks.{MarkTargets, is_marked}
-use Rattle.mx_audit.proofs.MarkLaws.{Pass, all-end, pass-mark, pass-skip}
+use Rattle.mx_audit.proofs.MarkLaws.{Pass, all-end, gate-small, pass-mark, pass-skip}
 use Rattle.mx_audit.proofs.living.mark_targets.Goals as goal
 use Rattle.mx_audit.proofs.living.mark_targets.Goals.{then-is_marked+then-not-is_marked, else-is_marked, else-is_marked-via-then-is_marked+else-not-is_marked, else-is_marked-via-else-is_marked}
 
@@ -39,3 +41,13 @@ returns-clause-all c =
     let core = (meaning c.args.machine.now).core in
     OnFalse_from c.gates.more (MarkTargets core c.gates.live) (λ e.
     all-end (λ (g : Gate). IsTrue (is_marked c.gates.live g.domain) → IsTrue (is_marked c.gates.live g.target)) core.gates c.gates.i (sym c.in_default.ensures) (c.gates.invariant.all e))
+
+pub mark-requires : goal.mark-requires
+mark-requires c =
+    gate-small (meaning c.args.machine.now).core c.gates.i c.in-Some.gate c.any_machine_is_valid.ensures.valid
+    (sym c.in-Some.ensures)
+
+pub gates-smaller : goal.gates-smaller
+gates-smaller c =
+    let gates = (meaning c.args.machine.now).core.gates in
+    falls _ _ (slice_get_within gates c.gates.i c.in-Some.gate (sym c.in-Some.ensures))
