@@ -1,5 +1,5 @@
 -- The parts that a valid snapshot gives, as the calls ask for them with which its machine goes on.
-use Rattle.std.proofs.Common.{◌≡◌, ℕ, ◌%◌, ◌<◌, ◌≤◌, ◌⊎◌, ⊎_elim, Bool, true, ◌==◌, All, IsTrue, List, [], ◌∷◌, length, Ok, Err, refl, sym, ap, ◌∙◌, subst, arith, if◌then◌else◌}
+use Rattle.std.proofs.Common.{◌≡◌, ◌≢◌, ℕ, ◌%◌, ◌<◌, ◌≤◌, ◌⊎◌, ⊎_elim, Bool, true, ◌==◌, All, IsTrue, List, [], ◌∷◌, length, Ok, Err, refl, sym, ap, ◌∙◌, subst, arith, if◌then◌else◌}
 use Rattle.std.proofs.Common.{map as list_map}
 use Rattle.std.specs.List.{AllByRecursion}
 use Rattle.std.proofs.lemmas.Bool.{and_parts}
@@ -43,12 +43,13 @@ use Rattle.mx_snapshot.proofs.ValidKept.{stored-kept}
 use Rattle.mx_snapshot.proofs.ValidLists.{each_holds}
 use Rattle.mx_snapshot.proofs.ValidMay.{flights-fit, gates-fit, may-go, parts-sound}
 use Rattle.mx_snapshot.proofs.ValidRuns.{row-fits, row-same}
+use Rattle.mx_resume.specs.declared.building.Held.{Held}
 use Rattle.mx_resume.specs.declared.harts.ResumingHarts.{ResumingHarts}
 use Rattle.mx_resume.specs.declared.head.Head as code_head
 use Rattle.mx_resume.specs.declared.refused.SnapshotRefused.{SnapshotRefused}
 use Rattle.mx_resume.specs.declared.refused.SnapshotRefused.TheVariants.{Fault, TablesFull, NoMemory}
 use Rattle.mx_resume.specs.Extents.{HasBounds}
-use Rattle.mx_resume.specs.Goes.{AreParts, GivesParts, GoesFrom, IsOverfull, MayFly}
+use Rattle.mx_resume.specs.Goes.{AreParts, GivesParts, GoesFrom, IsHeld, IsOverfull, MayFly, MayJoin}
 use Rattle.mx_resume.specs.Parts.{head_seen}
 use Rattle.mx_resume.specs.Snapshot.{IsRefusedBy, NeedsMore, fitting, stored_need}
 
@@ -206,3 +207,30 @@ module _ {T : Type 0} (tables : Ghosts T) (buffer : ℕ) (s : Stored) (x : code_
 
   pub parts-joined : (p : Supervisor T buffer) → p ≡ over → parts_of tables p ≡ parts_in s
   parts-joined p e = ap (λ (y : Supervisor T buffer). parts_of tables y) e ∙ parts-over
+
+-- what is held may be joined
+pub may-join : (x : Held) → IsHeld x → MayJoin x.head x.rows.items x.harts x.ram x.owners x.gates x.heaps
+may-join x h =
+    record {
+      snapshot = h.snapshot;
+      gives =
+          record {
+            valid = h.valid;
+            same_head = h.holds.head;
+            same_rows = h.holds.rows;
+            same_harts = h.holds.harts;
+            same_ram = h.holds.ram;
+            same_owners = h.holds.owners;
+            same_gates = h.holds.gates;
+            same_heaps = h.holds.heaps;
+          };
+    }
+
+-- the greatest lookaside buffer, where it is neither of the others
+pub last-buffer : (x : Held) → IsHeld x → x.head.lookaside ≢ 8 → x.head.lookaside ≢ 32 → 64 ≡ x.head.lookaside
+last-buffer x h a b =
+    let e = ap (λ (k : Head). k.lookaside) h.holds.head in
+    let n = h.snapshot.head.lookaside in
+    ⊎_elim (λ (i : n ≡ 8). absurd (a (e ∙ i)))
+    (λ (o : (n ≡ 32) ⊎ (n ≡ 64)). ⊎_elim (λ (i : n ≡ 32). absurd (b (e ∙ i))) (λ (i : n ≡ 64). sym (e ∙ i)) o)
+    (stored-kept h.snapshot h.valid).lookaside

@@ -29,7 +29,6 @@ live-preserved c =
     let new = on_true _ _ (c.restore.ensures.restored ∙ lives) c.restore.ensures.live in
     let blocks = ap (λ (h : HeapState). h.blocks) new ∙ block_last heap.area.first c.live.from b heap.blocks inv.apart place.1 place.0 in
     let area = ap (λ (h : HeapState). h.area) new in
-    let at = c.block.new.at in
     record {
       area = area ∙ inv.area;
       long = ap length blocks ∙ count_more heap.blocks b ∙ ap (λ (k : ℕ). k + 1) inv.long;
@@ -37,6 +36,6 @@ live-preserved c =
       from = ap (λ (a : Area). behind a c.restore.new.self.blocks) area ∙ ap (behind heap.area) blocks ∙ behind_more heap.area heap.blocks b;
       apart = subst (λ (a : Area). AreApart a.first (b.first + b.count) c.restore.new.self.blocks) (sym area)
           (subst (λ (bs : List Area). AreApart heap.area.first (b.first + b.count) bs) (sym blocks) (apart_more heap.area.first c.live.from b heap.blocks inv.apart place.1 place.0));
-      left = subst (λ (bs : List Area). Left (block_in c.args.heap.now.area) c.args.bytes.now c.args.count c.args.at.now (c.live.counter + 1) bs at) (sym blocks)
+      left = subst (λ (bs : List Area). Left (block_in c.args.heap.now.area) c.args.bytes.now c.args.count c.args.at.now (c.live.counter + 1) bs c.block.new.at) (sym blocks)
           (left_next c.live-test.true inv.left (c.in_ok-block.ensures.taken c.args.heap.now.area heap.blocks from end));
     }

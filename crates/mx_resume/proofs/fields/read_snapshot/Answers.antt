@@ -8,25 +8,17 @@ use Rattle.mx_resume.proofs.fields.read_snapshot.Goals as goal
 pub resume-requires : goal.resume-requires
 resume-requires c = let e = c.in_ok-fields.ensures in record { snapshot = e.0; valid = e.3; holds = e.4 }
 
-pub returns-clause-stored : goal.returns-clause-stored
-returns-clause-stored c =
+pub returns : goal.returns
+returns c =
     let e = c.in_ok-fields.ensures in
-    taken-resumed c.args.bytes.now e.0 e.3 e.1 (ap stored_in (sym c.as_slice.ensures) ∙ e.2) c.resume.result (c.resume.ensures e.0 e.3 e.4)
-
-pub returns-clause-of_plan : goal.returns-clause-of_plan
-returns-clause-of_plan c =
-    let e = c.in_ok-fields.ensures in
-    taken-of-plan c.args.bytes.now e.0 e.3 e.1 (ap stored_in (sym c.as_slice.ensures) ∙ e.2) c.resume.result (c.resume.ensures e.0 e.3 e.4)
-
-pub returns-clause-turns : goal.returns-clause-turns
-returns-clause-turns c =
-    let e = c.in_ok-fields.ensures in
-    taken-turns c.args.bytes.now e.0 e.3 e.1 (ap stored_in (sym c.as_slice.ensures) ∙ e.2) c.resume.result (c.resume.ensures e.0 e.3 e.4)
-
-pub returns-clause-refused : goal.returns-clause-refused
-returns-clause-refused c =
-    let e = c.in_ok-fields.ensures in
-    taken-refused c.args.bytes.now e.0 e.3 e.1 (ap stored_in (sym c.as_slice.ensures) ∙ e.2) c.resume.result (c.resume.ensures e.0 e.3 e.4)
+    let taken = ap stored_in (sym c.as_slice.ensures) ∙ e.2 in
+    let resumed = c.resume.ensures e.0 e.3 e.4 in
+    record {
+      stored = taken-resumed c.args.bytes.now e.0 e.3 e.1 taken c.resume.result resumed;
+      of_plan = taken-of-plan c.args.bytes.now e.0 e.3 e.1 taken c.resume.result resumed;
+      turns = taken-turns c.args.bytes.now e.0 e.3 e.1 taken c.resume.result resumed;
+      refused = taken-refused c.args.bytes.now e.0 e.3 e.1 taken c.resume.result resumed;
+    }
 
 pub returns-in_err-fields-clause-refused : goal.returns-in_err-fields-clause-refused
 returns-in_err-fields-clause-refused c =

@@ -21,6 +21,5 @@ kept-preserved c =
 
 pub returns : goal.returns
 returns c =
-    let long = c.kept.invariant.long in
-    let all : length c.kept.kept ≤ c.kept.i = omega (arith, long, c.kept-test.false) in
+    let all : length c.kept.kept ≤ c.kept.i = omega (arith, c.kept.invariant.long, c.kept-test.false) in
     left_none c.kept-test.false c.kept.invariant.left ∙ ap (λ (ns : List ℕ). Took ns c.kept.at) (take_all c.kept.i c.kept.kept all)

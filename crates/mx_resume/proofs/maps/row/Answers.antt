@@ -12,13 +12,7 @@ pub runs-preserved : goal.runs-preserved
 runs-preserved c =
     let inv = c.runs.invariant in
     let before = inv.0 in
-    let long = inv.1 in
     let words = inv.2 in
-    let inside = inv.3 in
-    let few = inv.4 in
-    let last = inv.5 in
-    let row = inv.6 in
-    let left = inv.7 in
     let run = run_seen c.in_ok-run.run' in
     let fits = fills_inside c.args.head.now.words c.args.runs c.runs.read c.runs.words c.in_ok-run.run'.count c.in_ok-run.ensures.place in
     let more = c.in_ok-add_span.ensures.row in
@@ -26,11 +20,11 @@ runs-preserved c =
     let one = spans_one c.runs.words run in
     let count : length c.add_span.new.row ≡ length c.runs.row + length (spans_in c.runs.words (run ∷ [])) = ap length more ∙ length-append c.runs.row (spans_in c.runs.words (run ∷ [])) in (
       before ++ run ∷ [],
-      count_more before run ∙ ap (λ (k : ℕ). k + 1) long,
+      count_more before run ∙ ap (λ (k : ℕ). k + 1) inv.1,
       words_more before run ∙ ap (λ (k : ℕ). k + run.count) words,
       fits.1,
-      omega (arith, count, few, one, fits.0),
+      omega (arith, count, inv.4, one, fits.0),
       value_more before run,
-      more ∙ ap (λ (s : List Span). s ++ spans_in c.runs.words (run ∷ [])) row ∙ ap (λ (k : ℕ). spans_in 0 before ++ spans_in k (run ∷ [])) here ∙ sym (spans-more 0 before run),
-      left_next c.runs-test.true left (c.in_ok-run.ensures.taken before (record { read = long; words = words }) last),
+      more ∙ ap (λ (s : List Span). s ++ spans_in c.runs.words (run ∷ [])) inv.6 ∙ ap (λ (k : ℕ). spans_in 0 before ++ spans_in k (run ∷ [])) here ∙ sym (spans-more 0 before run),
+      left_next c.runs-test.true inv.7 (c.in_ok-run.ensures.taken before (record { read = inv.1; words = words }) inv.5),
     )

@@ -25,6 +25,5 @@ registers-preserved c =
 
 pub returns-clause-taken : goal.returns-clause-taken
 returns-clause-taken c =
-    let long = c.registers.invariant.long in
-    let all : length c.registers.regs ≤ c.registers.i = omega (arith, long, c.registers-test.false) in
+    let all : length c.registers.regs ≤ c.registers.i = omega (arith, c.registers.invariant.long, c.registers-test.false) in
     left_none c.registers-test.false c.registers.invariant.left ∙ ap (λ (ns : List ℕ). Took ns c.registers.at) (take_all c.registers.i c.registers.regs all)
