@@ -61,11 +61,10 @@ module _ (schedule : Schedule) (f : Flat) (going : all_halted f.core ≡ false) 
       let ran_before : (j : ℕ) → j < n → flat_kind (turns_of h f j) h ≡ K.Ran = λ j below. ran j (omega (arith, below)) in
       let few_before : n < turns = omega (arith, few) in
       let next : i + suc n ≡ i + n + 1 = omega arith in
-      let last : n < suc n = omega arith in
       let events : Events = record { bytes = (flat_made g h).console; note = (flat_made g h).note } in
       let told : IsTold (flat_made g h) events = record { bytes = refl; note = refl } in
       let reached = counted_along n few_before ran_before in
-      let quiet = turn_goes_on g k h events K.Ran refl told (sym (ran n last)) refl in
+      let quiet = turn_goes_on g k h events K.Ran refl told (sym (ran n (omega arith))) refl in
       let none : length events.bytes ≡ 0 = ap length quiet.bytes in
       let no_fault : count_by is_fault (option_to_list events.note) ≡ 0 = ap (λ (o : Option Note). count_by is_fault (option_to_list o)) quiet.note in
       let no_exit : count_by is_exit (option_to_list events.note) ≡ 0 = ap (λ (o : Option Note). count_by is_exit (option_to_list o)) quiet.note in

@@ -77,9 +77,8 @@ paces_rest (ByBytes names) c bytes rest x n one is i e t hs = rw (t, one) (ap (d
 -- whose the next turns are
 pub row_quantum : (s : Schedule) (c : Core) (most w l h r n : ℕ) → 1 ≤ most → n ≡ min most r → IsPace s c (pace.Quantum w l h r) → IsRow s c most h n
 row_quantum (ByQuantum q) c most w l h r n some is i =
-    let small = mod_below c.turns q i.some in
     record {
-      some = omega (arith, some, is, small, i.left);
+      some = omega (arith, some, is, mod_below c.turns q i.some, i.left);
       few = omega (arith, is);
       each = λ j below e t hs.
           let s = step_in c.turns q j (omega (arith, i.left, below, is)) in

@@ -266,11 +266,10 @@ module _ (tells : Telling) (schedule : Schedule) (f : Flat) (going : all_halted 
         let ran_before : (j : ℕ) → j < n → flat_kind (turns_of h f j) h ≡ K.Ran = λ j below. ran j (omega (arith, below)) in
         let few_before : n < turns = omega (arith, few) in
         let next : i + suc n ≡ i + n + 1 = omega arith in
-        let last : n < suc n = omega arith in
         let events : Events = record { bytes = (flat_made g h).console; note = (flat_made g h).note } in
         let told : IsTold (flat_made g h) events = record { bytes = refl; note = refl } in
         let reached = run_along n few_before ran_before in
-        let quiet = turn_goes_on g k h events K.Ran refl told (sym (ran n last)) refl in
+        let quiet = turn_goes_on g k h events K.Ran refl told (sym (ran n (omega arith))) refl in
         subst (λ (v : State). HasRun tells v k before at) (sym (next_along n (i + suc n) next few_before (going_along n ran_before) reached))
         (makes_quiet tells u h g k g.core events before at (turn_of g k h events u refl told reached.state) quiet reached)
 

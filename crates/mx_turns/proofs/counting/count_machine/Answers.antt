@@ -67,14 +67,13 @@ returns-then-all_halted-2 g c =
     λ s new is.
     let schedule = schedule_of c.args.schedule in
     let f = c.turns.machine in
-    let h = c.in-Some.hart in
     let k = c.run_on-stretch.new.self in
     let stretch = c.run_on-stretch.result in
     let row = c.in-Some.ensures.named schedule f.core c.turns.invariant.pace in
     let r = c.turns.invariant.counted s new is in
     let add = c.counted-tally.ensures in
-    let last = counted_last schedule f c.turns.invariant.going h (c.args.steps - c.turns.made) c.in-Some.most row c.turns.made s c.turns.tally r k c.run_on-stretch.new.out stretch c.run_on-stretch.ensures.stretch _ add.bytes add.faults add.exits in
-    counted_ends schedule (c.turns.made + (stretch.ran + 1)) c.args.steps s k _
+    let last = counted_last schedule f c.turns.invariant.going c.in-Some.hart (c.args.steps - c.turns.made) c.in-Some.most row c.turns.made s c.turns.tally r k c.run_on-stretch.new.out stretch c.run_on-stretch.ensures.stretch c.counted-tally.result add.bytes add.faults add.exits in
+    counted_ends schedule (c.turns.made + (stretch.ran + 1)) c.args.steps s k c.counted-tally.result
     (ends_halted schedule (c.turns.made + (stretch.ran + 1)) c.args.steps s k last.state (let few = c.run_on-stretch.ensures.stretch.few in omega (arith, few, row.few, c.turns.invariant.within)) (sym c.if-all_halted-2.ensures)) last
 
 pub turns-preserved : goal.turns-preserved
@@ -100,7 +99,7 @@ turns-preserved g c =
       exits = omega (arith, add.few_exits, c.turns.invariant.exits);
       counted =
           λ s new is_flat.
-          counted_last schedule f going h (c.args.steps - c.turns.made) c.in-Some.most row c.turns.made s c.turns.tally (c.turns.invariant.counted s new is_flat) k events stretch is _ add.bytes add.faults add.exits;
+          counted_last schedule f going h (c.args.steps - c.turns.made) c.in-Some.most row c.turns.made s c.turns.tally (c.turns.invariant.counted s new is_flat) k events stretch is c.counted-tally.result add.bytes add.faults add.exits;
     }
 
 -- all turns were made
@@ -109,3 +108,58 @@ returns g c =
     λ s new is.
     let e : c.turns.made ≡ c.args.steps = omega (arith, c.turns-test.false, c.turns.invariant.within) in
     rw (← e) (c.turns.invariant.counted s new is)
+
+pub machine_is_valid-requires : goal.machine_is_valid-requires
+machine_is_valid-requires g c = search
+
+pub all_halted-requires : goal.all_halted-requires
+all_halted-requires g c = search
+
+pub harts-requires : goal.harts-requires
+harts-requires g c = search
+
+pub steps-requires : goal.steps-requires
+steps-requires g c = search
+
+pub all_halted-requires-in-turns : goal.all_halted-requires-in-turns
+all_halted-requires-in-turns g c = search
+
+pub new-events-requires : goal.new-events-requires
+new-events-requires g c = search
+
+pub begin-pace-requires-clause-quantum : goal.begin-pace-requires-clause-quantum
+begin-pace-requires-clause-quantum g c = search
+
+pub overflow_sub-steps : goal.overflow_sub-steps
+overflow_sub-steps g c = search
+
+pub next_hart-requires : goal.next_hart-requires
+next_hart-requires g c = record { some = omega (arith, c.turns-test.true) }
+
+pub overflow_add-made : goal.overflow_add-made
+overflow_add-made g c =
+    let row = c.in-Some.ensures.named (schedule_of c.args.schedule) c.turns.machine.core c.turns.invariant.pace in
+    omega (arith, c.run_on-stretch.ensures.stretch.few, row.few, c.turns.invariant.within, c.requires.short)
+
+pub overflow_add-stretch : goal.overflow_add-stretch
+overflow_add-stretch g c =
+    let row = c.in-Some.ensures.named (schedule_of c.args.schedule) c.turns.machine.core c.turns.invariant.pace in
+    omega (arith, c.run_on-stretch.ensures.stretch.few, row.few, c.turns.invariant.within, c.requires.short)
+
+pub later-pace-requires-clause-some : goal.later-pace-requires-clause-some
+later-pace-requires-clause-some g c = omega arith
+
+pub counted-tally-requires-clause-bytes : goal.counted-tally-requires-clause-bytes
+counted-tally-requires-clause-bytes g c =
+    omega (arith, c.turns.invariant.bytes, c.turns.invariant.within, c.requires.short)
+
+pub counted-tally-requires-clause-faults : goal.counted-tally-requires-clause-faults
+counted-tally-requires-clause-faults g c =
+    omega (arith, c.turns.invariant.faults, c.turns.invariant.within, c.requires.short)
+
+pub counted-tally-requires-clause-exits : goal.counted-tally-requires-clause-exits
+counted-tally-requires-clause-exits g c =
+    omega (arith, c.turns.invariant.exits, c.turns.invariant.within, c.requires.short)
+
+pub turns-smaller : goal.turns-smaller
+turns-smaller g c = omega (arith, c.turns-test.true)

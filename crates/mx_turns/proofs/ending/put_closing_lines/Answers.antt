@@ -1,3 +1,5 @@
+use Rattle.std.proofs.Common.{sym, ap, ◌∙◌, length}
+use Rattle.std.proofs.lemmas.List.{length-map}
 use Rattle.std.proofs.lemmas.Result.{err_from_is_err_and}
 use Rattle.mx_tail.proofs.PassLaws.{passes_failed}
 use Rattle.mx_turns.proofs.Sinking.{passes_end}
@@ -10,3 +12,12 @@ returns-in_err-put_closing g c =
 
 pub returns : goal.returns
 returns g c = passes_end (rw (c.end_of-end.ensures, c.requires.names) at c.in_ok-put_closing.ensures) c.end.ensures.puts
+
+pub end_of-end-requires : goal.end_of-end-requires
+end_of-end-requires g c = search
+
+pub put_closing-requires : goal.put_closing-requires
+put_closing-requires g c =
+    let plan = c.requires.plan in
+    let names = sym (length-map c.args.names.now _) ∙ ap length c.requires.names ∙ sym plan.modules in
+    (search, (names, (c.kind.ensures ∙ sym plan.kind, c.limit.ensures.value ∙ sym plan.limit)))

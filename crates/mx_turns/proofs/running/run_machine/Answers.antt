@@ -14,12 +14,11 @@ end_run-requires g c =
 pub returns-in-Ok : goal.returns-in-Ok
 returns-in-Ok g c =
     let t = c.args.task.now in
-    let p = schedule_of t.schedule in
     record {
       leave = λ s new is dump.
           let runs = c.in-Ok.ensures.runs s (record { state = is; console = new.console; notes = new.notes; shown = c.new-shown.ensures; told = c.new-told.ensures }) in
           let target : c.steps.result + t.steps ≡ s.core.turns + t.steps = ap (λ n. n + t.steps) (c.steps.ensures ∙ ap (λ (f : Flat). f.core.turns) is) in
-          run_closes c.args.kept.now t.options t.dump t.steps p s _ _ dump c.closing_of_a_flat_state.ensures c.make_turns.new.machine
+          run_closes c.args.kept.now t.options t.dump t.steps (schedule_of t.schedule) s _ _ dump c.closing_of_a_flat_state.ensures c.make_turns.new.machine
           (places (g.C.Sink.state c.make_turns.new.console) c.make_turns.new.shown (g.R.Sink.state c.make_turns.new.report) c.make_turns.new.told)
           (places (g.C.Sink.state c.end_run.new.console) c.end_run.new.shown (g.R.Sink.state c.end_run.new.report) c.end_run.new.told)
           (rw (c.new-shown.ensures, c.new-told.ensures) at runs) c.end_run.result (rw target at c.end_run.ensures);
@@ -64,3 +63,9 @@ returns-in-Err-Dump g c =
       state = λ s new is. tt;
       plan = tt;
     }
+
+pub steps-requires : goal.steps-requires
+steps-requires g c = search
+
+pub make_turns-requires : goal.make_turns-requires
+make_turns-requires g c = search

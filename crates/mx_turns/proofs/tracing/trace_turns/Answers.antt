@@ -38,12 +38,11 @@ returns-in_err-trace_turn g c =
     let p = schedule_of c.args.schedule in
     let f = meaning c.turns.machine in
     let row = c.in-Some.ensures.named p f.core c.turns.invariant.pace in
-    let name = row.each 0 row.some f.core (omega arith) refl in
     rw (e.1, e.2)
     (λ s done before has. (
       done + c.turns.made,
       omega (arith, c.turns-test.true),
-      trace_fails p c.args.from (done + c.turns.made) s f before _ (c.turns.invariant.runs s done before has) c.in-Some.hart c.turns.invariant.going name (meaning c.trace_turn.new.machine)
+      trace_fails p c.args.from (done + c.turns.made) s f before _ (c.turns.invariant.runs s done before has) c.in-Some.hart c.turns.invariant.going (row.each 0 row.some f.core (omega arith) refl) (meaning c.trace_turn.new.machine)
           c.trace_turn.ensures.turn (Unit {0})
           (places (g.C.Sink.state c.trace_turn.new.console) c.trace_turn.new.shown (g.R.Sink.state c.trace_turn.new.report) c.trace_turn.new.told) c.in_err-trace_turn.field-0.0 c.in_err-trace_turn.ensures.shows,
     ))
@@ -55,9 +54,8 @@ returns-then-all_halted-2 g c =
     let f = meaning c.turns.machine in
     let k = meaning c.trace_turn.new.machine in
     let row = c.in-Some.ensures.named p f.core c.turns.invariant.pace in
-    let name = row.each 0 row.some f.core (omega arith) refl in
     λ s done before has.
-    let after = trace_makes p c.args.from (done + c.turns.made) s f before _ (c.turns.invariant.runs s done before has) c.in-Some.hart c.turns.invariant.going name k c.trace_turn.ensures.turn _ c.in_ok-trace_turn.field-0
+    let after = trace_makes p c.args.from (done + c.turns.made) s f before _ (c.turns.invariant.runs s done before has) c.in-Some.hart c.turns.invariant.going (row.each 0 row.some f.core (omega arith) refl) k c.trace_turn.ensures.turn _ c.in_ok-trace_turn.field-0
     (places (g.C.Sink.state c.trace_turn.new.console) c.trace_turn.new.shown (g.R.Sink.state c.trace_turn.new.report) c.trace_turn.new.told) c.in_ok-trace_turn.ensures.shows in
     trace_halts p c.args.from (done + c.turns.made + 1) s k before _ after (done + c.args.steps) (omega (arith, c.turns-test.true)) (sym c.all_halted-in-turns.ensures ∙ c.if-all_halted-2.true)
 
@@ -68,7 +66,6 @@ turns-preserved g c =
     let f = meaning c.turns.machine in
     let k = meaning c.trace_turn.new.machine in
     let row = c.in-Some.ensures.named p f.core c.turns.invariant.pace in
-    let name = row.each 0 row.some f.core (omega arith) refl in
     let is = c.trace_turn.ensures.turn in
     let t = keeps-turned (flat_reads f) f.core c.in-Some.hart in
     let turns : k.core.turns ≡ f.core.turns + 1 = ap (λ (x : Flat). x.core.turns) is ∙ t.turns in
@@ -80,7 +77,7 @@ turns-preserved g c =
       going = sym c.all_halted-in-turns.ensures ∙ c.if-all_halted-2.false;
       runs =
           λ s done before has.
-          let after = trace_makes p c.args.from (done + c.turns.made) s f before _ (c.turns.invariant.runs s done before has) c.in-Some.hart c.turns.invariant.going name k is _ c.in_ok-trace_turn.field-0
+          let after = trace_makes p c.args.from (done + c.turns.made) s f before _ (c.turns.invariant.runs s done before has) c.in-Some.hart c.turns.invariant.going (row.each 0 row.some f.core (omega arith) refl) k is _ c.in_ok-trace_turn.field-0
           (places (g.C.Sink.state c.trace_turn.new.console) c.trace_turn.new.shown (g.R.Sink.state c.trace_turn.new.report) c.trace_turn.new.told) c.in_ok-trace_turn.ensures.shows in
           let e : done + (c.turns.made + 1) ≡ done + c.turns.made + 1 = omega arith in
           rw e after;

@@ -77,12 +77,13 @@ turns-preserved-then-not-may_tell g c =
       runs =
           λ s b.
           let r = c.turns.invariant.runs s b in
+          let before = places (g.C.Sink.state c.args.console.now) c.args.shown.now (g.R.Sink.state c.args.report.now) c.args.told.now in
           let at = places (g.C.Sink.state c.turns.console) c.turns.shown (g.R.Sink.state c.turns.report) c.turns.told in
           let u = run schedule (c.turns.made + stretch.ran) s in
-          let reached = last_reached c.args.telling schedule f going h (c.args.steps - c.turns.made) c.in-Some.most row c.turns.made s _ at r k events stretch is in
-          let last = last_is c.args.telling schedule f going h (c.args.steps - c.turns.made) c.in-Some.most row c.turns.made s _ at r k events stretch is in
-          let more = last_more c.args.telling schedule f going h (c.args.steps - c.turns.made) c.in-Some.most row c.turns.made s _ at r k events stretch is in
-          rw more (makes_quiet c.args.telling u h (turns_of h f stretch.ran) k (turns_of h f stretch.ran).core events _ at last quiet reached);
+          let reached = last_reached c.args.telling schedule f going h (c.args.steps - c.turns.made) c.in-Some.most row c.turns.made s before at r k events stretch is in
+          let last = last_is c.args.telling schedule f going h (c.args.steps - c.turns.made) c.in-Some.most row c.turns.made s before at r k events stretch is in
+          let more = last_more c.args.telling schedule f going h (c.args.steps - c.turns.made) c.in-Some.most row c.turns.made s before at r k events stretch is in
+          rw more (makes_quiet c.args.telling u h (turns_of h f stretch.ran) k (turns_of h f stretch.ran).core events before at last quiet reached);
     }
 
 -- turns of which the last one's texts couldn't be put
@@ -92,9 +93,8 @@ returns-in_err-end_turn-clause-keeps g c =
     let f = c.turns.machine in
     let k = c.run_on-stretch.new.self in
     let stretch = c.run_on-stretch.result in
-    let row = c.in-Some.ensures.named schedule f.core c.turns.invariant.pace in
     keeps_later c.args.machine.now f k (stretch.ran + 1) c.turns.invariant.keeps
-    (last_later c.args.telling schedule f c.turns.invariant.going c.in-Some.hart (c.args.steps - c.turns.made) c.in-Some.most row k c.run_on-stretch.new.out stretch c.run_on-stretch.ensures.stretch)
+    (last_later c.args.telling schedule f c.turns.invariant.going c.in-Some.hart (c.args.steps - c.turns.made) c.in-Some.most (c.in-Some.ensures.named schedule f.core c.turns.invariant.pace) k c.run_on-stretch.new.out stretch c.run_on-stretch.ensures.stretch)
 
 pub returns-in_err-end_turn-clause-runs : goal.returns-in_err-end_turn-clause-runs
 returns-in_err-end_turn-clause-runs g c =
@@ -111,20 +111,20 @@ returns-in_err-end_turn-clause-runs g c =
     rw (p.1, p.2)
     (λ s b.
     let r = c.turns.invariant.runs s b in
+    let before = places (g.C.Sink.state c.args.console.now) c.args.shown.now (g.R.Sink.state c.args.report.now) c.args.told.now in
     let at = places (g.C.Sink.state c.turns.console) c.turns.shown (g.R.Sink.state c.turns.report) c.turns.told in
     let now = places (g.C.Sink.state c.end_turn.new.console) c.end_turn.new.shown (g.R.Sink.state c.end_turn.new.report) c.end_turn.new.told in
     let u = run schedule (c.turns.made + stretch.ran) s in
-    let reached = last_reached c.args.telling schedule f going h (c.args.steps - c.turns.made) c.in-Some.most row c.turns.made s _ at r k events stretch is in
-    let last = last_is c.args.telling schedule f going h (c.args.steps - c.turns.made) c.in-Some.most row c.turns.made s _ at r k events stretch is in
-    let more = last_more c.args.telling schedule f going h (c.args.steps - c.turns.made) c.in-Some.most row c.turns.made s _ at r k events stretch is in
+    let reached = last_reached c.args.telling schedule f going h (c.args.steps - c.turns.made) c.in-Some.most row c.turns.made s before at r k events stretch is in
+    let last = last_is c.args.telling schedule f going h (c.args.steps - c.turns.made) c.in-Some.most row c.turns.made s before at r k events stretch is in
     let made = c.turns.made + stretch.ran in
     let few : made < c.args.steps = omega (arith, is.few, row.few, c.turns.invariant.within) in
-    let next = last_next c.args.telling schedule f going h (c.args.steps - c.turns.made) c.in-Some.most row c.turns.made s _ at r k events stretch is in
+    let next = last_next c.args.telling schedule f going h (c.args.steps - c.turns.made) c.in-Some.most row c.turns.made s before at r k events stretch is in
     let which = c.in_err-end_turn.field-0.0 in
     let stops = makes_stopped c.args.telling (Unit {0}) u h k events at now which last c.in_err-end_turn.ensures.shows in (
       made,
       few,
-      texts_stop (λ n. run schedule n s) (λ n. told_by c.args.telling (run schedule n s)) made (made_of u h).console (adds_by c.args.telling (made_of u h).note) (turns_of h f stretch.ran) k _ at now which reached
+      texts_stop (λ n. run schedule n s) (λ n. told_by c.args.telling (run schedule n s)) made (made_of u h).console (adds_by c.args.telling (made_of u h).note) (turns_of h f stretch.ran) k before at now which reached
           (last.state ∙ ap flat (sym next)) (ap (λ (v : State). v.console) next) (ap (λ (v : State). told_by c.args.telling v) next ∙ turn_lines c.args.telling u h) stops,
     ))
 
@@ -135,9 +135,8 @@ returns-then-branch-clause-keeps g c =
     let f = c.turns.machine in
     let k = c.run_on-stretch.new.self in
     let stretch = c.run_on-stretch.result in
-    let row = c.in-Some.ensures.named schedule f.core c.turns.invariant.pace in
     keeps_later c.args.machine.now f k (stretch.ran + 1) c.turns.invariant.keeps
-    (last_later c.args.telling schedule f c.turns.invariant.going c.in-Some.hart (c.args.steps - c.turns.made) c.in-Some.most row k c.run_on-stretch.new.out stretch c.run_on-stretch.ensures.stretch)
+    (last_later c.args.telling schedule f c.turns.invariant.going c.in-Some.hart (c.args.steps - c.turns.made) c.in-Some.most (c.in-Some.ensures.named schedule f.core c.turns.invariant.pace) k c.run_on-stretch.new.out stretch c.run_on-stretch.ensures.stretch)
 
 pub returns-then-branch-clause-runs : goal.returns-then-branch-clause-runs
 returns-then-branch-clause-runs g c =
@@ -152,17 +151,18 @@ returns-then-branch-clause-runs g c =
     let row = c.in-Some.ensures.named schedule f.core c.turns.invariant.pace in
     λ s b.
     let r = c.turns.invariant.runs s b in
+    let before = places (g.C.Sink.state c.args.console.now) c.args.shown.now (g.R.Sink.state c.args.report.now) c.args.told.now in
     let at = places (g.C.Sink.state c.turns.console) c.turns.shown (g.R.Sink.state c.turns.report) c.turns.told in
     let now = places (g.C.Sink.state c.end_turn.new.console) c.end_turn.new.shown (g.R.Sink.state c.end_turn.new.report) c.end_turn.new.told in
     let u = run schedule (c.turns.made + stretch.ran) s in
-    let reached = last_reached c.args.telling schedule f going h (c.args.steps - c.turns.made) c.in-Some.most row c.turns.made s _ at r k events stretch is in
-    let last = last_is c.args.telling schedule f going h (c.args.steps - c.turns.made) c.in-Some.most row c.turns.made s _ at r k events stretch is in
-    let next = last_next c.args.telling schedule f going h (c.args.steps - c.turns.made) c.in-Some.most row c.turns.made s _ at r k events stretch is in
+    let reached = last_reached c.args.telling schedule f going h (c.args.steps - c.turns.made) c.in-Some.most row c.turns.made s before at r k events stretch is in
+    let last = last_is c.args.telling schedule f going h (c.args.steps - c.turns.made) c.in-Some.most row c.turns.made s before at r k events stretch is in
+    let next = last_next c.args.telling schedule f going h (c.args.steps - c.turns.made) c.in-Some.most row c.turns.made s before at r k events stretch is in
     let few : c.turns.made + stretch.ran < c.args.steps = omega (arith, is.few, row.few, c.turns.invariant.within) in
     let makes = makes_shown c.args.telling _ c.in_ok-end_turn.field-0 u h k events at now last c.in_ok-end_turn.ensures.shows in
     rw (ends_after schedule (c.turns.made + stretch.ran) c.args.steps s (turns_of h f stretch.ran) reached.state h few next k makes.state
     (sym c.in_ok-end_turn.ensures.halted ∙ c.if-branch.true))
-    (run_makes c.args.telling u h (turns_of h f stretch.ran) k _ at now reached makes)
+    (run_makes c.args.telling u h (turns_of h f stretch.ran) k before at now reached makes)
 
 -- turns whose texts were put
 pub turns-preserved : goal.turns-preserved
@@ -186,14 +186,15 @@ turns-preserved g c =
       runs =
           λ s b.
           let r = c.turns.invariant.runs s b in
+          let before = places (g.C.Sink.state c.args.console.now) c.args.shown.now (g.R.Sink.state c.args.report.now) c.args.told.now in
           let at = places (g.C.Sink.state c.turns.console) c.turns.shown (g.R.Sink.state c.turns.report) c.turns.told in
           let now = places (g.C.Sink.state c.end_turn.new.console) c.end_turn.new.shown (g.R.Sink.state c.end_turn.new.report) c.end_turn.new.told in
           let u = run schedule (c.turns.made + stretch.ran) s in
-          let reached = last_reached c.args.telling schedule f going h (c.args.steps - c.turns.made) c.in-Some.most row c.turns.made s _ at r k events stretch is in
-          let last = last_is c.args.telling schedule f going h (c.args.steps - c.turns.made) c.in-Some.most row c.turns.made s _ at r k events stretch is in
-          let more = last_more c.args.telling schedule f going h (c.args.steps - c.turns.made) c.in-Some.most row c.turns.made s _ at r k events stretch is in
+          let reached = last_reached c.args.telling schedule f going h (c.args.steps - c.turns.made) c.in-Some.most row c.turns.made s before at r k events stretch is in
+          let last = last_is c.args.telling schedule f going h (c.args.steps - c.turns.made) c.in-Some.most row c.turns.made s before at r k events stretch is in
+          let more = last_more c.args.telling schedule f going h (c.args.steps - c.turns.made) c.in-Some.most row c.turns.made s before at r k events stretch is in
           let makes = makes_shown c.args.telling _ c.in_ok-end_turn.field-0 u h k events at now last c.in_ok-end_turn.ensures.shows in
-          rw more (run_makes c.args.telling u h (turns_of h f stretch.ran) k _ at now reached makes);
+          rw more (run_makes c.args.telling u h (turns_of h f stretch.ran) k before at now reached makes);
     }
 
 -- all turns were made
@@ -208,20 +209,61 @@ pub returns-in_err-end_turn-clause-turns : goal.returns-in_err-end_turn-clause-t
 returns-in_err-end_turn-clause-turns g c =
     let schedule = schedule_of c.args.schedule in
     let f = c.turns.machine in
-    let k = c.run_on-stretch.new.self in
-    let stretch = c.run_on-stretch.result in
-    let is = c.run_on-stretch.ensures.stretch in
     let row = c.in-Some.ensures.named schedule f.core c.turns.invariant.pace in
-    let later = last_later c.args.telling schedule f c.turns.invariant.going c.in-Some.hart (c.args.steps - c.turns.made) c.in-Some.most row k c.run_on-stretch.new.out stretch c.run_on-stretch.ensures.stretch in
-    omega (arith, later.turns, c.turns.invariant.turns, is.few, row.few, c.turns.invariant.within)
+    let later = last_later c.args.telling schedule f c.turns.invariant.going c.in-Some.hart (c.args.steps - c.turns.made) c.in-Some.most row c.run_on-stretch.new.self c.run_on-stretch.new.out c.run_on-stretch.result c.run_on-stretch.ensures.stretch in
+    omega (arith, later.turns, c.turns.invariant.turns, c.run_on-stretch.ensures.stretch.few, row.few, c.turns.invariant.within)
 
 pub returns-then-branch-clause-turns : goal.returns-then-branch-clause-turns
 returns-then-branch-clause-turns g c =
     let schedule = schedule_of c.args.schedule in
     let f = c.turns.machine in
-    let k = c.run_on-stretch.new.self in
-    let stretch = c.run_on-stretch.result in
-    let is = c.run_on-stretch.ensures.stretch in
     let row = c.in-Some.ensures.named schedule f.core c.turns.invariant.pace in
-    let later = last_later c.args.telling schedule f c.turns.invariant.going c.in-Some.hart (c.args.steps - c.turns.made) c.in-Some.most row k c.run_on-stretch.new.out stretch c.run_on-stretch.ensures.stretch in
-    omega (arith, later.turns, c.turns.invariant.turns, is.few, row.few, c.turns.invariant.within)
+    let later = last_later c.args.telling schedule f c.turns.invariant.going c.in-Some.hart (c.args.steps - c.turns.made) c.in-Some.most row c.run_on-stretch.new.self c.run_on-stretch.new.out c.run_on-stretch.result c.run_on-stretch.ensures.stretch in
+    omega (arith, later.turns, c.turns.invariant.turns, c.run_on-stretch.ensures.stretch.few, row.few, c.turns.invariant.within)
+
+pub machine_is_valid-requires : goal.machine_is_valid-requires
+machine_is_valid-requires g c = search
+
+pub all_halted-requires : goal.all_halted-requires
+all_halted-requires g c = search
+
+pub harts-requires : goal.harts-requires
+harts-requires g c = search
+
+pub steps-requires : goal.steps-requires
+steps-requires g c = search
+
+pub new-events-requires : goal.new-events-requires
+new-events-requires g c = search
+
+pub begin-pace-requires-clause-quantum : goal.begin-pace-requires-clause-quantum
+begin-pace-requires-clause-quantum g c = search
+
+pub overflow_sub-steps : goal.overflow_sub-steps
+overflow_sub-steps g c = search
+
+pub next_hart-requires : goal.next_hart-requires
+next_hart-requires g c = record { some = omega (arith, c.turns-test.true) }
+
+pub overflow_add-stretch : goal.overflow_add-stretch
+overflow_add-stretch g c =
+    let row = c.in-Some.ensures.named (schedule_of c.args.schedule) c.turns.machine.core c.turns.invariant.pace in
+    omega (arith, c.run_on-stretch.ensures.stretch.few, row.few, c.turns.invariant.within, c.requires.few)
+
+pub later-pace-requires-clause-some : goal.later-pace-requires-clause-some
+later-pace-requires-clause-some g c = omega arith
+
+pub may_tell-requires : goal.may_tell-requires
+may_tell-requires g c = search
+
+pub turns-smaller : goal.turns-smaller
+turns-smaller g c = omega (arith, c.turns-test.true)
+
+pub turns-smaller-then-not-may_tell : goal.turns-smaller-then-not-may_tell
+turns-smaller-then-not-may_tell g c = omega (arith, c.turns-test.true)
+
+pub returns-in_default-clause-keeps : goal.returns-in_default-clause-keeps
+returns-in_default-clause-keeps g c = c.turns.invariant.keeps
+
+pub returns-clause-keeps : goal.returns-clause-keeps
+returns-clause-keeps g c = c.turns.invariant.keeps
