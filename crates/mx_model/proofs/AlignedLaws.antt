@@ -1,11 +1,10 @@
 -- The accesses of an instruction are aligned, and an aligned access lies in one word.
-use Rattle.std.proofs.Common.{◌≡◌, ℕ, ◌+◌, ◌-◌, ◌%◌, ◌≤◌, Bool, true, false, cond, ◌==◌, List, refl, subst, eqb-true, arith, inl, inr, ⊎_elim}
+use Rattle.std.proofs.Common.{◌≡◌, ℕ, ◌+◌, ◌-◌, ◌%◌, ◌≤◌, Bool, true, cond, ◌==◌, List, eqb-true, arith}
 use Rattle.mx_words.specs.Bytes.{IsSize}
 use Rattle.mx_words.specs.Ranges.{ram_base}
 use Rattle.mx_isa.specs.declared.inst.Inst.{Inst}
 use Rattle.mx_isa.specs.declared.inst.Inst.TheVariants.{Lui, Auipc, Jal, Jalr, Branch, Load, Store, OpImm, Op, Fence, Ecall, Ebreak}
 use Rattle.mx_isa.specs.declared.inst.StoreWidth.{StoreWidth}
-use Rattle.mx_isa.specs.declared.inst.StoreWidth.TheVariants.{Sb, Sh, Sw}
 use Rattle.mx_model.specs.Effect.{Effect, Goes, Faults, Loads, Stores, Calls, Jumps, effect, reg, next, load_size, store_size, plus, taken, holds}
 
 abbrev pub IsAligned : Effect → Type 0
@@ -17,13 +16,10 @@ IsAligned Calls = Unit {0}
 IsAligned (Jumps rd target) = Unit {0}
 
 aligned-choice : (b : Bool) (e f : Effect) → (b ≡ true → IsAligned e) → IsAligned f → IsAligned (cond b e f)
-aligned-choice true e f p q = p refl
-aligned-choice false e f p q = q
+aligned-choice x e f p q = grind arith
 
 size-store : (width : StoreWidth) → IsSize (store_size width)
-size-store Sb = inl refl
-size-store Sh = inr (inl refl)
-size-store Sw = inr (inr refl)
+size-store x = grind arith
 
 pub aligned-effect : (inst : Inst) (regs : List ℕ) (pc : ℕ) → IsAligned (effect inst regs pc)
 unfolding effect
@@ -48,14 +44,4 @@ aligned-effect Ecall regs pc = tt
 aligned-effect Ebreak regs pc = tt
 
 pub in-word : (size address : ℕ) → IsSize size → address % size ≡ 0 → ram_base ≤ address → (address - ram_base) % 4 + size ≤ 4
-in-word size address s a l =
-    ⊎_elim (λ e. one e) (⊎_elim (λ e. two (subst (λ (n : ℕ). address % n ≡ 0) e a) e) (λ e. four (subst (λ (n : ℕ). address % n ≡ 0) e a) e)) s
-  where
-    one : size ≡ 1 → (address - ram_base) % 4 + size ≤ 4
-    one e = omega (arith, e)
-
-    two : address % 2 ≡ 0 → size ≡ 2 → (address - ram_base) % 4 + size ≤ 4
-    two p e = omega (arith, p, e, l)
-
-    four : address % 4 ≡ 0 → size ≡ 4 → (address - ram_base) % 4 + size ≤ 4
-    four p e = omega (arith, p, e, l)
+in-word size address s a l = search arith

@@ -1,5 +1,5 @@
 -- Blocks that lie apart, and gates of which one at most stands for a domain at a word, under the edits that a turn makes.
-use Rattle.std.proofs.Common.{◌≡◌, ℕ, ◌+◌, ◌-◌, ◌<◌, ◌≤◌, Bool, true, false, not, cond, nat_lt, ◌==◌, ◌&&◌, List, [], ◌∷◌, ◌++◌, length, get_or, refl, sym, ◌∙◌, ap, arith, ◌⊎◌, ⊎_elim, inl, inr}
+use Rattle.std.proofs.Common.{◌≡◌, ℕ, ◌+◌, ◌<◌, ◌≤◌, Bool, true, false, not, cond, nat_lt, ◌==◌, List, [], ◌∷◌, ◌++◌, length, get_or, refl, arith, ◌⊎◌, ⊎_elim}
 use Rattle.std.specs.Prelude.{filter}
 use Rattle.std.specs.List.{AllByRecursion, list_any}
 use Rattle.std.proofs.lemmas.Bool.{ltb-true, ltb-false, lt-ltb, ne_eqb, or_parts, eq-eqb}
@@ -27,17 +27,7 @@ apart-without first low high (b ∷ bs) p =
 
 -- ranges of words that don't meet
 apart-ranges : (a n b m : ℕ) → 0 < n → 0 < m → overlaps a n b m ≡ false → (a + n ≤ b) ⊎ (b + m ≤ a)
-apart-ranges a n b m p q e = elim (nat_lt a b) as (λ t. nat_lt a b ≡ t → (nat_lt 0 n && nat_lt 0 m && cond t (nat_lt (b - a) n) (nat_lt (a - b) m)) ≡ false → (a + n ≤ b) ⊎ (b + m ≤ a)) [
-  | true ↦ λ t f. let l = ltb-true a b t in let u : nat_lt (b - a) n ≡ false = last-false (nat_lt 0 n) (nat_lt 0 m) (nat_lt (b - a) n) (lt-ltb 0 n p) (lt-ltb 0 m q) f in
-      let v = ltb-false (b - a) n u in inl (omega (arith, l, v))
-  | false ↦ λ t f. let l = ltb-false a b t in let u : nat_lt (a - b) m ≡ false = last-false (nat_lt 0 n) (nat_lt 0 m) (nat_lt (a - b) m) (lt-ltb 0 n p) (lt-ltb 0 m q) f in
-      let v = ltb-false (a - b) m u in inr (omega (arith, l, v))
-] refl e
-  where
-    last-false : (x y z : Bool) → x ≡ true → y ≡ true → (x && y && z) ≡ false → z ≡ false
-    last-false true true z p q f = f
-    last-false true false z p q f = absurd (let r : ⊥ = cc in r)
-    last-false false y z p q f = absurd (let r : ⊥ = cc in r)
+apart-ranges a n b m p q e = search (arith, ltb-true, lt-ltb, ltb-false)
 
 -- a block that meets none of the others
 pub apart-with : (c : Area) (low high : ℕ) (bs : List Area) → low ≤ c.first → c.first + c.count ≤ high → 0 < c.count →
@@ -69,13 +59,7 @@ single-append g gs q p = single-push g gs p (λ k d l. all-in (λ (h : Gate). is
 
 -- no gate of those without a domain and word is for these
 pub at-flipped : (g h : Gate) → is_at g.domain g.word h ≡ false → is_at h.domain h.word g ≡ false
-at-flipped g h e = flipped (h.domain == g.domain) (g.domain == h.domain) (h.word == g.word) (g.word == h.word) (eq-flipped h.domain g.domain) (eq-flipped h.word g.word) e
-  where
-    flipped : (a b x y : Bool) → a ≡ b → x ≡ y → (a && x) ≡ false → (b && y) ≡ false
-    flipped a b x y p q f = sym (ap (λ t. t && y) p) ∙ sym (ap (λ t. a && t) q) ∙ f
-
-    eq-flipped : (m n : ℕ) → (m == n) ≡ (n == m)
-    eq-flipped m n = ⊎_elim (λ t. t.0 ∙ sym (eq-eqb n m (sym t.1))) (λ f. f.0 ∙ sym (ne_eqb n m (λ q. f.1 (sym q)))) (eqb_tells m n)
+at-flipped g h e = search (arith, h.domain, g.domain, h.word, g.word, eq-eqb, ne_eqb, eqb_tells)
 
 pub single-others : (g : Gate) (gs : List Gate) → AllByRecursion (λ h. is_at h.domain h.word g ≡ false) (without_gate g.domain g.word gs)
 single-others g [] = tt

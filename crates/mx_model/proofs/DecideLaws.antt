@@ -1,29 +1,25 @@
 -- What a hart decides in a valid state is valid.
-use Rattle.std.proofs.Common.{◌≡◌, ℕ, zero, suc, ◌-◌, ◌%◌, ◌^◌, ◌<◌, Bool, true, false, not, cond, nat_le, ◌==◌, List, length, refl, sym, lit<, subst, eqb-true, if◌then◌else◌, Option, Some, None}
+use Rattle.std.proofs.Common.{◌≡◌, ℕ, ◌^◌, ◌<◌, Bool, true, false, cond, ◌==◌, List, length, refl, lit<, if◌then◌else◌, Option, Some, None, arith}
 use Rattle.std.specs.Prelude.{IfSome}
 use Rattle.std.specs.Option.{option_map_or}
 use Rattle.std.proofs.lemmas.Bool.{leb-false, not-false}
 use Rattle.mx_words.specs.declared.perm.Access.TheVariants as A
 use Rattle.mx_words.specs.Bytes.{number_at}
-use Rattle.mx_words.specs.Ranges.{ram_base, word_of}
 use Rattle.mx_isa.specs.declared.inst.Inst.{Inst}
 use Rattle.mx_isa.specs.declared.inst.LoadWidth.{LoadWidth}
 use Rattle.mx_isa.specs.declared.inst.LoadWidth.TheVariants.{Lb, Lh, Lw, Lbu, Lhu}
-use Rattle.mx_isa.specs.Table.{decoded}
 use Rattle.mx_isa.proofs.OfDecoded.{Fits, decoded-fits}
-use Rattle.mx_model.specs.declared.values.Call.{Call}
 use Rattle.mx_model.specs.declared.values.Frame.{Frame}
 use Rattle.mx_model.specs.declared.values.Gate.{Gate}
-use Rattle.mx_model.specs.Checks.{arg, is_ready}
-use Rattle.mx_model.specs.Effect.{Effect, Goes, Faults, Loads, Stores, Calls, Jumps, effect, reg, written, next, load_size, loaded}
+use Rattle.mx_model.specs.Effect.{Effect, Goes, Faults, Loads, Stores, Calls, Jumps, effect, reg, load_size}
 use Rattle.mx_model.specs.Gates.{call_gate, call_target, gate_at, is_at, most_frames, top}
 use Rattle.mx_model.specs.Reads.{Reads}
-use Rattle.mx_model.specs.State.{Core, Hart, Status, Running, Waiting, Halted, hart_at, module_at}
+use Rattle.mx_model.specs.State.{Core, Hart, Status, hart_at}
 use Rattle.mx_model.specs.Turn.{Action, Rests, Waits, Serves, Asks, Traps, Bounces, Crosses, Returns, Runs, Writes}
 use Rattle.mx_model.specs.Valid.{IsModule, IsPc, IsRegisters, IsFrame, IsCall, IsStatus, IsHart, IsGate, IsValid}
 use Rattle.mx_model.proofs.ListLaws.{all-find, all-last, number-one, number-two, number-four}
 use Rattle.mx_model.proofs.RegisterLaws.{registers-written, small-loaded, pc-next, IsCause, IsEffect, effect-valid, small-plus}
-use Rattle.mx_model.specs.Turn.{Decided, without_look, traps, is_denied, call_gate_at, is_return_at, load_at, at_gate, returned_over, at_return, call_of, jump_action, by_effect, by_word, fetches, runs_at, runs_in, by_status, decide}
+use Rattle.mx_model.specs.Turn.{Decided, is_denied, at_gate, returned_over, at_return, call_of, jump_action, by_effect, by_word, fetches, runs_at, runs_in, by_status, decide}
 use Rattle.mx_model.proofs.ValidParts.{AreBytes}
 
 -- what each action needs to keep hart h valid
@@ -41,24 +37,16 @@ IsAction modules h hart (Writes address size value) = Unit {0}
 
 -- whether a action leaves hart h as it is, where there may be no such hart
 action-choice : (modules h : ℕ) (hart : Hart) (b : Bool) (d e : Action) → IsAction modules h hart d → IsAction modules h hart e → IsAction modules h hart (cond b d e)
-action-choice modules h hart true d e p q = p
-action-choice modules h hart false d e p q = q
+action-choice modules h hart x d e p q = grind arith
 
 decided-choice : (modules h : ℕ) (hart : Hart) (b : Bool) (d e : Decided) →
     (b ≡ true → IsAction modules h hart d.action) → (b ≡ false → IsAction modules h hart e.action) → IsAction modules h hart (if b then d else e).action
-decided-choice modules h hart true d e p q = p refl
-decided-choice modules h hart false d e p q = q refl
+decided-choice modules h hart x d e p q = grind arith
 
 -- at a gate
 action-at_gate : (c : Core) (h : ℕ) (hart : Hart) (target : ℕ) → IsRegisters hart.regs → IsModule (length c.modules) target →
     IsAction (length c.modules) h hart (at_gate c hart target).action
-action-at_gate c h hart target r t =
-    let x1 = reg hart.regs 1 in
-    let pc : not (x1 % 4 == 0) ≡ false → IsPc x1 = λ e. record { aligned = eqb-true (x1 % 4) 0 (not-false (x1 % 4 == 0) e); small = r.small 1 } in
-    decided-choice (length c.modules) h hart (not (x1 % 4 == 0)) (traps 19 x1) _ (λ e. lit< tt) (λ e.
-    decided-choice (length c.modules) h hart (module_at c target).dead (without_look Bounces) _ (λ d. pc e) (λ d.
-    decided-choice (length c.modules) h hart (nat_le most_frames (length hart.frames)) (traps 16 hart.pc) (without_look (Crosses target)) (λ f. lit< tt)
-    (λ f. (t, pc e, leb-false most_frames (length hart.frames) f))))
+action-at_gate c h hart target r t = search (arith, hart.regs, not-false, r.small, decided-choice, leb-false)
 
 -- at a return gate
 action-returned_over : (modules h : ℕ) (hart : Hart) (rd target : ℕ) (frame : Frame) → IsFrame modules frame → IsAction modules h hart (returned_over rd target frame)
@@ -74,11 +62,8 @@ action-at_return modules harts h hart rd target p = action-over modules h hart r
 
 -- at a jump that isn't a return
 action-jump : (modules harts h : ℕ) (hart : Hart) (rd target : ℕ) → IsHart modules harts h hart → target < 2 ^ 32 → IsAction modules h hart (jump_action hart rd target)
-action-jump modules harts h hart rd target p q = elim (target % 4 == 0) as (λ b. (target % 4 == 0) ≡ b →
-    IsAction modules h hart (cond b (Runs (written hart.regs rd (next hart.pc)) target) (Traps 0 target))) [
-      | true ↦ λ e. (registers-written hart.regs rd (next hart.pc) p.regs (small-plus hart.pc 4), record { aligned = eqb-true (target % 4) 0 e; small = q })
-      | false ↦ λ e. lit< tt
-    ] refl
+action-jump modules harts h hart rd target p q =
+    search (arith, IsAction, hart.regs, registers-written, p.regs, small-plus, hart.pc)
 
 number-load : (ram : List ℕ) (k : ℕ) (width : LoadWidth) → AreBytes ram → number_at ram k (load_size width) < 256 ^ load_size width
 number-load ram k Lb h = number-one ram k h
@@ -88,30 +73,18 @@ number-load ram k Lbu h = number-one ram k h
 number-load ram k Lhu h = number-two ram k h
 
 pub call-of : (modules harts h : ℕ) (hart : Hart) → IsHart modules harts h hart → IsCall modules h (call_of h hart)
-call-of modules harts h hart p = record { hart = refl; domain = p.domain; small = arguments }
-  where
-    arguments : (i : ℕ) → arg (call_of h hart) i < 2 ^ 32
-    arguments zero = p.regs.small 10
-    arguments (suc zero) = p.regs.small 11
-    arguments (suc (suc zero)) = p.regs.small 12
-    arguments (suc (suc (suc zero))) = p.regs.small 13
-    arguments (suc (suc (suc (suc i)))) = lit< tt
+call-of modules harts h hart p = search (arith, p.regs.small)
 
 action-by_effect : (r : Reads) (c : Core) (h : ℕ) (hart : Hart) (e : Effect) → IsValid c → IsHart (length c.modules) (length c.harts) h hart → IsEffect e →
     IsAction (length c.modules) h hart (by_effect r c h hart e).action
 action-by_effect r c h hart (Goes regs pc) v p q = q
 action-by_effect r c h hart (Faults cause value) v p q = q
 action-by_effect r c h hart (Loads a address width rd) v p q =
-    action-choice (length c.modules) h hart (is_denied r c hart.domain address A.Read) (Traps 5 address)
-    (Runs (written hart.regs rd (loaded width (load_at c address (load_size width)))) (next hart.pc)) (lit< tt)
-    (registers-written hart.regs rd _ p.regs (small-loaded width _ (number-load c.ram (address - ram_base) width v.ram_bytes)), pc-next hart.pc p.pc)
-action-by_effect r c h hart (Stores a address size value) v p q =
-    action-choice (length c.modules) h hart (is_denied r c hart.domain address A.Write) (Traps 7 address) (Writes address size value) (lit< tt) tt
+    search (arith, action-choice, hart.domain, hart.regs, registers-written, p.regs, small-loaded, number-load, c.ram,
+      pc-next, hart.pc)
+action-by_effect r c h hart (Stores a address size value) v p q = search (arith, action-choice, hart.domain)
 action-by_effect r c h hart Calls v p q = refl
-action-by_effect r c h hart (Jumps rd target) v p q =
-    action-choice (length c.modules) h hart (is_return_at c hart.domain hart.pc) (at_return hart rd target) (jump_action hart rd target)
-    (action-at_return (length c.modules) (length c.harts) h hart rd target p)
-    (action-jump (length c.modules) (length c.harts) h hart rd target p q)
+action-by_effect r c h hart (Jumps rd target) v p q = search (arith, action-choice, action-at_return, action-jump)
 
 action-by_word : (r : Reads) (c : Core) (h : ℕ) (hart : Hart) (word : ℕ) (o : Option Inst) → IsValid c → IsHart (length c.modules) (length c.harts) h hart → IfSome o (Fits word) →
     IsAction (length c.modules) h hart (by_word r c h hart word o).action
@@ -121,11 +94,7 @@ action-by_word r c h hart word (Some inst) v p q =
 
 action-fetches : (r : Reads) (c : Core) (h : ℕ) (hart : Hart) (b : Bool) → IsValid c → IsHart (length c.modules) (length c.harts) h hart →
     IsAction (length c.modules) h hart (fetches r c h hart b).action
-action-fetches r c h hart true v p = lit< tt
-action-fetches r c h hart false v p =
-    let word = load_at c hart.pc 4 in
-    let small : word < 2 ^ 32 = number-four c.ram (hart.pc - ram_base) v.ram_bytes in
-    action-by_word r c h hart word (decoded word) v p (decoded-fits word small)
+action-fetches r c h hart x v p = grind (arith, number-four, action-by_word, decoded-fits)
 
 action-runs_at : (r : Reads) (c : Core) (h : ℕ) (hart : Hart) (o : Option ℕ) → IsValid c → IsHart (length c.modules) (length c.harts) h hart →
     IfSome o (IsModule (length c.modules)) → IsAction (length c.modules) h hart (runs_at r c h hart o).action
@@ -147,18 +116,12 @@ target-at c d (Some w) v =
 
 action-runs_in : (r : Reads) (c : Core) (h : ℕ) (hart : Hart) (b : Bool) → IsValid c → IsHart (length c.modules) (length c.harts) h hart →
     IsAction (length c.modules) h hart (runs_in r c h hart b).action
-action-runs_in r c h hart true v p = lit< tt
-action-runs_in r c h hart false v p =
-    action-runs_at r c h hart (call_gate_at c hart.domain hart.pc) v p (target-at c hart.domain (word_of hart.pc c.size) v)
+action-runs_in r c h hart x v p = grind (arith, action-runs_at, target-at)
 
 -- a hart that there is decides a valid action
 action-by_status : (r : Reads) (c : Core) (h : ℕ) (hart : Hart) (s : Status) → IsValid c → IsHart (length c.modules) (length c.harts) h hart → IsStatus (length c.harts) h hart s →
     IsAction (length c.modules) h hart (by_status r c h hart s).action
-action-by_status r c h hart (Halted code) v p q = tt
-action-by_status r c h hart (Waiting call heard) v p q =
-    action-choice (length c.modules) h hart (is_ready c h heard) (Serves call) Waits
-    (subst (λ (k : Call). IsCall (length c.modules) h k) (sym q.own) (call-of (length c.modules) (length c.harts) h hart p)) tt
-action-by_status r c h hart Running v p q = action-runs_in r c h hart (module_at c hart.domain).dead v p
+action-by_status r c h hart x v p q = search (arith, action-choice, call-of, action-runs_in)
 
 pub action-decide : (r : Reads) (c : Core) (h : ℕ) → IsValid c → h < length c.harts → IsAction (length c.modules) h (hart_at c h) (decide r c h).action
 action-decide r c h v l = action-by_status r c h (hart_at c h) (hart_at c h).status v (v.harts h l) (v.harts h l).status

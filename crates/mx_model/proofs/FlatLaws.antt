@@ -1,5 +1,5 @@
 -- The flat state after a turn is the turn of the flat state.
-use Rattle.std.proofs.Common.{◌≡◌, ℕ, ◌+◌, ◌-◌, Bool, true, false, nat_lt, nat_le, if◌then◌else◌, List, [], ◌∷◌, ◌++◌, get_or, refl, sym, ◌∙◌, ap, Option, Some, None}
+use Rattle.std.proofs.Common.{◌≡◌, ℕ, ◌+◌, ◌-◌, Bool, true, false, nat_lt, nat_le, if◌then◌else◌, List, [], ◌∷◌, ◌++◌, get_or, refl, sym, ◌∙◌, ap, Option, Some, None, arith}
 use Rattle.std.proofs.Common.{map as list_map}
 use Rattle.std.proofs.Math.ListN.{get_or-map, get_or-eq_default}
 use Rattle.std.proofs.lemmas.List.{append-nil}
@@ -12,7 +12,6 @@ use Rattle.mx_words.specs.declared.perm.Span.{Span}
 use Rattle.mx_words.specs.Changes.{changed_from, changed_map, granted_from, changed_grants}
 use Rattle.mx_words.specs.Newest.{Grant, Give, at, owner, map, owners}
 use Rattle.mx_words.specs.Need.{fits}
-use Rattle.mx_words.specs.Reach.{span}
 use Rattle.mx_words.specs.Rights.{perm_at}
 use Rattle.mx_words.specs.Runs.{owner_runs, most_owner_runs}
 use Rattle.mx_words.proofs.OverlayLaws.{map-at, length-map_of, owners-at, length-owners, map-append, owners-append}
@@ -66,11 +65,9 @@ reads-flat s =
     let f = flat s in
     let r = reads s in
     let q = flat_reads (flat s) in
-    let perm : r.perm ≡ q.perm = fun_ext (λ d. fun_ext (λ i.
-    perm-map size (grants_of s.grants d) i ∙ ap (λ m. perm_at m i) (sym (map_in-maps_of size s.grants d)))) in
+    let perm : r.perm ≡ q.perm = fun_ext (λ d. fun_ext (search (arith, perm-map, map_in-maps_of))) in
     let own : r.owner ≡ q.owner = fun_ext (λ i. owner-owners size s.gives i) in
-    let walk : r.walk ≡ q.walk = fun_ext (λ d. fun_ext (λ i.
-    ap (λ m. span s.core.kind m i) (sym (map_in-maps_of size s.grants d)))) in
+    let walk : r.walk ≡ q.walk = fun_ext (λ d. fun_ext (search (arith, map_in-maps_of))) in
     let fitting : r.fits ≡ q.fits = fun_ext (λ c.
     ap (λ ms. fits s.core.kind s.core.limit ms) (maps_of-granted c.first c.count size c.given 1 s.grants)) in
     let few : r.few_runs ≡ q.few_runs = fun_ext (λ give.

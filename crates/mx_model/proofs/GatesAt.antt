@@ -1,5 +1,5 @@
 -- The call gate and the return gate at an address, from one look at the target of the gate that stands there.
-use Rattle.std.proofs.Common.{◌≡◌, ◌≢◌, ℕ, Bool, true, false, ◌==◌, refl, ◌∙◌, ap, eqb-true, if◌then◌else◌, Option, Some, None}
+use Rattle.std.proofs.Common.{◌≡◌, ◌≢◌, ℕ, Bool, true, false, ◌==◌, refl, ◌∙◌, ap, eqb-true, if◌then◌else◌, Option, Some, None, arith}
 use Rattle.std.specs.Prelude.{IfSome, option_map}
 use Rattle.std.specs.Option.{option_map_or}
 use Rattle.std.proofs.lemmas.Bool.{eq-eqb, ne_eqb, and_parts}
@@ -63,17 +63,11 @@ return-gate-at c d address = return-gate-in c d (word_of address c.size)
 -- by the target: another domain, the domain itself, or no gate
 pub at-call-gate : (c : Core) (d address t : ℕ) → target_from c d address ≡ Some t → t ≢ d →
     (call_gate_at c d address ≡ Some t) × (is_return_at c d address ≡ false)
-at-call-gate c d address t e n = (
-  call-gate-at c d address ∙ ap (called_domain d) e ∙ ap (λ (b : Bool). if b then None else Some t) (ne_eqb t d n),
-  return-gate-at c d address ∙ ap (is_own d) e ∙ ne_eqb t d n,
-)
+at-call-gate c d address t e n = search (arith, call-gate-at, called_domain, ne_eqb, return-gate-at, is_own)
 
 pub at-return-gate : (c : Core) (d address t : ℕ) → target_from c d address ≡ Some t → t ≡ d →
     (call_gate_at c d address ≡ None) × (is_return_at c d address ≡ true)
-at-return-gate c d address t e n = (
-  call-gate-at c d address ∙ ap (called_domain d) e ∙ ap (λ (b : Bool). if b then None else Some t) (eq-eqb t d n),
-  return-gate-at c d address ∙ ap (is_own d) e ∙ eq-eqb t d n,
-)
+at-return-gate c d address t e n = search (arith, call-gate-at, called_domain, eq-eqb, return-gate-at, is_own)
 
 pub at-no-gate : (c : Core) (d address : ℕ) → target_from c d address ≡ None →
     (call_gate_at c d address ≡ None) × (is_return_at c d address ≡ false)

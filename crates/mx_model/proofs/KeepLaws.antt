@@ -1,25 +1,19 @@
 -- What no turn changes: the number of words, the kind of tables, their limit and the size of the lookaside buffer; and the numbers of modules, harts
 -- and caches.
-use Rattle.std.proofs.Common.{◌≡◌, ℕ, ◌-◌, ◌*◌, Bool, true, false, not, ◌==◌, ◌&&◌, List, [], ◌∷◌, length, cond, refl, ◌∙◌, Option, Some, None, unwrap_or}
+use Rattle.std.proofs.Common.{◌≡◌, ℕ, ◌-◌, ◌*◌, Bool, true, false, List, [], ◌∷◌, length, cond, refl, Option, Some, None, unwrap_or, arith}
 use Rattle.std.proofs.lemmas.List.{length-map, length-set}
 use Rattle.std.proofs.lemmas.List.FromFn.{length-enumerate_from}
-use Rattle.std.specs.List.{enumerate_from}
-use Rattle.mx_words.specs.declared.perm.Access.TheVariants as A
-use Rattle.mx_words.specs.Announced.{is_announced}
-use Rattle.mx_words.specs.Bytes.{number_at, put_at, cleared_at}
-use Rattle.mx_words.specs.Rights.{allows}
+use Rattle.mx_words.specs.Bytes.{put_at}
 use Rattle.mx_words.specs.Caches.{Cache}
 use Rattle.mx_words.specs.FirstFit.{Area}
-use Rattle.mx_words.specs.FirstRow.{first_row}
 use Rattle.mx_model.specs.declared.values.Call.{Call}
 use Rattle.mx_model.specs.declared.values.Frame.{Frame}
 use Rattle.mx_model.specs.declared.values.Gate.{Gate}
-use Rattle.mx_model.specs.Checks.{Look, arg, hears, looked, looked_all, empties_places, drops, call_range, is_halted}
-use Rattle.mx_model.specs.Effect.{next}
+use Rattle.mx_model.specs.Checks.{Look, arg, hears, looked, looked_all, empties_places, drops, is_halted}
 use Rattle.mx_model.specs.Reads.{Reads}
-use Rattle.mx_model.specs.Serve.{Served, Service, Exit, Write, Grant, RevokeAll, Transfer, Alloc, Free, AddGate, RemoveGate, AddReturnGate, Query, Self, Exchange, Unknown, judged, answers, serve, served_by, service, ended, write_from, written_out, write_looks, exchange_from, exchanged, with_blocks, look_of, arg_word, allocated, alloc_place, alloc_from}
-use Rattle.mx_model.specs.State.{Core, Hart, Module, hart_at, with_hart, with_cache, with_module, module_at}
-use Rattle.mx_model.specs.Turn.{Action, Rests, Waits, Serves, Asks, Traps, Bounces, Crosses, Returns, Runs, Writes, Decided, acted, asked, served, done, trapped, given_up, killed, over_frame, halted, with_regs, enacted, decide, heard_first, counted, turned, is_served_now, answered}
+use Rattle.mx_model.specs.Serve.{Served, Service, Exit, Write, Grant, RevokeAll, Transfer, Alloc, Free, AddGate, RemoveGate, AddReturnGate, Query, Self, Exchange, Unknown, judged, serve, served_by, service, ended, write_from, written_out, exchange_from, exchanged, with_blocks, look_of, arg_word, allocated, alloc_place, alloc_from}
+use Rattle.mx_model.specs.State.{Core, Hart, Module, hart_at, with_hart, with_cache, with_module}
+use Rattle.mx_model.specs.Turn.{Action, Rests, Waits, Serves, Asks, Traps, Bounces, Crosses, Returns, Runs, Writes, Decided, acted, asked, served, done, trapped, given_up, killed, over_frame, enacted, decide, heard_first, counted, turned, is_served_now}
 
 -- what is the same in two cores
 pub record Keeps (c e : Core) : Type 0 where
@@ -36,16 +30,7 @@ pub keeps-refl : (c : Core) → Keeps c c
 keeps-refl c = record { size = refl; kind = refl; limit = refl; buffer = refl; turns = refl; modules = refl; harts = refl; caches = refl }
 
 pub keeps-trans : (c e f : Core) → Keeps c e → Keeps e f → Keeps c f
-keeps-trans c e f p q = record {
-  size = q.size ∙ p.size;
-  kind = q.kind ∙ p.kind;
-  limit = q.limit ∙ p.limit;
-  buffer = q.buffer ∙ p.buffer;
-  turns = q.turns ∙ p.turns;
-  modules = q.modules ∙ p.modules;
-  harts = q.harts ∙ p.harts;
-  caches = q.caches ∙ p.caches;
-}
+keeps-trans c e f p q = search arith
 
 -- parts changed with their lengths kept
 pub keeps-parts : (c : Core) (ram : List ℕ) (modules : List Module) (gates : List Gate) (harts : List Hart) (caches : List Cache) →
@@ -88,7 +73,7 @@ keeps-drops h range c = keeps-cache h _ c
 
 pub keeps-hears : (h : ℕ) (c : Core) → Keeps c (hears h c)
 keeps-hears h c =
-    keeps-parts c c.ram c.modules c.gates _ _ refl (length-map (enumerate_from 0 c.harts) _ ∙ length-enumerate_from 0 c.harts) (length-set c.caches h _)
+    search (arith, keeps-parts, c.ram, c.modules, c.gates, length-map, length-enumerate_from, length-set, c.caches)
 
 -- a call that is refused or done
 pub keeps-judged : (c e : Core) (o : Option ℕ) (s : Served) → Keeps c e → Keeps c s.core → Keeps c (judged e o s).core
@@ -99,18 +84,14 @@ pub keeps-blocks : (call : Call) (blocks : List Area) (c : Core) → Keeps c (wi
 keeps-blocks call blocks c = keeps-module call.domain _ c
 
 pub keeps-allocated : (c : Core) (call : Call) (first : ℕ) → Keeps c (allocated c call first).core
-keeps-allocated c call first =
-    let cleared = record c { ram = cleared_at c.ram (4 * first) (4 * arg call 0) } in
-    keeps-trans c cleared _ (keeps-ram _ c) (keeps-module call.domain _ cleared)
+keeps-allocated c call first = search (arith, c.ram, keeps-trans, keeps-ram, keeps-module, call.domain)
 
 pub keeps-alloc_from : (c : Core) (call : Call) (first : ℕ) (o : Option ℕ) → Keeps c (alloc_from c call first o).core
 keeps-alloc_from c call first (Some n) = keeps-refl c
 keeps-alloc_from c call first None = keeps-allocated c call first
 
 pub keeps-written_out : (r : Reads) (c : Core) (call : Call) → Keeps c (written_out r c call).core
-keeps-written_out r c call =
-    let p = keeps-looked_all r call.hart (write_looks r call) c in
-    keeps-judged c (looked_all r call.hart (write_looks r call) c) _ _ p p
+keeps-written_out r c call = search (arith, keeps-looked_all, keeps-judged)
 
 pub keeps-write_from : (r : Reads) (c : Core) (call : Call) (o : Option ℕ) → Keeps c (write_from r c call o).core
 keeps-write_from r c call (Some n) = keeps-refl c
@@ -121,9 +102,7 @@ keeps-exchanged r c call =
     let seen = looked_all r call.hart (look_of call.domain (arg_word call) ∷ []) c in
     let p = keeps-looked_all r call.hart (look_of call.domain (arg_word call) ∷ []) c in
     let ram = put_at c.ram (4 * arg_word call) 4 (arg call 1) in
-    let q = keeps-trans c seen (record seen { ram = ram }) p (keeps-ram ram seen) in
-    keeps-judged c seen (first_row ((not (allows (r.perm call.domain (arg_word call)) A.Write), 12) ∷ []))
-    (record (answers (record seen { ram = ram }) 0) { a1 = Some (number_at c.ram (4 * arg_word call) 4) }) p q
+    search (arith, keeps-judged, r.perm, call.domain, c.ram)
 
 pub keeps-exchange_from : (r : Reads) (c : Core) (call : Call) (o : Option ℕ) → Keeps c (exchange_from r c call o).core
 keeps-exchange_from r c call (Some n) = keeps-refl c
@@ -147,20 +126,14 @@ keeps-served_by Exchange r c call = keeps-exchange_from r c call _
 keeps-served_by Unknown r c call = keeps-refl c
 
 pub keeps-ended : (c : Core) (call : Call) (s : Served) → Keeps c s.core → Keeps c (ended c call s).core
-keeps-ended c call s p = elim (is_announced call.number) as (λ b. Keeps c (cond b (record s { core = drops call.hart (call_range c call) s.core }) s).core) [
-  | true ↦ keeps-trans c s.core _ p (keeps-drops call.hart (call_range c call) s.core)
-  | false ↦ p
-]
+keeps-ended c call s p = search (arith, call.hart, keeps-trans, s.core, keeps-drops)
 
 pub keeps-serve : (r : Reads) (c : Core) (call : Call) → Keeps c (serve r c call).core
 keeps-serve r c call = keeps-ended c call (served_by (service call.number) r c call) (keeps-served_by (service call.number) r c call)
 
 -- a served call, in its hart
 pub keeps-done : (c : Core) (h : ℕ) (hart : Hart) (s : Served) → Keeps c s.core → Keeps c (done h hart s).core
-keeps-done c h hart s p = elim s.stop as (λ b. Keeps c (cond b (halted h hart (Some s.a0) s.core) (with_regs h hart (answered hart s.a0 s.a1) (next hart.pc) s.core))) [
-  | true ↦ keeps-trans c s.core _ p (keeps-hart h _ s.core)
-  | false ↦ keeps-trans c s.core _ p (keeps-hart h _ s.core)
-]
+keeps-done c h hart s p = search (arith, s.stop, s.a0, keeps-trans, s.core, keeps-hart)
 
 pub keeps-served : (r : Reads) (c : Core) (h : ℕ) (hart : Hart) (call : Call) → Keeps c (served r c h hart call).core
 keeps-served r c h hart call = keeps-done c h hart (serve r c call) (keeps-serve r c call)
@@ -178,14 +151,10 @@ keeps-given_up c h hart cause None = keeps-hart h _ c
 keeps-given_up c h hart cause (Some frame) = keeps-over_frame c h hart frame _
 
 pub keeps-killed : (d cause : ℕ) (c : Core) → Keeps c (killed d cause c)
-keeps-killed d cause c = elim ((module_at c d).kills && not (cause == 20)) as (λ b. Keeps c (cond b (with_module d (record (module_at c d) { dead = true }) c) c)) [
-  | true ↦ keeps-module d _ c
-  | false ↦ keeps-refl c
-]
+keeps-killed d cause c = search (arith, keeps-module, keeps-refl)
 
 pub keeps-trapped : (c : Core) (h : ℕ) (hart : Hart) (cause value : ℕ) → Keeps c (trapped c h hart cause value).core
-keeps-trapped c h hart cause value =
-    keeps-trans c (killed hart.domain cause c) _ (keeps-killed hart.domain cause c) (keeps-given_up (killed hart.domain cause c) h hart cause _)
+keeps-trapped c h hart cause value = search (arith, keeps-trans, hart.domain, keeps-killed, keeps-given_up)
 
 -- an action
 pub keeps-acted : (r : Reads) (c : Core) (h : ℕ) (hart : Hart) (action : Action) → Keeps c (acted r c h hart action).core
@@ -201,8 +170,7 @@ keeps-acted r c h hart (Runs regs pc) = keeps-hart h _ c
 keeps-acted r c h hart (Writes address size value) = keeps-parts c _ c.modules c.gates _ c.caches refl (length-set c.harts h _) refl
 
 pub keeps-enacted : (r : Reads) (c : Core) (h : ℕ) (d : Decided) → Keeps c (enacted r c h d).core
-keeps-enacted r c h d =
-    keeps-trans c (looked_all r h d.looks c) _ (keeps-looked_all r h d.looks c) (keeps-acted r (looked_all r h d.looks c) h (hart_at c h) d.action)
+keeps-enacted r c h d = search (arith, keeps-trans, d.looks, keeps-looked_all, keeps-acted)
 
 pub keeps-heard_first : (c : Core) (h : ℕ) → Keeps c (heard_first c h)
 keeps-heard_first c h = elim (is_halted (hart_at c h).status) as (λ b. Keeps c (cond b c (hears h c))) [

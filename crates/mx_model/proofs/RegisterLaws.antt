@@ -1,17 +1,15 @@
 -- Registers stay 32 numbers of 32 bits with x0 zero: writes, saves, restores, and the effect of every instruction.
-use Rattle.std.proofs.Common.{◌≡◌, ℕ, zero, suc, ◌-◌, ◌*◌, ◌/◌, ◌%◌, ◌^◌, ◌<◌, ◌≤◌, Bool, true, false, ◌==◌, nat_lt, cond, List, [], ◌∷◌, length, get_or, set, fold, refl, ◌∙◌, arith, rules, lit<, lit≤, eqb-true, ⊎_elim, ℤ, pos, negsuc}
+use Rattle.std.proofs.Common.{◌≡◌, ℕ, zero, suc, ◌-◌, ◌*◌, ◌%◌, ◌^◌, ◌<◌, ◌≤◌, Bool, true, false, ◌==◌, cond, List, [], ◌∷◌, length, get_or, set, fold, refl, ◌∙◌, arith, rules, lit<, eqb-true, ⊎_elim, ℤ, pos}
 use Rattle.std.proofs.Common.{map as list_map}
 use Rattle.std.specs.Prelude.{zip, slice_set, bit_and}
 use Rattle.std.specs.Int.{int_shr}
 use Rattle.std.proofs.lemmas.List.{length-set, get_or-set_other}
 use Rattle.std.proofs.lemmas.Bool.{eqb-false}
 use Rattle.std.proofs.lemmas.Nat.{xor_lt, or_lt, and_le_l, mod_below}
-use Rattle.std.proofs.Math.Nat.{div-le_self, mod-le}
 use Rattle.mx_isa.specs.Fields.{extended}
 use Rattle.mx_isa.specs.declared.inst.Inst.{Inst}
 use Rattle.mx_isa.specs.declared.inst.Inst.TheVariants.{Lui, Auipc, Jal, Jalr, Branch, Load, Store, OpImm, Op, Fence, Ecall, Ebreak}
 use Rattle.mx_isa.specs.declared.inst.LoadWidth.{LoadWidth}
-use Rattle.mx_isa.specs.declared.inst.LoadWidth.TheVariants.{Lb, Lh, Lw, Lbu, Lhu}
 use Rattle.mx_isa.specs.declared.inst.ImmOp.{ImmOp}
 use Rattle.mx_isa.specs.declared.inst.ImmOp.TheVariants.{Addi, Slti, Sltiu, Xori, Ori, Andi, Slli, Srli, Srai}
 use Rattle.mx_isa.specs.declared.inst.RegOp.{RegOp}
@@ -85,15 +83,13 @@ pub small-plus : (a b : ℕ) → plus a b < 2 ^ 32
 small-plus a b = omega arith
 
 small-wrapped : (z : ℤ) → wrapped z < 2 ^ 32
-small-wrapped (pos n) = omega arith
-small-wrapped (negsuc n) = omega arith
+small-wrapped x = grind arith
 
 small-flag : (b : Bool) → flag b < 2 ^ 32
-small-flag true = lit< tt
-small-flag false = lit< tt
+small-flag x = grind arith
 
 small-right : (a k : ℕ) → a < 2 ^ 32 → right a k < 2 ^ 32
-small-right a k p = let e : a / 2 ^ k ≤ a = div-le_self a (2 ^ k) in omega (arith, e)
+small-right a k p = omega arith
 
 small-and : (a b : ℕ) → a < 2 ^ 32 → bit_and a b < 2 ^ 32
 small-and a b p = let e : bit_and a b ≤ a = and_le_l a b in omega (arith, e)
@@ -112,8 +108,7 @@ small-imm Srli a b p q = small-right a (b % 32) p
 small-imm Srai a b p q = small-wrapped _
 
 small-choice : (c : Bool) (a b : ℕ) → a < 2 ^ 32 → b < 2 ^ 32 → cond c a b < 2 ^ 32
-small-choice true a b p q = p
-small-choice false a b p q = q
+small-choice x a b p q = grind arith
 
 small-reg : (op : RegOp) (a b : ℕ) → a < 2 ^ 32 → b < 2 ^ 32 → reg_result op a b < 2 ^ 32
 unfolding reg_result
@@ -132,22 +127,18 @@ small-reg Mulh a b p q = small-wrapped _
 small-reg Mulhsu a b p q = small-wrapped _
 small-reg Mulhu a b p q = small-wrapped (int_shr (pos (a * b)) 32)
 small-reg Div a b p q = small-choice (b == 0) _ _ (lit< tt) (small-wrapped _)
-small-reg Divu a b p q = small-choice (b == 0) _ _ (lit< tt) (let e : a / b ≤ a = div-le_self a b in omega (arith, e))
+small-reg Divu a b p q = small-choice (b == 0) _ _ (lit< tt) (omega arith)
 small-reg Rem a b p q = small-choice (b == 0) _ _ p (small-wrapped _)
-small-reg Remu a b p q = small-choice (b == 0) _ _ p (let e : a % b ≤ a = mod-le a b in omega (arith, e))
+small-reg Remu a b p q = small-choice (b == 0) _ _ p (omega arith)
 
 -- what a load writes
 pub small-loaded : (width : LoadWidth) (n : ℕ) → n < 256 ^ load_size width → loaded width n < 2 ^ 32
 unfolding loaded extended
-small-loaded Lb n p = small-choice (nat_lt n (2 ^ 7)) _ _ (omega arith) (omega arith)
-small-loaded Lh n p = small-choice (nat_lt n (2 ^ 15)) _ _ (omega arith) (omega arith)
-small-loaded Lw n p = omega arith
-small-loaded Lbu n p = omega arith
-small-loaded Lhu n p = omega arith
+small-loaded x n p = grind (arith, small-choice)
 
 -- the next instruction
 pub pc-next : (pc : ℕ) → IsPc pc → IsPc (next pc)
-pc-next pc h = let e = h.aligned in record { aligned = omega (arith, e); small = omega arith }
+pc-next pc h = record { aligned = omega arith; small = omega arith }
 
 -- a cause of a fault is a byte's number
 abbrev pub IsCause : ℕ → Type 0
@@ -172,22 +163,13 @@ effect-takes : (regs : List ℕ) (pc rd v : ℕ) → IsRegisters regs → IsPc p
 effect-takes regs pc rd v h p q = (registers-written regs rd v h q, pc-next pc p)
 
 effect-choice : (b : Bool) (e f : Effect) → IsEffect e → IsEffect f → IsEffect (cond b e f)
-effect-choice true e f p q = p
-effect-choice false e f p q = q
+effect-choice x e f p q = grind arith
 
 extended-small : (count imm : ℕ) → IsExtended count imm → 2 ^ (count - 1) ≤ 2 ^ 31 → imm < 2 ^ 32
-extended-small count imm h p = ⊎_elim (λ l. let q : imm < 2 ^ 32 = omega (arith, l, p) in q) (λ r. r.1) h
+extended-small count imm h p = ⊎_elim (λ l. (omega (arith, l, p))) (λ r. r.1) h
 
 operand-small : (op : ImmOp) (imm : ℕ) → IsOperand op imm → imm < 2 ^ 32
-operand-small Addi imm h = extended-small 12 imm h (lit≤ tt)
-operand-small Slti imm h = extended-small 12 imm h (lit≤ tt)
-operand-small Sltiu imm h = extended-small 12 imm h (lit≤ tt)
-operand-small Xori imm h = extended-small 12 imm h (lit≤ tt)
-operand-small Ori imm h = extended-small 12 imm h (lit≤ tt)
-operand-small Andi imm h = extended-small 12 imm h (lit≤ tt)
-operand-small Slli imm h = omega arith
-operand-small Srli imm h = omega arith
-operand-small Srai imm h = omega arith
+operand-small x imm h = grind (arith, extended-small)
 
 pub effect-valid : (inst : Inst) (regs : List ℕ) (pc : ℕ) → IsValidInst inst → IsRegisters regs → IsPc pc → IsEffect (effect inst regs pc)
 unfolding effect IsValidInst

@@ -9,8 +9,7 @@ next_of schedule n s b = elim b [ true ↦ s | false ↦ run schedule n (turn s 
 
 -- a run that has stopped makes no further turn
 run-stopped : (schedule : Schedule) (n : ℕ) (s : State) → is_stopped schedule s ≡ true → run schedule n s ≡ s
-run-stopped schedule zero s e = refl
-run-stopped schedule (suc n) s e = ap (next_of schedule n s) e
+run-stopped schedule x s e = grind (arith, next_of)
 
 -- one more turn
 run-going : (schedule : Schedule) (n : ℕ) (s : State) → is_stopped schedule s ≡ false →

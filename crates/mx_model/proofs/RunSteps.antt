@@ -1,5 +1,5 @@
 -- A run by its next turn.
-use Rattle.std.proofs.Common.{◌≡◌, ℕ, zero, suc, Bool, true, false, refl, ap}
+use Rattle.std.proofs.Common.{◌≡◌, ℕ, suc, Bool, true, false, ap, arith}
 use Rattle.mx_model.specs.Run.{Schedule, run, turn, hart_of, is_stopped}
 use Rattle.mx_model.specs.State.{State}
 
@@ -9,8 +9,7 @@ next_of schedule n s b = elim b [ true ↦ s | false ↦ run schedule n (turn s 
 
 -- a run that has stopped makes no further turn
 pub run-stopped : (schedule : Schedule) (n : ℕ) (s : State) → is_stopped schedule s ≡ true → run schedule n s ≡ s
-run-stopped schedule zero s e = refl
-run-stopped schedule (suc n) s e = ap (next_of schedule n s) e
+run-stopped schedule x s e = grind (arith, next_of)
 
 -- one more turn
 pub run-going : (schedule : Schedule) (n : ℕ) (s : State) → is_stopped schedule s ≡ false →

@@ -1,29 +1,27 @@
 -- A served call leaves a valid state valid, and answers numbers of 32 bits.
-use Rattle.std.proofs.Common.{◌≡◌, ◌∙◌, ℕ, ◌+◌, ◌-◌, ◌*◌, ◌%◌, ◌^◌, ◌<◌, ◌≤◌, Bool, true, false, not, cond, nat_lt, nat_le, ◌==◌, ◌&&◌, ◌||◌, List, [], ◌∷◌, ◌++◌, length, refl, sym, arith, lit<, if◌then◌else◌, Option, Some, None, unwrap_or, is_none}
+use Rattle.std.proofs.Common.{◌≡◌, ◌∙◌, ℕ, ◌+◌, ◌*◌, ◌^◌, ◌<◌, ◌≤◌, Bool, true, false, not, nat_lt, nat_le, ◌==◌, ◌&&◌, ◌||◌, List, [], ◌∷◌, ◌++◌, length, refl, sym, arith, lit<, if◌then◌else◌, Option, Some, None, unwrap_or, is_none}
 use Rattle.std.specs.Prelude.{IfSome}
 use Rattle.std.specs.List.{AllByRecursion, list_any, range_with_len}
 use Rattle.std.proofs.lemmas.Bool.{eqb-false, ltb-true, leb-true, leb-false, and_parts, or_parts, not-false, not-true}
 use Rattle.std.proofs.lemmas.List.{length-append}
 use Rattle.std.proofs.Math.Bool.{and-true}
 use Rattle.mx_words.specs.declared.perm.Perm.{Perm}
-use Rattle.mx_words.specs.declared.perm.Perm.TheVariants as P
 use Rattle.mx_words.specs.declared.perm.Access.TheVariants as A
-use Rattle.mx_words.specs.Announced.{is_announced}
 use Rattle.mx_words.specs.Bytes.{number_at, put_at, cleared_at}
 use Rattle.mx_words.specs.FirstFit.{AreApart, Area, has_room, with_block, without_block, most_blocks}
-use Rattle.mx_words.specs.Ranges.{overlaps, ram_base, in_ram}
+use Rattle.mx_words.specs.Ranges.{overlaps}
 use Rattle.mx_words.specs.Rights.{number, allows}
 use Rattle.mx_words.specs.FirstRow.{first_row, Row}
 use Rattle.mx_model.specs.declared.values.Call.{Call}
 use Rattle.mx_model.specs.declared.values.Gate.{Gate}
-use Rattle.mx_model.specs.Checks.{Look, arg, looked, looked_all, drops, call_range}
-use Rattle.mx_model.specs.Gates.{is_at, without_gate, with_gate, has_gate, no_gate_fits, most_gates}
+use Rattle.mx_model.specs.Checks.{Look, arg, looked, looked_all}
+use Rattle.mx_model.specs.Gates.{is_at, without_gate, has_gate, no_gate_fits, most_gates}
 use Rattle.mx_model.specs.Reads.{Reads}
 use Rattle.mx_model.specs.State.{Core, Module, module_at, is_module}
 use Rattle.mx_model.proofs.ApartLaws.{apart-with, apart-without, single-append, single-filter, single-others}
 use Rattle.mx_model.specs.Valid.{IsModule, IsCall, IsGate, IsHome, IsValid}
 use Rattle.mx_model.proofs.ListLaws.{all-append, all-filter, found-passes, length-filter-le, length-filter-lt, length-with_block, length-put_at, bytes-put_at, length-cleared_at, bytes-cleared_at, number-four}
-use Rattle.mx_model.specs.Serve.{Served, Service, Exit, Write, Grant, RevokeAll, Transfer, Alloc, Free, AddGate, RemoveGate, AddReturnGate, Query, Self, Exchange, Unknown, judged, answers, code, serve, served_by, service, ended, write_from, written_out, write_looks, exchange_from, exchanged, look_of, arg_word, is_word, no_word, foreign_word, with_blocks, alloc_place, alloc_change, allocated, alloc_from, adds, serve_alloc, serve_free, freed_count, free_change, changes, serve_gate, serve_ungate, serve_return_gate, write_outside, no_range, owns, arg_range, grant_change, revoke_change, meets_heap, give_of}
+use Rattle.mx_model.specs.Serve.{Served, Service, Exit, Write, Grant, RevokeAll, Transfer, Alloc, Free, AddGate, RemoveGate, AddReturnGate, Query, Self, Exchange, Unknown, judged, answers, code, serve, served_by, service, ended, write_from, written_out, exchange_from, exchanged, look_of, arg_word, no_word, foreign_word, with_blocks, alloc_place, alloc_change, allocated, alloc_from, adds, serve_alloc, serve_free, freed_count, free_change, changes, serve_gate, serve_ungate, serve_return_gate, write_outside, no_range, owns, arg_range, revoke_change, meets_heap, give_of}
 use Rattle.mx_model.proofs.ValidParts.{valid-ram, valid-module, valid-gates, valid-cache, valid-looked_all, home-at}
 
 -- a valid outcome: the state is valid, and the answers are numbers of 32 bits
@@ -63,9 +61,7 @@ served-same c tests s v p q = served-judged c (first_row tests) s v (codes-faile
 
 -- write and exchange
 served-written_out : (r : Reads) (c : Core) (h : ℕ) (call : Call) → IsValid c → IsCall (length c.modules) h call → IsServed (written_out r c call)
-served-written_out r c h call v p =
-    let w = valid-looked_all r call.hart (write_looks r call) c v in
-    served-judged (looked_all r call.hart (write_looks r call) c) _ _ w (codes-failed (_ ∷ []) (lit< tt, tt)) (λ e. record { core = w; a0 = p.small 1; a1 = tt })
+served-written_out r c h call v p = search (arith, valid-looked_all, call.hart, served-judged, codes-failed, p.small)
 
 served-write_from : (r : Reads) (c : Core) (h : ℕ) (call : Call) (o : Option ℕ) → IsValid c → IsCall (length c.modules) h call → IfSome o (λ n. 0 < n) →
     IsServed (write_from r c call o)
@@ -149,11 +145,7 @@ served-allocated c h call first v p q room some =
 
 -- the word of a0 lies in RAM
 word-inside : (c : Core) (call : Call) → no_word c call ≡ false → arg_word call < c.size
-word-inside c call e =
-    let w : is_word c (arg call 0) ≡ true = not-false (is_word c (arg call 0)) e in
-    let i : in_ram (arg call 0) c.size ≡ true = (and_parts (arg call 0 % 4 == 0) (in_ram (arg call 0) c.size) w).1 in
-    let l : arg call 0 - ram_base < 4 * c.size = ltb-true (arg call 0 - ram_base) (4 * c.size) (and_parts (nat_le ram_base (arg call 0)) _ i).1 in
-    omega (arith, l)
+word-inside c call e = search (arith, not-false, and_parts, c.size, ltb-true)
 
 -- a gate added, where one fits
 gates-fit : (gates : List Gate) (domain word : ℕ) (g : Gate) → length gates ≤ most_gates → no_gate_fits gates domain word ≡ false →
@@ -168,16 +160,12 @@ gates-fit gates domain word g p e =
     ] refl e
 
 served-adds : (c : Core) (g : Gate) → IsValid c → IsGate (length c.modules) c.size g → no_gate_fits c.gates g.domain g.word ≡ false → IsServed (adds c g)
-served-adds c g v p e = served-answers (record c { gates = with_gate g c.gates }) 0
-    (valid-gates c (with_gate g c.gates) v (gates-fit c.gates g.domain g.word g v.few_gates e)
-    (all-append (IsGate (length c.modules) c.size) (without_gate g.domain g.word c.gates) g
-    (all-filter (IsGate (length c.modules) c.size) (λ x. not (is_at g.domain g.word x)) c.gates v.gates) p)
-    (single-append g (without_gate g.domain g.word c.gates) (single-others g c.gates) (single-filter (λ x. not (is_at g.domain g.word x)) c.gates v.one_gate))) (lit< tt)
+served-adds c g v p e =
+    search (arith, served-answers, valid-gates, gates-fit, c.gates, g.domain, g.word, v.few_gates, all-append,
+      all-filter, single-append, single-others, single-filter)
 
 module-is : (c : Core) (d : ℕ) → not (is_module c d) ≡ false → IsModule (length c.modules) d
-module-is c d e =
-    let both = and_parts (nat_le 1 d) _ (not-false (is_module c d) e) in
-    record { first = leb-true 1 d both.0; last = leb-true d (length c.modules) both.1 }
+module-is c d e = search (arith, and_parts, not-false, leb-true)
 
 -- each test of a list that no test fails
 tests-two : (s t : Row ℕ) → first_row (s ∷ t ∷ []) ≡ None → (s.0 ≡ false) × (t.0 ≡ false)
@@ -238,11 +226,7 @@ served-gate r c h call v p =
     served-judged c (first_row (t1 ∷ t2 ∷ t3 ∷ t4 ∷ [])) (adds c g) v
     (codes-failed (t1 ∷ t2 ∷ t3 ∷ t4 ∷ []) (lit< tt, (lit< tt, (lit< tt, (lit< tt, tt))))) (λ e.
     let q = tests-four t1 t2 t3 t4 e in
-    served-adds c g v (record {
-      domain = module-is c (arg call 1) (or_parts (not (is_module c (arg call 1))) (arg call 1 == call.domain) q.1).0;
-      target = p.domain;
-      word = word-inside c call q.0;
-    }) q.3)
+    served-adds c g v (search (arith, module-is, or_parts, word-inside)) q.3)
 
 served-return_gate : (r : Reads) (c : Core) (h : ℕ) (call : Call) → IsValid c → IsCall (length c.modules) h call → IsServed (serve_return_gate r c call)
 served-return_gate r c h call v p =
@@ -257,25 +241,13 @@ served-return_gate r c h call v p =
 
 served-ungate : (r : Reads) (c : Core) (call : Call) → IsValid c → IsServed (serve_ungate r c call)
 served-ungate r c call v =
-    let l = length-filter-le (λ x. not (is_at (arg call 1) (arg_word call) x)) c.gates in
-    let k = v.few_gates in
-    served-same c ((no_word c call, 1) ∷ (not (is_module c (arg call 1)), 3) ∷ (foreign_word r call, 2)
-    ∷ (not (has_gate c.gates (arg call 1) (arg_word call)), 15) ∷ [])
-    (answers (record c { gates = without_gate (arg call 1) (arg_word call) c.gates }) 0) v (lit< tt, (lit< tt, (lit< tt, (lit< tt, tt))))
-    (served-answers (record c { gates = without_gate (arg call 1) (arg_word call) c.gates }) 0
-    (valid-gates c (without_gate (arg call 1) (arg_word call) c.gates) v (omega (arith, l, k))
-    (all-filter (IsGate (length c.modules) c.size) (λ x. not (is_at (arg call 1) (arg_word call) x)) c.gates v.gates)
-    (single-filter (λ x. not (is_at (arg call 1) (arg_word call) x)) c.gates v.one_gate)) (lit< tt))
+    search (arith, length-filter-le, served-same, served-answers, valid-gates, all-filter, single-filter)
 
 small-number : (p : Perm) → number p < 2 ^ 32
-small-number P.None = lit< tt
-small-number P.Read = lit< tt
-small-number P.ReadWrite = lit< tt
-small-number P.ExecuteRead = lit< tt
+small-number x = grind arith
 
 small-self : (c : Core) (h : ℕ) (call : Call) → IsValid c → IsCall (length c.modules) h call → h < length c.harts → 256 * call.hart + call.domain < 2 ^ 32
-small-self c h call v p l =
-    let a = p.hart in let b = p.domain.last in let d = v.few_modules in let e = v.few_harts in omega (arith, a, b, d, e, l)
+small-self c h call v p l = search arith
 
 -- a call of each kind
 served-by : (k : Service) (r : Reads) (c : Core) (h : ℕ) (call : Call) → IsValid c → IsCall (length c.modules) h call → h < length c.harts →
@@ -283,9 +255,7 @@ served-by : (k : Service) (r : Reads) (c : Core) (h : ℕ) (call : Call) → IsV
 served-by Exit r c h call v p l = served-same c ((call.nested, 10) ∷ []) _ v (lit< tt, tt) (record { core = v; a0 = p.small 0; a1 = tt })
 served-by Write r c h call v p l =
     served-write_from r c h call _ v p (codes-failed ((nat_lt 4096 (arg call 1), 11) ∷ (write_outside c call, 1) ∷ []) (lit< tt, (lit< tt, tt)))
-served-by Grant r c h call v p l = served-same c
-    ((no_range c call, 1) ∷ (not (is_module c (arg call 2)), 3) ∷ (nat_lt 3 (arg call 3), 4) ∷ (not (owns r call (arg_range c call)), 2)
-    ∷ (not (r.fits (grant_change c call)), 5) ∷ []) _ v (lit< tt, (lit< tt, (lit< tt, (lit< tt, (lit< tt, tt))))) (record { core = v; a0 = lit< tt; a1 = tt })
+served-by Grant r c h call v p l = search (arith, served-same, r.fits)
 served-by RevokeAll r c h call v p l = served-same c
     ((no_range c call, 1) ∷ (not (owns r call (arg_range c call)), 2) ∷ (not (r.fits (revoke_change c call)), 5) ∷ []) _ v (lit< tt, (lit< tt, (lit< tt, tt)))
     (record { core = v; a0 = lit< tt; a1 = tt })
@@ -305,10 +275,7 @@ served-by Exchange r c h call v p l = served-exchange_from r c h call _ v p (cod
 served-by Unknown r c h call v p l = served-answers c (code 13) v (lit< tt)
 
 served-ended : (c : Core) (call : Call) (s : Served) → IsServed s → IsServed (ended c call s)
-served-ended c call s p = elim (is_announced call.number) as (λ b. IsServed (cond b (record s { core = drops call.hart (call_range c call) s.core }) s)) [
-  | true ↦ record { core = valid-cache s.core call.hart _ p.core; a0 = p.a0; a1 = p.a1 }
-  | false ↦ p
-]
+served-ended c call s p = search (arith, call.hart, valid-cache, s.core)
 
 pub served-serve : (r : Reads) (c : Core) (h : ℕ) (call : Call) → IsValid c → IsCall (length c.modules) h call → h < length c.harts → IsServed (serve r c call)
 served-serve r c h call v p l = served-ended c call (served_by (service call.number) r c call) (served-by (service call.number) r c h call v p l)

@@ -1,5 +1,5 @@
 -- What a turn is, by the hart as it is read before it: halted, waiting, in a dead domain, at a call gate, or at an instruction.
-use Rattle.std.proofs.Common.{◌≡◌, ℕ, ◌<◌, ◌≤◌, Bool, true, false, cond, nat_lt, List, [], ◌∷◌, length, get_or, refl, sym, ◌∙◌, ap, subst, zero-add, if◌then◌else◌, Option, Some, None}
+use Rattle.std.proofs.Common.{◌≡◌, ℕ, ◌<◌, ◌≤◌, Bool, true, false, cond, nat_lt, List, [], ◌∷◌, length, get_or, refl, sym, ◌∙◌, ap, subst, zero-add, if◌then◌else◌, Option, Some, None, arith}
 use Rattle.std.proofs.Common.{map as list_map}
 use Rattle.std.specs.List.{enumerate_from}
 use Rattle.std.proofs.Math.ListN.{get_or-eq_default}
@@ -60,11 +60,7 @@ acts r c h hart d = acted r (looked_all r h d.looks c) h hart d.action
 -- a turn by the hart's status
 turned-by : (r : Reads) (c e : Core) (h : ℕ) (hart : Hart) (s : Status) → hart_at c h ≡ hart → hart.status ≡ s → heard_first (counted c) h ≡ e →
     turned r c h ≡ acts r e h hart (by_status r e h hart s)
-turned-by r c e h hart s p q k =
-    let f = heard_first (counted c) h in
-    ap (λ (x : Hart). acts r f h x (by_status r f h x x.status)) (hart-heard_first (counted c) h ∙ p)
-    ∙ ap (λ (x : Core). acts r x h hart (by_status r x h hart hart.status)) k
-    ∙ ap (λ (x : Status). acts r e h hart (by_status r e h hart x)) q
+turned-by r c e h hart s p q k = cc (hart-heard_first (counted c) h, p, k, q)
 
 status-of : (c : Core) (h : ℕ) (hart : Hart) (s : Status) → hart_at c h ≡ hart → hart.status ≡ s → (hart_at c h).status ≡ s
 status-of c h hart s p q = ap (λ (x : Hart). x.status) p ∙ q
@@ -94,8 +90,7 @@ turned-waits r c h hart call heard p q e = turned-waiting r c h hart call heard 
 turned-running : (r : Reads) (c : Core) (h : ℕ) (hart : Hart) (b : Bool) → hart_at c h ≡ hart → hart.status ≡ Running → (module_at c hart.domain).dead ≡ b →
     turned r c h ≡ acts r (ready c h) h hart (runs_in r (ready c h) h hart b)
 turned-running r c h hart b p q e =
-    turned-by r c (ready c h) h hart Running p q (heard-by-status c h Running (status-of c h hart Running p q))
-    ∙ ap (λ (x : Bool). acts r (ready c h) h hart (runs_in r (ready c h) h hart x)) e
+    cc (turned-by r c (ready c h) h hart Running p q (heard-by-status c h Running (status-of c h hart Running p q)), e)
 
 pub turned-dead : (r : Reads) (c : Core) (h : ℕ) (hart : Hart) → hart_at c h ≡ hart → hart.status ≡ Running → (module_at c hart.domain).dead ≡ true →
     turned r c h ≡ trapped (ready c h) h hart 20 hart.pc
@@ -128,14 +123,12 @@ by-word r c h hart word (Some inst) = refl
 
 pub fetches-by_effect : (r : Reads) (c : Core) (h : ℕ) (hart : Hart) (denied : Bool) →
     fetches r c h hart denied ≡ by_effect r c h hart (effect_of_fetch c hart denied)
-fetches-by_effect r c h hart true = refl
-fetches-by_effect r c h hart false = by-word r c h hart (load_at c hart.pc 4) (decoded (load_at c hart.pc 4))
+fetches-by_effect r c h hart x = grind (arith, by-word)
 
 -- where no call gate stands, the effect of the fetched instruction decides, after the look at pc
 pub runs-by_effect : (r : Reads) (c : Core) (h : ℕ) (hart : Hart) → runs_at r c h hart None
     ≡ after_look (looks_at c 0 hart.domain hart.pc) (by_effect r c h hart (effect_of_fetch c hart (is_denied r c hart.domain hart.pc A.Execute)))
-runs-by_effect r c h hart =
-    ap (λ (d : Decided). after_look (looks_at c 0 hart.domain hart.pc) d) (fetches-by_effect r c h hart (is_denied r c hart.domain hart.pc A.Execute))
+runs-by_effect r c h hart = search (arith, hart.domain, fetches-by_effect, hart.pc)
 
 pub turned-fetches : (r : Reads) (c : Core) (h : ℕ) (hart : Hart) → IsAlive c h hart None →
     turned r c h ≡ acts r (ready c h) h hart (runs_at r (ready c h) h hart None)

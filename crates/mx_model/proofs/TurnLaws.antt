@@ -1,5 +1,5 @@
 -- A turn keeps a valid state valid.
-use Rattle.std.proofs.Common.{◌≡◌, ℕ, zero, suc, ◌+◌, ◌-◌, ◌*◌, ◌^◌, ◌<◌, ◌≤◌, Bool, true, false, not, cond, nat_lt, ◌==◌, ◌&&◌, ◌||◌, List, [], ◌∷◌, length, refl, sym, subst, ap, arith, lit<, Option, Some, None, unwrap_or}
+use Rattle.std.proofs.Common.{◌≡◌, ℕ, ◌+◌, ◌-◌, ◌^◌, ◌<◌, ◌≤◌, Bool, true, false, not, cond, nat_lt, ◌==◌, ◌&&◌, ◌||◌, List, [], ◌∷◌, length, refl, sym, subst, ap, arith, lit<, Option, Some, None, unwrap_or}
 use Rattle.std.specs.Prelude.{IfSome, slice_set, find, reverse}
 use Rattle.std.proofs.Math.Nat.{mul-le-mul_left}
 use Rattle.std.proofs.Math.ListN.{get_or-eq_default}
@@ -8,11 +8,11 @@ use Rattle.std.proofs.lemmas.Bool.{ltb-true, ltb-false}
 use Rattle.std.proofs.lemmas.List.{length-append, length-take}
 use Rattle.mx_words.specs.Announced.{is_announced}
 use Rattle.mx_words.specs.Bytes.{put_at}
-use Rattle.mx_words.specs.Ranges.{ram_base, address_of}
+use Rattle.mx_words.specs.Ranges.{ram_base}
 use Rattle.mx_model.specs.declared.values.Call.{Call}
 use Rattle.mx_model.specs.declared.values.Frame.{Frame}
 use Rattle.mx_model.specs.Checks.{hears, is_ready, looked_all, is_halted}
-use Rattle.mx_model.specs.Effect.{reg, written, next}
+use Rattle.mx_model.specs.Effect.{reg, next}
 use Rattle.mx_model.specs.Gates.{most_frames, top, below_top, nearest, saved_stack}
 use Rattle.mx_model.specs.Reads.{Reads}
 use Rattle.mx_model.specs.State.{Core, Hart, Module, Running, Halted, no_hart, hart_at, with_module, module_at}
@@ -20,7 +20,7 @@ use Rattle.mx_model.specs.Turn.{Action, Rests, Waits, Serves, Asks, Traps, Bounc
 use Rattle.mx_model.specs.Valid.{IsModule, IsPc, IsRegisters, IsFrame, IsCall, IsHart, IsHome, IsValid}
 use Rattle.mx_model.proofs.ListLaws.{all-append, all-reverse, all-take, all-find, all-last, length-put_at, bytes-put_at}
 use Rattle.mx_model.proofs.RegisterLaws.{registers-set, registers-written, registers-restored, saved-count, saved-small, small-plus, pc-next, IsCause}
-use Rattle.mx_model.specs.Serve.{Served, serve}
+use Rattle.mx_model.specs.Serve.{Served}
 use Rattle.mx_words.specs.Hearing.{is_in, nobody}
 use Rattle.mx_model.specs.Turn.{Decided, Made, acted, asked, served, done, trapped, given_up, killed, over_frame, halted, crossed, with_regs, enacted, decide, heard_first, counted, turned, is_served_now, by_status, answered, stack_address, saved, restored, fault_answer, call_of}
 use Rattle.mx_model.proofs.DecideLaws.{IsAction, action-decide, call-of}
@@ -30,8 +30,7 @@ use Rattle.mx_model.proofs.ValidParts.{valid-turns, valid-hart, valid-module, va
 
 -- a hart is as valid in a state with as many modules and harts
 pub hart-in : (c e : Core) (h : ℕ) (hart : Hart) → Keeps c e → IsHart (length c.modules) (length c.harts) h hart → IsHart (length e.modules) (length e.harts) h hart
-hart-in c e h hart k p =
-    subst (λ (n : ℕ). IsHart (length e.modules) n h hart) (sym k.harts) (subst (λ (n : ℕ). IsHart n (length c.harts) h hart) (sym k.modules) p)
+hart-in c e h hart k p = search arith
 
 -- a hart with other registers and another pc runs
 hart-regs : (modules harts h : ℕ) (hart : Hart) (regs : List ℕ) (pc : ℕ) → IsHart modules harts h hart → IsRegisters regs → IsPc pc →
@@ -65,8 +64,7 @@ valid-over c h hart frame regs v p f r = valid-cache _ h _ (valid-hart c h _ v (
 
 -- a fault
 home-dead : (size harts : ℕ) (m : Module) → IsHome size harts m → IsHome size harts (record m { dead = true })
-home-dead size harts m p =
-    record { heap = p.heap; blocks = p.blocks; stack = p.stack; few_blocks = p.few_blocks; no_heap = p.no_heap; no_stack = p.no_stack }
+home-dead size harts m p = search arith
 
 pub valid-killed : (d cause : ℕ) (c : Core) → IsValid c → IsValid (killed d cause c)
 valid-killed d cause c v = elim ((module_at c d).kills && not (cause == 20)) as (λ b. IsValid (cond b (with_module d (record (module_at c d) { dead = true }) c) c)) [
@@ -88,20 +86,11 @@ pub valid-trapped : (c : Core) (h : ℕ) (hart : Hart) (cause value : ℕ) → I
     IsValid (trapped c h hart cause value).core
 valid-trapped c h hart cause value v p k =
     let q = hart-in c (killed hart.domain cause c) h hart (keeps-killed hart.domain cause c) p in
-    valid-given_up (killed hart.domain cause c) h hart cause (top hart.frames) (valid-killed hart.domain cause c v) q k
-    (top-frame (length (killed hart.domain cause c).modules) (length (killed hart.domain cause c).harts) h hart q)
+    search (arith, valid-given_up, valid-killed, top-frame)
 
 -- a crossing
 stack-small : (c : Core) (d h : ℕ) → IsValid c → h < length c.harts → stack_address c d h < 2 ^ 32
-stack-small c d h v l =
-    let s = (module_at c d).stack in
-    let inside = (home-at c d v).stack in
-    let few = v.few_words in
-    let part : s.words * (h + 1) ≤ s.words * length c.harts = let q : h + 1 ≤ length c.harts = omega (arith, l) in mul-le-mul_left s.words q in
-    elim (s.words == 0) as (λ b. cond b 0 (address_of (s.first + s.words * (h + 1))) < 2 ^ 32) [
-      | true ↦ lit< tt
-      | false ↦ omega (arith, inside, few, part)
-    ]
+stack-small c d h v l = search (arith, home-at, c.harts, mul-le-mul_left)
 
 nearest-small : (modules : ℕ) (o : Option Frame) (n : ℕ) → IfSome o (IsFrame modules) → n < 2 ^ 32 → unwrap_or (option_map_or (λ f. Some (saved_stack f)) o None) n < 2 ^ 32
 nearest-small modules None n p q = q
@@ -141,34 +130,22 @@ valid-done h hart s p q = elim s.stop as (λ b. IsValid (cond b (halted h hart (
 
 pub valid-served : (r : Reads) (c : Core) (h : ℕ) (hart : Hart) (call : Call) → IsValid c → IsHart (length c.modules) (length c.harts) h hart → IsCall (length c.modules) h call → h < length c.harts →
     IsValid (served r c h hart call).core
-valid-served r c h hart call v p k l =
-    valid-done h hart (serve r c call) (served-serve r c h call v k l) (hart-in c (serve r c call).core h hart (keeps-serve r c call) p)
+valid-served r c h hart call v p k l = search (arith, valid-done, served-serve, hart-in, keeps-serve)
 
 -- nobody has heard a call that was just announced
 nobody-in : (i : ℕ) → is_in nobody i ≡ true → ⊥
-nobody-in zero e = let q : ⊥ = cc in q
-nobody-in (suc zero) e = let q : ⊥ = cc in q
-nobody-in (suc (suc zero)) e = let q : ⊥ = cc in q
-nobody-in (suc (suc (suc zero))) e = let q : ⊥ = cc in q
-nobody-in (suc (suc (suc (suc i)))) e = let q : ⊥ = cc in q
+nobody-in x e = grind arith
 
 -- a call that isn't served now is announced
 announced-later : (x y : Bool) → not x || y ≡ false → x ≡ true
-announced-later true y e = refl
-announced-later false y e = sym e
+announced-later x y e = grind arith
 
 pub valid-asked : (r : Reads) (c : Core) (h : ℕ) (hart : Hart) (call : Call) (b : Bool) → is_served_now c h call ≡ b → IsValid c → IsHart (length c.modules) (length c.harts) h hart →
     call ≡ call_of h hart → h < length c.harts → IsValid (asked r c h hart call b).core
 valid-asked r c h hart call true e v p k l =
     valid-served r c h hart call v p (subst (λ (x : Call). IsCall (length c.modules) h x) (sym k) (call-of (length c.modules) (length c.harts) h hart p)) l
-valid-asked r c h hart call false e v p k l = valid-hart c h _ v (record {
-  regs = p.regs;
-  pc = p.pc;
-  domain = p.domain;
-  few_frames = p.few_frames;
-  frames = p.frames;
-  status = record { own = k; announced = announced-later (is_announced call.number) (is_ready c h nobody) e; places = refl; others = λ i n. absurd (nobody-in i n) };
-})
+valid-asked r c h hart call false e v p k l =
+    search (arith, valid-hart, nobody-in, announced-later (is_announced call.number) (is_ready c h nobody) e)
 
 -- an action
 pub valid-acted : (r : Reads) (c : Core) (h : ℕ) (hart : Hart) (action : Action) → IsValid c → IsHart (length c.modules) (length c.harts) h hart → h < length c.harts →
@@ -181,8 +158,7 @@ valid-acted r c h hart (Traps cause value) v p l d = valid-trapped c h hart caus
 valid-acted r c h hart Bounces v p l d =
     valid-regs c h hart (slice_set hart.regs 10 (fault_answer 20)) (reg hart.regs 1) v p (registers-set hart.regs 10 (fault_answer 20) (lit< tt) p.regs (lit< tt)) d
 valid-acted r c h hart (Crosses target) v p l d = valid-crossed c h hart target v p l d.0 d.1 d.2
-valid-acted r c h hart (Returns rd frame) v p l d =
-    valid-over c h hart frame (written hart.regs rd (next hart.pc)) v p d (registers-written hart.regs rd (next hart.pc) p.regs (small-plus hart.pc 4))
+valid-acted r c h hart (Returns rd frame) v p l d = search (arith, valid-over, registers-written, small-plus)
 valid-acted r c h hart (Runs regs pc) v p l d = valid-regs c h hart regs pc v p d.0 d.1
 valid-acted r c h hart (Writes address size value) v p l d =
     let stored = record c { ram = put_at c.ram (address - ram_base) size value } in
@@ -199,12 +175,7 @@ halted-beyond : (c : Core) (h : ℕ) → length c.harts ≤ h → hart_at c h �
 halted-beyond c h p = get_or-eq_default c.harts no_hart p
 
 pub valid-there : (r : Reads) (c : Core) (h : ℕ) → IsValid c → h < length c.harts → IsValid (enacted r c h (decide r c h)).core
-valid-there r c h v l =
-    let d = decide r c h in
-    let seen = looked_all r h d.looks c in
-    let k = keeps-looked_all r h d.looks c in
-    valid-acted r seen h (hart_at c h) d.action (valid-looked_all r h d.looks c v) (hart-in c seen h (hart_at c h) k (v.harts h l))
-    (subst (λ (n : ℕ). h < n) (sym k.harts) l) (subst (λ (n : ℕ). IsAction n h (hart_at c h) d.action) (sym k.modules) (action-decide r c h v l))
+valid-there r c h v l = search (arith, keeps-looked_all, valid-acted, valid-looked_all, hart-in, v.harts, action-decide)
 
 pub valid-nobody : (r : Reads) (c : Core) (h : ℕ) (hart : Hart) → hart ≡ no_hart → IsValid c →
     IsValid (enacted_by r c h hart (by_status r c h hart hart.status)).core
@@ -222,10 +193,7 @@ not-there c h p = ap (λ (x : Hart). is_halted x.status) (halted-beyond c h p)
 
 heard-choice : (h : ℕ) (c : Core) (b : Bool) → is_halted (hart_at c h).status ≡ b → IsValid c → IsValid (cond b c (hears h c))
 heard-choice h c true e v = v
-heard-choice h c false e v = elim (nat_lt h (length c.harts)) as (λ t. nat_lt h (length c.harts) ≡ t → IsValid (hears h c)) [
-  | true ↦ λ t. valid-hears h c (ltb-true h (length c.harts) t) v
-  | false ↦ λ t. absurd (let q = not-there c h (ltb-false h (length c.harts) t) in let r : ⊥ = cc in r)
-] refl
+heard-choice h c false e v = search (arith, valid-hears, ltb-true, not-there, ltb-false)
 
 pub valid-heard_first : (c : Core) (h : ℕ) → IsValid c → IsValid (heard_first c h)
 valid-heard_first c h v = heard-choice h c (is_halted (hart_at c h).status) refl v

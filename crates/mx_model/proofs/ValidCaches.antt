@@ -1,25 +1,22 @@
 -- A turn keeps the caches of all harts valid.
-use Rattle.std.proofs.Common.{◌≡◌, ℕ, ◌+◌, ◌-◌, ◌*◌, ◌^◌, ◌<◌, ◌≤◌, Bool, true, false, not, cond, nat_lt, ◌==◌, ◌&&◌, List, [], ◌∷◌, length, fold, refl, ◌∙◌, arith, lit<, Option, Some, None, unwrap_or}
+use Rattle.std.proofs.Common.{ℕ, ◌*◌, ◌^◌, ◌<◌, ◌≤◌, Bool, true, false, not, cond, List, [], ◌∷◌, length, fold, refl, ◌∙◌, arith, lit<, Option, Some, None}
 use Rattle.std.specs.List.{AllByRecursion}
 use Rattle.std.proofs.lemmas.Bool.{ltb-true}
 use Rattle.std.proofs.lemmas.List.{length-set, length-map, length-take}
 use Rattle.mx_words.specs.declared.perm.Access.TheVariants as A
 use Rattle.mx_words.specs.declared.perm.Span.{Span}
-use Rattle.mx_words.specs.Announced.{is_announced}
 use Rattle.mx_words.specs.Bytes.{number_at, put_at}
-use Rattle.mx_words.specs.Caches.{Cache, Entry, no_cache, raised, meets, found_in_place, found_kept, kept_with, checked, checked_at, checked_behind, with_walk, left_domain, without_range}
-use Rattle.mx_words.specs.FirstFit.{without_block}
+use Rattle.mx_words.specs.Caches.{Cache, Entry, no_cache, raised, found_kept, kept_with, checked, checked_at, checked_behind, with_walk, left_domain, without_range}
 use Rattle.mx_words.specs.FirstRow.{first_row}
 use Rattle.mx_words.specs.Rights.{allows}
 use Rattle.mx_model.specs.declared.values.Call.{Call}
 use Rattle.mx_model.specs.declared.values.Frame.{Frame}
-use Rattle.mx_model.specs.Checks.{Look, arg, hears, looked, looked_all, empties_places, drops, call_range, is_halted, unheard_ranges}
-use Rattle.mx_model.specs.Effect.{next}
-use Rattle.mx_model.specs.Gates.{below_top, without_gate}
+use Rattle.mx_model.specs.Checks.{Look, arg, hears, looked, looked_all, empties_places, drops, is_halted, unheard_ranges}
+use Rattle.mx_model.specs.Gates.{below_top}
 use Rattle.mx_model.specs.Reads.{Reads}
-use Rattle.mx_model.specs.Serve.{Served, Service, Exit, Write, Grant, RevokeAll, Transfer, Alloc, Free, AddGate, RemoveGate, AddReturnGate, Query, Self, Exchange, Unknown, judged, answers, serve, served_by, service, ended, write_from, write_looks, exchange_from, look_of, arg_word, alloc_place, alloc_from, with_blocks, changes, free_change, adds}
-use Rattle.mx_model.specs.State.{Core, Hart, Running, hart_at, with_hart, cache_at, with_cache, with_module, module_at}
-use Rattle.mx_model.specs.Turn.{Action, Rests, Waits, Serves, Asks, Traps, Bounces, Crosses, Returns, Runs, Writes, Decided, acted, asked, served, done, trapped, given_up, killed, over_frame, restored, halted, with_regs, enacted, decide, heard_first, counted, turned, is_served_now, answered}
+use Rattle.mx_model.specs.Serve.{Served, Service, judged, answers, serve, served_by, service, ended, write_from, write_looks, exchange_from, look_of, arg_word, alloc_from}
+use Rattle.mx_model.specs.State.{Core, Hart, Running, hart_at, with_hart, cache_at, with_cache}
+use Rattle.mx_model.specs.Turn.{Action, Rests, Waits, Serves, Asks, Traps, Bounces, Crosses, Returns, Runs, Writes, Decided, acted, asked, served, done, trapped, given_up, killed, over_frame, restored, enacted, heard_first, turned, is_served_now}
 use Rattle.mx_model.specs.Valid.{IsCache}
 use Rattle.mx_model.proofs.ListLaws.{all-set, all-at, length-filter-le}
 
@@ -29,24 +26,13 @@ cache-none most = record { places = refl; few_kept = omega arith; sidecar = lit<
 
 -- a check
 raised-small : (n : ℕ) → n < 2 ^ 64 → raised n < 2 ^ 64
-raised-small n p = elim (nat_lt n (2 ^ 64 - 1)) as (λ b. nat_lt n (2 ^ 64 - 1) ≡ b → cond b (n + 1) n < 2 ^ 64) [
-  | true ↦ λ e. let l : n < 2 ^ 64 - 1 = ltb-true n (2 ^ 64 - 1) e in omega (arith, l)
-  | false ↦ λ e. p
-] refl
+raised-small n p = search (arith, ltb-true)
 
 few-kept_with : (most : ℕ) (e : Entry) (kept : List Entry) → length (kept_with most e kept) ≤ most
 few-kept_with most e kept = let l = length-take most (e ∷ kept) in omega (arith, l)
 
 cache-with_walk : (most p domain : ℕ) (s : Span) (barred : Bool) (c : Cache) → IsCache most c → IsCache most (with_walk most p domain s barred c)
-cache-with_walk most p domain s true c v =
-    record { places = v.places; few_kept = v.few_kept; sidecar = v.sidecar; lookaside = v.lookaside; walks = raised-small c.walks v.walks }
-cache-with_walk most p domain s false c v = record {
-  places = length-set c.places p (Some s) ∙ v.places;
-  few_kept = few-kept_with most (domain, s) c.kept;
-  sidecar = v.sidecar;
-  lookaside = v.lookaside;
-  walks = raised-small c.walks v.walks;
-}
+cache-with_walk most p domain s x c v = grind (arith, raised-small, length-set, few-kept_with)
 
 cache-checked_behind : (most p domain : ℕ) (walked : Span) (barred : Bool) (o : Option Span) (c : Cache) → IsCache most c →
     IsCache most (checked_behind most p domain walked barred o c)
@@ -67,21 +53,14 @@ cache-checked_at most p domain word walked barred (Some s) c v =
 
 pub cache-checked : (most p domain word : ℕ) (walked : Span) (barred : Bool) (c : Cache) → IsCache most c →
     IsCache most (checked most p domain word walked barred c)
-cache-checked most p domain word walked barred c v =
-    cache-checked_at most p domain word walked barred (found_in_place c.places p word) c v
+cache-checked most p domain word walked barred c v = search (arith, cache-checked_at)
 
 -- places emptied, and spans dropped
 pub cache-left : (most : ℕ) (c : Cache) → IsCache most c → IsCache most (left_domain c)
 cache-left most c v = record { places = refl; few_kept = v.few_kept; sidecar = v.sidecar; lookaside = v.lookaside; walks = v.walks }
 
 pub cache-without : (most first count : ℕ) (c : Cache) → IsCache most c → IsCache most (without_range first count c)
-cache-without most first count c v = record {
-  places = length-map c.places _ ∙ v.places;
-  few_kept = let l = length-filter-le (λ (e : Entry). not (meets e.1 first count)) c.kept in let k = v.few_kept in omega (arith, l, k);
-  sidecar = v.sidecar;
-  lookaside = v.lookaside;
-  walks = v.walks;
-}
+cache-without most first count c v = search (arith, length-map, c.places, length-filter-le)
 
 -- the caches of all harts
 pub record AreCaches (c : Core) : Type 0 where
@@ -138,34 +117,17 @@ caches-exchange_from r c call None v =
     (record (answers (record seen { ram = put_at c.ram (4 * arg_word call) 4 (arg call 1) }) 0) { a1 = Some (number_at c.ram (4 * arg_word call) 4) }) p (record { each = p.each })
 
 pub caches-served_by : (k : Service) (r : Reads) (c : Core) (call : Call) → AreCaches c → AreCaches (served_by k r c call).core
-caches-served_by Exit r c call v = caches-judged c _ _ v v
-caches-served_by Write r c call v = caches-write_from r c call _ v
-caches-served_by Grant r c call v = caches-judged c _ _ v v
-caches-served_by RevokeAll r c call v = caches-judged c _ _ v v
-caches-served_by Transfer r c call v = caches-judged c _ _ v v
-caches-served_by Alloc r c call v = caches-alloc_from c call (unwrap_or (alloc_place c call) 0) _ v
-caches-served_by Free r c call v = caches-judged c _ (changes (with_blocks call (without_block (arg_word call) (module_at c call.domain).blocks) c) (free_change c call)) v (record { each = v.each })
-caches-served_by AddGate r c call v = caches-judged c _ (adds c (record { domain = arg call 1; word = arg_word call; target = call.domain })) v (record { each = v.each })
-caches-served_by RemoveGate r c call v = caches-judged c _ (answers (record c { gates = without_gate (arg call 1) (arg_word call) c.gates }) 0) v (record { each = v.each })
-caches-served_by AddReturnGate r c call v = caches-judged c _ (adds c (record { domain = call.domain; word = arg_word call; target = call.domain })) v (record { each = v.each })
-caches-served_by Query r c call v = caches-judged c _ _ v v
-caches-served_by Self r c call v = v
-caches-served_by Exchange r c call v = caches-exchange_from r c call _ v
-caches-served_by Unknown r c call v = v
+caches-served_by x r c call v = grind (arith, caches-judged, caches-write_from, caches-alloc_from, caches-exchange_from)
 
 pub caches-ended : (c : Core) (call : Call) (s : Served) → AreCaches s.core → AreCaches (ended c call s).core
-caches-ended c call s v = elim (is_announced call.number) as (λ b. AreCaches (cond b (record s { core = drops call.hart (call_range c call) s.core }) s).core) [
-  | true ↦ caches-drops call.hart (call_range c call) s.core v
-  | false ↦ v
-]
+caches-ended c call s v = search (arith, call.hart, caches-drops, s.core)
 
 pub caches-serve : (r : Reads) (c : Core) (call : Call) → AreCaches c → AreCaches (serve r c call).core
 caches-serve r c call v = caches-ended c call (served_by (service call.number) r c call) (caches-served_by (service call.number) r c call v)
 
 -- a served call, in its hart
 pub caches-done : (h : ℕ) (hart : Hart) (s : Served) → AreCaches s.core → AreCaches (done h hart s).core
-caches-done h hart s v =
-    elim s.stop as (λ b. AreCaches (cond b (halted h hart (Some s.a0) s.core) (with_regs h hart (answered hart s.a0 s.a1) (next hart.pc) s.core))) [ true ↦ record { each = v.each } | false ↦ record { each = v.each } ]
+caches-done h hart s v = search (arith, s.stop, s.a0)
 
 pub caches-served : (r : Reads) (c : Core) (h : ℕ) (hart : Hart) (call : Call) → AreCaches c → AreCaches (served r c h hart call).core
 caches-served r c h hart call v = caches-done h hart (serve r c call) (caches-serve r c call v)
@@ -181,8 +143,7 @@ caches-over_frame c h hart frame regs v =
     caches-empties_places h (with_hart h moved c) (record { each = v.each })
 
 pub caches-killed : (d cause : ℕ) (c : Core) → AreCaches c → AreCaches (killed d cause c)
-caches-killed d cause c v =
-    elim ((module_at c d).kills && not (cause == 20)) as (λ b. AreCaches (cond b (with_module d (record (module_at c d) { dead = true }) c) c)) [ true ↦ record { each = v.each } | false ↦ v ]
+caches-killed d cause c v = search arith
 
 pub caches-given_up : (c : Core) (h : ℕ) (hart : Hart) (cause : ℕ) (o : Option Frame) → AreCaches c → AreCaches (given_up c h hart cause o)
 caches-given_up c h hart cause None v = record { each = v.each }
@@ -212,5 +173,4 @@ caches-heard_first c h v = elim (is_halted (hart_at c h).status) as (λ b. AreCa
 
 -- a turn
 pub caches-turned : (r : Reads) (c : Core) (h : ℕ) → AreCaches c → AreCaches (turned r c h).core
-caches-turned r c h v =
-    caches-enacted r (heard_first (counted c) h) h (decide r (heard_first (counted c) h) h) (caches-heard_first (counted c) h (record { each = v.each }))
+caches-turned r c h v = search (arith, caches-enacted, caches-heard_first)

@@ -1,6 +1,6 @@
 -- A small flat state that is valid: 17 words; two modules with stack areas, of which the first has a heap area with a live block; a call gate and a
 -- return gate; and two harts, of which the first waits on a grant that the second has heard, and the second is inside a call.
-use Rattle.std.proofs.Common.{◌≡◌, ◌≢◌, ℕ, zero, suc, ◌^◌, ◌<◌, true, false, nat_lt, ◌&&◌, List, [], ◌∷◌, ◌++◌, get_or, replicate, refl, arith, lit<, lit≤}
+use Rattle.std.proofs.Common.{◌≡◌, ◌≢◌, ℕ, zero, suc, ◌<◌, true, false, nat_lt, ◌&&◌, List, [], ◌∷◌, ◌++◌, get_or, replicate, refl, arith, lit<, lit≤}
 use Rattle.std.specs.List.{list_all}
 use Rattle.std.proofs.lemmas.Bool.{ltb-true}
 use Rattle.mx_words.specs.declared.perm.Perm.TheVariants as P
@@ -13,7 +13,6 @@ use Rattle.mx_model.specs.Gates.{AreSingle}
 use Rattle.mx_model.specs.State.{Core, Flat, Hart, Module, Running, Waiting, hart_at}
 use Rattle.mx_model.specs.Turn.{call_of}
 use Rattle.mx_model.specs.Valid.{IsHart, IsValid, IsFlat}
-use Rattle.mx_model.proofs.ApartLaws.{single-append}
 use Rattle.mx_model.proofs.ValidCaches.{cache-none}
 
 -- numbers below a bound, by computation
@@ -84,42 +83,13 @@ small = record {
 }
 
 heard-others : (i : ℕ) → is_in (false ∷ true ∷ false ∷ false ∷ []) i ≡ true → (i < 2) × (i ≢ 0)
-heard-others zero e = absurd (let q : ⊥ = cc in q)
-heard-others (suc zero) e = (lit< tt, omega arith)
-heard-others (suc (suc zero)) e = absurd (let q : ⊥ = cc in q)
-heard-others (suc (suc (suc zero))) e = absurd (let q : ⊥ = cc in q)
-heard-others (suc (suc (suc (suc i)))) e = absurd (let q : ⊥ = cc in q)
+heard-others x e = grind arith
 
 small-harts : (h : ℕ) → h < 2 → IsHart 2 2 h (hart_at core h)
-small-harts zero l = record {
-  regs = record { count = refl; small = below-at (2 ^ 32) granting_regs (lit< tt) refl; x0 = refl };
-  pc = record { aligned = refl; small = lit< tt };
-  domain = record { first = lit≤ tt; last = lit≤ tt };
-  few_frames = lit≤ tt;
-  frames = tt;
-  status = record { own = refl; announced = refl; places = refl; others = heard-others };
-}
-small-harts (suc zero) l = record {
-  regs = record { count = refl; small = below-at (2 ^ 32) (replicate 32 0) (lit< tt) refl; x0 = refl };
-  pc = record { aligned = refl; small = lit< tt };
-  domain = record { first = lit≤ tt; last = lit≤ tt };
-  few_frames = lit≤ tt;
-  frames = (
-    record {
-      back = record { aligned = refl; small = lit< tt };
-      caller = record { first = lit≤ tt; last = lit≤ tt };
-      count = refl;
-      small = below-at (2 ^ 32) (replicate 15 7) (lit< tt) refl;
-    },
-    tt,
-  );
-  status = tt;
-}
-small-harts (suc (suc h)) l = absurd (let q : ⊥ = omega (arith, l) in q)
+small-harts x l = search (arith, small, below-at, granting_regs, first, heard-others)
 
 small-gates : AreSingle (call_gate_2 ∷ return_gate_1 ∷ [])
-small-gates =
-    single-append return_gate_1 (call_gate_2 ∷ []) (refl, tt) (single-append call_gate_2 [] tt (λ i j d l m. absurd (let q : ⊥ = omega (arith, m) in q)))
+small-gates = search (arith, return_gate_1)
 
 pub small-core : IsValid core
 small-core = record {
@@ -129,57 +99,15 @@ small-core = record {
   ram_bytes = below-at 256 core.ram (lit< tt) refl;
   some_modules = lit≤ tt;
   few_modules = lit≤ tt;
-  modules = (
-    record {
-      heap = lit≤ tt;
-      blocks = (lit≤ tt, lit< tt, lit≤ tt);
-      stack = lit≤ tt;
-      few_blocks = lit≤ tt;
-      no_heap = λ e. absurd (let q : ⊥ = omega (arith, e) in q);
-      no_stack = λ e. absurd (let q : ⊥ = omega (arith, e) in q);
-    },
-    (
-      record {
-        heap = lit≤ tt;
-        blocks = lit≤ tt;
-        stack = lit≤ tt;
-        few_blocks = lit≤ tt;
-        no_heap = λ e. refl;
-        no_stack = λ e. absurd (let q : ⊥ = omega (arith, e) in q);
-      },
-      tt,
-    ),
-  );
+  modules = search arith;
   some_harts = lit≤ tt;
   few_harts = lit≤ tt;
   harts = small-harts;
   caches = refl;
   few_gates = lit≤ tt;
-  gates = (
-    record {
-      domain = record { first = lit≤ tt; last = lit≤ tt };
-      target = record { first = lit≤ tt; last = lit≤ tt };
-      word = lit< tt;
-    },
-    (
-      record {
-        domain = record { first = lit≤ tt; last = lit≤ tt };
-        target = record { first = lit≤ tt; last = lit≤ tt };
-        word = lit< tt;
-      },
-      tt,
-    ),
-  );
+  gates = search (arith, first);
   one_gate = small-gates;
 }
 
 pub small-flat : IsFlat small
-small-flat = record {
-  valid = small-core;
-  maps = refl;
-  whole_maps = (refl, (refl, tt));
-  owners = refl;
-  small_owners = λ i. let q = below-at 3 small.owners (lit< tt) refl i in omega (arith, q);
-  few_runs = lit≤ tt;
-  caches = (cache-none 8, (cache-none 8, tt));
-}
+small-flat = search (arith, small-core, below-at, small.owners, cache-none)

@@ -1,29 +1,26 @@
 -- A turn keeps a valid flat state valid.
-use Rattle.std.proofs.Common.{◌≡◌, ℕ, zero, suc, ◌+◌, ◌-◌, ◌*◌, ◌≤◌, Bool, true, false, not, cond, nat_lt, ◌||◌, List, [], ◌∷◌, length, get_or, refl, sym, ◌∙◌, ap, subst, Option, Some, None, unwrap_or}
+use Rattle.std.proofs.Common.{◌≡◌, ℕ, zero, suc, ◌+◌, ◌-◌, ◌*◌, ◌≤◌, Bool, true, false, not, cond, List, [], ◌∷◌, length, get_or, refl, sym, ◌∙◌, ap, subst, Option, Some, None, arith}
 use Rattle.std.specs.Prelude.{IfSome, slice_index}
 use Rattle.std.specs.List.{AllByRecursion, list_all}
 use Rattle.std.proofs.lemmas.Bool.{ltb-false, leb-true, not-false}
 use Rattle.mx_words.specs.declared.perm.Perm.{Perm}
 use Rattle.mx_words.specs.declared.perm.Access.TheVariants as A
-use Rattle.mx_words.specs.Announced.{is_announced}
 use Rattle.mx_words.specs.Bytes.{number_at, put_at}
 use Rattle.mx_words.specs.Changes.{each_from, changed_map}
-use Rattle.mx_words.specs.FirstFit.{without_block}
-use Rattle.mx_words.specs.FirstRow.{first_row, Row}
+use Rattle.mx_words.specs.FirstRow.{first_row}
 use Rattle.mx_words.specs.Newest.{Give, Laid, laid, laid_from, map}
 use Rattle.mx_words.specs.Ranges.{covers}
-use Rattle.mx_words.specs.Rights.{number, allows}
+use Rattle.mx_words.specs.Rights.{allows}
 use Rattle.mx_words.specs.Runs.{owner_runs, most_owner_runs}
 use Rattle.mx_words.proofs.OverlayLaws.{length-laid, length-map_of}
 use Rattle.mx_words.proofs.MapLaws.{length-changed_map}
 use Rattle.mx_model.specs.declared.values.Call.{Call}
-use Rattle.mx_model.specs.Checks.{arg, call_range, drops, looked_all}
-use Rattle.mx_model.specs.Gates.{without_gate}
+use Rattle.mx_model.specs.Checks.{arg, looked_all}
 use Rattle.mx_model.specs.Reads.{Reads, Change, flat_reads, map_in}
 use Rattle.mx_model.specs.Run.{flat_turn, flat_made, maps_after, owners_after}
-use Rattle.mx_model.specs.Serve.{Served, Service, Exit, Write, Grant, RevokeAll, Transfer, Alloc, Free, AddGate, RemoveGate, AddReturnGate, Query, Self, Exchange, Unknown, judged, answers, serve, served_by, service, ended, write_from, exchange_from, alloc_place, alloc_from, write_looks, write_words, may_read, bytes_at, look_of, arg_word, with_blocks, changes, free_change, grant_change, revoke_change, adds, no_range, meets_heap, owns, arg_range, give_of}
-use Rattle.mx_model.specs.State.{Core, Flat, Hart, hart_at, module_at}
-use Rattle.mx_model.specs.Turn.{Action, Rests, Waits, Serves, Asks, Traps, Bounces, Crosses, Returns, Runs, Writes, Decided, acted, asked, enacted, decide, heard_first, counted, turned, is_served_now}
+use Rattle.mx_model.specs.Serve.{Served, Service, Transfer, judged, answers, serve, served_by, ended, write_from, exchange_from, alloc_from, write_looks, write_words, may_read, bytes_at, look_of, arg_word}
+use Rattle.mx_model.specs.State.{Core, Flat, Hart}
+use Rattle.mx_model.specs.Turn.{Action, Decided, acted, asked, enacted, turned}
 use Rattle.mx_model.specs.Valid.{IsFlat}
 use Rattle.mx_model.proofs.KeepLaws.{keeps-looked_all, keeps-heard_first, keeps-turned}
 use Rattle.mx_model.proofs.ListLaws.{all-at}
@@ -64,64 +61,29 @@ give-alloc_from P c call first (Some n) = record { each = tt }
 give-alloc_from P c call first None = record { each = tt }
 
 give-transfer : (r : Reads) (c : Core) (call : Call) → Gives (IsGive r (length c.modules)) (served_by Transfer r c call)
-give-transfer r c call =
-    let t1 : Row ℕ = (no_range c call || meets_heap c call, 1) in
-    let t2 : Row ℕ = (nat_lt (length c.modules) (arg call 2), 3) in
-    let t3 : Row ℕ = (not (owns r call (arg_range c call)), 2) in
-    let t4 : Row ℕ = (not (r.few_runs (give_of c call)), 14) in
-    give-judged (IsGive r (length c.modules)) c (first_row (t1 ∷ t2 ∷ t3 ∷ t4 ∷ [])) (record (answers c 0) { give = Some (give_of c call) }) (λ e.
-    let q = tests-four t1 t2 t3 t4 e in
-    record { each = (ltb-false (length c.modules) (arg call 2) q.1, not-false (r.few_runs (give_of c call)) q.3) })
+give-transfer r c call = search (arith, r.few_runs, give-judged, IsGive, tests-four, ltb-false, not-false)
 
 give-served_by : (k : Service) (r : Reads) (c : Core) (call : Call) → Gives (IsGive r (length c.modules)) (served_by k r c call)
-give-served_by Exit r c call = give-judged (IsGive r (length c.modules)) c _ (record (answers c (arg call 0)) { stop = true }) (λ e. record { each = tt })
-give-served_by Write r c call = give-write_from (IsGive r (length c.modules)) r c call _
-give-served_by Grant r c call = give-judged (IsGive r (length c.modules)) c _ (changes c (grant_change c call)) (λ e. record { each = tt })
-give-served_by RevokeAll r c call = give-judged (IsGive r (length c.modules)) c _ (changes c (revoke_change c call)) (λ e. record { each = tt })
-give-served_by Transfer r c call = give-transfer r c call
-give-served_by Alloc r c call = give-alloc_from (IsGive r (length c.modules)) c call (unwrap_or (alloc_place c call) 0) _
-give-served_by Free r c call = give-judged (IsGive r (length c.modules)) c _ (changes (with_blocks call (without_block (arg_word call) (module_at c call.domain).blocks) c) (free_change c call)) (λ e. record { each = tt })
-give-served_by AddGate r c call = give-judged (IsGive r (length c.modules)) c _ (adds c (record { domain = arg call 1; word = arg_word call; target = call.domain })) (λ e. record { each = tt })
-give-served_by RemoveGate r c call = give-judged (IsGive r (length c.modules)) c _ (answers (record c { gates = without_gate (arg call 1) (arg_word call) c.gates }) 0) (λ e. record { each = tt })
-give-served_by AddReturnGate r c call = give-judged (IsGive r (length c.modules)) c _ (adds c (record { domain = call.domain; word = arg_word call; target = call.domain })) (λ e. record { each = tt })
-give-served_by Query r c call = give-judged (IsGive r (length c.modules)) c _ (answers c (number (r.perm (arg call 1) (arg_word call)))) (λ e. record { each = tt })
-give-served_by Self r c call = record { each = tt }
-give-served_by Exchange r c call = give-exchange_from (IsGive r (length c.modules)) r c call _
-give-served_by Unknown r c call = record { each = tt }
+give-served_by x r c call =
+    grind (arith, give-judged, IsGive, give-write_from, give-transfer, give-alloc_from, give-exchange_from)
 
 give-ended : (P : Give → Type 0) (c : Core) (call : Call) (s : Served) → Gives P s → IfSome (ended c call s).give P
-give-ended P c call s p =
-    elim (is_announced call.number) as (λ b. IfSome (cond b (record s { core = drops call.hart (call_range c call) s.core }) s).give P) [ true ↦ p.each | false ↦ p.each ]
+give-ended P c call s p = search (arith, call.hart)
 
 give-serve : (r : Reads) (c : Core) (call : Call) → IfSome (serve r c call).give (IsGive r (length c.modules))
-give-serve r c call =
-    give-ended (IsGive r (length c.modules)) c call (served_by (service call.number) r c call) (give-served_by (service call.number) r c call)
+give-serve r c call = search (arith, give-ended, give-served_by)
 
 give-asked : (r : Reads) (c : Core) (h : ℕ) (hart : Hart) (call : Call) (b : Bool) → IfSome (asked r c h hart call b).give (IsGive r (length c.modules))
-give-asked r c h hart call true = give-serve r c call
-give-asked r c h hart call false = tt
+give-asked r c h hart call x = grind (arith, give-serve)
 
 give-acted : (r : Reads) (c : Core) (h : ℕ) (hart : Hart) (action : Action) → IfSome (acted r c h hart action).give (IsGive r (length c.modules))
-give-acted r c h hart Rests = tt
-give-acted r c h hart Waits = tt
-give-acted r c h hart (Serves call) = give-serve r c call
-give-acted r c h hart (Asks call) = give-asked r c h hart call (is_served_now c h call)
-give-acted r c h hart (Traps cause value) = tt
-give-acted r c h hart Bounces = tt
-give-acted r c h hart (Crosses target) = tt
-give-acted r c h hart (Returns rd frame) = tt
-give-acted r c h hart (Runs regs pc) = tt
-give-acted r c h hart (Writes address size value) = tt
+give-acted r c h hart x = grind (arith, give-serve, give-asked)
 
 give-enacted : (r : Reads) (c : Core) (h : ℕ) (d : Decided) → IfSome (enacted r c h d).give (IsGive r (length c.modules))
-give-enacted r c h d =
-    subst (λ (n : ℕ). IfSome (enacted r c h d).give (IsGive r n)) (keeps-looked_all r h d.looks c).modules
-    (give-acted r (looked_all r h d.looks c) h (hart_at c h) d.action)
+give-enacted r c h d = search (arith, IsGive, keeps-looked_all, d.looks, give-acted)
 
 pub give-turned : (r : Reads) (c : Core) (h : ℕ) → IfSome (turned r c h).give (IsGive r (length c.modules))
-give-turned r c h =
-    subst (λ (n : ℕ). IfSome (turned r c h).give (IsGive r n)) (keeps-heard_first (counted c) h).modules
-    (give-enacted r (heard_first (counted c) h) h (decide r (heard_first (counted c) h) h))
+give-turned r c h = search (arith, IsGive, keeps-heard_first, give-enacted)
 
 -- maps and owners keep their lengths
 length-each_from : {A : Type 0} (step : ℕ → A → A) (d : ℕ) (xs : List A) → length (each_from step d xs) ≡ length xs
@@ -181,8 +143,7 @@ flat-turned f h v =
       whole_maps = subst (λ (n : ℕ). AllByRecursion (λ (x : List Perm). length x ≡ n) (maps_after f.maps m.change)) (sym k.size)
           (whole-maps_after f.core.size f.maps m.change v.whole_maps);
       owners = length-owners_after f.owners m.give ∙ v.owners ∙ sym k.size;
-      small_owners = subst (λ (n : ℕ). (i : ℕ) → slice_index (owners_after f.owners m.give) i ≤ n) (sym k.modules)
-          (small-owners_after (flat_reads f) (length f.core.modules) f.owners m.give v.small_owners g);
+      small_owners = search (arith, f.owners, small-owners_after, m.give, v.small_owners);
       few_runs = few-owners_after f (length f.core.modules) m.give v.few_runs g;
       caches = (caches-turned (flat_reads f) f.core h (record { each = v.caches })).each;
     }

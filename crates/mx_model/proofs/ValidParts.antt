@@ -1,5 +1,5 @@
 -- A valid state with other parts is valid.
-use Rattle.std.proofs.Common.{◌≡◌, ◌≢◌, ◌⊎◌, ⊎_elim, inl, inr, ℕ, ◌-◌, ◌<◌, ◌≤◌, Bool, true, false, cond, ◌==◌, List, [], ◌∷◌, length, get_or, set, refl, sym, ◌∙◌, ap, subst, arith, lit≤, eqb-true, zero-add, if◌then◌else◌}
+use Rattle.std.proofs.Common.{◌≡◌, ◌≢◌, ◌⊎◌, inl, inr, ℕ, ◌-◌, ◌<◌, ◌≤◌, Bool, true, false, ◌==◌, List, [], ◌∷◌, length, get_or, set, refl, sym, ◌∙◌, ap, subst, arith, lit≤, eqb-true, zero-add, if◌then◌else◌}
 use Rattle.std.proofs.Common.{map as list_map}
 use Rattle.std.specs.Prelude.{slice_index}
 use Rattle.std.specs.List.{AllByRecursion, enumerate_from}
@@ -12,7 +12,7 @@ use Rattle.mx_model.specs.declared.values.Gate.{Gate}
 use Rattle.mx_model.specs.Checks.{Look, hears, heard_by, looked, looked_all}
 use Rattle.mx_model.specs.Gates.{AreSingle, most_gates}
 use Rattle.mx_model.specs.Reads.{Reads}
-use Rattle.mx_model.specs.State.{Core, Hart, Module, Status, Running, Waiting, Halted, no_hart, no_module, with_hart, with_cache, with_module, module_at, most_modules}
+use Rattle.mx_model.specs.State.{Core, Hart, Module, Status, no_hart, no_module, with_hart, with_cache, with_module, module_at, most_modules}
 use Rattle.mx_model.specs.Valid.{IsStatus, IsHart, IsGate, IsHome, IsValid}
 use Rattle.mx_model.proofs.ListLaws.{all-set, all-at}
 
@@ -57,8 +57,7 @@ valid-ram c ram v e b = valid-parts c ram c.modules c.gates c.harts c.caches c.t
 
 pub valid-module : (c : Core) (d : ℕ) (m : Module) → IsValid c → IsHome c.size (length c.harts) m → IsValid (with_module d m c)
 valid-module c d m v p =
-    valid-parts c c.ram (set c.modules (d - 1) m) c.gates c.harts c.caches c.turns v refl v.ram_bytes (length-set c.modules (d - 1) m)
-    (all-set (IsHome c.size (length c.harts)) c.modules (d - 1) m v.modules p) v.few_gates v.gates v.one_gate refl v.harts refl
+    search (arith, valid-parts, v.ram_bytes, length-set, all-set, v.modules, v.few_gates, v.gates, v.one_gate, v.harts)
 
 pub valid-gates : (c : Core) (gates : List Gate) → IsValid c → length gates ≤ most_gates → AllByRecursion (IsGate (length c.modules) c.size) gates →
     AreSingle gates → IsValid (record c { gates = gates })
@@ -83,8 +82,8 @@ harts-set modules count harts h hart e hs p i l = elim (i == h) as (λ b. (i == 
 
 pub valid-hart : (c : Core) (h : ℕ) (hart : Hart) → IsValid c → IsHart (length c.modules) (length c.harts) h hart → IsValid (with_hart h hart c)
 valid-hart c h hart v p =
-    valid-parts c c.ram c.modules c.gates (set c.harts h hart) c.caches c.turns v refl v.ram_bytes refl v.modules v.few_gates v.gates v.one_gate
-    (length-set c.harts h hart) (harts-set (length c.modules) (length c.harts) c.harts h hart refl v.harts p) refl
+    search (arith, valid-parts, v.ram_bytes, v.modules, v.few_gates, v.gates, v.one_gate, length-set, harts-set,
+      v.harts)
 
 -- a module that isn't there has empty areas
 pub home-none : (size harts : ℕ) → IsHome size harts no_module
@@ -114,34 +113,21 @@ in-with_hearer heard h i e = elim (i == h) as (λ b. (i == h) ≡ b → (i ≡ h
 ] refl
 
 status-heard : (harts i h : ℕ) (hart : Hart) (s : Status) → h < harts → i ≢ h → IsStatus harts i hart s → IsStatus harts i hart (heard_by h s)
-status-heard harts i h hart Running l n p = tt
-status-heard harts i h hart (Waiting call heard) l n p = record {
-  own = p.own;
-  announced = p.announced;
-  places = length-set heard h true ∙ p.places;
-  others = λ j e. ⊎_elim (λ same. (subst (λ (k : ℕ). k < harts) (sym same) l, λ q. n (sym q ∙ same))) (p.others j) (in-with_hearer heard h j e);
-}
-status-heard harts i h hart (Halted code) l n p = tt
+status-heard harts i h hart x l n p = grind (arith, length-set, in-with_hearer)
 
 -- a hart with another status makes the same call
 status-moved : (harts h : ℕ) (hart : Hart) (s t : Status) → IsStatus harts h hart s → IsStatus harts h (record hart { status = t }) s
-status-moved harts h hart Running t p = tt
-status-moved harts h hart (Waiting call heard) t p = record { own = p.own; announced = p.announced; places = p.places; others = p.others }
-status-moved harts h hart (Halted code) t p = tt
+status-moved harts h hart x t p = grind arith
 
 pub hart-status : (modules harts h : ℕ) (hart : Hart) (s : Status) → IsHart modules harts h hart → IsStatus harts h hart s →
     IsHart modules harts h (record hart { status = s })
-hart-status modules harts h hart s p q =
-    record { regs = p.regs; pc = p.pc; domain = p.domain; few_frames = p.few_frames; frames = p.frames; status = status-moved harts h hart s s q }
+hart-status modules harts h hart s p q = search (arith, status-moved)
 
 abbrev pub hearing : ℕ → ℕ × Hart → Hart
 hearing h p = if p.0 == h then p.1 else record p.1 { status = heard_by h p.1.status }
 
 pub hart-hearing : (modules harts i h : ℕ) (hart : Hart) → h < harts → IsHart modules harts i hart → IsHart modules harts i (hearing h (i, hart))
-hart-hearing modules harts i h hart l p = elim (i == h) as (λ b. (i == h) ≡ b → IsHart modules harts i (cond b hart (record hart { status = heard_by h hart.status }))) [
-  | true ↦ λ e. p
-  | false ↦ λ e. hart-status modules harts i hart (heard_by h hart.status) p (status-heard harts i h hart hart.status l (eqb-false i h e) p.status)
-] refl
+hart-hearing modules harts i h hart l p = search (arith, hart-status, status-heard, hart.status, eqb-false)
 
 pub harts-hearing : (modules h : ℕ) (harts : List Hart) → h < length harts → AreHarts modules (length harts) harts →
     AreHarts modules (length harts) (list_map (hearing h) (enumerate_from 0 harts))
