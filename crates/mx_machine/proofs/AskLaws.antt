@@ -1,5 +1,5 @@
 -- Calls that are asked for: announced, waited on, and served.
-use Rattle.std.proofs.Common.{◌≡◌, ◌≢◌, ℕ, ◌<◌, Bool, true, false, not, ◌||◌, List, refl, sym, ap, subst, ◌∙◌, Option, Some, None}
+use Rattle.std.proofs.Common.{◌≡◌, ◌≢◌, ℕ, ◌<◌, Bool, true, false, not, ◌||◌, List, refl, sym, ap, subst, ◌∙◌, Option, Some, None, arith}
 use Rattle.std.specs.Prelude.{IfSome}
 use Rattle.std.proofs.lemmas.List.{set-get_or}
 use Rattle.mx_words.specs.Announced.{is_announced}
@@ -7,26 +7,24 @@ use Rattle.mx_words.specs.Hearing.{nobody}
 use Rattle.mx_check.specs.declared.flight.Flight.{Flight}
 use Rattle.mx_check.specs.Calls.{is_ready}
 use Rattle.mx_check.specs.Harts.{Kept, kept_at, announced}
-use Rattle.mx_model.specs.declared.values.Call.{Call}
 use Rattle.mx_model.specs.declared.values.TurnKind.TheVariants as T
 use Rattle.mx_model.specs.Events.{Events, no_events}
-use Rattle.mx_model.specs.State.{Core, Waiting, with_hart}
-use Rattle.mx_model.specs.State.{hart_at as seen_at, no_hart as nobody_seen}
+use Rattle.mx_model.specs.State.{Waiting, with_hart}
+use Rattle.mx_model.specs.State.{no_hart as nobody_seen}
 use Rattle.mx_model.specs.State.{Hart as Seen}
 use Rattle.mx_model.specs.Turn.{Asks, asked, call_of, is_served_now, served}
-use Rattle.mx_model.specs.Checks.{is_ready as ready_in}
 use Rattle.mx_supervisor.specs.Served.{range_of}
 use Rattle.mx_supervisor.proofs.Answering.{with-harts}
 use Rattle.mx_machine.specs.declared.hart.Hart.{Hart}
 use Rattle.mx_machine.specs.declared.hart.Progress.{Progress}
 use Rattle.mx_machine.specs.declared.hart.Progress.TheVariants as G
 use Rattle.mx_machine.specs.Actions.{with_kept}
-use Rattle.mx_machine.specs.Harts.{no_held_hart, hart_among, is_halted, own_call, seen, seen_with, status_by}
+use Rattle.mx_machine.specs.Harts.{no_held_hart, hart_among, own_call, seen, seen_with, status_by}
 use Rattle.mx_machine.specs.Held.{Held, rest_of}
 use Rattle.mx_machine.specs.Made.{IsMade, core_in, made_by, hart_in, reads_of}
 use Rattle.mx_machine.specs.Serving.{IsServing}
 use Rattle.mx_machine.specs.Steps.{waits}
-use Rattle.mx_machine.specs.Ties.{Fits, FliesWhileWaiting, IsFlying, IsTied, MayAct, MayRun}
+use Rattle.mx_machine.specs.Ties.{Fits, IsFlying, IsTied, MayAct, MayRun}
 use Rattle.mx_machine.proofs.CoreLaws.{core-kept, core-step}
 use Rattle.mx_machine.proofs.MadeLaws.{kept-there, may-look, running-kept}
 use Rattle.mx_machine.proofs.FitLaws.{IsChange, changed, count-step, fits-change, others-step, own-step}
@@ -39,22 +37,7 @@ call-is m h r = ap (call_of h) (seen-running m h r)
 
 -- a call that isn't announced is served
 pub serving-plain : (m : Held) (h : ℕ) → MayRun m h → is_announced (own_call h (hart_among m.harts h)).number ≡ false → IsServing m h (own_call h (hart_among m.harts h))
-serving-plain m h r e = record {
-  sound = r.act.fits.sound;
-  count = r.act.fits.count;
-  few = r.act.fits.few;
-  stacks = r.act.fits.stacks;
-  dead = r.act.fits.dead;
-  there = r.act.there;
-  own = refl;
-  domain = r.act.domain;
-  may = record { announced = λ q. absurd (let z : ⊥ = cc in z); other = λ q. may-look m h r };
-  bars = bars-alike m h r.act.fits.count (λ i ne. r.act.fits.ties i);
-  running = running-kept m h r;
-  kept_domain = (r.act.fits.ties h).domain;
-  others = λ i ne. r.act.fits.ties i;
-  quiet = r.act.fits.quiet;
-}
+serving-plain m h r e = search (arith, may-look, bars-alike, r.act.fits.count, r.act.fits.ties, running-kept)
 
 -- a waiting hart's call that is ready
 flying-range : (range : ℕ × ℕ) (o : Option Flight) → IsFlying range o → IfSome o (λ f. (f.first ≡ range.0) × (f.count ≡ range.1))
@@ -64,29 +47,7 @@ flying-range range (Some f) e = (e.first, e.count)
 pub serving-waiting : (m : Held) (h : ℕ) → MayAct m h → (hart_among m.harts h).progress ≡ G.Waiting → is_announced (own_call h (hart_among m.harts h)).number ≡ true →
     is_ready h m.parts.harts ≡ true → IsServing m h (own_call h (hart_among m.harts h))
 serving-waiting m h a w n e =
-    let x = hart_among m.harts h in
-    let k = kept_at m.parts.harts h in
-    let flying : IsFlying (range_of m.parts (own_call h x)) k.flight =
-    subst (λ (p : Progress). FliesWhileWaiting (range_of m.parts (own_call h x)) k.flight p) w (a.fits.ties h).flight in
-    record {
-      sound = a.fits.sound;
-      count = a.fits.count;
-      few = a.fits.few;
-      stacks = a.fits.stacks;
-      dead = a.fits.dead;
-      there = a.there;
-      own = refl;
-      domain = a.domain;
-      may = record {
-        announced = λ q. record { hart = kept-there m h a; ready = e; range = flying-range (range_of m.parts (own_call h x)) k.flight flying };
-        other = λ q. absurd (let z : ⊥ = cc in z);
-      };
-      bars = bars-alike m h a.fits.count (λ i ne. a.fits.ties i);
-      running = (a.fits.ties h).halted ∙ ap is_halted w;
-      kept_domain = (a.fits.ties h).domain;
-      others = λ i ne. a.fits.ties i;
-      quiet = a.fits.quiet;
-    }
+    search (arith, m.harts, m.parts.harts, m.parts, a.fits.ties, kept-there, flying-range, bars-alike, a.fits.count)
 
 -- a call that was just announced
 module _ (m : Held) (h : ℕ) (r : MayRun m h) where
@@ -178,15 +139,11 @@ module _ (m : Held) (h : ℕ) (r : MayRun m h) where
   -- whether it is served at once
   served-if : (b c : Bool) → is_announced (own_call h (hart_among m.harts h)).number ≡ b → is_ready h now_announced.parts.harts ≡ c →
       is_served_now (core_in m) h (own_call h (hart_among m.harts h)) ≡ (not b || c)
-  served-if b c eb ec =
-      ap (λ (z : Bool). not z || ready_in (core_in m) h nobody) eb
-      ∙ ap (λ (z : Bool). not b || z) (ready-now m h range_now.0 range_now.1 r.act.fits r.act.there ∙ ec)
+  served-if b c eb ec = search (arith, ready-now, range_now.0, range_now.1, r.act.fits)
 
   asks-as : (z : Bool) → is_served_now (core_in m) h (own_call h (hart_among m.harts h)) ≡ z →
       made_by m h (Asks (call_of h (hart_in m h))) ≡ asked (reads_of m) (core_in m) h (hart_in m h) (own_call h (hart_among m.harts h)) z
-  asks-as z e =
-      ap (λ (c : Call). asked (reads_of m) (core_in m) h (hart_in m h) c (is_served_now (core_in m) h c)) (call-is m h r)
-      ∙ ap (λ (b : Bool). asked (reads_of m) (core_in m) h (hart_in m h) (own_call h (hart_among m.harts h)) b) e
+  asks-as z e = search (arith, call-is, m.harts)
 
   pub made-waiting : is_announced (own_call h (hart_among m.harts h)).number ≡ true → is_ready h now_announced.parts.harts ≡ false →
       IsMade m now_waiting no_events T.Called (made_by m h (Asks (call_of h (hart_in m h))))
@@ -203,7 +160,4 @@ module _ (m : Held) (h : ℕ) (r : MayRun m h) where
   pub from-announced : (n : Held) (events : Events) →
       IsMade now_announced n events T.Called (served (reads_of now_announced) (core_in now_announced) h (hart_in now_announced h) (own_call h (hart_among m.harts h))) →
       IsMade m n events T.Called (served (reads_of m) (core_in m) h (hart_in m h) (own_call h (hart_among m.harts h)))
-  from-announced n events i =
-      let e = ap (λ (c : Core). served (reads_of m) c h (seen_at c h) (own_call h (hart_among m.harts h))) core-announced in
-      subst (λ d. IsMade m n events T.Called d) e
-      (record { core = i.core; maps = i.maps; owners = i.owners; console = i.console; note = i.note; kind = i.kind })
+  from-announced n events i = grind (arith, m.harts, core-announced)

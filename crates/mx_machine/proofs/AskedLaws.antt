@@ -1,5 +1,5 @@
 -- A call that is asked for, as the code comes to it: the call that was read, announced or not, and the machine in which it is served.
-use Rattle.std.proofs.Common.{◌≡◌, ℕ, true, false, refl, sym, ap, subst, ◌∙◌}
+use Rattle.std.proofs.Common.{◌≡◌, ℕ, true, false, refl, sym, ap, subst, ◌∙◌, arith}
 use Rattle.mx_words.specs.Announced.{is_announced}
 use Rattle.mx_check.specs.Calls.{is_ready}
 use Rattle.mx_check.specs.Conditions.{MayAnnounce}
@@ -21,8 +21,7 @@ use Rattle.mx_machine.proofs.MadeLaws.{kept-there, running-free, running-kept}
 
 -- what is made is made of equal machines, with equal events, and is an equal thing
 pub made-moved : (m n n' : Held) (e e' : Events) (k : TurnKind) (d d' : Made) → n ≡ n' → e ≡ e' → d ≡ d' → IsMade m n e k d → IsMade m n' e' k d'
-made-moved m n n' e e' k d d' p q r i =
-    subst (λ (x : Held). IsMade m x e' k d') p (subst (λ (x : Events). IsMade m n x k d') q (subst (λ (x : Made). IsMade m n e k x) r i))
+made-moved m n n' e e' k d d' p q r i = search arith
 
 pub may-announce : (m : Held) (h : ℕ) → MayRun m h → MayAnnounce h m.parts.harts
 may-announce m h r = record { hart = kept-there m h r.act; running = running-kept m h r; free = running-free m h r }
@@ -42,9 +41,7 @@ module _ (m s : Held) (h : ℕ) (call : Call) (r : MayRun m h) (own : call ≡ o
   ready' = ap (λ (n : Held). is_ready h n.parts.harts) (sym now) ∙ ready
 
   pub asked-serving : IsServing s h call
-  asked-serving =
-      subst (λ (k : Call). IsServing s h k) (sym own)
-      (subst (λ (n : Held). IsServing n h (own_call h (hart_among m.harts h))) (sym now) (serving-announced m h r must' ready'))
+  asked-serving = search (arith, m.harts, serving-announced, must', ready')
 
   pub asked-made : (n : Held) (e : Events) → IsMade s n e T.Called (served (reads_of s) (core_in s) h (hart_in s h) call) →
       IsMade m n e T.Called (made_by m h (Asks (call_of h (hart_in m h))))
@@ -60,12 +57,8 @@ module _ (m s : Held) (h : ℕ) (call : Call) (r : MayRun m h) (own : call ≡ o
   plain' = ap (λ (k : Call). is_announced k.number) (sym own) ∙ plain
 
   pub plain-serving : IsServing s h call
-  plain-serving =
-      subst (λ (k : Call). IsServing s h k) (sym own) (subst (λ (n : Held). IsServing n h (own_call h (hart_among m.harts h))) (sym same) (serving-plain m h r plain'))
+  plain-serving = search (arith, m.harts, serving-plain, plain')
 
   pub plain-made : (n : Held) (e : Events) → IsMade s n e T.Called (served (reads_of s) (core_in s) h (hart_in s h) call) →
       IsMade m n e T.Called (made_by m h (Asks (call_of h (hart_in m h))))
-  plain-made n e i =
-      subst (λ (d : Made). IsMade m n e T.Called d) (sym (made-served m h r false _ plain' refl refl))
-      (subst (λ (t : Held). IsMade t n e T.Called (served (reads_of t) (core_in t) h (hart_in t h) (own_call h (hart_among m.harts h)))) same
-      (subst (λ (k : Call). IsMade s n e T.Called (served (reads_of s) (core_in s) h (hart_in s h) k)) own i))
+  plain-made n e i = search (arith, made-served, plain', m.harts)

@@ -1,5 +1,5 @@
 -- The permissions of a bus are those of its domain's map, and what they allow lies in RAM.
-use Rattle.std.proofs.Common.{◌≡◌, ℕ, ◌+◌, ◌-◌, ◌*◌, ◌/◌, ◌%◌, ◌<◌, ◌≤◌, inl, inr, arith, Bool, true, false, not, cond, nat_lt, nat_le, List, length, refl, sym, ap, subst, ◌∙◌, Some, None}
+use Rattle.std.proofs.Common.{◌≡◌, ℕ, ◌+◌, ◌-◌, ◌*◌, ◌/◌, ◌%◌, ◌<◌, ◌≤◌, arith, Bool, true, false, not, cond, nat_lt, nat_le, List, length, refl, sym, ap, subst, ◌∙◌, Some, None}
 use Rattle.std.specs.Option.{option_map_or}
 use Rattle.std.proofs.lemmas.Bool.{ltb-true, leb-true, and_parts}
 use Rattle.mx_words.specs.declared.perm.Perm.{Perm}
@@ -48,13 +48,7 @@ allowed-inside size m address access b e q t =
 
 -- the bytes of an aligned access that begins in RAM end there
 ends-in : (n a size : ℕ) → IsSize size → a % size ≡ 0 → IsInRam n a → a - ram_base + size ≤ 4 * n
-ends-in n a size (inl e) d i = subst (λ (k : ℕ). a - ram_base + k ≤ 4 * n) (sym e) (omega (arith, i.1))
-ends-in n a size (inr (inl e)) d i =
-    let even : a % 2 ≡ 0 = subst (λ (k : ℕ). a % k ≡ 0) e d in
-    subst (λ (k : ℕ). a - ram_base + k ≤ 4 * n) (sym e) (omega (arith, even, i.0, i.1))
-ends-in n a size (inr (inr e)) d i =
-    let even : a % 4 ≡ 0 = subst (λ (k : ℕ). a % k ≡ 0) e d in
-    subst (λ (k : ℕ). a - ram_base + k ≤ 4 * n) (sym e) (omega (arith, even, i.0, i.1))
+ends-in n a size x d i = grind arith
 
 pub inside-bytes : (n a size l : ℕ) → IsSize size → a % size ≡ 0 → IsInRam n a → l ≡ 4 * n → (ram_base ≤ a) × (a - ram_base + size ≤ l)
 inside-bytes n a size l s d i e = (i.0, subst (λ (k : ℕ). a - ram_base + size ≤ k) (sym e) (ends-in n a size s d i))

@@ -16,9 +16,9 @@ use Rattle.mx_model.specs.Events.{Events, no_events}
 use Rattle.mx_model.specs.Gates.{gate_at, gate_target, is_at, most_frames}
 use Rattle.mx_model.specs.Reads.{Reads}
 use Rattle.mx_model.specs.Run.{flat_made}
-use Rattle.mx_model.specs.State.{Core, Module, Status, Waiting, hart_at, module_at}
+use Rattle.mx_model.specs.State.{Core, Waiting, hart_at}
 use Rattle.mx_model.specs.State.{Hart as Seen}
-use Rattle.mx_model.specs.Turn.{Bounces, Crosses, Serves, Traps, Waits, acted, at_gate, by_status, decide, enacted, is_return_at, made, runs_at, runs_in, traps, turned, without_look}
+use Rattle.mx_model.specs.Turn.{Bounces, Crosses, Serves, Traps, Waits, acted, at_gate, decide, enacted, is_return_at, made, runs_at, runs_in, traps, turned, without_look}
 use Rattle.mx_model.specs.Turn.{counted as counted_in}
 use Rattle.mx_model.specs.Valid.{IsGate, IsModule, IsValid}
 use Rattle.mx_model.proofs.GatesAt.{at-call-gate, at-no-gate, at-return-gate, target_from}
@@ -30,32 +30,23 @@ use Rattle.mx_machine.specs.declared.hart.Progress.{Progress}
 use Rattle.mx_machine.specs.declared.hart.Progress.TheVariants as G
 use Rattle.mx_machine.specs.Actions.{counted, heard}
 use Rattle.mx_machine.specs.Harts.{hart_among, hearers, own_call, status_by}
-use Rattle.mx_machine.specs.Held.{Held, meaning, rest_of}
+use Rattle.mx_machine.specs.Held.{Held, meaning}
 use Rattle.mx_machine.specs.Made.{core_in, made_by, made_after_hearing, hart_in, instruction, reads_of}
 use Rattle.mx_machine.specs.AtGate.{IsAtGate, gate_here}
 use Rattle.mx_machine.specs.Ties.{Fits, MayRun}
 use Rattle.mx_machine.proofs.MadeLaws.{here}
 use Rattle.mx_machine.proofs.HartsAt.{hart-in, length-seen}
 use Rattle.mx_machine.proofs.HearLaws.{core-heard}
-use Rattle.mx_machine.proofs.HomeLaws.{module-dead, modules-beside}
+use Rattle.mx_machine.proofs.HomeLaws.{module-dead}
 use Rattle.mx_machine.proofs.InstructLaws.{seen-running}
 
 -- a running hart, in a dead domain or in a live one
 runs-as : (m : Held) (h : ℕ) (b : Bool) → MayRun m h → get_or m.dead (hart_among m.harts h).domain false ≡ b →
     made_after_hearing m h ≡ enacted (reads_of m) (core_in m) h (runs_in (reads_of m) (core_in m) h (hart_in m h) b)
-runs-as m h b r e =
-    let q = reads_of m in
-    let c = core_in m in
-    let s = hart_in m h in
-    let x = hart_among m.harts h in
-    ap (λ (t : Status). enacted q c h (by_status q c h s t)) (ap (λ (y : Seen). y.status) (seen-running m h r))
-    ∙ ap (λ (d : Bool). enacted q c h (runs_in q c h s d))
-    (ap (λ (y : Seen). (module_at c y.domain).dead) (seen-running m h r) ∙ module-dead m x.domain r.act.fits (here m x.domain r.act.fits r.act.domain) ∙ e)
+runs-as m h b r e = search (arith, m.harts, seen-running, module-dead, r.act.fits, here)
 
 pub acts-dead : (m : Held) (h pc : ℕ) → MayRun m h → get_or m.dead (hart_among m.harts h).domain false ≡ true → pc ≡ (hart_among m.harts h).pc → made_after_hearing m h ≡ made_by m h (Traps 20 pc)
-acts-dead m h pc r e p =
-    runs-as m h true r e
-    ∙ ap (λ (n : ℕ). made_by m h (Traps 20 n)) (ap (λ (y : Seen). y.pc) (seen-running m h r) ∙ sym p)
+acts-dead m h pc r e p = cc (runs-as m h true r e, seen-running m h r, p)
 
 -- the gate at its pc, as the machine looks it up
 gate-is : (m : Held) (h d pc : ℕ) (o : Option ℕ) → MayRun m h → d ≡ (hart_among m.harts h).domain → pc ≡ (hart_among m.harts h).pc → gate_here m d pc ≡ o →
@@ -66,11 +57,7 @@ gate-is m h d pc o r ed ep e =
 
 pub at-gate-here : (m : Held) (h d pc t : ℕ) → MayRun m h → d ≡ (hart_among m.harts h).domain → pc ≡ (hart_among m.harts h).pc → get_or m.dead d false ≡ false → gate_here m d pc ≡ Some t →
     IsAtGate m h t
-at-gate-here m h d pc t r ed ep alive e = record {
-  run = r;
-  alive = ap (λ n. get_or m.dead n false) (sym ed) ∙ alive;
-  gate = ap (λ n. gate_here m n (hart_among m.harts h).pc) (sym ed) ∙ ap (λ n. gate_here m d n) (sym ep) ∙ e;
-}
+at-gate-here m h d pc t r ed ep alive e = search (arith, m.dead, m.harts)
 
 -- the gate leads into a module
 target-module : (m : Held) (d pc t : ℕ) → IsValid (core_in m) → gate_here m d pc ≡ Some t → IsModule (length (core_in m).modules) t
@@ -85,9 +72,7 @@ target-module m d pc t v e = by (word_of pc m.parts.size) e
     by (Some w) q = found (gate_at m.parts.gates d w) (all-find (IsGate (length (core_in m).modules) m.parts.size) (is_at d w) m.parts.gates v.gates) q
 
 pub target-domain : (m : Held) (d pc t : ℕ) → IsValid (core_in m) → Fits m → gate_here m d pc ≡ Some t → IsDomain m.parts.maps t
-target-domain m d pc t v f e =
-    let p = target-module m d pc t v e in
-    record { first = p.first; last = omega (arith, p.last, length-modules (rest_of m) 1 m.parts.heaps, f.sound.heaps) }
+target-domain m d pc t v f e = search (arith, target-module, length-modules)
 
 -- no gate, a return gate, and a call gate
 pub acts-plain : (m : Held) (h d pc : ℕ) → MayRun m h → d ≡ (hart_among m.harts h).domain → pc ≡ (hart_among m.harts h).pc → get_or m.dead d false ≡ false → gate_here m d pc ≡ None →
@@ -110,14 +95,7 @@ acts-return m h t a own =
     )
 
 at-gate-looks : (c : Core) (s : Seen) (t : ℕ) → (at_gate c s t).looks ≡ []
-at-gate-looks c s t =
-    elim (reg s.regs 1 % 4 == 0) as (λ a. (cond (not a) (traps 19 (reg s.regs 1)) (cond (module_at c t).dead (without_look Bounces) (cond (nat_le most_frames (length s.frames)) (traps 16 s.pc) (without_look (Crosses t))))).looks ≡ []) [
-      | true ↦ elim (module_at c t).dead as (λ b. (cond b (without_look Bounces) (cond (nat_le most_frames (length s.frames)) (traps 16 s.pc) (without_look (Crosses t)))).looks ≡ []) [
-        | true ↦ refl
-        | false ↦ elim (nat_le most_frames (length s.frames)) as (λ f. (cond f (traps 16 s.pc) (without_look (Crosses t))).looks ≡ []) [ true ↦ refl | false ↦ refl ]
-      ]
-      | false ↦ refl
-    ]
+at-gate-looks c s t = search (arith, s.regs)
 
 pub acts-gate : (m : Held) (h t : ℕ) → IsAtGate m h t → t ≢ (hart_among m.harts h).domain → made_after_hearing m h ≡ made_by m h (at_gate (core_in m) (hart_in m h) t).action
 acts-gate m h t a other =
@@ -134,24 +112,11 @@ gate-by : (m : Held) (h t : ℕ) (a b f : Bool) → MayRun m h → IsDomain m.pa
     nat_le most_frames (length (hart_among m.harts h).frames) ≡ f →
     (at_gate (core_in m) (hart_in m h) t).action
     ≡ (cond (not a) (traps 19 (reg (hart_in m h).regs 1)) (cond b (without_look Bounces) (cond f (traps 16 (hart_in m h).pc) (without_look (Crosses t))))).action
-gate-by m h t a b f r dom ea eb ef =
-    let s = hart_in m h in
-    let c = core_in m in
-    let one = traps 19 (reg s.regs 1) in
-    let two = without_look Bounces in
-    let three = traps 16 s.pc in
-    let four = without_look (Crosses t) in
-    let dead = (module_at c t).dead in
-    let full = nat_le most_frames (length s.frames) in
-    ap (λ (z : Bool). (cond (not z) one (cond dead two (cond full three four))).action) (ap (λ (y : Seen). reg y.regs 1 % 4 == 0) (seen-running m h r) ∙ ea)
-    ∙ ap (λ (z : Bool). (cond (not a) one (cond z two (cond full three four))).action) (module-dead m t r.act.fits (here m t r.act.fits dom) ∙ eb)
-    ∙ ap (λ (z : Bool). (cond (not a) one (cond b two (cond z three four))).action) (ap (λ (y : Seen). nat_le most_frames (length y.frames)) (seen-running m h r) ∙ ef)
+gate-by m h t a b f r dom ea eb ef = search (arith, seen-running, module-dead, r.act.fits, here)
 
 pub gate-crooked : (m : Held) (h t link : ℕ) → MayRun m h → IsDomain m.parts.maps t → link ≡ reg (hart_among m.harts h).regs 1 → (link % 4 == 0) ≡ false →
     made_by m h (at_gate (core_in m) (hart_in m h) t).action ≡ made_by m h (Traps 19 link)
-gate-crooked m h t link r dom el e =
-    ap (made_by m h) (gate-by m h t false _ _ r dom (ap (λ n. n % 4 == 0) (sym el) ∙ e) refl refl)
-    ∙ ap (λ n. made_by m h (Traps 19 n)) (ap (λ (y : Seen). reg y.regs 1) (seen-running m h r) ∙ sym el)
+gate-crooked m h t link r dom el e = search (arith, gate-by, seen-running)
 
 pub gate-bounces : (m : Held) (h t link : ℕ) → MayRun m h → IsDomain m.parts.maps t → link ≡ reg (hart_among m.harts h).regs 1 → (link % 4 == 0) ≡ true → get_or m.dead t false ≡ true →
     made_by m h (at_gate (core_in m) (hart_in m h) t).action ≡ made_by m h Bounces
@@ -171,21 +136,15 @@ gate-crosses m h t link r dom el e d f = ap (made_by m h) (gate-by m h t true fa
 -- a waiting hart
 seen-waiting : (m : Held) (h : ℕ) → (hart_among m.harts h).progress ≡ G.Waiting →
     (hart_in m h).status ≡ Waiting (own_call h (hart_among m.harts h)) (hearers (kept_at m.parts.harts h).flight)
-seen-waiting m h w =
-    let x = hart_among m.harts h in
-    ap (λ (s : Seen). s.status) (hart-in m h) ∙ ap (λ (p : Progress). status_by (own_call h x) (kept_at m.parts.harts h).flight p) w
+seen-waiting m h w = search (arith, m.harts, hart-in, m.parts.harts)
 
 pub acts-waiting : (m : Held) (h : ℕ) (b : Bool) → (hart_among m.harts h).progress ≡ G.Waiting → is_ready (core_in m) h (hearers (kept_at m.parts.harts h).flight) ≡ b →
     made_after_hearing m h ≡ made_by m h (if b then Serves (own_call h (hart_among m.harts h)) else Waits)
-acts-waiting m h b w e =
-    ap (λ (t : Status). enacted (reads_of m) (core_in m) h (by_status (reads_of m) (core_in m) h (hart_in m h) t)) (seen-waiting m h w)
-    ∙ ap (λ (z : Bool). made_by m h (if z then Serves (own_call h (hart_among m.harts h)) else Waits)) e
+acts-waiting m h b w e = search (arith, seen-waiting, m.harts)
 
 -- the turn is counted
 pub core-counted : (m : Held) → core_in (counted m) ≡ counted_in (core_in m)
-core-counted m =
-    ap (λ (ms : List Module). record (core_in m) { turns = m.steps + 1; modules = ms })
-    (modules-beside 1 m.parts.heaps (rest_of m).harts (rest_of m).harts m.stacks m.dead (m.steps + 1) m.steps)
+core-counted m = search arith
 
 pub fits-counted : (m : Held) → Fits m → Fits (counted m)
 fits-counted m f = record { sound = f.sound; count = f.count; few = f.few; stacks = f.stacks; dead = f.dead; ties = f.ties; quiet = f.quiet }
@@ -194,9 +153,7 @@ pub valid-counted : (m : Held) → IsValid (core_in m) → IsValid (core_in (cou
 valid-counted m v = subst (λ (c : Core). IsValid c) (sym (core-counted m)) (valid-turns (core_in m) (m.steps + 1) v)
 
 pub valid-heard : (m : Held) (h : ℕ) → Fits m → h < length m.harts → IsValid (core_in m) → IsValid (core_in (heard h m))
-valid-heard m h f l v =
-    subst (λ (c : Core). IsValid c) (sym (core-heard m h f l))
-    (valid-hears h (core_in m) (subst (λ n. h < n) (sym (length-seen 0 m.harts m.parts.harts)) l) v)
+valid-heard m h f l v = search (arith, core-heard, valid-hears, length-seen)
 
 -- a turn of a hart that isn't halted is what it does after it has heard the others
 awake : (q : Reads) (c : Core) (h : ℕ) → is_halted_in (hart_at c h).status ≡ false →
@@ -205,10 +162,7 @@ awake q c h e = ap (λ (b : Bool). let n = cond b (counted_in c) (hears h (count
 
 halted-by : (call : Call) (m : Held) (h : ℕ) (p : Progress) → is_halted_in (status_by call (kept_at m.parts.harts h).flight p) ≡ false → (hart_among m.harts h).progress ≡ p →
     call ≡ own_call h (hart_among m.harts h) → is_halted_in (hart_in m h).status ≡ false
-halted-by call m h p e w q =
-    ap (λ (s : Seen). is_halted_in s.status) (hart-in m h)
-    ∙ ap (λ (g : Progress). is_halted_in (status_by (own_call h (hart_among m.harts h)) (kept_at m.parts.harts h).flight g)) w
-    ∙ ap (λ (c : Call). is_halted_in (status_by c (kept_at m.parts.harts h).flight p)) (sym q) ∙ e
+halted-by call m h p e w q = search (arith, hart-in, m.harts, m.parts.harts)
 
 heard-turn : (m : Held) (h : ℕ) → Fits m → h < length m.harts → is_halted_in (hart_in m h).status ≡ false → flat_made (meaning m) h ≡ made_after_hearing (heard h (counted m)) h
 heard-turn m h f l e =

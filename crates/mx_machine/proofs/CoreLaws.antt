@@ -1,5 +1,5 @@
 -- The state after a hart of a machine is changed, in the machine and in its checker.
-use Rattle.std.proofs.Common.{◌≡◌, ◌≢◌, ℕ, List, get_or, set, sym, ap, ◌∙◌}
+use Rattle.std.proofs.Common.{◌≡◌, ◌≢◌, ℕ, List, get_or, set, sym, ap, ◌∙◌, arith}
 use Rattle.std.proofs.Common.{map as list_map}
 use Rattle.std.proofs.Math.ListN.{get_or-map}
 use Rattle.std.proofs.lemmas.List.{map-set, set-get_or}
@@ -7,11 +7,10 @@ use Rattle.mx_words.specs.Caches.{Cache, no_cache, left_domain}
 use Rattle.mx_check.specs.Harts.{Kept, kept_at, at_hart, leaves_domain}
 use Rattle.mx_check.specs.Harts.{nothing_kept}
 use Rattle.mx_model.specs.Checks.{empties_places}
-use Rattle.mx_model.specs.State.{Core, Module, with_hart}
-use Rattle.mx_model.specs.State.{Hart as Seen}
+use Rattle.mx_model.specs.State.{Core, with_hart}
 use Rattle.mx_supervisor.specs.Parts.{Parts, core_of}
 use Rattle.mx_machine.specs.declared.hart.Hart.{Hart}
-use Rattle.mx_machine.specs.Harts.{seen, seen_from}
+use Rattle.mx_machine.specs.Harts.{seen}
 use Rattle.mx_machine.specs.Held.{Held, rest_of}
 use Rattle.mx_machine.specs.Made.{core_in}
 use Rattle.mx_machine.proofs.HartsAt.{harts-set}
@@ -24,10 +23,7 @@ FlyAlike h kept other = (i : ℕ) → i ≢ h → (kept_at kept i).flight ≡ (k
 pub core-step : (m : Held) (h : ℕ) (x : Hart) (p : Parts) → FlyAlike h p.harts m.parts.harts →
     core_in (record m { parts = p; harts = set m.harts h x }) ≡ with_hart h (seen h x (kept_at p.harts h)) (core_of (rest_of m) p)
 core-step m h x p e =
-    let harts = seen_from 0 (set m.harts h x) p.harts in
-    ap (λ (ms : List Module). record (core_of (rest_of m) p) { modules = ms; harts = harts })
-    (modules-beside 1 p.heaps harts (rest_of m).harts m.stacks m.dead m.steps m.steps)
-    ∙ ap (λ (hs : List Seen). record (core_of (rest_of m) p) { harts = hs }) (harts-set m.harts h x p.harts m.parts.harts e)
+    search (arith, m.harts, modules-beside, p.heaps, m.stacks, m.dead, m.steps, harts-set, p.harts, m.parts.harts)
 
 -- the caches of the state are those of the checker
 

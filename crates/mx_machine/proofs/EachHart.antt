@@ -13,18 +13,14 @@ some_passes test None = false
 some_passes test (Some x) = test x
 
 below-more : (i n : ℕ) (test : ℕ → Bool) → all_below (i + suc n) test ≡ all_below ((i + 1) + n) test
-below-more i n test = let e : i + suc n ≡ (i + 1) + n = omega arith in ap (λ k. all_below k test) e
+below-more i n test = ap (λ k. all_below k test) (omega arith)
 
 below-one : (i : ℕ) (test : ℕ → Bool) → all_below (i + 1) test ≡ (all_below i test && test i)
 unfolding all_below
 below-one i test = let e : i + 1 ≡ suc i = omega arith in ap (λ k. all_below k test) e
 
 below-none : (i : ℕ) (test : ℕ → Bool) → all_below (i + 0) test ≡ (all_below i test && true)
-below-none i test = let e : i + 0 ≡ i = omega arith in ap (λ k. all_below k test) e ∙ by (all_below i test)
-  where
-    by : (b : Bool) → b ≡ (b && true)
-    by true = refl
-    by false = refl
+below-none i test = search arith
 
 -- an equation of each element from place i on, after the first
 module _ {X Y : Type 0} (f : ℕ → X → Y) (g : ℕ → Y) (d : X) where
@@ -56,9 +52,7 @@ any-option test None rs = refl
 any-option test (Some r) rs = refl
 
 not-or : (a b c : Bool) → ((a && not b) && not c) ≡ (a && not (b || c))
-not-or true true c = refl
-not-or true false c = refl
-not-or false b c = refl
+not-or x b c = grind arith
 
 -- none of those taken passes where none below their number does
 module _ {X R : Type 0} (take : ℕ × X → Option R) (test : R → Bool) (low : ℕ → Bool) (d : X) where

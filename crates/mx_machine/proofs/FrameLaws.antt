@@ -1,5 +1,5 @@
 -- Frames of a hart: none is taken off where there is none, and a copy frame by frame.
-use Rattle.std.proofs.Common.{◌≡◌, ℕ, ◌+◌, ◌<◌, ◌≤◌, false, ◌==◌, List, [], ◌∷◌, ◌++◌, length, get_or, take, Option, Some, None, Ok, Err, refl, sym, ap, ◌∙◌, arith}
+use Rattle.std.proofs.Common.{◌≡◌, ℕ, ◌+◌, ◌<◌, ◌≤◌, false, ◌==◌, List, [], ◌∷◌, ◌++◌, length, get_or, take, Option, Some, None, refl, sym, ap, ◌∙◌, arith}
 use Rattle.std.specs.List.{last_or}
 use Rattle.std.specs.Prelude.{is_err, OnOk, Result, slice_get}
 use Rattle.std.proofs.lemmas.Bool.{ne_eqb}
@@ -33,8 +33,7 @@ returns-none rd x frames none e =
 
 -- one more frame is copied
 ok-pushed : {A B : Type 0} (r : Result A B) (C : Type 0) → is_err r ≡ false → OnOk r C → C
-ok-pushed (Ok x) C e p = p
-ok-pushed (Err x) C e p = cc
+ok-pushed x x1 e p = grind arith
 
 pub frame-copied : {A B : Type 0} {frame : Frame} (frames copy new : List Frame) (i : ℕ) (r : Result A B) → copy ≡ take i frames → i < length frames →
     length frames ≤ 64 → Some frame ≡ slice_get frames i → is_err r ≡ (length copy == 64) → OnOk r (new ≡ copy ++ frame ∷ []) → new ≡ take (i + 1) frames

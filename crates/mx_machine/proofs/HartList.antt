@@ -16,7 +16,4 @@ module _ (n : ℕ) (items : List Hart) (harts : List Hart) (h : ℕ) (d : Hart) 
 
   -- a part that is written is the hart after a step
   pub hart_written : (step : Hart → Hart) (x : Hart) → x ≡ step (get_or items h d) → take n (set items h x) ≡ stepped h step harts
-  hart_written step x e =
-      take-set items n h x
-      ∙ ap (λ (hs : List Hart). set hs h x) view
-      ∙ ap (λ (y : Hart). set harts h y) (e ∙ ap step hart_read)
+  hart_written step x e = search (arith, take-set, hart_read)

@@ -10,9 +10,9 @@ use Rattle.mx_words.specs.Caches.{Cache, meets, without_range}
 use Rattle.mx_words.specs.Counting.{all_below}
 use Rattle.mx_words.specs.Hearing.{heard_range, is_in, lets_pass, nobody, unheard_range}
 use Rattle.mx_check.specs.declared.flight.Flight.{Flight}
-use Rattle.mx_check.specs.Calls.{hears, ready_with, unheard, unheard_of}
+use Rattle.mx_check.specs.Calls.{hears, unheard, unheard_of}
 use Rattle.mx_check.specs.Calls.{is_ready as ready_kept}
-use Rattle.mx_check.specs.Conditions.{HasHeardAll, SameButCaches}
+use Rattle.mx_check.specs.Conditions.{HasHeardAll}
 use Rattle.mx_check.specs.Harts.{Kept, kept_at, at_hart, announced, marked}
 use Rattle.mx_check.specs.Looks.{flight_forbids, hart_forbids, is_forbidden}
 use Rattle.mx_check.proofs.HearLaws.{hears_own, length-hears_first}
@@ -20,7 +20,7 @@ use Rattle.mx_check.proofs.LookLaws.{all_below_agree, kept_at-other, kept_at-sam
 use Rattle.mx_model.specs.declared.values.Call.{Call}
 use Rattle.mx_model.specs.Checks.{call_range, flight_range, heard_by, heard_ranges, is_ready, unheard_ranges}
 use Rattle.mx_model.specs.Checks.{hears as heard_in, is_halted as halted_by}
-use Rattle.mx_model.specs.State.{Core, Module, Status, module_at}
+use Rattle.mx_model.specs.State.{Core, Module, module_at}
 use Rattle.mx_model.specs.State.{Hart as Seen}
 use Rattle.mx_model.specs.State.{no_hart as nobody_seen}
 use Rattle.mx_supervisor.specs.Looks.{BarsAlike}
@@ -36,10 +36,10 @@ use Rattle.mx_machine.specs.Actions.{heard}
 use Rattle.mx_machine.specs.Harts.{hart_among, hearers, is_halted, no_held_hart, own_call, seen, seen_from, status_by}
 use Rattle.mx_machine.specs.Held.{Held, rest_of}
 use Rattle.mx_machine.specs.Made.{core_in}
-use Rattle.mx_machine.specs.Ties.{Fits, FliesWhileWaiting, IsFlying, IsTied}
+use Rattle.mx_machine.specs.Ties.{Fits, FliesWhileWaiting, IsTied}
 use Rattle.mx_machine.proofs.EachHart.{all-numbered, none-numbered, some_passes, without-numbered}
 use Rattle.mx_machine.proofs.HartsAt.{hart-seen, length-seen}
-use Rattle.mx_machine.proofs.Hearing.{IsHeard, cache-kept, caches_of, caches-first, heard-at, quiet-first, without_first}
+use Rattle.mx_machine.proofs.Hearing.{cache-kept, caches_of, caches-first, heard-at, quiet-first, without_first}
 use mathlib.Core.Bool.{not-not}
 
 -- the other harts are tied
@@ -90,18 +90,13 @@ halted-seen call flight (G.Halted code) = refl
 -- an equation of each hart of the state is one of each hart of the machine
 module _ {Y : Type 0} (f : ℕ → Seen → Y) (g : ℕ → Y) (xs : List Hart) (kept : List Kept) (each : (j : ℕ) → f j (seen j (hart_among xs j) (kept_at kept j)) ≡ g j) where
   numbered : (j : ℕ) → f (0 + j) (get_or (seen_from 0 xs kept) j nobody_seen) ≡ g (0 + j)
-  numbered j =
-      ap (f (0 + j)) (hart-seen xs kept j)
-      ∙ ap (λ k. f k (seen j (hart_among xs j) (kept_at kept j))) (zero-add j) ∙ each j ∙ ap g (sym (zero-add j))
+  numbered j = search (arith, hart-seen)
 
 -- what a choice takes of another hart's call in flight
 module _ (m : Held) (h : ℕ) (choice : List Bool → ℕ × ℕ → Option (ℕ × ℕ)) where
   taken-other : (j : ℕ) → IsTied (range_of m.parts) j (hart_among m.harts j) (kept_at m.parts.harts j) →
       flight_range (core_in m) choice (seen j (hart_among m.harts j) (kept_at m.parts.harts j)).status ≡ taken choice (kept_at m.parts.harts j).flight
-  taken-other j t =
-      let x = hart_among m.harts j in
-      let k = kept_at m.parts.harts j in
-      status-taken choice (core_in m) (own_call j x) (range_of m.parts (own_call j x)) k.flight x.progress (range-is (rest_of m) m.parts (own_call j x)) t.flight
+  taken-other j t = search (arith, status-taken, m.parts, range-is)
 
 -- what hart h hasn't heard
 unheard-taken : (h : ℕ) (o : Option Flight) → taken (unheard_range h) o ≡ unheard_of h o
@@ -110,17 +105,7 @@ unheard-taken h (Some f) = refl
 
 unheard-alike : (m : Held) (h : ℕ) → OthersTied m h → (j : ℕ) →
     cond (j == h) None (flight_range (core_in m) (unheard_range h) (seen j (hart_among m.harts j) (kept_at m.parts.harts j)).status) ≡ unheard h j m.parts.harts
-unheard-alike m h others j = by (cases_eq j h)
-  where
-    by : (j ≡ h) ⊎ (j ≢ h) →
-        cond (j == h) None (flight_range (core_in m) (unheard_range h) (seen j (hart_among m.harts j) (kept_at m.parts.harts j)).status) ≡ unheard h j m.parts.harts
-    by (inl e) =
-        let same : (j == h) ≡ true = eq-eqb j h e in
-        ap (λ b. cond b None (flight_range (core_in m) (unheard_range h) (seen j (hart_among m.harts j) (kept_at m.parts.harts j)).status)) same
-        ∙ sym (ap (λ b. cond b None (unheard_of h (kept_at m.parts.harts j).flight)) same)
-    by (inr ne) =
-        ap (λ (o : Option (ℕ × ℕ)). cond (j == h) None o)
-        (taken-other m h (unheard_range h) j (others j ne) ∙ unheard-taken h (kept_at m.parts.harts j).flight)
+unheard-alike m h others j = search (arith, cases_eq, m.harts, m.parts.harts, eq-eqb, taken-other, unheard-taken)
 
 -- what bars a span
 bars-taken : (h : ℕ) (s : Span) (o : Option Flight) → some_passes (λ (r : ℕ × ℕ). meets s r.0 r.1) (taken (heard_range h) o) ≡ flight_forbids h s o
@@ -134,54 +119,16 @@ bars-taken h s (Some f) = by (is_in f.heard h)
 hart-bars : (m : Held) (h : ℕ) (s : Span) → OthersTied m h → (j : ℕ) →
     some_passes (λ (r : ℕ × ℕ). meets s r.0 r.1) (cond (j == h) None (flight_range (core_in m) (heard_range h) (seen j (hart_among m.harts j) (kept_at m.parts.harts j)).status))
     ≡ hart_forbids h s m.parts.harts j
-hart-bars m h s others j = by (cases_eq j h)
-  where
-    by : (j ≡ h) ⊎ (j ≢ h) →
-        some_passes (λ (r : ℕ × ℕ). meets s r.0 r.1) (cond (j == h) None (flight_range (core_in m) (heard_range h) (seen j (hart_among m.harts j) (kept_at m.parts.harts j)).status))
-        ≡ hart_forbids h s m.parts.harts j
-    by (inl e) =
-        let same : (j == h) ≡ true = eq-eqb j h e in
-        ap (λ b. some_passes (λ (r : ℕ × ℕ). meets s r.0 r.1)
-        (cond b None (flight_range (core_in m) (heard_range h) (seen j (hart_among m.harts j) (kept_at m.parts.harts j)).status))) same
-        ∙ sym (ap (λ b. not b && flight_forbids h s (kept_at m.parts.harts j).flight) same)
-    by (inr ne) =
-        let other : (j == h) ≡ false = ne_eqb j h ne in
-        ap (λ b. some_passes (λ (r : ℕ × ℕ). meets s r.0 r.1)
-        (cond b None (flight_range (core_in m) (heard_range h) (seen j (hart_among m.harts j) (kept_at m.parts.harts j)).status))) other
-        ∙ ap (λ (o : Option (ℕ × ℕ)). some_passes (λ (r : ℕ × ℕ). meets s r.0 r.1) o) (taken-other m h (heard_range h) j (others j ne))
-        ∙ bars-taken h s (kept_at m.parts.harts j).flight
-        ∙ sym (ap (λ b. not b && flight_forbids h s (kept_at m.parts.harts j).flight) other)
+hart-bars m h s others j =
+    search (arith, cases_eq, some_passes, m.harts, m.parts.harts, eq-eqb, ne_eqb, taken-other, bars-taken)
 
 -- each hart of the state, once hart h has heard its call
 hart-hears : (m : Held) (h : ℕ) → Fits m → h < length m.harts → (j : ℕ) →
     cond (j == h) (seen j (hart_among m.harts j) (kept_at m.parts.harts j))
     (record (seen j (hart_among m.harts j) (kept_at m.parts.harts j)) { status = heard_by h (seen j (hart_among m.harts j) (kept_at m.parts.harts j)).status })
     ≡ seen j (hart_among m.harts j) (kept_at (hears h m.parts.harts) j)
-hart-hears m h f there j = by (cases_eq j h)
-  where
-    by : (j ≡ h) ⊎ (j ≢ h) →
-        cond (j == h) (seen j (hart_among m.harts j) (kept_at m.parts.harts j))
-        (record (seen j (hart_among m.harts j) (kept_at m.parts.harts j)) { status = heard_by h (seen j (hart_among m.harts j) (kept_at m.parts.harts j)).status })
-        ≡ seen j (hart_among m.harts j) (kept_at (hears h m.parts.harts) j)
-    by (inl e) =
-        let x = hart_among m.harts j in
-        let k = kept_at m.parts.harts j in
-        let same : (j == h) ≡ true = eq-eqb j h e in
-        let own : (kept_at (hears h m.parts.harts) h).flight ≡ (kept_at m.parts.harts h).flight =
-        (hears_own m.parts.harts h (omega (arith, there, f.count))).flight in
-        let flight : k.flight ≡ (kept_at (hears h m.parts.harts) j).flight =
-        subst (λ (n : ℕ). (kept_at m.parts.harts n).flight ≡ (kept_at (hears h m.parts.harts) n).flight) (sym e) (sym own) in
-        ap (λ b. cond b (seen j x k) (record (seen j x k) { status = heard_by h (seen j x k).status })) same
-        ∙ ap (λ (o : Option Flight). record (seen j x k) { status = status_by (own_call j x) o x.progress }) flight
-    by (inr ne) =
-        let x = hart_among m.harts j in
-        let k = kept_at m.parts.harts j in
-        let t = f.ties j in
-        let other : (j == h) ≡ false = ne_eqb j h ne in
-        ap (λ b. cond b (seen j x k) (record (seen j x k) { status = heard_by h (seen j x k).status })) other
-        ∙ ap (λ (s : Status). record (seen j x k) { status = s })
-        (status-heard h (own_call j x) (range_of m.parts (own_call j x)) k.flight x.progress t.flight
-        ∙ ap (λ (o : Option Flight). status_by (own_call j x) o x.progress) (sym (heard-at m.parts.harts h j ne).flight))
+hart-hears m h f there j =
+    search (arith, cases_eq, m.harts, m.parts.harts, eq-eqb, hears_own, f.ties, ne_eqb, status-heard, m.parts, heard-at)
 
 -- the harts of the state after an edit of each by its number
 module _ (edit : ℕ × Seen → Seen) (new : List Kept) where
@@ -240,53 +187,19 @@ module _ (m : Held) (h : ℕ) (f : Fits m) (there : h < length m.harts) where
 
 -- hearing is the state's, and leaves all fitting
 pub core-heard : (m : Held) (h : ℕ) → Fits m → h < length m.harts → core_in (heard h m) ≡ heard_in h (core_in m)
-core-heard m h f there =
-    let kept = m.parts.harts in
-    let c = core_in m in
-    ap (λ (ms : List Module). record c { modules = ms; harts = seen_from 0 m.harts (hears h kept); caches = caches_of (hears h kept) })
-    (modules-alike (rest_of (heard h m)) (rest_of m) 1 m.parts.heaps (λ n. refl))
-    ∙ ap (λ (hs : List Seen). record c { harts = hs; caches = caches_of (hears h kept) }) (sym (harts-heard m h f there))
-    ∙ ap (λ (cs : List Cache). record c { harts = (heard_in h c).harts; caches = cs }) (caches-heard m h f there)
+core-heard m h f there = search (arith, m.harts, caches_of, modules-alike, m.parts.heaps, harts-heard, caches-heard)
 
 -- a hart stays tied where what is kept of it agrees with what was
 tied-still : (range : Call → ℕ × ℕ) (i : ℕ) (x : Hart) (now before : Kept) → now.halted ≡ before.halted → now.domain ≡ before.domain →
     FliesWhileWaiting (range (own_call i x)) now.flight x.progress → IsTied range i x before → IsTied range i x now
-tied-still range i x now before halted domain flight t = record {
-  halted = halted ∙ t.halted;
-  flight = flight;
-  domain = subst (λ (o : Option ℕ). IfSome o (λ d. d ≡ x.domain)) (sym domain) t.domain;
-}
+tied-still range i x now before halted domain flight t = search arith
 
 tied-heard : (m : Held) (h : ℕ) → Fits m → h < length m.harts → (i : ℕ) → IsTied (range_of m.parts) i (hart_among m.harts i) (kept_at (hears h m.parts.harts) i)
-tied-heard m h f there i = by (cases_eq i h)
-  where
-    by : (i ≡ h) ⊎ (i ≢ h) → IsTied (range_of m.parts) i (hart_among m.harts i) (kept_at (hears h m.parts.harts) i)
-    by (inl e) =
-        let x = hart_among m.harts i in
-        let k = kept_at m.parts.harts i in
-        let own : SameButCaches (kept_at (hears h m.parts.harts) i) k =
-        subst (λ (n : ℕ). SameButCaches (kept_at (hears h m.parts.harts) n) (kept_at m.parts.harts n)) (sym e)
-        (hears_own m.parts.harts h (omega (arith, there, f.count))) in
-        tied-still (range_of m.parts) i x (kept_at (hears h m.parts.harts) i) k own.halted own.domain
-        (subst (λ (o : Option Flight). FliesWhileWaiting (range_of m.parts (own_call i x)) o x.progress) (sym own.flight) (f.ties i).flight) (f.ties i)
-    by (inr ne) =
-        let x = hart_among m.harts i in
-        let k = kept_at m.parts.harts i in
-        let other : IsHeard h (kept_at (hears h m.parts.harts) i) k = heard-at m.parts.harts h i ne in
-        tied-still (range_of m.parts) i x (kept_at (hears h m.parts.harts) i) k other.halted other.domain
-        (subst (λ (o : Option Flight). FliesWhileWaiting (range_of m.parts (own_call i x)) o x.progress) (sym other.flight)
-        (flies-heard h (range_of m.parts (own_call i x)) k.flight x.progress (f.ties i).flight)) (f.ties i)
+tied-heard m h f there i =
+    search (arith, cases_eq, m.harts, m.parts.harts, hears_own, tied-still, m.parts, f.ties, heard-at, flies-heard)
 
 pub fits-heard : (m : Held) (h : ℕ) → Fits m → h < length m.harts → Fits (heard h m)
-fits-heard m h f there = record {
-  sound = with-harts m.parts (heard h m).parts.harts f.sound;
-  count = f.count ∙ sym (length-hears_first h (length m.parts.harts) m.parts.harts);
-  few = f.few;
-  stacks = f.stacks;
-  dead = f.dead;
-  ties = tied-heard m h f there;
-  quiet = f.quiet;
-}
+fits-heard m h f there = search (arith, with-harts, m.parts, length-hears_first, tied-heard)
 
 -- whether a call that these harts have heard may take effect
 ready-counted : (m : Held) (h : ℕ) (heard : List Bool) → Fits m →
@@ -303,13 +216,7 @@ ready-counted m h heard f =
 -- a waiting hart's call may take effect in both or in neither
 pub ready-alike : (m : Held) (h : ℕ) → Fits m → h < length m.harts → (hart_among m.harts h).progress ≡ G.Waiting →
     is_ready (core_in m) h (hearers (kept_at m.parts.harts h).flight) ≡ ready_kept h m.parts.harts
-ready-alike m h f there w =
-    by (kept_at m.parts.harts h).flight
-    (subst (λ (p : Progress). FliesWhileWaiting (range_of m.parts (own_call h (hart_among m.harts h))) (kept_at m.parts.harts h).flight p) w (f.ties h).flight)
-  where
-    by : (o : Option Flight) → IsFlying (range_of m.parts (own_call h (hart_among m.harts h))) o → is_ready (core_in m) h (hearers o) ≡ ready_with h o m.parts.harts
-    by None t = absurd t
-    by (Some fl) t = ready-counted m h fl.heard f
+ready-alike m h f there w = search (arith, ready-counted)
 
 -- a hart counts as halted as before it announced a call
 halted-still : (kept : List Kept) (h first count i : ℕ) → h < length kept →
@@ -328,11 +235,7 @@ ready-now m h first count f there =
     let kept = m.parts.harts in
     let long : h < length kept = omega (arith, there, f.count) in
     let new = at_hart h (announced h first count) kept in
-    ready-counted m h nobody f
-    ∙ all_below_agree (length kept) (λ i. lets_pass h nobody i (kept_at kept i).halted) (λ i. lets_pass h nobody i (kept_at new i).halted)
-    (λ i lt. ap (λ b. lets_pass h nobody i b) (sym (halted-still kept h first count i long)))
-    ∙ ap (λ n. all_below n (λ i. lets_pass h nobody i (kept_at new i).halted)) (sym (length-at_hart kept h (announced h first count)))
-    ∙ ap (λ (o : Option Flight). ready_with h o new) (ap (λ (k : Kept). k.flight) (sym (kept_at-same kept h (announced h first count) long)))
+    search (arith, ready-counted, all_below_agree, halted-still, length-at_hart, kept_at-same)
 
 -- the calls that keep hart h from keeping a span are the same in both
 bars-at : (m : Held) (h : ℕ) (s : Span) → length m.harts ≡ length m.parts.harts → OthersTied m h →

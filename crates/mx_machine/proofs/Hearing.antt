@@ -22,17 +22,11 @@ pub record IsHeard (h : ℕ) (now before : Kept) : Type 0 where
   pub flight : now.flight ≡ option_map (marked h) before.flight
 
 heard-is : (h : ℕ) (now before : Kept) → now ≡ heard_by h before → IsHeard h now before
-heard-is h now before e = record {
-  cache = ap (λ (k : Kept). k.cache) e;
-  halted = ap (λ (k : Kept). k.halted) e;
-  domain = ap (λ (k : Kept). k.domain) e;
-  flight = ap (λ (k : Kept). k.flight) e;
-}
+heard-is h now before e = search arith
 
 -- a call that was heard before is not marked again
 marked-again : (h : ℕ) (f : Flight) → is_in f.heard h ≡ true → marked h f ≡ f
-marked-again h f is =
-    ap (λ b. record f { heard = set f.heard h b }) (sym is) ∙ ap (λ (hs : List Bool). record f { heard = hs }) (set-get_or f.heard h false)
+marked-again h f is = search (arith, f.heard, set-get_or)
 
 marked-none : (h : ℕ) (o : Option Flight) → unheard_of h o ≡ None → option_map (marked h) o ≡ o
 marked-none h None e = refl

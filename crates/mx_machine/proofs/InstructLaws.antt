@@ -1,12 +1,10 @@
 -- An instruction: the machine after it is the state after its looks, with its bytes and registers; its answer says what is done then.
-use Rattle.std.proofs.Common.{◌≡◌, ℕ, ◌<◌, ◌%◌, Bool, true, false, cond, ◌==◌, List, [], ◌∷◌, length, set, refl, sym, ap, subst, ◌∙◌, if◌then◌else◌, None}
-use Rattle.std.specs.Prelude.{IfSome}
+use Rattle.std.proofs.Common.{◌≡◌, ℕ, ◌%◌, Bool, true, false, cond, ◌==◌, List, [], ◌∷◌, length, refl, sym, ap, subst, ◌∙◌, if◌then◌else◌, None, arith}
 use Rattle.std.proofs.lemmas.List.{set-get_or, get_or-set_same, length-set}
 use Rattle.mx_words.specs.declared.perm.Perm.{Perm}
 use Rattle.mx_words.specs.declared.perm.Access.TheVariants as A
 use Rattle.mx_words.specs.Caches.{Cache}
-use Rattle.mx_words.specs.Hearing.{is_in}
-use Rattle.mx_table.specs.Tables.{map_of, IsDomain}
+use Rattle.mx_table.specs.Tables.{map_of}
 use Rattle.mx_check.specs.Harts.{Kept, kept_at}
 use Rattle.mx_core.specs.declared.outcome.Outcome.{Outcome}
 use Rattle.mx_core.specs.declared.outcome.Outcome.TheVariants as O
@@ -20,16 +18,14 @@ use Rattle.mx_model.specs.Effect.{Effect, Goes, Faults, Loads, Stores, Calls, Ju
 use Rattle.mx_model.specs.Events.{Events, no_events}
 use Rattle.mx_model.specs.State.{Core, Running, with_hart}
 use Rattle.mx_model.specs.State.{hart_at as hart_at_seen}
-use Rattle.mx_model.specs.State.{no_hart as nobody_seen}
 use Rattle.mx_model.specs.State.{Hart as Seen}
 use Rattle.mx_model.specs.Turn.{Action, acted, is_return_at, runs_at}
 use Rattle.mx_model.proofs.ListLaws.{length-put_at}
 use Rattle.mx_model.proofs.TurnCases.{looked_all-caches}
 use Rattle.mx_supervisor.specs.Served.{range_of}
-use Rattle.mx_machine.specs.declared.hart.Hart.{Hart}
 use Rattle.mx_machine.specs.declared.hart.Progress.{Progress}
 use Rattle.mx_machine.specs.Actions.{after_instruction, effect_for, outcome_for, perm_for}
-use Rattle.mx_machine.specs.Harts.{no_held_hart, hart_among, is_waiting, own_call, seen, seen_with, status_by}
+use Rattle.mx_machine.specs.Harts.{hart_among, is_waiting, own_call, seen, seen_with}
 use Rattle.mx_machine.specs.Held.{Held, rest_of}
 use Rattle.mx_machine.specs.Made.{IsMade, core_in, made_by, hart_in, instruction, reads_of}
 use Rattle.mx_machine.specs.Steps.{Stops, instructed, pc_after}
@@ -43,9 +39,7 @@ use Rattle.mx_machine.proofs.LookLaws.{StayTied, looks-core, stay-all}
 
 -- a running hart of the state
 pub seen-running : (m : Held) (h : ℕ) → MayRun m h → hart_in m h ≡ seen_with Running (hart_among m.harts h)
-seen-running m h r =
-    let x = hart_among m.harts h in
-    hart-in m h ∙ ap (λ (p : Progress). seen_with (status_by (own_call h x) (kept_at m.parts.harts h).flight p) x) r.runs
+seen-running m h r = search (arith, m.harts, hart-in, m.parts.harts)
 
 -- RAM keeps its length
 bytes-count : (perm : ℕ → Perm) (bytes : List ℕ) (e : Effect) → length (bytes_after perm bytes e) ≡ length bytes
@@ -76,10 +70,7 @@ regs-still perm bytes regs pc returns (Jumps rd target) s =
     ] s
 
 pc-still : (o : Outcome) (pc : ℕ) → Stops o → pc_after o pc ≡ pc
-pc-still (O.Next n) pc s = absurd s
-pc-still (O.Trap fault) pc s = refl
-pc-still O.Call pc s = refl
-pc-still (O.Back rd target) pc s = refl
+pc-still x pc s = grind arith
 
 action-still : (h : ℕ) (hart : Seen) (a b : List ℕ) (o : Outcome) → Stops o → action_of h hart a o ≡ action_of h hart b o
 action-still h hart a b (O.Next n) s = absurd s
@@ -121,20 +112,8 @@ module _ (m : Held) (h : ℕ) (returns : Bool) (r : MayRun m h) where
   -- the hart may still run
   pub runs-instruction : MayRun (after_instruction h returns m) h
   runs-instruction =
-      let x = hart_among m.harts h in
-      let regs = regs_after (perm_for m x) m.parts.ram x.regs x.pc returns (effect_for m x) in
-      let y = instructed regs (outcome_for m h returns) x in
-      let own : hart_among (set m.harts h y) h ≡ y = get_or-set_same m.harts h y no_held_hart r.act.there in
-      let s = after-stays in
-      record {
-        act = record {
-          fits = fits-instruction;
-          there = subst (λ n. h < n) (sym (length-set m.harts h y)) r.act.there;
-          heard = λ i ne. subst (λ (k : Kept). IfSome k.flight (λ f. is_in f.heard h ≡ true)) (sym (s.others i ne)) (r.act.heard i ne);
-          domain = subst (λ (z : Hart). IsDomain m.parts.maps z.domain) (sym own) r.act.domain;
-        };
-        runs = ap (λ (z : Hart). z.progress) own ∙ r.runs;
-      }
+      search (arith, m.harts, m.parts.ram, get_or-set_same, after-stays, fits-instruction, length-set, r.act.heard,
+        m.parts.maps)
 
 -- the state after an instruction, by what the model says of it
 module _ (m : Held) (h : ℕ) (returns : Bool) (r : MayRun m h) (whole : length (map_of m.parts.maps (hart_among m.harts h).domain) ≡ m.parts.size)
@@ -182,31 +161,13 @@ module _ (m : Held) (h : ℕ) (returns : Bool) (r : MayRun m h) (whole : length 
 
   -- it goes on
   pub made-next : (pc : ℕ) → outcome_for m h returns ≡ O.Next pc → IsMade m (after_instruction h returns m) no_events T.Ran (instruction m h)
-  made-next pc e =
-      let x = hart_among m.harts h in
-      let k = kept_at (after_instruction h returns m).parts.harts h in
-      let y = instructed regs_now (O.Next pc) x in
-      let end = acted (reads_of m) behind_looks h running_hart (action_of h running_hart regs_now (O.Next pc)) in
-      let core : core_in (after_instruction h returns m) ≡ end.core = after-core
-      ∙ ap (λ (o : Outcome). with_hart h (seen h (instructed regs_now o x) k) behind_looks) e
-      ∙ ap (λ (p : Progress). with_hart h (seen_with (status_by (own_call h y) k.flight p) y) behind_looks) r.runs in
-      let made : IsMade m (after_instruction h returns m) no_events T.Ran end = record { core = core; maps = refl; owners = refl; console = refl; note = refl; kind = refl } in
-      subst (λ d. IsMade m (after_instruction h returns m) no_events T.Ran d)
-      (sym (made-behind ∙ ap (λ (o : Outcome). acted (reads_of m) behind_looks h running_hart (action_of h running_hart regs_now o)) e)) made
+  made-next pc e = grind (arith, m.harts, regs_now, behind_looks, running_hart, after-core, made-behind)
 
   -- it stops: the hart stands as before
   core-stopped : Stops (outcome_for m h returns) → core_in (after_instruction h returns m) ≡ behind_looks
   core-stopped st =
-      let x = hart_among m.harts h in
-      let k = kept_at (after_instruction h returns m).parts.harts h in
-      let still : instructed regs_now (outcome_for m h returns) x ≡ x =
-      ap (λ (regs : List ℕ). instructed regs (outcome_for m h returns) x) (regs-still (perm_for m x) m.parts.ram x.regs x.pc returns (effect_for m x) st)
-      ∙ ap (λ (pc : ℕ). record x { pc = pc }) (pc-still (outcome_for m h returns) x.pc st) in
-      after-core
-      ∙ ap (λ (y : Hart). with_hart h (seen h y k) behind_looks) still
-      ∙ ap (λ (p : Progress). with_hart h (seen_with (status_by (own_call h x) k.flight p) x) behind_looks) r.runs
-      ∙ ap (λ (y : Seen). with_hart h y behind_looks) (sym (seen-running m h r))
-      ∙ ap (λ (hs : List Seen). record behind_looks { harts = hs }) (set-get_or (core_in m).harts h nobody_seen)
+      search (arith, m.harts, regs_now, regs-still, m.parts.ram, pc-still, after-core, behind_looks, seen-running,
+        set-get_or)
 
   pub made-stopped : (regs : List ℕ) → Stops (outcome_for m h returns) →
       instruction m h ≡ made_by (after_instruction h returns m) h (action_of h (hart_in (after_instruction h returns m) h) regs (outcome_for m h returns))
@@ -224,8 +185,4 @@ module _ (m : Held) (h : ℕ) (returns : Bool) (r : MayRun m h) (whole : length 
   pub from-instruction : (new : Held) (events : Events) (answer : TurnKind) (o : Outcome) → outcome_for m h returns ≡ o → Stops o →
       IsMade (after_instruction h returns m) new events answer (made_by (after_instruction h returns m) h (action_of h (hart_in (after_instruction h returns m) h) [] o)) →
       IsMade m new events answer (instruction m h)
-  from-instruction new events answer o e st i =
-      let n = after_instruction h returns m in
-      let is = made-stopped [] (subst (λ (p : Outcome). Stops p) (sym e) st) ∙ ap (λ (p : Outcome). made_by n h (action_of h (hart_in n h) [] p)) e in
-      subst (λ d. IsMade m new events answer d) (sym is)
-      (record { core = i.core; maps = i.maps; owners = i.owners; console = i.console; note = i.note; kind = i.kind })
+  from-instruction new events answer o e st i = search (arith, made-stopped)

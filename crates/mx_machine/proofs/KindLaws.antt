@@ -1,5 +1,5 @@
 -- What a turn was: an instruction is carried out only by a hart that runs in a live domain, and not at a call gate, by a return, a call or a fault.
-use Rattle.std.proofs.Common.{◌≡◌, ◌≢◌, ℕ, zero, suc, ◌<◌, ◌%◌, Bool, true, false, not, ◌==◌, nat_le, length, get_or, refl, sym, ap, ◌∙◌, arith, if◌then◌else◌, Option, Some, None}
+use Rattle.std.proofs.Common.{◌≡◌, ◌≢◌, ℕ, zero, suc, ◌<◌, Bool, true, false, not, ◌==◌, get_or, refl, sym, ap, ◌∙◌, arith, if◌then◌else◌, Option, Some, None}
 use Rattle.std.specs.Option.{option_map_or}
 use Rattle.mx_check.specs.Harts.{kept_at}
 use Rattle.mx_model.specs.declared.values.Call.{Call}
@@ -8,11 +8,11 @@ use Rattle.mx_model.specs.declared.values.TurnKind.{TurnKind}
 use Rattle.mx_model.specs.declared.values.TurnKind.TheVariants as T
 use Rattle.mx_model.specs.Checks.{is_ready}
 use Rattle.mx_model.specs.Effect.{reg}
-use Rattle.mx_model.specs.Gates.{most_frames, top}
+use Rattle.mx_model.specs.Gates.{top}
 use Rattle.mx_model.specs.Run.{flat_kind}
 use Rattle.mx_model.specs.State.{module_at}
 use Rattle.mx_model.specs.State.{Hart as Seen}
-use Rattle.mx_model.specs.Turn.{Asks, Bounces, Crosses, Decided, Made, Returns, Traps, asked, at_gate, at_return, is_served_now, returned_over, traps, without_look}
+use Rattle.mx_model.specs.Turn.{Asks, Bounces, Crosses, Decided, Made, Returns, Traps, at_gate, at_return, returned_over, traps, without_look}
 use Rattle.mx_model.proofs.TurnCases.{ready, turned-dead, turned-serves, turned-waits}
 use Rattle.mx_machine.specs.declared.hart.Progress.{Progress}
 use Rattle.mx_machine.specs.declared.hart.Progress.TheVariants as G
@@ -46,8 +46,7 @@ crossed-ended : T.Crossed ≢ T.Ran
 crossed-ended e = cc
 
 pub asks-ended : (m : Held) (h : ℕ) (call : Call) → (made_by m h (Asks call)).kind ≢ T.Ran
-asks-ended m h call =
-    elim (is_served_now (core_in m) h call) as (λ b. (asked (reads_of m) (core_in m) h (hart_in m h) call b).kind ≢ T.Ran) [ true ↦ called-ended | false ↦ called-ended ]
+asks-ended m h call = search (arith, called-ended)
 
 over-ended : (m : Held) (h rd target : ℕ) (o : Option Frame) → (made_by m h (option_map_or (returned_over rd target) o (Traps 18 target))).kind ≢ T.Ran
 over-ended m h rd target None = trapped-ended
@@ -66,21 +65,15 @@ gate-by s t straight dead full =
     without_look (Crosses t)
 
 gate-by-ended : (m : Held) (h : ℕ) (s : Seen) (t : ℕ) (a b f : Bool) → (made_by m h (gate-by s t a b f).action).kind ≢ T.Ran
-gate-by-ended m h s t false b f = trapped-ended
-gate-by-ended m h s t true true f = returned-ended
-gate-by-ended m h s t true false true = trapped-ended
-gate-by-ended m h s t true false false = crossed-ended
+gate-by-ended m h s t x b f = grind (arith, trapped-ended, returned-ended, crossed-ended)
 
 pub gate-ended : (m : Held) (h t : ℕ) → (made_by m h (at_gate (core_in m) (hart_in m h) t).action).kind ≢ T.Ran
-gate-ended m h t =
-    let s = hart_in m h in
-    gate-by-ended m h s t (reg s.regs 1 % 4 == 0) (module_at (core_in m) t).dead (nat_le most_frames (length s.frames))
+gate-ended m h t = search (arith, gate-by-ended)
 
 -- a hart that is halted, waits or runs in a dead domain carries out no instruction
 module _ (m : Held) (h : ℕ) (w : IsWhole m) (ran : flat_kind (meaning m) h ≡ T.Ran) where
   status-is : (p : Progress) → (hart_among m.harts h).progress ≡ p → (hart_in m h).status ≡ status_by (own_call h (hart_among m.harts h)) (kept_at m.parts.harts h).flight p
-  status-is p at =
-      ap (λ (s : Seen). s.status) (hart-in m h) ∙ ap (λ (p : Progress). status_by (own_call h (hart_among m.harts h)) (kept_at m.parts.harts h).flight p) at
+  status-is p at = search (arith, hart-in, m.harts, m.parts.harts)
 
   ran-halted : (code : Option ℕ) → (hart_among m.harts h).progress ≡ G.Halted code → ⊥
   ran-halted code at =
@@ -105,13 +98,7 @@ module _ (m : Held) (h : ℕ) (w : IsWhole m) (ran : flat_kind (meaning m) h ≡
   ran-live false at e = refl
 
   ran-by : (p : Progress) → (hart_among m.harts h).progress ≡ p → RunsAlive m h
-  ran-by G.Running at = record {
-    there = hart-there m h w G.Running at refl;
-    runs = at;
-    alive = ran-live (get_or m.dead (hart_among m.harts h).domain false) at refl;
-  }
-  ran-by G.Waiting at = absurd (ran-waiting-by (is_ready (ready (core_in m) h) h (hearers (kept_at m.parts.harts h).flight)) at refl)
-  ran-by (G.Halted code) at = absurd (ran-halted code at)
+  ran-by x at = search (arith, hart-there, ran-live, ran-waiting-by, ready, ran-halted)
 
   pub ran-alive : RunsAlive m h
   ran-alive = ran-by (hart_among m.harts h).progress refl

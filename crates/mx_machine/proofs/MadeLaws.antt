@@ -12,19 +12,18 @@ use Rattle.mx_model.specs.declared.values.TurnKind.TheVariants as T
 use Rattle.mx_model.specs.Checks.{empties_places}
 use Rattle.mx_model.specs.Effect.{next, reg, written}
 use Rattle.mx_model.specs.Gates.{nearest, top}
-use Rattle.mx_model.specs.State.{Running, Halted, with_hart}
+use Rattle.mx_model.specs.State.{Halted, with_hart}
 use Rattle.mx_model.specs.State.{Hart as Seen}
 use Rattle.mx_model.specs.Turn.{Traps, Bounces, Crosses, Returns, fault_answer, given_up, over_frame}
 use Rattle.mx_model.specs.Turn.{crossed as crossed_in, killed as killed_in}
 use Rattle.mx_supervisor.specs.Served.{range_of}
 use Rattle.mx_machine.specs.declared.hart.Hart.{Hart}
-use Rattle.mx_machine.specs.declared.hart.Progress.{Progress}
 use Rattle.mx_machine.specs.Actions.{crossed, dead_after, fallen, gives_up_kept, killed, kills_by, returned, with_step}
-use Rattle.mx_machine.specs.Harts.{hart_among, is_halted, is_waiting, own_call, seen}
+use Rattle.mx_machine.specs.Harts.{hart_among, is_halted, is_waiting, seen}
 use Rattle.mx_machine.specs.Held.{Held, behind, rest_of}
 use Rattle.mx_machine.specs.Made.{IsMade, core_in, made_by}
 use Rattle.mx_machine.specs.Steps.{enters, gives_up_over, goes, returns_by}
-use Rattle.mx_machine.specs.Ties.{Fits, FliesWhileWaiting, IsTied, MayAct, MayRun}
+use Rattle.mx_machine.specs.Ties.{Fits, IsTied, MayAct, MayRun}
 use Rattle.mx_machine.proofs.CoreLaws.{FlyAlike, core-kept, core-left, core-step}
 use Rattle.mx_machine.proofs.FitLaws.{IsChange, changed, count-step, fits-change, others-step, own-step}
 use Rattle.mx_machine.proofs.HartsAt.{hart-in}
@@ -38,20 +37,13 @@ pub here : (m : Held) (d : ℕ) → Fits m → IsDomain m.parts.maps d → IsHer
 here m d f p = record { low = p.first; high = omega (arith, p.last, f.sound.heaps) }
 
 pub running-free : (m : Held) (h : ℕ) → MayRun m h → (kept_at m.parts.harts h).flight ≡ None
-running-free m h r =
-    subst (λ (p : Progress). FliesWhileWaiting (range_of m.parts (own_call h (hart_among m.harts h))) (kept_at m.parts.harts h).flight p) r.runs (r.act.fits.ties h).flight
+running-free m h r = search (arith, m.parts, m.harts, m.parts.harts, r.runs, r.act.fits.ties)
 
 pub running-kept : (m : Held) (h : ℕ) → MayRun m h → (kept_at m.parts.harts h).halted ≡ false
 running-kept m h r = (r.act.fits.ties h).halted ∙ ap is_halted r.runs
 
 pub may-look : (m : Held) (h : ℕ) → MayRun m h → MayLook h (hart_among m.harts h).domain m.parts.harts
-may-look m h r = record {
-  hart = kept-there m h r.act;
-  running = running-kept m h r;
-  free = running-free m h r;
-  heard = r.act.heard;
-  same_domain = (r.act.fits.ties h).domain;
-}
+may-look m h r = search (arith, kept-there, running-kept, running-free, r.act.fits.ties)
 
 -- the checker's step for hart h leaves the others' calls in flight
 fly-step : (kept : List Kept) (h : ℕ) (step : Kept → Kept) → FlyAlike h (at_hart h step kept) kept
@@ -90,11 +82,7 @@ fall-still cause x None = refl
 fall-still cause x (Some f) = refl
 
 pub fits-trap : (m : Held) (h cause : ℕ) → MayRun m h → Fits (fallen h cause (killed (hart_among m.harts h).domain cause m))
-fits-trap m h cause r =
-    let x = hart_among m.harts h in
-    let o = top x.frames in
-    step-fits m h (gives_up_over cause x o) (gives_up_kept o) (dead_after m.dead x.domain (kills_by m x.domain cause)) r.act
-    (dead-count m.dead x.domain (kills_by m x.domain cause) ∙ r.act.fits.dead) (fall-tied m h cause o r) (fall-still cause x o)
+fits-trap m h cause r = search (arith, step-fits, r.act, dead-count, fall-tied, fall-still)
 
 fall-core : (m : Held) (h cause : ℕ) (o : Option Frame) → MayRun m h →
     let x = hart_among m.harts h in
@@ -120,18 +108,7 @@ pub made-trap : (m : Held) (h cause value : ℕ) → MayRun m h →
     let x = hart_among m.harts h in
     IsMade m (fallen h cause (killed x.domain cause m))
     (record { bytes = []; note = Some (N.Fault m.steps h x.domain x.pc (record { cause = cause; value = value })) }) T.Trapped (made_by m h (Traps cause value))
-made-trap m h cause value r =
-    let x = hart_among m.harts h in
-    let e = hart-in m h in
-    record {
-      core = fall-core m h cause (top x.frames) r
-          ∙ sym (ap (λ (y : Seen). given_up (killed_in y.domain cause (core_in m)) h y cause (top y.frames)) e);
-      maps = refl;
-      owners = refl;
-      console = refl;
-      note = sym (ap (λ (y : Seen). Some (N.Fault m.steps h y.domain y.pc (record { cause = cause; value = value }))) e);
-      kind = refl;
-    }
+made-trap m h cause value r = search (arith, hart-in, fall-core)
 
 -- a dead target
 pub fits-bounce : (m : Held) (h pc value : ℕ) → MayRun m h → Fits (with_step h (goes (slice_set (hart_among m.harts h).regs 10 value) pc) m)
@@ -151,26 +128,11 @@ fits-bounce m h pc value r =
 
 pub made-bounce : (m : Held) (h link : ℕ) → MayRun m h → link ≡ reg (hart_among m.harts h).regs 1 →
     IsMade m (with_step h (goes (slice_set (hart_among m.harts h).regs 10 (fault_answer 20)) link) m) (record { bytes = []; note = None }) T.Returned (made_by m h Bounces)
-made-bounce m h link r l =
-    let x = hart_among m.harts h in
-    let y = goes (slice_set x.regs 10 (fault_answer 20)) link x in
-    record {
-      core = core-step m h y m.parts (λ i ne. refl)
-          ∙ ap (λ (pc : ℕ). with_hart h (record { regs = slice_set x.regs 10 (fault_answer 20); pc = pc; domain = x.domain; frames = x.frames; status = Running }) (core_in m)) l
-          ∙ sym (ap (λ (s : Seen). with_hart h (record s { regs = slice_set s.regs 10 (fault_answer 20); pc = reg s.regs 1; status = Running }) (core_in m)) (hart-in m h));
-      maps = refl;
-      owners = refl;
-      console = refl;
-      note = refl;
-      kind = refl;
-    }
+made-bounce m h link r l = search (arith, m.harts, core-step, m.parts, hart-in)
 
 -- a crossing
 pub fits-cross : (m : Held) (h target : ℕ) → MayRun m h → Fits (crossed h target m)
-fits-cross m h target r =
-    let x = hart_among m.harts h in
-    let stack = unwrap_or (nearest x.frames target) (behind m.stacks target h) in
-    step-fits m h (enters target stack x) leaves_domain m.dead r.act r.act.fits.dead (record { halted = running-kept m h r; flight = running-free m h r; domain = tt }) refl
+fits-cross m h target r = search (arith, step-fits, r.act, r.act.fits.dead, running-kept, running-free)
 
 pub made-cross : (m : Held) (h target : ℕ) → MayRun m h → IsDomain m.parts.maps target →
     IsMade m (crossed h target m) (record { bytes = []; note = None }) T.Crossed (made_by m h (Crosses target))

@@ -1,5 +1,5 @@
 -- The run of a word in a map, found from span to span.
-use Rattle.std.proofs.Common.{◌≡◌, ◌≢◌, ℕ, ◌+◌, ◌<◌, ◌≤◌, ◌⊎◌, inl, inr, List, length, sym, ◌∙◌, subst, arith}
+use Rattle.std.proofs.Common.{◌≡◌, ◌≢◌, ℕ, ◌+◌, ◌<◌, ◌≤◌, ◌⊎◌, inl, inr, List, length, sym, ◌∙◌, arith}
 use Rattle.std.proofs.lemmas.Bool.{cases_lt}
 use Rattle.mx_words.specs.declared.perm.Perm.{Perm}
 use Rattle.mx_words.specs.declared.perm.Span.{Span}
@@ -41,5 +41,4 @@ round_other m i end s r ne = λ e. ne (round_perm m end s r ∙ e)
 
 -- what a walk answers in a flat state
 pub walk_round : (f : Flat) (d i : ℕ) (s : Span) → s ≡ (flat_reads f).walk d i → length (map_in f.core.size f.maps d) ≡ f.core.size → i < f.core.size → IsUniformRound (map_in f.core.size f.maps d) i s
-walk_round f d i s e whole lt =
-    subst (λ (x : Span). IsUniformRound (map_in f.core.size f.maps d) i x) (sym e) (span_round f.core.kind (map_in f.core.size f.maps d) i (omega arith))
+walk_round f d i s e whole lt = search (arith, f.core.size, f.maps, span_round, f.core.kind)

@@ -1,5 +1,5 @@
 -- What a turn may rest on: a hart that isn't halted is there, stands at an instruction of a module, and acts once it has heard the others' calls.
-use Rattle.std.proofs.Common.{◌≡◌, ℕ, zero, suc, ◌<◌, ◌≤◌, ◌%◌, false, List, [], ◌∷◌, length, refl, sym, ap, subst, ◌∙◌, arith, Option, None}
+use Rattle.std.proofs.Common.{◌≡◌, ℕ, zero, suc, ◌<◌, ◌%◌, false, List, [], ◌∷◌, length, refl, sym, ap, subst, ◌∙◌, arith, Option, None}
 use Rattle.mx_table.specs.Tables.{IsDomain}
 use Rattle.mx_check.specs.declared.flight.Flight.{Flight}
 use Rattle.mx_check.specs.Conditions.{HasHeardAll}
@@ -8,21 +8,19 @@ use Rattle.mx_model.specs.declared.values.TurnKind.{TurnKind}
 use Rattle.mx_model.specs.declared.values.TurnKind.TheVariants as T
 use Rattle.mx_model.specs.Events.{Events, no_events}
 use Rattle.mx_model.specs.Run.{flat_made}
-use Rattle.mx_model.specs.State.{Hart as Seen}
 use Rattle.mx_model.specs.Valid.{IsValid}
 use Rattle.mx_supervisor.proofs.Modules.{length-modules}
 use Rattle.mx_machine.specs.declared.hart.Hart.{Hart}
 use Rattle.mx_machine.specs.declared.hart.Progress.{Progress}
 use Rattle.mx_machine.specs.declared.hart.Progress.TheVariants as G
 use Rattle.mx_machine.specs.Actions.{counted, heard}
-use Rattle.mx_machine.specs.Harts.{hart_among, is_halted, is_waiting, own_call}
-use Rattle.mx_machine.specs.Held.{Held, meaning, rest_of}
+use Rattle.mx_machine.specs.Harts.{hart_among, is_halted, is_waiting}
+use Rattle.mx_machine.specs.Held.{Held, meaning}
 use Rattle.mx_machine.specs.Made.{IsMade, core_in, made_after_hearing}
 use Rattle.mx_machine.specs.Ties.{Fits, FliesWhileWaiting, IsWhole, MayAct}
 use Rattle.mx_machine.proofs.CaseLaws.{core-counted, fits-counted, turn-halted, valid-counted, valid-heard}
 use Rattle.mx_machine.proofs.HartsAt.{hart-in, length-seen}
 use Rattle.mx_machine.proofs.HearLaws.{fits-heard}
-use Rattle.mx_supervisor.specs.Served.{range_of}
 
 -- a hart that isn't halted is there
 pub there-alive : (xs : List Hart) (h : ℕ) → is_halted (hart_among xs h).progress ≡ false → h < length xs
@@ -32,17 +30,10 @@ there-alive (x ∷ xs) (suc h) e = let l : h < length xs = there-alive xs h e in
 
 -- it stands at an instruction of a module
 pub aligned-pc : (m : Held) (h : ℕ) → IsValid (core_in m) → h < length m.harts → (hart_among m.harts h).pc % 4 ≡ 0
-aligned-pc m h v there =
-    ap (λ (s : Seen). s.pc % 4) (sym (hart-in m h)) ∙ (v.harts h (subst (λ n. h < n) (sym (length-seen 0 m.harts m.parts.harts)) there)).pc.aligned
+aligned-pc m h v there = search (arith, hart-in, v.harts, length-seen, m.harts)
 
 pub own-domain : (m : Held) (h : ℕ) → IsValid (core_in m) → Fits m → h < length m.harts → IsDomain m.parts.maps (hart_among m.harts h).domain
-own-domain m h v f there =
-    let d = (v.harts h (subst (λ n. h < n) (sym (length-seen 0 m.harts m.parts.harts)) there)).domain in
-    let last : (hart_among m.harts h).domain ≤ length (core_in m).modules = subst (λ (s : Seen). s.domain ≤ length (core_in m).modules) (hart-in m h) d.last in
-    record {
-      first = subst (λ (s : Seen). 1 ≤ s.domain) (hart-in m h) d.first;
-      last = omega (arith, last, length-modules (rest_of m) 1 m.parts.heaps, f.sound.heaps);
-    }
+own-domain m h v f there = search (arith, v.harts, length-seen, m.harts, hart-in, length-modules)
 
 -- where no hart may wait, no call is in flight
 still-free : (range : ℕ × ℕ) (flight : Option Flight) (p : Progress) → FliesWhileWaiting range flight p → is_waiting p ≡ false → flight ≡ None
@@ -51,8 +42,7 @@ still-free range flight G.Waiting t e = absurd (let z : ⊥ = cc in z)
 still-free range flight (G.Halted code) t e = t
 
 pub none-flies : (m : Held) → Fits m → m.waiting ≡ false → (i : ℕ) → (kept_at m.parts.harts i).flight ≡ None
-none-flies m f q i =
-    still-free (range_of m.parts (own_call i (hart_among m.harts i))) (kept_at m.parts.harts i).flight (hart_among m.harts i).progress (f.ties i).flight (f.quiet q i)
+none-flies m f q i = search (arith, still-free, m.parts, m.harts, m.parts.harts, f.ties, f.quiet)
 
 -- a halted hart rests in a turn that counts
 pub made-idle : (m : Held) (h : ℕ) (code : Option ℕ) → (hart_among m.harts h).progress ≡ G.Halted code → IsMade m (counted m) no_events T.Idle (flat_made (meaning m) h)
@@ -71,18 +61,12 @@ module _ (m : Held) (h : ℕ) (w : IsWhole m) (p : Progress) (at : (hart_among m
   -- it may hear them
   pub may-hear : (n : Held) → n ≡ m →
       (h < length n.parts.harts) × (((kept_at n.parts.harts h).halted ≡ false) × (n.waiting ≡ false → (i : ℕ) → (kept_at n.parts.harts i).flight ≡ None))
-  may-hear n is =
-      let there : h < length m.parts.harts = let l = hart-there in omega (arith, l, w.fits.count) in
-      subst (λ (n : Held). (h < length n.parts.harts) × (((kept_at n.parts.harts h).halted ≡ false) × (n.waiting ≡ false → (i : ℕ) → (kept_at n.parts.harts i).flight ≡ None)))
-      (sym is) (there, (kept-alive, none-flies m w.fits))
+  may-hear n is = search (arith, m.parts.harts, hart-there, kept-alive, none-flies)
 
   acts-heard : HasHeardAll h (heard h (counted m)).parts.harts → MayAct (heard h (counted m)) h
-  acts-heard all = record {
-    fits = fits-heard (counted m) h (fits-counted m w.fits) hart-there;
-    there = hart-there;
-    heard = all;
-    domain = own-domain m h w.valid w.fits hart-there;
-  }
+  acts-heard all =
+      search (arith, hart-there, fits-heard (counted m) h (fits-counted m w.fits) hart-there,
+        own-domain m h w.valid w.fits hart-there)
 
   -- it is this machine then
   module _ (old : Held) (is : old ≡ heard h (counted m)) where
@@ -102,5 +86,4 @@ module _ (m : Held) (h : ℕ) (w : IsWhole m) (p : Progress) (at : (hart_among m
         IsMade old new events answer (made_after_hearing old h) → IsMade m new events answer (flat_made (meaning m) h)
     made-now new events answer turn i =
         let j = subst (λ (n : Held). IsMade n new events answer (made_after_hearing n h)) is i in
-        subst (λ d. IsMade m new events answer d) (sym turn)
-        (record { core = j.core; maps = j.maps; owners = j.owners; console = j.console; note = j.note; kind = j.kind })
+        search arith

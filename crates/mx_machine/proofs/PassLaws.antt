@@ -1,5 +1,5 @@
 -- At a call gate: the stack area of the domain that is entered lies in RAM.
-use Rattle.std.proofs.Common.{◌≡◌, ◌≢◌, ℕ, ◌+◌, ◌-◌, ◌*◌, ◌<◌, ◌≤◌, ◌⊎◌, inl, inr, Bool, true, false, ◌==◌, cond, nat_le, length, sym, subst, arith}
+use Rattle.std.proofs.Common.{◌≡◌, ℕ, ◌+◌, ◌-◌, ◌*◌, ◌<◌, ◌≤◌, ◌⊎◌, true, false, ◌==◌, cond, nat_le, length, sym, subst, arith}
 use Rattle.std.proofs.Math.Nat.{mul-le-mul_left}
 use Rattle.std.proofs.lemmas.Bool.{cases_eq, le-leb, lt-leb, ne_eqb}
 use Rattle.mx_words.specs.Ranges.{most_words}
@@ -16,14 +16,7 @@ use Rattle.mx_machine.proofs.HomeLaws.{IsHere, module-is}
 
 told-inside : (first words n h size : ℕ) → cond (words == 0) 0 first + words * n ≤ size → h < n → size ≤ most_words →
     (words ≡ 0) ⊎ (first + words * (h + 1) ≤ most_words)
-told-inside first words n h size e l few = by (cases_eq words 0)
-  where
-    by : (words ≡ 0) ⊎ (words ≢ 0) → (words ≡ 0) ⊎ (first + words * (h + 1) ≤ most_words)
-    by (inl z) = inl z
-    by (inr ne) =
-        let whole : first + words * n ≤ size = subst (λ (b : Bool). cond b 0 first + words * n ≤ size) (ne_eqb words 0 ne) e in
-        let part : words * (h + 1) ≤ words * n = mul-le-mul_left {m = h + 1} {n = n} words (omega (arith, l)) in
-        inr (omega (arith, whole, part, few))
+told-inside first words n h size e l few = search (arith, cases_eq, ne_eqb, mul-le-mul_left)
 
 pub area-inside : (m : Held) (d h : ℕ) → IsValid (core_in m) → Fits m → IsHere m d → h < length m.harts →
     ((area_of m.stacks d).words ≡ 0) ⊎ ((area_of m.stacks d).first + (area_of m.stacks d).words * (h + 1) ≤ most_words)

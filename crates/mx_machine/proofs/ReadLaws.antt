@@ -1,18 +1,16 @@
 -- What is read of a machine is what its state says.
-use Rattle.std.proofs.Common.{◌≡◌, ℕ, ◌+◌, ◌<◌, ◌==◌, ◌&&◌, Bool, true, false, cond, eq-eqb, List, [], ◌∷◌, length, refl, sym, ap, subst, ◌∙◌, arith, Option, Some, None}
+use Rattle.std.proofs.Common.{◌≡◌, ℕ, ◌+◌, ◌<◌, ◌==◌, ◌&&◌, cond, eq-eqb, List, [], ◌∷◌, length, refl, sym, ap, ◌∙◌, arith, Option, Some, None}
 use Rattle.std.specs.List.{list_all}
 use Rattle.std.proofs.lemmas.Bool.{ne_eqb}
-use Rattle.mx_words.specs.declared.perm.Perm.{Perm}
 use Rattle.mx_table.specs.Tables.{IsDomain, map_of}
 use Rattle.mx_check.specs.declared.flight.Flight.{Flight}
 use Rattle.mx_check.specs.Harts.{Kept, kept_at, has_heard}
 use Rattle.mx_model.specs.declared.values.Call.{Call}
 use Rattle.mx_model.specs.Checks.{is_halted as stands_halted}
 use Rattle.mx_model.specs.Reads.{map_in}
-use Rattle.mx_model.specs.State.{Module, module_at}
+use Rattle.mx_model.specs.State.{module_at}
 use Rattle.mx_model.specs.State.{Hart as Seen}
 use Rattle.mx_model.specs.Valid.{IsModule}
-use Rattle.mx_supervisor.specs.Served.{range_of}
 use Rattle.mx_supervisor.proofs.Modules.{length-modules}
 use Rattle.mx_supervisor.proofs.Maps.{map-in}
 use Rattle.mx_machine.specs.declared.hart.Hart.{Hart}
@@ -50,31 +48,19 @@ module _ (m : Held) (f : Fits m) where
       a ≡ record (area_of m.stacks d) { first = cond ((area_of m.stacks d).words == 0) 0 (area_of m.stacks d).first } → IsAreaOf (module_at (core_in m) d) a
   area-told d a i e =
       let is = module-is m d f (here-in d i) in
-      record {
-        first = ap (λ (x : StackArea). x.first) e ∙ sym (ap (λ (x : Module). x.stack.first) is);
-        words = ap (λ (x : StackArea). x.words) e ∙ sym (ap (λ (x : Module). x.stack.words) is);
-        kills = ap (λ (x : StackArea). x.kills) e ∙ sym (ap (λ (x : Module). x.kills) is);
-      }
+      search arith
 
   pub area-none : (d : ℕ) (a : StackArea) → IsModule (length (core_in m).modules) d → a ≡ area_of m.stacks d → a.words ≡ 0 →
       IsAreaOf (module_at (core_in m) d) (record a { first = 0 })
-  area-none d a i e none =
-      let b = area_of m.stacks d in
-      let empty : (b.words == 0) ≡ true = eq-eqb b.words 0 (sym (ap (λ (x : StackArea). x.words) e) ∙ none) in
-      area-told d (record a { first = 0 }) i
-      (ap (λ (x : StackArea). record x { first = 0 }) e ∙ ap (λ (t : Bool). record b { first = cond t 0 b.first }) (sym empty))
+  area-none d a i e none = search (arith, m.stacks, eq-eqb, area-told)
 
   pub area-some : (d : ℕ) (a : StackArea) → IsModule (length (core_in m).modules) d → a ≡ area_of m.stacks d → (a.words ≡ 0 → ⊥) →
       IsAreaOf (module_at (core_in m) d) a
-  area-some d a i e some =
-      let b = area_of m.stacks d in
-      let full : (b.words == 0) ≡ false = ne_eqb b.words 0 (λ none. some (ap (λ (x : StackArea). x.words) e ∙ none)) in
-      area-told d a i (e ∙ ap (λ (t : Bool). record b { first = cond t 0 b.first }) (sym full))
+  area-some d a i e some = search (arith, m.stacks, ne_eqb, area-told)
 
   -- maps are as long as RAM
   pub map-long : (d : ℕ) → IsModule (length (core_in m).modules) d → length (map_in m.parts.size m.parts.maps d) ≡ m.parts.size
-  map-long d i =
-      ap (λ (p : List Perm). length p) (map-in m.parts.size m.parts.maps d (domain-in d i)) ∙ f.sound.maps d (domain-in d i)
+  map-long d i = search (arith, map-in, domain-in, f.sound.maps)
 
 status-seen : (call : Call) (flight : Option Flight) (g : Progress) → status_by_progress g ≡ status_told (status_by call flight g)
 status-seen call flight G.Running = refl
@@ -83,13 +69,7 @@ status-seen call flight (G.Halted code) = refl
 
 -- a hart that is told
 pub view-told : (m : Held) (h : ℕ) (view : HartView) → TellsHart (hart_among m.harts h) view → IsViewOf (hart_in m h) view
-view-told m h view t = subst (λ (x : Seen). IsViewOf x view) (sym (hart-in m h)) (record {
-  status = t.status ∙ status-seen (own_call h (hart_among m.harts h)) (kept_at m.parts.harts h).flight (hart_among m.harts h).progress;
-  domain = t.domain;
-  pc = t.pc;
-  frames = t.frames;
-  regs = t.regs;
-})
+view-told m h view t = search (arith, hart-in, status-seen, m.harts, m.parts.harts)
 
 -- who has heard the call on which a hart waits
 heard-seen : (range : ℕ × ℕ) (call : Call) (by : ℕ) (o : Option Flight) (g : Progress) → FliesWhileWaiting range o g → has_heard o by ≡ was_heard (status_by call o g) by
@@ -99,11 +79,7 @@ heard-seen range call by (Some x) G.Waiting e = refl
 heard-seen range call by o (G.Halted code) e = ap (λ (x : Option Flight). has_heard x by) e
 
 pub heard-told : (m : Held) (h by : ℕ) → Fits m → has_heard (kept_at m.parts.harts h).flight by ≡ was_heard (hart_in m h).status by
-heard-told m h by f =
-    let x = hart_among m.harts h in
-    let o = (kept_at m.parts.harts h).flight in
-    heard-seen (range_of m.parts (own_call h x)) (own_call h x) by o x.progress (f.ties h).flight
-    ∙ sym (ap (λ (y : Seen). was_heard y.status by) (hart-in m h))
+heard-told m h by f = search (arith, m.harts, m.parts.harts, heard-seen, m.parts, f.ties, hart-in)
 
 -- whether all harts are halted
 pub all-halted : (n : ℕ) (xs : List Hart) (kept : List Kept) →

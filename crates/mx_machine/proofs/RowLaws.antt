@@ -64,21 +64,11 @@ row-ready old m h n w r own =
 
 -- a hart that stands in a window may run
 pub open-runs : (m : Held) (h : ℕ) → Fits m → RunsAlive m h → IsDomain m.parts.maps (hart_among m.harts h).domain → m.waiting ≡ false → MayRun m h
-open-runs m h f r d q = record {
-  act = record { fits = f; there = r.there; heard = all-quiet m.parts.harts h (none-flies m f q); domain = d };
-  runs = r.runs;
-}
+open-runs m h f r d q = search (arith, all-quiet, none-flies)
 
 -- no turns
 pub row-none : (m : Held) (h : ℕ) (w : Window) → IsWhole m → RunsAlive m h → IsWindow m h w → IsRowTo m h 0 w (tallied h 0 m)
-row-none m h w whole r i =
-    subst (λ (k : Held). IsRowTo m h 0 w k) (tallied-none m h) (record {
-      whole = whole;
-      alive = r;
-      opened = i;
-      counted = omega arith;
-      run = λ f k ran. subst (λ n. HasRunOn f h n m) (let e : k ≡ k + 0 = omega arith in e) ran;
-    })
+row-none m h w whole r i = search (arith, tallied-none)
 
 -- where the fetch of an instruction of a row is at hand, in RAM of the size of its map
 hand-there : (old m : Held) (h n : ℕ) (w : Window) → IsRowTo old h n w (tallied h n m) → IsOpen m h (hart_among m.harts h).pc →
@@ -158,20 +148,10 @@ module _ (law : (q : Reads) (c : Core) (g : ℕ) → IsValid c → IsValid (turn
 -- a turn whose instruction stops
 pub row-ends : (old m k : Held) (h n : ℕ) (w : Window) (outcome : Outcome) → IsRowTo old h n w (tallied h n m) → IsQuick m h outcome k → Stops outcome →
     EndsBy (tallied h n m) h outcome (tallied h (n + 1) k)
-row-ends old m k h n w outcome r q s = record {
-  whole = r.whole;
-  alive = r.alive;
-  opened = open-tallied m h n (there-kept m h n r.whole.fits r.alive) (hart_among m.harts h).pc q.opened;
-  answered = q.answered;
-  after = row-tallied old m k h n w r q.opened q.after;
-  stops = s;
-}
+row-ends old m k h n w outcome r q s = search (arith, open-tallied, there-kept, r.whole.fits, row-tallied, q.opened)
 
 not-next : (o : Outcome) → ((pc : ℕ) → o ≡ O.Next pc → ⊥) → Stops o
-not-next (O.Next pc) other = other pc refl
-not-next (O.Trap fault) other = tt
-not-next O.Call other = tt
-not-next (O.Back rd target) other = tt
+not-next x other = grind arith
 
 pub stops-but-next : (o : Outcome) → ((pc : ℕ) → o ≡ O.Next pc → ⊥) → Stops o
 stops-but-next o other = not-next o other

@@ -3,18 +3,18 @@ use Rattle.std.proofs.Common.{◌≡◌, ◌≢◌, ℕ, ◌-◌, ◌<◌, ◌�
 use Rattle.std.specs.Prelude.{IfSome}
 use Rattle.std.proofs.lemmas.Bool.{cases_eq}
 use Rattle.std.proofs.lemmas.List.{get_or-set_same, get_or-set_other, length-set}
-use Rattle.mx_words.specs.Announced.{announced, is_announced}
+use Rattle.mx_words.specs.Announced.{is_announced}
 use Rattle.mx_words.specs.FirstFit.{Area}
 use Rattle.mx_check.specs.Harts.{Kept, kept_at, at_hart}
 use Rattle.mx_check.specs.Harts.{halts as counts_as_halted}
 use Rattle.mx_model.specs.declared.values.Call.{Call}
-use Rattle.mx_model.specs.Checks.{Look, arg, looked_all}
+use Rattle.mx_model.specs.Checks.{Look, looked_all}
 use Rattle.mx_model.specs.Reads.{Reads}
-use Rattle.mx_model.specs.Serve.{Served, Service, Exit, Write, Grant, RevokeAll, Transfer, Alloc, Free, AddGate, RemoveGate, AddReturnGate, Query, Self, Exchange, Unknown, judged, serve, served_by, service, write_from, write_looks, exchange_from, with_blocks, look_of, arg_word, alloc_from}
+use Rattle.mx_model.specs.Serve.{Served, Service, judged, serve, served_by, write_from, write_looks, exchange_from, with_blocks, look_of, arg_word, alloc_from}
 use Rattle.mx_model.specs.State.{Core, Module, no_module, module_at}
 use Rattle.mx_model.proofs.SetLaws.{part-set}
 use Rattle.mx_model.proofs.ValidParts.{same-modules-looked_all}
-use Rattle.mx_model.specs.State.{Running, Halted, with_hart}
+use Rattle.mx_model.specs.State.{Halted, with_hart}
 use Rattle.mx_model.specs.State.{Hart as Seen}
 use Rattle.mx_model.specs.declared.values.Note.TheVariants as N
 use Rattle.mx_model.specs.declared.values.TurnKind.TheVariants as T
@@ -22,12 +22,11 @@ use Rattle.mx_model.specs.Effect.{next}
 use Rattle.mx_model.specs.Events.{Events}
 use Rattle.mx_model.specs.Turn.{answered, halted, served, with_regs}
 use Rattle.mx_supervisor.specs.declared.answer.Answer.{Answer}
-use Rattle.mx_supervisor.specs.Heaps.{heap_at}
 use Rattle.mx_supervisor.specs.Looks.{BarsAlike, KeepsHarts}
 use Rattle.mx_supervisor.specs.Parts.{Parts, IsSound, core_of}
 use Rattle.mx_supervisor.specs.Served.{IsServed, KeepsSizes, flight_after, range_of}
 use Rattle.mx_machine.specs.declared.hart.Hart.{Hart}
-use Rattle.mx_machine.specs.Harts.{no_held_hart, hart_among, is_waiting, own_call, seen}
+use Rattle.mx_machine.specs.Harts.{no_held_hart, hart_among, is_waiting, own_call}
 use Rattle.mx_machine.specs.Held.{Held, rest_of}
 use Rattle.mx_machine.specs.Made.{IsMade, core_in, hart_in, reads_of}
 use Rattle.mx_machine.specs.Serving.{IsServing}
@@ -72,39 +71,19 @@ heaps-exchanged r c call None =
     heaps-judged c e _ _ (heaps-refl c) (heaps-refl c)
 
 heaps-served : (k : Service) (r : Reads) (c : Core) (call : Call) → SameHeaps c (served_by k r c call).core
-heaps-served Exit r c call = heaps-judged c c _ _ (heaps-refl c) (heaps-refl c)
-heaps-served Write r c call = heaps-written r c call _
-heaps-served Grant r c call = heaps-judged c c _ _ (heaps-refl c) (heaps-refl c)
-heaps-served RevokeAll r c call = heaps-judged c c _ _ (heaps-refl c) (heaps-refl c)
-heaps-served Transfer r c call = heaps-judged c c _ _ (heaps-refl c) (heaps-refl c)
-heaps-served Alloc r c call = heaps-alloc c call _ _
-heaps-served Free r c call = heaps-judged c c _ _ (heaps-refl c) (heaps-blocks call _ c)
-heaps-served AddGate r c call = heaps-judged c c _ _ (heaps-refl c) (heaps-refl c)
-heaps-served RemoveGate r c call = heaps-judged c c _ _ (heaps-refl c) (heaps-refl c)
-heaps-served AddReturnGate r c call = heaps-judged c c _ _ (heaps-refl c) (heaps-refl c)
-heaps-served Query r c call = heaps-judged c c _ _ (heaps-refl c) (heaps-refl c)
-heaps-served Self r c call = heaps-refl c
-heaps-served Exchange r c call = heaps-exchanged r c call _
-heaps-served Unknown r c call = heaps-refl c
+heaps-served x r c call =
+    grind (arith, heaps-judged, heaps-refl, heaps-written, heaps-alloc, heaps-blocks, heaps-exchanged)
 
 heaps-ended : (c : Core) (call : Call) (s : Served) (b : Bool) → SameHeaps c s.core → (s' : Served) → SameHeaps c s'.core → SameHeaps c (cond b s' s).core
-heaps-ended c call s true p t q = q
-heaps-ended c call s false p t q = p
+heaps-ended c call s x p t q = grind arith
 
 pub heaps-serve : (r : Reads) (c : Core) (call : Call) → SameHeaps c (serve r c call).core
-heaps-serve r c call =
-    let s = served_by (service call.number) r c call in
-    let p = heaps-served (service call.number) r c call in
-    heaps-ended c call s (is_announced call.number) p _ p
+heaps-serve r c call = search (arith, heaps-served, heaps-ended)
 
 -- the ranges of calls stay
 pub range-served : (rest : Core) (p q : Parts) (e : Core) (call : Call) → q.size ≡ p.size → core_of rest q ≡ e → SameHeaps (core_of rest p) e →
     range_of q call ≡ range_of p call
-range-served rest p q e call size core same =
-    let area : (heap_at q.heaps call.domain).area ≡ (heap_at p.heaps call.domain).area =
-    sym (module-heap rest q call.domain) ∙ ap (λ (c : Core). (module_at c call.domain).heap) core ∙ same call.domain ∙ module-heap rest p call.domain in
-    ap (λ n. announced call.number (arg call 0) (arg call 1) n ((heap_at q.heaps call.domain).area.first, (heap_at q.heaps call.domain).area.count)) size
-    ∙ ap (λ (a : Area). announced call.number (arg call 0) (arg call 1) p.size (a.first, a.count)) area
+range-served rest p q e call size core same = search (arith, q.heaps, p.heaps, module-heap, call.number, p.size)
 
 -- the same of the call's own hart
 pub serving-bars : (m : Held) (h : ℕ) (call : Call) → IsServing m h call → BarsAlike (rest_of m) m.parts call.hart
@@ -113,10 +92,7 @@ serving-bars m h call v = subst (λ i. BarsAlike (rest_of m) m.parts i) (sym (ap
 -- what is made of equal machines with equal events
 pub served-moved : (m m' n n' : Held) (e e' : Events) (h : ℕ) (call : Call) → m ≡ m' → n ≡ n' → e ≡ e' →
     IsMade m n e T.Called (served (reads_of m) (core_in m) h (hart_in m h) call) → IsMade m' n' e' T.Called (served (reads_of m') (core_in m') h (hart_in m' h) call)
-served-moved m m' n n' e e' h call p q r i =
-    subst (λ (x : Held). IsMade x n' e' T.Called (served (reads_of x) (core_in x) h (hart_in x h) call)) p
-    (subst (λ (x : Held). IsMade m x e' T.Called (served (reads_of m) (core_in m) h (hart_in m h) call)) q
-    (subst (λ (x : Events). IsMade m n x T.Called (served (reads_of m) (core_in m) h (hart_in m h) call)) r i))
+served-moved m m' n n' e e' h call p q r i = grind arith
 
 -- a machine whose supervisor served a call of hart h, with this answer
 module _ (m : Held) (h : ℕ) (call : Call) (q : Parts) (bytes : List ℕ) (a : Answer) (v : IsServing m h call)
@@ -144,23 +120,13 @@ module _ (m : Held) (h : ℕ) (call : Call) (q : Parts) (bytes : List ℕ) (a : 
   own-halted = ap (λ i. (kept_at q.harts i).halted) (sym hart-is) ∙ k.halted ∙ ap (λ i. (kept_at m.parts.harts i).halted) hart-is ∙ v.running
 
   flight-ended : (b : Bool) → is_announced call.number ≡ b → cond b None (kept_at m.parts.harts call.hart).flight ≡ None
-  flight-ended true e = refl
-  flight-ended false e = (v.may.other e).free
+  flight-ended x e = grind arith
 
   pub own-flight : (kept_at q.harts h).flight ≡ None
   own-flight = ap (λ i. (kept_at q.harts i).flight) (sym hart-is) ∙ k.flight ∙ flight-ended (is_announced call.number) refl
 
   own-domain : IfSome (kept_at q.harts h).domain (λ e. e ≡ x.domain)
-  own-domain = by k.domain
-    where
-      to : IfSome (kept_at q.harts call.hart).domain (λ e. e ≡ x.domain) → IfSome (kept_at q.harts h).domain (λ e. e ≡ x.domain)
-      to t = subst (λ i. IfSome (kept_at q.harts i).domain (λ e. e ≡ x.domain)) hart-is t
-
-      by : ((kept_at q.harts call.hart).domain ≡ (kept_at m.parts.harts call.hart).domain) ⊎ ((kept_at q.harts call.hart).domain ≡ Some call.domain) →
-          IfSome (kept_at q.harts h).domain (λ e. e ≡ x.domain)
-      by (inl e) = to (subst (λ (o : Option ℕ). IfSome o (λ e. e ≡ x.domain)) (sym e)
-          (subst (λ i. IfSome (kept_at m.parts.harts i).domain (λ e. e ≡ x.domain)) (sym hart-is) v.kept_domain))
-      by (inr e) = to (subst (λ (o : Option ℕ). IfSome o (λ e. e ≡ x.domain)) (sym e) (ap (λ (c : Call). c.domain) v.own))
+  own-domain = search (arith, k.domain, q.harts, hart-is, m.parts.harts)
 
   -- all fits with another hart h, where what the checker keeps of it is tied
   served-fits : (y : Hart) (kept : List Kept) → length kept ≡ length q.harts → ((i : ℕ) → i ≢ h → kept_at kept i ≡ kept_at q.harts i) →
@@ -205,23 +171,7 @@ module _ (m : Held) (h : ℕ) (call : Call) (q : Parts) (bytes : List ℕ) (a : 
   pub made-answered : a.stop ≡ false →
       IsMade m (record m { parts = q; harts = set m.harts h (takes_answer a.a0 a.a1 (hart_among m.harts h)) }) (record { bytes = bytes; note = None }) T.Called
       (served (reads_of m) (core_in m) h (hart_in m h) call)
-  made-answered e =
-      let goes_on : s.stop ≡ false = sym d.stop ∙ e in
-      let l = hart_in m h in
-      let on : ℕ → Option ℕ → Seen = λ a0 a1. record { regs = answered (seen h x (kept_at m.parts.harts h)) a0 a1; pc = next x.pc; domain = x.domain; frames = x.frames; status = Running } in
-      record {
-        core = core-step m h (takes_answer a.a0 a.a1 x) q fly-alike
-            ∙ ap (with_hart h (on a.a0 a.a1)) d.core
-            ∙ ap (λ (n : ℕ). with_hart h (on n a.a1) s.core) d.a0
-            ∙ ap (λ (o : Option ℕ). with_hart h (on s.a0 o) s.core) d.a1
-            ∙ sym (ap (λ (y : Seen). with_regs h y (answered y s.a0 s.a1) (next y.pc) s.core) (hart-in m h))
-            ∙ sym (ap (λ (b : Bool). cond b (halted h l (Some s.a0) s.core) (with_regs h l (answered l s.a0 s.a1) (next l.pc) s.core)) goes_on);
-        maps = d.maps;
-        owners = d.owners;
-        console = d.console;
-        note = sym (ap (λ (b : Bool). cond b (Some (N.Exit s.core.turns h l.domain s.a0)) None) goes_on);
-        kind = refl;
-      }
+  made-answered e = grind (arith, x, m.parts.harts, core-step, a.a0, a.a1, fly-alike, s.a0, hart-in, s.core.turns)
 
   -- or it ended
   pub fits-ended : Fits (record m { parts = record q { harts = at_hart h counts_as_halted q.harts }; harts = set m.harts h (halts (Some a.a0) (hart_among m.harts h)) })

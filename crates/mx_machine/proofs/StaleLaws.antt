@@ -9,7 +9,7 @@ use Rattle.mx_words.specs.Newest.{map}
 use Rattle.mx_words.proofs.OverlayLaws.{length-map_of}
 use Rattle.mx_table.specs.Tables.{IsDomain}
 use Rattle.mx_check.specs.Calls.{new_harts}
-use Rattle.mx_check.specs.Harts.{Kept, kept_at, new_hart}
+use Rattle.mx_check.specs.Harts.{Kept, kept_at}
 use Rattle.mx_check.specs.Harts.{nothing_kept}
 use Rattle.mx_model.specs.Reads.{map_in}
 use Rattle.mx_supervisor.specs.Parts.{Parts}
@@ -32,11 +32,7 @@ empty-caches m kept same each h =
 
 -- a checker that has done nothing, and one that has at most announced calls
 pub new-cache : (n h : ℕ) → (kept_at (new_harts n) h).cache ≡ no_cache
-new-cache n h = by (cases_lt h n)
-  where
-    by : (h < n) ⊎ (n ≤ h) → (kept_at (new_harts n) h).cache ≡ no_cache
-    by (inl lt) = ap (λ (k : Kept). k.cache) (get_or-replicate n h new_hart nothing_kept lt)
-    by (inr le) = ap (λ (k : Kept). k.cache) (get_or_past (new_harts n) h nothing_kept (omega (arith, length-replicate n new_hart, le)))
+new-cache n h = search (arith, cases_lt, get_or-replicate, get_or_past, length-replicate)
 
 pub unused-cache : (p : Parts) (states : List HartState) (stacks : List StackArea) (dead : List Bool) (steps : ℕ) → MayResume p states stacks dead steps →
     (h : ℕ) → (kept_at p.harts h).cache ≡ no_cache

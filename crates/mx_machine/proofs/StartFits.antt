@@ -1,15 +1,12 @@
 -- The parts of a machine that starts or resumes fit one another.
 use Rattle.std.proofs.Common.{◌≡◌, ◌≢◌, ℕ, zero, suc, ◌<◌, ◌≤◌, ◌⊎◌, inl, inr, Bool, true, false, cond, List, length, get_or, Option, Some, None, refl, sym, ap, subst, ◌∙◌, arith}
 use Rattle.std.proofs.Common.{map as list_map}
-use Rattle.std.specs.Prelude.{IfSome}
 use Rattle.std.specs.List.{list_any}
-use Rattle.std.specs.Option.{option_map_or}
 use Rattle.std.proofs.Math.Seq.{map-set_same}
 use Rattle.std.proofs.lemmas.Bool.{cases_eq, cases_lt}
 use Rattle.std.proofs.lemmas.List.{get_or-map, get_or-replicate, get_or_past, length-map, length-replicate}
 use Rattle.std.proofs.lemmas.Option.{slice_get-get_or}
 use Rattle.mx_check.specs.declared.flight.Flight.{Flight}
-use Rattle.mx_check.specs.Calls.{new_harts}
 use Rattle.mx_check.specs.Harts.{Kept, at_hart, kept_at, new_hart}
 use Rattle.mx_check.specs.Harts.{halts as counts_as_halted, nothing_kept}
 use Rattle.mx_check.proofs.LookLaws.{kept_at-other, kept_at-same, length-at_hart}
@@ -26,7 +23,7 @@ use Rattle.mx_machine.specs.declared.views.HartStatus.TheVariants as V
 use Rattle.mx_machine.specs.Actions.{halted_first}
 use Rattle.mx_machine.specs.Harts.{hart_among, is_halted, is_waiting, no_held_hart, own_call}
 use Rattle.mx_machine.specs.Held.{Held}
-use Rattle.mx_machine.specs.Starts.{FliesIfWaiting, MayResume, MayStart, no_state, none_dead, progress_of, resumed_hart, started_from, started_hart}
+use Rattle.mx_machine.specs.Starts.{FliesIfWaiting, MayResume, MayStart, none_dead, progress_of, resumed_hart, started_from, started_hart}
 use Rattle.mx_machine.specs.Ties.{Fits, IsFlying, IsTied}
 use Rattle.mx_machine.proofs.StartLaws.{length-started, started-at}
 use Rattle.mx_machine.proofs.WaitLaws.{none-waits}
@@ -50,8 +47,7 @@ no_start = record { domain = 0; pc = 0 }
 
 module _ (p : Parts) (starts : List HartStart) (stacks : List StackArea) (sound : IsSound p) (may : MayStart p starts stacks) (few : length starts ≤ 4) where
   pub hart-there : (h : ℕ) → h < length starts → hart_among (started_from stacks 0 starts) h ≡ started_hart stacks h (get_or starts h no_start)
-  hart-there h lt =
-      started-at stacks h starts ∙ ap (λ (o : Option HartStart). option_map_or (started_hart stacks h) o no_held_hart) (slice_get-get_or starts h no_start lt)
+  hart-there h lt = search (arith, started-at, slice_get-get_or, no_start)
 
   hart-past : (h : ℕ) → length starts ≤ h → hart_among (started_from stacks 0 starts) h ≡ no_held_hart
   hart-past h le = get_or_past (started_from stacks 0 starts) h no_held_hart (omega (arith, le, length-started stacks 0 starts))
@@ -60,32 +56,17 @@ module _ (p : Parts) (starts : List HartStart) (stacks : List StackArea) (sound 
   kept-there h lt = ap (λ (ks : List Kept). kept_at ks h) may.new ∙ get_or-replicate (length starts) h new_hart nothing_kept lt
 
   kept-past : (h : ℕ) → length starts ≤ h → kept_at p.harts h ≡ nothing_kept
-  kept-past h le =
-      ap (λ (ks : List Kept). kept_at ks h) may.new
-      ∙ get_or_past (new_harts (length starts)) h nothing_kept (omega (arith, le, length-replicate (length starts) new_hart))
+  kept-past h le = search (arith, get_or_past, length-replicate)
 
   ties-started : (h : ℕ) → (h < length starts) ⊎ (length starts ≤ h) → IsTied (range_of p) h (hart_among (started_from stacks 0 starts) h) (kept_at p.harts h)
-  ties-started h (inl lt) =
-      tied-as (range_of p) h (hart_among (started_from stacks 0 starts) h) (started_hart stacks h (get_or starts h no_start)) (kept_at p.harts h) new_hart
-      (hart-there h lt) (kept-there h lt) (tied-start (range_of p) stacks h (get_or starts h no_start))
-  ties-started h (inr le) =
-      tied-as (range_of p) h (hart_among (started_from stacks 0 starts) h) no_held_hart (kept_at p.harts h) nothing_kept
-      (hart-past h le) (kept-past h le) (tied-nobody (range_of p) h)
+  ties-started h x =
+      grind (arith, tied-as, no_start, hart-there, kept-there, tied-start, hart-past, kept-past, tied-nobody)
 
   quiet-started : (h : ℕ) → (h < length starts) ⊎ (length starts ≤ h) → is_waiting (hart_among (started_from stacks 0 starts) h).progress ≡ false
-  quiet-started h (inl lt) = ap (λ (x : Hart). is_waiting x.progress) (hart-there h lt)
-  quiet-started h (inr le) = ap (λ (x : Hart). is_waiting x.progress) (hart-past h le)
+  quiet-started h x = grind (arith, hart-there, hart-past)
 
   pub fits-started : Fits (held_started p starts stacks)
-  fits-started = record {
-    sound = sound;
-    count = length-started stacks 0 starts ∙ sym (length-replicate (length starts) new_hart) ∙ sym (ap (λ (ks : List Kept). length ks) may.new);
-    few = omega (arith, few, length-started stacks 0 starts);
-    stacks = may.count ∙ sym sound.heaps;
-    dead = refl;
-    ties = λ h. ties-started h (cases_lt h (length starts));
-    quiet = λ e h. quiet-started h (cases_lt h (length starts));
-  }
+  fits-started = search (arith, length-started, length-replicate, ties-started, cases_lt, quiet-started)
 
 -- which harts count as halted after the halted ones of the first n do
 module _ (xs : List Hart) (kept : List Kept) where
@@ -142,15 +123,10 @@ module _ (xs : List Hart) (kept : List Kept) where
       by false e = e
 
   flight-one : (b : Bool) (k : Kept) → (cond b (counts_as_halted k) k).flight ≡ k.flight
-  flight-one true k = refl
-  flight-one false k = refl
+  flight-one x k = grind arith
 
   pub flight-halted : (n h : ℕ) → n ≤ length kept → (kept_at (halted_first n xs kept) h).flight ≡ (kept_at kept h).flight
-  flight-halted n h most = by (cases_lt h n)
-    where
-      by : (h < n) ⊎ (n ≤ h) → (kept_at (halted_first n xs kept) h).flight ≡ (kept_at kept h).flight
-      by (inl lt) = ap (λ (k : Kept). k.flight) (halted-below n h most lt) ∙ flight-one (is_halted (hart_among xs h).progress) (kept_at kept h)
-      by (inr le) = ap (λ (k : Kept). k.flight) (halted-past n h le)
+  flight-halted n h most = search (arith, cases_lt, halted-below, flight-one, halted-past)
 
 -- one hart that resumes
 module _ (p : Parts) (h : ℕ) (s : HartState) (k : Kept) (running : k.halted ≡ false) (nowhere : k.domain ≡ None) where
@@ -160,9 +136,7 @@ module _ (p : Parts) (h : ℕ) (s : HartState) (k : Kept) (running : k.halted �
 
   tied-by : (v : HartStatus) → FliesIfWaiting p h s v k.flight →
       IsTied (range_of p) h (record (resumed_hart s) { progress = progress_of v }) (cond (is_halted (progress_of v)) (counts_as_halted k) k)
-  tied-by V.Running t = record { halted = running; flight = t; domain = subst (λ (o : Option ℕ). IfSome o (λ d. d ≡ s.domain)) (sym nowhere) tt }
-  tied-by V.Waiting t = record { halted = running; flight = flies k.flight t; domain = subst (λ (o : Option ℕ). IfSome o (λ d. d ≡ s.domain)) (sym nowhere) tt }
-  tied-by V.Halted t = record { halted = refl; flight = t; domain = subst (λ (o : Option ℕ). IfSome o (λ d. d ≡ s.domain)) (sym nowhere) tt }
+  tied-by x t = grind (arith, flies)
 
 -- what a machine that resumes holds
 abbrev pub held_resumed : Parts → List HartState → List StackArea → List Bool → ℕ → Held
@@ -185,34 +159,11 @@ module _ (p : Parts) (states : List HartState) (stacks : List StackArea) (dead :
   ties-resumed : (h : ℕ) → (h < length states) ⊎ (length states ≤ h) →
       IsTied (range_of p) h (hart_among (list_map resumed_hart states) h)
       (kept_at (halted_first (length (list_map resumed_hart states)) (list_map resumed_hart states) p.harts) h)
-  ties-resumed h (inl lt) =
-      let harts = list_map resumed_hart states in
-      let s = get_or states h no_state in
-      let k = kept_at p.harts h in
-      let u = may.unused h lt in
-      let x : hart_among harts h ≡ resumed_hart s = get_or-map resumed_hart states h no_state no_held_hart lt in
-      let below : h < length harts = omega (arith, lt, length-map states resumed_hart) in
-      let kept : kept_at (halted_first (length harts) harts p.harts) h ≡ cond (is_halted (progress_of s.status)) (counts_as_halted k) k =
-      halted-below harts p.harts (length harts) h (omega (arith, as-many)) below
-      ∙ ap (λ (y : Hart). cond (is_halted y.progress) (counts_as_halted k) k) x in
-      tied-as (range_of p) h (hart_among harts h) (resumed_hart s) (kept_at (halted_first (length harts) harts p.harts) h)
-      (cond (is_halted (progress_of s.status)) (counts_as_halted k) k) x kept
-      (tied-by p h s k u.halted u.domain s.status u.flight)
-  ties-resumed h (inr le) =
-      let harts = list_map resumed_hart states in
-      let past : length harts ≤ h = omega (arith, le, length-map states resumed_hart) in
-      tied-as (range_of p) h (hart_among harts h) no_held_hart (kept_at (halted_first (length harts) harts p.harts) h) nothing_kept
-      (get_or_past harts h no_held_hart past)
-      (halted-past harts p.harts (length harts) h past ∙ get_or_past p.harts h nothing_kept (omega (arith, le, may.same_harts)))
-      (tied-nobody (range_of p) h)
+  ties-resumed h x =
+      grind (arith, get_or-map, length-map, halted-below, as-many, tied-as, tied-by, get_or_past, halted-past,
+        tied-nobody)
 
   pub fits-resumed : Fits (held_resumed p states stacks dead steps)
-  fits-resumed = record {
-    sound = with-harts p (held_resumed p states stacks dead steps).parts.harts sound;
-    count = as-many ∙ sym (length-halted (list_map resumed_hart states) p.harts (length (list_map resumed_hart states)));
-    few = omega (arith, few, length-map states resumed_hart);
-    stacks = may.count ∙ sym sound.heaps;
-    dead = places;
-    ties = λ h. ties-resumed h (cases_lt h (length states));
-    quiet = λ e h. none-waits (list_map resumed_hart states) h e;
-  }
+  fits-resumed =
+      search (arith, with-harts, held_resumed, as-many, length-halted, p.harts, length-map, ties-resumed, cases_lt,
+        none-waits)

@@ -1,5 +1,5 @@
 -- The harts with which a machine starts or resumes, one by one.
-use Rattle.std.proofs.Common.{◌≡◌, ℕ, zero, suc, ◌+◌, ◌*◌, ◌<◌, ◌≤◌, ◌⊎◌, inl, inr, List, [], ◌∷◌, length, get_or, take, refl, ap, ◌∙◌, arith}
+use Rattle.std.proofs.Common.{◌≡◌, ℕ, zero, suc, ◌+◌, ◌*◌, ◌<◌, ◌≤◌, ◌⊎◌, List, [], ◌∷◌, length, get_or, take, refl, ap, ◌∙◌, arith}
 use Rattle.std.specs.Option.{option_map_or}
 use Rattle.std.specs.Prelude.{slice_get}
 use Rattle.std.proofs.Math.Nat.{mul-le-mul_left}
@@ -50,8 +50,4 @@ four-are xs n a b c d e le ea eb ec ed =
 -- an area that lies in RAM for all harts lies there for each, whose number is then small
 pub area-fits : (a : StackArea) (most n h : ℕ) → (a.words ≡ 0) ⊎ (a.first + a.words * n ≤ most) → h < n →
     (a.words ≡ 0) ⊎ (a.first + a.words * (h + 1) ≤ most)
-area-fits a most n h (inl e) lt = inl e
-area-fits a most n h (inr le) lt =
-    let up : h + 1 ≤ n = omega (arith, lt) in
-    let more : a.words * (h + 1) ≤ a.words * n = mul-le-mul_left a.words up in
-    inr (omega (arith, le, more))
+area-fits a most n h x lt = grind (arith, mul-le-mul_left)

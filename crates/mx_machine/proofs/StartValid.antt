@@ -1,5 +1,5 @@
 -- A machine that starts or resumes is valid.
-use Rattle.std.proofs.Common.{◌≡◌, ◌≢◌, ℕ, zero, suc, ◌+◌, ◌-◌, ◌*◌, ◌^◌, ◌<◌, ◌≤◌, ◌⊎◌, inl, inr, ◌==◌, Bool, true, false, cond, List, [], ◌∷◌, length, get_or, replicate, refl, sym, ap, subst, ◌∙◌, arith, eq-eqb, Option, Some, None}
+use Rattle.std.proofs.Common.{◌≡◌, ◌≢◌, ℕ, zero, suc, ◌+◌, ◌-◌, ◌*◌, ◌^◌, ◌<◌, ◌≤◌, ◌⊎◌, inl, inr, ◌==◌, Bool, true, cond, List, [], ◌∷◌, length, get_or, replicate, refl, sym, ap, subst, ◌∙◌, arith, eq-eqb, Option, Some, None}
 use Rattle.std.proofs.Common.{map as list_map}
 use Rattle.std.specs.Prelude.{slice_get, slice_index, IfSome}
 use Rattle.std.specs.List.{AllByRecursion}
@@ -13,7 +13,6 @@ use Rattle.mx_check.specs.declared.flight.Flight.{Flight}
 use Rattle.mx_check.specs.Flights.{AreHearers}
 use Rattle.mx_check.specs.Calls.{new_harts}
 use Rattle.mx_check.specs.Harts.{Kept, kept_at}
-use Rattle.mx_check.specs.Harts.{nothing_kept}
 use Rattle.mx_heap.specs.HeapState.{HeapState}
 use Rattle.mx_model.specs.declared.values.Frame.{Frame}
 use Rattle.mx_model.specs.Gates.{AreSingle, most_gates}
@@ -52,9 +51,7 @@ use Rattle.mx_machine.proofs.StartLaws.{area-fits, length-started}
 
 -- an area that lies in RAM or has no words, as it is told
 stack-fits : (words first n size : ℕ) → (words ≡ 0) ⊎ (first + words * n ≤ size) → (words ≡ 0) ⊎ (words ≢ 0) → cond (words == 0) 0 first + words * n ≤ size
-stack-fits words first n size s (inl e) = subst (λ w. cond (w == 0) 0 first + w * n ≤ size) (sym e) (omega arith)
-stack-fits words first n size (inl e) (inr ne) = absurd (ne e)
-stack-fits words first n size (inr le) (inr ne) = subst (λ b. cond b 0 first + words * n ≤ size) (sym (ne_eqb words 0 ne)) le
+stack-fits words first n size s x = grind (arith, ne_eqb)
 
 pub home-is : (size n : ℕ) (dead : List Bool) (d : ℕ) (a : StackArea) (heap : HeapState) → heap.area.first + heap.area.count ≤ size → IsTold heap → IsStack size n a →
     IsHome size n (with_heap (home dead d a) heap)
@@ -100,10 +97,7 @@ module _ (m : Held) (f : Fits m) (v : HasValidParts m) where
       (home-is m.parts.size (length m.harts) m.dead (i + 1) (area_of m.stacks (i + 1)) (heap_at m.parts.heaps (i + 1)) (f.sound.areas (i + 1)) (v.heaps (i + 1)) stack)
 
   each-hart : (h : ℕ) → h < length (core_in m).harts → IsHart (length (core_in m).modules) (length (core_in m).harts) h (get_or (core_in m).harts h nobody_seen)
-  each-hart h lt =
-      subst (λ k. IsHart k (length (core_in m).harts) h (get_or (core_in m).harts h nobody_seen)) (sym as-modules)
-      (subst (λ k. IsHart (length m.parts.maps) k h (get_or (core_in m).harts h nobody_seen)) (sym as-harts)
-      (subst (IsHart (length m.parts.maps) (length m.harts) h) (sym (hart-in m h)) (v.harts h (omega (arith, lt, as-harts)))))
+  each-hart h lt = search (arith, as-modules, as-harts, hart-in, v.harts)
 
   pub valid-parts : IsValid (core_in m)
   valid-parts = record {
@@ -126,8 +120,7 @@ module _ (m : Held) (f : Fits m) (v : HasValidParts m) where
 
 -- the address after a stack area is a number of 32 bits
 behind-small : (a : StackArea) (h : ℕ) → (a.words ≡ 0) ⊎ (a.first + a.words * (h + 1) ≤ most_words) → cond (a.words == 0) 0 (address_of (a.first + a.words * (h + 1))) < 2 ^ 32
-behind-small a h (inl e) = subst (λ b. cond b 0 (address_of (a.first + a.words * (h + 1))) < 2 ^ 32) (sym (eq-eqb a.words 0 e)) (omega arith)
-behind-small a h (inr le) = elim (a.words == 0) as (λ b. cond b 0 (address_of (a.first + a.words * (h + 1))) < 2 ^ 32) [ true ↦ omega arith | false ↦ omega (arith, le) ]
+behind-small a h x = grind (arith, eq-eqb)
 
 zeros-small : (n i : ℕ) → get_or {A = ℕ} (replicate n 0) i 0 < 2 ^ 32
 zeros-small zero i = omega arith
@@ -250,19 +243,7 @@ module _ (p : Parts) (starts : List HartStart) (stacks : List StackArea) (sound 
       (all-in IsSmallStart starts no_start small h lt) area)
 
   started-parts : HasValidParts (held_started p starts stacks)
-  started-parts = record {
-    words = typed.words;
-    some_maps = typed.some_maps;
-    bytes = typed.bytes;
-    heaps = typed.heaps;
-    few_gates = typed.few_gates;
-    gates = typed.gates;
-    one_gate = typed.one_gate;
-    some_harts = omega (arith, may.some_harts, length-started stacks 0 starts);
-    stacks = subst (λ n. AllByRecursion (IsStack p.size n) stacks) (sym (length-started stacks 0 starts)) may.areas;
-    harts = λ h lt. subst (λ n. IsHart (length p.maps) n h (seen h (hart_among (started_from stacks 0 starts) h) (kept_at p.harts h))) (sym (length-started stacks 0 starts))
-        (each-start h (omega (arith, lt, length-started stacks 0 starts)));
-  }
+  started-parts = search (arith, length-started, p.size, p.harts, each-start)
 
   pub whole-started : IsWhole (held_started p starts stacks)
   whole-started =
@@ -299,11 +280,7 @@ module _ (p : Parts) (states : List HartState) (stacks : List StackArea) (dead :
   flies-not h s V.Halted o t e = t
 
   free-at : (h : ℕ) → (h < length states) ⊎ (length states ≤ h) → is_halted (hart_among (list_map resumed_hart states) h).progress ≡ true → (kept_at p.harts h).flight ≡ None
-  free-at h (inl lt) e =
-      let s = get_or states h no_state in
-      let x : hart_among (list_map resumed_hart states) h ≡ resumed_hart s = get_or-map resumed_hart states h no_state no_held_hart lt in
-      flies-not h s s.status (kept_at p.harts h).flight (may.unused h lt).flight (sym (ap (λ (y : Hart). is_halted y.progress) x) ∙ e)
-  free-at h (inr le) e = ap (λ (k : Kept). k.flight) (get_or_past p.harts h nothing_kept (omega (arith, le, may.same_harts)))
+  free-at h x e = grind (arith, get_or-map, flies-not, get_or_past)
 
   pub free-resumed : (h : ℕ) → is_halted (hart_among (list_map resumed_hart states) h).progress ≡ true → (kept_at p.harts h).flight ≡ None
   free-resumed h = free-at h (cases_lt h (length states))
@@ -324,19 +301,7 @@ module _ (p : Parts) (states : List HartState) (stacks : List StackArea) (dead :
       (subst (λ n. IfSome (kept_at p.harts h).flight (AreHearers n h)) may.same_harts (hearers h))))
 
   resumed-parts : HasValidParts (held_resumed p states stacks dead steps)
-  resumed-parts = record {
-    words = typed.words;
-    some_maps = typed.some_maps;
-    bytes = typed.bytes;
-    heaps = typed.heaps;
-    few_gates = typed.few_gates;
-    gates = typed.gates;
-    one_gate = typed.one_gate;
-    some_harts = omega (arith, may.some_harts, length-map states resumed_hart);
-    stacks = subst (λ n. AllByRecursion (IsStack p.size n) stacks) (sym (length-map states resumed_hart)) may.areas;
-    harts = λ h lt. subst (λ n. IsHart (length p.maps) n h (seen h (hart_among (list_map resumed_hart states) h) (kept_at (kept_resumed p states) h)))
-        (sym (length-map states resumed_hart)) (each-left h (omega (arith, lt, length-map states resumed_hart)));
-  }
+  resumed-parts = search (arith, length-map, p.size, kept_resumed, each-left)
 
   pub whole-resumed : IsWhole (held_resumed p states stacks dead steps)
   whole-resumed =

@@ -1,6 +1,5 @@
 -- A step of a machine is a turn of the abstract machine, and keeps the machine whole.
-use Rattle.std.proofs.Common.{◌≡◌, ◌↔◌, inl, inr, ℕ, List, sym, ap, subst, ◌∙◌}
-use Rattle.mx_words.specs.declared.perm.Perm.{Perm}
+use Rattle.std.proofs.Common.{◌≡◌, ◌↔◌, ℕ, sym, ap, subst, ◌∙◌, arith}
 use Rattle.mx_model.specs.declared.values.TurnKind.{TurnKind}
 use Rattle.mx_model.specs.declared.values.TurnKind.TheVariants as T
 use Rattle.mx_model.specs.Agreement.{Ended}
@@ -21,11 +20,7 @@ use Rattle.mx_machine.proofs.StaleLaws.{whole-maps}
 
 module _ (m n : Held) (h : ℕ) (events : Events) (answer : TurnKind) (i : IsMade m n events answer (flat_made (meaning m) h)) where
   pub turn-is : meaning n ≡ flat_turn (meaning m) h
-  turn-is =
-      let t = flat_turn (meaning m) h in
-      ap (λ (c : Core). record (meaning n) { core = c }) i.core
-      ∙ ap (λ (ms : List (List Perm)). record t { maps = ms; owners = n.parts.owners }) i.maps
-      ∙ ap (λ (os : List ℕ). record t { owners = os }) i.owners
+  turn-is = search arith
 
   pub told-is : IsTold (flat_made (meaning m) h) events
   told-is = record { bytes = i.console; note = i.note }
@@ -42,10 +37,7 @@ module _ (m n : Held) (h : ℕ) (events : Events) (answer : TurnKind) (i : IsMad
   pub bytes-is : ((r : Reads) (c : Core) (g : ℕ) → standing_at c g ≡ Ended → (core_after r c g).ram ≡ c.ram) →
       ((r : Reads) (c : Core) (g : ℕ) → kind_of r c g ≡ T.Waited → (core_after r c g).ram ≡ c.ram) →
       ((r : Reads) (c : Core) (g : ℕ) → (kind_of r c g ≡ T.Idle) ↔ (standing_at c g ≡ Ended)) → KeepsBytes answer (meaning m) (meaning n)
-  bytes-is halted waits idle (inl e) =
-      let r = flat_reads (meaning m) in
-      ap (λ (c : Core). c.ram) i.core ∙ halted r (core_in m) h ((idle r (core_in m) h).0 (sym i.kind ∙ e))
-  bytes-is halted waits idle (inr e) = ap (λ (c : Core). c.ram) i.core ∙ waits (flat_reads (meaning m)) (core_in m) h (sym i.kind ∙ e)
+  bytes-is halted waits idle x = search arith
 
 -- a turn of the flat state is one of each state of which it is the flat state
 pub is-turn : (f g : Flat) (h : ℕ) (events : Events) (answer : TurnKind) → g ≡ flat_turn f h → IsTold (flat_made f h) events → answer ≡ flat_kind f h →

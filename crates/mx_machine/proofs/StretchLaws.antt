@@ -1,5 +1,5 @@
 -- Turns of one hart in a row: what holds after some of them, and after one more.
-use Rattle.std.proofs.Common.{◌≡◌, ◌≢◌, ℕ, suc, ◌+◌, ◌<◌, ◌⊎◌, inl, inr, Bool, false, set, refl, sym, ap, ◌∙◌, arith, get_or, get_or-set_same}
+use Rattle.std.proofs.Common.{◌≡◌, ◌≢◌, ℕ, ◌+◌, ◌<◌, ◌⊎◌, inl, inr, Bool, false, set, refl, sym, ap, ◌∙◌, arith, get_or, get_or-set_same}
 use Rattle.std.proofs.lemmas.Bool.{cases_eq}
 use Rattle.mx_model.specs.declared.values.TurnKind.{TurnKind}
 use Rattle.mx_model.specs.declared.values.TurnKind.TheVariants as T
@@ -26,9 +26,7 @@ use Rattle.mx_core.specs.Exec.{regs_after}
 
 -- one more turn
 pub turns-more : (h : ℕ) (f : Flat) (n : ℕ) → turns_of h f (n + 1) ≡ flat_turn (turns_of h f n) h
-turns-more h f n =
-    let e : n + 1 ≡ suc n = omega arith in
-    ap (turns_of h f) e
+turns-more h f n = search arith
 
 -- a hart that runs in a live domain does so after an instruction
 pub alive-instruction : (m : Held) (h : ℕ) (returns : Bool) → MayRun m h → get_or m.dead (hart_among m.harts h).domain false ≡ false →
@@ -45,7 +43,7 @@ pub alive-now : (m n : Held) (h : ℕ) → RunsAlive m h → n ≡ heard h (coun
 alive-now m n h r is = ap (λ (k : Held). get_or k.dead (hart_among k.harts h).domain false) is ∙ r.alive
 
 pub run-none : (m : Held) (h : ℕ) → IsWhole m → HasRunOn (meaning m) h 0 m
-run-none m h w = record { whole = w; at = refl; ran = λ i below. absurd (let z : ⊥ = omega arith in z); steps = omega arith }
+run-none m h w = record { whole = w; at = refl; ran = λ i below. absurd ((omega arith)); steps = omega arith }
 
 -- a turn counts
 pub turn-steps : (m k : Held) (h : ℕ) (events : Events) (answer : TurnKind) → IsMade m k events answer (flat_made (meaning m) h) → k.steps ≡ m.steps + 1
@@ -66,16 +64,7 @@ module _ (f : Flat) (h n : ℕ) (m k : Held) (events : Events) (answer : TurnKin
   run-kind = i.kind ∙ ap (λ (g : Flat). flat_kind g h) r.at
 
   pub run-stretch : (most : ℕ) → n < most → (answer ≡ T.Ran → n + 1 ≡ most) → IsStretch f h most (meaning k) events (record { ran = n; last = answer })
-  run-stretch most below full =
-      let t = told-is m k h events answer i in
-      record {
-        few = below;
-        ran = r.ran;
-        turn = run-turn;
-        told = record { bytes = t.bytes ∙ ap (λ (g : Flat). (flat_made g h).console) r.at; note = t.note ∙ ap (λ (g : Flat). (flat_made g h).note) r.at };
-        kind = run-kind;
-        full = full;
-      }
+  run-stretch most below full = grind (arith, told-is, run-turn, run-kind)
 
   pub run-more : Law → Stays → Fits k → answer ≡ T.Ran → HasRunOn f h (n + 1) k
   run-more law stays fits is = record {

@@ -1,12 +1,10 @@
 -- Turns of a row that are counted together, and the fetches of their instructions: what that leaves as it was, and one more of them.
-use Rattle.std.proofs.Common.{◌≡◌, ◌≢◌, ℕ, zero, suc, ◌+◌, ◌<◌, ◌⊎◌, inl, inr, false, List, [], ◌∷◌, length, refl, sym, ap, subst, ◌∙◌, arith, Option, add-one, get_or-set_same}
+use Rattle.std.proofs.Common.{◌≡◌, ◌≢◌, ℕ, zero, suc, ◌+◌, ◌<◌, ◌⊎◌, false, List, [], ◌∷◌, length, refl, sym, ap, subst, ◌∙◌, arith, add-one, get_or-set_same}
 use Rattle.std.specs.Prelude.{IfSome}
 use Rattle.std.proofs.lemmas.Bool.{cases_eq}
-use Rattle.mx_words.specs.declared.perm.Span.{Span}
 use Rattle.mx_words.specs.Caches.{in_place}
 use Rattle.mx_words.specs.Ranges.{word_of}
 use Rattle.mx_table.specs.Tables.{map_of}
-use Rattle.mx_check.specs.declared.flight.Flight.{Flight}
 use Rattle.mx_check.specs.Conditions.{IsAtHand}
 use Rattle.mx_check.specs.Harts.{Kept, at_hart, kept_at}
 use Rattle.mx_check.specs.Looks.{hits, hits_all, looked_at_address}
@@ -18,11 +16,11 @@ use Rattle.mx_supervisor.specs.Parts.{IsSound, Parts}
 use Rattle.mx_supervisor.specs.Served.{range_of}
 use Rattle.mx_machine.specs.declared.hart.Hart.{Hart}
 use Rattle.mx_machine.specs.Actions.{after_instruction, after_unfetched, counted, effect_for, looks_all, outcome_for, perm_for}
-use Rattle.mx_machine.specs.Harts.{hart_among, no_held_hart, own_call}
+use Rattle.mx_machine.specs.Harts.{hart_among, no_held_hart}
 use Rattle.mx_machine.specs.Held.{Held}
 use Rattle.mx_machine.specs.Rows.{NamesOwn, tallied}
 use Rattle.mx_machine.specs.Steps.{instructed}
-use Rattle.mx_machine.specs.Ties.{Fits, FliesWhileWaiting, IsTied, RunsAlive}
+use Rattle.mx_machine.specs.Ties.{Fits, IsTied, RunsAlive}
 use Rattle.mx_machine.specs.Windows.{IsOpen}
 use Rattle.mx_machine.proofs.FitLaws.{count-step, others-step, own-step}
 use Rattle.mx_machine.proofs.LookLaws.{stay-all}
@@ -62,63 +60,26 @@ module _ (m : Held) (h n : ℕ) (there : h < length m.parts.harts) where
   own-kept = own-step m.parts.harts h (hits_all n (hart_among m.harts h).domain) there
 
   places-kept : in_place (kept_at (tallied h n m).parts.harts h).cache.places 0 ≡ in_place (kept_at m.parts.harts h).cache.places 0
-  places-kept =
-      ap (λ (k : Kept). in_place k.cache.places 0) own-kept
-      ∙ ap (λ (ps : List (Option Span)). in_place ps 0) (hits-same n (hart_among m.harts h).domain (kept_at m.parts.harts h)).places
+  places-kept = search (arith, own-kept, hits-same, m.harts, m.parts.harts)
 
   pub open-tallied : (a : ℕ) → IsOpen m h a → IsOpen (tallied h n m) h a
-  open-tallied a o = record {
-    quiet = o.quiet;
-    at_hand = hand-same m.parts.size a (kept_at m.parts.harts h).cache (kept_at (tallied h n m).parts.harts h).cache places-kept o.at_hand;
-    gate = o.gate;
-  }
+  open-tallied a o = search (arith, hand-same, places-kept)
 
   pub open-untallied : (a : ℕ) → IsOpen (tallied h n m) h a → IsOpen m h a
-  open-untallied a o = record {
-    quiet = o.quiet;
-    at_hand = hand-same m.parts.size a (kept_at (tallied h n m).parts.harts h).cache (kept_at m.parts.harts h).cache (sym places-kept) o.at_hand;
-    gate = o.gate;
-  }
+  open-untallied a o = search (arith, hand-same, places-kept)
 
   module _ (f : Fits (tallied h n m)) (own : NamesOwn m h) where
     own-tied : IsTied (range_of m.parts) h (hart_among m.harts h) (kept_at m.parts.harts h)
-    own-tied =
-        let x = hart_among m.harts h in
-        let k = kept_at m.parts.harts h in
-        let s = hits-same n x.domain k in
-        let t : IsTied (range_of m.parts) h x (hits_all n x.domain k) = subst (λ (y : Kept). IsTied (range_of m.parts) h x y) own-kept (f.ties h) in
-        record {
-          halted = sym s.halted ∙ t.halted;
-          flight = subst (λ (o : Option Flight). FliesWhileWaiting (range_of m.parts (own_call h x)) o x.progress) s.flight t.flight;
-          domain = own;
-        }
+    own-tied = search (arith, m.harts, m.parts.harts, hits-same, own-kept, f.ties, m.parts)
 
     tied-there : (i : ℕ) → (i ≡ h) ⊎ (i ≢ h) → IsTied (range_of m.parts) i (hart_among m.harts i) (kept_at m.parts.harts i)
-    tied-there i (inl e) = subst (λ (j : ℕ). IsTied (range_of m.parts) j (hart_among m.harts j) (kept_at m.parts.harts j)) (sym e) own-tied
-    tied-there i (inr ne) =
-        subst (λ (y : Kept). IsTied (range_of m.parts) i (hart_among m.harts i) y) (others-step m.parts.harts h (hits_all n (hart_among m.harts h).domain) i ne) (f.ties i)
+    tied-there i x = grind (arith, own-tied, others-step)
 
     sound-untallied : IsSound m.parts
-    sound-untallied = let s = f.sound in record {
-      few_words = s.few_words;
-      few_maps = s.few_maps;
-      maps = s.maps;
-      ram = s.ram;
-      owners = s.owners;
-      heaps = s.heaps;
-      areas = s.areas;
-    }
+    sound-untallied = search arith
 
     pub fits-untallied : Fits m
-    fits-untallied = record {
-      sound = sound-untallied;
-      count = f.count ∙ count-step m.parts.harts h (hits_all n (hart_among m.harts h).domain);
-      few = f.few;
-      stacks = f.stacks;
-      dead = f.dead;
-      ties = λ i. tied-there i (cases_eq i h);
-      quiet = f.quiet;
-    }
+    fits-untallied = search (arith, sound-untallied, count-step, m.parts.harts, m.harts, tied-there, cases_eq)
 
 pub there-kept : (m : Held) (h n : ℕ) → Fits (tallied h n m) → RunsAlive (tallied h n m) h → h < length m.parts.harts
 there-kept m h n f r = subst (λ (i : ℕ). h < i) (f.count ∙ count-step m.parts.harts h (hits_all n (hart_among m.harts h).domain)) r.there
@@ -165,8 +126,4 @@ module _ (m : Held) (h n : ℕ) (there : h < length m.harts) (kept : h < length 
       ∙ looked-hit q.buffer q.kind (map_of q.maps d) h d x.pc before at)
 
   pub instruction-tallied : tallied h (n + 1) (after_unfetched h m) ≡ after_instruction h false (counted (tallied h n m))
-  instruction-tallied =
-      let a = after_unfetched h m in
-      let old = at_hart h (hits_all (n + 1) (hart_among a.harts h).domain) a.parts.harts in
-      ap (λ (s : ℕ). record a { parts = record a.parts { harts = old }; steps = s }) (let e : m.steps + (n + 1) ≡ m.steps + n + 1 = omega arith in e)
-      ∙ ap (λ (ks : List Kept). record a { parts = record a.parts { harts = ks }; steps = m.steps + n + 1 }) tallied-harts
+  instruction-tallied = search (arith, m.steps, tallied-harts)

@@ -1,20 +1,16 @@
 -- A waiting hart: it waits on, or its call is served.
-use Rattle.std.proofs.Common.{◌≡◌, ℕ, zero, suc, ◌<◌, Bool, true, false, List, [], ◌∷◌, length, get_or, refl, sym, ap, subst, ◌∙◌}
+use Rattle.std.proofs.Common.{◌≡◌, ℕ, zero, suc, ◌<◌, Bool, true, false, List, [], ◌∷◌, length, get_or, refl, sym, subst, ◌∙◌, arith}
 use Rattle.std.specs.List.{list_any}
 use Rattle.std.proofs.lemmas.Bool.{or_parts}
 use Rattle.mx_check.specs.Calls.{is_ready}
-use Rattle.mx_check.specs.Harts.{kept_at}
 use Rattle.mx_words.specs.Announced.{is_announced}
 use Rattle.mx_model.specs.declared.values.TurnKind.TheVariants as T
 use Rattle.mx_model.specs.Events.{Events, no_events}
-use Rattle.mx_model.specs.State.{Hart as Seen}
-use Rattle.mx_model.specs.State.{Status, Waiting}
 use Rattle.mx_model.specs.Turn.{served}
-use Rattle.mx_model.specs.Valid.{IsStatus, IsValid}
+use Rattle.mx_model.specs.Valid.{IsValid}
 use Rattle.mx_machine.specs.declared.hart.Hart.{Hart}
-use Rattle.mx_machine.specs.declared.hart.Progress.{Progress}
 use Rattle.mx_machine.specs.declared.hart.Progress.TheVariants as G
-use Rattle.mx_machine.specs.Harts.{no_held_hart, hart_among, hearers, is_waiting, own_call, status_by}
+use Rattle.mx_machine.specs.Harts.{no_held_hart, hart_among, is_waiting, own_call}
 use Rattle.mx_machine.specs.Held.{Held}
 use Rattle.mx_machine.specs.Made.{IsMade, core_in, made_after_hearing, hart_in, reads_of}
 use Rattle.mx_machine.specs.Ties.{Fits, MayAct}
@@ -30,14 +26,7 @@ made-waits m h a w e =
 -- a waiting hart of a valid state waits on an announced call
 pub waiting-announced : (m : Held) (h : ℕ) → IsValid (core_in m) → h < length m.harts → (hart_among m.harts h).progress ≡ G.Waiting →
     is_announced (own_call h (hart_among m.harts h)).number ≡ true
-waiting-announced m h v l w =
-    let x = hart_among m.harts h in
-    let k = kept_at m.parts.harts h in
-    let s = hart_in m h in
-    let status : s.status ≡ Waiting (own_call h x) (hearers k.flight) =
-    ap (λ (y : Seen). y.status) (hart-in m h) ∙ ap (λ (p : Progress). status_by (own_call h x) k.flight p) w in
-    (subst (λ (t : Status). IsStatus (length (core_in m).harts) h s t) status
-    (v.harts h (subst (λ n. h < n) (sym (length-seen 0 m.harts m.parts.harts)) l)).status).announced
+waiting-announced m h v l w = search (arith, m.harts, m.parts.harts, hart-in, v.harts, length-seen)
 
 -- whether some hart may wait is looked up again
 pub none-waits : (xs : List Hart) (i : ℕ) → list_any (λ (x : Hart). is_waiting x.progress) xs ≡ false → is_waiting (get_or xs i no_held_hart).progress ≡ false
@@ -46,15 +35,7 @@ none-waits (x ∷ xs) zero e = (or_parts (is_waiting x.progress) (list_any (λ (
 none-waits (x ∷ xs) (suc i) e = none-waits xs i (or_parts (is_waiting x.progress) (list_any (λ (x : Hart). is_waiting x.progress) xs) e).1
 
 pub fits-settled : (n : Held) → Fits n → Fits (record n { waiting = list_any (λ (x : Hart). is_waiting x.progress) n.harts })
-fits-settled n f = record {
-  sound = f.sound;
-  count = f.count;
-  few = f.few;
-  stacks = f.stacks;
-  dead = f.dead;
-  ties = f.ties;
-  quiet = λ e i. none-waits n.harts i e;
-}
+fits-settled n f = search (arith, none-waits)
 
 pub made-settled : (m n : Held) (h : ℕ) (w : Bool) (events : Events) → MayAct m h → (hart_among m.harts h).progress ≡ G.Waiting → is_ready h m.parts.harts ≡ true →
     IsMade m n events T.Called (served (reads_of m) (core_in m) h (hart_in m h) (own_call h (hart_among m.harts h))) →

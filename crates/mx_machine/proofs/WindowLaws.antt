@@ -1,6 +1,6 @@
 -- Windows: a turn inside one keeps it, and what is found round a hart's pc is one.
 use Rattle.std.proofs.Common.{◌≡◌, ◌≢◌, ℕ, ◌+◌, ◌-◌, ◌*◌, ◌/◌, ◌<◌, ◌≤◌, Bool, true, false, cond, nat_le, nat_lt, List, [], ◌∷◌, length, set, refl, sym, ap, subst, ◌∙◌, arith, get_or-set_same, get_or-set_other, Option, Some, None}
-use Rattle.std.specs.Option.{option_map, option_map_or}
+use Rattle.std.specs.Option.{option_map_or}
 use Rattle.std.proofs.lemmas.Bool.{and_from, and_parts, leb-true, ltb-true, le-leb, lt-ltb}
 use Rattle.mx_words.specs.declared.perm.Perm.{Perm}
 use Rattle.mx_words.specs.declared.perm.Perm.TheVariants as P
@@ -8,7 +8,7 @@ use Rattle.mx_words.specs.declared.perm.Span.{Span}
 use Rattle.mx_words.specs.declared.tables.Kind.{Kind}
 use Rattle.mx_words.specs.Caches.{Cache, checked, checked_at, checked_behind, covers_word, found_in_place, found_kept, in_place, with_walk}
 use Rattle.mx_words.specs.declared.perm.Access.TheVariants.{Execute}
-use Rattle.mx_words.specs.Ranges.{in_ram, most_words, ram_base, word_of}
+use Rattle.mx_words.specs.Ranges.{most_words, ram_base, word_of}
 use Rattle.mx_words.specs.Rights.{allows}
 use Rattle.mx_words.proofs.OverlayLaws.{covers_in}
 use Rattle.mx_words.specs.Reach.{span}
@@ -25,7 +25,6 @@ use Rattle.mx_supervisor.specs.Parts.{Parts}
 use Rattle.mx_machine.specs.declared.hart.Hart.{Hart}
 use Rattle.mx_machine.specs.declared.window.Window.{Window}
 use Rattle.mx_machine.specs.Actions.{after_instruction, counted, effect_for, looks_all, outcome_for, perm_for}
-use Rattle.mx_machine.specs.AtGate.{gate_here}
 use Rattle.mx_machine.specs.Bus.{IsInRam}
 use Rattle.mx_machine.specs.Harts.{hart_among, no_held_hart}
 use Rattle.mx_machine.specs.Held.{Held}
@@ -37,21 +36,11 @@ use Rattle.mx_machine.proofs.MadeLaws.{kept-there}
 
 -- what is at hand follows from place 0 alone
 pub hand-same : (size address : ℕ) (c e : Cache) → in_place e.places 0 ≡ in_place c.places 0 → IsAtHand size c address → IsAtHand size e address
-hand-same size address c e same hand = record {
-  word = hand.word;
-  here = hand.here;
-  right = ap (λ (o : Option Span). option_map (λ (s : Span). s.perm) (option_map_or (λ (s : Span). cond (covers_word s hand.word) (Some s) None) o None)) same ∙ hand.right;
-}
+hand-same size address c e same hand = search arith
 
 -- what is at hand lies in RAM
 pub hand-inside : (size address : ℕ) (c : Cache) → IsAtHand size c address → IsInRam size address
-hand-inside size address c hand = by (in_ram address size) refl hand.here
-  where
-    by : (b : Bool) → in_ram address size ≡ b → cond b (Some ((address - ram_base) / 4)) None ≡ Some hand.word → IsInRam size address
-    by true is e =
-        let p = and_parts (nat_le ram_base address) (nat_lt (address - ram_base) (4 * size)) is in
-        (leb-true ram_base address p.0, ltb-true (address - ram_base) (4 * size) p.1)
-    by false is e = absurd (let z : ⊥ = cc in z)
+hand-inside size address c hand = search (arith, hand.here, hand.word, and_parts, leb-true, ltb-true)
 
 -- a check at another place leaves place 0
 module _ (most p domain word : ℕ) (walked : Span) (other : p ≢ 0) where
@@ -59,8 +48,7 @@ module _ (most p domain word : ℕ) (walked : Span) (other : p ≢ 0) where
   written-elsewhere places s = get_or-set_other places p 0 (Some s) None (λ e. other (sym e))
 
   walk-elsewhere : (c : Cache) (b : Bool) → in_place (with_walk most p domain walked b c).places 0 ≡ in_place c.places 0
-  walk-elsewhere c true = refl
-  walk-elsewhere c false = written-elsewhere c.places walked
+  walk-elsewhere c x = grind (arith, written-elsewhere)
 
   behind-elsewhere : (c : Cache) (b : Bool) (o : Option Span) → in_place (checked_behind most p domain walked b o c).places 0 ≡ in_place c.places 0
   behind-elsewhere c b (Some s) = written-elsewhere c.places s
@@ -77,9 +65,7 @@ module _ (most p domain word : ℕ) (walked : Span) (other : p ≢ 0) where
 module _ (most : ℕ) (kind : Kind) (m : List Perm) (h d size a : ℕ) (kept : List Kept) (there : h < length kept) (hand : IsAtHand size (kept_at kept h).cache a) where
   step-hand : (step : Kept → Kept) → in_place (step (kept_at kept h)).cache.places 0 ≡ in_place (kept_at kept h).cache.places 0 →
       IsAtHand size (kept_at (at_hart h step kept) h).cache a
-  step-hand step same =
-      hand-same size a (kept_at kept h).cache (kept_at (at_hart h step kept) h).cache
-      (ap (λ (k : Kept). in_place k.cache.places 0) (own-step kept h step there) ∙ same) hand
+  step-hand step same = search (arith, hand-same, own-step)
 
   look-hand-at : (p : ℕ) (o : Option ℕ) → p ≢ 0 → IsAtHand size (kept_at (looked_at most kind m h p d o kept) h).cache a
   look-hand-at p None other = step-hand (with_domain d) refl
@@ -115,17 +101,7 @@ away-hand q h d size a (t ∷ ts) kept there away hand =
 module _ (m : Held) (h : ℕ) (r : MayRun m h) (hand : IsAtHand m.parts.size (kept_at m.parts.harts h).cache (hart_among m.harts h).pc)
     (away : AreAway (touches_of (effect_for m (hart_among m.harts h)))) where
   kept-hand : (a : ℕ) → IsAtHand m.parts.size (kept_at m.parts.harts h).cache a → IsAtHand m.parts.size (kept_at (after_instruction h false m).parts.harts h).cache a
-  kept-hand a at =
-      let x = hart_among m.harts h in
-      let q = m.parts in
-      let ms = map_of q.maps x.domain in
-      let there = kept-there m h r.act in
-      let first = looked_at_address q.buffer q.kind ms h 0 x.domain x.pc q.harts in
-      let whole = r.act.fits.sound.maps x.domain r.act.domain in
-      let fetched-hand = subst (λ n. IsAtHand n (kept_at q.harts h).cache x.pc) (sym whole) hand in
-      let long = length-looked-at q.buffer q.kind ms h x.domain 0 (word_of x.pc (length ms)) q.harts in
-      away-hand q h x.domain q.size a (touches_of (effect_for m x)) first (subst (λ n. h < n) (sym long) there) away
-      (fetch-hand q.buffer q.kind ms h x.domain q.size a q.harts there at x.pc fetched-hand)
+  kept-hand a at = search (arith, m.harts, kept-there, r.act.fits.sound.maps, length-looked-at, away-hand, fetch-hand)
 
   same-domain : (hart_among (after_instruction h false m).harts h).domain ≡ (hart_among m.harts h).domain
   same-domain =
@@ -134,28 +110,18 @@ module _ (m : Held) (h : ℕ) (r : MayRun m h) (hand : IsAtHand m.parts.size (ke
       ap (λ (z : Hart). z.domain) (get_or-set_same m.harts h y no_held_hart r.act.there)
 
   open-stays : (a : ℕ) → IsOpen m h a → IsOpen (after_instruction h false m) h a
-  open-stays a o = record {
-    quiet = o.quiet;
-    at_hand = kept-hand a o.at_hand;
-    gate = ap (λ d. gate_here m d a) same-domain ∙ o.gate;
-  }
+  open-stays a o = search (arith, kept-hand, same-domain)
 
   pub window-stays : (w : Window) → IsWindow m h w → IsWindow (after_instruction h false m) h w
   window-stays w i = record { bound = i.bound; each = λ a inside. open-stays a (i.each a inside) }
 
 -- a turn that counts leaves a window
 pub window-counted : (m : Held) (h : ℕ) (w : Window) → IsWindow m h w → IsWindow (counted m) h w
-window-counted m h w i = record {
-  bound = i.bound;
-  each = λ a inside. let o = i.each a inside in record { quiet = o.quiet; at_hand = o.at_hand; gate = o.gate };
-}
+window-counted m h w i = search (arith, i.each)
 
 -- no address at all
 pub window-shut : (m : Held) (h : ℕ) → IsWindow m h (record { start = 0; bytes = 0 })
-window-shut m h = record {
-  bound = omega arith;
-  each = λ a inside. absurd (let lt : a - 0 < 0 = ltb-true (a - 0) 0 (and_parts (nat_le 0 a) (nat_lt (a - 0) 0) inside).1 in omega (arith, lt));
-}
+window-shut m h = search (arith, ltb-true, and_parts)
 
 -- the span of a place that answers
 place-holds : (places : List (Option Span)) (word : ℕ) (s : Span) → found_in_place places 0 word ≡ Some s → in_place places 0 ≡ Some s
@@ -170,10 +136,7 @@ place-holds places word s e = by (in_place places 0) refl e
     by (Some t) f q = f ∙ at t (covers_word t word) q
 
 executable : (p : Perm) → allows p Execute ≡ true → p ≡ P.ExecuteRead
-executable P.None e = absurd (let z : ⊥ = cc in z)
-executable P.Read e = absurd (let z : ⊥ = cc in z)
-executable P.ReadWrite e = absurd (let z : ⊥ = cc in z)
-executable P.ExecuteRead e = refl
+executable x e = grind arith
 
 -- words of a span that place 0 holds and that may be executed, between gates and in RAM
 module _ (m : Held) (h word first end : ℕ) (s : Span) (quiet : m.waiting ≡ false) (few : m.parts.size ≤ most_words)
@@ -182,25 +145,11 @@ module _ (m : Held) (h word first end : ℕ) (s : Span) (quiet : m.waiting ≡ f
     (low : s.first ≤ first) (high : end ≤ s.first + s.count) (within : end ≤ m.parts.size) where
   found-open : (a w : ℕ) → word_of a m.parts.size ≡ Some w → first ≤ w → w < end → IsOpen m h a
   found-open a w here from upto =
-      let places = (kept_at m.parts.harts h).cache.places in
-      let d = (hart_among m.harts h).domain in
-      let inside : covers_word s w ≡ true = covers_in s.first s.count w (omega (arith, low, from)) (omega (arith, high, upto)) in
-      let answers : found_in_place places 0 w ≡ Some s = ap (λ (o : Option Span). option_map_or (λ (x : Span). cond (covers_word x w) (Some x) None) o None) (place-holds places word s found)
-      ∙ ap (λ (b : Bool). cond b (Some s) None) inside in
-      record {
-        quiet = quiet;
-        at_hand = record {
-          word = w;
-          here = here;
-          right = ap (λ (o : Option Span). option_map (λ (x : Span). x.perm) o) answers ∙ ap (λ (p : Perm). Some p) (executable s.perm right);
-        };
-        gate = ap (λ (o : Option ℕ). option_map_or (gate_target m.parts.gates d) o None) here ∙ clear w from upto;
-      }
+      search (arith, m.parts.harts, m.harts, covers_in, s.first, s.count, place-holds, executable, s.perm,
+        m.parts.gates)
 
   word-there : (a : ℕ) → ram_base ≤ a → a - ram_base < 4 * m.parts.size → word_of a m.parts.size ≡ Some ((a - ram_base) / 4)
-  word-there a from upto =
-      ap (λ (b : Bool). cond b (Some ((a - ram_base) / 4)) None)
-      (and_from (nat_le ram_base a) (nat_lt (a - ram_base) (4 * m.parts.size)) (le-leb ram_base a from) (lt-ltb (a - ram_base) (4 * m.parts.size) upto))
+  word-there a from upto = search (arith, and_from, le-leb, lt-ltb)
 
   pub window-found : first < end → IsWindow m h (record { start = ram_base + 4 * first; bytes = 4 * (end - first) })
   window-found some = record {
