@@ -1,16 +1,14 @@
 -- A hart at a multiple of 4 is at one after an instruction that it runs.
-use Rattle.std.proofs.Common.{◌≡◌, ℕ, ◌%◌, Bool, true, false, not, cond, ◌==◌, nat_le, List, length, refl, eqb-true, arith, if◌then◌else◌, Option, Some, None}
+use Rattle.std.proofs.Common.{◌≡◌, ℕ, ◌%◌, Bool, true, cond, ◌==◌, List, eqb-true, arith, if◌then◌else◌, Option, Some, None}
 use Rattle.std.specs.Option.{option_map_or}
 use Rattle.mx_words.specs.declared.perm.Access.TheVariants as A
 use Rattle.mx_isa.specs.declared.inst.Inst.{Inst}
 use Rattle.mx_isa.specs.declared.inst.Inst.TheVariants.{Lui, Auipc, Jal, Jalr, Branch, Load, Store, OpImm, Op, Fence, Ecall, Ebreak}
-use Rattle.mx_isa.specs.Table.{decoded}
 use Rattle.mx_model.specs.declared.values.Frame.{Frame}
-use Rattle.mx_model.specs.Effect.{Effect, Goes, Faults, Loads, Stores, Calls, Jumps, effect, holds, load_size, loaded, next, plus, reg, store_size, taken, written}
-use Rattle.mx_model.specs.Gates.{most_frames, top}
+use Rattle.mx_model.specs.Effect.{Effect, Goes, Faults, Loads, Stores, effect, holds, load_size, next, plus, reg, store_size, taken}
 use Rattle.mx_model.specs.Reads.{Reads}
 use Rattle.mx_model.specs.State.{Core, Hart, module_at}
-use Rattle.mx_model.specs.Turn.{Action, Rests, Waits, Serves, Asks, Traps, Bounces, Crosses, Returns, Runs, Writes, Decided, at_gate, at_return, by_effect, by_word, call_gate_at, fetches, is_denied, is_return_at, jump_action, load_at, returned_over, runs_at, runs_in, traps, without_look}
+use Rattle.mx_model.specs.Turn.{Action, Traps, Returns, Runs, Decided, at_gate, by_effect, by_word, fetches, is_denied, returned_over, runs_at, runs_in}
 use Rattle.mx_laws.proofs.TwinLaws.{action_in, pc_of}
 
 -- where an effect, or an action, leads to
@@ -26,8 +24,7 @@ straight-next : (pc : ℕ) → pc % 4 ≡ 0 → next pc % 4 ≡ 0
 straight-next pc e = omega (arith, e)
 
 straight-choice : (b : Bool) (e f : Effect) → (b ≡ true → IsStraight e) → IsStraight f → IsStraight (cond b e f)
-straight-choice true e f p q = p refl
-straight-choice false e f p q = q
+straight-choice x e f p q = grind arith
 
 straight-effect : (inst : Inst) (regs : List ℕ) (pc : ℕ) → pc % 4 ≡ 0 → IsStraight (effect inst regs pc)
 unfolding effect
@@ -54,20 +51,14 @@ straight-effect Ecall regs pc e = tt
 straight-effect Ebreak regs pc e = tt
 
 action-choice : (b : Bool) (a d : Action) → (b ≡ true → LeadsStraight a) → LeadsStraight d → LeadsStraight (cond b a d)
-action-choice true a d p q = p refl
-action-choice false a d p q = q
+action-choice x a d p q = grind arith
 
 decided-choice : (b : Bool) (a d : Decided) → LeadsStraight a.action → LeadsStraight d.action →
     LeadsStraight (if b then a else d).action
-decided-choice true a d p q = p
-decided-choice false a d p q = q
+decided-choice x a d p q = grind arith
 
 straight-at_gate : (c : Core) (x : Hart) (target : ℕ) → LeadsStraight (at_gate c x target).action
-straight-at_gate c x target =
-    let x1 = reg x.regs 1 in
-    decided-choice (not (x1 % 4 == 0)) (traps 19 x1) _ tt (
-    decided-choice (module_at c target).dead (without_look Bounces) _ tt (
-    decided-choice (nat_le most_frames (length x.frames)) (traps 16 x.pc) (without_look (Crosses target)) tt tt))
+straight-at_gate c x target = search (arith, decided-choice)
 
 straight-over : (rd target : ℕ) (o : Option Frame) →
     LeadsStraight (option_map_or (returned_over rd target) o (Traps 18 target))
@@ -78,48 +69,24 @@ straight-over rd target (Some frame) =
 -- a running hart
 module _ (r : Reads) (c : Core) (h : ℕ) (x : Hart) (s : x.pc % 4 ≡ 0) where
   straight-by_effect : (e : Effect) → IsStraight e → LeadsStraight (by_effect r c h x e).action
-  straight-by_effect (Goes regs pc) p = p
-  straight-by_effect (Faults cause value) p = tt
-  straight-by_effect (Loads place address width rd) p =
-      action-choice (is_denied r c x.domain address A.Read) (Traps 5 address)
-      (Runs (written x.regs rd (loaded width (load_at c address (load_size width)))) (next x.pc)) (λ e. tt)
-      (straight-next x.pc s)
-  straight-by_effect (Stores place address size value) p =
-      action-choice (is_denied r c x.domain address A.Write) (Traps 7 address) (Writes address size value) (λ e. tt) tt
-  straight-by_effect Calls p = tt
-  straight-by_effect (Jumps rd target) p =
-      action-choice (is_return_at c x.domain x.pc) (at_return x rd target) (jump_action x rd target)
-      (λ e. straight-over rd target (top x.frames))
-      (action-choice (target % 4 == 0) (Runs (written x.regs rd (next x.pc)) target) (Traps 0 target)
-      (λ e. eqb-true (target % 4) 0 e) tt)
+  straight-by_effect x p = search (arith, action-choice, straight-next, straight-over)
 
   straight-by_word : (word : ℕ) (o : Option Inst) → LeadsStraight (by_word r c h x word o).action
   straight-by_word word None = tt
   straight-by_word word (Some inst) = straight-by_effect (effect inst x.regs x.pc) (straight-effect inst x.regs x.pc s)
 
   straight-fetches : (b : Bool) → LeadsStraight (fetches r c h x b).action
-  straight-fetches true = tt
-  straight-fetches false = let word = load_at c x.pc 4 in straight-by_word word (decoded word)
+  straight-fetches x = grind (arith, straight-by_word)
 
   straight-runs_at : (o : Option ℕ) → LeadsStraight (runs_at r c h x o).action
   straight-runs_at (Some target) = straight-at_gate c x target
   straight-runs_at None = straight-fetches (is_denied r c x.domain x.pc A.Execute)
 
   straight-runs_in : (b : Bool) → LeadsStraight (runs_in r c h x b).action
-  straight-runs_in true = tt
-  straight-runs_in false = straight-runs_at (call_gate_at c x.domain x.pc)
+  straight-runs_in x = grind (arith, straight-runs_at)
 
 straight-pc : (x : Hart) (a : Action) → x.pc % 4 ≡ 0 → LeadsStraight a → pc_of x a % 4 ≡ 0
-straight-pc x (Runs regs pc) s p = p
-straight-pc x Rests s p = straight-next x.pc s
-straight-pc x Waits s p = straight-next x.pc s
-straight-pc x (Serves call) s p = straight-next x.pc s
-straight-pc x (Asks call) s p = straight-next x.pc s
-straight-pc x (Traps cause value) s p = straight-next x.pc s
-straight-pc x Bounces s p = straight-next x.pc s
-straight-pc x (Crosses target) s p = straight-next x.pc s
-straight-pc x (Returns rd frame) s p = straight-next x.pc s
-straight-pc x (Writes address size value) s p = straight-next x.pc s
+straight-pc x x1 s p = grind (arith, straight-next)
 
 pub straight-action : (r : Reads) (c : Core) (h : ℕ) (x : Hart) → x.pc % 4 ≡ 0 → pc_of x (action_in r c h x) % 4 ≡ 0
 straight-action r c h x s = straight-pc x (action_in r c h x) s (straight-runs_in r c h x s (module_at c x.domain).dead)

@@ -1,18 +1,17 @@
 -- A running hart's border is told by its turn: the turn's sort by its action, and what it shows.
-use Rattle.std.proofs.Common.{◌≡◌, ◌↔◌, ⊎_elim, ◌⊎◌, inl, inr, ℕ, ◌<◌, Bool, true, false, ◌==◌, ◌||◌, nat_lt, List, [], ◌∷◌, ◌++◌, length, length-append, get_or, set, refl, sym, ◌∙◌, ap, subst, arith, if◌then◌else◌, Option, Some, None}
+use Rattle.std.proofs.Common.{◌≡◌, ◌↔◌, ⊎_elim, ◌⊎◌, ℕ, ◌<◌, Bool, ◌==◌, ◌||◌, nat_lt, List, [], ◌∷◌, ◌++◌, length, length-append, set, refl, sym, ◌∙◌, ap, subst, arith, if◌then◌else◌, Option, Some, None}
 use Rattle.std.specs.List.{last_or}
 use Rattle.std.proofs.lemmas.Bool.{ltb-false}
 use Rattle.std.proofs.lemmas.List.{get_or-set_same}
 use Rattle.mx_model.specs.declared.values.Frame.{Frame}
 use Rattle.mx_model.specs.declared.values.TurnKind.{TurnKind}
 use Rattle.mx_model.specs.declared.values.TurnKind.TheVariants as T
-use Rattle.mx_model.specs.Agreement.{Border, Trap, AtGate, Back, Call, Nothing, border, target_at}
-use Rattle.mx_model.specs.Checks.{is_halted}
+use Rattle.mx_model.specs.Agreement.{Border, Trap, AtGate, Back, Call, Nothing, border}
 use Rattle.mx_model.specs.Effect.{reg}
 use Rattle.mx_model.specs.Gates.{below_top, top}
 use Rattle.mx_model.specs.Reads.{Reads}
-use Rattle.mx_model.specs.State.{Core, Hart, hart_at, module_at, no_hart}
-use Rattle.mx_model.specs.Turn.{Action, Rests, Waits, Serves, Asks, Traps, Bounces, Crosses, Returns, Runs, Writes, Made, acted, call_of, is_served_now, runs_in}
+use Rattle.mx_model.specs.State.{Core, Hart, hart_at, module_at}
+use Rattle.mx_model.specs.Turn.{Action, Rests, Waits, Serves, Asks, Traps, Bounces, Crosses, Returns, Runs, Writes, Made, acted, call_of, runs_in}
 use Rattle.mx_model.proofs.KeepLaws.{keeps-hears}
 use Rattle.mx_model.proofs.TurnCases.{ready}
 use Rattle.mx_laws.specs.After.{core_after, domain_at, frames_at, kind_of}
@@ -23,17 +22,13 @@ use Rattle.mx_laws.proofs.TwinLaws.{kind-asked}
 use Rattle.mx_runs.specs.Borders.{Crooked, Full, IsAtGate, IsCalling, IsGateCause, IsOfRow, NoFrame, Elsewhere, OverFrame, PassesGate, ReturnsTo, SentBack, pc_of, register_of}
 use Rattle.mx_runs.specs.Borders.{Crosses as Crossing}
 use Rattle.mx_runs.proofs.TrapLaws.{Does, does-action, traps-does}
-use Rattle.mx_runs.proofs.BorderMeets.{ByCrooked, ByDead, ByFull, ByNone, ByOther, ByRun, ByWrite, GoesOn, Leaves, Meets, Over, Passes, Through, does-running, meets-in}
+use Rattle.mx_runs.proofs.BorderMeets.{ByCrooked, ByDead, ByFull, ByNone, ByOther, GoesOn, Leaves, Meets, Over, Passes, Through, does-running, meets-in}
 
 -- hart h after a turn that sets it
 set-after : (r : Reads) (c : Core) (h : ℕ) (a : Action) (d : Does r c h a) (y : Hart) → IsRunning c h →
     (acted r (record (ready c h) { caches = d.caches }) h (hart_at c h) a).core.harts ≡ set (ready c h).harts h y →
     hart_at (core_after r c h) h ≡ y
-set-after r c h a d y run e =
-    let few : h < length c.harts = there c h (ap is_halted run) in
-    let count : length (ready c h).harts ≡ length c.harts = (keeps-hears h c).harts in
-    ap (λ (m : Made). hart_at m.core h) d.is ∙ ap (λ (hs : List Hart). get_or hs h no_hart) e
-    ∙ get_or-set_same (ready c h).harts h y no_hart (omega (arith, few, count))
+set-after r c h a d y run e = search (arith, c.harts, there, ready, keeps-hears, get_or-set_same)
 
 frames-sent : (r : Reads) (c : Core) (h : ℕ) → IsRunning c h → Does r c h Bounces →
     frames_at (core_after r c h) h ≡ frames_at c h
@@ -54,8 +49,7 @@ module _ (r : Reads) (c : Core) (h : ℕ) (run : IsRunning c h) (a : Action) (d 
 
   row-passes : (target : ℕ) → Passes (module_at c target).dead own target a → PassesGate r c h target
   row-passes target (ByCrooked e n) = Crooked n ((traps-does r c h a 19 (reg own.regs 1) d).1 e)
-  row-passes target (ByDead e n) =
-      let k = does-action r c h a Bounces e d in SentBack n (ap (λ (m : Made). m.kind) k.is) (frames-sent r c h run k)
+  row-passes target (ByDead e n) = search (arith, does-action, frames-sent)
   row-passes target (ByFull e n) = Full n ((traps-does r c h a 16 own.pc d).1 e)
   row-passes target (Through e) =
       let k = does-action r c h a (Crosses target) e d in
@@ -71,23 +65,16 @@ module _ (r : Reads) (c : Core) (h : ℕ) (run : IsRunning c h) (a : Action) (d 
       (top-split own.frames f t ∙ ap (λ (fs : List Frame). fs ++ f ∷ []) (sym (frames-returned r c h rd f run k))) b
 
   kind-asks : a ≡ Asks (call_of h own) → kind_of r c h ≡ T.Called
-  kind-asks e =
-      let k = does-action r c h a (Asks (call_of h own)) e d in
-      let now : Core = record (ready c h) { caches = k.caches } in
-      ap (λ (m : Made). m.kind) k.is ∙ kind-asked r now h own (call_of h own) (is_served_now now h (call_of h own))
+  kind-asks e = search (arith, does-action, own, ready, kind-asked)
 
   kind-goes : GoesOn a → kind_of r c h ≡ T.Ran
-  kind-goes (ByRun regs pc e) = let k = does-action r c h a (Runs regs pc) e d in ap (λ (m : Made). m.kind) k.is
-  kind-goes (ByWrite address size value e) =
-      let k = does-action r c h a (Writes address size value) e d in ap (λ (m : Made). m.kind) k.is
+  kind-goes x = grind (arith, does-action)
 
   row-meets : (k : Border) → Meets c h own k a → IsOfRow r c h k
   row-meets (Trap cause value) m = ((traps-does r c h a cause value d).1 m.0, m.1)
-  row-meets (AtGate word target x1) m =
-      record { place = m.place; leads = m.leads; address = m.address; passes = row-passes target m.passes }
+  row-meets (AtGate word target x1) m = search (arith, row-passes)
   row-meets (Back pc target) m = (m.0, row-leaves target m.1)
-  row-meets (Call number a0 a1 a2 a3) m =
-      record { x17 = m.x17; x10 = m.x10; x11 = m.x11; x12 = m.x12; x13 = m.x13; kind = kind-asks m.asks }
+  row-meets (Call number a0 a1 a2 a3) m = search (arith, kind-asks)
   row-meets Nothing m = kind-goes m
 
 -- a turn's sort as a number, by its action, and a border's
@@ -116,9 +103,7 @@ row_of Nothing = 4
 
 sort-by : (cause : ℕ) (b d : Bool) → nat_lt cause 16 ≡ b → nat_lt 19 cause ≡ d → (IsGateCause cause → ⊥) →
     ◌≡◌ {A = ℕ} (if b then 0 else if d then 0 else if (cause == 16) || (cause == 19) then 1 else 2) 0
-sort-by cause true d e f n = refl
-sort-by cause false true e f n = refl
-sort-by cause false false e f n = absurd (n (ltb-false cause 16 e, ltb-false 19 cause f))
+sort-by cause x d e f n = grind (arith, ltb-false)
 
 sort-trap : (cause : ℕ) → (IsGateCause cause → ⊥) → cause_sort cause ≡ 0
 sort-trap cause n = sort-by cause (nat_lt cause 16) (nat_lt 19 cause) refl refl n
@@ -133,48 +118,28 @@ IsProper x a = (over_of a ≡ None) ⊎ (over_of a ≡ top x.frames)
 
 module _ (c : Core) (h : ℕ) (x : Hart) (a : Action) where
   sort-passes : (target : ℕ) → Passes (module_at c target).dead x target a → sort a ≡ 1
-  sort-passes target (ByCrooked e n) = ap sort e
-  sort-passes target (ByDead e n) = ap sort e
-  sort-passes target (ByFull e n) = ap sort e
-  sort-passes target (Through e) = ap sort e
+  sort-passes target x = grind (arith, sort)
 
   sort-leaves : (target : ℕ) → Leaves x target a → sort a ≡ 2
-  sort-leaves target (ByNone e n) = ap sort e
-  sort-leaves target (ByOther f e t n) = ap sort e
-  sort-leaves target (Over rd f e t b) = ap sort e
+  sort-leaves target x = grind (arith, sort)
 
   sort-goes : GoesOn a → sort a ≡ 4
-  sort-goes (ByRun regs pc e) = ap sort e
-  sort-goes (ByWrite address size value e) = ap sort e
+  sort-goes x = grind (arith, sort)
 
   sort-meets : (k : Border) → Meets c h x k a → sort a ≡ row_of k
-  sort-meets (Trap cause value) m = ap sort m.0 ∙ sort-trap cause m.1
-  sort-meets (AtGate word target x1) m = sort-passes target m.passes
-  sort-meets (Back pc target) m = sort-leaves target m.1
-  sort-meets (Call number a0 a1 a2 a3) m = ap sort m.asks
-  sort-meets Nothing m = sort-goes m
+  sort-meets x m = search (arith, sort, sort-trap, sort-passes, sort-leaves, sort-goes)
 
   proper-passes : (target : ℕ) → Passes (module_at c target).dead x target a → IsProper x a
-  proper-passes target (ByCrooked e n) = inl (ap over_of e)
-  proper-passes target (ByDead e n) = inl (ap over_of e)
-  proper-passes target (ByFull e n) = inl (ap over_of e)
-  proper-passes target (Through e) = inl (ap over_of e)
+  proper-passes target x = grind (arith, over_of)
 
   proper-leaves : (target : ℕ) → Leaves x target a → IsProper x a
-  proper-leaves target (ByNone e n) = inl (ap over_of e)
-  proper-leaves target (ByOther f e t n) = inl (ap over_of e)
-  proper-leaves target (Over rd f e t b) = inr (ap over_of e ∙ sym t)
+  proper-leaves target x = grind (arith, over_of)
 
   proper-goes : GoesOn a → IsProper x a
-  proper-goes (ByRun regs pc e) = inl (ap over_of e)
-  proper-goes (ByWrite address size value e) = inl (ap over_of e)
+  proper-goes x = grind (arith, over_of)
 
   proper-meets : (k : Border) → Meets c h x k a → IsProper x a
-  proper-meets (Trap cause value) m = inl (ap over_of m.0)
-  proper-meets (AtGate word target x1) m = proper-passes target m.passes
-  proper-meets (Back pc target) m = proper-leaves target m.1
-  proper-meets (Call number a0 a1 a2 a3) m = inl (ap over_of m.asks)
-  proper-meets Nothing m = proper-goes m
+  proper-meets x m = grind (arith, over_of, proper-passes, proper-leaves, proper-goes)
 
 -- the kind of a turn by its action, and the actions of a kind
 abbrev kind_by : Action → TurnKind
@@ -190,16 +155,7 @@ kind_by (Runs regs pc) = T.Ran
 kind_by (Writes address size value) = T.Ran
 
 kind-by : (r : Reads) (c : Core) (h : ℕ) (x : Hart) (a : Action) → (acted r c h x a).kind ≡ kind_by a
-kind-by r c h x Rests = refl
-kind-by r c h x Waits = refl
-kind-by r c h x (Serves call) = refl
-kind-by r c h x (Asks call) = kind-asked r c h x call (is_served_now c h call)
-kind-by r c h x (Traps cause value) = refl
-kind-by r c h x Bounces = refl
-kind-by r c h x (Crosses target) = refl
-kind-by r c h x (Returns rd frame) = refl
-kind-by r c h x (Runs regs pc) = refl
-kind-by r c h x (Writes address size value) = refl
+kind-by r c h x x1 = grind (arith, kind-asked)
 
 -- the sort of a turn of a kind that has one
 abbrev kind_sort : TurnKind → ℕ
@@ -209,18 +165,7 @@ kind_sort T.Ran = 4
 kind_sort k = 0
 
 sort-kind : (a : Action) (k : TurnKind) → kind_by a ≡ k → 0 < kind_sort k → sort a ≡ kind_sort k
-sort-kind (Serves call) k e l = ap kind_sort e
-sort-kind (Asks call) k e l = ap kind_sort e
-sort-kind (Crosses target) k e l = ap kind_sort e
-sort-kind (Runs regs pc) k e l = ap kind_sort e
-sort-kind (Writes address size value) k e l = ap kind_sort e
-sort-kind Rests k e l = absurd (let n : 0 ≡ kind_sort k = ap kind_sort e in let z : ⊥ = omega (arith, n, l) in z)
-sort-kind Waits k e l = absurd (let n : 0 ≡ kind_sort k = ap kind_sort e in let z : ⊥ = omega (arith, n, l) in z)
-sort-kind (Traps cause value) k e l =
-    absurd (let n : 0 ≡ kind_sort k = ap kind_sort e in let z : ⊥ = omega (arith, n, l) in z)
-sort-kind Bounces k e l = absurd (let n : 0 ≡ kind_sort k = ap kind_sort e in let z : ⊥ = omega (arith, n, l) in z)
-sort-kind (Returns rd frame) k e l =
-    absurd (let n : 0 ≡ kind_sort k = ap kind_sort e in let z : ⊥ = omega (arith, n, l) in z)
+sort-kind x k e l = grind (arith, kind_sort)
 
 data ComesBack (a : Action) : Type 0 where
   Sent : a ≡ Bounces → ComesBack a
@@ -229,12 +174,12 @@ data ComesBack (a : Action) : Type 0 where
 comes-back : (a : Action) → kind_by a ≡ T.Returned → ComesBack a
 comes-back Bounces e = Sent refl
 comes-back (Returns rd f) e = Given rd f refl
-comes-back Rests e = absurd (let z : ⊥ = cc in z)
-comes-back Waits e = absurd (let z : ⊥ = cc in z)
-comes-back (Serves call) e = absurd (let z : ⊥ = cc in z)
-comes-back (Asks call) e = absurd (let z : ⊥ = cc in z)
-comes-back (Traps cause value) e = absurd (let z : ⊥ = cc in z)
-comes-back (Crosses target) e = absurd (let z : ⊥ = cc in z)
+comes-back Rests e = absurd (cc)
+comes-back Waits e = absurd (cc)
+comes-back (Serves call) e = absurd (cc)
+comes-back (Asks call) e = absurd (cc)
+comes-back (Traps cause value) e = absurd (cc)
+comes-back (Crosses target) e = absurd (cc)
 comes-back (Runs regs pc) e = absurd (let z : ⊥ = cc in z)
 comes-back (Writes address size value) e = absurd (let z : ⊥ = cc in z)
 
@@ -263,15 +208,14 @@ module _ (r : Reads) (c : Core) (h : ℕ) (run : IsRunning c h) (a : Action) (d 
   of-kind k e l = sort-kind a k (sym kind-is ∙ e) l
 
   over-top : (f : Frame) → over_of a ≡ Some f → top it.frames ≡ Some f
-  over-top f e = ⊎_elim (λ n. absurd (let z : ⊥ = cc in z)) (λ t. sym t ∙ e) p
+  over-top f e = ⊎_elim (λ n. absurd (cc)) (λ t. sym t ∙ e) p
 
   -- an action that gives up a frame leaves fewer
   fewer : (rd : ℕ) (f : Frame) → a ≡ Returns rd f → frames_at (core_after r c h) h ≡ frames_at c h → ⊥
   fewer rd f e same =
       let k = does-action r c h a (Returns rd f) e d in
       let split = top-split it.frames f (over-top f (ap over_of e)) in
-      one-more it.frames f (split
-      ∙ ap (λ (fs : List Frame). fs ++ f ∷ []) (sym (frames-returned r c h rd f run k) ∙ same))
+      one-more it.frames f (cc (split, frames-returned r c h rd f run k, same))
 
   -- one that doesn't leaves as many
   as-many : (f : Frame) → a ≡ Bounces → frames_at c h ≡ frames_at (core_after r c h) h ++ f ∷ [] → ⊥
@@ -280,12 +224,10 @@ module _ (r : Reads) (c : Core) (h : ℕ) (run : IsRunning c h) (a : Action) (d 
       one-more it.frames f (more ∙ ap (λ (fs : List Frame). fs ++ f ∷ []) (frames-sent r c h run k))
 
   sort-sent : ComesBack a → frames_at (core_after r c h) h ≡ frames_at c h → sort a ≡ 1
-  sort-sent (Sent e) same = ap sort e
-  sort-sent (Given rd f e) same = absurd (fewer rd f e same)
+  sort-sent x same = grind (arith, sort, fewer)
 
   sort-given : (f : Frame) → ComesBack a → frames_at c h ≡ frames_at (core_after r c h) h ++ f ∷ [] → sort a ≡ 2
-  sort-given f (Sent e) more = absurd (as-many f e more)
-  sort-given f (Given rd g e) more = ap sort e
+  sort-given f x more = grind (arith, as-many, sort)
 
   sort-gate : (target : ℕ) → PassesGate r c h target → sort a ≡ 1
   sort-gate target (Crooked n t) = ap sort ((traps-does r c h a 19 (register_of c h 1) d).0 t)
@@ -294,9 +236,7 @@ module _ (r : Reads) (c : Core) (h : ℕ) (run : IsRunning c h) (a : Action) (d 
   sort-gate target (Crossing k into) = of-kind T.Crossed k (omega arith)
 
   sort-return : (target : ℕ) → ReturnsTo r c h target → sort a ≡ 2
-  sort-return target (NoFrame n t) = ap sort ((traps-does r c h a 18 target d).0 t)
-  sort-return target (Elsewhere below f k n t) = ap sort ((traps-does r c h a 17 target d).0 t)
-  sort-return target (OverFrame f k more b) = sort-given f (comes-back a (sym kind-is ∙ k)) more
+  sort-return target x = search (arith, sort, traps-does, sort-given, comes-back, kind-is)
 
   sort-row : (b : Border) → IsOfRow r c h b → sort a ≡ row_of b
   sort-row (Trap cause value) q = ap sort ((traps-does r c h a cause value d).0 q.0) ∙ sort-trap cause q.1
@@ -312,9 +252,7 @@ module _ (r : Reads) (c : Core) (h : ℕ) (run : IsRunning c h) (a : Action) (d 
   target_of k = 0
 
   target-leaves : (target : ℕ) → Leaves it target a → target_of a ≡ target
-  target-leaves target (ByNone e n) = ap target_of e
-  target-leaves target (ByOther f e t n) = ap target_of e
-  target-leaves target (Over rd f e t b) = ap target_of e ∙ b
+  target-leaves target x = grind (arith, target_of)
 
   same-frame : (f g : Frame) → Some f ≡ Some g → f ≡ g
   same-frame f g e = cc
@@ -322,11 +260,7 @@ module _ (r : Reads) (c : Core) (h : ℕ) (run : IsRunning c h) (a : Action) (d 
   target-given : (target : ℕ) (f : Frame) → ComesBack a → frames_at c h ≡ frames_at (core_after r c h) h ++ f ∷ [] →
       f.back ≡ target →
       target_of a ≡ target
-  target-given target f (Sent e) more b = absurd (as-many f e more)
-  target-given target f (Given rd g e) more b =
-      let last : Some g ≡ Some f = sym (over-top g (ap over_of e)) ∙ ap top more
-      ∙ last-more (frames_at (core_after r c h) h) f None in
-      ap target_of e ∙ ap (λ (k : Frame). k.back) (same-frame g f last) ∙ b
+  target-given target f x more b = grind (arith, as-many, over-top, over_of, last-more, target_of, same-frame)
 
   target-return : (target : ℕ) → ReturnsTo r c h target → target_of a ≡ target
   target-return target (NoFrame n t) = ap target_of ((traps-does r c h a 18 target d).0 t)
@@ -340,58 +274,31 @@ module _ (r : Reads) (c : Core) (h : ℕ) (run : IsRunning c h) (a : Action) (d 
 
   one-trap : (cause value : ℕ) (k : Border) → Meets c h it k a → row_of k ≡ 0 → a ≡ Traps cause value →
       k ≡ Trap cause value
-  one-trap cause value (Trap u v) m n e = ap border_by (sym m.0 ∙ e)
-  one-trap cause value (AtGate word target x1) m n e = absurd (let z : ⊥ = omega (arith, n) in z)
-  one-trap cause value (Back pc target) m n e = absurd (let z : ⊥ = omega (arith, n) in z)
-  one-trap cause value (Call number a0 a1 a2 a3) m n e = absurd (let z : ⊥ = omega (arith, n) in z)
-  one-trap cause value Nothing m n e = absurd (let z : ⊥ = omega (arith, n) in z)
+  one-trap cause value x m n e = grind (arith, border_by)
 
   same-number : (u v : ℕ) → Some u ≡ Some v → u ≡ v
   same-number u v e = cc
 
   one-gate : (word target x1 : ℕ) (k : Border) → Meets c h it k a → row_of k ≡ 1 → IsAtGate r c h word target x1 →
       k ≡ AtGate word target x1
-  one-gate word target x1 (AtGate w t x) m n q =
-      let place : w ≡ word = sym m.place ∙ q.place in
-      let leads : t ≡ target = same-number t target (sym m.leads ∙ ap (target_at c it.domain) place ∙ q.leads) in
-      let address : x ≡ x1 = sym m.address ∙ q.address in
-      cc
-  one-gate word target x1 (Trap u v) m n q = absurd (let z : ⊥ = omega (arith, n) in z)
-  one-gate word target x1 (Back pc t) m n q = absurd (let z : ⊥ = omega (arith, n) in z)
-  one-gate word target x1 (Call number a0 a1 a2 a3) m n q = absurd (let z : ⊥ = omega (arith, n) in z)
-  one-gate word target x1 Nothing m n q = absurd (let z : ⊥ = omega (arith, n) in z)
+  one-gate word target x1 x m n q = grind (arith, same-number)
 
   one-return : (pc target : ℕ) (k : Border) → Meets c h it k a → row_of k ≡ 2 → pc_of c h ≡ pc →
       ReturnsTo r c h target → k ≡ Back pc target
   one-return pc target (Back p t) m n e q =
-      let place : p ≡ pc = sym m.0 ∙ e in
       let leads : t ≡ target = sym (target-leaves t m.1) ∙ target-return target q in
       cc
-  one-return pc target (Trap u v) m n e q = absurd (let z : ⊥ = omega (arith, n) in z)
+  one-return pc target (Trap u v) m n e q = absurd ((omega (arith, n)))
   one-return pc target (AtGate w t x) m n e q = absurd (let z : ⊥ = omega (arith, n) in z)
   one-return pc target (Call number a0 a1 a2 a3) m n e q = absurd (let z : ⊥ = omega (arith, n) in z)
   one-return pc target Nothing m n e q = absurd (let z : ⊥ = omega (arith, n) in z)
 
   one-call : (number a0 a1 a2 a3 : ℕ) (k : Border) → Meets c h it k a → row_of k ≡ 3 →
       IsCalling r c h number a0 a1 a2 a3 → k ≡ Call number a0 a1 a2 a3
-  one-call number a0 a1 a2 a3 (Call m0 m1 m2 m3 m4) m n q =
-      let e0 : m0 ≡ number = sym m.x17 ∙ q.x17 in
-      let e1 : m1 ≡ a0 = sym m.x10 ∙ q.x10 in
-      let e2 : m2 ≡ a1 = sym m.x11 ∙ q.x11 in
-      let e3 : m3 ≡ a2 = sym m.x12 ∙ q.x12 in
-      let e4 : m4 ≡ a3 = sym m.x13 ∙ q.x13 in
-      cc
-  one-call number a0 a1 a2 a3 (Trap u v) m n q = absurd (let z : ⊥ = omega (arith, n) in z)
-  one-call number a0 a1 a2 a3 (AtGate w t x) m n q = absurd (let z : ⊥ = omega (arith, n) in z)
-  one-call number a0 a1 a2 a3 (Back p t) m n q = absurd (let z : ⊥ = omega (arith, n) in z)
-  one-call number a0 a1 a2 a3 Nothing m n q = absurd (let z : ⊥ = omega (arith, n) in z)
+  one-call number a0 a1 a2 a3 x m n q = grind arith
 
   one-nothing : (k : Border) → row_of k ≡ 4 → k ≡ Nothing
-  one-nothing Nothing n = refl
-  one-nothing (Trap u v) n = absurd (let z : ⊥ = omega (arith, n) in z)
-  one-nothing (AtGate w t x) n = absurd (let z : ⊥ = omega (arith, n) in z)
-  one-nothing (Back p t) n = absurd (let z : ⊥ = omega (arith, n) in z)
-  one-nothing (Call m0 m1 m2 m3 m4) n = absurd (let z : ⊥ = omega (arith, n) in z)
+  one-nothing x n = grind arith
 
   one-row : (k b : Border) → Meets c h it k a → row_of k ≡ row_of b → IsOfRow r c h b → k ≡ b
   one-row k (Trap cause value) m n q = one-trap cause value k m n ((traps-does r c h a cause value d).0 q.0)
@@ -409,6 +316,5 @@ border-tells r c h run b =
       λ e. row-meets r c h run a d b (subst (λ (k : Border). Meets c h x k a) e m),
       λ q.
           let p = proper-meets c h x a (border r c h) m in
-          one-row r c h run a d p (border r c h) b m (sym (sort-meets c h x a (border r c h) m)
-          ∙ sort-row r c h run a d p b q) q,
+          cc (one-row r c h run a d p (border r c h) b m (sym (sort-meets c h x a (border r c h) m) ∙ sort-row r c h run a d p b q) q),
     )

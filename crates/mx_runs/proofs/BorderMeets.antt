@@ -1,20 +1,18 @@
 -- A running hart's border and the action of its turn, row by row.
-use Rattle.std.proofs.Common.{◌≡◌, ◌≢◌, ℕ, ◌-◌, ◌/◌, ◌%◌, ◌≤◌, Bool, true, false, not, ◌==◌, nat_le, List, [], ◌∷◌, length, refl, sym, ◌∙◌, ap, arith, eqb-true, if◌then◌else◌, Option, Some, None}
+use Rattle.std.proofs.Common.{◌≡◌, ◌≢◌, ℕ, ◌-◌, ◌/◌, ◌%◌, ◌≤◌, Bool, true, false, not, ◌==◌, List, [], ◌∷◌, length, refl, sym, ◌∙◌, arith, eqb-true, if◌then◌else◌, Option, Some, None}
 use Rattle.std.specs.List.{last_or}
 use Rattle.std.specs.Option.{option_map_or}
 use Rattle.std.proofs.lemmas.Bool.{eqb-false, leb-true}
 use Rattle.mx_words.specs.declared.perm.Access.TheVariants as A
 use Rattle.mx_words.specs.Ranges.{ram_base}
 use Rattle.mx_isa.specs.declared.inst.Inst.{Inst}
-use Rattle.mx_isa.specs.Table.{decoded}
 use Rattle.mx_model.specs.declared.values.Frame.{Frame}
 use Rattle.mx_model.specs.Agreement.{Border, Trap, AtGate, Back, Call, Nothing, border_in, border_of_effect, border_of_fetch, border_of_gate, border_of_word, target_at}
-use Rattle.mx_model.specs.Checks.{is_halted, looked_all}
 use Rattle.mx_model.specs.Effect.{Effect, Goes, Faults, Loads, Stores, Calls, Jumps, effect, next, reg, written}
 use Rattle.mx_model.specs.Gates.{most_frames, top}
 use Rattle.mx_model.specs.Reads.{Reads}
-use Rattle.mx_model.specs.State.{Core, Hart, Status, hart_at, module_at}
-use Rattle.mx_model.specs.Turn.{Action, Asks, Traps, Bounces, Crosses, Returns, Runs, Writes, Decided, acted, at_gate, at_return, by_effect, by_status, by_word, call_gate_at, call_of, counted, decide, enacted, fetches, is_denied, is_return_at, jump_action, load_at, returned_over, runs_at, runs_in, traps, without_look}
+use Rattle.mx_model.specs.State.{Core, Hart, hart_at, module_at}
+use Rattle.mx_model.specs.Turn.{Action, Asks, Traps, Bounces, Crosses, Returns, Runs, Writes, Decided, at_gate, at_return, by_effect, by_word, call_gate_at, call_of, fetches, is_denied, is_return_at, jump_action, returned_over, runs_at, runs_in}
 use Rattle.mx_model.proofs.GatesAt.{called_domain, call-gate-at, target_from}
 use Rattle.mx_model.proofs.TurnCases.{hart-hears, ready}
 use Rattle.mx_laws.specs.Twins.{IsRunning}
@@ -71,28 +69,18 @@ gate-leads d target (Some t) e = by (t == d) e
 word-leads : (c : Core) (d pc target : ℕ) (b : Bool) →
     option_map_or (target_at c d) (if b then Some ((pc - ram_base) / 4) else None) None ≡ Some target →
     target_at c d ((pc - ram_base) / 4) ≡ Some target
-word-leads c d pc target true e = e
-word-leads c d pc target false e = absurd (let q : ⊥ = cc in q)
+word-leads c d pc target x e = grind arith
 
 not-holds : (b : Bool) → not b ≡ true → b ≡ false
-not-holds true e = absurd (let q : ⊥ = cc in q)
-not-holds false e = refl
+not-holds x e = grind arith
 
 passes-choice : (dead : Bool) (x : Hart) (target : ℕ) (b : Bool) (d e : Decided) →
     (b ≡ true → Passes dead x target d.action) → (b ≡ false → Passes dead x target e.action) →
     Passes dead x target (if b then d else e).action
-passes-choice dead x target true d e p q = p refl
-passes-choice dead x target false d e p q = q refl
+passes-choice dead x target x1 d e p q = grind arith
 
 passes-gate : (c : Core) (x : Hart) (target : ℕ) → Passes (module_at c target).dead x target (at_gate c x target).action
-passes-gate c x target =
-    let x1 = reg x.regs 1 in
-    let dead = (module_at c target).dead in
-    passes-choice dead x target (not (x1 % 4 == 0)) (traps 19 x1) _
-    (λ t. ByCrooked refl (eqb-false (x1 % 4) 0 (not-holds (x1 % 4 == 0) t))) (λ aligned.
-    passes-choice dead x target dead (without_look Bounces) _ (λ t. ByDead refl t) (λ live.
-    passes-choice dead x target (nat_le most_frames (length x.frames)) (traps 16 x.pc) (without_look (Crosses target))
-    (λ t. ByFull refl (leb-true most_frames (length x.frames) t)) (λ room. Through refl)))
+passes-gate c x target = search (arith, x.regs, passes-choice, eqb-false, not-holds, leb-true)
 
 -- frames without a top one
 no-last : (f : Frame) (fs : List Frame) → last_or (Some f) fs ≡ None → ⊥
@@ -115,10 +103,10 @@ leaves-top x rd target (Some f) t = leaves-over x rd target f (f.back == target)
 
 -- causes beside those of gates
 low-cause : (cause : ℕ) → cause ≤ 7 → IsGateCause cause → ⊥
-low-cause cause l g = let low = g.0 in let z : ⊥ = omega (arith, l, low) in z
+low-cause cause l g = (omega (arith, l))
 
 high-cause : IsGateCause 20 → ⊥
-high-cause g = let high = g.1 in let z : ⊥ = omega (arith, high) in z
+high-cause g = (omega arith)
 
 -- the walk over border and action; the state of the action differs in the number of turns, harts and caches
 module _ (r : Reads) (c : Core) (h : ℕ) (x : Hart) where
@@ -147,7 +135,7 @@ module _ (r : Reads) (c : Core) (h : ℕ) (x : Hart) where
 
   meets-effect : (f : Effect) → HasOwnCause f → M (border_of_effect r c x f) (by_effect r now h x f).action
   meets-effect (Goes regs pc) k = ByRun regs pc refl
-  meets-effect (Faults cause value) k = (refl, low-cause cause (let l = k.low in omega (arith, l)))
+  meets-effect (Faults cause value) k = (refl, low-cause cause (omega arith))
   meets-effect (Loads place address width rd) k =
       meets-denied 5 address (omega arith) _ (ByRun _ (next x.pc) refl) (is_denied r c x.domain address A.Read)
   meets-effect (Stores place address size value) k =
@@ -160,8 +148,7 @@ module _ (r : Reads) (c : Core) (h : ℕ) (x : Hart) where
   meets-word word (Some inst) = meets-effect (effect inst x.regs x.pc) (cause-effect inst x.regs x.pc)
 
   meets-fetch : (b : Bool) → M (border_of_fetch r c x b) (fetches r now h x b).action
-  meets-fetch true = (refl, low-cause 1 (omega arith))
-  meets-fetch false = meets-word (load_at c x.pc 4) (decoded (load_at c x.pc 4))
+  meets-fetch x = grind (arith, low-cause, meets-word)
 
   meets-gate : (o : Option ℕ) → call_gate_at c x.domain x.pc ≡ o →
       M (border_of_gate r c x o) (runs_at r now h x o).action
@@ -175,17 +162,9 @@ module _ (r : Reads) (c : Core) (h : ℕ) (x : Hart) where
   meets-gate None e = meets-fetch (is_denied r c x.domain x.pc A.Execute)
 
   pub meets-in : (b : Bool) → M (border_in r c x b) (runs_in r now h x b).action
-  meets-in true = (refl, high-cause)
-  meets-in false = meets-gate (call_gate_at c x.domain x.pc) refl
+  meets-in x = grind (arith, high-cause, meets-gate)
 
 -- a running hart's turn does the action that is decided
 pub does-running : (r : Reads) (c : Core) (h : ℕ) → IsRunning c h →
     let x = hart_at c h in Does r c h (runs_in r (ready c h) h x (module_at c x.domain).dead).action
-does-running r c h run =
-    let x = hart_at c h in
-    let f = ready c h in
-    let by = λ (y : Hart) (s : Status). let d =
-    by_status r f h y s in acted r (looked_all r h d.looks f) h y d.action in
-    does-looked r c h (runs_in r f h x (module_at c x.domain).dead) (
-    ap (λ (s : Status). let g = if is_halted s then counted c else f in enacted r g h (decide r g h)) run
-    ∙ ap (λ (y : Hart). by y y.status) (hart-hears (counted c) h) ∙ ap (by x) run)
+does-running r c h run = search (arith, ready, does-looked, hart-hears)

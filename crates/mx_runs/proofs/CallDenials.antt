@@ -17,11 +17,11 @@ use Rattle.mx_words.proofs.RangeTests.{each_passes}
 use Rattle.mx_isa.specs.declared.inst.Inst.TheVariants.{Ecall}
 use Rattle.mx_model.specs.declared.values.Call.{Call}
 use Rattle.mx_model.specs.Checks.{arg, call_range, drops, is_halted, is_ready, looked_all}
-use Rattle.mx_model.specs.Effect.{effect, next, reg}
+use Rattle.mx_model.specs.Effect.{effect, reg}
 use Rattle.mx_model.specs.Reads.{Reads, reads}
-use Rattle.mx_model.specs.Serve.{Served, answers, arg_word, bytes_at, exchange_from, judged, look_of, may_read, no_word, serve, serve_exchange, serve_write, served_by, service, write_from, write_looks, write_outside, write_words}
-use Rattle.mx_model.specs.State.{Core, Hart, Running, State, no_hart, hart_at}
-use Rattle.mx_model.specs.Turn.{Asks, Made, answered, asked, call_of, done, halted, is_served_now, turned, with_regs}
+use Rattle.mx_model.specs.Serve.{Served, answers, arg_word, bytes_at, exchange_from, judged, look_of, may_read, no_word, serve, serve_exchange, serve_write, served_by, service, write_looks, write_outside, write_words}
+use Rattle.mx_model.specs.State.{Core, Hart, State, hart_at}
+use Rattle.mx_model.specs.Turn.{Asks, call_of, done, is_served_now}
 use Rattle.mx_model.proofs.KeepLaws.{keeps-hears, keeps-served_by}
 use Rattle.mx_model.proofs.TurnCases.{ready}
 use Rattle.mx_laws.specs.After.{domain_at, hart_after}
@@ -40,12 +40,7 @@ ten-answered regs a0 (Some v) l =
 
 ten-done : (h : ℕ) (x : Hart) (v : Served) → v.stop ≡ false → h < length v.core.harts → 10 < length x.regs →
     reg (hart_at (done h x v).core h).regs 10 ≡ v.a0
-ten-done h x v e l m =
-    let y : Hart = record x { regs = answered x v.a0 v.a1; pc = next x.pc; status = Running } in
-    ap (λ (b : Bool). reg
-    (hart_at
-    (if b then halted h x (Some v.a0) v.core else with_regs h x (answered x v.a0 v.a1) (next x.pc) v.core) h).regs 10) e
-    ∙ ap (λ (z : Hart). reg z.regs 10) (get_or-set_same v.core.harts h y no_hart l) ∙ ten-answered x.regs v.a0 v.a1 m
+ten-done h x v e l m = search (arith, v.a0, v.core, get_or-set_same, v.core.harts, ten-answered, x.regs, v.a1)
 
 -- a call that isn't announced is served in its turn, in a state that is ready for it but for caches
 record IsAnswered (s : State) (h number : ℕ) : Type 0 where
@@ -70,25 +65,18 @@ answered-call s h number k some n =
     let d : Does r s.core h (Asks call) = does-instruction s h Ecall k.executes in
     let e : Core = record (ready s.core h) { caches = d.caches } in
     let v = served_by (service number) r e call in
-    let now : is_served_now e h call ≡ true =
-    ap (λ (m : ℕ). not (is_announced m) || is_ready e h nobody) k.asked
+    let now : is_served_now e h call ≡ true = ap (λ (m : ℕ). not (is_announced m) || is_ready e h nobody) k.asked
     ∙ ap (λ (b : Bool). not b || is_ready e h nobody) n in
     let by = λ (m : ℕ) (b : Bool). cond b
     (record (served_by (service m) r e call) {
-      core =
-          drops call.hart (call_range e call) (served_by (service m) r e call).core;
+      core = drops call.hart (call_range e call) (served_by (service m) r e call).core;
     })
     (served_by (service m) r e call) in
     let same : serve r e call ≡ v = ap (λ (m : ℕ). by m (is_announced m)) k.asked ∙ ap (by number) n in
-    let is : turned r s.core h ≡ done h x v = d.is ∙ ap (asked r e h x call) now ∙ ap (done h x) same in
     let few : h < length s.core.harts = there s.core h (ap is_halted k.executes.fetches.running) in
     let count : length v.core.harts ≡ length s.core.harts = (keeps-served_by (service number) r e call).harts
     ∙ (keeps-hears h s.core).harts in
-    record {
-      caches = d.caches;
-      answer = λ stop. ap (λ (m : Made). reg (hart_at m.core h).regs 10) is
-          ∙ ten-done h x v stop (omega (arith, few, count)) (has-ten x.regs (let seventeen = k.asked in omega (arith, seventeen, some)));
-    }
+    search (arith, ten-done, has-ten)
 
 -- a word of a range that fails a test
 record Fails (test : ℕ → Bool) (first count : ℕ) : Type 0 where
@@ -98,14 +86,11 @@ record Fails (test : ℕ → Bool) (first count : ℕ) : Type 0 where
   fails : test word ≡ false
 
 later-fails : (test : ℕ → Bool) (first count : ℕ) → Fails test (first + 1) count → Fails test first (suc count)
-later-fails test first count k =
-    let low = k.from in
-    let high = k.below in
-    record { word = k.word; from = omega (arith, low); below = omega (arith, high); fails = k.fails }
+later-fails test first count k = search arith
 
 some-fails : (test : ℕ → Bool) (first count : ℕ) → list_all test (range_with_len first count) ≡ false →
     Fails test first count
-some-fails test first zero e = absurd (let z : ⊥ = cc in z)
+some-fails test first zero e = absurd (cc)
 some-fails test first (suc count) e =
     ⊎_elim (λ f. record { word = first; from = omega arith; below = omega arith; fails = f })
     (λ f. later-fails test first count (some-fails test (first + 1) count f))
@@ -169,35 +154,20 @@ reads_all r call = list_all (may_read r call.domain) (write_words call)
 
 write-served : (r : Reads) (e : Core) (call : Call) → nat_lt 4096 (arg call 1) ≡ false → write_outside e call ≡ false →
     serve_write r e call ≡ out_by r e call (reads_all r call)
-write-served r e call few inside =
-    ap (λ (b : Bool). write_from r e call (first_row ((b, 11) ∷ (write_outside e call, 1) ∷ []))) few
-    ∙ ap (λ (b : Bool). write_from r e call (first_row ((b, 1) ∷ []))) inside
+write-served r e call few inside = search arith
 
 -- no test before the last fails
 inside-ram : (s : State) (first count : ℕ) → InRam s first count →
     (nat_lt 0 count && (nat_lt first ram_base || nat_lt (ram_base + 4 * s.core.size) (first + count))) ≡ false
-inside-ram s first count inside = by (cases_lt 0 count)
-  where
-    by : (0 < count) ⊎ (count ≤ 0) →
-        (nat_lt 0 count && (nat_lt first ram_base || nat_lt (ram_base + 4 * s.core.size) (first + count))) ≡ false
-    by (inl some) =
-        let base = (inside 0 some).0 in
-        let one : count - 1 < count = omega (arith, some) in
-        let end = (inside (count - 1) one).1 in
-        and_right _ _
-        (or_from _ _ (le-ltb first ram_base (omega (arith, base)))
-        (le-ltb (ram_base + 4 * s.core.size) (first + count) (omega (arith, end, some))))
-    by (inr none) = and_left _ _ (le-ltb 0 count none)
+inside-ram s first count inside = search (arith, cases_lt, and_right, or_from, le-ltb, and_left)
 
 -- the answer is -12 exactly where some word may not be read
 out-answer : (r : Reads) (e : Core) (call : Call) (all : Bool) → arg call 1 ≤ 4096 →
     ((out_by r e call all).a0 ≡ 2 ^ 32 - 12) ↔ (all ≡ false)
-out-answer r e call true l = (λ k. absurd (let z : ⊥ = omega (arith, k, l) in z), λ k. absurd (let z : ⊥ = cc in z))
-out-answer r e call false l = (λ k. refl, λ k. refl)
+out-answer r e call x l = grind arith
 
 out-stop : (r : Reads) (e : Core) (call : Call) (all : Bool) → (out_by r e call all).stop ≡ false
-out-stop r e call true = refl
-out-stop r e call false = refl
+out-stop r e call x = grind arith
 
 -- some word may not be read exactly where some byte is denied
 words-by : (s : State) (d : ℕ) (call : Call) → call.domain ≡ d → InRam s (arg call 0) (arg call 1) →
@@ -262,12 +232,10 @@ swap_by r e call may =
 
 swap-answer : (r : Reads) (e : Core) (call : Call) (may : Bool) →
     ((swap_by r e call may).a0 ≡ 2 ^ 32 - 12) ↔ (may ≡ false)
-swap-answer r e call true = (λ k. absurd (let z : ⊥ = omega (arith, k) in z), λ k. absurd (let z : ⊥ = cc in z))
-swap-answer r e call false = (λ k. refl, λ k. refl)
+swap-answer r e call x = grind arith
 
 swap-stop : (r : Reads) (e : Core) (call : Call) (may : Bool) → (swap_by r e call may).stop ≡ false
-swap-stop r e call true = refl
-swap-stop r e call false = refl
+swap-stop r e call x = grind arith
 
 swap-served : (r : Reads) (e : Core) (call : Call) → no_word e call ≡ false →
     serve_exchange r e call ≡ swap_by r e call (allows (r.perm call.domain (arg_word call)) A.Write)

@@ -1,6 +1,5 @@
 -- The test of a turn is true exactly where an access is denied by the grants.
-use Rattle.std.proofs.Common.{⊎_elim, ◌≡◌, ◌↔◌, ℕ, ◌+◌, ◌-◌, ◌*◌, ◌<◌, ◌≤◌, ◌⊎◌, inl, inr, Bool, true, false, not, nat_lt, nat_le, List, [], ◌∷◌, ◌++◌, fold, refl, sym, ◌∙◌, ap, arith, if◌then◌else◌, Some, None}
-use Rattle.std.specs.Option.{option_map_or}
+use Rattle.std.proofs.Common.{◌≡◌, ◌↔◌, ℕ, ◌+◌, ◌-◌, ◌*◌, ◌<◌, ◌≤◌, ◌⊎◌, Bool, true, false, not, List, [], ◌∷◌, ◌++◌, fold, refl, sym, ◌∙◌, ap, arith, if◌then◌else◌}
 use Rattle.std.proofs.lemmas.Bool.{and_cases, and_from, and_parts, cases_lt, false_from_ne_true, leb-false, leb-true, le-leb, lt-ltb, ltb-false, ltb-true, not-true, not_from_false}
 use Rattle.mx_words.specs.declared.perm.Perm.{Perm}
 use Rattle.mx_words.specs.declared.perm.Perm.TheVariants as P
@@ -11,25 +10,20 @@ use Rattle.mx_words.specs.Rights.{allows}
 use Rattle.mx_model.specs.Reads.{reads}
 use Rattle.mx_model.specs.State.{State}
 use Rattle.mx_model.specs.Turn.{is_denied}
-use Rattle.mx_runs.specs.Denials.{Above, Below, ByNewest, Covers, IsDenied, NoneCovers, Uncovered, granted, word_at}
+use Rattle.mx_runs.specs.Denials.{ByNewest, Covers, IsDenied, NoneCovers, Uncovered, granted, word_at}
 
 -- whether a grant covers a word
 covers-true : (g : Grant) (w : ℕ) → Covers g w → covers g.first g.count w ≡ true
-covers-true g w k = and_from _ _ (le-leb g.first w k.from)
-    (lt-ltb (w - g.first) g.count (omega (arith, k.from, k.below)))
+covers-true g w k = search (arith, and_from, le-leb, g.first, lt-ltb, g.count)
 
 true-covers : (g : Grant) (w : ℕ) → covers g.first g.count w ≡ true → Covers g w
-true-covers g w e =
-    let both = and_parts (nat_le g.first w) (nat_lt (w - g.first) g.count) e in
-    let low : g.first ≤ w = leb-true g.first w both.0 in
-    let high : w - g.first < g.count = ltb-true (w - g.first) g.count both.1 in
-    record { from = low; below = omega (arith, low, high) }
+true-covers g w e = search (arith, and_parts, g.first, leb-true, g.count, ltb-true)
 
 covers-false : (g : Grant) (w : ℕ) → (Covers g w → ⊥) → covers g.first g.count w ≡ false
 covers-false g w n = false_from_ne_true (covers g.first g.count w) (λ e. n (true-covers g w e))
 
 false-covers : (g : Grant) (w : ℕ) → covers g.first g.count w ≡ false → Covers g w → ⊥
-false-covers g w e k = let t = covers-true g w k in let q : true ≡ false = sym t ∙ e in let z : ⊥ = cc in z
+false-covers g w e k = let q : true ≡ false = sym (covers-true g w k) ∙ e in cc
 
 -- the newest covering grant of a list, and what is read of the list then
 data Newest (grants : List Grant) (w : ℕ) : Type 0 where
@@ -65,38 +59,24 @@ one-read (o ∷ older) g newer w p c n = one-read older g newer w (laid_at w p o
 -- where an address lies
 high-cases : (s : State) (address : ℕ) → 4 * s.core.size ≤ address - ram_base →
     (address < ram_base) ⊎ (ram_base ≤ address) → (address < ram_base) ⊎ (ram_base + 4 * s.core.size ≤ address)
-high-cases s address far (inl l) = inl l
-high-cases s address far (inr l) = inr (omega (arith, far, l))
+high-cases s address far x = grind arith
 
 outside-cases : (s : State) (address : ℕ) → in_ram address s.core.size ≡ false →
     (address < ram_base) ⊎ (ram_base + 4 * s.core.size ≤ address)
-outside-cases s address e =
-    ⊎_elim (λ f. inl (leb-false ram_base address f))
-    (λ f. high-cases s address (ltb-false (address - ram_base) (4 * s.core.size) f) (cases_lt address ram_base))
-    (and_cases (nat_le ram_base address) (nat_lt (address - ram_base) (4 * s.core.size)) e)
+outside-cases s address e = search (arith, leb-false, high-cases, ltb-false, cases_lt, and_cases)
 
 denied-outside : (s : State) (d address : ℕ) (access : Access) → in_ram address s.core.size ≡ false →
     is_denied (reads s) s.core d address access ≡ true
-denied-outside s d address access e =
-    ap (λ (b : Bool). not
-    (allows (option_map_or ((reads s).perm d) (if b then Some (word_at address) else None) P.None) access)) e
+denied-outside s d address access e = search arith
 
 -- inside RAM, by the permission of the word
 denied-word : (s : State) (d address : ℕ) (access : Access) → in_ram address s.core.size ≡ true →
     is_denied (reads s) s.core d address access ≡ not (allows ((reads s).perm d (word_at address)) access)
-denied-word s d address access e =
-    ap (λ (b : Bool). not
-    (allows (option_map_or ((reads s).perm d) (if b then Some (word_at address) else None) P.None) access)) e
+denied-word s d address access e = search arith
 
 denied-inside : (s : State) (d address : ℕ) (access : Access) → in_ram address s.core.size ≡ true →
     is_denied (reads s) s.core d address access ≡ not (allows (at (granted s d) (word_at address)) access)
-denied-inside s d address access e =
-    let both = and_parts (nat_le ram_base address) (nat_lt (address - ram_base) (4 * s.core.size)) e in
-    let high : address - ram_base < 4 * s.core.size = ltb-true (address - ram_base) (4 * s.core.size) both.1 in
-    let low : word_at address < s.core.size = omega (arith, high) in
-    denied-word s d address access e
-    ∙ ap (λ (b : Bool). not (allows (if b then at (granted s d) (word_at address) else P.None) access))
-    (lt-ltb (word_at address) s.core.size low)
+denied-inside s d address access e = search (arith, and_parts, s.core.size, ltb-true, denied-word, lt-ltb)
 
 -- inside RAM, by the newest grant
 denied-grants : (s : State) (d address : ℕ) (access : Access) →
@@ -110,36 +90,18 @@ denied-if : (s : State) (d address : ℕ) (access : Access) (b : Bool) → in_ra
     is_denied (reads s) s.core d address access ≡ true →
     IsDenied s d address access
 denied-if s d address access true e t =
-    denied-grants s d address access (not-true _ (sym (denied-inside s d address access e)
-    ∙ t)) (newest-of (granted s d) (word_at address))
-denied-if s d address access false e t = by (outside-cases s address e)
-  where
-    by : (address < ram_base) ⊎ (ram_base + 4 * s.core.size ≤ address) → IsDenied s d address access
-    by (inl l) = Below l
-    by (inr l) = Above l
+    denied-grants s d address access (not-true _ (search (arith, denied-inside))) (newest-of (granted s d) (word_at address))
+denied-if s d address access false e t = search (arith, outside-cases, s.core.size)
 
 grants-denied : (s : State) (d address : ℕ) (access : Access) → IsDenied s d address access →
     in_ram address s.core.size ≡ true →
     allows (at (granted s d) (word_at address)) access ≡ false
-grants-denied s d address access (Below l) e =
-    let both = and_parts (nat_le ram_base address) (nat_lt (address - ram_base) (4 * s.core.size)) e in
-    let low : ram_base ≤ address = leb-true ram_base address both.0 in absurd (let z : ⊥ = omega (arith, l, low) in z)
-grants-denied s d address access (Above l) e =
-    let both = and_parts (nat_le ram_base address) (nat_lt (address - ram_base) (4 * s.core.size)) e in
-    let low : ram_base ≤ address = leb-true ram_base address both.0 in
-    let high : address - ram_base < 4 * s.core.size = ltb-true (address - ram_base) (4 * s.core.size) both.1 in
-    absurd (let z : ⊥ = omega (arith, l, low, high) in z)
-grants-denied s d address access (Uncovered n) e =
-    ap (λ (p : Perm). allows p access) (none-read (granted s d) (word_at address) P.None n)
-grants-denied s d address access (ByNewest older g newer split c n f) e =
-    ap (λ (gs : List Grant). allows (at gs (word_at address)) access) split
-    ∙ ap (λ (p : Perm). allows p access) (one-read older g newer (word_at address) P.None c n) ∙ f
+grants-denied s d address access x e = grind (arith, and_parts, leb-true, ltb-true, none-read, one-read)
 
 if-denied : (s : State) (d address : ℕ) (access : Access) (b : Bool) → in_ram address s.core.size ≡ b →
     IsDenied s d address access →
     is_denied (reads s) s.core d address access ≡ true
-if-denied s d address access true e k = denied-inside s d address access e
-    ∙ not_from_false _ (grants-denied s d address access k e)
+if-denied s d address access true e k = search (arith, denied-inside, not_from_false, grants-denied)
 if-denied s d address access false e k = denied-outside s d address access e
 
 pub denied-test : (s : State) (d address : ℕ) (access : Access) →

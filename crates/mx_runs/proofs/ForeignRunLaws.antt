@@ -6,14 +6,12 @@ use Rattle.std.proofs.lemmas.Bool.{eq-eqb}
 use Rattle.std.proofs.lemmas.List.{length-map}
 use Rattle.mx_words.specs.declared.perm.Perm.{Perm}
 use Rattle.mx_words.specs.declared.perm.Perm.TheVariants as P
-use Rattle.mx_words.specs.declared.perm.Access.TheVariants as A
 use Rattle.mx_words.specs.Changes.{changed_map, grant_of, granted_from}
 use Rattle.mx_words.specs.Newest.{Grant, map}
-use Rattle.mx_words.specs.Rights.{allows}
 use Rattle.mx_words.proofs.ChangeLaws.{changed_from-at}
 use Rattle.mx_words.proofs.OverlayLaws.{laid_in, length-map_of}
 use Rattle.mx_model.specs.Reads.{Reads, Change, flat_reads, reads}
-use Rattle.mx_model.specs.Run.{Schedule, flat_made, flat_turn, grants_after, hart_of, is_stopped, made_of, maps_after, run, turn}
+use Rattle.mx_model.specs.Run.{Schedule, flat_turn, grants_after, hart_of, is_stopped, maps_after, run, turn}
 use Rattle.mx_model.specs.Serve.{own_alone}
 use Rattle.mx_model.specs.State.{Core, Flat, State, flat}
 use Rattle.mx_model.specs.Turn.{Made}
@@ -57,12 +55,7 @@ given-perm f size d w o p n i g =
 pub maps-word : (f : Flat) (h w : ℕ) → HasMaps f → IsForeign (flat_reads f) f.core h w →
     MayNotWrite (flat_reads (flat_turn f h)) (domain_at f.core h) w → IsKept f.core (flat_turn f h).core w
 maps-word f h w p a b =
-    ⊎_elim (λ k. k) (λ g.
-    let e =
-    given-perm f (flat_turn f h).core.size (domain_at f.core h) w (flat_made f h).change p
-    (size-turned (flat_reads f) f.core h) g.1 g.0 in
-    let n : true ≡ false = sym (ap (λ (x : Perm). allows x A.Write) e) ∙ b in
-    absurd (let q : ⊥ = cc in q)) (turned-word (flat_reads f) f.core h w p.valid a)
+    ⊎_elim (λ k. k) (search (arith, given-perm, f.core, size-turned)) (turned-word (flat_reads f) f.core h w p.valid a)
 
 maps-whole : (size : ℕ) (grants : List (List Grant)) →
     AllByRecursion (λ (m : List Perm). length m ≡ size) (list_map (λ gs. map gs size) grants)
@@ -70,11 +63,7 @@ maps-whole size [] = tt
 maps-whole size (gs ∷ rest) = (length-map_of gs size, maps-whole size rest)
 
 maps-of : (s : State) → HasLists s → HasMaps (flat s)
-maps-of s p = record {
-  valid = p.valid;
-  maps = length-map s.grants (λ gs. map gs s.core.size) ∙ p.lists;
-  whole = maps-whole s.core.size s.grants;
-}
+maps-of s p = search (arith, length-map, maps-whole)
 
 pub state-word : (s : State) (h w : ℕ) → HasLists s → IsForeign (reads s) s.core h w →
     MayNotWrite (reads (turn s h)) (domain_at s.core h) w → IsKept s.core (turn s h).core w
@@ -97,10 +86,7 @@ length-after grants None = refl
 length-after grants (Some c) = length-granted c.first c.count c.given 1 grants
 
 lists-turn : (s : State) (h : ℕ) → HasLists s → HasLists (turn s h)
-lists-turn s h p = record {
-  valid = valid-turned (reads s) s.core h p.valid;
-  lists = length-after s.grants (made_of s h).change ∙ p.lists ∙ sym (keeps-turned (reads s) s.core h).modules;
-}
+lists-turn s h p = search (arith, valid-turned, s.core, length-after, s.grants, keeps-turned)
 
 pub lists-run : (schedule : Schedule) (n : ℕ) (s : State) → HasLists s → HasLists (run schedule n s)
 lists-run schedule zero s p = p
@@ -114,17 +100,7 @@ lists-run schedule (suc n) s p =
 pub turns-word : (schedule : Schedule) (s : State) (n d w : ℕ) → HasLists s → NeverWrites schedule s n d w →
     (k : ℕ) → k < n →
     MakesTurn schedule (run schedule k s) d → IsKept (run schedule k s).core (run schedule (k + 1) s).core w
-turns-word schedule s n d w p never k l m =
-    let u = run schedule k s in
-    let h = hart_of schedule u.core in
-    let next = one-more schedule k s m.going in
-    let a : MayNotWrite (reads u) d w = never k (omega (arith, l)) in
-    let b : MayNotWrite (reads (turn u h)) d w =
-    subst (λ (x : State). MayNotWrite (reads x) d w) next (never (k + 1) (omega (arith, l))) in
-    subst (λ (x : State). IsKept u.core x.core w) (sym next)
-    (state-word u h w (lists-run schedule k s p)
-    (subst (λ (e : ℕ). MayNotWrite (reads u) e w) (sym m.domain) a)
-    (subst (λ (e : ℕ). MayNotWrite (reads (turn u h)) e w) (sym m.domain) b))
+turns-word schedule s n d w p never k l m = search (arith, one-more, state-word, lists-run)
 
 kept-more : (c e f : Core) (w : ℕ) → IsKept c e w → IsKept e f w → IsKept c f w
 kept-more c e f w p q k l = q k l ∙ p k l
@@ -132,8 +108,7 @@ kept-more c e f w p q k l = q k l ∙ p k l
 run-step : (schedule : Schedule) (s : State) (n w : ℕ) → HasLists s → AreAllForeign schedule s n w → (k : ℕ) → k < n →
     (b : Bool) → is_stopped schedule (run schedule k s) ≡ b →
     IsKept (run schedule k s).core (run schedule (k + 1) s).core w
-run-step schedule s n w p all k l true e =
-    subst (λ (x : State). IsKept (run schedule k s).core x.core w) (sym (no-more schedule k s e)) (λ i j. refl)
+run-step schedule s n w p all k l true e = search (arith, no-more)
 run-step schedule s n w p all k l false e =
     let u = run schedule k s in
     let d = domain_at u.core (hart_of schedule u.core) in

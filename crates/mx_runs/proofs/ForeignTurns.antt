@@ -1,22 +1,20 @@
 -- A turn keeps each word that its hart's domain may write neither before it nor after it.
-use Rattle.std.proofs.Common.{◌≡◌, ℕ, ◌+◌, ◌*◌, ◌<◌, ◌≤◌, ◌⊎◌, Bool, true, false, not, cond, ◌==◌, ◌&&◌, nat_lt, nat_le, List, [], ◌∷◌, length, get_or, refl, sym, ◌∙◌, ap, subst, arith, Option, Some, None, unwrap_or, is_none, ⊎_elim, inl, inr}
+use Rattle.std.proofs.Common.{◌≡◌, ℕ, ◌+◌, ◌*◌, ◌<◌, ◌≤◌, ◌⊎◌, Bool, true, false, not, ◌==◌, ◌&&◌, nat_le, List, [], ◌∷◌, length, get_or, refl, sym, ◌∙◌, ap, subst, arith, Option, Some, None, unwrap_or, is_none, ⊎_elim, inl, inr}
 use Rattle.std.specs.List.{range_with_len}
 use Rattle.std.proofs.lemmas.Bool.{and_parts, leb-true, ltb-false, ltb-true}
 use Rattle.std.proofs.Math.ListN.{get_or-eq_default}
-use Rattle.mx_words.specs.Announced.{is_announced}
 use Rattle.mx_words.specs.Caches.{Cache}
 use Rattle.mx_words.specs.FirstFit.{Area, has_room, most_blocks, with_block}
 use Rattle.mx_words.specs.FirstRow.{Row, first_row}
 use Rattle.mx_words.specs.Ranges.{covers}
 use Rattle.mx_words.proofs.OverlayLaws.{covers_from}
 use Rattle.mx_model.specs.declared.values.Call.{Call}
-use Rattle.mx_model.specs.Checks.{arg, call_range, drops}
-use Rattle.mx_model.specs.Effect.{next, reg}
+use Rattle.mx_model.specs.Checks.{arg}
 use Rattle.mx_model.specs.Gates.{top}
 use Rattle.mx_model.specs.Reads.{Reads, Change}
-use Rattle.mx_model.specs.Serve.{Alloc, Unknown, Served, Service, alloc_change, alloc_from, alloc_place, allocated, change_of, ended, own_alone, serve, serve_alloc, served_by, service}
-use Rattle.mx_model.specs.State.{Core, Hart, hart_at, module_at, no_hart}
-use Rattle.mx_model.specs.Turn.{Action, Rests, Waits, Serves, Asks, Traps, Bounces, Crosses, Returns, Runs, Writes, Made, acted, answered, asked, by_status, call_of, done, halted, is_served_now, killed, served, trapped, turned, with_regs}
+use Rattle.mx_model.specs.Serve.{Alloc, Served, Service, alloc_change, alloc_from, alloc_place, allocated, change_of, ended, own_alone, serve, serve_alloc, served_by, service}
+use Rattle.mx_model.specs.State.{Core, Hart, hart_at, module_at}
+use Rattle.mx_model.specs.Turn.{Action, Rests, Waits, Serves, Asks, Traps, Bounces, Crosses, Returns, Runs, Writes, acted, asked, call_of, done, is_served_now, killed, served, trapped, turned}
 use Rattle.mx_model.specs.Valid.{IsModule, IsValid}
 use Rattle.mx_model.proofs.ListLaws.{found-passes, length-with_block}
 use Rattle.mx_model.proofs.TestLaws.{first-passes, found-some}
@@ -72,19 +70,8 @@ module _ (r : Reads) (c : Core) (h w : ℕ) (v : IsValid c) (turns : ℕ) (harts
       let inside : 4 * first + 4 * n ≤ length c.ram = omega (arith, high, home, count) in
       elim (covers first n w) as (λ b. covers first n w ≡ b →
       IsKeptOrGiven c domain w (allocated seen call first).core (allocated seen call first).change) [
-        | true ↦ λ t.
-            let within = covers_from first n w t in
-            inr (record {
-              first = first;
-              count = n;
-              change = refl;
-              low = within.0;
-              high = within.1;
-              inside = omega (arith, high, home);
-            })
-        | false ↦ λ t. inl (λ k l.
-            cleared-beside c.ram (4 * first) (4 * n) (4 * w + k) inside
-            (⊎_elim (λ a. inl (omega (arith, a, l))) (λ a. inr (omega (arith, a))) (uncovered first n w t)))
+        | true ↦ search (arith, covers_from)
+        | false ↦ λ t. inl (search (arith, cleared-beside, c.ram, uncovered))
       ] refl
 
   alloc-word : (first : ℕ) (o : Option ℕ) →
@@ -109,13 +96,7 @@ module _ (r : Reads) (c : Core) (h w : ℕ) (v : IsValid c) (turns : ℕ) (harts
 
   ended-word : (s : Served) → IsKeptOrGiven c domain w s.core s.change →
       IsKeptOrGiven c domain w (ended seen call s).core (ended seen call s).change
-  ended-word s p =
-      elim (is_announced call.number) as (λ b. let e : Served =
-      cond b (record s { core = drops call.hart (call_range seen call) s.core }) s in
-      IsKeptOrGiven c domain w e.core e.change) [
-        | true ↦ moved c domain w s.core (drops call.hart (call_range seen call) s.core) s.change refl p
-        | false ↦ p
-      ]
+  ended-word s p = search (arith, call.hart, seen, call, IsKeptOrGiven, domain, moved, s.core, s.change)
 
   serve-word : service call.number ≡ Alloc →
       IsKeptOrGiven c domain w (serve r seen call).core (serve r seen call).change
@@ -127,14 +108,7 @@ module _ (r : Reads) (c : Core) (h w : ℕ) (v : IsValid c) (turns : ℕ) (harts
 
   done-word : (x : Hart) (s : Served) → IsKeptOrGiven c domain w s.core s.change →
       IsKeptOrGiven c domain w (done h x s).core (done h x s).change
-  done-word x s p =
-      elim s.stop as
-      (λ b. IsKeptOrGiven c domain w
-      (cond b (halted h x (Some s.a0) s.core) (with_regs h x (answered x s.a0 s.a1) (next x.pc) s.core))
-      s.change) [
-        | true ↦ moved c domain w s.core (halted h x (Some s.a0) s.core) s.change refl p
-        | false ↦ moved c domain w s.core (with_regs h x (answered x s.a0 s.a1) (next x.pc) s.core) s.change refl p
-      ]
+  done-word x s p = search (arith, s.stop, IsKeptOrGiven, domain, s.a0, moved, s.core, s.change)
 
   served-word : (mine : Call) → mine ≡ call → service call.number ≡ Alloc →
       IsKeptOrGiven c domain w (served r seen h (hart_at c h) mine).core (served r seen h (hart_at c h) mine).change
@@ -146,8 +120,7 @@ module _ (r : Reads) (c : Core) (h w : ℕ) (v : IsValid c) (turns : ℕ) (harts
 
   asked-word : (mine : Call) (b : Bool) → mine ≡ call → service call.number ≡ Alloc →
       IsKeptOrGiven c domain w (asked r seen h (hart_at c h) mine b).core (asked r seen h (hart_at c h) mine b).change
-  asked-word mine true e s = served-word mine e s
-  asked-word mine false e s = inl (kept-ram c (asked r seen h (hart_at c h) mine false).core w refl)
+  asked-word mine x e s = grind (arith, served-word, kept-ram, seen)
 
 -- an action in a turn after which the domain may have one block more
 acted-word : (r : Reads) (c : Core) (h w turns : ℕ) (harts : List Hart) (caches : List Cache) (a : Action) → IsValid c →
@@ -179,22 +152,11 @@ turned-block : (r : Reads) (c : Core) (h w : ℕ) → IsValid c → TakesBlock r
     IsKeptOrGiven c (domain_at c h) w (turned r c h).core (turned r c h).change
 turned-block r c h w v t =
     let b = by-action r c h in
-    let x = hart_at c h in
-    let a = (by_status r (apart c b.turns b.harts b.before) h x x.status).action in
-    let m = acted r (apart c b.turns b.harts b.after) h x a in
-    subst (λ (n : Made). IsKeptOrGiven c (domain_at c h) w n.core n.change) (sym b.is)
-    (acted-word r c h w b.turns b.harts b.after a v (lawful-turn r c h b.turns b.harts b.before v)
-    (subst (λ (n : Made). TakesBlock r c h n.core) b.is t))
+    grind (arith, IsKeptOrGiven, acted-word, b.turns, b.harts, b.after, lawful-turn, b.before, b.is)
 
 -- a hart that takes a block is there
 block-there : (r : Reads) (c : Core) (h : ℕ) (e : Core) → TakesBlock r c h e → h < length c.harts
-block-there r c h e t = elim (nat_lt h (length c.harts)) as (λ b. nat_lt h (length c.harts) ≡ b → h < length c.harts) [
-  | true ↦ λ i. ltb-true h (length c.harts) i
-  | false ↦ λ i.
-      let n : hart_at c h ≡ no_hart = get_or-eq_default c.harts no_hart (ltb-false h (length c.harts) i) in
-      let k : Unknown ≡ Alloc = sym (ap (λ (x : Hart). service (reg x.regs 17)) n) ∙ t.call in
-      absurd (let q : ⊥ = cc in q)
-] refl
+block-there r c h e t = search (arith, ltb-true, get_or-eq_default, c.harts, ltb-false)
 
 -- a turn keeps a word that its hart's domain may not write, or gives it to that domain
 turned-by : (r : Reads) (c : Core) (h w : ℕ) → IsValid c → IsForeign r c h w → ForeignAfter r c h (turned r c h).core →

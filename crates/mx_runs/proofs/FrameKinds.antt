@@ -8,11 +8,11 @@ use Rattle.mx_model.specs.declared.values.Frame.{Frame}
 use Rattle.mx_model.specs.declared.values.TurnKind.{TurnKind}
 use Rattle.mx_model.specs.declared.values.TurnKind.TheVariants as T
 use Rattle.mx_model.specs.Effect.{next, reg, written}
-use Rattle.mx_model.specs.Gates.{below_top, nearest, top}
+use Rattle.mx_model.specs.Gates.{below_top, nearest}
 use Rattle.mx_model.specs.Reads.{Reads}
 use Rattle.mx_model.specs.Serve.{Served, serve}
 use Rattle.mx_model.specs.State.{Core, Halted, Hart, Running, Waiting, hart_at, no_hart}
-use Rattle.mx_model.specs.Turn.{Action, Asks, Bounces, Crosses, Made, Rests, Returns, Runs, Serves, Traps, Waits, Writes, acted, answered, asked, by_status, done, fault_answer, given_up, halted, is_served_now, killed, stack_address, with_regs}
+use Rattle.mx_model.specs.Turn.{Action, Asks, Bounces, Crosses, Made, Rests, Returns, Runs, Serves, Traps, Waits, Writes, acted, answered, asked, by_status, done, fault_answer, given_up, halted, is_served_now, stack_address, with_regs}
 use Rattle.mx_laws.specs.After.{core_after, frames_at, kind_of}
 use Rattle.mx_laws.specs.Crossing.{frame_of}
 use Rattle.mx_laws.proofs.FrameLaws.{going, harts-killed, harts-serve, over}
@@ -30,22 +30,22 @@ pub data Tells (before after : List Frame) (k : TurnKind) : Type 0 where
   Less : length after ≤ length before → IsLeaving k → Tells before after k
 
 idle-no : T.Idle ≢ T.Crossed
-idle-no e = let q : ⊥ = cc in q
+idle-no e = cc
 
 waited-no : T.Waited ≢ T.Crossed
-waited-no e = let q : ⊥ = cc in q
+waited-no e = cc
 
 ran-no : T.Ran ≢ T.Crossed
-ran-no e = let q : ⊥ = cc in q
+ran-no e = cc
 
 called-no : T.Called ≢ T.Crossed
-called-no e = let q : ⊥ = cc in q
+called-no e = cc
 
 trapped-no : T.Trapped ≢ T.Crossed
-trapped-no e = let q : ⊥ = cc in q
+trapped-no e = cc
 
 returned-no : T.Returned ≢ T.Crossed
-returned-no e = let q : ⊥ = cc in q
+returned-no e = cc
 
 leaving-no : (k : TurnKind) → IsLeaving k → k ≢ T.Crossed
 leaving-no k p e = ⊎_elim (λ q. returned-no (sym q ∙ e)) (λ q. trapped-no (sym q ∙ e)) p
@@ -72,8 +72,7 @@ puts-done h x s old e =
 puts-asked : (r : Reads) (c : Core) (h : ℕ) (x : Hart) (call : Call) (b : Bool) →
     Puts c.harts (asked r c h x call b).core.harts h x.frames (asked r c h x call b).kind
 puts-asked r c h x call true = puts-done h x (serve r c call) c.harts (harts-serve r c call)
-puts-asked r c h x call false =
-    let y : Hart = record x { status = Waiting call nobody } in Put y refl (Same refl called-no)
+puts-asked r c h x call false = Put (record x { status = Waiting call nobody }) refl (Same refl called-no)
 
 -- the frames below the top are no more than all
 few-below : (fs : List Frame) → length (below_top fs) ≤ length fs
@@ -94,8 +93,7 @@ puts-acted r c h x Rests = Left refl idle-no
 puts-acted r c h x Waits = Left refl waited-no
 puts-acted r c h x (Serves call) = puts-done h x (serve r c call) c.harts (harts-serve r c call)
 puts-acted r c h x (Asks call) = puts-asked r c h x call (is_served_now c h call)
-puts-acted r c h x (Traps cause value) =
-    puts-given_up (killed x.domain cause c) h x cause c.harts (harts-killed x.domain cause c) (top x.frames)
+puts-acted r c h x (Traps cause value) = search (arith, puts-given_up, harts-killed)
 puts-acted r c h x Bounces =
     Put (going x (slice_set x.regs 10 (fault_answer 20)) (reg x.regs 1)) refl (Same refl returned-no)
 puts-acted r c h x (Crosses target) =
@@ -127,13 +125,10 @@ tells-turned r c h =
     let x = hart_at c h in
     let a = (by_status r (apart c t.turns t.harts t.before) h x x.status).action in
     let after = apart c t.turns t.harts t.after in
-    let same : (get_or t.harts h no_hart).frames ≡ x.frames = ap (λ (y : Hart). y.frames) t.heard.own in
     subst (λ (m : Made). Tells x.frames (hart_at m.core h).frames m.kind) (sym t.is)
-    (⊎_elim (λ e. subst
-    (λ (b : Action). Tells x.frames (hart_at (acted r after h x b).core h).frames (acted r after h x b).kind) (sym e)
-    (Same same idle-no))
+    (⊎_elim (search (arith, x.frames, idle-no))
     (λ l. own-puts h x t.harts (acted r after h x a).core.harts (acted r after h x a).kind
-    (subst (λ (n : ℕ). h < n) (sym t.heard.count) l) same
+    (subst (λ (n : ℕ). h < n) (sym t.heard.count) l) (ap (λ (y : Hart). y.frames) t.heard.own)
     (puts-acted r after h x a))
     (present r c h t.turns t.harts t.before))
 
@@ -160,10 +155,7 @@ left-then before after k (Less m p) l = p
 
 pub crossed-deeper : (r : Reads) (c : Core) (h : ℕ) →
     (kind_of r c h ≡ T.Crossed) ↔ (depth_of c h < depth_of (core_after r c h) h)
-crossed-deeper r c h =
-    let t = tells-turned r c h in
-    let after = frames_at (core_after r c h) h in
-    (deeper-then (frames_at c h) after (kind_of r c h) t, crossed-then (frames_at c h) after (kind_of r c h) t)
+crossed-deeper r c h = search (arith, tells-turned, deeper-then, crossed-then)
 
 pub fewer-leaves : (r : Reads) (c : Core) (h : ℕ) → depth_of (core_after r c h) h < depth_of c h →
     IsLeaving (kind_of r c h)

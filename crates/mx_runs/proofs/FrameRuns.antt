@@ -1,5 +1,5 @@
 -- A hart's frames along a run: a call leaves what lies below it, and gives it back at its end.
-use Rattle.std.proofs.Common.{◌≡◌, ◌≢◌, ℕ, zero, suc, ◌+◌, ◌-◌, ◌<◌, ◌≤◌, Bool, true, false, ◌==◌, List, [], ◌∷◌, ◌++◌, length, get_or, take, refl, sym, ◌∙◌, ap, subst, arith, length-append}
+use Rattle.std.proofs.Common.{◌≡◌, ℕ, zero, suc, ◌+◌, ◌-◌, ◌<◌, ◌≤◌, Bool, true, false, ◌==◌, List, [], ◌∷◌, ◌++◌, length, get_or, take, refl, sym, ◌∙◌, ap, subst, arith, length-append}
 use Rattle.std.specs.Prelude.{◌↔◌}
 use Rattle.std.proofs.Math.ListN.{get_or-append}
 use Rattle.std.proofs.Math.Seq.{get_or-append_seam, take-append_seam}
@@ -16,7 +16,7 @@ use Rattle.mx_model.proofs.TurnLaws.{valid-turned}
 use Rattle.mx_laws.specs.After.{frames_at}
 use Rattle.mx_laws.specs.Crossing.{FramesAfter, IsBack, OneLess, OneMore, Stay, frame_of}
 use Rattle.mx_laws.proofs.FrameLaws.{frames-others, frames-turned}
-use Rattle.mx_runs.specs.GateCalls.{Crosses, GivesBack, IsGateCall, Leaves, at, depth, depth_of, hart_then}
+use Rattle.mx_runs.specs.GateCalls.{Crosses, GivesBack, IsGateCall, Leaves, at, depth, hart_then}
 use Rattle.mx_runs.proofs.FrameKinds.{crossed-deeper, fewer-leaves}
 
 -- a run keeps validity
@@ -34,19 +34,10 @@ data Moment (p : Schedule) (s : State) (h : ℕ) : Type 0 where
 
 moves : (p : Schedule) (s : State) (h : ℕ) → is_stopped p s ≡ false → (b : Bool) → (hart_of p s.core == h) ≡ b →
     Moment p s h
-moves p s h go true e =
-    let own : hart_of p s.core ≡ h = eqb-true (hart_of p s.core) h e in
-    Makes go own (run-going p 0 s go ∙ ap (λ (g : ℕ). turn s g) own)
-moves p s h go false e =
-    let g = hart_of p s.core in
-    let other : h ≢ g = λ q. eqb-false g h e (sym q) in
-    Still (ap (λ (t : State). frames_at t.core h) (run-going p 0 s go) ∙ frames-others (reads s) s.core g h other)
+moves p s h go x e = grind (arith, eqb-true, run-going, eqb-false, frames-others)
 
 moment : (p : Schedule) (s : State) (h : ℕ) → Moment p s h
-moment p s h = elim (is_stopped p s) as (λ b. is_stopped p s ≡ b → Moment p s h) [
-  | true ↦ λ e. Still (ap (λ (t : State). frames_at t.core h) (run-stopped p 1 s e))
-  | false ↦ λ e. moves p s h e (hart_of p s.core == h) refl
-] refl
+moment p s h = search (arith, run-stopped, moves, s.core)
 
 -- the hart's frames one moment later, by what the hart did
 frames-later : (p : Schedule) (s : State) (h m : ℕ) →
@@ -56,21 +47,10 @@ frames-later p s h m = ap (λ (t : State). frames_at t.core h) (run-add p m 1 s)
 -- more frames a moment later, exactly where the hart crossed
 deeper-crosses : (p : Schedule) (s : State) (h m : ℕ) → Moment p (at p s m) h → depth p s h m < depth p s h (m + 1) →
     Crosses p s h m
-deeper-crosses p s h m (Still e) l =
-    absurd (let q = ap length (frames-later p s h m ∙ e) in let r : ⊥ = omega (arith, q, l) in r)
-deeper-crosses p s h m (Makes go own e) l =
-    let t = at p s m in
-    let q = ap length (frames-later p s h m) ∙ ap (λ (u : State). depth_of u.core h) e in
-    let k : depth_of t.core h < depth_of (turn t h).core h = omega (arith, q, l) in
-    record { turn = record { goes_on = go; own = own }; crossed = (crossed-deeper (reads t) t.core h).1 k }
+deeper-crosses p s h m x l = grind (arith, frames-later, crossed-deeper)
 
 crosses-deeper : (p : Schedule) (s : State) (h m : ℕ) → Crosses p s h m → depth p s h m < depth p s h (m + 1)
-crosses-deeper p s h m c =
-    let t = at p s m in
-    let q = ap length (frames-later p s h m) ∙ ap (λ (u : State). depth_of u.core h) (run-going p 0 t c.turn.goes_on)
-    ∙ ap (λ (g : ℕ). depth_of (turn t g).core h) c.turn.own in
-    let k : depth_of t.core h < depth_of (turn t h).core h = (crossed-deeper (reads t) t.core h).0 c.crossed in
-    omega (arith, q, k)
+crosses-deeper p s h m c = search (arith, frames-later, run-going, crossed-deeper)
 
 pub crosses-tell : (p : Schedule) (s : State) (h m : ℕ) → (depth p s h m < depth p s h (m + 1)) ↔ Crosses p s h m
 crosses-tell p s h m = (deeper-crosses p s h m (moment p (at p s m) h), crosses-deeper p s h m)
@@ -78,14 +58,7 @@ crosses-tell p s h m = (deeper-crosses p s h m (moment p (at p s m) h), crosses-
 -- fewer frames a moment later, only where the hart left a call
 fewer-left : (p : Schedule) (s : State) (h m : ℕ) → Moment p (at p s m) h → depth p s h (m + 1) < depth p s h m →
     Leaves p s h (m + 1)
-fewer-left p s h m (Still e) l =
-    absurd (let q = ap length (frames-later p s h m ∙ e) in let r : ⊥ = omega (arith, q, l) in r)
-fewer-left p s h m (Makes go own e) l =
-    let t = at p s m in
-    let q = ap length (frames-later p s h m) ∙ ap (λ (u : State). depth_of u.core h) e in
-    let k : depth_of (turn t h).core h < depth_of t.core h = omega (arith, q, l) in
-    let left = fewer-leaves (reads t) t.core h k in
-    record { last = m; before = refl; turn = record { goes_on = go; own = own }; left = left }
+fewer-left p s h m x l = grind (arith, frames-later, fewer-leaves)
 
 -- the moment before a call's end has more frames than its beginning
 before-end : (p : Schedule) (s : State) (h m k : ℕ) → IsGateCall p s h m (suc k) →
@@ -100,14 +73,11 @@ before-end p s h m k c =
           subst (λ (i : ℕ). depth p s h m < depth p s h i) same c.begins in
           let y = c.ends in
           let r : ⊥ = omega (arith, x, y) in r)
-      | false ↦ λ e.
-          let q : m ≢ k = eqb-false m k e in
-          let i : m < k = omega (arith, q, l) in
-          (i, c.inside k i (omega arith))
+      | false ↦ search (arith, eqb-false, c.inside)
     ] refl
 
 pub call-leaves : (p : Schedule) (s : State) (h m n : ℕ) → IsGateCall p s h m n → Leaves p s h n
-call-leaves p s h m zero c = absurd (let l = c.later in let r : ⊥ = omega (arith, l) in r)
+call-leaves p s h m zero c = absurd ((omega arith))
 call-leaves p s h m (suc k) c =
     let b = before-end p s h m k c in
     let same : k + 1 ≡ suc k = omega arith in
@@ -179,9 +149,8 @@ later p s h m v =
 -- the frame of a crossing lies right above those of before
 above-crossed : (x y : Hart) → FramesAfter x y → length x.frames < length y.frames →
     Above x.frames (frame_of x) y.frames
-above-crossed x y (Stay e) l = absurd (let q = ap length e in let r : ⊥ = omega (arith, q, l) in r)
-above-crossed x y (OneLess f e b) l =
-    absurd (let n = length-append y.frames (f ∷ []) in let q = ap length e in let r : ⊥ = omega (arith, q, l, n) in r)
+above-crossed x y (Stay e) l = absurd (let q = ap length e in (omega (arith, q, l)))
+above-crossed x y (OneLess f e b) l = search (arith, length-append, y.frames)
 above-crossed x y (OneMore e) l =
     subst (Above x.frames (frame_of x)) (sym e) (record {
       deep = let n = length-append x.frames (frame_of x ∷ []) in omega (arith, n);
@@ -219,8 +188,7 @@ above-inside : (p : Schedule) (s : State) (h m n : ℕ) → IsValid s.core → I
     Above (hart_then p s h m).frames (frame_of (hart_then p s h m)) (hart_then p s h (m + 1 + j)).frames
 above-inside p s h m n v c zero l =
     let x = hart_then p s h m in
-    let same : m + 1 ≡ m + 1 + 0 = omega arith in
-    subst (λ (k : ℕ). Above x.frames (frame_of x) (hart_then p s h k).frames) same
+    subst (λ (k : ℕ). Above x.frames (frame_of x) (hart_then p s h k).frames) (omega arith)
     (above-crossed x (hart_then p s h (m + 1)) (later p s h m v) c.begins)
 above-inside p s h m n v c (suc j) l =
     let x = hart_then p s h m in
@@ -236,19 +204,13 @@ back-end : (p : Schedule) (s : State) (h m k : ℕ) → IsValid s.core → IsGat
     IsBackAt (hart_then p s h m).frames (frame_of (hart_then p s h m)) (hart_then p s h (suc k))
 back-end p s h m k v c l =
     let x = hart_then p s h m in
-    let j = k - (m + 1) in
-    let same : m + 1 + j ≡ k = omega (arith, l) in
     let next : k + 1 ≡ suc k = omega arith in
-    let inside =
-    subst (λ (i : ℕ). Above x.frames (frame_of x) (hart_then p s h i).frames) same
-    (above-inside p s h m (suc k) v c j (omega (arith, l))) in
+    let inside = subst (λ (i : ℕ). Above x.frames (frame_of x) (hart_then p s h i).frames) (omega (arith, l))
+    (above-inside p s h m (suc k) v c (k - (m + 1)) (omega (arith, l))) in
     back-later x.frames (frame_of x) (hart_then p s h k) (hart_then p s h (suc k)) inside
     (subst (λ (i : ℕ). FramesAfter (hart_then p s h k) (hart_then p s h i)) next (later p s h k v)) c.ends
 
 pub call-gives_back : (p : Schedule) (s : State) (h m n : ℕ) → IsValid s.core → IsGateCall p s h m n →
     GivesBack p s h m n
-call-gives_back p s h m zero v c = absurd (let l = c.later in let r : ⊥ = omega (arith, l) in r)
-call-gives_back p s h m (suc k) v c =
-    let b = before-end p s h m k c in
-    let e = back-end p s h m k v c b.0 in
-    record { frames = e.frames; pc = e.back.pc; domain = e.back.domain; registers = e.back.registers }
+call-gives_back p s h m zero v c = absurd ((omega arith))
+call-gives_back p s h m (suc k) v c = grind (arith, before-end, back-end)

@@ -1,22 +1,19 @@
 -- A call is refused by the first of its tests that fails, and only then does it answer a code.
-use Rattle.std.proofs.Common.{◌≡◌, ◌∙◌, ℕ, ◌+◌, ◌*◌, ◌<◌, ◌≤◌, Bool, true, false, not, cond, nat_lt, nat_le, ◌==◌, ◌&&◌, List, [], ◌∷◌, length, refl, sym, ap, subst, set-set, arith, lit<, lit≤, if◌then◌else◌, Option, Some, None, unwrap_or, is_none}
+use Rattle.std.proofs.Common.{◌≡◌, ℕ, ◌+◌, ◌*◌, ◌<◌, ◌≤◌, Bool, true, false, not, cond, nat_lt, nat_le, ◌==◌, ◌&&◌, List, [], ◌∷◌, length, refl, sym, ap, subst, set-set, arith, if◌then◌else◌, Option, Some, None, unwrap_or, is_none}
 use Rattle.std.specs.List.{AllByRecursion, list_all, range_with_len}
 use Rattle.std.proofs.lemmas.Bool.{and_parts, leb-true, ltb-false}
 use Rattle.std.proofs.lemmas.List.{set-get_or}
 use Rattle.mx_words.specs.declared.perm.Perm.{Perm}
-use Rattle.mx_words.specs.declared.perm.Perm.TheVariants as P
 use Rattle.mx_words.specs.declared.perm.Access.TheVariants as A
 use Rattle.mx_words.specs.Announced.{is_announced}
-use Rattle.mx_words.specs.Bytes.{number_at, put_at}
 use Rattle.mx_words.specs.Caches.{Cache, no_cache}
 use Rattle.mx_words.specs.FirstFit.{has_room, most_blocks}
 use Rattle.mx_words.specs.FirstRow.{Row, first_row}
-use Rattle.mx_words.specs.Ranges.{address_of}
 use Rattle.mx_words.specs.Rights.{allows, number}
 use Rattle.mx_model.specs.declared.values.Call.{Call}
 use Rattle.mx_model.specs.Checks.{Look, arg, call_range, drops, looked, looked_all}
 use Rattle.mx_model.specs.Reads.{Reads}
-use Rattle.mx_model.specs.Serve.{Served, Service, Exit, Write, Grant, RevokeAll, Transfer, Alloc, Free, AddGate, RemoveGate, AddReturnGate, Query, Self, Exchange, Unknown, alloc_change, alloc_from, alloc_place, answers, arg_word, code, ended, exchange_from, judged, look_of, may_read, serve, serve_alloc, served_by, service, write_from, write_looks, write_words, write_outside, no_word}
+use Rattle.mx_model.specs.Serve.{Served, Service, Exit, Write, Grant, RevokeAll, Transfer, Alloc, Free, AddGate, RemoveGate, AddReturnGate, Query, Self, Exchange, Unknown, alloc_change, alloc_from, alloc_place, answers, arg_word, code, ended, exchange_from, judged, may_read, serve, serve_alloc, served_by, service, write_from, write_words, write_outside, no_word}
 use Rattle.mx_model.specs.State.{Core, cache_at, module_at, with_cache}
 use Rattle.mx_model.specs.Valid.{IsCall, IsValid}
 use Rattle.mx_model.proofs.ListLaws.{found-passes}
@@ -40,8 +37,7 @@ own-self h c =
 pub own-more : (h : ℕ) (c e : Core) (cache : Cache) → OwnCaches h c e → OwnCaches h c (with_cache h cache e)
 own-more h c e cache p = record {
   cache = cache;
-  is = ap (λ (x : Core). with_cache h cache x) p.is
-      ∙ ap (λ (caches : List Cache). record c { caches = caches }) (set-set c.caches h p.cache cache);
+  is = cc (p.is, set-set c.caches h p.cache cache);
 }
 
 pub own-looks : (r : Reads) (h : ℕ) (looks : List Look) (c e : Core) → OwnCaches h c e →
@@ -61,15 +57,7 @@ record Refuses (h : ℕ) (c : Core) (s : Served) (n : ℕ) : Type 0 where
 
 refuses-answers : (h : ℕ) (c e : Core) (m n : ℕ) → OwnCaches h c e → Some m ≡ Some n →
     Refuses h c (answers e (code m)) n
-refuses-answers h c e m n p q = record {
-  answer = let k : m ≡ n = cc in ap code k;
-  no_second = refl;
-  runs_on = refl;
-  no_change = refl;
-  no_give = refl;
-  no_byte = refl;
-  own = p;
-}
+refuses-answers h c e m n p q = search arith
 
 refuses-judged : (h : ℕ) (c e : Core) (o : Option ℕ) (s : Served) (n : ℕ) → OwnCaches h c e → o ≡ Some n →
     Refuses h c (judged e o s) n
@@ -82,26 +70,12 @@ refuses-write : (r : Reads) (c : Core) (call : Call) (n : ℕ) (long outside : B
     ℕ} ((long, 11) ∷ (outside, 1) ∷ (not (list_all (may_read r call.domain) (write_words call)), 12) ∷ []) ≡ Some
     n →
     Refuses call.hart c (write_from r c call (first_row {A = ℕ} ((long, 11) ∷ (outside, 1) ∷ []))) n
-refuses-write r c call n true outside q = refuses-answers call.hart c c 11 n (own-self call.hart c) q
-refuses-write r c call n false true q = refuses-answers call.hart c c 1 n (own-self call.hart c) q
-refuses-write r c call n false false q =
-    refuses-judged call.hart c (looked_all r call.hart (write_looks r call) c) _ _ n
-    (own-looks r call.hart (write_looks r call) c c (own-self call.hart c)) q
+refuses-write r c call n x outside q = grind (arith, refuses-answers, own-self, refuses-judged, own-looks)
 
 refuses-exchange : (r : Reads) (c : Core) (call : Call) (n : ℕ) (outside : Bool) →
     first_row {A = ℕ} ((outside, 1) ∷ (not (allows (r.perm call.domain (arg_word call)) A.Write), 12) ∷ []) ≡ Some n →
     Refuses call.hart c (exchange_from r c call (first_row {A = ℕ} ((outside, 1) ∷ []))) n
-refuses-exchange r c call n true q = refuses-answers call.hart c c 1 n (own-self call.hart c) q
-refuses-exchange r c call n false q =
-    let looks = look_of call.domain (arg_word call) ∷ [] in
-    let seen = looked_all r call.hart looks c in
-    refuses-judged call.hart c seen (first_row {A =
-    ℕ} ((not (allows (r.perm call.domain (arg_word call)) A.Write), 12) ∷ []))
-    (record (answers (record seen { ram = put_at c.ram (4 * arg_word call) 4 (arg call 1) }) 0) {
-      a1 =
-          Some (number_at c.ram (4 * arg_word call) 4);
-    })
-    n (own-looks r call.hart looks c c (own-self call.hart c)) q
+refuses-exchange r c call n x q = grind (arith, refuses-answers, own-self, refuses-judged, own-looks)
 
 refuses-alloc : (c : Core) (call : Call) (first n : ℕ) (o : Option ℕ) → o ≡ Some n →
     Refuses call.hart c (alloc_from c call first o) n
@@ -122,7 +96,7 @@ refuses-by AddGate r c call n q = refuses-judged call.hart c c _ _ n (own-self c
 refuses-by RemoveGate r c call n q = refuses-judged call.hart c c _ _ n (own-self call.hart c) q
 refuses-by AddReturnGate r c call n q = refuses-judged call.hart c c _ _ n (own-self call.hart c) q
 refuses-by Query r c call n q = refuses-judged call.hart c c _ _ n (own-self call.hart c) q
-refuses-by Self r c call n q = absurd (let k : ⊥ = cc in k)
+refuses-by Self r c call n q = absurd (cc)
 refuses-by Exchange r c call n q = refuses-exchange r c call n (no_word c call) q
 refuses-by Unknown r c call n q = refuses-answers call.hart c c 13 n (own-self call.hart c) q
 
@@ -145,39 +119,16 @@ refuses-ended c call s n p =
 
 pub refused-tested : (r : Reads) (c : Core) (call : Call) (n : ℕ) → refusal r c call ≡ Some n → IsRefused r c call n
 refused-tested r c call n q =
-    let p =
-    refuses-ended c call (served_by (service call.number) r c call) n
+    let p = refuses-ended c call (served_by (service call.number) r c call) n
     (refuses-by (service call.number) r c call n q) in
-    record {
-      answer = p.answer;
-      no_second = p.no_second;
-      runs_on = p.runs_on;
-      no_change = p.no_change;
-      no_give = p.no_give;
-      no_byte = p.no_byte;
-      cache = p.own.cache;
-      core = p.own.is;
-    }
+    search arith
 
 -- each row has a code of -1 to -15
 abbrev AreFew : List (Row ℕ) → Type 0
 AreFew rows = AllByRecursion (λ (t : Row ℕ). t.1 ≤ 15) rows
 
 rows-few : (s : Service) (r : Reads) (c : Core) (call : Call) → AreFew (rows_of s r c call)
-rows-few Exit r c call = (lit≤ tt, tt)
-rows-few Write r c call = (lit≤ tt, (lit≤ tt, (lit≤ tt, tt)))
-rows-few Grant r c call = (lit≤ tt, (lit≤ tt, (lit≤ tt, (lit≤ tt, (lit≤ tt, tt)))))
-rows-few RevokeAll r c call = (lit≤ tt, (lit≤ tt, (lit≤ tt, tt)))
-rows-few Transfer r c call = (lit≤ tt, (lit≤ tt, (lit≤ tt, (lit≤ tt, tt))))
-rows-few Alloc r c call = (lit≤ tt, (lit≤ tt, (lit≤ tt, (lit≤ tt, tt))))
-rows-few Free r c call = (lit≤ tt, (lit≤ tt, tt))
-rows-few AddGate r c call = (lit≤ tt, (lit≤ tt, (lit≤ tt, (lit≤ tt, tt))))
-rows-few RemoveGate r c call = (lit≤ tt, (lit≤ tt, (lit≤ tt, (lit≤ tt, tt))))
-rows-few AddReturnGate r c call = (lit≤ tt, (lit≤ tt, (lit≤ tt, tt)))
-rows-few Query r c call = (lit≤ tt, (lit≤ tt, (lit≤ tt, tt)))
-rows-few Self r c call = tt
-rows-few Exchange r c call = (lit≤ tt, (lit≤ tt, tt))
-rows-few Unknown r c call = (lit≤ tt, tt)
+rows-few x r c call = grind arith
 
 row-few : (rows : List (Row ℕ)) (n : ℕ) → AreFew rows → first_row rows ≡ Some n → n ≤ 15
 row-few [] n p q = absurd (let k : ⊥ = cc in k)
@@ -187,9 +138,7 @@ row-few (t ∷ ts) n p q = elim t.0 as (λ b. (if b then Some t.1 else first_row
 ] q
 
 pub code-is : (r : Reads) (c : Core) (call : Call) (n : ℕ) → refusal r c call ≡ Some n → IsCode (code n)
-code-is r c call n q =
-    let k = row-few (rows_of (service call.number) r c call) n (rows-few (service call.number) r c call) q in
-    let m : code 15 ≤ code n = omega (arith, k) in m
+code-is r c call n q = search (arith, row-few, rows-few)
 
 -- a call that isn't refused ends its hart or answers less than a code
 abbrev IsLow : Served → Type 0
@@ -205,43 +154,22 @@ low-write : (r : Reads) (c : Core) (call : Call) (outside : Bool) →
       12,
     ) ∷ []) ≡ None →
     IsLow (write_from r c call (first_row {A = ℕ} ((nat_lt 4096 (arg call 1), 11) ∷ (outside, 1) ∷ [])))
-low-write r c call outside q =
-    let t1 : Row ℕ = (nat_lt 4096 (arg call 1), 11) in
-    let t2 : Row ℕ = (outside, 1) in
-    let t3 : Row ℕ = (not (list_all (may_read r call.domain) (write_words call)), 12) in
-    let p1 = first-passes t1 (t2 ∷ t3 ∷ []) q in
-    let p2 = first-passes t2 (t3 ∷ []) p1.1 in
-    let few : arg call 1 ≤ 4096 = ltb-false 4096 (arg call 1) p1.0 in
-    let none : first_row (t1 ∷ t2 ∷ []) ≡ None = ap (λ (b : Bool). if b then Some 11 else first_row (t2 ∷ [])) p1.0
-    ∙ ap (λ (b : Bool). first_row {A = ℕ} ((b, 1) ∷ [])) p2.0 in
-    subst (λ (o : Option ℕ). IsLow (write_from r c call o)) (sym none)
-    (low-judged (looked_all r call.hart (write_looks r call) c) (first_row (t3 ∷ [])) _ p2.1 (λ e. omega (arith, few)))
+low-write r c call outside q = search (arith, ltb-false, IsLow, low-judged)
 
 low-exchange : (r : Reads) (c : Core) (call : Call) (outside : Bool) →
     first_row {A = ℕ} ((outside, 1) ∷ (not (allows (r.perm call.domain (arg_word call)) A.Write), 12) ∷ []) ≡ None →
     IsLow (exchange_from r c call (first_row {A = ℕ} ((outside, 1) ∷ [])))
-low-exchange r c call true q = absurd (let k : ⊥ = cc in k)
-low-exchange r c call false q =
-    let looks = look_of call.domain (arg_word call) ∷ [] in
-    let seen = looked_all r call.hart looks c in
-    low-judged seen (first_row {A = ℕ} ((not (allows (r.perm call.domain (arg_word call)) A.Write), 12) ∷ []))
-    (record (answers (record seen { ram = put_at c.ram (4 * arg_word call) 4 (arg call 1) }) 0) {
-      a1 =
-          Some (number_at c.ram (4 * arg_word call) 4);
-    })
-    q (λ e. lit< tt)
+low-exchange r c call x q = grind (arith, low-judged)
 
 low-alloc : (r : Reads) (c : Core) (call : Call) → IsValid c → first_row (rows_of Alloc r c call) ≡ None →
     IsLow (serve_alloc r c call)
 low-alloc r c call v q =
     let m = module_at c call.domain in
     let first = unwrap_or (alloc_place c call) 0 in
-    let t1 : Row ℕ = (arg call 0 == 0, 1) in
     let t2 : Row ℕ = (is_none (alloc_place c call), 6) in
     let t3 : Row ℕ = (nat_le most_blocks (length m.blocks), 7) in
     let t4 : Row ℕ = (not (r.fits (alloc_change first call)), 5) in
-    let p1 = first-passes t1 (t2 ∷ t3 ∷ t4 ∷ []) q in
-    let p2 = first-passes t2 (t3 ∷ t4 ∷ []) p1.1 in
+    let p2 = first-passes t2 (t3 ∷ t4 ∷ []) (first-passes ((arg call 0 == 0, 1)) (t2 ∷ t3 ∷ t4 ∷ []) q).1 in
     let room : has_room m.heap m.blocks (arg call 0) first ≡ true =
     found-some (alloc_place c call) (λ a. has_room m.heap m.blocks (arg call 0) a ≡ true)
     (found-passes (has_room m.heap m.blocks (arg call 0)) (range_with_len m.heap.first m.heap.count)) p2.0 in
@@ -252,52 +180,27 @@ low-alloc r c call v q =
     let high : first + arg call 0 ≤ m.heap.first + m.heap.count = leb-true _ _ inner.1 in
     let home = (home-at c call.domain v).heap in
     let few = v.few_words in
-    subst (λ (o : Option ℕ). IsLow (alloc_from c call first o)) (sym q) (λ e. let p : address_of first < code 15 =
-    omega (arith, high, home, few) in p)
+    subst (λ (o : Option ℕ). IsLow (alloc_from c call first o)) (sym q) (search arith)
 
 low-number : (p : Perm) → number p < code 15
-low-number P.None = lit< tt
-low-number P.Read = lit< tt
-low-number P.ReadWrite = lit< tt
-low-number P.ExecuteRead = lit< tt
+low-number x = grind arith
 
 low-self : (c : Core) (h : ℕ) (call : Call) → IsValid c → IsCall (length c.modules) h call → h < length c.harts →
     256 * call.hart + call.domain < code 15
-low-self c h call v p l =
-    let a = p.hart in let b = p.domain.last in let d = v.few_modules in let e = v.few_harts in
-    omega (arith, a, b, d, e, l)
+low-self c h call v p l = search arith
 
 low-by : (s : Service) (r : Reads) (c : Core) (h : ℕ) (call : Call) → IsValid c → IsCall (length c.modules) h call →
     h < length c.harts →
     first_row (rows_of s r c call) ≡ None → IsLow (served_by s r c call)
-low-by Exit r c h call v p l q = low-judged c _ _ q (λ e. absurd (let k : ⊥ = cc in k))
-low-by Write r c h call v p l q = low-write r c call (write_outside c call) q
-low-by Grant r c h call v p l q = low-judged c _ _ q (λ e. lit< tt)
-low-by RevokeAll r c h call v p l q = low-judged c _ _ q (λ e. lit< tt)
-low-by Transfer r c h call v p l q = low-judged c _ _ q (λ e. lit< tt)
-low-by Alloc r c h call v p l q = low-alloc r c call v q
-low-by Free r c h call v p l q = low-judged c _ _ q (λ e. lit< tt)
-low-by AddGate r c h call v p l q = low-judged c _ _ q (λ e. lit< tt)
-low-by RemoveGate r c h call v p l q = low-judged c _ _ q (λ e. lit< tt)
-low-by AddReturnGate r c h call v p l q = low-judged c _ _ q (λ e. lit< tt)
-low-by Query r c h call v p l q = low-judged c _ _ q (λ e. low-number (r.perm (arg call 1) (arg_word call)))
-low-by Self r c h call v p l q = λ e. low-self c h call v p l
-low-by Exchange r c h call v p l q = low-exchange r c call (no_word c call) q
-low-by Unknown r c h call v p l q = absurd (let k : ⊥ = cc in k)
+low-by x r c h call v p l q = grind (arith, low-judged, low-write, low-alloc, low-number, low-self, low-exchange)
 
 low-ended : (c : Core) (call : Call) (s : Served) → IsLow s → IsLow (ended c call s)
-low-ended c call s p =
-    elim (is_announced call.number) as
-    (λ b. IsLow (cond b (record s { core = drops call.hart (call_range c call) s.core }) s)) [
-      | true ↦ p
-      | false ↦ p
-    ]
+low-ended c call s p = search (arith, IsLow, call.hart)
 
 pub low-served : (r : Reads) (c : Core) (h : ℕ) (call : Call) → IsValid c → IsCall (length c.modules) h call →
     h < length c.harts →
     refusal r c call ≡ None → (serve r c call).stop ≡ false → (serve r c call).a0 < code 15
-low-served r c h call v p l q =
-    low-ended c call (served_by (service call.number) r c call) (low-by (service call.number) r c h call v p l q)
+low-served r c h call v p l q = search (arith, low-ended, low-by)
 
 -- a test that fails, or none
 pub some-row : (o : Option ℕ) → is_none o ≡ false → (n : ℕ) × (o ≡ Some n)
@@ -313,9 +216,7 @@ tells-none r c h call None v p l q a =
 tells-none r c h call (Some n) v p l q a = refl
 
 answers-code : (r : Reads) (c : Core) (call : Call) (n : ℕ) → refusal r c call ≡ Some n → AnswersCode r c call
-answers-code r c call n q =
-    let t = refused-tested r c call n q in
-    record { runs_on = t.runs_on; answer = subst IsCode (sym t.answer) (code-is r c call n q) }
+answers-code r c call n q = search (arith, refused-tested, code-is)
 
 pub refused-told : (r : Reads) (c : Core) (h : ℕ) (call : Call) → IsValid c → IsCall (length c.modules) h call →
     h < length c.harts → TellsRefusal r c call

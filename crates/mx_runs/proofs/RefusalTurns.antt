@@ -1,5 +1,5 @@
 -- The turn of a refused call: where a hart runs on with a code in x10, and what that turn leaves.
-use Rattle.std.proofs.Common.{◌≡◌, ◌∙◌, ◌⊎◌, ◌↔◌, ℕ, ◌+◌, ◌<◌, Bool, true, false, nat_lt, List, [], length, set, refl, sym, ap, subst, set-set, arith, if◌then◌else◌, Option, Some, None, inl, inr, ⊎_elim}
+use Rattle.std.proofs.Common.{◌≡◌, ◌∙◌, ◌⊎◌, ◌↔◌, ℕ, ◌+◌, ◌<◌, Bool, true, false, [], length, set, refl, sym, ap, subst, set-set, arith, if◌then◌else◌, Option, Some, None, ⊎_elim}
 use Rattle.std.proofs.lemmas.Bool.{ltb-true, ltb-false}
 use Rattle.std.proofs.lemmas.List.{get_or-set_same, get_or-set_other}
 use Rattle.std.proofs.Math.ListN.{get_or-eq_default}
@@ -7,14 +7,13 @@ use Rattle.mx_words.specs.Caches.{Cache}
 use Rattle.mx_model.specs.declared.values.Call.{Call}
 use Rattle.mx_model.specs.declared.values.TurnKind.TheVariants as T
 use Rattle.mx_words.specs.FirstRow.{first_row}
-use Rattle.mx_words.specs.Hearing.{nobody}
 use Rattle.mx_model.specs.declared.values.Note.TheVariants as N
 use Rattle.mx_model.specs.Checks.{looked_all}
 use Rattle.mx_model.specs.Effect.{next, reg}
 use Rattle.mx_model.specs.Reads.{Reads}
-use Rattle.mx_model.specs.Serve.{Served, Service, Exit, Write, Grant, RevokeAll, Transfer, Alloc, Free, AddGate, RemoveGate, AddReturnGate, Query, Self, Exchange, Unknown, code, serve, service}
-use Rattle.mx_model.specs.State.{Core, Hart, Running, Waiting, Halted, hart_at, no_hart, with_cache}
-use Rattle.mx_model.specs.Turn.{Action, Rests, Waits, Serves, Asks, Traps, Bounces, Crosses, Returns, Runs, Writes, Made, acted, answered, asked, by_status, call_of, counted, decide, done, enacted, halted, is_served_now, served, with_regs}
+use Rattle.mx_model.specs.Serve.{Served, Service, code, serve, service}
+use Rattle.mx_model.specs.State.{Core, Hart, Running, Halted, hart_at, with_cache}
+use Rattle.mx_model.specs.Turn.{Action, Rests, Waits, Serves, Asks, Traps, Bounces, Crosses, Returns, Runs, Writes, Made, acted, answered, asked, call_of, counted, decide, done, enacted, is_served_now, served, with_regs}
 use Rattle.mx_model.specs.Valid.{IsCall, IsHart, IsValid}
 use Rattle.mx_model.proofs.DecideLaws.{IsAction, action-decide, call-of}
 use Rattle.mx_model.proofs.KeepLaws.{keeps-serve}
@@ -52,20 +51,10 @@ hart-done : (h : ℕ) (x : Hart) (s : Served) (b : Bool) → s.stop ≡ b → h 
     hart_at (done h x s).core h
     ≡ (if b then record x { status = Halted (Some s.a0) } else record x {
       regs = answered x s.a0 s.a1;
-      pc =
-          next x.pc;
+      pc = next x.pc;
       status = Running;
     })
-hart-done h x s true e l =
-    ap
-    (λ (b : Bool). hart_at
-    (if b then halted h x (Some s.a0) s.core else with_regs h x (answered x s.a0 s.a1) (next x.pc) s.core) h) e
-    ∙ get_or-set_same s.core.harts h _ no_hart l
-hart-done h x s false e l =
-    ap
-    (λ (b : Bool). hart_at
-    (if b then halted h x (Some s.a0) s.core else with_regs h x (answered x s.a0 s.a1) (next x.pc) s.core) h) e
-    ∙ get_or-set_same s.core.harts h _ no_hart l
+hart-done h x s x1 e l = grind (arith, get_or-set_same)
 
 x10-answered : (x : Hart) (a0 : ℕ) (a1 : Option ℕ) → length x.regs ≡ 32 → reg (answered x a0 a1) 10 ≡ a0
 x10-answered x a0 None e = get_or-set_same x.regs 10 a0 0 (omega (arith, e))
@@ -76,31 +65,12 @@ x10-answered x a0 (Some a) e =
 -- a served call that answers a number and makes nothing else
 done-is : (h : ℕ) (x : Hart) (s : Served) (e : Core) (n : ℕ) → s.stop ≡ false → s.a0 ≡ n → s.a1 ≡ None → s.core ≡ e →
     (done h x s).core ≡ with_regs h x (set x.regs 10 n) (next x.pc) e
-done-is h x s e n p q t i =
-    ap
-    (λ (b : Bool). if b then halted h x (Some s.a0) s.core else with_regs h x (answered x s.a0 s.a1)
-    (next x.pc) s.core) p
-    ∙ ap (λ (a : ℕ). with_regs h x (answered x a s.a1) (next x.pc) s.core) q
-    ∙ ap (λ (a : Option ℕ). with_regs h x (answered x n a) (next x.pc) s.core) t
-    ∙ ap (λ (k : Core). with_regs h x (set x.regs 10 n) (next x.pc) k) i
+done-is h x s e n p q t i = search (arith, s.core, s.a0, x.regs)
 
 -- a call's tests read no caches
 rows-caches : (s : Service) (r : Reads) (c : Core) (h : ℕ) (cache : Cache) (call : Call) →
     rows_of s r (with_cache h cache c) call ≡ rows_of s r c call
-rows-caches Exit r c h cache call = refl
-rows-caches Write r c h cache call = refl
-rows-caches Grant r c h cache call = refl
-rows-caches RevokeAll r c h cache call = refl
-rows-caches Transfer r c h cache call = refl
-rows-caches Alloc r c h cache call = refl
-rows-caches Free r c h cache call = refl
-rows-caches AddGate r c h cache call = refl
-rows-caches RemoveGate r c h cache call = refl
-rows-caches AddReturnGate r c h cache call = refl
-rows-caches Query r c h cache call = refl
-rows-caches Self r c h cache call = refl
-rows-caches Exchange r c h cache call = refl
-rows-caches Unknown r c h cache call = refl
+rows-caches x r c h cache call = grind arith
 
 refusal-caches : (r : Reads) (c : Core) (h : ℕ) (cache : Cache) (call : Call) →
     refusal r (with_cache h cache c) call ≡ refusal r c call
@@ -126,20 +96,11 @@ module _ (r : Reads) (b : Core) (h : ℕ) (k : Cache) (v : IsValid b) (l : h < l
   served-tells call p n e =
       let s = serve r seen call in
       elim s.stop as (λ t. s.stop ≡ t → (row : ℕ) × (refusal r b call ≡ Some row) × (n ≡ code row)) [
-        | true ↦ λ t.
-            let i : Halted (Some s.a0) ≡ Running =
-            sym (ap (λ (x : Hart). x.status) (hart-done h own s true t (there call))) ∙ e.running in
-            absurd (let q : ⊥ = cc in q)
+        | true ↦ search (arith, hart-done, own, there)
         | false ↦ λ t.
-            let a0 : s.a0 ≡ n =
-            sym (x10-answered own s.a0 s.a1 whole.regs.count)
+            let a0 : s.a0 ≡ n = sym (x10-answered own s.a0 s.a1 whole.regs.count)
             ∙ sym (ap (λ (x : Hart). reg x.regs 10) (hart-done h own s false t (there call))) ∙ e.x10 in
-            let told =
-            (refused-told r seen h call (valid-cache b h k v) p l).0 (record {
-              runs_on = t;
-              answer =
-                  subst IsCode (sym a0) e.code;
-            }) in
+            let told = (refused-told r seen h call (valid-cache b h k v) p l).0 (search arith) in
             let found = some-row (refusal r seen call) told in (
               found.0,
               sym (refusal-caches r b h k call) ∙ found.1,
@@ -152,15 +113,9 @@ module _ (r : Reads) (b : Core) (h : ℕ) (k : Cache) (v : IsValid b) (l : h < l
   served-ends : (call : Call) → (row : ℕ) → refusal r b call ≡ Some row → EndsSo h (code row) (served r seen h own call)
   served-ends call row q =
       let s = serve r seen call in
-      let fails = refusal-caches r b h k call ∙ q in
-      let t = refused-tested r seen call row fails in
+      let t = refused-tested r seen call row (refusal-caches r b h k call ∙ q) in
       let x = hart-done h own s false t.runs_on (there call) in
-      record {
-        called = refl;
-        running = ap (λ (y : Hart). y.status) x;
-        x10 = ap (λ (y : Hart). reg y.regs 10) x ∙ x10-answered own s.a0 s.a1 whole.regs.count ∙ t.answer;
-        code = code-is r seen call row fails;
-      }
+      search (arith, x10-answered, own, s.a0, s.a1, code-is, seen)
 
   served-leaves : (call : Call) → call.hart ≡ h →
       (row : ℕ) → refusal r b call ≡ Some row → LeavesSo b h (code row) (served r seen h own call)
@@ -170,8 +125,7 @@ module _ (r : Reads) (b : Core) (h : ℕ) (k : Cache) (v : IsValid b) (l : h < l
       record {
         cache = t.cache;
         core = done-is h own s (with_cache h t.cache b) (code row) t.runs_on t.answer t.no_second
-            (t.core ∙ ap (λ (g : ℕ). with_cache g t.cache seen) i
-            ∙ ap (λ (caches : List Cache). record b { caches = caches }) (set-set b.caches h k t.cache));
+            (cc (t.core, i, set-set b.caches h k t.cache));
         no_change = t.no_change;
         no_give = t.no_give;
         no_byte = t.no_byte;
@@ -184,14 +138,10 @@ module _ (r : Reads) (b : Core) (h : ℕ) (k : Cache) (v : IsValid b) (l : h < l
   asked-effect call t e = ap (λ (s : Bool). if s then Some call else None) e
 
   asked-waits : (call : Call) (n : ℕ) → EndsSo h n (asked r seen h own call false) → ⊥
-  asked-waits call n e =
-      let x = get_or-set_same b.harts h (record own { status = Waiting call nobody }) no_hart l in
-      let i : Waiting call nobody ≡ Running = sym (ap (λ (y : Hart). y.status) x) ∙ e.running in
-      let q : ⊥ = cc in q
+  asked-waits call n e = search (arith, get_or-set_same, b.harts, own)
 
   own-call : (call : Call) → call ≡ call_of h own → IsCall (length b.modules) h call
-  own-call call e =
-      subst (IsCall (length b.modules) h) (sym e) (call-of (length b.modules) (length b.harts) h own whole)
+  own-call call e = search (arith, call-of, own, whole)
 
   asked-tells : (call : Call) → call ≡ call_of h own →
       (n : ℕ) (t : Bool) → is_served_now b h call ≡ t → EndsSo h n (asked r seen h own call t) →
@@ -204,13 +154,13 @@ module _ (r : Reads) (b : Core) (h : ℕ) (k : Cache) (v : IsValid b) (l : h < l
   -- where the hart ends so a call was refused
   acted-tells : (a : Action) (n : ℕ) → IsAction (length b.modules) h own a → EndsSo h n (acted r seen h own a) →
       RefusesSo r b h n a
-  acted-tells Rests n p e = absurd (let i = e.called in let q : ⊥ = cc in q)
-  acted-tells Waits n p e = absurd (let i = e.called in let q : ⊥ = cc in q)
+  acted-tells Rests n p e = absurd (cc)
+  acted-tells Waits n p e = absurd (cc)
   acted-tells (Serves call) n p e =
       let found = served-tells call p n e in
       record { call = call; effect = refl; row = found.0; fails = found.1; answer = found.2 }
   acted-tells (Asks call) n p e = asked-tells call p n (is_served_now b h call) refl e
-  acted-tells (Traps cause value) n p e = absurd (let i = e.called in let q : ⊥ = cc in q)
+  acted-tells (Traps cause value) n p e = absurd (let q : ⊥ = cc in q)
   acted-tells Bounces n p e = absurd (let i = e.called in let q : ⊥ = cc in q)
   acted-tells (Crosses target) n p e = absurd (let i = e.called in let q : ⊥ = cc in q)
   acted-tells (Returns rd frame) n p e = absurd (let i = e.called in let q : ⊥ = cc in q)
@@ -220,8 +170,8 @@ module _ (r : Reads) (b : Core) (h : ℕ) (k : Cache) (v : IsValid b) (l : h < l
   -- by a call that takes effect the action is to serve it
   effective-acts : (a : Action) (call : Call) → effective b h a ≡ Some call →
       acted r seen h own a ≡ served r seen h own call
-  effective-acts Rests call e = absurd (let q : ⊥ = cc in q)
-  effective-acts Waits call e = absurd (let q : ⊥ = cc in q)
+  effective-acts Rests call e = absurd (cc)
+  effective-acts Waits call e = absurd (cc)
   effective-acts (Serves mine) call e = let i : mine ≡ call = cc in ap (λ (x : Call). served r seen h own x) i
   effective-acts (Asks mine) call e =
       elim (is_served_now b h mine) as (λ t. (if t then Some mine else None) ≡ Some call →
@@ -239,20 +189,7 @@ module _ (r : Reads) (b : Core) (h : ℕ) (k : Cache) (v : IsValid b) (l : h < l
   -- and it is of the hart
   effective-own : (a : Action) (call : Call) → IsAction (length b.modules) h own a → effective b h a ≡ Some call →
       call.hart ≡ h
-  effective-own Rests call p e = absurd (let q : ⊥ = cc in q)
-  effective-own Waits call p e = absurd (let q : ⊥ = cc in q)
-  effective-own (Serves mine) call p e = let i : mine ≡ call = cc in subst (λ (x : Call). x.hart ≡ h) i p.hart
-  effective-own (Asks mine) call p e =
-      elim (is_served_now b h mine) as (λ t. (if t then Some mine else None) ≡ Some call → call.hart ≡ h) [
-        | true ↦ λ f. let i : mine ≡ call = cc in subst (λ (x : Call). x.hart ≡ h) i (own-call mine p).hart
-        | false ↦ λ f. absurd (let q : ⊥ = cc in q)
-      ] e
-  effective-own (Traps cause value) call p e = absurd (let q : ⊥ = cc in q)
-  effective-own Bounces call p e = absurd (let q : ⊥ = cc in q)
-  effective-own (Crosses target) call p e = absurd (let q : ⊥ = cc in q)
-  effective-own (Returns rd frame) call p e = absurd (let q : ⊥ = cc in q)
-  effective-own (Runs regs pc) call p e = absurd (let q : ⊥ = cc in q)
-  effective-own (Writes address size value) call p e = absurd (let q : ⊥ = cc in q)
+  effective-own x call p e = grind (arith, own-call)
 
   acted-ends : (a : Action) (n : ℕ) → RefusesSo r b h n a → EndsSo h n (acted r seen h own a)
   acted-ends a n p =
@@ -268,14 +205,7 @@ module _ (r : Reads) (b : Core) (h : ℕ) (k : Cache) (v : IsValid b) (l : h < l
 
 -- hart h is there, or it rests
 by-place : (r : Reads) (b : Core) (h : ℕ) → (h < length b.harts) ⊎ ((decide r b h).action ≡ Rests)
-by-place r b h =
-    elim (nat_lt h (length b.harts)) as (λ t. nat_lt h (length b.harts) ≡ t →
-    (h < length b.harts) ⊎ ((decide r b h).action ≡ Rests)) [
-      | true ↦ λ e. inl (ltb-true h (length b.harts) e)
-      | false ↦ λ e.
-          let n : hart_at b h ≡ no_hart = get_or-eq_default b.harts no_hart (ltb-false h (length b.harts) e) in
-          inr (ap (λ (x : Hart). (by_status r b h x x.status).action) n)
-    ] refl
+by-place r b h = search (arith, ltb-true, get_or-eq_default, b.harts, ltb-false)
 
 -- the turn of hart h in the state in which it acts
 abbrev turned_in : Reads → Core → ℕ → Made
@@ -290,12 +220,10 @@ turned-seen : (r : Reads) (b : Core) (h : ℕ) →
 turned-seen r b h = ap (λ (e : Core). acted r e h (hart_at b h) (decide r b h).action) (seen-own r b h).is
 
 resting-ends : (r : Reads) (c : Core) (h n : ℕ) (x : Hart) (a : Action) → a ≡ Rests → EndsSo h n (acted r c h x a) → ⊥
-resting-ends r c h n x a e p =
-    let i = ap (λ (y : Action). (acted r c h x y).kind) e in let j = p.called in let q : ⊥ = cc in q
+resting-ends r c h n x a e p = search arith
 
 resting-refuses : (r : Reads) (b : Core) (h n : ℕ) (a : Action) → a ≡ Rests → RefusesSo r b h n a → ⊥
-resting-refuses r b h n a e p =
-    let i = ap (λ (y : Action). effective b h y) e in let j = p.effect in let q : ⊥ = cc in q
+resting-refuses r b h n a e p = search arith
 
 turned-tells : (r : Reads) (b : Core) (h n : ℕ) → IsValid b → EndsSo h n (turned_in r b h) →
     RefusesSo r b h n (decide r b h).action
@@ -308,17 +236,15 @@ turned-tells r b h n v p =
 turned-ends : (r : Reads) (b : Core) (h n : ℕ) → IsValid b → RefusesSo r b h n (decide r b h).action →
     EndsSo h n (turned_in r b h)
 turned-ends r b h n v p =
-    let k = (seen-own r b h).cache in
     subst (λ (m : Made). EndsSo h n m) (sym (turned-seen r b h)) (
-    ⊎_elim (λ l. acted-ends r b h k v l (decide r b h).action n p)
+    ⊎_elim (λ l. acted-ends r b h ((seen-own r b h).cache) v l (decide r b h).action n p)
     (λ i. absurd (resting-refuses r b h n (decide r b h).action i p)) (by-place r b h))
 
 turned-leaves : (r : Reads) (b : Core) (h n : ℕ) → IsValid b → RefusesSo r b h n (decide r b h).action →
     LeavesSo b h n (turned_in r b h)
 turned-leaves r b h n v p =
-    let k = (seen-own r b h).cache in
     subst (λ (m : Made). LeavesSo b h n m) (sym (turned-seen r b h)) (
-    ⊎_elim (λ l. acted-leaves r b h k v l (decide r b h).action n (action-decide r b h v l) p)
+    ⊎_elim (λ l. acted-leaves r b h ((seen-own r b h).cache) v l (decide r b h).action n (action-decide r b h v l) p)
     (λ i. absurd (resting-refuses r b h n (decide r b h).action i p)) (by-place r b h))
 
 valid-acting : (c : Core) (h : ℕ) → IsValid c → IsValid (acting c h)
@@ -326,14 +252,7 @@ valid-acting c h v = valid-heard_first (counted c) h (valid-turns c (c.turns + 1
 
 tells-turn : (r : Reads) (c : Core) (h n : ℕ) → IsValid c → RunsOnWithCode r c h n →
     RefusesSo r (acting c h) h n (decide r (acting c h) h).action
-tells-turn r c h n v p =
-    turned-tells r (acting c h) h n (valid-acting c h v) (record {
-      called = p.called;
-      running = p.running;
-      x10 =
-          p.x10;
-      code = p.code;
-    })
+tells-turn r c h n v p = search (arith, turned-tells, valid-acting)
 
 pub refused-exact : (r : Reads) (c : Core) (h n : ℕ) → IsValid c → RunsOnWithCode r c h n ↔ RefusesTurn r c h n
 refused-exact r c h n v = (
@@ -348,12 +267,4 @@ refused-exact r c h n v = (
 pub refused-turn : (r : Reads) (c : Core) (h n : ℕ) → IsValid c → RunsOnWithCode r c h n → LeavesRefused r c h n
 refused-turn r c h n v p =
     let q = turned-leaves r (acting c h) h n (valid-acting c h v) (tells-turn r c h n v p) in
-    record {
-      cache = q.cache;
-      core = q.core;
-      no_change = q.no_change;
-      no_give = q.no_give;
-      no_byte =
-          q.no_byte;
-      no_note = q.no_note;
-    }
+    search arith

@@ -9,16 +9,14 @@ use Rattle.mx_isa.specs.declared.inst.Inst.{Inst}
 use Rattle.mx_isa.specs.declared.inst.Inst.TheVariants.{Lui, Auipc, Jal, Jalr, Branch, Load, Store, OpImm, Op, Fence, Ecall, Ebreak}
 use Rattle.mx_isa.specs.declared.inst.LoadWidth.{LoadWidth}
 use Rattle.mx_isa.specs.declared.inst.StoreWidth.{StoreWidth}
-use Rattle.mx_isa.specs.Table.{decoded}
 use Rattle.mx_model.specs.declared.values.Fault.{Fault}
 use Rattle.mx_model.specs.declared.values.Frame.{Frame}
 use Rattle.mx_model.specs.declared.values.Note.TheVariants as N
 use Rattle.mx_model.specs.Checks.{looked_all}
-use Rattle.mx_model.specs.Effect.{Effect, Goes, Faults, Loads, Stores, Calls, Jumps, effect, holds, load_size, next, plus, reg, store_size, taken}
-use Rattle.mx_model.specs.Gates.{top}
+use Rattle.mx_model.specs.Effect.{Effect, Goes, Faults, Loads, Stores, effect, holds, load_size, next, plus, reg, store_size, taken}
 use Rattle.mx_model.specs.Reads.{Reads, reads}
 use Rattle.mx_model.specs.State.{Core, Hart, State, hart_at}
-use Rattle.mx_model.specs.Turn.{Action, Rests, Waits, Serves, Asks, Traps, Bounces, Crosses, Returns, Runs, Writes, Decided, Made, acted, at_return, by_effect, by_word, fetches, is_denied, is_return_at, is_served_now, jump_action, load_at, returned_over, runs_at, turned}
+use Rattle.mx_model.specs.Turn.{Action, Traps, Decided, acted, by_effect, by_word, fetches, is_denied, returned_over, runs_at, turned}
 use Rattle.mx_model.proofs.TurnCases.{acts, looked_all-caches, ready, turned-fetches}
 use Rattle.mx_laws.specs.After.{domain_at}
 use Rattle.mx_laws.proofs.TwinLaws.{kind-asked}
@@ -31,48 +29,21 @@ note-fault turn h d pc f g e = cc
 
 same-fault : (turn h d pc cause value k v : ℕ) →
     Some (N.Fault turn h d pc (record { cause = k; value = v })) ≡ Some (N.Fault turn h d pc (record {
-      cause =
-          cause;
+      cause = cause;
       value = value;
     })) → Traps k v ≡ Traps cause value
-same-fault turn h d pc cause value k v e =
-    let f : Fault = record { cause = k; value = v } in
-    let g : Fault = record { cause = cause; value = value } in
-    ap (λ (x : Fault). Traps x.cause x.value) (note-fault turn h d pc f g e)
+same-fault turn h d pc cause value k v e = search (arith, note-fault)
 
 -- what an action makes is a fault exactly where it is one
 trap-action : (r : Reads) (c : Core) (h : ℕ) (x : Hart) (a : Action) (cause value : ℕ) →
     IsTrap (acted r c h x a) c.turns h x cause value → a ≡ Traps cause value
-trap-action r c h x Rests cause value t = absurd (let e = t.kind in let q : ⊥ = cc in q)
-trap-action r c h x Waits cause value t = absurd (let e = t.kind in let q : ⊥ = cc in q)
-trap-action r c h x (Serves call) cause value t = absurd (let e = t.kind in let q : ⊥ = cc in q)
-trap-action r c h x (Asks call) cause value t =
-    absurd (let e = t.kind in let k = kind-asked r c h x call (is_served_now c h call) in let q : ⊥ = cc in q)
-trap-action r c h x (Traps k v) cause value t = same-fault c.turns h x.domain x.pc cause value k v t.note
-trap-action r c h x Bounces cause value t = absurd (let e = t.kind in let q : ⊥ = cc in q)
-trap-action r c h x (Crosses target) cause value t = absurd (let e = t.kind in let q : ⊥ = cc in q)
-trap-action r c h x (Returns rd frame) cause value t = absurd (let e = t.kind in let q : ⊥ = cc in q)
-trap-action r c h x (Runs regs pc) cause value t = absurd (let e = t.kind in let q : ⊥ = cc in q)
-trap-action r c h x (Writes address size v) cause value t = absurd (let e = t.kind in let q : ⊥ = cc in q)
+trap-action r c h x x1 cause value t = grind (arith, kind-asked, same-fault)
 
 -- of a turn that is this action
 pub trap-turned : (r : Reads) (c e : Core) (h : ℕ) (x : Hart) (a : Action) (cause value : ℕ) → hart_at c h ≡ x →
     e.turns ≡ c.turns + 1 →
     turned r c h ≡ acted r e h x a → TrapsWith r c h cause value ↔ (a ≡ Traps cause value)
-trap-turned r c e h x a cause value own turns is = (
-  λ t. trap-action r e h x a cause value
-      (subst (λ (n : ℕ). IsTrap (acted r e h x a) n h x cause value) (sym turns)
-      (subst (λ (y : Hart). IsTrap (acted r e h x a) (c.turns + 1) h y cause value) own
-      (subst (λ (m : Made). IsTrap m (c.turns + 1) h (hart_at c h) cause value) is t))),
-  λ k. subst (λ (m : Made). IsTrap m (c.turns + 1) h (hart_at c h) cause value) (sym is)
-      (subst (λ (y : Hart). IsTrap (acted r e h x a) (c.turns + 1) h y cause value) (sym own)
-      (subst (λ (n : ℕ). IsTrap (acted r e h x a) n h x cause value) turns
-      (subst (λ (b : Action). IsTrap (acted r e h x b) e.turns h x cause value) (sym k) (record {
-        kind = refl;
-        note =
-            refl;
-      })))),
-)
+trap-turned r c e h x a cause value own turns is = search (arith, trap-action, c.turns, e.turns)
 
 -- a fault of an instruction itself is by 0, 3, 4 or 6
 pub record IsOwnCause (cause : ℕ) : Type 0 where
@@ -84,20 +55,19 @@ HasOwnCause (Faults cause value) = IsOwnCause cause
 HasOwnCause f = Unit {0}
 
 cause-choice : (b : Bool) (f g : Effect) → HasOwnCause f → HasOwnCause g → HasOwnCause (cond b f g)
-cause-choice true f g p q = p
-cause-choice false f g p q = q
+cause-choice x f g p q = grind arith
 
 own-0 : IsOwnCause 0
-own-0 = record { low = omega arith; own = λ e. let z : ⊥ = omega (arith, e) in z }
+own-0 = record { low = omega arith; own = λ e. (omega (arith, e)) }
 
 own-3 : IsOwnCause 3
-own-3 = record { low = omega arith; own = λ e. let z : ⊥ = omega (arith, e) in z }
+own-3 = record { low = omega arith; own = λ e. (omega (arith, e)) }
 
 own-4 : IsOwnCause 4
-own-4 = record { low = omega arith; own = λ e. let z : ⊥ = omega (arith, e) in z }
+own-4 = record { low = omega arith; own = λ e. (omega (arith, e)) }
 
 own-6 : IsOwnCause 6
-own-6 = record { low = omega arith; own = λ e. let z : ⊥ = omega (arith, e) in z }
+own-6 = record { low = omega arith; own = λ e. (omega (arith, e)) }
 
 pub cause-effect : (inst : Inst) (regs : List ℕ) (pc : ℕ) → HasOwnCause (effect inst regs pc)
 unfolding effect
@@ -127,12 +97,10 @@ NotFetch (Traps cause value) = cause ≢ 1
 NotFetch a = Unit {0}
 
 not-choice : (b : Bool) (a k : Action) → NotFetch a → NotFetch k → NotFetch (if b then a else k)
-not-choice true a k p q = p
-not-choice false a k p q = q
+not-choice x a k p q = grind arith
 
 not-over : (rd target : ℕ) (frame : Frame) → NotFetch (returned_over rd target frame)
-not-over rd target frame =
-    not-choice (frame.back == target) (Returns rd frame) (Traps 17 target) tt (λ e. let z : ⊥ = omega (arith, e) in z)
+not-over rd target frame = search (arith, not-choice, frame.back)
 
 not-return : (rd target : ℕ) (o : Option Frame) → NotFetch (option_map_or (returned_over rd target) o (Traps 18 target))
 not-return rd target None = λ e. let z : ⊥ = omega (arith, e) in z
@@ -140,17 +108,7 @@ not-return rd target (Some frame) = not-over rd target frame
 
 not-effect : (r : Reads) (c : Core) (h : ℕ) (x : Hart) (f : Effect) → HasOwnCause f →
     NotFetch (by_effect r c h x f).action
-not-effect r c h x (Goes regs pc) p = tt
-not-effect r c h x (Faults cause value) p = p.own
-not-effect r c h x (Loads place address width rd) p =
-    not-choice (is_denied r c x.domain address A.Read) (Traps 5 address) _ (λ e. let z : ⊥ = omega (arith, e) in z) tt
-not-effect r c h x (Stores place address size value) p =
-    not-choice (is_denied r c x.domain address A.Write) (Traps 7 address) _ (λ e. let z : ⊥ = omega (arith, e) in z) tt
-not-effect r c h x Calls p = tt
-not-effect r c h x (Jumps rd target) p =
-    not-choice (is_return_at c x.domain x.pc) (at_return x rd target) (jump_action x rd target)
-    (not-return rd target (top x.frames))
-    (not-choice (target % 4 == 0) _ (Traps 0 target) tt (λ e. let z : ⊥ = omega (arith, e) in z))
+not-effect r c h x x1 p = grind (arith, not-choice, not-return)
 
 not-word : (r : Reads) (c : Core) (h : ℕ) (x : Hart) (word : ℕ) (o : Option Inst) →
     NotFetch (by_word r c h x word o).action
@@ -158,24 +116,17 @@ not-word r c h x word None = λ e. let z : ⊥ = omega (arith, e) in z
 not-word r c h x word (Some inst) = not-effect r c h x (effect inst x.regs x.pc) (cause-effect inst x.regs x.pc)
 
 not-trap : (a : Action) (value : ℕ) → NotFetch a → a ≡ Traps 1 value → ⊥
-not-trap a value p e = let q : NotFetch (Traps 1 value) = subst NotFetch e p in q refl
+not-trap a value p e = (subst NotFetch e p) refl
 
 -- a fetch that is denied
 fetch-denied : (r : Reads) (c : Core) (h : ℕ) (x : Hart) (b : Bool) →
     ((fetches r c h x b).action ≡ Traps 1 x.pc) ↔ (b ≡ true)
-fetch-denied r c h x true = (λ e. refl, λ e. refl)
-fetch-denied r c h x false = (
-  λ e. absurd (
-      let word = load_at c x.pc 4 in
-      not-trap (fetches r c h x false).action x.pc (not-word r c h x word (decoded word)) e),
-  λ e. absurd (let q : ⊥ = cc in q),
-)
+fetch-denied r c h x x1 = grind (arith, not-trap, not-word)
 
 -- a fault where a test says so, and another action where it doesn't
 choice-denied : (b : Bool) (cause value : ℕ) (a : Action) → (a ≡ Traps cause value → ⊥) →
     ((if b then Traps cause value else a) ≡ Traps cause value) ↔ (b ≡ true)
-choice-denied true cause value a n = (λ e. refl, λ e. refl)
-choice-denied false cause value a n = (λ e. absurd (n e), λ e. absurd (let q : ⊥ = cc in q))
+choice-denied x cause value a n = grind arith
 
 -- two equivalences in a row
 pub through : {P Q R : Type 0} → P ↔ Q → Q ↔ R → P ↔ R
@@ -191,8 +142,7 @@ does-action r c h a k e d = subst (Does r c h) e d
 
 pub traps-does : (r : Reads) (c : Core) (h : ℕ) (a : Action) (cause value : ℕ) → Does r c h a →
     TrapsWith r c h cause value ↔ (a ≡ Traps cause value)
-traps-does r c h a cause value d =
-    trap-turned r c (record (ready c h) { caches = d.caches }) h (hart_at c h) a cause value refl refl d.is
+traps-does r c h a cause value d = search (arith, trap-turned, ready)
 
 pub does-looked : (r : Reads) (c : Core) (h : ℕ) (d : Decided) → turned r c h ≡ acts r (ready c h) h (hart_at c h) d →
     Does r c h d.action
@@ -206,13 +156,7 @@ does-fetch : (s : State) (h : ℕ) → Fetches s h →
     (fetches (reads s) (ready s.core h) h x (is_denied (reads s) s.core x.domain x.pc A.Execute)).action
 does-fetch s h f =
     does-looked (reads s) s.core h (runs_at (reads s) (ready s.core h) h (hart_at s.core h) None)
-    (turned-fetches (reads s) s.core h (hart_at s.core h) (record {
-      now = refl;
-      running = f.running;
-      alive =
-          f.live;
-      at = f.no_gate;
-    }))
+    (turned-fetches (reads s) s.core h (hart_at s.core h) (search arith))
 
 pub fetch-exactly : (s : State) (h : ℕ) → Fetches s h →
     traps_with s h 1 (hart_at s.core h).pc ↔ IsDenied s (domain_at s.core h) (hart_at s.core h).pc A.Execute
@@ -230,11 +174,9 @@ pub does-instruction : (s : State) (h : ℕ) (inst : Inst) → Executes s h inst
 does-instruction s h inst k =
     let x = hart_at s.core h in
     let r = reads s in
-    let word = load_at s.core x.pc 4 in
     does-action r s.core h (fetches r (ready s.core h) h x (is_denied r s.core x.domain x.pc A.Execute)).action
     (by_effect r (ready s.core h) h x (effect inst x.regs x.pc)).action
-    (ap (λ (b : Bool). (fetches r (ready s.core h) h x b).action) (allowed-test s x.domain x.pc A.Execute k.allowed)
-    ∙ ap (λ (o : Option Inst). (by_word r (ready s.core h) h x word o).action) k.word)
+    (cc (allowed-test s x.domain x.pc A.Execute k.allowed, k.word))
     (does-fetch s h k.fetches)
 
 -- an access: aligned it does one action where it is denied and another where it isn't, and misaligned a third
@@ -248,15 +190,11 @@ access-exactly s h address size access denied crooked by a n straight bent d =
     let b = is_denied r s.core (domain_at s.core h) address access in
     record {
       aligned = λ e.
-          through (traps-does r s.core h (by true) denied address
-          (does-action r s.core h (by (address % size == 0)) (by true) (ap by (eq-eqb (address % size) 0 e)) d))
+          through (search (arith, traps-does, s.core, does-action, eq-eqb))
           (through
           (subst (λ (k : Action). (k ≡ Traps denied address) ↔ (b ≡ true)) (sym straight) (choice-denied b denied address a n))
           (denied-test s (domain_at s.core h) address access));
-      misaligned = λ m.
-          (traps-does r s.core h (by false) crooked address
-          (does-action r s.core h (by (address % size == 0)) (by false)
-          (ap by (ne_eqb (address % size) 0 m)) d)).1 bent;
+      misaligned = search (arith, traps-does, s.core, does-action, ne_eqb);
     }
 
 pub load-exactly : (s : State) (h rd base offset : ℕ) (width : LoadWidth) → Executes s h (Load width rd base offset) →
@@ -264,8 +202,7 @@ pub load-exactly : (s : State) (h rd base offset : ℕ) (width : LoadWidth) → 
 unfolding effect
 load-exactly s h rd base offset width k =
     let address = address_by s h base offset in
-    let size = load_size width in
-    access-exactly s h address size A.Read 5 4
+    access-exactly s h address (load_size width) A.Read 5 4
     (λ (b : Bool). (by_effect (reads s) (ready s.core h) h (hart_at s.core h)
     (if b then Loads base address width rd else Faults 4 address)).action) _ (λ q. let z : ⊥ = cc in z) refl refl
     (does-instruction s h (Load width rd base offset) k)
@@ -280,5 +217,5 @@ store-exactly s h base from offset width k =
     let x = hart_at s.core h in
     access-exactly s h address size A.Write 7 6
     (λ (b : Bool). (by_effect (reads s) (ready s.core h) h x
-    (if b then Stores base address size (reg x.regs from) else Faults 6 address)).action) _ (λ q. let z : ⊥ = cc in z) refl refl
+    (if b then Stores base address size (reg x.regs from) else Faults 6 address)).action) _ (λ q. cc) refl refl
     (does-instruction s h (Store width base from offset) k)

@@ -1,6 +1,6 @@
 -- Twin runs: as long as the turns are of harts of a set that meet no border, two runs share what these harts see.
-use Rattle.std.proofs.Common.{◌≡◌, ℕ, zero, suc, ◌+◌, ◌/◌, ◌%◌, Bool, true, false, ◌==◌, ◌||◌, List, [], ◌∷◌, ◌++◌, length, get_or, refl, sym, ◌∙◌, ap, subst, arith, eqb-true}
-use Rattle.std.specs.Prelude.{fold, slice_index}
+use Rattle.std.proofs.Common.{◌≡◌, ℕ, zero, suc, ◌+◌, ◌%◌, Bool, true, false, ◌==◌, ◌||◌, List, [], ◌∷◌, ◌++◌, length, get_or, refl, sym, ◌∙◌, ap, subst, arith, eqb-true}
+use Rattle.std.specs.Prelude.{fold}
 use Rattle.std.specs.List.{list_all}
 use Rattle.std.proofs.lemmas.Bool.{and_parts, eqb-false}
 use Rattle.std.proofs.lemmas.List.{length-append}
@@ -8,8 +8,8 @@ use Rattle.std.proofs.lemmas.List.Sums.{fold-append}
 use Rattle.mx_model.specs.Agreement.{standing}
 use Rattle.mx_model.specs.Checks.{is_halted}
 use Rattle.mx_model.specs.Reads.{reads}
-use Rattle.mx_model.specs.Run.{Schedule, ByBytes, ByQuantum, all_halted, hart_of, is_over, is_stopped, run, turn}
-use Rattle.mx_model.specs.State.{Core, Hart, Status, Halted, Running, State, Waiting, hart_at, no_hart}
+use Rattle.mx_model.specs.Run.{Schedule, all_halted, hart_of, is_over, is_stopped, run, turn}
+use Rattle.mx_model.specs.State.{Core, Hart, Status, Running, State, hart_at, no_hart}
 use Rattle.mx_model.proofs.KeepLaws.{keeps-turned, size-turned}
 use Rattle.mx_model.proofs.ListLaws.{length-put_at}
 use Rattle.mx_laws.specs.Twins.{AreTwins, IsRunning, MakeOneStore, Store, free_twins, stored}
@@ -22,9 +22,7 @@ use Rattle.mx_runs.proofs.RunMoments.{one-more}
 -- both schedules name the same hart, and go on
 same-hart : (schedule : Schedule) (c e : Core) → c.turns ≡ e.turns → length c.harts ≡ length e.harts →
     hart_of schedule c ≡ hart_of schedule e
-same-hart (ByQuantum quantum) c e p q = ap (λ (n : ℕ). n / quantum % length c.harts) p
-    ∙ ap (λ (n : ℕ). e.turns / quantum % n) q
-same-hart (ByBytes bytes) c e p q = ap (λ (n : ℕ). slice_index bytes n) p
+same-hart x c e p q = grind arith
 
 halted-all : (harts : List Hart) (h : ℕ) → list_all (λ (hart : Hart). is_halted hart.status) harts ≡ true →
     is_halted (get_or harts h no_hart).status ≡ true
@@ -39,19 +37,16 @@ goes-on schedule s h e p =
     elim (all_halted s.core) as (λ b. all_halted s.core ≡ b → b || is_over schedule s.core.turns ≡ false) [
       | true ↦ λ t.
           let k : true ≡ false = sym (halted-all s.core.harts h t) ∙ ap (λ (x : Status). is_halted x) p in
-          absurd (let q : ⊥ = cc in q)
+          absurd (cc)
       | false ↦ λ t. e
     ] refl
 
 running-too : (x y : Status) → x ≡ Running → standing x ≡ standing y → y ≡ Running
-running-too x Running e f = refl
-running-too x (Waiting call heard) e f = absurd (let k = ap standing e in let q : ⊥ = cc in q)
-running-too x (Halted code) e f = absurd (let k = ap standing e in let q : ⊥ = cc in q)
+running-too x x1 e f = grind arith
 
 twins-of : (set : ℕ → Bool) (u v : State) (g : ℕ) → AreTwinStates set u v → set g ≡ true →
     AreTwins (reads u) u.core (reads v) v.core g
-twins-of set u v g t i =
-    record { words = t.words; bytes = t.bytes; aligned = t.aligned g i; agreement = t.agreement g i }
+twins-of set u v g t i = search (arith, t.aligned, t.agreement)
 
 -- one free turn of hart h in both
 module _ (set : ℕ →
@@ -76,10 +71,9 @@ module _ (set : ℕ →
       let l = keeps-turned (reads v) v.core h in
       record {
         words = size-turned (reads u) u.core h ∙ t.words ∙ sym (size-turned (reads v) v.core h);
-        bytes = ap (λ (xs : List ℕ). length xs) one-store.first
-            ∙ length-put_at store.size u.core.ram store.place store.value ∙ t.bytes
-            ∙ sym (length-put_at store.size v.core.ram store.place store.value)
-            ∙ sym (ap (λ (xs : List ℕ). length xs) one-store.second);
+        bytes =
+            cc (one-store.first, length-put_at store.size u.core.ram store.place store.value, t.bytes,
+              length-put_at store.size v.core.ram store.place store.value, one-store.second);
         harts = k.harts ∙ t.harts ∙ sym l.harts;
         turns = k.turns ∙ ap (λ (n : ℕ). n + 1) t.turns ∙ sym l.turns;
         aligned = λ g j. aligned-after g j (g == h) refl;
@@ -108,7 +102,7 @@ gone-turn set s t n u v h p i f =
     record {
       twins = twins-after set u v h p.twins i f;
       stores = p.stores ++ one.store ∷ [];
-      count = let k = length-append p.stores (one.store ∷ []) in let l = p.count in omega (arith, k, l);
+      count = let k = length-append p.stores (one.store ∷ []) in omega (arith, k);
       first = ram-more s.core.ram p.stores one.store u.core.ram (turn u h).core.ram p.first one.first;
       second = ram-more t.core.ram p.stores one.store v.core.ram (turn v h).core.ram p.second one.second;
     }
@@ -131,13 +125,7 @@ gone-more set schedule s t m p f =
     let first : run schedule (m + 1) s ≡ turn u h = one-more schedule m s (goes-on schedule u h f.named f.running) in
     let second : run schedule (m + 1) t ≡ turn v h =
     one-more schedule m t (goes-on schedule v h over running) ∙ ap (λ (g : ℕ). turn v g) (sym same) in
-    let gone =
-    gone-turn set s t m u v h p f.inside (record {
-      twins = twins-of set u v h p.twins f.inside;
-      running =
-          f.running;
-      free = f.free;
-    }) in
+    let gone = gone-turn set s t m u v h p f.inside (search (arith, twins-of, p.twins)) in
     subst (λ (x : State). HaveGone set s t (suc m) x (run schedule (m + 1) t)) (sym first)
     (subst (λ (y : State). HaveGone set s t (suc m) (turn u h) y) (sym second) gone)
 
@@ -154,14 +142,5 @@ pub twins-run : (set : ℕ → Bool) (schedule : Schedule) (s t : State) (n : �
     AreFreeTurns set schedule s n →
     GoAlike set s t n (run schedule n s) (run schedule n t)
 twins-run set schedule s t n p f =
-    let u = run schedule n s in
-    let v = run schedule n t in
     let q = gone set schedule s t n p f in
-    record {
-      twins = q.twins;
-      border = λ g i. border-twins (reads u) (reads v) u.core v.core g (twins-of set u v g q.twins i);
-      stores = q.stores;
-      count = q.count;
-      first = q.first;
-      second = q.second;
-    }
+    search (arith, border-twins, (run schedule n s).core, (run schedule n t).core, twins-of, q.twins)
