@@ -1,12 +1,12 @@
 -- Areas of a plan without a fault: they lie in RAM and share no word.
-use Rattle.std.proofs.Common.{◌≡◌, ◌⊎◌, inl, inr, ℕ, zero, suc, ◌+◌, ◌/◌, ◌≤◌, true, false, not, nat_le, ◌&&◌, List, [], ◌∷◌, ◌++◌, length, find, slice_get, Option, Some, None, refl, ◌∙◌, sym, arith}
+use Rattle.std.proofs.Common.{◌≡◌, ◌⊎◌, inl, inr, ℕ, zero, suc, ◌+◌, ◌/◌, ◌≤◌, true, false, not, List, [], ◌∷◌, ◌++◌, length, find, slice_get, Option, Some, None, refl, ◌∙◌, sym, arith}
 use Rattle.std.specs.List.{AllByRecursion}
 use Rattle.std.specs.Option.{is_some}
 use Rattle.std.proofs.lemmas.Bool.Decides.{nat_tests}
 use Rattle.std.proofs.lemmas.Option.{same_Some}
 use Rattle.std.proofs.lemmas.Bool.{not-false}
 use Rattle.mx_words.specs.FirstRow.{first_row}
-use Rattle.mx_words.specs.Ranges.{ram_base, covers, overlaps}
+use Rattle.mx_words.specs.Ranges.{covers}
 use Rattle.mx_words.proofs.FirstRowLaws.{first_row-append}
 use Rattle.mx_words.proofs.OptionLaws.{neither, row_none}
 use Rattle.mx_boot.specs.declared.area.Area.{Area}
@@ -69,10 +69,7 @@ get_last (y ∷ xs) x = get_last xs x
 
 -- overlaps is symmetric
 pub shares_both : (a b : Area) → shares_word a b ≡ shares_word b a
-shares_both a b = same (a.address / 4) a.count (b.address / 4) b.count
-  where
-    same : (x n y m : ℕ) → overlaps x n y m ≡ overlaps y m x n
-    same x n y m = grind (arith, nat_tests)
+shares_both a b = search (arith, a.address, a.count, b.address, b.count, nat_tests)
 
 -- an area of the list shares no word with any other
 pub apart_at : (words : ℕ) (earlier all : List Area) → AreClear words earlier all → (i : ℕ) (b : Area) → slice_get all i ≡ Some b
@@ -92,26 +89,16 @@ pub record IsInRam (words : ℕ) (a : Area) : Type 0 where
   pub to : a.address / 4 + a.count ≤ 536870912 + words
 
 pub in_ram : (words : ℕ) (a : Area) → is_in_ram words a ≡ true → IsInRam words a
-in_ram words a h = record { from = low a.address (a.address / 4 + a.count) words h; to = high a.address (a.address / 4 + a.count) words h }
-  where
-    low : (x end w : ℕ) → (nat_le ram_base x && nat_le end (ram_base / 4 + w)) ≡ true → 2147483648 ≤ x
-    low x end w h = grind (arith, nat_tests)
-
-    high : (x end w : ℕ) → (nat_le ram_base x && nat_le end (ram_base / 4 + w)) ≡ true → end ≤ 536870912 + w
-    high x end w h = grind (arith, nat_tests)
+in_ram words a h = search (arith, a.address, nat_tests)
 
 -- counted from RAM's first word
 pub word_is : (address : ℕ) → 2147483648 ≤ address → address / 4 ≡ 536870912 + word_at address
 word_is address from = omega arith
 
 pub end_is : (words : ℕ) (a : Area) → IsInRam words a → word_at a.address + a.count ≤ words
-end_is words a h = let from = h.from in let to = h.to in omega (arith, word_is a.address from, to)
+end_is words a h = omega (arith, word_is a.address h.from)
 
 -- two areas in RAM that cover one word share it
 pub both_cover : (words : ℕ) (a b : Area) (word : ℕ) → IsInRam words a → IsInRam words b → covers (word_at a.address) a.count word ≡ true
     → covers (word_at b.address) b.count word ≡ true → shares_word a b ≡ true
-both_cover words a b word ha hb ca cb =
-    shared (a.address / 4) a.count (b.address / 4) b.count (word_at a.address) (word_at b.address) word (word_is a.address ha.from) (word_is b.address hb.from) ca cb
-  where
-    shared : (x n y m u v w : ℕ) → x ≡ 536870912 + u → y ≡ 536870912 + v → covers u n w ≡ true → covers v m w ≡ true → overlaps x n y m ≡ true
-    shared x n y m u v w ex ey cu cv = grind (arith, nat_tests)
+both_cover words a b word ha hb ca cb = search (arith, a.address, a.count, b.address, b.count, word_is, nat_tests)

@@ -1,11 +1,10 @@
 -- States at boot are valid.
-use Rattle.std.proofs.Common.{◌≡◌, ℕ, zero, suc, ◌<◌, ◌≤◌, Bool, true, false, cond, List, [], length, get_or, replicate, Option, Some, None, Result, Ok, Err, refl, ◌∙◌, sym, subst, arith, inl, inr}
+use Rattle.std.proofs.Common.{◌≡◌, ℕ, zero, suc, ◌<◌, ◌≤◌, Bool, cond, List, [], length, get_or, replicate, Option, Some, None, Result, Ok, Err, refl, ◌∙◌, sym, subst, arith, inl, inr}
 use Rattle.std.specs.List.{AllByRecursion, enumerate_from}
 use Rattle.std.proofs.lemmas.Bool.{cases_lt}
 use Rattle.std.proofs.lemmas.List.{length-map, length-replicate, get_or_past}
 use Rattle.std.proofs.lemmas.List.FromFn.{length-enumerate_from}
 use Rattle.std.proofs.lemmas.Option.{get_or_from_slice_get}
-use Rattle.mx_words.specs.declared.perm.Perm.{Perm}
 use Rattle.mx_words.specs.Caches.{no_cache}
 use Rattle.mx_words.specs.FirstRow.{first_row}
 use Rattle.mx_words.specs.Need.{within}
@@ -14,7 +13,7 @@ use Rattle.mx_words.specs.Newest.{map as map_of}
 use Rattle.mx_words.proofs.OverlayLaws.{length-map_of, length-owners, owners-at}
 use Rattle.mx_model.specs.Reads.{reads}
 use Rattle.mx_model.specs.State.{Core, Hart, State, flat, hart_at, no_hart}
-use Rattle.mx_model.specs.Valid.{IsCache, IsFlat, IsGate, IsHart, IsHome, IsValid}
+use Rattle.mx_model.specs.Valid.{IsCache, IsFlat, IsHart, IsValid}
 use Rattle.mx_model.proofs.ValidCaches.{cache-none}
 use Rattle.mx_laws.specs.OwnHeaps.{OwnHeaps}
 use Rattle.mx_manifest.specs.declared.fault.BootFault.{BootFault}
@@ -25,7 +24,6 @@ use Rattle.mx_boot.specs.Boot.{Refusal, TooFull, boot_need, boot_state, boot_of,
 use Rattle.mx_boot.specs.Entries.{requests}
 use Rattle.mx_boot.specs.Faults.{harts_rows, ram_words, first_fault}
 use Rattle.mx_boot.specs.Images.{AreImages}
-use Rattle.mx_boot.specs.Laid.{gate_of}
 use Rattle.mx_boot.proofs.Apart.{AreClear, all_inside, areas_clear}
 use Rattle.mx_boot.proofs.FewRuns.{runs-at-most}
 use Rattle.mx_boot.proofs.Gated.{few_gates, gates_clear, gates_valid, requests_asked, single_gates}
@@ -41,8 +39,7 @@ use Rattle.mx_boot.proofs.Steps.{parts_clear}
 
 -- what a boot tells of its plan
 ok_limited : (s t : State) (b : Bool) (r : Refusal) → ◌≡◌ {A = Result State Refusal} (cond b (Ok t) (Err r)) (Ok s) → t ≡ s
-ok_limited s t true r e = cc
-ok_limited s t false r e = absurd cc
+ok_limited s t x r e = grind arith
 
 ok_unless : (s t : State) (o : Option BootFault) → unless o (limited t) ≡ Ok s → (o ≡ None) × (t ≡ s)
 ok_unless s t (Some fault) e = absurd cc
@@ -76,7 +73,7 @@ module _ (plan : Said) (images : List (List ℕ)) (in_range : IsInRange plan) (c
   core = (boot_state plan images).core
 
   few_words : ram_words plan ≤ 16777216
-  few_words = let r = in_range.ram_kib in let high = r.1 in omega (arith, high)
+  few_words = omega arith
 
   inside : Inside (ram_words plan) (areas plan images)
   inside = all_inside (ram_words plan) [] (areas plan images) clear.placed
@@ -99,35 +96,15 @@ module _ (plan : Said) (images : List (List ℕ)) (in_range : IsInRange plan) (c
 
   core_valid : AreImages images → IsValid core
   core_valid are =
-      let few = few_words in
-      let size = in_range.ram_kib in
-      let modules = in_range.module_count in
-      let harts = in_range.hart_count in
-      let gates = few_gates (areas plan images) (requests plan images) clear.asked in
-      record {
-        some_words = omega (arith, size.0);
-        few_words = few;
-        ram_count = length-boot_ram plan images;
-        ram_bytes = small-boot_ram plan images are;
-        some_modules = omega (arith, length-modules, modules.0);
-        few_modules = omega (arith, length-modules, modules.1);
-        modules = subst (λ n. AllByRecursion (IsHome (ram_words plan) n) core.modules) (sym length-harts) (modules_valid plan images (ram_words plan) in_range inside);
-        some_harts = omega (arith, length-harts, harts.0);
-        few_harts = omega (arith, length-harts, harts.1);
-        harts = harts_valid;
-        caches = length-replicate (length plan.harts) no_cache ∙ sym length-harts;
-        few_gates = omega (arith, length-map (requests plan images) gate_of, gates);
-        gates = subst (λ n. AllByRecursion (IsGate n (ram_words plan)) core.gates) (sym length-modules)
-            (gates_valid (ram_words plan) (length plan.modules) (areas plan images) (requests plan images) inside clear.asked (requests_asked plan images in_range));
-        one_gate = single_gates (areas plan images) (requests plan images) clear.asked;
-      }
+      search (arith, few_words, few_gates, length-boot_ram, small-boot_ram, length-modules, length-harts, modules_valid,
+        inside, harts_valid, length-replicate, length-map, gates_valid, clear.asked, requests_asked, single_gates)
 
   owner_small : (i : ℕ) → get_or (owners (boot_state plan images).gives (ram_words plan)) i 0 ≤ length core.modules
   owner_small i =
       let os = owners (boot_state plan images).gives (ram_words plan) in
       let small : get_or os i 0 ≤ length plan.modules = elim (cases_lt i (ram_words plan)) [
         | inl lt ↦ rw (owners-at (boot_state plan images).gives (ram_words plan) i 0 lt) (owners_small plan images i)
-        | inr past ↦ (let long : length os ≤ i = omega (arith, past, length-owners (boot_state plan images).gives (ram_words plan)) in rw (get_or_past os i 0 long) (omega arith))
+        | inr past ↦ (rw (get_or_past os i 0 (omega (arith, past, length-owners (boot_state plan images).gives (ram_words plan)))) (omega arith))
       ] in
       omega (arith, small, length-modules)
 
@@ -137,15 +114,13 @@ module _ (plan : Said) (images : List (List ℕ)) (in_range : IsInRange plan) (c
       let harts = length plan.harts in
       let runs = runs-at-most s.gives (ram_words plan) in
       let few = few_gives_all plan images in
-      let modules = in_range.module_count in
       record {
         valid = core_valid are;
         maps = length-map s.grants (λ grants. map_of grants (ram_words plan)) ∙ length-map (homes plan images) (grants_of harts) ∙ length-homes plan images ∙ sym length-modules;
-        whole_maps = all_mapped (λ grants. map_of grants (ram_words plan)) (λ (m : List Perm). length m ≡ ram_words plan) s.grants
-            (all_each (λ grants. length (map_of grants (ram_words plan)) ≡ ram_words plan) s.grants (λ grants. length-map_of grants (ram_words plan)));
+        whole_maps = search (arith, all_mapped, all_each, length-map_of);
         owners = length-owners s.gives (ram_words plan);
         small_owners = owner_small;
-        few_runs = omega (arith, runs, few, modules.1);
+        few_runs = omega (arith, runs, few, in_range.module_count.1);
         caches = all_replicated (IsCache plan.lookaside) harts no_cache (cache-none plan.lookaside);
       }
 

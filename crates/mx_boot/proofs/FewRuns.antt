@@ -16,9 +16,7 @@ use Rattle.mx_boot.proofs.Lists.{length-flat_at_most, all_each}
 
 -- counting
 bit-le-bit : (a b : Bool) → (a ≡ true → b ≡ true) → bit a ≤ bit b
-bit-le-bit true b f = rw (f refl) (omega arith)
-bit-le-bit false true f = omega arith
-bit-le-bit false false f = omega arith
+bit-le-bit x b f = grind arith
 
 count-mono : (n : ℕ) (p q : ℕ → Bool) → ((i : ℕ) → i < n → p i ≡ true → q i ≡ true) → count_below n p ≤ count_below n q
 unfolding count_below

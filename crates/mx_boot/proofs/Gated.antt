@@ -1,6 +1,6 @@
 -- Gates of a plan without a fault.
 use Rattle.std.proofs.Common.{◌≡◌, ℕ, ◌+◌, ◌<◌, ◌≤◌, true, false, ◌==◌, ◌&&◌, List, [], ◌∷◌, ◌++◌, length, map, None, unwrap_or, refl, ◌∙◌, sym, subst, arith, append_assoc}
-use Rattle.std.specs.List.{AllByRecursion, enumerate_from, flat_map}
+use Rattle.std.specs.List.{AllByRecursion, enumerate_from}
 use Rattle.std.proofs.lemmas.Bool.Decides.{nat_tests}
 use Rattle.std.proofs.lemmas.List.{length-append, append-nil}
 use Rattle.std.proofs.lemmas.Option.{slice_get_within}
@@ -22,7 +22,7 @@ use Rattle.mx_words.proofs.OptionLaws.{neither, row_none}
 use Rattle.mx_boot.specs.declared.area.Area.{Area}
 use Rattle.mx_boot.specs.declared.gates.Request.{Request}
 use Rattle.mx_boot.specs.Areas.{Home, home, homes}
-use Rattle.mx_boot.specs.Entries.{word_at, request, call_requests, return_request, requests_of, requests}
+use Rattle.mx_boot.specs.Entries.{word_at, request, call_requests, requests_of, requests}
 use Rattle.mx_boot.specs.Faults.{Fault, is_in_ram, at_module, fault, entry_rows, gate_rows, gates_rows}
 use Rattle.mx_boot.specs.Laid.{gate_of}
 use Rattle.mx_boot.proofs.Entered.{IsEntered, entry_inside, entry_clear}
@@ -108,11 +108,7 @@ module _ (modules : ℕ) (h : Home) (own : IsModule modules h.domain) (in_range 
       (λ i domain at. let between = (g.from i domain at).0 in asked key.Gates gate.entry domain (record { first = between.0; last = between.1 })))
 
   pub module_asked : AllByRecursion (IsAsked modules) (requests_of h)
-  module_asked = all-join (IsAsked modules) (flat_map (call_requests h) h.plan.gates) (map (return_request h) h.plan.returns)
-      (all_flat (call_requests h) (IsAsked modules) h.plan.gates
-      (from-each (λ gate. AllByRecursion (IsAsked modules) (call_requests h gate)) h.plan.gates (λ i gate at. calls_asked gate (in_range.gates i gate at))))
-      (all_mapped (return_request h) (IsAsked modules) h.plan.returns
-      (all_each (λ entry. IsAsked modules (return_request h entry)) h.plan.returns (λ entry. asked key.Returns entry h.domain own)))
+  module_asked = search (arith, all-join, all_flat, from-each, calls_asked, in_range.gates, all_mapped, all_each, asked)
 
 pub requests_asked : (plan : Said) (images : List (List ℕ)) → IsInRange plan → AllByRecursion (IsAsked (length plan.modules)) (requests plan images)
 requests_asked plan images in_range =

@@ -53,7 +53,7 @@ registers stack small = record {
 
 -- a hart's own words end no later than those of all harts
 own_words : (words h harts : ℕ) → h < harts → words * (h + 1) ≤ words * harts
-own_words words h harts lt = mul-le-mul_left words (let le : h + 1 ≤ harts = omega arith in le)
+own_words words h harts lt = mul-le-mul_left words ((omega arith))
 
 stack_small : (words harts h : ℕ) (of : Home) (o : Option ℕ) → words ≤ 16777216 → h < harts → Inside words (option_map_or (λ address. stack_area harts of address ∷ []) o [])
     → option_map_or (λ address. address + 4 * stack_words of.plan * (h + 1)) o 0 < 2 ^ 32

@@ -1,5 +1,5 @@
 -- The modules of a plan, one by one.
-use Rattle.std.proofs.Common.{◌≡◌, ℕ, ◌+◌, List, length, slice_get, Some, None, IfSome, ◌≤◌, ◌∙◌, subst, arith}
+use Rattle.std.proofs.Common.{◌≡◌, ℕ, ◌+◌, List, length, slice_get, Some, IfSome, ◌≤◌, ◌∙◌, subst, arith}
 use Rattle.std.specs.List.{enumerate_from}
 use Rattle.std.proofs.lemmas.List.{length-map}
 use Rattle.std.proofs.lemmas.List.FromFn.{length-enumerate_from}
@@ -22,10 +22,7 @@ length-homes plan images = length-map (enumerate_from 0 plan.modules) (home imag
 
 -- how many words of a stack area each hart has
 pub few_words : (plan : ModulePlan) → IfSome plan.stack_words (IsBetween 1 1048576) → IfSome plan.stack_words (λ words. words ≤ 1048576)
-few_words plan h = elim plan.stack_words as (λ o. IfSome o (IsBetween 1 1048576) → IfSome o (λ words. words ≤ 1048576)) [
-  | None ↦ λ k. tt
-  | Some words ↦ λ k. k.1
-] h
+few_words plan h = search (arith, plan.stack_words)
 
 -- the domain of a hart is a module's
 pub hart_domain : (plan : Said) (h : ℕ) (hart : HartPlan) → IsInRange plan → slice_get plan.harts h ≡ Some hart → IsBetween 1 (length plan.modules) hart.module

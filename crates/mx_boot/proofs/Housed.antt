@@ -1,5 +1,5 @@
 -- Modules of a plan without a fault: their areas lie in RAM.
-use Rattle.std.proofs.Common.{◌≡◌, ℕ, ◌+◌, ◌*◌, ◌≤◌, true, false, cond, List, [], ◌∷◌, ◌++◌, length, map, slice_get, Option, Some, None, IfSome, unwrap_or, Result, Ok, Err, refl, ap, arith}
+use Rattle.std.proofs.Common.{◌≡◌, ℕ, ◌+◌, ◌*◌, ◌≤◌, true, false, cond, List, [], ◌∷◌, length, map, slice_get, Option, Some, None, IfSome, unwrap_or, Result, Ok, Err, refl, ap, arith}
 use Rattle.std.specs.List.{AllByRecursion, enumerate_from, flat_map}
 use Rattle.std.specs.Option.{is_some, option_map_or}
 use Rattle.std.proofs.lemmas.List.{length-append, length-map}
@@ -18,8 +18,8 @@ use Rattle.mx_manifest.specs.InRange.{IsBetween, IsInRange}
 use Rattle.mx_manifest.specs.InRange as range
 use Rattle.mx_manifest.specs.Plan.{Said}
 use Rattle.mx_boot.specs.declared.area.Area as area
-use Rattle.mx_boot.specs.Areas.{Home, home, homes, has_image, image, read_as, pieces, segment_area, inline_area, heap_words, stack_words, heap_area, stack_area, heaps, stacks, areas_of, areas}
-use Rattle.mx_boot.specs.Boot.{module_of, owned_pieces, gives_of, give}
+use Rattle.mx_boot.specs.Areas.{Home, home, homes, image, read_as, pieces, heap_words, stack_words, heap_area, stack_area, areas_of, areas}
+use Rattle.mx_boot.specs.Boot.{module_of, owned_pieces, gives_of}
 use Rattle.mx_boot.specs.Entries.{word_at}
 use Rattle.mx_boot.specs.Faults.{is_in_ram}
 use Rattle.mx_boot.proofs.Apart.{in_ram, end_is}
@@ -72,17 +72,8 @@ stack_kept words harts h (Some address) e whole between inside =
 
 pub module_valid : (words harts modules : ℕ) (h : Home) → range.IsModule modules h.domain h.plan → Inside words (areas_of harts h) → IsHome words harts (module_of h.plan)
 module_valid words harts modules h in_range inside =
-    let own = all-first (λ a. is_in_ram words a ≡ true) (pieces h ++ heaps h) (stacks harts h) inside in
-    let heap = heap_kept words h h.plan.heap refl in_range.heap_whole in_range.heap_words (all-second (λ a. is_in_ram words a ≡ true) (pieces h) (heaps h) own) in
-    let stack = stack_kept words harts h h.plan.stack refl in_range.stack_whole in_range.stack_words (all-second (λ a. is_in_ram words a ≡ true) (pieces h ++ heaps h) (stacks harts h) inside) in
-    record {
-      heap = heap.fits;
-      blocks = omega arith;
-      stack = stack.fits;
-      few_blocks = omega arith;
-      no_heap = heap.none;
-      no_stack = stack.none;
-    }
+    search (arith, all-first, heap_kept, h.plan.heap, in_range.heap_whole, in_range.heap_words, all-second, stack_kept,
+      h.plan.stack, in_range.stack_whole, in_range.stack_words)
 
 pub modules_valid : (plan : Said) (images : List (List ℕ)) (words : ℕ) → IsInRange plan → Inside words (areas plan images)
     → AllByRecursion (IsHome words (length plan.harts)) (map module_of plan.modules)
@@ -97,10 +88,7 @@ few_read bytes (Ok image) e = (sound-image bytes image e).1
 few_read bytes (Err fault) e = omega arith
 
 few_pieces : (h : Home) → length (pieces h) ≤ 16
-few_pieces h = elim (has_image h) as (λ b. length (cond b (map (segment_area h) (image h).segments) (inline_area h ∷ [])) ≤ 16) [
-  | true ↦ omega (arith, length-map (image h).segments (segment_area h), few_read h.bytes (image_of h.bytes) refl)
-  | false ↦ omega arith
-]
+few_pieces h = search (arith, length-map, few_read, h.bytes)
 
 few_owned : (h : Home) → length (owned_pieces h) ≤ 16
 few_owned h = elim h.plan.seal as (λ b. length (cond b [] (pieces h)) ≤ 16) [ true ↦ omega arith | false ↦ few_pieces h ]
@@ -114,12 +102,7 @@ one_stack harts h None = omega arith
 one_stack harts h (Some address) = omega arith
 
 few_gives : (harts : ℕ) (h : Home) → length (gives_of harts h) ≤ 18
-few_gives harts h =
-    let all = owned_pieces h ++ heaps h ++ stacks harts h in
-    let a = few_owned h in
-    let b = one_heap h h.plan.heap in
-    let c = one_stack harts h h.plan.stack in
-    omega (arith, length-map all give, length-append (owned_pieces h ++ heaps h) (stacks harts h), length-append (owned_pieces h) (heaps h), a, b, c)
+few_gives harts h = search (arith, few_owned, one_heap, one_stack, length-map, length-append)
 
 pub few_gives_all : (plan : Said) (images : List (List ℕ)) → length (flat_map (gives_of (length plan.harts)) (homes plan images)) ≤ 18 * length plan.modules
 few_gives_all plan images =
@@ -128,10 +111,7 @@ few_gives_all plan images =
 
 -- a module's areas are given to it
 pieces_own : (h : Home) → AllByRecursion (λ (a : area.Area). a.domain ≡ h.domain) (pieces h)
-pieces_own h = elim (has_image h) as (λ b. AllByRecursion (λ (a : area.Area). a.domain ≡ h.domain) (cond b (map (segment_area h) (image h).segments) (inline_area h ∷ []))) [
-  | true ↦ all_mapped (segment_area h) (λ (a : area.Area). a.domain ≡ h.domain) (image h).segments (all_each (λ s. h.domain ≡ h.domain) (image h).segments (λ s. refl))
-  | false ↦ (refl, tt)
-]
+pieces_own h = search (arith, all_mapped, all_each)
 
 owned_own : (h : Home) → AllByRecursion (λ (a : area.Area). a.domain ≡ h.domain) (owned_pieces h)
 owned_own h = elim h.plan.seal as (λ b. AllByRecursion (λ (a : area.Area). a.domain ≡ h.domain) (cond b [] (pieces h))) [ true ↦ tt | false ↦ pieces_own h ]
@@ -145,11 +125,7 @@ stack_own harts h None = tt
 stack_own harts h (Some address) = (refl, tt)
 
 gives_small : (harts modules : ℕ) (h : Home) → h.domain ≤ modules → AllByRecursion (λ (g : Give). g.value ≤ modules) (gives_of harts h)
-gives_small harts modules h le =
-    let own = all-join (λ (a : area.Area). a.domain ≡ h.domain) (owned_pieces h ++ heaps h) (stacks harts h)
-    (all-join (λ (a : area.Area). a.domain ≡ h.domain) (owned_pieces h) (heaps h) (owned_own h) (heap_own h h.plan.heap)) (stack_own harts h h.plan.stack) in
-    all_mapped give (λ (g : Give). g.value ≤ modules) (owned_pieces h ++ heaps h ++ stacks harts h)
-    (all-weaker (λ (a : area.Area). a.domain ≡ h.domain) (λ a. a.domain ≤ modules) (owned_pieces h ++ heaps h ++ stacks harts h) (λ a e. omega (arith, e, le)) own)
+gives_small harts modules h le = search (arith, all-join, owned_own, heap_own, stack_own, all_mapped, all-weaker)
 
 newest_small : (most d i : ℕ) (gives : List Give) → AllByRecursion (λ (g : Give). g.value ≤ most) gives → d ≤ most → newest d gives i ≤ most
 newest_small most d i [] all le = le

@@ -1,5 +1,5 @@
 -- The parts of a plan without a fault belong together.
-use Rattle.std.proofs.Common.{◌≡◌, inl, inr, ℕ, ◌+◌, ◌-◌, ◌≤◌, true, false, cond, ◌==◌, List, [], length, map, slice_get, Some, None, refl, ap, ◌∙◌, sym, subst, arith}
+use Rattle.std.proofs.Common.{◌≡◌, inl, inr, ℕ, ◌+◌, ◌-◌, ◌≤◌, List, [], length, map, slice_get, Some, None, refl, sym, subst, arith}
 use Rattle.std.specs.List.{AllByRecursion}
 use Rattle.std.proofs.lemmas.Bool.{cases_lt}
 use Rattle.std.proofs.lemmas.Bool.Decides.{nat_tests}
@@ -10,7 +10,6 @@ use Rattle.mx_words.specs.declared.tables.Kind.{Kind}
 use Rattle.mx_words.specs.declared.tables.Need.{Need}
 use Rattle.mx_words.specs.FirstFit.{Area}
 use Rattle.mx_words.specs.Newest.{owners}
-use Rattle.mx_words.specs.Newest.{map as map_of}
 use Rattle.mx_words.proofs.OverlayLaws.{length-owners}
 use Rattle.mx_check.specs.Calls.{new_harts}
 use Rattle.mx_check.specs.Harts.{Kept}
@@ -23,8 +22,8 @@ use Rattle.mx_supervisor.specs.Parts.{AreJoined, Parts}
 use Rattle.mx_manifest.specs.declared.parts.ModulePlan.{ModulePlan}
 use Rattle.mx_manifest.specs.InRange.{IsInRange}
 use Rattle.mx_manifest.specs.Plan.{Said}
-use Rattle.mx_boot.specs.Areas.{homes, areas}
-use Rattle.mx_boot.specs.Boot.{boot_state, boot_ram, grants_of, heap_of, limit_of, module_of}
+use Rattle.mx_boot.specs.Areas.{areas}
+use Rattle.mx_boot.specs.Boot.{boot_ram, heap_of, limit_of, module_of}
 use Rattle.mx_boot.specs.Entries.{requests}
 use Rattle.mx_boot.specs.Faults.{ram_words, first_fault}
 use Rattle.mx_boot.specs.Laid.{gate_of}
@@ -40,21 +39,11 @@ use Rattle.mx_boot.proofs.Rows.{at_mapped}
 
 -- an area of no words that begins at word 0 is told as it is
 told : (a : Area) → (a.count ≡ 0 → a.first ≡ 0) → told_area a ≡ a
-told a none = elim (a.count == 0) as (λ b. (a.count == 0) ≡ b → cond b (record { first = 0; count = 0 }) a ≡ a) [
-  | true ↦ λ e. let zero_ : a.count ≡ 0 = is_zero a.count e in
-      ap (λ n. (let x : Area = record { first = n; count = 0 } in x)) (sym (none zero_)) ∙ ap (λ n. (let x : Area = record { first = a.first; count = n } in x)) (sym zero_)
-  | false ↦ λ e. refl
-] refl
-  where
-    is_zero : (n : ℕ) → (n == 0) ≡ true → n ≡ 0
-    is_zero n e = grind (arith, nat_tests)
+told a none = search (arith, a.count, nat_tests)
 
 module _ (plan : Said) (images : List (List ℕ)) (in_range : IsInRange plan) (none : first_fault plan images ≡ None) where
   clear : IsFaultless plan images
   clear = faultless plan images none
-
-  words_few : ram_words plan ≤ 16777216
-  words_few = let r = in_range.ram_kib in let high = r.1 in omega (arith, high)
 
   inside : Inside (ram_words plan) (areas plan images)
   inside = all_inside (ram_words plan) [] (areas plan images) clear.placed
@@ -66,11 +55,10 @@ module _ (plan : Said) (images : List (List ℕ)) (in_range : IsInRange plan) (n
   heap-fits i m at = (all_at (λ m. IsHome (ram_words plan) (length plan.harts) (module_of m)) plan.modules i m homes_valid at).heap
 
   pub heap-small : (i : ℕ) (m : ModulePlan) → slice_get plan.modules i ≡ Some m → (heap_of m).first + (heap_of m).count ≤ 16777216
-  heap-small i m at = let fits = heap-fits i m at in let few = words_few in omega (arith, fits, few)
+  heap-small i m at = let fits = heap-fits i m at in omega (arith, fits)
 
   pub heap-told : (i : ℕ) (m : ModulePlan) → slice_get plan.modules i ≡ Some m → told_heap (heap_state m) ≡ heap_state m
-  heap-told i m at = ap (λ (a : Area). (let h : HeapState = record { area = a; blocks = [] } in h))
-      (told (heap_of m) (all_at (λ m. IsHome (ram_words plan) (length plan.harts) (module_of m)) plan.modules i m homes_valid at).no_heap)
+  heap-told i m at = search (arith, all_at, plan.modules, homes_valid)
 
   heap_within : (d : ℕ) → (heap_at (map heap_state plan.modules) d).area.first + (heap_at (map heap_state plan.modules) d).area.count ≤ ram_words plan
   heap_within d = elim (cases_lt (d - 1) (length plan.modules)) [
@@ -78,26 +66,17 @@ module _ (plan : Said) (images : List (List ℕ)) (in_range : IsInRange plan) (n
         let found = there plan.modules (d - 1) lt in
         let at = get_or_from_slice_get (map heap_state plan.modules) (d - 1) (heap_state found.0) no_heap (at_mapped heap_state plan.modules (d - 1) found.0 found.1) in
         subst (λ (h : HeapState). h.area.first + h.area.count ≤ ram_words plan) (sym at) (heap-fits (d - 1) found.0 found.1))
-    | inr past ↦ (
-        let long : length (map heap_state plan.modules) ≤ d - 1 = omega (arith, length-map plan.modules heap_state, past) in
-        subst (λ (h : HeapState). h.area.first + h.area.count ≤ ram_words plan) (sym (get_or_past (map heap_state plan.modules) (d - 1) no_heap long)) (omega arith))
+    | inr past ↦ (search (arith, length-map, plan.modules, get_or_past))
   ]
 
   pub length-maps : length (boot_parts plan images).maps ≡ length plan.modules
-  length-maps = length-map (map (grants_of (length plan.harts)) (homes plan images)) (λ grants. map_of grants (ram_words plan))
-      ∙ length-map (homes plan images) (grants_of (length plan.harts)) ∙ length-homes plan images
+  length-maps = search (arith, length-map, length-homes)
 
   pub parts-joined : AreJoined (boot_parts plan images)
-  parts-joined = record {
-    ram = length-boot_ram plan images;
-    owners = length-owners (boot_state plan images).gives (ram_words plan);
-    heaps = length-map plan.modules heap_state ∙ sym length-maps;
-    areas = heap_within;
-  }
+  parts-joined = search (arith, length-boot_ram, length-owners, length-map, plan.modules, length-maps, heap_within)
 
   pub parts-gates : AllByRecursion (IsGate (length (boot_parts plan images).maps) (ram_words plan)) (map gate_of (requests plan images))
-  parts-gates = subst (λ n. AllByRecursion (IsGate n (ram_words plan)) (map gate_of (requests plan images))) (sym length-maps)
-      (gates_valid (ram_words plan) (length plan.modules) (areas plan images) (requests plan images) inside clear.asked (requests_asked plan images in_range))
+  parts-gates = search (arith, length-maps, gates_valid, inside, clear.asked, requests_asked)
 
   pub gates-single : AreSingle (map gate_of (requests plan images))
   gates-single = single_gates (areas plan images) (requests plan images) clear.asked

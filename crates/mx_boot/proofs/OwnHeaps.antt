@@ -1,5 +1,5 @@
 -- The heap areas of a plan without a fault belong to their modules.
-use Rattle.std.proofs.Common.{◌≡◌, ◌⊎◌, inl, inr, ℕ, zero, suc, ◌+◌, ◌-◌, ◌<◌, true, false, cond, nat_lt, List, [], ◌∷◌, ◌++◌, length, map, get_or, slice_get, Option, Some, None, refl, ap, ◌∙◌, sym, subst, arith, if◌then◌else◌}
+use Rattle.std.proofs.Common.{◌≡◌, ◌⊎◌, inl, inr, ℕ, zero, suc, ◌+◌, ◌-◌, ◌<◌, true, false, nat_lt, List, [], ◌∷◌, ◌++◌, length, map, get_or, slice_get, Option, Some, None, refl, ap, ◌∙◌, sym, subst, arith, if◌then◌else◌}
 use Rattle.std.specs.List.{AllByRecursion, flat_map}
 use Rattle.std.specs.Option.{option_map_or}
 use Rattle.std.proofs.lemmas.Bool.Decides.{nat_tests}
@@ -73,7 +73,7 @@ module _ (plan : Said) (images : List (List ℕ)) (words i : ℕ) (m : ModulePla
       in_ram words heap (all_at (λ a. is_in_ram words a ≡ true) (areas_of harts own) has.0 heap (home_inside plan images words i m all_in at) has.1)
 
   word_in : word < words
-  word_in = let e = end_is words heap heap_in in let c = covers_from (word_at address) (heap_words m) word over in let d = c.1 in omega (arith, e, d)
+  word_in = let e = end_is words heap heap_in in let d = (covers_from (word_at address) (heap_words m) word over).1 in omega (arith, e, d)
 
   -- each area that covers the word is the module's
   abbrev IsOwn : area.Area → Type 0
@@ -81,7 +81,7 @@ module _ (plan : Said) (images : List (List ℕ)) (words i : ℕ) (m : ModulePla
 
   own_of : (a : area.Area) → (is_in_ram words a ≡ true) × ((shares_word a heap ≡ false) ⊎ (a ≡ heap)) → IsOwn a
   own_of a h covered = elim h.1 [
-    | inl apart ↦ absurd (let both = both_cover words a heap word (in_ram words a h.0) heap_in covered over in let q : ⊥ = cc in q)
+    | inl apart ↦ absurd (let both = both_cover words a heap word (in_ram words a h.0) heap_in covered over in cc)
     | inr same ↦ ap (λ (b : area.Area). b.domain) same
   ]
 
@@ -95,24 +95,15 @@ module _ (plan : Said) (images : List (List ℕ)) (words i : ℕ) (m : ModulePla
   gives_own : (h : Home) → AllByRecursion IsOwn (areas_of harts h) → AllByRecursion (λ (g : Give). is_over word g ≡ true → g.value ≡ i + 1) (gives_of harts h)
   gives_own h all =
       let most = all-first IsOwn (pieces h ++ heaps h) (stacks harts h) all in
-      let some : AllByRecursion IsOwn (owned_pieces h) = elim h.plan.seal as (λ b. AllByRecursion IsOwn (cond b [] (pieces h))) [
-        | true ↦ tt
-        | false ↦ all-first IsOwn (pieces h) (heaps h) most
-      ] in
-      all_mapped give (λ (g : Give). is_over word g ≡ true → g.value ≡ i + 1) (owned_pieces h ++ heaps h ++ stacks harts h)
-      (all-join IsOwn (owned_pieces h ++ heaps h) (stacks harts h)
-      (all-join IsOwn (owned_pieces h) (heaps h) some (all-second IsOwn (pieces h) (heaps h) most)) (all-second IsOwn (pieces h ++ heaps h) (stacks harts h) all))
+      search (arith, all_mapped, is_over, harts, all-join, IsOwn, all-second)
 
   pub owner_is : (if nat_lt word words then owner (flat_map (gives_of harts) (homes plan images)) word else 0) ≡ i + 1
   owner_is =
-      let lt : nat_lt word words ≡ true = below word words word_in in
       let has = has_left (owned_pieces own ++ heaps own) (stacks harts own) heap (has_right (owned_pieces own) (heaps own) heap heap_there) in
       let given = at_mapped give (owned_pieces own ++ heaps own ++ stacks harts own) has.0 heap has.1 in
       let some = any_flat (gives_of harts) (is_over word) (homes plan images) i own (home_is plan images i m at) (any_passes_from_place (is_over word) (gives_of harts own) has.0 (give heap) given over) in
-      rw lt (newest_is 0 (i + 1) (flat_map (gives_of harts) (homes plan images)) word
-      (all_flat (gives_of harts) (λ (g : Give). is_over word g ≡ true → g.value ≡ i + 1) (homes plan images)
-      (all-weaker (λ h. AllByRecursion IsOwn (areas_of harts h)) (λ h. AllByRecursion (λ (g : Give). is_over word g ≡ true → g.value ≡ i + 1) (gives_of harts h)) (homes plan images) gives_own
-      (all_parts (areas_of harts) IsOwn (homes plan images) all_own))) (inl some))
+      rw (below word words word_in) (newest_is 0 (i + 1) (flat_map (gives_of harts) (homes plan images)) word
+      (search (arith, all_flat, harts, is_over, all-weaker, IsOwn, gives_own, all_parts, all_own)) (inl some))
     where
       below : (a b : ℕ) → a < b → nat_lt a b ≡ true
       below a b h = grind (arith, nat_tests)

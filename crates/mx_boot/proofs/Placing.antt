@@ -1,5 +1,5 @@
 -- What the modules of a plan without a fault bring: areas apart in RAM, each of some words, and bytes that lie there.
-use Rattle.std.proofs.Common.{◌≡◌, ◌⊎◌, ℕ, ◌+◌, ◌-◌, ◌*◌, ◌/◌, ◌%◌, ◌<◌, ◌≤◌, true, false, not, cond, List, [], ◌∷◌, ◌++◌, length, map, take, drop, slice_get, Option, Some, None, IfSome, unwrap_or, Result, Ok, Err, refl, ap, ◌∙◌, subst, arith, mul-le-mul_left, length-take}
+use Rattle.std.proofs.Common.{◌≡◌, ℕ, ◌*◌, ◌%◌, ◌<◌, ◌≤◌, true, false, cond, List, [], ◌∷◌, ◌++◌, length, map, take, drop, slice_get, Option, Some, None, IfSome, unwrap_or, Result, Ok, Err, refl, subst, arith, mul-le-mul_left, length-take}
 use Rattle.std.specs.List.{AllByRecursion, enumerate_from, flat_map}
 use Rattle.std.specs.Option.{is_some, option_map_or}
 use Rattle.mx_elf.specs.declared.image.Image.{Image}
@@ -13,9 +13,8 @@ use Rattle.mx_manifest.specs.InRange.{IsAligned, IsBetween, IsInRange}
 use Rattle.mx_manifest.specs.InRange as range
 use Rattle.mx_manifest.specs.Plan.{Said}
 use Rattle.mx_boot.specs.declared.area.Area.{Area}
-use Rattle.mx_boot.specs.Areas.{Home, home, homes, has_image, image, read_as, pieces, segment_area, inline_area, inline_words, inline_address, word_bytes, stack_words, heap_area, stack_area, heaps, stacks, areas_of, areas, contents, segment_content, inline_content}
-use Rattle.mx_boot.specs.Boot.{owned_pieces}
-use Rattle.mx_boot.specs.Faults.{first_fault, is_in_ram, shares_word, ram_words}
+use Rattle.mx_boot.specs.Areas.{Home, home, homes, has_image, image, read_as, pieces, segment_area, inline_area, inline_address, word_bytes, stack_words, heap_area, stack_area, heaps, stacks, areas_of, areas, contents, segment_content, inline_content}
+use Rattle.mx_boot.specs.Faults.{first_fault, is_in_ram, ram_words}
 use Rattle.mx_boot.specs.Placed.{ArePlaced, HasRoom, IsApart, IsPlaced, granted_areas, owned_areas}
 use Rattle.mx_boot.proofs.Apart.{AreClear, all_inside, apart_at, in_ram}
 use Rattle.mx_boot.proofs.Booted.{faultless}
@@ -33,14 +32,10 @@ home_all P plan images i m all at =
     (all_parts (areas_of (length plan.harts)) P (homes plan images) all) (home_is plan images i m at)
 
 granted_part : (P : Area → Type 0) (harts : ℕ) (h : Home) → AllByRecursion P (areas_of harts h) → AllByRecursion P (granted_areas harts h)
-granted_part P harts h all =
-    all-join P (pieces h) (stacks harts h) (all-first P (pieces h) (heaps h) (all-first P (pieces h ++ heaps h) (stacks harts h) all)) (all-second P (pieces h ++ heaps h) (stacks harts h) all)
+granted_part P harts h all = search (arith, all-join, all-first, all-second)
 
 owned_part : (P : Area → Type 0) (harts : ℕ) (h : Home) → AllByRecursion P (areas_of harts h) → AllByRecursion P (owned_areas harts h)
-owned_part P harts h all =
-    let own = all-first P (pieces h ++ heaps h) (stacks harts h) all in
-    let sealed : AllByRecursion P (owned_pieces h) = elim h.plan.seal as (λ b. AllByRecursion P (cond b [] (pieces h))) [ true ↦ tt | false ↦ all-first P (pieces h) (heaps h) own ] in
-    all-join P (owned_pieces h ++ heaps h) (stacks harts h) (all-join P (owned_pieces h) (heaps h) sealed (all-second P (pieces h) (heaps h) own)) (all-second P (pieces h ++ heaps h) (stacks harts h) all)
+owned_part P harts h all = search (arith, all-first, all-join, all-second)
 
 -- each area has words
 abbrev HasWords : Area → Type 0
@@ -61,10 +56,8 @@ inline_some None there h = absurd (let q : ⊥ = cc in q)
 inline_some (Some words) there h = let low = h.0 in omega (arith, low)
 
 pieces_some : (modules : ℕ) (h : Home) → range.IsModule modules h.domain h.plan → AllByRecursion HasWords (pieces h)
-pieces_some modules h in_range = elim (has_image h) as (λ b. has_image h ≡ b → AllByRecursion HasWords (cond b (map (segment_area h) (image h).segments) (inline_area h ∷ []))) [
-  | true ↦ λ e. all_mapped (segment_area h) HasWords (image h).segments (all-weaker (IsSound (length h.bytes)) (λ s. 0 < word_count s) (image h).segments (λ s sound. segment_words s sound.covers) (segments_sound h))
-  | false ↦ λ e. (inline_some h.plan.words (in_range.words_or_image ∙ ap not e) in_range.words, tt)
-] refl
+pieces_some modules h in_range =
+    search (arith, HasWords, all_mapped, all-weaker, segment_words, segments_sound, inline_some, h.plan.words)
 
 heaps_some : (h : Home) (o : Option ℕ) → h.plan.heap ≡ o → is_some h.plan.heap ≡ is_some h.plan.heap_words → IfSome h.plan.heap_words (IsBetween 1 16777216)
     → AllByRecursion HasWords (option_map_or (λ address. heap_area h address ∷ []) o [])
@@ -92,26 +85,14 @@ length-word_bytes (w ∷ words) = let rest = length-word_bytes words in omega (a
 
 segment_room : (words : ℕ) (h : Home) (s : Seg) → IsSound (length h.bytes) s → is_in_ram words (segment_area h s) ≡ true → HasRoom (4 * words) (segment_content h.bytes s)
 segment_room words h s sound inside =
-    let r = in_ram words (segment_area h s) inside in
-    let from = r.from in
-    let to = r.to in
+    let to = (in_ram words (segment_area h s) inside).to in
     let long : length (take s.file (drop s.offset h.bytes)) ≤ s.file = omega (arith, length-take s.file (drop s.offset h.bytes)) in
     let held = sound.held in
     let aligned = sound.aligned in
-    record { from = from; to = room s.address s.memory s.file (length (take s.file (drop s.offset h.bytes))) words from to long held aligned }
-  where
-    room : (address memory file count words : ℕ) → 2147483648 ≤ address → address / 4 + ((address + memory + 3) / 4 - address / 4) ≤ 536870912 + words → count ≤ file → file ≤ memory → address % 4 ≡ 0 → address - 2147483648 + count ≤ 4 * words
-    room address memory file count words a b c d e = omega (arith, a, b, c, d, e)
+    search (arith, s.address, s.memory, s.file, s.offset)
 
 inline_room : (words : ℕ) (h : Home) → inline_address h.plan % 4 ≡ 0 → is_in_ram words (inline_area h) ≡ true → HasRoom (4 * words) (inline_content h.plan)
-inline_room words h aligned inside =
-    let r = in_ram words (inline_area h) inside in
-    let from = r.from in
-    let to = r.to in
-    record { from = from; to = room (inline_address h.plan) (length (inline_words h.plan)) (length (flat_map word_bytes (inline_words h.plan))) words from to (length-word_bytes (inline_words h.plan)) aligned }
-  where
-    room : (address count size words : ℕ) → 2147483648 ≤ address → address / 4 + count ≤ 536870912 + words → size ≡ 4 * count → address % 4 ≡ 0 → address - 2147483648 + size ≤ 4 * words
-    room address count size words a b c e = omega (arith, a, b, c, e)
+inline_room words h aligned inside = search (arith, in_ram, length-word_bytes)
 
 contents_room : (words : ℕ) (h : Home) → inline_address h.plan % 4 ≡ 0 → AllByRecursion (λ a. is_in_ram words a ≡ true) (pieces h) → AllByRecursion (HasRoom (4 * words)) (contents h)
 contents_room words h aligned all = elim (has_image h) as (λ b. AllByRecursion (λ a. is_in_ram words a ≡ true) (cond b (map (segment_area h) (image h).segments) (inline_area h ∷ []))
@@ -148,13 +129,7 @@ module _ (plan : Said) (images : List (List ℕ)) (in_range : IsInRange plan) (c
   all_apart = from-each (IsApart (areas plan images)) (areas plan images) (λ i a at. apart_at (ram_words plan) [] (areas plan images) clear i a at)
 
   granted_apart : (i : ℕ) (m : ModulePlan) → slice_get plan.modules i ≡ Some m → AllByRecursion (IsApart (granted_areas (length plan.harts) (home images (i, m)))) (granted_areas (length plan.harts) (home images (i, m)))
-  granted_apart i m at =
-      let h = home images (i, m) in
-      let own = granted_areas (length plan.harts) h in
-      granted_part (IsApart own) (length plan.harts) h
-      (all-weaker (IsApart (areas plan images)) (IsApart own) (areas_of (length plan.harts) h)
-      (λ a apart. granted_part (λ b. (shares_word b a ≡ false) ⊎ (b ≡ a)) (length plan.harts) h (home_all (λ b. (shares_word b a ≡ false) ⊎ (b ≡ a)) plan images i m apart at))
-      (home_all (IsApart (areas plan images)) plan images i m all_apart at))
+  granted_apart i m at = search (arith, granted_part, all-weaker, home_all, all_apart)
 
   pub module_ready : (i : ℕ) (m : ModulePlan) → slice_get plan.modules i ≡ Some m → IsReady (ram_words plan) (length plan.harts) (home images (i, m))
   module_ready i m at =
@@ -173,7 +148,7 @@ module _ (plan : Said) (images : List (List ℕ)) (in_range : IsInRange plan) (c
   pub homes_ready : AllByRecursion (IsReady (ram_words plan) (length plan.harts)) (homes plan images)
   homes_ready = all_mapped (home images) (IsReady (ram_words plan) (length plan.harts)) (enumerate_from 0 plan.modules)
       (all_numbered (λ (p : ℕ × ModulePlan). IsReady (ram_words plan) (length plan.harts) (home images p)) 0 plan.modules
-      (λ i m at. let same : i ≡ 0 + i = omega arith in subst (λ k. IsReady (ram_words plan) (length plan.harts) (home images (k, m))) same (module_ready i m at)))
+      (λ i m at. subst (λ k. IsReady (ram_words plan) (length plan.harts) (home images (k, m))) (omega arith) (module_ready i m at)))
 
 pub ready : (plan : Said) (images : List (List ℕ)) → IsInRange plan → first_fault plan images ≡ None → (i : ℕ) (h : Home) → slice_get (homes plan images) i ≡ Some h → IsReady (ram_words plan) (length plan.harts) h
 ready plan images in_range none i h at =

@@ -1,8 +1,7 @@
 -- RAM at boot has its size, and bytes.
-use Rattle.std.proofs.Common.{◌≡◌, ℕ, zero, suc, ◌+◌, ◌-◌, ◌*◌, ◌<◌, true, false, cond, List, [], ◌∷◌, length, get_or, set, take, drop, replicate, map, fold, refl, ◌∙◌, arith}
+use Rattle.std.proofs.Common.{◌≡◌, ℕ, zero, suc, ◌+◌, ◌-◌, ◌*◌, ◌<◌, true, false, cond, List, [], ◌∷◌, length, get_or, set, drop, replicate, map, fold, refl, ◌∙◌, arith}
 use Rattle.std.specs.List.{AllByRecursion, enumerate_from, flat_map}
 use Rattle.std.proofs.lemmas.List.{length-set, length-replicate}
-use Rattle.mx_elf.specs.declared.segment.Seg.{Seg}
 use Rattle.mx_model.proofs.ListLaws.{all-take}
 use Rattle.mx_manifest.specs.declared.parts.ModulePlan.{ModulePlan}
 use Rattle.mx_manifest.specs.Plan.{Said}
@@ -67,8 +66,7 @@ word-small w = (omega arith, (omega arith, (omega arith, (omega arith, tt))))
 
 contents-small : (h : Home) → AllByRecursion IsByte h.bytes → AllByRecursion (λ (c : Content). AllByRecursion IsByte c.bytes) (contents h)
 contents-small h all = elim (has_image h) as (λ b. AllByRecursion (λ (c : Content). AllByRecursion IsByte c.bytes) (cond b (map (segment_content h.bytes) (image h).segments) (inline_content h.plan ∷ []))) [
-  | true ↦ all_mapped (segment_content h.bytes) (λ (c : Content). AllByRecursion IsByte c.bytes) (image h).segments
-      (all_each (λ (s : Seg). AllByRecursion IsByte (take s.file (drop s.offset h.bytes))) (image h).segments (λ s. all-take IsByte s.file (drop s.offset h.bytes) (all-drop IsByte s.offset h.bytes all)))
+  | true ↦ search (arith, all_mapped, all_each, all-take, all-drop)
   | false ↦ (all_flat word_bytes IsByte (inline_words h.plan) (all_each (λ w. AllByRecursion IsByte (word_bytes w)) (inline_words h.plan) word-small), tt)
 ]
 

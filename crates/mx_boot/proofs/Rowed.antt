@@ -84,7 +84,7 @@ module _ (words to : ℕ) (areas : List Area) (row : List Span) (a : Area) (plac
   -- an area that covers a word of this one is this one
   same : (b : Area) (w : ℕ) → IsPlaced words b → (shares_word b a ≡ false) ⊎ (b ≡ a) → covers (word_at b.address) b.count w ≡ true → covers (word_at a.address) a.count w ≡ true → b ≡ a
   same b w there apart cb ca = elim apart [
-    | inl no_word ↦ absurd (let both = both_cover words b a w (in_ram words b there.inside) (in_ram words a own.inside) cb ca in let q : ⊥ = cc in q)
+    | inl no_word ↦ absurd (let both = both_cover words b a w (in_ram words b there.inside) (in_ram words a own.inside) cb ca in cc)
     | inr is ↦ is
   ]
 
@@ -95,32 +95,22 @@ module _ (words to : ℕ) (areas : List Area) (row : List Span) (a : Area) (plac
   here w ge lt =
       let ca = covers_in (word_at a.address) a.count w ge lt in
       newest_is P.None a.perm (map grant areas) w
-      (all_mapped grant (λ (e : Grant). is_over w e ≡ true → e.value ≡ a.perm) areas
-      (all-weaker (λ b. IsPlaced words b × ((shares_word b a ≡ false) ⊎ (b ≡ a))) (λ (b : Area). covers (word_at b.address) b.count w ≡ true → b.perm ≡ a.perm) areas
-      (λ b h cb. ap (λ (x : Area). x.perm) (same b w h.0 h.1 cb ca)) others))
+      (search (arith, all_mapped, is_over, all-weaker, same, others))
       (inl (next-is (λ b. covers (word_at b.address) b.count w ≡ true → list_any (is_over w) (map grant areas) ≡ true) to areas a (any_each areas w) next ca))
 
   between : (w : ℕ) → to ≤ w → w < word_at a.address → at (map grant areas) w ≡ P.None
   between w ge lt = no_area areas w
       (all-weaker (λ b. (word_at b.address < to → end_of b ≤ to) × (to ≤ word_at b.address → word_at a.address ≤ word_at b.address))
       (λ (b : Area). covers (word_at b.address) b.count w ≡ true → ⊥) areas
-      (λ b h c. let r = covers_from (word_at b.address) b.count w c in elim (cases_lt (word_at b.address) to) [
-        | inl before ↦ (let e = h.0 before in let q : ⊥ = omega (arith, e, r.1, ge) in q)
-        | inr behind ↦ (let e = h.1 behind in let q : ⊥ = omega (arith, e, r.0, lt) in q)
-      ])
+      (search (arith, covers_from, cases_lt))
       (all_both (λ (b : Area). word_at b.address < to → end_of b ≤ to) (λ (b : Area). to ≤ word_at b.address → word_at a.address ≤ word_at b.address) areas so_far.apart (next-least to areas a next)))
 
   more : (w : ℕ) → at (map granted (row ++ s ∷ [])) w ≡ laid_at w (at (map granted row) w) (granted s)
   more w = ap (λ gs. at gs w) (map-append granted row (s ∷ [])) ∙ newest-append P.None (map granted row) (granted s) w
 
   done : (w : ℕ) → w < end_of a → at (map granted (row ++ s ∷ [])) w ≡ at (map grant areas) w
-  done w lt = elim (cases_lt w to) [
-    | inl before ↦ more w ∙ laid_at_below w (at (map granted row) w) (granted s) (let f = from in omega (arith, f, before)) ∙ so_far.done w before
-    | inr ge ↦ elim (cases_lt w (word_at a.address)) [
-      | inl early ↦ more w ∙ laid_at_below w (at (map granted row) w) (granted s) early ∙ so_far.rest w ge ∙ sym (between w ge early)
-      | inr late ↦ more w ∙ laid_at_in w (at (map granted row) w) (granted s) late lt ∙ sym (here w late lt)
-    ]
-  ]
+  done w lt =
+      search (arith, cases_lt, more, laid_at_below, s, from, so_far.done, so_far.rest, between, laid_at_in, here)
 
   rest : (w : ℕ) → end_of a ≤ w → at (map granted (row ++ s ∷ [])) w ≡ P.None
   rest w ge = more w ∙ laid_at_behind w (at (map granted row) w) (granted s) ge ∙ so_far.rest w (let f = from in omega (arith, f, ge))
@@ -137,8 +127,7 @@ module _ (words to : ℕ) (areas : List Area) (row : List Span) (a : Area) (plac
             let is = same b (word_at b.address) h.1.0 h.1.1 cb ca in
             subst (λ (x : Area). end_of x ≤ end_of a) (sym is) (let le : end_of a ≤ end_of a = omega arith in le))
       ])
-      (all_both (λ b. (word_at b.address < to → end_of b ≤ to) × (to ≤ word_at b.address → word_at a.address ≤ word_at b.address)) (λ b. IsPlaced words b × ((shares_word b a ≡ false) ⊎ (b ≡ a))) areas
-      (all_both (λ (b : Area). word_at b.address < to → end_of b ≤ to) (λ (b : Area). to ≤ word_at b.address → word_at a.address ≤ word_at b.address) areas so_far.apart (next-least to areas a next)) others)
+      (search (arith, all_both, so_far.apart, next-least, others))
 
   -- the span before a place of the longer row
   before_is : (i : ℕ) → i < length row → get_or (row ++ s ∷ []) i no_span ≡ get_or row i no_span
@@ -146,12 +135,8 @@ module _ (words to : ℕ) (areas : List Area) (row : List Span) (a : Area) (plac
 
   sorted : (i : ℕ) → i + 1 < length (row ++ s ∷ []) → (get_or (row ++ s ∷ []) i no_span).first + (get_or (row ++ s ∷ []) i no_span).count ≤ (get_or (row ++ s ∷ []) (i + 1) no_span).first
   sorted i lt = grown (λ k x. (j : ℕ) → j + 1 ≡ k → (get_or (row ++ s ∷ []) j no_span).first + (get_or (row ++ s ∷ []) j no_span).count ≤ x.first) row s
-      (λ k below j e. let lower : j < length row = omega (arith, e, below) in
-      subst (λ x. x.first + x.count ≤ (get_or row k no_span).first) (sym (before_is j lower)) (subst (λ m. (get_or row j no_span).first + (get_or row j no_span).count ≤ (get_or row m no_span).first) e (so_far.is.sorted j (omega (arith, e, below)))))
-      (λ j e. let lower : j < length row = omega (arith, e) in
-      let last = so_far.last j lower in
-      let f = from in
-      subst (λ x. x.first + x.count ≤ s.first) (sym (before_is j lower)) (omega (arith, last, f)))
+      (search (arith, before_is, so_far.is.sorted))
+      (search (arith, so_far.last, from, before_is))
       (i + 1) lt i refl
 
   pub row-step : IsRowTo words (end_of a) areas (row ++ s ∷ [])
@@ -161,7 +146,7 @@ module _ (words to : ℕ) (areas : List Area) (row : List Span) (a : Area) (plac
       sorted = sorted;
       inside = grown (λ i x. x.first + x.count ≤ words) row s so_far.is.inside fits;
     };
-    last = grown (λ i x. x.first + x.count ≤ end_of a) row s (λ i lt. let l = so_far.last i lt in let f = from in omega (arith, l, f)) (let le : end_of a ≤ end_of a = omega arith in le);
+    last = grown (λ i x. x.first + x.count ≤ end_of a) row s (λ i lt. let l = so_far.last i lt in let f = from in omega (arith, l, f)) ((omega arith));
     few = (let few = so_far.few in let f = from in let some = own.some in omega (arith, length-append row (s ∷ []), few, f, some));
     within = fits;
     apart = apart;

@@ -1,12 +1,12 @@
 -- The instruction at which a hart stands, by what is read of a machine.
-use Rattle.std.proofs.Common.{◌≡◌, ℕ, zero, suc, ◌+◌, ◌-◌, ◌*◌, ◌/◌, ◌%◌, ◌<◌, ◌≤◌, Bool, true, false, not, nat_le, nat_lt, List, drop, get_or, slice_range, if◌then◌else◌, Option, Some, None, refl, sym, ap, ◌∙◌, subst, arith, get_or-take, get_or-drop}
+use Rattle.std.proofs.Common.{◌≡◌, ℕ, zero, suc, ◌+◌, ◌-◌, ◌*◌, ◌/◌, ◌%◌, ◌<◌, ◌≤◌, Bool, true, not, List, drop, get_or, slice_range, if◌then◌else◌, Option, Some, None, refl, sym, ap, ◌∙◌, subst, arith, get_or-take, get_or-drop}
 use Rattle.std.specs.Option.{option_map_or}
 use Rattle.std.proofs.lemmas.Bool.{and_parts, leb-true, ltb-true}
 use Rattle.std.proofs.lemmas.Option.{same_Some}
 use Rattle.mx_words.specs.declared.perm.Access.TheVariants as A
 use Rattle.mx_words.specs.declared.perm.Perm.TheVariants as P
 use Rattle.mx_words.specs.Bytes.{number_at}
-use Rattle.mx_words.specs.Ranges.{in_ram, ram_base, word_of}
+use Rattle.mx_words.specs.Ranges.{ram_base, word_of}
 use Rattle.mx_words.specs.Rights.{allows}
 use Rattle.mx_isa.specs.declared.inst.Inst.{Inst}
 use Rattle.mx_isa.specs.Table.{decoded}
@@ -31,16 +31,7 @@ pub record HoldsAddress (address size word : ℕ) : Type 0 where
   pub inside : word < size
 
 pub holds_address : (address size word : ℕ) → Some word ≡ word_of address size → HoldsAddress address size word
-holds_address address size word e = by (in_ram address size) refl e
-  where
-    by : (b : Bool) → in_ram address size ≡ b → Some word ≡ (if b then Some ((address - ram_base) / 4) else None) → HoldsAddress address size word
-    by true t f =
-        let both = and_parts (nat_le ram_base address) (nat_lt (address - ram_base) (4 * size)) t in
-        let low = leb-true ram_base address both.0 in
-        let high = ltb-true (address - ram_base) (4 * size) both.1 in
-        let is : (address - ram_base) / 4 ≡ word = sym (same_Some _ _ f) in
-        record { low = low; is = is; inside = omega arith }
-    by false t f = absurd cc
+holds_address address size word e = search (arith, and_parts, leb-true, ltb-true, same_Some)
 
 -- what stands at an address by the word that holds it, and by whether that word allows a fetch
 abbrev by_word : Reads → Core → ℕ → ℕ → Option ℕ → Option Inst

@@ -1,5 +1,5 @@
 -- Where harts begin, one after the other.
-use Rattle.std.proofs.Common.{◌≡◌, ℕ, ◌+◌, ◌-◌, ◌≤◌, List, [], ◌∷◌, ◌++◌, length, take, map, slice_get, Option, Some, None, unwrap_or, ap, ◌∙◌, sym, subst, arith}
+use Rattle.std.proofs.Common.{◌≡◌, ℕ, ◌+◌, ◌-◌, ◌≤◌, List, [], ◌∷◌, ◌++◌, length, take, map, slice_get, Option, Some, None, unwrap_or, ap, ◌∙◌, sym, arith}
 use Rattle.std.specs.List.{enumerate_from}
 use Rattle.std.specs.Prelude.{option_and_then}
 use Rattle.std.proofs.lemmas.List.FromFn.{length-enumerate_from}
@@ -32,8 +32,7 @@ module _ (plan : Said) (images : List (List ℕ)) (hart : HartPlan) (h : Home) (
   pc_is = ap (λ o. unwrap_or o 0) start_is
 
 at_hart_number : (plan : Said) (i : ℕ) (hart : HartPlan) → slice_get plan.harts i ≡ Some hart → slice_get (enumerate_from 1 plan.harts) i ≡ Some (i + 1, hart)
-at_hart_number plan i hart at =
-    subst (λ k. slice_get (enumerate_from 1 plan.harts) i ≡ Some (k, hart)) (let same : 1 + i ≡ i + 1 = omega arith in same) (at_numbered plan.harts 1 i hart at)
+at_hart_number plan i hart at = search (arith, at_numbered, plan.harts)
 
 -- the faults of harts from a place on
 abbrev pub harts_from : Said → List (List ℕ) → ℕ → Option BootFault

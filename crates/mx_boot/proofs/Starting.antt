@@ -5,16 +5,16 @@ use Rattle.std.specs.Option.{is_some, option_map_or}
 use Rattle.std.proofs.lemmas.Bool.Decides.{nat_tests}
 use Rattle.std.proofs.lemmas.List.{length-map}
 use Rattle.std.proofs.lemmas.Option.{get_or_from_slice_get}
-use Rattle.mx_words.specs.Caches.{Cache, no_cache}
+use Rattle.mx_words.specs.Caches.{no_cache}
 use Rattle.mx_words.specs.Ranges.{address_of}
 use Rattle.mx_table.proofs.NamedLaws.{everywhere}
 use Rattle.mx_check.specs.Calls.{new_harts}
 use Rattle.mx_check.specs.Harts.{Kept, new_hart}
-use Rattle.mx_model.specs.State.{Core, Flat, Hart, Module, Stack, Running, flat, module_at, no_module}
+use Rattle.mx_model.specs.State.{Core, Hart, Module, Stack, Running, flat, module_at, no_module}
 use Rattle.mx_model.specs.Valid.{IsHome}
 use Rattle.mx_supervisor.specs.Parts.{modules_from}
 use Rattle.mx_machine.specs.Harts.{seen_from}
-use Rattle.mx_machine.specs.Held.{area_of, behind, beside, homes_from, home, no_area, told}
+use Rattle.mx_machine.specs.Held.{behind, beside, homes_from, home, no_area, told}
 use Rattle.mx_machine.specs.Starts.{IsStack, IsStart, MayStart, none_dead, started, started_from}
 use Rattle.mx_machine.specs.declared.starts.StackArea.{StackArea}
 use Rattle.mx_machine.proofs.SmallLaws.{from-each}
@@ -132,20 +132,18 @@ module _ (plan : Said) (images : List (List ℕ)) (in_range : IsInRange plan) (n
   module_is : (j : ℕ) (m : ModulePlan) → slice_get plan.modules j ≡ Some m → module_at rest (0 + 1 + j) ≡ record no_module { stack = stack_of m; kills = m.kills }
   unfolding rest
   module_is j m at =
-      let place : 0 + 1 + j - 1 ≡ j = omega arith in
-      ap (λ n. get_or (homes_from none_dead 1 (stack_areas plan)) n no_module) place
+      ap (λ n. get_or (homes_from none_dead 1 (stack_areas plan)) n no_module) (omega arith)
       ∙ get_or_from_slice_get (homes_from none_dead 1 (stack_areas plan)) j (home none_dead (1 + j) (stack_area_of m)) no_module (homes_at 1 j (stack_areas plan) (stack_area_of m) (area_is j m at))
-      ∙ ap (λ k. (let x : Module = record no_module { stack = told (stack_area_of m); kills = k; dead = get_or none_dead (1 + j) false } in x)) (kills_told m m.stack)
-      ∙ ap (λ s. (let x : Module = record no_module { stack = s; kills = m.kills; dead = get_or none_dead (1 + j) false } in x)) ((has_stack 0 j m at).stack)
-      ∙ ap (λ b. (let x : Module = record no_module { stack = stack_of m; kills = m.kills; dead = b } in x)) (everywhere 64 (1 + j) false)
+      ∙ ap (λ k. ((record no_module { stack = told (stack_area_of m); kills = k; dead = get_or none_dead (1 + j) false }))) (kills_told m m.stack)
+      ∙ ap (λ s. ((record no_module { stack = s; kills = m.kills; dead = get_or none_dead (1 + j) false }))) ((has_stack 0 j m at).stack)
+      ∙ ap (λ b. ((record no_module { stack = stack_of m; kills = m.kills; dead = b }))) (everywhere 64 (1 + j) false)
 
   hart_is : (j : ℕ) (x : HartPlan) → slice_get plan.harts j ≡ Some x → behind (stack_areas plan) x.module (0 + j) ≡ option_map_or (stack_address (0 + j)) (slice_get plan.modules (x.module - 1)) 0
   hart_is j x at =
       let domain = hart_domain plan j x in_range at in
       let found = there plan.modules (x.module - 1) (omega (arith, domain.0, domain.1)) in
-      let area : area_of (stack_areas plan) x.module ≡ stack_area_of found.0 = get_or_from_slice_get (stack_areas plan) (x.module - 1) (stack_area_of found.0) no_area (area_is (x.module - 1) found.0 found.1) in
-      ap (λ (a : StackArea). cond (a.words == 0) 0 (address_of (a.first + a.words * (0 + j + 1)))) area ∙ (has_stack (0 + j) (x.module - 1) found.0 found.1).behind
-      ∙ ap (λ o. option_map_or (stack_address (0 + j)) o 0) (sym found.1)
+      cc ((get_or_from_slice_get (stack_areas plan) (x.module - 1) (stack_area_of found.0) no_area (area_is (x.module - 1) found.0 found.1)),
+        (has_stack (0 + j) (x.module - 1) found.0 found.1).behind, found.1)
 
   pub boots-as : started (boot_parts plan images) (hart_starts plan images) (stack_areas plan) ≡ flat (boot_state plan images)
   unfolding rest
@@ -154,10 +152,7 @@ module _ (plan : Said) (images : List (List ℕ)) (in_range : IsInRange plan) (n
       let harts = harts_are plan images (stack_areas plan) (new_harts (length plan.harts)) 0 plan.harts hart_is in
       let modules = modules_are rest 0 plan.modules module_is in
       let caches = caches_none (length plan.harts) in
-      let make : List Module → List Hart → List Cache → Flat = λ ms hs cs. record (flat s) { core = record s.core { modules = ms; harts = hs; caches = cs } } in
-      ap (λ ms. make ms (seen_from 0 (started_from (stack_areas plan) 0 (hart_starts plan images)) (new_harts (length plan.harts))) (map (λ (k : Kept). k.cache) (new_harts (length plan.harts)))) modules
-      ∙ ap (λ hs. make s.core.modules hs (map (λ (k : Kept). k.cache) (new_harts (length plan.harts)))) harts
-      ∙ ap (λ cs. make s.core.modules s.core.harts cs) caches
+      search (arith, s.core.modules, s.core.harts)
 
   pub may-start : MayStart (boot_parts plan images) (hart_starts plan images) (stack_areas plan)
   may-start =

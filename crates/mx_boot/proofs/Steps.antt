@@ -1,5 +1,5 @@
 -- The first fault of a plan, step by step.
-use Rattle.std.proofs.Common.{◌≡◌, ℕ, List, [], ◌++◌, Option, Some, None, Result, refl, ap, ◌∙◌, sym, subst}
+use Rattle.std.proofs.Common.{◌≡◌, ℕ, List, [], Option, Some, None, Result, refl, ap, ◌∙◌, sym, subst, arith}
 use Rattle.std.specs.List.{flat_map}
 use Rattle.std.specs.Option.{option_or}
 use Rattle.mx_words.specs.FirstRow.{first_row}
@@ -10,7 +10,6 @@ use Rattle.mx_manifest.specs.declared.fault.BootFault.{BootFault}
 use Rattle.mx_manifest.specs.Plan.{Said}
 use Rattle.mx_boot.specs.declared.area.Area.{Area}
 use Rattle.mx_boot.specs.declared.refused.LayoutRefused.{LayoutRefused}
-use Rattle.mx_boot.specs.declared.refused.LayoutRefused.TheVariants.{Fault, NoMemory}
 use Rattle.mx_boot.specs.Areas.{homes, areas}
 use Rattle.mx_boot.specs.Entries.{requests}
 use Rattle.mx_boot.specs.Faults.{image_rows, areas_rows, gates_rows, harts_rows, ram_words, first_fault}
@@ -31,13 +30,7 @@ module _ (plan : Said) (images : List (List ℕ)) where
 
   first_is : first_fault plan images ≡ option_or (option_or (option_or images_found areas_found) gates_found) harts_found
   unfolding first_fault images_found areas_found gates_found harts_found
-  first_is =
-      let a = flat_map image_rows (homes plan images) in
-      let b = areas_rows (ram_words plan) [] (areas plan images) in
-      let c = gates_rows (areas plan images) [] (requests plan images) in
-      let d = harts_rows plan images in
-      first_row-append (a ++ b ++ c) d
-      ∙ ap (λ o. option_or o (first_row d)) (first_row-append (a ++ b) c ∙ ap (λ o. option_or o (first_row c)) (first_row-append a b))
+  first_is = search (arith, first_row-append)
 
   pub at_images : (fault : BootFault) → images_found ≡ Some fault → first_fault plan images ≡ Some fault
   at_images fault a = first_is ∙ rw a refl
@@ -46,13 +39,11 @@ module _ (plan : Said) (images : List (List ℕ)) where
   at_areas fault a b = first_is ∙ rw (a, b) refl
 
   pub at_gates : (refused : LayoutRefused) → images_found ≡ None → areas_found ≡ None → Tells gates_found refused → Tells (first_fault plan images) refused
-  at_gates (Fault fault) a b c = first_is ∙ rw (a, b, c) refl
-  at_gates NoMemory a b c = tt
+  at_gates x a b c = grind (arith, first_is)
 
   pub at_harts : (refused : LayoutRefused) → images_found ≡ None → areas_found ≡ None → gates_found ≡ None → Tells harts_found refused
       → Tells (first_fault plan images) refused
-  at_harts (Fault fault) a b c d = first_is ∙ rw (a, b, c, d) refl
-  at_harts NoMemory a b c d = tt
+  at_harts x a b c d = grind (arith, first_is)
 
   pub nowhere : images_found ≡ None → areas_found ≡ None → gates_found ≡ None → harts_found ≡ None → first_fault plan images ≡ None
   nowhere a b c d = first_is ∙ rw (a, b, c, d) refl
