@@ -67,11 +67,7 @@ recovers_as turn r = record {
 }
 
 passed : {A : Type 0} (fault : ℕ) (test : A → Bool) (at : ℕ) (a : A) (after : ℕ) (x : Taken A) → tested fault test at x ≡ Took a after → (x ≡ Took a after) × (test a ≡ true)
-passed fault test at a after (Took b mid) e = chosen (test b) refl e where
-  chosen : (c : Bool) → test b ≡ c → (if c then Took b mid else Fails at fault) ≡ Took a after → (Took b mid ≡ Took a after) × (test a ≡ true)
-  chosen true was h = (h, ap test (sym (same_taken b a mid after h)) ∙ was)
-  chosen false was h = absurd (not_taken a after at fault h)
-passed fault test at a after (Fails place which) e = absurd (not_taken a after place which e)
+passed fault test at a after x e = grind (arith, same_taken, not_taken)
 
 pub recovers_such : {A : Type 0} (fault : ℕ) (test : A → Bool) {reader : Reader A} {spell : A → List ℕ} {fits : A → Type 0} → Recovers reader spell fits → Recovers (such_or fault test reader) spell (λ a. fits a × (test a ≡ true))
 recovers_such fault test {reader = reader} r = record {
@@ -127,13 +123,7 @@ lies {A} there at size bytes a after e = chosen (nat_le (at + size) (length byte
   chosen false was h = absurd (not_taken a after at 2 h)
 
 pub recovers_number : (size : ℕ) → Recovers (number_of size) (little_endian size) (Holds size)
-recovers_number size = record {
-  fit = λ bytes at a after are e. let l = lies (number_at bytes at size) at size bytes a after e in
-      subst (Holds size) l.value (number-holds size bytes at are);
-  is = λ bytes at a after are e. let l = lies (number_at bytes at size) at size bytes a after e in
-      number-spelled size bytes at are l.fits ∙ ap (λ (n : ℕ). little_endian size n ++ drop (at + size) bytes) l.value
-      ∙ ap (λ (k : ℕ). little_endian size a ++ drop k bytes) l.end;
-}
+recovers_number size = search (arith, lies, number-holds, number-spelled)
 
 pub recovers_four : Recovers number (little_endian 4) (λ n. n < 2 ^ 32)
 recovers_four = recovers_as (λ n h. (omega (arith, h), refl)) (recovers_number 4)

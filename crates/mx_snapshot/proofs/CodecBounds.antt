@@ -1,12 +1,10 @@
 -- Ranges of the fields of a snapshot, and numbers that mean something.
-use Rattle.std.proofs.Common.{◌≡◌, ℕ, zero, suc, ◌+◌, ◌*◌, ◌/◌, ◌%◌, ◌^◌, ◌<◌, ◌≤◌, ◌==◌, Bool, true, false, nat_lt, nat_le, ◌||◌, ◌⊎◌, inl, inr, ⊎_elim, List, [], ◌∷◌, ◌++◌, length, refl, ap, ◌∙◌, arith, leb-true, le-leb, ltb-true, eqb-true, zero-add, if◌then◌else◌}
+use Rattle.std.proofs.Common.{◌≡◌, ℕ, zero, suc, ◌+◌, ◌*◌, ◌/◌, ◌%◌, ◌^◌, ◌<◌, ◌≤◌, ◌==◌, Bool, true, false, nat_lt, nat_le, ◌||◌, ◌⊎◌, List, [], ◌∷◌, ◌++◌, length, ap, ◌∙◌, arith, leb-true, le-leb, ltb-true, eqb-true, zero-add, if◌then◌else◌}
 use Rattle.std.specs.List.{AllByRecursion}
 use Rattle.std.proofs.lemmas.Bool.{and_from, and_parts}
 use Rattle.std.proofs.lemmas.List.Sums.{sum_by-append}
 use Rattle.mx_words.specs.declared.perm.Perm.{Perm}
-use Rattle.mx_words.specs.declared.perm.Perm.TheVariants as P
 use Rattle.mx_words.specs.declared.tables.Kind.{Kind}
-use Rattle.mx_words.specs.declared.tables.Kind.TheVariants as K
 use Rattle.mx_words.specs.Counting.{bit}
 use Rattle.mx_words.specs.Ranges.{most_words}
 use Rattle.mx_words.specs.Rights.{number}
@@ -14,7 +12,6 @@ use Rattle.mx_words.specs.Runs.{Run}
 use Rattle.mx_manifest.specs.Forms.{is_within}
 use Rattle.mx_manifest.specs.InRange.{IsBetween}
 use Rattle.mx_machine.specs.declared.views.HartStatus.{HartStatus}
-use Rattle.mx_machine.specs.declared.views.HartStatus.TheVariants as V
 use Rattle.mx_snapshot.specs.Fields.{kind_by, perm_by, run_by, status_by}
 use Rattle.mx_snapshot.specs.Fits.{EachFits, IsHead}
 use Rattle.mx_snapshot.specs.Rules.{has_place, is_area, is_buffer, is_heard, run_words}
@@ -34,20 +31,16 @@ pub small_words : (h : Head) → IsHead h → h.words ≤ 16777216
 small_words h f = (within_range 16384 most_words h.words (and_parts (is_within 16384 most_words h.words) (h.words % 1024 == 0) f.words).0).1
 
 either : (x y : Bool) → (x || y) ≡ true → (x ≡ true) ⊎ (y ≡ true)
-either true y e = inl refl
-either false y e = inr e
+either x y e = grind arith
 
 pub small_buffer : (n : ℕ) → is_buffer n ≡ true → n ≤ 64
-small_buffer n e = ⊎_elim
-    (λ l. ⊎_elim (λ a. omega (arith, eqb-true n 8 a)) (λ b. omega (arith, eqb-true n 32 b)) (either (n == 8) (n == 32) l))
-    (λ r. omega (arith, eqb-true n 64 r)) (either (n == 8 || n == 32) (n == 64) e)
+small_buffer n e = search (arith, either)
 
 pub small_area : (words first count : ℕ) → is_area words first count ≡ true → first + count ≤ words
 small_area words first count e = leb-true (first + count) words (and_parts (nat_le (first + count) words) (nat_lt 0 count || first == 0) e).0
 
 pub each_part : (n m : ℕ) → 1 ≤ m → n ≤ n * m
-each_part n zero le = absurd (omega (arith, le))
-each_part n (suc m) le = grind arith
+each_part n x le = grind arith
 
 pub small_place : {A : Type 0} (words runs : ℕ) (before : List (Run A)) (count : ℕ) → has_place words runs before count ≡ true → (0 < count) × (run_words before + count ≤ words)
 small_place words runs before count e =
@@ -71,83 +64,46 @@ few_runs words fits each (x ∷ xs) before le f =
     omega (arith, more, p.0, rest)
 
 pub kind_small : (k : Kind) → IsBetween 0 2 (kind_number k)
-kind_small K.Segments = (omega arith, omega arith)
-kind_small K.Multilevel = (omega arith, omega arith)
-kind_small K.Packed = (omega arith, omega arith)
+kind_small x = grind arith
 
 pub kind_again : (k : Kind) → kind_by (kind_number k) ≡ k
-kind_again K.Segments = refl
-kind_again K.Multilevel = refl
-kind_again K.Packed = refl
+kind_again x = grind arith
 
 pub kind_back : (n : ℕ) → n ≤ 2 → n ≡ kind_number (kind_by n)
-kind_back zero le = refl
-kind_back (suc zero) le = refl
-kind_back (suc (suc zero)) le = refl
-kind_back (suc (suc (suc n))) le = absurd (omega (arith, le))
+kind_back x le = grind arith
 
 pub status_small : (s : HartStatus) → IsBetween 0 2 (status_number s)
-status_small V.Running = (omega arith, omega arith)
-status_small V.Waiting = (omega arith, omega arith)
-status_small V.Halted = (omega arith, omega arith)
+status_small x = grind arith
 
 pub status_again : (s : HartStatus) → status_by (status_number s) ≡ s
-status_again V.Running = refl
-status_again V.Waiting = refl
-status_again V.Halted = refl
+status_again x = grind arith
 
 pub status_back : (n : ℕ) → n ≤ 2 → n ≡ status_number (status_by n)
-status_back zero le = refl
-status_back (suc zero) le = refl
-status_back (suc (suc zero)) le = refl
-status_back (suc (suc (suc n))) le = absurd (omega (arith, le))
+status_back x le = grind arith
 
 pub bit_small : (b : Bool) → IsBetween 0 1 (bit b)
-bit_small true = (omega arith, omega arith)
-bit_small false = (omega arith, omega arith)
+bit_small x = grind arith
 
 pub bit_again : (b : Bool) → (bit b == 1) ≡ b
-bit_again true = refl
-bit_again false = refl
+bit_again x = grind arith
 
 pub bit_back : (n : ℕ) → n ≤ 1 → n ≡ bit (n == 1)
-bit_back zero le = refl
-bit_back (suc zero) le = refl
-bit_back (suc (suc n)) le = absurd (omega (arith, le))
+bit_back x le = grind arith
 
 pub perm_small : (p : Perm) → number p ≤ 3
-perm_small P.None = omega arith
-perm_small P.Read = omega arith
-perm_small P.ReadWrite = omega arith
-perm_small P.ExecuteRead = omega arith
+perm_small x = grind arith
 
 perm_again : (p : Perm) → perm_by (number p) ≡ p
-perm_again P.None = refl
-perm_again P.Read = refl
-perm_again P.ReadWrite = refl
-perm_again P.ExecuteRead = refl
+perm_again x = grind arith
 
 perm_back : (n : ℕ) → n < 4 → number (perm_by n) ≡ n
-perm_back zero lt = refl
-perm_back (suc zero) lt = refl
-perm_back (suc (suc zero)) lt = refl
-perm_back (suc (suc (suc zero))) lt = refl
-perm_back (suc (suc (suc (suc n)))) lt = absurd (omega (arith, lt))
+perm_back x lt = grind arith
 
 pub run_again : (r : Run Perm) → run_by (4 * r.count + number r.value) ≡ r
-run_again r =
-    let small = perm_small r.value in
-    let made : ℕ → Perm → Run Perm = λ k p. record { count = k; value = p } in
-    let quotient : (4 * r.count + number r.value) / 4 ≡ r.count = omega (arith, small) in
-    let remainder : (4 * r.count + number r.value) % 4 ≡ number r.value = omega (arith, small) in
-    ap (λ (k : ℕ). made k (perm_by ((4 * r.count + number r.value) % 4))) quotient
-    ∙ ap (λ (k : ℕ). made r.count (perm_by k)) remainder
-    ∙ ap (made r.count) (perm_again r.value)
+run_again r = search (arith, perm_small, r.count, r.value, perm_again)
 
 pub run_back : (n : ℕ) → n ≡ 4 * (n / 4) + number (perm_by (n % 4))
-run_back n =
-    let low : number (perm_by (n % 4)) ≡ n % 4 = perm_back (n % 4) (omega arith) in
-    omega (arith, low)
+run_back n = search (arith, perm_back)
 
 power_small : (n : ℕ) → n ≤ 4 → 2 ^ n ≤ 16
 power_small zero le = omega arith
@@ -158,10 +114,7 @@ power_small (suc (suc (suc (suc zero)))) le = omega arith
 power_small (suc (suc (suc (suc (suc n))))) le = absurd (omega (arith, le))
 
 pub heard_small : (harts h : ℕ) (status : HartStatus) (heard : ℕ) → harts ≤ 4 → is_heard harts h status heard ≡ true → heard < 2 ^ 32
-heard_small harts h V.Running heard le e = omega (arith, eqb-true heard 0 e)
-heard_small harts h V.Waiting heard le e =
-    omega (arith, ltb-true heard (2 ^ harts) (and_parts (nat_lt heard (2 ^ harts)) _ e).0, power_small harts le)
-heard_small harts h V.Halted heard le e = omega (arith, eqb-true heard 0 e)
+heard_small harts h x heard le e = grind (arith, and_parts, power_small)
 
 -- a property of each item, whatever stands before it, and two properties of each
 pub each_of : {A : Type 0} (P : A → Type 0) (xs before : List A) → AllByRecursion P xs → EachFits (λ others x. P x) before xs

@@ -53,9 +53,7 @@ head-recovers = recovers
     tells_next _ (recovers_between 1 1000000) (λ quantum g.
     tells_next _ (recovers_between 1 most_modules) (λ modules h.
     tells_next _ (recovers_between 1 4) (λ harts i.
-    tells_next _ (recovers_such _ _ (recovers_number 8)) (λ turns j.
-    let head : Head = record { words = words; kind = kind; limit = record { upper = upper; leaf = leaf; spill = spill }; lookaside = lookaside; quantum = quantum; modules = modules; harts = harts; turns = turns } in
-    tells_done head _ (record { words = a.1; upper = c.1; leaf = d.1; spill = e.1; lookaside = f.1; quantum = g; modules = h; harts = i; turns = (within_range 0 9223372036854775807 turns j.1).1 }, refl)))))))))))))
+    tells_next _ (recovers_such _ _ (recovers_number 8)) (search (arith, tells_done, within_range)))))))))))))
 
 block-recovers : (heap : Area) (before : List Area) → Recovers (block_in heap before) block_bytes (λ b. is_next_block heap before b ≡ true)
 unfolding block_in block_bytes
@@ -72,9 +70,7 @@ map-run-recovers h runs before = recovers_as (λ r e. (e.1, refl))
 
 -- a module's bytes, where the counts are those of its lists
 sized : (m : StoredModule) (size count runs : ℕ) → length m.name ≡ size → length m.home.blocks ≡ count → length m.map ≡ runs → flat_module size count runs m ≡ module_bytes m
-sized m size count runs a b c =
-    ap (λ (n : ℕ). flat_module n count runs m) (sym a) ∙ ap (λ (n : ℕ). flat_module (length m.name) n runs m) (sym b)
-    ∙ ap (λ (n : ℕ). flat_module (length m.name) (length m.home.blocks) n m) (sym c) ∙ sym (module-flat m)
+sized m size count runs a b c = search (arith, flat_module, module-flat)
 
 module-recovers : (h : Head) (before : List StoredModule) → Recovers (module_in h before) module_bytes (IsStoredModule h before)
 unfolding module_in
@@ -162,8 +158,7 @@ hart-recovers h before = recovers
     )))))))))
 
 stored_sized : (s : Stored) (runs count : ℕ) → length s.owners ≡ runs → length s.gates ≡ count → flat_stored runs count s ≡ spelling s
-stored_sized s runs count a b =
-    ap (λ (n : ℕ). flat_stored n count s) (sym a) ∙ ap (λ (n : ℕ). flat_stored (length s.owners) n s) (sym b) ∙ sym (stored-flat s)
+stored_sized s runs count a b = search (arith, flat_stored, stored-flat)
 
 pub fields-recover : Recovers fields_in spelling IsStored
 unfolding fields_in

@@ -18,9 +18,7 @@ stored-read s f le =
     let bytes = spelling s in
     let took : fields_in bytes 0 ≡ Took s (length bytes) =
     ap (λ (bs : List ℕ). fields_in bs 0) (sym (append-nil bytes)) ∙ (fields-read s f).at [] [] in
-    ap (λ (c : Bool). if c then Fails 0 1 else ended bytes (fields_in bytes 0)) (not_below most_bytes (length bytes) le)
-    ∙ ap (ended bytes) took
-    ∙ ap (λ (c : Bool). if c then Fails (length bytes) 5 else Took s (length bytes)) (not_below (length bytes) (length bytes) (omega arith))
+    search (arith, not_below)
 
 -- what was read to the end of the bytes
 record Ended (bytes : List ℕ) (s : Stored) (n : ℕ) : Type 0 where

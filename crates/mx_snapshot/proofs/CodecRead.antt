@@ -74,9 +74,8 @@ module_joined size name areas flags count blocks runs maps = simp (append_assoc,
 
 pub module-flat : (m : StoredModule) → module_bytes m ≡ flat_module (length m.name) (length m.home.blocks) (length m.map) m
 unfolding module_bytes name_bytes area_bytes flag_bytes counted
-module-flat m = module_joined (little_endian 4 (length m.name)) m.name
-    (numbers (m.home.heap.first ∷ m.home.heap.count ∷ m.home.stack.first ∷ m.home.stack.words ∷ [])) (numbers (bit m.home.kills ∷ bit m.home.dead ∷ []))
-    (little_endian 4 (length m.home.blocks)) (flat_map block_bytes m.home.blocks) (little_endian 4 (length m.map)) (flat_map map_run_bytes m.map)
+module-flat m =
+    search (arith, module_joined, m.name, m.home.heap.first, m.home.heap.count, m.home.stack.first, m.home.stack.words)
 
 module-reads : (h : Head) → IsHead h → (before : List StoredModule) (m : StoredModule) → IsStoredModule h before m → Reads (module_in h before) (module_bytes m) m
 unfolding module_in
@@ -174,8 +173,7 @@ stored_joined head modules runs owners count gates harts ram = simp (append_asso
 
 pub stored-flat : (s : Stored) → spelling s ≡ flat_stored (length s.owners) (length s.gates) s
 unfolding spelling front_bytes counted
-stored-flat s = stored_joined (head_bytes s.head) (flat_map module_bytes s.modules) (little_endian 4 (length s.owners)) (flat_map owner_run_bytes s.owners)
-    (little_endian 4 (length s.gates)) (flat_map gate_bytes s.gates) (flat_map hart_bytes s.harts) s.ram
+stored-flat s = search (arith, stored_joined)
 
 pub fields-read : (s : Stored) → IsStored s → Reads fields_in (spelling s) s
 unfolding fields_in

@@ -1,18 +1,16 @@
 -- What a snapshot stores of a valid flat state gives back a state that is the same, and the plan that was kept.
-use Rattle.std.proofs.Common.{◌≡◌, ℕ, suc, ◌+◌, ◌-◌, ◌<◌, ◌==◌, Bool, List, [], ◌∷◌, length, get_or, refl, sym, ap, ◌∙◌, subst, arith}
+use Rattle.std.proofs.Common.{◌≡◌, ℕ, suc, ◌+◌, ◌-◌, ◌<◌, ◌==◌, List, [], ◌∷◌, length, get_or, refl, sym, ap, ◌∙◌, arith}
 use Rattle.std.proofs.Common.{map as list_map}
 use Rattle.std.specs.List.{enumerate_from, range_with_len}
 use Rattle.std.proofs.lemmas.List.{ext_get_or, get_or-map, get_or_default, length-map}
 use Rattle.std.proofs.lemmas.List.FromFn.{get_or-map-range_with_len, length-map-range_with_len}
 use Rattle.mx_words.specs.declared.perm.Perm.{Perm}
 use Rattle.mx_words.specs.declared.perm.Perm.TheVariants as P
-use Rattle.mx_words.specs.Hearing.{most_harts}
 use Rattle.mx_words.specs.Newest.{Grant, map, owners}
 use Rattle.mx_words.specs.Rights.{same}
 use Rattle.mx_words.specs.Runs.{runs_of}
-use Rattle.mx_model.specs.declared.values.Call.{Call}
 use Rattle.mx_model.specs.Reads.{map_in}
-use Rattle.mx_model.specs.State.{Core, Flat, Hart, Module, Status, Running, Waiting, Halted, flat, no_hart, no_module}
+use Rattle.mx_model.specs.State.{Core, Flat, Hart, Module, Status, flat, no_hart, no_module}
 use Rattle.mx_model.specs.Turn.{call_of}
 use Rattle.mx_model.specs.Valid.{IsFlat, IsStatus}
 use Rattle.mx_model.proofs.ListLaws.{all-in}
@@ -22,19 +20,13 @@ use Rattle.mx_snapshot.proofs.ValidGoes.{no_stored_module}
 use Rattle.mx_snapshot.proofs.ValidRuns.{nat-equality, perm-equality}
 use Rattle.mx_snapshot.specs.Kept.{IsOfPlan, KeptPlan}
 use Rattle.mx_snapshot.specs.Resumed.{hart_in_state, laid_runs, plan_of, running, state_of, status_in}
-use Rattle.mx_snapshot.specs.Rules.{has_bit}
 use Rattle.mx_snapshot.specs.Same.{AreSame, bare_hart, without_code}
 use Rattle.mx_snapshot.specs.Stored.{StoredHart, StoredModule, heard_of, named_module, perm_runs_of, stored_hart, stored_of}
 
 -- the status of a hart, but for an exit code
 status-back : (harts h : ℕ) (x : Hart) (y : StoredHart) (status : Status) → y.heard ≡ heard_of status → call_of h (running y) ≡ call_of h x → IsStatus harts h x status →
     without_code (status_in h y (status_told status)) ≡ without_code status
-status-back harts h x y Running heard call is = refl
-status-back harts h x y (Waiting own hearers) heard call is =
-    ap (λ (c : Call). Waiting c (list_map (has_bit y.heard) (range_with_len 0 most_harts))) (call ∙ sym is.own)
-    ∙ ap (λ (n : ℕ). Waiting own (list_map (has_bit n) (range_with_len 0 most_harts))) heard
-    ∙ ap (λ (bs : List Bool). Waiting own bs) (four-bits hearers is.places)
-status-back harts h x y (Halted code) heard call is = refl
+status-back harts h x y x1 heard call is = grind (arith, four-bits)
 
 hart-back : (harts h : ℕ) (x : Hart) → IsStatus harts h x x.status → bare_hart (hart_in_state (h, stored_hart x)) ≡ bare_hart x
 hart-back harts h x is = ap (λ (status : Status). record x { status = status }) (status-back harts h x (stored_hart x) x.status refl refl is)
@@ -107,9 +99,7 @@ module _ (kept : KeptPlan) (f : Flat) (valid : IsFlat f) where
   owners-back = laid-again (λ (a b : ℕ). a == b) 0 f.owners core.size nat-equality valid.owners
 
   harts-are : list_map bare_hart (list_map hart_in_state (enumerate_from 0 (list_map stored_hart core.harts))) ≡ list_map bare_hart core.harts
-  harts-are = harts-back (length core.harts) 0 core.harts (λ i j e lt.
-      subst (λ (k : ℕ). IsStatus (length core.harts) k (get_or core.harts i no_hart) (get_or core.harts i no_hart).status) (let same : i ≡ j = omega (arith, e) in same)
-      (valid.valid.harts i lt).status)
+  harts-are = harts-back (length core.harts) 0 core.harts (search (arith, core.harts, valid.valid.harts))
 
   abbrev bare_with : List Module → List Hart → List (List Perm) → List ℕ → Flat
   bare_with modules harts maps owners = record {
@@ -120,14 +110,7 @@ module _ (kept : KeptPlan) (f : Flat) (valid : IsFlat f) where
 
   pub state-back : AreSame (flat (state_of (stored_of kept f))) f
   state-back =
-      let homes = list_map (λ (m : StoredModule). m.home) ms in
-      let harts = list_map bare_hart (list_map hart_in_state (enumerate_from 0 (list_map stored_hart core.harts))) in
-      let maps = list_map (λ (g : List Grant). map g core.size) laid in
-      let given = owners (laid_runs 0 (runs_of (λ (a b : ℕ). a == b) f.owners)) core.size in
-      ap (λ (x : List Module). bare_with x harts maps given) modules-back
-      ∙ ap (λ (x : List Hart). bare_with core.modules x maps given) harts-are
-      ∙ ap (λ (x : List (List Perm)). bare_with core.modules (list_map bare_hart core.harts) x given) maps-back
-      ∙ ap (λ (x : List ℕ). bare_with core.modules (list_map bare_hart core.harts) f.maps x) owners-back
+      search (arith, ms, laid, bare_with, modules-back, core.modules, harts-are, maps-back, f.maps, owners-back)
 
 pub given-back : (kept : KeptPlan) (f : Flat) → IsFlat f → AreSame (flat (state_of (stored_of kept f))) f
 given-back kept f valid = state-back kept f valid

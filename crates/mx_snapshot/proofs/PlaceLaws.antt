@@ -2,7 +2,6 @@
 use Rattle.std.proofs.Common.{◌≡◌, ℕ, zero, suc, ◌+◌, ◌-◌, ◌<◌, ◌≤◌, true, false, List, [], ◌∷◌, length, get_or, sym, ap, ◌∙◌, arith, Option, Some, None}
 use Rattle.std.proofs.lemmas.Option.{get_or_from_slice_get, slice_get_within}
 use Rattle.mx_model.specs.State.{Hart}
-use Rattle.mx_machine.specs.declared.views.HartStatus.{HartStatus}
 use Rattle.mx_machine.specs.declared.views.HartView.{HartView}
 use Rattle.mx_machine.specs.Readings.{IsViewOf, status_told}
 use Rattle.mx_snapshot.specs.Spelling.{state_bytes}
@@ -40,7 +39,4 @@ is_behind (Some a) xs i told is = absurd (let q : ⊥ = cc in q)
 
 -- how a hart stands, by what is told of it
 pub state_told : (hart : Hart) (v : HartView) → IsViewOf hart v → state_bytes v.status v.domain v.pc v.regs ≡ state_bytes (status_told hart.status) hart.domain hart.pc hart.regs
-state_told hart v is =
-    ap (λ (s : HartStatus). state_bytes s v.domain v.pc v.regs) is.status ∙ ap (λ (d : ℕ). state_bytes (status_told hart.status) d v.pc v.regs) is.domain
-    ∙ ap (λ (pc : ℕ). state_bytes (status_told hart.status) hart.domain pc v.regs) is.pc
-    ∙ ap (λ (regs : List ℕ). state_bytes (status_told hart.status) hart.domain hart.pc regs) is.regs
+state_told hart v is = search (arith, v.domain, v.pc, hart.domain, hart.pc)

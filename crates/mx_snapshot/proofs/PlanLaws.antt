@@ -1,11 +1,10 @@
 -- A machine is one of the plan that it booted from, and stays one.
-use Rattle.std.proofs.Common.{◌≡◌, ℕ, Bool, true, false, cond, List, Option, Some, None, Ok, Err, refl, sym, subst, ◌∙◌}
+use Rattle.std.proofs.Common.{◌≡◌, ℕ, Bool, cond, List, Option, Some, None, Ok, Err, refl, sym, subst, ◌∙◌, arith}
 use Rattle.std.proofs.lemmas.List.{length-map}
 use Rattle.mx_words.specs.Need.{within}
 use Rattle.mx_manifest.specs.declared.fault.BootFault.{BootFault}
 use Rattle.mx_manifest.specs.declared.parts.ModulePlan.{ModulePlan}
 use Rattle.mx_manifest.specs.Plan.{Said}
-use Rattle.mx_model.specs.Reads.{flat_reads}
 use Rattle.mx_model.specs.Run.{flat_turn}
 use Rattle.mx_model.specs.State.{Flat, State, flat}
 use Rattle.mx_model.proofs.KeepLaws.{keeps-turned}
@@ -14,8 +13,7 @@ use Rattle.mx_boot.specs.Faults.{first_fault}
 use Rattle.mx_snapshot.specs.Kept.{IsOfPlan, KeptPlan, kept_of}
 
 if_ok : (b : Bool) (s t : State) (e : Refusal) → cond b (Ok s) (Err e) ≡ Ok t → t ≡ s
-if_ok true s t e is = cc
-if_ok false s t e is = cc
+if_ok x s t e is = grind arith
 
 unless_ok : (o : Option BootFault) (s t : State) → unless o (limited s) ≡ Ok t → t ≡ s
 unless_ok None s t is = if_ok (within (boot_need s) s.core.limit) s t (TooFull (boot_need s) s.core.limit) is
@@ -38,6 +36,4 @@ pub boots_of_plan : (plan : Said) (images : List (List ℕ)) (t : State) → boo
 boots_of_plan plan images t is = subst (λ (s : State). IsOfPlan (kept_of plan) (flat s)) (sym (boots plan images t is)) (fresh plan images)
 
 pub turns_of_plan : (kept : KeptPlan) (f : Flat) (h : ℕ) → IsOfPlan kept f → IsOfPlan kept (flat_turn f h)
-turns_of_plan kept f h is =
-    let keeps = keeps-turned (flat_reads f) f.core h in
-    record { kind = keeps.kind ∙ is.kind; limit = keeps.limit ∙ is.limit; lookaside = keeps.buffer ∙ is.lookaside; modules = keeps.modules ∙ is.modules }
+turns_of_plan kept f h is = search (arith, keeps-turned, f.core)

@@ -1,5 +1,5 @@
 -- Runs from valid states keep them valid, and a run that is stopped, saved and taken up is the whole run.
-use Rattle.std.proofs.Common.{ℕ, zero, suc, true, false, refl, sym, subst}
+use Rattle.std.proofs.Common.{ℕ, zero, suc, true, false, sym, subst, arith}
 use Rattle.mx_model.specs.Run.{Schedule, hart_of, is_stopped, run, turn}
 use Rattle.mx_model.specs.State.{Flat, State, flat}
 use Rattle.mx_model.specs.Valid.{IsFlat}
@@ -21,8 +21,4 @@ run-valid p (suc n) s valid = elim (is_stopped p s) as (λ b. IsFlat (flat (next
 
 -- a snapshot's state takes up a run of which it was stored
 pub saved-takes-up : (p : Schedule) (n : ℕ) (s : State) (kept : KeptPlan) → IsFlat (flat s) → TakesUp (run p n s) (state_of (stored_of kept (flat (run p n s))))
-saved-takes-up p n s kept valid = record {
-  same = sym (given-back kept (flat (run p n s)) (run-valid p n s valid));
-  console = refl;
-  notes = refl;
-}
+saved-takes-up p n s kept valid = search (arith, given-back, run-valid)

@@ -1,15 +1,14 @@
 -- Turns and runs of states that are the same, and what runs add to console and notes.
-use Rattle.std.proofs.Common.{◌≡◌, ℕ, zero, suc, ◌+◌, ◌/◌, ◌%◌, ◌&&◌, ◌||◌, true, false, List, [], ◌∷◌, ◌++◌, refl, sym, ◌∙◌, ap, subst}
+use Rattle.std.proofs.Common.{◌≡◌, ℕ, zero, suc, ◌+◌, ◌&&◌, ◌||◌, true, false, List, [], ◌∷◌, ◌++◌, refl, sym, ◌∙◌, ap, subst, arith}
 use Rattle.std.proofs.Common.{map as list_map}
 use Rattle.std.specs.Prelude.{option_to_list}
 use Rattle.std.specs.List.{list_all}
 use Rattle.std.proofs.lemmas.List.{append-nil, append_assoc, length-map}
 use Rattle.mx_model.specs.declared.values.Note.{Note}
 use Rattle.mx_model.specs.Checks.{is_halted}
-use Rattle.mx_model.specs.Run.{Schedule, ByQuantum, ByBytes, turn, flat_turn, made_of, flat_made, flat_after, hart_of, is_over, all_halted, is_stopped, run}
+use Rattle.mx_model.specs.Run.{Schedule, turn, flat_turn, made_of, flat_made, hart_of, is_over, all_halted, is_stopped, run}
 use Rattle.mx_model.specs.Reads.{flat_reads}
 use Rattle.mx_model.specs.State.{Core, Hart, State, Flat, flat}
-use Rattle.mx_model.specs.Turn.{Made}
 use Rattle.mx_model.proofs.FlatLaws.{flat-turn, made-flat}
 use Rattle.mx_model.proofs.RunLaws.{run-add}
 use Rattle.mx_model.proofs.RunSteps.{next_of}
@@ -22,8 +21,7 @@ made-same f g h p =
     bare-turned (flat_reads f) f.core h ∙ ap (λ (x : Flat). bare_made (flat_made x h)) p ∙ sym (bare-turned (flat_reads g) g.core h)
 
 pub turn-same : (f g : Flat) (h : ℕ) → AreSame f g → AreSame (flat_turn f h) (flat_turn g h)
-turn-same f g h p =
-    ap (λ (x : Flat). flat_after x (bare_made (flat_made f h))) p ∙ ap (flat_after (bare_flat g)) (made-same f g h p)
+turn-same f g h p = search (arith, bare_made, made-same)
 
 -- what a turn makes of states whose flat states are the same
 pub made-alike : (s t : State) (h : ℕ) → AreSame (flat s) (flat t) → bare_made (made_of s h) ≡ bare_made (made_of t h)
@@ -46,8 +44,7 @@ stopped-same schedule s t p =
     ∙ ap (λ b. b || is_over schedule t.core.turns) (halted-all t.core.harts)
 
 hart-same : (schedule : Schedule) (c : Core) → hart_of schedule c ≡ hart_of schedule (bare c)
-hart-same (ByQuantum quantum) c = ap (λ n. c.turns / quantum % n) (sym (length-map c.harts bare_hart))
-hart-same (ByBytes bytes) c = refl
+hart-same x c = grind (arith, length-map)
 
 next-same : (schedule : Schedule) (s t : State) → AreSame (flat s) (flat t) → hart_of schedule s.core ≡ hart_of schedule t.core
 next-same schedule s t p = hart-same schedule s.core ∙ ap (λ (f : Flat). hart_of schedule f.core) p ∙ sym (hart-same schedule t.core)
@@ -59,13 +56,7 @@ pub record Match (s t : State) : Type 0 where
   pub notes : s.notes ≡ t.notes
 
 match-turn : (s t : State) (h : ℕ) → Match s t → Match (turn s h) (turn t h)
-match-turn s t h p =
-    let q = made-alike s t h p.same in
-    record {
-      same = turn-alike s t h p.same;
-      console = ap (λ (xs : List ℕ). xs ++ (made_of s h).console) p.console ∙ ap (λ (m : Made). t.console ++ m.console) q;
-      notes = ap (λ (xs : List Note). xs ++ option_to_list (made_of s h).note) p.notes ∙ ap (λ (m : Made). t.notes ++ option_to_list m.note) q;
-    }
+match-turn s t h p = search (arith, made-alike, turn-alike, t.console, t.notes)
 
 match-run : (schedule : Schedule) (n : ℕ) (s t : State) → Match s t → Match (run schedule n s) (run schedule n t)
 match-run schedule zero s t p = p
@@ -107,19 +98,9 @@ pub run-same : (schedule : Schedule) (n : ℕ) (s t : State) → AreSame (flat s
 run-same schedule n s t p = match-run schedule n (silent s) (silent t) (record { same = p; console = refl; notes = refl })
 
 pub run-alike : (schedule : Schedule) (n : ℕ) (s t : State) → AreSame (flat s) (flat t) → AreSame (flat (run schedule n s)) (flat (run schedule n t))
-run-alike schedule n s t p =
-    ap (λ (x : State). bare_flat (flat x)) (run-silent schedule n s) ∙ (run-same schedule n s t p).same ∙ sym (ap (λ (x : State). bare_flat (flat x)) (run-silent schedule n t))
+run-alike schedule n s t p = grind (arith, run-silent, run-same)
 
 -- a run taken up, and the rest of the whole run
 pub run-taken : (schedule : Schedule) (n m : ℕ) (s t : State) → TakesUp (run schedule n s) t →
     Match (run schedule (n + m) s) (behind (run schedule n s).console (run schedule n s).notes (run schedule m t))
-run-taken schedule n m s t p =
-    let half = run schedule n s in
-    let e : run schedule (n + m) s ≡ behind half.console half.notes (run schedule m (silent half)) = run-add schedule n m s ∙ run-silent schedule m half in
-    let q : Match (run schedule m (silent half)) (run schedule m t) =
-    match-run schedule m (silent half) t (record { same = p.same; console = sym p.console; notes = sym p.notes }) in
-    record {
-      same = ap (λ (x : State). bare_flat (flat x)) e ∙ q.same;
-      console = ap (λ (x : State). x.console) e ∙ ap (λ (xs : List ℕ). half.console ++ xs) q.console;
-      notes = ap (λ (x : State). x.notes) e ∙ ap (λ (xs : List Note). half.notes ++ xs) q.notes;
-    }
+run-taken schedule n m s t p = grind (arith, behind, run-add, run-silent, match-run)

@@ -1,5 +1,5 @@
 -- What a snapshot stores of a valid flat state, of a plan in its ranges, is a valid snapshot.
-use Rattle.std.proofs.Common.{◌≡◌, ℕ, zero, suc, ◌+◌, ◌*◌, ◌%◌, ◌^◌, ◌<◌, ◌≤◌, ◌==◌, Bool, true, false, cond, not, nat_lt, nat_le, ◌&&◌, ◌||◌, if◌then◌else◌, List, [], ◌∷◌, ◌++◌, length, get_or, take, Option, None, refl, sym, ap, ◌∙◌, subst, arith, append_assoc, length-append, length-take-le}
+use Rattle.std.proofs.Common.{◌≡◌, ℕ, zero, suc, ◌+◌, ◌*◌, ◌%◌, ◌^◌, ◌<◌, ◌≤◌, ◌==◌, Bool, true, false, cond, not, nat_lt, nat_le, ◌&&◌, if◌then◌else◌, List, [], ◌∷◌, ◌++◌, length, get_or, take, Option, None, refl, sym, ap, ◌∙◌, subst, arith, append_assoc, length-append, length-take-le}
 use Rattle.std.specs.List.{AllByRecursion}
 use Rattle.std.specs.Option.{option_map_or}
 use Rattle.std.proofs.lemmas.Bool.{and_from, eq-eqb, eqb-true, false_from_ne_true, le-leb, lt-ltb, not_from_false}
@@ -17,7 +17,7 @@ use Rattle.mx_words.proofs.AreaLaws.{apart_ordered}
 use Rattle.mx_words.proofs.CountingLaws.{bit-le}
 use Rattle.mx_words.proofs.MaximalRuns.{AreMaximal}
 use Rattle.mx_model.specs.declared.values.Frame.{Frame}
-use Rattle.mx_model.specs.State.{Hart, Status, Running, Waiting, Halted}
+use Rattle.mx_model.specs.State.{Hart, Status}
 use Rattle.mx_model.specs.Valid.{IsFrame, IsHart, IsStatus}
 use Rattle.mx_model.proofs.JoinLaws.{all-weaker}
 use Rattle.mx_machine.specs.declared.views.HartStatus.{HartStatus}
@@ -38,10 +38,7 @@ each-from {A} fits (x ∷ xs) before each = (
 )
 
 three_from : (x y z : Bool) → x ≡ true → y ≡ true → z ≡ true → (x && y && z) ≡ true
-three_from true true true a b c = refl
-three_from true true false a b c = c
-three_from true false z a b c = absurd (let q : ⊥ = cc in q)
-three_from false y z a b c = absurd (let q : ⊥ = cc in q)
+three_from x y z a b c = grind arith
 
 -- blocks that lie apart in their area
 pub blocks-from : (heap : Area) (bs before : List Area) → AreApart (behind heap before) (heap.first + heap.count) bs → EachFits (λ others b. is_next_block heap others b ≡ true) before bs
@@ -62,8 +59,7 @@ abbrev pub FitsAsRun : {A : Type 0} → (A → A → Bool) → ℕ → ℕ → L
 FitsAsRun eq words runs before r = (has_place words runs before r.count ≡ true) × (is_other eq before r.value ≡ true)
 
 place-from : (end words : ℕ) (some b : Bool) → some ≡ true → (b ≡ true → end ≡ words) → end ≤ words → (some && (if b then end == words else nat_le end words)) ≡ true
-place-from end words some true is last le = and_from some (end == words) is (eq-eqb end words (last refl))
-place-from end words some false is last le = and_from some (nat_le end words) is (le-leb end words le)
+place-from end words some x is last le = grind (arith, and_from, eq-eqb, le-leb)
 
 other-next : {A : Type 0} (eq : A → A → Bool) (before : List (Run A)) (x : Run A) (xs : List (Run A)) → AreMaximal eq (x ∷ xs) → Other eq (before ++ x ∷ []) xs
 other-next eq before x [] p = tt
@@ -130,45 +126,21 @@ own-bit heard n places lt =
     sym (get_or-map-range_with_len (has_bit (bits_of heard)) 0 most_harts n n false lt (omega arith)) ∙ ap (λ (bs : List Bool). get_or bs n false) (four-bits heard places)
 
 heard-fits : (harts n : ℕ) (hart : Hart) (status : Status) → n < 4 → IsStatus harts n hart status → is_heard harts n (status_told status) (heard_of status) ≡ true
-heard-fits harts n hart Running lt is = refl
-heard-fits harts n hart (Waiting call heard) lt is =
-    let small = bits-small heard harts (λ i e. (is.others i e).0) in
-    let own : is_in heard n ≡ false = false_from_ne_true (is_in heard n) (λ e. (is.others n e).1 refl) in
-    and_from (nat_lt (bits_of heard) (2 ^ harts)) (not (has_bit (bits_of heard) n)) (lt-ltb (bits_of heard) (2 ^ harts) small)
-    (not_from_false (has_bit (bits_of heard) n) (own-bit heard n is.places lt ∙ own))
-heard-fits harts n hart (Halted code) lt is = refl
+heard-fits harts n hart x lt is =
+    grind (arith, bits-small, false_from_ne_true, and_from, lt-ltb, not_from_false, own-bit)
 
 -- a register
 register-rule : (status : HartStatus) (r value : ℕ) → (r ≡ 0 → value ≡ 0) → (r ≡ 17 → is_waiting status ≡ true → is_announced value ≡ true) → is_register status r value ≡ true
-register-rule status r value first number = elim (r == 0) as
-    (λ b. (r == 0) ≡ b → cond b (value == 0) (cond (r == 17) (not (is_waiting status) || is_announced value) true) ≡ true) [
-      | true ↦ λ e. eq-eqb value 0 (first (eqb-true r 0 e))
-      | false ↦ λ e. elim (r == 17) as (λ b. (r == 17) ≡ b → cond b (not (is_waiting status) || is_announced value) true ≡ true) [
-        | true ↦ λ k. waits (is_waiting status) (is_announced value) (number (eqb-true r 17 k))
-        | false ↦ λ k. refl
-      ] refl
-    ] refl
-  where
-    waits : (w a : Bool) → (w ≡ true → a ≡ true) → (not w || a) ≡ true
-    waits true a f = f refl
-    waits false a f = refl
+register-rule status r value first number = search (arith, eq-eqb, eqb-true)
 
 call-number : (harts n : ℕ) (hart : Hart) (status : Status) → IsStatus harts n hart status → is_waiting (status_told status) ≡ true → is_announced (get_or hart.regs 17 0) ≡ true
-call-number harts n hart Running is e = absurd (let q : ⊥ = cc in q)
-call-number harts n hart (Waiting call heard) is e = subst (λ c. is_announced c.number ≡ true) is.own is.announced
-call-number harts n hart (Halted code) is e = absurd (let q : ⊥ = cc in q)
+call-number harts n hart x is e = grind arith
 
 all-small : (ns : List ℕ) (most : ℕ) → ((i : ℕ) → get_or ns i 0 < most) → AllByRecursion (λ (n : ℕ). n < most) ns
 all-small ns most each = recursion_from_All (λ (n : ℕ). n < most) ns (All-from_get_or (λ (n : ℕ). n < most) ns 0 (λ i lt. each i))
 
 frame-stored : (h : Head) (f : Frame) → IsFrame h.modules f → IsStoredFrame h f
-frame-stored h f is = record {
-  back = eq-eqb (f.back % 4) 0 is.back.aligned;
-  small = is.back.small;
-  caller = (is.caller.first, is.caller.last);
-  count = is.count;
-  kept = all-small f.kept (2 ^ 32) is.small;
-}
+frame-stored h f is = search (arith, eq-eqb, f.back, all-small, f.kept)
 
 pub hart-stored : (h : Head) (n : ℕ) (x : Hart) (others : List StoredHart) → length others ≡ n → n < 4 → IsHart h.modules h.harts n x → IsStoredHart h others (stored_hart x)
 hart-stored h n x others count lt is =

@@ -1,5 +1,5 @@
 -- A snapshot of a valid state of a machine, of a plan in its ranges, is valid.
-use Rattle.std.proofs.Common.{◌≡◌, ◌⊎◌, inl, inr, ℕ, zero, suc, ◌+◌, ◌-◌, ◌*◌, ◌^◌, ◌<◌, ◌≤◌, ◌==◌, Bool, true, false, not, nat_lt, nat_le, ◌||◌, List, [], ◌∷◌, length, get_or, take, slice_get, Some, refl, sym, ap, ◌∙◌, subst, arith, length-take-le, get_or-take, ⊎_elim}
+use Rattle.std.proofs.Common.{◌≡◌, ◌⊎◌, ℕ, ◌+◌, ◌-◌, ◌*◌, ◌^◌, ◌<◌, ◌≤◌, ◌==◌, Bool, true, false, not, nat_lt, nat_le, List, [], ◌∷◌, length, get_or, take, slice_get, Some, refl, sym, ap, ◌∙◌, subst, arith, length-take-le, get_or-take}
 use Rattle.std.proofs.Common.{map as list_map}
 use Rattle.std.specs.List.{list_all, list_any, range_with_len}
 use Rattle.std.specs.Str.{bytes_eq}
@@ -10,15 +10,12 @@ use Rattle.std.proofs.lemmas.List.Folds.{list_any_none}
 use Rattle.std.proofs.lemmas.List.FromFn.{get_or-map-range_with_len, length-map-range_with_len}
 use Rattle.std.proofs.lemmas.Option.{slice_get-get_or}
 use Rattle.std.proofs.lemmas.Slice.Eq.{bytes_eq-Decides}
-use Rattle.mx_words.specs.declared.perm.Perm.{Perm}
-use Rattle.mx_words.specs.declared.tables.Need.{Need}
-use Rattle.mx_words.specs.Newest.{map}
 use Rattle.mx_words.specs.Rights.{same}
 use Rattle.mx_words.specs.Runs.{Run, runs_of}
 use Rattle.mx_words.proofs.MaximalRuns.{covered-runs_of, maximal-runs_of, some-runs_of, IsEquality}
 use Rattle.mx_model.specs.Gates.{has_gate, is_at}
 use Rattle.mx_model.specs.Reads.{map_in}
-use Rattle.mx_model.specs.State.{Core, Flat, no_hart, no_module}
+use Rattle.mx_model.specs.State.{Core, Flat, no_hart}
 use Rattle.mx_model.specs.Valid.{IsFlat, IsGate, IsHome}
 use Rattle.mx_model.proofs.ApartLaws.{at-flipped}
 use Rattle.mx_model.proofs.ListLaws.{all-in}
@@ -33,18 +30,10 @@ use Rattle.mx_snapshot.specs.Rules.{has_place, is_area, is_buffer, is_new_name, 
 use Rattle.mx_snapshot.specs.Stored.{Head, StoredHart, StoredModule, head_of, named_module, stored_hart, stored_of}
 
 buffer-from : (n : ℕ) → (n ≡ 8) ⊎ (n ≡ 32) ⊎ (n ≡ 64) → is_buffer n ≡ true
-buffer-from n (inl e) = ap is_buffer e
-buffer-from n (inr (inl e)) = ap is_buffer e
-buffer-from n (inr (inr e)) = ap is_buffer e
+buffer-from n x = grind arith
 
 area-from : (words first count : ℕ) → first + count ≤ words → (count ≡ 0 → first ≡ 0) → is_area words first count ≡ true
-area-from words first count le none = and_from (nat_le (first + count) words) (nat_lt 0 count || first == 0) (le-leb (first + count) words le)
-    (⊎_elim (λ (e : count ≡ 0). or_right (nat_lt 0 count) (first == 0) (eq-eqb first 0 (none e)))
-    (λ (ne : count ≡ 0 → ⊥). or_left (nat_lt 0 count) (first == 0) (lt-ltb 0 count (positive count ne))) (cases_eq count 0))
-  where
-    positive : (n : ℕ) → (n ≡ 0 → ⊥) → 0 < n
-    positive zero ne = absurd (ne refl)
-    positive (suc n) ne = omega arith
+area-from words first count le none = search (arith, and_from, le-leb, or_right, eq-eqb, or_left, lt-ltb, cases_eq)
 
 -- the maximal runs of a list
 other-first : {A : Type 0} (eq : A → A → Bool) (xs : List (Run A)) → Other eq [] xs
@@ -84,21 +73,11 @@ module _ (kept : KeptPlan) (f : Flat) (in_range : IsKept kept) (plan : IsOfPlan 
   ms = list_map one (range_with_len 1 count)
 
   head-fits : IsHead h
-  head-fits = record {
-    words = ram;
-    upper = subst (λ (n : Need). n.upper ≤ 4096) (sym plan.limit) in_range.upper;
-    leaf = subst (λ (n : Need). n.leaf ≤ 262144) (sym plan.limit) in_range.leaf;
-    spill = subst (λ (n : Need). n.spill ≤ 1048576) (sym plan.limit) in_range.spill;
-    lookaside = subst (λ (n : ℕ). is_buffer n ≡ true) (sym plan.lookaside) (buffer-from kept.lookaside in_range.lookaside);
-    quantum = in_range.quantum;
-    modules = (valid.valid.some_modules, valid.valid.few_modules);
-    harts = (valid.valid.some_harts, valid.valid.few_harts);
-    turns = turns;
-  }
+  head-fits = search (arith, buffer-from, kept.lookaside)
 
   -- names
   name-at : (i : ℕ) → i < count → slice_get kept.names i ≡ Some (get_or kept.names i [])
-  name-at i lt = let many = plan.modules in slice_get-get_or kept.names i [] (omega (arith, lt, many))
+  name-at i lt = slice_get-get_or kept.names i [] (omega (arith, lt))
 
   names-differ : (i k : ℕ) → i < count → k < i → bytes_eq (get_or kept.names k []) (get_or kept.names i []) ≡ false
   names-differ i k lt below = false_from_ne_true (bytes_eq (get_or kept.names k []) (get_or kept.names i []))
@@ -114,7 +93,7 @@ module _ (kept : KeptPlan) (f : Flat) (in_range : IsKept kept) (plan : IsOfPlan 
   module-at i d lt = get_or-map-range_with_len one 1 count i (1 + i) d lt refl
 
   name-is : (i : ℕ) → (one (1 + i)).name ≡ get_or kept.names i []
-  name-is i = let back : 1 + i - 1 ≡ i = omega arith in ap (λ (k : ℕ). get_or kept.names k []) back
+  name-is i = ap (λ (k : ℕ). get_or kept.names k []) (omega arith)
 
   none-named : (i : ℕ) → i < count → list_any (λ (m : StoredModule). bytes_eq m.name (get_or kept.names i [])) (take i ms) ≡ false
   none-named i lt =
@@ -129,16 +108,10 @@ module _ (kept : KeptPlan) (f : Flat) (in_range : IsKept kept) (plan : IsOfPlan 
 
   -- module i + 1 behind those before it
   home-at : (i : ℕ) → i < count → IsHome core.size (length core.harts) (one (1 + i)).home
-  home-at i lt =
-      let back : 1 + i - 1 ≡ i = omega arith in
-      subst (λ (k : ℕ). IsHome core.size (length core.harts) (get_or core.modules k no_module)) (sym back) (all-in (IsHome core.size (length core.harts)) core.modules no_module valid.valid.modules i lt)
+  home-at i lt = search (arith, core.size, core.modules, all-in, valid.valid.modules)
 
   map-long : (i : ℕ) → i < count → length (map_in core.size f.maps (1 + i)) ≡ core.size
-  map-long i lt =
-      let back : 1 + i - 1 ≡ i = omega arith in
-      let maps = valid.maps in
-      subst (λ (k : ℕ). length (get_or f.maps k (map [] core.size)) ≡ core.size) (sym back)
-      (all-in (λ (m : List Perm). length m ≡ core.size) f.maps (map [] core.size) valid.whole_maps i (omega (arith, lt, maps)))
+  map-long i lt = search (arith, f.maps, all-in)
 
   module-fits : (i : ℕ) → i < count → IsStoredModule h (take i ms) (one (1 + i))
   module-fits i lt =

@@ -1,11 +1,10 @@
 -- Maximal runs of what runs cover are these runs, and runs laid over their words give back the list whose runs they are; bits of
 -- who has heard a call.
-use Rattle.std.proofs.Common.{◌≡◌, ℕ, zero, suc, ◌+◌, ◌-◌, ◌*◌, ◌/◌, ◌%◌, ◌^◌, ◌<◌, ◌≤◌, ◌==◌, Bool, true, false, cond, not, nat_lt, List, [], ◌∷◌, ◌++◌, length, replicate, refl, sym, ap, ◌∙◌, arith}
+use Rattle.std.proofs.Common.{◌≡◌, ℕ, zero, suc, ◌+◌, ◌-◌, ◌^◌, ◌<◌, ◌≤◌, Bool, true, false, cond, not, nat_lt, List, [], ◌∷◌, ◌++◌, length, replicate, refl, sym, ap, ◌∙◌, arith}
 use Rattle.std.proofs.Common.{map as list_map}
 use Rattle.std.specs.List.{AllByRecursion, range_with_len}
 use Rattle.std.proofs.lemmas.Bool.{and_parts, ltb-true}
 use Rattle.std.proofs.Math.Nat.{pow-le-pow_right}
-use Rattle.mx_words.specs.Counting.{bit}
 use Rattle.mx_words.specs.Hearing.{most_harts}
 use Rattle.mx_words.specs.Newest.{newest}
 use Rattle.mx_words.specs.Runs.{Run, run_before, runs_of}
@@ -54,17 +53,7 @@ laid-again eq d xs words h e =
 
 -- a number below 16 by its four bits, and four bits by their number
 pub bits-again : (n : ℕ) → n < 16 → bits_of (list_map (has_bit n) (range_with_len 0 most_harts)) ≡ n
-bits-again n lt =
-    let a = bit_back (n / 1 % 2) (omega arith) in
-    let b = bit_back (n / 2 % 2) (omega arith) in
-    let c = bit_back (n / 4 % 2) (omega arith) in
-    let d = bit_back (n / 8 % 2) (omega arith) in
-    let sum : n / 1 % 2 + 2 * (n / 2 % 2 + 2 * (n / 4 % 2 + 2 * (n / 8 % 2 + 2 * 0))) ≡ n = omega (arith, lt) in
-    ap (λ (k : ℕ). k + 2 * (bit (n / 2 % 2 == 1) + 2 * (bit (n / 4 % 2 == 1) + 2 * (bit (n / 8 % 2 == 1) + 2 * 0)))) (sym a)
-    ∙ ap (λ (k : ℕ). n / 1 % 2 + 2 * (k + 2 * (bit (n / 4 % 2 == 1) + 2 * (bit (n / 8 % 2 == 1) + 2 * 0)))) (sym b)
-    ∙ ap (λ (k : ℕ). n / 1 % 2 + 2 * (n / 2 % 2 + 2 * (k + 2 * (bit (n / 8 % 2 == 1) + 2 * 0)))) (sym c)
-    ∙ ap (λ (k : ℕ). n / 1 % 2 + 2 * (n / 2 % 2 + 2 * (n / 4 % 2 + 2 * (k + 2 * 0)))) (sym d)
-    ∙ sum
+bits-again n lt = search (arith, bit_back)
 
 pub heard-again : (harts h heard : ℕ) → harts ≤ 4 → is_heard harts h V.Waiting heard ≡ true → bits_of (list_map (has_bit heard) (range_with_len 0 most_harts)) ≡ heard
 heard-again harts h heard few e =

@@ -1,5 +1,5 @@
 -- Of a valid snapshot's state the same snapshot is stored again.
-use Rattle.std.proofs.Common.{◌≡◌, ℕ, ◌+◌, ◌-◌, ◌<◌, ◌≤◌, ◌==◌, true, List, [], ◌∷◌, ◌++◌, length, get_or, refl, sym, ap, ◌∙◌, subst, arith, length-append}
+use Rattle.std.proofs.Common.{◌≡◌, ℕ, ◌+◌, ◌<◌, ◌≤◌, ◌==◌, true, List, [], ◌∷◌, ◌++◌, length, get_or, refl, ap, ◌∙◌, subst, arith, length-append}
 use Rattle.std.proofs.Common.{map as list_map}
 use Rattle.std.specs.List.{AllByRecursion, enumerate_from, range_with_len}
 use Rattle.std.proofs.lemmas.Bool.{and_parts, eqb-true}
@@ -13,7 +13,6 @@ use Rattle.mx_words.proofs.MaximalRuns.{AreMaximal}
 use Rattle.mx_words.proofs.RunLaws.{same_refl}
 use Rattle.mx_model.specs.State.{Module, flat, no_module}
 use Rattle.mx_machine.specs.declared.views.HartStatus.{HartStatus}
-use Rattle.mx_machine.specs.declared.views.HartStatus.TheVariants as V
 use Rattle.mx_machine.specs.Readings.{status_told}
 use Rattle.mx_snapshot.proofs.CodecBounds.{small_place}
 use Rattle.mx_snapshot.proofs.ValidAgain.{heard-again, runs-again}
@@ -65,9 +64,7 @@ hart-again : (harts n : ℕ) (x : StoredHart) (status : HartStatus) → harts �
       frames = x.frames;
       heard = heard_of (status_in n x status);
     }) (record x { status = status })
-hart-again harts n x V.Running few e = ap (λ (k : ℕ). record x { status = V.Running; heard = k }) (sym (eqb-true x.heard 0 e))
-hart-again harts n x V.Waiting few e = ap (λ (k : ℕ). record x { status = V.Waiting; heard = k }) (heard-again harts n x.heard few e)
-hart-again harts n x V.Halted few e = ap (λ (k : ℕ). record x { status = V.Halted; heard = k }) (sym (eqb-true x.heard 0 e))
+hart-again harts n x x1 few e = grind (arith, eqb-true, heard-again)
 
 harts-from : (h : Head) (xs before : List StoredHart) (n : ℕ) → length before ≡ n → h.harts ≤ 4 → EachFits (IsStoredHart h) before xs → list_map stored_hart (list_map hart_in_state (enumerate_from n xs)) ≡ xs
 harts-from h [] before n count few f = refl
@@ -119,12 +116,7 @@ module _ (s : Stored) (f : IsStored s) where
       let long = length-map ms (λ (m : StoredModule). m.home) in
       let many = length-map-range_with_len one 1 (length homes) in
       ext_get_or no_stored_module (list_map one (range_with_len 1 (length homes))) ms (many ∙ long)
-      (λ i lt.
-      let within : i < length ms = omega (arith, lt, many, long) in
-      let back : 1 + i - 1 ≡ i = omega arith in
-      get_or-map-range_with_len one 1 (length homes) i (1 + i) no_stored_module (omega (arith, lt, many)) refl
-      ∙ ap (place_of names homes maps words) back
-      ∙ place-is i within)
+      (search (arith, ms, get_or-map-range_with_len, homes, no_stored_module, place_of, names, maps, words, place-is))
 
   abbrev stored_with : ℕ → ℕ → List StoredModule → List (Run ℕ) → List StoredHart → Stored
   stored_with modules harts stored owners others = record {

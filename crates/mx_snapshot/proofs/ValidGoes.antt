@@ -1,5 +1,5 @@
 -- A machine that goes on from a valid snapshot's parts is the snapshot's state.
-use Rattle.std.proofs.Common.{◌≡◌, ℕ, zero, suc, ◌+◌, ◌-◌, ◌<◌, ◌≤◌, ◌==◌, Bool, true, false, cond, List, [], ◌∷◌, ◌++◌, length, get_or, set, replicate, Option, Some, None, refl, sym, ap, ◌∙◌, subst, arith, append_assoc, length-append}
+use Rattle.std.proofs.Common.{◌≡◌, ℕ, zero, suc, ◌+◌, ◌-◌, ◌<◌, ◌≤◌, Bool, false, cond, List, [], ◌∷◌, ◌++◌, length, get_or, set, replicate, Option, Some, None, refl, sym, ap, ◌∙◌, subst, arith, append_assoc, length-append}
 use Rattle.std.proofs.Common.{map as list_map}
 use Rattle.std.specs.List.{enumerate_from}
 use Rattle.std.proofs.lemmas.Bool.{eq-eqb, eqb-true, ne_eqb}
@@ -83,9 +83,7 @@ module _ (words : ℕ) (heaps : List HeapState) where
       ∙ sym (append_assoc front (flights_from words heaps (h + 1) xs) (own_flights words heaps (h + suc (length xs)) x x.status))
 
   own-few : (h : ℕ) (x : StoredHart) (status : HartStatus) → length (own_flights words heaps h x status) ≤ 1
-  own-few h x V.Running = omega arith
-  own-few h x V.Waiting = omega arith
-  own-few h x V.Halted = omega arith
+  own-few h x x1 = grind arith
 
   pub flights-few : (h : ℕ) (xs : List StoredHart) → length (flights_from words heaps h xs) ≤ length xs
   flights-few h [] = omega arith
@@ -99,14 +97,10 @@ module _ (words : ℕ) (heaps : List HeapState) where
   seen-status : (h : ℕ) (x : StoredHart) (status : HartStatus) →
       seen_with (status_by (own_call h (resumed_hart (state_in x))) (flight_if words heaps h x status) (progress_of status)) (resumed_hart (state_in x))
       ≡ record (running x) { status = status_in h x status }
-  seen-status h x V.Running = refl
-  seen-status h x V.Waiting = refl
-  seen-status h x V.Halted = refl
+  seen-status h x x1 = grind arith
 
   seen-one : (h : ℕ) (x : StoredHart) (k : Kept) → k.flight ≡ flight_if words heaps h x x.status → seen h (resumed_hart (state_in x)) k ≡ hart_in_state (h, x)
-  seen-one h x k e =
-      ap (λ (o : Option Flight). seen_with (status_by (own_call h (resumed_hart (state_in x))) o (progress_of x.status)) (resumed_hart (state_in x))) e
-      ∙ seen-status h x x.status
+  seen-one h x k e = search (arith, seen-status)
 
   pub seen-all : (h : ℕ) (xs : List StoredHart) (kept : List Kept) →
       ((i j : ℕ) → h + i ≡ j → i < length xs → (kept_at kept j).flight ≡ flight_if words heaps j (get_or xs i no_stored) (get_or xs i no_stored).status) →
@@ -167,10 +161,7 @@ dead-more ms m lt =
 
 -- an area of no words is (0, 0) anyway
 told-same : (a : StackArea) → (a.words ≡ 0 → a.first ≡ 0) → told a ≡ record { first = a.first; words = a.words }
-told-same a none = elim (a.words == 0) as (λ b. (a.words == 0) ≡ b → ◌≡◌ {A = Stack} (record { first = cond b 0 a.first; words = a.words }) (record { first = a.first; words = a.words })) [
-  | true ↦ λ e. ap (λ (n : ℕ). record { first = n; words = a.words }) (sym (none (eqb-true a.words 0 e)))
-  | false ↦ λ e. refl
-] refl
+told-same a none = search (arith, a.words, eqb-true)
 
 -- a module by its stack area and its heap
 homes-at : (dead : List Bool) (d : ℕ) (stacks : List StackArea) (i j : ℕ) → d + i ≡ j → i < length stacks → get_or (homes_from dead d stacks) i no_module ≡ home dead j (get_or stacks i no_stack)

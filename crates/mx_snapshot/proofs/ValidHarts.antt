@@ -46,10 +46,7 @@ no-bit n i most lt le =
 heard-others : (harts h heard i : ℕ) → heard < 2 ^ harts → has_bit heard h ≡ false → is_in (list_map (has_bit heard) (range_with_len 0 most_harts)) i ≡ true → (i < harts) × (i ≢ h)
 heard-others harts h heard i small own e = ⊎_elim
     (λ (lt : i < 4).
-    let at : has_bit heard i ≡ true = sym (get_or-map-range_with_len (has_bit heard) 0 most_harts i i false lt (omega arith)) ∙ e in (
-      ⊎_elim (λ (l : i < harts). l) (λ (g : harts ≤ i). let none = no-bit heard i harts small g in absurd (let q : ⊥ = cc in q)) (cases_lt i harts),
-      λ same. let again : has_bit heard h ≡ true = sym (ap (has_bit heard) same) ∙ at in absurd (let q : ⊥ = cc in q),
-    ))
+    let at : has_bit heard i ≡ true = sym (get_or-map-range_with_len (has_bit heard) 0 most_harts i i false lt (omega arith)) ∙ e in (search (arith, no-bit, cases_lt)))
     (λ (le : 4 ≤ i).
     let past = get_or_past (list_map (has_bit heard) (range_with_len 0 most_harts)) i false (omega (arith, length-map-range_with_len (has_bit heard) 0 most_harts, le)) in
     absurd (let q : ⊥ = cc in q))
@@ -68,12 +65,7 @@ status-fits harts h x hart V.Waiting own register heard = record { own = own; an
 status-fits harts h x hart V.Halted own register heard = tt
 
 frame-fits : (h : Head) (f : Frame) → IsStoredFrame h f → IsFrame h.modules f
-frame-fits h f is = record {
-  back = record { aligned = eqb-true (f.back % 4) 0 is.back; small = is.small };
-  caller = record { first = is.caller.0; last = is.caller.1 };
-  count = is.count;
-  small = λ i. all-at (λ (n : ℕ). n < 2 ^ 32) f.kept 0 is.kept (omega arith) i;
-}
+frame-fits h f is = search (arith, eqb-true, f.back, all-at, f.kept, is.kept)
 
 -- a register by its rule
 pub register-at : (status : HartStatus) (regs : List ℕ) (r : ℕ) → EachFits (λ others value. is_register status (length others) value ≡ true) [] regs → r < length regs

@@ -1,5 +1,5 @@
 -- The plan that a valid snapshot keeps is in its ranges.
-use Rattle.std.proofs.Common.{◌≡◌, ◌⊎◌, inl, inr, ℕ, zero, suc, ◌==◌, Bool, true, false, not, ◌||◌, List, [], ◌∷◌, ◌++◌, slice_get, Some, refl, sym, ap, ◌∙◌, subst, ⊎_elim}
+use Rattle.std.proofs.Common.{◌≡◌, ◌⊎◌, ℕ, zero, suc, Bool, true, false, not, List, [], ◌∷◌, ◌++◌, slice_get, Some, refl, sym, ap, ◌∙◌, subst, arith}
 use Rattle.std.proofs.Common.{map as list_map}
 use Rattle.std.specs.List.{AllByRecursion, list_all, list_any}
 use Rattle.std.specs.Str.{bytes_eq}
@@ -61,9 +61,7 @@ named (m ∷ ms) zero name e = record { owner = m; at = refl; is = same_Some _ _
 named (m ∷ ms) (suc i) name e = let n = named ms i name e in record { owner = n.owner; at = n.at; is = n.is }
 
 buffer-is : (n : ℕ) → is_buffer n ≡ true → (n ≡ 8) ⊎ (n ≡ 32) ⊎ (n ≡ 64)
-buffer-is n e = ⊎_elim
-    (λ l. ⊎_elim (λ a. inl (eqb-true n 8 a)) (λ b. inr (inl (eqb-true n 32 b))) (or_cases (n == 8) (n == 32) l))
-    (λ r. inr (inr (eqb-true n 64 r))) (or_cases (n == 8 || n == 32) (n == 64) e)
+buffer-is n e = search (arith, eqb-true, or_cases)
 
 pub stored-kept : (s : Stored) → IsStored s → IsKept (plan_of s)
 stored-kept s f =

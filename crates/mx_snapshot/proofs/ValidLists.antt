@@ -1,5 +1,5 @@
 -- Lists of which each item fits by those before it: what holds of each item, and of runs, blocks and gates in such a list.
-use Rattle.std.proofs.Common.{◌≡◌, ℕ, zero, suc, ◌+◌, ◌<◌, ◌≤◌, ◌==◌, Bool, true, false, not, nat_lt, nat_le, ◌&&◌, ◌||◌, if◌then◌else◌, List, [], ◌∷◌, ◌++◌, length, get_or, replicate, Option, Some, None, refl, sym, ap, ◌∙◌, subst, arith, length-append, append_assoc, ⊎_elim}
+use Rattle.std.proofs.Common.{◌≡◌, ℕ, zero, suc, ◌+◌, ◌<◌, ◌≤◌, ◌==◌, Bool, true, false, not, nat_lt, nat_le, ◌&&◌, if◌then◌else◌, List, [], ◌∷◌, ◌++◌, length, get_or, replicate, Option, Some, None, refl, sym, ap, ◌∙◌, subst, arith, length-append, append_assoc}
 use Rattle.std.specs.List.{AllByRecursion, last_or}
 use Rattle.std.specs.Option.{option_map_or}
 use Rattle.std.proofs.lemmas.Bool.{and_parts, eq-eqb, eqb-true, leb-true, ltb-true, not-true, or_cases}
@@ -17,10 +17,7 @@ use Rattle.mx_snapshot.specs.Fits.{EachFits}
 use Rattle.mx_snapshot.specs.Rules.{behind, has_place, is_area, is_next_block, is_other, run_words}
 
 pub three_parts : (x y z : Bool) → (x && y && z) ≡ true → (x ≡ true) × (y ≡ true) × (z ≡ true)
-three_parts true true true e = (refl, refl, refl)
-three_parts true true false e = absurd (let q : ⊥ = cc in q)
-three_parts true false z e = absurd (let q : ⊥ = cc in q)
-three_parts false y z e = absurd (let q : ⊥ = cc in q)
+three_parts x y z e = grind arith
 
 -- what holds of each item, whatever stands before it
 pub each_holds : {A : Type 0} (fits : List A → A → Type 0) (P : A → Type 0) → ((before : List A) (x : A) → fits before x → P x) → (xs before : List A) → EachFits fits before xs → AllByRecursion P xs
@@ -66,15 +63,11 @@ blocks-apart heap bs f = apart-from heap bs [] (let le : heap.first ≤ heap.fir
 
 -- an area of no words is at word 0
 pub area-none : (words first count : ℕ) → is_area words first count ≡ true → count ≡ 0 → first ≡ 0
-area-none words first count e none = ⊎_elim
-    (λ (some : nat_lt 0 count ≡ true). absurd (let lt = ltb-true 0 count some in let q : ⊥ = omega (arith, lt, none) in q))
-    (λ (zero : (first == 0) ≡ true). eqb-true first 0 zero)
-    (or_cases (nat_lt 0 count) (first == 0) (and_parts (nat_le (first + count) words) (nat_lt 0 count || first == 0) e).1)
+area-none words first count e none = search (arith, ltb-true, eqb-true, or_cases, and_parts)
 
 -- runs, so many in all, of which the last ends with the words
 place-last : (words : ℕ) (end : ℕ) (some b : Bool) → b ≡ true → (some && (if b then end == words else nat_le end words)) ≡ true → end ≡ words
-place-last words end some true last e = eqb-true end words (and_parts some (end == words) e).1
-place-last words end some false last e = absurd (let q : ⊥ = cc in q)
+place-last words end some x last e = grind (arith, eqb-true, and_parts)
 
 words-from : {A : Type 0} (words runs : ℕ) (fits : List (Run A) → Run A → Type 0) → ((before : List (Run A)) (r : Run A) → fits before r → has_place words runs before r.count ≡ true)
     → (xs before : List (Run A)) → 1 ≤ length xs → length before + length xs ≡ runs → EachFits fits before xs → run_words before + run_words xs ≡ words

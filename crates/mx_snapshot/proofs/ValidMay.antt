@@ -1,5 +1,5 @@
 -- A checker, a supervisor and a machine may go on with a valid snapshot's parts.
-use Rattle.std.proofs.Common.{◌≡◌, inr, ℕ, zero, suc, ◌+◌, ◌-◌, ◌<◌, ◌≤◌, Bool, true, false, List, [], ◌∷◌, ◌++◌, length, get_or, Option, refl, sym, ◌∙◌, subst, arith, length-append, ⊎_elim}
+use Rattle.std.proofs.Common.{◌≡◌, inr, ℕ, ◌+◌, ◌-◌, ◌<◌, ◌≤◌, Bool, true, false, List, [], ◌∷◌, ◌++◌, length, get_or, Option, refl, sym, ◌∙◌, subst, arith, length-append}
 use Rattle.std.proofs.Common.{map as list_map}
 use Rattle.std.specs.Prelude.{All}
 use Rattle.std.specs.List.{AllByRecursion}
@@ -17,7 +17,6 @@ use Rattle.mx_check.specs.Harts.{Kept}
 use Rattle.mx_check.specs.Harts.{kept_at}
 use Rattle.mx_heap.specs.HeapState.{HeapState}
 use Rattle.mx_model.specs.declared.values.Frame.{Frame}
-use Rattle.mx_model.specs.State.{most_modules}
 use Rattle.mx_model.specs.Turn.{call_of}
 use Rattle.mx_model.specs.Valid.{IsFrame, IsGate, IsHart}
 use Rattle.mx_model.proofs.JoinLaws.{all-join, all-weaker}
@@ -130,9 +129,7 @@ module _ (s : Stored) (f : IsStored s) where
   flies n x status = FliesIfWaiting (parts_in s) n (state_in x) status (flight_if h.words (parts_in s).heaps n x status)
 
   hart-flies : (n : ℕ) (x : StoredHart) (status : HartStatus) → is_register status 17 (get_or x.regs 17 0) ≡ true → flies n x status
-  hart-flies n x V.Running number = refl
-  hart-flies n x V.Waiting number = record { announced = number; range = record { first = refl; count = refl } }
-  hart-flies n x V.Halted number = refl
+  hart-flies n x x1 number = grind arith
 
   hart-unused : (n : ℕ) → n < length s.harts → IsUnused (parts_in s) n (get_or (list_map state_in s.harts) n no_state) (kept_at (parts_in s).harts n)
   hart-unused n lt =
@@ -155,16 +152,7 @@ module _ (s : Stored) (f : IsStored s) where
   dead_of m = m.home.dead
 
   dead-is : (d : ℕ) → get_or (dead_in s.modules) d false ≡ true → IsDomain (parts_in s).maps d
-  dead-is zero e = absurd (let q : ⊥ = cc in q)
-  dead-is (suc i) e =
-      let many = length-maps in
-      let total = f.module_count in
-      let one : get_or (list_map dead_of s.modules) i false ≡ true = sym (get_or-behind (list_map dead_of s.modules) (most_modules - length s.modules) i false) ∙ e in
-      let long = length-map s.modules dead_of in
-      ⊎_elim
-      (λ (lt : i < length s.modules). let is : IsDomain (parts_in s).maps (suc i) = record { first = omega arith; last = omega (arith, lt, many, total) } in is)
-      (λ (le : length s.modules ≤ i). let past = get_or_past (list_map dead_of s.modules) i false (omega (arith, le, long)) in absurd (let q : ⊥ = cc in q))
-      (cases_lt i (length s.modules))
+  dead-is x e = grind (arith, length-maps, dead_of, get_or-behind, length-map, get_or_past, cases_lt)
 
   pub may : MayResume (parts_in s) (list_map state_in s.harts) (list_map stack_in s.modules) (dead_in s.modules) h.turns
   may =

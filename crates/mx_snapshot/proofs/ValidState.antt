@@ -1,23 +1,19 @@
 -- The state of a valid snapshot is valid, and so is the plan that it keeps.
-use Rattle.std.proofs.Common.{◌≡◌, ℕ, ◌*◌, ◌%◌, ◌^◌, ◌<◌, ◌≤◌, ◌==◌, true, false, not, nat_lt, nat_le, List, [], length, get_or, refl, sym, ap, ◌∙◌, subst, arith}
+use Rattle.std.proofs.Common.{◌≡◌, ℕ, ◌*◌, ◌<◌, ◌≤◌, ◌==◌, true, false, not, nat_lt, nat_le, List, [], length, get_or, sym, ap, ◌∙◌, subst, arith}
 use Rattle.std.specs.List.{AllByRecursion, enumerate_from}
 use Rattle.std.proofs.lemmas.Bool.{and_parts, leb-true, ltb-true, not-true}
 use Rattle.std.proofs.lemmas.List.{length-map}
 use Rattle.std.proofs.lemmas.List.FromFn.{length-enumerate_from}
-use Rattle.mx_words.specs.declared.perm.Perm.{Perm}
-use Rattle.mx_words.specs.Caches.{no_cache}
-use Rattle.mx_words.specs.Newest.{map, owners}
-use Rattle.mx_words.specs.Ranges.{most_words}
+use Rattle.mx_words.specs.Newest.{owners}
 use Rattle.mx_words.specs.Runs.{Run}
 use Rattle.mx_words.proofs.OverlayLaws.{length-map_of, length-owners}
 use Rattle.mx_model.specs.declared.values.Gate.{Gate}
 use Rattle.mx_model.specs.Gates.{has_gate}
 use Rattle.mx_model.specs.State.{Hart, flat, hart_at}
-use Rattle.mx_model.specs.Valid.{IsCache, IsFlat, IsGate, IsHart, IsHome, IsValid}
+use Rattle.mx_model.specs.Valid.{IsFlat, IsGate, IsHart, IsHome, IsValid}
 use Rattle.mx_model.proofs.ListLaws.{all-at}
 use Rattle.mx_model.proofs.ValidCaches.{cache-none}
 use Rattle.mx_boot.proofs.Lists.{all_each, all_mapped}
-use Rattle.mx_manifest.specs.Forms.{is_within}
 use Rattle.mx_snapshot.proofs.CodecBounds.{small_area, within_range}
 use Rattle.mx_snapshot.proofs.ValidHarts.{hart-at, hart-fits, no_stored}
 use Rattle.mx_snapshot.proofs.ValidLists.{all-covered, area-none, blocks-apart, each_at, each_holds, each_turned, gates-single, words-covered}
@@ -26,7 +22,7 @@ use Rattle.mx_snapshot.specs.Fits.{IsOwnerRun, IsStored, IsStoredGate, IsStoredH
 use Rattle.mx_snapshot.specs.Kept.{IsOfPlan}
 use Rattle.mx_snapshot.specs.Resumed.{core_of, hart_in_state, laid_runs, plan_of, state_of}
 use Rattle.mx_snapshot.specs.Rules.{is_other, run_words}
-use Rattle.mx_snapshot.specs.Stored.{Head, Stored, StoredHart, StoredModule}
+use Rattle.mx_snapshot.specs.Stored.{Head, Stored, StoredModule}
 
 -- the runs of owner of a valid snapshot
 pub owners-words : (s : Stored) → IsStored s → run_words s.owners ≡ s.head.words
@@ -90,52 +86,21 @@ module _ (s : Stored) (f : IsStored s) where
       subst (λ (x : Hart). IsHart (length (core_of s).modules) (length (core_of s).harts) n x) (sym (hart-at s.harts n within)) two
 
   homes-fit : AllByRecursion (IsHome h.words (length (core_of s).harts)) (core_of s).modules
-  homes-fit = subst (λ (k : ℕ). AllByRecursion (IsHome h.words k) (core_of s).modules) (sym length-harts)
-      (all_mapped (λ (m : StoredModule). m.home) (IsHome h.words h.harts) s.modules (each_holds (IsStoredModule h) (λ (m : StoredModule). IsHome h.words h.harts m.home) (home-fits h) s.modules [] f.modules))
+  homes-fit = search (arith, h.words, length-harts, all_mapped, s.modules, each_holds, h, h.harts, home-fits)
 
   pub gates-in : AllByRecursion (IsGate h.modules h.words) s.gates
   gates-in = each_holds (IsStoredGate h) (IsGate h.modules h.words) (λ before g is. (gate-fits h before g is).0) s.gates [] f.gates
 
   pub core-valid : IsValid (core_of s)
   core-valid =
-      let words = within_range 16384 most_words h.words (and_parts (is_within 16384 most_words h.words) (h.words % 1024 == 0) f.head.words).0 in
-      let low = words.0 in
-      let many = length-modules in
-      let some = f.head.modules in
-      let harts = length-harts in
-      let few = f.head.harts in
-      record {
-        some_words = omega (arith, low);
-        few_words = words.1;
-        ram_count = f.ram_count;
-        ram_bytes = λ i. all-at (λ (byte : ℕ). byte < 2 ^ 8) s.ram 0 f.ram (omega arith) i;
-        some_modules = omega (arith, many, some.0);
-        few_modules = subst (λ (k : ℕ). k ≤ 63) (sym many) some.1;
-        modules = homes-fit;
-        some_harts = omega (arith, harts, few.0);
-        few_harts = subst (λ (k : ℕ). k ≤ 4) (sym harts) few.1;
-        harts = harts-fit;
-        caches = length-map s.harts (λ (x : StoredHart). no_cache) ∙ f.hart_count ∙ sym harts;
-        few_gates = f.few_gates;
-        gates = subst (λ (k : ℕ). AllByRecursion (IsGate k h.words) s.gates) (sym many) gates-in;
-        one_gate = gates-single s.gates
-            (each_turned (IsStoredGate h) (λ others (g : Gate). has_gate others g.domain g.word ≡ false) (λ before g is. (gate-fits h before g is).1) s.gates [] f.gates);
-      }
+      search (arith, within_range, h.words, and_parts, length-modules, length-harts, all-at, s.ram, f.ram, homes-fit,
+        harts-fit, length-map, s.harts, gates-in, gates-single, s.gates, each_turned, h, gate-fits)
 
   pub stored-state : IsFlat (flat (state_of s))
   stored-state =
-      let grants = (state_of s).grants in
-      let runs = owners-whole s.owners h.words (owners-words s f) in
-      let few = f.owner_runs in
-      record {
-        valid = core-valid;
-        maps = length-map grants (λ g. map g h.words) ∙ length-map s.modules (λ (m : StoredModule). laid_runs 0 m.map) ∙ sym (length-map s.modules (λ (m : StoredModule). m.home));
-        whole_maps = all_mapped (λ g. map g h.words) (λ (m : List Perm). length m ≡ h.words) grants (all_each (λ g. length (map g h.words) ≡ h.words) grants (λ g. length-map_of g h.words));
-        owners = length-owners (laid_runs 0 s.owners) h.words;
-        small_owners = λ i. subst (λ (k : ℕ). get_or (owners (laid_runs 0 s.owners) h.words) i 0 ≤ k) (sym length-modules) (owner-small s f i);
-        few_runs = omega (arith, runs, few.1);
-        caches = all_mapped (λ (x : StoredHart). no_cache) (IsCache h.lookaside) s.harts (all_each (λ (x : StoredHart). IsCache h.lookaside no_cache) s.harts (λ x. cache-none h.lookaside));
-      }
+      search (arith, owners-whole, s.owners, h.words, owners-words, core-valid, length-map, s.modules, all_mapped,
+        all_each, length-map_of, length-modules, owner-small, s.harts, h.lookaside, cache-none,
+        length-owners (laid_runs 0 s.owners) h.words)
 
 pub stored-flat : (s : Stored) → IsStored s → IsFlat (flat (state_of s))
 stored-flat s f = stored-state s f
@@ -145,9 +110,4 @@ pub state-lists : (s : Stored) → length (state_of s).grants ≡ length (state_
 state-lists s = length-map s.modules (λ (m : StoredModule). laid_runs 0 m.map) ∙ sym (length-map s.modules (λ (m : StoredModule). m.home))
 
 pub plan-is : (s : Stored) → IsOfPlan (plan_of s) (flat (state_of s))
-plan-is s = record {
-  kind = refl;
-  limit = refl;
-  lookaside = refl;
-  modules = length-map s.modules (λ (m : StoredModule). m.home) ∙ sym (length-map s.modules (λ (m : StoredModule). m.name));
-}
+plan-is s = search (arith, length-map, s.modules)

@@ -13,7 +13,7 @@ use Rattle.mx_machine.specs.declared.views.HartStatus.{HartStatus}
 use Rattle.mx_machine.specs.declared.views.HartStatus.TheVariants as V
 use Rattle.mx_snapshot.specs.Kept.{KeptPlan}
 use Rattle.mx_snapshot.specs.Rules.{has_bit}
-use Rattle.mx_snapshot.specs.Stored.{Head, Stored, StoredHart, StoredModule}
+use Rattle.mx_snapshot.specs.Stored.{Stored, StoredHart, StoredModule}
 
 -- runs of which the first begins at a word, each laid over its words
 abbrev pub laid_runs : {A : Type 0} → ℕ → List (Run A) → List (Laid A)
