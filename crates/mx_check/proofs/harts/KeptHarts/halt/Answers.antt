@@ -1,0 +1,5 @@
+use Rattle.mx_check.proofs.HartLaws.{hart_written}
+use Rattle.mx_check.proofs.harts.KeptHarts.halt.Goals as goal
+
+pub returns : goal.returns
+returns g c = search hart_written
