@@ -1,4 +1,4 @@
-use Rattle.std.proofs.Common.{◌≡◌, ◌∙◌, ap, sym, length, Some}
+use Rattle.std.proofs.Common.{◌≡◌, ◌∙◌, ap, sym, length, Some, None, refl}
 use Rattle.mx_words.specs.Ranges.{word_of}
 use Rattle.mx_table.specs.Tables.{map_of}
 use Rattle.mx_check.specs.Calls.{Checks}
@@ -16,3 +16,9 @@ returns-in-Some g c =
       same_size = c.look.ensures.same_size;
       same_limit = c.look.ensures.same_limit;
     }
+
+pub returns-in-None : goal.returns-in-None
+returns-in-None g c =
+    let w : word_of c.args.addr (length (map_of (g.T.PermTables.maps c.args.self.now.tables) c.args.domain)) ≡ None =
+    ap (word_of c.args.addr) ((g.met.T.PermTables.shaped c.args.self.now.tables).each c.args.domain c.requires.domain ∙ sym (c.words.ensures ∙ ap (λ (x : Checks _). g.T.PermTables.size x.tables) c.self.view_is)) ∙ sym c.word_of.ensures ∙ c.in-None.is in
+    rw (w, ← c.self.view_is) record { answer = refl; harts = c.name.ensures; lookups = refl; same_maps = refl; same_size = refl; same_limit = refl }
