@@ -19,6 +19,16 @@ returns-in-Some g c =
 
 pub returns-in-None : goal.returns-in-None
 returns-in-None g c =
-    let w : word_of c.args.addr (length (map_of (g.T.PermTables.maps c.args.self.now.tables) c.args.domain)) ≡ None =
-    ap (word_of c.args.addr) ((g.met.T.PermTables.shaped c.args.self.now.tables).each c.args.domain c.requires.domain ∙ sym (c.words.ensures ∙ ap (λ (x : Checks _). g.T.PermTables.size x.tables) c.self.view_is)) ∙ sym c.word_of.ensures ∙ c.in-None.is in
-    rw (w, ← c.self.view_is) record { answer = refl; harts = c.name.ensures; lookups = refl; same_maps = refl; same_size = refl; same_limit = refl }
+    let t = c.args.self.now.tables in
+    let w : word_of c.args.addr (length (map_of (g.T.PermTables.maps t) c.args.domain)) ≡ None =
+    ap (word_of c.args.addr) ((g.met.T.PermTables.shaped t).each c.args.domain c.requires.domain
+    ∙ sym (c.words.ensures ∙ ap (λ (x : Checks _). g.T.PermTables.size x.tables) c.self.view_is))
+    ∙ sym c.word_of.ensures ∙ c.in-None.is in
+    rw (w, ← c.self.view_is) record {
+      answer = refl;
+      harts = c.name.ensures;
+      lookups = refl;
+      same_maps = refl;
+      same_size = refl;
+      same_limit = refl;
+    }

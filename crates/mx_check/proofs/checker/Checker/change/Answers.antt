@@ -19,3 +19,6 @@ invariant_of-self g c =
       | Err x ↦ λ a b. rw b c.self.invariant
     ] in
     cases c.change.ensures.ok c.change.ensures.err
+
+pub returns : goal.returns
+returns g c = rw (← c.self.view_is) c.change.ensures
