@@ -13,15 +13,16 @@ returns-then-is_region_even g c =
     region-even g.L.LeafForm.kind (g.V.View.map c.args.view.now) c.args.region (sym (not-not _) ∙ ap not (sym c.is_region_even.ensures ∙ c.if-is_region_even.true))
     c.args.upper.now c.args.leaf.now c.args.spill.now c.region_vector.result c.region_vector.ensures
 
-pub build_pages-requires-clause-upper_room : goal.build_pages-requires-clause-upper_room
-build_pages-requires-clause-upper_room g c =
-    broken-room (is_broken region_words (g.V.View.map c.args.view.now) c.args.region) _ (sym (not-not _) ∙ ap not (sym c.is_region_even.ensures ∙ c.if-is_region_even.false)) c.requires.upper_room
+pub is_region_even-requires : goal.is_region_even-requires
+is_region_even-requires g c = search
 
-pub build_pages-requires-clause-leaf_room : goal.build_pages-requires-clause-leaf_room
-build_pages-requires-clause-leaf_room g c = c.requires.leaf_room
+pub region_vector-requires : goal.region_vector-requires
+region_vector-requires g c = search
 
-pub build_pages-requires-clause-spill_room : goal.build_pages-requires-clause-spill_room
-build_pages-requires-clause-spill_room g c = c.requires.spill_room
+pub build_pages-requires : goal.build_pages-requires
+build_pages-requires g c =
+    search (broken-room (is_broken region_words (g.V.View.map c.args.view.now) c.args.region) _
+    (sym (not-not _) ∙ ap not (sym c.is_region_even.ensures ∙ c.if-is_region_even.false)) c.requires.upper_room)
 
 pub returns-else-is_region_even : goal.returns-else-is_region_even
 returns-else-is_region_even g c =
