@@ -55,8 +55,9 @@ names_first : (top : Data) → names_fault (module_names top) top ≡ first_of (
 unfolding repeats_in froms_in homes_in
 names_first top = refl
 
-pub tells_home : (top : Data) (fault : BootFault) → repeats_in top ≡ None → froms_in top ≡ None → homes_in top ≡ Some fault → names_fault (module_names top) top ≡ Some fault
-tells_home top fault a b h = names_first top ∙ rw (a, b, h) refl
+pub names_told : (top : Data) (r f h : Option BootFault) → repeats_in top ≡ r → froms_in top ≡ f → homes_in top ≡ h
+    → names_fault (module_names top) top ≡ first_of (r ∷ f ∷ h ∷ [])
+names_told top r f h a b c = names_first top ∙ rw (a, b, c) refl
 
 -- all steps
 pub tables_of : (top : Data) (version : Version) (found : Option BootFault) → version ≡ version_of top → found ≡ tables_fault version top → tables_fault (version_of top) top ≡ found

@@ -1,6 +1,6 @@
 -- Loops that look for the first fault.
-use Rattle.std.proofs.Common.{◌≡◌, ℕ, ◌+◌, ◌<◌, List, length, get_or, drop, map, Option, Some, None, refl, ap, ◌∙◌, sym}
-use Rattle.std.proofs.lemmas.List.{drop_more}
+use Rattle.std.proofs.Common.{◌≡◌, ℕ, ◌+◌, ◌<◌, ◌≤◌, List, length, get_or, drop, map, Option, Some, None, refl, ap, ◌∙◌, sym}
+use Rattle.std.proofs.lemmas.List.{drop_more, drop_all}
 use Rattle.std.specs.List.{enumerate_from}
 use Rattle.toml.specs.Data.{Data}
 use Rattle.toml.specs.declared.value.Value.{Value}
@@ -35,3 +35,8 @@ pub each_here : (sort : Part) (test : ℕ → Data → Option KeyFault) (values 
 each_here sort test values i v fault below at some =
     let here : placed sort (i + 1) (test (i + 1) (view (get_or values i v))) ≡ Some fault = ap (λ w. placed sort (i + 1) (test (i + 1) (view w))) (sym at) ∙ some in
     rw (drop_more values i v below, here) refl
+
+pub each_over : (sort : Part) (test : ℕ → Data → Option KeyFault) (values : List Value) (i : ℕ) → length values ≤ i
+    → each_from sort test i values ≡ None
+each_over sort test values i over =
+    ap (λ vs. first_of (map (numbered_fault sort test) (enumerate_from (i + 1) (map view vs)))) (drop_all i values over)

@@ -1,6 +1,6 @@
 -- Lists of plans are as short as the lists that they are made of.
 use Rattle.std.proofs.Common.{◌≡◌, ℕ, ◌+◌, ◌<◌, ◌≤◌, suc, zero, List, [], ◌∷◌, ◌++◌, length, get_or, map, take, Option, Some, None, IfSome, slice_get, option_map, ap, sym, ◌∙◌, subst, arith, length-take}
-use Rattle.std.proofs.lemmas.List.{length-map, take_more, map_push}
+use Rattle.std.proofs.lemmas.List.{length-map, take_all, take_more, map_push}
 use Rattle.toml.specs.Data.{Data}
 use Rattle.toml.specs.declared.value.Value.{Value}
 use Rattle.toml.specs.View.{view}
@@ -50,6 +50,15 @@ built_more f values i v old new made below at before is after =
     ∙ ap (map f) (sym (map_push view (take i values) v))
     ∙ ap (λ w. map f (map view (take i values ++ w ∷ []))) at
     ∙ ap (λ vs. map f (map view vs)) (sym (take_more values i v below))
+
+pub built_all : {B : Type 0} (f : Data → B) (values : List Value) (i : ℕ) (made : List B) → length values ≤ i
+    → made ≡ map f (map view (take i values)) → made ≡ map f (map view values)
+built_all f values i made over is = is ∙ ap (λ vs. map f (map view vs)) (take_all i values over)
+
+pub built_length : {B : Type 0} (f : Data → B) (values : List Value) (i most : ℕ) (made : List B)
+    → made ≡ map f (map view (take i values)) → length values ≤ most → length made ≤ most
+built_length f values i most made is few =
+    collected_length f _ most made is (omega (arith, length-data (take i values), length-taken i values))
 
 -- a module in its ranges has short lists
 short_module : (count own : ℕ) (plan : ModulePlan) → IsModule count own plan → HasShortLists plan

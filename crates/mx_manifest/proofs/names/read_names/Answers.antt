@@ -8,7 +8,8 @@ use Rattle.mx_manifest.specs.declared.fault.Key.TheVariants as key
 use Rattle.mx_manifest.specs.declared.fault.Part.TheVariants as part
 use Rattle.mx_manifest.specs.Faults.{fault_where, module_name, placed, repeat_fault}
 use Rattle.mx_words.proofs.OptionLaws.{unmapped}
-use Rattle.mx_manifest.proofs.Loops.{each_next, each_here}
+use Rattle.mx_manifest.proofs.Loops.{each_next, each_here, each_over}
+use Rattle.mx_manifest.proofs.Short.{built_all}
 use Rattle.mx_manifest.proofs.names.read_names.Goals as goal
 use mathlib.Core.Bool.{not-not}
 
@@ -74,3 +75,11 @@ loop-i-preserved c =
           c.loop-i.invariant.names c.module_name.ensures fresh c.in-Ok.ensures.added;
       apart = each_next part.Module test values c.loop-i.i v c.loop-i-test.true c.index-modules-i.is here ∙ c.loop-i.invariant.apart;
     }
+
+pub returns-clause-names : goal.returns-clause-names
+returns-clause-names c =
+    built_all module_name _ c.loop-i.i _ c.loop-i-test.false c.loop-i.invariant.names
+
+pub returns-clause-apart : goal.returns-clause-apart
+returns-clause-apart c =
+    sym c.loop-i.invariant.apart ∙ each_over part.Module _ c.args.modules.now c.loop-i.i c.loop-i-test.false
