@@ -1,0 +1,6 @@
+use Rattle.std.proofs.Common.{arith}
+use Rattle.std.proofs.lemmas.Grind.{common_steps}
+use Rattle.mx_source.proofs.texts.quoted_size.Goals as goal
+
+pub characters-preserved : goal.characters-preserved
+characters-preserved c = grind (arith, common_steps)
