@@ -83,7 +83,7 @@ none_longer (suc n) =
     let more : sum_by (λ (l : List ℕ). length l) ([] ∷ replicate n []) ≡ 0 + sum_by (λ (l : List ℕ). length l) (replicate n []) = sum_by-cons (λ (l : List ℕ). length l) [] (replicate n []) in
     omega (arith, more, none_longer n)
 
-all_free : (n : ℕ) → free_in (replicate n None) ≡ n
+pub all_free : (n : ℕ) → free_in (replicate n None) ≡ n
 all_free zero = refl
 all_free (suc n) =
     let more : free_in (None ∷ replicate n None) ≡ 1 + free_in (replicate n None) = sum_by-cons (λ (o : Option (List ℕ)). cond (is_none o) 1 0) None (replicate n None) in

@@ -16,3 +16,13 @@ returns-clause-map c =
     ∙ ap (λ (m : List Perm). laid (grant_of s.first s.count s.perm) m) c.requires.map
     ∙ ap (λ (x : Span). laid (granted x) (first_spans c.args.words row c.args.n)) (got row c.args.n s no_span c.get-span.ensures)
     ∙ sym (first_more c.args.words row c.requires.spans c.args.n c.requires.place)
+
+pub change_row-requires-clause-some : goal.change_row-requires-clause-some
+change_row-requires-clause-some c =
+    rw (got c.args.spans.now c.args.n c.get-span.result no_span c.get-span.ensures)
+    (c.requires.spans.some c.args.n c.requires.place)
+
+pub change_row-requires-clause-inside : goal.change_row-requires-clause-inside
+change_row-requires-clause-inside c =
+    rw (got c.args.spans.now c.args.n c.get-span.result no_span c.get-span.ensures)
+    (c.requires.spans.inside c.args.n c.requires.place)

@@ -5,6 +5,7 @@ use Rattle.mx_segments.specs.Store.{frames_in, word_in}
 use Rattle.mx_segments.specs.Entries.{IsChain}
 use Rattle.mx_segments.specs.Sound.{map_in}
 use Rattle.mx_segments.specs.Plan.{IsLaid}
+use Rattle.mx_words.proofs.CountingLaws.{bit-le}
 use Rattle.mx_segments.proofs.MoveLaws.{keeps_trans}
 use Rattle.mx_segments.proofs.SoundLaws.{few_runs}
 use Rattle.mx_segments.proofs.ChangeLaws.{laid_chain}
@@ -64,3 +65,9 @@ returns-clause-sound c = means_itself c.args.words (frames_in c.trim.new.chains.
 pub returns-clause-changed : goal.returns-clause-changed
 returns-clause-changed c = means c.args.words (frames_in c.trim.new.chains.lists c.args.row) (word_in c.trim.new.leaf c.trim.new.chains.lists c.args.row)
     (laid (grant_of c.args.first c.args.count c.args.perm) (map_in c.args.words c.args.leaf.now c.args.chains.now.lists c.args.row)) (chain c)
+
+pub make_room-requires-clause-near : goal.make_room-requires-clause-near
+make_room-requires-clause-near c = omega (arith, bit-le c.plan_of-plan.result.starts, bit-le c.plan_of-plan.result.ends)
+
+pub returns-clause-free : goal.returns-clause-free
+returns-clause-free c = omega arith
