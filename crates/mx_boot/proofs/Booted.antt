@@ -96,8 +96,24 @@ module _ (plan : Said) (images : List (List ℕ)) (in_range : IsInRange plan) (c
 
   core_valid : AreImages images → IsValid core
   core_valid are =
-      search (arith, few_words, few_gates, length-boot_ram, small-boot_ram, length-modules, length-harts, modules_valid,
-        inside, harts_valid, length-replicate, length-map, gates_valid, clear.asked, requests_asked, single_gates)
+      search (
+        arith,
+        few_words,
+        few_gates,
+        length-boot_ram,
+        small-boot_ram,
+        length-modules,
+        length-harts,
+        modules_valid,
+        inside,
+        harts_valid,
+        length-replicate,
+        length-map,
+        gates_valid,
+        clear.asked,
+        requests_asked,
+        single_gates,
+      )
 
   owner_small : (i : ℕ) → get_or (owners (boot_state plan images).gives (ram_words plan)) i 0 ≤ length core.modules
   owner_small i =

@@ -72,8 +72,7 @@ stack_kept words harts h (Some address) e whole between inside =
 
 pub module_valid : (words harts modules : ℕ) (h : Home) → range.IsModule modules h.domain h.plan → Inside words (areas_of harts h) → IsHome words harts (module_of h.plan)
 module_valid words harts modules h in_range inside =
-    search (arith, all-first, heap_kept, h.plan.heap, in_range.heap_whole, in_range.heap_words, all-second, stack_kept,
-      h.plan.stack, in_range.stack_whole, in_range.stack_words)
+    search (arith, all-first, heap_kept, h.plan.heap, in_range.heap_whole, in_range.heap_words, all-second, stack_kept, h.plan.stack, in_range.stack_whole, in_range.stack_words)
 
 pub modules_valid : (plan : Said) (images : List (List ℕ)) (words : ℕ) → IsInRange plan → Inside words (areas plan images)
     → AllByRecursion (IsHome words (length plan.harts)) (map module_of plan.modules)

@@ -142,8 +142,11 @@ module _ (plan : Said) (images : List (List ℕ)) (in_range : IsInRange plan) (n
   hart_is j x at =
       let domain = hart_domain plan j x in_range at in
       let found = there plan.modules (x.module - 1) (omega (arith, domain.0, domain.1)) in
-      cc ((get_or_from_slice_get (stack_areas plan) (x.module - 1) (stack_area_of found.0) no_area (area_is (x.module - 1) found.0 found.1)),
-        (has_stack (0 + j) (x.module - 1) found.0 found.1).behind, found.1)
+      cc (
+        (get_or_from_slice_get (stack_areas plan) (x.module - 1) (stack_area_of found.0) no_area (area_is (x.module - 1) found.0 found.1)),
+        (has_stack (0 + j) (x.module - 1) found.0 found.1).behind,
+        found.1,
+      )
 
   pub boots-as : started (boot_parts plan images) (hart_starts plan images) (stack_areas plan) ≡ flat (boot_state plan images)
   unfolding rest

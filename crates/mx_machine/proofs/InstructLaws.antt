@@ -112,8 +112,7 @@ module _ (m : Held) (h : ℕ) (returns : Bool) (r : MayRun m h) where
   -- the hart may still run
   pub runs-instruction : MayRun (after_instruction h returns m) h
   runs-instruction =
-      search (arith, m.harts, m.parts.ram, get_or-set_same, after-stays, fits-instruction, length-set, r.act.heard,
-        m.parts.maps)
+      search (arith, m.harts, m.parts.ram, get_or-set_same, after-stays, fits-instruction, length-set, r.act.heard, m.parts.maps)
 
 -- the state after an instruction, by what the model says of it
 module _ (m : Held) (h : ℕ) (returns : Bool) (r : MayRun m h) (whole : length (map_of m.parts.maps (hart_among m.harts h).domain) ≡ m.parts.size)
@@ -166,8 +165,7 @@ module _ (m : Held) (h : ℕ) (returns : Bool) (r : MayRun m h) (whole : length 
   -- it stops: the hart stands as before
   core-stopped : Stops (outcome_for m h returns) → core_in (after_instruction h returns m) ≡ behind_looks
   core-stopped st =
-      search (arith, m.harts, regs_now, regs-still, m.parts.ram, pc-still, after-core, behind_looks, seen-running,
-        set-get_or)
+      search (arith, m.harts, regs_now, regs-still, m.parts.ram, pc-still, after-core, behind_looks, seen-running, set-get_or)
 
   pub made-stopped : (regs : List ℕ) → Stops (outcome_for m h returns) →
       instruction m h ≡ made_by (after_instruction h returns m) h (action_of h (hart_in (after_instruction h returns m) h) regs (outcome_for m h returns))

@@ -65,8 +65,7 @@ module _ (m : Held) (h : ℕ) (w : IsWhole m) (p : Progress) (at : (hart_among m
 
   acts-heard : HasHeardAll h (heard h (counted m)).parts.harts → MayAct (heard h (counted m)) h
   acts-heard all =
-      search (arith, hart-there, fits-heard (counted m) h (fits-counted m w.fits) hart-there,
-        own-domain m h w.valid w.fits hart-there)
+      search (arith, hart-there, fits-heard (counted m) h (fits-counted m w.fits) hart-there, own-domain m h w.valid w.fits hart-there)
 
   -- it is this machine then
   module _ (old : Held) (is : old ≡ heard h (counted m)) where

@@ -160,10 +160,8 @@ module _ (p : Parts) (states : List HartState) (stacks : List StackArea) (dead :
       IsTied (range_of p) h (hart_among (list_map resumed_hart states) h)
       (kept_at (halted_first (length (list_map resumed_hart states)) (list_map resumed_hart states) p.harts) h)
   ties-resumed h x =
-      grind (arith, get_or-map, length-map, halted-below, as-many, tied-as, tied-by, get_or_past, halted-past,
-        tied-nobody)
+      grind (arith, get_or-map, length-map, halted-below, as-many, tied-as, tied-by, get_or_past, halted-past, tied-nobody)
 
   pub fits-resumed : Fits (held_resumed p states stacks dead steps)
   fits-resumed =
-      search (arith, with-harts, held_resumed, as-many, length-halted, p.harts, length-map, ties-resumed, cases_lt,
-        none-waits)
+      search (arith, with-harts, held_resumed, as-many, length-halted, p.harts, length-map, ties-resumed, cases_lt, none-waits)

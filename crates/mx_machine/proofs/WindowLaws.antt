@@ -145,8 +145,7 @@ module _ (m : Held) (h word first end : ℕ) (s : Span) (quiet : m.waiting ≡ f
     (low : s.first ≤ first) (high : end ≤ s.first + s.count) (within : end ≤ m.parts.size) where
   found-open : (a w : ℕ) → word_of a m.parts.size ≡ Some w → first ≤ w → w < end → IsOpen m h a
   found-open a w here from upto =
-      search (arith, m.parts.harts, m.harts, covers_in, s.first, s.count, place-holds, executable, s.perm,
-        m.parts.gates)
+      search (arith, m.parts.harts, m.harts, covers_in, s.first, s.count, place-holds, executable, s.perm, m.parts.gates)
 
   word-there : (a : ℕ) → ram_base ≤ a → a - ram_base < 4 * m.parts.size → word_of a m.parts.size ≡ Some ((a - ram_base) / 4)
   word-there a from upto = search (arith, and_from, le-leb, lt-ltb)

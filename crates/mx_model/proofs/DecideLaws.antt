@@ -80,8 +80,7 @@ action-by_effect : (r : Reads) (c : Core) (h : â„•) (hart : Hart) (e : Effect) â
 action-by_effect r c h hart (Goes regs pc) v p q = q
 action-by_effect r c h hart (Faults cause value) v p q = q
 action-by_effect r c h hart (Loads a address width rd) v p q =
-    search (arith, action-choice, hart.domain, hart.regs, registers-written, p.regs, small-loaded, number-load, c.ram,
-      pc-next, hart.pc)
+    search (arith, action-choice, hart.domain, hart.regs, registers-written, p.regs, small-loaded, number-load, c.ram, pc-next, hart.pc)
 action-by_effect r c h hart (Stores a address size value) v p q = search (arith, action-choice, hart.domain)
 action-by_effect r c h hart Calls v p q = refl
 action-by_effect r c h hart (Jumps rd target) v p q = search (arith, action-choice, action-at_return, action-jump)

@@ -161,8 +161,7 @@ gates-fit gates domain word g p e =
 
 served-adds : (c : Core) (g : Gate) → IsValid c → IsGate (length c.modules) c.size g → no_gate_fits c.gates g.domain g.word ≡ false → IsServed (adds c g)
 served-adds c g v p e =
-    search (arith, served-answers, valid-gates, gates-fit, c.gates, g.domain, g.word, v.few_gates, all-append,
-      all-filter, single-append, single-others, single-filter)
+    search (arith, served-answers, valid-gates, gates-fit, c.gates, g.domain, g.word, v.few_gates, all-append, all-filter, single-append, single-others, single-filter)
 
 module-is : (c : Core) (d : ℕ) → not (is_module c d) ≡ false → IsModule (length c.modules) d
 module-is c d e = search (arith, and_parts, not-false, leb-true)

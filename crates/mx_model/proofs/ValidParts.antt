@@ -82,8 +82,7 @@ harts-set modules count harts h hart e hs p i l = elim (i == h) as (λ b. (i == 
 
 pub valid-hart : (c : Core) (h : ℕ) (hart : Hart) → IsValid c → IsHart (length c.modules) (length c.harts) h hart → IsValid (with_hart h hart c)
 valid-hart c h hart v p =
-    search (arith, valid-parts, v.ram_bytes, v.modules, v.few_gates, v.gates, v.one_gate, length-set, harts-set,
-      v.harts)
+    search (arith, valid-parts, v.ram_bytes, v.modules, v.few_gates, v.gates, v.one_gate, length-set, harts-set, v.harts)
 
 -- a module that isn't there has empty areas
 pub home-none : (size harts : ℕ) → IsHome size harts no_module

@@ -72,8 +72,7 @@ module _ (set : ℕ →
       record {
         words = size-turned (reads u) u.core h ∙ t.words ∙ sym (size-turned (reads v) v.core h);
         bytes =
-            cc (one-store.first, length-put_at store.size u.core.ram store.place store.value, t.bytes,
-              length-put_at store.size v.core.ram store.place store.value, one-store.second);
+            cc (one-store.first, length-put_at store.size u.core.ram store.place store.value, t.bytes, length-put_at store.size v.core.ram store.place store.value, one-store.second);
         harts = k.harts ∙ t.harts ∙ sym l.harts;
         turns = k.turns ∙ ap (λ (n : ℕ). n + 1) t.turns ∙ sym l.turns;
         aligned = λ g j. aligned-after g j (g == h) refl;

@@ -66,7 +66,7 @@ same-judged c e (Some n) s t p q = same-served (answers c (code n)) c e p
 
 -- a call over a core and over the bare one
 bare-written_out : (r : Reads) (c : Core) (call : Call) → bare_served (written_out r c call) ≡ bare_served (written_out r (bare c) call)
-bare-written_out r c call = search (arith, call.hart, bare-looked_all, bare-bare, same-judged, same-served)
+bare-written_out r c call = search (arith, bare-looked_all, bare-bare, same-judged)
 
 bare-write_from : (r : Reads) (c : Core) (call : Call) (o : Option ℕ) → bare_served (write_from r c call o) ≡ bare_served (write_from r (bare c) call o)
 bare-write_from r c call (Some n) = same-served (answers c (code n)) c (bare c) (sym (bare-bare c))

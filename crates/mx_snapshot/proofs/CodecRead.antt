@@ -75,7 +75,7 @@ module_joined size name areas flags count blocks runs maps = simp (append_assoc,
 pub module-flat : (m : StoredModule) → module_bytes m ≡ flat_module (length m.name) (length m.home.blocks) (length m.map) m
 unfolding module_bytes name_bytes area_bytes flag_bytes counted
 module-flat m =
-    search (arith, module_joined, m.name, m.home.heap.first, m.home.heap.count, m.home.stack.first, m.home.stack.words)
+    search (arith, module_joined)
 
 module-reads : (h : Head) → IsHead h → (before : List StoredModule) (m : StoredModule) → IsStoredModule h before m → Reads (module_in h before) (module_bytes m) m
 unfolding module_in

@@ -110,7 +110,7 @@ module _ (kept : KeptPlan) (f : Flat) (valid : IsFlat f) where
 
   pub state-back : AreSame (flat (state_of (stored_of kept f))) f
   state-back =
-      search (arith, ms, laid, bare_with, modules-back, core.modules, harts-are, maps-back, f.maps, owners-back)
+      search (arith, modules-back, harts-are, maps-back, owners-back)
 
 pub given-back : (kept : KeptPlan) (f : Flat) → IsFlat f → AreSame (flat (state_of (stored_of kept f))) f
 given-back kept f valid = state-back kept f valid

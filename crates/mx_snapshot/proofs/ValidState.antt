@@ -86,21 +86,56 @@ module _ (s : Stored) (f : IsStored s) where
       subst (λ (x : Hart). IsHart (length (core_of s).modules) (length (core_of s).harts) n x) (sym (hart-at s.harts n within)) two
 
   homes-fit : AllByRecursion (IsHome h.words (length (core_of s).harts)) (core_of s).modules
-  homes-fit = search (arith, h.words, length-harts, all_mapped, s.modules, each_holds, h, h.harts, home-fits)
+  homes-fit = search (arith, length-harts, all_mapped, each_holds, home-fits)
 
   pub gates-in : AllByRecursion (IsGate h.modules h.words) s.gates
   gates-in = each_holds (IsStoredGate h) (IsGate h.modules h.words) (λ before g is. (gate-fits h before g is).0) s.gates [] f.gates
 
   pub core-valid : IsValid (core_of s)
   core-valid =
-      search (arith, within_range, h.words, and_parts, length-modules, length-harts, all-at, s.ram, f.ram, homes-fit,
-        harts-fit, length-map, s.harts, gates-in, gates-single, s.gates, each_turned, h, gate-fits)
+      search (
+        arith,
+        within_range,
+        h.words,
+        and_parts,
+        length-modules,
+        length-harts,
+        all-at,
+        s.ram,
+        f.ram,
+        homes-fit,
+        harts-fit,
+        length-map,
+        s.harts,
+        gates-in,
+        gates-single,
+        s.gates,
+        each_turned,
+        h,
+        gate-fits,
+      )
 
   pub stored-state : IsFlat (flat (state_of s))
   stored-state =
-      search (arith, owners-whole, s.owners, h.words, owners-words, core-valid, length-map, s.modules, all_mapped,
-        all_each, length-map_of, length-modules, owner-small, s.harts, h.lookaside, cache-none,
-        length-owners (laid_runs 0 s.owners) h.words)
+      search (
+        arith,
+        owners-whole,
+        s.owners,
+        h.words,
+        owners-words,
+        core-valid,
+        length-map,
+        s.modules,
+        all_mapped,
+        all_each,
+        length-map_of,
+        length-modules,
+        owner-small,
+        s.harts,
+        h.lookaside,
+        cache-none,
+        length-owners (laid_runs 0 s.owners) h.words,
+      )
 
 pub stored-flat : (s : Stored) → IsStored s → IsFlat (flat (state_of s))
 stored-flat s f = stored-state s f
