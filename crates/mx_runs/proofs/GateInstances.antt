@@ -54,10 +54,20 @@ record AreDepths (s : State) : Type 0 where
   five : depth one_each s 0 5 ≡ 0
 
 inside : (s : State) → AreDepths s → (k : ℕ) → 2 < k → k < 5 → depth one_each s 0 2 < depth one_each s 0 k
-inside s d x l u = grind arith
+inside s d zero l u = absurd (omega (arith, l))
+inside s d (suc zero) l u = absurd (omega (arith, l))
+inside s d (suc (suc zero)) l u = absurd (omega (arith, l))
+inside s d (suc (suc (suc zero))) l u = let a = d.two in let b = d.three in omega (arith, a, b)
+inside s d (suc (suc (suc (suc zero)))) l u = let a = d.two in let b = d.four in omega (arith, a, b)
+inside s d (suc (suc (suc (suc (suc k))))) l u = absurd (omega (arith, u))
 
 gate-call : (s : State) → AreDepths s → IsGateCall one_each s 0 2 5
-gate-call s d = search (arith, inside)
+gate-call s d = record {
+  begins = let a = d.two in let b = d.three in omega (arith, a, b);
+  later = omega arith;
+  inside = inside s d;
+  ends = let a = d.two in let b = d.five in omega (arith, a, b);
+}
 
 return-call : IsGateCall one_each returning 0 2 5
 unfolding decoded effect holds imm_result reg_result loaded number_at put_at cleared_at

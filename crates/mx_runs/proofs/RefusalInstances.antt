@@ -1,5 +1,5 @@
 -- Refused calls, worked: the turns of refused calls, and answers that look like codes.
-use Rattle.std.proofs.Common.{◌≡◌, ℕ, ◌^◌, ◌-◌, false, List, [], ◌∷◌, refl, lit≤, None, arith}
+use Rattle.std.proofs.Common.{◌≡◌, ℕ, ◌^◌, ◌-◌, false, List, [], ◌∷◌, refl, lit≤, None}
 use Rattle.mx_words.specs.declared.perm.Perm.TheVariants as P
 use Rattle.mx_words.specs.Bytes.{cleared_at, number_at, put_at}
 use Rattle.mx_words.specs.Hearing.{nobody}
@@ -33,11 +33,19 @@ ungate-runs_on = record { called = refl; running = refl; x10 = refl; code = lit�
 
 ungate-refused : RefusesTurn (reads ungate) ungate.core 0 (code 15)
 unfolding decoded effect holds imm_result reg_result loaded number_at put_at cleared_at imm_i imm_s imm_b imm_u imm_j extended
-ungate-refused = search (arith, call, ungate.core)
+ungate-refused =
+    record { call = call_of 0 (hart_at ungate.core 0); effect = refl; row = 15; fails = refl; answer = refl }
 
 ungate-leaves : LeavesRefused (reads ungate) ungate.core 0 (code 15)
 unfolding decoded effect holds imm_result reg_result loaded number_at put_at cleared_at imm_i imm_s imm_b imm_u imm_j extended
-ungate-leaves = search (arith, ungate)
+ungate-leaves = record {
+  cache = cache_at (turn ungate 0).core 0;
+  core = refl;
+  no_change = refl;
+  no_give = refl;
+  no_byte = refl;
+  no_note = refl;
+}
 
 -- a free of an address that is no word, on which its hart has waited, is refused by its first test when it takes effect
 abbrev freeing : List (ℕ × ℕ)
@@ -52,7 +60,14 @@ free-runs_on = record { called = refl; running = refl; x10 = refl; code = lit≤
 
 free-leaves : LeavesRefused (reads free) free.core 0 (code 8)
 unfolding decoded effect holds imm_result reg_result loaded number_at put_at cleared_at imm_i imm_s imm_b imm_u imm_j extended
-free-leaves = search (arith, free)
+free-leaves = record {
+  cache = cache_at (turn free 0).core 0;
+  core = refl;
+  no_change = refl;
+  no_give = refl;
+  no_byte = refl;
+  no_note = refl;
+}
 
 -- a write that begins where the caller may read and ends where it may not is refused by its third test, after its looks
 abbrev writing : Call
@@ -60,7 +75,16 @@ writing = call 2 (0x80000004 ∷ 8 ∷ 0 ∷ 0 ∷ []) 0 1 false
 
 write-refused : IsRefused (reads ungate) ungate.core writing 12
 unfolding number_at put_at cleared_at
-write-refused = search (arith, ungate, ungate.core, writing)
+write-refused = record {
+  answer = refl;
+  no_second = refl;
+  runs_on = refl;
+  no_change = refl;
+  no_give = refl;
+  no_byte = refl;
+  cache = cache_at (serve (reads ungate) ungate.core writing).core 0;
+  core = refl;
+}
 
 write-looks : (cache_at (serve (reads ungate) ungate.core writing).core 0).walks ≡ 2
 unfolding number_at put_at cleared_at

@@ -29,10 +29,16 @@ abbrev both : ℕ → Bool
 both g = nat_lt g 2
 
 agreeing : (g : ℕ) → both g ≡ true → agree (sharing 7) (sharing 8) g
-agreeing x e = grind (arith, agrees-decides, sharing, bounded-state, ltb-true)
+agreeing zero e = (agrees-decides (reads (sharing 7)) (reads (sharing 8)) (sharing 7).core (sharing 8).core 0
+    (record { words = refl; first = bounded-state (sharing 7); second = bounded-state (sharing 8) })).0 refl
+agreeing (suc zero) e = (agrees-decides (reads (sharing 7)) (reads (sharing 8)) (sharing 7).core (sharing 8).core 1
+    (record { words = refl; first = bounded-state (sharing 7); second = bounded-state (sharing 8) })).0 refl
+agreeing (suc (suc g)) e = absurd (let l = ltb-true (suc (suc g)) 2 e in let q : ⊥ = omega (arith, l) in q)
 
 straight : (g : ℕ) → both g ≡ true → (hart_at (sharing 7).core g).pc % 4 ≡ 0
-straight x e = grind (arith, ltb-true)
+straight zero e = refl
+straight (suc zero) e = refl
+straight (suc (suc g)) e = absurd (let l = ltb-true (suc (suc g)) 2 e in let q : ⊥ = omega (arith, l) in q)
 
 shared : AreTwinStates both (sharing 7) (sharing 8)
 shared = record { words = refl; bytes = refl; harts = refl; turns = refl; aligned = straight; agreement = agreeing }
@@ -40,7 +46,11 @@ shared = record { words = refl; bytes = refl; harts = refl; turns = refl; aligne
 -- four turns, of the two harts in turn, meet no border
 free : AreFreeTurns both (ByQuantum 1) (sharing 7) 4
 unfolding decoded effect holds imm_result reg_result loaded number_at put_at cleared_at imm_i imm_s imm_b imm_u imm_j extended
-free x l = grind arith
+free zero l = record { named = refl; inside = refl; running = refl; free = refl }
+free (suc zero) l = record { named = refl; inside = refl; running = refl; free = refl }
+free (suc (suc zero)) l = record { named = refl; inside = refl; running = refl; free = refl }
+free (suc (suc (suc zero))) l = record { named = refl; inside = refl; running = refl; free = refl }
+free (suc (suc (suc (suc k)))) l = absurd (let q : ⊥ = omega (arith, l) in q)
 
 abbrev after : ℕ → State
 after secret = run (ByQuantum 1) 4 (sharing secret)
