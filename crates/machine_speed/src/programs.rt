@@ -7,7 +7,7 @@ use mx_words::Perm;
 use std::alloc::Global;
 
 /// The first module's program is one of these loops.
-#[derive(Clone, Copy, PartialEq, Eq, Debug)]
+#[derive(Clone, Copy, PartialEq, Eq)]
 pub enum Program {
     /// Load, add, mul, store, add and branch.
     Compute,

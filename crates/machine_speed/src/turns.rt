@@ -3,7 +3,7 @@ use mx_machine_tests::small::Small;
 use mx_model::Events;
 
 /// How turns are made.
-#[derive(Clone, Copy, PartialEq, Eq, Debug)]
+#[derive(Clone, Copy, PartialEq, Eq)]
 pub enum Way {
     /// As a program's run makes them: as many in a row as go, and where a row ends the next.
     Rows,

@@ -4,7 +4,7 @@ use mx_manifest::Key;
 use mx_words::Perm;
 
 /// An area that a module claims: a loaded segment of its image or its inline words, its heap area, or its stack area.
-#[derive(Clone, Copy, PartialEq, Eq, Debug)]
+#[derive(Clone, Copy, PartialEq, Eq)]
 pub struct Area {
     /// The module's domain, from 1.
     pub domain: u32,

@@ -7,7 +7,7 @@ use mx_words::MOST_HARTS;
 use std::marker::Model;
 
 /// An announced call of a hart, which changes rights on no other words than its range.
-#[derive(Clone, Copy, PartialEq, Eq, Debug)]
+#[derive(Clone, Copy, PartialEq, Eq)]
 pub struct Flight {
     /// The hart's number.
     pub hart: u32,

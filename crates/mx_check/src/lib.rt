@@ -14,5 +14,5 @@ pub use flight::{Flight, Flights};
 pub use part::Counts;
 
 /// A change needs more than the limit of the tables.
-#[derive(Clone, Copy, PartialEq, Eq, Debug)]
+#[derive(Clone, Copy, PartialEq, Eq)]
 pub struct TablesFull;

@@ -3,7 +3,7 @@
 use mx_turns::Dump;
 
 /// How a run is made.
-#[derive(Clone, Copy, PartialEq, Eq, Debug)]
+#[derive(Clone, Copy, PartialEq, Eq)]
 pub enum Way {
     /// From a manifest's boot, with the report of its end.
     Run,

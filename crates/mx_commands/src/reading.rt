@@ -7,7 +7,7 @@ use mx_io::{Failed, Store};
 use std::alloc::Global;
 
 /// Why a file could not be read.
-#[derive(Clone, Copy, PartialEq, Eq, Debug)]
+#[derive(Clone, Copy, PartialEq, Eq)]
 pub(crate) enum ReadFault {
     /// There is no file of that name.
     Absent,

@@ -9,7 +9,7 @@ use mx_manifest::BootFault;
 use mx_words::Need;
 
 /// Which of two machines a boot is of.
-#[derive(Clone, Copy, PartialEq, Eq, Debug)]
+#[derive(Clone, Copy, PartialEq, Eq)]
 pub enum Side {
     /// The first, or the only one.
     First,

@@ -7,7 +7,7 @@ ghost use Rattle.mx_words.specs.Bytes.{IsSize};
 ghost use Rattle.mx_core.specs.Bus.{denied, load_at, store_at};
 
 /// The map allows no such access here.
-#[derive(Clone, Copy, PartialEq, Eq, Debug)]
+#[derive(Clone, Copy, PartialEq, Eq)]
 pub struct Denied;
 
 /// RAM that a map of permissions guards. Each call is denied exactly where the map denies it, and

@@ -16,7 +16,7 @@ pub(crate) const MOST_SEGMENTS: usize = 16;
 /// isn't 32 or they pass the file's end. Then for each loaded segment in turn, 7: it is the seventeenth. 8: it has bytes
 /// in the file, and these pass the file's end. 9: the file has more bytes of it than memory. 10: its address is no
 /// multiple of 4.
-#[derive(Clone, Copy, PartialEq, Eq, Debug)]
+#[derive(Clone, Copy, PartialEq, Eq)]
 pub struct ImageFault {
     /// The number, 1 to 10.
     pub number: u32,

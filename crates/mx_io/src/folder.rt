@@ -13,7 +13,7 @@ use std::rt::Files;
 use std::{fs, io};
 
 /// What stands under a name.
-#[derive(Clone, Copy, PartialEq, Eq, Debug)]
+#[derive(Clone, Copy, PartialEq, Eq)]
 pub enum Entry {
     /// Nothing.
     Absent,

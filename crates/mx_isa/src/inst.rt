@@ -2,7 +2,7 @@
 
 /// One instruction. Registers are 0 to 31. `imm` is the immediate's value modulo 2^32, already
 /// extended; the shift amount where the operation is a shift by an immediate.
-#[derive(Clone, Copy, PartialEq, Eq, Debug)]
+#[derive(Clone, Copy, PartialEq, Eq)]
 pub enum Inst {
     /// rd takes `imm`, whose low 12 bits are zero.
     Lui {
@@ -71,7 +71,7 @@ pub enum Inst {
 }
 
 /// The comparison of a branch (RV32I 2.5).
-#[derive(Clone, Copy, PartialEq, Eq, Debug)]
+#[derive(Clone, Copy, PartialEq, Eq)]
 pub enum Cond {
     /// Equal.
     Beq,
@@ -88,7 +88,7 @@ pub enum Cond {
 }
 
 /// The bytes of a load, and how they are extended (RV32I 2.6).
-#[derive(Clone, Copy, PartialEq, Eq, Debug)]
+#[derive(Clone, Copy, PartialEq, Eq)]
 pub enum LoadWidth {
     /// One byte, its sign extended.
     Lb,
@@ -103,7 +103,7 @@ pub enum LoadWidth {
 }
 
 /// The bytes of a store (RV32I 2.6).
-#[derive(Clone, Copy, PartialEq, Eq, Debug)]
+#[derive(Clone, Copy, PartialEq, Eq)]
 pub enum StoreWidth {
     /// One byte.
     Sb,
@@ -114,7 +114,7 @@ pub enum StoreWidth {
 }
 
 /// The operation on a register and an immediate (RV32I 2.4).
-#[derive(Clone, Copy, PartialEq, Eq, Debug)]
+#[derive(Clone, Copy, PartialEq, Eq)]
 pub enum ImmOp {
     /// The sum.
     Addi,
@@ -137,7 +137,7 @@ pub enum ImmOp {
 }
 
 /// The operation on two registers (RV32I 2.4, M 2.0).
-#[derive(Clone, Copy, PartialEq, Eq, Debug)]
+#[derive(Clone, Copy, PartialEq, Eq)]
 pub enum RegOp {
     /// The sum.
     Add,

@@ -22,7 +22,7 @@ const SAVED: [u32; 15] = [2, 3, 4, 8, 9, 18, 19, 20, 21, 22, 23, 24, 25, 26, 27]
 const FAULTED: u32 = 0xFFFF_FF00;
 
 /// Whether a hart runs, waits on its announced call, or is halted, with the code of its exit if it made one.
-#[derive(Clone, Copy, PartialEq, Eq, Debug)]
+#[derive(Clone, Copy, PartialEq, Eq)]
 pub enum Progress {
     Running,
     Waiting,

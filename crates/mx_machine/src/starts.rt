@@ -18,7 +18,7 @@ use mx_words::{MOST_HARTS, MOST_MODULES, RAM_BASE};
 use std::marker::Model;
 
 /// Where a hart starts: in a domain, from 1 on, at a pc that is a multiple of 4.
-#[derive(Clone, Copy, PartialEq, Eq, Debug, Default)]
+#[derive(Clone, Copy, PartialEq, Eq, Default)]
 pub struct HartStart {
     /// The domain.
     pub domain: u32,

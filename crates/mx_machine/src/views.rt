@@ -28,7 +28,7 @@ pub struct HartView {
 }
 
 /// Turns that a hart made in a row, of which all but the last carried out an instruction and no more.
-#[derive(Clone, Copy, PartialEq, Eq, Debug)]
+#[derive(Clone, Copy, PartialEq, Eq)]
 pub struct Stretch {
     /// How many came before the last.
     pub ran: u64,

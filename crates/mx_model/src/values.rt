@@ -32,7 +32,7 @@ pub struct Gate {
 }
 
 /// A supervisor call as it was made.
-#[derive(Clone, Copy, PartialEq, Eq, Debug)]
+#[derive(Clone, Copy, PartialEq, Eq)]
 pub struct Call {
     /// The call's number, x17.
     pub number: u32,

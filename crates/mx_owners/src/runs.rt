@@ -12,7 +12,7 @@ use std::alloc::Global;
 pub const MOST_RUNS: usize = 4096;
 
 // Words with one owner: those from the end of the run before, or from word 0 on, to before `end`.
-#[derive(Clone, Copy, PartialEq, Eq, Debug)]
+#[derive(Clone, Copy, PartialEq, Eq)]
 pub struct Run {
     pub end: u32,
     pub owner: u32,

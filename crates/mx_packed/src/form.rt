@@ -12,7 +12,7 @@ use mx_words::{Perm, Span};
 
 /// Packed leaf entries: up to four runs in the entry, which reaches up to 31 words over each edge of the line; a line with more
 /// runs has a spill word in the form of a plain entry.
-#[derive(Clone, Copy, PartialEq, Eq, Debug)]
+#[derive(Clone, Copy, PartialEq, Eq)]
 pub struct Packed;
 
 /// The words of a line.

@@ -10,7 +10,7 @@ use mx_machine::{HartStatus, HartView};
 use mx_model::{Fault, Note};
 
 /// Why a run ended.
-#[derive(Clone, Copy, PartialEq, Eq, Debug)]
+#[derive(Clone, Copy, PartialEq, Eq)]
 pub enum EndState {
     /// All harts are halted.
     Halted,

@@ -13,7 +13,7 @@ use mx_commands::{Order, Way};
 use mx_turns::Dump;
 
 /// An option.
-#[derive(Clone, Copy, PartialEq, Eq, Debug)]
+#[derive(Clone, Copy, PartialEq, Eq)]
 pub(crate) enum Flag {
     /// A schedule, whose name follows.
     Schedule,

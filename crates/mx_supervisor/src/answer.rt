@@ -4,7 +4,7 @@ ghost use Rattle.mx_model.specs.Serve.{code};
 ghost use Rattle.mx_supervisor.specs.Answers.{number, plain, refusal};
 
 /// What a served call answers.
-#[derive(Clone, Copy, PartialEq, Eq, Debug)]
+#[derive(Clone, Copy, PartialEq, Eq)]
 pub struct Answer {
     /// What goes to a0: the call's value, or the code of its refusal modulo 2^32.
     pub a0: u32,
@@ -15,7 +15,7 @@ pub struct Answer {
 }
 
 /// Why a call is refused.
-#[derive(Clone, Copy, PartialEq, Eq, Debug)]
+#[derive(Clone, Copy, PartialEq, Eq)]
 pub enum Refusal {
     /// The range or the word isn't one of RAM.
     BadRange,

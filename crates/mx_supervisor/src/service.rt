@@ -2,7 +2,7 @@
 ghost use Rattle.mx_supervisor.specs.Services.{IsNumbered};
 
 /// What a call asks for.
-#[derive(Clone, Copy, PartialEq, Eq, Debug)]
+#[derive(Clone, Copy, PartialEq, Eq)]
 pub enum Service {
     /// Call 1, exit.
     Exit,

@@ -2,7 +2,7 @@
 use mx_words::{MOST_DOMAINS, Perm};
 
 /// Permissions for the words `first` to `first + count - 1`, in the domains that it names.
-#[derive(Clone, Copy, PartialEq, Eq, Debug)]
+#[derive(Clone, Copy, PartialEq, Eq)]
 pub struct Change {
     /// The number of the range's first RAM word.
     pub first: u32,

@@ -12,7 +12,7 @@ use mx_model::TurnKind;
 use mx_tail::{Tail, put_pieces};
 
 /// What is seen of a hart before its turn.
-#[derive(Clone, Copy, PartialEq, Eq, Debug)]
+#[derive(Clone, Copy, PartialEq, Eq)]
 pub struct Seen {
     /// Its domain.
     pub domain: u32,

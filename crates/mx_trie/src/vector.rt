@@ -10,7 +10,7 @@ use crate::LeafForm;
 use mx_words::{Perm, Span};
 
 /// Plain leaf entries. No entry reaches beyond its line or needs a spill word.
-#[derive(Clone, Copy, PartialEq, Eq, Debug)]
+#[derive(Clone, Copy, PartialEq, Eq)]
 pub struct Vector;
 
 /// The number of the permission at place `i` of a plain entry.

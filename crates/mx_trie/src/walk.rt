@@ -19,7 +19,7 @@ use mx_pool::Pool;
 use mx_words::{Level, Shown, Span};
 
 /// Where a walk ends, and the stored word that it finds there.
-#[derive(Clone, Copy, PartialEq, Eq, Debug)]
+#[derive(Clone, Copy, PartialEq, Eq)]
 pub(crate) enum Found {
     /// The vector of the word's region.
     Root(u32),

@@ -14,7 +14,7 @@ use mx_model::{Events, Note};
 use mx_table::PermTables;
 
 /// What the texts of a run come to.
-#[derive(Clone, Copy, PartialEq, Eq, Debug)]
+#[derive(Clone, Copy, PartialEq, Eq)]
 pub struct Tally {
     /// How many console bytes there were.
     pub bytes: u64,

@@ -1,7 +1,7 @@
 //! Which sink failed.
 
 /// The sink whose fault ended a call: the first that failed.
-#[derive(Clone, Copy, PartialEq, Eq, Debug)]
+#[derive(Clone, Copy, PartialEq, Eq)]
 pub enum SinkFault {
     /// That of the console's bytes.
     Console,

@@ -4,7 +4,7 @@ use crate::pace::Schedule;
 use mx_report::Options;
 
 /// What goes to the dump.
-#[derive(Clone, Copy, PartialEq, Eq, Debug)]
+#[derive(Clone, Copy, PartialEq, Eq)]
 pub enum Dump {
     /// RAM's bytes, from the first on.
     Ram,

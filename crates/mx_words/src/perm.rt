@@ -17,7 +17,7 @@ pub enum Perm {
 }
 
 /// The kind of an access to a word.
-#[derive(Clone, Copy, PartialEq, Eq, Debug)]
+#[derive(Clone, Copy, PartialEq, Eq)]
 pub enum Access {
     /// A load.
     Read,
