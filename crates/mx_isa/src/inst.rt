@@ -114,7 +114,7 @@ pub enum StoreWidth {
 }
 
 /// The operation on a register and an immediate (RV32I 2.4).
-#[derive(Clone, Copy, PartialEq, Eq)]
+#[derive(Clone, Copy, PartialEq, Eq, Debug)]
 pub enum ImmOp {
     /// The sum.
     Addi,
@@ -137,7 +137,7 @@ pub enum ImmOp {
 }
 
 /// The operation on two registers (RV32I 2.4, M 2.0).
-#[derive(Clone, Copy, PartialEq, Eq)]
+#[derive(Clone, Copy, PartialEq, Eq, Debug)]
 pub enum RegOp {
     /// The sum.
     Add,
