@@ -7,3 +7,9 @@ join-requires-in_default c = (
   omega arith,
   (may-join c.args.held c.requires.held, (sym c.requires.kind, search (last-buffer))),
 )
+
+pub join-requires : goal.join-requires
+join-requires c = (omega arith, (may-join c.args.held c.requires.held, (sym c.requires.kind, search)))
+
+pub join-requires-in-32 : goal.join-requires-in-32
+join-requires-in-32 c = (omega arith, (may-join c.args.held c.requires.held, (sym c.requires.kind, search)))
