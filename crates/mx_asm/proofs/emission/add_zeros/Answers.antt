@@ -1,4 +1,5 @@
 use Rattle.std.proofs.Common.{◌≤◌, ◌-◌, ◌∙◌, ap, replicate, ℕ, arith}
+use Rattle.std.proofs.lemmas.Grind.{common_steps}
 use Rattle.std.proofs.lemmas.List.{take-replicate}
 use Rattle.mx_image.specs.Program.{with_bytes}
 use Rattle.mx_asm.proofs.ProgramLaws.{left_bytes, zeros_split}
@@ -15,3 +16,6 @@ pieces-preserved c =
     (replicate {A = ℕ} piece 0) (replicate {A = ℕ} (left - piece) 0) c.add_bytes.new.self
     (zeros_split left piece (left - piece) (omega (arith, less)))
     (c.in_ok-add_bytes.ensures.ok ∙ ap (λ bytes. with_bytes bytes p) (take-replicate piece 256 0 most))
+
+pub add_bytes-requires-clause-room : goal.add_bytes-requires-clause-room
+add_bytes-requires-clause-room c = grind (arith, common_steps)
