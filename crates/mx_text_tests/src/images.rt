@@ -1,17 +1,79 @@
 //! Images that are read: that of a linker, the first fault of each, and their symbols.
 use mx_elf::{Seg, Symbols, read_image, symbol};
+use std::alloc::Global;
 use std::test::Fail;
 
 mod sums;
 
 use sums::SUMS;
 
+/// The entry of an image and its two segments; none of another file.
+pub(crate) fn entry_and_segments(file: &[u8]) -> Option<(u32, [Seg; 2])> {
+    match read_image(file) {
+        Ok(image) => {
+            if image.segments.len() == 2 {
+                Some((image.entry, [image.segments.get(0), image.segments.get(1)]))
+            } else {
+                None
+            }
+        }
+        Err(_) => None,
+    }
+}
+
+/// The symbols of the linker's image, and names that are none.
+const NAMES: [&str; 9] = [
+    "start", "sum", "values", "greeting", "total", "scratch", "sums", "su", "sum\0",
+];
+
+/// Their values.
+const VALUES: [Option<u32>; 9] = [
+    Some(0x8000_0000),
+    Some(0x8000_0024),
+    Some(0x8000_0100),
+    Some(0x8000_0110),
+    Some(0x8000_0118),
+    Some(0x8000_011C),
+    None,
+    None,
+    None,
+];
+
+/// The values that are found one by one.
+fn found_alone() -> [Option<u32>; 9] {
+    let mut values = [None; 9];
+    for i in 0..9 {
+        values[i] = symbol(SUMS, NAMES[i]);
+    }
+    values
+}
+
+/// Those that symbols tell of which none was asked.
+fn found_unasked(alloc: Global) -> [Option<u32>; 9] {
+    let none = Symbols::none(alloc);
+    let mut values = [None; 9];
+    for i in 0..9 {
+        values[i] = none.value(SUMS, NAMES[i]);
+    }
+    values
+}
+
+/// Those that symbols tell of which some were asked.
+fn found_together(alloc: Global) -> Result<[Option<u32>; 9], Fail> {
+    let asked = ["sum", "su", "sum\0", "greeting", "sum", "start", "sums"];
+    let Ok(together) = Symbols::find(alloc, SUMS, &asked) else {
+        return Err("no memory")?;
+    };
+    let mut values = [None; 9];
+    for i in 0..9 {
+        values[i] = together.value(SUMS, NAMES[i]);
+    }
+    Ok(values)
+}
+
 // What `readelf -lhs` prints of the image stands in `examples/elf/sums.readelf`.
 #[test]
 fn reads_the_image_of_a_linker(rt: HostRuntime) -> Result<(), Fail> {
-    let image = read_image(SUMS).ok().ok_or("no image")?;
-    assert_eq!(rt; image.entry, 0x8000_0000);
-    assert_eq!(rt; image.segments.len(), 2);
     let text = Seg {
         offset: 0x94,
         file: 0x44,
@@ -26,31 +88,10 @@ fn reads_the_image_of_a_linker(rt: HostRuntime) -> Result<(), Fail> {
         memory: 0x44,
         flags: 6,
     };
-    assert_eq!(rt; image.segments.get(0), text);
-    assert_eq!(rt; image.segments.get(1), data);
-    let symbols = [
-        ("start", Some(0x8000_0000)),
-        ("sum", Some(0x8000_0024)),
-        ("values", Some(0x8000_0100)),
-        ("greeting", Some(0x8000_0110)),
-        ("total", Some(0x8000_0118)),
-        ("scratch", Some(0x8000_011C)),
-        ("sums", None),
-        ("su", None),
-        ("sum\0", None),
-    ];
-    for (name, want) in symbols {
-        assert_eq!(rt; symbol(SUMS, name), want, "{name}");
-    }
-    let asked = ["sum", "su", "sum\0", "greeting", "sum", "start", "sums"];
-    let Ok(together) = Symbols::find(rt.alloc(), SUMS, &asked) else {
-        return Err(Fail::from("no memory"));
-    };
-    let none = Symbols::none(rt.alloc());
-    for (name, want) in symbols {
-        assert_eq!(rt; together.value(SUMS, name), want, "{name}");
-        assert_eq!(rt; none.value(SUMS, name), want, "{name}");
-    }
+    assert_eq!(rt; entry_and_segments(SUMS), Some((0x8000_0000, [text, data])));
+    assert_eq!(rt; found_alone(), VALUES);
+    assert_eq!(rt; found_unasked(rt.alloc()), VALUES);
+    assert_eq!(rt; found_together(rt.alloc())?, VALUES);
     Ok(())
 }
 
@@ -194,13 +235,17 @@ const FAULTS: &[(&[Put], usize, u32)] = &[
     (&[Word(FIRST + 8, 1), Word(SECOND + 4, 637)], FILE_SIZE, 10),
 ];
 
+/// The first fault of so many bytes of the file of segments with these changes.
+fn fault_with(puts: &[Put], len: usize) -> u32 {
+    let mut file = file_of_segments();
+    change(&mut file, puts);
+    fault_of(&file[..len.min(FILE_SIZE)])
+}
+
 #[test]
 fn finds_the_first_fault(rt: HostRuntime) {
     for (i, (puts, len, want)) in FAULTS.iter().enumerate() {
-        let mut file = file_of_segments();
-        change(&mut file, puts);
-        let len = (*len).min(FILE_SIZE);
-        assert_eq!(rt; fault_of(&file[..len]), *want, "row {i}");
+        assert_eq!(rt; fault_with(puts, *len), *want, "row {i}");
     }
 }
 
@@ -311,12 +356,16 @@ const SYMBOLS: &[(&[Put], usize, &str, Option<u32>)] = &[
     (&[Word(STRINGS + 20, 0xFFFF_FE80)], FILE_SIZE, "here", None),
 ];
 
+/// The value of a symbol in so many bytes of the file of symbols with these changes.
+fn symbol_with(puts: &[Put], len: usize, name: &str) -> Option<u32> {
+    let mut file = file_of_symbols();
+    change(&mut file, puts);
+    symbol(&file[..len.min(FILE_SIZE)], name)
+}
+
 #[test]
 fn finds_the_first_symbol(rt: HostRuntime) {
     for (i, (puts, len, name, want)) in SYMBOLS.iter().enumerate() {
-        let mut file = file_of_symbols();
-        change(&mut file, puts);
-        let len = (*len).min(FILE_SIZE);
-        assert_eq!(rt; symbol(&file[..len], name), *want, "row {i}");
+        assert_eq!(rt; symbol_with(puts, *len, name), *want, "row {i}");
     }
 }

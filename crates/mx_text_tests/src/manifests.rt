@@ -26,6 +26,14 @@ pub(crate) fn judge(alloc: Global, text: &str) -> Result<Plan, ManifestFault> {
     }
 }
 
+/// The plan of a manifest that is accepted.
+pub(crate) fn plan_of(alloc: Global, text: &str) -> Result<Plan, Fail> {
+    match judge(alloc, text) {
+        Ok(plan) => Ok(plan),
+        Err(_) => Err("refused")?,
+    }
+}
+
 /// A manifest of three parts.
 pub(crate) fn joined(alloc: Global, top: &str, modules: &str, harts: &str) -> Result<String, Fail> {
     Ok(format!(in alloc; "{top}{modules}{harts}")?)

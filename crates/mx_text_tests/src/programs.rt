@@ -1,6 +1,7 @@
 //! Images that are written of programs, and what the loader reads of them.
 ghost use Rattle.std.specs.Prelude.{◌≡◌, ◌≤◌, length, IfOk};
 
+use crate::images::entry_and_segments;
 use mx_elf::{Seg, read_image, symbol};
 use mx_image::{ProgramBuilder, Segment, write};
 use mx_words::{Blob, NoMemory};
@@ -79,9 +80,6 @@ fn writes_two_segments_and_leaves_out_an_empty_one(rt: HostRuntime) -> Result<()
 
 #[test]
 fn the_loader_reads_what_was_written(rt: HostRuntime) -> Result<(), Fail> {
-    let image = read_image(TWO_SEGMENTS).ok().ok_or("no image")?;
-    assert_eq!(rt; image.entry, 0x8000_0000);
-    assert_eq!(rt; image.segments.len(), 2);
     let text = Seg {
         offset: 116,
         file: 4,
@@ -97,8 +95,8 @@ fn the_loader_reads_what_was_written(rt: HostRuntime) -> Result<(), Fail> {
         flags: 6,
     };
     assert_eq!(rt;
-        (image.segments.get(0), image.segments.get(1)),
-        (text, data)
+        entry_and_segments(TWO_SEGMENTS),
+        Some((0x8000_0000, [text, data]))
     );
     assert_eq!(rt; symbol(TWO_SEGMENTS, "start"), Some(0x8000_0000));
     assert_eq!(rt; symbol(TWO_SEGMENTS, "k"), Some(0x8000_1000));

@@ -6,9 +6,19 @@ use mx_io::{
     Store, put_all, put_pieces,
 };
 use mx_tail::put_line;
+use std::alloc::Global;
 use std::io::{ErrorKind, Write};
+use std::process::Abort;
+use std::rt::Files as HostFiles;
 use std::test::Fail;
 use std::{fs, io};
+
+/// What a read of four bytes gives: how many, and the bytes with points behind them.
+fn part<S: Store>(store: &mut S, name: &str, at: u64) -> Result<(usize, [u8; 4]), Failed> {
+    let mut into = *b"....";
+    let count = store.read(name, at, &mut into)?;
+    Ok((count, into))
+}
 
 #[test]
 fn files_tell_sizes_and_give_parts(rt: HostRuntime) -> Result<(), Fail> {
@@ -16,9 +26,8 @@ fn files_tell_sizes_and_give_parts(rt: HostRuntime) -> Result<(), Fail> {
     files.add("a", b"old")?;
     files.add("b", b"")?;
     files.add("a", b"hello")?;
-    for (name, size) in [("a", Some(5)), ("b", Some(0)), ("c", None)] {
-        assert_eq!(rt; files.size(name)?, size, "the size of {name}");
-    }
+    let sizes = [files.size("a"), files.size("b"), files.size("c")];
+    assert_eq!(rt; sizes, [Ok(Some(5)), Ok(Some(0)), Ok(None)]);
     let parts = [
         ("a", 0, 4),
         ("a", 3, 2),
@@ -28,29 +37,27 @@ fn files_tell_sizes_and_give_parts(rt: HostRuntime) -> Result<(), Fail> {
         ("c", 0, 0),
     ];
     for (name, at, count) in parts {
-        let mut into = [0; 4];
-        assert_eq!(rt;
-            files.read(name, at, &mut into)?,
-            count,
-            "of {name} from {at}"
-        );
+        let (read, _) = part(&mut files, name, at)?;
+        assert_eq!(rt; read, count, "of {name} from {at}");
     }
-    let mut into = *b"....";
-    assert_eq!(rt; files.read("a", 3, &mut into)?, 2);
-    assert_eq!(rt; into, *b"lo..");
+    assert_eq!(rt; part(&mut files, "a", 3), Ok((2, *b"lo..")));
     Ok(())
+}
+
+/// Makes four calls of files, of which the second and the third fail.
+fn call_files(rt: &impl Abort, alloc: Global) {
+    let mut files = Files::new(alloc);
+    files.fail_at(2);
+    files.fail_at(3);
+    let sizes = [files.size("a"), files.size("a")];
+    let read = files.read("a", 0, &mut [0]);
+    assert_eq!(rt; sizes, [Ok(None), Err(Failed)]);
+    assert_eq!(rt; (read, files.size("a")), (Err(Failed), Ok(None)));
 }
 
 #[test]
 fn listed_calls_fail(rt: HostRuntime) -> Result<(), Fail> {
-    let mut files = Files::new(rt.alloc());
-    files.fail_at(2);
-    files.fail_at(3);
-    assert_eq!(rt; files.size("a"), Ok(None));
-    assert_eq!(rt; files.size("a"), Err(Failed));
-    assert_eq!(rt; files.read("a", 0, &mut [0]), Err(Failed));
-    assert_eq!(rt; files.size("a"), Ok(None));
-
+    call_files(&rt, rt.alloc());
     let mut bytes = Bytes::new(rt.alloc(), 16)?;
     for call in [1, 2, 2, 3, 4, 5, 6, 7, 9, 10] {
         bytes.fail_at(call);
@@ -66,10 +73,13 @@ fn listed_calls_fail(rt: HostRuntime) -> Result<(), Fail> {
 #[test]
 fn bytes_take_what_there_is_room_for(rt: HostRuntime) -> Result<(), Fail> {
     let mut bytes = Bytes::new(rt.alloc(), 4)?;
-    assert_eq!(rt; bytes.write(b"abc"), Ok(3));
-    assert_eq!(rt; bytes.write(b"def"), Ok(1));
-    assert_eq!(rt; bytes.write(b"ef"), Err(Failed));
-    assert_eq!(rt; bytes.write(b""), Ok(0));
+    let counts = [
+        bytes.write(b"abc"),
+        bytes.write(b"def"),
+        bytes.write(b"ef"),
+        bytes.write(b""),
+    ];
+    assert_eq!(rt; counts, [Ok(3), Ok(1), Err(Failed), Ok(0)]);
     assert_eq!(rt; bytes.as_slice(), b"abcd".as_slice());
     Ok(())
 }
@@ -154,45 +164,64 @@ fn files_in_memory_are_a_folder(rt: HostRuntime) -> Result<(), Fail> {
     let mut files = Files::new(rt.alloc());
     files.add("a", b"hello")?;
     let mut store = FolderStore::over(&files);
-    assert_eq!(rt; store.size("a"), Ok(Some(5)));
-    assert_eq!(rt; store.size("b"), Ok(None));
+    assert_eq!(rt; (store.size("a"), store.size("b")), (Ok(Some(5)), Ok(None)));
     for (at, count) in [(0, 4), (3, 2), (5, 0), (u64::MAX, 0)] {
-        let mut into = [0; 4];
-        assert_eq!(rt; store.read("a", at, &mut into), Ok(count), "from {at}");
+        let (read, _) = part(&mut store, "a", at)?;
+        assert_eq!(rt; read, count, "from {at}");
     }
-    let mut into = *b"....";
-    assert_eq!(rt; store.read("a", 3, &mut into), Ok(2));
-    assert_eq!(rt; into, *b"lo..");
-    assert_eq!(rt; store.read("b", 0, &mut into), Err(Failed));
+    let parts = [part(&mut store, "a", 3), part(&mut store, "b", 0)];
+    assert_eq!(rt; parts, [Ok((2, *b"lo..")), Err(Failed)]);
     Ok(())
 }
 
-#[test]
-fn the_folder_is_a_store(rt: HostRuntime) -> Result<(), Fail> {
-    let mut store = FolderStore::new(&rt);
-    fs::write(&rt, "mx_io_a_file", "seven by")?;
+/// What a store tells of a name: a size, and what a read from the start gives.
+type Told = (Result<Option<u64>, Failed>, Result<usize, Failed>);
+
+fn told<S: Store>(store: &mut S, name: &str) -> Told {
+    (store.size(name), store.read(name, 0, &mut [0; 5]))
+}
+
+/// What it tells of a file of eight bytes that stands there meanwhile: its size, and two reads with the bytes of the first.
+fn told_of_a_file<S: Store>(
+    rt: &impl HostFiles,
+    store: &mut S,
+) -> Result<(Told, [u8; 5], Result<usize, Failed>), Fail> {
+    fs::write(rt, "mx_io_a_file", "seven by")?;
     let size = store.size("mx_io_a_file");
     let mut into = [0; 5];
     let part = store.read("mx_io_a_file", 3, &mut into);
     let end = store.read("mx_io_a_file", 8, &mut [0]);
-    fs::remove_file(&rt, "mx_io_a_file")?;
-    assert_eq!(rt; size, Ok(Some(8)));
-    assert_eq!(rt; part, Ok(5));
-    assert_eq!(rt; into, *b"en by");
-    assert_eq!(rt; end, Ok(0));
-    assert_eq!(rt; store.size("mx_io_no_file"), Ok(None));
-    assert_eq!(rt; store.read("mx_io_no_file", 0, &mut into), Err(Failed));
+    fs::remove_file(rt, "mx_io_a_file")?;
+    Ok(((size, part), into, end))
+}
 
-    fs::create_dir(&rt, "mx_io_a_folder")?;
-    let size = store.size("mx_io_a_folder");
-    let part = store.read("mx_io_a_folder", 0, &mut into);
-    fs::remove_dir(&rt, "mx_io_a_folder")?;
-    assert_eq!(rt; size, Err(Failed));
-    assert_eq!(rt; part, Err(Failed));
+/// What it tells of a folder that stands there meanwhile.
+fn told_of_a_folder<S: Store>(rt: &impl HostFiles, store: &mut S) -> Result<Told, Fail> {
+    fs::create_dir(rt, "mx_io_a_folder")?;
+    let told = told(store, "mx_io_a_folder");
+    fs::remove_dir(rt, "mx_io_a_folder")?;
+    Ok(told)
+}
 
+/// What the store of the current folder tells, of a file and then of a name without one, of a folder and of a device.
+fn told_by_the_folder(
+    rt: &impl HostFiles,
+) -> Result<((Told, [u8; 5], Result<usize, Failed>), [Told; 3]), Fail> {
+    let mut store = FolderStore::new(rt);
+    let file = told_of_a_file(rt, &mut store)?;
+    let absent = told(&mut store, "mx_io_no_file");
+    let folder = told_of_a_folder(rt, &mut store)?;
+    let device = told(&mut store, "/dev/zero");
+    Ok((file, [absent, folder, device]))
+}
+
+#[test]
+fn the_folder_is_a_store(rt: HostRuntime) -> Result<(), Fail> {
+    let (file, others) = told_by_the_folder(&rt)?;
+    assert_eq!(rt; file, ((Ok(Some(8)), Ok(5)), *b"en by", Ok(0)));
     // A device is no regular file, and isn't opened.
-    assert_eq!(rt; store.size("/dev/zero"), Err(Failed));
-    assert_eq!(rt; store.read("/dev/zero", 0, &mut into), Err(Failed));
+    let fails = (Err(Failed), Err(Failed));
+    assert_eq!(rt; others, [(Ok(None), Err(Failed)), fails, fails]);
     Ok(())
 }
 
@@ -278,25 +307,30 @@ fn a_file_is_made_at_the_first_write(rt: HostRuntime) -> Result<(), Fail> {
     Ok(())
 }
 
+/// What a write to the dump comes to where a folder stands.
+fn write_to_a_folder<S: Sink>(
+    rt: &impl HostFiles,
+    sink: &mut S,
+) -> Result<Result<usize, Failed>, Fail> {
+    fs::create_dir(rt, "memory.bin")?;
+    let refused = sink.write(b"a");
+    fs::remove_dir(rt, "memory.bin")?;
+    Ok(refused)
+}
+
 #[test]
 fn the_dump_goes_to_a_file(rt: HostRuntime) -> Result<(), Fail> {
     let mut sink = FileSink::new(&rt);
-    fs::create_dir(&rt, "memory.bin")?;
-    let refused = sink.write(b"a");
-    fs::remove_dir(&rt, "memory.bin")?;
-    assert_eq!(rt; refused, Err(Failed));
+    assert_eq!(rt; write_to_a_folder(&rt, &mut sink)?, Err(Failed));
 
     fs::write(&rt, "memory.bin", "what stood there before")?;
     let nothing = put_all(&mut sink, b"");
     let before = fs::read_to_string(&rt, "memory.bin")?;
-    let first = put_all(&mut sink, b"two ");
-    let second = put_all(&mut sink, b"writes");
+    let puts = [put_all(&mut sink, b"two "), put_all(&mut sink, b"writes")];
     let text = fs::read_to_string(&rt, "memory.bin")?;
     fs::remove_file(&rt, "memory.bin")?;
-    assert_eq!(rt; nothing, Ok(()));
-    assert_eq!(rt; before.as_str(), "what stood there before");
-    assert_eq!(rt; first, Ok(()));
-    assert_eq!(rt; second, Ok(()));
-    assert_eq!(rt; text.as_str(), "two writes");
+    assert_eq!(rt; (nothing, puts), (Ok(()), [Ok(()), Ok(())]));
+    let texts = (before.as_str(), text.as_str());
+    assert_eq!(rt; texts, ("what stood there before", "two writes"));
     Ok(())
 }

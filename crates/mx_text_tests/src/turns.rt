@@ -14,7 +14,7 @@ use std::test::Fail;
 type Stands = Option<(u32, u32, Option<u32>)>;
 
 /// Step, hart, how it stands before the turn, the turn's kind, and the line that the rule gives.
-const LINES: [(u64, u32, Stands, TurnKind, &str); 10] = [
+static LINES: [(u64, u32, Stands, TurnKind, &str); 10] = [
     (
         1,
         0,
@@ -107,10 +107,10 @@ fn seen(stands: Stands) -> Option<Seen>
 
 #[test]
 fn turn_lines_are_those_of_the_rule(rt: HostRuntime) -> Result<(), Fail> {
-    for (step, hart, stands, kind, line) in LINES {
+    for (step, hart, stands, kind, line) in &LINES {
         let mut sink = Bytes::new(rt.alloc(), 80)?;
         assert_eq!(rt;
-            turn_line(&mut sink, step, hart, seen(stands), kind),
+            turn_line(&mut sink, *step, *hart, seen(*stands), *kind),
             Ok(())
         );
         assert_eq!(rt; sink.as_slice(), line.as_bytes(), "{line}");

@@ -1,7 +1,7 @@
 //! Words, and what `riscv64-unknown-elf-objdump -d -M no-aliases,numeric` prints for them, in the assembler's style:
 //! numbers in decimal, offsets in place of targets, a space after commas, and `fence` with its fields.
 
-pub(super) const TEXTS: [(u32, &str); 54] = [
+pub(super) static TEXTS: [(u32, &str); 54] = [
     (0xFFFF_F2B7, "lui x5, 1048575"),
     (0x0000_0537, "lui x10, 0"),
     (0x8000_0097, "auipc x1, 524288"),

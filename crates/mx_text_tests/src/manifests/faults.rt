@@ -1,7 +1,7 @@
 //! Each fault, at each place where it can stand. A case is a line: the number of the fault, its place and its key,
 //! and then lines of a manifest with semicolons between.
 
-use super::{HART, MODULE, ONE, TWO, judge};
+use super::{HART, MODULE, ONE, TWO, joined, judge};
 use mx_manifest::{BootFault, ManifestFault, Part};
 use std::alloc::Global;
 use std::process::Abort;
@@ -174,11 +174,16 @@ const ORDERS: &str =
 /// A fault as the cases write it.
 fn fault_text(alloc: Global, fault: &BootFault) -> Result<String, Fail> {
     let (number, index, key) = (fault.number, fault.place.index, fault.place.key.name());
-    Ok(match fault.place.part {
-        Part::Manifest => format!(in alloc; "{number} manifest {key}")?,
-        Part::Module => format!(in alloc; "{number} module.{index} {key}")?,
-        Part::Hart => format!(in alloc; "{number} hart.{index} {key}")?,
-        Part::Schedule => format!(in alloc; "{number} schedule {key}")?,
+    let (part, is_one_of_many) = match fault.place.part {
+        Part::Manifest => ("manifest", false),
+        Part::Module => ("module", true),
+        Part::Hart => ("hart", true),
+        Part::Schedule => ("schedule", false),
+    };
+    Ok(if is_one_of_many {
+        format!(in alloc; "{number} {part}.{index} {key}")?
+    } else {
+        format!(in alloc; "{number} {part} {key}")?
     })
 }
 
@@ -202,6 +207,12 @@ fn framed(alloc: Global, before: &str, lines: &str, after: &str) -> Result<Strin
     Ok(text)
 }
 
+/// What lines between two parts of a manifest give, as the cases write it.
+fn answer(alloc: Global, before: &str, lines: &str, after: &str) -> Result<String, Fail> {
+    let text = framed(alloc, before, lines, after)?;
+    verdict(alloc, text.as_str())
+}
+
 /// Judges each case between two parts of a manifest.
 fn judge_cases(
     rt: &impl Abort,
@@ -212,8 +223,7 @@ fn judge_cases(
 ) -> Result<(), Fail> {
     for case in cases.lines() {
         let (want, lines) = case.split_once('|').ok_or("no case")?;
-        let text = framed(alloc, before, lines, after)?;
-        let got = verdict(alloc, text.as_str())?;
+        let got = answer(alloc, before, lines, after)?;
         assert_eq!(rt; got.as_str(), want.trim(), "{case}");
     }
     Ok(())
@@ -222,14 +232,20 @@ fn judge_cases(
 #[test]
 fn tells_each_fault_at_its_place(rt: HostRuntime) -> Result<(), Fail> {
     let alloc = rt.alloc();
-    let rest = format!(in alloc; "{MODULE}{HART}")?;
-    judge_cases(&rt, alloc, "", TOPS, rest.as_str())?;
-    judge_cases(&rt, alloc, "", BARE, "")?;
-    let one = format!(in alloc; "{ONE}[[module]]\n")?;
-    judge_cases(&rt, alloc, one.as_str(), MODULES, HART)?;
-    let two = format!(in alloc; "{TWO}[[module]]\n")?;
-    judge_cases(&rt, alloc, two.as_str(), MODULES_OF_TWO, HART)?;
-    let hart = format!(in alloc; "{ONE}{MODULE}[[hart]]\n")?;
-    judge_cases(&rt, alloc, hart.as_str(), HARTS, "")?;
-    judge_cases(&rt, alloc, "", ORDERS, "")
+    let rest = joined(alloc, MODULE, HART, "")?;
+    let one = joined(alloc, ONE, "[[module]]\n", "")?;
+    let two = joined(alloc, TWO, "[[module]]\n", "")?;
+    let hart = joined(alloc, ONE, MODULE, "[[hart]]\n")?;
+    let groups = [
+        ("", TOPS, rest.as_str()),
+        ("", BARE, ""),
+        (one.as_str(), MODULES, HART),
+        (two.as_str(), MODULES_OF_TWO, HART),
+        (hart.as_str(), HARTS, ""),
+        ("", ORDERS, ""),
+    ];
+    for (before, cases, after) in groups {
+        judge_cases(&rt, alloc, before, cases, after)?;
+    }
+    Ok(())
 }

@@ -1,6 +1,6 @@
 //! What is kept of a plan.
 
-use super::{HART, MODULE, TWO, joined, judge};
+use super::{HART, MODULE, TWO, joined, plan_of};
 use mx_snapshot::Kept;
 use mx_words::{Kind, Need};
 use std::alloc::Global;
@@ -17,9 +17,7 @@ const SECOND: &str = "[[module]]\nname = \"n_2\"\nat = 0x80000004\nperm = \"r\"\
 fn kept(alloc: Global, top: &str) -> Result<Kept, Fail> {
     let modules = joined(alloc, top, MODULE, SECOND)?;
     let text = joined(alloc, TWO, modules.as_str(), HART)?;
-    let Ok(plan) = judge(alloc, text.as_str()) else {
-        return Err("no plan")?;
-    };
+    let plan = plan_of(alloc, text.as_str())?;
     Ok(Kept::of(alloc, &plan)?)
 }
 
@@ -32,6 +30,11 @@ fn name(kept: &Kept, i: u32) -> Option<&str> {
     }
 }
 
+/// The kind of tables, their limit, the size of buffers, and the quantum.
+fn keys(kept: &Kept) -> (Kind, Need, u32, u32) {
+    (kept.kind(), kept.limit(), kept.lookaside(), kept.quantum())
+}
+
 #[test]
 fn what_is_kept_of_a_plan(rt: HostRuntime) -> Result<(), Fail> {
     let kept = kept(rt.alloc(), TOP)?;
@@ -40,11 +43,11 @@ fn what_is_kept_of_a_plan(rt: HostRuntime) -> Result<(), Fail> {
         leaf: 5,
         spill: 7,
     };
-    assert_eq!(rt; kept.kind(), Kind::Multilevel);
-    assert_eq!(rt; kept.limit(), limit);
-    assert_eq!(rt; (kept.lookaside(), kept.quantum()), (8, 1000));
-    assert_eq!(rt; kept.modules(), 2);
-    assert_eq!(rt; (name(&kept, 0), name(&kept, 1)), (Some("m"), Some("n_2")));
+    assert_eq!(rt; keys(&kept), (Kind::Multilevel, limit, 8, 1000));
+    assert_eq!(rt;
+        (kept.modules(), name(&kept, 0), name(&kept, 1)),
+        (2, Some("m"), Some("n_2"))
+    );
     Ok(())
 }
 
@@ -56,8 +59,6 @@ fn what_is_kept_of_a_plan_of_defaults(rt: HostRuntime) -> Result<(), Fail> {
         leaf: 4096,
         spill: 4096,
     };
-    assert_eq!(rt; kept.kind(), Kind::Packed);
-    assert_eq!(rt; kept.limit(), limit);
-    assert_eq!(rt; (kept.lookaside(), kept.quantum()), (32, 1));
+    assert_eq!(rt; keys(&kept), (Kind::Packed, limit, 32, 1));
     Ok(())
 }

@@ -1,6 +1,6 @@
 //! Both ends of each range, the defaults, and what a plan tells.
 
-use super::{HART, MODULE, ONE, TWO, joined, judge};
+use super::{HART, MODULE, ONE, TWO, joined, judge, plan_of};
 use mx_manifest::{
     BootFault, Entries, EntryPlan, GatePlans, Key, ManifestFault, ModulePlan, Numbers, Part, Place,
     Plan,
@@ -10,7 +10,7 @@ use std::alloc::Global;
 use std::test::Fail;
 
 /// First lines of manifests that are accepted, and the number that a key then has.
-const TOPS: [(&str, Key, u32); 27] = [
+static TOPS: [(&str, Key, u32); 27] = [
     ("version = 1\nram_kib = 64\n", Key::Version, 1),
     ("version = 2\nram_kib = 64\n", Key::Version, 2),
     ("version = 1\nram_kib = 64\n", Key::RamKib, 64),
@@ -105,7 +105,7 @@ const KINDS: [(&str, Kind); 4] = [
 ];
 
 /// Lines of a module that is accepted after `[[module]]`.
-const MODULES: [(&str, &str); 24] = [
+static MODULES: [(&str, &str); 24] = [
     (ONE, "name = \"a\"\nimage = \"m\"\n"),
     (
         ONE,
@@ -212,12 +212,14 @@ fn refusal(part: Part, index: u32, key: Key) -> Option<ManifestFault> {
     }))
 }
 
-/// What a manifest gives whose second module has these lines besides.
-fn judge_second(
-    alloc: Global,
-    top: &str,
-    lines: &str,
-) -> Result<Result<Plan, ManifestFault>, Fail> {
+/// Why a manifest of these modules is refused.
+fn refusal_with(alloc: Global, top: &str, modules: &str) -> Result<Option<ManifestFault>, Fail> {
+    let text = joined(alloc, top, modules, HART)?;
+    Ok(judge(alloc, text.as_str()).err())
+}
+
+/// Why a manifest is refused whose second module has these lines besides.
+fn refusal_of_second(alloc: Global, top: &str, lines: &str) -> Result<Option<ManifestFault>, Fail> {
     let module = joined(
         alloc,
         "[[module]]\nname = \"z\"\nimage = \"z\"\n",
@@ -225,14 +227,13 @@ fn judge_second(
         "",
     )?;
     let modules = joined(alloc, MODULE, module.as_str(), "")?;
-    let text = joined(alloc, top, modules.as_str(), HART)?;
-    Ok(judge(alloc, text.as_str()))
+    refusal_with(alloc, top, modules.as_str())
 }
 
 /// The number that a key has in a manifest of these first lines.
 fn number_of(alloc: Global, top: &str, key: Key) -> Result<u32, Fail> {
     let text = joined(alloc, top, MODULE, HART)?;
-    let plan = judge(alloc, text.as_str()).ok().ok_or("refused")?;
+    let plan = plan_of(alloc, text.as_str())?;
     Ok(number(&plan, key))
 }
 
@@ -240,22 +241,21 @@ fn number_of(alloc: Global, top: &str, key: Key) -> Result<u32, Fail> {
 fn kind_of(alloc: Global, line: &str) -> Result<Kind, Fail> {
     let text = joined(alloc, ONE, line, MODULE)?;
     let text = joined(alloc, text.as_str(), HART, "")?;
-    let plan = judge(alloc, text.as_str()).ok().ok_or("refused")?;
+    let plan = plan_of(alloc, text.as_str())?;
     Ok(plan.tables())
 }
 
 /// Why a manifest is refused with a second module of these lines.
 fn refusal_of(alloc: Global, top: &str, lines: &str) -> Result<Option<ManifestFault>, Fail> {
     let modules = joined(alloc, MODULE, "[[module]]\n", lines)?;
-    let text = joined(alloc, top, modules.as_str(), HART)?;
-    Ok(judge(alloc, text.as_str()).err())
+    refusal_with(alloc, top, modules.as_str())
 }
 
 #[test]
 fn accepts_both_ends_of_each_range(rt: HostRuntime) -> Result<(), Fail> {
-    for (top, key, value) in TOPS {
-        let number = number_of(rt.alloc(), top, key)?;
-        assert_eq!(rt; number, value, "{top}");
+    for (top, key, value) in &TOPS {
+        let number = number_of(rt.alloc(), top, *key)?;
+        assert_eq!(rt; number, *value, "{top}");
     }
     Ok(())
 }
@@ -271,80 +271,110 @@ fn accepts_each_kind_of_tables(rt: HostRuntime) -> Result<(), Fail> {
 
 #[test]
 fn accepts_both_ends_of_each_range_of_a_module(rt: HostRuntime) -> Result<(), Fail> {
-    for (top, lines) in MODULES {
+    for (top, lines) in &MODULES {
         let refusal = refusal_of(rt.alloc(), top, lines)?;
         assert_eq!(rt; refusal, None, "{lines}");
     }
     Ok(())
 }
 
+/// How many modules a manifest has with so many beside the first.
+fn modules_with(alloc: Global, top: &str, count: u32) -> Result<u32, Fail> {
+    let modules = more_modules(alloc, count)?;
+    let text = joined(alloc, top, modules.as_str(), HART)?;
+    let plan = plan_of(alloc, text.as_str())?;
+    Ok(plan.modules())
+}
+
+/// Why a manifest with so many modules beside the first is refused.
+fn refusal_of_modules(alloc: Global, top: &str, count: u32) -> Result<Option<ManifestFault>, Fail> {
+    let modules = more_modules(alloc, count)?;
+    refusal_with(alloc, top, modules.as_str())
+}
+
+/// Why a gate from so many modules is refused.
+fn refusal_of_gate(alloc: Global, top: &str, count: u32) -> Result<Option<ManifestFault>, Fail> {
+    let from = list(alloc, "from", "\"m\"", count)?;
+    let gate = format!(in alloc; "[[module.gates]]\nentry = 0\n{from}")?;
+    refusal_of_second(alloc, top, gate.as_str())
+}
+
+/// Why a list of an item so many times is refused.
+fn refusal_of_list(
+    alloc: Global,
+    key: &str,
+    item: &str,
+    count: u32,
+) -> Result<Option<ManifestFault>, Fail> {
+    let lines = list(alloc, key, item, count)?;
+    refusal_of_second(alloc, ONE, lines.as_str())
+}
+
+/// Why an inline module of so many words is refused.
+fn refusal_of_words(alloc: Global, count: u32) -> Result<Option<ManifestFault>, Fail> {
+    let words = list(alloc, "words", "1", count)?;
+    let module = joined(
+        alloc,
+        "[[module]]\nname = \"m\"\nat = 0\nperm = \"r\"\n",
+        words.as_str(),
+        "",
+    )?;
+    refusal_with(alloc, ONE, module.as_str())
+}
+
 #[test]
 fn counts_up_to_each_limit(rt: HostRuntime) -> Result<(), Fail> {
     let alloc = rt.alloc();
     for (top, most) in [(ONE, 15), (TWO, 63)] {
-        let modules = more_modules(alloc, most - 1)?;
-        let text = joined(alloc, top, modules.as_str(), HART)?;
-        let plan = judge(alloc, text.as_str()).ok().ok_or("refused")?;
-        assert_eq!(rt; plan.modules(), most);
-        let modules = more_modules(alloc, most)?;
-        let text = joined(alloc, top, modules.as_str(), HART)?;
-        assert_eq!(rt;
-            judge(alloc, text.as_str()).err(),
-            refusal(Part::Manifest, 0, Key::Module)
+        assert_eq!(rt; modules_with(alloc, top, most - 1)?, most);
+        let more = refusal_of_modules(alloc, top, most)?;
+        assert_eq!(rt; more, refusal(Part::Manifest, 0, Key::Module));
+        let gates = (
+            refusal_of_gate(alloc, top, most)?,
+            refusal_of_gate(alloc, top, most + 1)?,
         );
-        let from = list(alloc, "from", "\"m\"", most)?;
-        let gate = format!(in alloc; "[[module.gates]]\nentry = 0\n{from}")?;
-        assert_eq!(rt; judge_second(alloc, top, gate.as_str())?.err(), None);
-        let from = list(alloc, "from", "\"m\"", most + 1)?;
-        let gate = format!(in alloc; "[[module.gates]]\nentry = 0\n{from}")?;
-        assert_eq!(rt;
-            judge_second(alloc, top, gate.as_str())?.err(),
-            refusal(Part::Module, 2, Key::Gates)
-        );
+        assert_eq!(rt; gates, (None, refusal(Part::Module, 2, Key::Gates)));
     }
     let gate = "{ entry = 0, from = [\"m\"] }";
     for (key, place, item) in [("gates", Key::Gates, gate), ("returns", Key::Returns, "0")] {
-        let lines = list(alloc, key, item, 256)?;
-        assert_eq!(rt; judge_second(alloc, ONE, lines.as_str())?.err(), None);
-        let lines = list(alloc, key, item, 257)?;
-        assert_eq!(rt;
-            judge_second(alloc, ONE, lines.as_str())?.err(),
-            refusal(Part::Module, 2, place)
+        let lists = (
+            refusal_of_list(alloc, key, item, 256)?,
+            refusal_of_list(alloc, key, item, 257)?,
         );
+        assert_eq!(rt; lists, (None, refusal(Part::Module, 2, place)));
     }
-    for (count, want) in [(65536, None), (65537, refusal(Part::Module, 1, Key::Words))] {
-        let words = list(alloc, "words", "1", count)?;
-        let module = joined(
-            alloc,
-            "[[module]]\nname = \"m\"\nat = 0\nperm = \"r\"\n",
-            words.as_str(),
-            "",
-        )?;
-        let text = joined(alloc, ONE, module.as_str(), HART)?;
-        assert_eq!(rt; judge(alloc, text.as_str()).err(), want);
-    }
+    let words = (
+        refusal_of_words(alloc, 65536)?,
+        refusal_of_words(alloc, 65537)?,
+    );
+    assert_eq!(rt; words, (None, refusal(Part::Module, 1, Key::Words)));
     Ok(())
+}
+
+/// Why a file's name and a symbol's of so many letters are refused.
+fn refusals_of_names(
+    alloc: Global,
+    count: u32,
+) -> Result<(Option<ManifestFault>, Option<ManifestFault>), Fail> {
+    let name = letters(alloc, count)?;
+    let lines = format!(in alloc; "returns = [\"{name}\"]\n")?;
+    let module = format!(in alloc; "[[module]]\nname = \"m\"\nimage = \"{name}\"\n")?;
+    Ok((
+        refusal_with(alloc, ONE, module.as_str())?,
+        refusal_of_second(alloc, ONE, lines.as_str())?,
+    ))
 }
 
 #[test]
 fn measures_names_of_files_and_symbols(rt: HostRuntime) -> Result<(), Fail> {
-    let alloc = rt.alloc();
-    let limits = [
-        (255, None, None),
+    assert_eq!(rt; refusals_of_names(rt.alloc(), 255)?, (None, None));
+    assert_eq!(rt;
+        refusals_of_names(rt.alloc(), 256)?,
         (
-            256,
             refusal(Part::Module, 1, Key::Image),
-            refusal(Part::Module, 2, Key::Returns),
-        ),
-    ];
-    for (count, image, symbol) in limits {
-        let name = letters(alloc, count)?;
-        let lines = format!(in alloc; "returns = [\"{name}\"]\n")?;
-        assert_eq!(rt; judge_second(alloc, ONE, lines.as_str())?.err(), symbol);
-        let module = format!(in alloc; "[[module]]\nname = \"m\"\nimage = \"{name}\"\n")?;
-        let text = joined(alloc, ONE, module.as_str(), HART)?;
-        assert_eq!(rt; judge(alloc, text.as_str()).err(), image);
-    }
+            refusal(Part::Module, 2, Key::Returns)
+        )
+    );
     Ok(())
 }
 
@@ -492,7 +522,7 @@ hart 1 idle
 #[test]
 fn tells_what_each_key_says(rt: HostRuntime) -> Result<(), Fail> {
     let alloc = rt.alloc();
-    let plan = judge(alloc, WHOLE).ok().ok_or("refused")?;
+    let plan = plan_of(alloc, WHOLE)?;
     let text = plan_text(alloc, &plan)?;
     assert_eq!(rt; text.as_str(), SAID);
     Ok(())

@@ -3,7 +3,7 @@
 
 /// A statement and its word. GNU as writes an offset from the present address as `.+8`, and `fence 261120` as `fence`;
 /// the two last words of `fence` are those of its fields.
-pub(super) const STATEMENTS: [(&str, u32); 55] = [
+pub(super) static STATEMENTS: [(&str, u32); 55] = [
     ("lui x5, 1048575", 0xFFFF_F2B7),
     ("lui a0, 0", 0x0000_0537),
     ("auipc ra, 0x80000", 0x8000_0097),
@@ -62,7 +62,7 @@ pub(super) const STATEMENTS: [(&str, u32); 55] = [
 ];
 
 /// A source with one segment, the number of its bytes, and its first words.
-pub(super) const SOURCES: [(&str, u32, &[u32]); 6] = [
+pub(super) static SOURCES: [(&str, u32, &[u32]); 6] = [
     (
         ".text 0x80000000\nli a7, 1\necall\n",
         12,
@@ -96,7 +96,7 @@ pub(super) const SOURCES: [(&str, u32, &[u32]); 6] = [
 ];
 
 /// A source, and the line and the number of its first fault; 0 and 0 where it has none.
-pub(super) const FAULTS: [(&str, u32, u32); 91] = [
+pub(super) static FAULTS: [(&str, u32, u32); 91] = [
     ("", 0, 0),
     (".text 0\nlx a7, 1", 2, 1),
     (".text 0x80000000\nli a7, 1\nlx a7, 1\necall\n", 3, 1),
