@@ -50,19 +50,17 @@ fn module_of(alloc: Global, domain: u32, draws: Draws) -> Result<Value, NoMemory
     ensures { IfOk result (λ v. view v ≡ module_table domain (mill_words domain draws)) }
 {
     let at = base(domain);
-    let gates = single(alloc, gate(alloc, domain)?)?;
-    let name = name(alloc, domain)?;
-    let perm = text(alloc, "rx")?;
-    let returns = single(alloc, number(at + 68))?;
-    let words = numbers(alloc, &words(domain, draws))?;
     let mut table = Table::new(alloc);
     put(alloc, &mut table, "at", number(at))?;
+    let gates = single(alloc, gate(alloc, domain)?)?;
     put(alloc, &mut table, "gates", gates)?;
     put(alloc, &mut table, "heap", number(at + 0x2000))?;
     put(alloc, &mut table, "heap_words", number(1024))?;
-    put(alloc, &mut table, "name", name)?;
-    put(alloc, &mut table, "perm", perm)?;
+    put(alloc, &mut table, "name", name(alloc, domain)?)?;
+    put(alloc, &mut table, "perm", text(alloc, "rx")?)?;
+    let returns = single(alloc, number(at + 68))?;
     put(alloc, &mut table, "returns", returns)?;
+    let words = numbers(alloc, &words(domain, draws))?;
     put(alloc, &mut table, "words", words)?;
     Ok(Value::Table(table))
 }
