@@ -10,6 +10,7 @@ use Rattle.mx_words.specs.Newest.{Grant, Give}
 use Rattle.mx_isa.specs.Fields.{imm_i, imm_s, imm_b, imm_u, imm_j, extended}
 use Rattle.mx_isa.specs.Table.{decoded}
 use Rattle.mx_model.specs.declared.values.Gate.{Gate}
+use Rattle.mx_model.specs.declared.values.Note.{Note}
 use Rattle.mx_model.specs.declared.values.Note.TheVariants as N
 use Rattle.mx_model.specs.Effect.{holds, imm_result, reg_result, loaded, effect}
 use Rattle.mx_model.specs.Run.{ByQuantum, ByBytes, run}
@@ -18,6 +19,8 @@ use Rattle.mx_model.proofs.Boots.{End, boot, end, fault, hart_end, inline, one_e
 use Rattle.mx_uncached.specs.Plain.{Plain}
 use Rattle.mx_uncached.specs.Turn.{plain_run}
 use Rattle.mx_uncached.specs.Forgetting.{plain}
+
+-- What one run shows is one fact, so that the run is made once.
 
 -- the state after at most n turns, one for each hart in order
 abbrev after : ℕ → State → Plain
@@ -41,15 +44,18 @@ abbrev greeting : State
 greeting = one_module (0x80000537 ∷ 0x01C50513 ∷ 0x00300593 ∷ 0x00200893 ∷ 0x00000073 ∷ 0x00100893 ∷ 0x00000073
     ∷ 0x000A6968 ∷ [])
 
-greeting-bytes : (after 9 greeting).console ≡ 104 ∷ 105 ∷ 10 ∷ []
-unfolding decoded effect holds imm_result reg_result loaded number_at put_at cleared_at
-    imm_i imm_s imm_b imm_u imm_j extended
-greeting-bytes = refl
+-- the console and the notes
+record Greeted : Type 0 where
+  console : List ℕ
+  notes : List Note
 
-greeting-exit : (after 9 greeting).notes ≡ N.Exit 7 0 1 3 ∷ []
+abbrev greeted : Plain → Greeted
+greeted p = record { console = p.console; notes = p.notes }
+
+greeting-three-bytes : greeted (after 9 greeting) ≡ record { console = 104 ∷ 105 ∷ 10 ∷ []; notes = N.Exit 7 0 1 3 ∷ [] }
 unfolding decoded effect holds imm_result reg_result loaded number_at put_at cleared_at
     imm_i imm_s imm_b imm_u imm_j extended
-greeting-exit = refl
+greeting-three-bytes = refl
 
 -- a grant is one more grant in its domain's list, the newest
 abbrev granting : State
@@ -58,18 +64,22 @@ granting =
     ∷ 0x00100073 ∷ [])
     ∷ inline 2048 P.Read (0 ∷ []) ∷ []) [] ((1, 0x80000000) ∷ [])
 
-granted : (after 10 granting).grants ≡
-    (grant 0 7 P.ExecuteRead ∷ grant 0 0 P.ReadWrite ∷ []) ∷ (grant 2048 1 P.Read ∷ grant 0 0 P.ReadWrite
-    ∷ grant 0 1 P.Read ∷ []) ∷ []
-unfolding decoded effect holds imm_result reg_result loaded number_at put_at cleared_at
-    imm_i imm_s imm_b imm_u imm_j extended
-granted = refl
+-- what is told, and the lists of grants
+record Granted : Type 0 where
+  ending : End
+  grants : List (List Grant)
 
-granter : told (after 10 granting)
-    ≡ one_end (fault 7 0 1 0x80000018 3 0x80000018 ∷ []) 7 0x80000018 1 0 ((11, 4) ∷ (12, 2) ∷ (13, 1) ∷ (17, 3) ∷ [])
+abbrev granted : Plain → Granted
+granted p = record { ending = told p; grants = p.grants }
+
+granting-a-word : granted (after 10 granting) ≡ record {
+  ending = one_end (fault 7 0 1 0x80000018 3 0x80000018 ∷ []) 7 0x80000018 1 0 ((11, 4) ∷ (12, 2) ∷ (13, 1) ∷ (17, 3) ∷ []);
+  grants = (grant 0 7 P.ExecuteRead ∷ grant 0 0 P.ReadWrite ∷ [])
+      ∷ (grant 2048 1 P.Read ∷ grant 0 0 P.ReadWrite ∷ grant 0 1 P.Read ∷ []) ∷ [];
+}
 unfolding decoded effect holds imm_result reg_result loaded number_at put_at cleared_at
     imm_i imm_s imm_b imm_u imm_j extended
-granter = refl
+granting-a-word = refl
 
 -- an alloc, a store to the block, a free, and a store that is denied
 abbrev allocating : State
@@ -113,32 +123,38 @@ waiting =
     { stack = record { first = 1024; words = 4 } } ∷ inline 2048 P.Read (0 ∷ []) ∷ []) [] ((1, 0x80000000)
     ∷ (1, 0x8000001C) ∷ [])
 
-refused : told (after 20 waiting) ≡ record {
-  notes = fault 14 1 1 0x80000034 3 0x80000034 ∷ fault 15 0 1 0x80000018 3 0x80000018 ∷ [];
-  turns = 15;
-  harts = record {
-    pc = 0x80000018;
-    domain = 1;
-    frames = 0;
-    regs = regs_with ((2, 0x80001010) ∷ (10, 0xFFFFFFFE)
-        ∷ (11, 4) ∷ (12, 2) ∷ (13, 1) ∷ (17, 3) ∷ []);
-  }
-      ∷ record {
-        pc = 0x80000034;
-        domain = 1;
-        frames = 0;
-        regs = regs_with ((2, 0x80001020) ∷ (11, 4) ∷ (12, 2)
-            ∷ (17, 5) ∷ []);
-      } ∷ [];
+-- what is told, and the newest give
+record Refused : Type 0 where
+  ending : End
+  newest : Option Give
+
+abbrev refused : Plain → Refused
+refused p = record { ending = told p; newest = last_give p.gives }
+
+refused-after-waiting : refused (after 20 waiting) ≡ record {
+  ending = record {
+    notes = fault 14 1 1 0x80000034 3 0x80000034 ∷ fault 15 0 1 0x80000018 3 0x80000018 ∷ [];
+    turns = 15;
+    harts = record {
+      pc = 0x80000018;
+      domain = 1;
+      frames = 0;
+      regs = regs_with ((2, 0x80001010) ∷ (10, 0xFFFFFFFE)
+          ∷ (11, 4) ∷ (12, 2) ∷ (13, 1) ∷ (17, 3) ∷ []);
+    }
+        ∷ record {
+          pc = 0x80000034;
+          domain = 1;
+          frames = 0;
+          regs = regs_with ((2, 0x80001020) ∷ (11, 4) ∷ (12, 2)
+              ∷ (17, 5) ∷ []);
+        } ∷ [];
+  };
+  newest = Some (record { first = 1024; count = 1; value = 2 });
 }
 unfolding decoded effect holds imm_result reg_result loaded number_at put_at cleared_at
     imm_i imm_s imm_b imm_u imm_j extended
-refused = refl
-
-gave : last_give (after 20 waiting).gives ≡ Some (record { first = 1024; count = 1; value = 2 })
-unfolding decoded effect holds imm_result reg_result loaded number_at put_at cleared_at
-    imm_i imm_s imm_b imm_u imm_j extended
-gave = refl
+refused-after-waiting = refl
 
 -- bytes name the harts: hart 1 makes two turns, then hart 0 makes one, and then there is no further byte
 by-bytes : list_map hart_end (plain_run (ByBytes (1 ∷ 1 ∷ 0 ∷ [])) 9 (plain waiting)).harts
