@@ -1,7 +1,7 @@
-use Rattle.std.proofs.Common.{◌+◌, ◌-◌, ◌/◌, ◌%◌, ◌∙◌, is_some, arith}
+use Rattle.std.proofs.Common.{◌+◌, ◌-◌, ◌/◌, ◌%◌, ◌∙◌, is_some}
 use Rattle.mx_pool.specs.Frames.{word_at}
 use Rattle.mx_trie.specs.Leaf.{spill_number}
-use Rattle.mx_trie.proofs.Counted.{counted_all, counted_more, counted_none}
+use Rattle.mx_trie.proofs.Counted.{counted_all}
 use Rattle.mx_trie.proofs.SpillCounts.{lines-needed}
 use Rattle.mx_trie.proofs.after.lines_spilled.Goals as goal
 
@@ -11,9 +11,3 @@ returns-clause-count g c spill m lines =
     c.loop-line.invariant c.loop-line-test.false
     ∙ lines-needed g.L.LeafForm.kind g.met.L.LeafForm.trie c.args.leaf.now spill m c.args.page c.args.frame (c.args.lay.now.first / 16) ((c.args.lay.now.end - 1) / 16 + 1) c.max-from.result c.min-to.result
     lines c.max-from.ensures c.min-to.ensures
-
-pub loop-line-preserved : goal.loop-line-preserved
-loop-line-preserved g c = grind (arith, counted_more)
-
-pub loop-line-init : goal.loop-line-init
-loop-line-init g c = grind (arith, counted_none)
