@@ -74,7 +74,7 @@ const AT_THE_RETURN: TwinEnd = TwinEnd::Ended {
 
 /// Two manifests, a domain, the steps asked, and what a twin run comes to. In the third turn the hart enters the domain whose words
 /// differ, and in the fifth it leaves that with another answer.
-const RUNS: [(&str, &str, u32, u64, TwinEnd); 9] = [
+static RUNS: [(&str, &str, u32, u64, TwinEnd); 9] = [
     (FIVE, SIX, 1, 10, AT_THE_RETURN),
     (FIVE, SIX, 1, 4, TwinEnd::Agreed),
     (FIVE, SIX, 1, 5, AT_THE_RETURN),
@@ -88,17 +88,17 @@ const RUNS: [(&str, &str, u32, u64, TwinEnd); 9] = [
 
 #[test]
 fn examples_over_tables_of_two_kinds(rt: HostRuntime) -> Result<(), Fail> {
-    for (kind, other) in KINDS {
-        for (first, second, domain, steps, end) in RUNS {
+    for (kind, other) in &KINDS {
+        for (first, second, domain, steps, end) in &RUNS {
             let first = format!(in rt.alloc(); "{kind}{first}")?;
             let second = format!(in rt.alloc(); "{other}{second}")?;
             let asked = Asked {
-                domain,
+                domain: *domain,
                 quantum: 1,
-                steps,
+                steps: *steps,
             };
             let got = twin_after(rt.alloc(), first.as_str(), second.as_str(), 0, asked);
-            assert_eq!(rt; got, Some(end), "{first}\n{second}\n{domain} {steps}");
+            assert_eq!(rt; got, Some(*end), "{first}\n{second}\n{domain} {steps}");
         }
     }
     Ok(())
@@ -106,7 +106,7 @@ fn examples_over_tables_of_two_kinds(rt: HostRuntime) -> Result<(), Fail> {
 
 /// Two manifests, the turns made before, and what a twin run of 9999999999 steps comes to. A hart that is halted in both isn't
 /// compared, so its words may differ.
-const HALTED: [(&str, &str, u64, TwinEnd); 5] = [
+static HALTED: [(&str, &str, u64, TwinEnd); 5] = [
     (FIVE, FIVE, 0, TwinEnd::Agreed),
     (LEAVES, LEAVES, 0, TwinEnd::Agreed),
     (LEAVES, LEAVES, 3, TwinEnd::Agreed),
@@ -116,7 +116,7 @@ const HALTED: [(&str, &str, u64, TwinEnd); 5] = [
 
 #[test]
 fn halted_machines_answer_at_once(rt: HostRuntime) -> Result<(), Fail> {
-    for (first, second, turns, end) in HALTED {
+    for (first, second, turns, end) in &HALTED {
         let first = format!(in rt.alloc(); "{PACKED}{first}")?;
         let second = format!(in rt.alloc(); "{PACKED}{second}")?;
         let asked = Asked {
@@ -124,8 +124,8 @@ fn halted_machines_answer_at_once(rt: HostRuntime) -> Result<(), Fail> {
             quantum: 1,
             steps: 9999999999,
         };
-        let got = twin_after(rt.alloc(), first.as_str(), second.as_str(), turns, asked);
-        assert_eq!(rt; got, Some(end), "{first}\n{second}\n{turns}");
+        let got = twin_after(rt.alloc(), first.as_str(), second.as_str(), *turns, asked);
+        assert_eq!(rt; got, Some(*end), "{first}\n{second}\n{turns}");
     }
     Ok(())
 }

@@ -6,7 +6,7 @@ use mx_twin::{TwinEnd, twin_line};
 use std::test::Fail;
 
 /// The steps that were asked, a step, a hart and a kind at which agreement ended, and the line.
-const ENDED: [(u64, u64, u32, TurnKind, &str); 8] = [
+static ENDED: [(u64, u64, u32, TurnKind, &str); 8] = [
     (
         10,
         5,
@@ -65,7 +65,7 @@ const ENDED: [(u64, u64, u32, TurnKind, &str); 8] = [
     ),
 ];
 
-const AGREED: [(u64, &str); 4] = [
+static AGREED: [(u64, &str); 4] = [
     (0, "twin agreed steps=0\n"),
     (4, "twin agreed steps=4\n"),
     (9999999999, "twin agreed steps=9999999999\n"),
@@ -77,9 +77,14 @@ const AGREED: [(u64, &str); 4] = [
 
 #[test]
 fn a_line_tells_where_agreement_ended(rt: HostRuntime) -> Result<(), Fail> {
-    for (steps, step, hart, kind, line) in ENDED {
+    for (steps, step, hart, kind, line) in &ENDED {
         let mut sink = Bytes::new(rt.alloc(), 100)?;
-        let put = twin_line(&mut sink, steps, TwinEnd::Ended { step, hart, kind });
+        let end = TwinEnd::Ended {
+            step: *step,
+            hart: *hart,
+            kind: *kind,
+        };
+        let put = twin_line(&mut sink, *steps, end);
         assert!(rt; put.is_ok(), "{line}");
         assert_eq!(rt; sink.as_slice(), line.as_bytes());
     }
@@ -88,10 +93,10 @@ fn a_line_tells_where_agreement_ended(rt: HostRuntime) -> Result<(), Fail> {
 
 #[test]
 fn a_line_tells_the_steps_that_were_asked(rt: HostRuntime) -> Result<(), Fail> {
-    for (steps, line) in AGREED {
+    for (steps, line) in &AGREED {
         let mut sink = Bytes::new(rt.alloc(), 100)?;
         assert!(rt;
-            twin_line(&mut sink, steps, TwinEnd::Agreed).is_ok(),
+            twin_line(&mut sink, *steps, TwinEnd::Agreed).is_ok(),
             "{line}"
         );
         assert_eq!(rt; sink.as_slice(), line.as_bytes());

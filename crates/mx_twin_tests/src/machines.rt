@@ -40,7 +40,7 @@ lookaside = 32
 ";
 
 /// Tables of two kinds side by side.
-pub(crate) const KINDS: [(&str, &str); 3] = [
+pub(crate) static KINDS: [(&str, &str); 3] = [
     (SEGMENTS, PACKED),
     (PACKED, MULTILEVEL),
     (MULTILEVEL, SEGMENTS),

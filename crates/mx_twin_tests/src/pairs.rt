@@ -150,7 +150,7 @@ const LOOP: &str = "0x0000006F";
 
 /// With two harts and a quantum of 1 the turn n of b's hart is step 2 n. Calls 3, 4, 6 and 7 take effect one turn of theirs after the
 /// ECALL, once a's hart has heard them.
-pub(crate) const PAIRS: [Pair; 18] = [
+pub(crate) static PAIRS: [Pair; 18] = [
     // The grant is the seventh turn, the store the tenth.
     Pair {
         name: "another value stored into a word that it granted before",

@@ -71,7 +71,7 @@ fn all_made(alloc: Global, first: &str, second: &str) -> Option<Vec<Made>> {
 const NOTHING: Told = (0, [0; 4], None);
 
 /// The first word is 0x80000537 in both.
-const WANTED: [Made; 7] = [
+static WANTED: [Made; 7] = [
     (Some((TurnKind::Ran, TurnKind::Ran)), NOTHING, NOTHING),
     (Some((TurnKind::Ran, TurnKind::Ran)), NOTHING, NOTHING),
     (Some((TurnKind::Ran, TurnKind::Ran)), NOTHING, NOTHING),
@@ -104,7 +104,7 @@ const WANTED: [Made; 7] = [
 
 #[test]
 fn a_turn_in_both_tells_what_it_was_in_each(rt: HostRuntime) -> Result<(), Fail> {
-    for (kind, other) in KINDS {
+    for (kind, other) in &KINDS {
         let first = format!(in rt.alloc(); "{kind}{HEAD}{FOUR}{TAIL}")?;
         let second = format!(in rt.alloc(); "{other}{HEAD}{THREE}{TAIL}")?;
         let Some(turns) = all_made(rt.alloc(), first.as_str(), second.as_str()) else {
