@@ -74,7 +74,7 @@ words = [0]
 ";
 
 /// Modules, harts, the turns of hart 0, the names, and the report of the audit then.
-const CASES: [(&str, &str, u32, &[&str], &str); 6] = [
+static CASES: [(&str, &str, u32, &[&str], &str); 6] = [
     (
         THREE,
         IN_M,
@@ -164,9 +164,9 @@ fn is_reported(alloc: Global, text: &str, turns: u32, names: &[&str], want: &str
 
 #[test]
 fn an_audit_tells_live_domains_and_sealed_words(rt: HostRuntime) -> Result<(), Fail> {
-    for (modules, harts, turns, names, want) in CASES {
+    for (modules, harts, turns, names, want) in &CASES {
         let text = manifest(rt.alloc(), modules, harts)?;
-        let told = is_reported(rt.alloc(), text.as_str(), turns, names, want);
+        let told = is_reported(rt.alloc(), text.as_str(), *turns, names, want);
         assert!(rt; told, "{modules} {turns}");
     }
     Ok(())

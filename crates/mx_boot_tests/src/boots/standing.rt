@@ -31,7 +31,7 @@ const NOP: Inst = Inst::OpImm {
 };
 
 /// The permission and the words of a module at RAM's start, the turns of its hart, and the instruction at its pc then.
-const CASES: [(&str, &str, u32, Option<Inst>); 9] = [
+static CASES: [(&str, &str, u32, Option<Inst>); 9] = [
     // Before each turn of an exit with 5, and when the hart is halted by it: its pc is still at the ECALL.
     ("rx", "0x00100893, 0x00500513, 0x00000073", 0, Some(NUMBER)),
     ("rx", "0x00100893, 0x00500513, 0x00000073", 1, Some(CODE)),
@@ -83,13 +83,13 @@ fn standing(alloc: Global, text: &str, turns: u32) -> Result<Option<Inst>, BootR
 
 #[test]
 fn a_machine_tells_the_instruction_at_a_pc(rt: HostRuntime) -> Result<(), Fail> {
-    for (perm, words, turns, want) in CASES {
+    for (perm, words, turns, want) in &CASES {
         let module = format!(in rt.alloc();
             "[[module]]\nname = \"m\"\nat = 0x80000000\nperm = \"{perm}\"\nwords = [{words}]\n"
         )?;
         let text = manifest(rt.alloc(), module.as_str(), IN_M)?;
-        let told = standing(rt.alloc(), text.as_str(), turns);
-        assert!(rt; told == Ok(want), "{words} {turns}");
+        let told = standing(rt.alloc(), text.as_str(), *turns);
+        assert!(rt; told == Ok(*want), "{words} {turns}");
     }
     Ok(())
 }

@@ -12,7 +12,7 @@ use std::alloc::Global;
 use std::test::Fail;
 
 /// The permissions of the words at which the areas of MODULES begin or end, by domain and word.
-const PERMS: [(u32, u32, Perm); 20] = [
+static PERMS: [(u32, u32, Perm); 20] = [
     (1, 0, Perm::ExecuteRead),
     (1, 3, Perm::ExecuteRead),
     (1, 4, Perm::None),
@@ -36,7 +36,7 @@ const PERMS: [(u32, u32, Perm); 20] = [
 ];
 
 /// The runs of permission, from a first word, a last one or one between: domain, word, and the word after the run.
-const ENDS: [(u32, u32, u32); 14] = [
+static ENDS: [(u32, u32, u32); 14] = [
     (1, 0, 4),
     (1, 3, 4),
     (1, 4, 1024),
@@ -54,7 +54,7 @@ const ENDS: [(u32, u32, u32); 14] = [
 ];
 
 /// The runs of owners: first word, owner, and the word after.
-const OWNERS: [(u32, u32, u32); 11] = [
+static OWNERS: [(u32, u32, u32); 11] = [
     (0, 1, 4),
     (4, 0, 1024),
     (1024, 1, 1031),
@@ -69,7 +69,7 @@ const OWNERS: [(u32, u32, u32); 11] = [
 ];
 
 /// Bytes of RAM: code, .data with zeros after the file's five bytes, the inline words, .rodata, and what nothing gives.
-const BYTES: [(u32, u8); 17] = [
+static BYTES: [(u32, u8); 17] = [
     (0, 55),
     (1, 17),
     (3, 128),
@@ -90,14 +90,14 @@ const BYTES: [(u32, u8); 17] = [
 ];
 
 /// Where the harts start: domain, pc, x2, other registers that aren't zero. The second module has no stack.
-const STARTS: [(u32, u32, u32, u32); 4] = [
+static STARTS: [(u32, u32, u32, u32); 4] = [
     (1, 0x8000_0000, 0x8000_300C, 0),
     (1, 0x8000_0004, 0x8000_3018, 0),
     (2, 0x8000_101C, 0, 0),
     (1, 0x8000_4000, 0x8000_3030, 0),
 ];
 
-const GATES: [(u32, u32, u32); 5] = [
+static GATES: [(u32, u32, u32); 5] = [
     (2, 2, 1),
     (2, 1024, 1),
     (1, 3, 1),
@@ -106,8 +106,8 @@ const GATES: [(u32, u32, u32); 5] = [
 ];
 
 fn has_rights(machine: &AnyMachine) -> bool {
-    for (domain, word, right) in PERMS {
-        if perm(machine, domain, word) != Some(right) {
+    for (domain, word, right) in &PERMS {
+        if perm(machine, *domain, *word) != Some(*right) {
             return false;
         }
     }
@@ -115,8 +115,8 @@ fn has_rights(machine: &AnyMachine) -> bool {
 }
 
 fn has_ends(machine: &AnyMachine) -> bool {
-    for (domain, word, end) in ENDS {
-        if perm_end(machine, domain, word) != Some(end) {
+    for (domain, word, end) in &ENDS {
+        if perm_end(machine, *domain, *word) != Some(*end) {
             return false;
         }
     }
@@ -124,8 +124,8 @@ fn has_ends(machine: &AnyMachine) -> bool {
 }
 
 fn has_owners(machine: &AnyMachine) -> bool {
-    for (word, domain, end) in OWNERS {
-        if owner(machine, word) != Some((domain, end)) {
+    for (word, domain, end) in &OWNERS {
+        if owner(machine, *word) != Some((*domain, *end)) {
             return false;
         }
     }
@@ -133,8 +133,8 @@ fn has_owners(machine: &AnyMachine) -> bool {
 }
 
 fn has_bytes(machine: &AnyMachine) -> bool {
-    for (at, value) in BYTES {
-        if byte(machine, at) != Some(value) {
+    for (at, value) in &BYTES {
+        if byte(machine, *at) != Some(*value) {
             return false;
         }
     }

@@ -14,7 +14,7 @@ const IN_A: &str = "[[hart]]\nmodule = \"a\"\n";
 const IN_B: &str = "[[hart]]\nmodule = \"b\"\n";
 
 /// A file of A, and the fault's number and detail. Each stands at the module's image.
-const IMAGES: [(File, u32, u32); 17] = [
+static IMAGES: [(File, u32, u32); 17] = [
     (File::Zeros(51), 10, 1),
     (File::Zeros(52), 10, 2),
     (File::Changed(4, 2), 10, 3),
@@ -37,7 +37,7 @@ const IMAGES: [(File, u32, u32); 17] = [
 ];
 
 /// What is added to A and to B, and the fault's number, module, key and detail.
-const ADDED: [(&str, &str, u32, u32, Key, u32); 34] = [
+static ADDED: [(&str, &str, u32, u32, Key, u32); 34] = [
     // Areas that aren't wholly in RAM: before it, after it, and over its end.
     (
         "heap = 0x7FFFFFFC\nheap_words = 1\n",
@@ -292,7 +292,7 @@ const FILES: [(File, File, u32, u32, u32); 3] = [
 ];
 
 /// What is added to A, its file, the harts, and the number of the fault and of its hart.
-const HARTS: [(&str, File, &str, u32, u32); 9] = [
+static HARTS: [(&str, File, &str, u32, u32); 9] = [
     ("", File::Image, "entry = \"no\"\n", 14, 1),
     ("", File::Image, "entry = \"counter\"\n", 15, 1),
     ("", File::Image, "entry = 0x80000006\n", 15, 1),
@@ -326,11 +326,11 @@ const HARTS: [(&str, File, &str, u32, u32); 9] = [
 fn faults_of_images_tell_what_is_wrong_with_them(rt: HostRuntime) -> Result<(), Fail> {
     let modules = format!(in rt.alloc(); "{A}{B}")?;
     let text = manifest(rt.alloc(), modules.as_str(), IN_B)?;
-    for (file, number, detail) in IMAGES {
-        let answer = judge(rt.alloc(), text.as_str(), &[file, File::None]).err();
+    for (file, number, detail) in &IMAGES {
+        let answer = judge(rt.alloc(), text.as_str(), &[*file, File::None]).err();
         assert_eq!(rt;
             answer,
-            refused(number, Part::Module, 1, Key::Image, detail)
+            refused(*number, Part::Module, 1, Key::Image, *detail)
         );
     }
     for (first, second, number, index, detail) in FILES {
@@ -347,11 +347,14 @@ fn faults_of_images_tell_what_is_wrong_with_them(rt: HostRuntime) -> Result<(), 
 
 #[test]
 fn faults_of_modules_stand_at_their_keys(rt: HostRuntime) -> Result<(), Fail> {
-    for (a, b, number, index, key, detail) in ADDED {
+    for (a, b, number, index, key, detail) in &ADDED {
         let modules = format!(in rt.alloc(); "{A}{a}{B}{b}")?;
         let text = manifest(rt.alloc(), modules.as_str(), IN_B)?;
         let answer = judge(rt.alloc(), text.as_str(), &[File::Image, File::None]).err();
-        assert_eq!(rt; answer, refused(number, Part::Module, index, key, detail));
+        assert_eq!(rt;
+            answer,
+            refused(*number, Part::Module, *index, *key, *detail)
+        );
     }
     let modules = format!(in rt.alloc(); "{A}heap = 0x80000000\nheap_words = 1\n{B}")?;
     let text = manifest(rt.alloc(), modules.as_str(), IN_B)?;
@@ -363,12 +366,12 @@ fn faults_of_modules_stand_at_their_keys(rt: HostRuntime) -> Result<(), Fail> {
 
 #[test]
 fn faults_of_harts_come_last(rt: HostRuntime) -> Result<(), Fail> {
-    for (a, file, hart, number, index) in HARTS {
+    for (a, file, hart, number, index) in &HARTS {
         let modules = format!(in rt.alloc(); "{A}{a}{B}")?;
         let harts = format!(in rt.alloc(); "{IN_A}{hart}")?;
         let text = manifest(rt.alloc(), modules.as_str(), harts.as_str())?;
-        let answer = judge(rt.alloc(), text.as_str(), &[file, File::None]).err();
-        assert_eq!(rt; answer, refused(number, Part::Hart, index, Key::Entry, 0));
+        let answer = judge(rt.alloc(), text.as_str(), &[*file, File::None]).err();
+        assert_eq!(rt; answer, refused(*number, Part::Hart, *index, Key::Entry, 0));
     }
     let modules = format!(in rt.alloc(); "{A}{B}returns = [0x80008000, 0x80008000]\n")?;
     let harts = format!(in rt.alloc(); "{IN_A}entry = \"no\"\n")?;
