@@ -72,7 +72,7 @@ fn fault_of(alloc: Global, blob: &Blob) -> Option<(u64, u32)> {
 
 /// A change of four bytes at a place: the number that they then hold, and place and number of the fault, 0 and 0 where there is none.
 /// The faults are those that a reader in another language finds, which was made from the rule in docs/COMMANDS.md alone.
-const CHANGES: [(usize, u32, u64, u32); 72] = [
+static CHANGES: [(usize, u32, u64, u32); 72] = [
     (0, 4096, 0, 3),
     (14, 2, 12, 4),
     (22, 6, 20, 4),
@@ -156,11 +156,11 @@ fn a_damaged_field_has_its_fault(rt: HostRuntime) -> Result<(), Fail> {
         return Err("no machine")?;
     };
     let bytes = saved.sink.as_slice();
-    for (at, value, field, number) in CHANGES {
-        let Some(blob) = changed(rt.alloc(), bytes, 66445, at, &value.to_le_bytes()) else {
+    for (at, value, field, number) in &CHANGES {
+        let Some(blob) = changed(rt.alloc(), bytes, 66445, *at, &value.to_le_bytes()) else {
             return Err("no bytes")?;
         };
-        assert_eq!(rt; fault_of(rt.alloc(), &blob), Some((field, number)));
+        assert_eq!(rt; fault_of(rt.alloc(), &blob), Some((*field, *number)));
     }
     Ok(())
 }
