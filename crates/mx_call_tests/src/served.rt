@@ -148,7 +148,7 @@ const HEAP: Block = Block {
 };
 
 // Domain 1 owns words 1024 to 1027, and word 2048 isn't its own.
-const GRANT_REFUSALS: [Step; 9] = [
+static GRANT_REFUSALS: [Step; 9] = [
     Step::Call(3, [0xFFFF_FFFC, 8, 2, 1], 0xFFFF_FFFF),
     Step::Call(3, [0x8000_1000, 0, 2, 1], 0xFFFF_FFFF),
     Step::Call(3, [0x8000_1002, 4, 2, 1], 0xFFFF_FFFF),
@@ -172,7 +172,7 @@ fn grants_are_refused_in_order(rt: HostRuntime) -> Result<(), Fail> {
 }
 
 // Domain 1 has seven words of code, and domain 2 has read on word 2048.
-const GRANT_WITH_ONE_HART: [Step; 8] = [
+static GRANT_WITH_ONE_HART: [Step; 8] = [
     Step::Call(3, [0x8000_0000, 4, 2, 1], 0),
     Step::Right(1, 0, Perm::ExecuteRead),
     Step::Right(1, 6, Perm::ExecuteRead),
@@ -201,7 +201,7 @@ const ENTRY: Gate = Gate {
     target: 1,
 };
 
-const EXIT_INSIDE_A_CALL: [Step; 3] = [
+static EXIT_INSIDE_A_CALL: [Step; 3] = [
     Step::FirstGate(Some(ENTRY)),
     Step::ExitInside([0x8000_0000, 4, 2, 0]),
     Step::Exit([0x8000_0000, 4, 2, 0]),
@@ -225,7 +225,7 @@ const MADE: Block = Block {
 };
 
 // The heap area of domain 1 has words 1024 to 1031.
-const ALLOC_STORE_FREE: [Step; 14] = [
+static ALLOC_STORE_FREE: [Step; 14] = [
     Step::HeapArea(HEAP),
     Step::FirstBlock(None),
     Step::Call(6, [2, 0, 0, 0], 0x8000_1000),
@@ -255,7 +255,7 @@ fn a_block_may_be_written_while_it_lives(rt: HostRuntime) -> Result<(), Fail> {
 
 // Each call with each of its codes but that of full tables, and once or more without a refusal, in an order in which each finds
 // what those before it left.
-const CALLS: [Step; 53] = [
+static CALLS: [Step; 53] = [
     Step::Call(2, [0x8000_1000, 4097, 0, 0], 0xFFFF_FFF5),
     Step::Call(2, [0x7FFF_FFFF, 4, 0, 0], 0xFFFF_FFFF),
     Step::Call(2, [0x8000_100C, 8, 0, 0], 0xFFFF_FFF4),
@@ -331,7 +331,7 @@ const TIGHT: Need = Need {
 };
 
 // The calls that change rights, each where the change would break one more page.
-const FULL: [Step; 4] = [
+static FULL: [Step; 4] = [
     Step::Call(3, [0x8000_1000, 4, 2, 1], 0xFFFF_FFFB),
     Step::Call(4, [0x8000_3000, 4, 0, 0], 0xFFFF_FFFB),
     Step::Call(6, [1, 0, 0, 0], 0xFFFF_FFFB),
@@ -347,7 +347,7 @@ const ONE_FRAME_EACH: Need = Need {
 
 // Domain 2's map gets 64 runs, which fill its frame. Then the calls that change rights, each where the change would part one more of
 // its runs.
-const FULL_FRAME: [Step; 5] = [
+static FULL_FRAME: [Step; 5] = [
     Step::Splits(0x8000_8000, 31),
     Step::Call(3, [0x8000_80F8, 4, 2, 0], 0xFFFF_FFFB),
     Step::Call(4, [0x8000_3000, 4, 0, 0], 0xFFFF_FFFB),
