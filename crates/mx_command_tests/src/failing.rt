@@ -167,32 +167,32 @@ fn in_crumbs(rt: &impl Abort, alloc: Global, row: &Row) -> Result<(), Fail> {
 
 #[test]
 fn each_call_of_a_run_fails_in_turn(rt: HostRuntime) -> Result<(), Fail> {
-    for row in RUNS {
-        in_turn(&rt, rt.alloc(), &row)?;
+    for row in &RUNS {
+        in_turn(&rt, rt.alloc(), row)?;
     }
     Ok(())
 }
 
 #[test]
 fn each_call_of_another_command_fails_in_turn(rt: HostRuntime) -> Result<(), Fail> {
-    for row in OTHERS {
-        in_turn(&rt, rt.alloc(), &row)?;
+    for row in &OTHERS {
+        in_turn(&rt, rt.alloc(), row)?;
     }
     Ok(())
 }
 
 #[test]
 fn each_call_of_a_run_that_goes_on_fails_in_turn(rt: HostRuntime) -> Result<(), Fail> {
-    for row in RESUMES {
-        in_turn(&rt, rt.alloc(), &row)?;
+    for row in &RESUMES {
+        in_turn(&rt, rt.alloc(), row)?;
     }
     Ok(())
 }
 
 #[test]
 fn each_call_of_a_refusal_fails_in_turn(rt: HostRuntime) -> Result<(), Fail> {
-    for (words, status, files, line) in REFUSALS {
-        let row = refusal(words, status, files, line);
+    for (words, status, files, line) in &REFUSALS {
+        let row = refusal(words, *status, files, line);
         in_turn(&rt, rt.alloc(), &row)?;
     }
     Ok(())
@@ -200,8 +200,8 @@ fn each_call_of_a_refusal_fails_in_turn(rt: HostRuntime) -> Result<(), Fail> {
 
 #[test]
 fn each_call_of_a_refused_snapshot_fails_in_turn(rt: HostRuntime) -> Result<(), Fail> {
-    for (words, status, files, line) in UNRESUMED {
-        let row = refusal(words, status, files, line);
+    for (words, status, files, line) in &UNRESUMED {
+        let row = refusal(words, *status, files, line);
         in_turn(&rt, rt.alloc(), &row)?;
     }
     Ok(())
@@ -209,32 +209,32 @@ fn each_call_of_a_refused_snapshot_fails_in_turn(rt: HostRuntime) -> Result<(), 
 
 #[test]
 fn runs_whose_calls_move_one_byte_are_the_same(rt: HostRuntime) -> Result<(), Fail> {
-    for row in RUNS {
-        in_crumbs(&rt, rt.alloc(), &row)?;
+    for row in &RUNS {
+        in_crumbs(&rt, rt.alloc(), row)?;
     }
     Ok(())
 }
 
 #[test]
 fn other_commands_whose_calls_move_one_byte_are_the_same(rt: HostRuntime) -> Result<(), Fail> {
-    for row in OTHERS {
-        in_crumbs(&rt, rt.alloc(), &row)?;
+    for row in &OTHERS {
+        in_crumbs(&rt, rt.alloc(), row)?;
     }
     Ok(())
 }
 
 #[test]
 fn runs_that_go_on_whose_calls_move_one_byte_are_the_same(rt: HostRuntime) -> Result<(), Fail> {
-    for row in RESUMES {
-        in_crumbs(&rt, rt.alloc(), &row)?;
+    for row in &RESUMES {
+        in_crumbs(&rt, rt.alloc(), row)?;
     }
     Ok(())
 }
 
 #[test]
 fn refusals_whose_calls_move_one_byte_are_the_same(rt: HostRuntime) -> Result<(), Fail> {
-    for (words, status, files, line) in REFUSALS {
-        let row = refusal(words, status, files, line);
+    for (words, status, files, line) in &REFUSALS {
+        let row = refusal(words, *status, files, line);
         in_crumbs(&rt, rt.alloc(), &row)?;
     }
     Ok(())
@@ -242,8 +242,8 @@ fn refusals_whose_calls_move_one_byte_are_the_same(rt: HostRuntime) -> Result<()
 
 #[test]
 fn refused_snapshots_whose_calls_move_one_byte_are_the_same(rt: HostRuntime) -> Result<(), Fail> {
-    for (words, status, files, line) in UNRESUMED {
-        let row = refusal(words, status, files, line);
+    for (words, status, files, line) in &UNRESUMED {
+        let row = refusal(words, *status, files, line);
         in_crumbs(&rt, rt.alloc(), &row)?;
     }
     Ok(())

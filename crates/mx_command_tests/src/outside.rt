@@ -44,7 +44,7 @@ impl Outside {
     /// With nothing written. Each call moves at most so many bytes.
     pub fn new(alloc: Global, most: usize) -> Result<Outside, Fail> {
         let mut files = Files::new(alloc);
-        for (name, bytes) in FILES {
+        for (name, bytes) in &FILES {
             files.add(name, bytes)?;
         }
         Ok(Outside {

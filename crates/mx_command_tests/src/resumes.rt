@@ -30,7 +30,7 @@ map 1 0x80000000 0x80000020 rx\n\
 owner 0x80000000 0x80000020 1\n";
 
 /// Runs that go on.
-pub const RESUMES: [Row; 8] = [
+pub static RESUMES: [Row; 8] = [
     Row {
         words: "resume begun.bin 9 --dump",
         status: 0,
@@ -106,7 +106,7 @@ pub const RESUMES: [Row; 8] = [
 ];
 
 /// Snapshots, and schedules, that are refused, in the order in which they are judged.
-pub const UNRESUMED: [Refusal; 11] = [
+pub static UNRESUMED: [Refusal; 11] = [
     ("resume absent 9", 6, &["absent"], "no file absent\n"),
     (
         "resume cut.bin 9 --save --schedule absent",

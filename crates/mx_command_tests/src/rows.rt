@@ -78,7 +78,7 @@ module = \"m\"
 
 /// The files of each call. The first schedule names hart 0, a hart that isn't there, and hart 0 four times; the second one hart 0 once, and
 /// the third none.
-pub const FILES: [(&str, &[u8]); 8] = [
+pub static FILES: [(&str, &[u8]); 8] = [
     ("hi.s", SOURCE),
     ("hi.elf", IMAGE),
     ("hi.toml", MANIFEST),
@@ -123,7 +123,7 @@ turn 5 0 1 0x8000000c ran addi x17, x0, 2\n\
 turn 6 0 1 0x80000010 called ecall\n";
 
 /// Runs and traces.
-pub const RUNS: [Row; 5] = [
+pub static RUNS: [Row; 5] = [
     Row {
         words: "run hi.toml 9 --dump",
         status: 0,
@@ -172,7 +172,7 @@ pub const RUNS: [Row; 5] = [
 ];
 
 /// The other commands, but for `resume` and for `mill`, which reads no file.
-pub const OTHERS: [Row; 3] = [
+pub static OTHERS: [Row; 3] = [
     Row {
         words: "audit hi.toml",
         status: 0,
@@ -206,7 +206,7 @@ pub const OTHERS: [Row; 3] = [
 pub type Refusal = (&'static str, u32, &'static [&'static str], &'static str);
 
 /// Commands that end with a refusal: one of each line but that of a snapshot and that of a short file, which no store that tells has.
-pub const REFUSALS: [Refusal; 10] = [
+pub static REFUSALS: [Refusal; 10] = [
     (
         "run hi.toml",
         2,
@@ -279,8 +279,8 @@ pub fn refusal(
 
 /// The number of a file's bytes; none of one that isn't there.
 pub fn length_of(name: &str) -> Option<usize> {
-    for (file, bytes) in FILES {
-        if file == name {
+    for (file, bytes) in &FILES {
+        if *file == name {
             return Some(bytes.len());
         }
     }

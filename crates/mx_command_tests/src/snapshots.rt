@@ -55,7 +55,7 @@ type Snapshot = (&'static str, usize, &'static [(usize, u32)]);
 /// Two that are whole, after seven turns and after one, and others with a fault or with a need over their limit. From its place 8 on a
 /// snapshot has the words, the kind, three limits (of leaves at 20), the buffer's size, the quantum (at 32), two numbers, and the turns
 /// (at 44); the hart has its status at 121, its domain, its pc at 129 and 32 registers from 133 on.
-const SAVED: [Snapshot; 9] = [
+static SAVED: [Snapshot; 9] = [
     ("halted.bin", WHOLE, &[]),
     (
         "begun.bin",
@@ -101,9 +101,9 @@ fn changed(alloc: Global, length: usize, puts: &[(usize, u32)]) -> Result<Vec<u8
 
 /// The bytes of the snapshot of this name; none of one that isn't there.
 pub fn snapshot_of(alloc: Global, name: &str) -> Result<Option<Vec<u8>>, AllocError> {
-    for (file, length, puts) in SAVED {
-        if file == name {
-            let bytes = changed(alloc, length, puts)?;
+    for (file, length, puts) in &SAVED {
+        if *file == name {
+            let bytes = changed(alloc, *length, puts)?;
             return Ok(Some(bytes));
         }
     }
@@ -112,9 +112,9 @@ pub fn snapshot_of(alloc: Global, name: &str) -> Result<Option<Vec<u8>>, AllocEr
 
 /// The number of its bytes.
 pub fn length_of_snapshot(name: &str) -> Option<usize> {
-    for (file, length, _) in SAVED {
-        if file == name {
-            return Some(length);
+    for (file, length, _) in &SAVED {
+        if *file == name {
+            return Some(*length);
         }
     }
     None
