@@ -25,11 +25,11 @@ fn changed(alloc: Global, bytes: &[u8], size: usize, at: usize, other: &[u8]) ->
 /// What a machine of these bytes writes.
 fn written_again(alloc: Global, bytes: &[u8]) -> Option<Bytes> {
     let blob = changed(alloc, bytes, bytes.len(), 0, &[])?;
+    let mut sink = Bytes::new(alloc, 100000).ok()?;
     let Ok(resumed) = read_snapshot(alloc, &blob) else {
         return None;
     };
     let Resumed { machine, plan } = resumed;
-    let mut sink = Bytes::new(alloc, 100000).ok()?;
     let whole = write_snapshot(&mut sink, &machine, &plan).is_ok();
     machine.end();
     if whole { Some(sink) } else { None }
