@@ -25,6 +25,9 @@ pub fn turn(machine: &mut Small, hart: u32, out: &mut Events) -> TurnKind {
 }
 
 impl Played {
+    /// Lets the machine go. A value that goes out of scope does the same; this keeps the drop out of the caller's proof.
+    pub fn end(self) {}
+
     /// Makes a turn, and keeps what it tells.
     pub fn turn(&mut self, hart: u32, out: &mut Events) -> Result<(), Fail> {
         turn(&mut self.machine, hart, out);

@@ -33,7 +33,9 @@ fn progress(machine: &Small) -> (u64, bool, Need) {
 /// How large the machine of three words is, and how far.
 fn size_of_three_words(alloc: Global) -> Result<((u32, u32, u32), (u64, bool, Need)), Fail> {
     let played = three_words(alloc)?;
-    Ok((sizes(&played.machine), progress(&played.machine)))
+    let told = (sizes(&played.machine), progress(&played.machine));
+    played.end();
+    Ok(told)
 }
 
 #[test]
@@ -64,10 +66,12 @@ fn permissions_of_three_words(
 ) -> Result<(Option<(Span, Shown)>, [Option<Perm>; 2]), Fail> {
     let played = three_words(alloc)?;
     let machine = &played.machine;
-    Ok((
+    let told = (
         first_span(machine),
         [perm(machine, 1, 2), perm(machine, 1, 3)],
-    ))
+    );
+    played.end();
+    Ok(told)
 }
 
 #[test]
@@ -125,11 +129,13 @@ struct Words {
 fn words_of_three_words(alloc: Global) -> Result<Words, Fail> {
     let played = three_words(alloc)?;
     let machine = &played.machine;
-    Ok(Words {
+    let words = Words {
         runs: [run_from(machine, 0), run_from(machine, 3)],
         bytes: first_bytes(machine),
         byte: second_byte(machine),
-    })
+    };
+    played.end();
+    Ok(words)
 }
 
 #[test]
@@ -174,12 +180,14 @@ struct BareReadings {
 fn bare_three_words(alloc: Global) -> Result<BareReadings, Fail> {
     let played = three_words(alloc)?;
     let machine = &played.machine;
-    Ok(BareReadings {
+    let bare = BareReadings {
         counts: counts(machine),
         blocks: blocks(machine),
         gate_and_frame: gate_and_frame(machine),
         heard: heard(machine, 0, 0),
-    })
+    };
+    played.end();
+    Ok(bare)
 }
 
 #[test]
@@ -251,10 +259,12 @@ fn frames(machine: &Small) -> Option<[Option<Frame>; 2]> {
 fn crossings_inside_a_call(alloc: Global) -> Result<Crossings, Fail> {
     let played = inside_a_call(alloc)?;
     let machine = &played.machine;
-    Ok(Crossings {
+    let crossings = Crossings {
         gates: [machine.gate(0), machine.gate(1)],
         frames: frames(machine),
-    })
+    };
+    played.end();
+    Ok(crossings)
 }
 
 /// Where runs of permission end in a machine inside a call, by domain and word: three words of code, the words up to the stack area, a word
@@ -283,7 +293,9 @@ fn wrong_end(machine: &Small) -> Option<(u32, u32, u32)> {
 /// The same in a machine inside a call.
 fn wrong_end_inside_a_call(alloc: Global) -> Result<Option<(u32, u32, u32)>, Fail> {
     let played = inside_a_call(alloc)?;
-    Ok(wrong_end(&played.machine))
+    let wrong = wrong_end(&played.machine);
+    played.end();
+    Ok(wrong)
 }
 
 #[test]
@@ -320,7 +332,9 @@ fn stacks(machine: &Small) -> Option<[(StackArea, bool); 2]> {
 /// The stack areas of a machine inside a call.
 fn stacks_inside_a_call(alloc: Global) -> Result<Option<[(StackArea, bool); 2]>, Fail> {
     let played = inside_a_call(alloc)?;
-    Ok(stacks(&played.machine))
+    let stacks = stacks(&played.machine);
+    played.end();
+    Ok(stacks)
 }
 
 #[test]
