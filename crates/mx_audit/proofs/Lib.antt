@@ -10,5 +10,4 @@ pub mod RunLaws
 pub mod StretchLaws
 pub mod ReportLaws
 pub mod StayLaws
-pub mod AuditExamples
 pub mod AuditedExample

@@ -2,7 +2,6 @@ pub mod Boots
 pub mod EffectExamples
 pub mod ShortExamples
 pub mod GateExamples
-pub mod CallExamples
 pub mod RefusalExamples
 pub mod Smalls
 pub mod CrossingExamples

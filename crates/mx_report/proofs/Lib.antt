@@ -5,4 +5,3 @@ pub mod RangeTexts
 pub mod Views
 pub mod CountsLine
 pub mod Examples
-pub mod PlainLaws

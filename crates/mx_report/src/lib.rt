@@ -2,7 +2,6 @@
 //! answers `Failed` only where its sink did: then the sink's count of faults rose, and a prefix of the text was put.
 #![tactic(auto)]
 
-mod caches;
 mod closing;
 mod lines;
 mod maps;
@@ -10,7 +9,6 @@ mod owners;
 mod tables;
 mod words;
 
-pub use caches::reports_read_no_cache;
 pub use closing::{Options, closing_of_a_flat_state, put_closing};
 pub use lines::{EndState, end_line, exit_line, fault_line, hart_lines, put_end, put_note};
 pub use maps::domain_lines;

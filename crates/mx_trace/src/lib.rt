@@ -1,10 +1,8 @@
 //! What a trace shows: the text of an instruction, and the line of a turn.
 #![tactic(auto)]
 
-mod law;
 mod lines;
 mod text;
 
-pub use law::text_is_assembled;
 pub use lines::{Seen, kind_name, put_turn, turn_line};
 pub use text::disassemble;

@@ -1,7 +1,6 @@
 pub mod Closings
 pub mod CountLaws
 pub mod Paces
-pub mod PlainTexts
 pub mod RunEnds
 pub mod RunTexts
 pub mod Sinking

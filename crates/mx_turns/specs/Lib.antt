@@ -1,6 +1,5 @@
 pub mod Counting
 pub mod Ends
-pub mod PlainRuns
 pub mod Running
 pub mod Runs
 pub mod Tracing

@@ -2,7 +2,6 @@
 //! neither words nor files, and tells which sink failed. No call takes memory.
 #![tactic(auto)]
 
-mod caches;
 mod counting;
 mod ending;
 mod fault;
@@ -12,7 +11,6 @@ mod task;
 mod tracing;
 mod turns;
 
-pub use caches::texts_read_no_cache;
 pub use counting::{Tally, count_turns};
 pub use fault::SinkFault;
 pub use pace::Schedule;

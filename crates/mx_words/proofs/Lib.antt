@@ -1,7 +1,5 @@
-pub mod Examples
 pub mod CacheExamples
 pub mod RangeExamples
-pub mod TableExamples
 pub mod CountingLaws
 pub mod OverlayLaws
 pub mod ChangeLaws

@@ -1,5 +1,5 @@
-use Rattle.mx_report.proofs.caches.reports_read_no_cache.Goals as goal
-use Rattle.mx_report.proofs.PlainLaws.{closing-alike, run-closing}
+use Rattle.mx_text_laws.proofs.caches.reports_read_no_cache.Goals as goal
+use Rattle.mx_text_laws.proofs.ReportTexts.{closing-alike, run-closing}
 
 pub returns-clause-closing : goal.returns-clause-closing
 returns-clause-closing c = closing-alike

@@ -3,11 +3,11 @@ use Rattle.std.proofs.Common.{◌≡◌, ◌≢◌, ℕ, ◌+◌, false, List, �
 use Rattle.mx_model.specs.Run.{Schedule, run}
 use Rattle.mx_model.specs.State.{State, flat}
 use Rattle.mx_report.specs.declared.closing.Options.{Options}
-use Rattle.mx_report.proofs.PlainLaws.{closing-alike}
+use Rattle.mx_text_laws.proofs.ReportTexts.{closing-alike}
 use Rattle.mx_snapshot.specs.Kept.{KeptPlan}
 use Rattle.mx_turns.specs.declared.task.Dump.{Dump}
 use Rattle.mx_turns.specs.declared.task.Dump.TheVariants as D
-use Rattle.mx_turns.specs.PlainRuns.{SameTexts, plain_ran}
+use Rattle.mx_text_laws.specs.PlainRuns.{SameTexts, plain_ran}
 use Rattle.mx_turns.specs.Runs.{dumped, end_of, note_lines, ran, report_of}
 use Rattle.mx_uncached.specs.Forgetting.{bare, plain}
 use Rattle.mx_uncached.specs.Plain.{Plain}

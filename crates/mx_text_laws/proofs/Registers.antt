@@ -5,7 +5,7 @@ use Rattle.std.specs.List.{list_all}
 use Rattle.std.specs.Option.{option_map_or}
 use Rattle.std.proofs.lemmas.Bool.{ltb-true, and_parts, eqb-true}
 use Rattle.mx_source.specs.Operands.{register_of, is_name}
-use Rattle.mx_trace.proofs.Solid.{is_solid, is_free, IsPart}
+use Rattle.mx_text_laws.proofs.Solid.{is_solid, is_free, IsPart}
 use Rattle.mx_words.specs.Counting.{all_below}
 use Rattle.mx_words.proofs.CountingLaws.{all_below-at}
 

@@ -26,10 +26,10 @@ use Rattle.mx_asm.specs.Instructions.{inst_of, offset_of}
 use Rattle.mx_asm.specs.Faults.{operand_fault, label_fault, place_fault, line_fault, offset_fault, fault_from, offset_from}
 use Rattle.mx_asm.specs.Denoted.{bytes_of, with_listed, program_from, program_of, first_fault, labels_of_source}
 use Rattle.mx_trace.specs.Text.{inst_text, text_source}
-use Rattle.mx_trace.proofs.Solid.{is_solid, solid, IsPart, AreParts, joined}
-use Rattle.mx_trace.proofs.Words.{form_mnemonic, form_keyword}
-use Rattle.mx_trace.proofs.Splitting.{line-text}
-use Rattle.mx_trace.proofs.Readings.{IsRead, inst_read}
+use Rattle.mx_text_laws.proofs.Solid.{is_solid, solid, IsPart, AreParts, joined}
+use Rattle.mx_text_laws.proofs.Words.{form_mnemonic, form_keyword}
+use Rattle.mx_text_laws.proofs.Splitting.{line-text}
+use Rattle.mx_text_laws.proofs.Readings.{IsRead, inst_read}
 
 abbrev ends : ℕ → Bool
 ends b = b == 10

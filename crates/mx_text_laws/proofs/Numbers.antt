@@ -11,7 +11,7 @@ use Rattle.mx_source.specs.Characters.{begins_name, is_in_name}
 use Rattle.mx_source.specs.Operands.{is_name}
 use Rattle.mx_source.specs.Numbers.{cap, decimal_step, decimal_of, number_of, plain_number, negative_number}
 use Rattle.mx_trace.specs.Text.{signed_text}
-use Rattle.mx_trace.proofs.Solid.{is_solid, is_free, IsPart}
+use Rattle.mx_text_laws.proofs.Solid.{is_solid, is_free, IsPart}
 
 -- digits that say a number
 record IsDecimal (n : ℕ) (ds : List ℕ) : Type 0 where

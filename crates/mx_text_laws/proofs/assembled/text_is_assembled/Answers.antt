@@ -1,5 +1,5 @@
-use Rattle.mx_trace.proofs.Whole.{text_faultless, text_program}
-use Rattle.mx_trace.proofs.law.text_is_assembled.Goals as goal
+use Rattle.mx_text_laws.proofs.Assembling.{text_faultless, text_program}
+use Rattle.mx_text_laws.proofs.assembled.text_is_assembled.Goals as goal
 
 pub returns-clause-faultless : goal.returns-clause-faultless
 returns-clause-faultless c = text_faultless

@@ -1,4 +1,4 @@
--- Worked examples of the definitions, computed.
+-- Worked examples of what tables store and need after grants, computed.
 use Rattle.std.specs.Prelude.{◌≡◌, ℕ, List, [], ◌∷◌, false, refl}
 use Rattle.mx_words.specs.declared.perm.Perm.{Perm}
 use Rattle.mx_words.specs.declared.perm.Perm.TheVariants as P

@@ -8,10 +8,10 @@ use Rattle.mx_source.specs.declared.number.Number.{Number}
 use Rattle.mx_source.specs.Characters.{trim}
 use Rattle.mx_source.specs.Numbers.{number_of}
 use Rattle.mx_source.specs.Operands.{Indexed, name_between, indexed_of, is_operand, is_name, text_of}
-use Rattle.mx_trace.proofs.Solid.{is_solid, is_free, IsPart, trim-solid}
-use Rattle.mx_trace.proofs.Splitting.{prefix-whole}
-use Rattle.mx_trace.proofs.Registers.{register, IsRegister}
-use Rattle.mx_trace.proofs.Numbers.{IsNumber}
+use Rattle.mx_text_laws.proofs.Solid.{is_solid, is_free, IsPart, trim-solid}
+use Rattle.mx_text_laws.proofs.Splitting.{prefix-whole}
+use Rattle.mx_text_laws.proofs.Registers.{register, IsRegister}
+use Rattle.mx_text_laws.proofs.Numbers.{IsNumber}
 
 not_open : (xs : List ℕ) → list_all is_free xs ≡ true → list_all (λ c. not (c == 40)) xs ≡ true
 not_open [] h = refl

@@ -17,10 +17,10 @@ use Rattle.mx_source.specs.Mnemonics.{form_name}
 use Rattle.mx_source.specs.Fields.{Fields, fields, Given, value_of, number_fields, value_fields, branch_fields, load_fields, store_fields, immediate_fields, register_fields, fence_fields, fields_of, range_of, no_value}
 use Rattle.mx_asm.specs.Instructions.{inst_of}
 use Rattle.mx_trace.specs.Text.{signed_text, upper_text, jump_text, pair_text, indexed_text, register_text, fence_text, inst_text}
-use Rattle.mx_trace.proofs.Solid.{AreParts, joined}
-use Rattle.mx_trace.proofs.Registers.{register, IsRegister, register-read}
-use Rattle.mx_trace.proofs.Numbers.{IsNumber, plain-number, negative-number, low-text, high-text}
-use Rattle.mx_trace.proofs.IndexedTexts.{indexed-read, indexed-part, operand-number, operand-register, operand-indexed}
+use Rattle.mx_text_laws.proofs.Solid.{AreParts, joined}
+use Rattle.mx_text_laws.proofs.Registers.{register, IsRegister, register-read}
+use Rattle.mx_text_laws.proofs.Numbers.{IsNumber, plain-number, negative-number, low-text, high-text}
+use Rattle.mx_text_laws.proofs.IndexedTexts.{indexed-read, indexed-part, operand-number, operand-register, operand-indexed}
 
 -- how a text with operands is read
 pub record IsRead (i : Inst) : Type 0 where

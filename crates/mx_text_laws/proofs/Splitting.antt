@@ -9,8 +9,8 @@ use Rattle.mx_source.specs.Characters.{is_in_name, is_in_word, mark_place, trim_
 use Rattle.mx_source.specs.Operands.{is_operand, pieces_of}
 use Rattle.mx_source.specs.Mnemonics.{keyword_of}
 use Rattle.mx_source.specs.Lines.{Listed, is_word, statement_of, line_with_word, line_with_label, line_by_colon, trimmed_line, line_of}
-use Rattle.mx_trace.proofs.Solid.{is_solid, IsPart, AreParts, joined, mark-solid, hash_away, hash-joined, pieces-joined, start-solid, end-solid, ending, beginning}
-use Rattle.mx_trace.proofs.Words.{is_mnemonic}
+use Rattle.mx_text_laws.proofs.Solid.{is_solid, IsPart, AreParts, joined, mark-solid, hash_away, hash-joined, pieces-joined, start-solid, end-solid, ending, beginning}
+use Rattle.mx_text_laws.proofs.Words.{is_mnemonic}
 
 pub prefix-whole : (p : ℕ → Bool) (xs : List ℕ) (y : ℕ) (ys : List ℕ) → list_all p xs ≡ true → p y ≡ false → prefix_len p (xs ++ y ∷ ys) ≡ length xs
 prefix-whole p [] y ys h f = rw f refl

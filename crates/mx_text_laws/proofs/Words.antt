@@ -13,7 +13,7 @@ use Rattle.mx_source.specs.Characters.{is_in_name, is_in_word}
 use Rattle.mx_source.specs.Operands.{is_name}
 use Rattle.mx_source.specs.Mnemonics.{form_name, keyword_of}
 use Rattle.mx_source.specs.Lines.{is_word}
-use Rattle.mx_trace.proofs.Solid.{is_solid}
+use Rattle.mx_text_laws.proofs.Solid.{is_solid}
 
 -- a word of letters
 abbrev pub is_mnemonic : List ℕ → Bool

@@ -1,0 +1,4 @@
+pub mod GrantExamples
+pub mod TableExamples
+pub mod CallExamples
+pub mod AuditExamples
