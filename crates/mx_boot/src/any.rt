@@ -244,7 +244,7 @@ impl AnyMachine {
         requires { IsModule (length (meaning self.now).core.modules) domain }
         ensures { result ≡ (module_at (meaning self.now).core domain).kills }
     {
-        each!(self, machine => machine.kills(domain))
+        self.stack_area(domain).kills
     }
 
     /// Whether a domain is dead.

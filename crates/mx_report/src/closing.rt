@@ -17,7 +17,7 @@ use mx_table::PermTables;
 use mx_words::{Kind, Need};
 
 /// What the report shows beside the lines that each run has.
-#[derive(Clone, Copy, PartialEq, Eq)]
+#[derive(Clone, Copy)]
 pub struct Options {
     /// What the tables take and store.
     pub tables: bool,

@@ -1,6 +1,6 @@
 //! Lines of notes, of the end and of harts.
-ghost use Rattle.std.specs.Prelude.{◌≡◌, ◌<◌, length, flat_map};
-ghost use Rattle.mx_io.specs.Sink.{Puts};
+ghost use Rattle.std.specs.Prelude.{◌≡◌, ◌<◌, ℕ, List, [], length, flat_map};
+ghost use Rattle.mx_io.specs.Sink.{Puts, SinkState};
 ghost use Rattle.mx_tail.specs.Tail.{Passes, piece_bytes};
 ghost use Rattle.mx_report.specs.Lines.{fault_line, exit_line, note_line, end_name, end_line, status_name, hart_text, register_text, registers_line, view_lines};
 
@@ -10,7 +10,7 @@ use mx_machine::{HartStatus, HartView};
 use mx_model::{Fault, Note};
 
 /// Why a run ended.
-#[derive(Clone, Copy, PartialEq, Eq)]
+#[derive(Clone, Copy)]
 pub enum EndState {
     /// All harts are halted.
     Halted,
@@ -33,8 +33,8 @@ pub fn fault_line<R: Sink>(
         (fault_line step hart domain pc fault.now) result }
 {
     let mut tail = Tail::new();
-    put_fault(&mut tail, sink, step, hart, domain, pc, fault)?;
-    tail.end(sink)
+    let put = put_fault(&mut tail, sink, step, hart, domain, pc, fault);
+    end_lines(&mut tail, sink, put)
 }
 
 /// Puts the line of an exit at a step, the number of turns made, with a code.
@@ -48,8 +48,8 @@ pub fn exit_line<R: Sink>(
     ensures { Puts (R.state sink.old) (R.state sink.new) (exit_line step hart domain code) result }
 {
     let mut tail = Tail::new();
-    put_exit(&mut tail, sink, step, hart, domain, code)?;
-    tail.end(sink)
+    let put = put_exit(&mut tail, sink, step, hart, domain, code);
+    end_lines(&mut tail, sink, put)
 }
 
 /// Puts the end line: how many turns were made, and why the run ended.
@@ -57,8 +57,8 @@ pub fn end_line<R: Sink>(sink: &mut R, steps: u64, state: EndState) -> Result<()
     ensures { Puts (R.state sink.old) (R.state sink.new) (end_line steps state) result }
 {
     let mut tail = Tail::new();
-    put_end(&mut tail, sink, steps, state)?;
-    tail.end(sink)
+    let put = put_end(&mut tail, sink, steps, state);
+    end_lines(&mut tail, sink, put)
 }
 
 /// Puts the two lines of a hart.
@@ -66,8 +66,23 @@ pub fn hart_lines<R: Sink>(sink: &mut R, hart: u32, view: &HartView) -> Result<(
     ensures { Puts (R.state sink.old) (R.state sink.new) (view_lines hart view.now) result }
 {
     let mut tail = Tail::new();
-    put_hart(&mut tail, sink, hart, view)?;
-    tail.end(sink)
+    let put = put_hart(&mut tail, sink, hart, view);
+    end_lines(&mut tail, sink, put)
+}
+
+/// Ends lines that were put through an empty buffer: what it still holds is put, unless a line couldn't be.
+pub(crate) fn end_lines<R: Sink>(
+    tail: &mut Tail,
+    sink: &mut R,
+    put: Result<(), Failed>,
+) -> Result<(), Failed>
+    ensures { (b : List ℕ) (s : SinkState) (text : List ℕ) → b ≡ [] →
+        Passes b s (R.state sink.old) tail.old text put → Puts s (R.state sink.new) text result }
+{
+    match put {
+        Ok(()) => tail.end(sink),
+        Err(failed) => Err(failed),
+    }
 }
 
 /// Puts the line of a note through a buffer.

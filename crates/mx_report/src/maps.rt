@@ -8,6 +8,7 @@ ghost use Rattle.mx_tail.specs.Tail.{Passes};
 ghost use Rattle.mx_report.specs.Lines.{dead_text, domain_head, permission_name, map_line, map_text};
 ghost use Rattle.mx_report.specs.Texts.{domain_lines, domain_map, map_lines};
 
+use crate::lines::end_lines;
 use crate::words::address;
 use crate::{Tail, put_pieces};
 use mx_io::{Failed, Piece, Sink};
@@ -28,8 +29,8 @@ pub fn domain_lines<R: Sink, T: PermTables, const N: usize>(
         (domain_map machine.now domain)) result }
 {
     let mut tail = Tail::new();
-    put_domain(&mut tail, sink, machine, domain, name)?;
-    tail.end(sink)
+    let put = put_domain(&mut tail, sink, machine, domain, name);
+    end_lines(&mut tail, sink, put)
 }
 
 #[tactic(auto, unfolding(crate::specs::Texts::domain_lines))]

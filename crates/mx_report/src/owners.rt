@@ -6,6 +6,7 @@ ghost use Rattle.mx_tail.specs.Tail.{Passes};
 ghost use Rattle.mx_report.specs.Lines.{owner_line, owner_text};
 ghost use Rattle.mx_report.specs.Texts.{owner_lines};
 
+use crate::lines::end_lines;
 use crate::words::address;
 use crate::{Tail, put_pieces};
 use mx_io::{Failed, Piece, Sink};
@@ -20,8 +21,8 @@ pub fn owner_lines<R: Sink, T: PermTables, const N: usize>(
     ensures { Puts (R.state sink.old) (R.state sink.new) (owner_lines machine.now.owners) result }
 {
     let mut tail = Tail::new();
-    put_owners(&mut tail, sink, machine)?;
-    tail.end(sink)
+    let put = put_owners(&mut tail, sink, machine);
+    end_lines(&mut tail, sink, put)
 }
 
 pub(crate) fn put_owners<R: Sink, T: PermTables, const N: usize>(

@@ -8,6 +8,7 @@ ghost use Rattle.mx_tail.specs.Tail.{Passes};
 ghost use Rattle.mx_report.specs.Lines.{kind_name, tables_line, level_name, shown_line, counts_text};
 ghost use Rattle.mx_report.specs.Texts.{all_items, counts_lines, domain_map, flat_told, has_rights, shown_lines, shown_text, table_lines};
 
+use crate::lines::end_lines;
 use crate::words::address;
 use crate::{Tail, put_pieces};
 use mx_check::Counts;
@@ -28,8 +29,8 @@ pub fn table_lines<R: Sink, T: PermTables, const N: usize>(
         (table_lines kind limit machine.now.core (flat_told machine.now)) result }
 {
     let mut tail = Tail::new();
-    put_tables(&mut tail, sink, machine, kind, limit)?;
-    tail.end(sink)
+    let put = put_tables(&mut tail, sink, machine, kind, limit);
+    end_lines(&mut tail, sink, put)
 }
 
 /// Puts a line with the counts of each hart.
@@ -40,8 +41,8 @@ pub fn counts_lines<R: Sink, T: PermTables, const N: usize>(
     ensures { Puts (R.state sink.old) (R.state sink.new) (counts_lines machine.now.core) result }
 {
     let mut tail = Tail::new();
-    put_counts(&mut tail, sink, machine)?;
-    tail.end(sink)
+    let put = put_counts(&mut tail, sink, machine);
+    end_lines(&mut tail, sink, put)
 }
 
 pub(crate) fn put_tables<R: Sink, T: PermTables, const N: usize>(

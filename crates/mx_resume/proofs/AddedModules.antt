@@ -32,9 +32,10 @@ dead_added before m x domain dead now long lt e was is =
     is ∙ ap (λ (s : List Bool). set s domain x.dead) was ∙ ap (λ (k : ℕ). set (dead_in before) k x.dead) (sym long)
     ∙ ap (λ (y : Module). set (dead_in before) (length before + 1) y.dead) e ∙ dead-more before m (omega (arith, long, lt))
 
--- a module of which heap and row are read
-pub module_is : (m : StoredModule) (heap : HeapState) (row : List Span) → heap.area ≡ m.home.heap → row ≡ spans_in 0 m.map →
-    (let x : Module = record { name = m.name; heap = heap; stack = stack_in m; dead = m.home.dead; row = row } in x) ≡ module_in_code (record m { home = record m.home { blocks = heap.blocks } })
-module_is m heap row a r =
-    ap (λ (area : _). (let x : Module = record { name = m.name; heap = record { area = area; blocks = heap.blocks }; stack = stack_in m; dead = m.home.dead; row = row } in x)) a
-    ∙ ap (λ (s : List Span). (let x : Module = record { name = m.name; heap = record { area = m.home.heap; blocks = heap.blocks }; stack = stack_in m; dead = m.home.dead; row = s } in x)) r
+-- a module of which name, heap and row are read
+pub module_is : (m : StoredModule) (name : List ℕ) (heap : HeapState) (row : List Span) → name ≡ m.name → heap.area ≡ m.home.heap → row ≡ spans_in 0 m.map →
+    (let x : Module = record { name = name; heap = heap; stack = stack_in m; dead = m.home.dead; row = row } in x) ≡ module_in_code (record m { home = record m.home { blocks = heap.blocks } })
+module_is m name heap row n a r =
+    ap (λ (area : _). (let x : Module = record { name = name; heap = record { area = area; blocks = heap.blocks }; stack = stack_in m; dead = m.home.dead; row = row } in x)) a
+    ∙ ap (λ (s : List Span). (let x : Module = record { name = name; heap = record { area = m.home.heap; blocks = heap.blocks }; stack = stack_in m; dead = m.home.dead; row = s } in x)) r
+    ∙ ap (λ (s : List ℕ). (let x : Module = record { name = s; heap = record { area = m.home.heap; blocks = heap.blocks }; stack = stack_in m; dead = m.home.dead; row = spans_in 0 m.map } in x)) n

@@ -11,6 +11,7 @@ use Rattle.mx_snapshot.specs.Resuming.{dead_in, flights_from, heap_in, spans_in,
 use Rattle.mx_snapshot.specs.Stored.{Head, Stored, StoredHart, StoredModule}
 use Rattle.mx_resume.specs.declared.building.Held.{Held}
 use Rattle.mx_resume.specs.declared.fields.Fields.{Fields}
+use Rattle.mx_resume.specs.declared.fields.Others.{Others}
 use Rattle.mx_resume.specs.declared.harts.Hart as code_hart
 use Rattle.mx_resume.specs.declared.harts.ResumingHarts.{ResumingHarts}
 use Rattle.mx_resume.specs.declared.head.Head as code_head
@@ -95,6 +96,17 @@ pub record AreFieldsOf (s : Stored) (x : Fields) : Type 0 where
   pub gates : x.gates ≡ s.gates
   pub harts : AreHartsOf s.head.words (list_map heap_in s.modules) s.harts x.harts
   pub ram : x.ram ≡ s.ram
+
+-- these modules and the other fields
+abbrev pub fields_with : Modules → Others → Fields
+fields_with modules others = record {
+  head = others.head;
+  modules = modules;
+  owners = others.owners;
+  gates = others.gates;
+  harts = others.harts;
+  ram = others.ram;
+}
 
 -- all of them but the modules' names
 pub record AreHeldOf (s : Stored) (x : Held) : Type 0 where

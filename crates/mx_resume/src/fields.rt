@@ -1,5 +1,5 @@
 //! All fields of a snapshot, and the machine that they give.
-ghost use Rattle.std.specs.Prelude.{◌≡◌, ℕ, ◌*◌, ◌-◌, ◌^◌, ◌≤◌, IfOk, IfErr, Ok};
+ghost use Rattle.std.specs.Prelude.{◌≡◌, ℕ, [], ◌*◌, ◌-◌, ◌^◌, ◌≤◌, IfOk, IfErr, Ok};
 ghost use Rattle.mx_words.specs.Ranges.{most_words};
 ghost use Rattle.mx_boot.specs.Machines.{meaning};
 ghost use Rattle.mx_snapshot.specs.Fields.{fields_in, stored_in};
@@ -8,7 +8,7 @@ ghost use Rattle.mx_snapshot.specs.Kept.{IsOfPlan};
 ghost use Rattle.mx_snapshot.specs.Reader.{piece};
 ghost use Rattle.mx_snapshot.specs.Stored.{Stored};
 ghost use Rattle.mx_resume.specs.Goes.{AreFields, IsRead, Resumes};
-ghost use Rattle.mx_resume.specs.Parts.{AreFieldsOf};
+ghost use Rattle.mx_resume.specs.Parts.{AreFieldsOf, AreModulesOf, fields_with};
 ghost use Rattle.mx_resume.specs.Snapshot.{IsRefusedBy, IsResumed, snapshot_of};
 ghost use Rattle.mx_resume.specs.Taking.{IsTaken, TakesAs};
 
@@ -50,6 +50,21 @@ pub(crate) struct Fields {
     pub ram: Ram,
 }
 
+/// All that a snapshot stores but the modules.
+#[derive(Drop)]
+pub(crate) struct Others {
+    /// The numbers at the head.
+    pub head: Head,
+    /// The owners of all words.
+    pub owners: Owners,
+    /// The gates.
+    pub gates: Gates,
+    /// The harts.
+    pub harts: ResumingHarts,
+    /// RAM.
+    pub ram: Ram,
+}
+
 /// RAM of so many words.
 fn ram(alloc: Global, bytes: &[u8], at: &mut usize, words: u32) -> Result<Ram, SnapshotRefused>
     requires { words ≤ most_words }
@@ -62,22 +77,28 @@ fn ram(alloc: Global, bytes: &[u8], at: &mut usize, words: u32) -> Result<Ram, S
     }
 }
 
-/// All fields.
+/// All fields. The modules are added to none.
 #[tactic(auto, unfolding(mx_snapshot::specs::Fields::fields_in))]
-fn read_fields(alloc: Global, bytes: &[u8], at: &mut usize) -> Result<Fields, SnapshotRefused>
-    ensures { TakesAs AreFieldsOf (fields_in bytes.now at.old) at.new result }
+fn read_fields(
+    alloc: Global,
+    bytes: &[u8],
+    at: &mut usize,
+    modules: &mut Modules,
+) -> Result<Others, SnapshotRefused>
+    requires { AreModulesOf [] modules.old }
+    ensures { TakesAs (λ s others. AreFieldsOf s (fields_with modules.new others))
+        (fields_in bytes.now at.old) at.new result }
 {
     let head = read_head(bytes, at)?;
-    let modules = read_modules(alloc, bytes, at, &head)?;
+    read_modules(alloc, bytes, at, &head, modules)?;
     let runs = between(bytes, at, 1, 4096)?;
     let owners = read_owners(alloc, bytes, at, &head, runs)?;
     let count = between(bytes, at, 0, MOST)?;
     let gates = read_gates(bytes, at, &head, count)?;
     let harts = read_harts(bytes, at, &head, &modules.heaps)?;
     let ram = ram(alloc, bytes, at, head.words)?;
-    Ok(Fields {
+    Ok(Others {
         head,
-        modules,
         owners,
         gates,
         harts,
@@ -94,11 +115,26 @@ fn stored(alloc: Global, bytes: &[u8]) -> Result<Fields, SnapshotRefused>
         return Err(fault(0, 1));
     }
     let mut at = 0;
-    let fields = read_fields(alloc, bytes, &mut at)?;
+    let mut modules = Modules::new(alloc);
+    let others = read_fields(alloc, bytes, &mut at, &mut modules)?;
     if at < bytes.len() {
         return Err(fault(at, 5));
     }
-    Ok(fields)
+    let Others {
+        head,
+        owners,
+        gates,
+        harts,
+        ram,
+    } = others;
+    Ok(Fields {
+        head,
+        modules,
+        owners,
+        gates,
+        harts,
+        ram,
+    })
 }
 
 /// Machine and plan of what is stored.

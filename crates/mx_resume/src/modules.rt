@@ -16,7 +16,7 @@ use crate::SnapshotRefused;
 use crate::areas::{heap_words, restore_blocks, stack_words};
 use crate::head::Head;
 use crate::maps::{row, some_runs};
-use crate::names::new_name;
+use crate::names::{new_name, text};
 use crate::reading::{between, flag, number};
 use mx_heap::Heap;
 use mx_machine::{StackArea, Stacks};
@@ -85,7 +85,7 @@ fn read_module(
         at.new result }
 {
     let size = between(bytes, at, 1, 32)?;
-    let name = new_name(alloc, bytes, at, size, names)?;
+    let spelled = new_name(bytes, at, size, names)?;
     let heap_first = number(bytes, at)?;
     let heap_count = heap_words(bytes, at, head.words, heap_first)?;
     let first = number(bytes, at)?;
@@ -97,6 +97,7 @@ fn read_module(
     restore_blocks(bytes, at, &mut heap, count)?;
     let runs = some_runs(bytes, at)?;
     let row = row(alloc, bytes, at, head, runs)?;
+    let name = text(alloc, spelled)?;
     Ok(Module {
         name,
         heap,
@@ -112,7 +113,7 @@ fn read_module(
 
 impl Modules {
     /// No module.
-    fn new(alloc: Global) -> Modules
+    pub(crate) fn new(alloc: Global) -> Modules
         ensures { AreModulesOf [] result }
     {
         Modules {
@@ -157,22 +158,23 @@ impl Modules {
     }
 }
 
-/// All modules.
+/// Adds all modules to none.
 pub(crate) fn read_modules(
     alloc: Global,
     bytes: &[u8],
     at: &mut usize,
     head: &Head,
-) -> Result<Modules, SnapshotRefused>
-    requires { HasBounds head.now }
-    ensures { TakesAs AreModulesOf
+    modules: &mut Modules,
+) -> Result<(), SnapshotRefused>
+    requires bounds { HasBounds head.now }
+    requires none { AreModulesOf [] modules.old }
+    ensures { TakesAs (λ ms done. AreModulesOf ms modules.new)
         (list_of head.now.modules (module_in (head_seen head.now)) [] bytes.now at.old)
         at.new result }
 {
-    let mut modules = Modules::new(alloc);
     'modules: for i in 0..head.modules {
         let module = read_module(alloc, bytes, at, head, modules.names.as_slice())?;
         modules.push(i + 1, module)?;
     }
-    Ok(modules)
+    Ok(())
 }

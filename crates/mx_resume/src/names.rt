@@ -48,7 +48,7 @@ fn is_new(names: &[Text], name: &[u8]) -> bool
 }
 
 /// The text of a name.
-fn text(alloc: Global, name: &[u8]) -> Result<Text, SnapshotRefused>
+pub(crate) fn text(alloc: Global, name: &[u8]) -> Result<Text, SnapshotRefused>
     requires { list_all is_name_byte name.now ≡ true }
     ensures text { IfOk result (λ text. text ≡ name.now) }
     ensures memory { IfErr result (λ refused. refused ≡ NoMemory) }
@@ -63,20 +63,22 @@ fn text(alloc: Global, name: &[u8]) -> Result<Text, SnapshotRefused>
 }
 
 /// A name of so many bytes, which none of these names is.
-pub(crate) fn new_name(
-    alloc: Global,
-    bytes: &[u8],
+pub(crate) fn new_name<'a>(
+    bytes: &'a [u8],
     at: &mut usize,
     size: u32,
     names: &[Text],
-) -> Result<Text, SnapshotRefused>
-    ensures { (before : List StoredModule) → names.now ≡ map (λ (m : StoredModule). m.name) before →
-        IsTaken (λ t. t) (such (is_new_name before) (piece size) bytes.now at.old) at.new result }
+) -> Result<&'a [u8], SnapshotRefused>
+    ensures taken { (before : List StoredModule) →
+        names.now ≡ map (λ (m : StoredModule). m.name) before →
+        IsTaken (λ p. p.now) (such (is_new_name before) (piece size) bytes.now at.old)
+        at.new result }
+    ensures text { IfOk result (λ p. list_all is_name_byte p.now ≡ true) }
 {
     let field = *at;
     let name = piece(bytes, at, size as usize)?;
     if !is_new(names, name) {
         return Err(out_of_range(field));
     }
-    text(alloc, name)
+    Ok(name)
 }

@@ -1,11 +1,4 @@
-use Rattle.std.proofs.lemmas.Result.{err_from_is_err_and}
-use Rattle.mx_tail.proofs.PassLaws.{whole_end, whole_stop}
 use Rattle.mx_report.proofs.lines.fault_line.Goals as goal
 
-pub returns-in_err-put_fault : goal.returns-in_err-put_fault
-returns-in_err-put_fault g c =
-    let p = err_from_is_err_and c.from_residual.result c.from_residual.ensures.1 in
-    rw (p.1, p.2) (whole_stop c.new-tail.ensures c.in_err-put_fault.ensures.passes)
-
 pub returns : goal.returns
-returns g c = whole_end c.new-tail.ensures c.in_ok-put_fault.ensures.passes c.end.ensures.puts
+returns g c = c.end_lines.ensures _ _ _ c.new-tail.ensures c.put_fault-put.ensures.passes

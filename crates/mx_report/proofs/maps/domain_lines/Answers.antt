@@ -1,14 +1,7 @@
-use Rattle.std.proofs.lemmas.Result.{err_from_is_err_and}
-use Rattle.mx_tail.proofs.PassLaws.{whole_end, whole_stop}
 use Rattle.mx_report.proofs.maps.domain_lines.Goals as goal
 
-pub returns-in_err-put_domain : goal.returns-in_err-put_domain
-returns-in_err-put_domain g c =
-    let p = err_from_is_err_and c.from_residual.result c.from_residual.ensures.1 in
-    rw (p.1, p.2) (whole_stop c.new-tail.ensures c.in_err-put_domain.ensures)
-
 pub returns : goal.returns
-returns g c = whole_end c.new-tail.ensures c.in_ok-put_domain.ensures c.end.ensures.puts
+returns g c = c.end_lines.ensures _ _ _ c.new-tail.ensures c.put_domain-put.ensures
 
-pub put_domain-requires : goal.put_domain-requires
-put_domain-requires g c = search
+pub put_domain-put-requires : goal.put_domain-put-requires
+put_domain-put-requires g c = search
