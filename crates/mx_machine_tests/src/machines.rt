@@ -7,6 +7,7 @@ use mx_machine::{HartStart, HartStatus, HartView, StackArea};
 use mx_model::{Gate, Note};
 use mx_words::Perm;
 use std::alloc::Global;
+use std::process::Abort;
 use std::test::Fail;
 
 /// The first runs of words with one owner: where each begins, and its owner.
@@ -45,6 +46,31 @@ struct Ending {
     bytes: [u8; 8],
     /// The first runs of words with one owner: where each begins, and its owner.
     owners: [(u32, u32); 6],
+}
+
+impl Ending {
+    /// Whether this was told, and hart 0 stands like this.
+    fn is(self, rt: &impl Abort, notes: &[Note], first: Option<HartView>) {
+        assert_eq!(rt; self.notes.as_slice(), notes);
+        assert_eq!(rt; self.harts[0], first);
+    }
+
+    /// Whether these bytes went to the console, and this was told.
+    fn shows(self, rt: &impl Abort, console: &[u8], notes: &[Note]) {
+        assert_eq!(rt; self.console.as_slice(), console);
+        assert_eq!(rt; self.notes.as_slice(), notes);
+    }
+
+    /// The runs of words with one owner.
+    fn owners(self) -> [(u32, u32); 6] {
+        self.owners
+    }
+
+    /// Whether all harts are halted, where this was told.
+    fn is_halted(self, rt: &impl Abort, notes: &[Note]) -> bool {
+        assert_eq!(rt; self.notes.as_slice(), notes);
+        self.is_halted
+    }
 }
 
 /// Reads a machine, and lets it go.
@@ -107,12 +133,13 @@ fn halted(pc: u32, values: &[(usize, u32)]) -> Option<HartView> {
 fn a_store_into_code_faults_and_changes_no_byte(rt: HostRuntime) -> Result<(), Fail> {
     let words = [0x0000_0097, 0x0000_A023];
     let end = alone(rt.alloc(), &words, 5)?;
-    assert_eq!(rt;
-        end.notes.as_slice(),
-        [fault(2, 0, 1, 0x8000_0004, 7, 0x8000_0000)].as_slice()
+    let bytes = end.bytes;
+    end.is(
+        &rt,
+        &[fault(2, 0, 1, 0x8000_0004, 7, 0x8000_0000)],
+        halted(0x8000_0004, &[(1, 0x8000_0000)]),
     );
-    assert_eq!(rt; end.harts[0], halted(0x8000_0004, &[(1, 0x8000_0000)]));
-    assert_eq!(rt; end.bytes, [0x97, 0, 0, 0, 0x23, 0xA0, 0, 0]);
+    assert_eq!(rt; bytes, [0x97, 0, 0, 0, 0x23, 0xA0, 0, 0]);
     Ok(())
 }
 
@@ -126,7 +153,6 @@ fn divisions_at_their_corners_fault_nowhere(rt: HostRuntime) -> Result<(), Fail>
         0x0202_EEB3,
     ];
     let end = alone(rt.alloc(), &words, 5)?;
-    assert_eq!(rt; end.notes.as_slice(), [].as_slice());
     let values = [
         (5, 0x8000_0000),
         (6, 0xFFFF_FFFF),
@@ -141,7 +167,7 @@ fn divisions_at_their_corners_fault_nowhere(rt: HostRuntime) -> Result<(), Fail>
         frames: 0,
         regs: regs(&values),
     };
-    assert_eq!(rt; end.harts[0], Some(want));
+    end.is(&rt, &[], Some(want));
     Ok(())
 }
 
@@ -149,11 +175,11 @@ fn divisions_at_their_corners_fault_nowhere(rt: HostRuntime) -> Result<(), Fail>
 fn a_branch_faults_at_a_target_that_is_no_multiple_of_4(rt: HostRuntime) -> Result<(), Fail> {
     let words = [0x0002_9363, 0x0012_8293, 0xFF9F_F06F];
     let end = alone(rt.alloc(), &words, 10)?;
-    assert_eq!(rt;
-        end.notes.as_slice(),
-        [fault(4, 0, 1, 0x8000_0000, 0, 0x8000_0006)].as_slice()
+    end.is(
+        &rt,
+        &[fault(4, 0, 1, 0x8000_0000, 0, 0x8000_0006)],
+        halted(0x8000_0000, &[(5, 1)]),
     );
-    assert_eq!(rt; end.harts[0], halted(0x8000_0000, &[(5, 1)]));
     Ok(())
 }
 
@@ -161,11 +187,11 @@ fn a_branch_faults_at_a_target_that_is_no_multiple_of_4(rt: HostRuntime) -> Resu
 fn a_misaligned_load_faults_before_protection(rt: HostRuntime) -> Result<(), Fail> {
     let words = [0x0010_1303];
     let end = alone(rt.alloc(), &words, 5)?;
-    assert_eq!(rt;
-        end.notes.as_slice(),
-        [fault(1, 0, 1, 0x8000_0000, 4, 1)].as_slice()
+    end.is(
+        &rt,
+        &[fault(1, 0, 1, 0x8000_0000, 4, 1)],
+        halted(0x8000_0000, &[]),
     );
-    assert_eq!(rt; end.harts[0], halted(0x8000_0000, &[]));
     Ok(())
 }
 
@@ -192,10 +218,6 @@ fn gates_in_a_circle_end_at_the_last_frame(rt: HostRuntime) -> Result<(), Fail> 
         &[start(1, 0x8000_0000)],
         195,
     )?;
-    assert_eq!(rt;
-        end.notes.as_slice(),
-        [fault(195, 0, 1, 0x8000_1000, 16, 0x8000_1000)].as_slice()
-    );
     let values = [(1, 0x8000_0008), (5, 0x8000_1000), (10, 0xFFFF_FF10)];
     let want = HartView {
         status: HartStatus::Running,
@@ -204,7 +226,11 @@ fn gates_in_a_circle_end_at_the_last_frame(rt: HostRuntime) -> Result<(), Fail> 
         frames: 63,
         regs: regs(&values),
     };
-    assert_eq!(rt; end.harts[0], Some(want));
+    end.is(
+        &rt,
+        &[fault(195, 0, 1, 0x8000_1000, 16, 0x8000_1000)],
+        Some(want),
+    );
     Ok(())
 }
 
@@ -240,9 +266,8 @@ fn a_return_to_another_address_faults(rt: HostRuntime) -> Result<(), Fail> {
         fault(6, 0, 2, 0x8000_1008, 17, 0x8000_000C),
         fault(7, 0, 1, 0x8000_0008, 3, 0x8000_0008),
     ];
-    assert_eq!(rt; elsewhere.notes.as_slice(), notes.as_slice());
     let values = [(1, 0x8000_0008), (5, 0x8000_1000), (10, 0xFFFF_FF11)];
-    assert_eq!(rt; elsewhere.harts[0], halted(0x8000_0008, &values));
+    elsewhere.is(&rt, &notes, halted(0x8000_0008, &values));
     Ok(())
 }
 
@@ -250,9 +275,8 @@ fn a_return_to_another_address_faults(rt: HostRuntime) -> Result<(), Fail> {
 fn a_return_to_the_address_after_the_call_goes_on(rt: HostRuntime) -> Result<(), Fail> {
     let back = called_and_left_by(rt.alloc(), 0x0000_8067)?;
     let notes = [fault(7, 0, 1, 0x8000_0008, 3, 0x8000_0008)];
-    assert_eq!(rt; back.notes.as_slice(), notes.as_slice());
     let values = [(1, 0x8000_0008), (5, 0x8000_1000)];
-    assert_eq!(rt; back.harts[0], halted(0x8000_0008, &values));
+    back.is(&rt, &notes, halted(0x8000_0008, &values));
     Ok(())
 }
 
@@ -296,11 +320,11 @@ fn granted_and_transferred(alloc: Global) -> Result<Ending, Fail> {
 #[test]
 fn a_waiting_grant_of_a_word_that_is_transferred_is_refused(rt: HostRuntime) -> Result<(), Fail> {
     let end = granted_and_transferred(rt.alloc())?;
+    let second = end.harts[1];
     let notes = [
         fault(14, 1, 1, 0x8000_0034, 3, 0x8000_0034),
         fault(15, 0, 1, 0x8000_0018, 3, 0x8000_0018),
     ];
-    assert_eq!(rt; end.notes.as_slice(), notes.as_slice());
     let granted = [
         (2, 0x8000_1010),
         (10, 0xFFFF_FFFE),
@@ -309,9 +333,9 @@ fn a_waiting_grant_of_a_word_that_is_transferred_is_refused(rt: HostRuntime) -> 
         (13, 1),
         (17, 3),
     ];
-    assert_eq!(rt; end.harts[0], halted(0x8000_0018, &granted));
+    end.is(&rt, &notes, halted(0x8000_0018, &granted));
     let transferred = [(2, 0x8000_1020), (11, 4), (12, 2), (17, 5)];
-    assert_eq!(rt; end.harts[1], halted(0x8000_0034, &transferred));
+    assert_eq!(rt; second, halted(0x8000_0034, &transferred));
     Ok(())
 }
 
@@ -319,7 +343,7 @@ fn a_waiting_grant_of_a_word_that_is_transferred_is_refused(rt: HostRuntime) -> 
 fn a_transferred_word_changes_its_owner(rt: HostRuntime) -> Result<(), Fail> {
     let end = granted_and_transferred(rt.alloc())?;
     assert_eq!(rt;
-        end.owners,
+        end.owners(),
         [(0, 1), (14, 0), (1024, 2), (1025, 1), (1032, 0), (2048, 2)]
     );
     Ok(())
@@ -353,9 +377,8 @@ fn a_call_into_a_dead_module_is_sent_back(rt: HostRuntime) -> Result<(), Fail> {
         fault(4, 0, 2, 0x8000_1000, 3, 0x8000_1000),
         fault(7, 0, 1, 0x8000_000C, 3, 0x8000_000C),
     ];
-    assert_eq!(rt; end.notes.as_slice(), notes.as_slice());
     let values = [(1, 0x8000_000C), (5, 0x8000_1000), (10, 0xFFFF_FF14)];
-    assert_eq!(rt; end.harts[0], halted(0x8000_000C, &values));
+    end.is(&rt, &notes, halted(0x8000_000C, &values));
     assert_eq!(rt; (dead, kept), (Some(true), Some(Perm::ExecuteRead)));
     Ok(())
 }
@@ -377,8 +400,7 @@ fn a_second_hart_in_a_dead_domain_faults(rt: HostRuntime) -> Result<(), Fail> {
         fault(1, 0, 1, 0x8000_0000, 3, 0x8000_0000),
         fault(2, 1, 1, 0x8000_0000, 20, 0x8000_0000),
     ];
-    assert_eq!(rt; end.notes.as_slice(), notes.as_slice());
-    assert_eq!(rt; end.is_halted, true);
+    assert_eq!(rt; end.is_halted(&rt, &notes), true);
     Ok(())
 }
 
@@ -395,19 +417,19 @@ fn hi_stands_on_the_console(rt: HostRuntime) -> Result<(), Fail> {
         0x000A_6968,
     ];
     let end = alone(rt.alloc(), &words, 9)?;
-    assert_eq!(rt; end.console.as_slice(), b"hi\n".as_slice());
+    let got = end.counts;
     let exit = Note::Exit {
         step: 7,
         hart: 0,
         domain: 1,
         code: 3,
     };
-    assert_eq!(rt; end.notes.as_slice(), [exit].as_slice());
+    end.shows(&rt, b"hi\n", &[exit]);
     let counts = Counts {
         sidecar: 6,
         lookaside: 1,
         walks: 1,
     };
-    assert_eq!(rt; end.counts, Some(counts));
+    assert_eq!(rt; got, Some(counts));
     Ok(())
 }

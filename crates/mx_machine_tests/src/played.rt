@@ -28,6 +28,26 @@ impl Played {
     /// Lets the machine go. A value that goes out of scope does the same; this keeps the drop out of the caller's proof.
     pub fn end(self) {}
 
+    /// The machine, where all went well; else it is let go.
+    pub fn after(self, done: Result<(), Fail>) -> Result<Played, Fail> {
+        match done {
+            Ok(()) => Ok(self),
+            Err(fail) => {
+                self.end();
+                Err(fail)
+            }
+        }
+    }
+
+    /// Makes a turn of each of these harts.
+    pub fn turns_of(&mut self, harts: &[u32]) -> Result<(), Fail> {
+        let mut out = Events::new();
+        for hart in harts {
+            self.turn(*hart, &mut out)?;
+        }
+        Ok(())
+    }
+
     /// Makes a turn, and keeps what it tells.
     pub fn turn(&mut self, hart: u32, out: &mut Events) -> Result<(), Fail> {
         turn(&mut self.machine, hart, out);
@@ -70,9 +90,12 @@ pub fn play(
         notes: Vec::new(alloc),
         console: Vec::new(alloc),
     };
-    played.turns(turns)?;
-    Ok(played)
+    let done = played.turns(turns);
+    played.after(done)
 }
+
+/// Lets a machine go, out of the caller's proof as well.
+pub fn let_go(_machine: Small) {}
 
 /// The owner of a word, and the word after those round it that have its owner, where there is the word.
 pub fn run_from(machine: &Small, word: u32) -> Option<(u32, u32)> {

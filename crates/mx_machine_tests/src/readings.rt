@@ -367,7 +367,9 @@ fn kill(machine: &mut Small) -> Killing {
 /// Makes the turn of a machine inside a call in which its second module faults.
 fn kill_inside_a_call(alloc: Global) -> Result<Killing, Fail> {
     let mut played = inside_a_call(alloc)?;
-    Ok(kill(&mut played.machine))
+    let killing = kill(&mut played.machine);
+    played.end();
+    Ok(killing)
 }
 
 #[test]
@@ -404,7 +406,9 @@ fn blocks_after_an_alloc(
         ..code(0, &[0x0030_0513, 0x0060_0893, 0x0000_0073, 0x0010_0073])
     };
     let played = play(alloc, &[module], &[], &[start(1, 0x8000_0000)], 4)?;
-    Ok(blocks(&played.machine))
+    let blocks = blocks(&played.machine);
+    played.end();
+    Ok(blocks)
 }
 
 #[test]

@@ -1,6 +1,6 @@
 //! Who has heard a waiting call, and a machine that goes on beside one that was not stopped.
 
-use crate::played::{Played, code, hart, heard, perm, play, start, turn};
+use crate::played::{Played, code, hart, heard, let_go, perm, play, start, turn};
 use crate::small::{Left, Module, Small, resumed};
 use mx_machine::{HartStatus, StackArea};
 use mx_model::Events;
@@ -50,11 +50,8 @@ fn stopped(alloc: Global, modules: &[Module]) -> Result<Played, Fail> {
         start(1, 0x8000_001C),
     ];
     let mut played = play(alloc, modules, &[], &starts, 0)?;
-    let mut out = Events::new();
-    for number in [1, 2, 2, 0, 0, 0, 0, 0, 2, 0] {
-        played.turn(number, &mut out)?;
-    }
-    Ok(played)
+    let done = played.turns_of(&[1, 2, 2, 0, 0, 0, 0, 0, 2, 0]);
+    played.after(done)
 }
 
 /// The status of a hart, where there is one.
@@ -112,7 +109,9 @@ fn hear(machine: &mut Small) -> [Option<bool>; 3] {
 fn hear_a_call(alloc: Global) -> Result<[Option<bool>; 3], Fail> {
     let modules = granting();
     let mut played = stopped(alloc, &modules)?;
-    Ok(hear(&mut played.machine))
+    let told = hear(&mut played.machine);
+    played.end();
+    Ok(told)
 }
 
 #[test]
@@ -153,7 +152,11 @@ fn go_on(one: &mut Small, other: &mut Small) -> GoneOn {
 /// A machine as it was left, gone on beside the one that was not.
 fn resume_beside(alloc: Global, modules: &[Module], one: &mut Small) -> Option<GoneOn> {
     match again(alloc, modules, one) {
-        Some(mut other) => Some(go_on(one, &mut other)),
+        Some(mut other) => {
+            let gone = go_on(one, &mut other);
+            let_go(other);
+            Some(gone)
+        }
         None => None,
     }
 }
@@ -162,7 +165,9 @@ fn resume_beside(alloc: Global, modules: &[Module], one: &mut Small) -> Option<G
 fn leave_and_go_on(alloc: Global) -> Result<Option<GoneOn>, Fail> {
     let modules = granting();
     let mut played = stopped(alloc, &modules)?;
-    Ok(resume_beside(alloc, &modules, &mut played.machine))
+    let gone = resume_beside(alloc, &modules, &mut played.machine);
+    played.end();
+    Ok(gone)
 }
 
 #[test]

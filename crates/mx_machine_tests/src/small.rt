@@ -282,10 +282,10 @@ pub fn machine(
     if count == 0 || count > 63 || harts == 0 || harts > 4 {
         return None;
     }
-    let layout = lay_out(alloc, modules, harts as u32)?;
-    let tables = tables_of::<Trie<Packed>>(alloc, &layout)?;
     let gates = gates_of(gates, count as u32)?;
     let starts = starts_of(starts, count as u32)?;
+    let layout = lay_out(alloc, modules, harts as u32)?;
+    let tables = tables_of::<Trie<Packed>>(alloc, &layout)?;
     let supervisor = Supervisor::new(
         Checker::new(tables, harts as u32),
         layout.ram,
