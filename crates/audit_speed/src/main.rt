@@ -8,7 +8,7 @@ mod machines;
 
 use machines::{wide, worst};
 use mx_audit::{Audit, audit};
-use mx_boot::AnyMachine;
+use mx_any::AnyMachine;
 use std::alloc::Global;
 use std::time::CpuClock;
 use std::{env, io};

@@ -2,7 +2,7 @@
 
 ghost use Rattle.std.specs.Prelude.{◌≡◌, ◌↔◌, ℕ, List, IsTrue, IfOk};
 ghost use Rattle.mx_model.specs.Reads.{flat_reads};
-ghost use Rattle.mx_boot.specs.Machines.{meaning};
+ghost use Rattle.mx_any.specs.Machines.{meaning};
 ghost use Rattle.mx_audit.specs.Lines.{audit_text, found_text};
 ghost use Rattle.mx_audit.specs.Live.{IsLive};
 ghost use Rattle.mx_audit.specs.Marks.{is_marked};
@@ -11,7 +11,7 @@ ghost use Rattle.mx_audit.specs.SealedRuns.{AreInRam, sealed_runs};
 use crate::audited::Audit;
 use crate::living::live_domains;
 use crate::sealing::sealed_runs;
-use mx_boot::{AnyMachine, any_machine_is_valid};
+use mx_any::{AnyMachine, any_machine_is_valid};
 use mx_words::NoMemory;
 use std::alloc::Global;
 

@@ -4,10 +4,10 @@ ghost use Rattle.std.specs.Bool.{OnFalse, OnTrue};
 ghost use Rattle.std.specs.Prelude.{◌≡◌, ◌<◌, true, length, slice_set};
 ghost use Rattle.mx_words.specs.Limits.{most_domains};
 ghost use Rattle.mx_model.specs.State.{hart_at};
-ghost use Rattle.mx_boot.specs.Machines.{meaning};
+ghost use Rattle.mx_any.specs.Machines.{meaning};
 ghost use Rattle.mx_audit.specs.Marks.{KeepMarks, MarkHart, MarkHarts, MarkLive, MarkOnlyLive, MarkTargets, is_marked, unmarked};
 
-use mx_boot::{AnyMachine, any_machine_is_valid};
+use mx_any::{AnyMachine, any_machine_is_valid};
 use mx_words::MOST_DOMAINS;
 
 /// Marks the live domains: those of the harts and of the callers of their frames, and then targets of gates until a pass over the gates

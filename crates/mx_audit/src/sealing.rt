@@ -2,13 +2,13 @@
 
 ghost use Rattle.std.specs.Prelude.{◌≡◌, ◌≤◌, ◌^◌, ◌++◌, length, OnOk, IfOk};
 ghost use Rattle.mx_model.specs.Reads.{flat_reads};
-ghost use Rattle.mx_boot.specs.Machines.{meaning};
+ghost use Rattle.mx_any.specs.Machines.{meaning};
 ghost use Rattle.mx_audit.specs.Marks.{MarkLive};
 ghost use Rattle.mx_audit.specs.SealedRuns.{sealed_runs};
 ghost use Rattle.mx_audit.specs.Stretches.{run_between};
 
 use crate::stretch::{Stretch, stretch_at};
-use mx_boot::{AnyMachine, any_machine_is_valid};
+use mx_any::{AnyMachine, any_machine_is_valid};
 use mx_words::{MOST_DOMAINS, NoMemory, Perm, Span, Spans};
 use std::alloc::Global;
 

@@ -2,12 +2,12 @@
 
 ghost use Rattle.std.specs.Prelude.{◌≡◌, ◌<◌, ◌||◌, min, nat_lt, length, IsTrue};
 ghost use Rattle.mx_model.specs.Valid.{IsModule};
-ghost use Rattle.mx_boot.specs.Machines.{meaning};
+ghost use Rattle.mx_any.specs.Machines.{meaning};
 ghost use Rattle.mx_audit.specs.Marks.{is_marked};
 ghost use Rattle.mx_audit.specs.Stretches.{AllTell, Tells, is_exposed, exposes};
 
 use crate::living::is_marked;
-use mx_boot::{AnyMachine, any_machine_is_valid};
+use mx_any::{AnyMachine, any_machine_is_valid};
 use mx_words::{MOST_DOMAINS, Perm};
 
 /// What is known of words up to one.

@@ -12,7 +12,7 @@ use Rattle.mx_words.proofs.OptionLaws.{neither, row_none}
 use Rattle.mx_boot.specs.declared.area.Area.{Area}
 use Rattle.mx_boot.specs.Entries.{word_at}
 use Rattle.mx_boot.specs.Faults.{is_in_ram, shares_word, area_rows, areas_rows}
-use Rattle.mx_boot.proofs.Lists.{all_at, find_none}
+use Rattle.mx_model.proofs.EachLaws.{all_at, find_none}
 use Rattle.mx_model.proofs.JoinLaws.{all-weaker}
 
 none_from : {A : Type 0} (o : Option A) → is_some o ≡ false → o ≡ None

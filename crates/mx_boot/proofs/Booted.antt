@@ -12,7 +12,7 @@ use Rattle.mx_words.specs.Newest.{owners}
 use Rattle.mx_words.specs.Newest.{map as map_of}
 use Rattle.mx_words.proofs.OverlayLaws.{length-map_of, length-owners, owners-at}
 use Rattle.mx_model.specs.Reads.{reads}
-use Rattle.mx_model.specs.State.{Core, Hart, State, flat, hart_at, no_hart}
+use Rattle.mx_model.specs.State.{Core, Hart, State, flat, hart_at, map_need, no_hart}
 use Rattle.mx_model.specs.Valid.{IsCache, IsFlat, IsHart, IsValid}
 use Rattle.mx_model.proofs.ValidCaches.{cache-none}
 use Rattle.mx_laws.specs.OwnHeaps.{OwnHeaps}
@@ -20,7 +20,7 @@ use Rattle.mx_manifest.specs.declared.fault.BootFault.{BootFault}
 use Rattle.mx_manifest.specs.InRange.{IsInRange}
 use Rattle.mx_manifest.specs.Plan.{Said}
 use Rattle.mx_boot.specs.Areas.{homes, areas}
-use Rattle.mx_boot.specs.Boot.{Refusal, TooFull, boot_need, boot_state, boot_of, grants_of, hart_at_boot, limited, module_of, unless}
+use Rattle.mx_boot.specs.Boot.{Refusal, TooFull, boot_state, boot_of, grants_of, hart_at_boot, limited, module_of, unless}
 use Rattle.mx_boot.specs.Entries.{requests}
 use Rattle.mx_boot.specs.Faults.{harts_rows, ram_words, first_fault}
 use Rattle.mx_boot.specs.Images.{AreImages}
@@ -31,7 +31,7 @@ use Rattle.mx_boot.proofs.Gated as gated
 use Rattle.mx_boot.proofs.Harted.{hart_valid}
 use Rattle.mx_boot.proofs.Homes.{length-homes}
 use Rattle.mx_boot.proofs.Housed.{Inside, few_gives_all, modules_valid, owners_small}
-use Rattle.mx_boot.proofs.Lists.{all_each, all_mapped, there}
+use Rattle.mx_model.proofs.EachLaws.{all_each, all_mapped, there}
 use Rattle.mx_boot.proofs.OwnHeaps.{heaps_own}
 use Rattle.mx_boot.proofs.RamBytes.{length-boot_ram, small-boot_ram}
 use Rattle.mx_boot.proofs.Rows.{at_counted, at_mapped}
@@ -43,7 +43,7 @@ ok_limited s t x r e = grind arith
 
 ok_unless : (s t : State) (o : Option BootFault) → unless o (limited t) ≡ Ok s → (o ≡ None) × (t ≡ s)
 ok_unless s t (Some fault) e = absurd cc
-ok_unless s t None e = (refl, ok_limited s t (within (boot_need t) t.core.limit) (TooFull (boot_need t) t.core.limit) e)
+ok_unless s t None e = (refl, ok_limited s t (within (map_need t) t.core.limit) (TooFull (map_need t) t.core.limit) e)
 
 pub booted : (plan : Said) (images : List (List ℕ)) (s : State) → boot_of plan images ≡ Ok s → (first_fault plan images ≡ None) × (boot_state plan images ≡ s)
 unfolding boot_of

@@ -12,7 +12,7 @@ use Rattle.mx_boot.specs.Entries.{word_at}
 use Rattle.mx_boot.specs.Faults.{is_in_ram, holds_entry, is_entry, entry_rows}
 use Rattle.mx_words.proofs.OptionLaws.{row_none}
 use Rattle.mx_boot.proofs.Apart.{in_ram}
-use Rattle.mx_boot.proofs.Lists.{all_at, any_some}
+use Rattle.mx_model.proofs.EachLaws.{all_at, any_some}
 
 -- an aligned address in RAM
 pub record IsInside (words address : ℕ) : Type 0 where

@@ -12,7 +12,7 @@ use Rattle.mx_words.proofs.BrokenLaws.{count_one_more}
 use Rattle.mx_words.proofs.CountingLaws.{count_below_none}
 use Rattle.mx_words.proofs.OverlayLaws.{length-owners, owners-at}
 use Rattle.mx_words.proofs.RunLaws.{owner_runs-count}
-use Rattle.mx_boot.proofs.Lists.{length-flat_at_most, all_each}
+use Rattle.mx_model.proofs.EachLaws.{length-flat_at_most, all_each}
 
 -- counting
 bit-le-bit : (a b : Bool) → (a ≡ true → b ≡ true) → bit a ≤ bit b

@@ -7,23 +7,23 @@ use Rattle.mx_words.specs.declared.tables.Kind.{Kind}
 use Rattle.mx_words.specs.declared.tables.Need.{Need}
 use Rattle.mx_words.specs.Need.{need, within}
 use Rattle.mx_words.specs.Newest.{map as map_of}
-use Rattle.mx_model.specs.State.{flat}
+use Rattle.mx_model.specs.State.{flat, map_need}
 use Rattle.mx_table.specs.Tables.{row_map}
 use Rattle.mx_manifest.specs.declared.fault.BootFault.{BootFault}
 use Rattle.mx_manifest.specs.Plan.{Said}
 use Rattle.mx_boot.specs.Areas.{homes}
-use Rattle.mx_boot.specs.Boot.{Faulty, TooFull, boot_need, boot_of, boot_state, grants_of, limit_of, limited, unless}
+use Rattle.mx_boot.specs.Boot.{Faulty, TooFull, boot_of, boot_state, grants_of, limit_of, limited, unless}
 use Rattle.mx_boot.specs.Faults.{first_fault, ram_words}
 use Rattle.mx_boot.proofs.Homes.{length-homes}
 
 module _ (plan : Said) (images : List (List ℕ)) (none : first_fault plan images ≡ None) where
-  pub boot-fits : within (boot_need (boot_state plan images)) (limit_of plan) ≡ true → boot_of plan images ≡ Ok (boot_state plan images)
+  pub boot-fits : within (map_need (boot_state plan images)) (limit_of plan) ≡ true → boot_of plan images ≡ Ok (boot_state plan images)
   unfolding boot_of
-  boot-fits fit = ap (λ o. unless o (limited (boot_state plan images))) none ∙ ap (λ b. cond b (Ok (boot_state plan images)) (Err (TooFull (boot_need (boot_state plan images)) (limit_of plan)))) fit
+  boot-fits fit = ap (λ o. unless o (limited (boot_state plan images))) none ∙ ap (λ b. cond b (Ok (boot_state plan images)) (Err (TooFull (map_need (boot_state plan images)) (limit_of plan)))) fit
 
-  pub boot-full : within (boot_need (boot_state plan images)) (limit_of plan) ≡ false → boot_of plan images ≡ Err (TooFull (boot_need (boot_state plan images)) (limit_of plan))
+  pub boot-full : within (map_need (boot_state plan images)) (limit_of plan) ≡ false → boot_of plan images ≡ Err (TooFull (map_need (boot_state plan images)) (limit_of plan))
   unfolding boot_of
-  boot-full full = ap (λ o. unless o (limited (boot_state plan images))) none ∙ ap (λ b. cond b (Ok (boot_state plan images)) (Err (TooFull (boot_need (boot_state plan images)) (limit_of plan)))) full
+  boot-full full = ap (λ o. unless o (limited (boot_state plan images))) none ∙ ap (λ b. cond b (Ok (boot_state plan images)) (Err (TooFull (map_need (boot_state plan images)) (limit_of plan)))) full
 
 -- there is a row for each module
 pub length-rows : (plan : Said) (images : List (List ℕ)) (rows : List (List Span)) → map (row_map (ram_words plan)) rows ≡ (flat (boot_state plan images)).maps → length rows ≡ length plan.modules
@@ -34,11 +34,11 @@ length-rows plan images rows same =
 
 -- whether maps fit
 pub fits-are : (plan : Said) (images : List (List ℕ)) (kind : Kind) (limit : Need) (maps : List (List Perm)) → kind ≡ plan.tables → limit ≡ limit_of plan → maps ≡ (flat (boot_state plan images)).maps
-    → within (need kind maps) limit ≡ within (boot_need (boot_state plan images)) (limit_of plan)
+    → within (need kind maps) limit ≡ within (map_need (boot_state plan images)) (limit_of plan)
 fits-are plan images kind limit maps a b c =
-    ap (λ k. within (need k maps) limit) a ∙ ap (λ ms. within (need plan.tables ms) limit) c ∙ ap (within (boot_need (boot_state plan images))) b
+    ap (λ k. within (need k maps) limit) a ∙ ap (λ ms. within (need plan.tables ms) limit) c ∙ ap (within (map_need (boot_state plan images))) b
 
-pub need-is : (plan : Said) (images : List (List ℕ)) (kind : Kind) (maps : List (List Perm)) → kind ≡ plan.tables → maps ≡ (flat (boot_state plan images)).maps → need kind maps ≡ boot_need (boot_state plan images)
+pub need-is : (plan : Said) (images : List (List ℕ)) (kind : Kind) (maps : List (List Perm)) → kind ≡ plan.tables → maps ≡ (flat (boot_state plan images)).maps → need kind maps ≡ map_need (boot_state plan images)
 need-is plan images kind maps a c = ap (λ k. need k maps) a ∙ ap (need plan.tables) c
 
 -- a plan with a fault doesn't boot

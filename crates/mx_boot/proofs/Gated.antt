@@ -26,7 +26,7 @@ use Rattle.mx_boot.specs.Entries.{word_at, request, call_requests, requests_of, 
 use Rattle.mx_boot.specs.Faults.{Fault, is_in_ram, at_module, fault, entry_rows, gate_rows, gates_rows}
 use Rattle.mx_boot.specs.Laid.{gate_of}
 use Rattle.mx_boot.proofs.Entered.{IsEntered, entry_inside, entry_clear}
-use Rattle.mx_boot.proofs.Lists.{all_both, all_each, all_mapped, all_flat, all_numbered, any_none}
+use Rattle.mx_model.proofs.EachLaws.{all_both, all_each, all_mapped, all_flat, all_numbered, any_none}
 use Rattle.mx_machine.proofs.SmallLaws.{from-each}
 use Rattle.mx_model.proofs.JoinLaws.{all-weaker, all-join}
 

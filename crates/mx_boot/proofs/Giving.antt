@@ -1,8 +1,8 @@
 -- Words given one area after another.
-use Rattle.std.proofs.Common.{◌≡◌, ℕ, zero, suc, ◌+◌, ◌<◌, ◌≤◌, List, [], ◌∷◌, ◌++◌, length, get_or, map, take, replicate, refl, ap, ◌∙◌, sym, arith}
-use Rattle.std.specs.List.{flat_map, range_with_len}
+use Rattle.std.proofs.Common.{◌≡◌, ℕ, ◌+◌, ◌<◌, ◌≤◌, List, [], ◌∷◌, ◌++◌, length, get_or, map, take, refl, ap, ◌∙◌, sym, arith}
+use Rattle.std.specs.List.{flat_map}
 use Rattle.std.proofs.lemmas.List.{length-map, map-append, take_more}
-use Rattle.mx_words.specs.Newest.{laid, owner, owners}
+use Rattle.mx_words.specs.Newest.{laid, owners}
 use Rattle.mx_words.specs.Runs.{owner_runs}
 use Rattle.mx_words.proofs.OverlayLaws.{owners-append}
 use Rattle.mx_manifest.specs.Plan.{Said}
@@ -45,11 +45,3 @@ few-owned plan images few =
     let gives = few_gives_all plan images in
     let same : length (flat_map (gives_of (length plan.harts)) (homes plan images)) ≡ length all = ap length (sym (gives-are (length plan.harts) (homes plan images))) ∙ length-map all give in
     omega (arith, gives, same, few)
-
--- nothing is given yet
-none_from : (n words : ℕ) → map (owner []) (range_with_len n words) ≡ replicate words 0
-none_from n zero = refl
-none_from n (suc words) = ap (λ os. 0 ∷ os) (none_from (n + 1) words)
-
-pub none-given : (words : ℕ) → owners [] words ≡ replicate words 0
-none-given words = none_from 0 words

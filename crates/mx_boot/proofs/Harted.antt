@@ -20,7 +20,7 @@ use Rattle.mx_boot.proofs.Apart.{in_ram}
 use Rattle.mx_boot.proofs.Entered.{IsInside, entry_inside, entry_clear}
 use Rattle.mx_boot.proofs.Homes.{hart_domain}
 use Rattle.mx_boot.proofs.Housed.{Inside, home_inside}
-use Rattle.mx_boot.proofs.Lists.{there}
+use Rattle.mx_model.proofs.EachLaws.{there}
 use Rattle.mx_boot.proofs.Rows.{at_numbered}
 use Rattle.mx_model.proofs.JoinLaws.{all-second}
 

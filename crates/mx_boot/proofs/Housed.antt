@@ -24,7 +24,7 @@ use Rattle.mx_boot.specs.Entries.{word_at}
 use Rattle.mx_boot.specs.Faults.{is_in_ram}
 use Rattle.mx_boot.proofs.Apart.{in_ram, end_is}
 use Rattle.mx_boot.proofs.Homes.{home_is, length-homes}
-use Rattle.mx_boot.proofs.Lists.{all_at, all_parts, all_flat, all_mapped, all_numbered, all_each, length-flat_at_most}
+use Rattle.mx_model.proofs.EachLaws.{all_at, all_parts, all_flat, all_mapped, all_numbered, all_each, length-flat_at_most}
 use Rattle.mx_machine.proofs.SmallLaws.{from-each}
 use Rattle.mx_model.proofs.JoinLaws.{all-weaker, all-join, all-first, all-second}
 

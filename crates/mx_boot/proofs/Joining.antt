@@ -33,7 +33,7 @@ use Rattle.mx_boot.proofs.Booted.{IsFaultless, faultless}
 use Rattle.mx_boot.proofs.Gated.{few_gates, gates_valid, requests_asked, single_gates}
 use Rattle.mx_boot.proofs.Homes.{length-homes}
 use Rattle.mx_boot.proofs.Housed.{Inside, modules_valid}
-use Rattle.mx_boot.proofs.Lists.{all_at, all_unmapped, there}
+use Rattle.mx_model.proofs.EachLaws.{all_at, all_unmapped, there}
 use Rattle.mx_boot.proofs.RamBytes.{length-boot_ram}
 use Rattle.mx_boot.proofs.Rows.{at_mapped}
 

@@ -12,7 +12,6 @@ pub mod Harted
 pub mod Homes
 pub mod Housed
 pub mod Joining
-pub mod Lists
 pub mod Nearest
 pub mod OwnHeaps
 pub mod Owning
@@ -24,7 +23,5 @@ pub mod Rowing
 pub mod Rows
 pub mod Started
 pub mod Starting
-pub mod Stepped
 pub mod Steps
 pub mod Ready
-pub mod StandingLaws

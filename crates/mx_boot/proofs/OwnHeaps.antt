@@ -22,7 +22,7 @@ use Rattle.mx_boot.specs.Faults.{is_in_ram, shares_word}
 use Rattle.mx_boot.proofs.Apart.{AreClear, IsInRam, all_inside, apart_at, both_cover, end_is, in_ram}
 use Rattle.mx_boot.proofs.Homes.{home_is}
 use Rattle.mx_boot.proofs.Housed.{Inside, home_inside}
-use Rattle.mx_boot.proofs.Lists.{all_both, all_mapped, all_flat, all_parts, all_at, any_flat, there}
+use Rattle.mx_model.proofs.EachLaws.{all_both, all_mapped, all_flat, all_parts, all_at, any_flat, there}
 use Rattle.mx_boot.proofs.Owning.{is_over, newest_is}
 use Rattle.mx_boot.proofs.Rows.{at_mapped}
 use Rattle.mx_model.proofs.JoinLaws.{all-weaker, all-join, all-first, all-second}

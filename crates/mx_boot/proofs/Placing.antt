@@ -20,7 +20,7 @@ use Rattle.mx_boot.proofs.Apart.{AreClear, all_inside, apart_at, in_ram}
 use Rattle.mx_boot.proofs.Booted.{faultless}
 use Rattle.mx_boot.proofs.Homes.{home_is}
 use Rattle.mx_boot.proofs.Housed.{has_words}
-use Rattle.mx_boot.proofs.Lists.{all_at, all_both, all_flat, all_mapped, all_numbered, all_parts, all_unmapped}
+use Rattle.mx_model.proofs.EachLaws.{all_at, all_both, all_flat, all_mapped, all_numbered, all_parts, all_unmapped}
 use Rattle.mx_machine.proofs.SmallLaws.{from-each}
 use Rattle.mx_model.proofs.JoinLaws.{all-weaker, all-join, all-first, all-second}
 

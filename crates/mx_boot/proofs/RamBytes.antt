@@ -9,7 +9,7 @@ use Rattle.mx_boot.specs.Areas.{Home, home, homes, Content, contents, has_image,
 use Rattle.mx_boot.specs.Boot.{with_content, boot_ram}
 use Rattle.mx_boot.specs.Faults.{ram_words}
 use Rattle.mx_boot.specs.Images.{AreImages}
-use Rattle.mx_boot.proofs.Lists.{all_each, all_mapped, all_flat, all_numbered}
+use Rattle.mx_model.proofs.EachLaws.{all_each, all_mapped, all_flat, all_numbered}
 use Rattle.mx_model.proofs.JoinLaws.{all-weaker}
 
 abbrev pub IsByte : ℕ → Type 0

@@ -17,7 +17,7 @@ use Rattle.mx_boot.specs.Entries.{word_at}
 use Rattle.mx_boot.specs.Faults.{shares_word}
 use Rattle.mx_boot.specs.Placed.{ArePlaced, IsApart, IsPlaced, next_area}
 use Rattle.mx_boot.proofs.Apart.{both_cover, end_is, in_ram}
-use Rattle.mx_boot.proofs.Lists.{all_both, all_mapped}
+use Rattle.mx_model.proofs.EachLaws.{all_both, all_mapped}
 use Rattle.mx_boot.proofs.Nearest.{next-is, next-from, next-least, next-none}
 use Rattle.mx_boot.proofs.Owning.{is_over, newest_is}
 use Rattle.mx_boot.proofs.Rows.{at_mapped}

@@ -36,7 +36,7 @@ use Rattle.mx_boot.proofs.Harted.{hart_valid}
 use Rattle.mx_boot.proofs.Homes.{hart_domain}
 use Rattle.mx_boot.proofs.Housed.{Inside, has_words, home_inside, modules_valid}
 use Rattle.mx_boot.proofs.Joining.{length-maps}
-use Rattle.mx_boot.proofs.Lists.{all_mapped, all_at, there}
+use Rattle.mx_model.proofs.EachLaws.{all_mapped, all_at, there}
 use Rattle.mx_boot.proofs.Rows.{at_mapped}
 use Rattle.mx_model.proofs.JoinLaws.{all-second}
 

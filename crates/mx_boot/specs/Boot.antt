@@ -6,10 +6,10 @@ use Rattle.std.specs.Option.{option_map_or}
 use Rattle.mx_words.specs.declared.tables.Need.{Need}
 use Rattle.mx_words.specs.Caches.{no_cache}
 use Rattle.mx_words.specs.FirstFit.{Area}
-use Rattle.mx_words.specs.Need.{need, within}
+use Rattle.mx_words.specs.Need.{within}
 use Rattle.mx_words.specs.Newest.{Grant, Give}
 use Rattle.mx_words.specs.Ranges.{ram_base}
-use Rattle.mx_model.specs.State.{Hart, Module, Stack, State, Running, flat}
+use Rattle.mx_model.specs.State.{Hart, Module, Stack, State, Running, map_need}
 use Rattle.mx_manifest.specs.declared.fault.BootFault.{BootFault}
 use Rattle.mx_manifest.specs.declared.parts.HartPlan.{HartPlan}
 use Rattle.mx_manifest.specs.declared.parts.ModulePlan.{ModulePlan}
@@ -118,14 +118,10 @@ pub data Refusal : Type 0 where
   Faulty : (fault : BootFault) → Refusal
   TooFull : (needed limit : Need) → Refusal
 
--- what the tables of the state's maps need
-abbrev pub boot_need : State → Need
-boot_need s = need s.core.kind (flat s).maps
-
 -- a state whose maps fit its limit
 abbrev pub limited : State → Result State Refusal
 limited s =
-    if within (boot_need s) s.core.limit then Ok s else Err (TooFull (boot_need s) s.core.limit)
+    if within (map_need s) s.core.limit then Ok s else Err (TooFull (map_need s) s.core.limit)
 
 abbrev pub unless : Option BootFault → Result State Refusal → Result State Refusal
 unless (Some fault) boot = Err (Faulty fault)

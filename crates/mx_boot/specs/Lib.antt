@@ -6,7 +6,6 @@ pub mod Faults
 pub mod Images
 pub mod Joined
 pub mod Laid
-pub mod Machines
 pub mod Placed
 pub mod Seen
 pub mod Starting

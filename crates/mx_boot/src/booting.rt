@@ -2,14 +2,14 @@
 
 ghost use Rattle.std.specs.Prelude.{◌≡◌};
 ghost use Rattle.mx_boot.specs.Laid.{IsLayout};
-ghost use Rattle.mx_boot.specs.Machines.{IsBooted};
+ghost use Rattle.mx_boot.specs.Booted.{IsBooted};
 
-use crate::any::AnyMachine;
 use crate::images::Images;
 use crate::joined::join;
 use crate::layout::{Layout, lay_out_files};
 use crate::machine::machine_of;
 use crate::refused::{BootRefused, LayoutRefused};
+use mx_any::AnyMachine;
 use mx_manifest::Plan;
 use mx_packed::Packed;
 use mx_segments::Segments;

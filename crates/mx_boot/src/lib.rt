@@ -1,7 +1,6 @@
 //! The loader: what a plan and its images give at boot, or the first of the faults 10 to 17.
 #![tactic(auto)]
 
-mod any;
 mod area;
 mod areas;
 mod booting;
@@ -20,13 +19,12 @@ mod named;
 mod owners;
 mod ram;
 mod refused;
-mod standing;
 mod starts;
 mod tables;
 
-pub use any::{AnyMachine, any_harts_are_current, any_machine_is_valid};
 pub use area::Area;
 pub use booting::boot;
 pub use laws::boots_are_valid;
 pub use layout::{Layout, lay_out};
+pub use mx_any::AnyMachine;
 pub use refused::{BootRefused, LayoutRefused};

@@ -7,7 +7,7 @@ use Rattle.mx_manifest.specs.Plan.{Said}
 use Rattle.mx_model.specs.State.{State, flat}
 use Rattle.mx_boot.specs.Boot.{hart_at_boot, module_of, boot_state, boot_of}
 use Rattle.mx_snapshot.specs.Kept.{IsOfPlan, kept_of}
-use Rattle.mx_snapshot.proofs.PlanLaws.{boots, boots_of_plan}
+use Rattle.mx_commands.proofs.PlanLaws.{boots, boots_of_plan}
 use Rattle.mx_turns.specs.Running.{IsNew}
 use Rattle.mx_commands.specs.Booting.{IsOfSize}
 

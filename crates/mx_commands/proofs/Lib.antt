@@ -17,3 +17,4 @@ pub mod Shapes
 pub mod Shortfalls
 pub mod Sizes
 pub mod StepCauses
+mod PlanLaws

@@ -2,7 +2,7 @@
 use Rattle.std.proofs.Common.{◌≡◌, ◌-◌, ◌^◌, ◌≤◌, ℕ, List, Result, Ok, Err, refl, inl}
 use Rattle.mx_io.specs.Sink.{SinkState}
 use Rattle.mx_io.specs.Answer.{Answer}
-use Rattle.mx_boot.specs.Machines.{meaning}
+use Rattle.mx_any.specs.Machines.{meaning}
 use Rattle.mx_snapshot.specs.Kept.{IsOfPlan}
 use Rattle.mx_snapshot.specs.Resumed.{state_of}
 use Rattle.mx_snapshot.specs.Stored.{Stored}

@@ -3,7 +3,7 @@ use Rattle.std.specs.Prelude.{◌≡◌, ℕ, ◌+◌, ◌*◌, length, List, []
 use Rattle.std.specs.declared.alloc.Global.{Global}
 use Rattle.mx_io.specs.Sink.{SinkState}
 use Rattle.mx_io.specs.Answer.{Answer}
-use Rattle.mx_boot.specs.Machines.{meaning}
+use Rattle.mx_any.specs.Machines.{meaning}
 use Rattle.mx_manifest.specs.declared.parts.ModulePlan.{ModulePlan}
 use Rattle.mx_manifest.specs.Plan.{Said}
 use Rattle.mx_model.specs.Run.{Schedule}

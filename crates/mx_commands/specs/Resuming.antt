@@ -2,7 +2,7 @@
 use Rattle.std.specs.Prelude.{◌≡◌, ◌-◌, ◌^◌, ◌≤◌, List, Result, Ok, Err}
 use Rattle.mx_io.specs.Sink.{SinkState}
 use Rattle.mx_io.specs.Answer.{Answer}
-use Rattle.mx_boot.specs.Machines.{meaning}
+use Rattle.mx_any.specs.Machines.{meaning}
 use Rattle.mx_model.specs.State.{State, flat}
 use Rattle.mx_snapshot.specs.Kept.{IsOfPlan}
 use Rattle.mx_resume.specs.declared.resumed.Resumed.{Resumed}

@@ -3,7 +3,7 @@
 ghost use Rattle.std.specs.Prelude.{◌≡◌, map};
 ghost use Rattle.mx_audit.specs.Lines.{audit_text, found_text};
 ghost use Rattle.mx_audit.specs.SealedRuns.{AreInRam};
-ghost use Rattle.mx_boot.specs.Machines.{meaning};
+ghost use Rattle.mx_any.specs.Machines.{meaning};
 ghost use Rattle.mx_io.specs.Sink.{SinkState};
 ghost use Rattle.mx_model.specs.State.{State, flat};
 ghost use Rattle.mx_turns.specs.Ends.{sinks};
@@ -15,8 +15,8 @@ use crate::booting::{Booted, take_boot};
 use crate::running::{keep, names};
 use crate::side::Side;
 use crate::status::Status;
+use mx_any::AnyMachine;
 use mx_audit::{Audit, audit, write_audit};
-use mx_boot::AnyMachine;
 use mx_io::{Failed, Sink, Store};
 use mx_snapshot::Kept;
 use mx_words::NoMemory;

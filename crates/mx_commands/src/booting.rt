@@ -2,7 +2,7 @@
 
 ghost use Rattle.std.specs.Prelude.{Ok};
 ghost use Rattle.mx_boot.specs.Boot.{boot_of};
-ghost use Rattle.mx_boot.specs.Machines.{IsBooted};
+ghost use Rattle.mx_boot.specs.Booted.{IsBooted};
 ghost use Rattle.mx_plan.specs.Manifest.{judged};
 ghost use Rattle.mx_commands.specs.Boots.{Rest, after_boot, planned, booted};
 ghost use Rattle.mx_commands.specs.Booting.{TakesBoot, TakesImage, TakesImages, images_of};
@@ -11,7 +11,8 @@ use crate::refusal::refuse;
 use crate::side::{Side, refused, tables_full};
 use crate::status::Status;
 use crate::wanted::{image_file, manifest_file, take_file};
-use mx_boot::{AnyMachine, BootRefused, boot};
+use mx_any::AnyMachine;
+use mx_boot::{BootRefused, boot};
 use mx_io::{Sink, Store};
 use mx_manifest::{ManifestFault, ModulePlan, Plan};
 use mx_plan::read_plan;

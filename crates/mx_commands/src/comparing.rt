@@ -1,7 +1,7 @@
 //! The command `twin`: two manifests boot, and their machines make the same turns side by side.
 
 ghost use Rattle.std.specs.Prelude.{◌≡◌, ◌<◌, ◌≤◌, ◌^◌, true, false, length, Some, None, IfSome};
-ghost use Rattle.mx_boot.specs.Machines.{meaning};
+ghost use Rattle.mx_any.specs.Machines.{meaning};
 ghost use Rattle.mx_io.specs.Sink.{SinkState};
 ghost use Rattle.mx_model.specs.State.{State, flat};
 ghost use Rattle.mx_model.specs.Valid.{IsModule};
@@ -21,7 +21,7 @@ use crate::order::Pair;
 use crate::refusal::refuse;
 use crate::side::Side;
 use crate::status::Status;
-use mx_boot::AnyMachine;
+use mx_any::AnyMachine;
 use mx_io::{Failed, Sink, Store};
 use mx_manifest::{Key, Plan};
 use mx_twin::{run_twin, twin_line};

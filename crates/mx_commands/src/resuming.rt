@@ -1,7 +1,7 @@
 //! The command `resume`: a snapshot is read, and the run of its machine goes on.
 
 ghost use Rattle.std.specs.Prelude.{◌≡◌, ◌-◌, ◌<◌, ◌≤◌, ◌^◌, length, IfOk, IfErr};
-ghost use Rattle.mx_boot.specs.Machines.{meaning};
+ghost use Rattle.mx_any.specs.Machines.{meaning};
 ghost use Rattle.mx_model.specs.State.{State, flat};
 ghost use Rattle.mx_resume.specs.Snapshot.{IsRefusedBy, IsResumed, snapshot_of};
 ghost use Rattle.mx_snapshot.specs.Kept.{IsOfPlan};

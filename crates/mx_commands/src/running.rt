@@ -2,7 +2,7 @@
 
 ghost use Rattle.std.specs.Prelude.{◌≡◌, ◌+◌, ◌-◌, ◌<◌, ◌^◌, IfOk, map, unwrap_or};
 ghost use Rattle.std.specs.Option.{option_copied};
-ghost use Rattle.mx_boot.specs.Machines.{meaning};
+ghost use Rattle.mx_any.specs.Machines.{meaning};
 ghost use Rattle.mx_model.specs.State.{State, flat};
 ghost use Rattle.mx_snapshot.specs.Kept.{IsOfPlan, kept_of};
 ghost use Rattle.mx_turns.specs.Ends.{Leave, sinks};
@@ -17,7 +17,7 @@ use crate::order::{Order, Way};
 use crate::side::Side;
 use crate::status::Status;
 use crate::wanted::{schedule_file, take_file};
-use mx_boot::AnyMachine;
+use mx_any::AnyMachine;
 use mx_io::{Sink, Store};
 use mx_manifest::Plan;
 use mx_report::Options;

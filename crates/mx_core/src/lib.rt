@@ -14,4 +14,4 @@ pub use laws::instructions_are_turns;
 pub use memo::Memo;
 pub use outcome::Outcome;
 pub use regs::Regs;
-pub use step::{act, act_on, exec};
+pub use step::{act_on, exec};

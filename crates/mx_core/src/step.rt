@@ -62,7 +62,7 @@ pub fn exec<B: Bus>(bus: &mut B, regs: &mut Regs, pc: u32, returns: bool) -> Out
 /// Carries out one instruction, whose word stands at pc, a multiple of 4: rules 3 to 7 of `exec`.
 #[tactic(auto, unfolding(mx_model::specs::Effect::effect, mx_isa::specs::Ranges::IsValid, crate::specs::Exec::outcome_of, crate::specs::Exec::regs_after, crate::specs::Exec::bytes_after, crate::specs::Exec::touches_of))]
 #[inline(always)]
-pub fn act<B: Bus>(bus: &mut B, regs: &mut Regs, pc: u32, returns: bool, inst: Inst) -> Outcome
+fn act<B: Bus>(bus: &mut B, regs: &mut Regs, pc: u32, returns: bool, inst: Inst) -> Outcome
     requires usable { B.usable bus.old }
     requires aligned { pc % 4 ≡ 0 }
     requires valid { IsValid inst }

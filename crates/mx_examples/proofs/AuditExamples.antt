@@ -80,7 +80,7 @@ chain-lines : live_lines (codes "a" ∷ codes "b" ∷ codes "c" ∷ codes "d" �
 unfolding live_lines live_line digits
 chain-lines = refl
 
--- Why each part of «sealed» is asked: without it a word would count as sealed that a run changes. The word of the first two is 2048.
+-- Why each part of "sealed" is asked: without it a word would count as sealed that a run changes. The word of the first two is 2048.
 abbrev word_at : ℕ → State → List ℕ
 word_at w s = take 4 (drop (4 * w) s.core.ram)
 

@@ -1,6 +1,6 @@
 -- Texts put on a sink part by part: what holds between two parts, and what follows at each exit.
 use Rattle.std.proofs.Common.{◌≡◌, ℕ, ◌+◌, ◌<◌, ◌≤◌, List, [], ◌++◌, length, take, drop, refl, sym, ap, ◌∙◌, subst, inl, inr, arith, append_assoc, length-append, Option, None, Some, Result, Ok, Err, flat_map, get_or, add-one}
-use Rattle.std.proofs.lemmas.List.{take-append-drop, append-nil, length-drop, take-append-le, drop_all}
+use Rattle.std.proofs.lemmas.List.{take-append-drop, append-nil, length-drop, take-append-le}
 use Rattle.std.proofs.Math.Seq.{drop-cons, take-append_seam, take-append-add}
 use Rattle.std.specs.Io.KnownBytes.{Appends}
 use Rattle.mx_io.specs.Count.{Rose, Stays}
@@ -59,10 +59,6 @@ pub record Left (before now : SinkState) (text rest : List ℕ) : Type 0 where
 -- nothing was put yet
 pub left_all : (before : SinkState) (text : List ℕ) → Left before before text text
 left_all before text = record { kept = refl; done = []; parts = refl; written = appends_nothing before.written; room = λ _. omega arith }
-
--- by an equal rest
-pub left_same : {before now : SinkState} {text rest other : List ℕ} → rest ≡ other → Left before now text rest → Left before now text other
-left_same {before} {now} {text} e l = subst (λ (bs : List ℕ). Left before now text bs) e l
 
 -- what a prefix of a part is in the whole
 prefix_of_part : (done part rest : List ℕ) (n : ℕ) → n < length part → take (length done + n) (done ++ (part ++ rest)) ≡ done ++ take n part
@@ -144,18 +140,3 @@ left_write {before = before} {rest = rest} {k = k} l more w =
 -- the texts of the items from place i on: that of item i, then those of the items after it
 pub flat_map-drop : {X : Type 0} (f : X → List ℕ) (xs : List X) (i : ℕ) (d : X) → i < length xs → flat_map f (drop i xs) ≡ f (get_or xs i d) ++ flat_map f (drop (i + 1) xs)
 flat_map-drop f xs i d h = rw add-one (ap (flat_map f) (drop-cons xs i d h))
-
--- a loop over items put the text of item i
-pub left_item : {A E X : Type 0} {before now after : SinkState} {text : List ℕ} {a : A} (f : X → List ℕ) (xs : List X) (i : ℕ) (d : X) → i < length xs
-    → Left before now text (flat_map f (drop i xs)) → Puts {E = E} now after (f (get_or xs i d)) (Ok a) → Left before after text (flat_map f (drop (i + 1) xs))
-left_item f xs i d h l p = left_next (rw (flat_map-drop f xs i d h) at l) p
-
--- putting the text of item i failed
-pub left_item_stop : {A E X : Type 0} {before now after : SinkState} {text : List ℕ} {e : E} (f : X → List ℕ) (xs : List X) (i : ℕ) (d : X) → i < length xs
-    → Left before now text (flat_map f (drop i xs)) → Puts {A = A} now after (f (get_or xs i d)) (Err e) → Puts {A = A} before after text (Err e)
-left_item_stop f xs i d h l p = left_stop _ (rw (flat_map-drop f xs i d h) at l) p
-
--- the loop over the items is at its end
-pub left_items : {A E X : Type 0} {before now : SinkState} {text : List ℕ} {a : A} (f : X → List ℕ) (xs : List X) (i : ℕ) → length xs ≤ i
-    → Left before now text (flat_map f (drop i xs)) → Puts {E = E} before now text (Ok a)
-left_items f xs i h l = left_none (rw (drop_all i xs h) at l)

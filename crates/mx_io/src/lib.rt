@@ -20,7 +20,7 @@ pub use dump::{DumpFile, FileSink, Maker, Untold};
 pub use files::Files;
 pub use folder::{Entry, Folder, FolderStore, HostFile, HostFolder, Placed};
 pub use loose::Loose;
-pub use piece::{Piece, hex_digits, hex_number, put_pieces, shown_character};
+pub use piece::{Piece, hex_digits, hex_number, shown_character};
 pub use sink::{Sink, put_all};
 pub use store::Store;
 pub use streams::{StderrSink, StdoutSink};

@@ -1,11 +1,6 @@
-//! Lines put together from pieces of text, without taking memory.
+//! Pieces of text, of which lines are put together.
 ghost use Rattle.std.specs.Prelude.{◌≡◌, ◌<◌};
-ghost use Rattle.mx_io.specs.Sink.{Puts};
-ghost use Rattle.std.specs.Char.{encode_utf8};
-ghost use Rattle.mx_io.specs.Piece.{shown_character, shown_name, hex_digit, hex_digits, hex_number, piece_text, pieces_text};
-
-use crate::{Failed, Sink, put_all};
-use itoa::Buffer;
+ghost use Rattle.mx_io.specs.Piece.{shown_character, hex_digit, hex_digits, hex_number};
 
 /// A part of a line.
 #[derive(Clone, Copy)]
@@ -22,50 +17,6 @@ pub enum Piece<'a> {
     Hex(u32),
     /// Eight lower-case hexadecimal digits.
     Digits(u32),
-}
-
-/// Puts the texts of the pieces on a sink, one after another: all of them or, where a write fails, a prefix.
-pub fn put_pieces<S: Sink>(sink: &mut S, pieces: &[Piece<'_>]) -> Result<(), Failed>
-    ensures { Puts (S.state sink.old) (S.state sink.new) (pieces_text pieces.now) result }
-{
-    for piece in pieces {
-        put_piece(sink, piece)?;
-    }
-    Ok(())
-}
-
-fn put_piece<S: Sink>(sink: &mut S, piece: &Piece<'_>) -> Result<(), Failed>
-    ensures { Puts (S.state sink.old) (S.state sink.new) (piece_text piece.now) result }
-{
-    match *piece {
-        Piece::Text(text) => put_all(sink, text.as_bytes()),
-        Piece::Name(name) => put_name(sink, name),
-        Piece::Number(number) => put_all(sink, Buffer::new().format(number).as_bytes()),
-        Piece::Signed(number) => put_all(sink, Buffer::new().format(number).as_bytes()),
-        Piece::Hex(number) => put_all(sink, &hex_number(number)),
-        Piece::Digits(number) => put_all(sink, &hex_digits(number)),
-    }
-}
-
-fn put_name<S: Sink>(sink: &mut S, name: &str) -> Result<(), Failed>
-    ensures { Puts (S.state sink.old) (S.state sink.new) (shown_name name.now) result }
-{
-    for character in name.chars() {
-        put_character(sink, character)?;
-    }
-    Ok(())
-}
-
-fn put_character<S: Sink>(sink: &mut S, character: char) -> Result<(), Failed>
-    ensures { Puts (S.state sink.old) (S.state sink.new)
-        (encode_utf8 (shown_character character)) result }
-{
-    put_all(
-        sink,
-        shown_character(character)
-            .encode_utf8(&mut [0; 4])
-            .as_bytes(),
-    )
 }
 
 /// A character as a name shows it: `?` in place of a control character.

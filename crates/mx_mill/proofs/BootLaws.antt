@@ -9,7 +9,8 @@ use Rattle.mx_words.specs.Need.{need, within}
 use Rattle.mx_words.specs.Newest.{Grant, map}
 use Rattle.mx_manifest.specs.Plan.{Said}
 use Rattle.mx_boot.specs.Areas.{homes}
-use Rattle.mx_boot.specs.Boot.{boot_need, boot_of, boot_state, grants_of, limit_of}
+use Rattle.mx_model.specs.State.{map_need}
+use Rattle.mx_boot.specs.Boot.{boot_of, boot_state, grants_of, limit_of}
 use Rattle.mx_boot.specs.Entries.{word_at}
 use Rattle.mx_boot.specs.Faults.{first_fault, ram_words}
 use Rattle.mx_mill.specs.declared.draws.Draws.{Draws}
@@ -19,14 +20,14 @@ use Rattle.mx_mill.specs.Words.{base, module_count, words_by}
 use Rattle.mx_mill.proofs.NeedLaws.{few-within, lies_in, single}
 
 -- a plan without a fault whose maps fit boots
-boots : (plan : Said) (images : List (List ℕ)) → first_fault plan images ≡ None → within (boot_need (boot_state plan images)) (limit_of plan) ≡ true → boot_of plan images ≡ Ok (boot_state plan images)
+boots : (plan : Said) (images : List (List ℕ)) → first_fault plan images ≡ None → within (map_need (boot_state plan images)) (limit_of plan) ≡ true → boot_of plan images ≡ Ok (boot_state plan images)
 unfolding boot_of
 boots plan images clear fits = rw (clear, fits) refl
 
 -- packed tables whose maps have one grant each
 singles_fit : (plan : Said) (images : List (List ℕ)) (gs : List Grant) → plan.tables ≡ K.Packed → list_map (grants_of (length plan.harts)) (homes plan images) ≡ list_map single gs
     → ram_words plan ≤ 16777216 → list_all (lies_in (ram_words plan)) gs ≡ true → 3 * length gs ≤ plan.upper → 2 * length gs ≤ plan.leaf → 2 * length gs ≤ plan.spill
-    → within (boot_need (boot_state plan images)) (limit_of plan) ≡ true
+    → within (map_need (boot_state plan images)) (limit_of plan) ≡ true
 singles_fit plan images gs packed singles few inside upper leaf spill =
     ap (λ (kind : Kind). within (need kind (list_map (λ grants. map grants (ram_words plan)) (list_map (grants_of (length plan.harts)) (homes plan images)))) (limit_of plan)) packed
     ∙ ap (λ (grants : List (List Grant)). within (need K.Packed (list_map (λ gs. map gs (ram_words plan)) grants)) (limit_of plan)) singles

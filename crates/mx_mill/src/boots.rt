@@ -3,13 +3,14 @@
 ghost use Rattle.std.specs.Prelude.{◌≡◌, IfOk};
 ghost use Rattle.mx_model.specs.State.{flat};
 ghost use Rattle.mx_boot.specs.Boot.{boot_state};
-ghost use Rattle.mx_boot.specs.Machines.{meaning};
+ghost use Rattle.mx_any.specs.Machines.{meaning};
 ghost use Rattle.mx_mill.specs.Plan.{mill_plan, no_images};
 
 use crate::laws::mills_boot;
 use crate::plan::plan_of_mill;
 use crate::words::MODULES;
-use mx_boot::{AnyMachine, BootRefused, boot};
+use mx_any::AnyMachine;
+use mx_boot::{BootRefused, boot};
 use mx_words::{Blob, NoMemory};
 use std::alloc::Global;
 

@@ -3,14 +3,14 @@
 ghost use Rattle.std.specs.Prelude.{◌≡◌};
 ghost use Rattle.mx_io.specs.Sink.{Puts};
 ghost use Rattle.mx_boot.specs.Boot.{boot_state};
-ghost use Rattle.mx_boot.specs.Machines.{meaning};
+ghost use Rattle.mx_any.specs.Machines.{meaning};
 ghost use Rattle.mx_model.specs.State.{flat};
 ghost use Rattle.mx_mill.specs.Mill.{Tells, lines_after, mill_text};
 ghost use Rattle.mx_mill.specs.Plan.{mill_plan, no_images};
 
 use crate::boots::boot_mill;
 use crate::lines::put_lines;
-use mx_boot::AnyMachine;
+use mx_any::AnyMachine;
 use mx_io::{Failed, Sink};
 use mx_turns::{Schedule, count_turns};
 use std::alloc::Global;

@@ -2,14 +2,14 @@
 
 ghost use Rattle.std.specs.Prelude.{◌≡◌};
 ghost use Rattle.mx_io.specs.Sink.{Puts};
-ghost use Rattle.mx_boot.specs.Machines.{meaning};
+ghost use Rattle.mx_any.specs.Machines.{meaning};
 ghost use Rattle.mx_report.specs.Lines.{end_name};
 ghost use Rattle.mx_tail.specs.Tail.{Passes};
 ghost use Rattle.mx_turns.specs.Runs.{end_of};
 ghost use Rattle.mx_mill.specs.Lines.{count_text, mill_line, mill_lines, sums_line, tally_line, total, totals_line, used_line};
 
 use itoa::Buffer;
-use mx_boot::AnyMachine;
+use mx_any::AnyMachine;
 use mx_io::{Failed, Piece, Sink};
 use mx_report::EndState;
 use mx_tail::{Tail, put_pieces};

@@ -15,6 +15,7 @@ pub mod FlatLaws
 pub mod RunLaws
 pub mod RegisterLaws
 pub mod ListLaws
+pub mod EachLaws
 pub mod JoinLaws
 pub mod SetLaws
 pub mod AlignedLaws

@@ -7,6 +7,7 @@ pub use Rattle.mx_words.specs.Limits.{most_modules}
 use Rattle.mx_words.specs.declared.perm.Perm.{Perm}
 use Rattle.mx_words.specs.declared.tables.Kind.{Kind}
 use Rattle.mx_words.specs.declared.tables.Need.{Need}
+use Rattle.mx_words.specs.Need.{need}
 use Rattle.mx_words.specs.Newest.{Grant, Give, map, owners}
 use Rattle.mx_words.specs.Caches.{Cache, no_cache}
 use Rattle.mx_words.specs.FirstFit.{Area}
@@ -77,6 +78,10 @@ flat s = record {
   maps = list_map (λ grants. map grants s.core.size) s.grants;
   owners = owners s.gives s.core.size;
 }
+
+-- what the tables of a state's maps need
+abbrev pub map_need : State → Need
+map_need s = need s.core.kind (flat s).maps
 
 -- what is read of a module above the last one: it has no areas and is not dead
 abbrev pub no_module : Module

@@ -29,7 +29,7 @@ use Rattle.mx_supervisor.proofs.Joined.{joined-sound}
 use Rattle.mx_machine.specs.declared.starts.HartState.{HartState}
 use Rattle.mx_machine.specs.declared.starts.StackArea.{StackArea}
 use Rattle.mx_machine.specs.Starts.{MayResume, resumed}
-use Rattle.mx_boot.proofs.Lists.{all_mapped}
+use Rattle.mx_model.proofs.EachLaws.{all_mapped}
 use Rattle.mx_manifest.specs.Forms.{is_within}
 use Rattle.mx_snapshot.specs.Fits.{IsHead, IsStored, IsStoredModule}
 use Rattle.mx_snapshot.specs.Resumed.{laid_runs, state_of}

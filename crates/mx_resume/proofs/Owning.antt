@@ -3,8 +3,7 @@ use Rattle.std.proofs.Common.{◌≡◌, ℕ, ◌+◌, ◌<◌, ◌≤◌, ⊎_e
 use Rattle.std.proofs.lemmas.Bool.{cases_lt}
 use Rattle.mx_words.specs.Newest.{Laid, laid, owners}
 use Rattle.mx_words.specs.Runs.{Run, most_owner_runs, owner_runs}
-use Rattle.mx_words.proofs.OverlayLaws.{length-owners, owners-append}
-use Rattle.mx_boot.proofs.Giving.{none-given}
+use Rattle.mx_words.proofs.OverlayLaws.{length-owners, none-given, owners-append}
 use Rattle.mx_snapshot.specs.Fields.{owner_run_in}
 use Rattle.mx_snapshot.specs.Reader.{Took}
 use Rattle.mx_snapshot.specs.Resumed.{laid_runs}

@@ -5,7 +5,7 @@ use Rattle.std.proofs.lemmas.Bool.Decides.{nat_tests}
 use Rattle.mx_words.specs.declared.tables.Kind.{Kind}
 use Rattle.mx_words.specs.declared.tables.Need.{Need}
 use Rattle.mx_model.specs.State.{Flat}
-use Rattle.mx_boot.specs.Machines.{meaning}
+use Rattle.mx_any.specs.Machines.{meaning}
 use Rattle.mx_snapshot.specs.Fields.{ended, fields_in, most_bytes, stored_in}
 use Rattle.mx_snapshot.specs.Fits.{AreBytes, IsStored}
 use Rattle.mx_snapshot.specs.Kept.{IsKept, IsOfPlan, KeptPlan}

@@ -3,9 +3,8 @@
 use Rattle.std.specs.Prelude.{◌≡◌, ℕ, if◌then◌else◌, List, Result, Ok, Err}
 use Rattle.mx_words.specs.declared.tables.Need.{Need}
 use Rattle.mx_words.specs.Need.{within}
-use Rattle.mx_boot.specs.Boot.{boot_need}
-use Rattle.mx_boot.specs.Machines.{meaning}
-use Rattle.mx_model.specs.State.{flat}
+use Rattle.mx_any.specs.Machines.{meaning}
+use Rattle.mx_model.specs.State.{flat, map_need}
 use Rattle.mx_snapshot.specs.Fields.{stored_in}
 use Rattle.mx_snapshot.specs.Reader.{Taken, Took, Fails}
 use Rattle.mx_snapshot.specs.Resumed.{plan_of, state_of}
@@ -21,7 +20,7 @@ pub data Unread : Type 0 where
 
 -- what the tables of the stored maps need
 abbrev pub stored_need : Stored → Need
-stored_need s = boot_need (state_of s)
+stored_need s = map_need (state_of s)
 
 -- what is stored, where its maps fit
 abbrev pub fitting : Stored → Result Stored Unread

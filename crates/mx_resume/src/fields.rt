@@ -1,7 +1,7 @@
 //! All fields of a snapshot, and the machine that they give.
 ghost use Rattle.std.specs.Prelude.{◌≡◌, ℕ, [], ◌*◌, ◌-◌, ◌^◌, ◌≤◌, IfOk, IfErr, Ok};
 ghost use Rattle.mx_words.specs.Ranges.{most_words};
-ghost use Rattle.mx_boot.specs.Machines.{meaning};
+ghost use Rattle.mx_any.specs.Machines.{meaning};
 ghost use Rattle.mx_snapshot.specs.Fields.{fields_in, stored_in};
 ghost use Rattle.mx_snapshot.specs.Fits.{IsStored};
 ghost use Rattle.mx_snapshot.specs.Kept.{IsOfPlan};

@@ -1,6 +1,6 @@
 //! What a snapshot gives back.
 
-use mx_boot::AnyMachine;
+use mx_any::AnyMachine;
 use mx_snapshot::Kept;
 
 /// A machine that goes on where a snapshot left it, and what the snapshot kept of the plan from which it booted.

@@ -7,7 +7,6 @@ pub mod RangeExamples
 pub mod EdgeLaws
 pub mod PlaceLaws
 pub mod ByteLaws
-pub mod PlanLaws
 pub mod CodecParts
 pub mod CodecBack
 pub mod CodecBounds

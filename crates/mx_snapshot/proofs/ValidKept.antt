@@ -8,7 +8,7 @@ use Rattle.std.proofs.lemmas.List.{length-map}
 use Rattle.std.proofs.lemmas.Option.{same_Some}
 use Rattle.std.proofs.lemmas.Slice.Eq.{bytes_eq-Decides}
 use Rattle.mx_model.proofs.JoinLaws.{all-first, all-second}
-use Rattle.mx_boot.proofs.Lists.{all_at, any_none}
+use Rattle.mx_model.proofs.EachLaws.{all_at, any_none}
 use Rattle.mx_manifest.specs.Forms.{is_name_byte}
 use Rattle.mx_manifest.specs.InRange.{IsBetween, IsName}
 use Rattle.mx_snapshot.proofs.ValidLists.{each_holds, each_turned}

@@ -11,7 +11,7 @@ use Rattle.mx_model.specs.declared.values.Gate.{Gate}
 use Rattle.mx_model.specs.Gates.{AreSingle, has_gate, is_at}
 use Rattle.mx_model.proofs.ApartLaws.{at-flipped, single-append}
 use Rattle.mx_model.proofs.JoinLaws.{all-join, all-weaker}
-use Rattle.mx_boot.proofs.Lists.{any_none}
+use Rattle.mx_model.proofs.EachLaws.{any_none}
 use Rattle.mx_snapshot.proofs.ValidRuns.{run_words-cons, run_words-more}
 use Rattle.mx_snapshot.specs.Fits.{EachFits}
 use Rattle.mx_snapshot.specs.Rules.{behind, has_place, is_area, is_next_block, is_other, run_words}

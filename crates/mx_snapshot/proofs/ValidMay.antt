@@ -21,7 +21,7 @@ use Rattle.mx_model.specs.Turn.{call_of}
 use Rattle.mx_model.specs.Valid.{IsFrame, IsGate, IsHart}
 use Rattle.mx_model.proofs.JoinLaws.{all-join, all-weaker}
 use Rattle.mx_model.proofs.ListLaws.{all-at, all-in}
-use Rattle.mx_boot.proofs.Lists.{all_each, all_mapped}
+use Rattle.mx_model.proofs.EachLaws.{all_each, all_mapped}
 use Rattle.mx_table.specs.Tables.{IsDomain}
 use Rattle.mx_supervisor.specs.Heaps.{no_heap}
 use Rattle.mx_supervisor.specs.Parts.{IsSound}

@@ -13,7 +13,7 @@ use Rattle.mx_model.specs.State.{Hart, flat, hart_at}
 use Rattle.mx_model.specs.Valid.{IsFlat, IsGate, IsHart, IsHome, IsValid}
 use Rattle.mx_model.proofs.ListLaws.{all-at}
 use Rattle.mx_model.proofs.ValidCaches.{cache-none}
-use Rattle.mx_boot.proofs.Lists.{all_each, all_mapped}
+use Rattle.mx_model.proofs.EachLaws.{all_each, all_mapped}
 use Rattle.mx_snapshot.proofs.CodecBounds.{small_area, within_range}
 use Rattle.mx_snapshot.proofs.ValidHarts.{hart-at, hart-fits, no_stored}
 use Rattle.mx_snapshot.proofs.ValidLists.{all-covered, area-none, blocks-apart, each_at, each_holds, each_turned, gates-single, words-covered}

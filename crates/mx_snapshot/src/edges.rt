@@ -1,6 +1,6 @@
 //! The maximal runs of permissions and of owners, found from edge to edge.
 ghost use Rattle.std.specs.Prelude.{◌≡◌, ◌<◌, ◌≤◌, ◌==◌, length, flat_map};
-ghost use Rattle.mx_boot.specs.Machines.{meaning};
+ghost use Rattle.mx_any.specs.Machines.{meaning};
 ghost use Rattle.mx_model.specs.Reads.{map_in};
 ghost use Rattle.mx_model.specs.Valid.{IsModule};
 ghost use Rattle.mx_tail.specs.Tail.{Passes};
@@ -11,7 +11,7 @@ ghost use Rattle.mx_snapshot.specs.Spelling.{counted, map_run_bytes, owner_run_b
 ghost use Rattle.mx_snapshot.specs.Stored.{owner_runs_of, perm_runs_of, run_with};
 
 use crate::numbers::put_numbers;
-use mx_boot::{AnyMachine, any_machine_is_valid};
+use mx_any::{AnyMachine, any_machine_is_valid};
 use mx_io::{Failed, Sink};
 use mx_tail::Tail;
 use mx_words::Perm;

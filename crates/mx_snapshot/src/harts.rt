@@ -1,6 +1,6 @@
 //! The gates and the harts of a snapshot.
 ghost use Rattle.std.specs.Prelude.{◌≡◌, ◌<◌, ◌≤◌, length, flat_map};
-ghost use Rattle.mx_boot.specs.Machines.{meaning};
+ghost use Rattle.mx_any.specs.Machines.{meaning};
 ghost use Rattle.mx_machine.specs.Readings.{was_heard};
 ghost use Rattle.mx_model.specs.State.{hart_at};
 ghost use Rattle.mx_tail.specs.Tail.{Passes};
@@ -9,7 +9,7 @@ ghost use Rattle.mx_snapshot.specs.Spelling.{counted, frame_bytes, gate_bytes, h
 ghost use Rattle.mx_snapshot.specs.Stored.{heard_of, stored_hart};
 
 use crate::numbers::{bit, put_numbers, status_number};
-use mx_boot::{AnyMachine, any_machine_is_valid};
+use mx_any::{AnyMachine, any_machine_is_valid};
 use mx_io::{Failed, Sink};
 use mx_machine::HartView;
 use mx_model::{Frame, Gate};

@@ -144,10 +144,3 @@ fn names(alloc: Global, plan: &Plan) -> Result<Vec<Text>, NoMemory>
     }
     Ok(names)
 }
-
-/// A law: what is kept of a plan is as in a manifest.
-pub fn kept_is_in_range(kept: &Kept)
-    ensures { IsKept kept.now }
-{
-    let _ = &kept.quantum;
-}

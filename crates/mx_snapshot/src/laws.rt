@@ -1,12 +1,9 @@
-//! Laws of states that are the same, and of machines and their plans, each the contract of a function that does nothing.
-ghost use Rattle.std.specs.Prelude.{◌≡◌, ℕ, ◌+◌, ◌≤◌, ◌++◌, List, length, Ok};
-ghost use Rattle.mx_boot.specs.Boot.{boot_of};
-ghost use Rattle.mx_manifest.specs.Plan.{Said};
+//! Laws of states that are the same, and of bytes that are read back, each the contract of a function that does nothing.
+ghost use Rattle.std.specs.Prelude.{◌≡◌, ℕ, ◌+◌, ◌≤◌, ◌++◌, List, length};
 ghost use Rattle.mx_model.specs.Run.{Schedule, turn, flat_turn, kind, flat_kind, made_of, flat_made, run};
 ghost use Rattle.mx_model.specs.State.{State, Flat, flat};
 ghost use Rattle.mx_snapshot.specs.Fields.{most_bytes, stored_in};
 ghost use Rattle.mx_snapshot.specs.Fits.{AreBytes, IsStored};
-ghost use Rattle.mx_snapshot.specs.Kept.{IsOfPlan, KeptPlan, kept_of};
 ghost use Rattle.mx_snapshot.specs.Reader.{Took};
 ghost use Rattle.mx_snapshot.specs.Same.{AreSame, TakesUp, silent};
 ghost use Rattle.mx_snapshot.specs.Spelling.{spelling};
@@ -60,14 +57,6 @@ pub fn taken_up_after_a_run()
         (run p (n + m) s).console ≡ (run p n s).console ++ (run p m t).console }
     ensures notes { (p : Schedule) (n m : ℕ) (s t : State) → TakesUp (run p n s) t →
         (run p (n + m) s).notes ≡ (run p n s).notes ++ (run p m t).notes }
-{}
-
-/// A machine at boot is one of its plan, and a turn of any hart leaves a machine one of the plan of which it was before.
-pub fn machines_are_of_their_plan()
-    ensures boot { (plan : Said) (images : List (List ℕ)) (s : State) →
-        boot_of plan images ≡ Ok s → IsOfPlan (kept_of plan) (flat s) }
-    ensures turn { (kept : KeptPlan) (f : Flat) (h : ℕ) → IsOfPlan kept f →
-        IsOfPlan kept (flat_turn f h) }
 {}
 
 /// A snapshot's bytes hold what they are spelled from: of every valid snapshot of at most 1073741824 bytes `stored_in` takes what it

@@ -11,10 +11,10 @@ mod numbers;
 mod resuming;
 mod writing;
 
-pub use kept::{Kept, kept_is_in_range};
+pub use kept::Kept;
 pub use laws::{
-    machines_are_of_their_plan, run_from_silence, same_after_a_run, same_after_a_turn,
-    snapshots_are_read_back, taken_up_after_a_run,
+    run_from_silence, same_after_a_run, same_after_a_turn, snapshots_are_read_back,
+    taken_up_after_a_run,
 };
 pub use resuming::{
     owners_stay_few, resumed_runs, rows_are_maps, saved_states_are_valid,

@@ -1,7 +1,7 @@
 //! The modules of a snapshot.
 ghost use Rattle.std.specs.Prelude.{◌≡◌, ◌≤◌, length, flat_map};
 ghost use Rattle.std.specs.List.{range_with_len};
-ghost use Rattle.mx_boot.specs.Machines.{meaning};
+ghost use Rattle.mx_any.specs.Machines.{meaning};
 ghost use Rattle.mx_heap.specs.HeapState.{area_of};
 ghost use Rattle.mx_model.specs.State.{module_at};
 ghost use Rattle.mx_model.specs.Valid.{IsModule};
@@ -14,7 +14,7 @@ ghost use Rattle.mx_snapshot.specs.Stored.{named_module, stored_module};
 use crate::Kept;
 use crate::edges::put_map;
 use crate::numbers::{bit, put_bytes, put_numbers};
-use mx_boot::{AnyMachine, any_machine_is_valid};
+use mx_any::{AnyMachine, any_machine_is_valid};
 use mx_heap::Block;
 use mx_io::{Failed, Sink};
 use mx_tail::Tail;

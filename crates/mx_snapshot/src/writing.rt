@@ -1,7 +1,7 @@
 //! Snapshots written. No call takes memory.
 ghost use Rattle.std.specs.Prelude.{◌≡◌};
 ghost use Rattle.mx_io.specs.Sink.{Puts};
-ghost use Rattle.mx_boot.specs.Machines.{meaning};
+ghost use Rattle.mx_any.specs.Machines.{meaning};
 ghost use Rattle.mx_tail.specs.Tail.{Passes};
 ghost use Rattle.mx_snapshot.specs.Kept.{IsOfPlan};
 ghost use Rattle.mx_snapshot.specs.Spelling.{front_bytes, head_bytes, sign, spelling};
@@ -12,7 +12,7 @@ use crate::edges::put_owners;
 use crate::harts::{put_gates, put_harts};
 use crate::modules::put_modules;
 use crate::numbers::{kind_number, put_bytes, put_long, put_numbers};
-use mx_boot::{AnyMachine, any_machine_is_valid};
+use mx_any::{AnyMachine, any_machine_is_valid};
 use mx_io::{Failed, Sink, put_all};
 use mx_tail::Tail;
 

@@ -1,6 +1,6 @@
 //! A machine that booted from a manifest and made turns, and its snapshot.
 ghost use Rattle.std.specs.Prelude.{IfSome};
-ghost use Rattle.mx_boot.specs.Machines.{meaning};
+ghost use Rattle.mx_any.specs.Machines.{meaning};
 ghost use Rattle.mx_snapshot.specs.Kept.{IsOfPlan};
 
 use mx_boot::{AnyMachine, boot};

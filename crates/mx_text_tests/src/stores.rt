@@ -3,7 +3,7 @@ ghost use Rattle.std.specs.Prelude.{[], Some};
 
 use mx_io::{
     Bytes, Failed, FileSink, Files, FolderStore, Loose, Maker, Piece, Sink, StderrSink, StdoutSink,
-    Store, put_all, put_pieces,
+    Store, put_all,
 };
 use mx_tail::put_line;
 use std::alloc::Global;
@@ -112,11 +112,11 @@ fn pieces_make_a_line(rt: HostRuntime) -> Result<(), Fail> {
     ];
     let text = b"step=18446744073709551615 code=-7 pc=0x0189abcd 000000ef\n";
     let mut bytes = Bytes::new(rt.alloc(), 100)?;
-    assert_eq!(rt; put_pieces(&mut bytes, &line), Ok(()));
+    assert_eq!(rt; put_line(&mut bytes, &line), Ok(()));
     assert_eq!(rt; bytes.as_slice(), text.as_slice());
 
     let mut short = Bytes::new(rt.alloc(), 10)?;
-    assert_eq!(rt; put_pieces(&mut short, &line), Err(Failed));
+    assert_eq!(rt; put_line(&mut short, &line), Err(Failed));
     assert_eq!(rt; short.as_slice(), &text[..10]);
     Ok(())
 }
@@ -151,10 +151,8 @@ fn control_characters_of_names_are_not_shown(rt: HostRuntime) -> Result<(), Fail
     ];
     for (name, shown) in names {
         let mut bytes = Bytes::new(rt.alloc(), 100)?;
-        put_pieces(&mut bytes, &[Piece::Name(name)])?;
-        assert_eq!(rt; bytes.as_slice(), shown.as_bytes());
         put_line(&mut bytes, &[Piece::Name(name)])?;
-        assert_eq!(rt; &bytes.as_slice()[shown.len()..], shown.as_bytes());
+        assert_eq!(rt; bytes.as_slice(), shown.as_bytes());
     }
     Ok(())
 }

@@ -1,14 +1,14 @@
 //! The turns of a run that writes nothing: what its texts come to is counted. No call takes memory.
 
 ghost use Rattle.std.specs.Prelude.{◌≡◌, ◌+◌, ◌-◌, ◌*◌, ◌<◌, ◌≤◌, ◌^◌, length, count_by, option_to_list};
-ghost use Rattle.mx_boot.specs.Machines.{meaning};
+ghost use Rattle.mx_any.specs.Machines.{meaning};
 ghost use Rattle.mx_model.specs.Run.{run};
 ghost use Rattle.mx_model.specs.State.{State, flat};
 ghost use Rattle.mx_turns.specs.Counting.{IsCounted, is_exit, is_fault};
 ghost use Rattle.mx_turns.specs.Running.{HasTurns, IsNew, schedule_of};
 
 use crate::pace::{Schedule, begin, later, next_hart};
-use mx_boot::AnyMachine;
+use mx_any::AnyMachine;
 use mx_machine::{Machine, machine_is_valid};
 use mx_model::{Events, Note};
 use mx_table::PermTables;

@@ -2,7 +2,7 @@
 
 ghost use Rattle.std.specs.Prelude.{◌≡◌, ◌++◌, length, map};
 ghost use Rattle.mx_io.specs.Sink.{Puts};
-ghost use Rattle.mx_boot.specs.Machines.{meaning};
+ghost use Rattle.mx_any.specs.Machines.{meaning};
 ghost use Rattle.mx_report.specs.Texts.{flat_closing};
 ghost use Rattle.mx_snapshot.specs.Kept.{IsOfPlan};
 ghost use Rattle.mx_turns.specs.Runs.{dumped, end_of};
@@ -10,7 +10,7 @@ ghost use Rattle.mx_turns.specs.Running.{Closes, places};
 
 use crate::fault::SinkFault;
 use crate::task::Dump;
-use mx_boot::AnyMachine;
+use mx_any::AnyMachine;
 use mx_io::{Failed, Sink, put_all};
 use mx_machine::Machine;
 use mx_report::{EndState, Options, Tail, put_closing};

@@ -1,7 +1,7 @@
 //! A run: its turns and its texts.
 
 ghost use Rattle.std.specs.Prelude.{◌≡◌, ◌+◌, ◌-◌, ◌<◌, ◌^◌, map};
-ghost use Rattle.mx_boot.specs.Machines.{meaning};
+ghost use Rattle.mx_any.specs.Machines.{meaning};
 ghost use Rattle.mx_model.specs.State.{State, flat};
 ghost use Rattle.mx_snapshot.specs.Kept.{IsOfPlan};
 ghost use Rattle.mx_turns.specs.Ends.{Leave, sinks};
@@ -11,7 +11,7 @@ use crate::ending::{end_run, put_dump};
 use crate::fault::SinkFault;
 use crate::task::Task;
 use crate::turns::{Telling, make_turns};
-use mx_boot::AnyMachine;
+use mx_any::AnyMachine;
 use mx_io::{Failed, Sink};
 use mx_machine::Machine;
 use mx_report::{Tail, closing_of_a_flat_state};

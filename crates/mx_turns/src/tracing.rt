@@ -3,7 +3,7 @@
 ghost use Rattle.std.specs.Prelude.{◌≡◌, ℕ, ◌+◌, ◌-◌, ◌++◌, ◌<◌, ◌≤◌, ◌^◌, ◌⊎◌, length, IfSome, OnOk};
 ghost use Rattle.mx_isa.specs.Ranges.{IsValid};
 ghost use Rattle.mx_io.specs.Sink.{Puts, SinkState};
-ghost use Rattle.mx_boot.specs.Machines.{meaning};
+ghost use Rattle.mx_any.specs.Machines.{meaning};
 ghost use Rattle.mx_model.specs.Reads.{flat_reads};
 ghost use Rattle.mx_model.specs.Run.{flat_made, flat_turn, run};
 ghost use Rattle.mx_model.specs.State.{State, flat};
@@ -16,7 +16,7 @@ use crate::ending::end_of_any;
 use crate::fault::SinkFault;
 use crate::pace::{Schedule, begin, later, next_hart};
 use crate::turns::{Telling, make_turns};
-use mx_boot::{AnyMachine, any_machine_is_valid};
+use mx_any::{AnyMachine, any_machine_is_valid};
 use mx_io::{Failed, Sink};
 use mx_model::{Events, TurnKind};
 use mx_report::{Tail, put_end};

@@ -2,12 +2,12 @@
 ghost use Rattle.std.specs.Prelude.{◌≡◌, ◌<◌, length};
 ghost use Rattle.mx_heap.specs.HeapState.{area_of};
 ghost use Rattle.mx_model.specs.Reads.{flat_reads};
-ghost use Rattle.mx_boot.specs.Machines.{meaning};
+ghost use Rattle.mx_any.specs.Machines.{meaning};
 ghost use Rattle.mx_touched.specs.Touched.{called_at, stored_at};
 ghost use Rattle.mx_twin.specs.Told.{told};
 
 use crate::reach::{NO_WORDS, Reach, Touched, by_number, range_at, word_at};
-use mx_boot::{AnyMachine, any_machine_is_valid};
+use mx_any::{AnyMachine, any_machine_is_valid};
 use mx_heap::Block;
 use mx_isa::Inst;
 

@@ -2,7 +2,7 @@
 ghost use Rattle.std.specs.Prelude.{◌≡◌, ◌<◌, ◌&&◌, not, length};
 ghost use Rattle.mx_model.specs.Reads.{flat_reads};
 ghost use Rattle.mx_model.specs.Valid.{IsModule};
-ghost use Rattle.mx_boot.specs.Machines.{meaning};
+ghost use Rattle.mx_any.specs.Machines.{meaning};
 ghost use Rattle.mx_touched.specs.Touched.{AreIn};
 ghost use Rattle.mx_touched.specs.Views.{same_death, same_views};
 ghost use Rattle.mx_touched.specs.Pairs.{fails, flat_agrees, flat_same_touched, is_compared};
@@ -13,7 +13,7 @@ use crate::gates::{same_gates, same_targets};
 use crate::harts::{is_compared, same_hart};
 use crate::reach::Touched;
 use crate::words::sees_all;
-use mx_boot::{AnyMachine, any_machine_is_valid};
+use mx_any::{AnyMachine, any_machine_is_valid};
 
 /// Whether a domain is dead in both or in neither.
 fn same_death(a: &AnyMachine, b: &AnyMachine, domain: u32) -> bool

@@ -3,7 +3,7 @@ ghost use Rattle.std.specs.Prelude.{◌≡◌, ◌-◌, ◌<◌, ◌^◌, true, 
 ghost use Rattle.mx_model.specs.declared.values.TurnKind.TheVariants as T;
 ghost use Rattle.mx_model.specs.Run.{flat_kind, flat_turn};
 ghost use Rattle.mx_model.specs.Valid.{IsModule};
-ghost use Rattle.mx_boot.specs.Machines.{meaning};
+ghost use Rattle.mx_any.specs.Machines.{meaning};
 ghost use Rattle.mx_touched.specs.Touched.{AreIn};
 ghost use Rattle.mx_touched.specs.Pairs.{IsRight, Knows, found_known, found_unknown};
 ghost use Rattle.mx_twin.specs.Told.{told};
@@ -13,7 +13,7 @@ use crate::compare::{same_touched, same_views};
 use crate::harts::{any_compared, is_compared, same_hart};
 use crate::pair::step_pair;
 use crate::reach::{Reach, Touched};
-use mx_boot::{AnyMachine, any_machine_is_valid};
+use mx_any::{AnyMachine, any_machine_is_valid};
 use mx_model::{Events, TurnKind};
 use mx_touched::{turns_leave_the_rest, twins_are_found};
 

@@ -5,9 +5,9 @@ ghost use Rattle.mx_laws.specs.Comparison.{same_target};
 ghost use Rattle.mx_model.specs.declared.values.Gate.{Gate as GateOf};
 ghost use Rattle.mx_model.specs.Agreement.{target_at};
 ghost use Rattle.mx_model.specs.Gates.{is_at};
-ghost use Rattle.mx_boot.specs.Machines.{meaning};
+ghost use Rattle.mx_any.specs.Machines.{meaning};
 
-use mx_boot::{AnyMachine, any_machine_is_valid};
+use mx_any::{AnyMachine, any_machine_is_valid};
 use mx_model::Gate;
 
 /// Whether a gate is for a domain at a word.

@@ -1,13 +1,13 @@
 //! Harts of two machines: which are compared for a domain, and whether one is the same in both.
 ghost use Rattle.std.specs.Prelude.{◌≡◌, ◌<◌, length};
 ghost use Rattle.mx_model.specs.State.{hart_at};
-ghost use Rattle.mx_boot.specs.Machines.{meaning};
+ghost use Rattle.mx_any.specs.Machines.{meaning};
 ghost use Rattle.mx_touched.specs.Pairs.{any_compared, is_compared, is_inside};
 ghost use Rattle.mx_touched.specs.Views.{same_hart};
 ghost use Rattle.mx_twin.specs.Turns.{AreAlike};
 
 use crate::same::{same_regs, same_status};
-use mx_boot::AnyMachine;
+use mx_any::AnyMachine;
 use mx_machine::HartStatus;
 
 /// Whether a hart isn't halted and is in a domain.

@@ -5,10 +5,10 @@ ghost use Rattle.mx_model.specs.Agreement.{agree};
 ghost use Rattle.mx_model.specs.Run.{flat_kind, flat_made, flat_turn};
 ghost use Rattle.mx_model.specs.State.{State, flat};
 ghost use Rattle.mx_laws.specs.Twins.{IsRunning};
-ghost use Rattle.mx_boot.specs.Machines.{meaning};
+ghost use Rattle.mx_any.specs.Machines.{meaning};
 ghost use Rattle.mx_twin.specs.Turns.{AreAlike, AreTwinTurns};
 
-use mx_boot::{AnyMachine, any_machine_is_valid};
+use mx_any::{AnyMachine, any_machine_is_valid};
 use mx_laws::turns_of_twins;
 use mx_model::{Events, TurnKind};
 

@@ -1,7 +1,7 @@
 //! A twin run: the first turn after which two machines don't agree for a domain.
 ghost use Rattle.std.specs.Prelude.{◌≡◌, ◌+◌, ◌<◌, ◌≤◌, ◌^◌, length};
 ghost use Rattle.mx_model.specs.Valid.{IsModule};
-ghost use Rattle.mx_boot.specs.Machines.{meaning};
+ghost use Rattle.mx_any.specs.Machines.{meaning};
 ghost use Rattle.mx_twin.specs.Turns.{AreAlike};
 ghost use Rattle.mx_twin.specs.Twins.{IsAtBorder, twins};
 
@@ -9,7 +9,7 @@ use crate::TwinEnd;
 use crate::compare::fails;
 use crate::found::step_watched;
 use crate::harts::any_compared;
-use mx_boot::{AnyMachine, any_machine_is_valid};
+use mx_any::{AnyMachine, any_machine_is_valid};
 use mx_model::{Events, TurnKind};
 use mx_touched::twins_go_on;
 

@@ -4,7 +4,7 @@ ghost use Rattle.std.specs.List.{list_all, range_with_len};
 ghost use Rattle.mx_laws.specs.Comparison.{same_word};
 ghost use Rattle.mx_model.specs.Reads.{flat_reads};
 ghost use Rattle.mx_model.specs.Valid.{IsModule};
-ghost use Rattle.mx_boot.specs.Machines.{meaning};
+ghost use Rattle.mx_any.specs.Machines.{meaning};
 ghost use Rattle.mx_touched.specs.Views.{sees_same};
 ghost use Rattle.mx_words.specs.declared.perm.Access.TheVariants as A;
 ghost use Rattle.mx_words.specs.Rights.{allows, same};
@@ -12,7 +12,7 @@ ghost use Rattle.mx_twin.specs.Runs.{IsSeenRun};
 ghost use Rattle.mx_twin.specs.Turns.{AreAlike};
 
 use crate::same::same_slices;
-use mx_boot::{AnyMachine, any_machine_is_valid};
+use mx_any::{AnyMachine, any_machine_is_valid};
 use mx_words::{Access, Perm};
 
 /// Whether the words from `at` up to `end` have the same bytes in both.

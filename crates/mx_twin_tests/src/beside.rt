@@ -5,7 +5,7 @@ use crate::machines::{
 };
 use crate::pairs::{PAIRS, Side, text};
 use crate::plain::fails;
-use mx_boot::AnyMachine;
+use mx_any::AnyMachine;
 use mx_model::Events;
 use mx_twin::TwinEnd;
 use std::alloc::Global;

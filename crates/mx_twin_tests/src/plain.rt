@@ -1,6 +1,6 @@
 //! Agreement of two machines by its rule, over what is read of them: word by word and byte by byte.
 
-use mx_boot::AnyMachine;
+use mx_any::AnyMachine;
 use mx_machine::{HartStatus, HartView};
 use mx_model::Gate;
 use mx_words::Perm;

@@ -1,7 +1,7 @@
 //! A turn of a hart in two machines. Expected values are written by hand from the rules.
 
 use crate::machines::{KINDS, pair, step};
-use mx_boot::AnyMachine;
+use mx_any::AnyMachine;
 use mx_model::{Events, Fault, Note, TurnKind};
 use std::alloc::Global;
 use std::test::Fail;

@@ -1,5 +1,7 @@
 -- Laws on values laid over lists, by index; and the maps of appended grants and gives.
-use Rattle.std.proofs.Common.{◌≡◌, ℕ, zero, suc, ◌+◌, ◌<◌, ◌≤◌, true, false, cond, List, [], ◌∷◌, ◌++◌, length, get_or, refl, sym, ◌∙◌, ap, arith, inl, inr}
+use Rattle.std.proofs.Common.{◌≡◌, ℕ, zero, suc, ◌+◌, ◌<◌, ◌≤◌, true, false, cond, List, [], ◌∷◌, ◌++◌, length, get_or, replicate, refl, sym, ◌∙◌, ap, arith, inl, inr}
+use Rattle.std.specs.List.{range_with_len}
+use Rattle.std.specs.Prelude.{map as list_map}
 use Rattle.std.proofs.lemmas.Bool.{cases_lt}
 use Rattle.std.proofs.lemmas.Bool.Decides.{nat_tests}
 use Rattle.std.proofs.lemmas.List.{same_lists, get_or_past}
@@ -97,3 +99,11 @@ pub owners-append : (gs : List Give) (g : Give) (words : ℕ) → owners (gs ++ 
 owners-append gs g words = laid_is g (owners gs words) (owners (gs ++ g ∷ []) words) (length-owners (gs ++ g ∷ []) words ∙ sym (length-owners gs words))
     (λ i d lt. let below : i < words = omega (arith, length-owners gs words) in
     owners-at (gs ++ g ∷ []) words i d below ∙ newest-append 0 gs g i ∙ ap (λ p. laid_at i p g) (sym (owners-at gs words i d below)))
+
+-- nothing is given yet
+none_from : (n words : ℕ) → list_map (owner []) (range_with_len n words) ≡ replicate words 0
+none_from n zero = refl
+none_from n (suc words) = ap (λ os. 0 ∷ os) (none_from (n + 1) words)
+
+pub none-given : (words : ℕ) → owners [] words ≡ replicate words 0
+none-given words = none_from 0 words

@@ -5,7 +5,8 @@
 
 use super::{booted_over, owner, perm, perm_end};
 use mx_audit::{audit, write_audit};
-use mx_boot::{AnyMachine, BootRefused, any_machine_is_valid};
+use mx_any::any_machine_is_valid;
+use mx_boot::{AnyMachine, BootRefused};
 use mx_io::Bytes;
 use mx_model::{Events, Note};
 use mx_words::{Blob, NoMemory};

@@ -1,5 +1,5 @@
 use Rattle.std.proofs.lemmas.Bool.{OnFalse_at}
-use Rattle.mx_boot.specs.Machines.{meaning}
+use Rattle.mx_any.specs.Machines.{meaning}
 use Rattle.mx_model.specs.State.{hart_at}
 use Rattle.mx_audit.proofs.MarkLaws.{none-only, hart-kept, marks-live}
 use Rattle.mx_audit.proofs.living.live_domains.Goals as goal

@@ -1,4 +1,4 @@
-use Rattle.mx_boot.specs.Machines.{meaning}
+use Rattle.mx_any.specs.Machines.{meaning}
 use Rattle.mx_audit.specs.Marks.{MarkHarts, MarkOnlyLive, unmarked}
 use Rattle.mx_audit.proofs.living.live_domains.Given as goal
 

@@ -2,7 +2,7 @@ use Rattle.std.proofs.Common.{List, Bool, ◌≡◌, ◌+◌, true, length, set,
 use Rattle.std.specs.List.{AllByRecursion}
 use Rattle.std.proofs.lemmas.List.{length-set}
 use Rattle.std.proofs.lemmas.Option.{slice_get_within}
-use Rattle.mx_boot.specs.Machines.{meaning}
+use Rattle.mx_any.specs.Machines.{meaning}
 use Rattle.mx_model.specs.declared.values.Frame.{Frame}
 use Rattle.mx_model.specs.State.{hart_at}
 use Rattle.mx_model.proofs.JoinLaws.{all-weaker}

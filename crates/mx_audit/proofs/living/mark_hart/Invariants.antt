@@ -1,6 +1,6 @@
 use Rattle.std.proofs.Common.{◌≡◌, ◌-◌, ◌≤◌, length, take, IsTrue}
 use Rattle.std.specs.List.{AllByRecursion}
-use Rattle.mx_boot.specs.Machines.{meaning}
+use Rattle.mx_any.specs.Machines.{meaning}
 use Rattle.mx_model.specs.declared.values.Frame.{Frame}
 use Rattle.mx_model.specs.State.{hart_at}
 use Rattle.mx_audit.specs.Marks.{KeepMarks, MarkOnlyLive, is_marked}

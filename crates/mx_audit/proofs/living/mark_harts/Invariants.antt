@@ -1,5 +1,5 @@
 use Rattle.std.proofs.Common.{ℕ, ◌<◌}
-use Rattle.mx_boot.specs.Machines.{meaning}
+use Rattle.mx_any.specs.Machines.{meaning}
 use Rattle.mx_model.specs.State.{hart_at}
 use Rattle.mx_audit.specs.Marks.{MarkHart, MarkOnlyLive}
 use Rattle.mx_audit.proofs.living.mark_harts.Given as goal

@@ -2,7 +2,7 @@ use Rattle.std.proofs.Common.{List, Bool, ◌+◌, true, sym, ◌∙◌, subst, 
 use borrow.Author.Count.{falls}
 use Rattle.std.proofs.lemmas.Bool.{OnFalse_from, both_ways}
 use Rattle.std.proofs.lemmas.Option.{slice_get_within}
-use Rattle.mx_boot.specs.Machines.{meaning}
+use Rattle.mx_any.specs.Machines.{meaning}
 use Rattle.mx_model.specs.declared.values.Gate.{Gate}
 use Rattle.mx_audit.specs.Marks.{MarkTargets, is_marked}
 use Rattle.mx_audit.proofs.MarkLaws.{Pass, all-end, gate-small, pass-mark, pass-skip}

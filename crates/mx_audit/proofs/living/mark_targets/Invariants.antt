@@ -1,6 +1,6 @@
 use Rattle.std.proofs.Common.{◌≡◌, ◌-◌, ◌<◌, ◌≤◌, false, true, length, take, IsTrue}
 use Rattle.std.specs.List.{AllByRecursion}
-use Rattle.mx_boot.specs.Machines.{meaning}
+use Rattle.mx_any.specs.Machines.{meaning}
 use Rattle.mx_model.specs.declared.values.Gate.{Gate}
 use Rattle.mx_audit.specs.Marks.{KeepMarks, MarkOnlyLive, is_marked, unmarked}
 use Rattle.mx_audit.proofs.living.mark_targets.Given as goal

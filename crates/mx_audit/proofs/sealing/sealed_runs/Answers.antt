@@ -1,5 +1,5 @@
 use Rattle.std.proofs.Common.{◌≡◌, ◌-◌, List, ◌++◌, length, length-append, ap, ◌∙◌, arith}
-use Rattle.mx_boot.specs.Machines.{meaning}
+use Rattle.mx_any.specs.Machines.{meaning}
 use Rattle.mx_model.specs.Reads.{flat_reads}
 use Rattle.mx_words.specs.declared.perm.Span.{Span}
 use Rattle.mx_audit.specs.Sealed.{is_sealed}

@@ -1,5 +1,5 @@
 use Rattle.std.proofs.Common.{◌≡◌, ℕ, ◌-◌, ◌<◌, ◌≤◌, ◌++◌, false, length}
-use Rattle.mx_boot.specs.Machines.{meaning}
+use Rattle.mx_any.specs.Machines.{meaning}
 use Rattle.mx_model.specs.Reads.{flat_reads}
 use Rattle.mx_audit.specs.Sealed.{is_sealed}
 use Rattle.mx_audit.specs.SealedRuns.{runs_where, sealed_runs}

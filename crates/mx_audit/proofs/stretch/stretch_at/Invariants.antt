@@ -1,5 +1,5 @@
 use Rattle.std.proofs.Common.{◌<◌}
-use Rattle.mx_boot.specs.Machines.{meaning}
+use Rattle.mx_any.specs.Machines.{meaning}
 use Rattle.mx_audit.specs.Stretches.{AllTell, Tells, some_exposes}
 use Rattle.mx_audit.proofs.stretch.stretch_at.Given as goal
 

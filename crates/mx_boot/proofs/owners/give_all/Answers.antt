@@ -2,13 +2,13 @@ use Rattle.std.proofs.Common.{◌≡◌, ◌∙◌, ◌<◌, ℕ, ap, refl, sym,
 use Rattle.mx_words.specs.declared.perm.Perm.TheVariants as P
 use Rattle.mx_words.specs.Newest.{Give, laid, owners}
 use Rattle.mx_words.specs.Runs.{owner_runs}
-use Rattle.mx_words.proofs.OverlayLaws.{length-owners}
+use Rattle.mx_words.proofs.OverlayLaws.{length-owners, none-given}
 use Rattle.mx_manifest.specs.declared.fault.Key.TheVariants as key
 use Rattle.mx_boot.specs.declared.area.Area.{Area}
 use Rattle.mx_boot.specs.Boot.{give}
 use Rattle.mx_boot.specs.Placed.{IsPlaced}
 use Rattle.mx_boot.proofs.Apart.{end_is, in_ram}
-use Rattle.mx_boot.proofs.Giving.{give-fits, give-next, none-given}
+use Rattle.mx_boot.proofs.Giving.{give-fits, give-next}
 use Rattle.mx_boot.proofs.owners.give_all.Goals as goal
 use Rattle.mx_model.proofs.ListLaws.{all-in}
 

@@ -2,7 +2,7 @@ use Rattle.std.proofs.Common.{◌∙◌, ap, sym, subst, length, map}
 use Rattle.mx_boot.specs.Areas.{Content, segment_content}
 use Rattle.mx_boot.specs.Boot.{with_content}
 use Rattle.mx_boot.specs.Placed.{HasRoom}
-use Rattle.mx_boot.proofs.Lists.{all_at}
+use Rattle.mx_model.proofs.EachLaws.{all_at}
 use Rattle.mx_boot.proofs.Puts.{next-content}
 use Rattle.mx_boot.proofs.Rows.{at_mapped}
 use Rattle.mx_boot.proofs.ram.put_segments.Goals as goal

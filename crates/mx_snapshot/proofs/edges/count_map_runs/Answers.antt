@@ -1,5 +1,5 @@
 use Rattle.std.proofs.Common.{arith}
-use Rattle.mx_boot.specs.Machines.{meaning}
+use Rattle.mx_any.specs.Machines.{meaning}
 use Rattle.mx_words.specs.Rights.{same}
 use Rattle.mx_model.specs.Reads.{map_in}
 use Rattle.mx_snapshot.proofs.EdgeLaws.{map_count, none_behind}

@@ -1,5 +1,5 @@
 use Rattle.std.proofs.Common.{◌≡◌, ◌+◌, ◌-◌, ◌≤◌, drop, length}
-use Rattle.mx_boot.specs.Machines.{meaning}
+use Rattle.mx_any.specs.Machines.{meaning}
 use Rattle.mx_words.specs.Rights.{same}
 use Rattle.mx_words.specs.Runs.{runs_of}
 use Rattle.mx_model.specs.Reads.{map_in}

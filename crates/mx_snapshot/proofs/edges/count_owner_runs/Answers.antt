@@ -1,5 +1,5 @@
 use Rattle.std.proofs.Common.{◌==◌, arith}
-use Rattle.mx_boot.specs.Machines.{meaning}
+use Rattle.mx_any.specs.Machines.{meaning}
 use Rattle.mx_snapshot.proofs.EdgeLaws.{owner_count, none_behind}
 use Rattle.mx_snapshot.proofs.edges.count_owner_runs.Goals as goal
 

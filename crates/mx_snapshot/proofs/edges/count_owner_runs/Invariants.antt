@@ -1,5 +1,5 @@
 use Rattle.std.proofs.Common.{◌≡◌, ◌+◌, ◌-◌, ◌==◌, ◌≤◌, drop, length}
-use Rattle.mx_boot.specs.Machines.{meaning}
+use Rattle.mx_any.specs.Machines.{meaning}
 use Rattle.mx_words.specs.Runs.{runs_of}
 use Rattle.mx_snapshot.specs.Stored.{owner_runs_of}
 use Rattle.mx_snapshot.proofs.edges.count_owner_runs.Given as goal

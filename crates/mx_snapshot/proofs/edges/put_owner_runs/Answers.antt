@@ -1,6 +1,6 @@
 use Rattle.std.proofs.Common.{◌==◌, drop, ap, arith}
 use Rattle.std.proofs.lemmas.Result.{err_from_is_err_and}
-use Rattle.mx_boot.specs.Machines.{meaning}
+use Rattle.mx_any.specs.Machines.{meaning}
 use Rattle.mx_words.specs.Runs.{runs_of}
 use Rattle.mx_report.specs.Runs.{run_texts}
 use Rattle.mx_report.proofs.RunTexts.{owners_from, owners_behind}

@@ -1,5 +1,5 @@
 use Rattle.std.proofs.Common.{◌-◌, ◌==◌, ◌≤◌, drop, flat_map}
-use Rattle.mx_boot.specs.Machines.{meaning}
+use Rattle.mx_any.specs.Machines.{meaning}
 use Rattle.mx_words.specs.Runs.{runs_of}
 use Rattle.mx_report.specs.Runs.{run_texts}
 use Rattle.mx_tail.proofs.PassLaws.{Coming}

@@ -1,5 +1,5 @@
 use Rattle.std.proofs.Common.{◌≤◌, arith, length, sym, ◌∙◌}
-use Rattle.mx_boot.specs.Machines.{meaning}
+use Rattle.mx_any.specs.Machines.{meaning}
 use Rattle.mx_snapshot.proofs.PlaceLaws.{is_within, is_behind}
 use Rattle.mx_snapshot.proofs.harts.count_gates.Goals as goal
 

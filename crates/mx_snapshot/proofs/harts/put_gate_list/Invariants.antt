@@ -1,5 +1,5 @@
 use Rattle.std.proofs.Common.{◌-◌, ◌≤◌, drop, flat_map, length}
-use Rattle.mx_boot.specs.Machines.{meaning}
+use Rattle.mx_any.specs.Machines.{meaning}
 use Rattle.mx_tail.proofs.PassLaws.{Coming}
 use Rattle.mx_snapshot.specs.Spelling.{gate_bytes}
 use Rattle.mx_snapshot.proofs.harts.put_gate_list.Given as goal

@@ -1,6 +1,6 @@
 use Rattle.std.proofs.Common.{arith}
 use Rattle.std.proofs.lemmas.Result.{err_from_is_err_and}
-use Rattle.mx_boot.specs.Machines.{meaning}
+use Rattle.mx_any.specs.Machines.{meaning}
 use Rattle.mx_model.specs.State.{Hart, no_hart}
 use Rattle.mx_snapshot.specs.Spelling.{hart_bytes}
 use Rattle.mx_snapshot.specs.Stored.{stored_hart}

@@ -1,5 +1,5 @@
 use Rattle.std.proofs.Common.{flat_map, drop}
-use Rattle.mx_boot.specs.Machines.{meaning}
+use Rattle.mx_any.specs.Machines.{meaning}
 use Rattle.mx_model.specs.State.{Hart}
 use Rattle.mx_tail.proofs.PassLaws.{Coming}
 use Rattle.mx_snapshot.specs.Spelling.{hart_bytes}

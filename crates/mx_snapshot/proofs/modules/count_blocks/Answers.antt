@@ -1,5 +1,5 @@
 use Rattle.std.proofs.Common.{◌≤◌, arith, length, sym, ◌∙◌}
-use Rattle.mx_boot.specs.Machines.{meaning}
+use Rattle.mx_any.specs.Machines.{meaning}
 use Rattle.mx_heap.specs.HeapState.{area_of}
 use Rattle.mx_model.specs.State.{module_at}
 use Rattle.mx_model.proofs.ValidParts.{home-at}

@@ -1,6 +1,6 @@
 use Rattle.std.proofs.Common.{ℕ, List, ◌+◌, ◌-◌, length, ap, arith}
 use Rattle.std.proofs.lemmas.Result.{err_from_is_err_and}
-use Rattle.mx_boot.specs.Machines.{meaning}
+use Rattle.mx_any.specs.Machines.{meaning}
 use Rattle.mx_snapshot.specs.Spelling.{module_bytes}
 use Rattle.mx_snapshot.specs.Stored.{stored_module}
 use Rattle.mx_snapshot.proofs.PlaceLaws.{named_at}

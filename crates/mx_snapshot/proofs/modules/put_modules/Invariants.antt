@@ -1,6 +1,6 @@
 use Rattle.std.proofs.Common.{ℕ, List, ◌+◌, ◌-◌, flat_map, length}
 use Rattle.std.specs.List.{range_with_len}
-use Rattle.mx_boot.specs.Machines.{meaning}
+use Rattle.mx_any.specs.Machines.{meaning}
 use Rattle.mx_tail.proofs.PassLaws.{Coming}
 use Rattle.mx_snapshot.specs.Spelling.{module_bytes}
 use Rattle.mx_snapshot.specs.Stored.{named_module}

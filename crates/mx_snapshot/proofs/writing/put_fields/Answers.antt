@@ -1,7 +1,7 @@
 use Rattle.std.proofs.lemmas.Result.{err_from_is_err_and}
 use Rattle.std.proofs.Common.{sym}
 use Rattle.std.proofs.lemmas.List.Folds.{flat_map-map}
-use Rattle.mx_boot.specs.Machines.{meaning}
+use Rattle.mx_any.specs.Machines.{meaning}
 use Rattle.mx_snapshot.specs.Spelling.{front_bytes, hart_bytes, module_bytes}
 use Rattle.mx_snapshot.specs.Stored.{named_module, stored_hart}
 use Rattle.mx_tail.proofs.PassLaws.{passes_next, passes_stop, passes_last, passes_same}

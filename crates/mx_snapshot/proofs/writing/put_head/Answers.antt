@@ -3,7 +3,7 @@ use Rattle.std.proofs.lemmas.Result.{err_from_is_err_and}
 use Rattle.mx_words.specs.declared.tables.Need.{Need}
 use Rattle.mx_image.specs.Image.{little_endian}
 use Rattle.mx_model.specs.State.{Flat}
-use Rattle.mx_boot.specs.Machines.{meaning}
+use Rattle.mx_any.specs.Machines.{meaning}
 use Rattle.mx_snapshot.specs.Spelling.{head_bytes, kind_number, numbers}
 use Rattle.mx_tail.proofs.PassLaws.{passes_next, passes_stop, passes_last, passes_same}
 use Rattle.mx_snapshot.proofs.writing.put_head.Goals as goal

@@ -1,4 +1,4 @@
-use Rattle.mx_boot.specs.Machines.{meaning}
+use Rattle.mx_any.specs.Machines.{meaning}
 use Rattle.mx_snapshot_tests.proofs.saved.play.Goals as goal
 
 pub turns-preserved : goal.turns-preserved

@@ -1,4 +1,4 @@
-use Rattle.mx_boot.specs.Machines.{meaning}
+use Rattle.mx_any.specs.Machines.{meaning}
 use Rattle.mx_snapshot.specs.Kept.{IsOfPlan}
 use Rattle.mx_snapshot_tests.proofs.saved.play.Given as goal
 

@@ -1,5 +1,5 @@
 use Rattle.std.proofs.Common.{sym, ap, ◌∙◌}
-use Rattle.mx_boot.specs.Machines.{meaning}
+use Rattle.mx_any.specs.Machines.{meaning}
 use Rattle.mx_turns.proofs.running.run_any.Goals as goal
 
 pub returns-in-Segments8 : goal.returns-in-Segments8

@@ -1,5 +1,5 @@
 use Rattle.std.proofs.Common.{◌≡◌, ◌+◌, refl, ap, ◌∙◌}
-use Rattle.mx_boot.specs.Machines.{meaning}
+use Rattle.mx_any.specs.Machines.{meaning}
 use Rattle.mx_model.specs.State.{Flat}
 use Rattle.mx_turns.specs.declared.fault.SinkFault.TheVariants as F
 use Rattle.mx_turns.specs.Running.{schedule_of, places}

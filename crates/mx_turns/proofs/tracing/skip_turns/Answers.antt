@@ -1,5 +1,5 @@
 use Rattle.std.proofs.Common.{sym, ap, ◌∙◌}
-use Rattle.mx_boot.specs.Machines.{meaning}
+use Rattle.mx_any.specs.Machines.{meaning}
 use Rattle.mx_turns.proofs.tracing.skip_turns.Goals as goal
 
 pub returns-in-Segments8-clause-runs : goal.returns-in-Segments8-clause-runs

@@ -1,5 +1,5 @@
 use Rattle.std.proofs.Common.{◌≡◌, ℕ, ◌+◌, ◌-◌, ◌≤◌, false}
-use Rattle.mx_boot.specs.Machines.{meaning}
+use Rattle.mx_any.specs.Machines.{meaning}
 use Rattle.mx_model.specs.State.{State}
 use Rattle.mx_model.specs.Run.{all_halted, run}
 use Rattle.mx_turns.specs.Running.{schedule_of, IsPace, HasTexts, Places, places}

@@ -1,7 +1,7 @@
 use Rattle.std.proofs.Common.{◌&&◌, Bool, ℕ, sym, ◌∙◌, ap}
 use Rattle.mx_model.specs.Reads.{flat_reads}
 use Rattle.mx_model.specs.State.{hart_at}
-use Rattle.mx_boot.specs.Machines.{meaning}
+use Rattle.mx_any.specs.Machines.{meaning}
 use Rattle.mx_touched.specs.Views.{same_views}
 use Rattle.mx_twin.proofs.PairLaws.{agrees-as, pair-of}
 use Rattle.mx_twin.proofs.compare.agrees.Goals as goal

@@ -1,5 +1,5 @@
 use Rattle.std.proofs.Common.{◌&&◌, not, sym, ◌∙◌, arith, length, below_more}
-use Rattle.mx_boot.specs.Machines.{meaning}
+use Rattle.mx_any.specs.Machines.{meaning}
 use Rattle.mx_touched.specs.Pairs.{flat_agrees, is_compared}
 use Rattle.mx_touched.proofs.Tests.{any-below, any-some}
 use Rattle.mx_twin.proofs.compare.fails.Goals as goal

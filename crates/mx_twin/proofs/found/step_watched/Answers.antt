@@ -1,5 +1,5 @@
 use Rattle.mx_heap.specs.HeapState.{area_of}
-use Rattle.mx_boot.specs.Machines.{meaning}
+use Rattle.mx_any.specs.Machines.{meaning}
 use Rattle.mx_twin.specs.Told.{told}
 use Rattle.mx_twin.proofs.PairLaws.{whole-of}
 use Rattle.mx_twin.proofs.Watching.{alike-after, domain-after, first-inside, hart-after, second-inside, touched-is, watched-known, watched-ran, watched-unknown}

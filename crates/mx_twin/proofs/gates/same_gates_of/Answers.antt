@@ -1,5 +1,5 @@
 use Rattle.std.proofs.Common.{sym, ◌∙◌, arith}
-use Rattle.mx_boot.specs.Machines.{meaning}
+use Rattle.mx_any.specs.Machines.{meaning}
 use Rattle.mx_laws.specs.Comparison.{same_target}
 use Rattle.mx_model.specs.declared.values.Gate.{Gate}
 use Rattle.mx_twin.proofs.GateLists.{passed-all, passed-more, passed-not, some-below}

@@ -1,6 +1,6 @@
 use Rattle.std.proofs.Common.{sym, ◌∙◌, arith}
 use Rattle.mx_words.proofs.RangeTests.{all_pass}
-use Rattle.mx_boot.specs.Machines.{meaning}
+use Rattle.mx_any.specs.Machines.{meaning}
 use Rattle.mx_laws.specs.Comparison.{same_target}
 use Rattle.mx_twin.proofs.SeenRuns.{all-missed}
 use Rattle.mx_twin.proofs.gates.same_targets.Goals as goal

@@ -1,5 +1,5 @@
 use Rattle.std.proofs.Common.{sym, ◌∙◌, arith}
-use Rattle.mx_boot.specs.Machines.{meaning}
+use Rattle.mx_any.specs.Machines.{meaning}
 use Rattle.mx_twin.proofs.GateLists.{left-more, some-below, target-here, target-none}
 use Rattle.mx_twin.proofs.gates.target.Goals as goal
 

@@ -1,5 +1,5 @@
 use Rattle.std.proofs.Common.{◌-◌, length}
-use Rattle.mx_boot.specs.Machines.{meaning}
+use Rattle.mx_any.specs.Machines.{meaning}
 use Rattle.mx_twin.proofs.GateLists.{IsLeft}
 use Rattle.mx_twin.proofs.gates.target.Given as goal
 

@@ -1,5 +1,5 @@
 use Rattle.std.proofs.Common.{◌≡◌, ℕ, ◌<◌, false}
-use Rattle.mx_boot.specs.Machines.{meaning}
+use Rattle.mx_any.specs.Machines.{meaning}
 use Rattle.mx_touched.specs.Pairs.{is_compared}
 use Rattle.mx_twin.proofs.harts.any_compared.Given as goal
 

@@ -3,7 +3,7 @@ use Rattle.mx_model.specs.declared.values.TurnKind.{TurnKind}
 use Rattle.mx_model.specs.Run.{kind}
 use Rattle.mx_model.specs.State.{Flat, flat}
 use Rattle.mx_model.specs.Valid.{IsValid}
-use Rattle.mx_boot.specs.Machines.{meaning}
+use Rattle.mx_any.specs.Machines.{meaning}
 use Rattle.mx_twin.specs.Turns.{AreAlike, AreTwinTurns}
 use Rattle.mx_twin.proofs.TurnRows.{twin-turns}
 use Rattle.mx_twin.proofs.pair.step_pair.Goals as goal

@@ -1,5 +1,5 @@
 use Rattle.std.proofs.Common.{◌/◌, ◌%◌, ℕ, Bool, length, refl, sym, ◌∙◌, subst}
-use Rattle.mx_boot.specs.Machines.{meaning}
+use Rattle.mx_any.specs.Machines.{meaning}
 use Rattle.mx_twin.specs.declared.twin.TwinEnd.{TwinEnd}
 use Rattle.mx_twin.specs.Twins.{IsAtBorder}
 use Rattle.mx_twin.proofs.Going.{IsGoing, few-turns, going-end, going-fails, going-halted, going-next, going-out, going-start, hart-below}

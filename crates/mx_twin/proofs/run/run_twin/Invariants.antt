@@ -1,5 +1,5 @@
 use Rattle.std.proofs.Common.{◌-◌}
-use Rattle.mx_boot.specs.Machines.{meaning}
+use Rattle.mx_any.specs.Machines.{meaning}
 use Rattle.mx_twin.proofs.Going.{IsGoing}
 use Rattle.mx_twin.proofs.run.run_twin.Given as goal
 

@@ -1,5 +1,5 @@
 use Rattle.std.proofs.Common.{arith}
-use Rattle.mx_boot.specs.Machines.{meaning}
+use Rattle.mx_any.specs.Machines.{meaning}
 use Rattle.mx_twin.proofs.SeenRuns.{span-alike}
 use Rattle.mx_twin.proofs.words.run_at.Goals as goal
 

@@ -1,5 +1,5 @@
 use Rattle.std.proofs.Common.{sym, ◌∙◌, arith}
-use Rattle.mx_boot.specs.Machines.{meaning}
+use Rattle.mx_any.specs.Machines.{meaning}
 use Rattle.mx_twin.proofs.SeenRuns.{run-seen, run-unlike}
 use Rattle.mx_twin.proofs.words.seen_run.Goals as goal
 

@@ -1,6 +1,6 @@
 use Rattle.std.proofs.Common.{◌+◌, ◌-◌, sym, arith}
 use Rattle.mx_model.specs.Reads.{flat_reads}
-use Rattle.mx_boot.specs.Machines.{meaning}
+use Rattle.mx_any.specs.Machines.{meaning}
 use Rattle.mx_touched.specs.Views.{sees_same}
 use Rattle.mx_twin.proofs.SeenRuns.{all-more, all-part}
 use Rattle.mx_twin.proofs.words.sees_all.Goals as goal

@@ -1,7 +1,7 @@
 use Rattle.std.proofs.Common.{◌≡◌, ◌-◌, ◌≤◌, true}
 use Rattle.std.specs.List.{list_all, range_with_len}
 use Rattle.mx_model.specs.Reads.{flat_reads}
-use Rattle.mx_boot.specs.Machines.{meaning}
+use Rattle.mx_any.specs.Machines.{meaning}
 use Rattle.mx_touched.specs.Views.{sees_same}
 use Rattle.mx_twin.proofs.words.sees_all.Given as goal
 

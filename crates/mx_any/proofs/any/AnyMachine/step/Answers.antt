@@ -1,7 +1,7 @@
 use Rattle.std.proofs.Common.{ap}
-use Rattle.mx_boot.specs.Machines.{meaning}
-use Rattle.mx_boot.proofs.Stepped.{stepped}
-use Rattle.mx_boot.proofs.any.AnyMachine.step.Goals as goal
+use Rattle.mx_any.specs.Machines.{meaning}
+use Rattle.mx_any.proofs.Stepped.{stepped}
+use Rattle.mx_any.proofs.any.AnyMachine.step.Goals as goal
 
 pub returns-in-Segments8 : goal.returns-in-Segments8
 returns-in-Segments8 c = stepped {hart = c.args.hart} (ap meaning c.in-Segments8.is) c.step.ensures

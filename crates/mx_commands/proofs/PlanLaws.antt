@@ -6,9 +6,9 @@ use Rattle.mx_manifest.specs.declared.fault.BootFault.{BootFault}
 use Rattle.mx_manifest.specs.declared.parts.ModulePlan.{ModulePlan}
 use Rattle.mx_manifest.specs.Plan.{Said}
 use Rattle.mx_model.specs.Run.{flat_turn}
-use Rattle.mx_model.specs.State.{Flat, State, flat}
+use Rattle.mx_model.specs.State.{Flat, State, flat, map_need}
 use Rattle.mx_model.proofs.KeepLaws.{keeps-turned}
-use Rattle.mx_boot.specs.Boot.{Refusal, TooFull, module_of, boot_need, boot_state, limited, unless, boot_of}
+use Rattle.mx_boot.specs.Boot.{Refusal, TooFull, module_of, boot_state, limited, unless, boot_of}
 use Rattle.mx_boot.specs.Faults.{first_fault}
 use Rattle.mx_snapshot.specs.Kept.{IsOfPlan, KeptPlan, kept_of}
 
@@ -16,7 +16,7 @@ if_ok : (b : Bool) (s t : State) (e : Refusal) → cond b (Ok s) (Err e) ≡ Ok 
 if_ok x s t e is = grind arith
 
 unless_ok : (o : Option BootFault) (s t : State) → unless o (limited s) ≡ Ok t → t ≡ s
-unless_ok None s t is = if_ok (within (boot_need s) s.core.limit) s t (TooFull (boot_need s) s.core.limit) is
+unless_ok None s t is = if_ok (within (map_need s) s.core.limit) s t (TooFull (map_need s) s.core.limit) is
 unless_ok (Some fault) s t is = cc
 
 -- an accepted boot gives the state at boot

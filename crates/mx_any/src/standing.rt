@@ -9,7 +9,7 @@ ghost use Rattle.mx_laws.specs.Standing.{standing_inst};
 ghost use Rattle.mx_model.specs.Reads.{flat_reads};
 ghost use Rattle.mx_model.specs.Turn.{is_denied, load_at};
 ghost use Rattle.mx_model.specs.Valid.{IsModule};
-ghost use Rattle.mx_boot.specs.Machines.{meaning};
+ghost use Rattle.mx_any.specs.Machines.{meaning};
 
 use crate::any::{AnyMachine, any_machine_is_valid};
 use mx_isa::{Inst, decode};

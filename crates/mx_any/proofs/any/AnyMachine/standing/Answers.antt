@@ -3,9 +3,9 @@ use Rattle.mx_words.specs.declared.perm.Access.TheVariants as A
 use Rattle.mx_words.specs.Ranges.{word_of}
 use Rattle.mx_words.specs.Rights.{allows}
 use Rattle.mx_model.specs.Reads.{flat_reads}
-use Rattle.mx_boot.specs.Machines.{meaning}
-use Rattle.mx_boot.proofs.StandingLaws.{fetch}
-use Rattle.mx_boot.proofs.any.AnyMachine.standing.Goals as goal
+use Rattle.mx_any.specs.Machines.{meaning}
+use Rattle.mx_any.proofs.StandingLaws.{fetch}
+use Rattle.mx_any.proofs.any.AnyMachine.standing.Goals as goal
 
 pub returns-clause-inst : goal.returns-clause-inst
 returns-clause-inst c =

@@ -17,7 +17,7 @@ ghost use Rattle.mx_words.specs.Need.{need};
 ghost use Rattle.mx_words.specs.Reach.{stored};
 ghost use Rattle.std.specs.Option.{option_map};
 ghost use Rattle.std.specs.Prelude.{◌≡◌, ◌≢◌, ℕ, ◌+◌, ◌-◌, ◌*◌, ◌^◌, ◌<◌, ◌≤◌, false, length, slice_get, slice_index, slice_range};
-ghost use Rattle.mx_boot.specs.Machines.{meaning};
+ghost use Rattle.mx_any.specs.Machines.{meaning};
 
 use mx_check::Counts;
 use mx_heap::Block;
