@@ -7,8 +7,8 @@
 mod machines;
 
 use machines::{wide, worst};
-use mx_audit::{Audit, audit};
 use mx_any::AnyMachine;
+use mx_audit::{Audit, audit};
 use std::alloc::Global;
 use std::time::CpuClock;
 use std::{env, io};

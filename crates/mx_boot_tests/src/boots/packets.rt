@@ -4,8 +4,8 @@
 //! code and its data, without symbols: so the manifest names addresses.
 
 use super::{booted_over, owner, perm, perm_end};
-use mx_audit::{audit, write_audit};
 use mx_any::any_machine_is_valid;
+use mx_audit::{audit, write_audit};
 use mx_boot::{AnyMachine, BootRefused};
 use mx_io::Bytes;
 use mx_model::{Events, Note};
