@@ -4,10 +4,11 @@ ghost use Rattle.mx_any.specs.Machines.{meaning};
 ghost use Rattle.mx_snapshot.specs.Kept.{IsOfPlan};
 
 use mx_boot::{AnyMachine, boot};
+use mx_commands::machines_are_of_their_plan;
 use mx_io::Bytes;
 use mx_manifest::{Plan, read_manifest};
 use mx_model::Events;
-use mx_snapshot::{Kept, machines_are_of_their_plan, write_snapshot};
+use mx_snapshot::{Kept, write_snapshot};
 use mx_words::Blob;
 use std::alloc::Global;
 
