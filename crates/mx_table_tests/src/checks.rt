@@ -6,20 +6,12 @@ use counted::Counted;
 use mx_check::{Checker, Counts, Flight, Flights};
 use mx_packed::Packed;
 use mx_plain::two_domains;
-use mx_trie::{Trie, Vector};
+use mx_trie::{LeafForm, Trie, Vector};
 use mx_words::{Perm, Span};
 use runs::{visits, withdrawal, withdrawn};
+use std::alloc::Global;
+use std::process::Abort;
 use std::test::Fail;
-
-/// What `visits` answers.
-const TWO_DOMAINS: ([bool; 4], Counts) = (
-    [false, true, true, false],
-    Counts {
-        sidecar: 1,
-        lookaside: 1,
-        walks: 2,
-    },
-);
 
 /// Execute-read on word 0.
 const OWN: Span = Span {
@@ -42,41 +34,52 @@ const SHARED: Span = Span {
     perm: Perm::Read,
 };
 
+/// What `visits` answers, and the tables' count of lookups then.
+type Visited = ([bool; 4], Counts, u64);
+
+/// What `visits` answers over tables of two domains, and how many other questions the tables count.
+fn visited(alloc: Global) -> Option<(Visited, u64)> {
+    let tables = two_domains::<Counted>(alloc, OWN, OTHER).ok()?;
+    let mut checker = Checker::<Counted, 8>::new(tables, 1);
+    let (answers, counts) = visits(&mut checker);
+    let tables = checker.tables();
+    Some(((answers, counts, tables.inner.lookups), tables.questions()))
+}
+
+/// The same over a trie.
+fn visited_in_trie<L: LeafForm>(alloc: Global) -> Option<Visited> {
+    let tables = two_domains::<Trie<L>>(alloc, OWN, OTHER).ok()?;
+    let mut checker = Checker::<Trie<L>, 8>::new(tables, 1);
+    let (answers, counts) = visits(&mut checker);
+    Some((answers, counts, checker.tables().lookups))
+}
+
+/// Compares what `visits` answers over any tables.
+fn visits_tell(rt: &impl Abort, seen: Option<Visited>) {
+    let counts = Counts {
+        sidecar: 1,
+        lookaside: 1,
+        walks: 2,
+    };
+    assert_eq!(rt; seen, Some(([false, true, true, false], counts, 2)));
+}
+
 #[test]
 fn entries_belong_to_a_domain(rt: HostRuntime) -> Result<(), Fail> {
-    let Ok(tables) = two_domains::<Counted>(rt.alloc(), OWN, OTHER) else {
-        return Err("no tables")?;
-    };
-    let mut checker = Checker::<Counted, 8>::new(tables, 1);
-    let seen = visits(&mut checker);
-    assert_eq!(rt; seen, TWO_DOMAINS);
-    assert_eq!(rt; checker.tables().inner.lookups, 2);
-    assert_eq!(rt; checker.tables().questions(), 0);
+    let (seen, questions) = visited(rt.alloc()).ok_or("no tables")?;
+    visits_tell(&rt, Some(seen));
+    assert_eq!(rt; questions, 0);
     Ok(())
 }
 
 #[test]
-fn entries_belong_to_a_domain_over_a_multilevel_trie(rt: HostRuntime) -> Result<(), Fail> {
-    let Ok(tables) = two_domains::<Trie<Vector>>(rt.alloc(), OWN, OTHER) else {
-        return Err("no tables")?;
-    };
-    let mut checker = Checker::<Trie<Vector>, 8>::new(tables, 1);
-    let seen = visits(&mut checker);
-    assert_eq!(rt; seen, TWO_DOMAINS);
-    assert_eq!(rt; checker.tables().lookups, 2);
-    Ok(())
+fn entries_belong_to_a_domain_over_a_multilevel_trie(rt: HostRuntime) {
+    visits_tell(&rt, visited_in_trie::<Vector>(rt.alloc()));
 }
 
 #[test]
-fn entries_belong_to_a_domain_over_a_packed_trie(rt: HostRuntime) -> Result<(), Fail> {
-    let Ok(tables) = two_domains::<Trie<Packed>>(rt.alloc(), OWN, OTHER) else {
-        return Err("no tables")?;
-    };
-    let mut checker = Checker::<Trie<Packed>, 8>::new(tables, 1);
-    let seen = visits(&mut checker);
-    assert_eq!(rt; seen, TWO_DOMAINS);
-    assert_eq!(rt; checker.tables().lookups, 2);
-    Ok(())
+fn entries_belong_to_a_domain_over_a_packed_trie(rt: HostRuntime) {
+    visits_tell(&rt, visited_in_trie::<Packed>(rt.alloc()));
 }
 
 #[test]
@@ -146,49 +149,48 @@ fn counts_of(sidecar: u64, walks: u64) -> Counts {
     }
 }
 
-/// What `withdrawn` answers.
-fn withdrawn_when_heard() -> Option<[(bool, Counts); 5]> {
-    Some([
+/// What `withdrawn` answers, and the tables' count of lookups then.
+type Withdrawn = (Option<[(bool, Counts); 5]>, u64);
+
+/// The same over tables of two domains.
+fn withdrawn_in_segments(alloc: Global) -> Option<Withdrawn> {
+    let tables = two_domains::<Counted>(alloc, OWN, SHARED).ok()?;
+    let mut checker = Checker::<Counted, 8>::new(tables, 2);
+    let seen = withdrawn(&mut checker);
+    Some((seen, checker.tables().inner.lookups))
+}
+
+/// The same over a trie.
+fn withdrawn_in_trie<L: LeafForm>(alloc: Global) -> Option<Withdrawn> {
+    let tables = two_domains::<Trie<L>>(alloc, OWN, SHARED).ok()?;
+    let mut checker = Checker::<Trie<L>, 8>::new(tables, 2);
+    let seen = withdrawn(&mut checker);
+    Some((seen, checker.tables().lookups))
+}
+
+/// Compares what `withdrawn` answers over any tables.
+fn withdrawals_tell(rt: &impl Abort, seen: Option<Withdrawn>) {
+    let heard = [
         (true, counts_of(0, 1)),
         (true, counts_of(0, 2)),
         (true, counts_of(0, 3)),
         (false, counts_of(0, 4)),
         (false, counts_of(1, 4)),
-    ])
+    ];
+    assert_eq!(rt; seen, Some((Some(heard), 4)));
 }
 
 #[test]
-fn a_withdrawal_reaches_the_other_hart(rt: HostRuntime) -> Result<(), Fail> {
-    let Ok(tables) = two_domains::<Counted>(rt.alloc(), OWN, SHARED) else {
-        return Err("no tables")?;
-    };
-    let mut checker = Checker::<Counted, 8>::new(tables, 2);
-    let seen = withdrawn(&mut checker);
-    assert_eq!(rt; seen, withdrawn_when_heard());
-    assert_eq!(rt; checker.tables().inner.lookups, 4);
-    Ok(())
+fn a_withdrawal_reaches_the_other_hart(rt: HostRuntime) {
+    withdrawals_tell(&rt, withdrawn_in_segments(rt.alloc()));
 }
 
 #[test]
-fn a_withdrawal_reaches_the_other_hart_over_a_multilevel_trie(rt: HostRuntime) -> Result<(), Fail> {
-    let Ok(tables) = two_domains::<Trie<Vector>>(rt.alloc(), OWN, SHARED) else {
-        return Err("no tables")?;
-    };
-    let mut checker = Checker::<Trie<Vector>, 8>::new(tables, 2);
-    let seen = withdrawn(&mut checker);
-    assert_eq!(rt; seen, withdrawn_when_heard());
-    assert_eq!(rt; checker.tables().lookups, 4);
-    Ok(())
+fn a_withdrawal_reaches_the_other_hart_over_a_multilevel_trie(rt: HostRuntime) {
+    withdrawals_tell(&rt, withdrawn_in_trie::<Vector>(rt.alloc()));
 }
 
 #[test]
-fn a_withdrawal_reaches_the_other_hart_over_a_packed_trie(rt: HostRuntime) -> Result<(), Fail> {
-    let Ok(tables) = two_domains::<Trie<Packed>>(rt.alloc(), OWN, SHARED) else {
-        return Err("no tables")?;
-    };
-    let mut checker = Checker::<Trie<Packed>, 8>::new(tables, 2);
-    let seen = withdrawn(&mut checker);
-    assert_eq!(rt; seen, withdrawn_when_heard());
-    assert_eq!(rt; checker.tables().lookups, 4);
-    Ok(())
+fn a_withdrawal_reaches_the_other_hart_over_a_packed_trie(rt: HostRuntime) {
+    withdrawals_tell(&rt, withdrawn_in_trie::<Packed>(rt.alloc()));
 }

@@ -133,7 +133,7 @@ fn one_page_at_a_time<T: PermTables>(tables: &mut T) -> [(bool, Need); 4]
 }
 
 /// The grant on the next page has no room until the first page is even again.
-const ONE_PAGE_AT_A_TIME: [(bool, Need); 4] = [
+static ONE_PAGE_AT_A_TIME: [(bool, Need); 4] = [
     (true, ONE_PAGE),
     (false, ONE_PAGE),
     (true, NO_PAGE),
@@ -148,12 +148,10 @@ fn full_trie<T: PermTables + Drop>(alloc: Global) -> Option<[(bool, Need); 4]> {
 }
 
 #[test]
-fn a_full_trie_takes_a_page_where_another_becomes_even(rt: HostRuntime) -> Result<(), Fail> {
-    let multilevel = full_trie::<Trie<Vector>>(rt.alloc()).ok_or("no tables")?;
-    assert_eq!(rt; multilevel, ONE_PAGE_AT_A_TIME);
-    let packed = full_trie::<Trie<Packed>>(rt.alloc()).ok_or("no tables")?;
-    assert_eq!(rt; packed, ONE_PAGE_AT_A_TIME);
-    Ok(())
+fn a_full_trie_takes_a_page_where_another_becomes_even(rt: HostRuntime) {
+    let multilevel = full_trie::<Trie<Vector>>(rt.alloc());
+    let packed = full_trie::<Trie<Packed>>(rt.alloc());
+    assert_eq!(rt; [multilevel, packed], [Some(ONE_PAGE_AT_A_TIME); 2]);
 }
 
 /// What segments take of which domain 1 may read 32 words, each two words after the one before, and then whether each of five grants
@@ -240,20 +238,19 @@ fn line(first: u32, stored: u32) -> Shown {
 
 /// The entries of two lines at the end of a page and the beginning of the next, of which domain 1 may read words up to that end's
 /// line: the first line's, whether read on the first word of the second had room, and both lines' after it.
-fn over_a_page(alloc: Global) -> Option<(Shown, bool, [Shown; 2])> {
+fn over_a_page<T: PermTables + Drop>(alloc: Global) -> Option<(Shown, bool, [Shown; 2])> {
     let row = one_span(alloc, 976, 37, Perm::Read).ok()?;
-    let mut tables = one_domain::<Trie<Packed>>(alloc, row, AMPLE).ok()?;
+    let mut tables = one_domain::<T>(alloc, row, AMPLE).ok()?;
     let before = tables.shown(1, 1008);
     let room = granted(&mut tables, 1024, 1, Perm::Read);
     Some((before, room, [tables.shown(1, 1008), tables.shown(1, 1024)]))
 }
 
 #[test]
-fn an_entry_reaches_over_a_page(rt: HostRuntime) -> Result<(), Fail> {
-    let seen = over_a_page(rt.alloc()).ok_or("no tables")?;
+fn an_entry_reaches_over_a_page(rt: HostRuntime) {
+    let seen = over_a_page::<Trie<Packed>>(rt.alloc());
     let after = [line(1008, 0xF800_1406), line(1024, 0x07C0_0406)];
-    assert_eq!(rt; seen, (line(1008, 0xFFC0_1406), true, after));
-    Ok(())
+    assert_eq!(rt; seen, Some((line(1008, 0xFFC0_1406), true, after)));
 }
 
 /// Gives domain 1 a permission on a word of the line from word 16 on. The answer is whether there was room, the item that decides the
@@ -269,31 +266,30 @@ fn spilled<T: PermTables>(tables: &mut T, word: u32, perm: Perm) -> (bool, Shown
     (room, tables.shown(1, 16), tables.used().spill)
 }
 
-/// What `spilled` answers of a line that gets a third run and a fourth, then a fifth, and loses that again. The line had one run of
-/// no permission before.
-fn spilled_and_back(alloc: Global) -> Option<[(bool, Shown, u32); 4]> {
-    let mut tables = one_domain::<Trie<Packed>>(alloc, Spans::new(alloc), AMPLE).ok()?;
-    let third = spilled(&mut tables, 17, Perm::Read);
+/// Whether a line had room for a third run, and what `spilled` answers when it gets a fourth, then a fifth, and loses that again. The
+/// line had one run of no permission before.
+fn spilled_and_back<T: PermTables + Drop>(
+    alloc: Global,
+) -> Option<(bool, [(bool, Shown, u32); 3])> {
+    let mut tables = one_domain::<T>(alloc, Spans::new(alloc), AMPLE).ok()?;
+    let (third, _, _) = spilled(&mut tables, 17, Perm::Read);
     let fourth = spilled(&mut tables, 18, Perm::ReadWrite);
     let fifth = spilled(&mut tables, 31, Perm::Read);
     let back = spilled(&mut tables, 31, Perm::None);
-    Some([third, fourth, fifth, back])
+    Some((third, [fourth, fifth, back]))
 }
 
 #[test]
-fn a_line_of_five_runs_has_a_spill_word(rt: HostRuntime) -> Result<(), Fail> {
-    let [third, fourth, fifth, back] = spilled_and_back(rt.alloc()).ok_or("no tables")?;
+fn a_line_of_five_runs_has_a_spill_word(rt: HostRuntime) {
+    let seen = spilled_and_back::<Trie<Packed>>(rt.alloc());
+    let four = (true, line(16, 0x87CC_8492), 0);
     let spill = Shown {
         level: Level::Spill,
         first: 16,
         count: 16,
         stored: 0x4000_0024,
     };
-    assert!(rt; third.0);
-    assert_eq!(rt; fourth, (true, line(16, 0x87CC_8492), 0));
-    assert_eq!(rt; fifth, (true, spill, 1));
-    assert_eq!(rt; back, fourth);
-    Ok(())
+    assert_eq!(rt; seen, Some((true, [four, (true, spill, 1), four])));
 }
 
 /// The numbers of words and of modules, the limit and what is taken, and the items that decide two words.
@@ -329,29 +325,35 @@ const EVEN_PAGE: Shown = Shown {
     stored: 1,
 };
 
-#[test]
-fn tries_tell_what_they_hold(rt: HostRuntime) -> Result<(), Fail> {
-    let multilevel = readings_of_four_words::<Trie<Vector>>(rt.alloc()).ok_or("no tables")?;
-    let items = [line(1024, 0x0000_00AA), EVEN_PAGE];
-    assert_eq!(rt; multilevel, (16384, 1, AMPLE, ONE_PAGE, items));
-    let packed = readings_of_four_words::<Trie<Packed>>(rt.alloc()).ok_or("no tables")?;
-    let items = [line(1024, 0x07C0_100A), EVEN_PAGE];
-    assert_eq!(rt; packed, (16384, 1, AMPLE, ONE_PAGE, items));
-    Ok(())
+/// The readings of a trie with this entry of the line of the four words.
+fn told_by_trie(stored: u32) -> Option<Readings> {
+    let items = [line(1024, stored), EVEN_PAGE];
+    Some((16384, 1, AMPLE, ONE_PAGE, items))
 }
 
 #[test]
-fn segments_tell_what_they_hold(rt: HostRuntime) -> Result<(), Fail> {
-    let run = |first, count, stored| Shown {
+fn tries_tell_what_they_hold(rt: HostRuntime) {
+    let multilevel = readings_of_four_words::<Trie<Vector>>(rt.alloc());
+    let packed = readings_of_four_words::<Trie<Packed>>(rt.alloc());
+    let want = [told_by_trie(0x0000_00AA), told_by_trie(0x07C0_100A)];
+    assert_eq!(rt; [multilevel, packed], want);
+}
+
+/// The entry of a run.
+fn run(first: u32, count: u32, stored: u32) -> Shown {
+    Shown {
         level: Level::Segment,
         first,
         count,
         stored,
-    };
+    }
+}
+
+#[test]
+fn segments_tell_what_they_hold(rt: HostRuntime) {
     let items = [run(1024, 4, 0x8000_1002), run(1028, 15356, 0x8000_1010)];
-    let segments = readings_of_four_words::<Segments>(rt.alloc()).ok_or("no tables")?;
-    assert_eq!(rt; segments, (16384, 1, AMPLE, ONE_FRAME, items));
-    Ok(())
+    let segments = readings_of_four_words::<Segments>(rt.alloc());
+    assert_eq!(rt; segments, Some((16384, 1, AMPLE, ONE_FRAME, items)));
 }
 
 /// The word at a place of domain 1's root table.
@@ -385,8 +387,7 @@ fn in_root_of_two_regions(alloc: Global) -> Option<[u32; 3]> {
 
 // RAM begins at 0x80000000, which is 512 times 4 MiB.
 #[test]
-fn a_root_entry_stands_at_the_place_of_its_addresses(rt: HostRuntime) -> Result<(), Fail> {
-    let words = in_root_of_two_regions(rt.alloc()).ok_or("no tables")?;
-    assert_eq!(rt; words, [0x0001_5555, 0x0002_AAA9, 0]);
-    Ok(())
+fn a_root_entry_stands_at_the_place_of_its_addresses(rt: HostRuntime) {
+    let words = in_root_of_two_regions(rt.alloc());
+    assert_eq!(rt; words, Some([0x0001_5555, 0x0002_AAA9, 0]));
 }

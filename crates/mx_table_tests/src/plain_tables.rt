@@ -69,8 +69,11 @@ fn two_domains<T: PermTables + Drop>(alloc: Global) -> Option<T>
     Some(tables)
 }
 
+/// The permission of a word, the span round it and the item that decides it.
+type Reading = (Perm, Span, Shown);
+
 // What is read of a word.
-fn read<T: PermTables>(tables: &mut T, domain: u32, word: u32) -> (Perm, Span, Shown)
+fn read<T: PermTables>(tables: &mut T, domain: u32, word: u32) -> Reading
     requires domain { IsDomain (T.maps tables.old) domain }
     requires word { word < T.size tables.old }
     ensures maps { T.maps tables.new ≡ T.maps tables.old }
@@ -87,7 +90,7 @@ fn expectation(
     level: Level,
     item: (u32, u32),
     stored: u32,
-) -> (Perm, Span, Shown) {
+) -> Reading {
     (
         perm,
         Span {
@@ -104,118 +107,84 @@ fn expectation(
     )
 }
 
+/// What tables take, what is read of three words, and their numbers of words and of modules and their limit.
+type OfSegments = (Need, [Reading; 3], (u32, u32, Need));
+
+// The same of words inside two spans of domain 1, and of the last word of domain 2.
+fn read_of_segments<T: PermTables + Drop>(alloc: Global) -> Option<OfSegments> {
+    let mut tables = two_domains::<T>(alloc)?;
+    let code = read(&mut tables, 1, 100);
+    let data = read(&mut tables, 1, 1031);
+    let last = read(&mut tables, 2, 2999);
+    let numbers = (tables.words(), tables.modules(), tables.limit());
+    Some((tables.used(), [code, data, last], numbers))
+}
+
 #[test]
-fn plain_segments(rt: HostRuntime) -> Result<(), Fail> {
-    let mut tables = two_domains::<PlainTables<AsSegments>>(rt.alloc()).ok_or("memory")?;
+fn plain_segments(rt: HostRuntime) {
+    let seen = read_of_segments::<PlainTables<AsSegments>>(rt.alloc());
     let need = Need {
         upper: 0,
         leaf: 2,
         spill: 0,
     };
-    assert_eq!(rt; tables.used(), need);
-    assert_eq!(rt;
-        read(&mut tables, 1, 100),
-        expectation(
-            Perm::ExecuteRead,
-            (0, 128),
-            Level::Segment,
-            (0, 128),
-            0x8000_0003
-        )
-    );
-    assert_eq!(rt;
-        read(&mut tables, 1, 1031),
-        expectation(
-            Perm::Read,
-            (1030, 3),
-            Level::Segment,
-            (1030, 3),
-            0x8000_1019
-        )
-    );
-    assert_eq!(rt;
-        read(&mut tables, 2, 2999),
-        expectation(
-            Perm::None,
-            (0, 3000),
-            Level::Segment,
-            (0, 3000),
-            0x8000_0000
-        )
-    );
-    assert_eq!(rt;
-        (tables.words(), tables.modules(), tables.limit()),
-        (SIZE, 2, LIMIT)
-    );
-    Ok(())
+    let level = Level::Segment;
+    let code = expectation(Perm::ExecuteRead, (0, 128), level, (0, 128), 0x8000_0003);
+    let data = expectation(Perm::Read, (1030, 3), level, (1030, 3), 0x8000_1019);
+    let last = expectation(Perm::None, (0, 3000), level, (0, 3000), 0x8000_0000);
+    assert_eq!(rt; seen, Some((need, [code, data, last], (SIZE, 2, LIMIT))));
+}
+
+// What tables take, and what is read of a word of an even line, of words between and in the spans of other lines, and of each
+// domain's last word.
+fn read_of_multilevel<T: PermTables + Drop>(alloc: Global) -> Option<(Need, [Reading; 5])> {
+    let mut tables = two_domains::<T>(alloc)?;
+    let code = read(&mut tables, 1, 100);
+    let between = read(&mut tables, 1, 1035);
+    let data = read(&mut tables, 1, 1057);
+    let last = read(&mut tables, 1, 2999);
+    let other = read(&mut tables, 2, 2999);
+    Some((tables.used(), [code, between, data, last, other]))
 }
 
 #[test]
-fn plain_multilevel(rt: HostRuntime) -> Result<(), Fail> {
-    let mut tables = two_domains::<PlainTables<AsMultilevel>>(rt.alloc()).ok_or("memory")?;
+fn plain_multilevel(rt: HostRuntime) {
+    let seen = read_of_multilevel::<PlainTables<AsMultilevel>>(rt.alloc());
     let need = Need {
         upper: 3,
         leaf: 1,
         spill: 0,
     };
-    assert_eq!(rt; tables.used(), need);
-    assert_eq!(rt;
-        read(&mut tables, 1, 100),
-        expectation(Perm::ExecuteRead, (0, 128), Level::Mid, (0, 1024), 13)
-    );
-    assert_eq!(rt;
-        read(&mut tables, 1, 1035),
-        expectation(Perm::None, (1033, 7), Level::Leaf, (1024, 16), 86016)
-    );
-    assert_eq!(rt;
-        read(&mut tables, 1, 1057),
-        expectation(Perm::Read, (1057, 1), Level::Leaf, (1056, 16), 68)
-    );
-    assert_eq!(rt;
-        read(&mut tables, 1, 2999),
-        expectation(Perm::None, (2944, 56), Level::Mid, (2048, 952), 1)
-    );
-    assert_eq!(rt;
-        read(&mut tables, 2, 2999),
-        expectation(Perm::None, (0, 3000), Level::Root, (0, 3000), 1)
-    );
-    Ok(())
+    let code = expectation(Perm::ExecuteRead, (0, 128), Level::Mid, (0, 1024), 13);
+    let between = expectation(Perm::None, (1033, 7), Level::Leaf, (1024, 16), 86016);
+    let data = expectation(Perm::Read, (1057, 1), Level::Leaf, (1056, 16), 68);
+    let last = expectation(Perm::None, (2944, 56), Level::Mid, (2048, 952), 1);
+    let other = expectation(Perm::None, (0, 3000), Level::Root, (0, 3000), 1);
+    assert_eq!(rt; seen, Some((need, [code, between, data, last, other])));
+}
+
+// What tables take, and what is read of two words of a line with its reaches, and of one of a line with a spill word.
+fn read_of_packed<T: PermTables + Drop>(alloc: Global) -> Option<(Need, [Reading; 3])> {
+    let mut tables = two_domains::<T>(alloc)?;
+    let before = read(&mut tables, 1, 1026);
+    let behind = read(&mut tables, 1, 1035);
+    let spilled = read(&mut tables, 1, 1057);
+    Some((tables.used(), [before, behind, spilled]))
 }
 
 #[test]
-fn plain_packed(rt: HostRuntime) -> Result<(), Fail> {
-    let mut tables = two_domains::<PlainTables<AsPacked>>(rt.alloc()).ok_or("memory")?;
+fn plain_packed(rt: HostRuntime) {
+    let seen = read_of_packed::<PlainTables<AsPacked>>(rt.alloc());
     let need = Need {
         upper: 3,
         leaf: 1,
         spill: 1,
     };
-    assert_eq!(rt; tables.used(), need);
-    assert_eq!(rt;
-        read(&mut tables, 1, 1026),
-        expectation(
-            Perm::None,
-            (993, 37),
-            Level::Leaf,
-            (1024, 16),
-            4_202_846_226
-        )
-    );
-    assert_eq!(rt;
-        read(&mut tables, 1, 1035),
-        expectation(
-            Perm::None,
-            (1033, 17),
-            Level::Leaf,
-            (1024, 16),
-            4_202_846_226
-        )
-    );
-    assert_eq!(rt;
-        read(&mut tables, 1, 1057),
-        expectation(Perm::Read, (1057, 1), Level::Spill, (1056, 16), 68)
-    );
-    Ok(())
+    let line = (1024, 16);
+    let before = expectation(Perm::None, (993, 37), Level::Leaf, line, 4_202_846_226);
+    let behind = expectation(Perm::None, (1033, 17), Level::Leaf, line, 4_202_846_226);
+    let spilled = expectation(Perm::Read, (1057, 1), Level::Spill, (1056, 16), 68);
+    assert_eq!(rt; seen, Some((need, [before, behind, spilled])));
 }
 
 #[test]

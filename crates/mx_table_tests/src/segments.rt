@@ -8,7 +8,6 @@ use mx_segments::Segments;
 use mx_table::{BuildRefused, PermTables};
 use mx_words::{Level, Need, NoMemory, Perm, Shown, Span, Spans};
 use std::alloc::Global;
-use std::test::Fail;
 
 // Tables of one domain over 16384 words.
 fn one_domain(alloc: Global, row: Spans, leaf: u32) -> Result<Segments, BuildRefused>
@@ -122,22 +121,20 @@ fn without_frames(alloc: Global) -> Option<BuildRefused> {
 }
 
 #[test]
-fn segment_entries(rt: HostRuntime) -> Result<(), Fail> {
-    let (before, after, readings) = before_and_after(rt.alloc()).ok_or("memory")?;
-    let first = [
+fn segment_entries(rt: HostRuntime) {
+    let seen = before_and_after(rt.alloc());
+    let before = [
         Some(0x8000_0000),
         Some(0x8000_1002),
         Some(0x8000_1010),
         None,
     ];
-    assert_eq!(rt; before, first);
-    let second = [
+    let after = [
         Some(0x8000_0000),
         Some(0x8000_1002),
         Some(0x8000_1020),
         None,
     ];
-    assert_eq!(rt; after, second);
     let need = Need {
         upper: 0,
         leaf: 1,
@@ -149,39 +146,35 @@ fn segment_entries(rt: HostRuntime) -> Result<(), Fail> {
         count: 8,
         stored: 0x8000_1002,
     };
-    assert_eq!(rt; readings, (16384, 1, need, need, shown));
-    Ok(())
+    let readings = (16384, 1, need, need, shown);
+    assert_eq!(rt; seen, Some((before, after, readings)));
 }
 
 #[test]
-fn entries_stand_in_a_domain_s_frames(rt: HostRuntime) -> Result<(), Fail> {
-    let seen = frames_of_four_words(rt.alloc()).ok_or("memory")?;
-    assert_eq!(rt; seen, (1, 0x8000_0000, 0x8000_1002));
-    Ok(())
+fn entries_stand_in_a_domain_s_frames(rt: HostRuntime) {
+    let seen = frames_of_four_words(rt.alloc());
+    assert_eq!(rt; seen, Some((1, 0x8000_0000, 0x8000_1002)));
 }
 
 #[test]
-fn lookups_are_counted(rt: HostRuntime) -> Result<(), Fail> {
-    let seen = looked_up(rt.alloc()).ok_or("memory")?;
+fn lookups_are_counted(rt: HostRuntime) {
+    let seen = looked_up(rt.alloc());
     let span = Span {
         first: 1028,
         count: 15356,
         perm: Perm::None,
     };
-    assert_eq!(rt; seen, (Perm::ReadWrite, Perm::None, span, (16384, 1)));
-    Ok(())
+    let told = (16384, 1);
+    assert_eq!(rt; seen, Some((Perm::ReadWrite, Perm::None, span, told)));
 }
 
 #[test]
-fn full_tables_are_refused(rt: HostRuntime) -> Result<(), Fail> {
+fn full_tables_are_refused(rt: HostRuntime) {
     let need = Need {
         upper: 0,
         leaf: 1,
         spill: 0,
     };
-    assert_eq!(rt;
-        without_frames(rt.alloc()),
-        Some(BuildRefused::TablesFull { need })
-    );
-    Ok(())
+    let seen = without_frames(rt.alloc());
+    assert_eq!(rt; seen, Some(BuildRefused::TablesFull { need }));
 }

@@ -8,7 +8,6 @@ use mx_table::{BuildRefused, PermTables};
 use mx_trie::{LeafForm, Trie, Vector};
 use mx_words::{Perm, Span};
 use std::alloc::Global;
-use std::test::Fail;
 
 /// The number of words and the count of lookups.
 pub(crate) fn of_segments(tables: &Segments) -> (u32, u64) {
@@ -49,19 +48,22 @@ fn looked_up<T: PermTables>(alloc: Global) -> Result<T, BuildRefused> {
     Ok(tables)
 }
 
+/// What segments tell after one lookup.
+fn segments_looked_up(alloc: Global) -> Option<(u32, u64)> {
+    let tables = looked_up::<Segments>(alloc).ok()?;
+    Some(of_segments(&tables))
+}
+
+/// What a trie tells after one lookup.
+fn trie_looked_up<L: LeafForm>(alloc: Global) -> Option<(u32, u64)> {
+    let tables = looked_up::<Trie<L>>(alloc).ok()?;
+    Some(of_trie(&tables))
+}
+
 #[test]
-fn tables_have_the_named_fields_alone(rt: HostRuntime) -> Result<(), Fail> {
-    let Ok(segments) = looked_up::<Segments>(rt.alloc()) else {
-        return Err("no segments")?;
-    };
-    assert_eq!(rt; of_segments(&segments), (16384, 1));
-    let Ok(multilevel) = looked_up::<Trie<Vector>>(rt.alloc()) else {
-        return Err("no multilevel trie")?;
-    };
-    assert_eq!(rt; of_trie(&multilevel), (16384, 1));
-    let Ok(packed) = looked_up::<Trie<Packed>>(rt.alloc()) else {
-        return Err("no packed trie")?;
-    };
-    assert_eq!(rt; of_trie(&packed), (16384, 1));
-    Ok(())
+fn tables_have_the_named_fields_alone(rt: HostRuntime) {
+    let segments = segments_looked_up(rt.alloc());
+    let multilevel = trie_looked_up::<Vector>(rt.alloc());
+    let packed = trie_looked_up::<Packed>(rt.alloc());
+    assert_eq!(rt; [segments, multilevel, packed], [Some((16384, 1)); 3]);
 }
