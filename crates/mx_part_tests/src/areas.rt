@@ -1,8 +1,10 @@
 //! Blocks of heaps, and owners of words.
 ghost use Rattle.std.specs.Prelude.{◌≡◌, length};
 
+use crate::compare::compare;
 use mx_heap::{Block, Heap, HeapError};
 use mx_owners::{Owners, OwnersFull};
+use mx_words::NoMemory;
 use std::alloc::Global;
 use std::test::Fail;
 
@@ -19,8 +21,8 @@ struct Answers {
 }
 
 /// In a heap of the words 100 to 109 three pairs are taken, the outer two freed, and a pair is taken again.
-fn taken_again(alloc: Global) -> Result<Answers, Fail> {
-    let mut heap = Heap::new(alloc, 100, 10).ok().ok_or("memory")?;
+fn taken_again(alloc: Global) -> Result<Answers, NoMemory> {
+    let mut heap = Heap::new(alloc, 100, 10)?;
     let first = [heap.alloc(2), heap.alloc(2), heap.alloc(2)];
     let freed = [heap.free(100), heap.free(104)];
     let place = heap.place(2);
@@ -46,13 +48,13 @@ fn the_lowest_hole_that_fits_is_taken(rt: HostRuntime) -> Result<(), Fail> {
         count: 2,
     };
     let allocs = [Ok(100), Ok(102), Ok(104), Ok(100), Err(HeapError::NoRoom)];
-    assert_eq!(rt; answers.area, (100, 10));
-    assert_eq!(rt; answers.allocs, allocs);
-    assert_eq!(rt; answers.place, Ok(100));
-    assert_eq!(rt; answers.frees, [Some(2), Some(2), None]);
-    assert_eq!(rt; answers.blocks, [Some(2), None]);
-    assert_eq!(rt; answers.restored, [false, true]);
-    assert_eq!(rt; answers.listed, [Some(last), None]);
+    compare(&rt, "area", answers.area, (100, 10));
+    compare(&rt, "allocs", answers.allocs, allocs);
+    compare(&rt, "place", answers.place, Ok(100));
+    compare(&rt, "frees", answers.frees, [Some(2), Some(2), None]);
+    compare(&rt, "blocks", answers.blocks, [Some(2), None]);
+    compare(&rt, "restored", answers.restored, [false, true]);
+    compare(&rt, "listed", answers.listed, [Some(last), None]);
     Ok(())
 }
 
@@ -68,9 +70,9 @@ fn most_blocks(
         Option<u32>,
         Result<u32, HeapError>,
     ),
-    Fail,
+    NoMemory,
 > {
-    let mut heap = Heap::new(alloc, 0, words.min(2048)).ok().ok_or("memory")?;
+    let mut heap = Heap::new(alloc, 0, words.min(2048))?;
     let mut in_order = true;
     for first in 0..1024 {
         in_order = in_order & (heap.alloc(1) == Ok(first));
@@ -115,8 +117,8 @@ fn give_every_second(owners: &mut Owners) -> bool
 }
 
 /// Of 16384 words domain 1 gets every second one from 2 to 4094, then the last one, and then one too many.
-fn runs_at_their_limit(alloc: Global) -> Result<Runs, Fail> {
-    let mut owners = Owners::new(alloc, 16384).ok().ok_or("memory")?;
+fn runs_at_their_limit(alloc: Global) -> Result<Runs, NoMemory> {
+    let mut owners = Owners::new(alloc, 16384)?;
     let are_given = give_every_second(&mut owners);
     let before = (owners.owner(4094), owners.owner(4095), owners.run_end(4095));
     let last = owners.give(1, 16383, 1);
@@ -148,12 +150,12 @@ fn runs_at_their_limit(alloc: Global) -> Result<Runs, Fail> {
 fn owner_runs_at_their_limit(rt: HostRuntime) -> Result<(), Fail> {
     let runs = runs_at_their_limit(rt.alloc())?;
     assert!(rt; runs.are_given);
-    assert_eq!(rt; runs.before, (1, 0, 16384));
-    assert_eq!(rt; runs.last, Ok(()));
-    assert_eq!(rt; runs.refused, Err(OwnersFull));
-    assert_eq!(rt; runs.after, (0, 16383, 1));
-    assert_eq!(rt; runs.owns, (true, false, true));
-    assert_eq!(rt; runs.joined, Ok(()));
-    assert_eq!(rt; runs.longer, (5, true));
+    compare(&rt, "before", runs.before, (1, 0, 16384));
+    compare(&rt, "last", runs.last, Ok(()));
+    compare(&rt, "refused", runs.refused, Err(OwnersFull));
+    compare(&rt, "after", runs.after, (0, 16383, 1));
+    compare(&rt, "owns", runs.owns, (true, false, true));
+    compare(&rt, "joined", runs.joined, Ok(()));
+    compare(&rt, "longer", runs.longer, (5, true));
     Ok(())
 }

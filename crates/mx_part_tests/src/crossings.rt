@@ -1,4 +1,5 @@
 //! Gates, and the frames of a hart.
+use crate::compare::compare;
 use mx_gates::{CrossStack, Full, Gates, GatesFull};
 use mx_model::{Frame, Gate};
 use std::process::Abort;
@@ -97,18 +98,30 @@ fn at_their_limit(rt: &impl Abort) -> (Most, Fewer) {
 #[test]
 fn gates_at_their_limit(rt: HostRuntime) {
     let (most, fewer) = at_their_limit(&rt);
-    assert_eq!(rt; most.before, None);
+    compare(&rt, "before", most.before, None);
     assert!(rt; most.are_added);
-    assert_eq!(rt; most.refused, [Err(GatesFull), Err(GatesFull)]);
-    assert_eq!(rt; most.first, Some(gate(1, 7, 2)));
-    assert_eq!(rt; most.replaced, Ok(()));
-    assert_eq!(rt;
-        most.listed,
-        [Some(gate(1, 8, 1)), Some(gate(1, 7, 3)), None]
+    compare(
+        &rt,
+        "refused",
+        most.refused,
+        [Err(GatesFull), Err(GatesFull)],
     );
-    assert_eq!(rt; fewer.removed, [true, false]);
-    assert_eq!(rt; fewer.targets, [None, Some(1)]);
-    assert_eq!(rt; fewer.listed, [Some(gate(1, 255, 2)), None]);
+    compare(&rt, "first", most.first, Some(gate(1, 7, 2)));
+    compare(&rt, "replaced", most.replaced, Ok(()));
+    compare(
+        &rt,
+        "listed",
+        most.listed,
+        [Some(gate(1, 8, 1)), Some(gate(1, 7, 3)), None],
+    );
+    compare(&rt, "removed", fewer.removed, [true, false]);
+    compare(&rt, "targets", fewer.targets, [None, Some(1)]);
+    compare(
+        &rt,
+        "listed then",
+        fewer.listed,
+        [Some(gate(1, 255, 2)), None],
+    );
 }
 
 fn frame(caller: u32, x2: u32) -> Frame {
@@ -161,11 +174,11 @@ fn fill_and_pop() -> Stacked {
 fn frames_come_back_from_the_top(rt: HostRuntime) {
     let stacked = fill_and_pop();
     let last = Some(frame(2, 63));
-    assert_eq!(rt; stacked.empty, [None, None]);
+    compare(&rt, "empty", stacked.empty, [None, None]);
     assert!(rt; stacked.are_pushed);
-    assert_eq!(rt; stacked.refused, Err(Full));
-    assert_eq!(rt; stacked.depths, [64, 63]);
-    assert_eq!(rt; stacked.nearest, [Some(62), None, Some(61)]);
-    assert_eq!(rt; stacked.frames, [Some(frame(1, 0)), None]);
-    assert_eq!(rt; stacked.tops, [last, last]);
+    compare(&rt, "refused", stacked.refused, Err(Full));
+    compare(&rt, "depths", stacked.depths, [64, 63]);
+    compare(&rt, "nearest", stacked.nearest, [Some(62), None, Some(61)]);
+    compare(&rt, "frames", stacked.frames, [Some(frame(1, 0)), None]);
+    compare(&rt, "tops", stacked.tops, [last, last]);
 }

@@ -40,6 +40,43 @@ static ILLEGAL: [u32; 26] = [
     0x0000_4501,
 ];
 
+// A field of each form that its bits can't hold.
+static OUT_OF_RANGE: [Inst; 9] = [
+    Inst::Lui { rd: 32, imm: 0 },
+    Inst::Lui { rd: 1, imm: 1 },
+    Inst::Jal { rd: 1, imm: 1 },
+    Inst::Jal {
+        rd: 1,
+        imm: 0x0010_0000,
+    },
+    Inst::Jalr {
+        rd: 1,
+        rs1: 2,
+        imm: 0x0000_0800,
+    },
+    Inst::Branch {
+        cond: Cond::Beq,
+        rs1: 1,
+        rs2: 2,
+        imm: 0x0000_1000,
+    },
+    Inst::Store {
+        width: StoreWidth::Sw,
+        rs1: 1,
+        rs2: 32,
+        imm: 0,
+    },
+    Inst::OpImm {
+        op: ImmOp::Srai,
+        rd: 1,
+        rs1: 1,
+        imm: 32,
+    },
+    Inst::Fence {
+        fields: 0x0040_0000,
+    },
+];
+
 #[test]
 fn words_of_gnu_as_both_ways(rt: HostRuntime) {
     for (word, inst) in moves::WORDS.iter().chain(&sums::WORDS) {
@@ -58,42 +95,7 @@ fn illegal_words_decode_to_none(rt: HostRuntime) {
 
 #[test]
 fn fields_out_of_range_are_not_valid(rt: HostRuntime) {
-    let cases = [
-        Inst::Lui { rd: 32, imm: 0 },
-        Inst::Lui { rd: 1, imm: 1 },
-        Inst::Jal { rd: 1, imm: 1 },
-        Inst::Jal {
-            rd: 1,
-            imm: 0x0010_0000,
-        },
-        Inst::Jalr {
-            rd: 1,
-            rs1: 2,
-            imm: 0x0000_0800,
-        },
-        Inst::Branch {
-            cond: Cond::Beq,
-            rs1: 1,
-            rs2: 2,
-            imm: 0x0000_1000,
-        },
-        Inst::Store {
-            width: StoreWidth::Sw,
-            rs1: 1,
-            rs2: 32,
-            imm: 0,
-        },
-        Inst::OpImm {
-            op: ImmOp::Srai,
-            rd: 1,
-            rs1: 1,
-            imm: 32,
-        },
-        Inst::Fence {
-            fields: 0x0040_0000,
-        },
-    ];
-    for inst in &cases {
+    for inst in &OUT_OF_RANGE {
         assert!(rt; !is_valid(inst));
     }
 }

@@ -7,6 +7,8 @@ mod areas;
 #[cfg(test)]
 mod caches;
 #[cfg(test)]
+mod compare;
+#[cfg(test)]
 mod crossings;
 #[cfg(test)]
 mod encodings;

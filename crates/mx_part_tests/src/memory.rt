@@ -1,6 +1,7 @@
 //! Bytes of RAM.
 ghost use Rattle.std.specs.Prelude.{◌≡◌, length};
 
+use crate::compare::compare;
 use mx_memory::Ram;
 use mx_words::NoMemory;
 use std::alloc::Global;
@@ -53,22 +54,39 @@ fn store_and_clear(alloc: Global) -> Result<Stored, NoMemory> {
 fn stores_lie_little_endian(rt: HostRuntime) -> Result<(), Fail> {
     let stored = store_and_clear(rt.alloc())?;
     let want = [0, 0, 0x34, 0x12, 0xBB, 0xAA, 0x99, 0x88, 0x56, 0, 0, 0];
-    assert_eq!(rt; stored.bytes, want);
-    assert_eq!(rt; stored.loads, [0x8899_AABB, 0x0000_8899, 0x0000_0088]);
-    assert_eq!(rt; stored.first, 0x1234_0000);
-    assert_eq!(rt; stored.cleared, [0x1234_0000, 0, 0x0000_0056]);
+    compare(&rt, "bytes", stored.bytes, want);
+    compare(
+        &rt,
+        "loads",
+        stored.loads,
+        [0x8899_AABB, 0x0000_8899, 0x0000_0088],
+    );
+    compare(&rt, "first", stored.first, 0x1234_0000);
+    compare(
+        &rt,
+        "cleared",
+        stored.cleared,
+        [0x1234_0000, 0, 0x0000_0056],
+    );
     Ok(())
+}
+
+/// The bytes of RAM of given bytes, and its middle word before and after 0 is stored there.
+fn stored_in_copy(alloc: Global, bytes: &[u8; 12]) -> Result<([u8; 12], [u32; 2]), NoMemory> {
+    let mut ram = Ram::of(alloc, bytes)?;
+    let all = all_bytes(&ram);
+    let before = ram.word(1);
+    ram.store(0x8000_0004, 4, 0);
+    Ok((all, [before, ram.word(1)]))
 }
 
 // RAM of given bytes holds just these, and a store changes the copy alone.
 #[test]
 fn ram_of_bytes(rt: HostRuntime) -> Result<(), Fail> {
     let bytes = [0x13, 0, 0, 0, 0xEF, 0xBE, 0xAD, 0xDE, 0, 0, 0, 0x80];
-    let mut ram = Ram::of(rt.alloc(), &bytes)?;
-    assert_eq!(rt; all_bytes(&ram), bytes);
-    assert_eq!(rt; ram.word(1), 0xDEAD_BEEF);
-    ram.store(0x8000_0004, 4, 0);
-    assert_eq!(rt; ram.word(1), 0);
+    let (all, words) = stored_in_copy(rt.alloc(), &bytes)?;
+    assert_eq!(rt; all, bytes);
+    assert_eq!(rt; words, [0xDEAD_BEEF, 0]);
     assert_eq!(rt; bytes[4], 0xEF);
     Ok(())
 }

@@ -148,7 +148,10 @@ static OF_REGISTERS: [(RegOp, [[u32; 5]; 5]); 11] = [
     ),
 ];
 
-// For each shift and operand, the results by the amounts 0, 1 and 31.
+// How far a shift shifts.
+static AMOUNTS: [u32; 3] = [0, 1, 31];
+
+// For each shift and operand, the results by each amount.
 static BY_AMOUNTS: [(ImmOp, [[u32; 3]; 5]); 3] = [
     (
         ImmOp::Slli,
@@ -184,6 +187,18 @@ static BY_AMOUNTS: [(ImmOp, [[u32; 3]; 5]); 3] = [
 
 const START: u32 = 0x8000_0000;
 
+/// What is answered to one instruction, before which x1 and x2 hold these operands, and what x3 holds then.
+fn one_turn(alloc: Global, word: u32, operands: (u32, u32)) -> Result<(Outcome, u32), NoMemory> {
+    let mut bus = PlainBus::new(alloc, 1)?;
+    bus.permit(0, 1, Perm::ExecuteRead);
+    bus.put(START, word);
+    let mut regs = Regs::new();
+    regs.set(1, operands.0);
+    regs.set(2, operands.1);
+    let outcome = exec(&mut bus, &mut regs, START, false);
+    Ok((outcome, regs.get(3)))
+}
+
 /// What x3 holds after one instruction, before which x1 and x2 hold these operands.
 fn carried_out(
     rt: &impl Abort,
@@ -192,15 +207,9 @@ fn carried_out(
     operands: (u32, u32),
 ) -> Result<u32, NoMemory> {
     assert!(rt; is_valid(&inst));
-    let mut bus = PlainBus::new(alloc, 1)?;
-    bus.permit(0, 1, Perm::ExecuteRead);
-    bus.put(START, encode(&inst));
-    let mut regs = Regs::new();
-    regs.set(1, operands.0);
-    regs.set(2, operands.1);
-    let outcome = exec(&mut bus, &mut regs, START, false);
+    let (outcome, result) = one_turn(alloc, encode(&inst), operands)?;
     assert_eq!(rt; outcome, Outcome::Next(START + 4));
-    Ok(regs.get(3))
+    Ok(result)
 }
 
 /// An operation on x1 and x2.
@@ -223,22 +232,46 @@ fn by_amount(op: ImmOp, amount: u32) -> Inst {
     }
 }
 
+/// An operation on an operand and each corner gives a row of results.
+fn row_of_registers(
+    rt: &impl Abort,
+    alloc: Global,
+    op: RegOp,
+    a: u32,
+    row: &[u32; 5],
+) -> Result<(), NoMemory> {
+    for (b, want) in CORNERS.iter().zip(row) {
+        let result = carried_out(rt, alloc, of_registers(op), (a, *b))?;
+        assert_eq!(rt; result, *want, "{op:?} {a} {b}");
+    }
+    Ok(())
+}
+
+/// A shift of an operand by each amount gives a row of results.
+fn row_by_amounts(
+    rt: &impl Abort,
+    alloc: Global,
+    op: ImmOp,
+    a: u32,
+    row: &[u32; 3],
+) -> Result<(), NoMemory> {
+    for (amount, want) in AMOUNTS.iter().zip(row) {
+        let result = carried_out(rt, alloc, by_amount(op, *amount), (a, 0))?;
+        assert_eq!(rt; result, *want, "{op:?} {a} {amount}");
+    }
+    Ok(())
+}
+
 #[test]
 fn results_at_the_corners(rt: HostRuntime) -> Result<(), Fail> {
     for (op, rows) in &OF_REGISTERS {
         for (a, row) in CORNERS.iter().zip(rows) {
-            for (b, want) in CORNERS.iter().zip(row) {
-                let result = carried_out(&rt, rt.alloc(), of_registers(*op), (*a, *b))?;
-                assert_eq!(rt; result, *want, "{op:?} {a} {b}");
-            }
+            row_of_registers(&rt, rt.alloc(), *op, *a, row)?;
         }
     }
     for (op, rows) in &BY_AMOUNTS {
         for (a, row) in CORNERS.iter().zip(rows) {
-            for (amount, want) in [0, 1, 31].iter().zip(row) {
-                let result = carried_out(&rt, rt.alloc(), by_amount(*op, *amount), (*a, 0))?;
-                assert_eq!(rt; result, *want, "{op:?} {a} {amount}");
-            }
+            row_by_amounts(&rt, rt.alloc(), *op, *a, row)?;
         }
     }
     Ok(())
