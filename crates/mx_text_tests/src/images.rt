@@ -1,7 +1,9 @@
 //! Images that are read: that of a linker, the first fault of each, and their symbols.
+ghost use Rattle.mx_elf.specs.Known.{HoldsIn};
+
+use crate::checks::same;
 use mx_elf::{Seg, Symbols, read_image, symbol};
 use std::alloc::Global;
-use std::test::Fail;
 
 mod sums;
 
@@ -48,32 +50,34 @@ fn found_alone() -> [Option<u32>; 9] {
     values
 }
 
-/// Those that symbols tell of which none was asked.
-fn found_unasked(alloc: Global) -> [Option<u32>; 9] {
-    let none = Symbols::none(alloc);
+/// Those that symbols of a file tell.
+fn told(file: &[u8], symbols: &Symbols<'_>) -> [Option<u32>; 9]
+    requires { HoldsIn file.now symbols.now }
+{
     let mut values = [None; 9];
     for i in 0..9 {
-        values[i] = none.value(SUMS, NAMES[i]);
+        values[i] = symbols.value(file, NAMES[i]);
     }
     values
 }
 
+/// Those that symbols tell of which none was asked.
+fn found_unasked(alloc: Global) -> [Option<u32>; 9] {
+    told(SUMS, &Symbols::none(alloc))
+}
+
 /// Those that symbols tell of which some were asked.
-fn found_together(alloc: Global) -> Result<[Option<u32>; 9], Fail> {
+fn found_together(alloc: Global) -> Option<[Option<u32>; 9]> {
     let asked = ["sum", "su", "sum\0", "greeting", "sum", "start", "sums"];
-    let Ok(together) = Symbols::find(alloc, SUMS, &asked) else {
-        return Err("no memory")?;
-    };
-    let mut values = [None; 9];
-    for i in 0..9 {
-        values[i] = together.value(SUMS, NAMES[i]);
+    match Symbols::find(alloc, SUMS, &asked) {
+        Ok(together) => Some(told(SUMS, &together)),
+        Err(_) => None,
     }
-    Ok(values)
 }
 
 // What `readelf -lhs` prints of the image stands in `examples/elf/sums.readelf`.
 #[test]
-fn reads_the_image_of_a_linker(rt: HostRuntime) -> Result<(), Fail> {
+fn reads_the_image_of_a_linker(rt: HostRuntime) {
     let text = Seg {
         offset: 0x94,
         file: 0x44,
@@ -88,11 +92,11 @@ fn reads_the_image_of_a_linker(rt: HostRuntime) -> Result<(), Fail> {
         memory: 0x44,
         flags: 6,
     };
-    assert_eq!(rt; entry_and_segments(SUMS), Some((0x8000_0000, [text, data])));
-    assert_eq!(rt; found_alone(), VALUES);
-    assert_eq!(rt; found_unasked(rt.alloc()), VALUES);
-    assert_eq!(rt; found_together(rt.alloc())?, VALUES);
-    Ok(())
+    let image = entry_and_segments(SUMS);
+    same(&rt, image, Some((0x8000_0000, [text, data])), "the image");
+    same(&rt, found_alone(), VALUES, "one by one");
+    same(&rt, found_unasked(rt.alloc()), VALUES, "unasked");
+    same(&rt, found_together(rt.alloc()), Some(VALUES), "together");
 }
 
 /// A change of a file: a number at a place.
@@ -131,21 +135,21 @@ const SECOND: usize = 84;
 
 const SEVENTEENTH: usize = 564;
 
+/// What stands in the header of the file of segments, but its first bytes.
+const HEADER: &[Put] = &[
+    Half(16, 2),
+    Half(18, 243),
+    Word(24, 0x8000_0000),
+    Word(28, 52),
+    Half(42, 32),
+    Half(44, 2),
+];
+
 /// Two segments, and headers for 15 more after them.
 fn file_of_segments() -> [u8; FILE_SIZE] {
     let mut file = [0u8; FILE_SIZE];
     write(&mut file, 0, b"\x7FELF\x01\x01\x01");
-    change(
-        &mut file,
-        &[
-            Half(16, 2),
-            Half(18, 243),
-            Word(24, 0x8000_0000),
-            Word(28, 52),
-            Half(42, 32),
-            Half(44, 2),
-        ],
-    );
+    change(&mut file, HEADER);
     for k in 0..17 {
         let at = FIRST + 32 * k;
         change(
@@ -244,8 +248,13 @@ fn fault_with(puts: &[Put], len: usize) -> u32 {
 
 #[test]
 fn finds_the_first_fault(rt: HostRuntime) {
-    for (i, (puts, len, want)) in FAULTS.iter().enumerate() {
-        assert_eq!(rt; fault_with(puts, *len), *want, "row {i}");
+    for (row, (puts, len, want)) in FAULTS.iter().enumerate() {
+        same(
+            &rt,
+            (row, fault_with(puts, *len)),
+            (row, *want),
+            "row and fault",
+        );
     }
 }
 
@@ -257,50 +266,45 @@ const STRINGS: usize = 172;
 
 const SYMBOL: usize = 212;
 
+/// What stands in the headers of the file of symbols.
+const SECTIONS: &[Put] = &[
+    Word(32, 52),
+    Half(46, 40),
+    Half(48, 4),
+    Word(TEXT + 4, 1),
+    Word(TABLE + 4, 2),
+    Word(TABLE + 16, SYMBOL as u32),
+    Word(TABLE + 20, 112),
+    Word(TABLE + 24, 3),
+    Word(STRINGS + 4, 3),
+    Word(STRINGS + 16, 400),
+    Word(STRINGS + 20, 14),
+];
+
+/// Its symbols: the place of the name, the value and the section of each.
+static PUT_SYMBOLS: [(u32, u32, u16); 7] = [
+    (0, 0, 0),
+    (1, 1, 0),
+    (1, 2, 1),
+    (1, 3, 1),
+    (6, 4, 0xFFF1),
+    (0, 5, 2),
+    (10, 6, 1),
+];
+
 /// Four sections: none, text, seven symbols, and their names. The last name has no zero byte in its section.
 fn file_of_symbols() -> [u8; FILE_SIZE] {
     let mut file = [0u8; FILE_SIZE];
     write(&mut file, 400, b"\0here\0her\0open");
-    change(
-        &mut file,
-        &[Word(32, 52), Half(46, 40), Half(48, 4), Word(TEXT + 4, 1)],
-    );
-    change(
-        &mut file,
-        &[
-            Word(TABLE + 4, 2),
-            Word(TABLE + 16, SYMBOL as u32),
-            Word(TABLE + 20, 112),
-            Word(TABLE + 24, 3),
-        ],
-    );
-    change(
-        &mut file,
-        &[
-            Word(STRINGS + 4, 3),
-            Word(STRINGS + 16, 400),
-            Word(STRINGS + 20, 14),
-        ],
-    );
-    let symbols = [
-        (0, 0, 0),
-        (1, 1, 0),
-        (1, 2, 1),
-        (1, 3, 1),
-        (6, 4, 0xFFF1),
-        (0, 5, 2),
-        (10, 6, 1),
-    ];
-    for (k, (name, value, section)) in symbols.iter().enumerate() {
+    change(&mut file, SECTIONS);
+    for (k, (name, value, section)) in PUT_SYMBOLS.iter().enumerate() {
         let at = SYMBOL + 16 * k;
-        change(
-            &mut file,
-            &[
-                Word(at, *name),
-                Word(at + 4, *value),
-                Half(at + 14, *section),
-            ],
-        );
+        let puts = [
+            Word(at, *name),
+            Word(at + 4, *value),
+            Half(at + 14, *section),
+        ];
+        change(&mut file, &puts);
     }
     file
 }
@@ -365,7 +369,12 @@ fn symbol_with(puts: &[Put], len: usize, name: &str) -> Option<u32> {
 
 #[test]
 fn finds_the_first_symbol(rt: HostRuntime) {
-    for (i, (puts, len, name, want)) in SYMBOLS.iter().enumerate() {
-        assert_eq!(rt; symbol_with(puts, *len, name), *want, "row {i}");
+    for (row, (puts, len, name, want)) in SYMBOLS.iter().enumerate() {
+        same(
+            &rt,
+            (row, symbol_with(puts, *len, name)),
+            (row, *want),
+            name,
+        );
     }
 }

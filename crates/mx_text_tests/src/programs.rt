@@ -1,11 +1,15 @@
 //! Images that are written of programs, and what the loader reads of them.
-ghost use Rattle.std.specs.Prelude.{◌≡◌, ◌≤◌, length, IfOk};
+ghost use Rattle.std.specs.Prelude.{◌≡◌, ◌≤◌, length, IfOk, OnOk};
+ghost use Rattle.mx_image.specs.Lawful.{IsSized};
+ghost use Rattle.mx_image.specs.Program.{no_program};
 
+use crate::checks::same;
 use crate::images::entry_and_segments;
 use mx_elf::{Seg, read_image, symbol};
 use mx_image::{ProgramBuilder, Segment, write};
 use mx_words::{Blob, NoMemory};
 use std::alloc::Global;
+use std::process::Abort;
 use std::test::Fail;
 
 // The image of `.text 0x80000000`, `start: jal x0, start`, `.text 0x80000800`, `.data 0x80001000` and `k: .byte 1`,
@@ -49,8 +53,11 @@ fn segment(alloc: Global, address: u32, flags: u32, content: &[u8]) -> Result<Se
     })
 }
 
-fn two_segments<'a>(alloc: Global) -> Result<Blob, NoMemory> {
-    let mut program = ProgramBuilder::new(alloc);
+/// Puts three segments, of which the second is empty, and two labels.
+fn put_segments<'a>(alloc: Global, program: &mut ProgramBuilder<'a>) -> Result<(), NoMemory>
+    requires { program.old ≡ no_program }
+    ensures { OnOk result (IsSized program.new) }
+{
     program.set_entry(0x8000_0000);
     program.add_segment(segment(alloc, 0x8000_0000, 5, &[])?)?;
     program.add_bytes(&[0x6F, 0, 0, 0])?;
@@ -58,7 +65,12 @@ fn two_segments<'a>(alloc: Global) -> Result<Blob, NoMemory> {
     program.add_segment(segment(alloc, 0x8000_1000, 6, &[])?)?;
     program.add_byte(1)?;
     program.add_label(b"start", 0x8000_0000)?;
-    program.add_label(b"k", 0x8000_1000)?;
+    program.add_label(b"k", 0x8000_1000)
+}
+
+fn two_segments(alloc: Global) -> Result<Blob, NoMemory> {
+    let mut program = ProgramBuilder::new(alloc);
+    put_segments(alloc, &mut program)?;
     write(alloc, &program)
 }
 
@@ -74,12 +86,12 @@ fn one_segment(alloc: Global) -> Result<Blob, NoMemory> {
 #[test]
 fn writes_two_segments_and_leaves_out_an_empty_one(rt: HostRuntime) -> Result<(), Fail> {
     let image = two_segments(rt.alloc()).ok().ok_or("no memory")?;
-    assert_eq!(rt; image.as_slice(), TWO_SEGMENTS);
+    same(&rt, image.as_slice(), TWO_SEGMENTS, "the image");
     Ok(())
 }
 
 #[test]
-fn the_loader_reads_what_was_written(rt: HostRuntime) -> Result<(), Fail> {
+fn the_loader_reads_what_was_written(rt: HostRuntime) {
     let text = Seg {
         offset: 116,
         file: 4,
@@ -94,23 +106,37 @@ fn the_loader_reads_what_was_written(rt: HostRuntime) -> Result<(), Fail> {
         memory: 1,
         flags: 6,
     };
-    assert_eq!(rt;
-        entry_and_segments(TWO_SEGMENTS),
-        Some((0x8000_0000, [text, data]))
+    let image = entry_and_segments(TWO_SEGMENTS);
+    same(&rt, image, Some((0x8000_0000, [text, data])), "the image");
+    let symbols = [
+        symbol(TWO_SEGMENTS, "start"),
+        symbol(TWO_SEGMENTS, "k"),
+        symbol(TWO_SEGMENTS, "star"),
+    ];
+    same(
+        &rt,
+        symbols,
+        [Some(0x8000_0000), Some(0x8000_1000), None],
+        "symbols",
     );
-    assert_eq!(rt; symbol(TWO_SEGMENTS, "start"), Some(0x8000_0000));
-    assert_eq!(rt; symbol(TWO_SEGMENTS, "k"), Some(0x8000_1000));
-    assert_eq!(rt; symbol(TWO_SEGMENTS, "star"), None);
-    Ok(())
 }
 
-// `.text 0x80000000`, `li a7, 1`, `ecall`: `lui a7, 0`, `addi a7, a7, 1` and `ecall`, right after the one program
-// header.
-#[test]
-fn the_loader_reads_a_program_without_labels(rt: HostRuntime) -> Result<(), Fail> {
-    let file = one_segment(rt.alloc()).ok().ok_or("no memory")?;
-    let image = read_image(file.as_slice()).ok().ok_or("no image")?;
-    assert_eq!(rt; (image.entry, image.segments.len()), (0x8000_0000, 1));
+/// The entry of an image with one segment, and the segment.
+fn entry_and_segment(file: &[u8]) -> Option<(u32, Seg)> {
+    match read_image(file) {
+        Ok(image) => {
+            if image.segments.len() == 1 {
+                Some((image.entry, image.segments.get(0)))
+            } else {
+                None
+            }
+        }
+        Err(_) => None,
+    }
+}
+
+/// What the loader reads of a file, the file's bytes after one program header are the code, and no symbol has a name.
+fn read_one_segment(rt: &impl Abort, file: &[u8]) {
     let text = Seg {
         offset: 84,
         file: 12,
@@ -118,8 +144,21 @@ fn the_loader_reads_a_program_without_labels(rt: HostRuntime) -> Result<(), Fail
         memory: 12,
         flags: 5,
     };
-    assert_eq!(rt; image.segments.get(0), text);
-    assert_eq!(rt; file.as_slice().get(84..96), Some(CODE.as_slice()));
-    assert_eq!(rt; symbol(file.as_slice(), "start"), None);
+    same(
+        rt,
+        entry_and_segment(file),
+        Some((0x8000_0000, text)),
+        "the image",
+    );
+    same(rt, file.get(84..96), Some(CODE.as_slice()), "the code");
+    same(rt, symbol(file, "start"), None, "the symbol");
+}
+
+// `.text 0x80000000`, `li a7, 1`, `ecall`: `lui a7, 0`, `addi a7, a7, 1` and `ecall`, right after the one program
+// header.
+#[test]
+fn the_loader_reads_a_program_without_labels(rt: HostRuntime) -> Result<(), Fail> {
+    let file = one_segment(rt.alloc()).ok().ok_or("no memory")?;
+    read_one_segment(&rt, file.as_slice());
     Ok(())
 }

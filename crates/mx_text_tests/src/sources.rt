@@ -1,8 +1,9 @@
 //! Sources that are assembled, and the first fault of each.
+use crate::checks::same;
 use mx_asm::{AsmRefused, assemble};
 use mx_elf::{read_image, symbol};
 use mx_words::Blob;
-use std::alloc::Global;
+use std::alloc::{AllocError, Global};
 use std::test::Fail;
 
 mod statements;
@@ -13,14 +14,11 @@ use statements::STATEMENTS;
 const MOST: usize = 0x10_0000;
 
 /// The image of a source.
-fn image_of(alloc: Global, source: &str) -> Result<Blob, Fail> {
+fn image_of(alloc: Global, source: &str) -> Option<Blob> {
     if source.len() > MOST {
-        return Err("too long")?;
+        return None;
     }
-    match assemble(alloc, source) {
-        Ok(image) => Ok(image),
-        Err(_) => Err("refused")?,
-    }
+    assemble(alloc, source).ok()
 }
 
 /// The line and the number of a source's fault, (0, 0) where it has an image.
@@ -56,8 +54,11 @@ fn word_at(bytes: &[u8], at: usize) -> u32 {
     ])
 }
 
-/// The segments of an image: address, flags, number of bytes.
-fn segments_of(image: &[u8], place: u32) -> (u32, u32, u32) {
+/// A segment of an image: its address, its flags and the number of its bytes.
+type Segment = (u32, u32, u32);
+
+/// The segment with this number in an image, zeros where there is none.
+fn segment_at(image: &[u8], place: u32) -> Segment {
     match read_image(image) {
         Ok(read) => {
             if place < read.segments.len() {
@@ -74,117 +75,152 @@ fn segments_of(image: &[u8], place: u32) -> (u32, u32, u32) {
 /// Where the bytes of a program's one segment begin in its image.
 const FIRST: usize = 84;
 
+/// The first segment of an image, and the first four words of a program's one segment.
+fn start_of(image: &[u8]) -> (Segment, [u32; 4]) {
+    let words = [
+        word_at(image, FIRST),
+        word_at(image, FIRST + 4),
+        word_at(image, FIRST + 8),
+        word_at(image, FIRST + 12),
+    ];
+    (segment_at(image, 0), words)
+}
+
+/// The start of a source's image.
+fn start_in(alloc: Global, source: &str) -> Option<(Segment, [u32; 4])> {
+    let image = image_of(alloc, source)?;
+    Some(start_of(image.as_slice()))
+}
+
+/// The segment of a statement, and its word.
+fn word_of(alloc: Global, statement: &str) -> Option<(Segment, u32)> {
+    let source = [".text 0x80000000\n", statement].concat(alloc).ok()?;
+    let (segment, words) = start_in(alloc, source.as_str())?;
+    Some((segment, words[0]))
+}
+
 #[test]
-fn statements_are_those_of_another_assembler(rt: HostRuntime) -> Result<(), Fail> {
+fn statements_are_those_of_another_assembler(rt: HostRuntime) {
     for (statement, word) in &STATEMENTS {
-        let source = format!(in rt.alloc(); ".text 0x80000000\n{statement}")?;
-        let image = image_of(rt.alloc(), source.as_str())?;
-        assert_eq!(rt; word_at(image.as_slice(), FIRST), *word, "{statement}");
-        assert_eq!(rt; segments_of(image.as_slice(), 0), (0x8000_0000, 5, 4));
+        let got = word_of(rt.alloc(), statement);
+        same(&rt, got, Some(((0x8000_0000, 5, 4), *word)), statement);
     }
-    Ok(())
 }
 
 #[test]
 fn sources_give_their_words(rt: HostRuntime) -> Result<(), Fail> {
     for (source, size, words) in &statements::SOURCES {
-        let image = image_of(rt.alloc(), source)?;
-        let (_, _, bytes) = segments_of(image.as_slice(), 0);
-        assert_eq!(rt; bytes, *size, "{source}");
-        for (place, word) in words.iter().enumerate() {
-            assert_eq!(rt;
-                word_at(image.as_slice(), FIRST + 4 * (place % 4)),
-                *word,
-                "{source}"
-            );
-        }
+        let ((_, _, bytes), got) = start_in(rt.alloc(), source).ok_or("refused")?;
+        same(&rt, bytes, *size, source);
+        same(&rt, got.get(..words.len()), Some(*words), source);
     }
     Ok(())
 }
 
 /// The segment with this number in a source's image, the image's entry, and the number of its bytes.
-fn segment_in(
-    alloc: Global,
-    source: &str,
-    place: u32,
-) -> Result<((u32, u32, u32), u32, u32), Fail> {
+fn segment_in(alloc: Global, source: &str, place: u32) -> Option<(Segment, u32, u32)> {
     let image = image_of(alloc, source)?;
     let bytes = image.as_slice();
-    Ok((segments_of(bytes, place), word_at(bytes, 24), image.len()))
+    Some((segment_at(bytes, place), word_at(bytes, 24), image.len()))
+}
+
+/// What the loader finds in an image: its first two segments, the first word of the one and the first byte of the other,
+/// and symbols.
+type Found = ([Segment; 2], (u32, u8), [Option<u32>; 3]);
+
+fn found(image: &[u8]) -> Found {
+    (
+        [segment_at(image, 0), segment_at(image, 1)],
+        (word_at(image, 116), byte_at(image, 120)),
+        [
+            symbol(image, "start"),
+            symbol(image, "k"),
+            symbol(image, "st"),
+        ],
+    )
+}
+
+fn found_in(alloc: Global, source: &str) -> Option<Found> {
+    let image = image_of(alloc, source)?;
+    Some(found(image.as_slice()))
 }
 
 #[test]
 fn labels_and_segments_stand_where_the_loader_finds_them(rt: HostRuntime) -> Result<(), Fail> {
     let source = ".text 0x80000000\nstart: jal x0, start\n.data 0x80001000\nk: .byte 1\n";
-    let image = image_of(rt.alloc(), source)?;
-    let bytes = image.as_slice();
-    assert_eq!(rt;
-        (segments_of(bytes, 0), segments_of(bytes, 1)),
-        ((0x8000_0000, 5, 4), (0x8000_1000, 6, 1))
+    let (segments, starts, symbols) = found_in(rt.alloc(), source).ok_or("refused")?;
+    same(
+        &rt,
+        segments,
+        [(0x8000_0000, 5, 4), (0x8000_1000, 6, 1)],
+        source,
     );
-    assert_eq!(rt; (word_at(bytes, 116), byte_at(bytes, 120)), (0x6F, 1));
-    let symbols = [
-        symbol(bytes, "start"),
-        symbol(bytes, "k"),
-        symbol(bytes, "st"),
-    ];
-    assert_eq!(rt; symbols, [Some(0x8000_0000), Some(0x8000_1000), None]);
+    same(&rt, starts, (0x6F, 1), source);
+    same(
+        &rt,
+        symbols,
+        [Some(0x8000_0000), Some(0x8000_1000), None],
+        source,
+    );
     // The entry is the first segment's address, though it has no bytes.
-    let (first, entry, _) = segment_in(rt.alloc(), ".data 16\n.text 0x20\nx: ecall\n", 0)?;
-    assert_eq!(rt; (first, entry), ((0x20, 5, 4), 16));
-    let (_, entry, len) = segment_in(rt.alloc(), "# nothing\n", 0)?;
-    assert_eq!(rt; (len, entry), (192, 0));
+    let source = ".data 16\n.text 0x20\nx: ecall\n";
+    let (first, entry, _) = segment_in(rt.alloc(), source, 0).ok_or("refused")?;
+    same(&rt, (first, entry), ((0x20, 5, 4), 16), source);
+    let (_, entry, len) = segment_in(rt.alloc(), "# nothing\n", 0).ok_or("refused")?;
+    same(&rt, (len, entry), (192, 0), "nothing");
     Ok(())
 }
 
 #[test]
-fn the_first_line_and_on_it_the_least_number_is_told(rt: HostRuntime) -> Result<(), Fail> {
+fn the_first_line_and_on_it_the_least_number_is_told(rt: HostRuntime) {
     for (source, line, number) in &statements::FAULTS {
-        assert_eq!(rt; fault_of(rt.alloc(), source), (*line, *number), "{source}");
+        same(&rt, fault_of(rt.alloc(), source), (*line, *number), source);
     }
-    Ok(())
 }
 
-/// A label of so many letters on a line of its own.
-fn labelled(alloc: Global, letters: usize) -> Result<String, Fail> {
-    let mut source = String::from_str(alloc, ".text 0\n")?;
-    for _ in 0..letters {
-        source.push_str("a")?;
-    }
-    source.push_str(": ecall\n")?;
-    Ok(source)
+/// A text so many times, between two others.
+fn repeated(
+    alloc: Global,
+    before: &str,
+    item: &str,
+    count: usize,
+    after: &str,
+) -> Result<String, AllocError> {
+    let items = item.repeat(alloc, count)?;
+    [before, items.as_str(), after].concat(alloc)
 }
 
-/// So many segments of one instruction each.
-fn segmented(alloc: Global, segments: usize) -> Result<String, Fail> {
-    let mut source = String::new(alloc);
-    for _ in 0..segments {
-        source.push_str(".text 0\necall\n")?;
-    }
-    Ok(source)
-}
-
-/// The fault of a source with a label of so many letters.
-fn fault_of_label(alloc: Global, letters: usize) -> Result<(u32, u32), Fail> {
-    let source = labelled(alloc, letters)?;
+/// The fault of a source in which a text stands so many times.
+fn fault_of_many(
+    alloc: Global,
+    before: &str,
+    item: &str,
+    count: usize,
+    after: &str,
+) -> Result<(u32, u32), AllocError> {
+    let source = repeated(alloc, before, item, count, after)?;
     Ok(fault_of(alloc, source.as_str()))
 }
 
-/// The fault of a source with so many segments.
-fn fault_of_segments(alloc: Global, segments: usize) -> Result<(u32, u32), Fail> {
-    let source = segmented(alloc, segments)?;
-    Ok(fault_of(alloc, source.as_str()))
+/// The fault of a source with a label of so many letters on a line of its own.
+fn fault_of_label(alloc: Global, letters: usize) -> Result<(u32, u32), AllocError> {
+    fault_of_many(alloc, ".text 0\n", "a", letters, ": ecall\n")
+}
+
+/// The fault of a source with so many segments of one instruction each.
+fn fault_of_segments(alloc: Global, segments: usize) -> Result<(u32, u32), AllocError> {
+    fault_of_many(alloc, "", ".text 0\necall\n", segments, "")
 }
 
 #[test]
-fn limits_are_met_and_passed(rt: HostRuntime) -> Result<(), Fail> {
+fn limits_are_met_and_passed(rt: HostRuntime) {
     let alloc = rt.alloc();
-    let labels = (fault_of_label(alloc, 64)?, fault_of_label(alloc, 65)?);
-    assert_eq!(rt; labels, ((0, 0), (2, 1)));
-    let segments = (fault_of_segments(alloc, 16)?, fault_of_segments(alloc, 17)?);
-    assert_eq!(rt; segments, ((0, 0), (33, 9)));
-    let (whole, _, _) = segment_in(alloc, ".data 0\n.at 4194304\n", 0)?;
-    assert_eq!(rt; whole, (0, 6, 0x40_0000));
-    assert_eq!(rt; fault_of(alloc, ".data 0\n.at 4194304\n.byte 1\n"), (3, 10));
-    Ok(())
+    let labels = [fault_of_label(alloc, 64), fault_of_label(alloc, 65)];
+    same(&rt, labels, [Ok((0, 0)), Ok((2, 1))], "letters");
+    let segments = [fault_of_segments(alloc, 16), fault_of_segments(alloc, 17)];
+    same(&rt, segments, [Ok((0, 0)), Ok((33, 9))], "segments");
+    let whole = segment_in(alloc, ".data 0\n.at 4194304\n", 0).map(|(whole, _, _)| whole);
+    same(&rt, whole, Some((0, 6, 0x40_0000)), "the whole");
+    let fault = fault_of(alloc, ".data 0\n.at 4194304\n.byte 1\n");
+    same(&rt, fault, (3, 10), "one byte more");
 }

@@ -1,12 +1,15 @@
 //! Stores and sinks, in memory and real, and lines that are put together from pieces.
 ghost use Rattle.std.specs.Prelude.{[], Some};
 
+use crate::checks::{Text, same, text};
 use mx_io::{
     Bytes, Failed, FileSink, Files, FolderStore, Loose, Maker, Piece, Sink, StderrSink, StdoutSink,
     Store, put_all,
 };
 use mx_tail::put_line;
-use std::alloc::Global;
+use mx_words::NoMemory;
+use std::alloc::{Alloc, Global};
+use std::fmt::InlineText;
 use std::io::{ErrorKind, Write};
 use std::process::Abort;
 use std::rt::Files as HostFiles;
@@ -20,207 +23,283 @@ fn part<S: Store>(store: &mut S, name: &str, at: u64) -> Result<(usize, [u8; 4])
     Ok((count, into))
 }
 
-#[test]
-fn files_tell_sizes_and_give_parts(rt: HostRuntime) -> Result<(), Fail> {
-    let mut files = Files::new(rt.alloc());
+/// Names, places and how many bytes a read of four gives there.
+static PARTS: [(&str, u64, usize); 6] = [
+    ("a", 0, 4),
+    ("a", 3, 2),
+    ("a", 5, 0),
+    ("a", u64::MAX, 0),
+    ("b", 0, 0),
+    ("c", 0, 0),
+];
+
+/// A store of two files, `hello` and one without bytes, tells their sizes and gives parts of them.
+fn tells_files<S: Store>(rt: &impl Abort, store: &mut S) {
+    same(rt, store.size("a"), Ok(Some(5)), "a");
+    same(rt, store.size("b"), Ok(Some(0)), "b");
+    same(rt, store.size("c"), Ok(None), "c");
+    for (name, at, count) in &PARTS {
+        let read = part(store, name, *at).map(|(count, _)| count);
+        same(rt, (*at, read), (*at, Ok(*count)), name);
+    }
+    same(rt, part(store, "a", 3), Ok((2, *b"lo..")), "the end of a");
+}
+
+/// Files in memory, of which one is put anew.
+fn two_files(alloc: Global) -> Result<Files, NoMemory> {
+    let mut files = Files::new(alloc);
     files.add("a", b"old")?;
     files.add("b", b"")?;
     files.add("a", b"hello")?;
-    let sizes = [files.size("a"), files.size("b"), files.size("c")];
-    assert_eq!(rt; sizes, [Ok(Some(5)), Ok(Some(0)), Ok(None)]);
-    let parts = [
-        ("a", 0, 4),
-        ("a", 3, 2),
-        ("a", 5, 0),
-        ("a", u64::MAX, 0),
-        ("b", 0, 0),
-        ("c", 0, 0),
-    ];
-    for (name, at, count) in parts {
-        let (read, _) = part(&mut files, name, at)?;
-        assert_eq!(rt; read, count, "of {name} from {at}");
-    }
-    assert_eq!(rt; part(&mut files, "a", 3), Ok((2, *b"lo..")));
-    Ok(())
-}
-
-/// Makes four calls of files, of which the second and the third fail.
-fn call_files(rt: &impl Abort, alloc: Global) {
-    let mut files = Files::new(alloc);
-    files.fail_at(2);
-    files.fail_at(3);
-    let sizes = [files.size("a"), files.size("a")];
-    let read = files.read("a", 0, &mut [0]);
-    assert_eq!(rt; sizes, [Ok(None), Err(Failed)]);
-    assert_eq!(rt; (read, files.size("a")), (Err(Failed), Ok(None)));
+    Ok(files)
 }
 
 #[test]
-fn listed_calls_fail(rt: HostRuntime) -> Result<(), Fail> {
-    call_files(&rt, rt.alloc());
-    let mut bytes = Bytes::new(rt.alloc(), 16)?;
+fn files_tell_sizes_and_give_parts(rt: HostRuntime) -> Result<(), Fail> {
+    tells_files(&rt, &mut two_files(rt.alloc())?);
+    Ok(())
+}
+
+/// Makes four calls of a store without files, of which the second and the third fail.
+fn call_files<S: Store>(rt: &impl Abort, store: &mut S) {
+    same(rt, store.size("a"), Ok(None), "the first");
+    same(rt, store.size("a"), Err(Failed), "the second");
+    same(rt, store.read("a", 0, &mut [0]), Err(Failed), "the third");
+    same(rt, store.size("a"), Ok(None), "the fourth");
+}
+
+/// A store without files, of whose calls the second and the third fail.
+fn failing_files(alloc: Global) -> Files {
+    let mut files = Files::new(alloc);
+    files.fail_at(2);
+    files.fail_at(3);
+    files
+}
+
+/// Which of ten writes of a byte fail.
+fn failing_writes<S: Sink>(sink: &mut S) -> [bool; 10] {
+    let mut fails = [false; 10];
+    for fail in &mut fails {
+        *fail = sink.write(b"x").is_err();
+    }
+    fails
+}
+
+/// Which writes fail where ten are listed, one of them twice and two too many, and what is then written.
+fn listed_writes(alloc: Global) -> Option<([bool; 10], Text)> {
+    let mut bytes = Bytes::new(alloc, 16).ok()?;
     for call in [1, 2, 2, 3, 4, 5, 6, 7, 9, 10] {
         bytes.fail_at(call);
     }
-    for call in 1..11u64 {
-        let fails = call != 8 && call != 10;
-        assert_eq!(rt; bytes.write(b"x").is_err(), fails, "call {call}");
-    }
-    assert_eq!(rt; bytes.as_slice(), b"xx".as_slice());
-    Ok(())
+    let fails = failing_writes(&mut bytes);
+    Some((fails, text(bytes.as_slice())))
+}
+
+#[test]
+fn listed_calls_fail(rt: HostRuntime) {
+    call_files(&rt, &mut failing_files(rt.alloc()));
+    let fails = [true, true, true, true, true, true, true, false, true, false];
+    let writes = listed_writes(rt.alloc());
+    same(&rt, writes, Some((fails, text(b"xx"))), "writes");
+}
+
+/// What four writes come to.
+fn four_writes(bytes: &mut Bytes) -> [Result<usize, Failed>; 4] {
+    [
+        bytes.write(b"abc"),
+        bytes.write(b"def"),
+        bytes.write(b"ef"),
+        bytes.write(b""),
+    ]
 }
 
 #[test]
 fn bytes_take_what_there_is_room_for(rt: HostRuntime) -> Result<(), Fail> {
     let mut bytes = Bytes::new(rt.alloc(), 4)?;
-    let counts = [
-        bytes.write(b"abc"),
-        bytes.write(b"def"),
-        bytes.write(b"ef"),
-        bytes.write(b""),
-    ];
-    assert_eq!(rt; counts, [Ok(3), Ok(1), Err(Failed), Ok(0)]);
-    assert_eq!(rt; bytes.as_slice(), b"abcd".as_slice());
+    let counts = four_writes(&mut bytes);
+    same(&rt, counts, [Ok(3), Ok(1), Err(Failed), Ok(0)], "counts");
+    same(&rt, bytes.as_slice(), b"abcd".as_slice(), "bytes");
     Ok(())
+}
+
+/// A store of a file of four bytes tells another size of it.
+fn tells_a_loose_file<S: Store>(rt: &impl Abort, store: &mut S) {
+    same(rt, store.size("first.toml"), Ok(Some(10)), "the size");
+    same(rt, store.size("other"), Ok(None), "another file");
+    let mut into = [0; 10];
+    same(
+        rt,
+        store.read("first.toml", 0, &mut into),
+        Ok(4),
+        "the start",
+    );
+    same(rt, into, *b"four\0\0\0\0\0\0", "its bytes");
+    same(rt, store.read("first.toml", 4, &mut into), Ok(0), "the end");
 }
 
 #[test]
 fn a_loose_file_is_shorter_than_told(rt: HostRuntime) -> Result<(), Fail> {
     let mut loose = Loose::new(rt.alloc());
     loose.add("first.toml", 10, b"four")?;
-    assert_eq!(rt; loose.size("first.toml"), Ok(Some(10)));
-    assert_eq!(rt; loose.size("other"), Ok(None));
-    let mut into = [0; 10];
-    assert_eq!(rt; loose.read("first.toml", 0, &mut into), Ok(4));
-    assert_eq!(rt; into, *b"four\0\0\0\0\0\0");
-    assert_eq!(rt; loose.read("first.toml", 4, &mut into), Ok(0));
+    tells_a_loose_file(&rt, &mut loose);
     Ok(())
 }
 
-#[test]
-fn pieces_make_a_line(rt: HostRuntime) -> Result<(), Fail> {
-    let line = [
-        Piece::Text("step="),
-        Piece::Number(u64::MAX),
-        Piece::Text(" code="),
-        Piece::Signed(-7),
-        Piece::Text(" pc="),
-        Piece::Hex(0x0189_abcd),
-        Piece::Text(" "),
-        Piece::Digits(0xef),
-        Piece::Text("\n"),
-    ];
-    let text = b"step=18446744073709551615 code=-7 pc=0x0189abcd 000000ef\n";
-    let mut bytes = Bytes::new(rt.alloc(), 100)?;
-    assert_eq!(rt; put_line(&mut bytes, &line), Ok(()));
-    assert_eq!(rt; bytes.as_slice(), text.as_slice());
-
-    let mut short = Bytes::new(rt.alloc(), 10)?;
-    assert_eq!(rt; put_line(&mut short, &line), Err(Failed));
-    assert_eq!(rt; short.as_slice(), &text[..10]);
-    Ok(())
+/// What a line comes to with so much room, and what stands there then.
+fn line_of(alloc: Global, room: u64, line: &[Piece<'_>]) -> Option<(Result<(), Failed>, Text)> {
+    let mut bytes = Bytes::new(alloc, room).ok()?;
+    let put = put_line(&mut bytes, line);
+    Some((put, text(bytes.as_slice())))
 }
 
+/// Pieces of each kind.
+static LINE: [Piece<'static>; 9] = [
+    Piece::Text("step="),
+    Piece::Number(u64::MAX),
+    Piece::Text(" code="),
+    Piece::Signed(-7),
+    Piece::Text(" pc="),
+    Piece::Hex(0x0189_abcd),
+    Piece::Text(" "),
+    Piece::Digits(0xef),
+    Piece::Text("\n"),
+];
+
 #[test]
-fn a_line_is_one_write(rt: HostRuntime) -> Result<(), Fail> {
-    let line = [
-        Piece::Text("no file "),
-        Piece::Name("a\nend\u{1b}\u{7f}"),
-        Piece::Text("\n"),
-    ];
-    let mut bytes = Bytes::new(rt.alloc(), 100)?;
+fn pieces_make_a_line(rt: HostRuntime) {
+    let line = text(b"step=18446744073709551615 code=-7 pc=0x0189abcd 000000ef\n");
+    let whole = line_of(rt.alloc(), 100, &LINE);
+    same(&rt, whole, Some((Ok(()), line)), "the whole");
+    let short = line_of(rt.alloc(), 10, &LINE);
+    same(
+        &rt,
+        short,
+        Some((Err(Failed), text(b"step=18446"))),
+        "10 bytes",
+    );
+}
+
+static NAMED: [Piece<'static>; 3] = [
+    Piece::Text("no file "),
+    Piece::Name("a\nend\u{1b}\u{7f}"),
+    Piece::Text("\n"),
+];
+
+/// What a line comes to two times where the second write fails, and what stands there then.
+fn two_lines(alloc: Global) -> Option<([Result<(), Failed>; 2], Text)> {
+    let mut bytes = Bytes::new(alloc, 100).ok()?;
     bytes.fail_at(2);
-    assert_eq!(rt; put_line(&mut bytes, &line), Ok(()));
-    assert_eq!(rt; put_line(&mut bytes, &line), Err(Failed));
-    assert_eq!(rt; bytes.as_slice(), b"no file a?end??\n".as_slice());
-    Ok(())
+    let puts = [put_line(&mut bytes, &NAMED), put_line(&mut bytes, &NAMED)];
+    Some((puts, text(bytes.as_slice())))
 }
 
 #[test]
-fn control_characters_of_names_are_not_shown(rt: HostRuntime) -> Result<(), Fail> {
-    let names = [
-        ("first.toml", "first.toml"),
-        ("\0\t\n\u{1f}", "????"),
-        ("\u{1b}[2J\u{7f}", "?[2J?"),
-        ("a\u{80}\u{85}\u{9b}\u{9f}b", "a????b"),
-        (
-            "\u{a0}\u{c2}\u{e9}\u{2028}\u{1d11e}",
-            "\u{a0}\u{c2}\u{e9}\u{2028}\u{1d11e}",
-        ),
-        ("", ""),
-    ];
-    for (name, shown) in names {
-        let mut bytes = Bytes::new(rt.alloc(), 100)?;
-        put_line(&mut bytes, &[Piece::Name(name)])?;
-        assert_eq!(rt; bytes.as_slice(), shown.as_bytes());
+fn a_line_is_one_write(rt: HostRuntime) {
+    let puts = [Ok(()), Err(Failed)];
+    let line = text(b"no file a?end??\n");
+    same(&rt, two_lines(rt.alloc()), Some((puts, line)), "two lines");
+}
+
+/// Names, and how they are shown.
+static SHOWN: [(&str, &str); 6] = [
+    ("first.toml", "first.toml"),
+    ("\0\t\n\u{1f}", "????"),
+    ("\u{1b}[2J\u{7f}", "?[2J?"),
+    ("a\u{80}\u{85}\u{9b}\u{9f}b", "a????b"),
+    (
+        "\u{a0}\u{c2}\u{e9}\u{2028}\u{1d11e}",
+        "\u{a0}\u{c2}\u{e9}\u{2028}\u{1d11e}",
+    ),
+    ("", ""),
+];
+
+#[test]
+fn control_characters_of_names_are_not_shown(rt: HostRuntime) {
+    for (name, shown) in &SHOWN {
+        let got = line_of(rt.alloc(), 100, &[Piece::Name(name)]);
+        same(&rt, got, Some((Ok(()), text(shown.as_bytes()))), shown);
     }
-    Ok(())
+}
+
+/// Places in `hello`, and how many bytes a read of four gives there.
+static PLACES: [(u64, usize); 4] = [(0, 4), (3, 2), (5, 0), (u64::MAX, 0)];
+
+/// A store of a folder with the file `hello` tells its size and gives parts of it.
+fn tells_a_folder<S: Store>(rt: &impl Abort, store: &mut S) {
+    same(rt, store.size("a"), Ok(Some(5)), "a");
+    same(rt, store.size("b"), Ok(None), "b");
+    for (at, count) in &PLACES {
+        let read = part(store, "a", *at).map(|(count, _)| count);
+        same(rt, (*at, read), (*at, Ok(*count)), "place and count");
+    }
+    same(rt, part(store, "a", 3), Ok((2, *b"lo..")), "the end of a");
+    same(rt, part(store, "b", 0), Err(Failed), "no file");
 }
 
 #[test]
 fn files_in_memory_are_a_folder(rt: HostRuntime) -> Result<(), Fail> {
     let mut files = Files::new(rt.alloc());
     files.add("a", b"hello")?;
-    let mut store = FolderStore::over(&files);
-    assert_eq!(rt; (store.size("a"), store.size("b")), (Ok(Some(5)), Ok(None)));
-    for (at, count) in [(0, 4), (3, 2), (5, 0), (u64::MAX, 0)] {
-        let (read, _) = part(&mut store, "a", at)?;
-        assert_eq!(rt; read, count, "from {at}");
-    }
-    let parts = [part(&mut store, "a", 3), part(&mut store, "b", 0)];
-    assert_eq!(rt; parts, [Ok((2, *b"lo..")), Err(Failed)]);
+    tells_a_folder(&rt, &mut FolderStore::over(&files));
     Ok(())
 }
 
-/// What a store tells of a name: a size, and what a read from the start gives.
-type Told = (Result<Option<u64>, Failed>, Result<usize, Failed>);
-
-fn told<S: Store>(store: &mut S, name: &str) -> Told {
-    (store.size(name), store.read(name, 0, &mut [0; 5]))
+/// Whether a file or a folder was made and taken away again.
+fn is_done<T: Drop>(done: io::Result<T>) -> bool {
+    done.is_ok()
 }
 
-/// What it tells of a file of eight bytes that stands there meanwhile: its size, and two reads with the bytes of the first.
-fn told_of_a_file<S: Store>(
-    rt: &impl HostFiles,
-    store: &mut S,
-) -> Result<(Told, [u8; 5], Result<usize, Failed>), Fail> {
-    fs::write(rt, "mx_io_a_file", "seven by")?;
-    let size = store.size("mx_io_a_file");
+/// What a store tells of a file of eight bytes that stands there meanwhile.
+fn tells_a_file<R: Abort + HostFiles, S: Store>(rt: &R, store: &mut S) {
+    let name = "mx_io_a_file";
+    same(rt, is_done(fs::write(rt, name, "seven by")), true, "made");
+    let size = store.size(name);
     let mut into = [0; 5];
-    let part = store.read("mx_io_a_file", 3, &mut into);
-    let end = store.read("mx_io_a_file", 8, &mut [0]);
-    fs::remove_file(rt, "mx_io_a_file")?;
-    Ok(((size, part), into, end))
+    let part = store.read(name, 3, &mut into);
+    let end = store.read(name, 8, &mut [0]);
+    same(rt, is_done(fs::remove_file(rt, name)), true, "removed");
+    same(rt, size, Ok(Some(8)), "the size");
+    same(rt, part, Ok(5), "a part");
+    same(rt, into, *b"en by", "its bytes");
+    same(rt, end, Ok(0), "the end");
 }
 
-/// What it tells of a folder that stands there meanwhile.
-fn told_of_a_folder<S: Store>(rt: &impl HostFiles, store: &mut S) -> Result<Told, Fail> {
-    fs::create_dir(rt, "mx_io_a_folder")?;
-    let told = told(store, "mx_io_a_folder");
-    fs::remove_dir(rt, "mx_io_a_folder")?;
-    Ok(told)
+/// A store tells this size of a name, and a read from the start fails.
+fn refuses<S: Store>(
+    rt: &impl Abort,
+    store: &mut S,
+    name: &str,
+    size: Result<Option<u64>, Failed>,
+) {
+    same(rt, store.size(name), size, name);
+    same(rt, store.read(name, 0, &mut [0; 5]), Err(Failed), name);
 }
 
-/// What the store of the current folder tells, of a file and then of a name without one, of a folder and of a device.
-fn told_by_the_folder(
-    rt: &impl HostFiles,
-) -> Result<((Told, [u8; 5], Result<usize, Failed>), [Told; 3]), Fail> {
-    let mut store = FolderStore::new(rt);
-    let file = told_of_a_file(rt, &mut store)?;
-    let absent = told(&mut store, "mx_io_no_file");
-    let folder = told_of_a_folder(rt, &mut store)?;
-    let device = told(&mut store, "/dev/zero");
-    Ok((file, [absent, folder, device]))
+/// What the store of the current folder tells, of a file and then of a name without one, of a folder that stands there
+/// meanwhile, and of a device.
+fn tells_the_folder<R: Abort + HostFiles, S: Store>(rt: &R, store: &mut S) {
+    tells_a_file(rt, store);
+    refuses(rt, store, "mx_io_no_file", Ok(None));
+    same(
+        rt,
+        is_done(fs::create_dir(rt, "mx_io_a_folder")),
+        true,
+        "made",
+    );
+    refuses(rt, store, "mx_io_a_folder", Err(Failed));
+    same(
+        rt,
+        is_done(fs::remove_dir(rt, "mx_io_a_folder")),
+        true,
+        "removed",
+    );
+    // A device is no regular file, and isn't opened.
+    refuses(rt, store, "/dev/zero", Err(Failed));
 }
 
 #[test]
-fn the_folder_is_a_store(rt: HostRuntime) -> Result<(), Fail> {
-    let (file, others) = told_by_the_folder(&rt)?;
-    assert_eq!(rt; file, ((Ok(Some(8)), Ok(5)), *b"en by", Ok(0)));
-    // A device is no regular file, and isn't opened.
-    let fails = (Err(Failed), Err(Failed));
-    assert_eq!(rt; others, [(Ok(None), Err(Failed)), fails, fails]);
-    Ok(())
+fn the_folder_is_a_store(rt: HostRuntime) {
+    tells_the_folder(&rt, &mut FolderStore::new(&rt));
 }
 
 // A writer that takes nothing.
@@ -238,27 +317,36 @@ impl Write for Full {
 }
 
 #[test]
-fn standard_streams_are_sinks(rt: HostRuntime) -> Result<(), Fail> {
-    assert_eq!(rt;
-        put_all(&mut StdoutSink::new(rt.stdout()), b"to stdout\n"),
-        Ok(())
+fn standard_streams_are_sinks(rt: HostRuntime) {
+    let out = put_all(&mut StdoutSink::new(rt.stdout()), b"to stdout\n");
+    same(&rt, out, Ok(()), "stdout");
+    let out = put_all(&mut StderrSink::new(rt.stderr()), b"to stderr\n");
+    same(&rt, out, Ok(()), "stderr");
+    same(
+        &rt,
+        StdoutSink::new(Full).write(b"a"),
+        Err(Failed),
+        "a full one",
     );
-    assert_eq!(rt;
-        put_all(&mut StderrSink::new(rt.stderr()), b"to stderr\n"),
-        Ok(())
+    same(
+        &rt,
+        StderrSink::new(Full).write(b"a"),
+        Err(Failed),
+        "a full one",
     );
-    assert_eq!(rt; StdoutSink::new(Full).write(b"a"), Err(Failed));
-    assert_eq!(rt; StderrSink::new(Full).write(b"a"), Err(Failed));
-    Ok(())
+}
+
+/// What puts on the two streams come to.
+fn put_streams<W: Write>(written: &mut W) -> [Result<(), Failed>; 2] {
+    let first = put_all(&mut StdoutSink::new(&mut *written), b"one, ");
+    [first, put_all(&mut StderrSink::new(written), b"two")]
 }
 
 #[test]
-fn streams_append_to_writers(rt: HostRuntime) -> Result<(), Fail> {
+fn streams_append_to_writers(rt: HostRuntime) {
     let mut written = Vec::new(rt.alloc());
-    put_all(&mut StdoutSink::new(&mut written), b"one, ")?;
-    put_all(&mut StderrSink::new(&mut written), b"two")?;
-    assert_eq!(rt; written.as_slice(), b"one, two".as_slice());
-    Ok(())
+    same(&rt, put_streams(&mut written), [Ok(()), Ok(())], "puts");
+    same(&rt, written.as_slice(), b"one, two".as_slice(), "bytes");
 }
 
 // Lends a vector as a file, once.
@@ -283,52 +371,80 @@ impl<'a> Maker for Lent<'a> {
     }
 }
 
+/// Lends a vector and puts what is given on it, piece by piece.
+fn put_lent(file: &mut Vec<u8>, pieces: &[&[u8]]) -> bool {
+    let mut sink = FileSink::over(Lent { file: Some(file) });
+    put_pieces(&mut sink, pieces)
+}
+
+/// Whether all pieces are put.
+fn put_pieces<S: Sink>(sink: &mut S, pieces: &[&[u8]]) -> bool {
+    for piece in pieces {
+        if put_all(sink, piece).is_err() {
+            return false;
+        }
+    }
+    true
+}
+
 #[test]
 fn a_file_is_made_at_the_first_write(rt: HostRuntime) -> Result<(), Fail> {
-    let mut file = Vec::from_slice(rt.alloc(), b"what stood there before")?;
-    let mut sink = FileSink::over(Lent {
-        file: Some(&mut file),
-    });
-    put_all(&mut sink, b"")?;
-    assert_eq!(rt; file.as_slice(), b"what stood there before".as_slice());
-
-    let mut sink = FileSink::over(Lent {
-        file: Some(&mut file),
-    });
-    put_all(&mut sink, b"two ")?;
-    put_all(&mut sink, b"writes")?;
-    assert_eq!(rt; file.as_slice(), b"two writes".as_slice());
-    assert_eq!(rt;
-        FileSink::over(Lent { file: None }).write(b"a"),
-        Err(Failed)
+    let before = b"what stood there before".as_slice();
+    let mut file = Vec::from_slice(rt.alloc(), before)?;
+    same(&rt, put_lent(&mut file, &[b""]), true, "nothing is put");
+    same(&rt, file.as_slice(), before, "nothing");
+    same(
+        &rt,
+        put_lent(&mut file, &[b"two ", b"writes"]),
+        true,
+        "two are put",
     );
+    same(&rt, file.as_slice(), b"two writes".as_slice(), "two");
+    let refused = FileSink::over(Lent { file: None }).write(b"a");
+    same(&rt, refused, Err(Failed), "no file");
     Ok(())
 }
 
-/// What a write to the dump comes to where a folder stands.
-fn write_to_a_folder<S: Sink>(
-    rt: &impl HostFiles,
-    sink: &mut S,
-) -> Result<Result<usize, Failed>, Fail> {
-    fs::create_dir(rt, "memory.bin")?;
-    let refused = sink.write(b"a");
-    fs::remove_dir(rt, "memory.bin")?;
-    Ok(refused)
+/// The text of the dump, or another where there is none.
+fn dump<R: HostFiles + Alloc>(rt: &R) -> InlineText<64> {
+    match fs::read_to_string(rt, "memory.bin") {
+        Ok(text) => InlineText::of(text.as_str()),
+        Err(_) => InlineText::of("no dump"),
+    }
+}
+
+/// A write to the dump fails where a folder stands; where a file stands, the first write with bytes takes its place.
+fn writes_the_dump<R: Abort + HostFiles + Alloc, S: Sink>(rt: &R, sink: &mut S) {
+    same(rt, is_done(fs::create_dir(rt, "memory.bin")), true, "made");
+    same(rt, sink.write(b"a"), Err(Failed), "a folder");
+    same(
+        rt,
+        is_done(fs::remove_dir(rt, "memory.bin")),
+        true,
+        "removed",
+    );
+
+    let before = "what stood there before";
+    same(
+        rt,
+        is_done(fs::write(rt, "memory.bin", before)),
+        true,
+        "made",
+    );
+    same(rt, put_all(sink, b""), Ok(()), "nothing");
+    same(rt, dump(rt).as_str(), before, "nothing");
+    same(rt, put_all(sink, b"two "), Ok(()), "the first");
+    same(rt, put_all(sink, b"writes"), Ok(()), "the second");
+    same(rt, dump(rt).as_str(), "two writes", "the dump");
+    same(
+        rt,
+        is_done(fs::remove_file(rt, "memory.bin")),
+        true,
+        "removed",
+    );
 }
 
 #[test]
-fn the_dump_goes_to_a_file(rt: HostRuntime) -> Result<(), Fail> {
-    let mut sink = FileSink::new(&rt);
-    assert_eq!(rt; write_to_a_folder(&rt, &mut sink)?, Err(Failed));
-
-    fs::write(&rt, "memory.bin", "what stood there before")?;
-    let nothing = put_all(&mut sink, b"");
-    let before = fs::read_to_string(&rt, "memory.bin")?;
-    let puts = [put_all(&mut sink, b"two "), put_all(&mut sink, b"writes")];
-    let text = fs::read_to_string(&rt, "memory.bin")?;
-    fs::remove_file(&rt, "memory.bin")?;
-    assert_eq!(rt; (nothing, puts), (Ok(()), [Ok(()), Ok(())]));
-    let texts = (before.as_str(), text.as_str());
-    assert_eq!(rt; texts, ("what stood there before", "two writes"));
-    Ok(())
+fn the_dump_goes_to_a_file(rt: HostRuntime) {
+    writes_the_dump(&rt, &mut FileSink::new(&rt));
 }

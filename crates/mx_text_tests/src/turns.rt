@@ -3,11 +3,14 @@ ghost use Rattle.std.specs.Prelude.{IfSome};
 ghost use Rattle.mx_isa.specs.Ranges.{IsValid};
 ghost use Rattle.mx_trace.specs.Lines.{seen_inst};
 
-use mx_io::Bytes;
+use crate::checks::{Text, same, text};
+use mx_io::{Bytes, Failed};
 use mx_isa::{Inst, decode};
 use mx_model::TurnKind;
 use mx_tail::Tail;
 use mx_trace::{Seen, kind_name, put_turn, turn_line};
+use std::alloc::Global;
+use std::process::Abort;
 use std::test::Fail;
 
 /// A hart in a domain, with the word at its pc; None where no text of it is shown.
@@ -105,63 +108,72 @@ fn seen(stands: Stands) -> Option<Seen>
     }
 }
 
+/// What the line of a turn comes to with so much room, and what stands there then.
+fn line_of(
+    alloc: Global,
+    room: u64,
+    step: u64,
+    hart: u32,
+    before: Option<Seen>,
+    kind: TurnKind,
+) -> Option<(Result<(), Failed>, Text)>
+    requires { IfSome (seen_inst before) IsValid }
+{
+    let mut sink = Bytes::new(alloc, room).ok()?;
+    let put = turn_line(&mut sink, step, hart, before, kind);
+    Some((put, text(sink.as_slice())))
+}
+
 #[test]
-fn turn_lines_are_those_of_the_rule(rt: HostRuntime) -> Result<(), Fail> {
+fn turn_lines_are_those_of_the_rule(rt: HostRuntime) {
     for (step, hart, stands, kind, line) in &LINES {
-        let mut sink = Bytes::new(rt.alloc(), 80)?;
-        assert_eq!(rt;
-            turn_line(&mut sink, *step, *hart, seen(*stands), *kind),
-            Ok(())
-        );
-        assert_eq!(rt; sink.as_slice(), line.as_bytes(), "{line}");
+        let got = line_of(rt.alloc(), 80, *step, *hart, seen(*stands), *kind);
+        same(&rt, got, Some((Ok(()), text(line.as_bytes()))), line);
     }
-    Ok(())
+}
+
+/// Two idle turns are put and nothing is written; then the tail ends.
+fn put_two_turns(rt: &impl Abort, tail: &mut Tail, sink: &mut Bytes) {
+    for step in 1..3 {
+        let put = put_turn(tail, sink, step, 1, None, TurnKind::Idle);
+        same(rt, put, Ok(()), "the put");
+        same(rt, sink.as_slice().len(), 0, "bytes so far");
+    }
+    same(rt, tail.end(sink), Ok(()), "the end");
+    let lines = b"turn 1 1 - - idle -\nturn 2 1 - - idle -\n";
+    same(rt, sink.as_slice(), lines.as_slice(), "the lines");
 }
 
 #[test]
 fn turn_lines_leave_together(rt: HostRuntime) -> Result<(), Fail> {
     let mut sink = Bytes::new(rt.alloc(), 80)?;
     let mut tail = Tail::new();
-    for step in 1..3 {
-        assert_eq!(rt;
-            put_turn(&mut tail, &mut sink, step, 1, None, TurnKind::Idle),
-            Ok(())
-        );
-        assert_eq!(rt; sink.as_slice().len(), 0);
-    }
-    assert_eq!(rt; tail.end(&mut sink), Ok(()));
-    assert_eq!(rt;
-        sink.as_slice(),
-        b"turn 1 1 - - idle -\nturn 2 1 - - idle -\n".as_slice()
-    );
+    put_two_turns(&rt, &mut tail, &mut sink);
     Ok(())
 }
 
 #[test]
-fn a_turn_line_without_room_is_a_prefix(rt: HostRuntime) -> Result<(), Fail> {
+fn a_turn_line_without_room_is_a_prefix(rt: HostRuntime) {
     let before = seen(Some((1, 0x8000_0000, Some(0x0010_0893))));
-    let mut sink = Bytes::new(rt.alloc(), 28)?;
-    assert_eq!(rt;
-        turn_line(&mut sink, 1, 0, before, TurnKind::Ran).is_err(),
-        true
-    );
-    assert_eq!(rt; sink.as_slice(), b"turn 1 0 1 0x80000000 ran ad".as_slice());
-    Ok(())
+    let got = line_of(rt.alloc(), 28, 1, 0, before, TurnKind::Ran);
+    let line = text(b"turn 1 0 1 0x80000000 ran ad");
+    same(&rt, got, Some((Err(Failed), line)), "28 bytes");
 }
 
+/// Kinds with their names.
+static KINDS: [(TurnKind, &str); 7] = [
+    (TurnKind::Idle, "idle"),
+    (TurnKind::Waited, "waited"),
+    (TurnKind::Ran, "ran"),
+    (TurnKind::Crossed, "crossed"),
+    (TurnKind::Returned, "returned"),
+    (TurnKind::Trapped, "trapped"),
+    (TurnKind::Called, "called"),
+];
+
 #[test]
-fn kinds_have_their_names(rt: HostRuntime) -> Result<(), Fail> {
-    let kinds = [
-        (TurnKind::Idle, "idle"),
-        (TurnKind::Waited, "waited"),
-        (TurnKind::Ran, "ran"),
-        (TurnKind::Crossed, "crossed"),
-        (TurnKind::Returned, "returned"),
-        (TurnKind::Trapped, "trapped"),
-        (TurnKind::Called, "called"),
-    ];
-    for (kind, name) in kinds {
-        assert_eq!(rt; kind_name(kind), name);
+fn kinds_have_their_names(rt: HostRuntime) {
+    for (kind, name) in &KINDS {
+        same(&rt, kind_name(*kind), name, name);
     }
-    Ok(())
 }

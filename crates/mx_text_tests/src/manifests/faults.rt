@@ -1,11 +1,13 @@
 //! Each fault, at each place where it can stand. A case is a line: the number of the fault, its place and its key,
 //! and then lines of a manifest with semicolons between.
 
-use super::{HART, MODULE, ONE, TWO, joined, judge};
-use mx_manifest::{BootFault, ManifestFault, Part};
+use super::{HART, MODULE, ONE, TWO, refusal_of};
+use crate::checks::same;
+use mx_manifest::{ManifestFault, Part, Place};
 use std::alloc::Global;
+use std::fmt;
+use std::fmt::InlineText;
 use std::process::Abort;
-use std::test::Fail;
 
 /// First lines of a manifest.
 const TOPS: &str = r#"2 manifest - | version = 1; ram_kib = 64; color = 1
@@ -171,81 +173,76 @@ const ORDERS: &str =
 8 hart.3 module | version = 1; ram_kib = 64; [[module]]; name = "m"; at = 0x80000000; perm = "rx"; words = [19]; [[module]]; name = "k"; at = 0x80000100; perm = "r"; words = [1]; [[hart]]; module = "m"; [[hart]]; module = "k"; [[hart]]; module = "x"
 "#;
 
-/// A fault as the cases write it.
-fn fault_text(alloc: Global, fault: &BootFault) -> Result<String, Fail> {
-    let (number, index, key) = (fault.number, fault.place.index, fault.place.key.name());
-    let (part, is_one_of_many) = match fault.place.part {
-        Part::Manifest => ("manifest", false),
-        Part::Module => ("module", true),
-        Part::Hart => ("hart", true),
-        Part::Schedule => ("schedule", false),
-    };
-    Ok(if is_one_of_many {
-        format!(in alloc; "{number} {part}.{index} {key}")?
-    } else {
-        format!(in alloc; "{number} {part} {key}")?
-    })
-}
+/// What a manifest gives: why it is refused. It is shown as the cases write it.
+#[derive(Clone, Copy)]
+struct Answer(Option<ManifestFault>);
 
-/// What a text gives, as the cases write it.
-fn verdict(alloc: Global, text: &str) -> Result<String, Fail> {
-    match judge(alloc, text) {
-        Ok(_) => Ok(String::from_str(alloc, "accepted")?),
-        Err(ManifestFault::NoMemory) => Ok(String::from_str(alloc, "no table")?),
-        Err(ManifestFault::Fault(fault)) => fault_text(alloc, &fault),
+impl fmt::Display for Answer {
+    fn fmt<W: fmt::Write>(&self, f: &mut fmt::Formatter<W>) -> fmt::Result {
+        match self.0 {
+            None => f.write_str("accepted"),
+            Some(ManifestFault::NoMemory) => f.write_str("no table"),
+            Some(ManifestFault::Fault(fault)) => show_fault(f, fault.number, fault.place),
+        }
     }
 }
 
-/// The lines of a case, one below the other, between two parts of a manifest.
-fn framed(alloc: Global, before: &str, lines: &str, after: &str) -> Result<String, Fail> {
-    let mut text = String::from_str(alloc, before)?;
-    for line in lines.split(';') {
-        text.push_str(line)?;
-        text.push_str("\n")?;
+fn show_part<W: fmt::Write>(f: &mut fmt::Formatter<W>, part: Part, index: u32) -> fmt::Result {
+    match part {
+        Part::Manifest => f.write_str("manifest"),
+        Part::Module => write!(f, "module.{index}"),
+        Part::Hart => write!(f, "hart.{index}"),
+        Part::Schedule => f.write_str("schedule"),
     }
-    text.push_str(after)?;
-    Ok(text)
 }
 
-/// What lines between two parts of a manifest give, as the cases write it.
-fn answer(alloc: Global, before: &str, lines: &str, after: &str) -> Result<String, Fail> {
-    let text = framed(alloc, before, lines, after)?;
-    verdict(alloc, text.as_str())
+fn show_fault<W: fmt::Write>(f: &mut fmt::Formatter<W>, number: u32, place: Place) -> fmt::Result {
+    write!(f, "{number} ")?;
+    show_part(f, place.part, place.index)?;
+    f.write_str(" ")?;
+    f.write_str(place.key.name())
 }
 
-/// Judges each case between two parts of a manifest.
-fn judge_cases(
-    rt: &impl Abort,
-    alloc: Global,
-    before: &str,
-    cases: &str,
-    after: &str,
-) -> Result<(), Fail> {
+/// What cases have in common: the parts of a manifest before their lines, and those after them.
+type Frame = ([&'static str; 3], [&'static str; 2]);
+
+/// What the lines of a case give, one below the other, in a frame.
+fn answer_to(alloc: Global, frame: &Frame, lines: &str) -> Answer {
+    let ([first, second, third], [fourth, fifth]) = *frame;
+    match lines.replace(alloc, ';', "\n") {
+        Ok(text) => {
+            let parts = [first, second, third, text.as_str(), "\n", fourth, fifth];
+            Answer(refusal_of(alloc, &parts))
+        }
+        Err(_) => Answer(Some(ManifestFault::NoMemory)),
+    }
+}
+
+/// Judges each case in a frame. No line without a mark between its two halves holds.
+fn judge_cases(rt: &impl Abort, alloc: Global, frame: &Frame, cases: &str) {
     for case in cases.lines() {
-        let (want, lines) = case.split_once('|').ok_or("no case")?;
-        let got = answer(alloc, before, lines, after)?;
-        assert_eq!(rt; got.as_str(), want.trim(), "{case}");
+        let (want, lines) = case.split_once('|').unwrap_or(("a mark", case));
+        let got = InlineText::<64>::of(answer_to(alloc, frame, lines));
+        same(rt, got.as_str(), want.trim(), case);
     }
-    Ok(())
 }
+
+fn judge_groups(rt: &impl Abort, alloc: Global, groups: &[(Frame, &str)]) {
+    for (frame, cases) in groups {
+        judge_cases(rt, alloc, frame, cases);
+    }
+}
+
+static GROUPS: [(Frame, &str); 6] = [
+    ((["", "", ""], [MODULE, HART]), TOPS),
+    ((["", "", ""], ["", ""]), BARE),
+    (([ONE, "[[module]]\n", ""], [HART, ""]), MODULES),
+    (([TWO, "[[module]]\n", ""], [HART, ""]), MODULES_OF_TWO),
+    (([ONE, MODULE, "[[hart]]\n"], ["", ""]), HARTS),
+    ((["", "", ""], ["", ""]), ORDERS),
+];
 
 #[test]
-fn tells_each_fault_at_its_place(rt: HostRuntime) -> Result<(), Fail> {
-    let alloc = rt.alloc();
-    let rest = joined(alloc, MODULE, HART, "")?;
-    let one = joined(alloc, ONE, "[[module]]\n", "")?;
-    let two = joined(alloc, TWO, "[[module]]\n", "")?;
-    let hart = joined(alloc, ONE, MODULE, "[[hart]]\n")?;
-    let groups = [
-        ("", TOPS, rest.as_str()),
-        ("", BARE, ""),
-        (one.as_str(), MODULES, HART),
-        (two.as_str(), MODULES_OF_TWO, HART),
-        (hart.as_str(), HARTS, ""),
-        ("", ORDERS, ""),
-    ];
-    for (before, cases, after) in groups {
-        judge_cases(&rt, alloc, before, cases, after)?;
-    }
-    Ok(())
+fn tells_each_fault_at_its_place(rt: HostRuntime) {
+    judge_groups(&rt, rt.alloc(), &GROUPS);
 }

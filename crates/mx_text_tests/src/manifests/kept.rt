@@ -1,9 +1,11 @@
 //! What is kept of a plan.
 
-use super::{HART, MODULE, TWO, joined, plan_of};
+use super::{HART, MODULE, TWO, judge};
+use crate::checks::same;
 use mx_snapshot::Kept;
 use mx_words::{Kind, Need};
 use std::alloc::Global;
+use std::fmt::InlineText;
 use std::test::Fail;
 
 /// The lines of the keys that are kept.
@@ -13,52 +15,52 @@ const TOP: &str =
 /// A second module.
 const SECOND: &str = "[[module]]\nname = \"n_2\"\nat = 0x80000004\nperm = \"r\"\nwords = [1]\n";
 
-/// What is kept of a manifest of two modules, after its plan is gone.
-fn kept(alloc: Global, top: &str) -> Result<Kept, Fail> {
-    let modules = joined(alloc, top, MODULE, SECOND)?;
-    let text = joined(alloc, TWO, modules.as_str(), HART)?;
-    let plan = plan_of(alloc, text.as_str())?;
-    Ok(Kept::of(alloc, &plan)?)
-}
-
-/// A name, where there is one.
-fn name(kept: &Kept, i: u32) -> Option<&str> {
-    if i < kept.modules() {
-        Some(kept.name(i))
-    } else {
-        None
-    }
-}
-
 /// The kind of tables, their limit, the size of buffers, and the quantum.
-fn keys(kept: &Kept) -> (Kind, Need, u32, u32) {
-    (kept.kind(), kept.limit(), kept.lookaside(), kept.quantum())
+type Keys = (Kind, Need, u32, u32);
+
+/// What is kept: the keys, the number of modules, and the first two names.
+type Told = (Keys, u32, [InlineText<32>; 2]);
+
+/// A name, or no text where there is none.
+fn name(kept: &Kept, i: u32) -> InlineText<32> {
+    InlineText::of(if i < kept.modules() { kept.name(i) } else { "" })
+}
+
+fn told(kept: &Kept) -> Told {
+    let keys = (kept.kind(), kept.limit(), kept.lookaside(), kept.quantum());
+    (keys, kept.modules(), [name(kept, 0), name(kept, 1)])
+}
+
+/// What is kept of a manifest of two modules.
+fn kept(alloc: Global, top: &str) -> Option<Told> {
+    let plan = judge(alloc, &[TWO, top, MODULE, SECOND, HART]).ok()?;
+    let kept = Kept::of(alloc, &plan).ok()?;
+    Some(told(&kept))
 }
 
 #[test]
 fn what_is_kept_of_a_plan(rt: HostRuntime) -> Result<(), Fail> {
-    let kept = kept(rt.alloc(), TOP)?;
+    let (keys, modules, [first, second]) = kept(rt.alloc(), TOP).ok_or("refused")?;
     let limit = Need {
         upper: 3,
         leaf: 5,
         spill: 7,
     };
-    assert_eq!(rt; keys(&kept), (Kind::Multilevel, limit, 8, 1000));
-    assert_eq!(rt;
-        (kept.modules(), name(&kept, 0), name(&kept, 1)),
-        (2, Some("m"), Some("n_2"))
-    );
+    same(&rt, keys, (Kind::Multilevel, limit, 8, 1000), "keys");
+    same(&rt, modules, 2, "modules");
+    same(&rt, first.as_str(), "m", "the first name");
+    same(&rt, second.as_str(), "n_2", "the second name");
     Ok(())
 }
 
 #[test]
 fn what_is_kept_of_a_plan_of_defaults(rt: HostRuntime) -> Result<(), Fail> {
-    let kept = kept(rt.alloc(), "")?;
+    let (keys, _, _) = kept(rt.alloc(), "").ok_or("refused")?;
     let limit = Need {
         upper: 128,
         leaf: 4096,
         spill: 4096,
     };
-    assert_eq!(rt; keys(&kept), (Kind::Packed, limit, 32, 1));
+    same(&rt, keys, (Kind::Packed, limit, 32, 1), "keys");
     Ok(())
 }
