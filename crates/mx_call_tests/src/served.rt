@@ -10,18 +10,17 @@ use mx_model::Gate;
 use mx_packed::Packed;
 use mx_segments::Segments;
 use mx_trie::{Trie, Vector};
-use mx_words::{Need, NoMemory, Perm, Span};
+use mx_words::{Kind, Need, NoMemory, Perm, Span};
 use std::alloc::Global;
-use std::test::Fail;
+
+/// The place of the first step that goes otherwise, if any.
+type Went = Result<Option<usize>, NoMemory>;
+
+/// All steps go as they say.
+const WELL: Went = Ok(None);
 
 /// The place of the first step that goes otherwise over segment tables, from a start.
-fn over_segments(
-    alloc: Global,
-    own: Span,
-    other: Span,
-    heap: Block,
-    steps: &[Step],
-) -> Result<Option<usize>, NoMemory>
+fn over_segments(alloc: Global, own: Span, other: Span, heap: Block, steps: &[Step]) -> Went
     requires own { IsSample own }
     requires other { IsSample other }
     requires heap { heap.first + heap.count ≤ 16384 }
@@ -33,13 +32,7 @@ fn over_segments(
 }
 
 /// The place of the first step that goes otherwise over a multilevel trie, from a start.
-fn over_multilevel(
-    alloc: Global,
-    own: Span,
-    other: Span,
-    heap: Block,
-    steps: &[Step],
-) -> Result<Option<usize>, NoMemory>
+fn over_multilevel(alloc: Global, own: Span, other: Span, heap: Block, steps: &[Step]) -> Went
     requires own { IsSample own }
     requires other { IsSample other }
     requires heap { heap.first + heap.count ≤ 16384 }
@@ -51,13 +44,7 @@ fn over_multilevel(
 }
 
 /// The place of the first step that goes otherwise over a packed trie, from a start.
-fn over_packed(
-    alloc: Global,
-    own: Span,
-    other: Span,
-    heap: Block,
-    steps: &[Step],
-) -> Result<Option<usize>, NoMemory>
+fn over_packed(alloc: Global, own: Span, other: Span, heap: Block, steps: &[Step]) -> Went
     requires own { IsSample own }
     requires other { IsSample other }
     requires heap { heap.first + heap.count ≤ 16384 }
@@ -68,13 +55,34 @@ fn over_packed(
     }
 }
 
+/// The same over tables of a kind.
+fn over(kind: Kind, alloc: Global, own: Span, other: Span, heap: Block, steps: &[Step]) -> Went
+    requires own { IsSample own }
+    requires other { IsSample other }
+    requires heap { heap.first + heap.count ≤ 16384 }
+{
+    match kind {
+        Kind::Segments => over_segments(alloc, own, other, heap, steps),
+        Kind::Multilevel => over_multilevel(alloc, own, other, heap, steps),
+        Kind::Packed => over_packed(alloc, own, other, heap, steps),
+    }
+}
+
+/// The same over tables of each kind.
+fn over_each(alloc: Global, own: Span, other: Span, heap: Block, steps: &[Step]) -> [Went; 3]
+    requires own { IsSample own }
+    requires other { IsSample other }
+    requires heap { heap.first + heap.count ≤ 16384 }
+{
+    [
+        over(Kind::Segments, alloc, own, other, heap, steps),
+        over(Kind::Multilevel, alloc, own, other, heap, steps),
+        over(Kind::Packed, alloc, own, other, heap, steps),
+    ]
+}
+
 /// The same of a supervisor at its limits, with so many live blocks.
-fn over_crowded_segments(
-    alloc: Global,
-    limit: Need,
-    blocks: u32,
-    steps: &[Step],
-) -> Result<Option<usize>, NoMemory>
+fn over_crowded_segments(alloc: Global, limit: Need, blocks: u32, steps: &[Step]) -> Went
     requires { IsLimit limit }
 {
     match crowded::<Segments, 8>(alloc, limit, blocks) {
@@ -84,12 +92,7 @@ fn over_crowded_segments(
 }
 
 /// The same of a supervisor at its limits, with so many live blocks.
-fn over_crowded_multilevel(
-    alloc: Global,
-    limit: Need,
-    blocks: u32,
-    steps: &[Step],
-) -> Result<Option<usize>, NoMemory>
+fn over_crowded_multilevel(alloc: Global, limit: Need, blocks: u32, steps: &[Step]) -> Went
     requires { IsLimit limit }
 {
     match crowded::<Trie<Vector>, 8>(alloc, limit, blocks) {
@@ -99,17 +102,23 @@ fn over_crowded_multilevel(
 }
 
 /// The same of a supervisor at its limits, with so many live blocks.
-fn over_crowded_packed(
-    alloc: Global,
-    limit: Need,
-    blocks: u32,
-    steps: &[Step],
-) -> Result<Option<usize>, NoMemory>
+fn over_crowded_packed(alloc: Global, limit: Need, blocks: u32, steps: &[Step]) -> Went
     requires { IsLimit limit }
 {
     match crowded::<Trie<Packed>, 8>(alloc, limit, blocks) {
         Some(mut machine) => Ok(other_step(&mut machine, steps)),
         None => Err(NoMemory),
+    }
+}
+
+/// The same over tables of a kind.
+fn over_crowded(kind: Kind, alloc: Global, limit: Need, blocks: u32, steps: &[Step]) -> Went
+    requires { IsLimit limit }
+{
+    match kind {
+        Kind::Segments => over_crowded_segments(alloc, limit, blocks, steps),
+        Kind::Multilevel => over_crowded_multilevel(alloc, limit, blocks, steps),
+        Kind::Packed => over_crowded_packed(alloc, limit, blocks, steps),
     }
 }
 
@@ -161,14 +170,9 @@ static GRANT_REFUSALS: [Step; 9] = [
 ];
 
 #[test]
-fn grants_are_refused_in_order(rt: HostRuntime) -> Result<(), Fail> {
-    let segments = over_segments(rt.alloc(), FOUR_WORDS, APART, NO_HEAP, &GRANT_REFUSALS);
-    assert_eq!(rt; segments, Ok(None));
-    let multilevel = over_multilevel(rt.alloc(), FOUR_WORDS, APART, NO_HEAP, &GRANT_REFUSALS);
-    assert_eq!(rt; multilevel, Ok(None));
-    let packed = over_packed(rt.alloc(), FOUR_WORDS, APART, NO_HEAP, &GRANT_REFUSALS);
-    assert_eq!(rt; packed, Ok(None));
-    Ok(())
+fn grants_are_refused_in_order(rt: HostRuntime) {
+    let got = over_each(rt.alloc(), FOUR_WORDS, APART, NO_HEAP, &GRANT_REFUSALS);
+    assert_eq!(rt; got, [WELL; 3]);
 }
 
 // Domain 1 has seven words of code, and domain 2 has read on word 2048.
@@ -184,14 +188,9 @@ static GRANT_WITH_ONE_HART: [Step; 8] = [
 ];
 
 #[test]
-fn a_grant_of_a_hart_alone_takes_effect_at_once(rt: HostRuntime) -> Result<(), Fail> {
-    let segments = over_segments(rt.alloc(), CODE, SHARED, NO_HEAP, &GRANT_WITH_ONE_HART);
-    assert_eq!(rt; segments, Ok(None));
-    let multilevel = over_multilevel(rt.alloc(), CODE, SHARED, NO_HEAP, &GRANT_WITH_ONE_HART);
-    assert_eq!(rt; multilevel, Ok(None));
-    let packed = over_packed(rt.alloc(), CODE, SHARED, NO_HEAP, &GRANT_WITH_ONE_HART);
-    assert_eq!(rt; packed, Ok(None));
-    Ok(())
+fn a_grant_of_a_hart_alone_takes_effect_at_once(rt: HostRuntime) {
+    let got = over_each(rt.alloc(), CODE, SHARED, NO_HEAP, &GRANT_WITH_ONE_HART);
+    assert_eq!(rt; got, [WELL; 3]);
 }
 
 /// The gate through which domain 2 enters domain 1.
@@ -208,14 +207,9 @@ static EXIT_INSIDE_A_CALL: [Step; 3] = [
 ];
 
 #[test]
-fn an_exit_inside_a_call_is_refused(rt: HostRuntime) -> Result<(), Fail> {
-    let segments = over_segments(rt.alloc(), CODE, SHARED, NO_HEAP, &EXIT_INSIDE_A_CALL);
-    assert_eq!(rt; segments, Ok(None));
-    let multilevel = over_multilevel(rt.alloc(), CODE, SHARED, NO_HEAP, &EXIT_INSIDE_A_CALL);
-    assert_eq!(rt; multilevel, Ok(None));
-    let packed = over_packed(rt.alloc(), CODE, SHARED, NO_HEAP, &EXIT_INSIDE_A_CALL);
-    assert_eq!(rt; packed, Ok(None));
-    Ok(())
+fn an_exit_inside_a_call_is_refused(rt: HostRuntime) {
+    let got = over_each(rt.alloc(), CODE, SHARED, NO_HEAP, &EXIT_INSIDE_A_CALL);
+    assert_eq!(rt; got, [WELL; 3]);
 }
 
 /// The block that is made.
@@ -243,14 +237,9 @@ static ALLOC_STORE_FREE: [Step; 14] = [
 ];
 
 #[test]
-fn a_block_may_be_written_while_it_lives(rt: HostRuntime) -> Result<(), Fail> {
-    let segments = over_segments(rt.alloc(), CODE, SHARED, HEAP, &ALLOC_STORE_FREE);
-    assert_eq!(rt; segments, Ok(None));
-    let multilevel = over_multilevel(rt.alloc(), CODE, SHARED, HEAP, &ALLOC_STORE_FREE);
-    assert_eq!(rt; multilevel, Ok(None));
-    let packed = over_packed(rt.alloc(), CODE, SHARED, HEAP, &ALLOC_STORE_FREE);
-    assert_eq!(rt; packed, Ok(None));
-    Ok(())
+fn a_block_may_be_written_while_it_lives(rt: HostRuntime) {
+    let got = over_each(rt.alloc(), CODE, SHARED, HEAP, &ALLOC_STORE_FREE);
+    assert_eq!(rt; got, [WELL; 3]);
 }
 
 // Each call with each of its codes but that of full tables, and once or more without a refusal, in an order in which each finds
@@ -312,14 +301,11 @@ static CALLS: [Step; 53] = [
 ];
 
 #[test]
-fn each_call_answers_by_its_row(rt: HostRuntime) -> Result<(), Fail> {
-    let segments = over_crowded_segments(rt.alloc(), AMPLE, 1024, &CALLS);
-    assert_eq!(rt; segments, Ok(None));
-    let multilevel = over_crowded_multilevel(rt.alloc(), AMPLE, 1024, &CALLS);
-    assert_eq!(rt; multilevel, Ok(None));
-    let packed = over_crowded_packed(rt.alloc(), AMPLE, 1024, &CALLS);
-    assert_eq!(rt; packed, Ok(None));
-    Ok(())
+fn each_call_answers_by_its_row(rt: HostRuntime) {
+    let segments = over_crowded(Kind::Segments, rt.alloc(), AMPLE, 1024, &CALLS);
+    let multilevel = over_crowded(Kind::Multilevel, rt.alloc(), AMPLE, 1024, &CALLS);
+    let packed = over_crowded(Kind::Packed, rt.alloc(), AMPLE, 1024, &CALLS);
+    assert_eq!(rt; [segments, multilevel, packed], [WELL; 3]);
 }
 
 /// Just what a trie takes at the start: two root and two mid tables, and a leaf table for the page of domain 1's words. All other
@@ -356,17 +342,20 @@ static FULL_FRAME: [Step; 5] = [
 ];
 
 #[test]
-fn full_segments_refuse_changes_of_rights(rt: HostRuntime) -> Result<(), Fail> {
-    let segments = over_crowded_segments(rt.alloc(), ONE_FRAME_EACH, 1023, &FULL_FRAME);
-    assert_eq!(rt; segments, Ok(None));
-    Ok(())
+fn full_segments_refuse_changes_of_rights(rt: HostRuntime) {
+    let segments = over_crowded(
+        Kind::Segments,
+        rt.alloc(),
+        ONE_FRAME_EACH,
+        1023,
+        &FULL_FRAME,
+    );
+    assert_eq!(rt; segments, WELL);
 }
 
 #[test]
-fn full_tries_refuse_changes_of_rights(rt: HostRuntime) -> Result<(), Fail> {
-    let multilevel = over_crowded_multilevel(rt.alloc(), TIGHT, 1023, &FULL);
-    assert_eq!(rt; multilevel, Ok(None));
-    let packed = over_crowded_packed(rt.alloc(), TIGHT, 1023, &FULL);
-    assert_eq!(rt; packed, Ok(None));
-    Ok(())
+fn full_tries_refuse_changes_of_rights(rt: HostRuntime) {
+    let multilevel = over_crowded(Kind::Multilevel, rt.alloc(), TIGHT, 1023, &FULL);
+    let packed = over_crowded(Kind::Packed, rt.alloc(), TIGHT, 1023, &FULL);
+    assert_eq!(rt; [multilevel, packed], [WELL; 2]);
 }
