@@ -3,7 +3,7 @@
 //! status 1 where an answer differs.
 #![tactic(auto)]
 
-ghost use Rattle.std.specs.Prelude.{◌<◌, ◌≤◌};
+ghost use Rattle.std.specs.Prelude.{◌≡◌, ◌<◌, ◌≤◌};
 ghost use Rattle.mx_table.specs.Tables.{most_words, most_modules, IsLimit};
 
 mod changes;
@@ -22,11 +22,11 @@ use mx_segments::Segments;
 use mx_table::PermTables;
 use mx_trie::{Trie, Vector};
 use mx_words::Need;
-use replay::Replay;
+use replay::{Replay, Stop};
 use std::alloc::Global;
 use std::io;
 use std::process::ExitCode;
-use tally::Parts;
+use tally::{Parts, Tally};
 
 /// A limit that no replay reaches.
 const AMPLE: Need = Need {
@@ -49,49 +49,43 @@ fn kinds(rt: &impl Print, alloc: Global) -> io::Result<bool> {
 
 /// The replays of segment tables: all need is for leaf frames.
 fn segments(rt: &impl Print, alloc: Global) -> io::Result<bool> {
-    let limit = |leaf| Need {
-        upper: 0,
-        leaf,
-        spill: 0,
-    };
-    let replays = [
-        large(AMPLE),
-        large(limit(8)),
-        small(AMPLE),
-        small(limit(4)),
-        huge(8, AMPLE),
-    ];
+    let replays = replays(need(0, 8, 0), need(0, 4, 0), huge(8, AMPLE));
     tell::<Segments, PlainTables<AsSegments>>(rt, alloc, "segments", &replays)
 }
 
 /// The replays of tries with plain entries, which need no spill words.
 fn multilevel(rt: &impl Print, alloc: Global) -> io::Result<bool> {
-    let limit = |upper, leaf| Need {
-        upper,
-        leaf,
-        spill: 0,
-    };
-    let replays = [
-        large(AMPLE),
-        large(limit(7, 36)),
-        small(AMPLE),
-        small(limit(5, 9)),
-        huge(20, limit(5, 8)),
-    ];
+    let replays = replays(need(7, 36, 0), need(5, 9, 0), huge(20, need(5, 8, 0)));
     tell::<Trie<Vector>, PlainTables<AsMultilevel>>(rt, alloc, "multilevel", &replays)
 }
 
 /// The replays of tries with packed entries.
 fn replay_packed(rt: &impl Print, alloc: Global) -> io::Result<bool> {
-    let limit = |upper, leaf, spill| Need { upper, leaf, spill };
-    let replays = [
-        large(AMPLE),
-        large(limit(7, 40, 12)),
-        small(AMPLE),
-        small(limit(5, 9, 6)),
-        huge(20, AMPLE),
-    ];
+    let replays = replays(need(7, 40, 12), need(5, 9, 6), huge(20, AMPLE));
     tell::<Trie<Packed>, PlainTables<AsPacked>>(rt, alloc, "packed", &replays)
+}
+
+/// A need or a limit of so many upper frames, leaf frames and spill words.
+fn need(upper: u32, leaf: u32, spill: u32) -> Need
+    ensures upper { result.upper ≡ upper }
+    ensures leaf { result.leaf ≡ leaf }
+    ensures spill { result.spill ≡ spill }
+{
+    Need { upper, leaf, spill }
+}
+
+/// The large replay and the small one, each without a limit that it reaches and then with one, and a huge one.
+fn replays(large_limit: Need, small_limit: Need, huge: Replay) -> [Replay; 5]
+    requires large { IsLimit large_limit }
+    requires small { IsLimit small_limit }
+{
+    [
+        large(AMPLE),
+        large(large_limit),
+        small(AMPLE),
+        small(small_limit),
+        huge,
+    ]
 }
 
 /// A replay of 600 changes over 64 KiB of RAM, in three domains.
@@ -142,19 +136,27 @@ fn tell<T: PermTables + Drop, P: PermTables + Drop>(
 ) -> io::Result<bool> {
     for replay in replays {
         let run = replay.run::<T, P>(alloc);
-        print!(rt;
-            "{kind}, {} words, {} domains, limit {}: ",
-            replay.words,
-            replay.domains,
-            Parts(replay.limit)
-        )?;
-        match run {
-            Ok(tally) => println!(rt; "{tally}")?,
-            Err(stop) => {
-                println!(rt; "{stop:?}")?;
-                return Ok(false);
-            }
+        tell_what(rt, kind, replay)?;
+        if !tell_run(rt, run)? {
+            return Ok(false);
         }
     }
     Ok(true)
+}
+
+/// Begins the line of a replay with what is replayed.
+fn tell_what(rt: &impl Print, kind: &str, replay: &Replay) -> io::Result<()> {
+    let words = replay.words;
+    let domains = replay.domains;
+    let limit = Parts(replay.limit);
+    print!(rt; "{kind}, {words} words, {domains} domains, limit {limit}: ")
+}
+
+/// Ends the line of a replay with what was done. The answer is whether no answer differed.
+fn tell_run(rt: &impl Print, run: Result<Tally, Stop>) -> io::Result<bool> {
+    match run {
+        Ok(tally) => println!(rt; "{tally}")?,
+        Err(stop) => println!(rt; "{stop:?}")?,
+    }
+    Ok(run.is_ok())
 }

@@ -1,6 +1,6 @@
 //! One replay: the same changes on tables and on plain lists.
-ghost use Rattle.std.specs.Prelude.{◌≡◌, ◌+◌, ◌<◌, ◌≤◌, length, IfOk};
-ghost use Rattle.mx_table.specs.Tables.{most_words, most_modules, IsLimit};
+ghost use Rattle.std.specs.Prelude.{◌≡◌, ◌+◌, ◌<◌, ◌≤◌, length, All, IfOk};
+ghost use Rattle.mx_table.specs.Tables.{most_words, most_modules, IsLimit, IsRow};
 
 use crate::changes::change;
 use crate::mix::Mix;
@@ -10,7 +10,7 @@ use crate::rows::rows;
 use crate::sides::{Difference, Sides};
 use crate::tally::{Step, Tally};
 use mx_table::{BuildRefused, PermTables};
-use mx_words::{Need, NoMemory};
+use mx_words::{Need, NoMemory, Spans};
 use std::alloc::Global;
 
 /// What is replayed.
@@ -34,7 +34,7 @@ pub struct Replay {
 }
 
 /// Why a replay ended early.
-#[derive(Clone, Copy, PartialEq, Eq, Debug)]
+#[derive(Clone, Copy, Debug)]
 pub enum Stop {
     /// An allocation was refused.
     NoMemory,
@@ -72,8 +72,22 @@ impl Replay {
         ensures size { IfOk result (λ s. T.size s.tables ≡ self.now.words) }
     {
         let rows = rows(alloc, numbers, self.mix, self.words, self.domains)?;
-        let tables = T::build(alloc, self.words, &rows, self.limit)?;
-        let plain = P::build(alloc, self.words, &rows, self.limit)?;
+        self.build_of(alloc, &rows)
+    }
+
+    /// Builds tables and lists of these rows, one for each domain.
+    fn build_of<T: PermTables + Drop, P: PermTables + Drop>(
+        &self,
+        alloc: Global,
+        rows: &[Spans],
+    ) -> Result<Sides<T, P>, Stop>
+        requires rows { All (IsRow self.now.words) rows.now }
+        requires domains { length rows.now ≡ self.now.domains }
+        ensures maps { IfOk result (λ s. length (T.maps s.tables) ≡ self.now.domains) }
+        ensures size { IfOk result (λ s. T.size s.tables ≡ self.now.words) }
+    {
+        let tables = T::build(alloc, self.words, rows, self.limit)?;
+        let plain = P::build(alloc, self.words, rows, self.limit)?;
         Ok(Sides {
             tables,
             plain,
@@ -90,35 +104,58 @@ impl Replay {
     {
         let mut numbers = Numbers::new(u64::from(self.words));
         let mut sides = self.build::<T, P>(alloc, &mut numbers)?;
+        self.run_on(&mut sides, &mut numbers)
+    }
+
+    /// Replays the changes on both sides.
+    fn run_on<T: PermTables, P: PermTables>(
+        &self,
+        sides: &mut Sides<T, P>,
+        numbers: &mut Numbers,
+    ) -> Result<Tally, Stop>
+        ensures { IfOk result (λ t. t.made + t.refused ≡ self.now.changes) }
+    {
         let mut tally = Tally::new(self.limit);
-        let differs = |after, difference| Stop::Differs { after, difference };
-        sample(&mut sides, &mut numbers, self.mix).map_err(|difference| differs(0, difference))?;
+        sample(sides, numbers, self.mix, 0)?;
         for after in 0..self.changes {
-            match step(&mut sides, &mut numbers, self.mix) {
+            match step(sides, numbers, self.mix) {
                 Ok(step) => tally.count(step),
-                Err(difference) => return Err(differs(after, difference)),
+                Err(difference) => return Err(Stop::Differs { after, difference }),
             }
         }
-        sample(&mut sides, &mut numbers, self.mix).map_err(|difference| differs(
-            self.changes,
-            difference,
-        ))?;
+        sample(sides, numbers, self.mix, self.changes)?;
         tally.compared = sides.compared;
         Ok(tally)
     }
 }
 
-/// Compares the two sides at random words.
+/// Compares the two sides at random words, where so many changes were tried.
 fn sample<T: PermTables, P: PermTables>(
     sides: &mut Sides<T, P>,
     numbers: &mut Numbers,
     mix: Mix,
+    after: u32,
+) -> Result<(), Stop>
+    ensures maps { length (T.maps sides.new.tables) ≡ length (T.maps sides.old.tables) }
+    ensures size { T.size sides.new.tables ≡ T.size sides.old.tables }
+{
+    match compare(sides, numbers, mix.sample()) {
+        Ok(()) => Ok(()),
+        Err(difference) => Err(Stop::Differs { after, difference }),
+    }
+}
+
+/// Compares what both sides use, and so many random words.
+fn compare<T: PermTables, P: PermTables>(
+    sides: &mut Sides<T, P>,
+    numbers: &mut Numbers,
+    words: u32,
 ) -> Result<(), Difference>
     ensures maps { length (T.maps sides.new.tables) ≡ length (T.maps sides.old.tables) }
     ensures size { T.size sides.new.tables ≡ T.size sides.old.tables }
 {
     sides.used()?;
-    read_some(sides, numbers, mix.sample())
+    read_some(sides, numbers, words)
 }
 
 /// Makes a random change where it fits, and compares the two sides after it.

@@ -1,5 +1,5 @@
 //! Random rows of spans, of which tables are built.
-ghost use Rattle.std.specs.Prelude.{◌≡◌, ◌+◌, ◌*◌, ◌<◌, ◌≤◌, All, IfOk, vec_len};
+ghost use Rattle.std.specs.Prelude.{◌≡◌, ◌+◌, ◌*◌, ◌<◌, ◌≤◌, All, IfOk, OnOk, vec_len};
 ghost use Rattle.mx_table.specs.Tables.{IsRow, most_words, most_modules};
 
 use crate::mix::Mix;
@@ -22,11 +22,28 @@ pub fn rows(
 {
     let mut rows = Vec::new(alloc);
     for _ in 0..domains {
-        let spans = numbers.below(mix.spans());
-        let row = row(alloc, numbers, mix, words, spans)?;
-        rows.push(row)?;
+        add_row(&mut rows, alloc, numbers, mix, words)?;
     }
     Ok(rows)
+}
+
+/// Puts a row behind the others.
+fn add_row(
+    rows: &mut Vec<Spans>,
+    alloc: Global,
+    numbers: &mut Numbers,
+    mix: Mix,
+    words: u32,
+) -> Result<(), NoMemory>
+    requires few { words ≤ most_words }
+    requires rows { All (IsRow words) rows.old.items }
+    ensures rows { OnOk result (All (IsRow words) rows.new.items) }
+    ensures count { OnOk result (vec_len rows.new ≡ vec_len rows.old + 1) }
+{
+    let spans = numbers.below(mix.spans());
+    let row = row(alloc, numbers, mix, words, spans)?;
+    rows.push(row)?;
+    Ok(())
 }
 
 /// A row of so many spans, or fewer where RAM ends.

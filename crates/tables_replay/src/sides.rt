@@ -1,5 +1,5 @@
 //! Tables beside plain lists: both are asked the same, and what they answer is compared.
-ghost use Rattle.std.specs.Prelude.{◌≡◌, ◌<◌, ◌≤◌, length, IfOk, OnOk};
+ghost use Rattle.std.specs.Prelude.{◌≡◌, ◌<◌, ◌≤◌, length, IfOk, OnOk, IsTrue};
 ghost use Rattle.mx_words.specs.Need.{need, fits};
 ghost use Rattle.mx_table.specs.Change.{IsLawful, changed};
 ghost use Rattle.mx_table.specs.Tables.{IsDomain};
@@ -23,7 +23,7 @@ pub struct Sides<T: PermTables, P: PermTables> {
 }
 
 /// Where tables and plain lists differ.
-#[derive(Clone, Copy, PartialEq, Eq, Debug)]
+#[derive(Clone, Copy, Debug)]
 pub enum Difference {
     /// Whether a change fits.
     Fits {
@@ -77,6 +77,13 @@ fn read_word<T: PermTables>(tables: &mut T, domain: u32, word: u32) -> Reading
     Reading { perm, span, shown }
 }
 
+/// Whether two readings are the same.
+fn is_same(one: Reading, other: Reading) -> bool
+    ensures { IsTrue result → one ≡ other }
+{
+    one == other
+}
+
 impl<T: PermTables, P: PermTables> Sides<T, P> {
     /// Makes a change on both sides where it fits, and says whether it did.
     pub fn make(&mut self, change: &Change) -> Result<bool, Difference>
@@ -127,7 +134,7 @@ impl<T: PermTables, P: PermTables> Sides<T, P> {
         let tables = read_word(&mut self.tables, domain, word);
         let plain = read_word(&mut self.plain, domain, word);
         self.compared = self.compared.saturating_add(1);
-        if tables == plain {
+        if is_same(tables, plain) {
             Ok(())
         } else {
             Err(Difference::Word {

@@ -1,5 +1,5 @@
 use Rattle.std.proofs.Common.{◌≡◌, ◌+◌, ◌≤◌}
-use Rattle.tables_replay.proofs.replay.Replay.run.Given as goal
+use Rattle.tables_replay.proofs.replay.Replay.run_on.Given as goal
 
 abbrev pub invariant-loop-after : goal.invariant-loop-after
 invariant-loop-after g l = record {
