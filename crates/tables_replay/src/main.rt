@@ -22,11 +22,11 @@ use mx_segments::Segments;
 use mx_table::PermTables;
 use mx_trie::{Trie, Vector};
 use mx_words::Need;
-use replay::{Replay, Stop};
+use replay::Replay;
 use std::alloc::Global;
 use std::io;
 use std::process::ExitCode;
-use tally::{Parts, Tally};
+use tally::Parts;
 
 /// A limit that no replay reaches.
 const AMPLE: Need = Need {
@@ -136,27 +136,19 @@ fn tell<T: PermTables + Drop, P: PermTables + Drop>(
 ) -> io::Result<bool> {
     for replay in replays {
         let run = replay.run::<T, P>(alloc);
-        tell_what(rt, kind, replay)?;
-        if !tell_run(rt, run)? {
-            return Ok(false);
+        print!(rt;
+            "{kind}, {} words, {} domains, limit {}: ",
+            replay.words,
+            replay.domains,
+            Parts(replay.limit)
+        )?;
+        match run {
+            Ok(tally) => println!(rt; "{tally}")?,
+            Err(stop) => {
+                println!(rt; "{stop:?}")?;
+                return Ok(false);
+            }
         }
     }
     Ok(true)
-}
-
-/// Begins the line of a replay with what is replayed.
-fn tell_what(rt: &impl Print, kind: &str, replay: &Replay) -> io::Result<()> {
-    let words = replay.words;
-    let domains = replay.domains;
-    let limit = Parts(replay.limit);
-    print!(rt; "{kind}, {words} words, {domains} domains, limit {limit}: ")
-}
-
-/// Ends the line of a replay with what was done. The answer is whether no answer differed.
-fn tell_run(rt: &impl Print, run: Result<Tally, Stop>) -> io::Result<bool> {
-    match run {
-        Ok(tally) => println!(rt; "{tally}")?,
-        Err(stop) => println!(rt; "{stop:?}")?,
-    }
-    Ok(run.is_ok())
 }

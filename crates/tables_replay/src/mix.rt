@@ -2,7 +2,7 @@
 ghost use Rattle.std.specs.Prelude.{◌<◌, ◌≤◌};
 
 /// What rows and changes are like.
-#[derive(Clone, Copy, PartialEq, Eq, Debug)]
+#[derive(Clone, Copy)]
 pub enum Mix {
     /// Mostly of one word or some dozens, now and then of eighths of pages, of pages, of half of RAM or of all of it.
     Words,

@@ -53,7 +53,7 @@ pub enum Difference {
 }
 
 /// What is read of a word.
-#[derive(Clone, Copy, PartialEq, Eq, Debug)]
+#[derive(Clone, Copy, Debug)]
 pub struct Reading {
     /// Its permission.
     pub perm: Perm,
@@ -77,11 +77,27 @@ fn read_word<T: PermTables>(tables: &mut T, domain: u32, word: u32) -> Reading
     Reading { perm, span, shown }
 }
 
+/// Whether two spans are the same.
+fn is_same_span(one: Span, other: Span) -> bool
+    ensures { IsTrue result → one ≡ other }
+{
+    one == other
+}
+
+/// Whether two stored items are the same.
+fn is_same_item(one: Shown, other: Shown) -> bool
+    ensures { IsTrue result → one ≡ other }
+{
+    one == other
+}
+
 /// Whether two readings are the same.
 fn is_same(one: Reading, other: Reading) -> bool
     ensures { IsTrue result → one ≡ other }
 {
-    one == other
+    one.perm == other.perm
+        && is_same_span(one.span, other.span)
+        && is_same_item(one.shown, other.shown)
 }
 
 impl<T: PermTables, P: PermTables> Sides<T, P> {
