@@ -1,15 +1,18 @@
 /* The greatest files that the program takes, in the forms that were found to be the worst, and what a call costs.
  *
  *   inputs image NUMBER OUT             an image of 16 MiB that is nearly all symbols, for the module of this number
- * from 0 inputs manifest KIND GATES OUT      63 modules with these images, 64 MiB of RAM, four harts, the greatest
- * limits of the tables of this kind; 252 gates into all modules (spread), or 256 into one (gathered) inputs schedule
- * OUT                 a schedule of 16 MiB, of four harts in turn inputs source FORM OUT              a source of 1 MiB
+ *                                       from 0
+ *   inputs manifest KIND GATES OUT      63 modules with these images, 64 MiB of RAM, four harts, the greatest
+ *                                       limits of the tables of this kind; 252 gates into all modules (spread), or
+ *                                       256 into one (gathered)
+ *   inputs schedule OUT                 a schedule of 16 MiB, of four harts in turn
+ *   inputs source FORM OUT              a source of 1 MiB: usual, labels, references or zeros
  *   inputs snapshot KIND MODULES OUT    a snapshot of so many modules, 64 MiB of RAM, four harts and the greatest
  *                                       limits, in which each word is a run of permission of its own as long as the
  *                                       file has room for that
  *   inputs text BEGIN PART END OUT      a file of 1 MiB: a beginning, a part again and again, and an end
- *   inputs time PROGRAM WORDS..         calls a program, and says with which status it ended, the seconds that it took
- * of a processor, and its greatest resident size in MB */
+ *   inputs time PROGRAM WORDS..         calls a program, and says on file 3 with which status it ended, the seconds
+ *                                       of a processor that it took, and its greatest resident size in MB */
 #include <stdint.h>
 #include <stdio.h>
 #include <stdlib.h>
