@@ -1,5 +1,5 @@
-/* The checks of crates/check_speed in C: the test of a place that answers, with the same counts and the same fall-backs. Prints
-   what check_speed prints. */
+/* The checks of crates/check_speed in C: the test of a place that answers, with the same counts and the same
+   fall-backs. Prints what check_speed prints. */
 #include <stdint.h>
 #include <stdio.h>
 #include <stdlib.h>
@@ -54,7 +54,8 @@ static struct span walk(const struct checker *c, uint32_t domain, uint32_t word)
     return (struct span){first, end - first, map[word], 1};
 }
 
-static __attribute__((noinline)) uint8_t behind(struct checker *c, struct part *p, uint32_t place, uint32_t domain, uint32_t word) {
+static __attribute__((noinline)) uint8_t behind(struct checker *c, struct part *p, uint32_t place, uint32_t domain,
+                                                 uint32_t word) {
     for (uint32_t age = 0; age < p->len; age++) {
         const struct entry *e = &p->kept[(p->newest + age) % ENTRIES];
         if (e->domain == domain && has(&e->span, word)) {
@@ -72,7 +73,8 @@ static __attribute__((noinline)) uint8_t behind(struct checker *c, struct part *
     return s.perm;
 }
 
-static __attribute__((noinline)) int may(struct checker *c, uint32_t hart, uint32_t place, uint32_t domain, uint32_t addr, int access) {
+static __attribute__((noinline)) int may(struct checker *c, uint32_t hart, uint32_t place, uint32_t domain,
+                                         uint32_t addr, int access) {
     if (addr < BASE || (addr - BASE) / 4 >= c->words) return 0;
     uint32_t word = (addr - BASE) / 4;
     struct part *p = &c->parts[hart];

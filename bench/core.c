@@ -1,5 +1,5 @@
-/* The loop of crates/core_speed in C: an interpreter of RV32IM that fetches and decodes at each turn, tests a plain list of
-   permissions at each fetch, load and store, and tests the same alignments. Prints what core_speed prints. */
+/* The loop of crates/core_speed in C: an interpreter of RV32IM that fetches and decodes at each turn, tests a plain
+   list of permissions at each fetch, load and store, and tests the same alignments. Prints what core_speed prints. */
 #include <stdint.h>
 #include <stdio.h>
 #include <stdlib.h>

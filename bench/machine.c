@@ -1,11 +1,13 @@
-/* The turns of one hart in C, for comparison: the same machine for programs that make no call but exit and write. Each turn counts
-   itself, asks whether the hart's domain is dead and whether a gate stands at pc, fetches, decodes, and checks each access by the
-   places with their spans, the lookaside buffer and a walk of the domain's permissions, with the same counts.
+/* The turns of one hart in C, for comparison: the same machine for programs that make no call but exit and write. Each
+   turn counts itself, asks whether the hart's domain is dead and whether a gate stands at pc, fetches, decodes, and
+   checks each access by the places with their spans, the lookaside buffer and a walk of the domain's permissions, with
+   the same counts.
 
    machine TURNS          the compute loop of crates/machine_speed
    machine TURNS IMAGE    an ELF32 image at its addresses in 16 MiB of RAM, with a stack at their end; console to stdout
 
-   Prints pc and registers to stdout (with an image: what it writes, and these to stderr), and the processor time to stderr. */
+   Prints pc and registers to stdout (with an image: what it writes, and these to stderr), and the processor time to
+   stderr. */
 #include <stdint.h>
 #include <stdio.h>
 #include <stdlib.h>
@@ -289,7 +291,8 @@ static inline int turn(struct machine *m) {
     } else if (!exec(m, &t)) {
         return !m->halted;
     }
-    fprintf(stderr, "fault step=%llu pc=0x%08x cause=%u value=0x%08x\n", (unsigned long long)m->turns, m->pc, t.cause, t.value);
+    fprintf(stderr, "fault step=%llu pc=0x%08x cause=%u value=0x%08x\n", (unsigned long long)m->turns, m->pc, t.cause,
+            t.value);
     m->halted = 1;
     return 0;
 }

@@ -1,4 +1,5 @@
-/* Makes so many rounds of work and writes what they come to, in the machine by its call 2 and elsewhere by the C library. */
+/* Makes so many rounds of work and writes what they come to, in the machine by its call 2 and elsewhere by the C
+ * library. */
 #include "work.h"
 #ifndef ROUNDS
 #define ROUNDS 4

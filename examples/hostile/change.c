@@ -169,7 +169,8 @@ static int begins_alike(size_t at, const char *line) {
     return at + i < count && !is_word(bytes[at + i]);
 }
 
-/* A line in place of one that begins with the same word, or, where there is none or now and then, between two others. */
+/* A line in place of one that begins with the same word, or, where there is none or now and then, between two
+ * others. */
 static void put_a_line_in(const struct language *language) {
     const char *line = one_of(language->lines);
     size_t at = line_at(below(count + 1)), seen = 0;

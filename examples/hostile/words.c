@@ -15,9 +15,9 @@ static char long_name[4][70000];
 
 /* Words out of which command lines are made. Names of files stand for what is there, and for what isn't. */
 static const char *const pieces[] = {
-    "run", "trace", "asm", "run", "trace", "audit", "twin", "mill", "resume", "first.toml", "packets.toml", "leaves.s", "order.bin",
-    "first.toml", "absent", ".", "..", "/", "/dev/null", "/dev/full", "", "-", "--", "-d", "-first.toml", "--dump",
-    "--tables", "--counts", "--schedule", "--from", "--save", "--dump=1", "--schedule=order.bin", "--Dump",
+    "run", "trace", "asm", "run", "trace", "audit", "twin", "mill", "resume", "first.toml", "packets.toml", "leaves.s",
+    "order.bin", "first.toml", "absent", ".", "..", "/", "/dev/null", "/dev/full", "", "-", "--", "-d", "-first.toml",
+    "--dump", "--tables", "--counts", "--schedule", "--from", "--save", "--dump=1", "--schedule=order.bin", "--Dump",
     "--dump ", " --dump", "help", "--help", "--version", "0", "1", "7", "300", "0000000300", "00000000300", "3 ",
     " 3", "+3", "-3", "0x3", "3.0", "1e1", "99999999999", "12345678901234567890", "\xd9\xa3", "a\nb", "a\x1b[2Jb",
     "\x01", "\x7f", "\xc2\x85", "\xff", "\xc3", "\xed\xa0\x80", "RUN", "Run", "run ", "walk", "x=y", "*", "$(x)",
