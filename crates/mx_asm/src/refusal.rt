@@ -14,8 +14,8 @@ pub enum AsmRefused {
         /// The number. 1: a statement that isn't listed, or a line of another form. 2: operands of another count or kind.
         /// 3: a number or an offset out of its range. 4: a label that isn't defined. 5: a label that an earlier line
         /// defines. 6: nothing but `.text` and `.data` may stand before the first segment. 7: not at a multiple of 4.
-        /// 8: `.at` names an earlier address. 9: the seventeenth segment. 10: more than 4194304 bytes, or an address
-        /// past 2^32.
+        /// 8: `.at` names an earlier address. 9: the seventeenth segment. 10: more than 4194304 bytes, a segment that
+        /// passes 2^32, or a label at 2^32.
         number: u32,
     },
     /// An allocation was refused.

@@ -16,8 +16,8 @@ use crate::segment::Seg;
 use arrayvec::ArrayVec;
 
 /// The image that a file is, or the first of its faults (`ImageFault` says which there are). Sums of offsets and sizes
-/// don't wrap: one that passes 2^32 passes the file's end. Program headers of other types, and those of no bytes in
-/// memory, are passed over (System V gABI, "ELF Header" and "Program Header").
+/// don't wrap at 2^32. Program headers of other types, and those of no bytes in memory, are passed over (System V gABI,
+/// "ELF Header" and "Program Header").
 #[tactic(auto, unfolding(crate::specs::Image::image_of))]
 pub fn read_image(bytes: &[u8]) -> Result<Image, ImageFault>
     ensures exact { result ≡ image_of bytes.now }

@@ -103,9 +103,9 @@ impl<F: Read + Seek> Placed for HostFile<F> {
 }
 
 /// The files of a folder: a store that tells the files that the folder tells, which are none for the folder
-/// of the system. An absent file has no size. A name that is no regular file, or that can't be looked up or
-/// opened for another cause than absence, is a fault at once, seen before anything is opened, so that no
-/// call waits for a writer.
+/// of the system. An absent file has no size, and a read of it is a fault. A name that is no regular file,
+/// or that can't be looked up or opened, is a fault at once. What has the name is looked at before it is
+/// opened, so that no call waits for a writer.
 #[derive(Drop)]
 pub struct FolderStore<F> {
     folder: F,

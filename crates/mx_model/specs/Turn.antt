@@ -259,7 +259,7 @@ trapped c h hart cause value =
       note = Some (N.Fault c.turns h hart.domain hart.pc (record { cause = cause; value = value }));
     }
 
--- the hart after a served call that doesn't end it: a0, and for an exchange a1, and the next pc
+-- the registers after a served call that doesn't end its hart: x10, and for an exchange x11
 abbrev pub answered : Hart → ℕ → Option ℕ → List ℕ
 answered hart a0 a1 =
     let regs = slice_set hart.regs 10 a0 in option_map_or (slice_set regs 11) a1 regs

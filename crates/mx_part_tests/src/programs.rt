@@ -98,7 +98,7 @@ static CASES: [Case; 7] = [
         answer: Outcome::Call,
         regs: &[(10, 5), (17, 1)],
     },
-    // a word of zeros after the first instruction: no fetch
+    // after the first instruction a word on which there is no right: no fetch
     Case {
         words: &[0x0010_0893],
         turns: 9,

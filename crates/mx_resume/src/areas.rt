@@ -78,7 +78,7 @@ fn block(bytes: &[u8], at: &mut usize, from: u32, end: u32) -> Result<Block, Sna
     Ok(Block { first, count })
 }
 
-/// Makes so many blocks live, each behind those before it, in a heap without blocks whose area ends at the word `end`.
+/// Makes so many blocks live, each behind those before it, in a heap without blocks.
 pub(crate) fn restore_blocks(
     bytes: &[u8],
     at: &mut usize,

@@ -11,7 +11,8 @@ use Rattle.mx_commands.specs.declared.order.Way.{Way}
 use Rattle.mx_commands.specs.declared.order.Way.TheVariants as way
 use Rattle.mx_commands.specs.Order.{Order, Pair, plain_order}
 
--- what the words ask: a run of some way, to assemble a source by its name, to audit a manifest by its name, or to compare a domain of two
+-- what the words ask: a run of some way, to assemble a source by its name, to audit a manifest by its name, to compare a domain of two
+-- machines, or to run the mill of a number
 pub data Request : Type 0 where
   Go : Order → Request
   Asm : List ℕ → Request
