@@ -75,7 +75,7 @@ module _ (states : ℕ → State) (lines : ℕ → List ℕ) (report : List ℕ)
             s.1.0,
             breaks.fails,
             record { few = omega (arith, few); pieces = s.1.2; next = inl (few, s.1.1.fails.within) },
-            inl (few, subst (λ (t : List ℕ). AppendsPrefix b.written mid.console.written t) (append-nil _) (shown [])),
+            inl (few, record { whole = s.2.put.whole; kept = s.2.put.kept }),
             refl,
           ),
           record {
@@ -129,7 +129,7 @@ module _ (states : ℕ → State) (lines : ℕ → List ℕ) (report : List ℕ)
         record {
           whole = tt;
           fault = (
-            (turns, told.0, unput.fails, record { few = omega arith; pieces = told.2; next = inr refl }, inr (refl, console.whole), refl),
+            (turns, told.0, unput.fails, record { few = omega arith; pieces = told.2; next = inr refl }, inr (refl, record { whole = console.whole; kept = console.kept }), refl),
             record {
               console = prefix_whole b now.console _ console.whole;
               report = (told.0, unput.fails.put);
@@ -160,7 +160,12 @@ module _ (texts : Texts) (b d c r e : SinkState) where
       record {
         whole = tt;
         fault = (
-          (p.0, p.1.fails, holds.console, holds.report),
+          (
+            p.0,
+            p.1.fails,
+            record { whole = holds.console; kept = l.whole.1.console },
+            record { whole = holds.report; kept = l.whole.1.report },
+          ),
           record { console = prefix_whole b c _ holds.console; report = prefix_whole d r _ holds.report; dump = (p.0, p.1.fails.put) },
         );
         sure = λ room. absurd (p.1.tight room.dump);

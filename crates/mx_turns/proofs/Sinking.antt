@@ -169,15 +169,15 @@ pub prefix_whole : (b n : SinkState) (x : List ℕ) → AppendsWhole b.written n
 prefix_whole b n x p = subst (λ (t : List ℕ). AppendsPrefix b.written n.written t) (append-nil x) (prefix_put b n x [] p)
 
 pub prefix_tells : (b n : SinkState) (x y : List ℕ) → Tells x b n → AppendsPrefix b.written n.written (x ++ y)
-prefix_tells b n x y t = elim t [ inl h ↦ prefix_put b n x y h.1 | inr h ↦ prefix_more b n x y h.1 ]
+prefix_tells b n x y t = elim t [ inl h ↦ prefix_put b n x y h.whole | inr h ↦ prefix_more b n x y (h.0, h.1.put) ]
 
 -- lines that a buffer held were put at the end, or weren't
 pub tells_of : (b m n : SinkState) (kept x : List ℕ) → Moves [] b m kept x → PutOrBreaks m n kept → Tells x b n
 tells_of b m n kept x p (inl q) =
     let whole = moves_put b m n kept x [] p (put_same m n _ _ (sym (append-nil kept)) q) in
     let put = put_same b n _ _ (append-nil x) whole in
-    inl (put.kept, put.whole)
+    inl (record { whole = put.whole; kept = put.kept })
 tells_of b m n kept x p (inr q) =
     let unput = moves_unput b m n kept x [] p (q.0, breaks_same q.0 m n _ _ (sym (append-nil kept)) q.1) in
     let breaks = breaks_same unput.0 b n _ _ (append-nil x) unput.1 in
-    inr (breaks.fails.rose, (unput.0, breaks.fails.put))
+    inr (unput.0, breaks.fails, unput.2)

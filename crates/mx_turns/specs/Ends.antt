@@ -75,21 +75,25 @@ pub record LeavesAt (bytes : ℕ) (text : ℕ → List ℕ) (turns made : ℕ) :
   pub pieces : length (sent (text made)) ≤ bytes
   pub next : (made < turns) × (bytes < length (sent (text (made + 1)))) ⊎ (made ≡ turns)
 
--- a text was put whole, or a prefix of it where the sink failed
-abbrev pub Tells : List ℕ → SinkState → SinkState → Type 0
-Tells text before now =
-    ((now.faults ≡ before.faults) × AppendsWhole before.written now.written text)
-    ⊎ (Rose before.faults now.faults × AppendsPrefix before.written now.written text)
+-- a sink took a text whole, and didn't fail
+pub record Takes (text : List ℕ) (before now : SinkState) : Type 0 where
+  pub whole : AppendsWhole before.written now.written text
+  pub kept : now.faults ≡ before.faults
 
--- the console holds its text so far where turns were left, and otherwise its whole text
+-- the whole pieces of a text had left, and its rest was put, or the sink failed then
+abbrev pub Tells : List ℕ → SinkState → SinkState → Type 0
+Tells text before now = Takes text before now
+    ⊎ ((bytes : ℕ) × FailsAt bytes text before now × (length (sent text) ≤ bytes))
+
+-- the console took the whole pieces of its text so far where turns were left, and otherwise its whole text
 abbrev pub ShowsUpTo : Texts → ℕ → SinkState → SinkState → Type 0
 ShowsUpTo texts made before now =
-    ((made < texts.turns) × AppendsPrefix before.written now.written (texts.shown (made + 1)))
-    ⊎ ((made ≡ texts.turns) × AppendsWhole before.written now.written texts.console)
+    ((made < texts.turns) × Takes (sent (texts.shown (made + 1))) before now)
+    ⊎ ((made ≡ texts.turns) × Takes texts.console before now)
 
--- the first sink that failed ended the call: no turn was made after that one. Where it was the console, the report got its first
--- lines of the turns before that one, and nothing else; where it was the report, the console got its text so far, or its whole text
--- where it failed after the last turn; the dump comes last
+-- the first sink that failed ended the call: no turn was made after that one, and no other had failed. Where it was the console,
+-- the report got its first lines of the turns before that one, and nothing else; where it was the report, the console got its text
+-- so far, or its whole text where it failed after the last turn; the dump comes last
 abbrev pub IsSinkFault : SinkFault → Texts → Sinks → Sinks → Type 0
 IsSinkFault F.Console texts before now =
     (made : ℕ) × (bytes : ℕ) × FailsAt bytes texts.console before.console now.console
@@ -101,8 +105,8 @@ IsSinkFault F.Report texts before now =
     × ShowsUpTo texts made before.console now.console × (now.dump ≡ before.dump)
 IsSinkFault F.Dump texts before now =
     (bytes : ℕ) × FailsAt bytes texts.dump before.dump now.dump
-    × AppendsWhole before.console.written now.console.written texts.console
-    × AppendsWhole before.report.written now.report.written texts.report
+    × Takes texts.console before.console now.console
+    × Takes texts.report before.report now.report
 
 -- the texts left whole, and no count rose; or the first sink that failed ended the call; where the sinks have room nothing fails
 pub record Leave {A : Type 0} (texts : Texts) (before now : Sinks) (result : Result A SinkFault)
