@@ -1,19 +1,21 @@
 -- Runs keep the words that the domains of their turns may never write.
-use Rattle.std.proofs.Common.{◌≡◌, ℕ, zero, suc, ◌+◌, ◌-◌, ◌<◌, ◌≤◌, Bool, true, false, ◌==◌, List, [], ◌∷◌, length, get_or, refl, sym, ◌∙◌, ap, subst, arith, if◌then◌else◌, Option, Some, None, ⊎_elim}
+use Rattle.std.proofs.Common.{◌≡◌, ℕ, zero, suc, ◌+◌, ◌-◌, ◌<◌, ◌≤◌, Bool, true, false, ◌==◌, nat_lt, List, [], ◌∷◌, length, get_or, refl, sym, ◌∙◌, ap, subst, arith, if◌then◌else◌, Option, Some, None, ⊎_elim}
 use Rattle.std.proofs.Common.{map as list_map}
 use Rattle.std.specs.List.{AllByRecursion}
-use Rattle.std.proofs.lemmas.Bool.{eq-eqb}
+use Rattle.std.proofs.lemmas.Bool.{eq-eqb, ltb-false, ltb-true}
 use Rattle.std.proofs.lemmas.List.{length-map}
+use Rattle.std.proofs.Math.ListN.{get_or-eq_default}
 use Rattle.mx_words.specs.declared.perm.Perm.{Perm}
 use Rattle.mx_words.specs.declared.perm.Perm.TheVariants as P
 use Rattle.mx_words.specs.Changes.{changed_map, grant_of, granted_from}
 use Rattle.mx_words.specs.Newest.{Grant, map}
 use Rattle.mx_words.proofs.ChangeLaws.{changed_from-at}
 use Rattle.mx_words.proofs.OverlayLaws.{laid_in, length-map_of}
+use Rattle.mx_model.specs.Agreement.{standing}
 use Rattle.mx_model.specs.Reads.{Reads, Change, flat_reads, reads}
 use Rattle.mx_model.specs.Run.{Schedule, flat_turn, grants_after, hart_of, is_stopped, maps_after, run, turn}
 use Rattle.mx_model.specs.Serve.{own_alone}
-use Rattle.mx_model.specs.State.{Core, Flat, State, flat}
+use Rattle.mx_model.specs.State.{Core, Flat, Hart, State, flat, no_hart}
 use Rattle.mx_model.specs.Turn.{Made}
 use Rattle.mx_model.specs.Valid.{IsModule}
 use Rattle.mx_model.proofs.FlatLaws.{flat-turn, made-flat, reads-flat}
@@ -23,9 +25,10 @@ use Rattle.mx_model.proofs.RunSteps.{run-going, run-stopped}
 use Rattle.mx_model.proofs.TurnLaws.{valid-turned}
 use Rattle.mx_laws.specs.After.{domain_at}
 use Rattle.mx_laws.specs.Foreign.{IsForeign, IsKept}
-use Rattle.mx_runs.specs.ForeignRuns.{AreAllForeign, HasLists, HasMaps, MakesTurn, MayNotWrite, NeverWrites}
+use Rattle.mx_laws.proofs.ForeignLaws.{ram-halted}
+use Rattle.mx_runs.specs.ForeignRuns.{AreAllForeign, HasLists, HasMaps, MakesTurn, MayNotWrite, NamesNobody, NeverWrites}
 use Rattle.mx_runs.proofs.RunMoments.{no-more, one-more}
-use Rattle.mx_runs.proofs.ForeignTurns.{IsGiven, turned-word}
+use Rattle.mx_runs.proofs.ForeignTurns.{IsGiven, kept-ram, turned-word}
 
 -- a word that is given may be written afterwards
 own-alone : (d : ℕ) → Some (if d == d then P.ReadWrite else P.None) ≡ Some P.ReadWrite
@@ -102,6 +105,23 @@ pub turns-word : (schedule : Schedule) (s : State) (n d w : ℕ) → HasLists s 
     MakesTurn schedule (run schedule k s) d → IsKept (run schedule k s).core (run schedule (k + 1) s).core w
 turns-word schedule s n d w p never k l m = search (arith, one-more, state-word, lists-run)
 
+-- a turn that names a hart that isn't there
+nobody-turn : (s : State) (h w : ℕ) → length s.core.harts ≤ h → IsKept s.core (turn s h).core w
+nobody-turn s h w l =
+    let none = get_or-eq_default s.core.harts no_hart l in
+    kept-ram s.core (turn s h).core w (ram-halted (reads s) s.core h (ap (λ (x : Hart). standing x.status) none))
+
+pub nobody-word : (schedule : Schedule) (s : State) (k w : ℕ) → NamesNobody schedule (run schedule k s) →
+    IsKept (run schedule k s).core (run schedule (k + 1) s).core w
+nobody-word schedule s k w l =
+    let u = run schedule k s in
+    elim (is_stopped schedule u) as (λ b. is_stopped schedule u ≡ b →
+    IsKept u.core (run schedule (k + 1) s).core w) [
+      | true ↦ λ e. subst (λ (t : State). IsKept u.core t.core w) (sym (no-more schedule k s e)) (λ i j. refl)
+      | false ↦ λ e. subst (λ (t : State). IsKept u.core t.core w) (sym (one-more schedule k s e))
+          (nobody-turn u (hart_of schedule u.core) w l)
+    ] refl
+
 kept-more : (c e f : Core) (w : ℕ) → IsKept c e w → IsKept e f w → IsKept c f w
 kept-more c e f w p q k l = q k l ∙ p k l
 
@@ -111,9 +131,15 @@ run-step : (schedule : Schedule) (s : State) (n w : ℕ) → HasLists s → AreA
 run-step schedule s n w p all k l true e = search (arith, no-more)
 run-step schedule s n w p all k l false e =
     let u = run schedule k s in
-    let d = domain_at u.core (hart_of schedule u.core) in
-    let m : MakesTurn schedule u d = record { going = e; domain = refl } in
-    turns-word schedule s n d w p (all d k l m) k l m
+    let h = hart_of schedule u.core in
+    let d = domain_at u.core h in
+    let harts = length u.core.harts in
+    elim (nat_lt h harts) as (λ b. nat_lt h harts ≡ b → IsKept u.core (run schedule (k + 1) s).core w) [
+      | true ↦ λ t.
+          let m : MakesTurn schedule u d = record { going = e; there = ltb-true h harts t; domain = refl } in
+          turns-word schedule s n d w p (all d k l m) k l m
+      | false ↦ λ t. nobody-word schedule s k w (ltb-false h harts t)
+    ] refl
 
 run-to : (schedule : Schedule) (s : State) (n w : ℕ) → HasLists s → AreAllForeign schedule s n w →
     (m : ℕ) → m ≤ n → IsKept s.core (run schedule m s).core w

@@ -38,7 +38,7 @@ pub record IsGiven (c : Core) (d w : ℕ) (o : Option Change) : Type 0 where
 abbrev pub IsKeptOrGiven : Core → ℕ → ℕ → Core → Option Change → Type 0
 IsKeptOrGiven c d w e o = (IsKept c e w) ⊎ IsGiven c d w o
 
-kept-ram : (c e : Core) (w : ℕ) → e.ram ≡ c.ram → IsKept c e w
+pub kept-ram : (c e : Core) (w : ℕ) → e.ram ≡ c.ram → IsKept c e w
 kept-ram c e w n k l = ap (λ (xs : List ℕ). get_or xs (4 * w + k) 0) n
 
 moved : (c : Core) (d w : ℕ) (e f : Core) (o : Option Change) → f.ram ≡ e.ram → IsKeptOrGiven c d w e o →

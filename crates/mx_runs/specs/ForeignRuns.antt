@@ -30,12 +30,17 @@ MayNotWrite r d w = allows (r.perm d w) A.Write ≡ false
 abbrev pub NeverWrites : Schedule → State → ℕ → ℕ → ℕ → Type 0
 NeverWrites schedule s n d w = (k : ℕ) → k ≤ n → MayNotWrite (reads (run schedule k s)) d w
 
--- the next turn of a run is made, by a hart in a domain
+-- the next turn of a run is made, by a hart that is there and in a domain
 pub record MakesTurn (schedule : Schedule) (s : State) (d : ℕ) : Type 0 where
   pub going : is_stopped schedule s ≡ false
+  pub there : hart_of schedule s.core < length s.core.harts
   pub domain : domain_at s.core (hart_of schedule s.core) ≡ d
 
--- each domain that makes one of the n turns of a run may write a word in none of its states
+-- a schedule names a hart that isn't there for the next turn
+abbrev pub NamesNobody : Schedule → State → Type 0
+NamesNobody schedule s = length s.core.harts ≤ hart_of schedule s.core
+
+-- each domain of a hart that makes one of the n turns of a run may write a word in none of its states
 abbrev pub AreAllForeign : Schedule → State → ℕ → ℕ → Type 0
 AreAllForeign schedule s n w =
     (d k : ℕ) → k < n → MakesTurn schedule (run schedule k s) d → NeverWrites schedule s n d w
