@@ -1,7 +1,7 @@
 -- Twin runs: as long as the turns are of harts of a set that meet no border, two runs share what these harts see.
-use Rattle.std.proofs.Common.{◌≡◌, ℕ, zero, suc, ◌+◌, ◌%◌, Bool, true, false, ◌==◌, ◌||◌, List, [], ◌∷◌, ◌++◌, length, get_or, refl, sym, ◌∙◌, ap, subst, arith, eqb-true}
+use Rattle.std.proofs.Common.{◌≡◌, ℕ, zero, suc, ◌+◌, ◌%◌, ◌≤◌, Bool, true, false, ◌==◌, ◌||◌, List, [], ◌∷◌, ◌++◌, length, get_or, refl, sym, ◌∙◌, ap, subst, arith, eqb-true}
 use Rattle.std.specs.Prelude.{fold}
-use Rattle.std.specs.List.{list_all}
+use Rattle.std.specs.List.{AllByRecursion, list_all}
 use Rattle.std.proofs.lemmas.Bool.{and_parts, eqb-false}
 use Rattle.std.proofs.lemmas.List.{length-append}
 use Rattle.std.proofs.lemmas.List.Sums.{fold-append}
@@ -11,7 +11,7 @@ use Rattle.mx_model.specs.Reads.{reads}
 use Rattle.mx_model.specs.Run.{Schedule, all_halted, hart_of, is_over, is_stopped, run, turn}
 use Rattle.mx_model.specs.State.{Core, Hart, Status, Running, State, hart_at, no_hart}
 use Rattle.mx_model.proofs.KeepLaws.{keeps-turned, size-turned}
-use Rattle.mx_model.proofs.ListLaws.{length-put_at}
+use Rattle.mx_model.proofs.ListLaws.{all-append, length-put_at}
 use Rattle.mx_laws.specs.Twins.{AreTwins, IsRunning, MakeOneStore, Store, free_twins, stored}
 use Rattle.mx_laws.proofs.AfterLaws.{agree-after}
 use Rattle.mx_laws.proofs.TwinLaws.{IsLeftFree, action_in, border-twins, left-twin, store-twins}
@@ -79,11 +79,16 @@ module _ (set : ℕ →
         agreement = λ g j. agree-after u v h g f (t.agreement g j);
       }
 
+-- a store of at most four bytes
+abbrev IsFew : Store → Type 0
+IsFew store = store.size ≤ 4
+
 -- what two runs of n turns have come to
 record HaveGone (set : ℕ → Bool) (s t : State) (n : ℕ) (u v : State) : Type 0 where
   twins : AreTwinStates set u v
   stores : List Store
   count : length stores ≡ n
+  few : AllByRecursion IsFew stores
   first : u.core.ram ≡ fold stored s.core.ram stores
   second : v.core.ram ≡ fold stored t.core.ram stores
 
@@ -102,6 +107,7 @@ gone-turn set s t n u v h p i f =
       twins = twins-after set u v h p.twins i f;
       stores = p.stores ++ one.store ∷ [];
       count = let k = length-append p.stores (one.store ∷ []) in omega (arith, k);
+      few = all-append IsFew p.stores one.store p.few one.few;
       first = ram-more s.core.ram p.stores one.store u.core.ram (turn u h).core.ram p.first one.first;
       second = ram-more t.core.ram p.stores one.store v.core.ram (turn v h).core.ram p.second one.second;
     }
@@ -131,7 +137,7 @@ gone-more set schedule s t m p f =
 gone : (set : ℕ → Bool) (schedule : Schedule) (s t : State) (n : ℕ) → AreTwinStates set s t →
     AreFreeTurns set schedule s n →
     HaveGone set s t n (run schedule n s) (run schedule n t)
-gone set schedule s t zero p f = record { twins = p; stores = []; count = refl; first = refl; second = refl }
+gone set schedule s t zero p f = record { twins = p; stores = []; count = refl; few = tt; first = refl; second = refl }
 gone set schedule s t (suc m) p f =
     let next : m + 1 ≡ suc m = omega arith in
     subst (λ (k : ℕ). HaveGone set s t (suc m) (run schedule k s) (run schedule k t)) next

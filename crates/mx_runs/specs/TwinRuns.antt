@@ -1,6 +1,7 @@
 -- Two runs side by side in which the harts of a set see the same.
 -- The rules: docs/MACHINE.md, "Agreement".
-use Rattle.std.specs.Prelude.{◌≡◌, ℕ, ◌%◌, ◌<◌, Bool, true, false, List, length, fold}
+use Rattle.std.specs.Prelude.{◌≡◌, ℕ, ◌%◌, ◌<◌, ◌≤◌, Bool, true, false, List, length, fold}
+use Rattle.std.specs.List.{AllByRecursion}
 use Rattle.mx_model.specs.Agreement.{Nothing, agree, border}
 use Rattle.mx_model.specs.Reads.{reads}
 use Rattle.mx_model.specs.Run.{Schedule, hart_of, is_over, run}
@@ -28,11 +29,12 @@ abbrev pub AreFreeTurns : (ℕ → Bool) → Schedule → State → ℕ → Type
 AreFreeTurns set schedule s n = (k : ℕ) → k < n → IsFreeTurn set schedule (run schedule k s)
 
 -- what two runs of n turns come to: the states agree again for the set, each of its harts has one border in both, and
--- one list of n stores makes RAM in both
+-- one list of n stores, each of at most four bytes, makes RAM in both
 pub record GoAlike (set : ℕ → Bool) (s t : State) (n : ℕ) (u v : State) : Type 0 where
   pub twins : AreTwinStates set u v
   pub border : (g : ℕ) → set g ≡ true → border (reads u) u.core g ≡ border (reads v) v.core g
   pub stores : List Store
   pub count : length stores ≡ n
+  pub few : AllByRecursion (λ (store : Store). store.size ≤ 4) stores
   pub first : u.core.ram ≡ fold stored s.core.ram stores
   pub second : v.core.ram ≡ fold stored t.core.ram stores
