@@ -76,6 +76,8 @@ writing = call 2 (0x80000004 ∷ 8 ∷ 0 ∷ 0 ∷ []) 0 1 false
 write-refused : IsRefused (reads ungate) ungate.core writing 12
 unfolding number_at put_at cleared_at
 write-refused = record {
+  least = lit≤ tt;
+  most = lit≤ tt;
   answer = refl;
   no_second = refl;
   runs_on = refl;

@@ -117,28 +117,36 @@ refuses-ended c call s n p =
       | false ↦ p
     ]
 
-pub refused-tested : (r : Reads) (c : Core) (call : Call) (n : ℕ) → refusal r c call ≡ Some n → IsRefused r c call n
-refused-tested r c call n q =
-    let p = refuses-ended c call (served_by (service call.number) r c call) n
-    (refuses-by (service call.number) r c call n q) in
-    search arith
-
 -- each row has a code of -1 to -15
+abbrev IsFew : ℕ → Type 0
+IsFew n = (1 ≤ n) × (n ≤ 15)
+
 abbrev AreFew : List (Row ℕ) → Type 0
-AreFew rows = AllByRecursion (λ (t : Row ℕ). t.1 ≤ 15) rows
+AreFew rows = AllByRecursion (λ (t : Row ℕ). IsFew t.1) rows
 
 rows-few : (s : Service) (r : Reads) (c : Core) (call : Call) → AreFew (rows_of s r c call)
 rows-few x r c call = grind arith
 
-row-few : (rows : List (Row ℕ)) (n : ℕ) → AreFew rows → first_row rows ≡ Some n → n ≤ 15
+row-few : (rows : List (Row ℕ)) (n : ℕ) → AreFew rows → first_row rows ≡ Some n → IsFew n
 row-few [] n p q = absurd (let k : ⊥ = cc in k)
-row-few (t ∷ ts) n p q = elim t.0 as (λ b. (if b then Some t.1 else first_row ts) ≡ Some n → n ≤ 15) [
-  | true ↦ λ e. let k : t.1 ≡ n = cc in subst (λ (m : ℕ). m ≤ 15) k p.0
+row-few (t ∷ ts) n p q = elim t.0 as (λ b. (if b then Some t.1 else first_row ts) ≡ Some n → IsFew n) [
+  | true ↦ λ e. let k : t.1 ≡ n = cc in subst (λ (m : ℕ). IsFew m) k p.0
   | false ↦ λ e. row-few ts n p.1 e
 ] q
 
+few-code : (r : Reads) (c : Core) (call : Call) (n : ℕ) → refusal r c call ≡ Some n → IsFew n
+few-code r c call n q =
+    row-few (rows_of (service call.number) r c call) n (rows-few (service call.number) r c call) q
+
+pub refused-tested : (r : Reads) (c : Core) (call : Call) (n : ℕ) → refusal r c call ≡ Some n → IsRefused r c call n
+refused-tested r c call n q =
+    let p = refuses-ended c call (served_by (service call.number) r c call) n
+    (refuses-by (service call.number) r c call n q) in
+    let few = few-code r c call n q in
+    search arith
+
 pub code-is : (r : Reads) (c : Core) (call : Call) (n : ℕ) → refusal r c call ≡ Some n → IsCode (code n)
-code-is r c call n q = search (arith, row-few, rows-few)
+code-is r c call n q = let high = (few-code r c call n q).1 in omega (arith, high)
 
 -- a call that isn't refused ends its hart or answers less than a code
 abbrev IsLow : Served → Type 0

@@ -76,8 +76,11 @@ rows_of Unknown r c call = (true, 13) ∷ []
 abbrev pub refusal : Reads → Core → Call → Option ℕ
 refusal r c call = first_row (rows_of (service call.number) r c call)
 
--- a refused call answers its code, makes nothing else, and leaves the state but for the caches of its hart
+-- a refused call answers its code, one of -1 to -15, makes nothing else, and leaves the state but for the caches of
+-- its hart
 pub record IsRefused (r : Reads) (c : Core) (call : Call) (n : ℕ) : Type 0 where
+  pub least : 1 ≤ n
+  pub most : n ≤ 15
   pub answer : (serve r c call).a0 ≡ code n
   pub no_second : (serve r c call).a1 ≡ None
   pub runs_on : (serve r c call).stop ≡ false
@@ -87,7 +90,7 @@ pub record IsRefused (r : Reads) (c : Core) (call : Call) (n : ℕ) : Type 0 whe
   pub cache : Cache
   pub core : (serve r c call).core ≡ with_cache call.hart cache c
 
--- a number is a code of -1 to -15
+-- a number is 2 ^ 32 - 15 or more: of the numbers of a register, one of the codes of -1 to -15
 abbrev pub IsCode : ℕ → Type 0
 IsCode n = code 15 ≤ n
 
