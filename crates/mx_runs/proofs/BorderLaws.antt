@@ -19,8 +19,9 @@ use Rattle.mx_laws.specs.Twins.{IsRunning}
 use Rattle.mx_laws.proofs.FrameLaws.{top-split}
 use Rattle.mx_laws.proofs.TurnParts.{there}
 use Rattle.mx_laws.proofs.TwinLaws.{kind-asked}
-use Rattle.mx_runs.specs.Borders.{Crooked, Full, IsAtGate, IsCalling, IsGateCause, IsOfRow, NoFrame, Elsewhere, OverFrame, PassesGate, ReturnsTo, SentBack, pc_of, register_of}
+use Rattle.mx_runs.specs.Borders.{Crooked, Full, IsAtGate, IsCalling, IsGateCause, IsOfRow, NoFrame, Elsewhere, OverFrame, PassesGate, ReturnsTo, SentBack, pc_of}
 use Rattle.mx_runs.specs.Borders.{Crosses as Crossing}
+use Rattle.mx_runs.specs.Denials.{register_of}
 use Rattle.mx_runs.proofs.TrapLaws.{Does, does-action, traps-does}
 use Rattle.mx_runs.proofs.BorderMeets.{ByCrooked, ByDead, ByFull, ByNone, ByOther, GoesOn, Leaves, Meets, Over, Passes, Through, does-running, meets-in}
 

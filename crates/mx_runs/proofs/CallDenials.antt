@@ -26,7 +26,7 @@ use Rattle.mx_model.proofs.KeepLaws.{keeps-hears, keeps-served_by}
 use Rattle.mx_model.proofs.TurnCases.{ready}
 use Rattle.mx_laws.specs.After.{domain_at, hart_after}
 use Rattle.mx_laws.proofs.TurnParts.{there}
-use Rattle.mx_runs.specs.Denials.{InRam, IsDenied, MakesCall, SomeDenied, answers_no_right, register, word_at}
+use Rattle.mx_runs.specs.Denials.{InRam, IsDenied, MakesCall, SomeDenied, answers_no_right, register_of, word_at}
 use Rattle.mx_runs.proofs.DenialLaws.{word-denied}
 use Rattle.mx_runs.proofs.TrapLaws.{Does, does-instruction, through}
 
@@ -204,9 +204,9 @@ words-denied s d call own inside = words-by s d call own inside (cases_lt 0 (arg
 answer-like : {P : Type 0} (a b n : ℕ) → a ≡ b → (b ≡ n) ↔ P → (a ≡ n) ↔ P
 answer-like a b n e k = (λ q. k.0 (sym e ∙ q), λ p. e ∙ k.1 p)
 
-pub write-exactly : (s : State) (h : ℕ) → MakesCall s h 2 → register s h 11 ≤ 4096 →
-    InRam s (register s h 10) (register s h 11) →
-    answers_no_right s h ↔ SomeDenied s (domain_at s.core h) (register s h 10) (register s h 11) A.Read
+pub write-exactly : (s : State) (h : ℕ) → MakesCall s h 2 → register_of s.core h 11 ≤ 4096 →
+    InRam s (register_of s.core h 10) (register_of s.core h 11) →
+    answers_no_right s h ↔ SomeDenied s (domain_at s.core h) (register_of s.core h 10) (register_of s.core h 11) A.Read
 write-exactly s h k few inside =
     let r = reads s in
     let call = call_of h (hart_at s.core h) in
@@ -241,8 +241,8 @@ swap-served : (r : Reads) (e : Core) (call : Call) → no_word e call ≡ false 
     serve_exchange r e call ≡ swap_by r e call (allows (r.perm call.domain (arg_word call)) A.Write)
 swap-served r e call is = ap (λ (b : Bool). exchange_from r e call (first_row ((b, 1) ∷ []))) is
 
-pub exchange-exactly : (s : State) (h : ℕ) → MakesCall s h 13 → register s h 10 % 4 ≡ 0 → InRam s (register s h 10) 1 →
-    answers_no_right s h ↔ IsDenied s (domain_at s.core h) (register s h 10) A.Write
+pub exchange-exactly : (s : State) (h : ℕ) → MakesCall s h 13 → register_of s.core h 10 % 4 ≡ 0 → InRam s (register_of s.core h 10) 1 →
+    answers_no_right s h ↔ IsDenied s (domain_at s.core h) (register_of s.core h 10) A.Write
 exchange-exactly s h k aligned inside =
     let r = reads s in
     let call = call_of h (hart_at s.core h) in

@@ -7,10 +7,10 @@ use Rattle.mx_words.specs.declared.perm.Access.{Access}
 use Rattle.mx_words.specs.Newest.{Grant, at, laid_at}
 use Rattle.mx_words.specs.Ranges.{covers, in_ram, ram_base}
 use Rattle.mx_words.specs.Rights.{allows}
-use Rattle.mx_model.specs.Reads.{reads}
+use Rattle.mx_model.specs.Reads.{grants_of, reads}
 use Rattle.mx_model.specs.State.{State}
 use Rattle.mx_model.specs.Turn.{is_denied}
-use Rattle.mx_runs.specs.Denials.{ByNewest, Covers, IsDenied, NoneCovers, Uncovered, granted, word_at}
+use Rattle.mx_runs.specs.Denials.{ByNewest, Covers, IsDenied, NoneCovers, Uncovered, word_at}
 
 -- whether a grant covers a word
 covers-true : (g : Grant) (w : ℕ) → Covers g w → covers g.first g.count w ≡ true
@@ -75,12 +75,12 @@ denied-word : (s : State) (d address : ℕ) (access : Access) → in_ram address
 denied-word s d address access e = search arith
 
 denied-inside : (s : State) (d address : ℕ) (access : Access) → in_ram address s.core.size ≡ true →
-    is_denied (reads s) s.core d address access ≡ not (allows (at (granted s d) (word_at address)) access)
+    is_denied (reads s) s.core d address access ≡ not (allows (at (grants_of s.grants d) (word_at address)) access)
 denied-inside s d address access e = search (arith, and_parts, s.core.size, ltb-true, denied-word, lt-ltb)
 
 -- inside RAM, by the newest grant
 denied-grants : (s : State) (d address : ℕ) (access : Access) →
-    allows (at (granted s d) (word_at address)) access ≡ false → Newest (granted s d) (word_at address) →
+    allows (at (grants_of s.grants d) (word_at address)) access ≡ false → Newest (grants_of s.grants d) (word_at address) →
     IsDenied s d address access
 denied-grants s d address access e (NoneOf n f) = Uncovered n
 denied-grants s d address access e (OneOf older g newer split c n f) =
@@ -90,12 +90,12 @@ denied-if : (s : State) (d address : ℕ) (access : Access) (b : Bool) → in_ra
     is_denied (reads s) s.core d address access ≡ true →
     IsDenied s d address access
 denied-if s d address access true e t =
-    denied-grants s d address access (not-true _ (search (arith, denied-inside))) (newest-of (granted s d) (word_at address))
+    denied-grants s d address access (not-true _ (search (arith, denied-inside))) (newest-of (grants_of s.grants d) (word_at address))
 denied-if s d address access false e t = search (arith, outside-cases, s.core.size)
 
 grants-denied : (s : State) (d address : ℕ) (access : Access) → IsDenied s d address access →
     in_ram address s.core.size ≡ true →
-    allows (at (granted s d) (word_at address)) access ≡ false
+    allows (at (grants_of s.grants d) (word_at address)) access ≡ false
 grants-denied s d address access x e = grind (arith, and_parts, leb-true, ltb-true, none-read, one-read)
 
 if-denied : (s : State) (d address : ℕ) (access : Access) (b : Bool) → in_ram address s.core.size ≡ b →

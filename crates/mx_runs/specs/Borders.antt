@@ -5,21 +5,17 @@ use Rattle.mx_words.specs.Ranges.{ram_base}
 use Rattle.mx_model.specs.declared.values.Frame.{Frame}
 use Rattle.mx_model.specs.declared.values.TurnKind.TheVariants as T
 use Rattle.mx_model.specs.Agreement.{Border, Trap, AtGate, Back, Call, Nothing, target_at}
-use Rattle.mx_model.specs.Effect.{reg}
 use Rattle.mx_model.specs.Gates.{most_frames}
 use Rattle.mx_model.specs.Reads.{Reads}
 use Rattle.mx_model.specs.State.{Core, hart_at, module_at}
 use Rattle.mx_laws.specs.After.{core_after, domain_at, frames_at, kind_of}
-use Rattle.mx_runs.specs.Denials.{TrapsWith}
+use Rattle.mx_runs.specs.Denials.{TrapsWith, register_of}
 
 -- the causes of the faults at gates
 abbrev pub IsGateCause : ℕ → Type 0
 IsGateCause cause = (16 ≤ cause) × (cause ≤ 19)
 
--- register i of hart h, and its pc
-abbrev pub register_of : Core → ℕ → ℕ → ℕ
-register_of c h i = reg (hart_at c h).regs i
-
+-- the pc of hart h
 abbrev pub pc_of : Core → ℕ → ℕ
 pc_of c h = (hart_at c h).pc
 

@@ -1,6 +1,6 @@
 -- What denies an access, by a domain's grants alone; and what a turn that faults, and a call that is answered, show.
 -- The rules: docs/MACHINE.md, "Memory, domains, harts", "One turn", "Faults" and "Supervisor calls".
-use Rattle.std.specs.Prelude.{◌≡◌, ◌≢◌, ◌↔◌, ℕ, ◌+◌, ◌-◌, ◌*◌, ◌/◌, ◌%◌, ◌^◌, ◌<◌, ◌≤◌, false, List, ◌∷◌, ◌++◌, slice_index_or, [], Some, None}
+use Rattle.std.specs.Prelude.{◌≡◌, ◌≢◌, ◌↔◌, ℕ, ◌+◌, ◌-◌, ◌*◌, ◌/◌, ◌%◌, ◌^◌, ◌<◌, ◌≤◌, false, List, ◌∷◌, ◌++◌, Some, None}
 use Rattle.std.specs.List.{AllByRecursion}
 use Rattle.mx_words.specs.declared.perm.Access.{Access}
 use Rattle.mx_words.specs.declared.perm.Access.TheVariants as A
@@ -14,15 +14,11 @@ use Rattle.mx_isa.specs.Table.{decoded}
 use Rattle.mx_model.specs.declared.values.Note.TheVariants as N
 use Rattle.mx_model.specs.declared.values.TurnKind.TheVariants as T
 use Rattle.mx_model.specs.Effect.{reg}
-use Rattle.mx_model.specs.Reads.{Reads, reads}
+use Rattle.mx_model.specs.Reads.{Reads, grants_of, reads}
 use Rattle.mx_model.specs.State.{Core, Hart, State, hart_at, module_at}
 use Rattle.mx_model.specs.Turn.{Made, call_gate_at, turned}
 use Rattle.mx_laws.specs.After.{domain_at, hart_after}
 use Rattle.mx_laws.specs.Twins.{IsRunning}
-
--- the grants of domain d, the oldest first; domains count from 1, and one above the last has none
-abbrev pub granted : State → ℕ → List Grant
-granted s d = slice_index_or s.grants (d - 1) []
 
 -- a grant covers a word; and none of these does
 pub record Covers (g : Grant) (word : ℕ) : Type 0 where
@@ -41,9 +37,9 @@ word_at address = (address - ram_base) / 4
 pub data IsDenied (s : State) (d address : ℕ) (access : Access) : Type 0 where
   Below : address < ram_base → IsDenied s d address access
   Above : ram_base + 4 * s.core.size ≤ address → IsDenied s d address access
-  Uncovered : NoneCovers (granted s d) (word_at address) → IsDenied s d address access
+  Uncovered : NoneCovers (grants_of s.grants d) (word_at address) → IsDenied s d address access
   ByNewest : (older : List Grant) (g : Grant) (newer : List Grant) →
-      granted s d ≡ older ++ g ∷ newer → Covers g (word_at address) →
+      grants_of s.grants d ≡ older ++ g ∷ newer → Covers g (word_at address) →
       NoneCovers newer (word_at address) → allows g.value access ≡ false →
       IsDenied s d address access
 
@@ -72,12 +68,12 @@ pub record Executes (s : State) (h : ℕ) (inst : Inst) : Type 0 where
   pub allowed : IsDenied s (domain_at s.core h) (hart_at s.core h).pc A.Execute → ⊥
   pub word : decoded (number_at s.core.ram ((hart_at s.core h).pc - ram_base) 4) ≡ Some inst
 
--- register r of hart h, and the address that an offset to it makes
-abbrev pub register : State → ℕ → ℕ → ℕ
-register s h r = reg (hart_at s.core h).regs r
+-- register i of hart h, and the address that an offset to it makes
+abbrev pub register_of : Core → ℕ → ℕ → ℕ
+register_of c h i = reg (hart_at c h).regs i
 
 abbrev pub address_by : State → ℕ → ℕ → ℕ → ℕ
-address_by s h base offset = (register s h base + offset) % 2 ^ 32
+address_by s h base offset = (register_of s.core h base + offset) % 2 ^ 32
 
 -- an access of so many bytes by hart h at an address: aligned, it traps by the one cause exactly where it is denied;
 -- misaligned, by the other
@@ -90,7 +86,7 @@ pub record FaultsExactly (s : State) (h address size : ℕ) (access : Access) (d
 -- hart h makes the call of that number
 pub record MakesCall (s : State) (h number : ℕ) : Type 0 where
   pub executes : Executes s h Ecall
-  pub asked : register s h 17 ≡ number
+  pub asked : register_of s.core h 17 ≡ number
 
 -- bytes that lie in RAM; and one of them that a domain may not access
 abbrev pub InRam : State → ℕ → ℕ → Type 0

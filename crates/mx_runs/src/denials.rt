@@ -11,7 +11,7 @@ ghost use Rattle.mx_model.specs.Reads.{reads};
 ghost use Rattle.mx_model.specs.State.{State, hart_at};
 ghost use Rattle.mx_model.specs.Turn.{is_denied};
 ghost use Rattle.mx_laws.specs.After.{domain_at};
-ghost use Rattle.mx_runs.specs.Denials.{MakesCall, Executes, FaultsExactly, Fetches, InRam, IsDenied, SomeDenied, address_by, answers_no_right, register, traps_with};
+ghost use Rattle.mx_runs.specs.Denials.{MakesCall, Executes, FaultsExactly, Fetches, InRam, IsDenied, SomeDenied, address_by, answers_no_right, register_of, traps_with};
 
 /// Denied exactly. The test of a turn is true exactly where an access is denied: outside RAM, or where no grant of the
 /// domain covers the word, or where the newest that does doesn't allow it. A hart that runs in a live domain at no call
@@ -30,10 +30,13 @@ pub fn denied_exactly()
     ensures store { (s : State) (h base from offset : ℕ) (width : StoreWidth) →
         Executes s h (Store width base from offset) →
         FaultsExactly s h (address_by s h base offset) (store_size width) A.Write 7 6 }
-    ensures write { (s : State) (h : ℕ) → MakesCall s h write_call → register s h 11 ≤ 4096 →
-        InRam s (register s h 10) (register s h 11) → answers_no_right s h
-        ↔ SomeDenied s (domain_at s.core h) (register s h 10) (register s h 11) A.Read }
-    ensures exchange { (s : State) (h : ℕ) → MakesCall s h exchange_call → register s h 10 % 4 ≡ 0 →
-        InRam s (register s h 10) 1 → answers_no_right s h
-        ↔ IsDenied s (domain_at s.core h) (register s h 10) A.Write }
+    ensures write { (s : State) (h : ℕ) → MakesCall s h write_call →
+        register_of s.core h 11 ≤ 4096 →
+        InRam s (register_of s.core h 10) (register_of s.core h 11) → answers_no_right s h
+        ↔ SomeDenied s (domain_at s.core h) (register_of s.core h 10) (register_of s.core h 11)
+        A.Read }
+    ensures exchange { (s : State) (h : ℕ) → MakesCall s h exchange_call →
+        register_of s.core h 10 % 4 ≡ 0 →
+        InRam s (register_of s.core h 10) 1 → answers_no_right s h
+        ↔ IsDenied s (domain_at s.core h) (register_of s.core h 10) A.Write }
 {}
