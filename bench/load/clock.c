@@ -4,7 +4,7 @@
  *                                       greatest resident size in MB
  *   clock marks PERIOD PROGRAM WORDS..  the microseconds of a processor between each two writes of 4096 bytes to the
  *                                       console: for each place in a period the least, the middle and the greatest
- *   clock end PROGRAM WORDS..           the same, but the seconds only from the moment on when it makes memory.bin
+ *   clock end PROGRAM WORDS..           as `run`, but the seconds only from the moment on when it makes memory.bin
  *
  * It prints to file 3. Marks and the end are seen by the system's calls, as a debugger sees them (ptrace). */
 #define _GNU_SOURCE

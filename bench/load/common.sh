@@ -1,6 +1,5 @@
 # What the scripts of this folder share: the program, a folder of their own, machines, and pieces of guests. They say
 # where they are in `here`. MONDRIX names another program. KIB is the size of RAM.
-unset CDPATH
 export LC_ALL=C
 [ -z "${MONDRIX-}" ] || MONDRIX=$(realpath "$MONDRIX") || exit 1
 program=${MONDRIX:-$(cd "$here/../.." && pwd -P)/crates/mondrix/out/mondrix}
