@@ -55,8 +55,9 @@ pub fn runs_of_sealed_words()
         IsTrue (lies_in (sealed_runs (flat_reads (flat s)) s.core) word) ↔ HasSealed s word }
 {}
 
-/// The state at boot of each plan in range is audited. So what its audit finds stays in every run by every schedule: only the live
-/// domains are ever live, and each word of the runs found keeps its owner, its permission in every domain and its four bytes.
+/// The state at boot of each plan in range and of images that are bytes is audited. So what its audit finds stays in every run by every
+/// schedule: only the live domains are ever live, and each word of the runs found keeps its owner, its permission in every domain and
+/// its four bytes.
 pub fn audits_of_boots_stay()
     ensures audited { (plan : Said) (images : List (List ℕ)) (s : State) → IsBoot plan images s →
         IsAudited s }

@@ -1,6 +1,7 @@
 //! The heaps at boot.
 
 ghost use Rattle.std.specs.Prelude.{◌≡◌, ◌+◌, ◌≤◌, None, map, IfOk};
+ghost use Rattle.mx_words.specs.Ranges.{most_words};
 ghost use Rattle.mx_boot.specs.Boot.{heap_of};
 ghost use Rattle.mx_boot.specs.Entries.{word_at};
 ghost use Rattle.mx_boot.specs.Faults.{first_fault};
@@ -16,7 +17,7 @@ use std::alloc::Global;
 
 /// The heap of a module, whose area ends at most at 2^24.
 fn heap(alloc: Global, plan: &ModulePlan) -> Result<Heap, NoMemory>
-    requires { (heap_of plan.now).first + (heap_of plan.now).count ≤ 16777216 }
+    requires { (heap_of plan.now).first + (heap_of plan.now).count ≤ most_words }
     ensures { IfOk result (λ heap. heap ≡ heap_state plan.now) }
 {
     match plan.heap {

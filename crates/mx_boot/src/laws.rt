@@ -10,8 +10,9 @@ ghost use Rattle.mx_manifest.specs.Plan.{Said};
 ghost use Rattle.mx_boot.specs.Boot.{boot_of};
 ghost use Rattle.mx_boot.specs.Images.{AreImages};
 
-/// Each state at boot of a plan in range is valid, and in it each heap area of a module belongs to that module. Each
-/// state at boot has one list of grants for each module, so the laws of runs from valid states hold of its runs.
+/// Each state at boot of a plan in range and of images that are bytes is valid, and in it each heap area of a module belongs
+/// to that module. Each state at boot has one list of grants for each module, so the laws of runs from valid states hold of
+/// its runs.
 pub fn boots_are_valid()
     ensures valid { (plan : Said) (images : List (List ℕ)) (s : State) → IsInRange plan →
         AreImages images → boot_of plan images ≡ Ok s → IsFlat (flat s) }

@@ -3,7 +3,7 @@
 ghost use Rattle.std.specs.Prelude.{◌≡◌, ◌<◌, ◌≤◌, ◌++◌, None, length, map, IfOk, IfSome, OnOk};
 ghost use Rattle.std.specs.List.{AllByRecursion, flat_map};
 ghost use Rattle.mx_words.specs.Newest.{owners};
-ghost use Rattle.mx_words.specs.Limits.{most_harts};
+ghost use Rattle.mx_words.specs.Limits.{most_harts, most_words};
 ghost use Rattle.mx_model.specs.State.{flat};
 ghost use Rattle.mx_boot.specs.Areas.{homes};
 ghost use Rattle.mx_boot.specs.Boot.{boot_state, give, owned_pieces};
@@ -60,7 +60,7 @@ fn owned(alloc: Global, plan: &Plan, images: &Images) -> Result<Vec<Area>, NoMem
 /// at most 4095 runs of words with one owner.
 fn give_all(alloc: Global, areas: &[Area], words: u32) -> Result<Owners, NoMemory>
     requires some { 0 < words }
-    requires in_ram { words ≤ 16777216 }
+    requires in_ram { words ≤ most_words }
     requires placed { AllByRecursion (IsPlaced words) areas.now }
     requires few { length areas.now ≤ 2047 }
     ensures { IfOk result (λ all. all ≡ owners (map give areas.now) words) }

@@ -27,8 +27,9 @@ use mx_model::Fault;
 /// 7. Otherwise `Next` with the next pc; the registers and bytes are the instruction's.
 ///
 /// `Trap`, `Call` and `Back` change no register and no byte. The bus is touched once for the fetch,
-/// with place 0, and once more for a load or store, with the number of its base register. The pc of
-/// `Next` is a multiple of 4, the cause of a `Trap` is below 8, and the rd of `Back` below 32.
+/// with place 0, and once more for an aligned load or store, with the number of its base register.
+/// The pc of `Next` is a multiple of 4, the cause of a `Trap` is below 8, and the rd of `Back`
+/// below 32.
 #[tactic(auto, unfolding(crate::specs::Exec::fetched, crate::specs::Exec::outcome_of, crate::specs::Exec::regs_after, crate::specs::Exec::bytes_after, crate::specs::Exec::touches_of))]
 #[inline(always)]
 pub fn exec<B: Bus>(bus: &mut B, regs: &mut Regs, pc: u32, returns: bool) -> Outcome

@@ -3,6 +3,7 @@
 use Rattle.std.specs.Prelude.{ℕ, ◌≡◌, ◌+◌, ◌-◌, ◌*◌, ◌<◌, ◌≤◌, Bool, true, false, not, ◌&&◌, ◌==◌, nat_lt, nat_le, List, [], ◌∷◌, length, map, slice_index_or, slice_set, if◌then◌else◌, Option, Some, None, Result, Ok, Err}
 use Rattle.std.specs.List.{insert, remove, position_or_len}
 use Rattle.mx_words.specs.FirstFit.{Area, most_blocks}
+use Rattle.mx_words.specs.Ranges.{most_words}
 use Rattle.mx_heap.specs.declared.block.Block.{Block}
 use Rattle.mx_heap.specs.declared.block.HeapError.{HeapError}
 use Rattle.mx_heap.specs.declared.block.HeapError.TheVariants.{NoRoom, BlocksFull}
@@ -96,7 +97,7 @@ parts_to word parts = position_or_len (λ (p : Part). nat_lt word p.first) parts
 
 -- what stays true of a heap's fields
 pub record AreParts (first count : ℕ) (parts : List Part) (live capacity : ℕ) : Type 0 where
-  pub in_ram : first + count ≤ 16777216
+  pub in_ram : first + count ≤ most_words
   pub fill : Fill first (first + count) true parts
   pub counted : live ≡ length (blocks_of parts)
   pub few : live ≤ most_blocks

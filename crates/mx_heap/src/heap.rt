@@ -6,10 +6,8 @@ ghost use Rattle.std.specs.Bool.{OnTrue, OnFalse};
 
 use crate::block::{Block, HeapError};
 use crate::list::{put_block, take_block};
-use crate::parts::{
-    MOST_BLOCKS, Part, block_place, fitting_hole, hole_around, join_holes, split_hole,
-};
-use mx_words::NoMemory;
+use crate::parts::{BLOCKS, Part, block_place, fitting_hole, hole_around, join_holes, split_hole};
+use mx_words::{MOST_BLOCKS, NoMemory};
 use std::alloc::Global;
 use std::marker::Model;
 
@@ -45,17 +43,18 @@ impl Model for Heap {
 
 impl Heap {
     ghost use Rattle.mx_words.specs.FirstFit.{place, with_block, without_block, block_words, most_blocks};
+    ghost use Rattle.mx_words.specs.Ranges.{most_words};
     ghost use Rattle.mx_heap.specs.HeapState.{IsHeap, LiesIn, may_live, area_of};
 
     /// A heap over the RAM words `first` to `first + count - 1`, which end at most at 2^24, with no live block. An area
     /// of no words has no room for any block.
     pub fn new(alloc: Global, first: u32, count: u32) -> Result<Heap, NoMemory>
-        requires { first + count ≤ 16777216 }
+        requires { first + count ≤ most_words }
         ensures { IfOk result (λ h. h
             ≡ record { area = record { first = first; count = count }; blocks = [] }) }
     {
-        let mut parts = Vec::with_capacity(alloc, 2 * MOST_BLOCKS as usize + 1)?;
-        let blocks = Vec::with_capacity(alloc, MOST_BLOCKS as usize)?;
+        let mut parts = Vec::with_capacity(alloc, 2 * MOST_BLOCKS + 1)?;
+        let blocks = Vec::with_capacity(alloc, MOST_BLOCKS)?;
         if count > 0 {
             parts.push_reserved(Part {
                 first,
@@ -185,7 +184,7 @@ impl Heap {
             }) }
         ensures unchanged { OnFalse result (self.new ≡ self.old) }
     {
-        if count == 0 || self.live == MOST_BLOCKS {
+        if count == 0 || self.live == BLOCKS {
             return false;
         }
         let i = match hole_around(&self.parts, first, count) {

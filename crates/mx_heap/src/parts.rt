@@ -6,9 +6,10 @@ ghost use Rattle.mx_words.specs.FirstFit.{most_blocks};
 ghost use Rattle.mx_heap.specs.Places.{fitting, is_hole_for, is_hole_around, is_block_at, part_at, hole_words, with_hole, without_hole, split, joined, parts_to, AreInOrder};
 
 use crate::block::HeapError;
+use mx_words::MOST_BLOCKS;
 
-// The most blocks that live in one heap.
-pub const MOST_BLOCKS: u32 = 1024;
+// How many blocks live in one heap at most.
+pub const BLOCKS: u32 = MOST_BLOCKS as u32;
 
 // The words `first` to `first + count - 1`: a live block, or a hole.
 #[derive(Clone, Copy, PartialEq, Eq, Debug)]
@@ -101,7 +102,7 @@ pub fn fitting_hole(parts: &[Part], live: u32, words: u32) -> Result<usize, Heap
 {
     match hole_for(parts, words) {
         None => Err(HeapError::NoRoom),
-        Some(_) if live == MOST_BLOCKS => Err(HeapError::BlocksFull),
+        Some(_) if live == BLOCKS => Err(HeapError::BlocksFull),
         Some(i) => Ok(i),
     }
 }

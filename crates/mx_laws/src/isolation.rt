@@ -10,9 +10,10 @@ ghost use Rattle.mx_laws.specs.Twins.{AreFreeTwins, AreTwins, IsRunning, MakeOne
 ghost use Rattle.mx_laws.specs.Foreign.{ForeignAfter};
 ghost use Rattle.mx_laws.specs.Crossing.{FramesAfter};
 
-/// Twin turns. Two states of as many words of RAM, whatever they answer of rights, that agree for hart h at a multiple of 4 have one
-/// border for h. A running hart's turn is `Ran` exactly where its border is nothing; there it makes one and the same store in both,
-/// and they agree afterwards for h and for each other hart for which they agreed. A turn is `Idle` exactly where its hart is halted.
+/// Twin turns. Two states of as many words and bytes of RAM, whatever they answer of rights, that agree for hart h at a multiple of 4
+/// have one border for h. A running hart's turn is `Ran` exactly where its border is nothing; there it makes one and the same store in
+/// both, and they agree afterwards for h and for each other hart for which they agreed. A turn is `Idle` exactly where its hart is
+/// halted.
 pub fn turns_of_twins()
     ensures border { (r q : Reads) (c e : Core) (h : ℕ) → AreTwins r c q e h →
         border r c h ≡ border q e h }

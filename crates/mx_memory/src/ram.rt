@@ -1,8 +1,8 @@
 //! RAM as a list of bytes.
 ghost use Rattle.std.specs.Prelude.{◌≡◌, ℕ, ◌+◌, ◌*◌, ◌%◌, ◌^◌, ◌<◌, ◌≤◌, List, length, replicate, slice_index, slice_range, IfOk};
-ghost use Rattle.mx_words.specs.Bytes.{number_at, put_at, cleared_at};
+ghost use Rattle.mx_words.specs.Bytes.{IsSize, number_at, put_at, cleared_at};
+ghost use Rattle.mx_words.specs.Ranges.{most_words};
 ghost use Rattle.mx_memory.specs.Places.{place_of, IsInside};
-ghost use Rattle.mx_words.specs.Bytes.{IsSize};
 
 use mx_words::{NoMemory, RAM_BASE};
 use std::alloc::Global;
@@ -24,7 +24,7 @@ impl Model for Ram {
 impl Ram {
     /// RAM of so many words, at most 2^24, all of them zero.
     pub fn new(alloc: Global, words: u32) -> Result<Ram, NoMemory>
-        requires { words ≤ 2 ^ 24 }
+        requires { words ≤ most_words }
         ensures { IfOk result (λ ram. ram ≡ replicate (4 * words) 0) }
     {
         let bytes = vec![in alloc; 0u8; 4 * words as usize]?;

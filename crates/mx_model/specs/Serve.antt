@@ -10,6 +10,7 @@ use Rattle.mx_words.specs.Announced.{is_announced}
 use Rattle.mx_words.specs.Bytes.{number_at, put_at, cleared_at}
 use Rattle.mx_words.specs.FirstFit.{Area, place, with_block, without_block, block_words, most_blocks}
 use Rattle.mx_words.specs.FirstRow.{first_row}
+use Rattle.mx_words.specs.Limits.{most_bytes}
 use Rattle.mx_words.specs.Newest.{Give}
 use Rattle.mx_words.specs.Ranges.{ram_base, address_of, in_ram, is_range, range_words, overlaps}
 use Rattle.mx_words.specs.Rights.{number, from_number, allows}
@@ -158,7 +159,7 @@ write_from r c call None = written_out r c call
 abbrev pub serve_write : Reads → Core → Call → Served
 serve_write r c call =
     write_from r c call
-    (first_row ((nat_lt 4096 (arg call 1), 11) ∷ (write_outside c call, 1) ∷ []))
+    (first_row ((nat_lt most_bytes (arg call 1), 11) ∷ (write_outside c call, 1) ∷ []))
 
 -- 3 grant
 abbrev pub grant_change : Core → Call → Change

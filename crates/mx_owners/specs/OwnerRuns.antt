@@ -3,6 +3,7 @@
 use Rattle.std.specs.Prelude.{ℕ, ◌≡◌, ◌≢◌, ◌+◌, ◌-◌, ◌<◌, ◌≤◌, Bool, ◌==◌, ◌&&◌, nat_lt, List, [], ◌∷◌, ◌++◌, length, take, drop, slice_index_or, if◌then◌else◌}
 use Rattle.std.specs.List.{position_or_len}
 use Rattle.mx_words.specs.Counting.{list_below}
+use Rattle.mx_words.specs.Ranges.{most_words}
 use Rattle.mx_words.specs.Runs.{most_owner_runs}
 use Rattle.mx_owners.specs.declared.runs.Run.{Run}
 
@@ -32,7 +33,7 @@ Fill low high before (r ∷ rs) =
 -- what stays true of the stored runs
 pub record AreRuns (words : ℕ) (runs : List Run) : Type 0 where
   pub some : 0 < words
-  pub in_ram : words ≤ 16777216
+  pub in_ram : words ≤ most_words
   pub fill : Fill 0 words 0 runs
   pub few : length runs ≤ most_owner_runs
 

@@ -3,8 +3,8 @@
 ghost use Rattle.std.specs.List.{list_all, range_with_len};
 ghost use Rattle.std.specs.Prelude.{◌≡◌, ◌≢◌, ℕ, ◌+◌, ◌<◌, ◌≤◌, ◌↔◌, ◌==◌, length, replicate, slice_index, IsTrue, IfOk, OnOk, OnErr, IsErr};
 
-use crate::runs::{MOST_RUNS, Run, put_given, room, run_place};
-use mx_words::NoMemory;
+use crate::runs::{Run, put_given, room, run_place};
+use mx_words::{MOST_OWNER_RUNS, NoMemory};
 use std::alloc::Global;
 use std::marker::Model;
 use std::mem;
@@ -39,13 +39,13 @@ impl Model for Owners {
 
 impl Owners {
     ghost use Rattle.mx_words.specs.Newest.{laid};
-    ghost use Rattle.mx_words.specs.Runs.{owner_runs};
-    ghost use Rattle.mx_words.specs.Runs.{most_owner_runs};
+    ghost use Rattle.mx_words.specs.Ranges.{most_words};
+    ghost use Rattle.mx_words.specs.Runs.{most_owner_runs, owner_runs};
 
     /// Owners of `words` words of RAM, 1 to 2^24: the supervisor owns them all.
     pub fn new(alloc: Global, words: u32) -> Result<Owners, NoMemory>
         requires some { 0 < words }
-        requires in_ram { words ≤ 16777216 }
+        requires in_ram { words ≤ most_words }
         ensures { IfOk result (λ o. o ≡ replicate words 0) }
     {
         let mut runs = room(alloc)?;
@@ -94,7 +94,7 @@ impl Owners {
         ensures total { length self.new ≡ length self.old }
     {
         put_given(&mut self.next, &self.runs, domain, first, first + count);
-        if self.next.len() > MOST_RUNS {
+        if self.next.len() > MOST_OWNER_RUNS {
             return Err(OwnersFull);
         }
         mem::swap(&mut self.runs, &mut self.next);

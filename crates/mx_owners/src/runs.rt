@@ -5,11 +5,8 @@ ghost use Rattle.std.specs.Vec.{vec_capacity};
 ghost use Rattle.mx_words.specs.Runs.{most_owner_runs};
 ghost use Rattle.mx_owners.specs.OwnerRuns.{run_at, place_of, runs_before, goes_on, end_behind, place_behind, given};
 
-use mx_words::NoMemory;
+use mx_words::{MOST_OWNER_RUNS, NoMemory};
 use std::alloc::Global;
-
-// The most runs that the owners of all words may have.
-pub const MOST_RUNS: usize = 4096;
 
 // Words with one owner: those from the end of the run before, or from word 0 on, to before `end`.
 #[derive(Clone, Copy, PartialEq, Eq)]
@@ -23,7 +20,7 @@ pub fn room(alloc: Global) -> Result<Vec<Run>, NoMemory>
     ensures items { IfOk result (λ v. v.items ≡ []) }
     ensures capacity { IfOk result (λ v. most_owner_runs + 2 ≤ vec_capacity v) }
 {
-    Ok(Vec::with_capacity(alloc, MOST_RUNS + 2)?)
+    Ok(Vec::with_capacity(alloc, MOST_OWNER_RUNS + 2)?)
 }
 
 // The place of a word's run, by halves of the runs that there are.

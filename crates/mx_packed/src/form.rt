@@ -1,7 +1,8 @@
 //! Packed entries as leaf entries.
-ghost use Rattle.std.specs.Prelude.{◌≡◌, ◌≢◌, ℕ, ◌+◌, ◌-◌, ◌*◌, ◌/◌, ◌%◌, ◌<◌, ◌≤◌, ◌^◌, ◌==◌, refl, ◌⊎◌, if◌then◌else◌};
+ghost use Rattle.std.specs.Prelude.{◌≡◌, ◌≢◌, ℕ, ◌+◌, ◌-◌, ◌*◌, ◌/◌, ◌%◌, ◌<◌, ◌≤◌, ◌==◌, refl, ◌⊎◌, if◌then◌else◌};
 ghost use Rattle.std.proofs.Common.{inr};
 ghost use Rattle.mx_words.specs.declared.tables.Kind.TheVariants as K;
+ghost use Rattle.mx_words.specs.Ranges.{most_words};
 ghost use Rattle.mx_words.specs.Reach.{most_reach};
 ghost use Rattle.mx_words.specs.Runs.{line_words};
 ghost use Rattle.mx_trie.specs.Leaf.{lengthened};
@@ -23,7 +24,7 @@ fn lengthen(run: Span, line: u32, left: u32, right: u32) -> Span
     requires at { line ≤ run.first }
     requires before { left ≤ line }
     requires behind { run.first + run.count ≤ line + line_words }
-    requires room { line + line_words + right ≤ 2 ^ 24 }
+    requires room { line + line_words + right ≤ most_words }
     ensures { result ≡ lengthened (if run.first == line then left else 0)
         (if run.first + run.count == line + line_words then right else 0) run }
 {

@@ -1,7 +1,8 @@
 //! Packed entries: up to four runs of a line and two reaches in 32 bits.
-ghost use Rattle.std.specs.Prelude.{◌≡◌, ◌≢◌, ℕ, ◌+◌, ◌-◌, ◌*◌, ◌/◌, ◌%◌, ◌<◌, ◌≤◌, ◌^◌, List, length, Option, Some, IfSome};
+ghost use Rattle.std.specs.Prelude.{◌≡◌, ◌≢◌, ℕ, ◌+◌, ◌-◌, ◌*◌, ◌/◌, ◌%◌, ◌<◌, ◌≤◌, List, length, Option, Some, IfSome};
 ghost use Rattle.mx_words.specs.declared.perm.Perm.{Perm};
 ghost use Rattle.mx_words.specs.Rights.{number};
+ghost use Rattle.mx_words.specs.Ranges.{most_words};
 ghost use Rattle.mx_words.specs.Reach.{most_reach};
 ghost use Rattle.mx_words.specs.Runs.{runs, line_words};
 ghost use Rattle.mx_trie.specs.Leaf.{form_reach, placed, line_run};
@@ -109,7 +110,7 @@ pub(crate) fn run_of(values: u32, starts: u32, line: u32, word: u32) -> Span
     requires coded { IsCoded values starts }
     requires from { line ≤ word }
     requires below { word < line + line_words }
-    requires room { line + line_words ≤ 2 ^ 24 }
+    requires room { line + line_words ≤ most_words }
     ensures { (perms : List Perm) → length perms ≡ line_words →
         values ≡ value_code perms → starts ≡ start_code 0 perms →
         result ≡ placed line (line_run perms (word - line)) }

@@ -6,6 +6,7 @@ use Rattle.mx_words.specs.declared.perm.Access.TheVariants as A
 use Rattle.mx_words.specs.Caches.{Cache}
 use Rattle.mx_words.specs.FirstFit.{most_blocks}
 use Rattle.mx_words.specs.FirstRow.{Row, first_row}
+use Rattle.mx_words.specs.Limits.{most_bytes}
 use Rattle.mx_words.specs.Rights.{allows}
 use Rattle.mx_model.specs.declared.values.Call.{Call}
 use Rattle.mx_model.specs.declared.values.TurnKind.TheVariants as T
@@ -22,7 +23,7 @@ use Rattle.mx_laws.specs.After.{hart_after, kind_of}
 abbrev pub rows_of : Service → Reads → Core → Call → List (Row ℕ)
 rows_of Exit r c call = (call.nested, 10) ∷ []
 rows_of Write r c call =
-    (nat_lt 4096 (arg call 1), 11)
+    (nat_lt most_bytes (arg call 1), 11)
     ∷ (write_outside c call, 1)
     ∷ (not (list_all (may_read r call.domain) (write_words call)), 12) ∷ []
 rows_of Grant r c call =

@@ -3,6 +3,7 @@ ghost use Rattle.std.specs.Prelude.{◌≡◌, ◌↔◌, ℕ, ◌%◌, ◌≤�
 ghost use Rattle.mx_words.specs.declared.perm.Access.{Access};
 ghost use Rattle.mx_words.specs.declared.perm.Access.TheVariants as A;
 ghost use Rattle.mx_words.specs.Calls.{write_call, exchange_call};
+ghost use Rattle.mx_words.specs.Limits.{most_bytes};
 ghost use Rattle.mx_isa.specs.declared.inst.Inst.TheVariants.{Load, Store};
 ghost use Rattle.mx_isa.specs.declared.inst.LoadWidth.{LoadWidth};
 ghost use Rattle.mx_isa.specs.declared.inst.StoreWidth.{StoreWidth};
@@ -31,7 +32,7 @@ pub fn denied_exactly()
         Executes s h (Store width base from offset) →
         FaultsExactly s h (address_by s h base offset) (store_size width) A.Write 7 6 }
     ensures write { (s : State) (h : ℕ) → MakesCall s h write_call →
-        register_of s.core h 11 ≤ 4096 →
+        register_of s.core h 11 ≤ most_bytes →
         InRam s (register_of s.core h 10) (register_of s.core h 11) → answers_no_right s h
         ↔ SomeDenied s (domain_at s.core h) (register_of s.core h 10) (register_of s.core h 11)
         A.Read }

@@ -1,6 +1,7 @@
 //! The calls that look at words: write and exchange.
 ghost use Rattle.std.specs.Prelude.{◌≡◌, ℕ, ◌+◌, ◌-◌, ◌*◌, ◌<◌, ◌≤◌, ◌++◌, ◌∷◌, ◌||◌, nat_lt, [], not, true, false, length, take, drop, Some};
 ghost use Rattle.std.specs.List.{list_all, range_with_len};
+ghost use Rattle.mx_words.specs.Limits.{most_bytes};
 ghost use Rattle.mx_words.specs.Ranges.{ram_base, address_of};
 ghost use Rattle.mx_words.specs.Rights.{allows, perm_at};
 ghost use Rattle.mx_words.specs.declared.perm.Access.{Access};
@@ -20,13 +21,13 @@ use crate::answer::Refusal;
 use crate::{Answer, Supervisor};
 use mx_model::{Call, Events};
 use mx_table::PermTables;
-use mx_words::{Access, RAM_BASE};
+use mx_words::{Access, MOST_BYTES, RAM_BASE};
 
 /// The place of a hart's caches that serves the accesses of supervisor calls.
 const PLACE: u32 = 10;
 
-/// The most bytes that one call writes.
-const MOST_BYTES: u32 = 4096;
+/// How many bytes one call writes at most.
+const BYTES: u32 = MOST_BYTES as u32;
 
 impl<T: PermTables, const N: usize> Supervisor<T, N> {
     /// Call 2: bytes of RAM for the console.
@@ -40,7 +41,7 @@ impl<T: PermTables, const N: usize> Supervisor<T, N> {
         ensures note { out.new.note ≡ out.old.note }
     {
         let [addr, count, _, _] = call.args;
-        if count > MOST_BYTES {
+        if count > BYTES {
             return Answer::refused(Refusal::TooLong);
         }
         if count == 0 {
@@ -130,7 +131,7 @@ impl<T: PermTables, const N: usize> Supervisor<T, N> {
     fn print(&self, addr: u32, count: u32, out: &mut Events)
         requires begins { ram_base ≤ addr }
         requires inside { addr + count ≤ ram_base + length self.now.ram }
-        requires few { count ≤ 4096 }
+        requires few { count ≤ most_bytes }
         requires empty { out.old.bytes ≡ [] }
         ensures { out.new
             ≡ record out.old { bytes = take count (drop (addr - ram_base) self.now.ram) } }

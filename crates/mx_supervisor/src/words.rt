@@ -1,7 +1,7 @@
 //! Tests of calls, each as the model's.
-ghost use Rattle.std.specs.Prelude.{◌≡◌, ℕ, ◌+◌, ◌^◌, ◌<◌, ◌≤◌, ◌==◌, ◌↔◌, true, not, ◌&&◌, ◌||◌, IfSome, IsTrue, is_some, length, slice_index};
+ghost use Rattle.std.specs.Prelude.{◌≡◌, ℕ, ◌+◌, ◌<◌, ◌≤◌, ◌==◌, ◌↔◌, true, not, ◌&&◌, ◌||◌, IfSome, IsTrue, is_some, length, slice_index};
 ghost use Rattle.std.specs.Option.{option_map};
-ghost use Rattle.mx_words.specs.Ranges.{address_of};
+ghost use Rattle.mx_words.specs.Ranges.{address_of, most_words};
 ghost use Rattle.mx_heap.specs.HeapState.{LiesIn};
 ghost use Rattle.mx_model.specs.Checks.{arg};
 ghost use Rattle.mx_supervisor.specs.Heaps.{heap_at};
@@ -37,7 +37,7 @@ pub fn names_range(number: u32) -> bool
 /// number is one of these (docs/MACHINE.md, "Announced calls").
 pub fn announced_range(number: u32, a0: u32, a1: u32, words: u32, heap: Block) -> (u32, u32)
     requires announced { is_announced number ≡ true }
-    requires words { words ≤ 2 ^ 24 }
+    requires words { words ≤ most_words }
     ensures { result ≡ announced number a0 a1 words (heap.first, heap.count) }
 {
     if names_range(number) {

@@ -15,17 +15,18 @@ const PIECE: usize = 4096;
 /// that failed.
 #[derive(Drop)]
 pub struct Tail {
-    bytes: ArrayVec<u8, 4096>,
+    bytes: ArrayVec<u8, PIECE>,
 }
 
 impl Model for Tail {
     ghost use Rattle.std.specs.Prelude.{ℕ, List, length, ◌<◌};
+    ghost use Rattle.mx_tail.specs.Tail.{piece_bytes};
 
     ghost Value = { List ℕ };
 
     ghost view = { λ t. t.bytes.items };
 
-    ghost invariant = { λ t. length t.bytes.items < 4096 };
+    ghost invariant = { λ t. length t.bytes.items < piece_bytes };
 }
 
 impl Tail {

@@ -4,6 +4,7 @@ use Rattle.mx_words.specs.declared.perm.Perm.{Perm}
 use Rattle.mx_words.specs.declared.perm.Span.{Span}
 use Rattle.mx_words.specs.declared.tables.Kind.{Kind}
 use Rattle.mx_words.specs.declared.tables.Kind.TheVariants as K
+use Rattle.mx_words.specs.Ranges.{most_words}
 use Rattle.mx_words.specs.Rights.{same}
 use Rattle.mx_words.specs.Runs.{runs, runs_of, line_words}
 use Rattle.mx_words.specs.Reach.{span_within, packed, mini_entry}
@@ -75,7 +76,7 @@ pub record IsStored (kind : Kind) (perms : List Perm) (left right spill line : �
   pub left_most : left ≤ form_reach kind
   pub right_most : right ≤ form_reach kind
   pub before : left ≤ line
-  pub behind : line + line_words + right ≤ 2 ^ 24
+  pub behind : line + line_words + right ≤ most_words
   pub numbered : spill < 2 ^ 30
   pub entry_is : entry ≡ leaf_entry kind perms left right spill
   pub spilled_is : spilled ≡ (if needs_spill kind perms then packed perms else 0)

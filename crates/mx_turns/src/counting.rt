@@ -1,6 +1,7 @@
 //! The turns of a run that writes nothing: what its texts come to is counted. No call takes memory.
 
 ghost use Rattle.std.specs.Prelude.{◌≡◌, ◌+◌, ◌-◌, ◌*◌, ◌<◌, ◌≤◌, ◌^◌, length, count_by, option_to_list};
+ghost use Rattle.mx_words.specs.Limits.{most_bytes};
 ghost use Rattle.mx_any.specs.Machines.{meaning};
 ghost use Rattle.mx_model.specs.Run.{run};
 ghost use Rattle.mx_model.specs.State.{State, flat};
@@ -95,7 +96,7 @@ fn counted(tally: Tally, events: &Events) -> Tally
         ≡ tally.faults + count_by is_fault (option_to_list events.now.note) }
     ensures exits { result.exits
         ≡ tally.exits + count_by is_exit (option_to_list events.now.note) }
-    ensures few_bytes { result.bytes ≤ tally.bytes + 4096 }
+    ensures few_bytes { result.bytes ≤ tally.bytes + most_bytes }
     ensures few_faults { result.faults ≤ tally.faults + 1 }
     ensures few_exits { result.exits ≤ tally.exits + 1 }
 {

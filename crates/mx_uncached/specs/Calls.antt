@@ -8,6 +8,7 @@ use Rattle.mx_words.specs.declared.perm.Access.TheVariants as A
 use Rattle.mx_words.specs.Bytes.{number_at, put_at, cleared_at}
 use Rattle.mx_words.specs.FirstFit.{Area, place, with_block, without_block, block_words, most_blocks}
 use Rattle.mx_words.specs.FirstRow.{Row, first_row}
+use Rattle.mx_words.specs.Limits.{most_bytes}
 use Rattle.mx_words.specs.Newest.{Give}
 use Rattle.mx_words.specs.Ranges.{ram_base, address_of, in_ram, is_range, range_words, overlaps}
 use Rattle.mx_words.specs.Rights.{number, from_number}
@@ -85,7 +86,7 @@ given p c = record { first = (range p c).0; count = (range p c).1; value = arg c
 abbrev pub tests : Service → Plain → Call → List (Row ℕ)
 tests Exit p c = (c.nested, 10) ∷ []
 tests Write p c =
-    (nat_lt 4096 (arg c 1), 11)
+    (nat_lt most_bytes (arg c 1), 11)
     ∷ (bytes_outside p c, 1)
     ∷ (not (list_all (may p c.domain A.Read) (write_words c)), 12) ∷ []
 tests Grant p c =

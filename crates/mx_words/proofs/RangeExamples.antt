@@ -9,10 +9,10 @@ use Rattle.mx_words.specs.declared.perm.Access.TheVariants as A
 use Rattle.mx_words.specs.Announced.{is_announced, announced}
 use Rattle.mx_words.specs.Bytes.{number_at, put_at, cleared_at}
 use Rattle.mx_words.specs.Changes.{changed_maps, granted_all}
-use Rattle.mx_words.specs.FirstFit.{Area, place, with_block, without_block, block_words, most_blocks}
+use Rattle.mx_words.specs.FirstFit.{Area, place, with_block, without_block, block_words}
 use Rattle.mx_words.specs.FirstRow.{first_row}
 use Rattle.mx_words.specs.Hearing.{is_in, nobody, with_hearer, heard_range, unheard_range, forbids_keeping, lets_pass}
-use Rattle.mx_words.specs.Limits.{most_modules, most_domains, most_harts, most_gates, most_frames, most_kept}
+use Rattle.mx_words.specs.Limits.{most_modules, most_domains, most_harts, most_gates, most_frames, most_kept, most_blocks, most_owner_runs, most_bytes}
 use Rattle.mx_words.specs.Newest.{Laid, Grant, at, map, owners, laid}
 use Rattle.mx_words.specs.Ranges.{most_words, address_of, covers, overlaps, in_ram, word_of, word_range, range_words}
 use Rattle.mx_words.specs.Rights.{number, from_number, same, allows, perm, denies}
@@ -21,6 +21,9 @@ use Rattle.mx_words.specs.Starts.{is_start, is_owner_start}
 -- the greatest numbers
 limits : most_modules ∷ most_domains ∷ most_harts ∷ most_gates ∷ most_frames ∷ most_kept ∷ [] ≡ 63 ∷ 64 ∷ 4 ∷ 256 ∷ 64 ∷ 64 ∷ []
 limits = refl
+
+more-limits : most_blocks ∷ most_owner_runs ∷ most_bytes ∷ [] ≡ 1024 ∷ 4096 ∷ 4096 ∷ []
+more-limits = refl
 
 -- addresses: RAM of 17 words ends before 0x80000044
 greatest-ram : ◌≡◌ {A = ℕ} most_words (65536 * 1024 / 4)
@@ -164,9 +167,6 @@ block-ended = refl
 
 words-of-blocks : list_map (block_words (block 100 2 ∷ block 104 1 ∷ [])) (100 ∷ 101 ∷ 104 ∷ []) ≡ Some 2 ∷ Nothing ∷ Some 1 ∷ []
 words-of-blocks = refl
-
-blocks-at-most : ◌≡◌ {A = ℕ} most_blocks 1024
-blocks-at-most = refl
 
 -- the first row that applies says it
 first-rows : list_map (λ (rows : List (Bool × ℕ)). first_row rows) (((false, 1) ∷ (true, 2) ∷ (true, 3) ∷ []) ∷ ((false, 1) ∷ []) ∷ [] ∷ []) ≡ Some 2 ∷ Nothing ∷ Nothing ∷ []

@@ -3,6 +3,8 @@
 use Rattle.std.specs.Prelude.{ℕ, ◌+◌, ◌<◌, ◌≤◌, Bool, not, ◌&&◌, ◌==◌, nat_lt, nat_le, List, [], ◌∷◌, filter, find, Option, option_map, if◌then◌else◌}
 use Rattle.std.specs.List.{list_any, range_with_len}
 use Rattle.mx_words.specs.Ranges.{overlaps}
+-- how many live blocks a heap has at most
+pub use Rattle.mx_words.specs.Limits.{most_blocks}
 
 -- a live block or an area: the words first to first + count - 1
 pub record Area : Type 0 where
@@ -31,10 +33,6 @@ without_block first blocks = filter (λ (b : Area). not (b.first == first)) bloc
 abbrev pub block_words : List Area → ℕ → Option ℕ
 block_words blocks first =
     option_map (λ (b : Area). b.count) (find (λ (b : Area). b.first == first) blocks)
-
--- how many live blocks a heap has at most
-abbrev pub most_blocks : ℕ
-most_blocks = 1024
 
 -- live blocks of at least one word each, in the order of their addresses and apart, from word `low` on and before word `high`
 abbrev pub AreApart : ℕ → ℕ → List Area → Type 0

@@ -5,6 +5,8 @@ use Rattle.std.specs.List.{list_all}
 use Rattle.mx_words.specs.declared.perm.Perm.{Perm}
 use Rattle.mx_words.specs.declared.perm.Perm.TheVariants as P
 use Rattle.mx_words.specs.Rights.{same}
+-- how many maximal runs of one owner there are at most
+pub use Rattle.mx_words.specs.Limits.{most_owner_runs}
 
 -- a maximal run: its length and its value
 pub record Run (A : Type 0) : Type 0 where
@@ -30,10 +32,6 @@ runs m = length (runs_of same m)
 -- the number of maximal runs of equal owners
 abbrev pub owner_runs : List ℕ → ℕ
 owner_runs os = length (runs_of (λ a b. a == b) os)
-
--- how many maximal runs of one owner there are at most
-abbrev pub most_owner_runs : ℕ
-most_owner_runs = 4096
 
 -- the sizes of the blocks of words: a line, a page, a region
 abbrev pub line_words : ℕ

@@ -12,9 +12,12 @@ mod tables;
 
 pub use blob::Blob;
 pub use calls::{ALLOC_CALL, EXCHANGE_CALL, FREE_CALL, GRANT_CALL, REVOKE_ALL_CALL, WRITE_CALL};
-pub use limits::{MOST_DOMAINS, MOST_FRAMES, MOST_GATES, MOST_HARTS, MOST_KEPT, MOST_MODULES};
+pub use limits::{
+    MOST_BLOCKS, MOST_BYTES, MOST_DOMAINS, MOST_FRAMES, MOST_GATES, MOST_HARTS, MOST_KEPT,
+    MOST_MODULES, MOST_OWNER_RUNS, MOST_WORDS,
+};
 pub use perm::{Access, Perm, Span};
-pub use ranges::{MOST_WORDS, RAM_BASE, word_of, word_range};
+pub use ranges::{RAM_BASE, word_of, word_range};
 pub use spans::Spans;
 use std::alloc::{AllocError, AllocFailed};
 pub use tables::{Kind, Level, Need, Shown};

@@ -1,5 +1,7 @@
-//! The greatest numbers of modules, domains, harts, gates, frames and kept spans, which code and definitions share: the definitions
-//! name them in specs/Limits.
+//! The greatest numbers of what a machine has, which code and definitions share: the definitions name them in specs/Limits.
+
+/// The greatest number of words of a RAM, which has 64 MiB.
+pub const MOST_WORDS: u32 = 0x100_0000;
 
 /// The greatest number of modules, which are the protection domains 1 to 63.
 pub const MOST_MODULES: usize = 63;
@@ -18,3 +20,12 @@ pub const MOST_FRAMES: usize = 64;
 
 /// The greatest number of spans that the lookaside buffer of one hart keeps.
 pub const MOST_KEPT: usize = 64;
+
+/// The greatest number of blocks that live in one heap.
+pub const MOST_BLOCKS: usize = 1024;
+
+/// The greatest number of maximal runs of words with one owner, over all words of RAM.
+pub const MOST_OWNER_RUNS: usize = 4096;
+
+/// The greatest number of bytes that one call writes to the console.
+pub const MOST_BYTES: usize = 4096;

@@ -1,16 +1,13 @@
 //! Addresses and RAM words: word `i` has the address `0x80000000 + 4 * i`.
-ghost use Rattle.std.specs.Prelude.{◌≡◌, ◌≤◌, ◌^◌};
-ghost use Rattle.mx_words.specs.Ranges.{word_of, word_range};
+ghost use Rattle.std.specs.Prelude.{◌≡◌, ◌≤◌};
+ghost use Rattle.mx_words.specs.Ranges.{most_words, word_of, word_range};
 
 /// The address of RAM's first byte.
 pub const RAM_BASE: u32 = 0x8000_0000;
 
-/// The greatest number of words of a RAM, which has 64 MiB.
-pub const MOST_WORDS: u32 = 0x100_0000;
-
-/// The number of the word that holds an address, in a RAM of `words` words, at most 2^24. `None` exactly outside RAM.
+/// The number of the word that holds an address, in a RAM of `words` words, at most `MOST_WORDS`. `None` exactly outside RAM.
 pub fn word_of(addr: u32, words: u32) -> Option<u32>
-    requires { words ≤ 2 ^ 24 }
+    requires { words ≤ most_words }
     ensures { result ≡ word_of addr words }
 {
     // Below RAM the difference wraps to 2^31 and more.
@@ -19,9 +16,9 @@ pub fn word_of(addr: u32, words: u32) -> Option<u32>
 }
 
 /// The words that the `len` bytes from `addr` on touch, as the first word and their number, in a RAM of `words` words, at most
-/// 2^24. `None` exactly where there are no bytes, `addr` is no multiple of 4, or a byte lies outside RAM or past 2^32.
+/// `MOST_WORDS`. `None` exactly where there are no bytes, `addr` is no multiple of 4, or a byte lies outside RAM or past 2^32.
 pub fn word_range(addr: u32, len: u32, words: u32) -> Option<(u32, u32)>
-    requires { words ≤ 2 ^ 24 }
+    requires { words ≤ most_words }
     ensures { result ≡ word_range addr len words }
 {
     if len == 0 || addr % 4 != 0 || addr < RAM_BASE {

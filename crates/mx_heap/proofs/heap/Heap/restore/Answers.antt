@@ -75,7 +75,7 @@ split_hole-requires c =
     let h : Hole (goal.at.split_hole-requires c).In-Some = hole_is (goal.at.split_hole-requires c).In-Some in
     record {
       place = omega (arith, h.within);
-      room = omega (arith, two_more _ _ _ _ _ c.self.invariant.are c.if-self-eq-MOST_BLOCKS.false);
+      room = omega (arith, two_more _ _ _ _ _ c.self.invariant.are c.if-self-eq-BLOCKS.false);
       begins = h.begins;
       ends = h.ends;
       fits = omega (arith, h.high, c.self.invariant.are.in_ram);
@@ -86,7 +86,7 @@ invariant_of-self c =
     let d : In-Some = (goal.at.invariant_of-self c).In-Some in
     let b : Area = record { first = c.args.first; count = c.args.count } in
     record {
-      are = kept_split _ _ _ _ _ c.self.invariant.are c.in-Some.i c.args.first c.args.count _ _ c.if-self-eq-MOST_BLOCKS.false
+      are = kept_split _ _ _ _ _ c.self.invariant.are c.in-Some.i c.args.first c.args.count _ _ c.if-self-eq-BLOCKS.false
           (split_is d) c.split_hole.ensures.items c.split_hole.ensures.capacity;
       listed = c.put_block.ensures.items ∙ ap (λ (bs : List Area). with_block b bs) c.self.invariant.listed ∙ sym (ap (λ (ps : List Part). blocks_of ps) c.split_hole.ensures.items ∙ (split_is d).blocks);
       room_is = omega (arith, c.self.invariant.room_is, c.put_block.ensures.capacity);
@@ -98,7 +98,7 @@ returns c =
     let area : Area = record { first = c.self.inside.first; count = c.self.inside.count } in
     let bs : List Area = blocks_of c.self.inside.parts.items in
     let some : 0 < c.args.count = omega arith in
-    let less : length bs < most_blocks = omega (arith, c.self.invariant.are.counted, c.self.invariant.are.few, c.if-self-eq-MOST_BLOCKS.false) in
+    let less : length bs < most_blocks = omega (arith, c.self.invariant.are.counted, c.self.invariant.are.few, c.if-self-eq-BLOCKS.false) in
     let fits : has_room area bs c.args.count c.args.first ≡ true =
     room_in_hole area c.self.inside.parts.items c.self.invariant.are.fill c.in-Some.i c.args.first c.args.count (hole_is d).within (hole_is d).around in
     let new : blocks_of c.split_hole.new.parts.items ≡ with_block (record { first = c.args.first; count = c.args.count }) bs =

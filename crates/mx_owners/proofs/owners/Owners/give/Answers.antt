@@ -43,9 +43,9 @@ pub put_given-requires-clause-fits : goal.put_given-requires-clause-fits
 put_given-requires-clause-fits c = rw c.deref.ensures.value
     (given_few c.self.inside.runs.items c.self.inside.words c.self.invariant.are.fill c.args.domain c.args.first (c.args.first + c.args.count) (omega (arith, c.requires.some)) (in_ram c))
 
-pub returns-then-len-gt-MOST_RUNS-clause-full : goal.returns-then-len-gt-MOST_RUNS-clause-full
-returns-then-len-gt-MOST_RUNS-clause-full c =
-    let d : After-deref = (goal.at.returns-then-len-gt-MOST_RUNS-clause-full c).After-deref in
+pub returns-then-len-gt-MOST_OWNER_RUNS-clause-full : goal.returns-then-len-gt-MOST_OWNER_RUNS-clause-full
+returns-then-len-gt-MOST_OWNER_RUNS-clause-full c =
+    let d : After-deref = (goal.at.returns-then-len-gt-MOST_OWNER_RUNS-clause-full c).After-deref in
     let items : c.put_given.new.next.items ≡ given c.self.inside.runs.items c.args.domain c.args.first (c.args.first + c.args.count) = rw c.deref.ensures.value at c.put_given.ensures.items in
     ((λ _. omega (arith, count_is d, ap (λ (rs : List Run). length rs) items)), (λ _. refl))
 
