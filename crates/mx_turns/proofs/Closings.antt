@@ -1,14 +1,14 @@
--- How the texts of a run left, by what its loop and its end did.
+-- How the texts of a run left and which turns were made, by what its loop and its end did.
 use Rattle.std.proofs.Common.{◌≡◌, ℕ, ◌+◌, ◌<◌, ◌≤◌, List, [], ◌++◌, length, Result, Ok, Err, refl, sym, subst, inl, inr, arith}
 use Rattle.std.proofs.lemmas.List.{append-nil}
 use Rattle.mx_io.specs.Texts.{AppendsPrefix}
 use Rattle.mx_io.specs.Sink.{SinkState}
 use Rattle.mx_io.proofs.Text.{appends_nothing}
-use Rattle.mx_model.specs.State.{State, Flat}
+use Rattle.mx_model.specs.State.{State, Flat, flat}
 use Rattle.mx_tail.specs.Tail.{sent}
 use Rattle.mx_turns.specs.declared.fault.SinkFault.{SinkFault}
 use Rattle.mx_turns.specs.declared.fault.SinkFault.TheVariants as F
-use Rattle.mx_turns.specs.Ends.{Texts, sinks, IsSinkFault, Leave}
+use Rattle.mx_turns.specs.Ends.{FailsAt, Texts, Sinks, sinks, IsSinkFault, Leave, StopsTurns, MakesTurns}
 use Rattle.mx_turns.specs.Runs.{undumped}
 use Rattle.mx_turns.specs.Running.{Put, Breaks, PutOrBreaks, Places, places, HasTexts, StopsAt, Closes}
 use Rattle.mx_turns.proofs.Sinking.{BreaksSomewhere, breaks_more, breaks_same, breaks_sent, moves_put, moves_unput, prefix_moves, prefix_none, prefix_tells, prefix_whole, put_same, tells_of}
@@ -22,6 +22,11 @@ breaks_begun k b n whole front is p = breaks_same k b n (front ++ is.0) whole (s
 
 prefix_begun : (b n : SinkState) (whole front : List ℕ) → Begun whole front → ((y : List ℕ) → AppendsPrefix b.written n.written (front ++ y)) → AppendsPrefix b.written n.written whole
 prefix_begun b n whole front is p = subst (λ (t : List ℕ). AppendsPrefix b.written n.written t) (sym is.1) (p is.0)
+
+-- the texts left, and the turns were made
+abbrev pub LeavesAndMakes : {A : Type 0} → Texts → (ℕ → State) → Sinks → Sinks → Flat → Result A SinkFault → Type 0
+LeavesAndMakes texts states before now machine result =
+    Leave texts before now result × MakesTurns texts states before now machine result
 
 -- a run that makes at most so many turns, without the dump
 module _ (states : ℕ → State) (lines : ℕ → List ℕ) (report : List ℕ) (turns : ℕ)
@@ -38,54 +43,71 @@ module _ (states : ℕ → State) (lines : ℕ → List ℕ) (report : List ℕ)
     told = lines;
   }
 
+  -- a sink failed at the turn after so many
+  at_turn : (made bytes : ℕ) (text : List ℕ) (so_far : ℕ → List ℕ) (before now : SinkState) (machine : Flat)
+      → made < turns → machine ≡ flat (states (made + 1)) → FailsAt bytes text before now
+      → length (sent (so_far made)) ≤ bytes → bytes < length (sent (so_far (made + 1)))
+      → StopsTurns made bytes text so_far turns states before now machine
+  at_turn made bytes text so_far before now machine few is fails pieces next = record {
+    fails = fails;
+    leaves = record { few = omega (arith, few); pieces = pieces; next = inl (few, next) };
+    last = λ fewer. is;
+    all = λ same. absurd (omega (arith, few, same));
+  }
+
+  -- it failed after all of them
+  at_end : (bytes : ℕ) (text : List ℕ) (so_far : ℕ → List ℕ) (before now : SinkState) (machine : Flat)
+      → machine ≡ flat (states turns) → FailsAt bytes text before now → length (sent (so_far turns)) ≤ bytes
+      → StopsTurns turns bytes text so_far turns states before now machine
+  at_end bytes text so_far before now machine is fails pieces = record {
+    fails = fails;
+    leaves = record { few = omega arith; pieces = pieces; next = inr refl };
+    last = λ few. absurd (omega (arith, few));
+    all = λ same. is;
+  }
+
   -- a sink stopped the turns; where it was the console, what the report's buffer held was put after that
-  pub leave_stopped : {A : Type 0} (made : ℕ) → made < turns → (machine : Flat) (mid : Places) (r : SinkState) (which : SinkFault) → StopsAt states lines made machine (places b [] d []) mid which
-      → (which ≡ F.Console → PutOrBreaks mid.report r mid.told) → (which ≡ F.Report → r ≡ mid.report) → Leave {A = A} texts (sinks b d e) (sinks mid.console r e) (Err which)
+  pub leave_stopped : {A : Type 0} (made : ℕ) → made < turns → (machine : Flat) (mid : Places) (r : SinkState)
+      (which : SinkFault) → StopsAt states lines made machine (places b [] d []) mid which
+      → (which ≡ F.Console → PutOrBreaks mid.report r mid.told) → (which ≡ F.Report → r ≡ mid.report)
+      → LeavesAndMakes {A = A} texts states (sinks b d e) (sinks mid.console r e) machine (Err which)
   leave_stopped made few machine mid r F.Console s rest same =
       let breaks = breaks_begun s.1.0 b mid.console _ _ (shown_grows (made + 1) (omega (arith, few))) (breaks_sent s.1.0 b mid.console _ s.1.1) in
       let tells = tells_of d mid.report r mid.told (lines made) s.2 (rest refl) in
-      record {
-        whole = tt;
-        fault = (
-          (
-            made,
-            s.1.0,
-            breaks.fails,
-            record { few = omega (arith, few); pieces = s.1.2; next = inl (few, s.1.1.fails.within) },
-            tells,
-            refl,
-          ),
-          record {
-            console = (s.1.0, breaks.fails.put);
-            report = prefix_begun d r report (lines made) (told_grows made (omega (arith, few))) (λ y. prefix_tells d r (lines made) y tells);
-            dump = prefix_none e [];
-          },
-        );
-        sure = λ room. absurd (breaks.tight room.console);
-      }
+      let stops = at_turn made s.1.0 texts.console texts.shown b mid.console machine few s.0 breaks.fails s.1.2 s.1.1.fails.within in (
+        record {
+          whole = tt;
+          fault = (
+            (made, s.1.0, breaks.fails, stops.leaves, tells, refl),
+            record {
+              console = (s.1.0, breaks.fails.put);
+              report = prefix_begun d r report (lines made) (told_grows made (omega (arith, few))) (λ y. prefix_tells d r (lines made) y tells);
+              dump = prefix_none e [];
+            },
+          );
+          sure = λ room. absurd (breaks.tight room.console);
+        },
+        (made, s.1.0, stops),
+      )
   leave_stopped made few machine mid r F.Report s rest same =
       let breaks = breaks_begun s.1.0 d mid.report _ _ (told_grows (made + 1) (omega (arith, few))) (breaks_sent s.1.0 d mid.report _ s.1.1) in
       let shown = λ (y : List ℕ). prefix_moves b mid.console mid.shown (states (made + 1)).console y s.2 in
-      rw (same refl)
-      (record {
-        whole = tt;
-        fault = (
-          (
-            made,
-            s.1.0,
-            breaks.fails,
-            record { few = omega (arith, few); pieces = s.1.2; next = inl (few, s.1.1.fails.within) },
-            inl (few, record { whole = s.2.put.whole; kept = s.2.put.kept }),
-            refl,
-          ),
-          record {
-            console = prefix_begun b mid.console _ _ (shown_grows (made + 1) (omega (arith, few))) shown;
-            report = (s.1.0, breaks.fails.put);
-            dump = prefix_none e [];
-          },
-        );
-        sure = λ room. absurd (breaks.tight room.report);
-      })
+      let stops = at_turn made s.1.0 texts.report texts.told d mid.report machine few s.0 breaks.fails s.1.2 s.1.1.fails.within in
+      rw (same refl) (
+        record {
+          whole = tt;
+          fault = (
+            (made, s.1.0, breaks.fails, stops.leaves, inl (few, record { whole = s.2.put.whole; kept = s.2.put.kept }), refl),
+            record {
+              console = prefix_begun b mid.console _ _ (shown_grows (made + 1) (omega (arith, few))) shown;
+              report = (s.1.0, breaks.fails.put);
+              dump = prefix_none e [];
+            },
+          );
+          sure = λ room. absurd (breaks.tight room.report);
+        },
+        (made, s.1.0, stops),
+      )
   leave_stopped made few machine mid r F.Dump s rest same = absurd s
 
   -- the turns were made, and then the end
@@ -98,46 +120,55 @@ module _ (states : ℕ → State) (lines : ℕ → List ℕ) (report : List ℕ)
         let p = moves_unput b mid.console now.console mid.shown (states turns).console [] has.console (q.0, breaks_same q.0 mid.console now.console _ _ (sym (append-nil mid.shown)) q.1) in
         (p.0, breaks_same p.0 b now.console _ _ (append-nil _) p.1, p.2)
 
-    pub leave_closed : {A : Type 0} (result : Result A SinkFault) → Closes closing mid now result → Leave texts (sinks b d e) (sinks now.console now.report e) result
+    pub leave_closed : {A : Type 0} (result : Result A SinkFault) → Closes closing mid now result
+        → LeavesAndMakes texts states (sinks b d e) (sinks now.console now.report e) machine result
     leave_closed (Ok a) c =
         let console = shown_put c.0 in
-        let told = put_same d now.report _ _ (sym is) (moves_put d mid.report now.report mid.told (lines turns) closing has.report c.1) in
-        record {
-          whole = (record { console = console.whole; report = told.whole; dump = appends_nothing e.written }, record { console = console.kept; report = told.kept; dump = refl });
-          fault = tt;
-          sure = λ room. refl;
-        }
+        let told = put_same d now.report _ _ (sym is) (moves_put d mid.report now.report mid.told (lines turns) closing has.report c.1) in (
+          record {
+            whole = (record { console = console.whole; report = told.whole; dump = appends_nothing e.written }, record { console = console.kept; report = told.kept; dump = refl });
+            fault = tt;
+            sure = λ room. refl;
+          },
+          has.state,
+        )
     leave_closed (Err F.Console) c =
         let unput = shown_unput c.0 in
         let tells = tells_of d mid.report now.report mid.told (lines turns) has.report c.1 in
-        record {
-          whole = tt;
-          fault = (
-            (turns, unput.0, unput.1.fails, record { few = omega arith; pieces = unput.2; next = inr refl }, tells, refl),
-            record {
-              console = (unput.0, unput.1.fails.put);
-              report = subst (λ (t : List ℕ). AppendsPrefix d.written now.report.written t) (sym is) (prefix_tells d now.report (lines turns) closing tells);
-              dump = prefix_none e [];
-            },
-          );
-          sure = λ room. absurd (unput.1.tight room.console);
-        }
+        let stops = at_end unput.0 texts.console texts.shown b now.console machine has.state unput.1.fails unput.2 in (
+          record {
+            whole = tt;
+            fault = (
+              (turns, unput.0, unput.1.fails, stops.leaves, tells, refl),
+              record {
+                console = (unput.0, unput.1.fails.put);
+                report = subst (λ (t : List ℕ). AppendsPrefix d.written now.report.written t) (sym is) (prefix_tells d now.report (lines turns) closing tells);
+                dump = prefix_none e [];
+              },
+            );
+            sure = λ room. absurd (unput.1.tight room.console);
+          },
+          (turns, unput.0, stops),
+        )
     leave_closed (Err F.Report) c =
         let console = shown_put c.0 in
         let told = moves_unput d mid.report now.report mid.told (lines turns) closing has.report c.1 in
         let unput = breaks_same told.0 d now.report _ _ (sym is) told.1 in
-        record {
-          whole = tt;
-          fault = (
-            (turns, told.0, unput.fails, record { few = omega arith; pieces = told.2; next = inr refl }, inr (refl, record { whole = console.whole; kept = console.kept }), refl),
-            record {
-              console = prefix_whole b now.console _ console.whole;
-              report = (told.0, unput.fails.put);
-              dump = prefix_none e [];
-            },
-          );
-          sure = λ room. absurd (unput.tight room.report);
-        }
+        let stops = at_end told.0 texts.report texts.told d now.report machine has.state unput.fails told.2 in (
+          record {
+            whole = tt;
+            fault = (
+              (turns, told.0, unput.fails, stops.leaves, inr (refl, record { whole = console.whole; kept = console.kept }), refl),
+              record {
+                console = prefix_whole b now.console _ console.whole;
+                report = (told.0, unput.fails.put);
+                dump = prefix_none e [];
+              },
+            );
+            sure = λ room. absurd (unput.tight room.report);
+          },
+          (turns, told.0, stops),
+        )
     leave_closed (Err F.Dump) c = absurd c
 
 -- the dump comes last
@@ -177,7 +208,7 @@ module _ (texts : Texts) (b d c r e : SinkState) where
   fault_before F.Report f = f
   fault_before F.Dump f = let none = f.1.within in absurd (omega (arith, none))
 
-  pub leave_before : {A : Type 0} (which : SinkFault) → Leave {A = A} (undumped texts) (sinks b d e) (sinks c r e) (Err which) → Leave {A = A} texts (sinks b d e) (sinks c r e) (Err which)
+  leave_before : {A : Type 0} (which : SinkFault) → Leave {A = A} (undumped texts) (sinks b d e) (sinks c r e) (Err which) → Leave {A = A} texts (sinks b d e) (sinks c r e) (Err which)
   leave_before which l = record {
     whole = tt;
     fault = (
@@ -186,3 +217,10 @@ module _ (texts : Texts) (b d c r e : SinkState) where
     );
     sure = λ room. l.sure (record { console = room.console; report = room.report; dump = omega arith });
   }
+
+  pub ends_before : {A : Type 0} (states : ℕ → State) (machine : Flat) (which : SinkFault)
+      → LeavesAndMakes {A = A} (undumped texts) states (sinks b d e) (sinks c r e) machine (Err which)
+      → LeavesAndMakes {A = A} texts states (sinks b d e) (sinks c r e) machine (Err which)
+  ends_before states machine F.Console l = (leave_before F.Console l.0, l.1)
+  ends_before states machine F.Report l = (leave_before F.Report l.0, l.1)
+  ends_before states machine F.Dump l = (leave_before F.Dump l.0, l.1)

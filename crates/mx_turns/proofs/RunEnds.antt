@@ -1,4 +1,4 @@
--- The texts of a run and of a trace, by how its turns and its end went.
+-- The texts and the turns of a run and of a trace, by how its turns and its end went.
 use Rattle.std.proofs.Common.{◌≡◌, ℕ, ◌+◌, ◌≤◌, List, [], ◌++◌, Option, Result, Err, refl, ap, ◌∙◌, append_assoc}
 use Rattle.mx_io.specs.Sink.{SinkState}
 use Rattle.mx_model.specs.Run.{Schedule, run}
@@ -10,11 +10,11 @@ use Rattle.mx_snapshot.specs.Kept.{IsOfPlan, KeptPlan}
 use Rattle.mx_turns.specs.declared.fault.SinkFault.{SinkFault}
 use Rattle.mx_turns.specs.declared.fault.SinkFault.TheVariants as F
 use Rattle.mx_turns.specs.declared.task.Dump.{Dump}
-use Rattle.mx_turns.specs.Ends.{sinks, Leave}
+use Rattle.mx_turns.specs.Ends.{sinks}
 use Rattle.mx_turns.specs.Runs.{end_of, note_lines, ran, report_of, undumped}
 use Rattle.mx_turns.specs.Running.{KeepsShape, Places, places, HasTexts, RunsOrStops, PutOrBreaks, Closes}
 use Rattle.mx_turns.specs.Tracing.{end_text, trace, traced}
-use Rattle.mx_turns.proofs.Closings.{leave_closed, leave_stopped}
+use Rattle.mx_turns.proofs.Closings.{LeavesAndMakes, leave_closed, leave_stopped}
 use Rattle.mx_turns.proofs.RunTexts.{grows_on}
 use Rattle.mx_turns.proofs.TraceTexts.{trace_grows}
 
@@ -49,7 +49,7 @@ module _ (kept : KeptPlan) (options : Options) (dump : Option Dump) (steps : ℕ
   -- a sink stopped the turns
   pub run_stops : {A : Type 0} (machine : Flat) (mid : Places) (r : SinkState) (which : SinkFault) → RunsOrStops {A = A} states lines steps machine (places b [] d []) mid (Err which)
       → (which ≡ F.Console → PutOrBreaks mid.report r mid.told) → (which ≡ F.Report → r ≡ mid.report)
-      → Leave {A = A} (undumped (ran kept options dump steps p s)) (sinks b d e) (sinks mid.console r e) (Err which)
+      → LeavesAndMakes {A = A} (undumped (ran kept options dump steps p s)) states (sinks b d e) (sinks mid.console r e) machine (Err which)
   run_stops machine mid r which stops rest same =
       leave_stopped states lines report steps shown_grows told_grows b d e stops.0 stops.1 machine mid r which stops.2 rest same
 
@@ -62,7 +62,7 @@ module _ (kept : KeptPlan) (options : Options) (dump : Option Dump) (steps : ℕ
 
   pub run_closes : {A : Type 0} → ClosesFlat → (m : Flat) (mid now : Places) → HasTexts (states steps) (lines steps) m (places b [] d []) mid → (result : Result A SinkFault)
       → Closes (flat_closing kept.names (end_of (s.core.turns + steps) m.core) options m) mid now result
-      → Leave (undumped (ran kept options dump steps p s)) (sinks b d e) (sinks now.console now.report e) result
+      → LeavesAndMakes (undumped (ran kept options dump steps p s)) states (sinks b d e) (sinks now.console now.report e) m result
   run_closes law m mid now has result closes =
       leave_closed states lines report steps shown_grows told_grows b d e (flat_closing kept.names (end_of (s.core.turns + steps) m.core) options m) (report_is law m has.state) m mid now has result closes
 
@@ -88,12 +88,13 @@ module _ (from steps : ℕ) (p : Schedule) (s : State) (b d e : SinkState) where
 
   pub trace_stops : {A : Type 0} (machine : Flat) (mid : Places) (r : SinkState) (which : SinkFault) → RunsOrStops {A = A} turns_of told_of steps machine (places b [] d []) mid (Err which)
       → (which ≡ F.Console → PutOrBreaks mid.report r mid.told) → (which ≡ F.Report → r ≡ mid.report)
-      → Leave {A = A} (traced from steps p s) (sinks b d e) (sinks mid.console r e) (Err which)
+      → LeavesAndMakes {A = A} (traced from steps p s) turns_of (sinks b d e) (sinks mid.console r e) machine (Err which)
   trace_stops machine mid r which stops rest same =
       leave_stopped turns_of told_of text steps seen_grows text_grows b d e stops.0 stops.1 machine mid r which stops.2 rest same
 
   pub trace_closes : {A : Type 0} (m : Flat) (mid now : Places) → HasTexts (turns_of steps) (told_of steps) m (places b [] d []) mid → (result : Result A SinkFault)
-      → Closes (end_text (s.core.turns + steps) m.core) mid now result → Leave (traced from steps p s) (sinks b d e) (sinks now.console now.report e) result
+      → Closes (end_text (s.core.turns + steps) m.core) mid now result
+      → LeavesAndMakes (traced from steps p s) turns_of (sinks b d e) (sinks now.console now.report e) m result
   trace_closes m mid now has result closes =
       let is : text ≡ told_of steps ++ end_text (s.core.turns + steps) m.core = rw has.state refl in
       leave_closed turns_of told_of text steps seen_grows text_grows b d e (end_text (s.core.turns + steps) m.core) is m mid now has result closes

@@ -1,8 +1,9 @@
 -- How the texts of a call leave through its three sinks, and what holds where a sink fails.
-use Rattle.std.specs.Prelude.{◌≡◌, ℕ, ◌+◌, ◌<◌, ◌≤◌, ◌⊎◌, List, [], length, take, Result, OnOk, IfErr, IsOk}
+use Rattle.std.specs.Prelude.{◌≡◌, ℕ, ◌+◌, ◌<◌, ◌≤◌, ◌⊎◌, List, [], length, take, Result, Ok, Err, OnOk, IfErr, IsOk}
 use Rattle.mx_io.specs.Count.{Rose}
 use Rattle.mx_io.specs.Texts.{AppendsWhole, AppendsPrefix}
 use Rattle.mx_io.specs.Sink.{SinkState}
+use Rattle.mx_model.specs.State.{State, Flat, flat}
 use Rattle.mx_tail.specs.Tail.{sent}
 use Rattle.mx_turns.specs.declared.fault.SinkFault.{SinkFault}
 use Rattle.mx_turns.specs.declared.fault.SinkFault.TheVariants as F
@@ -114,3 +115,23 @@ pub record Leave {A : Type 0} (texts : Texts) (before now : Sinks) (result : Res
   pub whole : OnOk result (Holds texts before now × CountsKept before now)
   pub fault : IfErr result (λ which. IsSinkFault which texts before now × HoldsPrefix texts before now)
   pub sure : HasRoom texts before → IsOk result
+
+-- a sink failed while turns were made: that was the last turn that was made, or it failed after all of them
+pub record StopsTurns (made bytes : ℕ) (text : List ℕ) (so_far : ℕ → List ℕ) (turns : ℕ) (states : ℕ → State)
+    (before now : SinkState) (machine : Flat) : Type 0 where
+  pub fails : FailsAt bytes text before now
+  pub leaves : LeavesAt bytes so_far turns made
+  pub last : made < turns → machine ≡ flat (states (made + 1))
+  pub all : made ≡ turns → machine ≡ flat (states turns)
+
+-- the turns that a call made of a machine, by the state after each number of them: all; or where the console or the report failed
+-- none after the one at which it failed
+abbrev pub MakesTurns : {A : Type 0} → Texts → (ℕ → State) → Sinks → Sinks → Flat → Result A SinkFault → Type 0
+MakesTurns texts states before now machine (Ok a) = machine ≡ flat (states texts.turns)
+MakesTurns texts states before now machine (Err F.Console) =
+    (made : ℕ) × (bytes : ℕ)
+    × StopsTurns made bytes texts.console texts.shown texts.turns states before.console now.console machine
+MakesTurns texts states before now machine (Err F.Report) =
+    (made : ℕ) × (bytes : ℕ)
+    × StopsTurns made bytes texts.report texts.told texts.turns states before.report now.report machine
+MakesTurns texts states before now machine (Err F.Dump) = machine ≡ flat (states texts.turns)

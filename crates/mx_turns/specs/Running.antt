@@ -19,7 +19,7 @@ use Rattle.mx_turns.specs.declared.task.Task.{Task}
 use Rattle.mx_turns.specs.declared.turns.Telling.{Telling}
 use Rattle.mx_turns.specs.declared.turns.Telling.TheVariants as telling
 use Rattle.mx_snapshot.specs.Kept.{IsOfPlan, KeptPlan}
-use Rattle.mx_turns.specs.Ends.{FailsAt, Leave, Texts, sinks}
+use Rattle.mx_turns.specs.Ends.{FailsAt, Leave, MakesTurns, Texts, sinks}
 use Rattle.mx_turns.specs.Runs.{note_lines, ran, undumped}
 
 -- a text was put on a sink whole
@@ -50,6 +50,10 @@ schedule_of (code.Bytes bytes) = ByBytes bytes.now
 -- the texts of what a run is asked
 abbrev pub texts_of : KeptPlan → Task → State → Texts
 texts_of kept task s = ran kept task.options task.dump task.steps (schedule_of task.schedule) s
+
+-- the state after so many of its turns
+abbrev pub states_of : Task → State → ℕ → State
+states_of task s made = run (schedule_of task.schedule) made s
 
 -- a quantum has turns
 abbrev pub HasTurns : turns.Schedule → Type 0
@@ -231,8 +235,8 @@ pub record IsNew (s : State) : Type 0 where
 -- the turns of a run were made, and its console and report left, or one of them stopped it
 pub record RunsOut {A : Type 0} (kept : KeptPlan) (task : Task) (f g : Flat) (console shown : SinkState)
     (report told : SinkState) (result : Result A SinkFault) : Type 0 where
-  pub leave : (s : State) → IsNew s → f ≡ flat s → (dump : SinkState) →
+  pub ends : (s : State) → IsNew s → f ≡ flat s → (dump : SinkState) →
       Leave (undumped (texts_of kept task s)) (sinks console report dump) (sinks shown told dump) result
-  pub state : (s : State) → IsNew s → f ≡ flat s →
-      OnOk result (g ≡ flat (run (schedule_of task.schedule) task.steps s))
+      × MakesTurns (undumped (texts_of kept task s)) (states_of task s) (sinks console report dump)
+      (sinks shown told dump) g result
   pub plan : OnOk result (IsOfPlan kept g)

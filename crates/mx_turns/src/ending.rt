@@ -91,8 +91,9 @@ fn end_of<T: PermTables, const N: usize>(target: u64, machine: &Machine<T, N>) -
     }
 }
 
-/// The same of a machine of any kind.
-pub(crate) fn end_of_any(target: u64, machine: &AnyMachine) -> EndState
+/// Why a run over a machine of any kind ended that was to reach so many turns: `Halted` where all harts are halted, otherwise
+/// `Steps` where the machine made just so many, and otherwise `Schedule`.
+pub fn end_of_any(target: u64, machine: &AnyMachine) -> EndState
     ensures { result ≡ end_of target (meaning machine.now).core }
 {
     if machine.all_halted() {

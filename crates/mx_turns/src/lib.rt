@@ -12,6 +12,7 @@ mod tracing;
 mod turns;
 
 pub use counting::{Tally, count_turns};
+pub use ending::end_of_any;
 pub use fault::SinkFault;
 pub use pace::Schedule;
 pub use running::make_run;

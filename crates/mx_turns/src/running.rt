@@ -4,8 +4,8 @@ ghost use Rattle.std.specs.Prelude.{◌≡◌, ◌+◌, ◌-◌, ◌<◌, ◌^�
 ghost use Rattle.mx_any.specs.Machines.{meaning};
 ghost use Rattle.mx_model.specs.State.{State, flat};
 ghost use Rattle.mx_snapshot.specs.Kept.{IsOfPlan};
-ghost use Rattle.mx_turns.specs.Ends.{Leave, sinks};
-ghost use Rattle.mx_turns.specs.Running.{HasTurns, IsNew, RunsOut, texts_of};
+ghost use Rattle.mx_turns.specs.Ends.{Leave, MakesTurns, sinks};
+ghost use Rattle.mx_turns.specs.Running.{HasTurns, IsNew, RunsOut, states_of, texts_of};
 
 use crate::ending::{end_run, put_dump};
 use crate::fault::SinkFault;
@@ -36,10 +36,15 @@ pub fn make_run<C: Sink, R: Sink, D: Sink>(
     requires quantum { HasTurns task.now.schedule }
     requires names { map (λ name. name.now) names.now ≡ kept.now.names }
     requires plan { IsOfPlan kept.now (meaning machine.old) }
-    ensures { (s : State) → IsNew s → meaning machine.old ≡ flat s →
+    ensures leave { (s : State) → IsNew s → meaning machine.old ≡ flat s →
         Leave (texts_of kept.now task.now s)
         (sinks (C.state console.old) (R.state report.old) (D.state dump.old))
         (sinks (C.state console.new) (R.state report.new) (D.state dump.new)) result }
+    ensures turns { (s : State) → IsNew s → meaning machine.old ≡ flat s →
+        MakesTurns (texts_of kept.now task.now s) (states_of task.now s)
+        (sinks (C.state console.old) (R.state report.old) (D.state dump.old))
+        (sinks (C.state console.new) (R.state report.new) (D.state dump.new)) (meaning machine.new)
+        result }
 {
     match run_any(task, kept, names, machine, console, report) {
         Ok(()) => match put_dump(task.dump, kept, machine, dump) {

@@ -8,7 +8,7 @@ ghost use Rattle.mx_model.specs.Reads.{flat_reads};
 ghost use Rattle.mx_model.specs.Run.{flat_made, flat_turn, run};
 ghost use Rattle.mx_model.specs.State.{State, flat};
 ghost use Rattle.mx_tail.specs.Tail.{Passes, piece_bytes};
-ghost use Rattle.mx_turns.specs.Ends.{Leave, sinks};
+ghost use Rattle.mx_turns.specs.Ends.{Leave, MakesTurns, sinks};
 ghost use Rattle.mx_turns.specs.Running.{schedule_of, told_by, Begins, Closes, HasTexts, HasTurns, IsNew, Places, RunsOrStops, ShowsOrStops, places};
 ghost use Rattle.mx_turns.specs.Tracing.{end_text, flat_line_from, line_text, seen_at, trace, traced};
 
@@ -34,7 +34,7 @@ pub struct TraceTask<'a> {
 }
 
 /// Makes the turns of a run, and writes the console's bytes, a line for each turn from a step on, and the end line. The first sink
-/// that fails ends it, as it ends a run.
+/// that fails ends it, as it ends a run: no turn is made after it.
 pub fn make_trace<C: Sink, R: Sink>(
     task: &TraceTask<'_>,
     machine: &mut AnyMachine,
@@ -43,10 +43,15 @@ pub fn make_trace<C: Sink, R: Sink>(
 ) -> Result<(), SinkFault>
     requires few { (meaning machine.old).core.turns + task.now.steps < 2 ^ 64 - 1 }
     requires quantum { HasTurns task.now.schedule }
-    ensures { (s : State) → IsNew s → meaning machine.old ≡ flat s → (dump : SinkState) →
+    ensures leave { (s : State) → IsNew s → meaning machine.old ≡ flat s → (dump : SinkState) →
         Leave (traced task.now.from task.now.steps (schedule_of task.now.schedule) s)
         (sinks (C.state console.old) (R.state report.old) dump)
         (sinks (C.state console.new) (R.state report.new) dump) result }
+    ensures turns { (s : State) → IsNew s → meaning machine.old ≡ flat s → (dump : SinkState) →
+        MakesTurns (traced task.now.from task.now.steps (schedule_of task.now.schedule) s)
+        (λ made. run (schedule_of task.now.schedule) made s)
+        (sinks (C.state console.old) (R.state report.old) dump)
+        (sinks (C.state console.new) (R.state report.new) dump) (meaning machine.new) result }
 {
     let target = machine.steps() + task.steps;
     let mut shown = Tail::new();

@@ -15,16 +15,13 @@ pub returns-in-Ok : goal.returns-in-Ok
 returns-in-Ok g c =
     let t = c.args.task.now in
     record {
-      leave = λ s new is dump.
+      ends = λ s new is dump.
           let runs = c.in-Ok.ensures.runs s (record { state = is; console = new.console; notes = new.notes; shown = c.new-shown.ensures; told = c.new-told.ensures }) in
           let target : c.steps.result + t.steps ≡ s.core.turns + t.steps = ap (λ n. n + t.steps) (c.steps.ensures ∙ ap (λ (f : Flat). f.core.turns) is) in
           run_closes c.args.kept.now t.options t.dump t.steps (schedule_of t.schedule) s _ _ dump c.closing_of_a_flat_state.ensures c.make_turns.new.machine
           (places (g.C.Sink.state c.make_turns.new.console) c.make_turns.new.shown (g.R.Sink.state c.make_turns.new.report) c.make_turns.new.told)
           (places (g.C.Sink.state c.end_run.new.console) c.end_run.new.shown (g.R.Sink.state c.end_run.new.report) c.end_run.new.told)
           (rw (c.new-shown.ensures, c.new-told.ensures) at runs) c.end_run.result (rw target at c.end_run.ensures);
-      state = λ s new is.
-          let runs = c.in-Ok.ensures.runs s (record { state = is; console = new.console; notes = new.notes; shown = c.new-shown.ensures; told = c.new-told.ensures }) in
-          on_ok _ c.end_run.result runs.state;
       plan = on_ok _ c.end_run.result (keeps_plan c.args.kept.now c.args.machine.now c.make_turns.new.machine c.requires.plan c.in-Ok.ensures.keeps);
     }
 
@@ -32,12 +29,11 @@ pub returns-in-Err-Console : goal.returns-in-Err-Console
 returns-in-Err-Console g c =
     let t = c.args.task.now in
     record {
-      leave = λ s new is dump.
+      ends = λ s new is dump.
           let runs = c.in-Err-Console.ensures.runs s (record { state = is; console = new.console; notes = new.notes; shown = c.new-shown.ensures; told = c.new-told.ensures }) in
           run_stops c.args.kept.now t.options t.dump t.steps (schedule_of t.schedule) s _ _ dump c.make_turns.new.machine
           (places (g.C.Sink.state c.make_turns.new.console) c.make_turns.new.shown (g.R.Sink.state c.make_turns.new.report) c.make_turns.new.told) (g.R.Sink.state c.end.new.sink) F.Console
           (rw (c.new-shown.ensures, c.new-told.ensures, c.in-Err-Console.field-0-is) at runs) (λ e. put_or c.end.ensures.puts) (λ e. absurd (let q : ⊥ = cc in q));
-      state = λ s new is. tt;
       plan = tt;
     }
 
@@ -45,22 +41,20 @@ pub returns-in-Err-Report : goal.returns-in-Err-Report
 returns-in-Err-Report g c =
     let t = c.args.task.now in
     record {
-      leave = λ s new is dump.
+      ends = λ s new is dump.
           let runs = c.in-Err-Report.ensures.runs s (record { state = is; console = new.console; notes = new.notes; shown = c.new-shown.ensures; told = c.new-told.ensures }) in
           run_stops c.args.kept.now t.options t.dump t.steps (schedule_of t.schedule) s _ _ dump c.make_turns.new.machine
           (places (g.C.Sink.state c.make_turns.new.console) c.make_turns.new.shown (g.R.Sink.state c.make_turns.new.report) c.make_turns.new.told) (g.R.Sink.state c.make_turns.new.report) F.Report
           (rw (c.new-shown.ensures, c.new-told.ensures, c.in-Err-Report.field-0-is) at runs) (λ e. absurd (let q : ⊥ = cc in q)) (λ e. refl);
-      state = λ s new is. tt;
       plan = tt;
     }
 
 pub returns-in-Err-Dump : goal.returns-in-Err-Dump
 returns-in-Err-Dump g c =
     record {
-      leave = λ s new is dump.
+      ends = λ s new is dump.
           let runs = c.in-Err-Dump.ensures.runs s (record { state = is; console = new.console; notes = new.notes; shown = c.new-shown.ensures; told = c.new-told.ensures }) in
           absurd (rw c.in-Err-Dump.field-0-is at runs).2;
-      state = λ s new is. tt;
       plan = tt;
     }
 
