@@ -10,7 +10,9 @@ ghost use Rattle.mx_twin.specs.Told.{Names, told};
 
 use mx_heap::Block;
 use mx_model::TurnKind;
-use mx_words::{word_of, word_range};
+use mx_words::{
+    ALLOC_CALL, EXCHANGE_CALL, FREE_CALL, GRANT_CALL, REVOKE_ALL_CALL, word_of, word_range,
+};
 
 /// Words that a turn touches by what of them it may change, and whether its hart's domain may die.
 #[derive(Clone, Copy)]
@@ -71,24 +73,25 @@ pub(crate) fn by_number(number: u32, range: Block, heap: Block, word: Block) -> 
         told result ≡ touched_by (service number) c call }
 {
     match number {
-        3 | 4 => Touched {
+        GRANT_CALL | REVOKE_ALL_CALL => Touched {
             rights: range,
             ..NOTHING
         },
-        6 => Touched {
+        ALLOC_CALL => Touched {
             bytes: heap,
             rights: heap,
             ..NOTHING
         },
-        7 => Touched {
+        FREE_CALL => Touched {
             rights: heap,
             ..NOTHING
         },
+        // The calls gate, ungate and return_gate.
         8 | 9 | 10 => Touched {
             gates: word,
             ..NOTHING
         },
-        13 => Touched {
+        EXCHANGE_CALL => Touched {
             bytes: word,
             ..NOTHING
         },
