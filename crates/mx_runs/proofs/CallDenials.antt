@@ -1,5 +1,5 @@
 -- Calls 2 and 13 answer -12 exactly where the access that they make is denied.
-use Rattle.std.proofs.Common.{◌≡◌, ◌↔◌, ℕ, zero, suc, ◌+◌, ◌-◌, ◌*◌, ◌/◌, ◌%◌, ◌^◌, ◌<◌, ◌≤◌, ◌⊎◌, inl, inr, Bool, true, false, not, cond, ◌==◌, ◌&&◌, ◌||◌, nat_lt, List, [], ◌∷◌, length, refl, sym, ◌∙◌, ap, arith, eq-eqb, if◌then◌else◌, Option, Some, None, ⊎_elim}
+use Rattle.std.proofs.Common.{◌≡◌, ◌↔◌, ℕ, zero, suc, ◌+◌, ◌-◌, ◌*◌, ◌/◌, ◌%◌, ◌<◌, ◌≤◌, ◌⊎◌, inl, inr, Bool, true, false, not, cond, ◌==◌, ◌&&◌, ◌||◌, nat_lt, List, [], ◌∷◌, length, refl, sym, ◌∙◌, ap, arith, eq-eqb, if◌then◌else◌, Option, Some, None, ⊎_elim}
 use Rattle.std.specs.Prelude.{slice_set}
 use Rattle.std.specs.List.{list_all, range_with_len}
 use Rattle.std.specs.Option.{option_map_or}
@@ -9,6 +9,7 @@ use Rattle.mx_words.specs.declared.perm.Access.TheVariants as A
 use Rattle.mx_words.specs.Announced.{is_announced}
 use Rattle.mx_words.specs.Bytes.{number_at, put_at}
 use Rattle.mx_words.specs.Caches.{Cache}
+use Rattle.mx_words.specs.Calls.{exchange_call, write_call}
 use Rattle.mx_words.specs.FirstRow.{first_row}
 use Rattle.mx_words.specs.Hearing.{nobody}
 use Rattle.mx_words.specs.Ranges.{in_ram, ram_base}
@@ -19,7 +20,7 @@ use Rattle.mx_model.specs.declared.values.Call.{Call}
 use Rattle.mx_model.specs.Checks.{arg, call_range, drops, is_halted, is_ready, looked_all}
 use Rattle.mx_model.specs.Effect.{effect, reg}
 use Rattle.mx_model.specs.Reads.{Reads, reads}
-use Rattle.mx_model.specs.Serve.{Served, answers, arg_word, bytes_at, exchange_from, judged, look_of, may_read, no_word, serve, serve_exchange, serve_write, served_by, service, write_looks, write_outside, write_words}
+use Rattle.mx_model.specs.Serve.{Served, answers, arg_word, bytes_at, code, exchange_from, judged, look_of, may_read, no_word, serve, serve_exchange, serve_write, served_by, service, write_looks, write_outside, write_words}
 use Rattle.mx_model.specs.State.{Core, Hart, State, hart_at}
 use Rattle.mx_model.specs.Turn.{Asks, call_of, done, is_served_now}
 use Rattle.mx_model.proofs.KeepLaws.{keeps-hears, keeps-served_by}
@@ -163,7 +164,7 @@ inside-ram s first count inside = search (arith, cases_lt, and_right, or_from, l
 
 -- the answer is -12 exactly where some word may not be read
 out-answer : (r : Reads) (e : Core) (call : Call) (all : Bool) → arg call 1 ≤ 4096 →
-    ((out_by r e call all).a0 ≡ 2 ^ 32 - 12) ↔ (all ≡ false)
+    ((out_by r e call all).a0 ≡ code 12) ↔ (all ≡ false)
 out-answer r e call x l = grind arith
 
 out-stop : (r : Reads) (e : Core) (call : Call) (all : Bool) → (out_by r e call all).stop ≡ false
@@ -204,13 +205,13 @@ words-denied s d call own inside = words-by s d call own inside (cases_lt 0 (arg
 answer-like : {P : Type 0} (a b n : ℕ) → a ≡ b → (b ≡ n) ↔ P → (a ≡ n) ↔ P
 answer-like a b n e k = (λ q. k.0 (sym e ∙ q), λ p. e ∙ k.1 p)
 
-pub write-exactly : (s : State) (h : ℕ) → MakesCall s h 2 → register_of s.core h 11 ≤ 4096 →
+pub write-exactly : (s : State) (h : ℕ) → MakesCall s h write_call → register_of s.core h 11 ≤ 4096 →
     InRam s (register_of s.core h 10) (register_of s.core h 11) →
     answers_no_right s h ↔ SomeDenied s (domain_at s.core h) (register_of s.core h 10) (register_of s.core h 11) A.Read
 write-exactly s h k few inside =
     let r = reads s in
     let call = call_of h (hart_at s.core h) in
-    let t = answered-call s h 2 k (omega arith) refl in
+    let t = answered-call s h write_call k (omega arith) refl in
     let e : Core = record (ready s.core h) { caches = t.caches } in
     let out = out_by r e call (reads_all r call) in
     let same : serve_write r e call ≡ out =
@@ -218,7 +219,7 @@ write-exactly s h k few inside =
     let ten : reg (hart_after r s.core h).regs 10 ≡ out.a0 =
     t.answer (ap (λ (v : Served). v.stop) same ∙ out-stop r e call (reads_all r call))
     ∙ ap (λ (v : Served). v.a0) same in
-    answer-like (reg (hart_after r s.core h).regs 10) out.a0 (2 ^ 32 - 12) ten
+    answer-like (reg (hart_after r s.core h).regs 10) out.a0 (code 12) ten
     (through (out-answer r e call (reads_all r call) few) (words-denied s (domain_at s.core h) call refl inside))
 
 -- call 13 at a word of RAM
@@ -231,7 +232,7 @@ swap_by r e call may =
     })
 
 swap-answer : (r : Reads) (e : Core) (call : Call) (may : Bool) →
-    ((swap_by r e call may).a0 ≡ 2 ^ 32 - 12) ↔ (may ≡ false)
+    ((swap_by r e call may).a0 ≡ code 12) ↔ (may ≡ false)
 swap-answer r e call x = grind arith
 
 swap-stop : (r : Reads) (e : Core) (call : Call) (may : Bool) → (swap_by r e call may).stop ≡ false
@@ -241,12 +242,13 @@ swap-served : (r : Reads) (e : Core) (call : Call) → no_word e call ≡ false 
     serve_exchange r e call ≡ swap_by r e call (allows (r.perm call.domain (arg_word call)) A.Write)
 swap-served r e call is = ap (λ (b : Bool). exchange_from r e call (first_row ((b, 1) ∷ []))) is
 
-pub exchange-exactly : (s : State) (h : ℕ) → MakesCall s h 13 → register_of s.core h 10 % 4 ≡ 0 → InRam s (register_of s.core h 10) 1 →
+pub exchange-exactly : (s : State) (h : ℕ) → MakesCall s h exchange_call → register_of s.core h 10 % 4 ≡ 0 →
+    InRam s (register_of s.core h 10) 1 →
     answers_no_right s h ↔ IsDenied s (domain_at s.core h) (register_of s.core h 10) A.Write
 exchange-exactly s h k aligned inside =
     let r = reads s in
     let call = call_of h (hart_at s.core h) in
-    let t = answered-call s h 13 k (omega arith) refl in
+    let t = answered-call s h exchange_call k (omega arith) refl in
     let e : Core = record (ready s.core h) { caches = t.caches } in
     let a = arg call 0 in
     let may = allows (r.perm call.domain (arg_word call)) A.Write in
@@ -259,5 +261,5 @@ exchange-exactly s h k aligned inside =
     let same : serve_exchange r e call ≡ swap_by r e call may = swap-served r e call (not_from_true _ word) in
     let ten : reg (hart_after r s.core h).regs 10 ≡ (swap_by r e call may).a0 =
     t.answer (ap (λ (v : Served). v.stop) same ∙ swap-stop r e call may) ∙ ap (λ (v : Served). v.a0) same in
-    answer-like (reg (hart_after r s.core h).regs 10) (swap_by r e call may).a0 (2 ^ 32 - 12) ten
+    answer-like (reg (hart_after r s.core h).regs 10) (swap_by r e call may).a0 (code 12) ten
     (through (swap-answer r e call may) (word-denied s (domain_at s.core h) a A.Write low high))

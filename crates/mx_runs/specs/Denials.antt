@@ -15,6 +15,7 @@ use Rattle.mx_model.specs.declared.values.Note.TheVariants as N
 use Rattle.mx_model.specs.declared.values.TurnKind.TheVariants as T
 use Rattle.mx_model.specs.Effect.{reg}
 use Rattle.mx_model.specs.Reads.{Reads, grants_of, reads}
+use Rattle.mx_model.specs.Serve.{code}
 use Rattle.mx_model.specs.State.{Core, Hart, State, hart_at, module_at}
 use Rattle.mx_model.specs.Turn.{Made, call_gate_at, turned}
 use Rattle.mx_laws.specs.After.{domain_at, hart_after}
@@ -100,4 +101,4 @@ pub record SomeDenied (s : State) (d first count : ℕ) (access : Access) : Type
 
 -- hart h has -12 in x10 after its turn
 abbrev pub answers_no_right : State → ℕ → Type 0
-answers_no_right s h = reg (hart_after (reads s) s.core h).regs 10 ≡ 2 ^ 32 - 12
+answers_no_right s h = reg (hart_after (reads s) s.core h).regs 10 ≡ code 12
