@@ -4,6 +4,7 @@ use Rattle.std.specs.List.{list_all}
 use Rattle.std.specs.Option.{is_some}
 use Rattle.toml.specs.Data.{as_integer}
 use Rattle.toml.specs.View.{items_of}
+use Rattle.mx_words.specs.Calls.{alloc_call, free_call, grant_call}
 use Rattle.mx_isa.specs.declared.inst.Inst.TheVariants.{Lui, Jal, Jalr, Load, Store, Ecall}
 use Rattle.mx_isa.specs.declared.inst.LoadWidth.TheVariants.{Lw}
 use Rattle.mx_isa.specs.declared.inst.StoreWidth.TheVariants.{Sw}
@@ -53,7 +54,7 @@ program_words i n =
     let set : (rd rs1 imm : ℕ) → rd < 32 → rs1 < 32 → encoded (addi rd rs1 imm) ≤ 4294967295 = addi-word in (
       set 10 0 n.words (omega arith) (omega arith),
       (
-        set 17 0 6 (omega arith) (omega arith),
+        set 17 0 alloc_call (omega arith) (omega arith),
         (
           ecall-word,
           (
@@ -67,7 +68,7 @@ program_words i n =
                   (
                     set 13 0 n.right (omega arith) (omega arith),
                     (
-                      set 17 0 3 (omega arith) (omega arith),
+                      set 17 0 grant_call (omega arith) (omega arith),
                       (
                         ecall-word,
                         (
@@ -77,7 +78,7 @@ program_words i n =
                             (
                               set 10 8 0 (omega arith) (omega arith),
                               (
-                                set 17 0 7 (omega arith) (omega arith),
+                                set 17 0 free_call (omega arith) (omega arith),
                                 (
                                   ecall-word,
                                   (

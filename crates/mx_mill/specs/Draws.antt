@@ -2,6 +2,7 @@
 -- The rules: docs/COMMANDS.md, "The mill".
 use Rattle.std.specs.Prelude.{ℕ, zero, suc, ◌+◌, ◌-◌, ◌*◌, ◌/◌, ◌%◌, ◌^◌}
 use Rattle.mx_mill.specs.declared.draws.Draws.{Draws}
+use Rattle.mx_mill.specs.Words.{module_count}
 
 -- the number x after one more draw
 abbrev pub next : ℕ → ℕ
@@ -20,6 +21,6 @@ number_after k (suc n) = next (number_after k n)
 unfoldable pub draws : ℕ → ℕ → Draws
 draws k i = record {
   words = 1 + drawn (number_after k (3 * i - 2)) 16;
-  domain = 1 + drawn (number_after k (3 * i - 1)) 15;
+  domain = 1 + drawn (number_after k (3 * i - 1)) module_count;
   right = 1 + drawn (number_after k (3 * i)) 3;
 }

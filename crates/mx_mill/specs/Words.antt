@@ -1,6 +1,7 @@
 -- The program of a module of `mill`: eighteen instructions.
 -- The rules: docs/COMMANDS.md, "The mill".
 use Rattle.std.specs.Prelude.{ℕ, ◌+◌, ◌-◌, ◌*◌, ◌^◌, ◌==◌, if◌then◌else◌, List, [], ◌∷◌, map}
+use Rattle.mx_words.specs.Calls.{alloc_call, free_call, grant_call}
 use Rattle.mx_words.specs.Ranges.{ram_base}
 use Rattle.mx_isa.specs.declared.inst.Inst.{Inst}
 use Rattle.mx_isa.specs.declared.inst.Inst.TheVariants.{Lui, Jal, Jalr, Load, Store, OpImm, Ecall}
@@ -35,10 +36,10 @@ addi rd rs1 imm = OpImm Addi rd rs1 imm
 -- anew; and what another module comes to that calls this one
 abbrev pub instructions : ℕ → Draws → List Inst
 instructions i n =
-    addi 10 0 n.words ∷ addi 17 0 6 ∷ Ecall ∷ addi 8 10 0 ∷ Store Sw 8 17 0
-    ∷ addi 11 0 (4 * n.words) ∷ addi 12 0 n.domain ∷ addi 13 0 n.right ∷ addi 17 0 3 ∷ Ecall
-    ∷ Lui 5 (base (module_after i)) ∷ Jalr 1 5 64 ∷ addi 10 8 0 ∷ addi 17 0 7 ∷ Ecall
-    ∷ Jal 0 (2 ^ 32 - 60) ∷ Load Lw 6 5 0 ∷ Jalr 0 1 0 ∷ []
+    addi 10 0 n.words ∷ addi 17 0 alloc_call ∷ Ecall ∷ addi 8 10 0 ∷ Store Sw 8 17 0
+    ∷ addi 11 0 (4 * n.words) ∷ addi 12 0 n.domain ∷ addi 13 0 n.right ∷ addi 17 0 grant_call
+    ∷ Ecall ∷ Lui 5 (base (module_after i)) ∷ Jalr 1 5 64 ∷ addi 10 8 0 ∷ addi 17 0 free_call
+    ∷ Ecall ∷ Jal 0 (2 ^ 32 - 60) ∷ Load Lw 6 5 0 ∷ Jalr 0 1 0 ∷ []
 
 -- their words
 abbrev pub mill_words : ℕ → Draws → List ℕ

@@ -2,6 +2,9 @@
 
 ghost use Rattle.std.specs.Prelude.{◌≡◌, ◌+◌, ◌<◌, ◌≤◌};
 ghost use Rattle.mx_mill.specs.Draws.{drawn, next};
+ghost use Rattle.mx_mill.specs.Words.{module_count};
+
+use crate::words::MODULES;
 
 /// The three draws of a module.
 #[derive(Clone, Copy, PartialEq, Eq)]
@@ -33,11 +36,11 @@ fn drawn(number: u32, bound: u32) -> u32
 /// The draws of the next module, and the number after them.
 pub(crate) fn draw(number: u32) -> (Draws, u32)
     ensures words { result.0.words ≡ 1 + drawn (next number) 16 }
-    ensures domain { result.0.domain ≡ 1 + drawn (next (next number)) 15 }
+    ensures domain { result.0.domain ≡ 1 + drawn (next (next number)) module_count }
     ensures right { result.0.right ≡ 1 + drawn (next (next (next number))) 3 }
     ensures number { result.1 ≡ next (next (next number)) }
     ensures few_words { result.0.words ≤ 16 }
-    ensures few_domains { result.0.domain ≤ 15 }
+    ensures few_domains { result.0.domain ≤ module_count }
     ensures few_rights { result.0.right ≤ 3 }
 {
     let first = next(number);
@@ -45,7 +48,7 @@ pub(crate) fn draw(number: u32) -> (Draws, u32)
     let third = next(second);
     let draws = Draws {
         words: 1 + drawn(first, 16),
-        domain: 1 + drawn(second, 15),
+        domain: 1 + drawn(second, MODULES),
         right: 1 + drawn(third, 3),
     };
     (draws, third)

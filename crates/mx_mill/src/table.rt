@@ -30,7 +30,7 @@ fn name(alloc: Global, domain: u32) -> Result<Value, NoMemory>
 // The gate of a module.
 fn gate(alloc: Global, domain: u32) -> Result<Value, NoMemory>
     requires from { 1 ≤ domain }
-    requires to { domain ≤ 15 }
+    requires to { domain ≤ module_count }
     ensures { IfOk result (λ v. view v ≡ gate_table domain) }
 {
     let from = single(alloc, name(alloc, module_before(domain))?)?;
@@ -43,9 +43,9 @@ fn gate(alloc: Global, domain: u32) -> Result<Value, NoMemory>
 // A module, with its words by its draws.
 fn module_of(alloc: Global, domain: u32, draws: Draws) -> Result<Value, NoMemory>
     requires from { 1 ≤ domain }
-    requires to { domain ≤ 15 }
+    requires to { domain ≤ module_count }
     requires words { draws.words ≤ 16 }
-    requires domain { draws.domain ≤ 15 }
+    requires domain { draws.domain ≤ module_count }
     requires right { draws.right ≤ 3 }
     ensures { IfOk result (λ v. view v ≡ module_table domain (mill_words domain draws)) }
 {

@@ -2,11 +2,11 @@
 
 ghost use Rattle.std.specs.Prelude.{◌≡◌, ◌+◌, ◌-◌, ◌^◌, ◌%◌, ◌<◌, ◌≤◌};
 ghost use Rattle.mx_isa.specs.Table.{encoded};
-ghost use Rattle.mx_mill.specs.Words.{addi, base, mill_words, module_after, module_before};
+ghost use Rattle.mx_mill.specs.Words.{addi, base, mill_words, module_after, module_before, module_count};
 
 use crate::Draws;
 use mx_isa::{ImmOp, Inst, LoadWidth, StoreWidth, encode};
-use mx_words::RAM_BASE;
+use mx_words::{ALLOC_CALL, FREE_CALL, GRANT_CALL, RAM_BASE};
 
 /// How many modules there are.
 pub(crate) const MODULES: u32 = 15;
@@ -16,7 +16,7 @@ pub(crate) const HARTS: u32 = 4;
 /// The address of the module with a number from 1.
 pub(crate) fn base(domain: u32) -> u32
     requires from { 1 ≤ domain }
-    requires to { domain ≤ 15 }
+    requires to { domain ≤ module_count }
     ensures address { result ≡ base domain }
     ensures high { result < 2 ^ 32 - 2 ^ 30 }
 {
@@ -26,10 +26,10 @@ pub(crate) fn base(domain: u32) -> u32
 /// The module into which this one crosses.
 fn module_after(domain: u32) -> u32
     requires from { 1 ≤ domain }
-    requires to { domain ≤ 15 }
+    requires to { domain ≤ module_count }
     ensures number { result ≡ module_after domain }
     ensures first { 1 ≤ result }
-    ensures last { result ≤ 15 }
+    ensures last { result ≤ module_count }
 {
     if domain == MODULES { 1 } else { domain + 1 }
 }
@@ -37,10 +37,10 @@ fn module_after(domain: u32) -> u32
 /// The module that crosses into this one.
 pub(crate) fn module_before(domain: u32) -> u32
     requires from { 1 ≤ domain }
-    requires to { domain ≤ 15 }
+    requires to { domain ≤ module_count }
     ensures number { result ≡ module_before domain }
     ensures first { 1 ≤ result }
-    ensures last { result ≤ 15 }
+    ensures last { result ≤ module_count }
 {
     if domain == 1 { MODULES } else { domain - 1 }
 }
@@ -130,27 +130,27 @@ fn load_at_the_gate() -> u32
 /// The words of the module with a number from 1, by its draws.
 pub(crate) fn words(domain: u32, draws: Draws) -> [u32; 18]
     requires from { 1 ≤ domain }
-    requires to { domain ≤ 15 }
+    requires to { domain ≤ module_count }
     requires words { draws.words ≤ 16 }
-    requires domain { draws.domain ≤ 15 }
+    requires domain { draws.domain ≤ module_count }
     requires right { draws.right ≤ 3 }
     ensures { result ≡ mill_words domain draws }
 {
     [
         addi(10, 0, draws.words),
-        addi(17, 0, 6),
+        addi(17, 0, ALLOC_CALL),
         ecall(),
         addi(8, 10, 0),
         store_in_block(),
         addi(11, 0, 4 * draws.words),
         addi(12, 0, draws.domain),
         addi(13, 0, draws.right),
-        addi(17, 0, 3),
+        addi(17, 0, GRANT_CALL),
         ecall(),
         lui(5, base(module_after(domain))),
         jalr(1, 5, 64),
         addi(10, 8, 0),
-        addi(17, 0, 7),
+        addi(17, 0, FREE_CALL),
         ecall(),
         jump_to_the_start(),
         load_at_the_gate(),
