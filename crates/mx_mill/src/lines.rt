@@ -1,4 +1,4 @@
-//! The four lines, which leave through a buffer in one write.
+//! The four lines, which leave through a buffer in one write where the sink takes that at once.
 
 ghost use Rattle.std.specs.Prelude.{◌≡◌};
 ghost use Rattle.mx_io.specs.Sink.{Puts};

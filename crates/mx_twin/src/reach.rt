@@ -1,11 +1,11 @@
 //! What a turn touches, by what it was.
-ghost use Rattle.std.specs.Prelude.{◌≡◌, ◌≤◌, ◌^◌};
+ghost use Rattle.std.specs.Prelude.{◌≡◌, ◌≤◌};
 ghost use Rattle.mx_heap.specs.HeapState.{area_of};
 ghost use Rattle.mx_model.specs.declared.values.Call.{Call};
 ghost use Rattle.mx_model.specs.Serve.{service};
 ghost use Rattle.mx_model.specs.State.{Core};
 ghost use Rattle.mx_touched.specs.Touched.{range_area, touched_by, touched_in, word_area};
-ghost use Rattle.mx_words.specs.Ranges.{range_words};
+ghost use Rattle.mx_words.specs.Ranges.{most_words, range_words};
 ghost use Rattle.mx_twin.specs.Told.{Names, told};
 
 use mx_heap::Block;
@@ -47,7 +47,7 @@ const NOTHING: Touched = Touched {
 
 /// The word that holds an address, and no word outside RAM.
 pub(crate) fn word_at(address: u32, words: u32) -> Block
-    requires { words ≤ 2 ^ 24 }
+    requires { words ≤ most_words }
     ensures { area_of result ≡ word_area address words }
 {
     match word_of(address, words) {
@@ -58,7 +58,7 @@ pub(crate) fn word_at(address: u32, words: u32) -> Block
 
 /// The words of a range, and none where it is no range.
 pub(crate) fn range_at(address: u32, bytes: u32, words: u32) -> Block
-    requires { words ≤ 2 ^ 24 }
+    requires { words ≤ most_words }
     ensures { area_of result ≡ range_area (range_words address bytes words) }
 {
     match word_range(address, bytes, words) {
