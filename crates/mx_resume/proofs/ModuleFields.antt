@@ -3,7 +3,7 @@ use Rattle.std.proofs.Common.{◌≡◌, ℕ, ◌*◌, Bool, nat_lt, List, [], r
 use Rattle.mx_words.specs.declared.perm.Perm.{Perm}
 use Rattle.mx_words.specs.FirstFit.{Area, most_blocks}
 use Rattle.mx_words.specs.Runs.{Run}
-use Rattle.mx_snapshot.specs.Fields.{between, block_in, flag, map_run_in, module_in}
+use Rattle.mx_snapshot.specs.Fields.{between, block_in, flag_in, map_run_in, module_in}
 use Rattle.mx_snapshot.specs.Reader.{Took, list_of, number, piece, such}
 use Rattle.mx_snapshot.specs.Rules.{is_area, is_new_name}
 use Rattle.mx_snapshot.specs.Stored.{Head, StoredModule}
@@ -29,8 +29,8 @@ pub module_took : (h : Head) (before : List StoredModule) (bytes : List ℕ) (at
     such (is_area h.words heap_first) number bytes a3 ≡ Took heap_count a4 →
     number bytes a4 ≡ Took first a5 →
     such (λ n. is_area h.words first (n * h.harts)) number bytes a5 ≡ Took words a6 →
-    flag bytes a6 ≡ Took kills a7 →
-    flag bytes a7 ≡ Took dead a8 →
+    flag_in bytes a6 ≡ Took kills a7 →
+    flag_in bytes a7 ≡ Took dead a8 →
     between 0 most_blocks bytes a8 ≡ Took count a9 →
     list_of count (block_in (record { first = heap_first; count = heap_count })) [] bytes a9 ≡ Took blocks a10 →
     such (nat_lt 0) number bytes a10 ≡ Took runs a11 →

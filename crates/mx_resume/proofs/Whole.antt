@@ -6,7 +6,7 @@ use Rattle.mx_words.specs.declared.tables.Kind.{Kind}
 use Rattle.mx_words.specs.declared.tables.Need.{Need}
 use Rattle.mx_model.specs.State.{Flat}
 use Rattle.mx_any.specs.Machines.{meaning}
-use Rattle.mx_snapshot.specs.Fields.{ended, fields_in, most_bytes, stored_in}
+use Rattle.mx_snapshot.specs.Fields.{fields_in, most_bytes, stored_in, to_the_end}
 use Rattle.mx_snapshot.specs.Fits.{AreBytes, IsStored}
 use Rattle.mx_snapshot.specs.Kept.{IsKept, IsOfPlan, KeptPlan}
 use Rattle.mx_snapshot.specs.Reader.{Took, Fails}
@@ -28,13 +28,13 @@ use Rattle.mx_resume.specs.Taking.{Misses}
 not_above : (m n : ℕ) → n ≤ m → nat_lt m n ≡ false
 not_above m n le = grind (arith, nat_tests)
 
-within : (bytes : List ℕ) → length bytes ≤ most_bytes → stored_in bytes ≡ ended bytes (fields_in bytes 0)
+within : (bytes : List ℕ) → length bytes ≤ most_bytes → stored_in bytes ≡ to_the_end bytes (fields_in bytes 0)
 unfolding stored_in
-within bytes le = ap (λ (b : Bool). if b then Fails 0 1 else ended bytes (fields_in bytes 0)) (not_above most_bytes (length bytes) le)
+within bytes le = ap (λ (b : Bool). if b then Fails 0 1 else to_the_end bytes (fields_in bytes 0)) (not_above most_bytes (length bytes) le)
 
 pub stored-taken : (bytes : List ℕ) (s : Stored) (after : ℕ) → length bytes ≤ most_bytes → fields_in bytes 0 ≡ Took s after → length bytes ≤ after → stored_in bytes ≡ Took s after
 stored-taken bytes s after le e past =
-    within bytes le ∙ ap (ended bytes) e ∙ ap (λ (b : Bool). if b then Fails after 5 else Took s after) (not_above after (length bytes) past)
+    within bytes le ∙ ap (to_the_end bytes) e ∙ ap (λ (b : Bool). if b then Fails after 5 else Took s after) (not_above after (length bytes) past)
 
 -- what is held of all fields, and the plan that is kept
 pub held-of : (s : Stored) (x : Fields) → AreFieldsOf s x → AreHeldOf s (let y : Held = record {

@@ -1,7 +1,7 @@
 //! Fields of a snapshot's bytes: pieces and numbers, from a place on. Numbers are little-endian.
 ghost use Rattle.std.specs.Prelude.{◌≡◌, ◌+◌, nat_lt, length, IfOk};
 ghost use Rattle.mx_manifest.specs.InRange.{IsBetween};
-ghost use Rattle.mx_snapshot.specs.Fields.{between, flag};
+ghost use Rattle.mx_snapshot.specs.Fields.{between, flag_in};
 ghost use Rattle.mx_snapshot.specs.Reader.{number, number_of, piece};
 ghost use Rattle.mx_resume.specs.declared.refused.SnapshotRefused.TheVariants.{Fault};
 ghost use Rattle.mx_resume.specs.Taking.{IsTaken};
@@ -108,7 +108,7 @@ pub(crate) fn between(
 
 /// A flag, 0 or 1.
 pub(crate) fn flag(bytes: &[u8], at: &mut usize) -> Result<bool, SnapshotRefused>
-    ensures { IsTaken (λ b. b) (flag bytes.now at.old) at.new result }
+    ensures { IsTaken (λ b. b) (flag_in bytes.now at.old) at.new result }
 {
     let number = between(bytes, at, 0, 1)?;
     Ok(number == 1)

@@ -15,7 +15,7 @@ use Rattle.mx_model.specs.State.{most_modules}
 use Rattle.mx_snapshot.proofs.CodecBack.{Recovers, recovers, recovers_as, recovers_four, recovers_list, recovers_meant, recovers_number, recovers_piece, recovers_such, tells_done, tells_next}
 use Rattle.mx_snapshot.proofs.CodecBounds.{within_range, kind_back, status_back, bit_back, run_back, all_of, each_left, each_right}
 use Rattle.mx_snapshot.proofs.CodecRead.{flat_hart, flat_module, flat_stored, hart-flat, module-flat, stored-flat}
-use Rattle.mx_snapshot.specs.Fields.{between, block_in, fields_in, flag, frame_in, gate_in, hart_in, head_in, kind_by, map_run_in, module_in, owner_run_in, status_by}
+use Rattle.mx_snapshot.specs.Fields.{between, block_in, fields_in, flag_in, frame_in, gate_in, hart_in, head_in, kind_by, map_run_in, module_in, owner_run_in, status_by}
 use Rattle.mx_snapshot.specs.Fits.{EachFits, IsHead, IsOwnerRun, IsStored, IsStoredFrame, IsStoredGate, IsStoredHart, IsStoredModule}
 use Rattle.mx_snapshot.specs.Reader.{meant, number, piece, such, such_or}
 use Rattle.mx_snapshot.specs.Rules.{has_place, is_area, is_buffer, is_free, is_heard, is_next_block, is_next_owner, is_next_run, is_pc, is_ram, is_register}
@@ -28,7 +28,7 @@ recovers_between low high = recovers_as (λ n h. (within_range low high n h.1, r
 recovers_in : (test : ℕ → Bool) → Recovers (such test number) (little_endian 4) (λ n. (n < 2 ^ 32) × (test n ≡ true))
 recovers_in test = recovers_such _ _ recovers_four
 
-recovers_flag : Recovers flag (λ b. little_endian 4 (bit b)) (λ b. Unit {0})
+recovers_flag : Recovers flag_in (λ b. little_endian 4 (bit b)) (λ b. Unit {0})
 recovers_flag = recovers_meant _ (λ b. little_endian 4 (bit b)) (λ b. Unit {0}) (λ n h. (tt, ap (little_endian 4) (bit_back n h.1))) (recovers_between 0 1)
 
 recovers_kind : Recovers (meant kind_by (between 0 2)) (λ k. little_endian 4 (kind_number k)) (λ k. Unit {0})

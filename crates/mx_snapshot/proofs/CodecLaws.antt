@@ -3,7 +3,7 @@ use Rattle.std.proofs.Common.{◌≡◌, ℕ, ◌≤◌, Bool, true, false, nat_
 use Rattle.std.proofs.lemmas.List.{append-nil}
 use Rattle.mx_snapshot.proofs.CodecFound.{fields-recover}
 use Rattle.mx_snapshot.proofs.CodecRead.{fields-read}
-use Rattle.mx_snapshot.specs.Fields.{ended, fields_in, most_bytes, stored_in}
+use Rattle.mx_snapshot.specs.Fields.{fields_in, most_bytes, stored_in, to_the_end}
 use Rattle.mx_snapshot.specs.Fits.{AreBytes, IsStored}
 use Rattle.mx_snapshot.specs.Reader.{Taken, Took, Fails}
 use Rattle.mx_snapshot.specs.Spelling.{spelling}
@@ -26,9 +26,9 @@ record Ended (bytes : List ℕ) (s : Stored) (n : ℕ) : Type 0 where
   took : fields_in bytes 0 ≡ Took s n
   whole : length bytes ≤ n
 
-ended_took : (bytes : List ℕ) (x : Taken Stored) (s : Stored) (n : ℕ) → ended bytes x ≡ Took s n → (x ≡ Took s n) × (length bytes ≤ n)
-ended_took bytes (Fails at fault) s n e = absurd cc
-ended_took bytes (Took t after) s n e = chosen (nat_lt after (length bytes)) refl e where
+to_the_end_took : (bytes : List ℕ) (x : Taken Stored) (s : Stored) (n : ℕ) → to_the_end bytes x ≡ Took s n → (x ≡ Took s n) × (length bytes ≤ n)
+to_the_end_took bytes (Fails at fault) s n e = absurd cc
+to_the_end_took bytes (Took t after) s n e = chosen (nat_lt after (length bytes)) refl e where
   same_end : (s t : Stored) (n after : ℕ) → Took t after ≡ Took s n → after ≡ n
   same_end s t n after h = cc
 
@@ -39,9 +39,9 @@ ended_took bytes (Took t after) s n e = chosen (nat_lt after (length bytes)) ref
 stored_took : (bytes : List ℕ) (s : Stored) (n : ℕ) → stored_in bytes ≡ Took s n → Ended bytes s n
 unfolding stored_in
 stored_took bytes s n e = chosen (nat_lt most_bytes (length bytes)) refl e where
-  chosen : (c : Bool) → nat_lt most_bytes (length bytes) ≡ c → (if c then Fails 0 1 else ended bytes (fields_in bytes 0)) ≡ Took s n → Ended bytes s n
+  chosen : (c : Bool) → nat_lt most_bytes (length bytes) ≡ c → (if c then Fails 0 1 else to_the_end bytes (fields_in bytes 0)) ≡ Took s n → Ended bytes s n
   chosen true was h = absurd cc
-  chosen false was h = let p = ended_took bytes (fields_in bytes 0) s n h in
+  chosen false was h = let p = to_the_end_took bytes (fields_in bytes 0) s n h in
       record { few = ltb-false most_bytes (length bytes) was; took = p.0; whole = p.1 }
 
 pub stored-valid : (bytes : List ℕ) (s : Stored) (n : ℕ) → AreBytes bytes → stored_in bytes ≡ Took s n → IsStored s

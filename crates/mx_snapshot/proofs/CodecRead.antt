@@ -16,7 +16,7 @@ use Rattle.mx_model.specs.Gates.{most_frames, most_gates}
 use Rattle.mx_model.specs.State.{most_modules}
 use Rattle.mx_snapshot.proofs.CodecBounds.{range_within, from_zero, small_words, small_buffer, small_area, each_part, small_place, few_runs, kind_small, kind_again, status_small, status_again, bit_small, bit_again, perm_small, run_again, heard_small, each_of, each_both}
 use Rattle.mx_snapshot.proofs.CodecParts.{Reads, reads_done, reads_next, reads_such, reads_meant, reads_piece, reads_four, reads_eight, reads_list}
-use Rattle.mx_snapshot.specs.Fields.{between, block_in, fields_in, flag, frame_in, gate_in, hart_in, head_in, map_run_in, module_in, owner_run_in}
+use Rattle.mx_snapshot.specs.Fields.{between, block_in, fields_in, flag_in, frame_in, gate_in, hart_in, head_in, map_run_in, module_in, owner_run_in}
 use Rattle.mx_snapshot.specs.Fits.{IsHead, IsOwnerRun, IsStored, IsStoredFrame, IsStoredGate, IsStoredHart, IsStoredModule}
 use Rattle.mx_snapshot.specs.Reader.{number, such}
 use Rattle.mx_snapshot.specs.Rules.{behind, has_place, is_heard, is_next_block, is_next_run, is_pc, is_register}
@@ -26,7 +26,7 @@ use Rattle.mx_snapshot.specs.Stored.{Head, Stored, StoredHart, StoredModule}
 reads_between : (low high n : ℕ) → high < 2 ^ 32 → IsBetween low high n → Reads (between low high) (little_endian 4 n) n
 reads_between low high n lt b = reads_such _ _ (reads_four n (omega (arith, b.1, lt))) (range_within low high n b)
 
-reads_flag : (b : Bool) → Reads flag (little_endian 4 (bit b)) b
+reads_flag : (b : Bool) → Reads flag_in (little_endian 4 (bit b)) b
 reads_flag b = reads_meant _ (reads_between 0 1 (bit b) (omega arith) (bit_small b)) (bit_again b)
 
 pub head-reads : (h : Head) → IsHead h → Reads head_in (head_bytes h) h

@@ -40,8 +40,8 @@ run_by n = record { count = n / 4; value = perm_by (n % 4) }
 abbrev pub between : ℕ → ℕ → Reader ℕ
 between low high = such (is_within low high) number
 
-abbrev pub flag : Reader Bool
-flag = meant (λ n. n == 1) (between 0 1)
+abbrev pub flag_in : Reader Bool
+flag_in = meant (λ n. n == 1) (between 0 1)
 
 unfoldable pub head_in : Reader Head
 head_in = do
@@ -84,8 +84,8 @@ module_in h before = do
   heap_count ← such (is_area h.words heap_first) number
   stack_first ← number
   stack_words ← such (λ n. is_area h.words stack_first (n * h.harts)) number
-  kills ← flag
-  dead ← flag
+  kills ← flag_in
+  dead ← flag_in
   count ← between 0 most_blocks
   blocks ← list_of count (block_in (record { first = heap_first; count = heap_count })) []
   runs ← such (nat_lt 0) number
@@ -162,9 +162,10 @@ fields_in = do
   })
 
 -- nothing follows the last field; else the first byte after it has fault 5
-abbrev pub ended : {A : Type 0} → List ℕ → Taken A → Taken A
-ended bytes (Took a after) = if nat_lt after (length bytes) then Fails after 5 else Took a after
-ended bytes (Fails at fault) = Fails at fault
+abbrev pub to_the_end : {A : Type 0} → List ℕ → Taken A → Taken A
+to_the_end bytes (Took a after) =
+    if nat_lt after (length bytes) then Fails after 5 else Took a after
+to_the_end bytes (Fails at fault) = Fails at fault
 
 -- how many bytes a snapshot has at most that is read
 abbrev pub most_bytes : ℕ
@@ -173,4 +174,4 @@ most_bytes = 1073741824
 -- what is stored in the bytes of a file; one of more bytes has fault 1 at its first
 unfoldable pub stored_in : List ℕ → Taken Stored
 stored_in bytes =
-    if nat_lt most_bytes (length bytes) then Fails 0 1 else ended bytes (fields_in bytes 0)
+    if nat_lt most_bytes (length bytes) then Fails 0 1 else to_the_end bytes (fields_in bytes 0)
