@@ -84,9 +84,7 @@ bounds-of s f h e =
     record {
       some_words = omega (arith, low);
       few_words = words.1;
-      upper = is.upper;
-      leaf = is.leaf;
-      spill = is.spill;
+      limit = is.limit;
       some_modules = is.modules.0;
       few_modules = is.modules.1;
       some_harts = is.harts.0;

@@ -4,6 +4,7 @@ use Rattle.std.specs.List.{last_or}
 use Rattle.mx_words.specs.Limits.{most_modules, most_harts}
 use Rattle.mx_words.specs.Ranges.{most_words}
 use Rattle.mx_words.specs.Runs.{Run}
+use Rattle.mx_table.specs.Tables.{IsLimit}
 use Rattle.mx_snapshot.specs.Rules.{run_words}
 use Rattle.mx_resume.specs.declared.head.Head.{Head}
 use Rattle.mx_resume.specs.declared.maps.Extent.{Extent}
@@ -27,9 +28,7 @@ fills words runs read filled count =
 pub record HasBounds (h : Head) : Type 0 where
   pub some_words : 1 ≤ h.words
   pub few_words : h.words ≤ most_words
-  pub upper : h.limit.upper ≤ 4096
-  pub leaf : h.limit.leaf ≤ 262144
-  pub spill : h.limit.spill ≤ 1048576
+  pub limit : IsLimit h.limit
   pub some_modules : 1 ≤ h.modules
   pub few_modules : h.modules ≤ most_modules
   pub some_harts : 1 ≤ h.harts

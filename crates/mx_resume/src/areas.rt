@@ -1,7 +1,8 @@
 //! The areas of a module, and the live blocks of its heap area.
 ghost use Rattle.std.specs.Prelude.{◌≡◌, ℕ, ◌*◌, ◌+◌, ◌<◌, ◌≤◌, [], List, IfOk};
-ghost use Rattle.mx_words.specs.FirstFit.{Area};
+ghost use Rattle.mx_words.specs.FirstFit.{Area, most_blocks};
 ghost use Rattle.mx_words.specs.Limits.{most_harts};
+ghost use Rattle.mx_words.specs.Ranges.{most_words};
 ghost use Rattle.mx_heap.specs.HeapState.{area_of};
 ghost use Rattle.mx_snapshot.specs.Fields.{block_in};
 ghost use Rattle.mx_snapshot.specs.Reader.{list_of, number, such};
@@ -85,9 +86,9 @@ pub(crate) fn restore_blocks(
     heap: &mut Heap,
     count: u32,
 ) -> Result<(), SnapshotRefused>
-    requires few { count ≤ 1024 }
+    requires few { count ≤ most_blocks }
     requires empty { heap.old.blocks ≡ [] }
-    requires small { heap.old.area.first + heap.old.area.count ≤ 16777216 }
+    requires small { heap.old.area.first + heap.old.area.count ≤ most_words }
     ensures taken { IsTaken (λ done. heap.new.blocks)
         (list_of count (block_in heap.old.area) [] bytes.now at.old) at.new result }
     ensures area { heap.new.area ≡ heap.old.area }

@@ -1,7 +1,8 @@
 //! The harts, and the calls on which they wait.
-ghost use Rattle.std.specs.Prelude.{◌≡◌, ◌<◌, ◌≤◌, ◌^◌, true, None, [], ◌∷◌, ◌++◌, length, slice_index, List, IfOk};
+ghost use Rattle.std.specs.Prelude.{◌≡◌, ◌<◌, ◌≤◌, true, None, [], ◌∷◌, ◌++◌, length, slice_index, List, IfOk};
 ghost use Rattle.mx_words.specs.Announced.{is_announced};
 ghost use Rattle.mx_words.specs.Limits.{most_harts};
+ghost use Rattle.mx_words.specs.Ranges.{most_words};
 ghost use Rattle.mx_check.specs.Flights.{flight_of};
 ghost use Rattle.mx_machine.specs.declared.views.HartStatus.TheVariants.{Waiting};
 ghost use Rattle.mx_snapshot.specs.Fields.{hart_in};
@@ -123,7 +124,7 @@ fn read_hart(
 
 /// The call of a hart's registers, in flight.
 fn flight(words: u32, heaps: &Heaps, number: u32, hart: &Hart) -> Flight
-    requires words { words ≤ 2 ^ 24 }
+    requires words { words ≤ most_words }
     requires domain { 1 ≤ hart.now.state.domain }
     requires call { is_announced (slice_index hart.now.state.regs 17) ≡ true }
     ensures { result ≡ flight_in words heaps.now number (hart_seen hart.now) }
@@ -146,7 +147,7 @@ fn flight(words: u32, heaps: &Heaps, number: u32, hart: &Hart) -> Flight
 
 /// Adds the call of a hart that waits.
 fn add_flight(flights: &mut Flights, words: u32, heaps: &Heaps, number: u32, hart: &Hart)
-    requires words { words ≤ 2 ^ 24 }
+    requires words { words ≤ most_words }
     requires domain { 1 ≤ hart.now.state.domain }
     requires call { hart.now.state.status ≡ Waiting →
         is_announced (slice_index hart.now.state.regs 17) ≡ true }
@@ -175,7 +176,7 @@ impl ResumingHarts {
 
     /// Adds the hart of a number, which comes after those that there are.
     fn push(&mut self, words: u32, heaps: &Heaps, number: u32, hart: Hart)
-        requires words { words ≤ 2 ^ 24 }
+        requires words { words ≤ most_words }
         requires number { number < most_harts }
         requires those { (before : List StoredHart) × (length before ≡ number)
             × (self.old ≡ harts_in_code words heaps.now before) }

@@ -35,9 +35,9 @@ head-reads h f =
     reads_next _ (reads_such _ _ (reads_piece sign 8 refl) refl) refl
     (reads_next _ (reads_such _ _ (reads_four h.words (omega (arith, small_words h f))) f.words) refl
     (reads_next _ (reads_meant _ (reads_between 0 2 (kind_number h.kind) (omega arith) (kind_small h.kind)) (kind_again h.kind)) refl
-    (reads_next _ (reads_between 0 4096 h.limit.upper (omega arith) (from_zero _ _ f.upper)) refl
-    (reads_next _ (reads_between 0 262144 h.limit.leaf (omega arith) (from_zero _ _ f.leaf)) refl
-    (reads_next _ (reads_between 0 1048576 h.limit.spill (omega arith) (from_zero _ _ f.spill)) refl
+    (reads_next _ (reads_between 0 4096 h.limit.upper (omega arith) (from_zero _ _ f.limit.upper)) refl
+    (reads_next _ (reads_between 0 262144 h.limit.leaf (omega arith) (from_zero _ _ f.limit.leaf)) refl
+    (reads_next _ (reads_between 0 1048576 h.limit.spill (omega arith) (from_zero _ _ f.limit.spill)) refl
     (reads_next _ (reads_such _ _ (reads_four h.lookaside (omega (arith, small_buffer h.lookaside f.lookaside))) f.lookaside) refl
     (reads_next _ (reads_between 1 1000000 h.quantum (omega arith) f.quantum) refl
     (reads_next _ (reads_between 1 most_modules h.modules (omega arith) f.modules) refl

@@ -24,9 +24,7 @@ named_at (m ∷ ms) (suc i) name e = let n = named_at ms i name e in record { ow
 
 pub kept_in_range : (plan : Said) → IsInRange plan → IsKept (kept_of plan)
 kept_in_range plan r = record {
-  upper = r.upper;
-  leaf = r.leaf;
-  spill = r.spill;
+  limit = record { upper = r.upper; leaf = r.leaf; spill = r.spill };
   lookaside = r.lookaside;
   quantum = r.quantum;
   count = rw length-map r.module_count;

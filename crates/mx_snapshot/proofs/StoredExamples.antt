@@ -1,6 +1,6 @@
 -- Worked examples of what a snapshot stores, of its bytes and of reading it, computed. The bytes are those that a writer in another
 -- language makes from the rule.
-use Rattle.std.proofs.Common.{◌≡◌, [], ◌∷◌, ◌++◌, length, take, replicate, refl, None}
+use Rattle.std.proofs.Common.{◌≡◌, [], ◌∷◌, ◌++◌, length, take, replicate, refl}
 use Rattle.std.specs.Prelude.{slice_set}
 use Rattle.mx_words.specs.declared.perm.Perm.TheVariants as P
 use Rattle.mx_words.specs.declared.tables.Kind.TheVariants as K

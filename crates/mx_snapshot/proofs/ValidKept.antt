@@ -68,9 +68,7 @@ stored-kept s f =
     let each = each_holds (IsStoredModule s.head) (λ (m : StoredModule). IsName m.name) (λ before m is. (name-parts s.head before m is).0) s.modules [] f.modules in
     let new = each_turned (IsStoredModule s.head) IsNew (λ before m is. (name-parts s.head before m is).1) s.modules [] f.modules in
     record {
-      upper = f.head.upper;
-      leaf = f.head.leaf;
-      spill = f.head.spill;
+      limit = f.head.limit;
       lookaside = buffer-is s.head.lookaside f.head.lookaside;
       quantum = f.head.quantum;
       count = subst (IsBetween 1 63) (sym (length-map s.modules (λ (m : StoredModule). m.name) ∙ f.module_count)) f.head.modules;

@@ -5,6 +5,7 @@ use Rattle.std.specs.List.{AllByRecursion}
 use Rattle.mx_words.specs.FirstFit.{most_blocks}
 use Rattle.mx_words.specs.Hearing.{most_harts}
 use Rattle.mx_words.specs.Runs.{Run, most_owner_runs}
+use Rattle.mx_table.specs.Tables.{IsLimit}
 use Rattle.mx_manifest.specs.InRange.{IsBetween}
 use Rattle.mx_model.specs.declared.values.Frame.{Frame}
 use Rattle.mx_model.specs.declared.values.Gate.{Gate}
@@ -27,9 +28,7 @@ EachFits fits before (x ∷ xs) = fits before x × EachFits fits (before ++ x �
 
 pub record IsHead (h : Head) : Type 0 where
   pub words : is_ram h.words ≡ true
-  pub upper : h.limit.upper ≤ 4096
-  pub leaf : h.limit.leaf ≤ 262144
-  pub spill : h.limit.spill ≤ 1048576
+  pub limit : IsLimit h.limit
   pub lookaside : is_buffer h.lookaside ≡ true
   pub quantum : IsBetween 1 1000000 h.quantum
   pub modules : IsBetween 1 most_modules h.modules

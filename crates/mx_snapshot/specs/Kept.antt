@@ -1,10 +1,11 @@
 -- What a run keeps of a manifest's plan, and a snapshot of a machine.
 -- The rules: docs/MACHINE.md, "States that are the same".
-use Rattle.std.specs.Prelude.{◌≡◌, ◌≤◌, ℕ, List, length, slice_get, Some}
+use Rattle.std.specs.Prelude.{◌≡◌, ℕ, List, length, slice_get, Some}
 use Rattle.std.specs.Prelude.{map as list_map}
 use Rattle.mx_words.specs.declared.tables.Kind.{Kind}
 use Rattle.mx_words.specs.declared.tables.Need.{Need}
 use Rattle.mx_words.specs.Limits.{most_modules, IsBuffer}
+use Rattle.mx_table.specs.Tables.{IsLimit}
 use Rattle.mx_manifest.specs.declared.parts.ModulePlan.{ModulePlan}
 use Rattle.mx_manifest.specs.InRange.{Each, IsBetween, IsName}
 use Rattle.mx_manifest.specs.Plan.{Said}
@@ -29,12 +30,10 @@ kept_of plan = record {
   names = list_map (λ (m : ModulePlan). m.name) plan.modules;
 }
 
--- each is as in a manifest: at most so many frames and spill words, one of three sizes, 1 to 1000000 turns, and 1 to most_modules names, no
--- two of them equal
+-- each is as in a manifest: a limit of tables, a size of a lookaside buffer, 1 to 1000000 turns, and 1 to most_modules names,
+-- no two of them equal
 pub record IsKept (kept : KeptPlan) : Type 0 where
-  pub upper : kept.limit.upper ≤ 4096
-  pub leaf : kept.limit.leaf ≤ 262144
-  pub spill : kept.limit.spill ≤ 1048576
+  pub limit : IsLimit kept.limit
   pub lookaside : IsBuffer kept.lookaside
   pub quantum : IsBetween 1 1000000 kept.quantum
   pub count : IsBetween 1 most_modules (length kept.names)

@@ -1,7 +1,8 @@
 //! What a run keeps of a plan.
 
-ghost use Rattle.std.specs.Prelude.{◌≡◌, ◌<◌, ◌≤◌, length, map, slice_get, Some, IfOk};
+ghost use Rattle.std.specs.Prelude.{◌≡◌, ◌<◌, length, map, slice_get, Some, IfOk};
 ghost use Rattle.mx_words.specs.Limits.{most_modules, IsBuffer};
+ghost use Rattle.mx_table.specs.Tables.{IsLimit};
 ghost use Rattle.mx_manifest.specs.declared.parts.ModulePlan.{ModulePlan};
 ghost use Rattle.mx_manifest.specs.InRange.{IsBetween, IsName};
 ghost use Rattle.mx_snapshot.specs.Kept.{IsKept, kept_of};
@@ -90,9 +91,7 @@ impl Kept {
     /// The limit of the tables: at most 4096 upper frames, 262144 leaf frames and 1048576 spill words.
     pub fn limit(&self) -> Need
         ensures value { result ≡ self.now.limit }
-        ensures upper { result.upper ≤ 4096 }
-        ensures leaf { result.leaf ≤ 262144 }
-        ensures spill { result.spill ≤ 1048576 }
+        ensures range { IsLimit result }
     {
         self.limit
     }
