@@ -60,5 +60,5 @@ fn run_mill<R: Sink>(
     ensures { Puts (R.state report.old) (R.state report.new) (lines_after steps k) result }
 {
     let tally = count_turns(steps, Schedule::Quantum(1), machine);
-    put_lines(k, steps, tally, machine, report)
+    put_lines(k, u64::from(steps), tally, machine, report)
 }

@@ -5,7 +5,6 @@ ghost use Rattle.mx_io.specs.Sink.{Puts};
 ghost use Rattle.mx_any.specs.Machines.{meaning};
 ghost use Rattle.mx_report.specs.Lines.{end_name};
 ghost use Rattle.mx_tail.specs.Tail.{Passes};
-ghost use Rattle.mx_turns.specs.Runs.{end_of};
 ghost use Rattle.mx_mill.specs.Lines.{count_text, mill_line, mill_lines, sums_line, tally_line, total, totals_line, used_line};
 
 use itoa::Buffer;
@@ -13,13 +12,13 @@ use mx_any::AnyMachine;
 use mx_io::{Failed, Piece, Sink};
 use mx_report::EndState;
 use mx_tail::{Tail, put_pieces};
-use mx_turns::Tally;
+use mx_turns::{Tally, end_of_any};
 use mx_words::Need;
 
 /// Puts the lines of a machine that was to make so many turns and made them.
 pub(crate) fn put_lines<R: Sink>(
     k: u32,
-    steps: u32,
+    steps: u64,
     tally: Tally,
     machine: &AnyMachine,
     report: &mut R,
@@ -35,7 +34,7 @@ pub(crate) fn put_lines<R: Sink>(
 // Puts the lines through a buffer.
 fn put_all_lines<R: Sink>(
     k: u32,
-    steps: u32,
+    steps: u64,
     tally: Tally,
     machine: &AnyMachine,
     tail: &mut Tail,
@@ -44,23 +43,10 @@ fn put_all_lines<R: Sink>(
     ensures { Passes tail.old (R.state report.old) (R.state report.new) tail.new
         (mill_lines k steps tally (meaning machine.now)) result }
 {
-    put_turns(tail, report, k, machine.steps(), end_of(steps, machine))?;
+    put_turns(tail, report, k, machine.steps(), end_of_any(steps, machine))?;
     put_tally(tail, report, tally)?;
     put_totals(tail, report, machine)?;
     put_used(tail, report, &machine.used())
-}
-
-// Why no more turns were made.
-fn end_of(steps: u32, machine: &AnyMachine) -> EndState
-    ensures { result ≡ end_of steps (meaning machine.now).core }
-{
-    if machine.all_halted() {
-        EndState::Halted
-    } else if machine.steps() == u64::from(steps) {
-        EndState::Steps
-    } else {
-        EndState::Schedule
-    }
 }
 
 fn end_name(state: EndState) -> &'static str
