@@ -10,7 +10,7 @@ use Rattle.mx_model.specs.Valid.{IsModule, IsValid}
 use Rattle.mx_audit.specs.Live.{IsLive}
 use Rattle.mx_audit.specs.Marks.{is_marked, MarkLive}
 use Rattle.mx_audit.specs.Sealed.{IsSealed, is_sealed}
-use Rattle.mx_audit.specs.Stretches.{exposes, some_exposes, is_exposed}
+use Rattle.mx_audit.specs.AlikeWords.{exposes, some_exposes, is_exposed}
 use Rattle.mx_audit.proofs.AuditRuns.{live-module}
 use Rattle.mx_audit.proofs.LiveLaws.{sealed-rounds, same-is}
 

@@ -7,7 +7,7 @@ pub mod AuditRuns
 pub mod MarkLaws
 pub mod ExposedLaws
 pub mod RunLaws
-pub mod StretchLaws
+pub mod AlikeLaws
 pub mod ReportLaws
 pub mod StayLaws
 pub mod AuditedExample

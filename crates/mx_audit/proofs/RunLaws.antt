@@ -1,4 +1,4 @@
--- The maximal runs of the words that pass a test, found from the end of one stretch of words to the end of the next.
+-- The maximal runs of the words that pass a test, found from the end of words that are alike to the next end.
 use Rattle.std.proofs.Common.{◌≡◌, ℕ, zero, suc, ◌+◌, ◌-◌, ◌<◌, ◌≤◌, ◌⊎◌, inl, inr, Bool, true, false, ◌==◌, nat_lt, nat_le, if◌then◌else◌, List, [], ◌∷◌, ◌++◌, refl, sym, ap, ◌∙◌, subst, arith, Some, slice_get, take}
 use Rattle.std.proofs.lemmas.Bool.{cases_eq, ltb-true, ltb-false, lt-ltb, le-leb, eqb-true, eq-eqb, ne_eqb, and_from, or_cases, or_left, or_right}
 use Rattle.std.proofs.lemmas.List.Sums.{sum_by_more}
@@ -9,7 +9,7 @@ use Rattle.mx_words.specs.Ranges.{covers, most_words}
 use Rattle.mx_words.proofs.OverlayLaws.{covers_from}
 use Rattle.mx_audit.specs.SealedRuns.{words_from, with_word, runs_where, AreInRam, lies_in}
 use Rattle.mx_audit.specs.Lines.{words_of}
-use Rattle.mx_audit.specs.Stretches.{run_between}
+use Rattle.mx_audit.specs.AlikeWords.{run_between}
 
 -- words that don't pass have no run
 pub runs_skip : (test : ℕ → Bool) (a k m n : ℕ) → m ≡ k + n → ((w : ℕ) → a ≤ w → w < a + k → test w ≡ false) →

@@ -3,5 +3,5 @@ pub mod Sealed
 pub mod SealedRuns
 pub mod Marks
 pub mod Lines
-pub mod Stretches
+pub mod AlikeWords
 pub mod Stays

@@ -1,13 +1,13 @@
 //! The audit: which domains a run can come to, and which words it never changes.
 #![tactic(auto)]
 
+mod alike;
 mod audited;
 mod auditing;
 mod laws;
 mod lines;
 mod living;
 mod sealing;
-mod stretch;
 
 pub use audited::Audit;
 pub use auditing::audit;

@@ -3,11 +3,11 @@
 ghost use Rattle.std.specs.Prelude.{◌≡◌, ◌≤◌, ◌^◌, ◌++◌, length, OnOk, IfOk};
 ghost use Rattle.mx_model.specs.Reads.{flat_reads};
 ghost use Rattle.mx_any.specs.Machines.{meaning};
+ghost use Rattle.mx_audit.specs.AlikeWords.{run_between};
 ghost use Rattle.mx_audit.specs.Marks.{MarkLive};
 ghost use Rattle.mx_audit.specs.SealedRuns.{sealed_runs};
-ghost use Rattle.mx_audit.specs.Stretches.{run_between};
 
-use crate::stretch::{Stretch, stretch_at};
+use crate::alike::{AlikeWords, alike_at};
 use mx_any::{AnyMachine, any_machine_is_valid};
 use mx_words::{MOST_DOMAINS, NoMemory, Perm, Span, Spans};
 use std::alloc::Global;
@@ -25,7 +25,7 @@ pub(crate) fn sealed_runs(
 {
     any_machine_is_valid(machine);
     let mut runs = Spans::new(alloc);
-    let mut known = [Stretch {
+    let mut known = [AlikeWords {
         end: 0,
         exposed: false,
     }; MOST_DOMAINS];
@@ -33,12 +33,12 @@ pub(crate) fn sealed_runs(
     let mut first = 0;
     let mut word = 0;
     'words: while word < machine.words() {
-        let stretch = stretch_at(machine, live, &mut known, word);
-        if stretch.exposed {
+        let alike = alike_at(machine, live, &mut known, word);
+        if alike.exposed {
             push_run(&mut runs, first, word)?;
-            first = stretch.end;
+            first = alike.end;
         }
-        word = stretch.end;
+        word = alike.end;
     }
     push_run(&mut runs, first, word)?;
     Ok(runs)

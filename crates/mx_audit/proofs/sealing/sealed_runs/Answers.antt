@@ -4,8 +4,8 @@ use Rattle.mx_model.specs.Reads.{flat_reads}
 use Rattle.mx_words.specs.declared.perm.Span.{Span}
 use Rattle.mx_audit.specs.Sealed.{is_sealed}
 use Rattle.mx_audit.specs.SealedRuns.{runs_where}
-use Rattle.mx_audit.specs.Stretches.{run_between}
-use Rattle.mx_audit.proofs.StretchLaws.{all-later, length-run_between, none-tell, runs_end, runs_exposed}
+use Rattle.mx_audit.specs.AlikeWords.{run_between}
+use Rattle.mx_audit.proofs.AlikeLaws.{all-later, length-run_between, none-tell, runs_end, runs_exposed}
 use Rattle.mx_audit.proofs.sealing.sealed_runs.Goals as goal
 
 pub words-init : goal.words-init
@@ -26,20 +26,20 @@ words-init c =
 pub words-preserved-in_ok-push_run : goal.words-preserved-in_ok-push_run
 words-preserved-in_ok-push_run c =
     let f = meaning c.args.machine.now in
-    let s = c.stretch_at-stretch.result in
+    let s = c.alike_at-alike.result in
     let inv = c.words.invariant in
-    let behind = c.stretch_at-stretch.ensures.behind in
+    let behind = c.alike_at-alike.ensures.behind in
     let order = inv.order in
     let few = inv.few in
     let added : length c.push_run.new.runs ≡ length (c.words.runs ++ run_between c.words.first c.words.word) = ap length c.in_ok-push_run.ensures in
     record {
       order = omega arith;
-      within = c.stretch_at-stretch.ensures.tells.within;
+      within = c.alike_at-alike.ensures.tells.within;
       few = omega (arith, added, length-append c.words.runs (run_between c.words.first c.words.word), length-run_between c.words.first c.words.word);
-      known = all-later f c.args.live.now c.words.word s.end c.stretch_at-stretch.new.known (omega arith) c.stretch_at-stretch.ensures.known;
+      known = all-later f c.args.live.now c.words.word s.end c.alike_at-alike.new.known (omega arith) c.alike_at-alike.ensures.known;
       closed = λ w l u. absurd (omega arith);
       runs = ap (λ (runs : List Span). runs ++ runs_where (is_sealed (flat_reads f) f.core) s.end (f.core.size - s.end)) c.in_ok-push_run.ensures
-          ∙ runs_exposed f c.args.live.now c.any_machine_is_valid.ensures.valid c.requires c.words.runs c.words.first c.words.word s order behind inv.closed c.stretch_at-stretch.ensures.tells c.if-stretch.true inv.runs;
+          ∙ runs_exposed f c.args.live.now c.any_machine_is_valid.ensures.valid c.requires c.words.runs c.words.first c.words.word s order behind inv.closed c.alike_at-alike.ensures.tells c.if-alike.true inv.runs;
     }
 
 pub returns : goal.returns

@@ -3,7 +3,7 @@ use Rattle.mx_any.specs.Machines.{meaning}
 use Rattle.mx_model.specs.Reads.{flat_reads}
 use Rattle.mx_audit.specs.Sealed.{is_sealed}
 use Rattle.mx_audit.specs.SealedRuns.{runs_where, sealed_runs}
-use Rattle.mx_audit.specs.Stretches.{AllTell, is_exposed}
+use Rattle.mx_audit.specs.AlikeWords.{AllTell, is_exposed}
 use Rattle.mx_audit.proofs.sealing.sealed_runs.Given as goal
 
 -- what is still without a run are the words from `first` on, of which those up to `word` are known to be sealed

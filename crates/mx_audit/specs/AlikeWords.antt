@@ -5,7 +5,7 @@ use Rattle.mx_words.specs.declared.perm.Span.{Span}
 use Rattle.mx_words.specs.Rights.{same}
 use Rattle.mx_model.specs.Reads.{flat_reads}
 use Rattle.mx_model.specs.State.{Flat}
-use Rattle.mx_audit.specs.declared.stretch.Stretch.{Stretch}
+use Rattle.mx_audit.specs.declared.alike.AlikeWords.{AlikeWords}
 use Rattle.mx_audit.specs.Marks.{is_marked}
 use Rattle.mx_audit.specs.SealedRuns.{words_from}
 
@@ -24,15 +24,15 @@ some_exposes f marks (suc n) word = some_exposes f marks n word || exposes f mar
 abbrev pub is_exposed : Flat → List Bool → ℕ → Bool
 is_exposed f marks word = some_exposes f marks (length f.core.modules) word
 
--- a stretch tells of the words from `word` up to its end, which lies in RAM, whether they pass a test
-pub record Tells (f : Flat) (test : ℕ → Bool) (word : ℕ) (s : Stretch) : Type 0 where
+-- alike words tell of those from `word` up to their end, which is in RAM, whether they pass a test
+pub record Tells (f : Flat) (test : ℕ → Bool) (word : ℕ) (s : AlikeWords) : Type 0 where
   pub within : s.end ≤ f.core.size
   pub alike : (w : ℕ) → word ≤ w → w < s.end → test w ≡ s.exposed
 
--- each stretch of a list tells what its source exposes
-abbrev pub AllTell : Flat → List Bool → ℕ → List Stretch → Type 0
+-- each of a list of them tells what its source exposes
+abbrev pub AllTell : Flat → List Bool → ℕ → List AlikeWords → Type 0
 AllTell f marks word known =
-    (source : ℕ) (s : Stretch) → slice_get known source ≡ Some s →
+    (source : ℕ) (s : AlikeWords) → slice_get known source ≡ Some s →
     Tells f (exposes f marks source) word s
 
 -- the words from `first` up to `behind`, as a run where there are some

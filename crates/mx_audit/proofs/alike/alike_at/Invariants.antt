@@ -1,7 +1,7 @@
 use Rattle.std.proofs.Common.{◌<◌}
 use Rattle.mx_any.specs.Machines.{meaning}
-use Rattle.mx_audit.specs.Stretches.{AllTell, Tells, some_exposes}
-use Rattle.mx_audit.proofs.stretch.stretch_at.Given as goal
+use Rattle.mx_audit.specs.AlikeWords.{AllTell, Tells, some_exposes}
+use Rattle.mx_audit.proofs.alike.alike_at.Given as goal
 
 abbrev pub invariant-loop-i : goal.invariant-loop-i
 invariant-loop-i l =

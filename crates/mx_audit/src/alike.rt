@@ -1,25 +1,25 @@
-//! Stretches of words that are alike to those who may change them.
+//! Words that are alike to those who may change them.
 
 ghost use Rattle.std.specs.Prelude.{◌≡◌, ◌<◌, ◌||◌, min, nat_lt, length, IsTrue};
 ghost use Rattle.mx_model.specs.Valid.{IsModule};
 ghost use Rattle.mx_any.specs.Machines.{meaning};
+ghost use Rattle.mx_audit.specs.AlikeWords.{AllTell, Tells, is_exposed, exposes};
 ghost use Rattle.mx_audit.specs.Marks.{is_marked};
-ghost use Rattle.mx_audit.specs.Stretches.{AllTell, Tells, is_exposed, exposes};
 
 use crate::living::is_marked;
 use mx_any::{AnyMachine, any_machine_is_valid};
 use mx_words::{MOST_DOMAINS, Perm};
 
-/// What is known of words up to one.
+/// Words up to one that are alike.
 #[derive(Clone, Copy)]
-pub(crate) struct Stretch {
+pub(crate) struct AlikeWords {
     /// The first word that isn't one of them.
     pub end: u32,
     /// Whether somebody may change each of them; otherwise nobody may change any.
     pub exposed: bool,
 }
 
-impl Stretch {
+impl AlikeWords {
     // Whether a word comes before its end.
     fn reaches(self, word: u32) -> bool
         ensures { result ≡ nat_lt word self.end }
@@ -28,11 +28,11 @@ impl Stretch {
     }
 
     // What both know together: up to the nearer end, whether one of them is exposed.
-    fn joined(self, other: Stretch) -> Stretch
+    fn joined(self, other: AlikeWords) -> AlikeWords
         ensures end { result.end ≡ min self.end other.end }
         ensures exposed { result.exposed ≡ (self.exposed || other.exposed) }
     {
-        Stretch {
+        AlikeWords {
             end: if self.end < other.end {
                 self.end
             } else {
@@ -43,14 +43,14 @@ impl Stretch {
     }
 }
 
-/// The stretch from a word on. Place 0 of what is known is for the owners, and place d for the rights of domain d. Each is renewed
-/// where it ends, so that each run is asked for once while the words go up.
-pub(crate) fn stretch_at(
+/// The alike words from a word on. Place 0 of what is known is for the owners, and place d for the rights of domain d.
+/// Each is renewed where it ends, so that each run is asked for once while the words go up.
+pub(crate) fn alike_at(
     machine: &AnyMachine,
     live: &[bool; MOST_DOMAINS],
-    known: &mut [Stretch; MOST_DOMAINS],
+    known: &mut [AlikeWords; MOST_DOMAINS],
     word: u32,
-) -> Stretch
+) -> AlikeWords
     requires word { word < (meaning machine.now).core.size }
     requires known { AllTell (meaning machine.now) live.now word known.old }
     ensures known { AllTell (meaning machine.now) live.now word known.new }
@@ -67,13 +67,13 @@ pub(crate) fn stretch_at(
     all
 }
 
-// The stretch of the owners from a word on.
+// The words from one on that are alike by their owners.
 fn owners_at(
     machine: &AnyMachine,
     live: &[bool; MOST_DOMAINS],
-    known: &mut [Stretch; MOST_DOMAINS],
+    known: &mut [AlikeWords; MOST_DOMAINS],
     word: u32,
-) -> Stretch
+) -> AlikeWords
     requires word { word < (meaning machine.now).core.size }
     requires known { AllTell (meaning machine.now) live.now word known.old }
     ensures known { AllTell (meaning machine.now) live.now word known.new }
@@ -84,7 +84,7 @@ fn owners_at(
     if last.reaches(word) {
         return last;
     }
-    let next = Stretch {
+    let next = AlikeWords {
         end: machine.owner_end(word),
         exposed: is_marked(live, machine.owner(word) as usize),
     };
@@ -92,14 +92,14 @@ fn owners_at(
     next
 }
 
-// The stretch of the rights of a live domain from a word on.
+// The words from one on that are alike by the rights of a live domain.
 fn rights_at(
     machine: &AnyMachine,
     live: &[bool; MOST_DOMAINS],
-    known: &mut [Stretch; MOST_DOMAINS],
+    known: &mut [AlikeWords; MOST_DOMAINS],
     domain: u32,
     word: u32,
-) -> Stretch
+) -> AlikeWords
     requires domain { IsModule (length (meaning machine.now).core.modules) domain }
     requires live { IsTrue (is_marked live.now domain) }
     requires word { word < (meaning machine.now).core.size }
@@ -114,7 +114,7 @@ fn rights_at(
     if last.reaches(word) {
         return last;
     }
-    let next = Stretch {
+    let next = AlikeWords {
         end: machine.perm_end(domain, word),
         exposed: machine.perm(domain, word) == Perm::ReadWrite,
     };

@@ -1,4 +1,4 @@
--- What stretches tell: of one source after another, and from one word on or a later one.
+-- What alike words tell: of one source after another, and from one word on or a later one.
 use Rattle.std.proofs.Common.{◌≡◌, ℕ, zero, suc, ◌+◌, ◌-◌, ◌<◌, ◌≤◌, min, Bool, true, false, not, ◌||◌, List, [], ◌∷◌, ◌++◌, nat_lt, if◌then◌else◌, length, replicate, slice_get, Some, refl, sym, ap, ◌∙◌, subst, arith, append_assoc}
 use Rattle.std.proofs.lemmas.Bool.{and_left, ltb-true}
 use Rattle.mx_words.specs.declared.perm.Perm.TheVariants as P
@@ -7,23 +7,23 @@ use Rattle.mx_words.specs.Rights.{same}
 use Rattle.mx_model.specs.Reads.{flat_reads}
 use Rattle.mx_model.specs.State.{Flat}
 use Rattle.mx_model.specs.Valid.{IsValid}
-use Rattle.mx_audit.specs.declared.stretch.Stretch.{Stretch}
+use Rattle.mx_audit.specs.declared.alike.AlikeWords.{AlikeWords}
 use Rattle.mx_audit.specs.Marks.{is_marked, MarkLive}
 use Rattle.mx_audit.specs.Sealed.{is_sealed}
 use Rattle.mx_audit.specs.SealedRuns.{runs_where, sealed_runs, words_from}
-use Rattle.mx_audit.specs.Stretches.{exposes, some_exposes, is_exposed, Tells, AllTell, run_between}
+use Rattle.mx_audit.specs.AlikeWords.{exposes, some_exposes, is_exposed, Tells, AllTell, run_between}
 use Rattle.mx_audit.proofs.ExposedLaws.{sealed_is_closed}
 use Rattle.mx_audit.proofs.RunLaws.{runs_step, runs_last}
 
 -- from a later word on
-pub tells-later : (f : Flat) (test : ℕ → Bool) (w v : ℕ) (s : Stretch) → w ≤ v → Tells f test w s → Tells f test v s
+pub tells-later : (f : Flat) (test : ℕ → Bool) (w v : ℕ) (s : AlikeWords) → w ≤ v → Tells f test w s → Tells f test v s
 tells-later f test w v s l t = record { within = t.within; alike = λ u p q. t.alike u (omega arith) q }
 
-pub all-later : (f : Flat) (marks : List Bool) (w v : ℕ) (known : List Stretch) → w ≤ v → AllTell f marks w known → AllTell f marks v known
+pub all-later : (f : Flat) (marks : List Bool) (w v : ℕ) (known : List AlikeWords) → w ≤ v → AllTell f marks w known → AllTell f marks v known
 all-later f marks w v known l t source s e = tells-later f (exposes f marks source) w v s l (t source s e)
 
 -- of one source more
-tells-suc : (f : Flat) (marks : List Bool) (n w : ℕ) (a b s : Stretch) → s.end ≡ min a.end b.end → s.exposed ≡ (a.exposed || b.exposed) →
+tells-suc : (f : Flat) (marks : List Bool) (n w : ℕ) (a b s : AlikeWords) → s.end ≡ min a.end b.end → s.exposed ≡ (a.exposed || b.exposed) →
     Tells f (some_exposes f marks n) w a → Tells f (exposes f marks (suc n)) w b → Tells f (some_exposes f marks (suc n)) w s
 tells-suc f marks n w a b s e o p q =
     let pw = p.within in
@@ -33,7 +33,7 @@ tells-suc f marks n w a b s e o p q =
           ap (λ t. t || exposes f marks (suc n) v) (p.alike v l (omega arith)) ∙ ap (λ t. a.exposed || t) (q.alike v l (omega arith)) ∙ sym o;
     }
 
-pub tells-more : (f : Flat) (marks : List Bool) (n w : ℕ) (a b s : Stretch) → s.end ≡ min a.end b.end → s.exposed ≡ (a.exposed || b.exposed) →
+pub tells-more : (f : Flat) (marks : List Bool) (n w : ℕ) (a b s : AlikeWords) → s.end ≡ min a.end b.end → s.exposed ≡ (a.exposed || b.exposed) →
     Tells f (some_exposes f marks n) w a → Tells f (exposes f marks (n + 1)) w b → Tells f (some_exposes f marks (n + 1)) w s
 tells-more f marks n w a b s e o p q =
     let next : suc n ≡ n + 1 = omega arith in
@@ -43,7 +43,7 @@ or-false : (b : Bool) → (b || false) ≡ b
 or-false true = refl
 or-false false = refl
 
-tells-without : (f : Flat) (marks : List Bool) (n w : ℕ) (s : Stretch) → is_marked marks (suc n) ≡ false →
+tells-without : (f : Flat) (marks : List Bool) (n w : ℕ) (s : AlikeWords) → is_marked marks (suc n) ≡ false →
     Tells f (some_exposes f marks n) w s → Tells f (some_exposes f marks (suc n)) w s
 tells-without f marks n w s e p = record {
   within = p.within;
@@ -52,19 +52,19 @@ tells-without f marks n w s e p = record {
       ∙ or-false (some_exposes f marks n v) ∙ p.alike v l u;
 }
 
-pub tells-unmarked : (f : Flat) (marks : List Bool) (n w : ℕ) (s : Stretch) → is_marked marks (n + 1) ≡ false →
+pub tells-unmarked : (f : Flat) (marks : List Bool) (n w : ℕ) (s : AlikeWords) → is_marked marks (n + 1) ≡ false →
     Tells f (some_exposes f marks n) w s → Tells f (some_exposes f marks (n + 1)) w s
 tells-unmarked f marks n w s e p =
     let next : suc n ≡ n + 1 = omega arith in
     subst (λ i. Tells f (some_exposes f marks i) w s) next (tells-without f marks n w s (ap (is_marked marks) next ∙ e) p)
 
 -- nothing is known at first
-abbrev nothing : Stretch
+abbrev nothing : AlikeWords
 nothing = record { end = 0; exposed = false }
 
-all-nothing : (n source : ℕ) (s : Stretch) → slice_get (replicate n nothing) source ≡ Some s → s.end ≡ 0
+all-nothing : (n source : ℕ) (s : AlikeWords) → slice_get (replicate n nothing) source ≡ Some s → s.end ≡ 0
 all-nothing zero source s e = absurd (let q : ⊥ = cc in q)
-all-nothing (suc n) zero s e = let same : nothing ≡ s = cc in sym (ap (λ (x : Stretch). x.end) same)
+all-nothing (suc n) zero s e = let same : nothing ≡ s = cc in sym (ap (λ (x : AlikeWords). x.end) same)
 all-nothing (suc n) (suc source) s e = all-nothing n source s e
 
 pub none-tell : (f : Flat) (marks : List Bool) (w n : ℕ) → AllTell f marks w (replicate n nothing)
@@ -78,7 +78,7 @@ length-run_between first behind = by (nat_lt first behind) refl
     by true e = let l = ltb-true first behind e in omega arith
     by false e = omega arith
 
--- the runs after one more stretch, and after the last one
+-- the runs after more alike words, and after the last one
 module _ (f : Flat) (marks : List Bool) (valid : IsValid f.core) (live : MarkLive f.core marks) where
   sealed-from : (w : ℕ) → w < f.core.size → is_exposed f marks w ≡ false → is_sealed (flat_reads f) f.core w ≡ true
   sealed-from w l e = sealed_is_closed f marks valid live w l ∙ ap not e
@@ -86,7 +86,7 @@ module _ (f : Flat) (marks : List Bool) (valid : IsValid f.core) (live : MarkLiv
   exposed-from : (w : ℕ) → w < f.core.size → is_exposed f marks w ≡ true → is_sealed (flat_reads f) f.core w ≡ false
   exposed-from w l e = sealed_is_closed f marks valid live w l ∙ ap not e
 
-  pub runs_exposed : (runs : List Span) (first w : ℕ) (s : Stretch) → first ≤ w → w < s.end → ((v : ℕ) → first ≤ v → v < w → is_exposed f marks v ≡ false) →
+  pub runs_exposed : (runs : List Span) (first w : ℕ) (s : AlikeWords) → first ≤ w → w < s.end → ((v : ℕ) → first ≤ v → v < w → is_exposed f marks v ≡ false) →
       Tells f (is_exposed f marks) w s → s.exposed ≡ true → runs ++ runs_where (is_sealed (flat_reads f) f.core) first (f.core.size - first) ≡ sealed_runs (flat_reads f) f.core →
       (runs ++ run_between first w) ++ runs_where (is_sealed (flat_reads f) f.core) s.end (f.core.size - s.end) ≡ sealed_runs (flat_reads f) f.core
   runs_exposed runs first w s l b closed t o e =
