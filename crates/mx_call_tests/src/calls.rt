@@ -6,9 +6,8 @@ ghost use Rattle.mx_supervisor.specs.Served.{KeepsSizes};
 ghost use Rattle.mx_call_tests.specs.Calls.{IsAtRest};
 
 use mx_model::{Call, Events};
-use mx_supervisor::{Answer, Supervisor};
+use mx_supervisor::{Answer, Supervisor, is_announced};
 use mx_table::PermTables;
-use mx_words::{ALLOC_CALL, FREE_CALL, GRANT_CALL, REVOKE_ALL_CALL};
 
 /// A call of hart 0 in domain 1, without a frame on its cross stack.
 pub fn own_call(number: u32, args: [u32; 4]) -> Call
@@ -22,13 +21,6 @@ pub fn own_call(number: u32, args: [u32; 4]) -> Call
         domain: 1,
         nested: false,
     }
-}
-
-/// Whether a call is announced.
-fn is_announced(number: u32) -> bool
-    ensures { result ≡ is_announced number }
-{
-    number == GRANT_CALL || number == REVOKE_ALL_CALL || number == ALLOC_CALL || number == FREE_CALL
 }
 
 /// Serves a call of a supervisor's only hart. A call that changes rights is announced first; no other hart has to hear it. What
