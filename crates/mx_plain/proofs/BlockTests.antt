@@ -2,8 +2,7 @@
 use Rattle.std.proofs.Common.{◌≡◌, ◌≢◌, ℕ, suc, ◌+◌, ◌-◌, ◌*◌, ◌/◌, ◌%◌, ◌<◌, ◌≤◌, ◌⊎◌, inl, inr, ◌↔◌, IsTrue, Bool, true, false, List, length, take, drop, replicate, refl, sym, ◌∙◌, ap, arith, length-take, length-append, get_or-take, get_or-drop}
 use Rattle.std.proofs.lemmas.Bool.{cases_lt}
 use Rattle.std.proofs.lemmas.List.{get_or_past, ext_get_or, get_or_append_left, get_or-append_right, length-replicate, get_or-replicate}
-use Rattle.std.proofs.Math.Nat.{div-mul-le_self, lt-div-mul-add, suc-mul}
-use Rattle.std.proofs.lemmas.Nat.{mul-le}
+use Rattle.std.proofs.Math.Nat.{lt-div-mul-add, suc-mul}
 use Rattle.mx_words.specs.declared.perm.Perm.{Perm}
 use Rattle.mx_words.specs.declared.perm.Perm.TheVariants as P
 use Rattle.mx_words.specs.Rights.{same, perm_at}
@@ -21,11 +20,6 @@ uniform_no m first count word from below differs = (
       let at : first + (word - first) ≡ word = omega arith in
       absurd (differs (ap (perm_at m) (sym at) ∙ u.alike (word - first) (omega arith))),
 )
-
--- all words have the first one's permission
-pub uniform_yes : (m : List Perm) (first count : ℕ) → ((k : ℕ) → first ≤ k → k < first + count → perm_at m k ≡ perm_at m first) →
-    IsTrue true ↔ IsUniform m first count
-uniform_yes m first count alike = (λ e. record { alike = λ k below. alike (first + k) (omega arith) (omega arith) }, λ u. refl)
 
 -- all words in RAM have the first one's permission, and there are words outside
 pub uniform_cut : (m : List Perm) (first count : ℕ) → length m < first + count → ((k : ℕ) → first ≤ k → k < length m → perm_at m k ≡ perm_at m first) →
@@ -51,16 +45,6 @@ uniform_cut m first count cut alike = (there, back)
     back : IsUniform m first count → IsTrue (same (perm_at m first) P.None)
     back u = same_from (perm_at m first) P.None (none_first u (cases_lt first (length m)))
 
--- a part of a block lies in it
-pub part_within : (e part first : ℕ) → e < 8 → first + e * part + part ≤ first + 8 * part
-part_within e part first below =
-    let up : suc e * part ≤ 8 * part = mul-le (suc e) part 8 part below (omega arith) in
-    omega (arith, suc-mul e part)
-
--- a part with words of two permissions
-pub even_no : (m : List Perm) (first part e : ℕ) → e < 8 → (IsTrue false ↔ IsUniform m (first + e * part) part) → IsTrue false ↔ IsEven m first part
-even_no m first part e below test = (λ h. cc, λ even. test.1 (even.parts e below))
-
 -- a test of the eight parts decides whether the block is eighth-uniform
 pub even_decides : (m : List Perm) (size block : ℕ) (b : Bool) → size % 8 ≡ 0 → 0 < size → (IsTrue b ↔ IsEven m (block * size) (size / 8)) →
     b ≡ is_eighth_uniform size (block_of size m block)
@@ -74,12 +58,6 @@ even_decides m size block false eighths some test = by (is_eighth_uniform size (
     by true e =
         let eight : size ≡ 8 * (size / 8) = omega arith in
         test.1 (even_from size (size / 8) m block refl eight (omega arith) e) ∙ sym e
-
--- where a block of a map of at most `most` words ends
-pub block_end : (size block words most : ℕ) → 0 < size → words ≤ most → block < words / size + 1 → block * size + size ≤ most + size
-block_end size block words most some few below =
-    let up : block * size ≤ words / size * size = mul-le block size (words / size) size (omega arith) (omega arith) in
-    omega (arith, div-mul-le_self words size)
 
 -- one block more than the whole ones holds all words
 pub blocks_hold : (size words : ℕ) → 0 < size → words ≤ (words / size + 1) * size
