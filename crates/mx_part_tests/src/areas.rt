@@ -1,7 +1,7 @@
 //! Blocks of heaps, and owners of words.
 ghost use Rattle.std.specs.Prelude.{◌≡◌, length};
 
-use crate::compare::compare;
+use crate::checks::same;
 use mx_heap::{Block, Heap, HeapError};
 use mx_owners::{Owners, OwnersFull};
 use mx_words::NoMemory;
@@ -48,13 +48,13 @@ fn the_lowest_hole_that_fits_is_taken(rt: HostRuntime) -> Result<(), Fail> {
         count: 2,
     };
     let allocs = [Ok(100), Ok(102), Ok(104), Ok(100), Err(HeapError::NoRoom)];
-    compare(&rt, "area", answers.area, (100, 10));
-    compare(&rt, "allocs", answers.allocs, allocs);
-    compare(&rt, "place", answers.place, Ok(100));
-    compare(&rt, "frees", answers.frees, [Some(2), Some(2), None]);
-    compare(&rt, "blocks", answers.blocks, [Some(2), None]);
-    compare(&rt, "restored", answers.restored, [false, true]);
-    compare(&rt, "listed", answers.listed, [Some(last), None]);
+    same(&rt, "area", answers.area, (100, 10));
+    same(&rt, "allocs", answers.allocs, allocs);
+    same(&rt, "place", answers.place, Ok(100));
+    same(&rt, "frees", answers.frees, [Some(2), Some(2), None]);
+    same(&rt, "blocks", answers.blocks, [Some(2), None]);
+    same(&rt, "restored", answers.restored, [false, true]);
+    same(&rt, "listed", answers.listed, [Some(last), None]);
     Ok(())
 }
 
@@ -150,12 +150,12 @@ fn runs_at_their_limit(alloc: Global) -> Result<Runs, NoMemory> {
 fn owner_runs_at_their_limit(rt: HostRuntime) -> Result<(), Fail> {
     let runs = runs_at_their_limit(rt.alloc())?;
     assert!(rt; runs.are_given);
-    compare(&rt, "before", runs.before, (1, 0, 16384));
-    compare(&rt, "last", runs.last, Ok(()));
-    compare(&rt, "refused", runs.refused, Err(OwnersFull));
-    compare(&rt, "after", runs.after, (0, 16383, 1));
-    compare(&rt, "owns", runs.owns, (true, false, true));
-    compare(&rt, "joined", runs.joined, Ok(()));
-    compare(&rt, "longer", runs.longer, (5, true));
+    same(&rt, "before", runs.before, (1, 0, 16384));
+    same(&rt, "last", runs.last, Ok(()));
+    same(&rt, "refused", runs.refused, Err(OwnersFull));
+    same(&rt, "after", runs.after, (0, 16383, 1));
+    same(&rt, "owns", runs.owns, (true, false, true));
+    same(&rt, "joined", runs.joined, Ok(()));
+    same(&rt, "longer", runs.longer, (5, true));
     Ok(())
 }

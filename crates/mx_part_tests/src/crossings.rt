@@ -1,5 +1,5 @@
 //! Gates, and the frames of a hart.
-use crate::compare::compare;
+use crate::checks::same;
 use mx_gates::{CrossStack, Full, Gates, GatesFull};
 use mx_model::{Frame, Gate};
 use std::process::Abort;
@@ -98,25 +98,25 @@ fn at_their_limit(rt: &impl Abort) -> (Most, Fewer) {
 #[test]
 fn gates_at_their_limit(rt: HostRuntime) {
     let (most, fewer) = at_their_limit(&rt);
-    compare(&rt, "before", most.before, None);
+    same(&rt, "before", most.before, None);
     assert!(rt; most.are_added);
-    compare(
+    same(
         &rt,
         "refused",
         most.refused,
         [Err(GatesFull), Err(GatesFull)],
     );
-    compare(&rt, "first", most.first, Some(gate(1, 7, 2)));
-    compare(&rt, "replaced", most.replaced, Ok(()));
-    compare(
+    same(&rt, "first", most.first, Some(gate(1, 7, 2)));
+    same(&rt, "replaced", most.replaced, Ok(()));
+    same(
         &rt,
         "listed",
         most.listed,
         [Some(gate(1, 8, 1)), Some(gate(1, 7, 3)), None],
     );
-    compare(&rt, "removed", fewer.removed, [true, false]);
-    compare(&rt, "targets", fewer.targets, [None, Some(1)]);
-    compare(
+    same(&rt, "removed", fewer.removed, [true, false]);
+    same(&rt, "targets", fewer.targets, [None, Some(1)]);
+    same(
         &rt,
         "listed then",
         fewer.listed,
@@ -174,11 +174,11 @@ fn fill_and_pop() -> Stacked {
 fn frames_come_back_from_the_top(rt: HostRuntime) {
     let stacked = fill_and_pop();
     let last = Some(frame(2, 63));
-    compare(&rt, "empty", stacked.empty, [None, None]);
+    same(&rt, "empty", stacked.empty, [None, None]);
     assert!(rt; stacked.are_pushed);
-    compare(&rt, "refused", stacked.refused, Err(Full));
-    compare(&rt, "depths", stacked.depths, [64, 63]);
-    compare(&rt, "nearest", stacked.nearest, [Some(62), None, Some(61)]);
-    compare(&rt, "frames", stacked.frames, [Some(frame(1, 0)), None]);
-    compare(&rt, "tops", stacked.tops, [last, last]);
+    same(&rt, "refused", stacked.refused, Err(Full));
+    same(&rt, "depths", stacked.depths, [64, 63]);
+    same(&rt, "nearest", stacked.nearest, [Some(62), None, Some(61)]);
+    same(&rt, "frames", stacked.frames, [Some(frame(1, 0)), None]);
+    same(&rt, "tops", stacked.tops, [last, last]);
 }

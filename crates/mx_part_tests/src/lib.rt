@@ -7,7 +7,7 @@ mod areas;
 #[cfg(test)]
 mod caches;
 #[cfg(test)]
-mod compare;
+mod checks;
 #[cfg(test)]
 mod crossings;
 #[cfg(test)]

@@ -1,4 +1,5 @@
 //! Lists of spans, of bytes and of a turn's events.
+use crate::checks::same;
 use mx_model::{Events, Note};
 use mx_words::{Blob, NoMemory, Perm, Span, Spans};
 use std::alloc::Global;
@@ -31,6 +32,20 @@ fn lists_hold_what_was_pushed(rt: HostRuntime) -> Result<(), Fail> {
     assert_eq!(rt; lengths, [1, 1]);
     assert!(rt; is_seven);
     Ok(())
+}
+
+/// How many bytes a list with memory for two holds at first, what it answers when two are appended, and whether it is
+/// just these then.
+fn filled(alloc: Global) -> Result<(u32, Result<(), NoMemory>, bool), NoMemory> {
+    let mut blob = Blob::with_capacity(alloc, 2)?;
+    let length = blob.len();
+    let answer = blob.extend_from_slice(b"ab");
+    Ok((length, answer, blob.as_slice() == b"ab".as_slice()))
+}
+
+#[test]
+fn a_list_with_memory_is_empty_until_it_is_filled(rt: HostRuntime) {
+    same(&rt, "two bytes", filled(rt.alloc()), Ok((0, Ok(()), true)));
 }
 
 /// An exit with code 5.

@@ -1,7 +1,7 @@
 //! Bytes of RAM.
 ghost use Rattle.std.specs.Prelude.{◌≡◌, length};
 
-use crate::compare::compare;
+use crate::checks::same;
 use mx_memory::Ram;
 use mx_words::NoMemory;
 use std::alloc::Global;
@@ -54,15 +54,15 @@ fn store_and_clear(alloc: Global) -> Result<Stored, NoMemory> {
 fn stores_lie_little_endian(rt: HostRuntime) -> Result<(), Fail> {
     let stored = store_and_clear(rt.alloc())?;
     let want = [0, 0, 0x34, 0x12, 0xBB, 0xAA, 0x99, 0x88, 0x56, 0, 0, 0];
-    compare(&rt, "bytes", stored.bytes, want);
-    compare(
+    same(&rt, "bytes", stored.bytes, want);
+    same(
         &rt,
         "loads",
         stored.loads,
         [0x8899_AABB, 0x0000_8899, 0x0000_0088],
     );
-    compare(&rt, "first", stored.first, 0x1234_0000);
-    compare(
+    same(&rt, "first", stored.first, 0x1234_0000);
+    same(
         &rt,
         "cleared",
         stored.cleared,

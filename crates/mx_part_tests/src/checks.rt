@@ -1,0 +1,10 @@
+//! How tests compare what they got with what they want.
+
+use std::fmt::Debug;
+use std::process::Abort;
+
+/// Asserts that what was got is what is wanted. A comparison is stated here once for all types, so that no test states
+/// it again for its own.
+pub(crate) fn same<T: Copy + PartialEq + Debug>(rt: &impl Abort, what: &str, got: T, want: T) {
+    assert_eq!(rt; got, want, "{what}");
+}
