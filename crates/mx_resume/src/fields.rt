@@ -24,11 +24,14 @@ use mx_gates::Gates;
 use mx_memory::Ram;
 use mx_owners::Owners;
 use mx_snapshot::Kept;
-use mx_words::{Blob, MOST_GATES};
+use mx_words::{Blob, MOST_GATES, MOST_OWNER_RUNS};
 use std::alloc::Global;
 
 /// The greatest number of gates, as a field.
 const MOST: u32 = MOST_GATES as u32;
+
+/// The greatest number of runs of owner, as a field.
+const OWNER_RUNS: u32 = MOST_OWNER_RUNS as u32;
 
 /// How many bytes a snapshot has at most that is read.
 const MOST_BYTES: usize = 1073741824;
@@ -91,7 +94,7 @@ fn read_fields(
 {
     let head = read_head(bytes, at)?;
     read_modules(alloc, bytes, at, &head, modules)?;
-    let runs = between(bytes, at, 1, 4096)?;
+    let runs = between(bytes, at, 1, OWNER_RUNS)?;
     let owners = read_owners(alloc, bytes, at, &head, runs)?;
     let count = between(bytes, at, 0, MOST)?;
     let gates = read_gates(bytes, at, &head, count)?;

@@ -22,8 +22,11 @@ use mx_heap::Heap;
 use mx_machine::{StackArea, Stacks};
 use mx_manifest::Text;
 use mx_supervisor::Heaps;
-use mx_words::{MOST_DOMAINS, Spans};
+use mx_words::{MOST_BLOCKS, MOST_DOMAINS, Spans};
 use std::alloc::Global;
+
+/// The greatest number of live blocks of a heap, as a field.
+const BLOCKS: u32 = MOST_BLOCKS as u32;
 
 /// A module.
 #[derive(Drop)]
@@ -92,7 +95,7 @@ fn read_module(
     let words = stack_words(bytes, at, head.words, first, head.harts)?;
     let kills = flag(bytes, at)?;
     let dead = flag(bytes, at)?;
-    let count = between(bytes, at, 0, 1024)?;
+    let count = between(bytes, at, 0, BLOCKS)?;
     let mut heap = heap_over(alloc, heap_first, heap_count)?;
     restore_blocks(bytes, at, &mut heap, count)?;
     let runs = some_runs(bytes, at)?;
