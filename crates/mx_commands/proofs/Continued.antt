@@ -9,7 +9,7 @@ use Rattle.mx_commands.specs.declared.reading.ReadFault.{ReadFault}
 use Rattle.mx_commands.specs.declared.reading.ReadFault.TheVariants as fault
 use Rattle.mx_commands.specs.Finding.{Finding, Absent, Large, Short, Broken, Whole, Finds}
 use Rattle.mx_commands.specs.Next.{Outcome, Wanted, Next, End, after_file, refusal}
-use Rattle.mx_commands.specs.Reading.{Reads, Refuses}
+use Rattle.mx_commands.specs.Reading.{ReadsFile, Refuses}
 use Rattle.mx_turns.specs.Ends.{Sinks}
 use Rattle.mx_commands.specs.Ends.{WritesNothing, Ends, EndsOrWants, Continues, Comes}
 
@@ -41,7 +41,7 @@ module _ {S : Type 0} (gives : S → Answer → S → Type 0) where
 
   -- a file was refused
   pub continues_refused : (file : Wanted) (rest : List ℕ → List Finding → Next) (s t : S) (cause : ReadFault) {b n : Sinks} {result : Status}
-      → Reads gives file.most file.name s t (Err cause) → Refuses file cause b n result → Continues (after_file file rest) gives s t b n result
+      → ReadsFile gives file.most file.name s t (Err cause) → Refuses file cause b n result → Continues (after_file file rest) gives s t b n result
   continues_refused file rest s t fault.Absent read refuses = lacking file rest s t Absent _ refl read refuses
   continues_refused file rest s t fault.Large read refuses = lacking file rest s t Large _ refl read refuses
   continues_refused file rest s t (fault.Short told got) read refuses = lacking file rest s t (Short told got) _ refl read refuses

@@ -23,9 +23,9 @@ OfFinding P (Err fault.Broken) = P Broken
 OfFinding P (Err fault.NoMemory) = ⊤
 
 -- a file was read: the answers that the store gave in this call say what is found of it
-abbrev pub Reads : {S : Type 0} → (S → Answer → S → Type 0) → ℕ → List ℕ → S → S →
+abbrev pub ReadsFile : {S : Type 0} → (S → Answer → S → Type 0) → ℕ → List ℕ → S → S →
     Result (Vec ℕ Global) ReadFault → Type 0
-Reads gives most name store stored result =
+ReadsFile gives most name store stored result =
     (answers : List Answer) × Talks gives store answers stored
     × OfFinding (λ found. Finds most name answers found) result
 

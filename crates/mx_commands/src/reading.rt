@@ -1,7 +1,7 @@
 //! The reading of a whole file from a store.
 
 ghost use Rattle.std.specs.Prelude.{◌≡◌, ◌≤◌, length, IfOk, vec_len};
-ghost use Rattle.mx_commands.specs.Reading.{Reads, ReadsTold, TakesPart};
+ghost use Rattle.mx_commands.specs.Reading.{ReadsFile, ReadsTold, TakesPart};
 
 use mx_io::{Failed, Store};
 use std::alloc::Global;
@@ -30,7 +30,7 @@ pub(crate) fn read_file<S: Store>(
     name: &str,
     most: u64,
 ) -> Result<Vec<u8>, ReadFault>
-    ensures found { Reads S.gives most name.now store.old store.new result }
+    ensures found { ReadsFile S.gives most name.now store.old store.new result }
     ensures fits { IfOk result (λ bytes. vec_len bytes ≤ most) }
 {
     match store.size(name) {
