@@ -3,10 +3,10 @@
 use std::fmt::Debug;
 use std::process::Abort;
 
-/// Asserts that two values are the same; the note says of what. A comparison is stated here once for all types, so that no
-/// test states it again for its own.
-pub(crate) fn same<T: Copy + PartialEq + Debug>(rt: &impl Abort, got: T, want: T, note: &str) {
-    assert_eq!(rt; got, want, "{note}");
+/// Asserts that what was got is what is wanted. A comparison is stated here once for all types, so that no test states
+/// it again for its own.
+pub(crate) fn same<T: Copy + PartialEq + Debug>(rt: &impl Abort, what: &str, got: T, want: T) {
+    assert_eq!(rt; got, want, "{what}");
 }
 
 /// How many bytes a text has, and the first 80 of them, with zeros behind.

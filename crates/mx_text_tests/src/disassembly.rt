@@ -28,12 +28,12 @@ fn text_of(alloc: Global, word: u32, room: u64) -> Option<(bool, Text)> {
 fn texts_are_those_of_another_disassembler(rt: HostRuntime) {
     for (word, line) in &TEXTS {
         let got = text_of(rt.alloc(), *word, 32);
-        same(&rt, got, Some((true, text(line.as_bytes()))), line);
+        same(&rt, line, got, Some((true, text(line.as_bytes()))));
     }
 }
 
 #[test]
 fn a_text_without_room_is_a_prefix(rt: HostRuntime) {
     let got = text_of(rt.alloc(), 0x0011_2023, 9);
-    same(&rt, got, Some((false, text(b"sw x1, 0("))), "9 bytes");
+    same(&rt, "9 bytes", got, Some((false, text(b"sw x1, 0("))));
 }

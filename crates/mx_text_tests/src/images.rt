@@ -93,10 +93,10 @@ fn reads_the_image_of_a_linker(rt: HostRuntime) {
         flags: 6,
     };
     let image = entry_and_segments(SUMS);
-    same(&rt, image, Some((0x8000_0000, [text, data])), "the image");
-    same(&rt, found_alone(), VALUES, "one by one");
-    same(&rt, found_unasked(rt.alloc()), VALUES, "unasked");
-    same(&rt, found_together(rt.alloc()), Some(VALUES), "together");
+    same(&rt, "the image", image, Some((0x8000_0000, [text, data])));
+    same(&rt, "one by one", found_alone(), VALUES);
+    same(&rt, "unasked", found_unasked(rt.alloc()), VALUES);
+    same(&rt, "together", found_together(rt.alloc()), Some(VALUES));
 }
 
 /// A change of a file: a number at a place.
@@ -251,9 +251,9 @@ fn finds_the_first_fault(rt: HostRuntime) {
     for (row, (puts, len, want)) in FAULTS.iter().enumerate() {
         same(
             &rt,
+            "row and fault",
             (row, fault_with(puts, *len)),
             (row, *want),
-            "row and fault",
         );
     }
 }
@@ -372,9 +372,9 @@ fn finds_the_first_symbol(rt: HostRuntime) {
     for (row, (puts, len, name, want)) in SYMBOLS.iter().enumerate() {
         same(
             &rt,
+            name,
             (row, symbol_with(puts, *len, name)),
             (row, *want),
-            name,
         );
     }
 }

@@ -86,7 +86,7 @@ fn one_segment(alloc: Global) -> Result<Blob, NoMemory> {
 #[test]
 fn writes_two_segments_and_leaves_out_an_empty_one(rt: HostRuntime) -> Result<(), Fail> {
     let image = two_segments(rt.alloc()).ok().ok_or("no memory")?;
-    same(&rt, image.as_slice(), TWO_SEGMENTS, "the image");
+    same(&rt, "the image", image.as_slice(), TWO_SEGMENTS);
     Ok(())
 }
 
@@ -107,7 +107,7 @@ fn the_loader_reads_what_was_written(rt: HostRuntime) {
         flags: 6,
     };
     let image = entry_and_segments(TWO_SEGMENTS);
-    same(&rt, image, Some((0x8000_0000, [text, data])), "the image");
+    same(&rt, "the image", image, Some((0x8000_0000, [text, data])));
     let symbols = [
         symbol(TWO_SEGMENTS, "start"),
         symbol(TWO_SEGMENTS, "k"),
@@ -115,9 +115,9 @@ fn the_loader_reads_what_was_written(rt: HostRuntime) {
     ];
     same(
         &rt,
+        "symbols",
         symbols,
         [Some(0x8000_0000), Some(0x8000_1000), None],
-        "symbols",
     );
 }
 
@@ -146,12 +146,12 @@ fn read_one_segment(rt: &impl Abort, file: &[u8]) {
     };
     same(
         rt,
+        "the image",
         entry_and_segment(file),
         Some((0x8000_0000, text)),
-        "the image",
     );
-    same(rt, file.get(84..96), Some(CODE.as_slice()), "the code");
-    same(rt, symbol(file, "start"), None, "the symbol");
+    same(rt, "the code", file.get(84..96), Some(CODE.as_slice()));
+    same(rt, "the symbol", symbol(file, "start"), None);
 }
 
 // `.text 0x80000000`, `li a7, 1`, `ecall`: `lui a7, 0`, `addi a7, a7, 1` and `ecall`, right after the one program

@@ -103,7 +103,7 @@ fn word_of(alloc: Global, statement: &str) -> Option<(Segment, u32)> {
 fn statements_are_those_of_another_assembler(rt: HostRuntime) {
     for (statement, word) in &STATEMENTS {
         let got = word_of(rt.alloc(), statement);
-        same(&rt, got, Some(((0x8000_0000, 5, 4), *word)), statement);
+        same(&rt, statement, got, Some(((0x8000_0000, 5, 4), *word)));
     }
 }
 
@@ -111,8 +111,8 @@ fn statements_are_those_of_another_assembler(rt: HostRuntime) {
 fn sources_give_their_words(rt: HostRuntime) -> Result<(), Fail> {
     for (source, size, words) in &statements::SOURCES {
         let ((_, _, bytes), got) = start_in(rt.alloc(), source).ok_or("refused")?;
-        same(&rt, bytes, *size, source);
-        same(&rt, got.get(..words.len()), Some(*words), source);
+        same(&rt, source, bytes, *size);
+        same(&rt, source, got.get(..words.len()), Some(*words));
     }
     Ok(())
 }
@@ -151,30 +151,30 @@ fn labels_and_segments_stand_where_the_loader_finds_them(rt: HostRuntime) -> Res
     let (segments, starts, symbols) = found_in(rt.alloc(), source).ok_or("refused")?;
     same(
         &rt,
+        source,
         segments,
         [(0x8000_0000, 5, 4), (0x8000_1000, 6, 1)],
-        source,
     );
-    same(&rt, starts, (0x6F, 1), source);
+    same(&rt, source, starts, (0x6F, 1));
     same(
         &rt,
+        source,
         symbols,
         [Some(0x8000_0000), Some(0x8000_1000), None],
-        source,
     );
     // The entry is the first segment's address, though it has no bytes.
     let source = ".data 16\n.text 0x20\nx: ecall\n";
     let (first, entry, _) = segment_in(rt.alloc(), source, 0).ok_or("refused")?;
-    same(&rt, (first, entry), ((0x20, 5, 4), 16), source);
+    same(&rt, source, (first, entry), ((0x20, 5, 4), 16));
     let (_, entry, len) = segment_in(rt.alloc(), "# nothing\n", 0).ok_or("refused")?;
-    same(&rt, (len, entry), (192, 0), "nothing");
+    same(&rt, "nothing", (len, entry), (192, 0));
     Ok(())
 }
 
 #[test]
 fn the_first_line_and_on_it_the_least_number_is_told(rt: HostRuntime) {
     for (source, line, number) in &statements::FAULTS {
-        same(&rt, fault_of(rt.alloc(), source), (*line, *number), source);
+        same(&rt, source, fault_of(rt.alloc(), source), (*line, *number));
     }
 }
 
@@ -216,11 +216,11 @@ fn fault_of_segments(alloc: Global, segments: usize) -> Result<(u32, u32), Alloc
 fn limits_are_met_and_passed(rt: HostRuntime) {
     let alloc = rt.alloc();
     let labels = [fault_of_label(alloc, 64), fault_of_label(alloc, 65)];
-    same(&rt, labels, [Ok((0, 0)), Ok((2, 1))], "letters");
+    same(&rt, "letters", labels, [Ok((0, 0)), Ok((2, 1))]);
     let segments = [fault_of_segments(alloc, 16), fault_of_segments(alloc, 17)];
-    same(&rt, segments, [Ok((0, 0)), Ok((33, 9))], "segments");
+    same(&rt, "segments", segments, [Ok((0, 0)), Ok((33, 9))]);
     let whole = segment_in(alloc, ".data 0\n.at 4194304\n", 0).map(|(whole, _, _)| whole);
-    same(&rt, whole, Some((0, 6, 0x40_0000)), "the whole");
+    same(&rt, "the whole", whole, Some((0, 6, 0x40_0000)));
     let fault = fault_of(alloc, ".data 0\n.at 4194304\n.byte 1\n");
-    same(&rt, fault, (3, 10), "one byte more");
+    same(&rt, "one byte more", fault, (3, 10));
 }

@@ -35,14 +35,14 @@ static PARTS: [(&str, u64, usize); 6] = [
 
 /// A store of two files, `hello` and one without bytes, tells their sizes and gives parts of them.
 fn tells_files<S: Store>(rt: &impl Abort, store: &mut S) {
-    same(rt, store.size("a"), Ok(Some(5)), "a");
-    same(rt, store.size("b"), Ok(Some(0)), "b");
-    same(rt, store.size("c"), Ok(None), "c");
+    same(rt, "a", store.size("a"), Ok(Some(5)));
+    same(rt, "b", store.size("b"), Ok(Some(0)));
+    same(rt, "c", store.size("c"), Ok(None));
     for (name, at, count) in &PARTS {
         let read = part(store, name, *at).map(|(count, _)| count);
-        same(rt, (*at, read), (*at, Ok(*count)), name);
+        same(rt, name, (*at, read), (*at, Ok(*count)));
     }
-    same(rt, part(store, "a", 3), Ok((2, *b"lo..")), "the end of a");
+    same(rt, "the end of a", part(store, "a", 3), Ok((2, *b"lo..")));
 }
 
 /// Files in memory, of which one is put anew.
@@ -62,10 +62,10 @@ fn files_tell_sizes_and_give_parts(rt: HostRuntime) -> Result<(), Fail> {
 
 /// Makes four calls of a store without files, of which the second and the third fail.
 fn call_files<S: Store>(rt: &impl Abort, store: &mut S) {
-    same(rt, store.size("a"), Ok(None), "the first");
-    same(rt, store.size("a"), Err(Failed), "the second");
-    same(rt, store.read("a", 0, &mut [0]), Err(Failed), "the third");
-    same(rt, store.size("a"), Ok(None), "the fourth");
+    same(rt, "the first", store.size("a"), Ok(None));
+    same(rt, "the second", store.size("a"), Err(Failed));
+    same(rt, "the third", store.read("a", 0, &mut [0]), Err(Failed));
+    same(rt, "the fourth", store.size("a"), Ok(None));
 }
 
 /// A store without files, of whose calls the second and the third fail.
@@ -100,7 +100,7 @@ fn listed_calls_fail(rt: HostRuntime) {
     call_files(&rt, &mut failing_files(rt.alloc()));
     let fails = [true, true, true, true, true, true, true, false, true, false];
     let writes = listed_writes(rt.alloc());
-    same(&rt, writes, Some((fails, text(b"xx"))), "writes");
+    same(&rt, "writes", writes, Some((fails, text(b"xx"))));
 }
 
 /// What four writes come to.
@@ -117,24 +117,24 @@ fn four_writes(bytes: &mut Bytes) -> [Result<usize, Failed>; 4] {
 fn bytes_take_what_there_is_room_for(rt: HostRuntime) -> Result<(), Fail> {
     let mut bytes = Bytes::new(rt.alloc(), 4)?;
     let counts = four_writes(&mut bytes);
-    same(&rt, counts, [Ok(3), Ok(1), Err(Failed), Ok(0)], "counts");
-    same(&rt, bytes.as_slice(), b"abcd".as_slice(), "bytes");
+    same(&rt, "counts", counts, [Ok(3), Ok(1), Err(Failed), Ok(0)]);
+    same(&rt, "bytes", bytes.as_slice(), b"abcd".as_slice());
     Ok(())
 }
 
 /// A store of a file of four bytes tells another size of it.
 fn tells_a_loose_file<S: Store>(rt: &impl Abort, store: &mut S) {
-    same(rt, store.size("first.toml"), Ok(Some(10)), "the size");
-    same(rt, store.size("other"), Ok(None), "another file");
+    same(rt, "the size", store.size("first.toml"), Ok(Some(10)));
+    same(rt, "another file", store.size("other"), Ok(None));
     let mut into = [0; 10];
     same(
         rt,
+        "the start",
         store.read("first.toml", 0, &mut into),
         Ok(4),
-        "the start",
     );
-    same(rt, into, *b"four\0\0\0\0\0\0", "its bytes");
-    same(rt, store.read("first.toml", 4, &mut into), Ok(0), "the end");
+    same(rt, "its bytes", into, *b"four\0\0\0\0\0\0");
+    same(rt, "the end", store.read("first.toml", 4, &mut into), Ok(0));
 }
 
 #[test]
@@ -169,13 +169,13 @@ static LINE: [Piece<'static>; 9] = [
 fn pieces_make_a_line(rt: HostRuntime) {
     let line = text(b"step=18446744073709551615 code=-7 pc=0x0189abcd 000000ef\n");
     let whole = line_of(rt.alloc(), 100, &LINE);
-    same(&rt, whole, Some((Ok(()), line)), "the whole");
+    same(&rt, "the whole", whole, Some((Ok(()), line)));
     let short = line_of(rt.alloc(), 10, &LINE);
     same(
         &rt,
+        "10 bytes",
         short,
         Some((Err(Failed), text(b"step=18446"))),
-        "10 bytes",
     );
 }
 
@@ -197,7 +197,7 @@ fn two_lines(alloc: Global) -> Option<([Result<(), Failed>; 2], Text)> {
 fn a_line_is_one_write(rt: HostRuntime) {
     let puts = [Ok(()), Err(Failed)];
     let line = text(b"no file a?end??\n");
-    same(&rt, two_lines(rt.alloc()), Some((puts, line)), "two lines");
+    same(&rt, "two lines", two_lines(rt.alloc()), Some((puts, line)));
 }
 
 /// Names, and how they are shown.
@@ -217,7 +217,7 @@ static SHOWN: [(&str, &str); 6] = [
 fn control_characters_of_names_are_not_shown(rt: HostRuntime) {
     for (name, shown) in &SHOWN {
         let got = line_of(rt.alloc(), 100, &[Piece::Name(name)]);
-        same(&rt, got, Some((Ok(()), text(shown.as_bytes()))), shown);
+        same(&rt, shown, got, Some((Ok(()), text(shown.as_bytes()))));
     }
 }
 
@@ -226,14 +226,14 @@ static PLACES: [(u64, usize); 4] = [(0, 4), (3, 2), (5, 0), (u64::MAX, 0)];
 
 /// A store of a folder with the file `hello` tells its size and gives parts of it.
 fn tells_a_folder<S: Store>(rt: &impl Abort, store: &mut S) {
-    same(rt, store.size("a"), Ok(Some(5)), "a");
-    same(rt, store.size("b"), Ok(None), "b");
+    same(rt, "a", store.size("a"), Ok(Some(5)));
+    same(rt, "b", store.size("b"), Ok(None));
     for (at, count) in &PLACES {
         let read = part(store, "a", *at).map(|(count, _)| count);
-        same(rt, (*at, read), (*at, Ok(*count)), "place and count");
+        same(rt, "place and count", (*at, read), (*at, Ok(*count)));
     }
-    same(rt, part(store, "a", 3), Ok((2, *b"lo..")), "the end of a");
-    same(rt, part(store, "b", 0), Err(Failed), "no file");
+    same(rt, "the end of a", part(store, "a", 3), Ok((2, *b"lo..")));
+    same(rt, "no file", part(store, "b", 0), Err(Failed));
 }
 
 #[test]
@@ -252,16 +252,16 @@ fn is_done<T: Drop>(done: io::Result<T>) -> bool {
 /// What a store tells of a file of eight bytes that stands there meanwhile.
 fn tells_a_file<R: Abort + HostFiles, S: Store>(rt: &R, store: &mut S) {
     let name = "mx_io_a_file";
-    same(rt, is_done(fs::write(rt, name, "seven by")), true, "made");
+    same(rt, "made", is_done(fs::write(rt, name, "seven by")), true);
     let size = store.size(name);
     let mut into = [0; 5];
     let part = store.read(name, 3, &mut into);
     let end = store.read(name, 8, &mut [0]);
-    same(rt, is_done(fs::remove_file(rt, name)), true, "removed");
-    same(rt, size, Ok(Some(8)), "the size");
-    same(rt, part, Ok(5), "a part");
-    same(rt, into, *b"en by", "its bytes");
-    same(rt, end, Ok(0), "the end");
+    same(rt, "removed", is_done(fs::remove_file(rt, name)), true);
+    same(rt, "the size", size, Ok(Some(8)));
+    same(rt, "a part", part, Ok(5));
+    same(rt, "its bytes", into, *b"en by");
+    same(rt, "the end", end, Ok(0));
 }
 
 /// A store tells this size of a name, and a read from the start fails.
@@ -271,8 +271,8 @@ fn refuses<S: Store>(
     name: &str,
     size: Result<Option<u64>, Failed>,
 ) {
-    same(rt, store.size(name), size, name);
-    same(rt, store.read(name, 0, &mut [0; 5]), Err(Failed), name);
+    same(rt, name, store.size(name), size);
+    same(rt, name, store.read(name, 0, &mut [0; 5]), Err(Failed));
 }
 
 /// What the store of the current folder tells, of a file and then of a name without one, of a folder that stands there
@@ -282,16 +282,16 @@ fn tells_the_folder<R: Abort + HostFiles, S: Store>(rt: &R, store: &mut S) {
     refuses(rt, store, "mx_io_no_file", Ok(None));
     same(
         rt,
+        "made",
         is_done(fs::create_dir(rt, "mx_io_a_folder")),
         true,
-        "made",
     );
     refuses(rt, store, "mx_io_a_folder", Err(Failed));
     same(
         rt,
+        "removed",
         is_done(fs::remove_dir(rt, "mx_io_a_folder")),
         true,
-        "removed",
     );
     // A device is no regular file, and isn't opened.
     refuses(rt, store, "/dev/zero", Err(Failed));
@@ -319,20 +319,20 @@ impl Write for Full {
 #[test]
 fn standard_streams_are_sinks(rt: HostRuntime) {
     let out = put_all(&mut StdoutSink::new(rt.stdout()), b"to stdout\n");
-    same(&rt, out, Ok(()), "stdout");
+    same(&rt, "stdout", out, Ok(()));
     let out = put_all(&mut StderrSink::new(rt.stderr()), b"to stderr\n");
-    same(&rt, out, Ok(()), "stderr");
+    same(&rt, "stderr", out, Ok(()));
     same(
         &rt,
+        "a full one",
         StdoutSink::new(Full).write(b"a"),
         Err(Failed),
-        "a full one",
     );
     same(
         &rt,
+        "a full one",
         StderrSink::new(Full).write(b"a"),
         Err(Failed),
-        "a full one",
     );
 }
 
@@ -345,8 +345,8 @@ fn put_streams<W: Write>(written: &mut W) -> [Result<(), Failed>; 2] {
 #[test]
 fn streams_append_to_writers(rt: HostRuntime) {
     let mut written = Vec::new(rt.alloc());
-    same(&rt, put_streams(&mut written), [Ok(()), Ok(())], "puts");
-    same(&rt, written.as_slice(), b"one, two".as_slice(), "bytes");
+    same(&rt, "puts", put_streams(&mut written), [Ok(()), Ok(())]);
+    same(&rt, "bytes", written.as_slice(), b"one, two".as_slice());
 }
 
 // Lends a vector as a file, once.
@@ -391,17 +391,17 @@ fn put_pieces<S: Sink>(sink: &mut S, pieces: &[&[u8]]) -> bool {
 fn a_file_is_made_at_the_first_write(rt: HostRuntime) -> Result<(), Fail> {
     let before = b"what stood there before".as_slice();
     let mut file = Vec::from_slice(rt.alloc(), before)?;
-    same(&rt, put_lent(&mut file, &[b""]), true, "nothing is put");
-    same(&rt, file.as_slice(), before, "nothing");
+    same(&rt, "nothing is put", put_lent(&mut file, &[b""]), true);
+    same(&rt, "nothing", file.as_slice(), before);
     same(
         &rt,
+        "two are put",
         put_lent(&mut file, &[b"two ", b"writes"]),
         true,
-        "two are put",
     );
-    same(&rt, file.as_slice(), b"two writes".as_slice(), "two");
+    same(&rt, "two", file.as_slice(), b"two writes".as_slice());
     let refused = FileSink::over(Lent { file: None }).write(b"a");
-    same(&rt, refused, Err(Failed), "no file");
+    same(&rt, "no file", refused, Err(Failed));
     Ok(())
 }
 
@@ -415,32 +415,32 @@ fn dump<R: HostFiles + Alloc>(rt: &R) -> InlineText<64> {
 
 /// A write to the dump fails where a folder stands; where a file stands, the first write with bytes takes its place.
 fn writes_the_dump<R: Abort + HostFiles + Alloc, S: Sink>(rt: &R, sink: &mut S) {
-    same(rt, is_done(fs::create_dir(rt, "memory.bin")), true, "made");
-    same(rt, sink.write(b"a"), Err(Failed), "a folder");
+    same(rt, "made", is_done(fs::create_dir(rt, "memory.bin")), true);
+    same(rt, "a folder", sink.write(b"a"), Err(Failed));
     same(
         rt,
+        "removed",
         is_done(fs::remove_dir(rt, "memory.bin")),
         true,
-        "removed",
     );
 
     let before = "what stood there before";
     same(
         rt,
+        "made",
         is_done(fs::write(rt, "memory.bin", before)),
         true,
-        "made",
     );
-    same(rt, put_all(sink, b""), Ok(()), "nothing");
-    same(rt, dump(rt).as_str(), before, "nothing");
-    same(rt, put_all(sink, b"two "), Ok(()), "the first");
-    same(rt, put_all(sink, b"writes"), Ok(()), "the second");
-    same(rt, dump(rt).as_str(), "two writes", "the dump");
+    same(rt, "nothing", put_all(sink, b""), Ok(()));
+    same(rt, "nothing", dump(rt).as_str(), before);
+    same(rt, "the first", put_all(sink, b"two "), Ok(()));
+    same(rt, "the second", put_all(sink, b"writes"), Ok(()));
+    same(rt, "the dump", dump(rt).as_str(), "two writes");
     same(
         rt,
+        "removed",
         is_done(fs::remove_file(rt, "memory.bin")),
         true,
-        "removed",
     );
 }
 

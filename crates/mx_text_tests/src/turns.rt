@@ -128,7 +128,7 @@ fn line_of(
 fn turn_lines_are_those_of_the_rule(rt: HostRuntime) {
     for (step, hart, stands, kind, line) in &LINES {
         let got = line_of(rt.alloc(), 80, *step, *hart, seen(*stands), *kind);
-        same(&rt, got, Some((Ok(()), text(line.as_bytes()))), line);
+        same(&rt, line, got, Some((Ok(()), text(line.as_bytes()))));
     }
 }
 
@@ -136,12 +136,12 @@ fn turn_lines_are_those_of_the_rule(rt: HostRuntime) {
 fn put_two_turns(rt: &impl Abort, tail: &mut Tail, sink: &mut Bytes) {
     for step in 1..3 {
         let put = put_turn(tail, sink, step, 1, None, TurnKind::Idle);
-        same(rt, put, Ok(()), "the put");
-        same(rt, sink.as_slice().len(), 0, "bytes so far");
+        same(rt, "the put", put, Ok(()));
+        same(rt, "bytes so far", sink.as_slice().len(), 0);
     }
-    same(rt, tail.end(sink), Ok(()), "the end");
+    same(rt, "the end", tail.end(sink), Ok(()));
     let lines = b"turn 1 1 - - idle -\nturn 2 1 - - idle -\n";
-    same(rt, sink.as_slice(), lines.as_slice(), "the lines");
+    same(rt, "the lines", sink.as_slice(), lines.as_slice());
 }
 
 #[test]
@@ -157,7 +157,7 @@ fn a_turn_line_without_room_is_a_prefix(rt: HostRuntime) {
     let before = seen(Some((1, 0x8000_0000, Some(0x0010_0893))));
     let got = line_of(rt.alloc(), 28, 1, 0, before, TurnKind::Ran);
     let line = text(b"turn 1 0 1 0x80000000 ran ad");
-    same(&rt, got, Some((Err(Failed), line)), "28 bytes");
+    same(&rt, "28 bytes", got, Some((Err(Failed), line)));
 }
 
 /// Kinds with their names.
@@ -174,6 +174,6 @@ static KINDS: [(TurnKind, &str); 7] = [
 #[test]
 fn kinds_have_their_names(rt: HostRuntime) {
     for (kind, name) in &KINDS {
-        same(&rt, kind_name(*kind), name, name);
+        same(&rt, name, kind_name(*kind), name);
     }
 }

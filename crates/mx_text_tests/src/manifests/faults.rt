@@ -4,6 +4,7 @@
 use super::{HART, MODULE, ONE, TWO, refusal_of};
 use crate::checks::same;
 use mx_manifest::{ManifestFault, Part, Place};
+use mx_plan::read_plan;
 use std::alloc::Global;
 use std::fmt;
 use std::fmt::InlineText;
@@ -223,7 +224,7 @@ fn judge_cases(rt: &impl Abort, alloc: Global, frame: &Frame, cases: &str) {
     for case in cases.lines() {
         let (want, lines) = case.split_once('|').unwrap_or(("a mark", case));
         let got = InlineText::<64>::of(answer_to(alloc, frame, lines));
-        same(rt, got.as_str(), want.trim(), case);
+        same(rt, case, got.as_str(), want.trim());
     }
 }
 
@@ -245,4 +246,24 @@ static GROUPS: [(Frame, &str); 6] = [
 #[test]
 fn tells_each_fault_at_its_place(rt: HostRuntime) {
     judge_groups(&rt, rt.alloc(), &GROUPS);
+}
+
+/// Files that are no text, no TOML document, and empty, and what each gives.
+static FILES: [(&[u8], &str); 3] = [
+    (b"# \xFF\n", "1 manifest -"),
+    (b"version =\n", "1 manifest -"),
+    (b"", "3 manifest version"),
+];
+
+/// What the bytes of a file give.
+fn answer_to_file(alloc: Global, bytes: &[u8]) -> Answer {
+    Answer(read_plan(alloc, bytes).err())
+}
+
+#[test]
+fn tells_a_file_that_is_no_document(rt: HostRuntime) {
+    for (bytes, want) in &FILES {
+        let got = InlineText::<64>::of(answer_to_file(rt.alloc(), bytes));
+        same(&rt, want, got.as_str(), want);
+    }
 }

@@ -46,10 +46,10 @@ fn what_is_kept_of_a_plan(rt: HostRuntime) -> Result<(), Fail> {
         leaf: 5,
         spill: 7,
     };
-    same(&rt, keys, (Kind::Multilevel, limit, 8, 1000), "keys");
-    same(&rt, modules, 2, "modules");
-    same(&rt, first.as_str(), "m", "the first name");
-    same(&rt, second.as_str(), "n_2", "the second name");
+    same(&rt, "keys", keys, (Kind::Multilevel, limit, 8, 1000));
+    same(&rt, "modules", modules, 2);
+    same(&rt, "the first name", first.as_str(), "m");
+    same(&rt, "the second name", second.as_str(), "n_2");
     Ok(())
 }
 
@@ -61,6 +61,6 @@ fn what_is_kept_of_a_plan_of_defaults(rt: HostRuntime) -> Result<(), Fail> {
         leaf: 4096,
         spill: 4096,
     };
-    same(&rt, keys, (Kind::Packed, limit, 32, 1), "keys");
+    same(&rt, "keys", keys, (Kind::Packed, limit, 32, 1));
     Ok(())
 }

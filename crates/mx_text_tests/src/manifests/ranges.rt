@@ -183,7 +183,7 @@ fn number_of(alloc: Global, top: &str, key: Key) -> Option<u32> {
 fn accepts_both_ends_of_each_range(rt: HostRuntime) {
     for (top, key, value) in &TOPS {
         let number = number_of(rt.alloc(), top, *key);
-        same(&rt, number, Some(*value), top);
+        same(&rt, top, number, Some(*value));
     }
 }
 
@@ -199,7 +199,7 @@ fn kind_of(alloc: Global, line: &str) -> Option<Kind> {
 fn accepts_each_kind_of_tables(rt: HostRuntime) {
     for (line, kind) in &KINDS {
         let tables = kind_of(rt.alloc(), line);
-        same(&rt, tables, Some(*kind), line);
+        same(&rt, line, tables, Some(*kind));
     }
 }
 
@@ -207,7 +207,7 @@ fn accepts_each_kind_of_tables(rt: HostRuntime) {
 fn accepts_both_ends_of_each_range_of_a_module(rt: HostRuntime) {
     for (top, lines) in &MODULES {
         let refusal = refusal_of(rt.alloc(), &[top, MODULE, "[[module]]\n", lines, HART]);
-        same(&rt, refusal, None, lines);
+        same(&rt, lines, refusal, None);
     }
 }
 
@@ -334,11 +334,11 @@ fn counts_up_to_each_limit(rt: HostRuntime) {
             modules_with(alloc, top, most),
         ];
         let more = beyond(Part::Manifest, 0, Key::Module);
-        same(&rt, counts, [Ok(most), Err(more)], top);
+        same(&rt, top, counts, [Ok(most), Err(more)]);
     }
     for limit in &LISTS {
         let (refusals, more) = ends(alloc, limit);
-        same(&rt, refusals, [None, Some(more)], "as many, and one more");
+        same(&rt, "as many, and one more", refusals, [None, Some(more)]);
     }
 }
 
@@ -346,6 +346,6 @@ fn counts_up_to_each_limit(rt: HostRuntime) {
 fn measures_names_of_files_and_symbols(rt: HostRuntime) {
     for limit in &NAMES {
         let (refusals, more) = ends(rt.alloc(), limit);
-        same(&rt, refusals, [None, Some(more)], "as many, and one more");
+        same(&rt, "as many, and one more", refusals, [None, Some(more)]);
     }
 }

@@ -2,7 +2,10 @@
 
 use super::judge;
 use crate::checks::same;
-use mx_manifest::{Entries, EntryPlan, GatePlans, HartPlan, ModulePlan, Numbers, Plan};
+use mx_manifest::{
+    Entries, EntryPlan, GatePlans, HartPlan, ManifestFault, ModulePlan, Numbers, Plan, Text,
+};
+use mx_plan::read_plan;
 use std::alloc::Global;
 use std::fmt;
 use std::fmt::{Formatter, InlineText};
@@ -188,9 +191,9 @@ hart 3 -
 hart 1 idle
 ";
 
-/// What the plan of a manifest says.
-fn plan_text(alloc: Global, text: &str) -> InlineText<1024> {
-    match judge(alloc, &[text]) {
+/// What a plan says.
+fn plan_text(plan: Result<Plan, ManifestFault>) -> InlineText<1024> {
+    match plan {
         Ok(plan) => InlineText::of(Told(&plan)),
         Err(_) => InlineText::of("refused"),
     }
@@ -198,10 +201,26 @@ fn plan_text(alloc: Global, text: &str) -> InlineText<1024> {
 
 #[test]
 fn tells_what_each_key_says(rt: HostRuntime) {
-    same(
-        &rt,
-        plan_text(rt.alloc(), WHOLE).as_str(),
-        SAID,
-        "the whole",
-    );
+    let said = plan_text(judge(rt.alloc(), &[WHOLE]));
+    same(&rt, "the whole", said.as_str(), SAID);
+}
+
+#[test]
+fn tells_what_the_bytes_of_a_file_say(rt: HostRuntime) {
+    let said = plan_text(read_plan(rt.alloc(), WHOLE.as_bytes()));
+    same(&rt, "the whole", said.as_str(), SAID);
+}
+
+/// What a copy of a text says.
+fn copy_text(alloc: Global, text: &str) -> InlineText<32> {
+    match Text::new(alloc, text) {
+        Ok(copy) => InlineText::of(copy.as_str()),
+        Err(_) => InlineText::of("refused"),
+    }
+}
+
+#[test]
+fn a_copy_of_a_text_says_the_same(rt: HostRuntime) {
+    let said = copy_text(rt.alloc(), "m_2");
+    same(&rt, "a name", said.as_str(), "m_2");
 }
