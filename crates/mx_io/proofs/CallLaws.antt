@@ -40,6 +40,7 @@ module _ {A E : Type 0} (told : Option FileMap) (faults : ℕ) (log : CallLog) (
         files = refl;
         later = omega arith;
         counted = omega arith;
+        kept = tt;
         failed = Rose-raised faults;
         sure = λ quiet. absurd (both_ways (fails_next log) (fails_next-quiet log quiet) fails);
       }
@@ -48,4 +49,11 @@ module _ {A E : Type 0} (told : Option FileMap) (faults : ℕ) (log : CallLog) (
   pub asks_other : {a : A} → log.made < 2 ^ 64
       → Asks {E = E} (record { told = told; faults = faults; sure = is_quiet log }) (record { told = told; faults = faults; sure = is_quiet (after_call log) }) (Ok a)
   asks_other made =
-      record { files = refl; later = omega arith; counted = fits; failed = tt; sure = λ quiet. (refl, refl, is_quiet-after_call log made quiet) }
+      record {
+        files = refl;
+        later = omega arith;
+        counted = fits;
+        kept = refl;
+        failed = tt;
+        sure = λ quiet. (refl, refl, is_quiet-after_call log made quiet);
+      }

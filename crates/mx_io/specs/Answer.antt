@@ -29,12 +29,13 @@ IsOf files (Sized name (Some size)) = size ≡ option_map length (get files name
 IsOf files (Gave name at room None) = ⊤
 IsOf files (Gave name at room (Some bytes)) = IsPart (file_bytes files name) at room bytes
 
--- a step of a store: its files stay, its count never falls, the call failed only where the count rose and success was not
+-- a step of a store: its files stay, its count never falls, and stays where the call succeeded, the call failed only where the count rose and success was not
 -- sure, and the answer is that of the files where they are told
 pub record Tells (before : StoreState) (answer : Answer) (now : StoreState) : Type 0 where
   pub files : now.told ≡ before.told
   pub later : before.faults ≤ now.faults
   pub counted : now.faults < 2 ^ 64
+  pub kept : HasSucceeded answer → now.faults ≡ before.faults
   pub failed : (HasSucceeded answer → ⊥) → Rose before.faults now.faults
   pub sure : IsTrue before.sure →
       HasSucceeded answer × (now.faults ≡ before.faults) × IsTrue now.sure

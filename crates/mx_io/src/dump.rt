@@ -1,11 +1,10 @@
 //! The file of the dump.
-ghost use Rattle.std.specs.Prelude.{◌≡◌, List, ℕ, Option, None, IfOk};
+ghost use Rattle.std.specs.Prelude.{◌≡◌, ◌<◌, ◌≤◌, List, ℕ, Option, None, IfOk, IsOk};
 ghost use Rattle.std.specs.Io.KnownBytes.{Keeps};
 ghost use Rattle.mx_io.specs.Real.{stream, file_sink, file_maker};
 
 use crate::faults::{count_fault, write_some};
-use crate::{Failed, Sink};
-use std::io::Write;
+use crate::{Failed, Sink, Stream, Untold};
 use std::rt::Files;
 use std::{fs, io};
 
@@ -15,14 +14,19 @@ const DUMP_FILE: &str = "memory.bin";
 /// Something that makes a file to write to.
 pub trait Maker {
     /// What is written to.
-    type File: Write + Drop;
+    type File: Stream + Drop;
 
     /// What a file that was just made holds, where that is known.
     ghost fresh: { Option (List ℕ) };
 
+    /// How many bytes a file that it makes is sure to take; where that is more than none, it is sure to make one.
+    ghost room: { Self → ℕ };
+
     /// Makes a fresh file, in place of one that stands there.
     fn make(&mut self) -> io::Result<Self::File>
-        ensures { IfOk result (λ file. Keeps fresh (Self.File.contents file)) };
+        ensures holds { IfOk result (λ file. Keeps fresh (Self.File.contents file)) }
+        ensures room { IfOk result (λ file. room self.old ≤ Self.File.room file) }
+        ensures sure { 0 < room self.old → IsOk result };
 }
 
 /// The file `memory.bin` of the current folder, made through the runtime.
@@ -36,25 +40,11 @@ impl<R: Files> Maker for DumpFile<R> {
 
     ghost fresh = { None };
 
+    ghost room = { λ _. 0 };
+
     fn make(&mut self) -> io::Result<Untold<R::File>> {
         let file = fs::create(&self.files, DUMP_FILE)?;
-        Ok(Untold { file })
-    }
-}
-
-/// A file of the system: a writer that tells nothing of what it holds.
-#[derive(Drop)]
-pub struct Untold<F> {
-    file: F,
-}
-
-impl<F: Write> Write for Untold<F> {
-    fn write(&mut self, buf: &[u8]) -> io::Result<usize> {
-        self.file.write(buf)
-    }
-
-    fn flush(&mut self) -> io::Result<()> {
-        self.file.flush()
+        Ok(Untold::new(file))
     }
 }
 
@@ -72,7 +62,7 @@ pub struct FileSink<M: Maker> {
 impl<R: Files> FileSink<DumpFile<R>> {
     /// A sink to the file `memory.bin` of the current folder, which isn't made yet, with no fault counted.
     pub fn new(files: R) -> FileSink<DumpFile<R>>
-        ensures { file_sink None (λ _. None) result ≡ stream None 0 }
+        ensures { file_sink None (λ _. 0) (λ _. None) (λ _. 0) result ≡ stream None 0 0 }
     {
         FileSink::over(DumpFile { files })
     }
@@ -81,7 +71,8 @@ impl<R: Files> FileSink<DumpFile<R>> {
 impl<M: Maker> FileSink<M> {
     /// A sink to the file that the maker makes, which isn't made yet, with no fault counted.
     pub fn over(maker: M) -> FileSink<M>
-        ensures state { file_sink M.fresh M.File.contents result ≡ stream M.fresh 0 }
+        ensures state { file_sink M.fresh M.room M.File.contents M.File.room result
+            ≡ stream M.fresh (M.room maker) 0 }
         ensures maker { file_maker result ≡ maker }
     {
         FileSink {
@@ -93,7 +84,7 @@ impl<M: Maker> FileSink<M> {
 }
 
 impl<M: Maker> Sink for FileSink<M> {
-    ghost state = { file_sink M.fresh M.File.contents };
+    ghost state = { file_sink M.fresh M.room M.File.contents M.File.room };
 
     fn write(&mut self, bytes: &[u8]) -> Result<usize, Failed> {
         if let Some(file) = &mut self.file {

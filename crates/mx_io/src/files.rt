@@ -1,5 +1,5 @@
 //! Files in memory.
-ghost use Rattle.std.specs.Prelude.{◌≡◌, ◌≤◌, ◌↔◌, IsErr, IsTrue, OnOk, OnErr, IfOk, Some, length, take};
+ghost use Rattle.std.specs.Prelude.{true, ◌≡◌, ◌≤◌, ◌↔◌, IsErr, IsTrue, OnOk, OnErr, IfOk, Some, length, take};
 ghost use Rattle.std.specs.Option.{option_map};
 ghost use Rattle.std.specs.Result.{result_ok};
 ghost use Rattle.std.specs.FinMap as map;
@@ -11,12 +11,12 @@ ghost use Rattle.mx_io.specs.Calls.{fails_next};
 use crate::calls::Calls;
 use crate::named::{Named, add, find};
 use crate::part::copy_part;
-use crate::{Entry, Failed, Folder, Store};
+use crate::{Entry, Failed, Folder, Placed, Store};
 use mx_words::NoMemory;
 use std::alloc::Global;
 use std::collections::VecDeque;
 use std::io;
-use std::io::{Cursor, ErrorKind};
+use std::io::ErrorKind;
 use std::marker::Model;
 
 /// Files in memory: a store that tells its files. Calls of it can be made to fail by their numbers.
@@ -138,12 +138,14 @@ impl Store for Files {
     ghost tells = { λ s answer t step. step };
 }
 
-/// As a folder, from which `FolderStore` reads: it tells its files, and no call of it fails but the opening of
-/// a file that is absent. No call is numbered.
+/// As a folder, from which `FolderStore` reads: it tells its files, and every call of it succeeds but the opening
+/// of a file that is absent. No call is numbered.
 impl<'a> Folder for &'a Files {
-    type File = Cursor<&'a [u8]>;
+    type File = &'a [u8];
 
     ghost told = { λ f. Some f.now.files };
+
+    ghost sure = { λ _. true };
 
     fn look(&self, name: &str) -> io::Result<Entry> {
         match self.bytes_of(name) {
@@ -152,10 +154,21 @@ impl<'a> Folder for &'a Files {
         }
     }
 
-    fn open(&self, name: &str) -> io::Result<Cursor<&'a [u8]>> {
+    fn open(&self, name: &str) -> io::Result<&'a [u8]> {
         match self.bytes_of(name) {
-            Some(bytes) => Ok(Cursor::new(bytes)),
+            Some(bytes) => Ok(bytes),
             None => Err(io::Error::from(ErrorKind::NotFound)),
         }
+    }
+}
+
+/// Bytes in memory, as a file: they are told, and every read succeeds.
+impl<'a> Placed for &'a [u8] {
+    ghost bytes = { λ b. Some b.now };
+
+    ghost sure = { λ _. true };
+
+    fn read_at(&mut self, at: u64, into: &mut [u8]) -> io::Result<usize> {
+        Ok(copy_part(self, at, into))
     }
 }

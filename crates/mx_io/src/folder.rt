@@ -1,14 +1,14 @@
 //! The files of a folder.
-ghost use Rattle.std.specs.Prelude.{◌≡◌, ◌≤◌, ℕ, false, List, Option, Some, None, IfSome, IfOk, length, take, drop, option_map};
+ghost use Rattle.std.specs.Prelude.{◌≡◌, ◌≢◌, ◌≤◌, ℕ, Bool, false, IsTrue, List, Option, Some, None, IfSome, IfOk, IsOk, length, take, option_map};
 ghost use Rattle.std.specs.FinMap.{get};
 ghost use Rattle.mx_io.specs.Store.{FileMap, file_bytes};
 ghost use Rattle.mx_io.specs.Answer.{IsPart, tells_by};
-ghost use Rattle.mx_io.specs.Real.{folder_store, IsEntry, untold_place, bytes_from};
+ghost use Rattle.mx_io.specs.Real.{folder_store, IsEntry, LooksSurely};
 ghost use Rattle.mx_io.specs.declared.folder.Entry.{Entry as Found};
 
 use crate::faults::count_fault;
 use crate::{Failed, Store};
-use std::io::{AsBytes, Cursor, ErrorKind, Read, Seek, SeekFrom};
+use std::io::{ErrorKind, Read, Seek, SeekFrom};
 use std::rt::Files;
 use std::{fs, io};
 
@@ -24,14 +24,19 @@ pub enum Entry {
 }
 
 /// A file that is read from a place on.
-pub trait Placed: Read + Seek {
-    /// Where place and bytes are known, the bytes from that place on are those that reads give.
-    ghost rest: { (f : Self) → (at : ℕ) → (bytes : List ℕ) → Self.stream_position f ≡ Some at →
-        Self.stream_bytes f ≡ Some bytes → Self.remaining f ≡ Some (drop at bytes) };
-}
+pub trait Placed {
+    /// Its bytes, where it tells them.
+    ghost bytes: { Self → Option (List ℕ) };
 
-impl<T: AsBytes> Placed for Cursor<T> {
-    ghost rest = { λ f at bytes placed told. bytes_from placed told };
+    /// Whether every read of it is sure to succeed.
+    ghost sure: { Self → Bool };
+
+    /// One read from place `at` on: as many bytes as stand there and fit, or fewer, and none only at the end.
+    fn read_at(&mut self, at: u64, into: &mut [u8]) -> io::Result<usize>
+        ensures bound { IfOk result (λ k. k ≤ length into.new) }
+        ensures part { IfSome (bytes self.old)
+            (λ bytes. IfOk result (λ k. IsPart bytes at (length into.new) (take k into.new))) }
+        ensures sure { IsTrue (sure self.old) → IsOk result };
 }
 
 /// A folder whose files are read by name.
@@ -42,16 +47,20 @@ pub trait Folder {
     /// Its files, where it tells them.
     ghost told: { Self → Option FileMap };
 
+    /// Whether it tells its files and every call is sure to succeed, but for the opening of a file that is absent.
+    ghost sure: { Self → Bool };
+
     /// Looks a name up without opening what stands there.
     fn look(&self, name: &str) -> io::Result<Entry>
-        ensures { IfSome (told self.now) (λ files. IfOk result (IsEntry files name.now)) };
+        ensures found { IfSome (told self.now) (λ files. IfOk result (IsEntry files name.now)) }
+        ensures sure { LooksSurely (told self.now) (sure self.now) result };
 
     /// Opens a file at its start.
     fn open(&self, name: &str) -> io::Result<Self::File>
-        ensures start { IfSome (told self.now) (λ files. IfOk result (λ file.
-            Self.File.stream_position file ≡ Some 0)) }
         ensures bytes { IfSome (told self.now) (λ files. IfOk result (λ file.
-            Self.File.stream_bytes file ≡ Some (file_bytes files name.now))) };
+            Self.File.bytes file ≡ Some (file_bytes files name.now))) }
+        ensures sure { IsTrue (sure self.now) → IfSome (told self.now) (λ files.
+            get files name.now ≢ None → IsOk result × IfOk result (λ file. IsTrue (Self.File.sure file))) };
 }
 
 /// The current folder, read through the runtime: it tells nothing.
@@ -64,6 +73,8 @@ impl<R: Files> Folder for HostFolder<R> {
     type File = HostFile<R::File>;
 
     ghost told = { λ _. None };
+
+    ghost sure = { λ _. false };
 
     fn look(&self, name: &str) -> io::Result<Entry> {
         match fs::metadata(&self.files, name) {
@@ -80,30 +91,25 @@ impl<R: Files> Folder for HostFolder<R> {
     }
 }
 
-/// A file of the system that is read: it tells neither its place nor its bytes.
+/// A file of the system that is read: it tells nothing.
 #[derive(Drop)]
 pub struct HostFile<F> {
     file: F,
 }
 
-impl<F: Read> Read for HostFile<F> {
-    fn read(&mut self, buf: &mut [u8]) -> io::Result<usize> {
-        self.file.read(buf)
-    }
-}
-
-impl<F: Seek> Seek for HostFile<F> {
-    fn seek(&mut self, to: SeekFrom) -> io::Result<u64> {
-        self.file.seek(to)
-    }
-}
-
 impl<F: Read + Seek> Placed for HostFile<F> {
-    ghost rest = { λ f at bytes placed told. absurd (untold_place placed) };
+    ghost bytes = { λ _. None };
+
+    ghost sure = { λ _. false };
+
+    fn read_at(&mut self, at: u64, into: &mut [u8]) -> io::Result<usize> {
+        self.file.seek(SeekFrom::Start(at))?;
+        self.file.read(into)
+    }
 }
 
 /// The files of a folder: a store that tells the files that the folder tells, which are none for the folder
-/// of the system. An absent file has no size, and a read of it is a fault. A name that is no regular file,
+/// of the system. An absent file has no size and no bytes. A name that is no regular file,
 /// or that can't be looked up or opened, is a fault at once. What has the name is looked at before it is
 /// opened, so that no call waits for a writer.
 #[derive(Drop)]
@@ -115,7 +121,7 @@ pub struct FolderStore<F> {
 impl<R: Files> FolderStore<HostFolder<R>> {
     /// A store over the current folder, with no fault counted.
     pub fn new(files: R) -> FolderStore<HostFolder<R>>
-        ensures { folder_store (λ _. None) result
+        ensures { folder_store (λ _. None) (λ _. false) result
             ≡ record { told = None; faults = 0; sure = false } }
     {
         FolderStore::over(HostFolder { files })
@@ -125,17 +131,17 @@ impl<R: Files> FolderStore<HostFolder<R>> {
 impl<F: Folder> FolderStore<F> {
     /// A store over a folder, with no fault counted.
     pub fn over(folder: F) -> FolderStore<F>
-        ensures { folder_store F.told result
-            ≡ record { told = F.told folder; faults = 0; sure = false } }
+        ensures { folder_store F.told F.sure result
+            ≡ record { told = F.told folder; faults = 0; sure = F.sure folder } }
     {
         FolderStore { folder, faults: 0 }
     }
 }
 
 impl<F: Folder> Store for FolderStore<F> {
-    ghost state = { folder_store F.told };
+    ghost state = { folder_store F.told F.sure };
 
-    ghost gives = { tells_by (folder_store F.told) };
+    ghost gives = { tells_by (folder_store F.told F.sure) };
 
     /// The size of the file; None where it is absent.
     fn size(&mut self, name: &str) -> Result<Option<u64>, Failed> {
@@ -162,8 +168,9 @@ impl<F: Folder> Store for FolderStore<F> {
 
 // The size of a file, None where it is absent. Anything else than a regular file is an error.
 fn file_size<F: Folder>(folder: &F, name: &str) -> io::Result<Option<u64>>
-    ensures { IfSome (F.told folder.now)
+    ensures told { IfSome (F.told folder.now)
         (λ files. IfOk result (λ size. size ≡ option_map length (get files name.now))) }
+    ensures sure { IsTrue (F.sure folder.now) → IsOk result }
 {
     match folder.look(name)? {
         Entry::Absent => Ok(None),
@@ -172,28 +179,16 @@ fn file_size<F: Folder>(folder: &F, name: &str) -> io::Result<Option<u64>>
     }
 }
 
-// One read of a file from place `at` on.
+// One read of a file from place `at` on. An absent one has no bytes.
 fn read_part<F: Folder>(folder: &F, name: &str, at: u64, into: &mut [u8]) -> io::Result<usize>
     ensures bound { IfOk result (λ k. k ≤ length into.new) }
     ensures part { IfSome (F.told folder.now) (λ files. IfOk result (λ k.
         IsPart (file_bytes files name.now) at (length into.new) (take k into.new))) }
+    ensures sure { IsTrue (F.sure folder.now) → IsOk result }
 {
     match folder.look(name)? {
-        Entry::Absent => Err(io::Error::from(ErrorKind::NotFound)),
-        Entry::Regular(_) => {
-            let mut file = folder.open(name)?;
-            read_at(&mut file, at, into)
-        }
+        Entry::Absent => Ok(0),
+        Entry::Regular(_) => folder.open(name)?.read_at(at, into),
         Entry::Other => Err(io::Error::from(ErrorKind::InvalidInput)),
     }
-}
-
-// One read from place `at` on.
-fn read_at<F: Placed>(file: &mut F, at: u64, into: &mut [u8]) -> io::Result<usize>
-    ensures bound { IfOk result (λ k. k ≤ length into.new) }
-    ensures part { IfSome (F.stream_position file.old) (λ _. IfSome (F.stream_bytes file.old)
-        (λ bytes. IfOk result (λ k. IsPart bytes at (length into.new) (take k into.new)))) }
-{
-    file.seek(SeekFrom::Start(at))?;
-    file.read(into)
 }

@@ -16,14 +16,14 @@ mod store;
 mod streams;
 
 pub use bytes::Bytes;
-pub use dump::{DumpFile, FileSink, Maker, Untold};
+pub use dump::{DumpFile, FileSink, Maker};
 pub use files::Files;
 pub use folder::{Entry, Folder, FolderStore, HostFile, HostFolder, Placed};
 pub use loose::Loose;
 pub use piece::{Piece, hex_digits, hex_number, shown_character};
 pub use sink::{Sink, put_all};
 pub use store::Store;
-pub use streams::{StderrSink, StdoutSink};
+pub use streams::{StderrSink, StdoutSink, Stream, Untold};
 
 /// A call of a store or a sink failed. Comes only where the count of faults of that object rose in the call.
 #[derive(Clone, Copy, PartialEq, Eq, Debug)]
