@@ -3,6 +3,7 @@ pub mod Effect
 pub mod Events
 pub mod Gates
 pub mod Reads
+pub mod Table
 pub mod Serve
 pub mod State
 pub mod Turn

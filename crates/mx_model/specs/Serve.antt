@@ -1,50 +1,25 @@
--- The supervisor's calls. For each: its tests in order with their codes, judged where the call takes effect, and its one effect.
+-- The supervisor's calls. For each: its tests, as the table lists them (Table), judged where the call takes effect, and its one effect.
 -- The rules: docs/MACHINE.md, "Supervisor calls".
-use Rattle.std.specs.Prelude.{ℕ, ◌+◌, ◌-◌, ◌*◌, ◌/◌, ◌%◌, ◌^◌, Bool, true, false, not, ◌==◌, ◌&&◌, ◌||◌, nat_lt, nat_le, List, [], ◌∷◌, length, take, drop, if◌then◌else◌, Option, Some, None, unwrap_or, is_none}
+use Rattle.std.specs.Prelude.{ℕ, ◌+◌, ◌-◌, ◌*◌, ◌%◌, ◌^◌, Bool, true, false, not, ◌==◌, ◌&&◌, ◌||◌, nat_lt, List, [], ◌∷◌, take, drop, if◌then◌else◌, Option, Some, None, unwrap_or}
 use Rattle.std.specs.Prelude.{map as list_map}
 use Rattle.std.specs.List.{list_all, range_with_len, prefix_len}
-use Rattle.mx_words.specs.declared.perm.Perm.{Perm}
 use Rattle.mx_words.specs.declared.perm.Perm.TheVariants as P
 use Rattle.mx_words.specs.declared.perm.Access.TheVariants as A
 use Rattle.mx_words.specs.Announced.{is_announced}
 use Rattle.mx_words.specs.Bytes.{number_at, put_at, cleared_at}
-use Rattle.mx_words.specs.FirstFit.{Area, place, with_block, without_block, block_words, most_blocks}
+use Rattle.mx_words.specs.FirstFit.{Area, place, with_block, without_block, block_words}
 use Rattle.mx_words.specs.FirstRow.{first_row}
-use Rattle.mx_words.specs.Limits.{most_bytes}
 use Rattle.mx_words.specs.Newest.{Give}
 use Rattle.mx_words.specs.Ranges.{ram_base, address_of, in_ram, is_range, range_words, overlaps}
 use Rattle.mx_words.specs.Rights.{number, from_number, allows}
 use Rattle.mx_model.specs.declared.values.Call.{Call}
 use Rattle.mx_model.specs.declared.values.Gate.{Gate}
 use Rattle.mx_model.specs.Checks.{Look, arg, call_range, drops, looked_all}
-use Rattle.mx_model.specs.Gates.{with_gate, without_gate, has_gate, no_gate_fits}
+use Rattle.mx_model.specs.Gates.{with_gate, without_gate}
+pub use Rattle.mx_model.specs.Table.{Service, Exit, Write, Grant, RevokeAll, Transfer, Alloc, Free, AddGate, RemoveGate, AddReturnGate, Query, Self, Exchange, Unknown, service, arg_word, write_words, change_of, to_one, none_but, own_alone, none_at_all}
+use Rattle.mx_model.specs.Table.{sight_of, tests}
 use Rattle.mx_model.specs.Reads.{Reads, Change}
-use Rattle.mx_model.specs.State.{Core, module_at, with_module, is_module}
-
--- the calls by their numbers
-pub data Service : Type 0 where
-  Exit : Service
-  Write : Service
-  Grant : Service
-  RevokeAll : Service
-  Transfer : Service
-  Alloc : Service
-  Free : Service
-  AddGate : Service
-  RemoveGate : Service
-  AddReturnGate : Service
-  Query : Service
-  Self : Service
-  Exchange : Service
-  Unknown : Service
-
-abbrev pub service : ℕ → Service
-service n =
-    if n == 1 then Exit else if n == 2 then Write else if n == 3 then Grant else
-    if n == 4 then RevokeAll else if n == 5 then Transfer else if n == 6 then Alloc else
-    if n == 7 then Free else if n == 8 then AddGate else if n == 9 then RemoveGate else
-    if n == 10 then AddReturnGate else if n == 11 then Query else if n == 12 then Self else
-    if n == 13 then Exchange else Unknown
+use Rattle.mx_model.specs.State.{Core, module_at, with_module}
 
 -- what a served call comes to: RAM, blocks, gates and caches afterwards; a change of rights; a give; bytes for the console; the answers in
 -- a0 and, for an exchange, in a1; and whether the hart ends
@@ -83,30 +58,9 @@ no_range c call = not (is_range (arg call 0) (arg call 1) c.size)
 abbrev pub is_word : Core → ℕ → Bool
 is_word c address = (address % 4 == 0) && in_ram address c.size
 
-abbrev pub arg_word : Call → ℕ
-arg_word call = (arg call 0 - ram_base) / 4
-
 -- whether the caller owns each word of a range
 abbrev pub owns : Reads → Call → ℕ × ℕ → Bool
 owns r call range = list_all (λ w. r.owner w == call.domain) (range_with_len range.0 range.1)
-
--- what a change gives each module (a change is asked for modules alone): a permission for one of them; none for all but the caller; read-write
--- for the caller and none for the others; none for all
-abbrev pub to_one : ℕ → Perm → ℕ → Option Perm
-to_one one p d = if d == one then Some p else None
-
-abbrev pub none_but : ℕ → ℕ → Option Perm
-none_but caller d = if d == caller then None else Some P.None
-
-abbrev pub own_alone : ℕ → ℕ → Option Perm
-own_alone caller d = Some (if d == caller then P.ReadWrite else P.None)
-
-abbrev pub none_at_all : ℕ → Option Perm
-none_at_all d = Some P.None
-
--- a change of a range's rights
-abbrev pub change_of : ℕ × ℕ → (ℕ → Option Perm) → Change
-change_of range given = record { first = range.0; count = range.1; given = given }
 
 -- a change of rights, answered by 0
 abbrev pub changes : Core → Change → Served
@@ -122,13 +76,6 @@ abbrev pub write_outside : Core → Call → Bool
 write_outside c call =
     nat_lt 0 (arg call 1) &&
     (nat_lt (arg call 0) ram_base || nat_lt (ram_base + 4 * c.size) (arg call 0 + arg call 1))
-
--- the touched words
-abbrev pub write_words : Call → List ℕ
-write_words call =
-    let first = (arg call 0 - ram_base) / 4 in
-    let behind = (arg call 0 + arg call 1 - ram_base + 3) / 4 in
-    if nat_lt 0 (arg call 1) then range_with_len first (behind - first) else []
 
 abbrev pub may_read : Reads → ℕ → ℕ → Bool
 may_read r d w = allows (r.perm d w) A.Read
@@ -149,7 +96,7 @@ abbrev pub written_out : Reads → Core → Call → Served
 written_out r c call =
     let looked = looked_all r call.hart (write_looks r call) c in
     judged looked
-    (first_row ((not (list_all (may_read r call.domain) (write_words call)), 12) ∷ []))
+    (first_row (drop 2 (tests Write (sight_of r c) call)))
     (record (answers looked (arg call 1)) { console = bytes_at c (arg call 0) (arg call 1) })
 
 abbrev pub write_from : Reads → Core → Call → Option ℕ → Served
@@ -159,7 +106,7 @@ write_from r c call None = written_out r c call
 abbrev pub serve_write : Reads → Core → Call → Served
 serve_write r c call =
     write_from r c call
-    (first_row ((nat_lt most_bytes (arg call 1), 11) ∷ (write_outside c call, 1) ∷ []))
+    (first_row (take 2 (tests Write (sight_of r c) call)))
 
 -- 3 grant
 abbrev pub grant_change : Core → Call → Change
@@ -168,12 +115,7 @@ grant_change c call =
 
 abbrev pub serve_grant : Reads → Core → Call → Served
 serve_grant r c call =
-    judged c (first_row (
-    (no_range c call, 1)
-    ∷ (not (is_module c (arg call 2)), 3)
-    ∷ (nat_lt 3 (arg call 3), 4)
-    ∷ (not (owns r call (arg_range c call)), 2)
-    ∷ (not (r.fits (grant_change c call)), 5) ∷ []))
+    judged c (first_row (tests Grant (sight_of r c) call))
     (changes c (grant_change c call))
 
 -- 4 revoke_all
@@ -182,10 +124,7 @@ revoke_change c call = change_of (arg_range c call) (none_but call.domain)
 
 abbrev pub serve_revoke_all : Reads → Core → Call → Served
 serve_revoke_all r c call =
-    judged c (first_row (
-    (no_range c call, 1)
-    ∷ (not (owns r call (arg_range c call)), 2)
-    ∷ (not (r.fits (revoke_change c call)), 5) ∷ []))
+    judged c (first_row (tests RevokeAll (sight_of r c) call))
     (changes c (revoke_change c call))
 
 -- 5 transfer: the caller's heap area stays its own
@@ -200,11 +139,7 @@ give_of c call =
 
 abbrev pub serve_transfer : Reads → Core → Call → Served
 serve_transfer r c call =
-    judged c (first_row (
-    (no_range c call || meets_heap c call, 1)
-    ∷ (nat_lt (length c.modules) (arg call 2), 3)
-    ∷ (not (owns r call (arg_range c call)), 2)
-    ∷ (not (r.few_runs (give_of c call)), 14) ∷ []))
+    judged c (first_row (tests Transfer (sight_of r c) call))
     (record (answers c 0) { give = Some (give_of c call) })
 
 -- the caller's module with other live blocks
@@ -236,11 +171,7 @@ alloc_from c call first None = allocated c call first
 abbrev pub serve_alloc : Reads → Core → Call → Served
 serve_alloc r c call =
     let first = unwrap_or (alloc_place c call) 0 in
-    alloc_from c call first (first_row (
-    (arg call 0 == 0, 1)
-    ∷ (is_none (alloc_place c call), 6)
-    ∷ (nat_le most_blocks (length (module_at c call.domain).blocks), 7)
-    ∷ (not (r.fits (alloc_change first call)), 5) ∷ []))
+    alloc_from c call first (first_row (tests Alloc (sight_of r c) call))
 
 -- 7 free
 abbrev pub freed_count : Core → Call → Option ℕ
@@ -253,9 +184,7 @@ free_change c call = change_of (arg_word call, unwrap_or (freed_count c call) 0)
 
 abbrev pub serve_free : Reads → Core → Call → Served
 serve_free r c call =
-    judged c (first_row (
-    (is_none (freed_count c call), 8)
-    ∷ (not (r.fits (free_change c call)), 5) ∷ []))
+    judged c (first_row (tests Free (sight_of r c) call))
     (changes (with_blocks call (without_block (arg_word call) (module_at c call.domain).blocks) c)
     (free_change c call))
 
@@ -273,39 +202,25 @@ adds c g = answers (record c { gates = with_gate g c.gates }) 0
 -- 8 gate: into the caller, for another domain
 abbrev pub serve_gate : Reads → Core → Call → Served
 serve_gate r c call =
-    judged c (first_row (
-    (no_word c call, 1)
-    ∷ (not (is_module c (arg call 1)) || (arg call 1 == call.domain), 3)
-    ∷ (foreign_word r call, 2)
-    ∷ (no_gate_fits c.gates (arg call 1) (arg_word call), 9) ∷ []))
+    judged c (first_row (tests AddGate (sight_of r c) call))
     (adds c (record { domain = arg call 1; word = arg_word call; target = call.domain }))
 
 -- 9 ungate
 abbrev pub serve_ungate : Reads → Core → Call → Served
 serve_ungate r c call =
-    judged c (first_row (
-    (no_word c call, 1)
-    ∷ (not (is_module c (arg call 1)), 3)
-    ∷ (foreign_word r call, 2)
-    ∷ (not (has_gate c.gates (arg call 1) (arg_word call)), 15) ∷ []))
+    judged c (first_row (tests RemoveGate (sight_of r c) call))
     (answers (record c { gates = without_gate (arg call 1) (arg_word call) c.gates }) 0)
 
 -- 10 return_gate
 abbrev pub serve_return_gate : Reads → Core → Call → Served
 serve_return_gate r c call =
-    judged c (first_row (
-    (no_word c call, 1)
-    ∷ (foreign_word r call, 2)
-    ∷ (no_gate_fits c.gates call.domain (arg_word call), 9) ∷ []))
+    judged c (first_row (tests AddReturnGate (sight_of r c) call))
     (adds c (record { domain = call.domain; word = arg_word call; target = call.domain }))
 
 -- 11 query: the permission's number, read from no cache and counted nowhere
 abbrev pub serve_query : Reads → Core → Call → Served
 serve_query r c call =
-    judged c (first_row (
-    (no_word c call, 1)
-    ∷ (not (is_module c (arg call 1)), 3)
-    ∷ (not (arg call 1 == call.domain) && foreign_word r call, 2) ∷ []))
+    judged c (first_row (tests Query (sight_of r c) call))
     (answers c (number (r.perm (arg call 1) (arg_word call))))
 
 -- 12 self
@@ -316,7 +231,7 @@ serve_self c call = answers c (256 * call.hart + call.domain)
 abbrev pub exchanged : Reads → Core → Call → Served
 exchanged r c call =
     let looked = looked_all r call.hart (look_of call.domain (arg_word call) ∷ []) c in
-    judged looked (first_row ((not (allows (r.perm call.domain (arg_word call)) A.Write), 12) ∷ []))
+    judged looked (first_row (drop 1 (tests Exchange (sight_of r c) call)))
     (record (answers (record looked { ram = put_at c.ram (4 * arg_word call) 4 (arg call 1) }) 0) {
       a1 = Some (number_at c.ram (4 * arg_word call) 4);
     })
@@ -326,7 +241,7 @@ exchange_from r c call (Some n) = answers c (code n)
 exchange_from r c call None = exchanged r c call
 
 abbrev pub serve_exchange : Reads → Core → Call → Served
-serve_exchange r c call = exchange_from r c call (first_row ((no_word c call, 1) ∷ []))
+serve_exchange r c call = exchange_from r c call (first_row (take 1 (tests Exchange (sight_of r c) call)))
 
 -- a call of each kind
 abbrev pub served_by : Service → Reads → Core → Call → Served

@@ -1,77 +1,21 @@
 -- Refused calls: the tests of each call with their codes, in order, and what a refused one leaves.
 -- The rules: docs/MACHINE.md, "Supervisor calls".
-use Rattle.std.specs.Prelude.{◌≡◌, ◌↔◌, ℕ, ◌≤◌, true, false, not, ◌==◌, ◌&&◌, ◌||◌, nat_lt, nat_le, List, [], ◌∷◌, length, slice_set, if◌then◌else◌, Option, Some, None, unwrap_or, is_none}
-use Rattle.std.specs.List.{list_all}
-use Rattle.mx_words.specs.declared.perm.Access.TheVariants as A
+use Rattle.std.specs.Prelude.{◌≡◌, ◌↔◌, ℕ, ◌≤◌, false, List, [], slice_set, if◌then◌else◌, Option, Some, None, is_none}
 use Rattle.mx_words.specs.Caches.{Cache}
-use Rattle.mx_words.specs.FirstFit.{most_blocks}
 use Rattle.mx_words.specs.FirstRow.{Row, first_row}
-use Rattle.mx_words.specs.Limits.{most_bytes}
-use Rattle.mx_words.specs.Rights.{allows}
 use Rattle.mx_model.specs.declared.values.Call.{Call}
 use Rattle.mx_model.specs.declared.values.TurnKind.TheVariants as T
-use Rattle.mx_model.specs.Checks.{arg}
 use Rattle.mx_model.specs.Effect.{next, reg}
-use Rattle.mx_model.specs.Gates.{has_gate, no_gate_fits}
 use Rattle.mx_model.specs.Reads.{Reads}
-use Rattle.mx_model.specs.Serve.{Service, Exit, Write, Grant, RevokeAll, Transfer, Alloc, Free, AddGate, RemoveGate, AddReturnGate, Query, Self, Exchange, Unknown, alloc_change, alloc_place, arg_range, arg_word, code, foreign_word, free_change, freed_count, give_of, grant_change, may_read, meets_heap, no_range, no_word, owns, revoke_change, serve, service, write_outside, write_words}
-use Rattle.mx_model.specs.State.{Core, Running, hart_at, is_module, module_at, with_cache}
+use Rattle.mx_model.specs.Serve.{Service, code, serve, service}
+use Rattle.mx_model.specs.Table.{sight_of, tests}
+use Rattle.mx_model.specs.State.{Core, Running, hart_at, with_cache}
 use Rattle.mx_model.specs.Turn.{Action, Asks, Serves, counted, decide, heard_first, is_served_now, turned}
 use Rattle.mx_laws.specs.After.{hart_after, kind_of}
 
 -- the tests of a call, in order: whether each fails, and the code that it then gives
 abbrev pub rows_of : Service → Reads → Core → Call → List (Row ℕ)
-rows_of Exit r c call = (call.nested, 10) ∷ []
-rows_of Write r c call =
-    (nat_lt most_bytes (arg call 1), 11)
-    ∷ (write_outside c call, 1)
-    ∷ (not (list_all (may_read r call.domain) (write_words call)), 12) ∷ []
-rows_of Grant r c call =
-    (no_range c call, 1)
-    ∷ (not (is_module c (arg call 2)), 3)
-    ∷ (nat_lt 3 (arg call 3), 4)
-    ∷ (not (owns r call (arg_range c call)), 2)
-    ∷ (not (r.fits (grant_change c call)), 5) ∷ []
-rows_of RevokeAll r c call =
-    (no_range c call, 1)
-    ∷ (not (owns r call (arg_range c call)), 2)
-    ∷ (not (r.fits (revoke_change c call)), 5) ∷ []
-rows_of Transfer r c call =
-    (no_range c call || meets_heap c call, 1)
-    ∷ (nat_lt (length c.modules) (arg call 2), 3)
-    ∷ (not (owns r call (arg_range c call)), 2)
-    ∷ (not (r.few_runs (give_of c call)), 14) ∷ []
-rows_of Alloc r c call =
-    (arg call 0 == 0, 1)
-    ∷ (is_none (alloc_place c call), 6)
-    ∷ (nat_le most_blocks (length (module_at c call.domain).blocks), 7)
-    ∷ (not (r.fits (alloc_change (unwrap_or (alloc_place c call) 0) call)), 5) ∷ []
-rows_of Free r c call =
-    (is_none (freed_count c call), 8)
-    ∷ (not (r.fits (free_change c call)), 5) ∷ []
-rows_of AddGate r c call =
-    (no_word c call, 1)
-    ∷ (not (is_module c (arg call 1)) || (arg call 1 == call.domain), 3)
-    ∷ (foreign_word r call, 2)
-    ∷ (no_gate_fits c.gates (arg call 1) (arg_word call), 9) ∷ []
-rows_of RemoveGate r c call =
-    (no_word c call, 1)
-    ∷ (not (is_module c (arg call 1)), 3)
-    ∷ (foreign_word r call, 2)
-    ∷ (not (has_gate c.gates (arg call 1) (arg_word call)), 15) ∷ []
-rows_of AddReturnGate r c call =
-    (no_word c call, 1)
-    ∷ (foreign_word r call, 2)
-    ∷ (no_gate_fits c.gates call.domain (arg_word call), 9) ∷ []
-rows_of Query r c call =
-    (no_word c call, 1)
-    ∷ (not (is_module c (arg call 1)), 3)
-    ∷ (not (arg call 1 == call.domain) && foreign_word r call, 2) ∷ []
-rows_of Self r c call = []
-rows_of Exchange r c call =
-    (no_word c call, 1)
-    ∷ (not (allows (r.perm call.domain (arg_word call)) A.Write), 12) ∷ []
-rows_of Unknown r c call = (true, 13) ∷ []
+rows_of which r c call = tests which (sight_of r c) call
 
 -- the code of the first test that fails
 abbrev pub refusal : Reads → Core → Call → Option ℕ

@@ -1,24 +1,22 @@
 -- A served call when its caches are forgotten.
-use Rattle.std.proofs.Common.{◌≡◌, ℕ, Bool, true, false, not, List, [], ◌∷◌, refl, ◌∙◌, ap, nat_lt, if◌then◌else◌, Option, Some, None, unwrap_or}
-use Rattle.std.specs.List.{list_all}
+use Rattle.std.proofs.Common.{◌≡◌, ℕ, Bool, true, false, not, List, [], ◌∷◌, drop, refl, ◌∙◌, ap, nat_lt, if◌then◌else◌, Option, Some, None, unwrap_or}
 use Rattle.std.specs.Option.{option_map_or}
-use Rattle.mx_words.specs.declared.perm.Access.TheVariants as A
 use Rattle.mx_words.specs.Announced.{is_announced}
 use Rattle.mx_words.specs.Caches.{Cache}
 use Rattle.mx_words.specs.FirstRow.{first_row}
-use Rattle.mx_words.specs.Rights.{allows}
 use Rattle.mx_model.specs.declared.values.Call.{Call}
 use Rattle.mx_model.specs.declared.values.Note.TheVariants as N
 use Rattle.mx_model.specs.declared.values.TurnKind.TheVariants as T
 use Rattle.mx_model.specs.Checks.{arg, call_range, drops, looked_all}
 use Rattle.mx_model.specs.Effect.{next}
 use Rattle.mx_model.specs.Reads.{reads}
-use Rattle.mx_model.specs.Serve.{Served, Service, Exit, Write, Grant, RevokeAll, Transfer, Alloc, Free, AddGate, RemoveGate, AddReturnGate, Query, Self, Exchange, Unknown, alloc_from, answers, arg_word, bytes_at, code, ended, exchange_from, exchanged, judged, look_of, may_read, served_by, service, write_from, write_looks, write_words, written_out}
+use Rattle.mx_model.specs.Serve.{Served, Service, Exit, Write, Grant, RevokeAll, Transfer, Alloc, Free, AddGate, RemoveGate, AddReturnGate, Query, Self, Exchange, Unknown, alloc_from, answers, arg_word, bytes_at, code, ended, exchange_from, exchanged, judged, look_of, served_by, service, write_from, write_looks, written_out}
 use Rattle.mx_model.specs.State.{Core, Hart, State, hart_at}
+use Rattle.mx_model.specs.Table.{bytes_outside, is_word, new_block, tests}
 use Rattle.mx_model.specs.Turn.{answered, done, halted, made, served, with_regs}
 use Rattle.mx_model.proofs.TurnCases.{looked_all-caches}
-use Rattle.mx_uncached.specs.Plain.{Plain, may}
-use Rattle.mx_uncached.specs.Calls.{answer, bytes_outside, does, exchange, is_word, new_block, tests}
+use Rattle.mx_uncached.specs.Plain.{Plain}
+use Rattle.mx_uncached.specs.Calls.{answer, does, exchange, sight}
 use Rattle.mx_uncached.specs.Calls.{serve as plain_serve}
 use Rattle.mx_uncached.specs.Forgetting.{plain}
 use Rattle.mx_uncached.proofs.LeafLaws.{at, ends, gave, noted, quiet, told}
@@ -80,12 +78,12 @@ cached s k = record s.core { caches = k }
 wrote : (s : State) (k : List Cache) (h : ℕ) (call : Call) →
     done_at s h (hart_at s.core h) (written_out (reads s) (cached s k) call)
     ≡ option_map_or (λ n. answer h (code n) (plain s))
-    (first_row ((not (list_all (may (plain s) call.domain A.Read) (write_words call)), 12) ∷ []))
+    (first_row (drop 2 (tests Write (sight (plain s)) call)))
     (does Write h call (plain s))
 wrote s k h call =
     let r = reads s in
     let c = cached s k in
-    let test = first_row ((not (list_all (may_read r call.domain) (write_words call)), 12) ∷ []) in
+    let test = first_row (drop 2 (tests Write (sight (plain s)) call)) in
     ap (λ (x : Core). done_at s h (hart_at s.core h)
     (judged x test (record (answers x (arg call 1)) { console = bytes_at s.core (arg call 0) (arg call 1) })))
     (looked_all-caches r call.hart (write_looks r call) c)
@@ -96,8 +94,7 @@ wrote s k h call =
 write-done : (s : State) (k : List Cache) (h : ℕ) (call : Call) (long outside : Bool) →
     done_at s h (hart_at s.core h) (write_from (reads s) (cached s k) call (first_row ((long, 11) ∷ (outside, 1) ∷ [])))
     ≡ option_map_or (λ n. answer h (code n) (plain s))
-    (first_row
-    ((long, 11) ∷ (outside, 1) ∷ (not (list_all (may (plain s) call.domain A.Read) (write_words call)), 12) ∷ []))
+    (first_row ((long, 11) ∷ (outside, 1) ∷ drop 2 (tests Write (sight (plain s)) call)))
     (does Write h call (plain s))
 write-done s k h call true outside = refused s (cached s k) h 11
 write-done s k h call false true = refused s (cached s k) h 1
@@ -107,17 +104,17 @@ write-done s k h call false false = wrote s k h call
 swapped : (s : State) (k : List Cache) (h : ℕ) (call : Call) →
     done_at s h (hart_at s.core h) (exchanged (reads s) (cached s k) call)
     ≡ option_map_or (λ n. answer h (code n) (plain s))
-    (first_row ((not (may (plain s) call.domain A.Write (arg_word call)), 12) ∷ [])) (exchange h call (plain s))
+    (first_row (drop 1 (tests Exchange (sight (plain s)) call))) (exchange h call (plain s))
 swapped s k h call =
     let r = reads s in
     let looks = look_of call.domain (arg_word call) ∷ [] in
-    let test = first_row ((not (allows (r.perm call.domain (arg_word call)) A.Write), 12) ∷ []) in
+    let test = first_row (drop 1 (tests Exchange (sight (plain s)) call)) in
     judged-done s (cached s (looked_all r call.hart looks (cached s k)).caches) h test _ _ (quiet _)
 
 exchange-done : (s : State) (k : List Cache) (h : ℕ) (call : Call) (outside : Bool) →
     done_at s h (hart_at s.core h) (exchange_from (reads s) (cached s k) call (first_row ((outside, 1) ∷ [])))
     ≡ option_map_or (λ n. answer h (code n) (plain s))
-    (first_row ((outside, 1) ∷ (not (may (plain s) call.domain A.Write (arg_word call)), 12) ∷ []))
+    (first_row ((outside, 1) ∷ drop 1 (tests Exchange (sight (plain s)) call)))
     (exchange h call (plain s))
 exchange-done s k h call true = refused s (cached s k) h 1
 exchange-done s k h call false = swapped s k h call
@@ -125,23 +122,23 @@ exchange-done s k h call false = swapped s k h call
 -- each call
 service-done : (s : State) (k : List Cache) (h : ℕ) (call : Call) (which : Service) →
     done_at s h (hart_at s.core h) (served_by which (reads s) (cached s k) call)
-    ≡ option_map_or (λ n. answer h (code n) (plain s)) (first_row (tests which (plain s) call))
+    ≡ option_map_or (λ n. answer h (code n) (plain s)) (first_row (tests which (sight (plain s)) call))
     (does which h call (plain s))
 service-done s k h call Exit = judged-done s (cached s k) h _ _ _ (noted _)
-service-done s k h call Write = write-done s k h call (nat_lt 4096 (arg call 1)) (bytes_outside (plain s) call)
+service-done s k h call Write = write-done s k h call (nat_lt 4096 (arg call 1)) (bytes_outside (sight (plain s)) call)
 service-done s k h call Grant = judged-done s (cached s k) h _ _ _ (quiet _)
 service-done s k h call RevokeAll = judged-done s (cached s k) h _ _ _ (quiet _)
 service-done s k h call Transfer = judged-done s (cached s k) h _ _ _ (gave _)
 service-done s k h call Alloc =
-    alloc-done s (cached s k) h call (unwrap_or (new_block (plain s) call) 0)
-    (first_row (tests Alloc (plain s) call)) _ (quiet _)
+    alloc-done s (cached s k) h call (unwrap_or (new_block (sight (plain s)) call) 0)
+    (first_row (tests Alloc (sight (plain s)) call)) _ (quiet _)
 service-done s k h call Free = judged-done s (cached s k) h _ _ _ (quiet _)
 service-done s k h call AddGate = judged-done s (cached s k) h _ _ _ (quiet _)
 service-done s k h call RemoveGate = judged-done s (cached s k) h _ _ _ (quiet _)
 service-done s k h call AddReturnGate = judged-done s (cached s k) h _ _ _ (quiet _)
 service-done s k h call Query = judged-done s (cached s k) h _ _ _ (quiet _)
 service-done s k h call Self = quiet _
-service-done s k h call Exchange = exchange-done s k h call (not (is_word (plain s) call))
+service-done s k h call Exchange = exchange-done s k h call (not (is_word (sight (plain s)) call))
 service-done s k h call Unknown = quiet _
 
 -- a call takes effect

@@ -1,7 +1,7 @@
--- The plain machine: the whole machine but for its caches. Read this first, then Calls, then Turn.
+-- The plain machine: the whole machine but for its caches. Read this first, then Table of mx_model, then Calls, then Turn.
 -- Here: its state, what is read of it, and the small steps of which calls and turns are made.
 -- The same in prose: docs/ABSTRACT.md.
-use Rattle.std.specs.Prelude.{ℕ, ◌-◌, Bool, not, ◌&&◌, nat_lt, nat_le, List, [], ◌∷◌, ◌++◌, length, slice_index_or, slice_set, if◌then◌else◌, Option}
+use Rattle.std.specs.Prelude.{ℕ, ◌-◌, Bool, not, nat_lt, nat_le, List, [], ◌∷◌, ◌++◌, slice_index_or, slice_set, if◌then◌else◌, Option}
 use Rattle.std.specs.Prelude.{map as list_map}
 use Rattle.std.specs.Option.{option_map_or}
 use Rattle.mx_words.specs.declared.perm.Perm.{Perm}
@@ -54,17 +54,9 @@ plain_hart p h = slice_index_or p.harts h no_hart
 abbrev pub module_of : Plain → ℕ → Module
 module_of p d = slice_index_or p.modules (d - 1) no_module
 
--- whether d is a module's number
-abbrev pub is_module : Plain → ℕ → Bool
-is_module p d = nat_le 1 d && nat_le d (length p.modules)
-
 -- the permission of domain d on a word: its newest grant there decides
 abbrev pub perm_of : Plain → ℕ → ℕ → Perm
 perm_of p d word = if nat_lt word p.size then at (grants_of p.grants d) word else P.None
-
--- whether domain d may make an access to a word
-abbrev pub may : Plain → ℕ → Access → ℕ → Bool
-may p d access word = allows (perm_of p d word) access
 
 -- whether domain d is denied an access at an address; outside RAM it is
 abbrev pub is_denied : Plain → ℕ → Access → ℕ → Bool
