@@ -11,6 +11,10 @@ use std::alloc::Global;
 pub enum Program {
     /// Load, add, mul, store, add and branch.
     Compute,
+    /// Pairs of add and a branch that is taken.
+    Taken,
+    /// Pairs of add and a branch that isn't.
+    Passed,
     /// A call through a gate and back.
     Gates,
     /// Alloc, store and free of 16 words.
@@ -24,6 +28,8 @@ impl Program {
     pub fn named(name: &str) -> Option<Program> {
         match name {
             "compute" => Some(Program::Compute),
+            "taken" => Some(Program::Taken),
+            "passed" => Some(Program::Passed),
             "gates" => Some(Program::Gates),
             "blocks" => Some(Program::Blocks),
             "grants" => Some(Program::Grants),
@@ -35,6 +41,8 @@ impl Program {
     fn words(self) -> &'static [u32] {
         match self {
             Program::Compute => &COMPUTE,
+            Program::Taken => &TAKEN,
+            Program::Passed => &PASSED,
             Program::Gates => &GATES,
             Program::Blocks => &BLOCKS,
             Program::Grants => &GRANTS,
@@ -51,6 +59,48 @@ static COMPUTE: [u32; 7] = [
     0x0085_2023,
     0x0012_8293,
     0xFE02_96E3,
+];
+
+// eight times addi x5, x5, 1; bne x5, x0, .+4; then jal x0, .-64
+static TAKEN: [u32; 17] = [
+    0x0012_8293,
+    0x0002_9263,
+    0x0012_8293,
+    0x0002_9263,
+    0x0012_8293,
+    0x0002_9263,
+    0x0012_8293,
+    0x0002_9263,
+    0x0012_8293,
+    0x0002_9263,
+    0x0012_8293,
+    0x0002_9263,
+    0x0012_8293,
+    0x0002_9263,
+    0x0012_8293,
+    0x0002_9263,
+    0xFC1F_F06F,
+];
+
+// eight times addi x5, x5, 1; beq x5, x0, .+4; then jal x0, .-64
+static PASSED: [u32; 17] = [
+    0x0012_8293,
+    0x0002_8263,
+    0x0012_8293,
+    0x0002_8263,
+    0x0012_8293,
+    0x0002_8263,
+    0x0012_8293,
+    0x0002_8263,
+    0x0012_8293,
+    0x0002_8263,
+    0x0012_8293,
+    0x0002_8263,
+    0x0012_8293,
+    0x0002_8263,
+    0x0012_8293,
+    0x0002_8263,
+    0xFC1F_F06F,
 ];
 
 // lui x6, 0x8000C; jalr x1, 0(x6); jal x0, .-4

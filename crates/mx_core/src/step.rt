@@ -198,17 +198,8 @@ fn go_to(target: u32) -> Outcome
     if target % 4 == 0 {
         Outcome::Next(target)
     } else {
-        misaligned(target)
+        trap_by(0, target)
     }
-}
-
-// A call, so that a branch that is taken needn't choose between two outcomes.
-#[cold]
-#[inline(never)]
-fn misaligned(target: u32) -> Outcome
-    ensures { result ≡ trap 0 target }
-{
-    trap_by(0, target)
 }
 
 // JAL or JALR to a target.
