@@ -1,5 +1,5 @@
 -- Laws of what has left for the sink and what is held.
-use Rattle.std.proofs.Common.{◌≡◌, ℕ, ◌+◌, ◌*◌, ◌/◌, ◌<◌, List, [], ◌∷◌, ◌++◌, length, get_or, take, drop, refl, sym, ap, ◌∙◌, subst, arith, append_assoc, length-append, length-take, Result, Ok, Err}
+use Rattle.std.proofs.Common.{◌≡◌, ℕ, ◌+◌, ◌*◌, ◌/◌, ◌<◌, List, [], ◌∷◌, ◌++◌, length, get_or, take, drop, refl, sym, ap, ◌∙◌, subst, arith, append_assoc, length-append, length-take, Result, IsOk, OnOk, Ok, Err}
 use Rattle.std.proofs.lemmas.List.{take-append-drop, append-nil, drop_all, drop_more}
 use Rattle.std.proofs.Math.Seq.{take-append-add, drop-append-add}
 use Rattle.mx_io.proofs.Puts.{puts_same}
@@ -121,3 +121,13 @@ adding_stop {d = d} {u = u} rest {e} l p = l.then d u (Err e) (adds_stop d rest 
 
 pub adding_none : {b c : List ℕ} {s t : SinkState} {all : List ℕ} → Adding b s all c t [] → length c < 4096 → Adds {A = Unit {0}} {E = Failed} b s t c all (Ok (tt {0}))
 adding_none {c = c} {t = t} l h = l.then c t (Ok (tt {0})) (adds_nothing c t h)
+
+-- bytes that leave it short of a piece were added, and are held
+pub put_held : {A E : Type 0} (b xs c : List ℕ) (s : SinkState) {a : A} → c ≡ b ++ xs → length b + length xs < 4096 → Adds {A = A} {E = E} b s s c xs (Ok a)
+put_held b xs c s e h =
+    let few : length (b ++ xs) < 4096 = omega (arith, length-append b xs, h) in
+    record { left = puts_same (sym (sent_short (b ++ xs) few)) (puts_nothing s); kept = e ∙ sym (held_short (b ++ xs) few) }
+
+pub is_ok_on : {A E P : Type 0} (r : Result A E) → IsOk r → OnOk r P → P
+is_ok_on (Ok a) h p = p
+is_ok_on (Err e) h p = absurd (let q : ⊥ = cc h in q)

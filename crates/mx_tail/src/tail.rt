@@ -77,6 +77,21 @@ impl Tail {
             bytes.now result }
         ensures few { length self.new < piece_bytes }
     {
+        if bytes.len() < PIECE - self.bytes.len() {
+            // They fit.
+            let _ = self.bytes.try_extend_from_slice(bytes);
+            return Ok(());
+        }
+        self.put_each(sink, bytes)
+    }
+
+    // Adds bytes one after another.
+    #[cold]
+    fn put_each<C: Sink>(&mut self, sink: &mut C, bytes: &[u8]) -> Result<(), Failed>
+        ensures adds { Adds self.old (C.state sink.old) (C.state sink.new) self.new
+            bytes.now result }
+        ensures few { length self.new < piece_bytes }
+    {
         // No effect at run time. The proof reads from it that fewer than 4096 bytes are held.
         let _ = &self.bytes;
         for byte in bytes {

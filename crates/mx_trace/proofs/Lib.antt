@@ -1,2 +1,4 @@
 pub mod Examples
 pub mod LineLaws
+pub mod DidLaws
+mod DidExamples

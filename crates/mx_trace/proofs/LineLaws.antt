@@ -1,17 +1,24 @@
--- The line of a turn, part by part.
-use Rattle.std.proofs.Common.{◌≡◌, ℕ, List, [], ◌++◌, codes, decimal, Option, append_assoc}
+-- Texts put before what was there.
+use Rattle.std.proofs.Common.{◌≡◌, ℕ, ◌≤◌, List, [], ◌++◌, length, sym, ap, ◌∙◌, arith, append_assoc}
+use Rattle.std.proofs.lemmas.List.{append-nil}
 use Rattle.mx_model.specs.declared.values.TurnKind.{TurnKind}
-use Rattle.mx_trace.specs.declared.lines.Seen.{Seen}
-use Rattle.mx_trace.specs.Lines.{kind_name, place_text, seen_inst, shown_text, turn_line}
+use Rattle.mx_model.specs.declared.values.TurnKind.TheVariants as T
+use Rattle.mx_trace.specs.Lines.{kind_name}
 
--- up to the place, and a word between blanks
-abbrev pub head : ℕ → ℕ → List ℕ
-head step hart = codes "turn " ++ (decimal step ++ (codes " " ++ (decimal hart ++ (codes " " ++ []))))
+-- a text that was put where nothing was
+pub text_alone : {text line old whole : List ℕ} → whole ≡ line → line ≡ text ++ old → old ≡ [] → whole ≡ text
+text_alone {text} e f g = e ∙ f ∙ ap (λ xs. text ++ xs) g ∙ append-nil text
 
-abbrev pub between : List ℕ → List ℕ
-between word = codes " " ++ (word ++ (codes " " ++ []))
+-- a part was put before others
+pub part_put : (part rest old : List ℕ) {line next : List ℕ} → line ≡ rest ++ old → next ≡ part ++ line → next ≡ (part ++ rest) ++ old
+part_put part rest old e f = f ∙ ap (λ xs. part ++ xs) e ∙ sym (append_assoc part rest old)
 
-pub turn_parts : (step hart : ℕ) (before : Option Seen) (kind : TurnKind)
-    → turn_line step hart before kind ≡ head step hart ++ (place_text before ++ (between (kind_name kind) ++ (shown_text (seen_inst before) ++ (codes "\n" ++ []))))
-unfolding turn_line
-turn_parts step hart before kind = simp append_assoc
+-- the longest names of kinds
+pub kind_few : (kind : TurnKind) → length (kind_name kind) ≤ 8
+kind_few T.Idle = omega arith
+kind_few T.Waited = omega arith
+kind_few T.Ran = omega arith
+kind_few T.Crossed = omega arith
+kind_few T.Returned = omega arith
+kind_few T.Trapped = omega arith
+kind_few T.Called = omega arith

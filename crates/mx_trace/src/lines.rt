@@ -1,15 +1,16 @@
 //! The line of a turn.
-ghost use Rattle.std.specs.Prelude.{◌≡◌, ◌<◌, length, IfSome};
+ghost use Rattle.std.specs.Prelude.{◌≡◌, ◌+◌, ◌<◌, ◌≤◌, ◌++◌, length, IfSome};
 ghost use Rattle.mx_isa.specs.Ranges.{IsValid};
 ghost use Rattle.mx_io.specs.Sink.{Puts};
 ghost use Rattle.mx_tail.specs.Tail.{Passes, piece_bytes};
 ghost use Rattle.mx_trace.specs.Lines.{kind_name, place_text, seen_inst, shown_text, turn_line};
 
+use crate::line::Line;
 use crate::text::put_inst;
-use mx_io::{Failed, Piece, Sink};
+use mx_io::{Failed, Sink, put_all};
 use mx_isa::Inst;
 use mx_model::TurnKind;
-use mx_tail::{Tail, put_pieces};
+use mx_tail::Tail;
 
 /// What is seen of a hart before its turn.
 #[derive(Clone, Copy, PartialEq, Eq)]
@@ -51,9 +52,9 @@ pub fn turn_line<R: Sink>(
     requires { IfSome (seen_inst before) IsValid }
     ensures { Puts (R.state sink.old) (R.state sink.new) (turn_line step hart before kind) result }
 {
-    let mut tail = Tail::new();
-    put_turn(&mut tail, sink, step, hart, before, kind)?;
-    tail.end(sink)
+    let mut line = Line::<128>::new();
+    put_parts(&mut line, step, hart, before, kind);
+    put_all(sink, line.as_slice())
 }
 
 /// Puts the line of a turn through a buffer.
@@ -70,57 +71,57 @@ pub fn put_turn<R: Sink>(
         (turn_line step hart before kind) result }
     ensures few { length tail.new < piece_bytes }
 {
-    put_pieces(
-        tail,
-        sink,
-        &[
-            Piece::Text("turn "),
-            Piece::Number(step),
-            Piece::Text(" "),
-            Piece::Number(hart as u64),
-            Piece::Text(" "),
-        ],
-    )?;
-    put_place(tail, sink, before)?;
-    put_pieces(
-        tail,
-        sink,
-        &[
-            Piece::Text(" "),
-            Piece::Text(kind_name(kind)),
-            Piece::Text(" "),
-        ],
-    )?;
-    put_shown(tail, sink, before)?;
-    put_pieces(tail, sink, &[Piece::Text("\n")])
+    let mut line = Line::<128>::new();
+    put_parts(&mut line, step, hart, before, kind);
+    tail.put(sink, line.as_slice())
+}
+
+/// The line, before what is there: the last part is put first.
+#[tactic(auto, unfolding(crate::specs::Lines::turn_line))]
+fn put_parts<const N: usize>(
+    line: &mut Line<N>,
+    step: u64,
+    hart: u32,
+    before: Option<Seen>,
+    kind: TurnKind,
+)
+    requires { 113 + length line.old ≤ N }
+    ensures { line.new ≡ turn_line step hart before kind ++ line.old }
+{
+    line.put_text("\n");
+    put_shown(line, before);
+    line.put_text(" ");
+    line.put_text(kind_name(kind));
+    line.put_text(" ");
+    put_place(line, before);
+    line.put_text(" ");
+    line.put_number(hart);
+    line.put_text(" ");
+    line.put_long(step);
+    line.put_text("turn ");
 }
 
 /// The domain and pc of a hart before its turn.
-fn put_place<R: Sink>(tail: &mut Tail, sink: &mut R, before: Option<Seen>) -> Result<(), Failed>
-    ensures passes { Passes tail.old (R.state sink.old) (R.state sink.new) tail.new
-        (place_text before) result }
-    ensures few { length tail.new < piece_bytes }
+fn put_place<const N: usize>(line: &mut Line<N>, before: Option<Seen>)
+    requires { 21 + length line.old ≤ N }
+    ensures text { line.new ≡ place_text before ++ line.old }
+    ensures few { length line.new ≤ 21 + length line.old }
 {
     match before {
-        None => put_pieces(tail, sink, &[Piece::Text("- -")]),
-        Some(seen) => put_pieces(
-            tail,
-            sink,
-            &[
-                Piece::Number(seen.domain as u64),
-                Piece::Text(" "),
-                Piece::Hex(seen.pc),
-            ],
-        ),
+        None => line.put_text("- -"),
+        Some(seen) => {
+            line.put_hex(seen.pc);
+            line.put_text(" ");
+            line.put_number(seen.domain);
+        }
     }
 }
 
 /// The text of the instruction that stands at its pc.
-fn put_shown<R: Sink>(tail: &mut Tail, sink: &mut R, before: Option<Seen>) -> Result<(), Failed>
-    requires { IfSome (seen_inst before) IsValid }
-    ensures passes { Passes tail.old (R.state sink.old) (R.state sink.new) tail.new
-        (shown_text (seen_inst before)) result }
-    ensures few { length tail.new < piece_bytes }
+fn put_shown<const N: usize>(line: &mut Line<N>, before: Option<Seen>)
+    requires { 44 + length line.old ≤ N }
+    ensures text { line.new ≡ shown_text (seen_inst before) ++ line.old }
+    ensures few { length line.new ≤ 44 + length line.old }
 {
     match before {
         Some(
@@ -128,7 +129,7 @@ fn put_shown<R: Sink>(tail: &mut Tail, sink: &mut R, before: Option<Seen>) -> Re
                 inst: Some(inst),
                 ..
             },
-        ) => put_inst(tail, sink, &inst),
-        _ => put_pieces(tail, sink, &[Piece::Text("-")]),
+        ) => put_inst(line, &inst),
+        _ => line.put_text("-"),
     }
 }

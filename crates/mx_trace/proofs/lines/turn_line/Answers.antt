@@ -1,11 +1,6 @@
-use Rattle.std.proofs.lemmas.Result.{err_from_is_err_and}
-use Rattle.mx_tail.proofs.PassLaws.{whole_end, whole_stop}
+use Rattle.mx_io.proofs.Puts.{puts_same}
+use Rattle.mx_trace.proofs.LineLaws.{text_alone}
 use Rattle.mx_trace.proofs.lines.turn_line.Goals as goal
 
-pub returns-in_err-put_turn : goal.returns-in_err-put_turn
-returns-in_err-put_turn g c =
-    let p = err_from_is_err_and c.from_residual.result c.from_residual.ensures.1 in
-    rw (p.1, p.2) (whole_stop c.new-tail.ensures c.in_err-put_turn.ensures.passes)
-
 pub returns : goal.returns
-returns g c = whole_end c.new-tail.ensures c.in_ok-put_turn.ensures.passes c.end.ensures.puts
+returns g c = puts_same (text_alone c.as_slice.ensures c.put_parts.ensures c.new-line.ensures) c.put_all.ensures

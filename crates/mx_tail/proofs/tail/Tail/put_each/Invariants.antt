@@ -1,6 +1,6 @@
 use Rattle.std.proofs.Common.{◌<◌, length, drop}
 use Rattle.mx_tail.proofs.TailLaws.{Adding}
-use Rattle.mx_tail.proofs.tail.Tail.put.Given as goal
+use Rattle.mx_tail.proofs.tail.Tail.put_each.Given as goal
 
 abbrev pub invariant-loop-byte : goal.invariant-loop-byte
 invariant-loop-byte g l = record {

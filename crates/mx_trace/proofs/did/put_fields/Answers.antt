@@ -1,0 +1,6 @@
+use Rattle.mx_trace.proofs.DidLaws.{fields_before}
+use Rattle.mx_trace.proofs.did.put_fields.Goals as goal
+
+pub returns-clause-text : goal.returns-clause-text
+returns-clause-text g c =
+    fields_before c.args.deed.now c.args.line.now c.put_changes.ensures.text c.put_domain.ensures.text c.put_ran.ensures.text c.put_call.ensures.text c.put_note.ensures.text
