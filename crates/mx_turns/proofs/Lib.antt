@@ -5,3 +5,4 @@ pub mod RunEnds
 pub mod RunTexts
 pub mod Sinking
 pub mod TraceTexts
+mod TraceExamples

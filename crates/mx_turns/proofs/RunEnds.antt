@@ -13,6 +13,7 @@ use Rattle.mx_turns.specs.declared.task.Dump.{Dump}
 use Rattle.mx_turns.specs.Ends.{sinks}
 use Rattle.mx_turns.specs.Runs.{end_of, note_lines, ran, report_of, undumped}
 use Rattle.mx_turns.specs.Running.{KeepsShape, Places, places, HasTexts, RunsOrStops, PutOrBreaks, Closes}
+use Rattle.mx_turns.specs.declared.tracing.Lines.{Lines}
 use Rattle.mx_turns.specs.Tracing.{end_text, trace, traced}
 use Rattle.mx_turns.proofs.Closings.{LeavesAndMakes, leave_closed, leave_stopped}
 use Rattle.mx_turns.proofs.RunTexts.{grows_on}
@@ -67,12 +68,12 @@ module _ (kept : KeptPlan) (options : Options) (dump : Option Dump) (steps : ℕ
       leave_closed states lines report steps shown_grows told_grows b d e (flat_closing kept.names (end_of (s.core.turns + steps) m.core) options m) (report_is law m has.state) m mid now has result closes
 
 -- a trace
-module _ (from steps : ℕ) (p : Schedule) (s : State) (b d e : SinkState) where
+module _ (lines : Lines) (steps : ℕ) (p : Schedule) (s : State) (b d e : SinkState) where
   abbrev turns_of : ℕ → State
   turns_of made = run p made s
 
   abbrev told_of : ℕ → List ℕ
-  told_of made = trace p from made s
+  told_of made = trace p lines made s
 
   abbrev text : List ℕ
   text = told_of steps ++ end_text (s.core.turns + steps) (turns_of steps).core
@@ -82,19 +83,19 @@ module _ (from steps : ℕ) (p : Schedule) (s : State) (b d e : SinkState) where
 
   text_grows : (made : ℕ) → made ≤ steps → (more : List ℕ) × (text ≡ told_of made ++ more)
   text_grows made few =
-      let g = trace_grows p from made steps s few in
+      let g = trace_grows p lines made steps s few in
       let end = end_text (s.core.turns + steps) (turns_of steps).core in
       (g.0 ++ end, ap (λ t. t ++ end) g.1 ∙ append_assoc (told_of made) g.0 end)
 
   pub trace_stops : {A : Type 0} (machine : Flat) (mid : Places) (r : SinkState) (which : SinkFault) → RunsOrStops {A = A} turns_of told_of steps machine (places b [] d []) mid (Err which)
       → (which ≡ F.Console → PutOrBreaks mid.report r mid.told) → (which ≡ F.Report → r ≡ mid.report)
-      → LeavesAndMakes {A = A} (traced from steps p s) turns_of (sinks b d e) (sinks mid.console r e) machine (Err which)
+      → LeavesAndMakes {A = A} (traced lines steps p s) turns_of (sinks b d e) (sinks mid.console r e) machine (Err which)
   trace_stops machine mid r which stops rest same =
       leave_stopped turns_of told_of text steps seen_grows text_grows b d e stops.0 stops.1 machine mid r which stops.2 rest same
 
   pub trace_closes : {A : Type 0} (m : Flat) (mid now : Places) → HasTexts (turns_of steps) (told_of steps) m (places b [] d []) mid → (result : Result A SinkFault)
       → Closes (end_text (s.core.turns + steps) m.core) mid now result
-      → LeavesAndMakes (traced from steps p s) turns_of (sinks b d e) (sinks now.console now.report e) m result
+      → LeavesAndMakes (traced lines steps p s) turns_of (sinks b d e) (sinks now.console now.report e) m result
   trace_closes m mid now has result closes =
       let is : text ≡ told_of steps ++ end_text (s.core.turns + steps) m.core = rw has.state refl in
       leave_closed turns_of told_of text steps seen_grows text_grows b d e (end_text (s.core.turns + steps) m.core) is m mid now has result closes

@@ -17,4 +17,4 @@ pub use fault::SinkFault;
 pub use pace::Schedule;
 pub use running::make_run;
 pub use task::{Dump, Task};
-pub use tracing::{TraceTask, make_trace};
+pub use tracing::{Lines, TraceTask, make_trace};

@@ -1,6 +1,6 @@
 //! A trace: the turns of a run with a line for each. No call takes memory.
 
-ghost use Rattle.std.specs.Prelude.{◌≡◌, ℕ, ◌+◌, ◌-◌, ◌++◌, ◌<◌, ◌≤◌, ◌^◌, ◌⊎◌, length, IfSome, OnOk};
+ghost use Rattle.std.specs.Prelude.{◌≡◌, ℕ, false, ◌+◌, ◌-◌, ◌++◌, ◌<◌, ◌≤◌, ◌^◌, ◌⊎◌, length, None, IfSome, OnOk};
 ghost use Rattle.mx_isa.specs.Ranges.{IsValid};
 ghost use Rattle.mx_io.specs.Sink.{Puts, SinkState};
 ghost use Rattle.mx_any.specs.Machines.{meaning};
@@ -10,7 +10,7 @@ ghost use Rattle.mx_model.specs.State.{State, flat};
 ghost use Rattle.mx_tail.specs.Tail.{Passes, piece_bytes};
 ghost use Rattle.mx_turns.specs.Ends.{Leave, MakesTurns, sinks};
 ghost use Rattle.mx_turns.specs.Running.{schedule_of, told_by, Begins, Closes, HasTexts, HasTurns, IsNew, Places, RunsOrStops, ShowsOrStops, places};
-ghost use Rattle.mx_turns.specs.Tracing.{end_text, flat_line_from, line_text, seen_at, trace, traced};
+ghost use Rattle.mx_turns.specs.Tracing.{end_text, deed_of, flat_line_from, held_at, is_waiting, line_text, seen_at, trace, traced};
 
 use crate::ending::end_of_any;
 use crate::fault::SinkFault;
@@ -18,9 +18,10 @@ use crate::pace::{Schedule, begin, later, next_hart};
 use crate::turns::{Telling, make_turns};
 use mx_any::{AnyMachine, any_machine_is_valid};
 use mx_io::{Failed, Sink};
-use mx_model::{Events, TurnKind};
+use mx_machine::HartStatus;
+use mx_model::{Events, Note, TurnKind};
 use mx_report::{Tail, put_end};
-use mx_trace::{Seen, put_turn};
+use mx_trace::{Deed, Held, Seen, put_did, put_turn};
 
 /// What a trace is asked.
 #[derive(Clone, Copy)]
@@ -29,8 +30,17 @@ pub struct TraceTask<'a> {
     pub steps: u64,
     /// What names the hart of each turn.
     pub schedule: Schedule<'a>,
+    /// Which lines it has.
+    pub lines: Lines,
+}
+
+/// Which lines a trace has beside its end line.
+#[derive(Clone, Copy, PartialEq, Eq)]
+pub struct Lines {
     /// The first turn that has a line, counted from 1; 0 for all.
     pub from: u64,
+    /// Whether a turn's line is followed by that of what it did.
+    pub effects: bool,
 }
 
 /// Makes the turns of a run, and writes the console's bytes, a line for each turn from a step on, and the end line. The first sink
@@ -44,11 +54,11 @@ pub fn make_trace<C: Sink, R: Sink>(
     requires few { (meaning machine.old).core.turns + task.now.steps < 2 ^ 64 - 1 }
     requires quantum { HasTurns task.now.schedule }
     ensures leave { (s : State) → IsNew s → meaning machine.old ≡ flat s → (dump : SinkState) →
-        Leave (traced task.now.from task.now.steps (schedule_of task.now.schedule) s)
+        Leave (traced task.now.lines task.now.steps (schedule_of task.now.schedule) s)
         (sinks (C.state console.old) (R.state report.old) dump)
         (sinks (C.state console.new) (R.state report.new) dump) result }
     ensures turns { (s : State) → IsNew s → meaning machine.old ≡ flat s → (dump : SinkState) →
-        MakesTurns (traced task.now.from task.now.steps (schedule_of task.now.schedule) s)
+        MakesTurns (traced task.now.lines task.now.steps (schedule_of task.now.schedule) s)
         (λ made. run (schedule_of task.now.schedule) made s)
         (sinks (C.state console.old) (R.state report.old) dump)
         (sinks (C.state console.new) (R.state report.new) dump) (meaning machine.new) result }
@@ -81,15 +91,15 @@ fn trace_all<C: Sink, R: Sink>(
     ensures { (s : State) → Begins s (meaning machine.old)
         (places (C.state console.old) shown.old (R.state report.old) told.old)
         → RunsOrStops (λ made. run (schedule_of task.now.schedule) made s)
-        (λ made. trace (schedule_of task.now.schedule) task.now.from made s) task.now.steps
+        (λ made. trace (schedule_of task.now.schedule) task.now.lines made s) task.now.steps
         (meaning machine.new) (places (C.state console.old) shown.old (R.state report.old) told.old)
         (places (C.state console.new) shown.new (R.state report.new) told.new) result }
 {
-    let quiet = lineless(task.from, machine.steps(), task.steps);
+    let quiet = lineless(task.lines.from, machine.steps(), task.steps);
     skip_turns(quiet, task.schedule, machine, shown, console, told, report)?;
     let rest = task.steps - quiet;
     trace_turns(
-        task.from,
+        task.lines,
         rest,
         task.schedule,
         machine,
@@ -180,7 +190,7 @@ fn skip_turns<C: Sink, R: Sink>(
 
 // Makes turns, each with its line where it has one.
 fn trace_turns<C: Sink, R: Sink>(
-    from: u64,
+    lines: Lines,
     steps: u64,
     schedule: Schedule<'_>,
     machine: &mut AnyMachine,
@@ -193,10 +203,10 @@ fn trace_turns<C: Sink, R: Sink>(
     requires quantum { HasTurns schedule }
     ensures { (s : State) (done : ℕ) (before : Places) →
         HasTexts (run (schedule_of schedule.entry) done s)
-        (trace (schedule_of schedule.entry) from done s) (meaning machine.old) before
+        (trace (schedule_of schedule.entry) lines done s) (meaning machine.old) before
         (places (C.state console.old) shown.old (R.state report.old) told.old)
         → RunsOrStops (λ made. run (schedule_of schedule.entry) made s)
-        (λ made. trace (schedule_of schedule.entry) from made s) (done + steps)
+        (λ made. trace (schedule_of schedule.entry) lines made s) (done + steps)
         (meaning machine.new) before
         (places (C.state console.new) shown.new (R.state report.new) told.new) result }
 {
@@ -212,7 +222,7 @@ fn trace_turns<C: Sink, R: Sink>(
             return Ok(());
         };
         trace_turn(
-            from,
+            lines,
             hart,
             machine,
             &mut events,
@@ -230,9 +240,9 @@ fn trace_turns<C: Sink, R: Sink>(
     Ok(())
 }
 
-// Makes one turn, and puts what it adds: its console bytes, and its line where it has one.
+// Makes one turn, and puts what it adds: its console bytes, and its lines where it has any.
 fn trace_turn<C: Sink, R: Sink>(
-    from: u64,
+    lines: Lines,
     hart: u32,
     machine: &mut AnyMachine,
     events: &mut Events,
@@ -244,7 +254,66 @@ fn trace_turn<C: Sink, R: Sink>(
     requires { (meaning machine.old).core.turns < 2 ^ 64 - 1 }
     ensures turn { meaning machine.new ≡ flat_turn (meaning machine.old) hart }
     ensures shows { ShowsOrStops (flat_made (meaning machine.old) hart).console
-        (flat_line_from from (meaning machine.old) hart)
+        (flat_line_from lines (meaning machine.old) hart)
+        (places (C.state console.old) shown.old (R.state report.old) told.old)
+        (places (C.state console.new) shown.new (R.state report.new) told.new) result }
+{
+    if lines.effects {
+        deed_turn(lines, hart, machine, events, shown, console, told, report)
+    } else {
+        plain_turn(lines, hart, machine, events, shown, console, told, report)
+    }
+}
+
+// Makes one turn, of which what it does is asked: the hart is held before it and after it.
+fn deed_turn<C: Sink, R: Sink>(
+    lines: Lines,
+    hart: u32,
+    machine: &mut AnyMachine,
+    events: &mut Events,
+    shown: &mut Tail,
+    console: &mut C,
+    told: &mut Tail,
+    report: &mut R,
+) -> Result<(), SinkFault>
+    requires { (meaning machine.old).core.turns < 2 ^ 64 - 1 }
+    ensures turn { meaning machine.new ≡ flat_turn (meaning machine.old) hart }
+    ensures shows { ShowsOrStops (flat_made (meaning machine.old) hart).console
+        (flat_line_from lines (meaning machine.old) hart)
+        (places (C.state console.old) shown.old (R.state report.old) told.old)
+        (places (C.state console.new) shown.new (R.state report.new) told.new) result }
+{
+    let step = machine.steps() + 1;
+    let before = seen(machine, hart);
+    let kept = held(lines.effects, machine, hart);
+    let kind = machine.step(hart, events);
+    let left = held(lines.effects, machine, hart);
+    let deed = deed_of(before, kept, kind, events.note(), left);
+    match shown.add(console, events) {
+        Ok(()) => match put_lines(lines, step, hart, before, kind, &deed, told, report) {
+            Ok(()) => Ok(()),
+            Err(Failed) => Err(SinkFault::Report),
+        },
+        Err(Failed) => Err(SinkFault::Console),
+    }
+}
+
+// Makes one turn, of which what it does isn't asked: nothing of the hart is held.
+fn plain_turn<C: Sink, R: Sink>(
+    lines: Lines,
+    hart: u32,
+    machine: &mut AnyMachine,
+    events: &mut Events,
+    shown: &mut Tail,
+    console: &mut C,
+    told: &mut Tail,
+    report: &mut R,
+) -> Result<(), SinkFault>
+    requires turns { (meaning machine.old).core.turns < 2 ^ 64 - 1 }
+    requires plain { lines.effects ≡ false }
+    ensures turn { meaning machine.new ≡ flat_turn (meaning machine.old) hart }
+    ensures shows { ShowsOrStops (flat_made (meaning machine.old) hart).console
+        (flat_line_from lines (meaning machine.old) hart)
         (places (C.state console.old) shown.old (R.state report.old) told.old)
         (places (C.state console.new) shown.new (R.state report.new) told.new) result }
 {
@@ -252,7 +321,7 @@ fn trace_turn<C: Sink, R: Sink>(
     let before = seen(machine, hart);
     let kind = machine.step(hart, events);
     match shown.add(console, events) {
-        Ok(()) => match put_line(from, step, hart, before, kind, told, report) {
+        Ok(()) => match put_line(lines, step, hart, before, kind, told, report) {
             Ok(()) => Ok(()),
             Err(Failed) => Err(SinkFault::Report),
         },
@@ -262,7 +331,7 @@ fn trace_turn<C: Sink, R: Sink>(
 
 // Puts the line of a turn where it has one.
 fn put_line<R: Sink>(
-    from: u64,
+    lines: Lines,
     step: u64,
     hart: u32,
     before: Option<Seen>,
@@ -272,13 +341,91 @@ fn put_line<R: Sink>(
 ) -> Result<(), Failed>
     requires { IfSome before (λ seen. IfSome seen.inst IsValid) }
     ensures passes { Passes told.old (R.state report.old) (R.state report.new) told.new
-        (line_text from step hart before kind) result }
+        (line_text lines step hart before kind None) result }
     ensures few { OnOk result (length told.new < piece_bytes) }
 {
-    if step < from {
+    if step < lines.from {
         told.put(report, b"")
     } else {
         put_turn(told, report, step, hart, before, kind)
+    }
+}
+
+// Puts the lines of a turn where it has any.
+fn put_lines<R: Sink>(
+    lines: Lines,
+    step: u64,
+    hart: u32,
+    before: Option<Seen>,
+    kind: TurnKind,
+    deed: &Option<Deed>,
+    told: &mut Tail,
+    report: &mut R,
+) -> Result<(), Failed>
+    requires before { IfSome before (λ seen. IfSome seen.inst IsValid) }
+    requires deed { IfSome deed.now (λ deed. IfSome deed.inst IsValid) }
+    ensures passes { Passes told.old (R.state report.old) (R.state report.new) told.new
+        (line_text lines step hart before kind deed.now) result }
+    ensures few { OnOk result (length told.new < piece_bytes) }
+{
+    if step < lines.from {
+        return told.put(report, b"");
+    }
+    put_turn(told, report, step, hart, before, kind)?;
+    match deed {
+        Some(deed) => put_did(told, report, deed),
+        None => told.put(report, b""),
+    }
+}
+
+// What is held of a hart before or after a turn, where it is asked and there is such a hart.
+fn held(asked: bool, machine: &AnyMachine, hart: u32) -> Option<Held>
+    ensures { result ≡ held_at asked (meaning machine.now).core hart }
+{
+    if asked && hart < machine.harts() {
+        let view = machine.hart(hart);
+        let regs = view.regs;
+        Some(Held {
+            domain: view.domain,
+            waits: is_waiting(view.status),
+            regs,
+        })
+    } else {
+        None
+    }
+}
+
+// Whether a hart waits on a call.
+fn is_waiting(status: HartStatus) -> bool
+    ensures { result ≡ is_waiting status }
+{
+    match status {
+        HartStatus::Waiting => true,
+        _ => false,
+    }
+}
+
+// What a turn did, where that is asked.
+fn deed_of(
+    seen: Option<Seen>,
+    before: Option<Held>,
+    kind: TurnKind,
+    note: Option<Note>,
+    after: Option<Held>,
+) -> Option<Deed>
+    requires { IfSome seen (λ seen. IfSome seen.inst IsValid) }
+    ensures deed { result ≡ deed_of seen before kind note after }
+    ensures valid { IfSome result (λ deed. IfSome deed.inst IsValid) }
+{
+    match (seen, before, after) {
+        (Some(seen), Some(before), Some(after)) => Some(Deed {
+            kind,
+            note,
+            inst: seen.inst,
+            before,
+            after,
+        }),
+        _ => None,
     }
 }
 

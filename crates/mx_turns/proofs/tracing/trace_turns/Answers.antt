@@ -10,7 +10,7 @@ use Rattle.mx_turns.proofs.tracing.trace_turns.Goals as goal
 
 pub returns-then-all_halted : goal.returns-then-all_halted
 returns-then-all_halted g c =
-    λ s done before has. trace_halts (schedule_of c.args.schedule) c.args.from done s _ before _ has (done + c.args.steps) (omega arith) (sym c.if-all_halted.ensures)
+    λ s done before has. trace_halts (schedule_of c.args.schedule) c.args.lines done s _ before _ has (done + c.args.steps) (omega arith) (sym c.if-all_halted.ensures)
 
 pub turns-init : goal.turns-init
 turns-init g c =
@@ -29,7 +29,7 @@ returns-in_default g c =
     let f = meaning c.turns.machine in
     let over = subst (λ (o : Option (ℕ × ℕ)). IsNamed p f.core 1 o) c.in_default.is (c.next_hart.ensures.named p f.core c.turns.invariant.pace) in
     λ s done before has.
-    trace_over p c.args.from (done + c.turns.made) s f before _ (c.turns.invariant.runs s done before has) (done + c.args.steps) (omega (arith, c.turns.invariant.within)) over
+    trace_over p c.args.lines (done + c.turns.made) s f before _ (c.turns.invariant.runs s done before has) (done + c.args.steps) (omega (arith, c.turns.invariant.within)) over
 
 -- a turn whose texts couldn't be put
 pub returns-in_err-trace_turn : goal.returns-in_err-trace_turn
@@ -42,7 +42,7 @@ returns-in_err-trace_turn g c =
     (λ s done before has. (
       done + c.turns.made,
       omega (arith, c.turns-test.true),
-      trace_fails p c.args.from (done + c.turns.made) s f before _ (c.turns.invariant.runs s done before has) c.in-Some.hart c.turns.invariant.going (row.each 0 row.some f.core (omega arith) refl) (meaning c.trace_turn.new.machine)
+      trace_fails p c.args.lines (done + c.turns.made) s f before _ (c.turns.invariant.runs s done before has) c.in-Some.hart c.turns.invariant.going (row.each 0 row.some f.core (omega arith) refl) (meaning c.trace_turn.new.machine)
           c.trace_turn.ensures.turn (Unit {0})
           (places (g.C.Sink.state c.trace_turn.new.console) c.trace_turn.new.shown (g.R.Sink.state c.trace_turn.new.report) c.trace_turn.new.told) c.in_err-trace_turn.field-0.0 c.in_err-trace_turn.ensures.shows,
     ))
@@ -55,9 +55,9 @@ returns-then-all_halted-2 g c =
     let k = meaning c.trace_turn.new.machine in
     let row = c.in-Some.ensures.named p f.core c.turns.invariant.pace in
     λ s done before has.
-    let after = trace_makes p c.args.from (done + c.turns.made) s f before _ (c.turns.invariant.runs s done before has) c.in-Some.hart c.turns.invariant.going (row.each 0 row.some f.core (omega arith) refl) k c.trace_turn.ensures.turn _ c.in_ok-trace_turn.field-0
+    let after = trace_makes p c.args.lines (done + c.turns.made) s f before _ (c.turns.invariant.runs s done before has) c.in-Some.hart c.turns.invariant.going (row.each 0 row.some f.core (omega arith) refl) k c.trace_turn.ensures.turn _ c.in_ok-trace_turn.field-0
     (places (g.C.Sink.state c.trace_turn.new.console) c.trace_turn.new.shown (g.R.Sink.state c.trace_turn.new.report) c.trace_turn.new.told) c.in_ok-trace_turn.ensures.shows in
-    trace_halts p c.args.from (done + c.turns.made + 1) s k before _ after (done + c.args.steps) (omega (arith, c.turns-test.true)) (sym c.all_halted-in-turns.ensures ∙ c.if-all_halted-2.true)
+    trace_halts p c.args.lines (done + c.turns.made + 1) s k before _ after (done + c.args.steps) (omega (arith, c.turns-test.true)) (sym c.all_halted-in-turns.ensures ∙ c.if-all_halted-2.true)
 
 -- a turn whose texts were put
 pub turns-preserved : goal.turns-preserved
@@ -77,7 +77,7 @@ turns-preserved g c =
       going = sym c.all_halted-in-turns.ensures ∙ c.if-all_halted-2.false;
       runs =
           λ s done before has.
-          let after = trace_makes p c.args.from (done + c.turns.made) s f before _ (c.turns.invariant.runs s done before has) c.in-Some.hart c.turns.invariant.going (row.each 0 row.some f.core (omega arith) refl) k is _ c.in_ok-trace_turn.field-0
+          let after = trace_makes p c.args.lines (done + c.turns.made) s f before _ (c.turns.invariant.runs s done before has) c.in-Some.hart c.turns.invariant.going (row.each 0 row.some f.core (omega arith) refl) k is _ c.in_ok-trace_turn.field-0
           (places (g.C.Sink.state c.trace_turn.new.console) c.trace_turn.new.shown (g.R.Sink.state c.trace_turn.new.report) c.trace_turn.new.told) c.in_ok-trace_turn.ensures.shows in
           let e : done + (c.turns.made + 1) ≡ done + c.turns.made + 1 = omega arith in
           rw e after;

@@ -12,9 +12,9 @@ invariant-turns g l = record {
   within : l.made ≤ l.steps;
   pace : IsPace (schedule_of l.schedule) (meaning l.machine).core l.pace;
   going : all_halted (meaning l.machine).core ≡ false;
-  runs : (s : State) (done : ℕ) (before : Places) → HasTexts (run (schedule_of l.schedule) done s) (trace (schedule_of l.schedule) l.from done s) (meaning l.fn.machine) before
+  runs : (s : State) (done : ℕ) (before : Places) → HasTexts (run (schedule_of l.schedule) done s) (trace (schedule_of l.schedule) l.lines done s) (meaning l.fn.machine) before
       (places (g.C.Sink.state l.fn.console) l.fn.shown (g.R.Sink.state l.fn.report) l.fn.told)
-      → HasTexts (run (schedule_of l.schedule) (done + l.made) s) (trace (schedule_of l.schedule) l.from (done + l.made) s) (meaning l.machine) before
+      → HasTexts (run (schedule_of l.schedule) (done + l.made) s) (trace (schedule_of l.schedule) l.lines (done + l.made) s) (meaning l.machine) before
       (places (g.C.Sink.state l.console) l.shown (g.R.Sink.state l.report) l.told);
 }
 
