@@ -3,7 +3,7 @@
 ghost use Rattle.std.specs.Prelude.{◌≤◌, ◌^◌, length};
 
 use mx_asm::assemble;
-use mx_boot::{AnyMachine, boot};
+use mx_boot::{AnyMachine, boot, empty_inputs_fit};
 use mx_manifest::{Plan, read_manifest};
 use mx_model::Events;
 use mx_words::Blob;
@@ -46,7 +46,8 @@ idle:
 /// The machine of a manifest with these images.
 fn machine_of(alloc: Global, text: &str, images: &[Blob]) -> Option<AnyMachine> {
     let plan = plan_of(alloc, text)?;
-    boot(alloc, &plan, images).ok()
+    empty_inputs_fit(&plan);
+    boot(alloc, &plan, images, &[]).ok()
 }
 
 fn plan_of(alloc: Global, text: &str) -> Option<Plan> {

@@ -29,17 +29,17 @@ held-runs s word p =
 pub runs-sealed : (s : State) (word : ℕ) → IsTrue (lies_in (sealed_runs (flat_reads (flat s)) s.core) word) ↔ HasSealed s word
 runs-sealed s word = (runs-hold s word, held-runs s word)
 
-pub boots-audited : (plan : Said) (images : List (List ℕ)) (s : State) → IsBoot plan images s → IsAudited s
-boots-audited plan images s b = record {
-  valid = (boots_valid plan images s b.range b.bytes b.boots).valid;
-  heaps = boots_own plan images s b.range b.boots;
+pub boots-audited : (plan : Said) (images inputs : List (List ℕ)) (s : State) → IsBoot plan images inputs s → IsAudited s
+boots-audited plan images inputs s b = record {
+  valid = (boots_valid plan images inputs s b.range b.bytes b.given b.boots).valid;
+  heaps = boots_own plan images inputs s b.range b.boots;
 }
 
-pub boots-live : (plan : Said) (images : List (List ℕ)) (s : State) → IsBoot plan images s → (p : Schedule) (n d : ℕ) → IsLive (run p n s).core d → IsLive s.core d
-boots-live plan images s b p n d l = live-run p n s d (boots-audited plan images s b) l
+pub boots-live : (plan : Said) (images inputs : List (List ℕ)) (s : State) → IsBoot plan images inputs s → (p : Schedule) (n d : ℕ) → IsLive (run p n s).core d → IsLive s.core d
+boots-live plan images inputs s b p n d l = live-run p n s d (boots-audited plan images inputs s b) l
 
-pub boots-keep : (plan : Said) (images : List (List ℕ)) (s : State) → IsBoot plan images s → (p : Schedule) (n word : ℕ) →
+pub boots-keep : (plan : Said) (images inputs : List (List ℕ)) (s : State) → IsBoot plan images inputs s → (p : Schedule) (n word : ℕ) →
     IsTrue (lies_in (sealed_runs (flat_reads (flat s)) s.core) word) → KeepsWord s (run p n s) word
-boots-keep plan images s b p n word l =
-    let f = sealed-run p n s word (boots-audited plan images s b) (runs-hold s word l) in
+boots-keep plan images inputs s b p n word l =
+    let f = sealed-run p n s word (boots-audited plan images inputs s b) (runs-hold s word l) in
     record { owner = f.owner; rights = f.rights; bytes = f.bytes }

@@ -5,13 +5,14 @@ use Rattle.mx_model.specs.State.{State}
 use Rattle.mx_manifest.specs.InRange.{IsInRange}
 use Rattle.mx_manifest.specs.Plan.{Said}
 use Rattle.mx_boot.specs.Boot.{boot_of}
-use Rattle.mx_boot.specs.Images.{AreImages}
+use Rattle.mx_boot.specs.Bytes.{AreBytes}
 
--- the state at boot of a plan in range with its images
-pub record IsBoot (plan : Said) (images : List (List ℕ)) (s : State) : Type 0 where
+-- the state at boot of a plan in range with its images and its inputs
+pub record IsBoot (plan : Said) (images inputs : List (List ℕ)) (s : State) : Type 0 where
   pub range : IsInRange plan
-  pub bytes : AreImages images
-  pub boots : boot_of plan images ≡ Ok s
+  pub bytes : AreBytes images
+  pub given : AreBytes inputs
+  pub boots : boot_of plan images inputs ≡ Ok s
 
 -- a word has in one state the owner, the permission in every domain and the four bytes that it has in the other
 pub record KeepsWord (s t : State) (word : ℕ) : Type 0 where

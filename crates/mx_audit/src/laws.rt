@@ -55,15 +55,18 @@ pub fn runs_of_sealed_words()
         IsTrue (lies_in (sealed_runs (flat_reads (flat s)) s.core) word) ↔ HasSealed s word }
 {}
 
-/// The state at boot of each plan in range and of images that are bytes is audited. So what its audit finds stays in every run by every
+/// The state at boot of each plan in range, of images and of inputs that are bytes is audited. So what its audit finds stays in every run by every
 /// schedule: only the live domains are ever live, and each word of the runs found keeps its owner, its permission in every domain and
 /// its four bytes.
 pub fn audits_of_boots_stay()
-    ensures audited { (plan : Said) (images : List (List ℕ)) (s : State) → IsBoot plan images s →
+    ensures audited { (plan : Said) (images inputs : List (List ℕ)) (s : State) →
+        IsBoot plan images inputs s →
         IsAudited s }
-    ensures live { (plan : Said) (images : List (List ℕ)) (s : State) → IsBoot plan images s →
+    ensures live { (plan : Said) (images inputs : List (List ℕ)) (s : State) →
+        IsBoot plan images inputs s →
         (p : Schedule) (n d : ℕ) → IsLive (run p n s).core d → IsLive s.core d }
-    ensures words { (plan : Said) (images : List (List ℕ)) (s : State) → IsBoot plan images s →
+    ensures words { (plan : Said) (images inputs : List (List ℕ)) (s : State) →
+        IsBoot plan images inputs s →
         (p : Schedule) (n word : ℕ) →
         IsTrue (lies_in (sealed_runs (flat_reads (flat s)) s.core) word) →
         KeepsWord s (run p n s) word }

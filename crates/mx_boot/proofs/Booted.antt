@@ -20,10 +20,10 @@ use Rattle.mx_manifest.specs.declared.fault.BootFault.{BootFault}
 use Rattle.mx_manifest.specs.InRange.{IsInRange}
 use Rattle.mx_manifest.specs.Plan.{Said}
 use Rattle.mx_boot.specs.Areas.{homes, areas}
-use Rattle.mx_boot.specs.Boot.{Refusal, TooFull, boot_state, boot_of, grants_of, hart_at_boot, limited, module_of, unless}
+use Rattle.mx_boot.specs.Boot.{Refusal, TooFull, boot_gives, boot_state, boot_of, grants_of, hart_at_boot, limited, module_of, unless}
 use Rattle.mx_boot.specs.Entries.{requests}
 use Rattle.mx_boot.specs.Faults.{harts_rows, ram_words, first_fault}
-use Rattle.mx_boot.specs.Images.{AreImages}
+use Rattle.mx_boot.specs.Bytes.{AreBytes}
 use Rattle.mx_boot.proofs.Apart.{AreClear, all_inside, areas_clear}
 use Rattle.mx_boot.proofs.FewRuns.{runs-at-most}
 use Rattle.mx_boot.proofs.Gated.{few_gates, gates_clear, gates_valid, requests_asked, single_gates}
@@ -45,9 +45,9 @@ ok_unless : (s t : State) (o : Option BootFault) → unless o (limited t) ≡ Ok
 ok_unless s t (Some fault) e = absurd cc
 ok_unless s t None e = (refl, ok_limited s t (within (map_need t) t.core.limit) (TooFull (map_need t) t.core.limit) e)
 
-pub booted : (plan : Said) (images : List (List ℕ)) (s : State) → boot_of plan images ≡ Ok s → (first_fault plan images ≡ None) × (boot_state plan images ≡ s)
+pub booted : (plan : Said) (images inputs : List (List ℕ)) (s : State) → boot_of plan images inputs ≡ Ok s → (first_fault plan images ≡ None) × (boot_state plan images inputs ≡ s)
 unfolding boot_of
-booted plan images s e = ok_unless s (boot_state plan images) (first_fault plan images) e
+booted plan images inputs s e = ok_unless s (boot_state plan images inputs) (first_fault plan images) e
 
 -- what holds of a plan without a fault
 pub record IsFaultless (plan : Said) (images : List (List ℕ)) : Type 0 where
@@ -68,9 +68,9 @@ all_replicated : {X : Type 0} (P : X → Type 0) (n : ℕ) (x : X) → P x → A
 all_replicated P zero x p = tt
 all_replicated P (suc n) x p = (p, all_replicated P n x p)
 
-module _ (plan : Said) (images : List (List ℕ)) (in_range : IsInRange plan) (clear : IsFaultless plan images) where
+module _ (plan : Said) (images inputs : List (List ℕ)) (in_range : IsInRange plan) (clear : IsFaultless plan images) where
   abbrev core : Core
-  core = (boot_state plan images).core
+  core = (boot_state plan images inputs).core
 
   few_words : ram_words plan ≤ 16777216
   few_words = omega arith
@@ -94,8 +94,8 @@ module _ (plan : Said) (images : List (List ℕ)) (in_range : IsInRange plan) (c
       let two = subst (λ n. IsHart (length core.modules) n h (hart_at_boot plan images (h, found.0))) (sym length-harts) one in
       subst (λ (g : Hart). IsHart (length core.modules) (length core.harts) h g) (sym same) two
 
-  core_valid : AreImages images → IsValid core
-  core_valid are =
+  core_valid : AreBytes images → AreBytes inputs → IsValid core
+  core_valid are given =
       search (
         arith,
         few_words,
@@ -115,23 +115,23 @@ module _ (plan : Said) (images : List (List ℕ)) (in_range : IsInRange plan) (c
         single_gates,
       )
 
-  owner_small : (i : ℕ) → get_or (owners (boot_state plan images).gives (ram_words plan)) i 0 ≤ length core.modules
+  owner_small : (i : ℕ) → get_or (owners (boot_gives plan images) (ram_words plan)) i 0 ≤ length core.modules
   owner_small i =
-      let os = owners (boot_state plan images).gives (ram_words plan) in
+      let os = owners (boot_gives plan images) (ram_words plan) in
       let small : get_or os i 0 ≤ length plan.modules = elim (cases_lt i (ram_words plan)) [
-        | inl lt ↦ rw (owners-at (boot_state plan images).gives (ram_words plan) i 0 lt) (owners_small plan images i)
-        | inr past ↦ (rw (get_or_past os i 0 (omega (arith, past, length-owners (boot_state plan images).gives (ram_words plan)))) (omega arith))
+        | inl lt ↦ rw (owners-at (boot_gives plan images) (ram_words plan) i 0 lt) (owners_small plan images i)
+        | inr past ↦ (rw (get_or_past os i 0 (omega (arith, past, length-owners (boot_gives plan images) (ram_words plan)))) (omega arith))
       ] in
       omega (arith, small, length-modules)
 
-  pub flat_valid : AreImages images → IsFlat (flat (boot_state plan images))
-  flat_valid are =
-      let s = boot_state plan images in
+  pub flat_valid : AreBytes images → AreBytes inputs → IsFlat (flat (boot_state plan images inputs))
+  flat_valid are given =
+      let s = boot_state plan images inputs in
       let harts = length plan.harts in
       let runs = runs-at-most s.gives (ram_words plan) in
       let few = few_gives_all plan images in
       record {
-        valid = core_valid are;
+        valid = core_valid are given;
         maps = length-map s.grants (λ grants. map_of grants (ram_words plan)) ∙ length-map (homes plan images) (grants_of harts) ∙ length-homes plan images ∙ sym length-modules;
         whole_maps = search (arith, all_mapped, all_each, length-map_of);
         owners = length-owners s.gives (ram_words plan);
@@ -140,26 +140,26 @@ module _ (plan : Said) (images : List (List ℕ)) (in_range : IsInRange plan) (c
         caches = all_replicated (IsCache plan.lookaside) harts no_cache (cache-none plan.lookaside);
       }
 
-  pub heaps_owned : OwnHeaps (reads (boot_state plan images)) core
+  pub heaps_owned : OwnHeaps (reads (boot_state plan images inputs)) core
   heaps_owned d word is over = heaps_own plan images (ram_words plan) clear.placed d word is over
 
-pub boots_valid : (plan : Said) (images : List (List ℕ)) (s : State) → IsInRange plan → AreImages images → boot_of plan images ≡ Ok s → IsFlat (flat s)
-boots_valid plan images s in_range are e =
-    let b = booted plan images s e in
-    subst (λ (t : State). IsFlat (flat t)) b.1 (flat_valid plan images in_range (faultless plan images b.0) are)
+pub boots_valid : (plan : Said) (images inputs : List (List ℕ)) (s : State) → IsInRange plan → AreBytes images → AreBytes inputs → boot_of plan images inputs ≡ Ok s → IsFlat (flat s)
+boots_valid plan images inputs s in_range are given e =
+    let b = booted plan images inputs s e in
+    subst (λ (t : State). IsFlat (flat t)) b.1 (flat_valid plan images inputs in_range (faultless plan images b.0) are given)
 
-lists_are : (plan : Said) (images : List (List ℕ)) →
-    length (boot_state plan images).grants ≡ length (boot_state plan images).core.modules
-lists_are plan images =
+lists_are : (plan : Said) (images inputs : List (List ℕ)) →
+    length (boot_state plan images inputs).grants ≡ length (boot_state plan images inputs).core.modules
+lists_are plan images inputs =
     length-map (homes plan images) (grants_of (length plan.harts)) ∙ length-homes plan images
     ∙ sym (length-map plan.modules module_of)
 
-pub boots_list : (plan : Said) (images : List (List ℕ)) (s : State) → boot_of plan images ≡ Ok s →
+pub boots_list : (plan : Said) (images inputs : List (List ℕ)) (s : State) → boot_of plan images inputs ≡ Ok s →
     length s.grants ≡ length s.core.modules
-boots_list plan images s e =
-    subst (λ (t : State). length t.grants ≡ length t.core.modules) (booted plan images s e).1 (lists_are plan images)
+boots_list plan images inputs s e =
+    subst (λ (t : State). length t.grants ≡ length t.core.modules) (booted plan images inputs s e).1 (lists_are plan images inputs)
 
-pub boots_own : (plan : Said) (images : List (List ℕ)) (s : State) → IsInRange plan → boot_of plan images ≡ Ok s → OwnHeaps (reads s) s.core
-boots_own plan images s in_range e =
-    let b = booted plan images s e in
-    subst (λ (t : State). OwnHeaps (reads t) t.core) b.1 (heaps_owned plan images in_range (faultless plan images b.0))
+pub boots_own : (plan : Said) (images inputs : List (List ℕ)) (s : State) → IsInRange plan → boot_of plan images inputs ≡ Ok s → OwnHeaps (reads s) s.core
+boots_own plan images inputs s in_range e =
+    let b = booted plan images inputs s e in
+    subst (λ (t : State). OwnHeaps (reads t) t.core) b.1 (heaps_owned plan images inputs in_range (faultless plan images b.0))

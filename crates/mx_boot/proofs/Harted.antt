@@ -1,5 +1,5 @@
 -- Harts of a plan without a fault.
-use Rattle.std.proofs.Common.{◌≡◌, ℕ, zero, suc, ◌+◌, ◌-◌, ◌*◌, ◌^◌, ◌<◌, ◌≤◌, true, List, [], ◌∷◌, ◌++◌, length, get_or, set, replicate, slice_get, Option, Some, None, unwrap_or, refl, ap, ◌∙◌, sym, arith, mul-le-mul_left, mul_assoc}
+use Rattle.std.proofs.Common.{◌≡◌, ℕ, zero, suc, ◌+◌, ◌-◌, ◌*◌, ◌^◌, ◌<◌, ◌≤◌, true, List, [], ◌∷◌, length, get_or, set, replicate, slice_get, Option, Some, None, unwrap_or, refl, ap, ◌∙◌, sym, arith, mul-le-mul_left, mul_assoc}
 use Rattle.std.proofs.lemmas.Option.{same_Some, slice_get_within}
 use Rattle.std.specs.List.{enumerate_from, flat_map}
 use Rattle.std.specs.Option.{option_map_or}
@@ -12,7 +12,7 @@ use Rattle.mx_manifest.specs.declared.parts.ModulePlan.{ModulePlan}
 use Rattle.mx_manifest.specs.InRange.{IsInRange}
 use Rattle.mx_manifest.specs.Plan.{Said}
 use Rattle.mx_words.proofs.OptionLaws.{neither}
-use Rattle.mx_boot.specs.Areas.{Home, home, pieces, heaps, stacks, stack_words, stack_area, areas}
+use Rattle.mx_boot.specs.Areas.{Home, home, stack_words, stack_area, areas}
 use Rattle.mx_boot.specs.Boot.{stack_address, hart_at_boot}
 use Rattle.mx_boot.specs.Entries.{hart_start}
 use Rattle.mx_boot.specs.Faults.{Fault, is_in_ram, at_hart, hart_rows, harts_rows}
@@ -20,9 +20,9 @@ use Rattle.mx_boot.proofs.Apart.{in_ram}
 use Rattle.mx_boot.proofs.Entered.{IsInside, entry_inside, entry_clear}
 use Rattle.mx_boot.proofs.Homes.{hart_domain}
 use Rattle.mx_boot.proofs.Housed.{Inside, home_inside}
+use Rattle.mx_boot.proofs.Parted.{stack_part}
 use Rattle.mx_model.proofs.EachLaws.{there}
 use Rattle.mx_boot.proofs.Rows.{at_numbered}
-use Rattle.mx_model.proofs.JoinLaws.{all-second}
 
 -- where none of the rows of elements applies, none of those of each applies
 pub each_clear : {A : Type 0} (rows : A → List Fault) (xs : List A) (i : ℕ) (x : A) → first_row (flat_map rows xs) ≡ None → slice_get xs i ≡ Some x → first_row (rows x) ≡ None
@@ -70,7 +70,7 @@ x2_small : (plan : Said) (images : List (List ℕ)) (words h i : ℕ) (m : Modul
 x2_small plan images words h i m few all lt at =
     let g = home images (i, m) in
     stack_small words (length plan.harts) h g m.stack few lt
-    (all-second (λ a. is_in_ram words a ≡ true) (pieces g ++ heaps g) (stacks (length plan.harts) g) (home_inside plan images words i m all at))
+    (stack_part (λ a. is_in_ram words a ≡ true) (length plan.harts) g (home_inside plan images words i m all at))
 
 pub hart_valid : (plan : Said) (images : List (List ℕ)) (words h : ℕ) (hart : HartPlan) → IsInRange plan → words ≤ 16777216 → Inside words (areas plan images)
     → first_row (harts_rows plan images) ≡ None → slice_get plan.harts h ≡ Some hart

@@ -1,5 +1,5 @@
 -- Modules of a plan without a fault: their areas lie in RAM.
-use Rattle.std.proofs.Common.{◌≡◌, ℕ, ◌+◌, ◌*◌, ◌≤◌, true, false, cond, List, [], ◌∷◌, length, map, slice_get, Option, Some, None, IfSome, unwrap_or, Result, Ok, Err, refl, ap, arith}
+use Rattle.std.proofs.Common.{◌≡◌, ℕ, ◌+◌, ◌*◌, ◌≤◌, true, false, cond, List, [], ◌∷◌, ◌++◌, length, map, slice_get, Option, Some, None, IfSome, unwrap_or, Result, Ok, Err, refl, ap, arith}
 use Rattle.std.specs.List.{AllByRecursion, enumerate_from, flat_map}
 use Rattle.std.specs.Option.{is_some, option_map_or}
 use Rattle.std.proofs.lemmas.List.{length-append, length-map}
@@ -13,20 +13,23 @@ use Rattle.mx_words.specs.Newest.{Give, laid_at, newest, owner}
 use Rattle.mx_words.specs.Ranges.{covers}
 use Rattle.mx_model.specs.State.{Stack}
 use Rattle.mx_model.specs.Valid.{IsHome}
+use Rattle.mx_manifest.specs.declared.parts.InputPlan.{InputPlan}
 use Rattle.mx_manifest.specs.declared.parts.ModulePlan.{ModulePlan}
 use Rattle.mx_manifest.specs.InRange.{IsBetween, IsInRange}
 use Rattle.mx_manifest.specs.InRange as range
 use Rattle.mx_manifest.specs.Plan.{Said}
 use Rattle.mx_boot.specs.declared.area.Area as area
-use Rattle.mx_boot.specs.Areas.{Home, home, homes, image, read_as, pieces, heap_words, stack_words, heap_area, stack_area, areas_of, areas}
-use Rattle.mx_boot.specs.Boot.{module_of, owned_pieces, gives_of}
+use Rattle.mx_boot.specs.Areas.{Home, home, homes, image, read_as, pieces, heaps, stacks, input_areas, heap_words, stack_words, heap_area, stack_area, input_area, areas_of, areas}
+use Rattle.mx_boot.specs.Boot.{module_of, owned_pieces, give, gives_of}
 use Rattle.mx_boot.specs.Entries.{word_at}
 use Rattle.mx_boot.specs.Faults.{is_in_ram}
+use Rattle.mx_boot.specs.Placed.{owned_areas}
 use Rattle.mx_boot.proofs.Apart.{in_ram, end_is}
 use Rattle.mx_boot.proofs.Homes.{home_is, length-homes}
+use Rattle.mx_boot.proofs.Parted.{heap_part, stack_part, owned_part}
 use Rattle.mx_model.proofs.EachLaws.{all_at, all_parts, all_flat, all_mapped, all_numbered, all_each, length-flat_at_most}
 use Rattle.mx_machine.proofs.SmallLaws.{from-each}
-use Rattle.mx_model.proofs.JoinLaws.{all-weaker, all-join, all-first, all-second}
+use Rattle.mx_model.proofs.JoinLaws.{all-weaker, all-join}
 
 abbrev pub Inside : ℕ → List area.Area → Type 0
 Inside words all = AllByRecursion (λ a. is_in_ram words a ≡ true) all
@@ -72,7 +75,9 @@ stack_kept words harts h (Some address) e whole between inside =
 
 pub module_valid : (words harts modules : ℕ) (h : Home) → range.IsModule modules h.domain h.plan → Inside words (areas_of harts h) → IsHome words harts (module_of h.plan)
 module_valid words harts modules h in_range inside =
-    search (arith, all-first, heap_kept, h.plan.heap, in_range.heap_whole, in_range.heap_words, all-second, stack_kept, h.plan.stack, in_range.stack_whole, in_range.stack_words)
+    let heap = heap_part (λ a. is_in_ram words a ≡ true) harts h inside in
+    let stack = stack_part (λ a. is_in_ram words a ≡ true) harts h inside in
+    search (arith, heap_kept, h.plan.heap, in_range.heap_whole, in_range.heap_words, stack_kept, h.plan.stack, in_range.stack_whole, in_range.stack_words)
 
 pub modules_valid : (plan : Said) (images : List (List ℕ)) (words : ℕ) → IsInRange plan → Inside words (areas plan images)
     → AllByRecursion (IsHome words (length plan.harts)) (map module_of plan.modules)
@@ -81,7 +86,7 @@ modules_valid plan images words in_range all =
     (from-each (λ m. IsHome words (length plan.harts) (module_of m)) plan.modules
     (λ i m at. module_valid words (length plan.harts) (length plan.modules) (home images (i, m)) (in_range.modules i m at) (home_inside plan images words i m all at)))
 
--- a module gives at most 18 areas
+-- a module gives at most 19 areas
 few_read : (bytes : List ℕ) (r : Result Image ImageFault) → r ≡ image_of bytes → length (read_as r).segments ≤ 16
 few_read bytes (Ok image) e = (sound-image bytes image e).1
 few_read bytes (Err fault) e = omega arith
@@ -100,20 +105,30 @@ one_stack : (harts : ℕ) (h : Home) (o : Option ℕ) → length (option_map_or 
 one_stack harts h None = omega arith
 one_stack harts h (Some address) = omega arith
 
-few_gives : (harts : ℕ) (h : Home) → length (gives_of harts h) ≤ 18
-few_gives harts h = search (arith, few_owned, one_heap, one_stack, length-map, length-append)
+one_input : (h : Home) (o : Option InputPlan) → length (option_map_or (λ input. input_area h input ∷ []) o []) ≤ 1
+one_input h None = omega arith
+one_input h (Some input) = omega arith
 
-pub few_gives_all : (plan : Said) (images : List (List ℕ)) → length (flat_map (gives_of (length plan.harts)) (homes plan images)) ≤ 18 * length plan.modules
+few_gives : (harts : ℕ) (h : Home) → length (gives_of harts h) ≤ 19
+few_gives harts h =
+    let owned = few_owned h in
+    let heap = one_heap h h.plan.heap in
+    let stack = one_stack harts h h.plan.stack in
+    let input = one_input h h.plan.input in
+    let first = length-append (owned_pieces h) (heaps h) in
+    let second = length-append (owned_pieces h ++ heaps h) (stacks harts h) in
+    let third = length-append (owned_pieces h ++ heaps h ++ stacks harts h) (input_areas h) in
+    let given = length-map (owned_pieces h ++ heaps h ++ stacks harts h ++ input_areas h) give in
+    omega (arith, owned, heap, stack, input, first, second, third, given)
+
+pub few_gives_all : (plan : Said) (images : List (List ℕ)) → length (flat_map (gives_of (length plan.harts)) (homes plan images)) ≤ 19 * length plan.modules
 few_gives_all plan images =
-    let few = length-flat_at_most (gives_of (length plan.harts)) 18 (homes plan images) (all_each (λ h. length (gives_of (length plan.harts) h) ≤ 18) (homes plan images) (few_gives (length plan.harts))) in
+    let few = length-flat_at_most (gives_of (length plan.harts)) 19 (homes plan images) (all_each (λ h. length (gives_of (length plan.harts) h) ≤ 19) (homes plan images) (few_gives (length plan.harts))) in
     omega (arith, few, length-homes plan images)
 
 -- a module's areas are given to it
 pieces_own : (h : Home) → AllByRecursion (λ (a : area.Area). a.domain ≡ h.domain) (pieces h)
 pieces_own h = search (arith, all_mapped, all_each)
-
-owned_own : (h : Home) → AllByRecursion (λ (a : area.Area). a.domain ≡ h.domain) (owned_pieces h)
-owned_own h = elim h.plan.seal as (λ b. AllByRecursion (λ (a : area.Area). a.domain ≡ h.domain) (cond b [] (pieces h))) [ true ↦ tt | false ↦ pieces_own h ]
 
 heap_own : (h : Home) (o : Option ℕ) → AllByRecursion (λ (a : area.Area). a.domain ≡ h.domain) (option_map_or (λ address. heap_area h address ∷ []) o [])
 heap_own h None = tt
@@ -123,8 +138,23 @@ stack_own : (harts : ℕ) (h : Home) (o : Option ℕ) → AllByRecursion (λ (a 
 stack_own harts h None = tt
 stack_own harts h (Some address) = (refl, tt)
 
+input_own : (h : Home) (o : Option InputPlan) → AllByRecursion (λ (a : area.Area). a.domain ≡ h.domain) (option_map_or (λ input. input_area h input ∷ []) o [])
+input_own h None = tt
+input_own h (Some input) = (refl, tt)
+
+areas_own : (harts : ℕ) (h : Home) → AllByRecursion (λ (a : area.Area). a.domain ≡ h.domain) (areas_of harts h)
+areas_own harts h =
+    let P : area.Area → Type 0 = λ a. a.domain ≡ h.domain in
+    all-join P (pieces h ++ heaps h ++ stacks harts h) (input_areas h)
+    (all-join P (pieces h ++ heaps h) (stacks harts h) (all-join P (pieces h) (heaps h) (pieces_own h) (heap_own h h.plan.heap)) (stack_own harts h h.plan.stack))
+    (input_own h h.plan.input)
+
 gives_small : (harts modules : ℕ) (h : Home) → h.domain ≤ modules → AllByRecursion (λ (g : Give). g.value ≤ modules) (gives_of harts h)
-gives_small harts modules h le = search (arith, all-join, owned_own, heap_own, stack_own, all_mapped, all-weaker)
+gives_small harts modules h le =
+    let all = owned_areas harts h in
+    let own = owned_part (λ (a : area.Area). a.domain ≡ h.domain) harts h (areas_own harts h) in
+    all_mapped give (λ (g : Give). g.value ≤ modules) all
+    (all-weaker (λ (a : area.Area). a.domain ≡ h.domain) (λ (a : area.Area). a.domain ≤ modules) all (λ a same. omega (arith, same, le)) own)
 
 newest_small : (most d i : ℕ) (gives : List Give) → AllByRecursion (λ (g : Give). g.value ≤ most) gives → d ≤ most → newest d gives i ≤ most
 newest_small most d i [] all le = le

@@ -27,7 +27,7 @@ use Rattle.mx_boot.specs.Boot.{boot_ram, heap_of, limit_of, module_of}
 use Rattle.mx_boot.specs.Entries.{requests}
 use Rattle.mx_boot.specs.Faults.{ram_words, first_fault}
 use Rattle.mx_boot.specs.Laid.{gate_of}
-use Rattle.mx_boot.specs.Joined.{boot_parts, heap_state}
+use Rattle.mx_boot.specs.Joined.{boot_maps, boot_owners, boot_parts, heap_state}
 use Rattle.mx_boot.proofs.Apart.{all_inside}
 use Rattle.mx_boot.proofs.Booted.{IsFaultless, faultless}
 use Rattle.mx_boot.proofs.Gated.{few_gates, gates_valid, requests_asked, single_gates}
@@ -69,13 +69,13 @@ module _ (plan : Said) (images : List (List ℕ)) (in_range : IsInRange plan) (n
     | inr past ↦ (search (arith, length-map, plan.modules, get_or_past))
   ]
 
-  pub length-maps : length (boot_parts plan images).maps ≡ length plan.modules
+  pub length-maps : length (boot_maps plan images) ≡ length plan.modules
   length-maps = search (arith, length-map, length-homes)
 
-  pub parts-joined : AreJoined (boot_parts plan images)
-  parts-joined = search (arith, length-boot_ram, length-owners, length-map, plan.modules, length-maps, heap_within)
+  pub parts-joined : (inputs : List (List ℕ)) → AreJoined (boot_parts plan images inputs)
+  parts-joined inputs = search (arith, length-boot_ram, length-owners, length-map, plan.modules, length-maps, heap_within)
 
-  pub parts-gates : AllByRecursion (IsGate (length (boot_parts plan images).maps) (ram_words plan)) (map gate_of (requests plan images))
+  pub parts-gates : AllByRecursion (IsGate (length (boot_maps plan images)) (ram_words plan)) (map gate_of (requests plan images))
   parts-gates = search (arith, length-maps, gates_valid, inside, clear.asked, requests_asked)
 
   pub gates-single : AreSingle (map gate_of (requests plan images))
@@ -85,13 +85,13 @@ module _ (plan : Said) (images : List (List ℕ)) (in_range : IsInRange plan) (n
   gates-few = let few = few_gates (areas plan images) (requests plan images) clear.asked in omega (arith, length-map (requests plan images) gate_of, few)
 
 -- parts one by one
-pub parts-are : (plan : Said) (images : List (List ℕ)) (kind : Kind) (maps : List (List Perm)) (size : ℕ) (limit : Need) (buffer : ℕ) (harts : List Kept) (ram owners : List ℕ) (gates : List Gate) (heaps : List HeapState)
-    → kind ≡ plan.tables → maps ≡ (boot_parts plan images).maps → size ≡ ram_words plan → limit ≡ limit_of plan → buffer ≡ plan.lookaside → harts ≡ new_harts (length plan.harts)
-    → ram ≡ boot_ram plan images → owners ≡ (boot_parts plan images).owners → gates ≡ map gate_of (requests plan images) → heaps ≡ map heap_state plan.modules
-    → (let p : Parts = record { kind = kind; maps = maps; size = size; limit = limit; buffer = buffer; harts = harts; ram = ram; owners = owners; gates = gates; heaps = heaps } in p) ≡ boot_parts plan images
-parts-are plan images kind maps size limit buffer harts ram owners gates heaps a b c d e f g h i j = rw (a, b, c, d, e, f, g, h, i, j) refl
+pub parts-are : (plan : Said) (images inputs : List (List ℕ)) (kind : Kind) (maps : List (List Perm)) (size : ℕ) (limit : Need) (buffer : ℕ) (harts : List Kept) (ram owners : List ℕ) (gates : List Gate) (heaps : List HeapState)
+    → kind ≡ plan.tables → maps ≡ boot_maps plan images → size ≡ ram_words plan → limit ≡ limit_of plan → buffer ≡ plan.lookaside → harts ≡ new_harts (length plan.harts)
+    → ram ≡ boot_ram plan images inputs → owners ≡ boot_owners plan images → gates ≡ map gate_of (requests plan images) → heaps ≡ map heap_state plan.modules
+    → (let p : Parts = record { kind = kind; maps = maps; size = size; limit = limit; buffer = buffer; harts = harts; ram = ram; owners = owners; gates = gates; heaps = heaps } in p) ≡ boot_parts plan images inputs
+parts-are plan images inputs kind maps size limit buffer harts ram owners gates heaps a b c d e f g h i j = rw (a, b, c, d, e, f, g, h, i, j) refl
 
 -- gates that are the plan's, among maps and words that are its own
-pub gates-hold : (plan : Said) (images : List (List ℕ)) (maps : List (List Perm)) (size : ℕ) (gates : List Gate) → IsInRange plan → first_fault plan images ≡ None → maps ≡ (boot_parts plan images).maps
+pub gates-hold : (plan : Said) (images : List (List ℕ)) (maps : List (List Perm)) (size : ℕ) (gates : List Gate) → IsInRange plan → first_fault plan images ≡ None → maps ≡ boot_maps plan images
     → size ≡ ram_words plan → gates ≡ map gate_of (requests plan images) → AllByRecursion (IsGate (length maps) size) gates
 gates-hold plan images maps size gates in_range none a b c = rw (a, b, c) (parts-gates plan images in_range none)

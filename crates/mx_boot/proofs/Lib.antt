@@ -15,6 +15,7 @@ pub mod Joining
 pub mod Nearest
 pub mod OwnHeaps
 pub mod Owning
+pub mod Parted
 pub mod Placing
 pub mod Puts
 pub mod RamBytes

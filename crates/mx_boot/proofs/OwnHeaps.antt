@@ -15,17 +15,19 @@ use Rattle.mx_model.specs.Valid.{IsModule}
 use Rattle.mx_manifest.specs.declared.parts.ModulePlan.{ModulePlan}
 use Rattle.mx_manifest.specs.Plan.{Said}
 use Rattle.mx_boot.specs.declared.area.Area as area
-use Rattle.mx_boot.specs.Areas.{Home, home, homes, pieces, heap_words, heap_area, heaps, stacks, areas_of, areas}
+use Rattle.mx_boot.specs.Areas.{Home, home, homes, pieces, heap_words, heap_area, heaps, stacks, input_areas, areas_of, areas}
 use Rattle.mx_boot.specs.Boot.{heap_of, module_of, owned_pieces, gives_of, give}
 use Rattle.mx_boot.specs.Entries.{word_at}
 use Rattle.mx_boot.specs.Faults.{is_in_ram, shares_word}
+use Rattle.mx_boot.specs.Placed.{owned_areas}
 use Rattle.mx_boot.proofs.Apart.{AreClear, IsInRam, all_inside, apart_at, both_cover, end_is, in_ram}
 use Rattle.mx_boot.proofs.Homes.{home_is}
 use Rattle.mx_boot.proofs.Housed.{Inside, home_inside}
 use Rattle.mx_model.proofs.EachLaws.{all_both, all_mapped, all_flat, all_parts, all_at, any_flat, there}
 use Rattle.mx_boot.proofs.Owning.{is_over, newest_is}
+use Rattle.mx_boot.proofs.Parted.{owned_part}
 use Rattle.mx_boot.proofs.Rows.{at_mapped}
-use Rattle.mx_model.proofs.JoinLaws.{all-weaker, all-join, all-first, all-second}
+use Rattle.mx_model.proofs.JoinLaws.{all-weaker}
 
 -- an element of a list
 abbrev Has : {X : Type 0} → List X → X → Type 0
@@ -64,12 +66,16 @@ module _ (plan : Said) (images : List (List ℕ)) (words i : ℕ) (m : ModulePla
   heap_there : Has (heaps own) heap
   heap_there = subst (λ o. Has (option_map_or (λ a. heap_area own a ∷ []) o []) heap) (sym there_) (0, refl)
 
+  own_there : (first : List area.Area) → Has (first ++ heaps own ++ stacks harts own ++ input_areas own) heap
+  own_there first =
+      has_left (first ++ heaps own ++ stacks harts own) (input_areas own) heap (has_left (first ++ heaps own) (stacks harts own) heap (has_right first (heaps own) heap heap_there))
+
   all_in : Inside words (areas plan images)
   all_in = all_inside words [] (areas plan images) clear
 
   heap_in : IsInRam words heap
   heap_in =
-      let has = has_left (pieces own ++ heaps own) (stacks harts own) heap (has_right (pieces own) (heaps own) heap heap_there) in
+      let has = own_there (pieces own) in
       in_ram words heap (all_at (λ a. is_in_ram words a ≡ true) (areas_of harts own) has.0 heap (home_inside plan images words i m all_in at) has.1)
 
   word_in : word < words
@@ -87,20 +93,17 @@ module _ (plan : Said) (images : List (List ℕ)) (words i : ℕ) (m : ModulePla
 
   all_own : AllByRecursion IsOwn (areas plan images)
   all_own =
-      let has = has_flat (areas_of harts) (homes plan images) i own heap (home_is plan images i m at)
-      (has_left (pieces own ++ heaps own) (stacks harts own) heap (has_right (pieces own) (heaps own) heap heap_there)) in
+      let has = has_flat (areas_of harts) (homes plan images) i own heap (home_is plan images i m at) (own_there (pieces own)) in
       all-weaker (λ a. (is_in_ram words a ≡ true) × ((shares_word a heap ≡ false) ⊎ (a ≡ heap))) IsOwn (areas plan images) own_of
       (all_both (λ a. is_in_ram words a ≡ true) (λ a. (shares_word a heap ≡ false) ⊎ (a ≡ heap)) (areas plan images) all_in (apart_at words [] (areas plan images) clear has.0 heap has.1))
 
   gives_own : (h : Home) → AllByRecursion IsOwn (areas_of harts h) → AllByRecursion (λ (g : Give). is_over word g ≡ true → g.value ≡ i + 1) (gives_of harts h)
-  gives_own h all =
-      let most = all-first IsOwn (pieces h ++ heaps h) (stacks harts h) all in
-      search (arith, all_mapped, is_over, harts, all-join, IsOwn, all-second)
+  gives_own h all = all_mapped give (λ (g : Give). is_over word g ≡ true → g.value ≡ i + 1) (owned_areas harts h) (owned_part IsOwn harts h all)
 
   pub owner_is : (if nat_lt word words then owner (flat_map (gives_of harts) (homes plan images)) word else 0) ≡ i + 1
   owner_is =
-      let has = has_left (owned_pieces own ++ heaps own) (stacks harts own) heap (has_right (owned_pieces own) (heaps own) heap heap_there) in
-      let given = at_mapped give (owned_pieces own ++ heaps own ++ stacks harts own) has.0 heap has.1 in
+      let has = own_there (owned_pieces own) in
+      let given = at_mapped give (owned_areas harts own) has.0 heap has.1 in
       let some = any_flat (gives_of harts) (is_over word) (homes plan images) i own (home_is plan images i m at) (any_passes_from_place (is_over word) (gives_of harts own) has.0 (give heap) given over) in
       rw (below word words word_in) (newest_is 0 (i + 1) (flat_map (gives_of harts) (homes plan images)) word
       (search (arith, all_flat, harts, is_over, all-weaker, IsOwn, gives_own, all_parts, all_own)) (inl some))

@@ -1,5 +1,6 @@
 -- What the modules of a plan without a fault bring: areas apart in RAM, each of some words, and bytes that lie there.
-use Rattle.std.proofs.Common.{◌≡◌, ℕ, ◌*◌, ◌%◌, ◌<◌, ◌≤◌, true, false, cond, List, [], ◌∷◌, ◌++◌, length, map, take, drop, slice_get, Option, Some, None, IfSome, unwrap_or, Result, Ok, Err, refl, subst, arith, mul-le-mul_left, length-take}
+use Rattle.std.proofs.Common.{◌≡◌, ℕ, ◌*◌, ◌%◌, ◌<◌, ◌≤◌, true, false, cond, List, [], ◌∷◌, ◌++◌, length, map, take, drop, slice_get, Option, Some, None, IfSome, unwrap_or, Result, Ok, Err, refl, subst, arith, mul-le-mul_left, length-take, get_or}
+use Rattle.std.proofs.lemmas.List.{length-append}
 use Rattle.std.specs.List.{AllByRecursion, enumerate_from, flat_map}
 use Rattle.std.specs.Option.{is_some, option_map_or}
 use Rattle.mx_elf.specs.declared.image.Image.{Image}
@@ -8,34 +9,31 @@ use Rattle.mx_elf.specs.declared.segment.Seg.{Seg}
 use Rattle.mx_elf.specs.Image.{IsSound, image_of}
 use Rattle.mx_elf.specs.Segment.{word_count}
 use Rattle.mx_elf.proofs.Sound.{sound-image}
+use Rattle.mx_manifest.specs.declared.parts.InputPlan.{InputPlan}
 use Rattle.mx_manifest.specs.declared.parts.ModulePlan.{ModulePlan}
 use Rattle.mx_manifest.specs.InRange.{IsAligned, IsBetween, IsInRange}
 use Rattle.mx_manifest.specs.InRange as range
 use Rattle.mx_manifest.specs.Plan.{Said}
 use Rattle.mx_boot.specs.declared.area.Area.{Area}
-use Rattle.mx_boot.specs.Areas.{Home, home, homes, has_image, image, read_as, pieces, segment_area, inline_area, inline_address, word_bytes, stack_words, heap_area, stack_area, heaps, stacks, areas_of, areas, contents, segment_content, inline_content}
+use Rattle.mx_boot.specs.Areas.{Home, home, homes, has_image, image, read_as, pieces, segment_area, inline_area, inline_address, word_bytes, stack_words, heap_area, stack_area, input_area, heaps, stacks, input_areas, areas_of, areas, contents, segment_content, inline_content, input_content}
 use Rattle.mx_boot.specs.Faults.{first_fault, is_in_ram, ram_words}
+use Rattle.mx_boot.specs.Inputs.{AreInputs, FitsArea}
 use Rattle.mx_boot.specs.Placed.{ArePlaced, HasRoom, IsApart, IsPlaced, granted_areas, owned_areas}
 use Rattle.mx_boot.proofs.Apart.{AreClear, all_inside, apart_at, in_ram}
 use Rattle.mx_boot.proofs.Booted.{faultless}
 use Rattle.mx_boot.proofs.Homes.{home_is}
 use Rattle.mx_boot.proofs.Housed.{has_words}
+use Rattle.mx_boot.proofs.Parted.{granted_part, owned_part, piece_part, input_part}
 use Rattle.mx_model.proofs.EachLaws.{all_at, all_both, all_flat, all_mapped, all_numbered, all_parts, all_unmapped}
 use Rattle.mx_machine.proofs.SmallLaws.{from-each}
-use Rattle.mx_model.proofs.JoinLaws.{all-weaker, all-join, all-first, all-second}
+use Rattle.mx_model.proofs.JoinLaws.{all-weaker, all-join}
 
--- what holds of all areas holds of those of a module, of those with rights and of its own
+-- what holds of all areas holds of those of a module
 pub home_all : (P : Area → Type 0) (plan : Said) (images : List (List ℕ)) (i : ℕ) (m : ModulePlan) → AllByRecursion P (areas plan images) → slice_get plan.modules i ≡ Some m
     → AllByRecursion P (areas_of (length plan.harts) (home images (i, m)))
 home_all P plan images i m all at =
     all_at (λ h. AllByRecursion P (areas_of (length plan.harts) h)) (homes plan images) i (home images (i, m))
     (all_parts (areas_of (length plan.harts)) P (homes plan images) all) (home_is plan images i m at)
-
-granted_part : (P : Area → Type 0) (harts : ℕ) (h : Home) → AllByRecursion P (areas_of harts h) → AllByRecursion P (granted_areas harts h)
-granted_part P harts h all = search (arith, all-join, all-first, all-second)
-
-owned_part : (P : Area → Type 0) (harts : ℕ) (h : Home) → AllByRecursion P (areas_of harts h) → AllByRecursion P (owned_areas harts h)
-owned_part P harts h all = search (arith, all-first, all-join, all-second)
 
 -- each area has words
 abbrev HasWords : Area → Type 0
@@ -72,11 +70,17 @@ stacks_some harts h (Some address) one e whole between = (
   tt,
 )
 
+inputs_some : (h : Home) (o : Option InputPlan) → IfSome o range.IsInput → AllByRecursion HasWords (option_map_or (λ input. input_area h input ∷ []) o [])
+inputs_some h None in_range = tt
+inputs_some h (Some input) in_range = ((let some = in_range.words.0 in omega (arith, some)), tt)
+
 areas_some : (modules harts : ℕ) (h : Home) → range.IsModule modules h.domain h.plan → 1 ≤ harts → AllByRecursion HasWords (areas_of harts h)
 areas_some modules harts h in_range one =
-    all-join HasWords (pieces h ++ heaps h) (stacks harts h)
+    all-join HasWords (pieces h ++ heaps h ++ stacks harts h) (input_areas h)
+    (all-join HasWords (pieces h ++ heaps h) (stacks harts h)
     (all-join HasWords (pieces h) (heaps h) (pieces_some modules h in_range) (heaps_some h h.plan.heap refl in_range.heap_whole in_range.heap_words))
-    (stacks_some harts h h.plan.stack one refl in_range.stack_whole in_range.stack_words)
+    (stacks_some harts h h.plan.stack one refl in_range.stack_whole in_range.stack_words))
+    (inputs_some h h.plan.input in_range.input)
 
 -- the bytes of a loaded segment or of inline words lie in its area
 pub length-word_bytes : (words : List ℕ) → length (flat_map word_bytes words) ≡ 4 * length words
@@ -104,6 +108,22 @@ contents_room words h aligned all = elim (has_image h) as (λ b. AllByRecursion 
           (all_unmapped (segment_area h) (λ a. is_in_ram words a ≡ true) (image h).segments k)))
       | false ↦ λ k. (inline_room words h aligned k.0, tt)
     ] all
+
+-- and so do those of an input that fits it
+input_room : (words : ℕ) (h : Home) (bytes : List ℕ) (o : Option InputPlan) → IfSome o range.IsInput → IfSome o (λ input. FitsArea input bytes)
+    → AllByRecursion (λ a. is_in_ram words a ≡ true) (option_map_or (λ input. input_area h input ∷ []) o []) → IfSome o (λ input. HasRoom (4 * words) (input_content bytes input))
+input_room words h bytes None in_range fits inside = tt
+input_room words h bytes (Some input) in_range fits inside =
+    let r = in_ram words (input_area h input) inside.0 in
+    let from = r.from in
+    let to = r.to in
+    let aligned = in_range.address.0 in
+    let long = length-append (word_bytes (length bytes)) bytes in
+    record { from = from; to = omega (arith, from, to, aligned, long, fits) }
+
+pub aligned_input : (o : Option InputPlan) → IfSome o range.IsInput → IfSome o (λ input. input.address % 4 ≡ 0)
+aligned_input None h = tt
+aligned_input (Some input) h = h.address.0
 
 inline_aligned : (o : Option ℕ) → IfSome o IsAligned → unwrap_or o 0 % 4 ≡ 0
 inline_aligned None h = refl
@@ -140,8 +160,8 @@ module _ (plan : Said) (images : List (List ℕ)) (in_range : IsInRange plan) (c
       record {
         granted = record { each = granted_part (IsPlaced (ram_words plan)) harts h all; apart = granted_apart i m at };
         owned = owned_part (IsPlaced (ram_words plan)) harts h all;
-        room = contents_room (ram_words plan) h aligned (all-first (λ a. is_in_ram (ram_words plan) a ≡ true) (pieces h) (heaps h) (all-first (λ a. is_in_ram (ram_words plan) a ≡ true) (pieces h ++ heaps h) (stacks harts h)
-            (home_all (λ a. is_in_ram (ram_words plan) a ≡ true) plan images i m (all_inside (ram_words plan) [] (areas plan images) clear) at)));
+        room = contents_room (ram_words plan) h aligned (piece_part (λ a. is_in_ram (ram_words plan) a ≡ true) harts h
+            (home_all (λ a. is_in_ram (ram_words plan) a ≡ true) plan images i m (all_inside (ram_words plan) [] (areas plan images) clear) at));
         aligned = aligned;
       }
 
@@ -149,6 +169,23 @@ module _ (plan : Said) (images : List (List ℕ)) (in_range : IsInRange plan) (c
   homes_ready = all_mapped (home images) (IsReady (ram_words plan) (length plan.harts)) (enumerate_from 0 plan.modules)
       (all_numbered (λ (p : ℕ × ModulePlan). IsReady (ram_words plan) (length plan.harts) (home images p)) 0 plan.modules
       (λ i m at. subst (λ k. IsReady (ram_words plan) (length plan.harts) (home images (k, m))) (omega arith) (module_ready i m at)))
+
+-- no bytes fit every area
+empty_in : (o : Option InputPlan) → IfSome o range.IsInput → IfSome o (λ input. FitsArea input [])
+empty_in None in_range = tt
+empty_in (Some input) in_range = let some = in_range.words.0 in omega (arith, some)
+
+pub empty_fit : (plan : Said) → IsInRange plan → AreInputs plan []
+empty_fit plan in_range = record { fit = λ i m at. empty_in m.input (in_range.modules i m at).input }
+
+-- the input of each module has room where its area lies
+pub inputs_room : (plan : Said) (images inputs : List (List ℕ)) → IsInRange plan → first_fault plan images ≡ None → AreInputs plan inputs
+    → (i : ℕ) (m : ModulePlan) → slice_get plan.modules i ≡ Some m → IfSome m.input (λ input. HasRoom (4 * ram_words plan) (input_content (get_or inputs i []) input))
+inputs_room plan images inputs in_range none are i m at =
+    let h = home images (i, m) in
+    let inside = all_inside (ram_words plan) [] (areas plan images) (faultless plan images none).placed in
+    input_room (ram_words plan) h (get_or inputs i []) m.input (in_range.modules i m at).input (are.fit i m at)
+    (input_part (λ a. is_in_ram (ram_words plan) a ≡ true) (length plan.harts) h (home_all (λ a. is_in_ram (ram_words plan) a ≡ true) plan images i m inside at))
 
 pub ready : (plan : Said) (images : List (List ℕ)) → IsInRange plan → first_fault plan images ≡ None → (i : ℕ) (h : Home) → slice_get (homes plan images) i ≡ Some h → IsReady (ram_words plan) (length plan.harts) h
 ready plan images in_range none i h at =

@@ -63,3 +63,13 @@ next-contents f xs i x old now new at so_far put_ =
     put_ ∙ ap (λ ram. fold with_content ram (f x)) so_far ∙ sym (fold-append with_content old (flat_map f (take i xs)) (f x))
     ∙ ap (λ cs. fold with_content old (flat_map f (take i xs) ++ cs)) (sym (append-nil (f x)))
     ∙ ap (fold with_content old) (sym (flat_map-append f (take i xs) (x ∷ [])) ∙ ap (flat_map f) (sym (take_at xs i x at)))
+
+-- a word that tells how many bytes follow, and then those
+pub sized-long : (bytes : List ℕ) → length (word_bytes (length bytes) ++ bytes) ≡ 4 + length bytes
+sized-long bytes = omega arith
+
+pub sized-put : (old between new : List ℕ) (k next : ℕ) (bytes : List ℕ) → next ≡ k + 4 → between ≡ put_at old k 4 (length bytes) → new ≡ put between next bytes
+    → new ≡ put old k (word_bytes (length bytes) ++ bytes)
+sized-put old between new k next bytes here first rest =
+    rest ∙ ap (λ n. put between n bytes) here ∙ ap (λ ram. put ram (k + 4) bytes) (first ∙ one_word old k (length bytes))
+    ∙ sym (put-append old k (word_bytes (length bytes)) bytes)

@@ -5,12 +5,12 @@ use Rattle.std.proofs.lemmas.List.{map-append, take_all}
 use Rattle.mx_words.specs.declared.perm.Perm.{Perm}
 use Rattle.mx_words.specs.declared.perm.Span.{Span}
 use Rattle.mx_words.specs.Newest.{map as map_of}
-use Rattle.mx_model.specs.State.{flat}
 use Rattle.mx_table.specs.Tables.{IsRow, row_map}
 use Rattle.mx_manifest.specs.Plan.{Said}
 use Rattle.mx_boot.specs.Areas.{Home, homes}
-use Rattle.mx_boot.specs.Boot.{boot_state, grants_of}
+use Rattle.mx_boot.specs.Boot.{grants_of}
 use Rattle.mx_boot.specs.Faults.{ram_words}
+use Rattle.mx_boot.specs.Joined.{boot_maps}
 use Rattle.mx_boot.proofs.Rows.{grown_by_one}
 use Rattle.mx_model.proofs.JoinLaws.{all-join}
 
@@ -36,5 +36,5 @@ maps_are plan [] = refl
 maps_are plan (h ∷ hs) = ap (λ ms. home_map plan h ∷ ms) (maps_are plan hs)
 
 pub rows-end : (plan : Said) (images : List (List ℕ)) (i : ℕ) (rows : List (List Span)) → length (homes plan images) ≤ i → AreRowsTo plan images i rows
-    → map (row_map (ram_words plan)) rows ≡ (flat (boot_state plan images)).maps
+    → map (row_map (ram_words plan)) rows ≡ boot_maps plan images
 rows-end plan images i rows past so_far = so_far.maps ∙ ap (map (home_map plan)) (take_all i (homes plan images) past) ∙ maps_are plan (homes plan images)

@@ -1,5 +1,5 @@
 -- The machine that starts with the parts of a plan without a fault is the flat state at boot.
-use Rattle.std.proofs.Common.{◌≡◌, inl, inr, ℕ, zero, suc, ◌+◌, ◌-◌, ◌*◌, ◌/◌, ◌%◌, ◌≤◌, true, false, cond, ◌==◌, List, [], ◌∷◌, ◌++◌, length, get_or, set, map, replicate, slice_get, Option, Some, None, IfSome, option_map, refl, ap, ◌∙◌, sym, subst, arith, mul_assoc}
+use Rattle.std.proofs.Common.{◌≡◌, inl, inr, ℕ, zero, suc, ◌+◌, ◌-◌, ◌*◌, ◌/◌, ◌%◌, ◌≤◌, true, false, cond, ◌==◌, List, [], ◌∷◌, length, get_or, set, map, replicate, slice_get, Option, Some, None, IfSome, option_map, refl, ap, ◌∙◌, sym, subst, arith, mul_assoc}
 use Rattle.std.specs.List.{AllByRecursion, enumerate_from}
 use Rattle.std.specs.Option.{is_some, option_map_or}
 use Rattle.std.proofs.lemmas.Bool.Decides.{nat_tests}
@@ -22,7 +22,7 @@ use Rattle.mx_manifest.specs.declared.parts.HartPlan.{HartPlan}
 use Rattle.mx_manifest.specs.declared.parts.ModulePlan.{ModulePlan}
 use Rattle.mx_manifest.specs.InRange.{IsAligned, IsBetween, IsInRange}
 use Rattle.mx_manifest.specs.Plan.{Said}
-use Rattle.mx_boot.specs.Areas.{stack_words, stack_area, stacks, pieces, heaps, areas}
+use Rattle.mx_boot.specs.Areas.{stack_words, stack_area, areas}
 use Rattle.mx_boot.specs.Areas as areas_spec
 use Rattle.mx_boot.specs.Boot.{boot_state, hart_at_boot, heap_of, module_of, stack_address, stack_of}
 use Rattle.mx_boot.specs.Entries.{word_at}
@@ -36,9 +36,9 @@ use Rattle.mx_boot.proofs.Harted.{hart_valid}
 use Rattle.mx_boot.proofs.Homes.{hart_domain}
 use Rattle.mx_boot.proofs.Housed.{Inside, has_words, home_inside, modules_valid}
 use Rattle.mx_boot.proofs.Joining.{length-maps}
+use Rattle.mx_boot.proofs.Parted.{stack_part}
 use Rattle.mx_model.proofs.EachLaws.{all_mapped, all_at, there}
 use Rattle.mx_boot.proofs.Rows.{at_mapped}
-use Rattle.mx_model.proofs.JoinLaws.{all-second}
 
 -- what a plan without a fault says of a module's stack
 pub record HasStack (h : ℕ) (m : ModulePlan) : Type 0 where
@@ -117,7 +117,7 @@ module _ (plan : Said) (images : List (List ℕ)) (in_range : IsInRange plan) (n
   has_stack h i m at =
       let g = areas_spec.home images (i, m) in
       let r = in_range.modules i m at in
-      let own = all-second (λ a. is_in_ram (ram_words plan) a ≡ true) (pieces g ++ heaps g) (stacks (length plan.harts) g) (home_inside plan images (ram_words plan) i m inside at) in
+      let own = stack_part (λ a. is_in_ram (ram_words plan) a ≡ true) (length plan.harts) g (home_inside plan images (ram_words plan) i m inside at) in
       record {
         stack = stack_told m m.stack refl r.stack_whole r.stack_words;
         behind = stack_behind (ram_words plan) (length plan.harts) h g m.stack refl r.stack_whole r.stack_words r.stack own;
@@ -148,25 +148,25 @@ module _ (plan : Said) (images : List (List ℕ)) (in_range : IsInRange plan) (n
         found.1,
       )
 
-  pub boots-as : started (boot_parts plan images) (hart_starts plan images) (stack_areas plan) ≡ flat (boot_state plan images)
+  pub boots-as : (inputs : List (List ℕ)) → started (boot_parts plan images inputs) (hart_starts plan images) (stack_areas plan) ≡ flat (boot_state plan images inputs)
   unfolding rest
-  boots-as =
-      let s = boot_state plan images in
+  boots-as inputs =
+      let s = boot_state plan images inputs in
       let harts = harts_are plan images (stack_areas plan) (new_harts (length plan.harts)) 0 plan.harts hart_is in
       let modules = modules_are rest 0 plan.modules module_is in
       let caches = caches_none (length plan.harts) in
       search (arith, s.core.modules, s.core.harts)
 
-  pub may-start : MayStart (boot_parts plan images) (hart_starts plan images) (stack_areas plan)
-  may-start =
+  pub may-start : (inputs : List (List ℕ)) → MayStart (boot_parts plan images inputs) (hart_starts plan images) (stack_areas plan)
+  may-start inputs =
       let count : length (hart_starts plan images) ≡ length plan.harts = length-map plan.harts (hart_start_of (start_of plan images)) in
       let few = in_range.ram_kib in
       let maps = length-maps plan images in_range none in
       record {
         some_harts = (let some = in_range.hart_count in omega (arith, count, some.0));
         new = ap new_harts (sym count);
-        each = all_mapped (hart_start_of (start_of plan images)) (IsStart (boot_parts plan images)) plan.harts
-            (from-each (λ x. IsStart (boot_parts plan images) (hart_start_of (start_of plan images) x)) plan.harts
+        each = all_mapped (hart_start_of (start_of plan images)) (IsStart (boot_parts plan images inputs)) plan.harts
+            (from-each (λ x. IsStart (boot_parts plan images inputs) (hart_start_of (start_of plan images) x)) plan.harts
             (λ i x at. let v = hart_valid plan images (ram_words plan) i x in_range (omega (arith, few.1)) inside clear.started at in
             let d = v.domain in record { domain = (let first = d.first in let last = d.last in record { first = first; last = omega (arith, maps, last) }); pc = v.pc.aligned }));
         count = length-map plan.modules stack_area_of ∙ sym maps;

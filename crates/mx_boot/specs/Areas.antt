@@ -10,6 +10,7 @@ use Rattle.mx_elf.specs.declared.segment.Seg.{Seg}
 use Rattle.mx_elf.specs.Image.{image_of}
 use Rattle.mx_elf.specs.Segment.{word_count, permission_of}
 use Rattle.mx_manifest.specs.declared.fault.Key.TheVariants as key
+use Rattle.mx_manifest.specs.declared.parts.InputPlan.{InputPlan}
 use Rattle.mx_manifest.specs.declared.parts.ModulePlan.{ModulePlan}
 use Rattle.mx_manifest.specs.Plan.{Said}
 use Rattle.mx_boot.specs.declared.area.Area.{Area}
@@ -103,9 +104,22 @@ heaps h = option_map_or (λ address. heap_area h address ∷ []) h.plan.heap []
 abbrev pub stacks : ℕ → Home → List Area
 stacks harts h = option_map_or (λ address. stack_area harts h address ∷ []) h.plan.stack []
 
+-- the area of its input, with the permission that the manifest says
+abbrev pub input_area : Home → InputPlan → Area
+input_area h input = record {
+  domain = h.domain;
+  key = key.InputAt;
+  address = input.address;
+  count = input.words;
+  perm = input.perm;
+}
+
+abbrev pub input_areas : Home → List Area
+input_areas h = option_map_or (λ input. input_area h input ∷ []) h.plan.input []
+
 -- the areas of a module, and of all modules, in the order in which they are judged
 abbrev pub areas_of : ℕ → Home → List Area
-areas_of harts h = pieces h ++ heaps h ++ stacks harts h
+areas_of harts h = pieces h ++ heaps h ++ stacks harts h ++ input_areas h
 
 abbrev pub areas : Said → List (List ℕ) → List Area
 areas plan images = flat_map (areas_of (length plan.harts)) (homes plan images)
@@ -132,3 +146,18 @@ abbrev pub contents : Home → List Content
 contents h =
     if has_image h then map (segment_content h.bytes) (image h).segments
     else inline_content h.plan ∷ []
+
+-- what an input puts there: the number of its file's bytes as a word, and then these bytes; what is left of its area stays zero
+abbrev pub input_content : List ℕ → InputPlan → Content
+input_content bytes input =
+    record { address = input.address; bytes = word_bytes (length bytes) ++ bytes }
+
+abbrev pub input_contents : List ℕ → ModulePlan → List Content
+input_contents bytes plan = option_map_or (λ input. input_content bytes input ∷ []) plan.input []
+
+-- what the input of the module at a place puts there, and what all inputs do
+abbrev pub placed_input : List (List ℕ) → ℕ × ModulePlan → List Content
+placed_input inputs placed = input_contents (slice_index_or inputs placed.0 []) placed.1
+
+abbrev pub all_inputs : Said → List (List ℕ) → List Content
+all_inputs plan inputs = flat_map (placed_input inputs) (enumerate_from 0 plan.modules)

@@ -1,4 +1,4 @@
--- The state at boot: what a plan and its images give if they have no fault and their maps fit.
+-- The state at boot: what a plan, its images and its inputs give if they have no fault and their maps fit.
 -- The rules: docs/MACHINE.md, "Memory, domains, harts".
 use Rattle.std.specs.Prelude.{ℕ, ◌+◌, ◌-◌, ◌*◌, false, if◌then◌else◌, List, [], ◌++◌, length, replicate, slice_set, slice_get, fold, map, Option, Some, None, unwrap_or, Result, Ok, Err}
 use Rattle.std.specs.List.{enumerate_from, flat_map}
@@ -16,7 +16,7 @@ use Rattle.mx_manifest.specs.declared.parts.ModulePlan.{ModulePlan}
 use Rattle.mx_manifest.specs.Plan.{Said}
 use Rattle.mx_boot.specs.declared.area.Area as area
 use Rattle.mx_boot.specs.declared.gates.Request.{Request}
-use Rattle.mx_boot.specs.Areas.{Home, homes, Content, contents, pieces, heaps, stacks, heap_words, stack_words}
+use Rattle.mx_boot.specs.Areas.{Home, homes, Content, contents, all_inputs, pieces, heaps, stacks, input_areas, heap_words, stack_words}
 use Rattle.mx_boot.specs.Entries.{requests, hart_start, word_at}
 use Rattle.mx_boot.specs.Faults.{first_fault, ram_words}
 
@@ -26,10 +26,11 @@ with_content ram c =
     fold (λ ram (p : ℕ × ℕ). slice_set ram p.0 p.1) ram
     (enumerate_from (c.address - ram_base) c.bytes)
 
--- RAM at boot: zeros but for what the modules put there
-abbrev pub boot_ram : Said → List (List ℕ) → List ℕ
-boot_ram plan images =
-    fold with_content (replicate (4 * ram_words plan) 0) (flat_map contents (homes plan images))
+-- RAM at boot: zeros but for what the modules put there, and then their inputs
+abbrev pub boot_ram : Said → List (List ℕ) → List (List ℕ) → List ℕ
+boot_ram plan images inputs =
+    fold with_content (replicate (4 * ram_words plan) 0)
+    (flat_map contents (homes plan images) ++ all_inputs plan inputs)
 
 -- an area's grant of its permission to its module, and its give to its module
 abbrev pub grant : area.Area → Grant
@@ -38,16 +39,24 @@ grant a = record { first = word_at a.address; count = a.count; value = a.perm }
 abbrev pub give : area.Area → Give
 give a = record { first = word_at a.address; count = a.count; value = a.domain }
 
--- a module's grants: one for each loaded segment or for its inline words, and one for its stack area
+-- a module's grants: one for each loaded segment or for its inline words, one for its stack area, and one for its input area
 abbrev pub grants_of : ℕ → Home → List Grant
-grants_of harts h = map grant (pieces h ++ stacks harts h)
+grants_of harts h = map grant (pieces h ++ stacks harts h ++ input_areas h)
 
--- its gives: one for each segment or for its inline words, unless it is sealed, and one for its heap area and its stack area
+-- its gives: one for each segment or for its inline words, unless it is sealed, and one for its heap area, its stack area and its
+-- input area
 abbrev pub owned_pieces : Home → List area.Area
 owned_pieces h = if h.plan.seal then [] else pieces h
 
 abbrev pub gives_of : ℕ → Home → List Give
-gives_of harts h = map give (owned_pieces h ++ heaps h ++ stacks harts h)
+gives_of harts h = map give (owned_pieces h ++ heaps h ++ stacks harts h ++ input_areas h)
+
+-- those of all modules
+abbrev pub boot_grants : Said → List (List ℕ) → List (List Grant)
+boot_grants plan images = map (grants_of (length plan.harts)) (homes plan images)
+
+abbrev pub boot_gives : Said → List (List ℕ) → List Give
+boot_gives plan images = flat_map (gives_of (length plan.harts)) (homes plan images)
 
 -- a module as it stands in the state
 abbrev pub heap_of : ModulePlan → Area
@@ -93,10 +102,10 @@ abbrev pub limit_of : Said → Need
 limit_of plan = record { upper = plan.upper; leaf = plan.leaf; spill = plan.spill }
 
 -- the state at boot of a plan without a fault
-abbrev pub boot_state : Said → List (List ℕ) → State
-boot_state plan images = record {
+abbrev pub boot_state : Said → List (List ℕ) → List (List ℕ) → State
+boot_state plan images inputs = record {
   core = record {
-    ram = boot_ram plan images;
+    ram = boot_ram plan images inputs;
     modules = map module_of plan.modules;
     gates = map (λ (r : Request). r.gate) (requests plan images);
     harts = map (hart_at_boot plan images) (enumerate_from 0 plan.harts);
@@ -107,8 +116,8 @@ boot_state plan images = record {
     limit = limit_of plan;
     buffer = plan.lookaside;
   };
-  grants = map (grants_of (length plan.harts)) (homes plan images);
-  gives = flat_map (gives_of (length plan.harts)) (homes plan images);
+  grants = boot_grants plan images;
+  gives = boot_gives plan images;
   console = [];
   notes = [];
 }
@@ -128,5 +137,6 @@ unless (Some fault) boot = Err (Faulty fault)
 unless None boot = boot
 
 -- the first fault, or the need of the maps where it exceeds the limit, or else the state at boot
-unfoldable pub boot_of : Said → List (List ℕ) → Result State Refusal
-boot_of plan images = unless (first_fault plan images) (limited (boot_state plan images))
+unfoldable pub boot_of : Said → List (List ℕ) → List (List ℕ) → Result State Refusal
+boot_of plan images inputs =
+    unless (first_fault plan images) (limited (boot_state plan images inputs))

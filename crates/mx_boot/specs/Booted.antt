@@ -15,6 +15,7 @@ IsRefusedBy boot (TablesFull need limit) = boot ≡ Err (TooFull need limit)
 IsRefusedBy boot NoMemory = Unit {0}
 
 -- a machine that is the state at boot; or the first fault, or the need of the maps; or no memory
-abbrev pub IsBooted : Said → List (List ℕ) → Result AnyMachine BootRefused → Type 0
-IsBooted plan images (Ok m) = (s : State) × (boot_of plan images ≡ Ok s) × (meaning m ≡ flat s)
-IsBooted plan images (Err refused) = IsRefusedBy (boot_of plan images) refused
+abbrev pub IsBooted : Said → List (List ℕ) → List (List ℕ) → Result AnyMachine BootRefused → Type 0
+IsBooted plan images inputs (Ok m) =
+    (s : State) × (boot_of plan images inputs ≡ Ok s) × (meaning m ≡ flat s)
+IsBooted plan images inputs (Err refused) = IsRefusedBy (boot_of plan images inputs) refused

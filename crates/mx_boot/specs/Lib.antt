@@ -1,9 +1,10 @@
 pub mod Areas
 pub mod Boot
 pub mod Booted
+pub mod Bytes
 pub mod Entries
 pub mod Faults
-pub mod Images
+pub mod Inputs
 pub mod Joined
 pub mod Laid
 pub mod Placed

@@ -4,17 +4,17 @@ use Rattle.std.specs.Prelude.{◌≡◌, ◌⊎◌, ℕ, ◌+◌, ◌-◌, ◌<�
 use Rattle.std.specs.List.{AllByRecursion, flat_map}
 use Rattle.mx_words.specs.Ranges.{ram_base}
 use Rattle.mx_boot.specs.declared.area.Area.{Area}
-use Rattle.mx_boot.specs.Areas.{Home, Content, pieces, heaps, stacks, word_bytes}
+use Rattle.mx_boot.specs.Areas.{Home, Content, pieces, heaps, stacks, input_areas, word_bytes}
 use Rattle.mx_boot.specs.Boot.{owned_pieces}
 use Rattle.mx_boot.specs.Entries.{word_at}
 use Rattle.mx_boot.specs.Faults.{is_in_ram, shares_word}
 
 -- the areas on which a module has rights, and those that it owns
 abbrev pub granted_areas : ℕ → Home → List Area
-granted_areas harts h = pieces h ++ stacks harts h
+granted_areas harts h = pieces h ++ stacks harts h ++ input_areas h
 
 abbrev pub owned_areas : ℕ → Home → List Area
-owned_areas harts h = owned_pieces h ++ heaps h ++ stacks harts h
+owned_areas harts h = owned_pieces h ++ heaps h ++ stacks harts h ++ input_areas h
 
 -- an area of some words, in a RAM of so many words
 pub record IsPlaced (words : ℕ) (a : Area) : Type 0 where

@@ -3,12 +3,13 @@
 use mx_manifest::Key;
 use mx_words::Perm;
 
-/// An area that a module claims: a loaded segment of its image or its inline words, its heap area, or its stack area.
+/// An area that a module claims: a loaded segment of its image or its inline words, its heap area, its stack area, or its
+/// input area.
 #[derive(Clone, Copy, PartialEq, Eq)]
 pub struct Area {
     /// The module's domain, from 1.
     pub domain: u32,
-    /// The key of the manifest by which it is claimed: `Image`, `At`, `Heap` or `Stack`.
+    /// The key of the manifest by which it is claimed: `Image`, `At`, `Heap`, `Stack` or `InputAt`.
     pub key: Key,
     /// The address of its first byte.
     pub address: u32,

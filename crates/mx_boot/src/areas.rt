@@ -4,7 +4,7 @@ ghost use Rattle.std.specs.Prelude.{◌≡◌, ◌++◌, ◌≤◌, [], ◌∷�
 ghost use Rattle.mx_words.specs.FirstRow.{first_row};
 ghost use Rattle.mx_words.specs.Limits.{most_harts};
 ghost use Rattle.mx_elf.specs.Segment.{permission_of, word_count};
-ghost use Rattle.mx_boot.specs.Areas.{areas, areas_of, heaps, inline_area, pieces, segment_area, stacks};
+ghost use Rattle.mx_boot.specs.Areas.{areas, areas_of, heaps, inline_area, input_areas, pieces, segment_area, stacks};
 ghost use Rattle.mx_boot.specs.Faults.{area_rows, areas_rows, is_in_ram, shares_word};
 ghost use Rattle.mx_boot.specs.Seen.{seen};
 
@@ -144,6 +144,25 @@ pub(crate) fn add_stack(areas: &mut Vec<Area>, home: Home, harts: u32) -> Result
     }
 }
 
+/// Adds a module's input area, if it has one.
+pub(crate) fn add_input(areas: &mut Vec<Area>, home: Home) -> Result<(), NoMemory>
+    ensures { OnOk result (areas.new.items ≡ areas.old.items ++ input_areas (seen home.entry)) }
+{
+    match &home.plan.input {
+        Some(input) => {
+            let area = Area {
+                domain: home.domain,
+                key: Key::InputAt,
+                address: input.address,
+                count: input.words,
+                perm: input.perm,
+            };
+            add(areas, area)
+        }
+        None => Ok(()),
+    }
+}
+
 /// Adds the areas of a module.
 fn add_areas(areas: &mut Vec<Area>, home: Home, harts: u32) -> Result<(), NoMemory>
     requires few { IfSome (seen home).plan.stack_words (λ words. words ≤ 1048576) }
@@ -152,7 +171,8 @@ fn add_areas(areas: &mut Vec<Area>, home: Home, harts: u32) -> Result<(), NoMemo
 {
     add_pieces(areas, home)?;
     add_heap(areas, home)?;
-    add_stack(areas, home, harts)
+    add_stack(areas, home, harts)?;
+    add_input(areas, home)
 }
 
 /// The areas of all modules, in the order in which they are judged.

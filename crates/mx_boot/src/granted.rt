@@ -5,14 +5,14 @@ ghost use Rattle.std.specs.List.{AllByRecursion};
 ghost use Rattle.mx_table.specs.Tables.{IsRow, most_words, row_map};
 ghost use Rattle.mx_words.specs.Newest.{map as map_of};
 ghost use Rattle.mx_words.specs.Limits.{most_harts};
-ghost use Rattle.mx_model.specs.State.{flat};
-ghost use Rattle.mx_boot.specs.Boot.{boot_state, grant, grants_of};
+ghost use Rattle.mx_boot.specs.Boot.{grant, grants_of};
 ghost use Rattle.mx_boot.specs.Faults.{first_fault, ram_words};
+ghost use Rattle.mx_boot.specs.Joined.{boot_maps};
 ghost use Rattle.mx_boot.specs.Placed.{ArePlaced, granted_areas, nearer, next_area};
 ghost use Rattle.mx_boot.specs.Seen.{seen};
 
 use crate::area::Area;
-use crate::areas::{add_pieces, add_stack};
+use crate::areas::{add_input, add_pieces, add_stack};
 use crate::entries::word_at;
 use crate::home::{Home, home_at};
 use crate::images::Images;
@@ -30,6 +30,7 @@ fn granted_areas(alloc: Global, home: Home, harts: u32) -> Result<Vec<Area>, NoM
     let mut areas = Vec::new(alloc);
     add_pieces(&mut areas, home)?;
     add_stack(&mut areas, home, harts)?;
+    add_input(&mut areas, home)?;
     Ok(areas)
 }
 
@@ -106,7 +107,7 @@ pub(crate) fn rows(alloc: Global, plan: &Plan, images: &Images) -> Result<Vec<Sp
     requires { first_fault plan.now images.now ≡ None }
     ensures rows { IfOk result (λ rows. AllByRecursion (IsRow (ram_words plan.now)) rows.items) }
     ensures maps { IfOk result (λ rows. map (row_map (ram_words plan.now)) rows.items
-        ≡ (flat (boot_state plan.now images.now)).maps) }
+        ≡ boot_maps plan.now images.now) }
 {
     plan_is_in_range(plan);
     let words = ram_words(plan);

@@ -6,6 +6,7 @@ ghost use Rattle.mx_model.specs.Gates.{AreSingle};
 ghost use Rattle.mx_supervisor.specs.Parts.{parts_of};
 ghost use Rattle.mx_boot.specs.Boot.{boot_of, boot_state};
 ghost use Rattle.mx_boot.specs.Booted.{IsRefusedBy};
+ghost use Rattle.mx_boot.specs.Inputs.{AreInputs};
 ghost use Rattle.mx_boot.specs.Joined.{boot_parts};
 ghost use Rattle.mx_boot.specs.Laid.{IsLayout};
 
@@ -22,6 +23,7 @@ use mx_manifest::{Plan, plan_is_in_range};
 use mx_model::Gate;
 use mx_supervisor::Supervisor;
 use mx_table::PermTables;
+use mx_words::Blob;
 use std::alloc::Global;
 
 /// Gates of which no two have one domain and word.
@@ -45,18 +47,21 @@ pub(crate) fn join<T: PermTables, const N: usize>(
     alloc: Global,
     plan: &Plan,
     images: &Images,
+    inputs: &[Blob],
     layout: &Layout,
 ) -> Result<Supervisor<T, N>, BootRefused>
     requires layout { IsLayout plan.now images.now layout.now }
     requires kind { T.kind ≡ plan.now.tables }
     requires buffer { N ≡ plan.now.lookaside }
-    ensures boot { IfOk result
-        (λ s. boot_of plan.now images.now ≡ Ok (boot_state plan.now images.now)) }
-    ensures parts { IfOk result (λ s. parts_of T.PermTables s ≡ boot_parts plan.now images.now) }
-    ensures refused { IfErr result (IsRefusedBy (boot_of plan.now images.now)) }
+    requires inputs { AreInputs plan.now inputs.now }
+    ensures boot { IfOk result (λ s. boot_of plan.now images.now inputs.now
+        ≡ Ok (boot_state plan.now images.now inputs.now)) }
+    ensures parts { IfOk result
+        (λ s. parts_of T.PermTables s ≡ boot_parts plan.now images.now inputs.now) }
+    ensures refused { IfErr result (IsRefusedBy (boot_of plan.now images.now inputs.now)) }
 {
     plan_is_in_range(plan);
-    let Ok(ram) = ram(alloc, plan, images) else {
+    let Ok(ram) = ram(alloc, plan, images, inputs) else {
         return Err(BootRefused::NoMemory);
     };
     let Ok(owners) = owners(alloc, plan, images) else {

@@ -24,7 +24,7 @@ mod tables;
 
 pub use area::Area;
 pub use booting::boot;
-pub use laws::boots_are_valid;
+pub use laws::{boots_are_valid, empty_inputs_fit};
 pub use layout::{Layout, lay_out};
 pub use mx_any::AnyMachine;
 pub use refused::{BootRefused, LayoutRefused};

@@ -16,6 +16,7 @@ use mx_machine::{HartStart, Machine, StackArea, Stacks, Starts};
 use mx_manifest::{ModulePlan, Plan, plan_is_in_range};
 use mx_supervisor::Supervisor;
 use mx_table::PermTables;
+use mx_words::Blob;
 
 /// The stack area of a module.
 fn stack_area(plan: &ModulePlan) -> StackArea
@@ -67,12 +68,13 @@ fn starts(plan: &Plan, pcs: &[u32]) -> Starts
 pub(crate) fn machine_of<T: PermTables, const N: usize>(
     plan: &Plan,
     images: &Images,
+    inputs: &[Blob],
     layout: &Layout,
     parts: Supervisor<T, N>,
 ) -> Machine<T, N>
     requires layout { IsLayout plan.now images.now layout.now }
-    requires parts { parts_of T.PermTables parts ≡ boot_parts plan.now images.now }
-    ensures { result ≡ flat (boot_state plan.now images.now) }
+    requires parts { parts_of T.PermTables parts ≡ boot_parts plan.now images.now inputs.now }
+    ensures { result ≡ flat (boot_state plan.now images.now inputs.now) }
 {
     plan_is_in_range(plan);
     let starts = starts(plan, layout.starts.as_slice());

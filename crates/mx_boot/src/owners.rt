@@ -4,15 +4,15 @@ ghost use Rattle.std.specs.Prelude.{◌≡◌, ◌<◌, ◌≤◌, ◌++◌, Non
 ghost use Rattle.std.specs.List.{AllByRecursion, flat_map};
 ghost use Rattle.mx_words.specs.Newest.{owners};
 ghost use Rattle.mx_words.specs.Limits.{most_harts, most_words};
-ghost use Rattle.mx_model.specs.State.{flat};
 ghost use Rattle.mx_boot.specs.Areas.{homes};
-ghost use Rattle.mx_boot.specs.Boot.{boot_state, give, owned_pieces};
+ghost use Rattle.mx_boot.specs.Boot.{give, owned_pieces};
 ghost use Rattle.mx_boot.specs.Faults.{first_fault};
+ghost use Rattle.mx_boot.specs.Joined.{boot_owners};
 ghost use Rattle.mx_boot.specs.Placed.{IsPlaced, owned_areas};
 ghost use Rattle.mx_boot.specs.Seen.{seen};
 
 use crate::area::Area;
-use crate::areas::{add_heap, add_pieces, add_stack};
+use crate::areas::{add_heap, add_input, add_pieces, add_stack};
 use crate::entries::word_at;
 use crate::home::{Home, home_at};
 use crate::images::Images;
@@ -41,7 +41,8 @@ fn add_owned(areas: &mut Vec<Area>, home: Home, harts: u32) -> Result<(), NoMemo
 {
     add_owned_pieces(areas, home)?;
     add_heap(areas, home)?;
-    add_stack(areas, home, harts)
+    add_stack(areas, home, harts)?;
+    add_input(areas, home)
 }
 
 /// The areas that modules own, in the order in which they are given.
@@ -78,7 +79,7 @@ fn give_all(alloc: Global, areas: &[Area], words: u32) -> Result<Owners, NoMemor
 /// The owners at boot, of a plan without a fault.
 pub(crate) fn owners(alloc: Global, plan: &Plan, images: &Images) -> Result<Owners, NoMemory>
     requires { first_fault plan.now images.now ≡ None }
-    ensures { IfOk result (λ all. all ≡ (flat (boot_state plan.now images.now)).owners) }
+    ensures { IfOk result (λ all. all ≡ boot_owners plan.now images.now) }
 {
     plan_is_in_range(plan);
     let areas = owned(alloc, plan, images)?;

@@ -1,11 +1,13 @@
 //! RAM at boot.
 
-ghost use Rattle.std.specs.Prelude.{◌≡◌, ◌%◌, ◌≤◌, None, length, map, take, drop, fold, IfOk};
+ghost use Rattle.std.specs.Prelude.{◌≡◌, ◌%◌, ◌≤◌, ℕ, Some, None, [], length, map, take, drop, fold, slice_get, slice_index_or, IfOk, IfSome};
 ghost use Rattle.std.specs.List.{AllByRecursion};
 ghost use Rattle.mx_elf.specs.Image.{IsSound};
-ghost use Rattle.mx_boot.specs.Areas.{contents, inline_address, inline_content, segment_content};
+ghost use Rattle.mx_manifest.specs.declared.parts.ModulePlan.{ModulePlan};
+ghost use Rattle.mx_boot.specs.Areas.{all_inputs, contents, inline_address, inline_content, input_content, input_contents, segment_content};
 ghost use Rattle.mx_boot.specs.Boot.{boot_ram, with_content};
 ghost use Rattle.mx_boot.specs.Faults.{first_fault};
+ghost use Rattle.mx_boot.specs.Inputs.{AreInputs};
 ghost use Rattle.mx_boot.specs.Placed.{HasRoom, words_content};
 ghost use Rattle.mx_boot.specs.Seen.{seen};
 
@@ -13,9 +15,9 @@ use crate::home::{Home, home_at};
 use crate::images::Images;
 use crate::layout::ram_words;
 use mx_elf::{Seg, Segs};
-use mx_manifest::{Numbers, Plan, plan_is_in_range};
+use mx_manifest::{InputPlan, ModulePlan, Numbers, Plan, plan_is_in_range};
 use mx_memory::Ram;
-use mx_words::NoMemory;
+use mx_words::{Blob, NoMemory};
 use std::alloc::Global;
 
 /// Puts bytes from an address on.
@@ -103,15 +105,72 @@ fn put_home(ram: &mut Ram, home: Home)
     }
 }
 
+/// Puts an input: the number of its bytes as a word, and then these bytes.
+fn put_input(ram: &mut Ram, input: &InputPlan, bytes: &[u8])
+    requires room { HasRoom (length ram.old) (input_content bytes.now input.now) }
+    requires aligned { input.now.address % 4 ≡ 0 }
+    requires small { length ram.old ≤ 67108864 }
+    ensures bytes { ram.new ≡ with_content ram.old (input_content bytes.now input.now) }
+    ensures size { length ram.new ≡ length ram.old }
+{
+    ram.store(input.address, 4, bytes.len() as u32);
+    put_bytes(ram, input.address + 4, bytes);
+}
+
+/// Puts a module's input, if it has one.
+fn put_input_of(ram: &mut Ram, plan: &ModulePlan, bytes: &[u8])
+    requires room { IfSome plan.now.input
+        (λ input. HasRoom (length ram.old) (input_content bytes.now input)) }
+    requires aligned { IfSome plan.now.input (λ input. input.address % 4 ≡ 0) }
+    requires small { length ram.old ≤ 67108864 }
+    ensures bytes { ram.new ≡ fold with_content ram.old (input_contents bytes.now plan.now) }
+    ensures size { length ram.new ≡ length ram.old }
+{
+    if let Some(input) = &plan.input {
+        put_input(ram, input, bytes);
+    }
+}
+
+/// The input of the module at a place, which counts from 0; one of no bytes where there is none.
+fn input_at(inputs: &[Blob], i: u32) -> &[u8]
+    ensures { result.now ≡ slice_index_or inputs.now i [] }
+{
+    match inputs.get(i as usize) {
+        Some(input) => input.as_slice(),
+        None => &[],
+    }
+}
+
+/// Puts the inputs of all modules.
+fn put_inputs(ram: &mut Ram, plan: &Plan, inputs: &[Blob])
+    requires room { (i : ℕ) (m : ModulePlan) → slice_get plan.now.modules i ≡ Some m →
+        IfSome m.input
+        (λ input. HasRoom (length ram.old) (input_content (slice_index_or inputs.now i []) input)) }
+    requires small { length ram.old ≤ 67108864 }
+    ensures bytes { ram.new ≡ fold with_content ram.old (all_inputs plan.now inputs.now) }
+    ensures size { length ram.new ≡ length ram.old }
+{
+    'modules: for i in 0..plan.modules() {
+        put_input_of(ram, plan.module(i), input_at(inputs, i));
+    }
+}
+
 /// RAM at boot, of a plan without a fault.
-pub(crate) fn ram(alloc: Global, plan: &Plan, images: &Images) -> Result<Ram, NoMemory>
-    requires { first_fault plan.now images.now ≡ None }
-    ensures { IfOk result (λ ram. ram ≡ boot_ram plan.now images.now) }
+pub(crate) fn ram(
+    alloc: Global,
+    plan: &Plan,
+    images: &Images,
+    inputs: &[Blob],
+) -> Result<Ram, NoMemory>
+    requires clear { first_fault plan.now images.now ≡ None }
+    requires inputs { AreInputs plan.now inputs.now }
+    ensures { IfOk result (λ ram. ram ≡ boot_ram plan.now images.now inputs.now) }
 {
     plan_is_in_range(plan);
     let mut ram = Ram::new(alloc, ram_words(plan))?;
     'modules: for i in 0..plan.modules() {
         put_home(&mut ram, home_at(plan, images, i));
     }
+    put_inputs(&mut ram, plan, inputs);
     Ok(ram)
 }

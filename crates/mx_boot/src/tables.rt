@@ -1,11 +1,11 @@
 //! The permission tables at boot.
 
-ghost use Rattle.std.specs.Prelude.{◌≡◌, None, Ok, IfOk, IfErr};
+ghost use Rattle.std.specs.Prelude.{◌≡◌, ℕ, List, None, Ok, IfOk, IfErr};
 ghost use Rattle.mx_table.specs.Tables.{IsLimit};
-ghost use Rattle.mx_model.specs.State.{flat};
 ghost use Rattle.mx_boot.specs.Boot.{boot_of, boot_state, limit_of};
 ghost use Rattle.mx_boot.specs.Booted.{IsRefusedBy};
 ghost use Rattle.mx_boot.specs.Faults.{first_fault, ram_words};
+ghost use Rattle.mx_boot.specs.Joined.{boot_maps};
 
 use crate::granted::rows;
 use crate::images::Images;
@@ -28,7 +28,7 @@ fn limit(plan: &Plan) -> Need
     }
 }
 
-/// The tables of a plan without a fault; or what they need, where that exceeds the plan's limit.
+/// The tables of a plan without a fault; or what they need, where that exceeds the plan's limit. Inputs decide nothing here.
 pub(crate) fn tables<T: PermTables>(
     alloc: Global,
     plan: &Plan,
@@ -36,12 +36,13 @@ pub(crate) fn tables<T: PermTables>(
 ) -> Result<T, BootRefused>
     requires clear { first_fault plan.now images.now ≡ None }
     requires kind { T.kind ≡ plan.now.tables }
-    ensures boot { IfOk result
-        (λ t. boot_of plan.now images.now ≡ Ok (boot_state plan.now images.now)) }
-    ensures maps { IfOk result (λ t. T.maps t ≡ (flat (boot_state plan.now images.now)).maps) }
+    ensures boot { (inputs : List (List ℕ)) → IfOk result
+        (λ t. boot_of plan.now images.now inputs ≡ Ok (boot_state plan.now images.now inputs)) }
+    ensures maps { IfOk result (λ t. T.maps t ≡ boot_maps plan.now images.now) }
     ensures size { IfOk result (λ t. T.size t ≡ ram_words plan.now) }
     ensures limit { IfOk result (λ t. T.limits t ≡ limit_of plan.now) }
-    ensures refused { IfErr result (IsRefusedBy (boot_of plan.now images.now)) }
+    ensures refused { (inputs : List (List ℕ)) →
+        IfErr result (IsRefusedBy (boot_of plan.now images.now inputs)) }
 {
     plan_is_in_range(plan);
     let Ok(rows) = rows(alloc, plan, images) else {

@@ -1,7 +1,7 @@
 //! Boots of plans, and what is read of the machines. Expected values are written by hand from the rules.
 
 use crate::layouts::{File, blobs_of};
-use mx_boot::{AnyMachine, BootRefused, boot};
+use mx_boot::{AnyMachine, BootRefused, boot, empty_inputs_fit};
 use mx_heap::Block;
 use mx_machine::{HartStatus, HartView, StackArea};
 use mx_manifest::read_manifest;
@@ -40,7 +40,8 @@ pub(crate) fn booted_over(
     let Ok(plan) = read_manifest(alloc, &table) else {
         return Err(BootRefused::NoMemory);
     };
-    boot(alloc, &plan, images)
+    empty_inputs_fit(&plan);
+    boot(alloc, &plan, images, &[])
 }
 
 /// The same with these files.

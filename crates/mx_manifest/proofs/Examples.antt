@@ -6,6 +6,8 @@ use Rattle.mx_manifest.specs.declared.fault.Key.{Key}
 use Rattle.mx_manifest.specs.declared.fault.Key.TheVariants as key
 use Rattle.mx_manifest.specs.declared.fault.Part.{Part}
 use Rattle.mx_manifest.specs.declared.fault.Part.TheVariants as part
+use Rattle.mx_manifest.specs.declared.parts.ModulePlan.{ModulePlan}
+use Rattle.mx_words.specs.declared.perm.Perm.TheVariants as perms
 use Rattle.mx_manifest.specs.Faults.{first_fault, table_fault, module_fault, each_fault}
 use Rattle.mx_manifest.specs.Plan.{plan_of}
 
@@ -87,3 +89,54 @@ gate_before_names = refl
 hart_without_module : first_fault (manifest 1 no_members (one (inline (codes "m") no_members)) (one (home (codes "n")))) ≡ fault 8 part.Hart 1 key.Module
 unfolding table_fault module_fault each_fault
 hart_without_module = refl
+
+-- an input: its keys stand together, in version 2 alone
+abbrev input : Members → Members
+input more = member (codes "input") (string (codes "i.bin")) (member (codes "input_at") (integer (pos 2147483712)) more)
+
+abbrev words : ℕ → Members → Members
+words n more = member (codes "input_words") (integer (pos n)) more
+
+abbrev reading : ℕ → Members → Data
+reading version more = manifest version no_members (one (inline (codes "m") more)) (one (home (codes "m")))
+
+input_in_version_one : first_fault (reading 1 (input (words 4 no_members))) ≡ fault 2 part.Module 1 key.NoKey
+unfolding table_fault module_fault each_fault
+input_in_version_one = refl
+
+input_in_version_two : first_fault (reading 2 (input (words 4 no_members))) ≡ None
+unfolding table_fault module_fault each_fault
+input_in_version_two = refl
+
+input_by_default_read : map (λ (m : ModulePlan). m.input) (plan_of (reading 2 (input (words 4 no_members)))).modules
+    ≡ Some (record { file = codes "i.bin"; address = 2147483712; words = 4; perm = perms.Read }) ∷ []
+input_by_default_read = refl
+
+input_without_words : first_fault (reading 2 (input no_members)) ≡ fault 3 part.Module 1 key.InputWords
+unfolding table_fault module_fault each_fault
+input_without_words = refl
+
+-- a right alone asks for all three, of which the first is told
+right_alone : first_fault (reading 2 (member (codes "input_perm") (string (codes "rw")) no_members)) ≡ fault 3 part.Module 1 key.Input
+unfolding table_fault module_fault each_fault
+right_alone = refl
+
+words_alone : first_fault (reading 2 (words 4 no_members)) ≡ fault 3 part.Module 1 key.Input
+unfolding table_fault module_fault each_fault
+words_alone = refl
+
+input_that_executes : first_fault (reading 2 (input (words 4 (member (codes "input_perm") (string (codes "rx")) no_members)))) ≡ fault 5 part.Module 1 key.InputPerm
+unfolding table_fault module_fault each_fault
+input_that_executes = refl
+
+input_of_no_words : first_fault (reading 2 (input (words 0 no_members))) ≡ fault 5 part.Module 1 key.InputWords
+unfolding table_fault module_fault each_fault
+input_of_no_words = refl
+
+input_of_most_words : first_fault (reading 2 (input (words 16777216 no_members))) ≡ None
+unfolding table_fault module_fault each_fault
+input_of_most_words = refl
+
+input_of_more_words : first_fault (reading 2 (input (words 16777217 no_members))) ≡ fault 5 part.Module 1 key.InputWords
+unfolding table_fault module_fault each_fault
+input_of_more_words = refl

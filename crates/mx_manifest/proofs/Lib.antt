@@ -1,6 +1,7 @@
 pub mod Clear
 pub mod Domains
 pub mod Examples
+pub mod Inputs
 pub mod Judging
 pub mod Lists
 pub mod Loops

@@ -1,11 +1,11 @@
 -- What the tests say of the plans of modules, gates and harts.
-use Rattle.std.proofs.Common.{◌≡◌, ◌≢◌, ℕ, ◌%◌, ◌<◌, ◌≤◌, Bool, true, false, not, ◌&&◌, ◌||◌, nat_eq, ◌⊎◌, inl, inr, codes, if◌then◌else◌, List, [], length, map, Option, Some, None, IfSome, option_map, unwrap_or, refl, ap, sym, ◌∙◌, subst, arith}
-use Rattle.std.proofs.lemmas.Bool.{and_parts, not-true}
+use Rattle.std.proofs.Common.{◌≡◌, ◌≢◌, ℕ, ◌<◌, ◌≤◌, Bool, true, false, not, ◌&&◌, ◌||◌, ◌⊎◌, inl, inr, codes, if◌then◌else◌, List, [], ◌++◌, length, map, Option, Some, None, IfSome, option_map, unwrap_or, refl, ap, sym, ◌∙◌, subst, arith}
+use Rattle.std.proofs.lemmas.Bool.{and_parts}
 use Rattle.std.proofs.lemmas.List.{length-map}
-use Rattle.std.specs.List.{list_all, starts_with}
+use Rattle.std.specs.List.{list_all}
 use Rattle.std.specs.Str.{bytes_eq}
 use Rattle.mx_words.specs.declared.perm.Perm.TheVariants as perms
-use Rattle.std.specs.Option.{is_some, option_map_or}
+use Rattle.std.specs.Option.{option_map_or}
 use Rattle.std.proofs.lemmas.Bool.Decides.{same_from_decides}
 use Rattle.toml.specs.Data.{Data}
 use Rattle.mx_manifest.specs.declared.fault.Key.{Key}
@@ -24,18 +24,15 @@ use Rattle.mx_manifest.specs.declared.row.Version.{Version}
 use Rattle.mx_manifest.specs.declared.row.Version.TheVariants.{One, Two}
 use Rattle.mx_manifest.specs.Reads.{value_at, has, elements, elements_at, number_at, text_at, text_of}
 use Rattle.mx_manifest.specs.Forms.{is_within, is_name_byte, is_text, is_entry, is_item}
-use Rattle.mx_manifest.specs.InRange.{IsBetween, IsAligned, IsName, IsFileName, IsEntry, IsGate, IsModule, IsHart}
+use Rattle.mx_manifest.specs.InRange.{IsBetween, IsName, IsFileName, IsEntry, IsGate, IsModule, IsHart}
 use Rattle.mx_manifest.specs.Plan.{perm_named, entry_plan, gate_plan, word_list, module_plan, hart_plan}
 use Rattle.mx_manifest.specs.Rows.{most, row, early_rows, late_rows, gate_rows, hart_rows}
-use Rattle.mx_manifest.specs.Faults.{is_asked, row_fault, rows_fault, table_fault, gate_fault, gates_fault, image_fault, module_fault, domain_of, from_texts, is_other, is_from_others, from_fault, hart_fault}
+use Rattle.mx_manifest.specs.Faults.{row_fault, rows_fault, unlisted_fault, table_fault, gate_fault, gates_fault, image_fault, module_fault, domain_of, from_texts, is_other, is_from_others, from_fault, hart_fault}
 use Rattle.mx_words.proofs.OptionLaws.{neither, unmapped, is_some-map}
 use Rattle.mx_manifest.proofs.Clear.{clear_at, value_fits, key_there, within_parts, table_clear, most_at_most, any_row}
+use Rattle.mx_manifest.proofs.Inputs.{input_in_range}
 use Rattle.mx_manifest.proofs.Lists.{each_mapped, numbered_mapped, first_clear, all_at, holds_not, fails, entry_in_range, other_in_range, home_in_range}
-use Rattle.mx_manifest.proofs.Ranges.{integer_key, aligned_key, text_key, or_any, if_weaker}
-
--- a key that is required is there
-has_asked : (t : Data) (key : Key) (asked : Asked) (form : Form) → row_fault t (row key asked form) ≡ None → is_asked asked t ≡ true → has key t ≡ true
-has_asked t key asked form h asks = ap is_some (key_there t (row key asked form) h asks).1
+use Rattle.mx_manifest.proofs.Ranges.{integer_key, aligned_key, text_key, has_asked, or_any, if_weaker, if_mapped, file_in_range, aligned_in_range}
 
 -- an array that may be there
 array_most_of : (low high : ℕ) (o : Option Data) → ((v : Data) → o ≡ Some v → length (elements v) ≤ high) → length (option_map_or elements o []) ≤ high
@@ -87,6 +84,7 @@ gate_in_range version names own gate h others =
 
 -- the tests of a module by themselves
 pub record ClearModule (version : Version) (m : Data) : Type 0 where
+  pub listed : unlisted_fault (early_rows version ++ late_rows version) m ≡ None
   pub early : rows_fault (early_rows version) m ≡ None
   pub gates : gates_fault version m ≡ None
   pub late : rows_fault (late_rows version) m ≡ None
@@ -100,7 +98,7 @@ module_clear version m h =
     let c = neither _ _ b.1 in
     let d = neither _ _ c.1 in
     let e = neither _ _ d.1 in
-    record { early = b.0; gates = c.0; late = d.0; image = e.0 }
+    record { listed = a.0; early = b.0; gates = c.0; late = d.0; image = e.0 }
 
 returns_clear : (version : Version) (m : Data) → rows_fault (late_rows version) m ≡ None → row_fault m (row key.Returns Never (Array 0 256 each.Entry)) ≡ None
 returns_clear One m h = (neither _ _ h).0
@@ -134,11 +132,6 @@ name_in_range text h =
     let parts = and_parts (is_within 1 32 (length text)) (list_all is_name_byte text) h in
     (within_parts 1 32 (length text) parts.0, parts.1)
 
-file_in_range : (text : List ℕ) → is_text FileName text ≡ true → IsFileName text
-file_in_range text h =
-    let parts = and_parts (is_within 1 255 (length text)) (not (starts_with nat_eq text (codes "-"))) h in
-    (within_parts 1 255 (length text) parts.0, not-true _ parts.1)
-
 -- a permission by its name
 perm_there : (a b : Bool) → (if a then perms.ReadWrite else if b then perms.ExecuteRead else perms.Read) ≢ perms.None
 perm_there true b h = cc
@@ -151,17 +144,10 @@ image_perm true b h = inl refl
 image_perm false true h = inr refl
 image_perm false false h = cc
 
-if_mapped : {A B : Type 0} (f : A → B) (P : A → Type 0) (Q : B → Type 0) (o : Option A) → ((x : A) → P x → Q (f x)) → IfSome o P → IfSome (option_map f o) Q
-if_mapped f P Q None g h = tt
-if_mapped f P Q (Some x) g h = g x h
-
 with_image : (wx image : Bool) → (wx && not image) ≡ false → wx ≡ true → image ≡ true
 with_image true true h w = refl
 with_image true false h w = cc
 with_image false image h w = cc
-
-aligned_in_range : (o : Option ℕ) → IfSome o (λ n. IsBetween 0 4294967295 n × (n % 4 ≡ 0)) → IfSome o IsAligned
-aligned_in_range o h = if_weaker (λ n. IsBetween 0 4294967295 n × (n % 4 ≡ 0)) IsAligned o (λ n facts. (facts.1, facts.0.1)) h
 
 pub module_in_range : (version : Version) (names : List (List ℕ)) (own : ℕ) (m : Data) → module_fault version m ≡ None → from_fault names own m ≡ None
     → IsModule (length names) own (module_plan names m)
@@ -214,6 +200,7 @@ module_in_range version names own m h from =
           (all_at (is_from_others names own) (elements_at key.Gates m) all_others i gate here));
       return_count = omega (arith, length-map (elements_at key.Returns m) entry_plan, array_most m key.Returns Never 0 256 each.Entry returns_row);
       returns = each_mapped is_entry entry_plan IsEntry (elements_at key.Returns m) (array_items m key.Returns Never 0 256 each.Entry returns_row) entry_in_range;
+      input = input_in_range version m clear.listed clear.late;
     }
 
 -- a hart

@@ -7,18 +7,20 @@ use Rattle.std.specs.Str.{bytes_eq}
 use Rattle.toml.specs.Data.{Data}
 use Rattle.mx_manifest.specs.declared.fault.Key.TheVariants as key
 use Rattle.mx_manifest.specs.declared.fault.Part.TheVariants as part
+use Rattle.mx_manifest.specs.declared.parts.ModulePlan.{ModulePlan}
 use Rattle.mx_manifest.specs.declared.row.Asked.TheVariants.{Always, Never}
 use Rattle.mx_manifest.specs.declared.row.Version.{Version}
 use Rattle.mx_manifest.specs.declared.row.Version.TheVariants.{One, Two}
 use Rattle.mx_manifest.specs.Reads.{number_at}
-use Rattle.mx_manifest.specs.InRange.{IsBetween, IsModule, IsHart, IsInRange, HasNamesApart}
+use Rattle.mx_manifest.specs.InRange.{Each, IsBetween, IsModule, IsHart, IsInRange, HasNamesApart}
 use Rattle.mx_manifest.specs.Plan.{module_plan, hart_plan, version_number, plan_of}
 use Rattle.mx_manifest.specs.Rows.{most, top_rows, hart_rows}
 use Rattle.mx_manifest.specs.Faults.{row_fault, table_fault, module_fault, modules, harts, module_name, module_names, version_of, each_fault, repeat_fault, from_fault, hart_fault, tables_fault, names_fault, first_of, first_fault}
 use Rattle.mx_words.proofs.OptionLaws.{neither, unmapped}
 use Rattle.mx_manifest.proofs.Clear.{clear_at, table_clear, most_at_most, any_row, few_modules, few_harts}
+use Rattle.mx_manifest.proofs.Inputs.{no_input}
 use Rattle.mx_manifest.proofs.Lists.{numbered_mapped, each_clear, fails, found_before, from_mapped}
-use Rattle.mx_manifest.proofs.Modules.{module_in_range, hart_in_range}
+use Rattle.mx_manifest.proofs.Modules.{module_clear, module_in_range, hart_in_range}
 use Rattle.mx_manifest.proofs.Ranges.{integer_key, aligned_key, choice_key, or_default, if_weaker}
 
 version_in_range : (version : Version) → IsBetween 1 2 (version_number version)
@@ -59,6 +61,18 @@ earlier_name all i j a b h at_i at_j same below =
     let found : list_any (bytes_eq (module_name b)) (take (j + 1 - 1) (map module_name all)) ≡ true =
     ap (λ n. list_any (bytes_eq (module_name b)) (take n (map module_name all))) (omega arith) ∙ found_before all (module_name b) i j a at_i below same in
     false≢true (sym none ∙ found)
+
+-- a manifest of version 1 has no inputs
+first_version : (version : Version) → version_number version ≡ 1 → version ≡ One
+first_version One h = refl
+first_version Two h = absurd (omega arith)
+
+no_inputs : (version : Version) (names : List (List ℕ)) (all : List Data) → each_fault part.Module (λ n. module_fault version) all ≡ None → version_number version ≡ 1
+    → Each (λ (m : ModulePlan). m.input ≡ None) (map (module_plan names) all)
+no_inputs version names all h one =
+    let clear : each_fault part.Module (λ n. module_fault One) all ≡ None = subst (λ v. each_fault part.Module (λ n. module_fault v) all ≡ None) (first_version version one) h in
+    numbered_mapped (module_plan names) (λ n (m : ModulePlan). m.input ≡ None) all
+    (λ i m at. no_input m (module_clear One m (each_clear part.Module (λ n. module_fault One) all clear i m at)).listed)
 
 same_place : (i j : ℕ) → (i < j → ⊥) → (j < i → ⊥) → i ≡ j
 same_place i j f g = omega arith
@@ -108,6 +122,7 @@ in_range top h =
           (module_in_range version names (i + 1) m (each_clear part.Module (λ n. module_fault version) (modules top) clear.module_tables i m at)
           (each_clear part.Module (from_fault names) (modules top) clear.froms i m at)));
       names_apart = names_apart names (modules top) clear.repeats;
+      inputs_of_two = no_inputs version names (modules top) clear.module_tables;
       harts = numbered_mapped (hart_plan names) (λ n. IsHart (length (map (module_plan names) (modules top)))) (harts top)
           (λ i hart at. subst (λ n. IsHart n (hart_plan names hart)) count
           (hart_in_range names hart (each_clear part.Hart (λ n. table_fault hart_rows) (harts top) clear.hart_tables i hart at)

@@ -1,7 +1,8 @@
 -- What the ranges of the table of keys say of numbers and texts.
-use Rattle.std.proofs.Common.{◌≡◌, ℕ, ◌%◌, ◌≤◌, ℤ, pos, negsuc, Bool, true, ◌&&◌, ◌||◌, ◌==◌, ◌⊎◌, Option, Some, None, IfSome, option_and_then, unwrap_or, refl, ap, ◌∙◌, arith}
-use Rattle.std.proofs.lemmas.Bool.{and_parts, le-leb}
+use Rattle.std.proofs.Common.{◌≡◌, ℕ, ◌%◌, ◌≤◌, ℤ, pos, negsuc, Bool, true, not, ◌&&◌, ◌||◌, ◌==◌, ◌⊎◌, nat_eq, codes, List, length, Option, Some, None, IfSome, option_map, option_and_then, unwrap_or, refl, ap, ◌∙◌, arith}
+use Rattle.std.proofs.lemmas.Bool.{and_parts, le-leb, not-true}
 use Rattle.std.proofs.lemmas.Bool.Decides.{nat_tests}
+use Rattle.std.specs.List.{starts_with}
 use Rattle.std.specs.Option.{is_some}
 use Rattle.toml.specs.Data.{Data, as_str, as_integer}
 use Rattle.mx_manifest.specs.declared.fault.Key.{Key}
@@ -9,12 +10,13 @@ use Rattle.mx_manifest.specs.declared.row.Asked.{Asked}
 use Rattle.mx_manifest.specs.declared.row.Form.{Form}
 use Rattle.mx_manifest.specs.declared.row.Form.TheVariants.{Integer, Aligned, Choice, Text}
 use Rattle.mx_manifest.specs.declared.row.TextForm.{TextForm}
+use Rattle.mx_manifest.specs.declared.row.TextForm.TheVariants.{FileName}
 use Rattle.mx_manifest.specs.Reads.{value_at, has, word, number_of, number_at, text_at}
-use Rattle.mx_manifest.specs.Forms.{is_integer, is_aligned, is_choice, is_text, is_ranged, passes}
-use Rattle.mx_manifest.specs.InRange.{IsBetween}
+use Rattle.mx_manifest.specs.Forms.{is_within, is_integer, is_aligned, is_choice, is_text, is_ranged, passes}
+use Rattle.mx_manifest.specs.InRange.{IsBetween, IsAligned, IsFileName}
 use Rattle.mx_manifest.specs.Rows.{row}
-use Rattle.mx_manifest.specs.Faults.{row_fault}
-use Rattle.mx_manifest.proofs.Clear.{value_fits, within_parts}
+use Rattle.mx_manifest.specs.Faults.{is_asked, row_fault}
+use Rattle.mx_manifest.proofs.Clear.{value_fits, key_there, within_parts}
 
 -- a test that passes has a value
 pub passed : {T : Type 0} (test : T → Bool) (o : Option T) → passes test o ≡ true → (x : T) × (o ≡ Some x) × (test x ≡ true)
@@ -105,3 +107,20 @@ or_any P (Some x) default h there = h
 pub if_weaker : {T : Type 0} (P Q : T → Type 0) (o : Option T) → ((x : T) → P x → Q x) → IfSome o P → IfSome o Q
 if_weaker P Q None f h = tt
 if_weaker P Q (Some x) f h = f x h
+
+pub if_mapped : {A B : Type 0} (f : A → B) (P : A → Type 0) (Q : B → Type 0) (o : Option A) → ((x : A) → P x → Q (f x)) → IfSome o P → IfSome (option_map f o) Q
+if_mapped f P Q None g h = tt
+if_mapped f P Q (Some x) g h = g x h
+
+-- a key that is required is there
+pub has_asked : (t : Data) (key : Key) (asked : Asked) (form : Form) → row_fault t (row key asked form) ≡ None → is_asked asked t ≡ true → has key t ≡ true
+has_asked t key asked form h asks = ap is_some (key_there t (row key asked form) h asks).1
+
+-- the name of a file, and an aligned address
+pub file_in_range : (text : List ℕ) → is_text FileName text ≡ true → IsFileName text
+file_in_range text h =
+    let parts = and_parts (is_within 1 255 (length text)) (not (starts_with nat_eq text (codes "-"))) h in
+    (within_parts 1 255 (length text) parts.0, not-true _ parts.1)
+
+pub aligned_in_range : (o : Option ℕ) → IfSome o (λ n. IsBetween 0 4294967295 n × (n % 4 ≡ 0)) → IfSome o IsAligned
+aligned_in_range o h = if_weaker (λ n. IsBetween 0 4294967295 n × (n % 4 ≡ 0)) IsAligned o (λ n facts. (facts.1, facts.0.1)) h

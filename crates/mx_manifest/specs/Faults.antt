@@ -12,7 +12,7 @@ use Rattle.mx_manifest.specs.declared.fault.Key.TheVariants as key
 use Rattle.mx_manifest.specs.declared.row.Row.{Row}
 use Rattle.mx_manifest.specs.declared.row.Name.TheVariants.{From}
 use Rattle.mx_manifest.specs.declared.row.Asked.{Asked}
-use Rattle.mx_manifest.specs.declared.row.Asked.TheVariants.{Always, Never, With, Without, WithoutAny}
+use Rattle.mx_manifest.specs.declared.row.Asked.TheVariants.{Always, Never, With, Without, WithAny, WithoutAny}
 use Rattle.mx_manifest.specs.declared.row.Version.{Version}
 use Rattle.mx_manifest.specs.declared.row.Version.TheVariants.{One, Two}
 use Rattle.mx_manifest.specs.declared.tables.KeyFault.{KeyFault}
@@ -36,6 +36,7 @@ is_asked Always t = true
 is_asked Never t = false
 is_asked (With key) t = has key t
 is_asked (Without key) t = not (has key t)
+is_asked (WithAny a b c) t = has a t || has b t || has c t
 is_asked (WithoutAny a b c) t = not (has a t || has b t || has c t)
 
 -- fault 3 of a key that is missing, faults 4 and 5 of one that is there

@@ -9,7 +9,7 @@ use Rattle.toml.specs.Data.{Data, as_str, as_integer, as_bool, as_array, as_tabl
 use Rattle.mx_manifest.specs.declared.row.Form.{Form}
 use Rattle.mx_manifest.specs.declared.row.Form.TheVariants.{Integer, Aligned, Choice, Text, Boolean, Entry, Array}
 use Rattle.mx_manifest.specs.declared.row.TextForm.{TextForm}
-use Rattle.mx_manifest.specs.declared.row.TextForm.TheVariants.{Any, Tables, ModuleName, FileName, Permission, ImagePermission, OnFault}
+use Rattle.mx_manifest.specs.declared.row.TextForm.TheVariants.{Any, Tables, ModuleName, FileName, Permission, ImagePermission, OnFault, InputPermission}
 use Rattle.mx_manifest.specs.declared.row.ItemForm.{ItemForm}
 use Rattle.mx_manifest.specs.declared.row.ItemForm.TheVariants as each
 use Rattle.mx_manifest.specs.Reads.{elements}
@@ -54,6 +54,7 @@ is_text FileName text = is_within 1 255 (length text) && not (starts_with nat_eq
 is_text Permission text = is_among (codes "r" ∷ codes "rw" ∷ codes "rx" ∷ []) text
 is_text ImagePermission text = is_among (codes "rw" ∷ codes "rx" ∷ []) text
 is_text OnFault text = is_among (codes "return" ∷ codes "kill" ∷ []) text
+is_text InputPermission text = is_among (codes "r" ∷ codes "rw" ∷ []) text
 
 -- the value, where it is there, passes a test
 abbrev pub passes : {T : Type 0} → (T → Bool) → Option T → Bool

@@ -1,11 +1,12 @@
 -- What holds of every plan: the ranges of the table of keys, and what the names say.
-use Rattle.std.specs.Prelude.{◌≡◌, ◌≢◌, ◌≤◌, ◌⊎◌, ℕ, ◌+◌, ◌%◌, true, false, not, nat_eq, List, length, slice_get, codes, Some, IfSome}
+use Rattle.std.specs.Prelude.{◌≡◌, ◌≢◌, ◌≤◌, ◌⊎◌, ℕ, ◌+◌, ◌%◌, true, false, not, nat_eq, List, length, slice_get, codes, Some, None, IfSome}
 use Rattle.std.specs.List.{list_all, starts_with}
 use Rattle.std.specs.Option.{is_some}
 use Rattle.mx_manifest.specs.declared.parts.EntryPlan.{EntryPlan}
 use Rattle.mx_manifest.specs.declared.parts.EntryPlan.TheVariants.{Symbol, Address}
 use Rattle.mx_manifest.specs.declared.parts.GatePlan.{GatePlan}
 use Rattle.mx_manifest.specs.declared.parts.HartPlan.{HartPlan}
+use Rattle.mx_manifest.specs.declared.parts.InputPlan.{InputPlan}
 use Rattle.mx_manifest.specs.declared.parts.ModulePlan.{ModulePlan}
 use Rattle.mx_words.specs.declared.perm.Perm.TheVariants as perms
 use Rattle.mx_words.specs.Limits.{most_modules, most_harts, most_gates, IsBuffer}
@@ -45,6 +46,13 @@ pub record IsGate (count own : ℕ) (gate : GatePlan) : Type 0 where
   pub from_count : IsBetween 1 most_modules (length gate.from)
   pub from : Each (λ domain. IsBetween 1 count domain × (domain ≢ own)) gate.from
 
+-- an input
+pub record IsInput (plan : InputPlan) : Type 0 where
+  pub file : IsFileName plan.file
+  pub address : IsAligned plan.address
+  pub words : IsBetween 1 16777216 plan.words
+  pub perm : (plan.perm ≡ perms.Read) ⊎ (plan.perm ≡ perms.ReadWrite)
+
 -- module `own` among `count` modules
 pub record IsModule (count own : ℕ) (plan : ModulePlan) : Type 0 where
   pub name : IsName plan.name
@@ -67,6 +75,7 @@ pub record IsModule (count own : ℕ) (plan : ModulePlan) : Type 0 where
   pub gates : Each (IsGate count own) plan.gates
   pub return_count : length plan.returns ≤ most_gates
   pub returns : Each IsEntry plan.returns
+  pub input : IfSome plan.input IsInput
 
 -- no two modules have one name
 abbrev pub HasNamesApart : List ModulePlan → Type 0
@@ -92,4 +101,5 @@ pub record IsInRange (plan : Said) : Type 0 where
   pub hart_count : IsBetween 1 most_harts (length plan.harts)
   pub modules : EachNumbered (IsModule (length plan.modules)) plan.modules
   pub names_apart : HasNamesApart plan.modules
+  pub inputs_of_two : plan.version ≡ 1 → Each (λ (m : ModulePlan). m.input ≡ None) plan.modules
   pub harts : Each (IsHart (length plan.modules)) plan.harts

@@ -1,5 +1,5 @@
 -- The plan of a manifest: the values of its keys, with defaults filled in and names turned into domain numbers.
-use Rattle.std.specs.Prelude.{ℕ, false, if◌then◌else◌, List, map, codes, option_map, option_and_then, unwrap_or}
+use Rattle.std.specs.Prelude.{ℕ, false, if◌then◌else◌, List, map, codes, Option, option_map, option_and_then, unwrap_or}
 use Rattle.std.specs.Option.{option_map_or}
 use Rattle.std.specs.Str.{bytes_eq}
 use Rattle.toml.specs.Data.{Data, as_str, as_bool}
@@ -14,6 +14,7 @@ use Rattle.mx_manifest.specs.declared.parts.EntryPlan.{EntryPlan}
 use Rattle.mx_manifest.specs.declared.parts.EntryPlan.TheVariants.{Symbol, Address}
 use Rattle.mx_manifest.specs.declared.parts.GatePlan.{GatePlan}
 use Rattle.mx_manifest.specs.declared.parts.HartPlan.{HartPlan}
+use Rattle.mx_manifest.specs.declared.parts.InputPlan.{InputPlan}
 use Rattle.mx_manifest.specs.declared.parts.ModulePlan.{ModulePlan}
 use Rattle.mx_manifest.specs.Reads.{value_at, elements, elements_at, number_of, number_at, text_at}
 use Rattle.mx_manifest.specs.Faults.{modules, harts, version_of, module_name, module_names, domain_of, from_texts, hart_domain}
@@ -58,6 +59,18 @@ gate_plan names gate = record {
 abbrev pub word_list : Data → List ℕ
 word_list value = map (λ word. unwrap_or (number_of word) 0) (elements value)
 
+-- a module's input, where a file is named
+abbrev pub input_of : Data → List ℕ → InputPlan
+input_of m file = record {
+  file = file;
+  address = unwrap_or (number_at key.InputAt m) 0;
+  words = unwrap_or (number_at key.InputWords m) 0;
+  perm = unwrap_or (option_map perm_named (text_at key.InputPerm m)) Read;
+}
+
+abbrev pub input_plan : Data → Option InputPlan
+input_plan m = option_map (input_of m) (text_at key.Input m)
+
 abbrev pub module_plan : List (List ℕ) → Data → ModulePlan
 module_plan names m = record {
   name = module_name m;
@@ -74,6 +87,7 @@ module_plan names m = record {
   returns = map entry_plan (elements_at key.Returns m);
   kills = option_map_or (bytes_eq (codes "kill")) (text_at key.OnFault m) false;
   seal = unwrap_or (option_and_then as_bool (value_at key.Seal m)) false;
+  input = input_plan m;
 }
 
 abbrev pub hart_plan : List (List ℕ) → Data → HartPlan

@@ -7,10 +7,10 @@ use Rattle.mx_manifest.specs.declared.fault.Key.TheVariants as key
 use Rattle.mx_manifest.specs.declared.row.Row.{Row}
 use Rattle.mx_manifest.specs.declared.row.Name.TheVariants.{Of, From}
 use Rattle.mx_manifest.specs.declared.row.Asked.{Asked}
-use Rattle.mx_manifest.specs.declared.row.Asked.TheVariants.{Always, Never, With, Without, WithoutAny}
+use Rattle.mx_manifest.specs.declared.row.Asked.TheVariants.{Always, Never, With, Without, WithAny, WithoutAny}
 use Rattle.mx_manifest.specs.declared.row.Form.{Form}
 use Rattle.mx_manifest.specs.declared.row.Form.TheVariants.{Integer, Aligned, Choice, Text, Boolean, Entry, Array}
-use Rattle.mx_manifest.specs.declared.row.TextForm.TheVariants.{Any, Tables, ModuleName, FileName, Permission, ImagePermission, OnFault}
+use Rattle.mx_manifest.specs.declared.row.TextForm.TheVariants.{Any, Tables, ModuleName, FileName, Permission, ImagePermission, OnFault, InputPermission}
 use Rattle.mx_manifest.specs.declared.row.ItemForm.TheVariants as each
 use Rattle.mx_manifest.specs.declared.row.Version.{Version}
 use Rattle.mx_manifest.specs.declared.row.Version.TheVariants.{One, Two}
@@ -61,6 +61,10 @@ late_rows Two =
     row key.Returns Never (Array 0 most_gates each.Entry)
     ∷ row key.OnFault Never (Text OnFault)
     ∷ row key.Seal Never Boolean
+    ∷ row key.Input (WithAny key.InputAt key.InputWords key.InputPerm) (Text FileName)
+    ∷ row key.InputAt (WithAny key.Input key.InputWords key.InputPerm) (Aligned 0 4294967295)
+    ∷ row key.InputWords (WithAny key.Input key.InputAt key.InputPerm) (Integer 1 16777216)
+    ∷ row key.InputPerm Never (Text InputPermission)
     ∷ []
 
 -- a gate of a module

@@ -10,14 +10,15 @@ ghost use Rattle.mx_manifest.specs.Reads.{value_at, number_of, number_at, text_a
 ghost use Rattle.mx_manifest.specs.Faults.{domain_of, version_of, module_names};
 ghost use Rattle.mx_manifest.specs.InRange.{Each, IsInRange};
 ghost use Rattle.mx_manifest.specs.Short.{HasShortLists};
-ghost use Rattle.mx_manifest.specs.Plan.{kind_named, perm_named, entry_plan, gate_plan, word_list, module_plan, hart_plan, version_number, plan_of};
+ghost use Rattle.mx_manifest.specs.Plan.{kind_named, perm_named, input_plan, entry_plan, gate_plan, word_list, module_plan, hart_plan, version_number, plan_of};
 ghost use Rattle.mx_manifest.specs.Section.{section_view};
 
 use crate::names::{Names, from_values, hart_domain, module_name, text_of};
 use crate::row::Version;
 use crate::section::{Section, elements, number_of};
 use crate::{
-    Entries, EntryPlan, GatePlan, GatePlans, HartPlan, Key, ModulePlan, Numbers, Plan, Text,
+    Entries, EntryPlan, GatePlan, GatePlans, HartPlan, InputPlan, Key, ModulePlan, Numbers, Plan,
+    Text,
 };
 use mx_words::{Kind, NoMemory, Perm};
 use std::alloc::Global;
@@ -180,6 +181,21 @@ fn is_sealed(section: Section) -> bool
         .unwrap_or(false)
 }
 
+/// A module's input, where it has one.
+fn input_plan(alloc: Global, section: Section) -> Result<Option<InputPlan>, NoMemory>
+    ensures { IfOk result (λ input. input ≡ input_plan (section_view section.entry)) }
+{
+    match section.text_at(Key::Input) {
+        Some(file) => Ok(Some(InputPlan {
+            file: Text::new(alloc, file)?,
+            address: number_or(section, Key::InputAt, 0),
+            words: number_or(section, Key::InputWords, 0),
+            perm: perm_at(section, Key::InputPerm).unwrap_or(Perm::Read),
+        })),
+        None => Ok(None),
+    }
+}
+
 fn module_plan(alloc: Global, names: &Names, section: Section) -> Result<ModulePlan, NoMemory>
     requires names { length names.now ≤ most_modules }
     requires short { HasShortLists (module_plan names.now (section_view section)) }
@@ -190,6 +206,7 @@ fn module_plan(alloc: Global, names: &Names, section: Section) -> Result<ModuleP
     let words = words(alloc, section)?;
     let gates = gate_plans(alloc, names, section.elements_at(Key::Gates))?;
     let returns = entries(alloc, section.elements_at(Key::Returns))?;
+    let input = input_plan(alloc, section)?;
     Ok(ModulePlan {
         name,
         image,
@@ -205,6 +222,7 @@ fn module_plan(alloc: Global, names: &Names, section: Section) -> Result<ModuleP
         returns,
         kills: kills(section),
         seal: is_sealed(section),
+        input,
     })
 }
 

@@ -89,6 +89,14 @@ pub enum Key {
     OnFault,
     /// `seal` of a module.
     Seal,
+    /// `input` of a module.
+    Input,
+    /// `input_at` of a module.
+    InputAt,
+    /// `input_words` of a module.
+    InputWords,
+    /// `input_perm` of a module.
+    InputPerm,
     /// `entry` of a hart.
     Entry,
     /// No key.
@@ -125,6 +133,10 @@ impl Key {
             Key::Returns => "returns",
             Key::OnFault => "on_fault",
             Key::Seal => "seal",
+            Key::Input => "input",
+            Key::InputAt => "input_at",
+            Key::InputWords => "input_words",
+            Key::InputPerm => "input_perm",
             Key::Entry => "entry",
             Key::NoKey => "-",
         }

@@ -134,6 +134,7 @@ fn is_text(form: TextForm, text: &str) -> bool
         TextForm::Permission => text == "r" || text == "rw" || text == "rx",
         TextForm::ImagePermission => text == "rw" || text == "rx",
         TextForm::OnFault => text == "return" || text == "kill",
+        TextForm::InputPermission => text == "r" || text == "rw",
     }
 }
 

@@ -16,7 +16,7 @@ mod tables;
 mod text;
 
 pub use fault::{BootFault, Key, Part, Place};
-pub use parts::{Entries, EntryPlan, GatePlan, GatePlans, HartPlan, ModulePlan};
+pub use parts::{Entries, EntryPlan, GatePlan, GatePlans, HartPlan, InputPlan, ModulePlan};
 pub use plan::{Plan, plan_is_in_range};
 pub use reading::{ManifestFault, read_manifest};
 pub use text::{Numbers, Text};

@@ -109,6 +109,19 @@ impl GatePlans {
     }
 }
 
+/// The input of a module: a file, and the area of RAM that holds it at boot.
+#[derive(Drop)]
+pub struct InputPlan {
+    /// The name of the file, 1 to 255 bytes.
+    pub file: Text,
+    /// The address of the area, a multiple of 4.
+    pub address: u32,
+    /// The words of the area, 1 to 16777216: the first tells how many bytes the file has, and those follow it.
+    pub words: u32,
+    /// What the module may do there: `Read` or `ReadWrite`.
+    pub perm: Perm,
+}
+
 /// What a manifest says of a module. An `Option` is None exactly where its key is absent.
 #[derive(Drop)]
 pub struct ModulePlan {
@@ -140,6 +153,8 @@ pub struct ModulePlan {
     pub kills: bool,
     /// Whether the supervisor owns its segments.
     pub seal: bool,
+    /// Its input.
+    pub input: Option<InputPlan>,
 }
 
 /// What a manifest says of a hart.

@@ -40,6 +40,8 @@ pub(crate) enum Asked {
     With(Key),
     /// Where this key doesn't stand.
     Without(Key),
+    /// Where one of these stands.
+    WithAny(Key, Key, Key),
     /// Where none of these stands.
     WithoutAny(Key, Key, Key),
 }
@@ -80,6 +82,8 @@ pub(crate) enum TextForm {
     ImagePermission,
     /// "return" or "kill".
     OnFault,
+    /// "r" or "rw".
+    InputPermission,
 }
 
 /// What an element of an array may be.

@@ -117,13 +117,21 @@ pub(crate) fn late_rows_one() -> [Row; 1]
 }
 
 /// A module of version 2, after its gates.
-pub(crate) fn late_rows_two() -> [Row; 3]
+pub(crate) fn late_rows_two() -> [Row; 7]
     ensures { result ≡ late_rows Version.Two }
 {
+    let input = Asked::WithAny(Key::InputAt, Key::InputWords, Key::InputPerm);
+    let input_at = Asked::WithAny(Key::Input, Key::InputWords, Key::InputPerm);
+    let input_words = Asked::WithAny(Key::Input, Key::InputAt, Key::InputPerm);
+    let permission = Form::Text(TextForm::InputPermission);
     [
         returns_row(),
         row(Key::OnFault, Asked::Never, Form::Text(TextForm::OnFault)),
         row(Key::Seal, Asked::Never, Form::Boolean),
+        row(Key::Input, input, Form::Text(TextForm::FileName)),
+        row(Key::InputAt, input_at, Form::Aligned(0, u32::MAX)),
+        row(Key::InputWords, input_words, Form::Integer(1, 16777216)),
+        row(Key::InputPerm, Asked::Never, permission),
     ]
 }
 

@@ -79,6 +79,7 @@ fn is_asked(asked: Asked, table: Section) -> bool
         Asked::Never => false,
         Asked::With(key) => table.has(key),
         Asked::Without(key) => !table.has(key),
+        Asked::WithAny(a, b, c) => table.has(a) || table.has(b) || table.has(c),
         Asked::WithoutAny(a, b, c) => !(table.has(a) || table.has(b) || table.has(c)),
     }
 }

@@ -1,5 +1,5 @@
 -- The plan of a mill boots.
-use Rattle.std.proofs.Common.{◌≡◌, ℕ, ◌*◌, ◌≤◌, true, List, length, Ok, None, refl, ap, ◌∙◌, arith}
+use Rattle.std.proofs.Common.{◌≡◌, ℕ, ◌*◌, ◌≤◌, true, List, [], length, Ok, None, refl, ap, ◌∙◌, arith}
 use Rattle.std.proofs.Common.{map as list_map}
 use Rattle.std.specs.List.{list_all, range_with_len}
 use Rattle.mx_words.specs.declared.perm.Perm.TheVariants as P
@@ -20,15 +20,16 @@ use Rattle.mx_mill.specs.Words.{base, module_count, words_by}
 use Rattle.mx_mill.proofs.NeedLaws.{few-within, lies_in, single}
 
 -- a plan without a fault whose maps fit boots
-boots : (plan : Said) (images : List (List ℕ)) → first_fault plan images ≡ None → within (map_need (boot_state plan images)) (limit_of plan) ≡ true → boot_of plan images ≡ Ok (boot_state plan images)
+boots : (plan : Said) (images inputs : List (List ℕ)) → first_fault plan images ≡ None → within (map_need (boot_state plan images inputs)) (limit_of plan) ≡ true
+    → boot_of plan images inputs ≡ Ok (boot_state plan images inputs)
 unfolding boot_of
-boots plan images clear fits = rw (clear, fits) refl
+boots plan images inputs clear fits = rw (clear, fits) refl
 
 -- packed tables whose maps have one grant each
-singles_fit : (plan : Said) (images : List (List ℕ)) (gs : List Grant) → plan.tables ≡ K.Packed → list_map (grants_of (length plan.harts)) (homes plan images) ≡ list_map single gs
+singles_fit : (plan : Said) (images inputs : List (List ℕ)) (gs : List Grant) → plan.tables ≡ K.Packed → list_map (grants_of (length plan.harts)) (homes plan images) ≡ list_map single gs
     → ram_words plan ≤ 16777216 → list_all (lies_in (ram_words plan)) gs ≡ true → 3 * length gs ≤ plan.upper → 2 * length gs ≤ plan.leaf → 2 * length gs ≤ plan.spill
-    → within (map_need (boot_state plan images)) (limit_of plan) ≡ true
-singles_fit plan images gs packed singles few inside upper leaf spill =
+    → within (map_need (boot_state plan images inputs)) (limit_of plan) ≡ true
+singles_fit plan images inputs gs packed singles few inside upper leaf spill =
     ap (λ (kind : Kind). within (need kind (list_map (λ grants. map grants (ram_words plan)) (list_map (grants_of (length plan.harts)) (homes plan images)))) (limit_of plan)) packed
     ∙ ap (λ (grants : List (List Grant)). within (need K.Packed (list_map (λ gs. map gs (ram_words plan)) grants)) (limit_of plan)) singles
     ∙ few-within (ram_words plan) gs (limit_of plan) few inside upper leaf spill
@@ -76,7 +77,7 @@ mill_spill : (k : ℕ) → 2 * length grants ≤ (mill_plan k).spill
 unfolding mill_plan
 mill_spill k = omega arith
 
-pub mill_boots : (k : ℕ) → boot_of (mill_plan k) no_images ≡ Ok (boot_state (mill_plan k) no_images)
+pub mill_boots : (k : ℕ) → boot_of (mill_plan k) no_images [] ≡ Ok (boot_state (mill_plan k) no_images [])
 mill_boots k =
-    boots (mill_plan k) no_images (mill_clear k)
-    (singles_fit (mill_plan k) no_images grants (mill_packed k) (mill_singles k) (mill_words_few k) (mill_inside k) (mill_upper k) (mill_leaf k) (mill_spill k))
+    boots (mill_plan k) no_images [] (mill_clear k)
+    (singles_fit (mill_plan k) no_images [] grants (mill_packed k) (mill_singles k) (mill_words_few k) (mill_inside k) (mill_upper k) (mill_leaf k) (mill_spill k))

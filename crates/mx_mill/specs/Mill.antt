@@ -1,5 +1,5 @@
 -- The report of `mill`, and what a call of it comes to.
-use Rattle.std.specs.Prelude.{◌≡◌, ℕ, List, Result, Ok, Err}
+use Rattle.std.specs.Prelude.{◌≡◌, ℕ, List, [], Result, Ok, Err}
 use Rattle.mx_io.specs.Sink.{SinkState, Puts}
 use Rattle.mx_model.specs.Run.{ByQuantum, run}
 use Rattle.mx_model.specs.State.{flat}
@@ -13,7 +13,7 @@ use Rattle.mx_mill.specs.Plan.{mill_plan, no_images}
 -- the lines of `mill k` after at most so many turns, which the harts make one by one
 unfoldable pub lines_after : ℕ → ℕ → List ℕ
 lines_after steps k =
-    let s = run (ByQuantum 1) steps (boot_state (mill_plan k) no_images) in
+    let s = run (ByQuantum 1) steps (boot_state (mill_plan k) no_images []) in
     mill_lines k steps (tally_of s) (flat s)
 
 -- the report of `mill k`

@@ -33,6 +33,7 @@ module_of i words = record {
   returns = Address (return_gate i) ∷ [];
   kills = false;
   seal = false;
+  input = None;
 }
 
 -- the hart that begins in module i, at its first word

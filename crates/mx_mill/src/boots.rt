@@ -1,6 +1,6 @@
 //! The machine at boot.
 
-ghost use Rattle.std.specs.Prelude.{◌≡◌, IfOk};
+ghost use Rattle.std.specs.Prelude.{◌≡◌, [], IfOk};
 ghost use Rattle.mx_model.specs.State.{flat};
 ghost use Rattle.mx_boot.specs.Boot.{boot_state};
 ghost use Rattle.mx_any.specs.Machines.{meaning};
@@ -10,7 +10,7 @@ use crate::laws::mills_boot;
 use crate::plan::plan_of_mill;
 use crate::words::MODULES;
 use mx_any::AnyMachine;
-use mx_boot::{BootRefused, boot};
+use mx_boot::{BootRefused, boot, empty_inputs_fit};
 use mx_words::{Blob, NoMemory};
 use std::alloc::Global;
 
@@ -28,12 +28,13 @@ fn no_images(alloc: Global) -> Result<Vec<Blob>, NoMemory>
 /// The machine of the manifest for a number. It boots for every one.
 pub(crate) fn boot_mill(alloc: Global, k: u32) -> Result<AnyMachine, NoMemory>
     ensures { IfOk result
-        (λ machine. meaning machine ≡ flat (boot_state (mill_plan k) no_images)) }
+        (λ machine. meaning machine ≡ flat (boot_state (mill_plan k) no_images [])) }
 {
     mills_boot();
     let plan = plan_of_mill(alloc, k)?;
     let images = no_images(alloc)?;
-    match boot(alloc, &plan, images.as_slice()) {
+    empty_inputs_fit(&plan);
+    match boot(alloc, &plan, images.as_slice(), &[]) {
         Ok(machine) => Ok(machine),
         Err(BootRefused::NoMemory) => Err(NoMemory),
         Err(BootRefused::Fault(_)) => unreachable!(),

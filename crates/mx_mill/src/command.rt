@@ -1,6 +1,6 @@
 //! The command.
 
-ghost use Rattle.std.specs.Prelude.{◌≡◌};
+ghost use Rattle.std.specs.Prelude.{◌≡◌, []};
 ghost use Rattle.mx_io.specs.Sink.{Puts};
 ghost use Rattle.mx_boot.specs.Boot.{boot_state};
 ghost use Rattle.mx_any.specs.Machines.{meaning};
@@ -56,7 +56,7 @@ fn run_mill<R: Sink>(
     machine: &mut AnyMachine,
     report: &mut R,
 ) -> Result<(), Failed>
-    requires { meaning machine.old ≡ flat (boot_state (mill_plan k) no_images) }
+    requires { meaning machine.old ≡ flat (boot_state (mill_plan k) no_images []) }
     ensures { Puts (R.state report.old) (R.state report.new) (lines_after steps k) result }
 {
     let tally = count_turns(steps, Schedule::Quantum(1), machine);

@@ -3,7 +3,7 @@ ghost use Rattle.std.specs.Prelude.{IfSome};
 ghost use Rattle.mx_any.specs.Machines.{meaning};
 ghost use Rattle.mx_snapshot.specs.Kept.{IsOfPlan};
 
-use mx_boot::{AnyMachine, boot};
+use mx_boot::{AnyMachine, boot, empty_inputs_fit};
 use mx_commands::machines_are_of_their_plan;
 use mx_io::Bytes;
 use mx_manifest::{Plan, read_manifest};
@@ -38,7 +38,8 @@ fn boot_plan(alloc: Global, plan: &Plan) -> Option<Booted>
     let Ok(kept) = Kept::of(alloc, plan) else {
         return None;
     };
-    match boot(alloc, plan, images.as_slice()) {
+    empty_inputs_fit(plan);
+    match boot(alloc, plan, images.as_slice(), &[]) {
         Ok(machine) => Some(Booted { machine, kept }),
         Err(_) => None,
     }

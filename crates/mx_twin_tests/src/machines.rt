@@ -4,7 +4,7 @@ ghost use Rattle.std.specs.Prelude.{◌≡◌, true};
 ghost use Rattle.mx_any.specs.Machines.{meaning};
 ghost use Rattle.mx_twin.specs.Turns.{AreAlike};
 
-use mx_boot::{AnyMachine, boot};
+use mx_boot::{AnyMachine, boot, empty_inputs_fit};
 use mx_manifest::read_manifest;
 use mx_model::{Events, TurnKind};
 use mx_twin::{TwinEnd, run_twin, step_pair};
@@ -84,7 +84,8 @@ fn booted(alloc: Global, text: &str) -> Option<AnyMachine> {
         return None;
     };
     let images = no_images(alloc, plan.modules())?;
-    match boot(alloc, &plan, images.as_slice()) {
+    empty_inputs_fit(&plan);
+    match boot(alloc, &plan, images.as_slice(), &[]) {
         Ok(machine) => Some(machine),
         Err(_) => None,
     }

@@ -23,7 +23,7 @@ new-requires g c =
       search,
       (
         search,
-        ready c.args.plan.now c.args.images.now c.plan_is_in_range.ensures c.requires.layout.faultless _ c.starts-starts.result c.stacks-stacks.result
+        ready c.args.plan.now c.args.images.now c.args.inputs.now c.plan_is_in_range.ensures c.requires.layout.faultless _ c.starts-starts.result c.stacks-stacks.result
             c.requires.parts starts c.stacks-stacks.ensures,
       ),
     )
@@ -32,6 +32,7 @@ pub returns : goal.returns
 returns g c =
     let plan = c.args.plan.now in
     let images = c.args.images.now in
+    let inputs = c.args.inputs.now in
     let starts = c.starts-starts.ensures (start_of plan images) (c.as_slice.ensures.value ∙ c.requires.layout.starts) in
-    c.new.ensures ∙ ap (λ p. started p c.starts-starts.result c.stacks-stacks.result) c.requires.parts ∙ ap (λ s. started (boot_parts plan images) s c.stacks-stacks.result) starts
-    ∙ ap (started (boot_parts plan images) (hart_starts plan images)) c.stacks-stacks.ensures ∙ boots-as plan images c.plan_is_in_range.ensures c.requires.layout.faultless
+    c.new.ensures ∙ ap (λ p. started p c.starts-starts.result c.stacks-stacks.result) c.requires.parts ∙ ap (λ s. started (boot_parts plan images inputs) s c.stacks-stacks.result) starts
+    ∙ ap (started (boot_parts plan images inputs) (hart_starts plan images)) c.stacks-stacks.ensures ∙ boots-as plan images c.plan_is_in_range.ensures c.requires.layout.faultless inputs
