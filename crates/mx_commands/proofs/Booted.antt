@@ -12,11 +12,11 @@ use Rattle.mx_turns.specs.Running.{IsNew}
 use Rattle.mx_commands.specs.Booting.{IsOfSize}
 
 -- a state at boot has no texts
-pub boots_new : (plan : Said) (images : List (List ℕ)) (t : State) → boot_of plan images ≡ Ok t → IsNew t
-boots_new plan images t is = rw (boots plan images t is) (record { console = refl; notes = refl })
+pub boots_new : (plan : Said) (images inputs : List (List ℕ)) (t : State) → boot_of plan images inputs ≡ Ok t → IsNew t
+boots_new plan images inputs t is = rw (boots plan images inputs t is) (record { console = refl; notes = refl })
 
-sized : (plan : Said) (images : List (List ℕ)) → IsOfSize plan (flat (boot_state plan images))
-sized plan images =
+sized : (plan : Said) (images inputs : List (List ℕ)) → IsOfSize plan (flat (boot_state plan images inputs))
+sized plan images inputs =
     record {
       words = refl;
       modules = length-map plan.modules module_of;
@@ -25,8 +25,8 @@ sized plan images =
     }
 
 -- is of its plan's size, and a machine of its plan
-pub boots_fresh : (plan : Said) (images : List (List ℕ)) (t : State) → boot_of plan images ≡ Ok t → IsOfSize plan (flat t) × IsOfPlan (kept_of plan) (flat t)
-boots_fresh plan images t is = (
-  subst (λ (s : State). IsOfSize plan (flat s)) (sym (boots plan images t is)) (sized plan images),
-  boots_of_plan plan images t is,
+pub boots_fresh : (plan : Said) (images inputs : List (List ℕ)) (t : State) → boot_of plan images inputs ≡ Ok t → IsOfSize plan (flat t) × IsOfPlan (kept_of plan) (flat t)
+boots_fresh plan images inputs t is = (
+  subst (λ (s : State). IsOfSize plan (flat s)) (sym (boots plan images inputs t is)) (sized plan images inputs),
+  boots_of_plan plan images inputs t is,
 )

@@ -3,8 +3,9 @@ pub mod Booted
 pub mod Continued
 pub mod Documents
 pub mod Endings
+pub mod FileSteps
 pub mod Findings
-pub mod ImageSteps
+pub mod FitLaws
 pub mod Leads
 pub mod Lines
 pub mod Names

@@ -1,5 +1,5 @@
 -- Over every list of files a command leads to an outcome: each file is read once, and what is found of it ends the call or goes on.
-use Rattle.std.proofs.Common.{ℕ, suc, ◌+◌, List, [], ◌∷◌, ◌++◌, Option, Some, None, Result, Ok, Err, refl}
+use Rattle.std.proofs.Common.{ℕ, suc, ◌+◌, ◌*◌, List, [], ◌∷◌, ◌++◌, Option, Some, None, Result, Ok, Err, refl}
 use Rattle.mx_io.specs.Store.{FileMap}
 use Rattle.mx_model.specs.Run.{Schedule, ByQuantum, ByBytes}
 use Rattle.mx_model.specs.State.{State}
@@ -7,6 +7,7 @@ use Rattle.mx_manifest.specs.declared.fault.BootFault.{BootFault}
 use Rattle.mx_manifest.specs.declared.parts.ModulePlan.{ModulePlan}
 use Rattle.mx_manifest.specs.Plan.{Said}
 use Rattle.mx_boot.specs.Boot.{Refusal, Faulty, boot_of}
+use Rattle.mx_boot.specs.Faults.{ram_words}
 use Rattle.mx_snapshot.specs.Kept.{KeptPlan, kept_of}
 use Rattle.mx_snapshot.specs.Resumed.{plan_of, state_of}
 use Rattle.mx_snapshot.specs.Stored.{Stored}
@@ -20,12 +21,12 @@ use Rattle.mx_commands.specs.declared.order.Way.TheVariants as way
 use Rattle.mx_plan.specs.Manifest.{judged}
 use Rattle.mx_commands.specs.Finding.{Finding, Absent, Large, Short, Broken, Whole, found_in}
 use Rattle.mx_commands.specs.Next.{Outcome, Wanted, Next, End, refusal, after_file}
-use Rattle.mx_commands.specs.Boots.{Rest, refused_by, after_images, manifest_file, image_file, booted, planned, after_boot}
+use Rattle.mx_commands.specs.Boots.{Rest, refused_by, after_files, after_inputs, image_named, image_wanted, input_named, input_wanted, manifest_file, booted, planned, after_boot}
 use Rattle.mx_commands.specs.Commands.{schedule_file, source_file, scheduled, run_of, run_from, booted_run, going, assembled, audited, after_first, assembling, auditing, comparing}
 use Rattle.mx_commands.specs.Compared.{compared}
 use Rattle.mx_commands.specs.Resumed.{Onward, unread_by, snapshot_file, resumed, after_snapshot}
 use Rattle.mx_commands.specs.Leads.{LeadsOver}
-use Rattle.mx_commands.proofs.ImageSteps.{image_step}
+use Rattle.mx_commands.proofs.FileSteps.{file_step}
 
 module _ (files : FileMap) where
   -- a step leads to an outcome over the files
@@ -47,15 +48,15 @@ module _ (files : FileMap) where
       let later = by_finding file rest each (found_in files file.most file.name) in
       (later.0, (suc later.1.0, (file, refl, later.1.1)))
 
-  -- the images of modules, of which each is a file or none
-  by_images : (side : Side) (ms : List ModulePlan) (number : ℕ) (images : List (List ℕ)) (rest : List (List ℕ) → List Finding → Next)
-      → ((images : List (List ℕ)) → HasOutcome (rest images)) → HasOutcome (after_images side number ms images rest)
-  by_images side [] number images rest each = each images
-  by_images side (m ∷ ms) number images rest each =
-      elim m.image as (λ o. HasOutcome (image_step side o number ms images rest)) [
-        | None ↦ by_images side ms (number + 1) (images ++ [] ∷ []) rest each
-        | Some name ↦ by_file (image_file side number name) (λ bytes. after_images side (number + 1) ms (images ++ bytes ∷ []) rest)
-            (λ bytes. by_images side ms (number + 1) (images ++ bytes ∷ []) rest each)
+  -- the files of modules, of which each is one or none
+  by_files : {N : Type 0} (named : ModulePlan → Option N) (file : ℕ → List (List ℕ) → N → Wanted) (ms : List ModulePlan) (number : ℕ) (taken : List (List ℕ))
+      (rest : List (List ℕ) → List Finding → Next) → ((taken : List (List ℕ)) → HasOutcome (rest taken)) → HasOutcome (after_files named file number ms taken rest)
+  by_files named file [] number taken rest each = each taken
+  by_files named file (m ∷ ms) number taken rest each =
+      elim (named m) as (λ o. HasOutcome (file_step named file o number ms taken rest)) [
+        | None ↦ by_files named file ms (number + 1) (taken ++ [] ∷ []) rest each
+        | Some name ↦ by_file (file number taken name) (λ bytes. after_files named file (number + 1) ms (taken ++ bytes ∷ []) rest)
+            (λ bytes. by_files named file ms (number + 1) (taken ++ bytes ∷ []) rest each)
       ]
 
   by_schedule : (quantum : ℕ) (made : Schedule → Outcome) (name : Option (List ℕ)) → HasOutcome (scheduled quantum made name)
@@ -70,7 +71,10 @@ module _ (files : FileMap) where
     by_state plan (Err why) = (refusal name (refused_by side why), (0, refl))
 
     by_plan : (plan : Result Said BootFault) → HasOutcome (planned side name rest plan)
-    by_plan (Ok plan) = by_images side plan.modules 1 [] (λ images. booted side name rest plan (boot_of plan images)) (λ images. by_state plan (boot_of plan images))
+    by_plan (Ok plan) =
+        by_files image_named (image_wanted side) plan.modules 1 [] (λ images. after_inputs side (4 * ram_words plan) 1 plan.modules [] (λ inputs. booted side name rest plan (boot_of plan images inputs)))
+        (λ images. by_files input_named (input_wanted side (4 * ram_words plan)) plan.modules 1 [] (λ inputs. booted side name rest plan (boot_of plan images inputs))
+        (λ inputs. by_state plan (boot_of plan images inputs)))
     by_plan (Err fault) = (refusal name (refused_by side (Faulty fault)), (0, refl))
 
     by_boot : HasOutcome (after_boot side name rest)

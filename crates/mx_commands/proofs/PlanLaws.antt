@@ -20,20 +20,20 @@ unless_ok None s t is = if_ok (within (map_need s) s.core.limit) s t (TooFull (m
 unless_ok (Some fault) s t is = cc
 
 -- an accepted boot gives the state at boot
-pub boots : (plan : Said) (images : List (List ℕ)) (t : State) → boot_of plan images ≡ Ok t → t ≡ boot_state plan images
+pub boots : (plan : Said) (images inputs : List (List ℕ)) (t : State) → boot_of plan images inputs ≡ Ok t → t ≡ boot_state plan images inputs
 unfolding boot_of
-boots plan images t is = unless_ok (first_fault plan images) (boot_state plan images) t is
+boots plan images inputs t is = unless_ok (first_fault plan images) (boot_state plan images inputs) t is
 
-fresh : (plan : Said) (images : List (List ℕ)) → IsOfPlan (kept_of plan) (flat (boot_state plan images))
-fresh plan images = record {
+fresh : (plan : Said) (images inputs : List (List ℕ)) → IsOfPlan (kept_of plan) (flat (boot_state plan images inputs))
+fresh plan images inputs = record {
   kind = refl;
   limit = refl;
   lookaside = refl;
   modules = length-map plan.modules module_of ∙ sym (length-map plan.modules (λ (m : ModulePlan). m.name));
 }
 
-pub boots_of_plan : (plan : Said) (images : List (List ℕ)) (t : State) → boot_of plan images ≡ Ok t → IsOfPlan (kept_of plan) (flat t)
-boots_of_plan plan images t is = subst (λ (s : State). IsOfPlan (kept_of plan) (flat s)) (sym (boots plan images t is)) (fresh plan images)
+pub boots_of_plan : (plan : Said) (images inputs : List (List ℕ)) (t : State) → boot_of plan images inputs ≡ Ok t → IsOfPlan (kept_of plan) (flat t)
+boots_of_plan plan images inputs t is = subst (λ (s : State). IsOfPlan (kept_of plan) (flat s)) (sym (boots plan images inputs t is)) (fresh plan images inputs)
 
 pub turns_of_plan : (kept : KeptPlan) (f : Flat) (h : ℕ) → IsOfPlan kept f → IsOfPlan kept (flat_turn f h)
 turns_of_plan kept f h is = search (arith, keeps-turned, f.core)

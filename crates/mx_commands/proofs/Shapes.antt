@@ -1,5 +1,5 @@
 -- Wherever a command reads a file, it ends where that isn't whole; and what is found of a file that it reaches.
-use Rattle.std.proofs.Common.{◌≡◌, ℕ, ◌+◌, List, [], ◌∷◌, ◌++◌, Option, Some, None, Result, Ok, Err, refl, sym, ap, subst, ◌∙◌, append_assoc}
+use Rattle.std.proofs.Common.{◌≡◌, ℕ, ◌+◌, ◌*◌, List, [], ◌∷◌, ◌++◌, Option, Some, None, Result, Ok, Err, refl, sym, ap, subst, ◌∙◌, append_assoc}
 use Rattle.std.proofs.lemmas.List.{append_cancel_left}
 use Rattle.mx_io.specs.Answer.{Answer}
 use Rattle.mx_model.specs.Run.{Schedule, ByQuantum, ByBytes}
@@ -8,6 +8,7 @@ use Rattle.mx_manifest.specs.declared.fault.BootFault.{BootFault}
 use Rattle.mx_manifest.specs.declared.parts.ModulePlan.{ModulePlan}
 use Rattle.mx_manifest.specs.Plan.{Said}
 use Rattle.mx_boot.specs.Boot.{Refusal, Faulty, boot_of}
+use Rattle.mx_boot.specs.Faults.{ram_words}
 use Rattle.mx_snapshot.specs.Kept.{KeptPlan, kept_of}
 use Rattle.mx_snapshot.specs.Resumed.{plan_of, state_of}
 use Rattle.mx_snapshot.specs.Stored.{Stored}
@@ -21,13 +22,13 @@ use Rattle.mx_commands.specs.declared.order.Way.TheVariants as way
 use Rattle.mx_plan.specs.Manifest.{judged}
 use Rattle.mx_commands.specs.Finding.{Finding, Absent, Large, Short, Broken, Whole, Finds}
 use Rattle.mx_commands.specs.Next.{Outcome, Wanted, Next, Read, End, refusal, lack_of, bytes_of, unless, after_file}
-use Rattle.mx_commands.specs.Boots.{Rest, refused_by, after_images, manifest_file, image_file, booted, planned, after_boot}
+use Rattle.mx_commands.specs.Boots.{Rest, refused_by, after_files, after_inputs, image_named, image_wanted, input_named, input_wanted, manifest_file, booted, planned, after_boot}
 use Rattle.mx_commands.specs.Commands.{schedule_file, source_file, scheduled, run_of, run_from, booted_run, going, assembled, audited, after_first, assembling, auditing, comparing}
 use Rattle.mx_commands.specs.Compared.{compared}
 use Rattle.mx_commands.specs.Resumed.{Onward, unread_by, snapshot_file, resumed, after_snapshot}
 use Rattle.mx_commands.specs.Leads.{FindsAll}
 use Rattle.mx_commands.proofs.Findings.{finds_decided}
-use Rattle.mx_commands.proofs.ImageSteps.{image_step}
+use Rattle.mx_commands.proofs.FileSteps.{file_step}
 use Rattle.mx_commands.proofs.Leads.{read_same, read_end}
 
 -- wherever a step reads a file, it ends where that isn't whole
@@ -54,16 +55,16 @@ module _ (file : Wanted) (rest : List ℕ → List Finding → Next) (each : (by
       ap (λ o. unless file o (rest (bytes_of found) [])) here ∙ ap (λ (w : Wanted). End (refusal w.name status)) same
   shape_file (x ∷ more) last is found status lack = shape_finding x more last is found status lack
 
-shape_image : (side : Side) (o : Option (List ℕ)) (number : ℕ) (ms : List ModulePlan) (images : List (List ℕ)) (rest : List (List ℕ) → List Finding → Next)
-    → ((images : List (List ℕ)) → Shaped (after_images side (number + 1) ms images rest)) → Shaped (image_step side o number ms images rest)
-shape_image side None number ms images rest each = each (images ++ [] ∷ [])
-shape_image side (Some name) number ms images rest each =
-    shape_file (image_file side number name) (λ bytes. after_images side (number + 1) ms (images ++ bytes ∷ []) rest) (λ bytes. each (images ++ bytes ∷ []))
+module _ {N : Type 0} (named : ModulePlan → Option N) (file : ℕ → List (List ℕ) → N → Wanted) (rest : List (List ℕ) → List Finding → Next) (each : (taken : List (List ℕ)) → Shaped (rest taken)) where
+  shape_one : (o : Option N) (number : ℕ) (ms : List ModulePlan) (taken : List (List ℕ))
+      → ((taken : List (List ℕ)) → Shaped (after_files named file (number + 1) ms taken rest)) → Shaped (file_step named file o number ms taken rest)
+  shape_one None number ms taken more = more (taken ++ [] ∷ [])
+  shape_one (Some name) number ms taken more =
+      shape_file (file number taken name) (λ bytes. after_files named file (number + 1) ms (taken ++ bytes ∷ []) rest) (λ bytes. more (taken ++ bytes ∷ []))
 
-shape_images : (side : Side) (ms : List ModulePlan) (number : ℕ) (images : List (List ℕ)) (rest : List (List ℕ) → List Finding → Next) → ((images : List (List ℕ)) → Shaped (rest images))
-    → Shaped (after_images side number ms images rest)
-shape_images side [] number images rest each = each images
-shape_images side (m ∷ ms) number images rest each = shape_image side m.image number ms images rest (λ images. shape_images side ms (number + 1) images rest each)
+  shape_files : (ms : List ModulePlan) (number : ℕ) (taken : List (List ℕ)) → Shaped (after_files named file number ms taken rest)
+  shape_files [] number taken = each taken
+  shape_files (m ∷ ms) number taken = shape_one (named m) number ms taken (λ taken. shape_files ms (number + 1) taken)
 
 shape_run : (quantum : ℕ) (made : Schedule → Outcome) (name : Option (List ℕ)) → Shaped (scheduled quantum made name)
 shape_run quantum made None = shape_end (made (ByQuantum quantum))
@@ -75,7 +76,10 @@ module _ (side : Side) (name : List ℕ) (rest : Rest) (each : (plan : Said) (s 
   shape_state plan (Err why) = shape_end (refusal name (refused_by side why))
 
   shape_plan : (plan : Result Said BootFault) → Shaped (planned side name rest plan)
-  shape_plan (Ok plan) = shape_images side plan.modules 1 [] (λ images. booted side name rest plan (boot_of plan images)) (λ images. shape_state plan (boot_of plan images))
+  shape_plan (Ok plan) =
+      shape_files image_named (image_wanted side) (λ images. after_inputs side (4 * ram_words plan) 1 plan.modules [] (λ inputs. booted side name rest plan (boot_of plan images inputs)))
+      (λ images. shape_files input_named (input_wanted side (4 * ram_words plan)) (λ inputs. booted side name rest plan (boot_of plan images inputs))
+      (λ inputs. shape_state plan (boot_of plan images inputs)) plan.modules 1 []) plan.modules 1 []
   shape_plan (Err fault) = shape_end (refusal name (refused_by side (Faulty fault)))
 
   shape_boot : Shaped (after_boot side name rest)

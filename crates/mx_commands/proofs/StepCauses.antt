@@ -1,8 +1,8 @@
 -- How a command ends: the file that is read last isn't whole, or what was found says how.
-use Rattle.std.proofs.Common.{◌≡◌, ℕ, zero, suc, ◌+◌, ◌⊎◌, Bool, true, false, List, [], ◌∷◌, ◌++◌, Option, Some, None, Result, Ok, Err, refl, sym, ap, subst, ◌∙◌, inl, inr, append_assoc}
+use Rattle.std.proofs.Common.{◌≡◌, ℕ, zero, suc, ◌+◌, ◌*◌, ◌⊎◌, Bool, true, false, List, [], ◌∷◌, ◌++◌, Option, Some, None, Result, Ok, Err, refl, sym, ap, subst, ◌∙◌, inl, inr, append_assoc}
 use Rattle.std.specs.Prelude.{map as list_map, if◌then◌else◌}
 use Rattle.std.specs.Str.{is_utf8}
-use Rattle.std.proofs.lemmas.List.{append-nil}
+use Rattle.std.proofs.lemmas.List.{append-nil, map-append}
 use Rattle.mx_io.specs.Answer.{Answer}
 use Rattle.mx_model.specs.Run.{Schedule, ByQuantum, ByBytes}
 use Rattle.mx_model.specs.State.{State}
@@ -10,6 +10,7 @@ use Rattle.mx_manifest.specs.declared.fault.BootFault.{BootFault}
 use Rattle.mx_manifest.specs.declared.parts.ModulePlan.{ModulePlan}
 use Rattle.mx_manifest.specs.Plan.{Said}
 use Rattle.mx_boot.specs.Boot.{Refusal, Faulty, boot_of}
+use Rattle.mx_boot.specs.Faults.{ram_words}
 use Rattle.mx_snapshot.specs.Kept.{KeptPlan, kept_of}
 use Rattle.mx_snapshot.specs.Resumed.{plan_of, state_of}
 use Rattle.mx_snapshot.specs.Stored.{Stored}
@@ -26,12 +27,12 @@ use Rattle.mx_commands.specs.declared.order.Way.TheVariants as way
 use Rattle.mx_plan.specs.Manifest.{judged}
 use Rattle.mx_commands.specs.Finding.{Finding, Absent, Large, Short, Broken, Whole, Finds}
 use Rattle.mx_commands.specs.Next.{Outcome, Wanted, Next, Read, End, refusal, lack_of, after_file}
-use Rattle.mx_commands.specs.Boots.{Rest, refused_by, after_images, manifest_file, image_file, booted, planned, after_boot, HasImage, HasImages}
+use Rattle.mx_commands.specs.Boots.{Rest, refused_by, after_files, after_images, after_inputs, image_named, image_wanted, input_named, input_wanted, manifest_file, booted, planned, after_boot, HasFile, HasFiles, HasBoth}
 use Rattle.mx_commands.specs.Commands.{schedule_file, source_file, scheduled, run_of, run_from, booted_run, going, written_image, unless_faulty, assembled_text, assembled, audited, after_first, assembling, auditing, comparing}
 use Rattle.mx_commands.specs.Compared.{compared}
 use Rattle.mx_commands.specs.Resumed.{Onward, unread_by, snapshot_file, resumed, after_snapshot}
 use Rattle.mx_commands.specs.Leads.{LeadsBy, LeadsTo, FindsAll, FindsLast}
-use Rattle.mx_commands.proofs.ImageSteps.{image_step}
+use Rattle.mx_commands.proofs.FileSteps.{file_step}
 use Rattle.mx_commands.proofs.Leads.{end_same, read_same, read_end}
 
 pub status_same : {a b : Outcome} → End a ≡ End b → b.status ≡ a.status
@@ -153,52 +154,79 @@ module _ (file : Wanted) (rest : List ℕ → List Finding → Next) where
       let same : file ≡ f.0 = read_same f.3 in
       by_finding Own limit each answers f.1 f.2 x more outcome f.4 (subst (λ (w : Wanted). Finds w.most w.name f.1 x) (sym same) f.5) f.6 end
 
--- what follows from the images of modules
-abbrev pub OfImages : List ModulePlan → List (List ℕ) → (List (List ℕ) → List Finding → Status → Type 0) → List Finding → Status → Type 0
-OfImages ms images Own found status =
-    (files : List (List ℕ)) × (taken : List (List ℕ)) × (more : List Finding) × HasImages ms files taken × (found ≡ list_map Whole files ++ more) × Own (images ++ taken) more status
+-- what follows from the files of modules
+module _ {N : Type 0} (named : ModulePlan → Option N) where
+  abbrev pub OfFiles : List ModulePlan → List (List ℕ) → (List (List ℕ) → List Finding → Status → Type 0) → List Finding → Status → Type 0
+  OfFiles ms before Own found status =
+      (files : List (List ℕ)) × (taken : List (List ℕ)) × (more : List Finding) × HasFiles named ms files taken × (found ≡ list_map Whole files ++ more) × Own (before ++ taken) more status
 
--- the same with one more module, whose image is told by the name of its file
-abbrev OfImage : Option (List ℕ) → List ModulePlan → List (List ℕ) → (List (List ℕ) → List Finding → Status → Type 0) → List Finding → Status → Type 0
-OfImage o ms images Own found status =
-    (files : List (List ℕ)) × (image : List ℕ) × (left : List (List ℕ)) × HasImage o files image left
-    × (taken : List (List ℕ)) × (more : List Finding) × HasImages ms left taken × (found ≡ list_map Whole files ++ more)
-    × Own ((images ++ image ∷ []) ++ taken) more status
+  -- the same with one more module, whose file is told by its name
+  abbrev OfOne : Option N → List ModulePlan → List (List ℕ) → (List (List ℕ) → List Finding → Status → Type 0) → List Finding → Status → Type 0
+  OfOne o ms before Own found status =
+      (files : List (List ℕ)) × (bytes : List ℕ) × (left : List (List ℕ)) × HasFile o files bytes left
+      × (taken : List (List ℕ)) × (more : List Finding) × HasFiles named ms left taken × (found ≡ list_map Whole files ++ more)
+      × Own ((before ++ bytes ∷ []) ++ taken) more status
 
-with_image : (m : ModulePlan) (ms : List ModulePlan) (images : List (List ℕ)) (Own : List (List ℕ) → List Finding → Status → Type 0) (found : List Finding) (status : Status)
-    → OfImage m.image ms images Own found status → OfImages (m ∷ ms) images Own found status
-with_image m ms images Own found status o = (
-  o.0,
-  o.1 ∷ o.4,
-  o.5,
-  (o.1, o.2, o.4, o.3, refl, o.6),
-  o.7,
-  subst (λ (all : List (List ℕ)). Own all o.5 status) (append_assoc images (o.1 ∷ []) o.4) o.8,
-)
+  with_one : (m : ModulePlan) (ms : List ModulePlan) (before : List (List ℕ)) (Own : List (List ℕ) → List Finding → Status → Type 0) (found : List Finding) (status : Status)
+      → OfOne (named m) ms before Own found status → OfFiles (m ∷ ms) before Own found status
+  with_one m ms before Own found status o = (
+    o.0,
+    o.1 ∷ o.4,
+    o.5,
+    (o.1, o.2, o.4, o.3, refl, o.6),
+    o.7,
+    subst (λ (all : List (List ℕ)). Own all o.5 status) (append_assoc before (o.1 ∷ []) o.4) o.8,
+  )
 
-by_image : (side : Side) (o : Option (List ℕ)) (number : ℕ) (ms : List ModulePlan) (images : List (List ℕ)) (rest : List (List ℕ) → List Finding → Next)
-    (Own : List (List ℕ) → List Finding → Status → Type 0)
-    → ((images : List (List ℕ)) → Caused (after_images side (number + 1) ms images rest) (OfImages ms images Own)) → Caused (image_step side o number ms images rest) (OfImage o ms images Own)
-by_image side None number ms images rest Own each =
-    weaker (image_step side None number ms images rest) (OfImages ms (images ++ [] ∷ []) Own) (OfImage None ms images Own)
-    (λ found status o. (o.0, [], o.0, (refl, refl), o.1, o.2, o.3, o.4, o.5)) (each (images ++ [] ∷ []))
-by_image side (Some name) number ms images rest Own each =
-    let file = image_file side number name in
-    let next_images = λ (bytes : List ℕ). after_images side (number + 1) ms (images ++ bytes ∷ []) rest in
-    weaker (image_step side (Some name) number ms images rest) (OfFile file next_images (λ bytes. OfImages ms (images ++ bytes ∷ []) Own)) (OfImage (Some name) ms images Own)
+  module _ (file : ℕ → List (List ℕ) → N → Wanted) (limits : (number : ℕ) (taken : List (List ℕ)) (name : N) → IsLimit (file number taken name)) where
+    by_one : (o : Option N) (number : ℕ) (ms : List ModulePlan) (before : List (List ℕ)) (rest : List (List ℕ) → List Finding → Next)
+        (Own : List (List ℕ) → List Finding → Status → Type 0)
+        → ((before : List (List ℕ)) → Caused (after_files named file (number + 1) ms before rest) (OfFiles ms before Own)) → Caused (file_step named file o number ms before rest) (OfOne o ms before Own)
+    by_one None number ms before rest Own each =
+        weaker (file_step named file None number ms before rest) (OfFiles ms (before ++ [] ∷ []) Own) (OfOne None ms before Own)
+        (λ found status o. (o.0, [], o.0, (refl, refl), o.1, o.2, o.3, o.4, o.5)) (each (before ++ [] ∷ []))
+    by_one (Some name) number ms before rest Own each =
+        let wanted = file number before name in
+        let next_files = λ (bytes : List ℕ). after_files named file (number + 1) ms (before ++ bytes ∷ []) rest in
+        weaker (file_step named file (Some name) number ms before rest) (OfFile wanted next_files (λ bytes. OfFiles ms (before ++ bytes ∷ []) Own)) (OfOne (Some name) ms before Own)
+        (λ found status o.
+        let p = o.3 in
+        (o.0 ∷ p.0, o.0, p.0, refl, p.1, p.2, p.3, o.2 ∙ ap (λ xs. Whole o.0 ∷ xs) p.4, p.5))
+        (by_file wanted next_files (λ bytes. OfFiles ms (before ++ bytes ∷ []) Own) (limits number before name) (λ bytes. each (before ++ bytes ∷ [])))
+
+    by_files : (ms : List ModulePlan) (number : ℕ) (before : List (List ℕ)) (rest : List (List ℕ) → List Finding → Next) (Own : List (List ℕ) → List Finding → Status → Type 0)
+        → ((before : List (List ℕ)) → Caused (rest before) (Own before)) → Caused (after_files named file number ms before rest) (OfFiles ms before Own)
+    by_files [] number before rest Own each =
+        weaker (rest before) (Own before) (OfFiles [] before Own)
+        (λ found status o. ([], [], found, (refl, refl), refl, subst (λ (all : List (List ℕ)). Own all found status) (sym (append-nil before)) o)) (each before)
+    by_files (m ∷ ms) number before rest Own each =
+        weaker (file_step named file (named m) number ms before rest) (OfOne (named m) ms before Own) (OfFiles (m ∷ ms) before Own) (with_one m ms before Own)
+        (by_one (named m) number ms before rest Own (λ before. by_files ms (number + 1) before rest Own each))
+
+-- what follows from the images and the inputs of a plan's modules
+abbrev pub OfBoth : Said → (List (List ℕ) → List (List ℕ) → List Finding → Status → Type 0) → List Finding → Status → Type 0
+OfBoth plan Own found status =
+    (files : List (List ℕ)) × (images : List (List ℕ)) × (inputs : List (List ℕ)) × (more : List Finding) × HasBoth plan files images inputs
+    × (found ≡ list_map Whole files ++ more) × Own images inputs more status
+
+by_both : (side : Side) (size : ℕ) (plan : Said) (rest : List (List ℕ) → List (List ℕ) → List Finding → Next) (Own : List (List ℕ) → List (List ℕ) → List Finding → Status → Type 0)
+    → ((images inputs : List (List ℕ)) → Caused (rest images inputs) (Own images inputs))
+    → Caused (after_images side 1 plan.modules [] (λ images. after_inputs side size 1 plan.modules [] (rest images))) (OfBoth plan Own)
+by_both side size plan rest Own each =
+    let OwnInputs : List (List ℕ) → List Finding → Status → Type 0 = λ images. OfFiles input_named plan.modules [] (Own images) in
+    weaker (after_images side 1 plan.modules [] (λ images. after_inputs side size 1 plan.modules [] (rest images))) (OfFiles image_named plan.modules [] OwnInputs) (OfBoth plan Own)
     (λ found status o.
-    let p = o.3 in
-    (o.0 ∷ p.0, o.0, p.0, refl, p.1, p.2, p.3, o.2 ∙ ap (λ xs. Whole o.0 ∷ xs) p.4, p.5))
-    (by_file file next_images (λ bytes. OfImages ms (images ++ bytes ∷ []) Own) (inl (side, _, refl)) (λ bytes. each (images ++ bytes ∷ [])))
-
-by_images : (side : Side) (ms : List ModulePlan) (number : ℕ) (images : List (List ℕ)) (rest : List (List ℕ) → List Finding → Next) (Own : List (List ℕ) → List Finding → Status → Type 0)
-    → ((images : List (List ℕ)) → Caused (rest images) (Own images)) → Caused (after_images side number ms images rest) (OfImages ms images Own)
-by_images side [] number images rest Own each =
-    weaker (rest images) (Own images) (OfImages [] images Own)
-    (λ found status o. ([], [], found, (refl, refl), refl, subst (λ (all : List (List ℕ)). Own all found status) (sym (append-nil images)) o)) (each images)
-by_images side (m ∷ ms) number images rest Own each =
-    weaker (image_step side m.image number ms images rest) (OfImage m.image ms images Own) (OfImages (m ∷ ms) images Own) (with_image m ms images Own)
-    (by_image side m.image number ms images rest Own (λ images. by_images side ms (number + 1) images rest Own each))
+    let p = o.5 in (
+      o.0 ++ p.0,
+      o.1,
+      p.1,
+      p.2,
+      record { first = o.0; last = p.0; parts = refl; as_images = o.3; as_inputs = p.3 },
+      o.4 ∙ ap (λ xs. list_map Whole o.0 ++ xs) p.4 ∙ sym (append_assoc (list_map Whole o.0) (list_map Whole p.0) p.2) ∙ ap (λ xs. xs ++ p.2) (sym (map-append Whole o.0 p.0)),
+      p.5,
+    ))
+    (by_files image_named (image_wanted side) (λ number taken name. inl (side, _, refl)) plan.modules 1 [] (λ images. after_inputs side size 1 plan.modules [] (rest images)) OwnInputs
+    (λ images. by_files input_named (input_wanted side size) (λ number taken name. inl (side, _, refl)) plan.modules 1 [] (rest images) (Own images) (each images)))
 
 -- a step that only ends
 pub by_end : (o : Outcome) → Caused (λ _. End o) (λ found status. (found ≡ []) × (status ≡ o.status))
@@ -228,7 +256,7 @@ OfState side own plan (Ok s) found status = own plan s found status
 OfState side own plan (Err why) found status = (found ≡ []) × (status ≡ refused_by side why)
 
 abbrev pub OfPlan : Side → Own → Result Said BootFault → List Finding → Status → Type 0
-OfPlan side own (Ok plan) found status = OfImages plan.modules [] (λ images. OfState side own plan (boot_of plan images)) found status
+OfPlan side own (Ok plan) found status = OfBoth plan (λ images inputs. OfState side own plan (boot_of plan images inputs)) found status
 OfPlan side own (Err fault) found status = (found ≡ []) × (status ≡ refused_by side (Faulty fault))
 
 abbrev pub OfBoot : Side → Own → List Finding → Status → Type 0
@@ -241,7 +269,8 @@ module _ (side : Side) (name : List ℕ) (rest : Rest) (own : Own) (each : (plan
 
   by_plan : (plan : Result Said BootFault) → Caused (planned side name rest plan) (OfPlan side own plan)
   by_plan (Ok plan) =
-      by_images side plan.modules 1 [] (λ images. booted side name rest plan (boot_of plan images)) (λ images. OfState side own plan (boot_of plan images)) (λ images. by_state plan (boot_of plan images))
+      by_both side (4 * ram_words plan) plan (λ images inputs. booted side name rest plan (boot_of plan images inputs)) (λ images inputs. OfState side own plan (boot_of plan images inputs))
+      (λ images inputs. by_state plan (boot_of plan images inputs))
   by_plan (Err fault) = by_end (refusal name (refused_by side (Faulty fault)))
 
   by_boot : Caused (after_boot side name rest) (OfBoot side own)

@@ -14,6 +14,7 @@ order_of o = record {
   steps = o.steps;
   schedule = option_copied o.schedule;
   from = o.from;
+  effects = o.effects;
   dump = o.dump;
   tables = o.tables;
   counts = o.counts;

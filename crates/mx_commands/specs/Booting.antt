@@ -12,47 +12,46 @@ use Rattle.mx_snapshot.specs.Kept.{IsOfPlan, kept_of}
 use Rattle.mx_turns.specs.Ends.{sinks}
 use Rattle.mx_turns.specs.Running.{IsNew}
 use Rattle.mx_commands.specs.declared.booting.Booted.{Booted}
-use Rattle.mx_commands.specs.declared.side.Side.{Side}
 use Rattle.mx_commands.specs.declared.status.Status.{Status}
 use Rattle.mx_commands.specs.Finding.{Finding}
-use Rattle.mx_commands.specs.Next.{Outcome, Next, End}
+use Rattle.mx_commands.specs.Next.{Outcome, Wanted, Next, End}
 use Rattle.mx_commands.specs.Commands.{scheduled, schedule_by}
-use Rattle.mx_commands.specs.Boots.{Rest, after_images}
+use Rattle.mx_commands.specs.Boots.{Rest, after_files}
 use Rattle.mx_commands.specs.Ends.{Continues, Comes}
 
--- what follows from the images of modules
-abbrev pub AfterImages : Type 0
-AfterImages = List (List ℕ) → List Finding → Next
+-- what follows from the files of modules
+abbrev pub AfterFiles : Type 0
+AfterFiles = List (List ℕ) → List Finding → Next
 
--- the image of a module was taken: the report is as it was, and the step goes on with the image after those before; or the call ended
-abbrev pub TakesImage : {S : Type 0} → (S → Answer → S → Type 0) → Side → ℕ → ModulePlan → S → S →
-    SinkState → SinkState → Result (List ℕ) Status → Type 0
-TakesImage gives side number m store stored before now (Ok image) =
-    (now ≡ before)
-    × ((ms : List ModulePlan) (images : List (List ℕ)) (rest : AfterImages)
-    → Comes (after_images side number (m ∷ ms) images rest) gives store stored
-    (after_images side (number + 1) ms (images ++ image ∷ []) rest))
-TakesImage gives side number m store stored before now (Err status) =
-    (ms : List ModulePlan) (images : List (List ℕ)) (rest : AfterImages) (console dump : SinkState)
-    → Continues (after_images side number (m ∷ ms) images rest) gives store stored
+-- the file of a module was taken: the report is as it was, and the step goes on with the file after those before; or the call ended
+abbrev pub TakesFile : {S N : Type 0} → (S → Answer → S → Type 0) → (ModulePlan → Option N) →
+    (ℕ → List (List ℕ) → N → Wanted) → ℕ → List (List ℕ) → ModulePlan → S → S → SinkState → SinkState →
+    Result (List ℕ) Status → Type 0
+TakesFile gives named file number taken m store stored before now (Ok bytes) =
+    (now ≡ before) × ((ms : List ModulePlan) (rest : AfterFiles)
+    → Comes (after_files named file number (m ∷ ms) taken rest) gives store stored
+    (after_files named file (number + 1) ms (taken ++ bytes ∷ []) rest))
+TakesFile gives named file number taken m store stored before now (Err status) =
+    (ms : List ModulePlan) (rest : AfterFiles) (console dump : SinkState)
+    → Continues (after_files named file number (m ∷ ms) taken rest) gives store stored
     (sinks console before dump) (sinks console now dump) status
 
--- the images of a plan were taken, and the step goes on with them; or the call ended
-abbrev pub TakesImages : {S : Type 0} → (S → Answer → S → Type 0) → Side → Said → S → S →
-    SinkState → SinkState → Result (List (List ℕ)) Status → Type 0
-TakesImages gives side plan store stored before now (Ok images) =
-    (now ≡ before)
-    × ((rest : AfterImages)
-    → Comes (after_images side 1 plan.modules [] rest) gives store stored (rest images))
-TakesImages gives side plan store stored before now (Err status) =
-    (rest : AfterImages) (console dump : SinkState)
-    → Continues (after_images side 1 plan.modules [] rest) gives store stored
+-- the files of a plan's modules were taken, and the step goes on with them; or the call ended
+abbrev pub TakesFiles : {S N : Type 0} → (S → Answer → S → Type 0) → (ModulePlan → Option N) →
+    (ℕ → List (List ℕ) → N → Wanted) → List ModulePlan → S → S → SinkState → SinkState →
+    Result (List (List ℕ)) Status → Type 0
+TakesFiles gives named file modules store stored before now (Ok files) =
+    (now ≡ before) × ((rest : AfterFiles)
+    → Comes (after_files named file 1 modules [] rest) gives store stored (rest files))
+TakesFiles gives named file modules store stored before now (Err status) =
+    (rest : AfterFiles) (console dump : SinkState)
+    → Continues (after_files named file 1 modules [] rest) gives store stored
     (sinks console before dump) (sinks console now dump) status
 
--- the images in a list
-abbrev pub images_of : Result (Vec (List ℕ) Global) Status → Result (List (List ℕ)) Status
-images_of (Ok images) = Ok images.items
-images_of (Err status) = Err status
+-- the files in a list
+abbrev pub files_of : Result (Vec (List ℕ) Global) Status → Result (List (List ℕ)) Status
+files_of (Ok files) = Ok files.items
+files_of (Err status) = Err status
 
 -- the bytes of a schedule file, if one was read
 abbrev pub schedule_bytes : Result (Option (Vec ℕ Global)) Status → Result (Option (List ℕ)) Status

@@ -14,6 +14,7 @@ use Rattle.mx_report.specs.declared.closing.Options.{Options}
 use Rattle.mx_snapshot.specs.Kept.{KeptPlan, kept_of}
 use Rattle.mx_turns.specs.Ends.{Texts, still}
 use Rattle.mx_turns.specs.Runs.{ran}
+use Rattle.mx_turns.specs.declared.tracing.Lines.{Lines}
 use Rattle.mx_turns.specs.Tracing.{traced}
 use Rattle.mx_commands.specs.declared.side.Side.TheVariants.{First, Second}
 use Rattle.mx_commands.specs.declared.status.FileRole.TheVariants.{Schedule as ScheduleRole, Source}
@@ -54,11 +55,15 @@ scheduled quantum made (Some name) found =
 abbrev pub options_of : Order → Options
 options_of o = record { tables = o.tables; counts = o.counts }
 
+-- the lines of a trace
+abbrev pub lines_of : Order → Lines
+lines_of o = record { from = unwrap_or o.from 0; effects = o.effects }
+
 -- the texts of a run by a schedule, from a state
 abbrev pub texts_of : Order → Way → KeptPlan → State → Schedule → Texts
 texts_of o way.Run kept s schedule = ran kept (options_of o) o.dump o.steps schedule s
 texts_of o way.Resume kept s schedule = ran kept (options_of o) o.dump o.steps schedule s
-texts_of o way.Trace kept s schedule = traced (unwrap_or o.from 0) o.steps schedule s
+texts_of o way.Trace kept s schedule = traced (lines_of o) o.steps schedule s
 
 abbrev pub run_of : Order → KeptPlan → State → Schedule → Outcome
 run_of o kept s schedule = record { status = Ran; texts = texts_of o o.way kept s schedule }

@@ -4,13 +4,15 @@ use Rattle.mx_turns.specs.declared.task.Dump.{Dump}
 use Rattle.mx_commands.specs.declared.order.Way.{Way}
 
 -- what a run is asked: its way; a manifest or a snapshot by its name, for at most so many steps; a schedule by its name; of a trace the
--- first turn that has a line; what goes to the dump; and whether the report has the lines of the tables and of the counts
+-- first turn that has a line, and whether it has the lines of what turns did; what goes to the dump; and whether the report has the lines
+-- of the tables and of the counts
 pub record Order : Type 0 where
   pub way : Way
   pub file : List ℕ
   pub steps : ℕ
   pub schedule : Option (List ℕ)
   pub from : Option ℕ
+  pub effects : Bool
   pub dump : Option Dump
   pub tables : Bool
   pub counts : Bool
@@ -23,6 +25,7 @@ plain_order way file steps = record {
   steps = steps;
   schedule = None;
   from = None;
+  effects = false;
   dump = None;
   tables = false;
   counts = false;

@@ -1,16 +1,19 @@
 //! A boot as a step of a command: from the name of a manifest to its machine.
 
-ghost use Rattle.std.specs.Prelude.{Ok};
+ghost use Rattle.std.specs.Prelude.{◌≡◌, ℕ, ◌-◌, ◌*◌, ◌≤◌, List, [], length, Ok, IfOk, IfSome};
 ghost use Rattle.mx_boot.specs.Boot.{boot_of};
 ghost use Rattle.mx_boot.specs.Booted.{IsBooted};
+ghost use Rattle.mx_boot.specs.Faults.{ram_words};
+ghost use Rattle.mx_boot.specs.Inputs.{AreInputs, FitsArea};
+ghost use Rattle.mx_manifest.specs.InRange.{IsInput};
 ghost use Rattle.mx_plan.specs.Manifest.{judged};
-ghost use Rattle.mx_commands.specs.Boots.{Rest, after_boot, planned, booted};
-ghost use Rattle.mx_commands.specs.Booting.{TakesBoot, TakesImage, TakesImages, images_of};
+ghost use Rattle.mx_commands.specs.Boots.{Rest, after_boot, after_inputs, planned, booted, image_named, image_wanted, input_named, input_wanted, total};
+ghost use Rattle.mx_commands.specs.Booting.{TakesBoot, TakesFile, TakesFiles, files_of};
 
 use crate::refusal::refuse;
 use crate::side::{Side, refused, tables_full};
 use crate::status::Status;
-use crate::wanted::{image_file, manifest_file, take_file};
+use crate::wanted::{image_file, input_file, manifest_file, take_file};
 use mx_any::AnyMachine;
 use mx_boot::{BootRefused, boot};
 use mx_io::{Sink, Store};
@@ -63,7 +66,7 @@ fn boot_manifest<S: Store, R: Sink>(
     }
 }
 
-// Boots a plan: takes the images of its modules, and then boots it with them.
+// Boots a plan: takes the images and the inputs of its modules, and then boots it with them.
 fn boot_plan<S: Store, R: Sink>(
     alloc: Global,
     side: Side,
@@ -89,8 +92,8 @@ fn take_images<S: Store, R: Sink>(
     store: &mut S,
     report: &mut R,
 ) -> Result<Vec<Blob>, Status>
-    ensures { TakesImages S.gives side plan.now store.old store.new
-        (R.state report.old) (R.state report.new) (images_of result) }
+    ensures { TakesFiles S.gives image_named (image_wanted side) plan.now.modules
+        store.old store.new (R.state report.old) (R.state report.new) (files_of result) }
 {
     let mut images = Vec::new(alloc);
     'modules: for i in 0..plan.modules() {
@@ -114,8 +117,9 @@ fn take_image<S: Store, R: Sink>(
     store: &mut S,
     report: &mut R,
 ) -> Result<Blob, Status>
-    ensures { TakesImage S.gives side number home.now store.old store.new
-        (R.state report.old) (R.state report.new) result }
+    ensures { (taken : List (List ℕ)) →
+        TakesFile S.gives image_named (image_wanted side) number taken home.now
+        store.old store.new (R.state report.old) (R.state report.new) result }
 {
     match &home.image {
         Some(name) => {
@@ -133,7 +137,7 @@ fn take_image<S: Store, R: Sink>(
     }
 }
 
-// Boots a plan with its images, or refuses it.
+// Boots a plan with its images: takes the inputs of its modules.
 fn boot_images<S: Store, R: Sink>(
     alloc: Global,
     side: Side,
@@ -143,11 +147,93 @@ fn boot_images<S: Store, R: Sink>(
     store: &mut S,
     report: &mut R,
 ) -> Result<Booted, Status>
-    ensures { TakesBoot S.gives
-        (λ (rest : Rest). booted side name.now rest plan (boot_of plan images.items))
+    ensures { TakesBoot S.gives (λ (rest : Rest).
+        after_inputs side (4 * ram_words plan) 1 plan.modules []
+        (λ inputs. booted side name.now rest plan (boot_of plan images.items inputs)))
         store.old store.new (R.state report.old) (R.state report.new) result }
 {
-    match boot_all(alloc, &plan, images) {
+    match take_inputs(alloc, side, &plan, store, report) {
+        Ok(inputs) => {
+            let boot = boot_all(alloc, &plan, images, inputs);
+            settle_boot(side, name, plan, boot, store, report)
+        }
+        Err(status) => Err(status),
+    }
+}
+
+// The inputs of a plan's modules, in order. Each fits its area, and together they have at most as many bytes as RAM.
+fn take_inputs<S: Store, R: Sink>(
+    alloc: Global,
+    side: Side,
+    plan: &Plan,
+    store: &mut S,
+    report: &mut R,
+) -> Result<Vec<Blob>, Status>
+    ensures takes { TakesFiles S.gives input_named
+        (input_wanted side (4 * ram_words plan.now)) plan.now.modules
+        store.old store.new (R.state report.old) (R.state report.new) (files_of result) }
+    ensures fit { IfOk result (λ inputs. AreInputs plan.now inputs.items) }
+{
+    let mut left = 1024 * u64::from(plan.ram_kib());
+    let mut inputs = Vec::new(alloc);
+    'modules: for i in 0..plan.modules() {
+        match take_input(alloc, side, i + 1, left, plan.module(i), store, report) {
+            Ok(input) => {
+                left -= u64::from(input.len());
+                match inputs.push(input) {
+                    Ok(()) => {}
+                    Err(_) => return Err(Status::WantOfMemory),
+                }
+            }
+            Err(status) => return Err(status),
+        }
+    }
+    Ok(inputs)
+}
+
+// The input of the module with a number from 1: the bytes of its file, of which RAM has so many left, or none.
+fn take_input<S: Store, R: Sink>(
+    alloc: Global,
+    side: Side,
+    number: u32,
+    left: u64,
+    home: &ModulePlan,
+    store: &mut S,
+    report: &mut R,
+) -> Result<Blob, Status>
+    requires input { IfSome home.now.input IsInput }
+    requires few { left ≤ 67108864 }
+    ensures takes { (size : ℕ) (taken : List (List ℕ)) → left ≡ size - total taken →
+        TakesFile S.gives input_named (input_wanted side size) number taken home.now
+        store.old store.new (R.state report.old) (R.state report.new) result }
+    ensures fit { IfOk result (λ bytes. (length bytes ≤ left)
+        × IfSome home.now.input (λ input. FitsArea input bytes)) }
+{
+    match &home.input {
+        Some(input) => {
+            match take_file(alloc, &input_file(side, number, left, input), store, report) {
+                Ok(bytes) => Ok(Blob::from_vec(bytes)),
+                Err(status) => Err(status),
+            }
+        }
+        None => Ok(Blob::new(alloc)),
+    }
+}
+
+// What the boot of a plan came to: its machine, or the line of its refusal as the whole report.
+fn settle_boot<S: Store, R: Sink>(
+    side: Side,
+    name: &str,
+    plan: Plan,
+    boot: Result<AnyMachine, BootRefused>,
+    store: &mut S,
+    report: &mut R,
+) -> Result<Booted, Status>
+    ensures { (images inputs : List (List ℕ)) → IsBooted plan images inputs boot → TakesBoot S.gives
+        (λ (rest : Rest). booted side name.now rest plan (boot_of plan images inputs))
+        store.old store.new (R.state report.old) (R.state report.new) result }
+{
+    match boot {
         Ok(machine) => Ok(Booted { plan, machine }),
         Err(BootRefused::Fault(fault)) => Err(refuse(report, name, refused(side, fault))),
         Err(BootRefused::TablesFull { need, limit }) => {
@@ -157,9 +243,15 @@ fn boot_images<S: Store, R: Sink>(
     }
 }
 
-// Boots a plan. The images are dropped then, so that a run doesn't hold them.
-fn boot_all(alloc: Global, plan: &Plan, images: Vec<Blob>) -> Result<AnyMachine, BootRefused>
-    ensures { IsBooted plan.now images.items result }
+// Boots a plan. The images and the inputs are dropped then, so that a run doesn't hold them.
+fn boot_all(
+    alloc: Global,
+    plan: &Plan,
+    images: Vec<Blob>,
+    inputs: Vec<Blob>,
+) -> Result<AnyMachine, BootRefused>
+    requires { AreInputs plan.now inputs.items }
+    ensures { IsBooted plan.now images.items inputs.items result }
 {
-    boot(alloc, plan, images.as_slice())
+    boot(alloc, plan, images.as_slice(), inputs.as_slice())
 }

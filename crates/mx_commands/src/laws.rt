@@ -8,8 +8,8 @@ ghost use Rattle.mx_snapshot.specs.Kept.{IsOfPlan, KeptPlan, kept_of};
 
 /// A machine at boot is one of its plan, and a turn of any hart leaves a machine one of the plan of which it was before.
 pub fn machines_are_of_their_plan()
-    ensures boot { (plan : Said) (images : List (List ℕ)) (s : State) →
-        boot_of plan images ≡ Ok s → IsOfPlan (kept_of plan) (flat s) }
+    ensures boot { (plan : Said) (images inputs : List (List ℕ)) (s : State) →
+        boot_of plan images inputs ≡ Ok s → IsOfPlan (kept_of plan) (flat s) }
     ensures turn { (kept : KeptPlan) (f : Flat) (h : ℕ) → IsOfPlan kept f →
         IsOfPlan kept (flat_turn f h) }
 {}

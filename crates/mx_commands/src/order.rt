@@ -26,6 +26,8 @@ pub struct Order<'a> {
     pub schedule: Option<&'a str>,
     /// Of a trace the first turn that has a line, at most 9999999999; none is turn 0.
     pub from: Option<u64>,
+    /// Whether a trace has the lines of what turns did.
+    pub effects: bool,
     /// What goes to the dump, if anything; nothing of a trace.
     pub dump: Option<Dump>,
     /// Whether the report has the lines of the tables.

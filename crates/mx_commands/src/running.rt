@@ -9,7 +9,7 @@ ghost use Rattle.mx_turns.specs.Ends.{Leave, sinks};
 ghost use Rattle.mx_turns.specs.Running.{schedule_of, HasTurns, IsNew};
 ghost use Rattle.mx_commands.specs.Asked.{order_of};
 ghost use Rattle.mx_commands.specs.Booting.{TakesSchedule, schedule_bytes};
-ghost use Rattle.mx_commands.specs.Commands.{booted_run, options_of, run_from, run_of, texts_of};
+ghost use Rattle.mx_commands.specs.Commands.{booted_run, lines_of, options_of, run_from, run_of, texts_of};
 ghost use Rattle.mx_commands.specs.Ends.{fault_of, Ends, Continues};
 
 use crate::booting::{Booted, take_boot};
@@ -22,7 +22,7 @@ use mx_io::{Sink, Store};
 use mx_manifest::Plan;
 use mx_report::Options;
 use mx_snapshot::Kept;
-use mx_turns::{Schedule, SinkFault, Task, TraceTask, make_run, make_trace};
+use mx_turns::{Lines, Schedule, SinkFault, Task, TraceTask, make_run, make_trace};
 use mx_words::NoMemory;
 use std::alloc::Global;
 
@@ -262,12 +262,21 @@ fn task_of<'a>(order: &Order<'_>, schedule: Schedule<'a>) -> Task<'a>
 fn trace_of<'a>(order: &Order<'_>, schedule: Schedule<'a>) -> TraceTask<'a>
     ensures steps { result.steps ≡ order.now.steps }
     ensures schedule { result.schedule ≡ schedule.entry }
-    ensures from { result.from ≡ unwrap_or order.now.from 0 }
+    ensures lines { result.lines ≡ lines_of (order_of order.now) }
 {
     TraceTask {
         steps: order.steps,
         schedule,
+        lines: lines_of(order),
+    }
+}
+
+fn lines_of(order: &Order<'_>) -> Lines
+    ensures { result ≡ lines_of (order_of order.now) }
+{
+    Lines {
         from: order.from.unwrap_or(0),
+        effects: order.effects,
     }
 }
 

@@ -2,7 +2,7 @@
 
 ghost use Rattle.std.specs.Prelude.{◌≡◌};
 ghost use Rattle.mx_boot.specs.Boot.{Faulty, TooFull};
-ghost use Rattle.mx_commands.specs.Boots.{refused_by, manifest_role, image_role};
+ghost use Rattle.mx_commands.specs.Boots.{refused_by, manifest_role, image_role, input_role};
 
 use crate::status::{FileRole, Status};
 use mx_manifest::BootFault;
@@ -34,6 +34,16 @@ pub(crate) fn image_role(side: Side, number: u32) -> FileRole
     match side {
         Side::First => FileRole::Image(number),
         Side::Second => FileRole::SecondImage(number),
+    }
+}
+
+/// What the input of a side's module with this number is read for.
+pub(crate) fn input_role(side: Side, number: u32) -> FileRole
+    ensures { result ≡ input_role side number }
+{
+    match side {
+        Side::First => FileRole::Input(number),
+        Side::Second => FileRole::SecondInput(number),
     }
 }
 

@@ -23,6 +23,10 @@ pub enum FileRole {
     SecondImage(u32),
     /// A machine's stored state.
     Snapshot,
+    /// The input of the module with this number, from 1.
+    Input(u32),
+    /// The input of the module with this number, from 1, of the second machine of two.
+    SecondInput(u32),
 }
 
 /// How the top call ends. Each answer but `WantOfMemory` comes only by its cause.
@@ -32,7 +36,7 @@ pub enum Status {
     Ran,
     /// The words have no meaning.
     Usage,
-    /// The manifest, an image or the schedule has this first fault.
+    /// The manifest, an image, an input or the schedule has this first fault.
     Refused(BootFault),
     /// The permission tables of the boot need more than the limit.
     TablesFull {

@@ -1,9 +1,10 @@
 //! The files that a command reads.
 
-ghost use Rattle.std.specs.Prelude.{◌≡◌, ◌≤◌, IfOk, vec_len};
+ghost use Rattle.std.specs.Prelude.{◌≡◌, ◌≤◌, ◌+◌, ◌*◌, IfOk, vec_len};
+ghost use Rattle.mx_manifest.specs.InRange.{IsInput};
 ghost use Rattle.mx_io.specs.Sink.{SinkState};
 ghost use Rattle.mx_commands.specs.Asked.{wanted_of};
-ghost use Rattle.mx_commands.specs.Boots.{manifest_file, image_file, size_fault};
+ghost use Rattle.mx_commands.specs.Boots.{manifest_file, image_file, input_file, size_fault};
 ghost use Rattle.mx_commands.specs.Commands.{schedule_file, source_file};
 ghost use Rattle.mx_commands.specs.Reading.{Refuses, Takes};
 ghost use Rattle.mx_commands.specs.Resumed.{snapshot_file};
@@ -11,10 +12,10 @@ ghost use Rattle.mx_turns.specs.Ends.{sinks};
 
 use crate::reading::{ReadFault, read_file};
 use crate::refusal::refuse;
-use crate::side::{Side, image_role, manifest_role, refused};
+use crate::side::{Side, image_role, input_role, manifest_role, refused};
 use crate::status::{FileRole, Status};
 use mx_io::{Sink, Store};
-use mx_manifest::{BootFault, Key, Part, Place};
+use mx_manifest::{BootFault, InputPlan, Key, Part, Place};
 use std::alloc::Global;
 
 /// The most bytes of a manifest or of a source.
@@ -60,6 +61,22 @@ pub(crate) fn image_file(side: Side, number: u32, name: &str) -> Wanted<'_>
         name,
         most: FILE_LIMIT,
         large: refused(side, size_fault(Part::Module, number, Key::Image)),
+    }
+}
+
+/// The input of a side's module with this number from 1, of at most as many bytes as its area holds behind the word that
+/// tells their number, and as are left of RAM's bytes by the inputs before it.
+pub(crate) fn input_file<'a>(side: Side, number: u32, left: u64, input: &'a InputPlan) -> Wanted<'a>
+    requires { IsInput input.now }
+    ensures wanted { wanted_of result ≡ input_file side number left input.now }
+    ensures most { (result.most ≤ left) × (result.most + 4 ≤ 4 * input.now.words) }
+{
+    let room = 4 * (u64::from(input.words) - 1);
+    Wanted {
+        role: input_role(side, number),
+        name: input.file.as_str(),
+        most: if room < left { room } else { left },
+        large: refused(side, size_fault(Part::Module, number, Key::Input)),
     }
 }
 

@@ -1,5 +1,5 @@
 -- From the cause of a status to it, and what a status shows of a store.
-use Rattle.std.proofs.Common.{◌≡◌, ◌≢◌, ℕ, ◌+◌, ◌⊎◌, Bool, List, [], ◌∷◌, ◌++◌, Option, Some, None, IfSome, Result, Ok, refl, sym, ap, subst, ◌∙◌, inl, inr}
+use Rattle.std.proofs.Common.{◌≡◌, ◌≢◌, ℕ, ◌+◌, ◌*◌, ◌⊎◌, Bool, List, [], ◌∷◌, ◌++◌, Option, Some, None, IfSome, Result, Ok, refl, sym, ap, subst, ◌∙◌, inl, inr}
 use Rattle.std.specs.Prelude.{map as list_map}
 use Rattle.std.specs.FinMap.{get}
 use Rattle.std.proofs.lemmas.List.{append-nil}
@@ -12,6 +12,7 @@ use Rattle.mx_manifest.specs.declared.fault.BootFault.{BootFault}
 use Rattle.mx_manifest.specs.declared.fault.Key.{Key}
 use Rattle.mx_manifest.specs.Plan.{Said}
 use Rattle.mx_boot.specs.Boot.{Refusal, Faulty, TooFull, boot_of}
+use Rattle.mx_boot.specs.Faults.{ram_words}
 use Rattle.mx_snapshot.specs.Stored.{Stored}
 use Rattle.mx_resume.specs.Snapshot.{Unread, FaultAt, NeedsMore}
 use Rattle.mx_commands.specs.declared.side.Side.{Side}
@@ -33,7 +34,7 @@ use Rattle.mx_commands.specs.Resumed.{unread_by, resumed}
 use Rattle.mx_run.specs.Leads.{Leads}
 use Rattle.mx_run.specs.Causes.{LeadsToStatus, HasFault, IsFaulty, IsRefused, IsUnread, IsUnassembled, Compares, IsUnlike, HasNoDomain, Cause}
 use Rattle.mx_commands.specs.Leads.{FindsAll, Reaches, FindsLast}
-use Rattle.mx_commands.proofs.ImageSteps.{images_taken}
+use Rattle.mx_commands.proofs.FileSteps.{both_taken}
 use Rattle.mx_commands.proofs.Leads.{read_end}
 use Rattle.mx_run.proofs.Promises.{if_some}
 use Rattle.mx_commands.proofs.Shortfalls.{broken_shows, short_never, absent_named, absent_found}
@@ -72,8 +73,8 @@ module _ (asked : Option Request) (answers : List Answer) where
       ended_so (c.0 ++ Whole c.3 ∷ found) (refusal c.1 (refused_by side why)) c.5
       (c.2.goes (Whole c.3 ∷ found) ∙ ap (λ (p : Result Said BootFault). planned side c.1 c.2.rest p found) c.7
       ∙ ap (λ (more : List Finding). planned side c.1 c.2.rest (Ok c.6) more) (sym (append-nil found))
-      ∙ images_taken side c.6.modules 1 [] (λ images. booted side c.1 c.2.rest c.6 (boot_of c.6 images)) c.4 c.8 [] c.9
-      ∙ ap (λ (b : Result State Refusal). booted side c.1 c.2.rest c.6 b []) c.10)
+      ∙ both_taken side (4 * ram_words c.6) c.6 (λ images inputs. booted side c.1 c.2.rest c.6 (boot_of c.6 images inputs)) c.4 c.8 c.9 [] c.10
+      ∙ ap (λ (b : Result State Refusal). booted side c.1 c.2.rest c.6 b []) c.11)
 
   led_by_refusal : (side : Side) (fault : BootFault) → HasFault asked answers side fault → LeadsToStatus asked answers (refused_by side (Faulty fault))
   led_by_refusal side fault c =
@@ -101,11 +102,11 @@ module _ (asked : Option Request) (answers : List Answer) where
       ended_so ((Whole c.bytes ∷ list_map Whole c.files) ++ (Whole c.more ∷ later)) (compared p plan c.first.state other c.second.state) c.finds
       (ap (λ (a : Option Request). next a (Whole c.bytes ∷ (list_map Whole c.files ++ (Whole c.more ∷ later)))) c.asks
       ∙ ap (λ (r : Result Said BootFault). planned First p.first (after_first p) r (list_map Whole c.files ++ (Whole c.more ∷ later))) c.first.good
-      ∙ images_taken First plan.modules 1 [] (λ images. booted First p.first (after_first p) plan (boot_of plan images)) c.files c.first.images (Whole c.more ∷ later) c.first.taken
+      ∙ both_taken First (4 * ram_words plan) plan (λ images inputs. booted First p.first (after_first p) plan (boot_of plan images inputs)) c.files c.first.images c.first.inputs (Whole c.more ∷ later) c.first.taken
       ∙ ap (λ (b : Result State Refusal). booted First p.first (after_first p) plan b (Whole c.more ∷ later)) c.first.boots
       ∙ ap (λ (r : Result Said BootFault). planned Second p.second rest r later) c.second.good
       ∙ ap (λ (more : List Finding). planned Second p.second rest (Ok other) more) (sym (append-nil later))
-      ∙ images_taken Second other.modules 1 [] (λ images. booted Second p.second rest other (boot_of other images)) c.others c.second.images [] c.second.taken
+      ∙ both_taken Second (4 * ram_words other) other (λ images inputs. booted Second p.second rest other (boot_of other images inputs)) c.others c.second.images c.second.inputs [] c.second.taken
       ∙ ap (λ (b : Result State Refusal). booted Second p.second rest other b []) c.second.boots)
 
   led_by_key : (key : Key) → IsUnlike asked answers key → LeadsToStatus asked answers (Unlike key)

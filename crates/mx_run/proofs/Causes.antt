@@ -1,5 +1,5 @@
 -- Why a call ends with a status: from the steps of a command to the cause of its status.
-use Rattle.std.proofs.Common.{◌≡◌, ℕ, ◌+◌, Bool, true, false, List, [], ◌∷◌, ◌++◌, Option, Some, None, Result, Ok, Err, refl, sym, ap, subst, ◌∙◌, inl, inr}
+use Rattle.std.proofs.Common.{◌≡◌, ℕ, ◌+◌, ◌*◌, Bool, true, false, List, [], ◌∷◌, ◌++◌, Option, Some, None, Result, Ok, Err, refl, sym, ap, subst, ◌∙◌, inl, inr}
 use Rattle.std.specs.Prelude.{map as list_map}
 use Rattle.std.proofs.lemmas.List.{append-nil}
 use Rattle.std.proofs.lemmas.Option.{none-some, same_Some}
@@ -9,6 +9,7 @@ use Rattle.mx_manifest.specs.declared.fault.BootFault.{BootFault}
 use Rattle.mx_manifest.specs.declared.fault.Key.{Key}
 use Rattle.mx_manifest.specs.Plan.{Said}
 use Rattle.mx_boot.specs.Boot.{Refusal, Faulty, TooFull, boot_of}
+use Rattle.mx_boot.specs.Faults.{ram_words}
 use Rattle.mx_snapshot.specs.Kept.{kept_of}
 use Rattle.mx_snapshot.specs.Stored.{Stored}
 use Rattle.mx_resume.specs.Snapshot.{Unread, FaultAt, NeedsMore, snapshot_of}
@@ -24,14 +25,14 @@ use Rattle.mx_plan.specs.Manifest.{judged}
 use Rattle.mx_commands.specs.Finding.{Finding, Absent, Large, Short, Broken, Whole}
 use Rattle.mx_mill.specs.Mill.{mill_text}
 use Rattle.mx_commands.specs.Next.{Wanted, End, refusal, reported, lack_of}
-use Rattle.mx_commands.specs.Boots.{Rest, refused_by, booted, planned, HasImages, size_fault}
+use Rattle.mx_commands.specs.Boots.{Rest, refused_by, booted, planned, HasBoth, size_fault}
 use Rattle.mx_commands.specs.Commands.{run_from, going, audited, after_first}
 use Rattle.mx_run.specs.Commands.{next}
 use Rattle.mx_commands.specs.Compared.{alike_by, compared, first_unlike, is_domain, unlike}
 use Rattle.mx_commands.specs.Resumed.{unread_by}
 use Rattle.mx_run.specs.Causes.{LeadsToStatus, BootsAfter, IsOver, IsFaulty, IsRefused, IsUnread, Compares, Cause}
 use Rattle.mx_commands.specs.Leads.{FindsAll, FindsLast}
-use Rattle.mx_commands.proofs.ImageSteps.{images_taken}
+use Rattle.mx_commands.proofs.FileSteps.{both_taken}
 use Rattle.mx_commands.proofs.Shortfalls.{short_less}
 use Rattle.mx_manifest.specs.declared.fault.Key.TheVariants as key
 use Rattle.mx_manifest.specs.declared.fault.Part.TheVariants as part
@@ -68,21 +69,21 @@ module _ (asked : Option Request) (answers : List Answer) where
 
   -- a boot of a side after some findings, where what follows has its cause
   module _ (before : List Finding) (side : Side) (name : List ℕ) (boots : BootsAfter asked before side name) (own : Own)
-      (each : (plan : Said) (s : State) (bytes : List ℕ) (files images : List (List ℕ)) → judged bytes ≡ Ok plan → HasImages plan.modules files images → boot_of plan images ≡ Ok s
+      (each : (plan : Said) (s : State) (bytes : List ℕ) (files images inputs : List (List ℕ)) → judged bytes ≡ Ok plan → HasBoth plan files images inputs → boot_of plan images inputs ≡ Ok s
       → (more found : List Finding) → found ≡ before ++ Whole bytes ∷ (list_map Whole files ++ more) → FindsAll (next asked) answers found
       → (status : Status) → own plan s more status → Cause asked answers status) where
-    cause_of_state : (bytes : List ℕ) (plan : Said) → judged bytes ≡ Ok plan → (files images : List (List ℕ)) → HasImages plan.modules files images → (boot : Result State Refusal)
-        → boot_of plan images ≡ boot → (more found : List Finding) → found ≡ before ++ Whole bytes ∷ (list_map Whole files ++ more) → FindsAll (next asked) answers found
+    cause_of_state : (bytes : List ℕ) (plan : Said) → judged bytes ≡ Ok plan → (files images inputs : List (List ℕ)) → HasBoth plan files images inputs → (boot : Result State Refusal)
+        → boot_of plan images inputs ≡ boot → (more found : List Finding) → found ≡ before ++ Whole bytes ∷ (list_map Whole files ++ more) → FindsAll (next asked) answers found
         → (status : Status) → OfState side own plan boot more status → Cause asked answers status
-    cause_of_state bytes plan good files images has (Ok s) is more found same f status o = each plan s bytes files images good has is more found same f status o
-    cause_of_state bytes plan good files images has (Err why) is more found same f status o =
+    cause_of_state bytes plan good files images inputs has (Ok s) is more found same f status o = each plan s bytes files images inputs good has is more found same f status o
+    cause_of_state bytes plan good files images inputs has (Err why) is more found same f status o =
         subst (Cause asked answers) (sym o.1)
-        (refused_cause asked answers side why (before, name, boots, bytes, files, no_rest before bytes files more found same o.0 f, plan, good, images, has, is))
+        (refused_cause asked answers side why (before, name, boots, bytes, files, no_rest before bytes files more found same o.0 f, plan, good, images, inputs, has, is))
 
     cause_of_plan : (bytes : List ℕ) (plan : Result Said BootFault) → judged bytes ≡ plan → (more found : List Finding) → found ≡ before ++ Whole bytes ∷ more
         → FindsAll (next asked) answers found → (status : Status) → OfPlan side own plan more status → Cause asked answers status
     cause_of_plan bytes (Ok plan) good more found same f status o =
-        cause_of_state bytes plan good o.0 o.1 o.3 (boot_of plan o.1) refl o.2 found (same ∙ ap (λ xs. before ++ Whole bytes ∷ xs) o.4) f status o.5
+        cause_of_state bytes plan good o.0 o.1 o.2 o.4 (boot_of plan o.1 o.2) refl o.3 found (same ∙ ap (λ xs. before ++ Whole bytes ∷ xs) o.5) f status o.6
     cause_of_plan bytes (Err fault) bad more found same f status o =
         subst (Cause asked answers) (sym o.1)
         (faulty_cause asked answers side fault (before, name, boots, bytes, no_rest before bytes [] more found same o.0 f, bad))
@@ -128,28 +129,28 @@ module _ (asked : Option Request) (answers : List Answer) (p : Pair) where
   cause_of_key plan other s t c None same false outside status is = subst (Cause asked answers) (sym is) (p, plan, other, c, same, outside)
 
   -- the second boot of a comparison, after the first
-  cause_of_pair : asked ≡ Some (Twin p) → (plan : Said) (s : State) (bytes : List ℕ) (files images : List (List ℕ)) → judged bytes ≡ Ok plan → HasImages plan.modules files images
-      → boot_of plan images ≡ Ok s → (more found : List Finding) → found ≡ Whole bytes ∷ (list_map Whole files ++ more) → FindsAll (next asked) answers found
+  cause_of_pair : asked ≡ Some (Twin p) → (plan : Said) (s : State) (bytes : List ℕ) (files images inputs : List (List ℕ)) → judged bytes ≡ Ok plan → HasBoth plan files images inputs
+      → boot_of plan images inputs ≡ Ok s → (more found : List Finding) → found ≡ Whole bytes ∷ (list_map Whole files ++ more) → FindsAll (next asked) answers found
       → (status : Status) → OfBoot Second (OfPair p plan s) more status → Cause asked answers status
-  cause_of_pair asks plan s bytes files images good has boots more found same f status o =
+  cause_of_pair asks plan s bytes files images inputs good has boots more found same f status o =
       let rest : Rest = λ other t later. End (compared p plan s other t) in
       let goes = λ (later : List Finding).
       ap (λ (a : Option Request). next a (Whole bytes ∷ (list_map Whole files ++ later))) asks
       ∙ ap (λ (r : Result Said BootFault). planned First p.first (after_first p) r (list_map Whole files ++ later)) good
-      ∙ images_taken First plan.modules 1 [] (λ images. booted First p.first (after_first p) plan (boot_of plan images)) files images later has
+      ∙ both_taken First (4 * ram_words plan) plan (λ images inputs. booted First p.first (after_first p) plan (boot_of plan images inputs)) files images inputs later has
       ∙ ap (λ (b : Result State Refusal). booted First p.first (after_first p) plan b later) boots in
       let second : BootsAfter asked (Whole bytes ∷ list_map Whole files) Second p.second = record { rest = rest; goes = goes } in
       cause_of_boot asked answers (Whole bytes ∷ list_map Whole files) Second p.second second (OfPair p plan s)
-      (λ other t bytes2 files2 images2 good2 has2 boots2 more2 found2 same2 f2 status2 own.
+      (λ other t bytes2 files2 images2 inputs2 good2 has2 boots2 more2 found2 same2 f2 status2 own.
       cause_of_key plan other s t
       (record {
         asks = asks;
         bytes = bytes;
         files = files;
-        first = record { good = good; images = images; taken = has; state = s; boots = boots };
+        first = record { good = good; images = images; inputs = inputs; taken = has; state = s; boots = boots };
         more = bytes2;
         others = files2;
-        second = record { good = good2; images = images2; taken = has2; state = t; boots = boots2 };
+        second = record { good = good2; images = images2; inputs = inputs2; taken = has2; state = t; boots = boots2 };
         finds = no_rest asked answers (Whole bytes ∷ list_map Whole files) bytes2 files2 more2 found2 same2 own.0 f2;
       })
       (first_unlike plan other) refl (is_domain plan p.domain) refl status2 own.1)
@@ -177,7 +178,7 @@ cause_of_ran : (asked : Option Request) (answers : List Answer) (name : List ℕ
     → OfBoot First (λ plan s. OfRun) found status → Cause asked answers status
 cause_of_ran asked answers name boots found status f own =
     cause_of_boot asked answers [] First name boots (λ plan s. OfRun)
-    (λ plan s bytes files images good has is more found same f status ran. subst (Cause asked answers) (sym ran) tt) found found refl f status own
+    (λ plan s bytes files images inputs good has is more found same f status ran. subst (Cause asked answers) (sym ran) tt) found found refl f status own
 
 cause_of_way : (answers : List Answer) (o : Order) (w : Way) → o.way ≡ w → (found : List Finding) (status : Status) → FindsAll (next (Some (Go o))) answers found → OfWay w found status
     → Cause (Some (Go o)) answers status

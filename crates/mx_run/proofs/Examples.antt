@@ -49,6 +49,25 @@ words_from_twice = refl
 words_from_no_number : meaning (codes "trace" ∷ codes "first.toml" ∷ codes "7" ∷ codes "--from" ∷ codes "x" ∷ []) ≡ None
 words_from_no_number = refl
 
+words_effects : meaning (codes "trace" ∷ codes "first.toml" ∷ codes "7" ∷ codes "--effects" ∷ codes "--from" ∷ codes "3" ∷ [])
+    ≡ Some (Go (record (plain_order way.Trace (codes "first.toml") 7) { from = Some 3; effects = true }))
+words_effects = refl
+
+words_effects_twice : meaning (codes "trace" ∷ codes "first.toml" ∷ codes "7" ∷ codes "--effects" ∷ codes "--effects" ∷ []) ≡ None
+words_effects_twice = refl
+
+words_effects_of_a_run : meaning (codes "run" ∷ codes "first.toml" ∷ codes "7" ∷ codes "--effects" ∷ []) ≡ None
+words_effects_of_a_run = refl
+
+words_tables : meaning (codes "run" ∷ codes "first.toml" ∷ codes "7" ∷ codes "--tables" ∷ []) ≡ Some (Go (record (plain_order way.Run (codes "first.toml") 7) { tables = true }))
+words_tables = refl
+
+words_tables_of_a_trace : meaning (codes "trace" ∷ codes "first.toml" ∷ codes "7" ∷ codes "--tables" ∷ []) ≡ None
+words_tables_of_a_trace = refl
+
+words_counts_of_a_trace : meaning (codes "trace" ∷ codes "first.toml" ∷ codes "7" ∷ codes "--counts" ∷ []) ≡ None
+words_counts_of_a_trace = refl
+
 words_dump_of_a_trace : meaning (codes "trace" ∷ codes "first.toml" ∷ codes "7" ∷ codes "--dump" ∷ []) ≡ None
 words_dump_of_a_trace = refl
 
@@ -76,6 +95,9 @@ words_counts_of_a_snapshot = refl
 
 words_from_of_a_snapshot : meaning (codes "resume" ∷ codes "memory.bin" ∷ codes "9" ∷ codes "--from" ∷ codes "3" ∷ []) ≡ None
 words_from_of_a_snapshot = refl
+
+words_effects_of_a_snapshot : meaning (codes "resume" ∷ codes "memory.bin" ∷ codes "9" ∷ codes "--effects" ∷ []) ≡ None
+words_effects_of_a_snapshot = refl
 
 words_resume_without_steps : meaning (codes "resume" ∷ codes "memory.bin" ∷ codes "--save" ∷ []) ≡ None
 words_resume_without_steps = refl

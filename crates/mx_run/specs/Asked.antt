@@ -1,9 +1,10 @@
 -- What the code keeps of the words.
 use Rattle.std.specs.Prelude.{◌<◌, ◌^◌, ⊤}
 use Rattle.mx_commands.specs.Asked.{order_of, pair_asked}
-use Rattle.mx_run.specs.Words.{Request, Go, Asm, Audit, Twin, Mill, Parsed, Stands, Lacks, Meaningless}
+use Rattle.mx_run.specs.Words.{Request, Go, Asm, Audit, Twin, Mill, Parsed, Row, Stands, Lacks, Meaningless}
 use Rattle.mx_run.specs.declared.words.Asked.{Asked}
 use Rattle.mx_run.specs.declared.words.Asked.TheVariants as asked
+use Rattle.mx_run.specs.declared.options.Row as rows
 use Rattle.mx_run.specs.declared.options.Parse.{Parse}
 use Rattle.mx_run.specs.declared.options.Parse.TheVariants as parse
 
@@ -14,6 +15,10 @@ request_of (asked.Asm source) = Asm source.now
 request_of (asked.Audit name) = Audit name.now
 request_of (asked.Twin pair) = Twin (pair_asked pair)
 request_of (asked.Mill k) = Mill k
+
+-- a row of the options
+abbrev pub row_told : rows.Row → Row
+row_told row = record { word = row.word.now; flag = row.flag; ways = row.ways }
 
 -- what options made of an order
 abbrev pub parsed_of : Parse → Parsed

@@ -1,9 +1,10 @@
 -- Why a call ends with a status: by what the words ask, and by what the store answered of the files that were read.
 use Rattle.std.specs.Prelude.{◌≡◌, ◌≢◌, ℕ, ◌<◌, ◌⊎◌, false, List, [], ◌∷◌, ◌++◌, Option, Some, None, Ok, Err, IfSome, ⊤, map as list_map}
 use Rattle.std.specs.FinMap.{get}
+use Rattle.std.specs.List.{AllByRecursion}
 use Rattle.mx_io.specs.Count.{Rose}
 use Rattle.mx_io.specs.Store.{StoreState}
-use Rattle.mx_io.specs.Answer.{Answer, Talks}
+use Rattle.mx_io.specs.Answer.{Answer, HasSucceeded, Talks}
 use Rattle.mx_manifest.specs.declared.fault.BootFault.{BootFault}
 use Rattle.mx_manifest.specs.declared.fault.Key.{Key}
 use Rattle.mx_manifest.specs.declared.fault.Key.TheVariants as key
@@ -23,7 +24,7 @@ use Rattle.mx_plan.specs.Manifest.{judged}
 use Rattle.mx_resume.specs.Snapshot.{Unread, FaultAt, NeedsMore, snapshot_of}
 use Rattle.mx_commands.specs.Finding.{Finding, Absent, Large, Short, Broken, Whole}
 use Rattle.mx_commands.specs.Next.{Outcome, Wanted}
-use Rattle.mx_commands.specs.Boots.{Rest, after_boot, refused_by, size_fault, HasImages}
+use Rattle.mx_commands.specs.Boots.{Rest, after_boot, refused_by, size_fault, HasBoth}
 use Rattle.mx_commands.specs.Commands.{assembled}
 use Rattle.mx_run.specs.Commands.{next}
 use Rattle.mx_commands.specs.Compared.{first_unlike, is_domain}
@@ -58,15 +59,15 @@ IsFaulty asked answers side fault =
     × (bytes : List ℕ) × FindsAll (next asked) answers (before ++ Whole bytes ∷ [])
     × (judged bytes ≡ Err fault)
 
--- a side's manifest and its images are read whole, and this is how the boot refuses them
+-- a side's manifest, its images and its inputs are read whole, and this is how the boot refuses them
 abbrev pub IsRefused : Option Request → List Answer → Side → Refusal → Type 0
 IsRefused asked answers side refusal =
     (before : List Finding) × (name : List ℕ) × BootsAfter asked before side name
     × (bytes : List ℕ) × (files : List (List ℕ))
     × FindsAll (next asked) answers (before ++ Whole bytes ∷ list_map Whole files)
     × (plan : Said) × (judged bytes ≡ Ok plan)
-    × (images : List (List ℕ)) × HasImages plan.modules files images
-    × (boot_of plan images ≡ Err refusal)
+    × (images : List (List ℕ)) × (inputs : List (List ℕ)) × HasBoth plan files images inputs
+    × (boot_of plan images inputs ≡ Err refusal)
 
 -- a file that is read last is over its limit, or a side's boot has this fault
 abbrev pub HasFault : Option Request → List Answer → Side → BootFault → Type 0
@@ -86,13 +87,14 @@ IsUnread asked answers why =
     (o : Order) × (asked ≡ Some (Go o)) × (o.way ≡ Resume) × (bytes : List ℕ)
     × FindsAll (next asked) answers (Whole bytes ∷ []) × (snapshot_of bytes ≡ Err why)
 
--- a manifest and its images were read whole, and its plan boots
+-- a manifest, its images and its inputs were read whole, and its plan boots
 pub record IsBooted (bytes : List ℕ) (files : List (List ℕ)) (plan : Said) : Type 0 where
   pub good : judged bytes ≡ Ok plan
   pub images : List (List ℕ)
-  pub taken : HasImages plan.modules files images
+  pub inputs : List (List ℕ)
+  pub taken : HasBoth plan files images inputs
   pub state : State
-  pub boots : boot_of plan images ≡ Ok state
+  pub boots : boot_of plan images inputs ≡ Ok state
 
 -- both manifests of a comparison were read, and these two plans boot
 pub record Compares (asked : Option Request) (answers : List Answer) (pair : Pair) (plan other : Said)
@@ -185,3 +187,8 @@ AbsentIsNoFile {S} state gives = (asked : Option Request) (s t : S) (answers las
     Reaches (next asked) answers file last →
     IfSome (state s).told (λ files. get files file.name ≡ None →
     (outcome.status ≡ NoFile file.role) ⊎ (outcome.status ≡ StoreFault))
+
+-- where every answer of a store is a success its count stayed
+abbrev pub SuccessKeeps : {S : Type 0} → (S → StoreState) → (S → Answer → S → Type 0) → Type 0
+SuccessKeeps {S} state gives = (s t : S) (answers : List Answer) → Talks gives s answers t →
+    AllByRecursion HasSucceeded answers → (state t).faults ≡ (state s).faults

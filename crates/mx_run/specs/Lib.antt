@@ -4,5 +4,17 @@ pub mod Commands
 pub mod Leads
 pub mod Program
 pub mod Promise
+pub mod Plainly
+pub mod Runs
+pub mod Ran
+pub mod Refuses
+pub mod Assembles
+pub mod Audits
+pub mod Mills
+pub mod Machines
+pub mod Counts
+pub mod Resumes
+pub mod Traces
+pub mod TwinRuns
 pub mod Top
 pub mod Words

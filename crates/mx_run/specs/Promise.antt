@@ -1,7 +1,7 @@
 -- What the top call promises over a store that tells its files.
 use Rattle.std.specs.Prelude.{◌≡◌, ◌≢◌, ◌⊎◌, IsTrue, Option, IfSome}
 use Rattle.mx_io.specs.Count.{Stays}
-use Rattle.mx_io.specs.Store.{StoreState}
+use Rattle.mx_io.specs.Store.{FileMap, StoreState}
 use Rattle.mx_turns.specs.Ends.{Sinks, Holds, HasRoom, CountsKept}
 use Rattle.mx_commands.specs.declared.status.Status.{Status}
 use Rattle.mx_commands.specs.declared.status.Status.TheVariants.{WantOfMemory}
@@ -19,6 +19,11 @@ pub record CountsStay (s t : StoreState) (before now : Sinks) : Type 0 where
 -- the status and the texts of the outcome
 abbrev pub Gives : Outcome → Sinks → Sinks → Status → Type 0
 Gives outcome before now result = (result ≡ outcome.status) × Holds outcome.texts before now
+
+-- over a store that tells its files, where the counts stay and memory is not wanting: what is so over the files
+abbrev pub Smoothly : (FileMap → Sinks → Sinks → Status → Type 0) → StoreState → StoreState → Sinks → Sinks → Status → Type 0
+Smoothly Holds store stored before now result =
+    IfSome store.told (λ files. CountsStay store stored before now → result ≢ WantOfMemory → Holds files before now result)
 
 -- the headline: over a store that tells, where the counts stay and memory is not wanting, the status and each sink's text
 -- are those of the outcome to which what is asked leads over the files

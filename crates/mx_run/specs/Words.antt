@@ -5,6 +5,7 @@ use Rattle.std.specs.List.{list_all}
 use Rattle.std.specs.Str.{bytes_eq}
 use Rattle.std.specs.Str.Parse.{digits_value}
 use Rattle.mx_turns.specs.declared.task.Dump.TheVariants as D
+use Rattle.mx_run.specs.declared.options.Ways.{Ways}
 use Rattle.mx_run.specs.declared.options.Flag.{Flag}
 use Rattle.mx_run.specs.declared.options.Flag.TheVariants as flag
 use Rattle.mx_commands.specs.declared.order.Way.{Way}
@@ -34,37 +35,50 @@ pub data Parsed : Type 0 where
   Lacks : Order → Flag → Parsed
   Meaningless : Parsed
 
--- the options by their words
-abbrev pub flag_of : List ℕ → Option Flag
-flag_of word =
-    if bytes_eq word (codes "--schedule") then Some flag.Schedule
-    else if bytes_eq word (codes "--from") then Some flag.From
-    else if bytes_eq word (codes "--dump") then Some flag.Dump
-    else if bytes_eq word (codes "--save") then Some flag.Save
-    else if bytes_eq word (codes "--tables") then Some flag.Tables
-    else if bytes_eq word (codes "--counts") then Some flag.Counts
-    else None
+-- all ways, those that have a report, a new run, and a trace
+abbrev pub all_ways : Ways
+all_ways = record { run = true; resume = true; trace = true }
 
--- which options a way has
-abbrev pub has_flag : Way → Flag → Bool
-has_flag way.Run flag.Schedule = true
-has_flag way.Run flag.From = false
-has_flag way.Run flag.Dump = true
-has_flag way.Run flag.Save = true
-has_flag way.Run flag.Tables = true
-has_flag way.Run flag.Counts = true
-has_flag way.Resume flag.Schedule = true
-has_flag way.Resume flag.From = false
-has_flag way.Resume flag.Dump = true
-has_flag way.Resume flag.Save = true
-has_flag way.Resume flag.Tables = true
-has_flag way.Resume flag.Counts = false
-has_flag way.Trace flag.Schedule = true
-has_flag way.Trace flag.From = true
-has_flag way.Trace flag.Dump = false
-has_flag way.Trace flag.Save = false
-has_flag way.Trace flag.Tables = false
-has_flag way.Trace flag.Counts = false
+abbrev pub report_ways : Ways
+report_ways = record { run = true; resume = true; trace = false }
+
+abbrev pub run_way : Ways
+run_way = record { run = true; resume = false; trace = false }
+
+abbrev pub trace_way : Ways
+trace_way = record { run = false; resume = false; trace = true }
+
+-- an option: its word, what it is, and the ways that have it
+pub record Row : Type 0 where
+  pub word : List ℕ
+  pub flag : Flag
+  pub ways : Ways
+
+abbrev pub row : List ℕ → Flag → Ways → Row
+row word flag ways = record { word = word; flag = flag; ways = ways }
+
+-- the options
+abbrev pub rows : List Row
+rows =
+    row (codes "--schedule") flag.Schedule all_ways
+    ∷ row (codes "--from") flag.From trace_way
+    ∷ row (codes "--effects") flag.Effects trace_way
+    ∷ row (codes "--dump") flag.Dump report_ways
+    ∷ row (codes "--save") flag.Save report_ways
+    ∷ row (codes "--tables") flag.Tables report_ways
+    ∷ row (codes "--counts") flag.Counts run_way
+    ∷ []
+
+-- the row of a word
+abbrev pub row_in : List Row → List ℕ → Option Row
+row_in [] word = None
+row_in (row ∷ more) word = if bytes_eq row.word word then Some row else row_in more word
+
+-- whether a way is one of these
+abbrev pub has_way : Ways → Way → Bool
+has_way ways way.Run = ways.run
+has_way ways way.Resume = ways.resume
+has_way ways way.Trace = ways.trace
 
 -- an option stands at most once
 abbrev pub once : Bool → Parsed → Parsed
@@ -74,14 +88,15 @@ once given parsed = if given then Meaningless else parsed
 abbrev pub with_flag : Order → Flag → Parsed
 with_flag o flag.Schedule = once (is_some o.schedule) (Lacks o flag.Schedule)
 with_flag o flag.From = once (is_some o.from) (Lacks o flag.From)
+with_flag o flag.Effects = once o.effects (Stands (record o { effects = true }))
 with_flag o flag.Dump = once (is_some o.dump) (Stands (record o { dump = Some D.Ram }))
 with_flag o flag.Save = once (is_some o.dump) (Stands (record o { dump = Some D.Snapshot }))
 with_flag o flag.Tables = once o.tables (Stands (record o { tables = true }))
 with_flag o flag.Counts = once o.counts (Stands (record o { counts = true }))
 
-abbrev pub with_option : Order → Option Flag → Parsed
+abbrev pub with_option : Order → Option Row → Parsed
 with_option o None = Meaningless
-with_option o (Some flag) = if has_flag o.way flag then with_flag o flag else Meaningless
+with_option o (Some row) = if has_way row.ways o.way then with_flag o row.flag else Meaningless
 
 -- an order with the word that an option asks for: a name, or a number
 abbrev pub completed : Order → Flag → List ℕ → Parsed
@@ -89,14 +104,11 @@ completed o flag.Schedule word =
     if is_name word then Stands (record o { schedule = Some word }) else Meaningless
 completed o flag.From word =
     if is_number word then Stands (record o { from = Some (digits_value 10 word) }) else Meaningless
-completed o flag.Dump word = Meaningless
-completed o flag.Save word = Meaningless
-completed o flag.Tables word = Meaningless
-completed o flag.Counts word = Meaningless
+completed o _ word = Meaningless
 
 -- one word more
 abbrev pub with_word : Parsed → List ℕ → Parsed
-with_word (Stands o) word = with_option o (flag_of word)
+with_word (Stands o) word = with_option o (row_in rows word)
 with_word (Lacks o flag) word = completed o flag word
 with_word Meaningless word = Meaningless
 

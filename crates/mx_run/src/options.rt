@@ -5,8 +5,8 @@ ghost use Rattle.std.specs.Char.{is_ascii_digit};
 ghost use Rattle.std.specs.List.{list_all};
 ghost use Rattle.std.specs.Str.Parse.{digits_value};
 ghost use Rattle.mx_commands.specs.Asked.{order_of};
-ghost use Rattle.mx_run.specs.Asked.{parsed_of, ParsesFewSteps};
-ghost use Rattle.mx_run.specs.Words.{completed, flag_of, has_flag, is_name, is_number, once, with_flag, with_option, with_word};
+ghost use Rattle.mx_run.specs.Asked.{parsed_of, row_told, ParsesFewSteps};
+ghost use Rattle.mx_run.specs.Words.{completed, has_way, is_name, is_number, once, row_in, rows, with_flag, with_option, with_word};
 ghost use Rattle.mx_commands.specs.Order.{plain_order};
 
 use mx_commands::{Order, Way};
@@ -19,6 +19,8 @@ pub(crate) enum Flag {
     Schedule,
     /// The first turn that has a line, whose number follows.
     From,
+    /// A turn's line is followed by that of what it did.
+    Effects,
     /// RAM's bytes go to the dump.
     Dump,
     /// A snapshot of the machine at the end goes to the dump.
@@ -28,6 +30,86 @@ pub(crate) enum Flag {
     /// The report has the lines of the counts.
     Counts,
 }
+
+/// The ways of a run that have an option.
+#[derive(Clone, Copy, PartialEq, Eq)]
+pub(crate) struct Ways {
+    run: bool,
+    resume: bool,
+    trace: bool,
+}
+
+/// An option, its word and the ways that have it.
+#[derive(Clone, Copy, PartialEq, Eq)]
+pub(crate) struct Row {
+    word: &'static str,
+    flag: Flag,
+    ways: Ways,
+}
+
+/// All ways, those that have a report, a new run, and a trace.
+const ALL: Ways = Ways {
+    run: true,
+    resume: true,
+    trace: true,
+};
+
+const REPORT: Ways = Ways {
+    run: true,
+    resume: true,
+    trace: false,
+};
+
+const RUN: Ways = Ways {
+    run: true,
+    resume: false,
+    trace: false,
+};
+
+const TRACE: Ways = Ways {
+    run: false,
+    resume: false,
+    trace: true,
+};
+
+/// The options.
+const ROWS: [Row; 7] = [
+    Row {
+        word: "--schedule",
+        flag: Flag::Schedule,
+        ways: ALL,
+    },
+    Row {
+        word: "--from",
+        flag: Flag::From,
+        ways: TRACE,
+    },
+    Row {
+        word: "--effects",
+        flag: Flag::Effects,
+        ways: TRACE,
+    },
+    Row {
+        word: "--dump",
+        flag: Flag::Dump,
+        ways: REPORT,
+    },
+    Row {
+        word: "--save",
+        flag: Flag::Save,
+        ways: REPORT,
+    },
+    Row {
+        word: "--tables",
+        flag: Flag::Tables,
+        ways: REPORT,
+    },
+    Row {
+        word: "--counts",
+        flag: Flag::Counts,
+        ways: RUN,
+    },
+];
 
 /// What options made of an order so far.
 #[derive(Clone, Copy)]
@@ -50,6 +132,7 @@ pub(crate) fn plain_order(way: Way, file: &str, steps: u64) -> Order<'_>
         steps,
         schedule: None,
         from: None,
+        effects: false,
         dump: None,
         tables: false,
         counts: false,
@@ -63,57 +146,45 @@ pub(crate) fn with_word<'a>(parse: Parse<'a>, word: &'a str) -> Parse<'a>
     ensures steps { ParsesFewSteps result }
 {
     match parse {
-        Parse::Stands(order) => with_option(order, flag_of(word)),
+        Parse::Stands(order) => with_option(order, row_of(word)),
         Parse::Lacks(order, flag) => completed(order, flag, word),
         Parse::Meaningless => Parse::Meaningless,
     }
 }
 
-// The option of a word.
-fn flag_of(word: &str) -> Option<Flag>
-    ensures { result ≡ flag_of word.now }
+// The row of a word.
+fn row_of(word: &str) -> Option<Row>
+    ensures { option_map row_told result ≡ row_in rows word.now }
 {
-    match word {
-        "--schedule" => Some(Flag::Schedule),
-        "--from" => Some(Flag::From),
-        "--dump" => Some(Flag::Dump),
-        "--save" => Some(Flag::Save),
-        "--tables" => Some(Flag::Tables),
-        "--counts" => Some(Flag::Counts),
-        _ => None,
+    for row in &ROWS {
+        if row.word == word {
+            return Some(*row);
+        }
     }
+    None
 }
 
-// Whether a way has an option.
-fn has_flag(way: Way, flag: Flag) -> bool
-    ensures { result ≡ has_flag way flag }
+// Whether a way is one of these.
+fn has_way(ways: Ways, way: Way) -> bool
+    ensures { result ≡ has_way ways way }
 {
     match way {
-        Way::Run => match flag {
-            Flag::Schedule | Flag::Dump | Flag::Save | Flag::Tables | Flag::Counts => true,
-            Flag::From => false,
-        },
-        Way::Resume => match flag {
-            Flag::Schedule | Flag::Dump | Flag::Save | Flag::Tables => true,
-            Flag::From | Flag::Counts => false,
-        },
-        Way::Trace => match flag {
-            Flag::Schedule | Flag::From => true,
-            Flag::Dump | Flag::Save | Flag::Tables | Flag::Counts => false,
-        },
+        Way::Run => ways.run,
+        Way::Resume => ways.resume,
+        Way::Trace => ways.trace,
     }
 }
 
 // The order with one option more.
-fn with_option<'a>(order: Order<'a>, flag: Option<Flag>) -> Parse<'a>
+fn with_option<'a>(order: Order<'a>, row: Option<Row>) -> Parse<'a>
     requires { order.steps < 10 ^ 10 }
-    ensures parsed { parsed_of result ≡ with_option (order_of order.entry) flag }
+    ensures parsed { parsed_of result ≡ with_option (order_of order.entry) (option_map row_told row) }
     ensures steps { ParsesFewSteps result }
 {
-    match flag {
-        Some(flag) => {
-            if has_flag(order.way, flag) {
-                with_flag(order, flag)
+    match row {
+        Some(row) => {
+            if has_way(row.ways, order.way) {
+                with_flag(order, row.flag)
             } else {
                 Parse::Meaningless
             }
@@ -131,6 +202,13 @@ fn with_flag<'a>(order: Order<'a>, flag: Flag) -> Parse<'a>
     match flag {
         Flag::Schedule => once(order.schedule.is_some(), Parse::Lacks(order, flag)),
         Flag::From => once(order.from.is_some(), Parse::Lacks(order, flag)),
+        Flag::Effects => once(
+            order.effects,
+            Parse::Stands(Order {
+                effects: true,
+                ..order
+            }),
+        ),
         Flag::Dump => once(
             order.dump.is_some(),
             Parse::Stands(Order {
@@ -179,7 +257,7 @@ fn completed<'a>(order: Order<'a>, flag: Flag, word: &'a str) -> Parse<'a>
     match flag {
         Flag::Schedule => with_schedule(order, word),
         Flag::From => with_from(order, word),
-        Flag::Dump | Flag::Save | Flag::Tables | Flag::Counts => Parse::Meaningless,
+        _ => Parse::Meaningless,
     }
 }
 

@@ -10,18 +10,18 @@ ghost use Rattle.mx_run.specs.Program.{Executes, Given};
 use crate::top::mondrix;
 use crate::words::Words;
 use mx_commands::Status;
-use mx_io::{FileSink, Folder, FolderStore, Maker, StderrSink, StdoutSink};
+use mx_io::{FileSink, Folder, FolderStore, Maker, StderrSink, StdoutSink, Stream};
 use mx_words::NoMemory;
 use std::alloc::Global;
 use std::env::Args;
 use std::io;
-use std::io::{ErrorKind, Write};
+use std::io::ErrorKind;
 use std::process::ExitCode;
 
 /// What `main` does: calls `mondrix` with the words after the program's name, the folder's files, standard output as the console,
 /// standard error as the report and the dump's file, and ends with the number of the status. Arguments that are not text ask
 /// for nothing that has a meaning. Where memory for the words is wanting the process ends with 10, and nothing is read or written.
-pub fn run_program<F: Folder, O: Write, E: Write, M: Maker>(
+pub fn run_program<F: Folder, O: Stream, E: Stream, M: Maker>(
     alloc: Global,
     args: io::Result<Args>,
     store: &mut FolderStore<F>,
@@ -29,11 +29,12 @@ pub fn run_program<F: Folder, O: Write, E: Write, M: Maker>(
     report: &mut StderrSink<E>,
     dump: &mut FileSink<M>,
 ) -> ExitCode
-    ensures { Executes (Given args) (tells_by (folder_store F.told)) store.old store.new
-        (sinks (stdout_sink O.contents console.old) (stderr_sink E.contents report.old)
-        (file_sink M.fresh M.File.contents dump.old))
-        (sinks (stdout_sink O.contents console.new) (stderr_sink E.contents report.new)
-        (file_sink M.fresh M.File.contents dump.new)) (exit_status result) }
+    ensures { Executes (Given args) (folder_store F.told F.sure)
+        (tells_by (folder_store F.told F.sure)) store.old store.new
+        (sinks (stdout_sink O.contents O.room console.old) (stderr_sink E.contents E.room report.old)
+        (file_sink M.fresh M.room M.File.contents M.File.room dump.old))
+        (sinks (stdout_sink O.contents O.room console.new) (stderr_sink E.contents E.room report.new)
+        (file_sink M.fresh M.room M.File.contents M.File.room dump.new)) (exit_status result) }
 {
     match read_words(alloc, args) {
         Ok(words) => {

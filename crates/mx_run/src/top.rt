@@ -9,6 +9,16 @@ ghost use Rattle.mx_turns.specs.Ends.{sinks};
 ghost use Rattle.mx_run.specs.Top.{Answered, Reacts};
 ghost use Rattle.mx_commands.specs.Ends.{Continues};
 ghost use Rattle.mx_run.specs.Promise.{Headline, Completeness};
+ghost use Rattle.mx_run.specs.Runs.{RunsPlainly};
+ghost use Rattle.mx_run.specs.Ran.{RanPlainly};
+ghost use Rattle.mx_run.specs.Refuses.{RefusesByLine};
+ghost use Rattle.mx_run.specs.Assembles.{AssemblesPlainly};
+ghost use Rattle.mx_run.specs.Audits.{AuditsPlainly};
+ghost use Rattle.mx_run.specs.Mills.{MillsPlainly};
+ghost use Rattle.mx_run.specs.Counts.{CountsSmoothly};
+ghost use Rattle.mx_run.specs.Resumes.{ResumesSmoothly};
+ghost use Rattle.mx_run.specs.Traces.{TracesSmoothly};
+ghost use Rattle.mx_run.specs.TwinRuns.{ComparesSmoothly};
 
 use crate::milling::write_mill;
 use crate::words::{Asked, Words};
@@ -39,6 +49,56 @@ pub fn mondrix<S: Store, C: Sink, R: Sink, D: Sink>(
 
     // Over a store that tells, where nothing fails: the outcome is that of the files.
     ensures headline { Headline (meaning words.now) (S.state store.old) (S.state store.new)
+        (sinks (C.state console.old) (R.state report.old) (D.state dump.old))
+        (sinks (C.state console.new) (R.state report.new) (D.state dump.new)) result }
+
+    // What `run` gives of a manifest that boots, without the counts and a snapshot: the texts of the plain machine's run.
+    ensures run { RunsPlainly words.now (S.state store.old) (S.state store.new)
+        (sinks (C.state console.old) (R.state report.old) (D.state dump.old))
+        (sinks (C.state console.new) (R.state report.new) (D.state dump.new)) result }
+
+    // Where `run` ended with status 0, without the counts and a snapshot: the texts of the plain machine's run.
+    ensures ran { RanPlainly words.now (S.state store.old) (S.state store.new)
+        (sinks (C.state console.old) (R.state report.old) (D.state dump.old))
+        (sinks (C.state console.new) (R.state report.new) (D.state dump.new)) result }
+
+    // Whatever doesn't end with status 0 is one line on the report.
+    ensures refused { RefusesByLine words.now (S.state store.old) (S.state store.new)
+        (sinks (C.state console.old) (R.state report.old) (D.state dump.old))
+        (sinks (C.state console.new) (R.state report.new) (D.state dump.new)) result }
+
+    // What `asm` gives of a source without a fault.
+    ensures asm { AssemblesPlainly words.now (S.state store.old) (S.state store.new)
+        (sinks (C.state console.old) (R.state report.old) (D.state dump.old))
+        (sinks (C.state console.new) (R.state report.new) (D.state dump.new)) result }
+
+    // What `audit` gives of a manifest that boots.
+    ensures audit { AuditsPlainly words.now (S.state store.old) (S.state store.new)
+        (sinks (C.state console.old) (R.state report.old) (D.state dump.old))
+        (sinks (C.state console.new) (R.state report.new) (D.state dump.new)) result }
+
+    // What `mill` gives of a number.
+    ensures mill { MillsPlainly words.now (S.state store.old) (S.state store.new)
+        (sinks (C.state console.old) (R.state report.old) (D.state dump.old))
+        (sinks (C.state console.new) (R.state report.new) (D.state dump.new)) result }
+
+    // What `run` gives of a manifest that boots, with each of its options: the texts of the machine with caches.
+    ensures counted { CountsSmoothly words.now (S.state store.old) (S.state store.new)
+        (sinks (C.state console.old) (R.state report.old) (D.state dump.old))
+        (sinks (C.state console.new) (R.state report.new) (D.state dump.new)) result }
+
+    // What `resume` gives of a snapshot that is read.
+    ensures resume { ResumesSmoothly words.now (S.state store.old) (S.state store.new)
+        (sinks (C.state console.old) (R.state report.old) (D.state dump.old))
+        (sinks (C.state console.new) (R.state report.new) (D.state dump.new)) result }
+
+    // What `trace` gives of a manifest that boots.
+    ensures trace { TracesSmoothly words.now (S.state store.old) (S.state store.new)
+        (sinks (C.state console.old) (R.state report.old) (D.state dump.old))
+        (sinks (C.state console.new) (R.state report.new) (D.state dump.new)) result }
+
+    // What `twin` gives of two manifests that boot and are alike.
+    ensures twin { ComparesSmoothly words.now (S.state store.old) (S.state store.new)
         (sinks (C.state console.old) (R.state report.old) (D.state dump.old))
         (sinks (C.state console.new) (R.state report.new) (D.state dump.new)) result }
 

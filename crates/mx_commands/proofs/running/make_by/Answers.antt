@@ -12,4 +12,4 @@ pub returns-in-Trace : goal.returns-in-Trace
 returns-in-Trace g c =
     λ s new is.
     let t = c.trace_of.ensures in
-    rw c.in-Trace.is (rw (t.steps, t.schedule, t.from) at (c.make_trace.ensures.leave s new is (g.D.Sink.state c.args.dump.now)))
+    rw c.in-Trace.is (rw (t.steps, t.schedule, t.lines) at (c.make_trace.ensures.leave s new is (g.D.Sink.state c.args.dump.now)))

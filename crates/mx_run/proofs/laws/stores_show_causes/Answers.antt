@@ -1,4 +1,5 @@
 use Rattle.mx_run.proofs.Caused.{store_fault_rose, short_untold, no_file_absent, absent_no_file}
+use Rattle.mx_run.proofs.RunLaw.{success_keeps}
 use Rattle.mx_run.proofs.laws.stores_show_causes.Goals as goal
 
 pub returns-clause-store_fault : goal.returns-clause-store_fault
@@ -12,3 +13,6 @@ returns-clause-no_file g c = no_file_absent g.S.Store.state g.S.Store.gives g.me
 
 pub returns-clause-absent : goal.returns-clause-absent
 returns-clause-absent g c = absent_no_file g.S.Store.state g.S.Store.gives g.met.S.Store.tells
+
+pub returns-clause-kept : goal.returns-clause-kept
+returns-clause-kept g c = success_keeps g.S.Store.state g.S.Store.gives g.met.S.Store.tells
