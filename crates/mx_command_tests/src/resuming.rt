@@ -148,6 +148,7 @@ fn words_that_resume_nothing(rt: HostRuntime) -> Result<(), Fail> {
         "resume begun.bin 9 9",
         "resume begun.bin 9 --counts",
         "resume begun.bin 9 --from 2",
+        "resume begun.bin 9 --effects",
         "resume begun.bin 9 --save --dump",
         "resume begun.bin 9 --dump --tables --save",
         "resume begun.bin 9 --save --save",

@@ -76,14 +76,42 @@ image = \"hi.elf\"
 module = \"m\"
 ";
 
+/// A module that reads an input, and one whose input is over its area.
+const READER: &[u8] = b"version = 2
+ram_kib = 64
+[[module]]
+name = \"m\"
+image = \"hi.elf\"
+input = \"in\"
+input_at = 0x80001000
+input_words = 3
+[[hart]]
+module = \"m\"
+";
+
+const NARROW: &[u8] = b"version = 2
+ram_kib = 64
+[[module]]
+name = \"m\"
+image = \"hi.elf\"
+input = \"in\"
+input_at = 0x80001000
+input_words = 2
+[[hart]]
+module = \"m\"
+";
+
 /// The files of each call. The first schedule names hart 0, a hart that isn't there, and hart 0 four times; the second one hart 0 once, and
 /// the third none.
-pub static FILES: [(&str, &[u8]); 8] = [
+pub static FILES: [(&str, &[u8]); 11] = [
     ("hi.s", SOURCE),
     ("hi.elf", IMAGE),
     ("hi.toml", MANIFEST),
     ("full.toml", FULL),
     ("wide.toml", WIDE),
+    ("reader.toml", READER),
+    ("narrow.toml", NARROW),
+    ("in", b"hello"),
     ("order", b"\0\x01\0\0\0\0"),
     ("short", b"\0"),
     ("nothing", b""),
@@ -122,8 +150,17 @@ turn 4 0 1 0x80000008 ran addi x11, x0, 3\n\
 turn 5 0 1 0x8000000c ran addi x17, x0, 2\n\
 turn 6 0 1 0x80000010 called ecall\n";
 
+const TURNS_AND_DEEDS: &str = "turn 4 0 1 0x8000000c ran addi x17, x0, 2\n\
+did x17=0x00000002\n\
+turn 5 0 1 0x80000010 called ecall\n\
+did call=2 x10=0x00000003\n\
+turn 6 0 1 0x80000014 ran addi x17, x0, 1\n\
+did x17=0x00000001\n\
+turn 7 0 1 0x80000018 called ecall\n\
+did exit=3 call=1\n";
+
 /// Runs and traces.
-pub static RUNS: [Row; 5] = [
+pub static RUNS: [Row; 6] = [
     Row {
         words: "run hi.toml 9 --dump",
         status: 0,
@@ -169,10 +206,19 @@ pub static RUNS: [Row; 5] = [
         closing: "end steps=6 state=schedule\n",
         dump: Dump::Nothing,
     },
+    Row {
+        words: "trace hi.toml 9 --effects --from 4",
+        status: 0,
+        files: &["hi.toml", "hi.elf"],
+        console: b"hi\n",
+        early: TURNS_AND_DEEDS,
+        closing: "end steps=7 state=halted\n",
+        dump: Dump::Nothing,
+    },
 ];
 
 /// The other commands, but for `resume` and for `mill`, which reads no file.
-pub static OTHERS: [Row; 3] = [
+pub static OTHERS: [Row; 5] = [
     Row {
         words: "audit hi.toml",
         status: 0,
@@ -192,6 +238,24 @@ pub static OTHERS: [Row; 3] = [
         dump: Dump::Nothing,
     },
     Row {
+        words: "audit reader.toml",
+        status: 0,
+        files: &["reader.toml", "hi.elf", "in"],
+        console: b"",
+        early: "",
+        closing: "live 1 m\nsealed 0x80000020 0x80001000\nsealed 0x8000100c 0x80010000\nsealed words=16373\n",
+        dump: Dump::Nothing,
+    },
+    Row {
+        words: "twin reader.toml hi.toml 1 9",
+        status: 0,
+        files: &["reader.toml", "hi.elf", "in", "hi.toml", "hi.elf"],
+        console: b"",
+        early: "",
+        closing: "twin ended step=0 hart=0 kind=idle\n",
+        dump: Dump::Nothing,
+    },
+    Row {
         words: "asm hi.s",
         status: 0,
         files: &["hi.s"],
@@ -206,7 +270,7 @@ pub static OTHERS: [Row; 3] = [
 pub type Refusal = (&'static str, u32, &'static [&'static str], &'static str);
 
 /// Commands that end with a refusal: one of each line but that of a snapshot and that of a short file, which no store that tells has.
-pub static REFUSALS: [Refusal; 10] = [
+pub static REFUSALS: [Refusal; 12] = [
     (
         "run hi.toml",
         2,
@@ -231,6 +295,18 @@ pub static REFUSALS: [Refusal; 10] = [
         4,
         &["full.toml", "hi.elf"],
         "tables full upper=2/128 leaf=1/0 spill=0/4096\n",
+    ),
+    (
+        "run narrow.toml 9",
+        3,
+        &["narrow.toml", "hi.elf", "in"],
+        "refused fault=9 at=module.1 key=input detail=0\n",
+    ),
+    (
+        "twin reader.toml narrow.toml 1 9",
+        3,
+        &["reader.toml", "hi.elf", "in", "narrow.toml", "hi.elf", "in"],
+        "refused fault=9 at=module.1 key=input detail=0\n",
     ),
     (
         "twin hi.toml hi.s 1 9",

@@ -62,6 +62,8 @@ const MODULES: &str =
     r#"2 module.1 - | name = "m"; at = 0x80000000; perm = "rx"; words = [19]; color = 1
 2 module.1 - | name = "m"; at = 0x80000000; perm = "rx"; words = [19]; on_fault = "kill"
 2 module.1 - | name = "m"; at = 0x80000000; perm = "rx"; words = [19]; seal = false
+2 module.1 - | name = "m"; at = 0x80000000; perm = "rx"; words = [19]; input = "i"; input_at = 0; input_words = 1
+2 module.1 - | name = "m"; at = 0x80000000; perm = "rx"; words = [19]; input_perm = "r"
 3 module.1 name | at = 0x80000000; perm = "rx"; words = [19]
 4 module.1 name | name = 1; at = 0x80000000; perm = "rx"; words = [19]
 5 module.1 name | name = ""; at = 0x80000000; perm = "rx"; words = [19]
@@ -139,6 +141,24 @@ const MODULES_OF_TWO: &str =
 4 module.1 on_fault | name = "m"; at = 0x80000000; perm = "rx"; words = [19]; on_fault = 1
 5 module.1 on_fault | name = "m"; at = 0x80000000; perm = "rx"; words = [19]; on_fault = "stop"
 4 module.1 seal | name = "m"; at = 0x80000000; perm = "rx"; words = [19]; seal = 1
+3 module.1 input | name = "m"; at = 0x80000000; perm = "rx"; words = [19]; input_at = 0; input_words = 1
+3 module.1 input | name = "m"; at = 0x80000000; perm = "rx"; words = [19]; input_perm = "rw"
+3 module.1 input | name = "m"; at = 0x80000000; perm = "rx"; words = [19]; input_words = 0
+3 module.1 input_at | name = "m"; at = 0x80000000; perm = "rx"; words = [19]; input = "i"; input_words = 1
+3 module.1 input_words | name = "m"; at = 0x80000000; perm = "rx"; words = [19]; input = "i"; input_at = 0
+4 module.1 input | name = "m"; at = 0x80000000; perm = "rx"; words = [19]; input = 1; input_at = 0; input_words = 1
+5 module.1 input | name = "m"; at = 0x80000000; perm = "rx"; words = [19]; input = ""; input_at = 0; input_words = 1
+5 module.1 input | name = "m"; at = 0x80000000; perm = "rx"; words = [19]; input = "-i"; input_at = 2; input_words = 1
+4 module.1 input_at | name = "m"; at = 0x80000000; perm = "rx"; words = [19]; input = "i"; input_at = "0"; input_words = 1
+5 module.1 input_at | name = "m"; at = 0x80000000; perm = "rx"; words = [19]; input = "i"; input_at = 2; input_words = 0
+5 module.1 input_at | name = "m"; at = 0x80000000; perm = "rx"; words = [19]; input = "i"; input_at = 4294967296; input_words = 1
+4 module.1 input_words | name = "m"; at = 0x80000000; perm = "rx"; words = [19]; input = "i"; input_at = 0; input_words = true
+5 module.1 input_words | name = "m"; at = 0x80000000; perm = "rx"; words = [19]; input = "i"; input_at = 0; input_words = 0
+5 module.1 input_words | name = "m"; at = 0x80000000; perm = "rx"; words = [19]; input = "i"; input_at = 0; input_words = 16777217
+4 module.1 input_perm | name = "m"; at = 0x80000000; perm = "rx"; words = [19]; input = "i"; input_at = 0; input_words = 1; input_perm = 1
+5 module.1 input_perm | name = "m"; at = 0x80000000; perm = "rx"; words = [19]; input = "i"; input_at = 0; input_words = 1; input_perm = "rx"
+5 module.1 input_perm | name = "m"; at = 0x80000000; perm = "rx"; words = [19]; input = "i"; input_at = 0; input_words = 1; input_perm = ""
+6 module.1 image | name = "m"; image = "m"; at = 0x80000000; input = "i"; input_at = 0; input_words = 1
 "#;
 
 /// Lines of the one hart.

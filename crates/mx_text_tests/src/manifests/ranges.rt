@@ -102,7 +102,7 @@ static KINDS: [(&str, Kind); 4] = [
 ];
 
 /// Lines of a module that is accepted after `[[module]]`.
-static MODULES: [(&str, &str); 24] = [
+static MODULES: [(&str, &str); 28] = [
     (ONE, "name = \"a\"\nimage = \"m\"\n"),
     (
         ONE,
@@ -168,6 +168,22 @@ static MODULES: [(&str, &str); 24] = [
     (
         TWO,
         "name = \"_\"\nimage = \"m\"\nseal = false\non_fault = \"kill\"\n",
+    ),
+    (
+        TWO,
+        "name = \"a\"\nimage = \"m\"\ninput = \"i\"\ninput_at = 0\ninput_words = 1\n",
+    ),
+    (
+        TWO,
+        "name = \"a\"\nimage = \"m\"\ninput = \"i\"\ninput_at = 4294967292\ninput_words = 16777216\n",
+    ),
+    (
+        TWO,
+        "name = \"a\"\nimage = \"m\"\ninput = \"i\"\ninput_at = 4\ninput_words = 2\ninput_perm = \"r\"\n",
+    ),
+    (
+        TWO,
+        "name = \"a\"\nimage = \"m\"\ninput = \"i\"\ninput_at = 4\ninput_words = 2\ninput_perm = \"rw\"\n",
     ),
 ];
 

@@ -32,12 +32,19 @@ gates = [{ entry = \"receive\", from = [\"b\", \"c\"] }, { entry = 0x80000010, f
 returns = [\"back\", 8]
 on_fault = \"kill\"
 seal = true
+input = \"a.in\"
+input_at = 0x80060000
+input_words = 7
+input_perm = \"rw\"
 
 [[module]]
 name = \"b\"
 at = 0x80001000
 perm = \"rw\"
 words = [1, 2, 3]
+input = \"b.in\"
+input_at = 0x80002000
+input_words = 1
 
 [[module]]
 name = \"c\"
@@ -126,6 +133,19 @@ fn show_areas<W: fmt::Write>(f: &mut Formatter<W>, module: &ModulePlan) -> fmt::
     write!(f, "{heap:?}")?;
     show_all(f, &[module.heap_words, module.stack, module.stack_words])?;
     show_all(f, &[module.kills, module.seal])?;
+    show_input(f, module)
+}
+
+fn show_input<W: fmt::Write>(f: &mut Formatter<W>, module: &ModulePlan) -> fmt::Result {
+    match &module.input {
+        Some(input) => {
+            f.write_str(" ")?;
+            f.write_str(input.file.as_str())?;
+            show_all(f, &[input.address, input.words])?;
+            show_all(f, &[input.perm])?;
+        }
+        None => f.write_str(" -")?,
+    }
     f.write_str("\n")
 }
 
@@ -178,15 +198,15 @@ fn show_hart<W: fmt::Write>(f: &mut Formatter<W>, hart: &HartPlan) -> fmt::Resul
 /// What `WHOLE` says: domains are numbered from 1, and addresses are decimal.
 const SAID: &str = "2 1024 Segments 1 2 3 8 4
 module a a.elf None None Some(ExecuteRead) -
-Some(2147745792) Some(5) Some(2147811328) Some(6) true true
+Some(2147745792) Some(5) Some(2147811328) Some(6) true true a.in 2147876864 7 ReadWrite
 gate receive from 2 3
 gate 2147483664 from 3
 return back
 return 8
 module b - Some(2147487744) Some(ReadWrite) None 1 2 3
-None None None None false false
+None None None None false false b.in 2147491840 1 Read
 module c c.elf None None None -
-None None None None false false
+None None None None false false -
 hart 3 -
 hart 1 idle
 ";
