@@ -1,6 +1,6 @@
-/* stdin, stdout and stderr of picolibc: the machine's console. Each hart has a line of its own, so that lines of
- * several harts don't mix; it is written when it ends or is full, by fflush, and when the hart leaves. There is no
- * input. */
+/* stdin, stdout and stderr of picolibc. What goes to stdout and stderr goes to the machine's console. stdout has a line
+ * for each hart, so that lines of several harts don't mix; it is written when it ends or is full, by fflush, and when
+ * the hart leaves. stderr is written through, byte by byte. stdin is at its end. */
 #include "mondrix.h"
 
 #include <stdio.h>
@@ -15,7 +15,7 @@ void mondrix_flush(void) {
     unsigned hart = mondrix_hart();
     unsigned count = lines[hart].count;
     lines[hart].count = 0;
-    if (count != 0) mondrix_write(lines[hart].bytes, count);
+    if (count != 0) (void)!mondrix_write(lines[hart].bytes, count);
 }
 
 static int put(char byte, FILE *file) {
@@ -24,6 +24,12 @@ static int put(char byte, FILE *file) {
     mondrix_flush_last = mondrix_flush;
     lines[hart].bytes[lines[hart].count++] = byte;
     if (byte == '\n' || lines[hart].count == LINE) mondrix_flush();
+    return (unsigned char)byte;
+}
+
+static int put_through(char byte, FILE *file) {
+    (void)file;
+    (void)!mondrix_write(&byte, 1);
     return (unsigned char)byte;
 }
 
@@ -38,7 +44,9 @@ static int flush(FILE *file) {
     return 0;
 }
 
-static FILE console = FDEV_SETUP_STREAM(put, get, flush, _FDEV_SETUP_RW);
-FILE *const stdin = &console;
-FILE *const stdout = &console;
-FILE *const stderr = &console;
+static FILE input = FDEV_SETUP_STREAM(0, get, 0, _FDEV_SETUP_READ);
+static FILE output = FDEV_SETUP_STREAM(put, 0, flush, _FDEV_SETUP_WRITE);
+static FILE error = FDEV_SETUP_STREAM(put_through, 0, 0, _FDEV_SETUP_WRITE);
+FILE *const stdin = &input;
+FILE *const stdout = &output;
+FILE *const stderr = &error;

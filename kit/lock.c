@@ -5,6 +5,7 @@
 void mondrix_lock(struct mondrix_lock *lock) {
     unsigned hart = mondrix_hart();
     uint32_t node = lock->own[hart], before;
+    if (lock->held[node]) mondrix_break(); /* this hart has it: it would wait for itself */
     lock->held[node] = 1;
     if (mondrix_exchange(&lock->last, node, &before) != MONDRIX_OK) mondrix_break();
     lock->before[hart] = before;
@@ -15,6 +16,7 @@ void mondrix_lock(struct mondrix_lock *lock) {
 void mondrix_unlock(struct mondrix_lock *lock) {
     unsigned hart = mondrix_hart();
     uint32_t node = lock->own[hart];
+    if (!lock->held[node]) mondrix_break(); /* this hart hasn't it */
     lock->own[hart] = lock->before[hart];
     mondrix_barrier();
     lock->held[node] = 0;

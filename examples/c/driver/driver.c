@@ -2,6 +2,7 @@
  * guard, a word that the driver takes from itself. */
 #include "driver.h"
 
+#include "modules.h"
 #include "mondrix.h"
 
 enum { FRAME = 64, HEADER = 4 };
@@ -20,10 +21,13 @@ static void fill(const uint8_t *packet, uint32_t length) {
 }
 
 int32_t driver_send_entered(const uint8_t *packet, uint32_t length) {
+    uint8_t copy[FRAME];
     if (device.sent == 0)
-        mondrix_grant(&device.guard, sizeof device.guard, DRIVER, MONDRIX_NONE);
-    if (length > FRAME) return -1;
-    fill(packet, length);
+        mondrix_must(mondrix_grant(&device.guard, sizeof device.guard, DRIVER, MONDRIX_NONE));
+    if (length > FRAME) return MONDRIX_TOO_LONG;
+    int answer = mondrix_copy_in(copy, packet, length);
+    if (answer != MONDRIX_OK) return answer;
+    fill(copy, length);
     device.sent++;
     int32_t sum = 0;
     for (uint32_t i = 0; i < length; i++) sum += device.frame[HEADER + i];

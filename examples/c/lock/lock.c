@@ -11,7 +11,8 @@ static uint32_t count; /* not volatile: the lock alone keeps it */
 static volatile uint32_t done, first_come;
 static uint32_t *blocks[HARTS];
 
-int main(int hart) {
+int main(void) {
+    unsigned hart = mondrix_hart();
     for (int i = 0; i < ROUNDS; i++) {
         mondrix_lock(&lock);
         count++;

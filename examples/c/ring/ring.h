@@ -4,7 +4,6 @@
 #define RING_H
 #include <stdint.h>
 
-enum { PRODUCER = 1, CONSUMER = 2 }; /* as the manifest orders the modules */
 enum { RING_ITEMS = 8, NUMBERS = 100 };
 
 struct produced {
@@ -18,9 +17,8 @@ struct ring {
     struct produced produced;
     struct consumed consumed;
 };
-_Static_assert(sizeof(struct produced) % 4 == 0 && sizeof(struct consumed) % 4 == 0, "rights go by words");
 
-/* The producer's gate: opens the ring for the consumer. 0 where it can't. */
+/* The producer's gate: where the ring is, once it is open, and 0 before. Whoever asks, it is open for the consumer. */
 struct ring *ring_open(void);
 struct ring *ring_open_entered(void);
 

@@ -1,0 +1,5 @@
+#define ANSWER a0
+        .globl  product
+product:
+        mul     ANSWER, a0, a1
+        ret

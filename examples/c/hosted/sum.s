@@ -1,0 +1,3 @@
+        .globl  sum
+sum:    add     a0, a0, a1
+        ret
