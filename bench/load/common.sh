@@ -1,5 +1,6 @@
 # What the scripts of this folder share: the program, a folder of their own, machines, and pieces of guests. They say
 # where they are in `here`. MONDRIX names another program. KIB is the size of RAM.
+# shellcheck shell=sh disable=SC2034,SC2154
 export LC_ALL=C
 [ -z "${MONDRIX-}" ] || MONDRIX=$(realpath "$MONDRIX") || exit 1
 program=${MONDRIX:-$(cd "$here/../.." && pwd -P)/crates/mondrix/out/mondrix}
