@@ -4,7 +4,9 @@
  *                                       from 0
  *   inputs manifest KIND GATES OUT      63 modules with these images, 64 MiB of RAM, four harts, the greatest
  *                                       limits of the tables of this kind; 252 gates into all modules (spread), or
- *                                       256 into one (gathered)
+ *                                       256 into one (gathered); or spread, with an input area of 512 KiB each in
+ *                                       place of heap and stack (reading), or one as large as RAM (over)
+ *   inputs input BYTES OUT              an input of so many bytes
  *   inputs schedule OUT                 a schedule of 16 MiB, of four harts in turn
  *   inputs source FORM OUT              a source of 1 MiB: usual, labels, references or zeros
  *   inputs snapshot KIND MODULES OUT    a snapshot of so many modules, 64 MiB of RAM, four harts and the greatest
@@ -93,15 +95,25 @@ static void gates(int are_gathered, unsigned module) {
     fputs("]\n", out);
 }
 
-static void manifest(const char *kind, int are_gathered) {
+/* The areas of a module beside its segments. */
+static void areas(const char *form, uint32_t at) {
+    if (strcmp(form, "reading") == 0 || strcmp(form, "over") == 0) {
+        fputs("input = \"input.bin\"\n", out);
+        fprintf(out, "input_at = %u\ninput_words = %u\n", at + 0x80000, form[0] == 'r' ? 131072 : WORDS);
+        return;
+    }
+    fprintf(out, "heap = %u\nheap_words = 16384\n", at + 0x80000);
+    fprintf(out, "stack = %u\nstack_words = 1024\n", at + 0xc0000);
+}
+
+static void manifest(const char *kind, const char *form) {
     char text[LETTERS + 1];
+    int are_gathered = strcmp(form, "gathered") == 0;
     fprintf(out, "version = 2\nram_kib = 65536\ntables = \"%s\"\nupper = 4096\nleaf = 262144\nspill = 1048576\n", kind);
     fputs("lookaside = 64\n", out);
     for (unsigned i = 0; i < MODULES; i++) {
-        uint32_t at = RAM + MODULE * i;
-        fprintf(out, "[[module]]\nname = \"m%u\"\nimage = \"m%u.elf\"\nheap = %u\nheap_words = 16384\n", i, i,
-                at + 0x80000);
-        fprintf(out, "stack = %u\nstack_words = 1024\n", at + 0xc0000);
+        fprintf(out, "[[module]]\nname = \"m%u\"\nimage = \"m%u.elf\"\n", i, i);
+        areas(form, RAM + MODULE * i);
         gates(are_gathered, i);
     }
     name(text, last_letters(NAMES - 1));
@@ -209,7 +221,8 @@ int main(int many, char **words) {
     if (many >= 3 && strcmp(words[1], "time") == 0) return timed(words + 2);
     if (many < 3 || !(out = fopen(words[many - 1], "wb"))) return 1;
     if (strcmp(words[1], "image") == 0) image((unsigned)atoi(words[2]));
-    if (strcmp(words[1], "manifest") == 0) manifest(words[2], strcmp(words[3], "gathered") == 0);
+    if (strcmp(words[1], "manifest") == 0) manifest(words[2], words[3]);
+    if (strcmp(words[1], "input") == 0) fill(atol(words[2]));
     if (strcmp(words[1], "schedule") == 0) schedule();
     if (strcmp(words[1], "source") == 0) source(words[2]);
     if (strcmp(words[1], "snapshot") == 0) snapshot((uint32_t)atoi(words[2]), (uint32_t)atoi(words[3]));
