@@ -53,7 +53,8 @@ BEGIN {
 # Where each fault of a manifest may be, and with which key and detail.
 function faults() {
     top = "version|ram_kib|tables|upper|leaf|spill|lookaside|quantum|module|hart"
-    module = "name|image|at|perm|words|wx|heap|heap_words|stack|stack_words|gates|returns|on_fault|seal"
+    module = "name|image|at|perm|words|wx|heap|heap_words|stack|stack_words|gates|returns|on_fault|seal|input|" \
+        "input_at|input_words|input_perm"
     keys = "(manifest (" top ")|module (" module ")|hart (module|entry)) 0"
     fault[1] = "manifest - 0"
     fault[2] = "((manifest|module|hart) -|module gates) 0"
@@ -61,11 +62,11 @@ function faults() {
     fault[6] = "module (image|wx) 0"
     fault[7] = "module name 0"
     fault[8] = "(module gates|hart module) 0"
-    fault[9] = "(manifest -|module image|schedule -) 0"
+    fault[9] = "(manifest -|module (image|input)|schedule -) 0"
     fault[10] = "module image ([1-9]|10)"
     fault[11] = "module image ([0-9]|1[0-5])"
-    fault[12] = "module (image|at|heap|stack) 0"
-    fault[13] = "module (image|at|heap|stack) ([1-9]|[1-5][0-9]|6[0-3])"
+    fault[12] = "module (image|at|heap|stack|input_at) 0"
+    fault[13] = "module (image|at|heap|stack|input_at) ([1-9]|[1-5][0-9]|6[0-3])"
     fault[14] = fault[15] = "(module (gates|returns)|hart entry) 0"
     fault[16] = fault[17] = "module (gates|returns) 0"
 }

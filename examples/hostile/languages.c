@@ -27,8 +27,8 @@ const char *const signs[] = {
 static const char *const manifest_words[] = {
     "version", "ram_kib", "tables", "upper", "leaf", "spill", "lookaside", "quantum", "module", "hart", "name",
     "image", "at", "perm", "words", "wx", "heap", "heap_words", "stack", "stack_words", "gates", "returns",
-    "on_fault", "seal", "entry", "from", "true", "false", "[]", "{}", "[[]]", "\"r\"", "\"rw\"", "\"rx\"", "colour",
-    "\"\"", "0x80000000", "-", "x", NULL};
+    "on_fault", "seal", "input", "input_at", "input_words", "input_perm", "entry", "from", "true", "false", "[]", "{}",
+    "[[]]", "\"r\"", "\"rw\"", "\"rx\"", "colour", "\"\"", "0x80000000", "-", "x", NULL};
 
 static const char *const manifest_texts[] = {
     "\"\"", "\"r\"", "\"rw\"", "\"rx\"", "\"w\"", "\"segments\"", "\"multilevel\"", "\"packed\"", "\"return\"",
@@ -54,7 +54,11 @@ static const char *const manifest_lines[] = {
     "gates = [{ entry = \"start\", from = [\"proto\", \"proto\"] }]\n", "gates = [{ entry = 1, from = [] }]\n",
     "gates = [{ from = [\"m\"] }]\n", "gates = [{}]\n", "gates = [1, {}]\n", "returns = []\n",
     "returns = [0x80000000]\n", "returns = [\"idle\", \"idle\"]\n", "returns = [0x80000002]\n",
-    "on_fault = \"kill\"\n", "on_fault = \"return\"\n", "seal = true\n", "seal = 1\n", "entry = \"idle\"\n",
+    "on_fault = \"kill\"\n", "on_fault = \"return\"\n", "seal = true\n", "seal = 1\n",
+    "input = \"order.bin\"\ninput_at = 0x8000a000\ninput_words = 9\n", "input = \"order.bin\"\n",
+    "input = \"..\"\n", "input = \"/dev/zero\"\n", "input_at = 0x80000000\n", "input_at = 0xfffffffc\n",
+    "input_words = 1\n", "input_words = 16777216\n", "input_perm = \"rw\"\n", "input_perm = \"rx\"\n",
+    "entry = \"idle\"\n",
     "entry = 0x80000004\n", "entry = 3\n", "module = \"m\"\n", "module = \"proto\"\n", "unknown = 1\n",
     "\"version\" = 1\n", "version.x = 1\n",
     "[[module]]\nname = \"b\"\nat = 0x80009000\nperm = \"rw\"\nwords = [1, 2, 3]\n[[hart]]\nmodule = \"b\"\n",
