@@ -6,7 +6,7 @@ ghost use Rattle.mx_heap.specs.HeapState.{area_of};
 ghost use Rattle.mx_laws.specs.After.{frames_at};
 ghost use Rattle.mx_laws.specs.Crossing.{FramesAfter};
 ghost use Rattle.mx_laws.specs.Foreign.{ForeignAfter};
-ghost use Rattle.mx_machine.specs.Readings.{IsAreaOf, IsViewOf, was_heard};
+ghost use Rattle.mx_machine.specs.Readings.{IsAreaOf, IsPlaceOf, IsViewOf, was_heard};
 ghost use Rattle.mx_machine.specs.Turning.{IsTold, IsTurn, KeepsBytes};
 ghost use Rattle.mx_model.specs.Checks.{is_halted};
 ghost use Rattle.mx_model.specs.Reads.{flat_reads, map_in};
@@ -21,7 +21,9 @@ ghost use Rattle.mx_any.specs.Machines.{meaning};
 
 use mx_check::Counts;
 use mx_heap::Block;
-use mx_machine::{HartView, Machine, StackArea, machine_is_valid, running_harts_are_current};
+use mx_machine::{
+    HartPlace, HartView, Machine, StackArea, machine_is_valid, running_harts_are_current,
+};
 use mx_model::{Events, Frame, Gate, TurnKind};
 use mx_packed::Packed;
 use mx_segments::Segments;
@@ -137,6 +139,22 @@ impl AnyMachine {
         ensures { IsViewOf (hart_at (meaning self.now).core hart) result }
     {
         each!(self, machine => machine.hart(hart))
+    }
+
+    /// Where a hart stands: what `hart` says of it but for frames and registers.
+    pub fn place(&self, hart: u32) -> HartPlace
+        requires { hart < length (meaning self.now).core.harts }
+        ensures { IsPlaceOf (hart_at (meaning self.now).core hart) result }
+    {
+        each!(self, machine => machine.place(hart))
+    }
+
+    /// The registers x0 to x31 of a hart.
+    pub fn regs(&self, hart: u32) -> &[u32; 32]
+        requires { hart < length (meaning self.now).core.harts }
+        ensures { result.now ≡ (hart_at (meaning self.now).core hart).regs }
+    {
+        each!(self, machine => machine.regs(hart))
     }
 
     /// The permission of a word in a domain's map.

@@ -26,10 +26,10 @@ impl AnyMachine {
         ensures valid { IfSome result IsValid }
     {
         any_machine_is_valid(self);
-        let view = self.hart(hart);
-        match view.status {
+        let place = self.place(hart);
+        match place.status {
             HartStatus::Halted => None,
-            _ => self.standing(view.domain, view.pc),
+            _ => self.standing(place.domain, place.pc),
         }
     }
 

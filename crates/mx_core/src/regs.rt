@@ -37,6 +37,14 @@ impl Regs {
         self.values[r as usize]
     }
 
+    /// The values of all registers, x0 first.
+    #[inline(always)]
+    pub fn values(&self) -> &[u32; 32]
+        ensures { result.now ≡ self.now }
+    {
+        &self.values
+    }
+
     /// Sets register r, 0 to 31; x0 stays 0.
     #[inline(always)]
     pub fn set(&mut self, r: u32, value: u32)

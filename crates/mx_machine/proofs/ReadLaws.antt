@@ -17,11 +17,12 @@ use Rattle.mx_machine.specs.declared.hart.Hart.{Hart}
 use Rattle.mx_machine.specs.declared.hart.Progress.{Progress}
 use Rattle.mx_machine.specs.declared.hart.Progress.TheVariants as G
 use Rattle.mx_machine.specs.declared.starts.StackArea.{StackArea}
+use Rattle.mx_machine.specs.declared.views.HartPlace.{HartPlace}
 use Rattle.mx_machine.specs.declared.views.HartView.{HartView}
 use Rattle.mx_machine.specs.Harts.{hart_among, is_halted, own_call, seen_from, status_by}
 use Rattle.mx_machine.specs.Held.{Held, area_of, rest_of}
 use Rattle.mx_machine.specs.Made.{core_in, hart_in}
-use Rattle.mx_machine.specs.Readings.{IsAreaOf, IsViewOf, TellsHart, status_by_progress, status_told, was_heard}
+use Rattle.mx_machine.specs.Readings.{IsAreaOf, IsPlaceOf, IsViewOf, TellsHart, TellsPlace, status_by_progress, status_told, was_heard}
 use Rattle.mx_machine.specs.Ties.{Fits, FliesWhileWaiting}
 use Rattle.mx_machine.proofs.HartsAt.{hart-in, length-seen}
 use Rattle.mx_machine.proofs.HomeLaws.{IsHere, module-is}
@@ -70,6 +71,12 @@ status-seen call flight (G.Halted code) = refl
 -- a hart that is told
 pub view-told : (m : Held) (h : ℕ) (view : HartView) → TellsHart (hart_among m.harts h) view → IsViewOf (hart_in m h) view
 view-told m h view t = search (arith, hart-in, status-seen, m.harts, m.parts.harts)
+
+pub place-told : (m : Held) (h : ℕ) (place : HartPlace) → TellsPlace (hart_among m.harts h) place → IsPlaceOf (hart_in m h) place
+place-told m h place t = search (arith, hart-in, status-seen, m.harts, m.parts.harts)
+
+pub regs-told : (m : Held) (h : ℕ) (regs : List ℕ) → regs ≡ (hart_among m.harts h).regs → regs ≡ (hart_in m h).regs
+regs-told m h regs e = search (arith, hart-in, m.harts, m.parts.harts)
 
 -- who has heard the call on which a hart waits
 heard-seen : (range : ℕ × ℕ) (call : Call) (by : ℕ) (o : Option Flight) (g : Progress) → FliesWhileWaiting range o g → has_heard o by ≡ was_heard (status_by call o g) by

@@ -6,6 +6,7 @@ use Rattle.mx_machine.specs.declared.hart.Hart.{Hart as Kept}
 use Rattle.mx_machine.specs.declared.hart.Progress.{Progress}
 use Rattle.mx_machine.specs.declared.hart.Progress.TheVariants as G
 use Rattle.mx_machine.specs.declared.starts.StackArea.{StackArea}
+use Rattle.mx_machine.specs.declared.views.HartPlace.{HartPlace}
 use Rattle.mx_machine.specs.declared.views.HartStatus.{HartStatus}
 use Rattle.mx_machine.specs.declared.views.HartStatus.TheVariants as V
 use Rattle.mx_machine.specs.declared.views.HartView.{HartView}
@@ -37,6 +38,18 @@ pub record TellsHart (x : Kept) (view : HartView) : Type 0 where
   pub pc : view.pc ≡ x.pc
   pub frames : view.frames ≡ length x.frames
   pub regs : view.regs ≡ x.regs
+
+-- a place tells where a hart stands
+pub record IsPlaceOf (hart : Hart) (place : HartPlace) : Type 0 where
+  pub status : place.status ≡ status_told hart.status
+  pub domain : place.domain ≡ hart.domain
+  pub pc : place.pc ≡ hart.pc
+
+-- a place tells where a hart stands that the machine keeps
+pub record TellsPlace (x : Kept) (place : HartPlace) : Type 0 where
+  pub status : place.status ≡ status_by_progress x.progress
+  pub domain : place.domain ≡ x.domain
+  pub pc : place.pc ≡ x.pc
 
 -- whether hart i has heard the call on which a hart waits
 abbrev pub was_heard : Status → ℕ → Bool

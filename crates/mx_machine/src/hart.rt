@@ -4,12 +4,12 @@ ghost use Rattle.mx_words.specs.Limits.{most_frames};
 ghost use Rattle.mx_isa.specs.Ranges.{IsValid as IsInst};
 ghost use Rattle.mx_model.specs.Gates.{nearest, top};
 ghost use Rattle.mx_model.specs.Turn.{restored, saved};
-ghost use Rattle.mx_machine.specs.Readings.{status_by_progress, TellsHart};
+ghost use Rattle.mx_machine.specs.Readings.{status_by_progress, TellsHart, TellsPlace};
 ghost use Rattle.mx_machine.specs.Harts.{no_held_hart, own_call};
 ghost use Rattle.mx_machine.specs.Starts.{resumed_hart};
 ghost use Rattle.mx_machine.specs.Steps.{instructed, regs_carried, regs_left, CarriesOut, Instructs, goes, waits, halts, takes_answer, enters, leaves, gives_up, returns_over};
 
-use crate::{HartState, HartStatus, HartView};
+use crate::{HartPlace, HartState, HartStatus, HartView};
 use mx_core::{Bus, Outcome, Regs, act_on, exec};
 use mx_gates::CrossStack;
 use mx_isa::Inst;
@@ -269,16 +269,29 @@ impl Hart {
         self.progress = Progress::Running;
     }
 
+    /// Where the hart stands.
+    #[inline]
+    pub fn place(&self) -> HartPlace
+        ensures { TellsPlace self.now result }
+    {
+        HartPlace {
+            status: self.status(),
+            domain: self.domain,
+            pc: self.pc,
+        }
+    }
+
     /// The hart as it is told.
     pub fn view(&self) -> HartView
         ensures { TellsHart self.now result }
     {
+        let regs = *self.regs.values();
         HartView {
             status: self.status(),
             domain: self.domain,
             pc: self.pc,
             frames: self.frames.depth(),
-            regs: values_of(&self.regs),
+            regs,
         }
     }
 }
@@ -325,17 +338,6 @@ fn regs_of(values: &[u32; 32]) -> Regs
         regs.set(r, values[r as usize]);
     }
     regs
-}
-
-/// The values of the registers.
-fn values_of(regs: &Regs) -> [u32; 32]
-    ensures { result ≡ regs.now }
-{
-    let mut values = [0; 32];
-    for r in 0..32 {
-        values[r as usize] = regs.get(r);
-    }
-    values
 }
 
 /// The same frames.

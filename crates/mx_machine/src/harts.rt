@@ -10,12 +10,12 @@ ghost use Rattle.mx_model.specs.Effect.{reg};
 ghost use Rattle.mx_model.specs.Gates.{nearest, top};
 ghost use Rattle.mx_machine.specs.Harts.{hart_among, stepped, own_call, is_halted, is_waiting};
 ghost use Rattle.mx_machine.specs.Held.{area_of};
-ghost use Rattle.mx_machine.specs.Readings.{TellsHart};
+ghost use Rattle.mx_machine.specs.Readings.{TellsHart, TellsPlace};
 ghost use Rattle.mx_machine.specs.Starts.{started_from, resumed_hart};
 ghost use Rattle.mx_machine.specs.Steps.{instructed, regs_carried, regs_left, CarriesOut, Instructs, goes, waits, halts, takes_answer, enters, gives_up, returns_over};
 
 use crate::hart::{Hart, Progress};
-use crate::{HartStates, HartView, Stacks, Starts};
+use crate::{HartPlace, HartStates, HartView, Stacks, Starts};
 use mx_core::{Bus, Memo, Outcome};
 use mx_isa::Inst;
 use mx_model::{Call, Frame};
@@ -199,6 +199,26 @@ impl Harts {
     {
         let part = &self.items[hart as usize];
         part.frames.frame(i)
+    }
+
+    /// As `Hart::place`, for one hart.
+    #[inline]
+    pub fn place(&self, hart: u32) -> HartPlace
+        requires { hart < length self.now }
+        ensures { TellsPlace (hart_among self.now hart) result }
+    {
+        let part = &self.items[hart as usize];
+        part.place()
+    }
+
+    /// The registers x0 to x31 of one hart.
+    #[inline]
+    pub fn regs(&self, hart: u32) -> &[u32; 32]
+        requires { hart < length self.now }
+        ensures { result.now ≡ (hart_among self.now hart).regs }
+    {
+        let part = &self.items[hart as usize];
+        part.regs.values()
     }
 
     /// As `Hart::view`, for one hart.

@@ -18,4 +18,4 @@ mod window;
 pub use machine::Machine;
 pub use readers::{machine_is_valid, running_harts_are_current};
 pub use starts::{HartStart, HartState, HartStates, StackArea, Stacks, Starts};
-pub use views::{HartStatus, HartView, Stretch};
+pub use views::{HartPlace, HartStatus, HartView, Stretch};

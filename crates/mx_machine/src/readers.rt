@@ -12,9 +12,9 @@ ghost use Rattle.mx_model.specs.Run.{all_halted};
 ghost use Rattle.mx_model.specs.State.{cache_at, hart_at, module_at};
 ghost use Rattle.mx_model.specs.Valid.{IsModule, IsValid};
 ghost use Rattle.mx_coherence.specs.Coherence.{KeepsNoStaleSpan, flat_coherent};
-ghost use Rattle.mx_machine.specs.Readings.{IsAreaOf, IsViewOf, was_heard};
+ghost use Rattle.mx_machine.specs.Readings.{IsAreaOf, IsPlaceOf, IsViewOf, was_heard};
 
-use crate::{HartView, Machine, StackArea};
+use crate::{HartPlace, HartView, Machine, StackArea};
 use mx_check::Counts;
 use mx_coherence::spans_are_coherent;
 use mx_heap::Block;
@@ -64,6 +64,22 @@ impl<T: PermTables, const N: usize> Machine<T, N> {
         ensures { IsViewOf (hart_at self.now.core hart) result }
     {
         self.bare.harts.view(hart)
+    }
+
+    /// Where a hart stands: what `hart` says of it but for frames and registers.
+    pub fn place(&self, hart: u32) -> HartPlace
+        requires { hart < length self.now.core.harts }
+        ensures { IsPlaceOf (hart_at self.now.core hart) result }
+    {
+        self.bare.harts.place(hart)
+    }
+
+    /// The registers x0 to x31 of a hart.
+    pub fn regs(&self, hart: u32) -> &[u32; 32]
+        requires { hart < length self.now.core.harts }
+        ensures { result.now ≡ (hart_at self.now.core hart).regs }
+    {
+        self.bare.harts.regs(hart)
     }
 
     /// The permission of a word in a domain's map.

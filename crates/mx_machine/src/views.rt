@@ -27,6 +27,17 @@ pub struct HartView {
     pub regs: [u32; 32],
 }
 
+/// Where a hart stands between two turns: its view without frames and registers.
+#[derive(Clone, Copy, PartialEq, Eq, Debug)]
+pub struct HartPlace {
+    /// Whether it runs.
+    pub status: HartStatus,
+    /// The domain in which it is.
+    pub domain: u32,
+    /// The address of its next instruction, a multiple of 4.
+    pub pc: u32,
+}
+
 /// Turns that a hart made in a row, of which all but the last carried out an instruction and no more.
 #[derive(Clone, Copy, PartialEq, Eq)]
 pub struct Stretch {

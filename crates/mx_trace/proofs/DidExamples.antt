@@ -12,9 +12,8 @@ use Rattle.mx_model.specs.declared.values.Note.{Note}
 use Rattle.mx_model.specs.declared.values.Note.TheVariants as N
 use Rattle.mx_model.specs.declared.values.TurnKind.{TurnKind}
 use Rattle.mx_model.specs.declared.values.TurnKind.TheVariants as T
-use Rattle.mx_trace.specs.declared.did.Deed.{Deed}
 use Rattle.mx_trace.specs.declared.did.Held.{Held}
-use Rattle.mx_trace.specs.Did.{changes_text, did_line, fields}
+use Rattle.mx_trace.specs.Did.{Deed, changes_text, did_line, fields}
 
 -- registers that are zero but for these
 abbrev regs : List (ℕ × ℕ) → List ℕ

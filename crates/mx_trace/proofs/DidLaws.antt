@@ -1,8 +1,7 @@
 -- The line of what a turn did, field by field.
 use Rattle.std.proofs.Common.{◌≡◌, ℕ, suc, ◌+◌, ◌-◌, ◌<◌, ◌≤◌, ◌≢◌, List, [], ◌∷◌, ◌++◌, length, codes, slice_index, flat_map, refl, sym, ap, ◌∙◌, arith, append_assoc, length-append}
 use Rattle.std.specs.List.{range_with_len}
-use Rattle.mx_trace.specs.declared.did.Deed.{Deed}
-use Rattle.mx_trace.specs.Did.{call_text, change_text, changes_text, domain_text, fields, line_of, note_text, ran_text}
+use Rattle.mx_trace.specs.Did.{Deed, call_text, change_text, changes_text, domain_text, fields, line_of, note_text, ran_text}
 
 -- of the registers from i on
 abbrev pub rest_text : List ℕ → List ℕ → ℕ → List ℕ

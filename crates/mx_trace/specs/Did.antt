@@ -9,7 +9,19 @@ use Rattle.mx_model.specs.declared.values.Note.TheVariants.{Fault, Exit}
 use Rattle.mx_model.specs.declared.values.TurnKind.{TurnKind}
 use Rattle.mx_model.specs.declared.values.TurnKind.TheVariants.{Ran, Called}
 use Rattle.mx_model.specs.Effect.{load_size, plus, reg, store_size}
-use Rattle.mx_trace.specs.declared.did.Deed.{Deed}
+use Rattle.mx_trace.specs.declared.did.Held.{Held}
+use Rattle.mx_trace.specs.declared.did.Turned.{Turned}
+
+-- a turn of a hart that there is: what it was, its line of the report and the instruction at which the hart stood, if any; the hart before it and after it
+pub record Deed : Type 0 where
+  pub kind : TurnKind
+  pub note : Option Note
+  pub inst : Option Inst
+  pub before : Held
+  pub after : Held
+
+abbrev pub deed : Turned → Held → Held → Deed
+deed t before after = record { kind = t.kind; note = t.note; inst = t.inst; before = before; after = after }
 
 -- a fault, a load and a store
 abbrev pub fault_text : ℕ → ℕ → List ℕ

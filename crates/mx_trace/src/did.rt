@@ -3,7 +3,7 @@ ghost use Rattle.std.specs.Prelude.{◌≡◌, ◌+◌, ◌*◌, ◌%◌, ◌^�
 ghost use Rattle.mx_isa.specs.Ranges.{IsValid};
 ghost use Rattle.mx_model.specs.Effect.{load_size, store_size};
 ghost use Rattle.mx_tail.specs.Tail.{Passes, piece_bytes};
-ghost use Rattle.mx_trace.specs.Did.{access_text, accessed_text, call_text, change_text, changes_text, did_line, domain_text, exit_text, fault_text, fields, load_text, note_text, noted_text, ran_text, store_text};
+ghost use Rattle.mx_trace.specs.Did.{access_text, accessed_text, call_text, change_text, changes_text, deed, did_line, domain_text, exit_text, fault_text, fields, load_text, note_text, noted_text, ran_text, store_text};
 
 use crate::line::Line;
 use mx_io::{Failed, Sink};
@@ -22,32 +22,34 @@ pub struct Held {
     pub regs: [u32; 32],
 }
 
-/// A turn of a hart that there is.
+/// What a turn was, of a hart that there is.
 #[derive(Clone, Copy, PartialEq, Eq)]
-pub struct Deed {
+pub struct Turned {
     /// What it was.
     pub kind: TurnKind,
     /// Its line of the report, if it made one.
     pub note: Option<Note>,
     /// The instruction at which the hart stood before it, if any.
     pub inst: Option<Inst>,
-    /// The hart before it.
-    pub before: Held,
-    /// The hart after it.
-    pub after: Held,
 }
 
-/// Puts the line of what a turn did: `did F F ..`, or nothing where it has no field. The instruction is one that `is_valid`
-/// accepts. Where a write fails, a prefix of the line was appended.
-pub fn put_did<R: Sink>(tail: &mut Tail, sink: &mut R, deed: &Deed) -> Result<(), Failed>
-    requires { IfSome deed.now.inst IsValid }
+/// Puts the line of what a turn did, by its hart before and after it: `did F F ..`, or nothing where it has no field. The
+/// instruction is one that `is_valid` accepts. Where a write fails, a prefix of the line was appended.
+pub fn put_did<R: Sink>(
+    tail: &mut Tail,
+    sink: &mut R,
+    turned: Turned,
+    before: &Held,
+    after: &Held,
+) -> Result<(), Failed>
+    requires { IfSome turned.inst IsValid }
     ensures passes { Passes tail.old (R.state sink.old) (R.state sink.new) tail.new
-        (did_line deed.now) result }
+        (did_line (deed turned before.now after.now)) result }
     ensures few { OnOk result (length tail.new < piece_bytes) }
 {
     let mut line = Line::<848>::new();
     line.put_text("\n");
-    put_fields(&mut line, deed);
+    put_fields(&mut line, turned, before, after);
     if line.len() == 1 {
         return tail.put(sink, &[]);
     }
@@ -57,17 +59,17 @@ pub fn put_did<R: Sink>(tail: &mut Tail, sink: &mut R, deed: &Deed) -> Result<()
 
 // All fields, each behind a blank. Here and below the last part is put first.
 #[tactic(auto, unfolding(crate::specs::Did::fields))]
-fn put_fields<const N: usize>(line: &mut Line<N>, deed: &Deed)
-    requires valid { IfSome deed.now.inst IsValid }
+fn put_fields<const N: usize>(line: &mut Line<N>, turned: Turned, before: &Held, after: &Held)
+    requires valid { IfSome turned.inst IsValid }
     requires room { 838 + length line.old ≤ N }
-    ensures text { line.new ≡ fields deed.now ++ line.old }
+    ensures text { line.new ≡ fields (deed turned before.now after.now) ++ line.old }
     ensures few { length line.new ≤ 838 + length line.old }
 {
-    put_changes(line, &deed.before.regs, &deed.after.regs);
-    put_domain(line, deed.before.domain, deed.after.domain);
-    put_ran(line, deed.kind, deed.inst, &deed.before.regs);
-    put_call(line, deed.kind, deed.after.waits, &deed.before.regs);
-    put_note(line, deed.note);
+    put_changes(line, &before.regs, &after.regs);
+    put_domain(line, before.domain, after.domain);
+    put_ran(line, turned.kind, turned.inst, &before.regs);
+    put_call(line, turned.kind, after.waits, &before.regs);
+    put_note(line, turned.note);
 }
 
 fn put_note<const N: usize>(line: &mut Line<N>, note: Option<Note>)

@@ -6,6 +6,6 @@ mod line;
 mod lines;
 mod text;
 
-pub use did::{Deed, Held, put_did};
+pub use did::{Held, Turned, put_did};
 pub use lines::{Seen, kind_name, put_turn, turn_line};
 pub use text::disassemble;

@@ -1,10 +1,10 @@
 -- Traces turn by turn, and their texts.
-use Rattle.std.proofs.Common.{◌≡◌, ℕ, zero, suc, ◌+◌, ◌-◌, ◌<◌, ◌≤◌, Bool, true, false, ◌⊎◌, List, [], ◌++◌, length, Option, Some, None, Ok, Err, refl, sym, ap, subst, ◌∙◌, inl, inr, append_assoc, arith}
+use Rattle.std.proofs.Common.{◌≡◌, ℕ, zero, suc, ◌+◌, ◌-◌, ◌<◌, ◌≤◌, Bool, true, false, ◌&&◌, nat_lt, if◌then◌else◌, ◌⊎◌, List, [], ◌++◌, length, Option, Some, None, Ok, Err, refl, sym, ap, subst, ◌∙◌, inl, inr, append_assoc, arith}
 use Rattle.std.proofs.lemmas.Bool.{lt-ltb}
 use Rattle.std.proofs.lemmas.List.{append-nil}
 use Rattle.mx_model.specs.declared.values.Note.{Note}
 use Rattle.mx_model.specs.declared.values.TurnKind.{TurnKind}
-use Rattle.mx_model.specs.Reads.{Reads, reads}
+use Rattle.mx_model.specs.Reads.{Reads, reads, flat_reads}
 use Rattle.mx_model.specs.Run.{Schedule, all_halted, hart_of, is_stopped, flat_made, flat_turn, made_of, run, turn}
 use Rattle.mx_model.specs.Turn.{Made}
 use Rattle.mx_model.specs.State.{Core, State, Flat, flat}
@@ -12,14 +12,16 @@ use Rattle.mx_model.proofs.FlatLaws.{reads-flat, made-flat, flat-turn}
 use Rattle.mx_model.proofs.KeepLaws.{keeps-turned}
 use Rattle.mx_model.proofs.RunSteps.{run-going, run-stopped}
 use Rattle.mx_tail.specs.Tail.{sent}
-use Rattle.mx_trace.specs.declared.did.Deed.{Deed}
+use Rattle.mx_laws.specs.Standing.{standing_inst}
+use Rattle.mx_trace.specs.Did.{Deed, deed}
+use Rattle.mx_trace.specs.declared.did.Turned.{Turned}
 use Rattle.mx_trace.specs.declared.did.Held.{Held}
 use Rattle.mx_trace.specs.declared.lines.Seen.{Seen}
 use Rattle.mx_turns.specs.declared.fault.SinkFault.{SinkFault}
 use Rattle.mx_turns.specs.declared.fault.SinkFault.TheVariants as F
 use Rattle.mx_turns.specs.declared.tracing.Lines.{Lines}
 use Rattle.mx_turns.specs.Running.{named, Breaks, Moves, Places, HasTexts, ShowsOrStops, StopsAt}
-use Rattle.mx_turns.specs.Tracing.{deed_of, held_at, line_by, line_from, line_text, flat_line_from, seen_at, trace}
+use Rattle.mx_turns.specs.Tracing.{deed_of, held_at, held_of, line_by, line_from, line_text, flat_line_from, seen_at, seen_of, trace}
 use Rattle.mx_turns.proofs.RunTexts.{Makes, goes_on, run_ends, run_more, stops_halted, stops_over, texts_make, texts_stop}
 
 -- a trace of one turn more, where the run has stopped, or hasn't
@@ -98,17 +100,34 @@ pub line_flat : (lines : Lines) (s : State) (h : ℕ) → flat_line_from lines (
 line_flat lines s h =
     ap (λ r. line_by r s.core (flat_made (flat s) h) lines h) (sym (reads-flat s)) ∙ ap (λ (m : Made). line_by (reads s) s.core m lines h) (sym (made-flat s h))
 
--- where what turns do isn't asked, a turn has its line alone
+-- where what turns do isn't asked, or there is no such hart, a turn has its line alone
 deed_none : (seen : Option Seen) (kind : TurnKind) (note : Option Note) (after : Option Held) → deed_of seen None kind note after ≡ None
 deed_none None kind told after = refl
 deed_none (Some seen) kind told after = refl
 
-pub line_plain : (r : Reads) (c : Core) (m : Made) (lines : Lines) (h : ℕ) → lines.effects ≡ false
+abbrev held_if : Core → ℕ → Bool → Option Held
+held_if c h asked = if asked then Some (held_of c h) else None
+
+pub line_plain : (r : Reads) (c : Core) (m : Made) (lines : Lines) (h : ℕ) → (lines.effects && nat_lt h (length c.harts)) ≡ false
     → line_by r c m lines h ≡ line_text lines (c.turns + 1) h (seen_at r c h) m.kind None
 line_plain r c m lines h plain =
     let seen = seen_at r c h in
-    ap (λ (asked : Bool). line_text lines (c.turns + 1) h seen m.kind (deed_of seen (held_at asked c h) m.kind m.note (held_at asked m.core h))) plain
-    ∙ ap (λ (deed : Option Deed). line_text lines (c.turns + 1) h seen m.kind deed) (deed_none seen m.kind m.note None)
+    let left = held_at lines.effects m.core h in
+    ap (λ (asked : Bool). line_text lines (c.turns + 1) h seen m.kind (deed_of seen (held_if c h asked) m.kind m.note left)) plain
+    ∙ ap (λ (deed : Option Deed). line_text lines (c.turns + 1) h seen m.kind deed) (deed_none seen m.kind m.note left)
+
+-- and where it is asked of a hart that there is, the line of what it did stands behind it
+abbrev pub turned_by : Reads → Core → Made → ℕ → Turned
+turned_by r c m h = record { kind = m.kind; note = m.note; inst = standing_inst r c h }
+
+pub line_told : (r : Reads) (c : Core) (m : Made) (lines : Lines) (h : ℕ) → lines.effects ≡ true → h < length c.harts → length m.core.harts ≡ length c.harts
+    → line_by r c m lines h ≡ line_text lines (c.turns + 1) h (Some (seen_of r c h)) m.kind (Some (deed (turned_by r c m h) (held_of c h) (held_of m.core h)))
+line_told r c m lines h asked there same =
+    rw (asked, same, lt-ltb h (length c.harts) there) refl
+
+-- a turn keeps the number of harts
+pub harts_kept : (f : Flat) (h : ℕ) → length (flat_made f h).core.harts ≡ length f.core.harts
+harts_kept f h = (keeps-turned (flat_reads f) f.core h).harts
 
 -- the texts of a trace so far
 module _ (p : Schedule) (lines : Lines) (i : ℕ) (s : State) (m : Flat) (before at : Places) (has : HasTexts (run p i s) (trace p lines i s) m before at) where

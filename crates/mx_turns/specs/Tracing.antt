@@ -11,8 +11,7 @@ use Rattle.mx_model.specs.Run.{Schedule, flat_made, hart_of, is_stopped, made_of
 use Rattle.mx_model.specs.Turn.{Made}
 use Rattle.mx_model.specs.State.{Core, Flat, State, hart_at}
 use Rattle.mx_report.specs.Lines.{end_line}
-use Rattle.mx_trace.specs.Did.{did_line}
-use Rattle.mx_trace.specs.declared.did.Deed.{Deed}
+use Rattle.mx_trace.specs.Did.{Deed, did_line}
 use Rattle.mx_trace.specs.declared.did.Held.{Held}
 use Rattle.mx_trace.specs.Lines.{turn_line}
 use Rattle.mx_trace.specs.declared.lines.Seen.{Seen}
@@ -21,12 +20,15 @@ use Rattle.mx_turns.specs.Ends.{Texts}
 use Rattle.mx_turns.specs.Runs.{end_of}
 
 -- what stands at a hart before its turn, where there is such a hart
-abbrev pub seen_at : Reads → Core → ℕ → Option Seen
-seen_at r c h = if nat_lt h (length c.harts) then Some (record {
+abbrev pub seen_of : Reads → Core → ℕ → Seen
+seen_of r c h = record {
   domain = (hart_at c h).domain;
   pc = (hart_at c h).pc;
   inst = standing_inst r c h;
-}) else None
+}
+
+abbrev pub seen_at : Reads → Core → ℕ → Option Seen
+seen_at r c h = if nat_lt h (length c.harts) then Some (seen_of r c h) else None
 
 -- whether a hart waits on a call that it announced
 abbrev pub is_waiting : HartStatus → Bool
@@ -35,12 +37,15 @@ is_waiting V.Waiting = true
 is_waiting V.Halted = false
 
 -- what is held of a hart, where that is asked and there is such a hart
-abbrev pub held_at : Bool → Core → ℕ → Option Held
-held_at asked c h = if asked && nat_lt h (length c.harts) then Some (record {
+abbrev pub held_of : Core → ℕ → Held
+held_of c h = record {
   domain = (hart_at c h).domain;
   waits = is_waiting (status_told (hart_at c h).status);
   regs = (hart_at c h).regs;
-}) else None
+}
+
+abbrev pub held_at : Bool → Core → ℕ → Option Held
+held_at asked c h = if asked && nat_lt h (length c.harts) then Some (held_of c h) else None
 
 -- what a turn did, by what was seen and held of its hart before it, and what is held of it after it
 abbrev pub deed_of : Option Seen → Option Held → TurnKind → Option Note → Option Held → Option Deed

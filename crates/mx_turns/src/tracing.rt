@@ -1,6 +1,6 @@
 //! A trace: the turns of a run with a line for each. No call takes memory.
 
-ghost use Rattle.std.specs.Prelude.{◌≡◌, ℕ, false, ◌+◌, ◌-◌, ◌++◌, ◌<◌, ◌≤◌, ◌^◌, ◌⊎◌, length, None, IfSome, OnOk};
+ghost use Rattle.std.specs.Prelude.{◌≡◌, ℕ, true, false, ◌&&◌, ◌+◌, ◌-◌, ◌++◌, ◌<◌, ◌≤◌, ◌^◌, ◌⊎◌, length, nat_lt, None, Some, IfSome, OnOk};
 ghost use Rattle.mx_isa.specs.Ranges.{IsValid};
 ghost use Rattle.mx_io.specs.Sink.{Puts, SinkState};
 ghost use Rattle.mx_any.specs.Machines.{meaning};
@@ -10,7 +10,8 @@ ghost use Rattle.mx_model.specs.State.{State, flat};
 ghost use Rattle.mx_tail.specs.Tail.{Passes, piece_bytes};
 ghost use Rattle.mx_turns.specs.Ends.{Leave, MakesTurns, sinks};
 ghost use Rattle.mx_turns.specs.Running.{schedule_of, told_by, Begins, Closes, HasTexts, HasTurns, IsNew, Places, RunsOrStops, ShowsOrStops, places};
-ghost use Rattle.mx_turns.specs.Tracing.{end_text, deed_of, flat_line_from, held_at, is_waiting, line_text, seen_at, trace, traced};
+ghost use Rattle.mx_turns.specs.Tracing.{end_text, flat_line_from, held_of, is_waiting, line_text, seen_at, seen_of, trace, traced};
+ghost use Rattle.mx_trace.specs.Did.{deed};
 
 use crate::ending::end_of_any;
 use crate::fault::SinkFault;
@@ -19,9 +20,9 @@ use crate::turns::{Telling, make_turns};
 use mx_any::{AnyMachine, any_machine_is_valid};
 use mx_io::{Failed, Sink};
 use mx_machine::HartStatus;
-use mx_model::{Events, Note, TurnKind};
+use mx_model::{Events, TurnKind};
 use mx_report::{Tail, put_end};
-use mx_trace::{Deed, Held, Seen, put_did, put_turn};
+use mx_trace::{Held, Seen, Turned, put_did, put_turn};
 
 /// What a trace is asked.
 #[derive(Clone, Copy)]
@@ -258,11 +259,18 @@ fn trace_turn<C: Sink, R: Sink>(
         (places (C.state console.old) shown.old (R.state report.old) told.old)
         (places (C.state console.new) shown.new (R.state report.new) told.new) result }
 {
-    if lines.effects {
+    if is_told(lines, machine, hart) {
         deed_turn(lines, hart, machine, events, shown, console, told, report)
     } else {
         plain_turn(lines, hart, machine, events, shown, console, told, report)
     }
+}
+
+// Whether what a hart's turn does is asked, and there is such a hart.
+fn is_told(lines: Lines, machine: &AnyMachine, hart: u32) -> bool
+    ensures { result ≡ (lines.effects && nat_lt hart (length (meaning machine.now).core.harts)) }
+{
+    lines.effects && hart < machine.harts()
 }
 
 // Makes one turn, of which what it does is asked: the hart is held before it and after it.
@@ -276,7 +284,9 @@ fn deed_turn<C: Sink, R: Sink>(
     told: &mut Tail,
     report: &mut R,
 ) -> Result<(), SinkFault>
-    requires { (meaning machine.old).core.turns < 2 ^ 64 - 1 }
+    requires turns { (meaning machine.old).core.turns < 2 ^ 64 - 1 }
+    requires asked { lines.effects ≡ true }
+    requires there { hart < length (meaning machine.old).core.harts }
     ensures turn { meaning machine.new ≡ flat_turn (meaning machine.old) hart }
     ensures shows { ShowsOrStops (flat_made (meaning machine.old) hart).console
         (flat_line_from lines (meaning machine.old) hart)
@@ -284,13 +294,19 @@ fn deed_turn<C: Sink, R: Sink>(
         (places (C.state console.new) shown.new (R.state report.new) told.new) result }
 {
     let step = machine.steps() + 1;
-    let before = seen(machine, hart);
-    let kept = held(lines.effects, machine, hart);
+    let seen = seen_of(machine, hart);
+    let before = held(machine, hart);
     let kind = machine.step(hart, events);
-    let left = held(lines.effects, machine, hart);
-    let deed = deed_of(before, kept, kind, events.note(), left);
+    let after = held(machine, hart);
+    let turned = Turned {
+        kind,
+        note: events.note(),
+        inst: seen.inst,
+    };
     match shown.add(console, events) {
-        Ok(()) => match put_lines(lines, step, hart, before, kind, &deed, told, report) {
+        Ok(()) => match put_lines(
+            lines, step, hart, seen, turned, &before, &after, told, report,
+        ) {
             Ok(()) => Ok(()),
             Err(Failed) => Err(SinkFault::Report),
         },
@@ -298,7 +314,7 @@ fn deed_turn<C: Sink, R: Sink>(
     }
 }
 
-// Makes one turn, of which what it does isn't asked: nothing of the hart is held.
+// Makes one turn, of which what it does isn't asked, or of a hart that isn't there: nothing of it is held.
 fn plain_turn<C: Sink, R: Sink>(
     lines: Lines,
     hart: u32,
@@ -310,7 +326,7 @@ fn plain_turn<C: Sink, R: Sink>(
     report: &mut R,
 ) -> Result<(), SinkFault>
     requires turns { (meaning machine.old).core.turns < 2 ^ 64 - 1 }
-    requires plain { lines.effects ≡ false }
+    requires plain { (lines.effects && nat_lt hart (length (meaning machine.old).core.harts)) ≡ false }
     ensures turn { meaning machine.new ≡ flat_turn (meaning machine.old) hart }
     ensures shows { ShowsOrStops (flat_made (meaning machine.old) hart).console
         (flat_line_from lines (meaning machine.old) hart)
@@ -356,42 +372,38 @@ fn put_lines<R: Sink>(
     lines: Lines,
     step: u64,
     hart: u32,
-    before: Option<Seen>,
-    kind: TurnKind,
-    deed: &Option<Deed>,
+    seen: Seen,
+    turned: Turned,
+    before: &Held,
+    after: &Held,
     told: &mut Tail,
     report: &mut R,
 ) -> Result<(), Failed>
-    requires before { IfSome before (λ seen. IfSome seen.inst IsValid) }
-    requires deed { IfSome deed.now (λ deed. IfSome deed.inst IsValid) }
+    requires seen { IfSome seen.inst IsValid }
+    requires turned { IfSome turned.inst IsValid }
     ensures passes { Passes told.old (R.state report.old) (R.state report.new) told.new
-        (line_text lines step hart before kind deed.now) result }
+        (line_text lines step hart (Some seen) turned.kind
+        (Some (deed turned before.now after.now))) result }
     ensures few { OnOk result (length told.new < piece_bytes) }
 {
     if step < lines.from {
         return told.put(report, b"");
     }
-    put_turn(told, report, step, hart, before, kind)?;
-    match deed {
-        Some(deed) => put_did(told, report, deed),
-        None => told.put(report, b""),
-    }
+    put_turn(told, report, step, hart, Some(seen), turned.kind)?;
+    put_did(told, report, turned, before, after)
 }
 
-// What is held of a hart before or after a turn, where it is asked and there is such a hart.
-fn held(asked: bool, machine: &AnyMachine, hart: u32) -> Option<Held>
-    ensures { result ≡ held_at asked (meaning machine.now).core hart }
+// What is held of a hart before or after a turn.
+fn held(machine: &AnyMachine, hart: u32) -> Held
+    requires { hart < length (meaning machine.now).core.harts }
+    ensures { result ≡ held_of (meaning machine.now).core hart }
 {
-    if asked && hart < machine.harts() {
-        let view = machine.hart(hart);
-        let regs = view.regs;
-        Some(Held {
-            domain: view.domain,
-            waits: is_waiting(view.status),
-            regs,
-        })
-    } else {
-        None
+    let place = machine.place(hart);
+    let regs = *machine.regs(hart);
+    Held {
+        domain: place.domain,
+        waits: is_waiting(place.status),
+        regs,
     }
 }
 
@@ -405,44 +417,29 @@ fn is_waiting(status: HartStatus) -> bool
     }
 }
 
-// What a turn did, where that is asked.
-fn deed_of(
-    seen: Option<Seen>,
-    before: Option<Held>,
-    kind: TurnKind,
-    note: Option<Note>,
-    after: Option<Held>,
-) -> Option<Deed>
-    requires { IfSome seen (λ seen. IfSome seen.inst IsValid) }
-    ensures deed { result ≡ deed_of seen before kind note after }
-    ensures valid { IfSome result (λ deed. IfSome deed.inst IsValid) }
-{
-    match (seen, before, after) {
-        (Some(seen), Some(before), Some(after)) => Some(Deed {
-            kind,
-            note,
-            inst: seen.inst,
-            before,
-            after,
-        }),
-        _ => None,
-    }
-}
-
 // What stands at a hart before its turn, or nothing where there is no such hart.
 fn seen(machine: &AnyMachine, hart: u32) -> Option<Seen>
     ensures seen { result ≡ seen_at (flat_reads (meaning machine.now)) (meaning machine.now).core hart }
     ensures valid { IfSome result (λ seen. IfSome seen.inst IsValid) }
 {
     if hart < machine.harts() {
-        let view = machine.hart(hart);
-        Some(Seen {
-            domain: view.domain,
-            pc: view.pc,
-            inst: machine.instruction(hart),
-        })
+        Some(seen_of(machine, hart))
     } else {
         None
+    }
+}
+
+// What stands at a hart before its turn.
+fn seen_of(machine: &AnyMachine, hart: u32) -> Seen
+    requires { hart < length (meaning machine.now).core.harts }
+    ensures seen { result ≡ seen_of (flat_reads (meaning machine.now)) (meaning machine.now).core hart }
+    ensures valid { IfSome result.inst IsValid }
+{
+    let place = machine.place(hart);
+    Seen {
+        domain: place.domain,
+        pc: place.pc,
+        inst: machine.instruction(hart),
     }
 }
 
