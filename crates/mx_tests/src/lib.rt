@@ -12,6 +12,8 @@ mod failing;
 #[cfg(test)]
 mod hostile;
 #[cfg(test)]
+mod inputs;
+#[cfg(test)]
 mod one_module;
 #[cfg(test)]
 mod options;

@@ -12,7 +12,7 @@ const USAGE: &str = "mondrix: these words have no meaning\n";
 #[test]
 fn words_without_meaning(rt: HostRuntime) -> Result<(), Fail> {
     let long = "1234567890123456";
-    let cases: [&[&str]; 28] = [
+    let cases: [&[&str]; 31] = [
         &[],
         &["asm"],
         &["asm", "-first.s"],
@@ -48,6 +48,9 @@ fn words_without_meaning(rt: HostRuntime) -> Result<(), Fail> {
         &["run", "first.toml", "1", "--schedule", "-x"],
         &["run", "first.toml", "1", "--dump=1"],
         &["run", "first.toml", "--dump", "1"],
+        &["run", "first.toml", "1", "--effects"],
+        &["trace", "first.toml", "1", "--effects", "--effects"],
+        &["trace", "first.toml", "1", "--effects=1"],
         &["walk", "first.toml", "1"],
         &["run", "first.toml", long],
     ];

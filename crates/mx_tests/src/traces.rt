@@ -2,7 +2,7 @@
 
 use crate::examples::{Example, Sinks, files_of};
 use crate::failing::{FAULTS, FAULTS_AFTER_A_BYTE};
-use crate::one_module::{STORE_INTO_CODE, THREE_WORDS};
+use crate::one_module::{ALLOC_STORE_FREE, STORE_INTO_CODE, THREE_WORDS};
 use crate::two_modules::{
     CALL_INTO_A_DEAD_MODULE, DEAD_DOMAIN_TWO_HARTS, RETURN_TO_THE_SAVED_ADDRESS,
     TWO_HARTS_TRANSFER_UNDER_A_WAITING_GRANT,
@@ -238,6 +238,120 @@ fn a_reports_fault_leaves_whole_pieces_of_a_trace(rt: HostRuntime) -> Result<(),
             .as_slice()
             .starts_with(b"turn 1 0 1 0x80000000 ran lui x5, 524289\n")
     );
+    Ok(())
+}
+
+const THREE_DID: &str = "turn 1 0 1 0x80000000 ran addi x17, x0, 1\n\
+did x17=0x00000001\n\
+turn 2 0 1 0x80000004 ran addi x10, x0, 5\n\
+did x10=0x00000005\n\
+turn 3 0 1 0x80000008 called ecall\n\
+did exit=5 call=1\n\
+end steps=3 state=halted\n";
+
+const THREE_DID_FROM_THREE: &str = "turn 3 0 1 0x80000008 called ecall\n\
+did exit=5 call=1\n\
+end steps=3 state=halted\n";
+
+/// The turn of a hart that isn't there has no second line.
+const NO_HART_DID: &str = "turn 1 1 - - idle -\n\
+turn 2 0 1 0x80000000 ran addi x17, x0, 1\n\
+did x17=0x00000001\n\
+end steps=2 state=schedule\n";
+
+/// An alloc, a store into the block, a free, and a store that is denied then.
+const BLOCK_DID: &str = "turn 1 0 1 0x80000000 ran addi x10, x0, 2\n\
+did x10=0x00000002\n\
+turn 2 0 1 0x80000004 ran addi x17, x0, 6\n\
+did x17=0x00000006\n\
+turn 3 0 1 0x80000008 called ecall\n\
+did call=6 x10=0x80001000\n\
+turn 4 0 1 0x8000000c ran addi x5, x10, 0\n\
+did x5=0x80001000\n\
+turn 5 0 1 0x80000010 ran sw x17, 0(x5)\n\
+did store=0x80001000/4/0x00000006\n\
+turn 6 0 1 0x80000014 ran addi x17, x0, 7\n\
+did x17=0x00000007\n\
+turn 7 0 1 0x80000018 called ecall\n\
+did call=7 x10=0x00000000\n\
+turn 8 0 1 0x8000001c trapped sw x17, 0(x5)\n\
+did fault=7/0x80001000\n\
+end steps=8 state=halted\n";
+
+/// A crossing, and a return that restores what the callee changed.
+const RETURN_DID: &str = "turn 1 0 1 0x80000000 ran lui x5, 524289\n\
+did x5=0x80001000\n\
+turn 2 0 1 0x80000004 ran jalr x1, 0(x5)\n\
+did x1=0x80000008\n\
+turn 3 0 1 0x80001000 crossed -\n\
+did domain=2\n\
+turn 4 0 2 0x80001000 ran addi x2, x0, 7\n\
+did x2=0x00000007\n\
+turn 5 0 2 0x80001004 ran addi x8, x0, 9\n\
+did x8=0x00000009\n\
+turn 6 0 2 0x80001008 returned jalr x0, 0(x1)\n\
+did domain=1 x2=0x00000000 x8=0x00000000\n\
+turn 7 0 1 0x80000008 trapped ebreak\n\
+did fault=3/0x80000008\n\
+end steps=7 state=halted\n";
+
+/// A fault inside a call, and a call that a dead target sends back.
+const DEAD_DID: &str = "turn 4 0 2 0x80001000 trapped ebreak\n\
+did fault=3/0x80001000 domain=1 x10=0xffffff03\n\
+turn 5 0 1 0x80000008 ran jalr x1, 0(x5)\n\
+did x1=0x8000000c\n\
+turn 6 0 1 0x80001000 returned -\n\
+did x10=0xffffff14\n\
+turn 7 0 1 0x8000000c trapped ebreak\n\
+did fault=3/0x8000000c\n\
+end steps=7 state=halted\n";
+
+/// A call that is announced, waits and takes effect; neither a turn that waits nor one of a halted hart has a second line.
+const WAITING_DID: &str = "turn 6 0 1 0x80000014 called ecall\n\
+did asks=3\n\
+turn 7 0 1 0x80000014 waited ecall\n\
+turn 8 1 1 0x8000001c ran lui x10, 524289\n\
+did x10=0x80001000\n\
+turn 9 0 1 0x80000014 called ecall\n\
+did call=3 x10=0x00000000\n\
+turn 10 0 1 0x80000018 trapped ebreak\n\
+did fault=3/0x80000018\n\
+turn 11 0 1 0x80000018 idle -\n\
+end steps=11 state=schedule\n";
+
+#[test]
+fn lines_of_what_turns_did(rt: HostRuntime) -> Result<(), Fail> {
+    let alloc = rt.alloc();
+    let grant = TWO_HARTS_TRANSFER_UNDER_A_WAITING_GRANT;
+    let waiting = ["20", "--schedule", "turns", "--from", "6", "--effects"];
+    let cases: [(Example, &[&str], &str); 7] = [
+        (THREE_WORDS, &["4", "--effects"], THREE_DID),
+        (
+            THREE_WORDS,
+            &["4", "--effects", "--from", "3"],
+            THREE_DID_FROM_THREE,
+        ),
+        (
+            THREE_WORDS,
+            &["4", "--schedule", "order", "--effects"],
+            NO_HART_DID,
+        ),
+        (ALLOC_STORE_FREE, &["9", "--effects"], BLOCK_DID),
+        (
+            RETURN_TO_THE_SAVED_ADDRESS,
+            &["10", "--effects"],
+            RETURN_DID,
+        ),
+        (
+            CALL_INTO_A_DEAD_MODULE,
+            &["20", "--from", "4", "--effects"],
+            DEAD_DID,
+        ),
+        (grant, &waiting, WAITING_DID),
+    ];
+    for (example, words, report) in &cases {
+        show_trace(&rt, alloc, example, words, report)?;
+    }
     Ok(())
 }
 
