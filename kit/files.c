@@ -1,6 +1,7 @@
-/* Files in memory, for programs that open files: they begin with none, or with those of mondrix_file, and live as long
- * as the run. One folder, "/", holds them all. Their bytes come from malloc. Descriptors 0 to 2 are the console, which
- * gives no input. A module's own function of one of these names takes its place. */
+/* Files in memory, for programs that open files: they begin with the module's input, which is /dev/stdin and has the
+ * last part of its file's name too, and with those of mondrix_file, and live as long as the run. One folder, "/", holds
+ * all others. What is written comes from malloc. Descriptors 0 to 2 are stdin and the console. A module's own function
+ * of one of these names takes its place. */
 #include "files.h"
 
 #include <errno.h>
@@ -10,6 +11,7 @@
 #include <sys/stat.h>
 #include <unistd.h>
 
+#include "input.h"
 #include "mondrix.h"
 
 #define OURS __attribute__((weak))
@@ -30,6 +32,7 @@ static struct {
     int flags;
 } opened[OPEN]; /* descriptor CONSOLE + i */
 static struct mondrix_lock files_lock = MONDRIX_LOCK;
+static int has_begun;
 
 /* Ends a call: gives the lock back, and answers -1 with errno where there is an error. */
 static int ended(int answer, int error) {
@@ -44,7 +47,31 @@ static const char *in_folder(const char *name) {
     return name;
 }
 
+static int placed(const char *name, struct file **placed) {
+    if (strlen(name) >= NAME) return ENAMETOOLONG;
+    for (struct file *file = files; file != files + FILES; file++) {
+        if (file->there) continue;
+        memset(file, 0, sizeof *file);
+        strcpy(file->name, name);
+        file->there = 1;
+        *placed = file;
+        return 0;
+    }
+    return ENFILE;
+}
+
+/* The input under a name. Who writes to it writes to a copy. */
+static void begin_with(const char *name) {
+    struct file *file;
+    if (*name != 0 && placed(name, &file) == 0) file->bytes = mondrix_input(&file->size);
+}
+
 static struct file *named(const char *name) {
+    if (!has_begun) {
+        has_begun = 1;
+        begin_with("dev/stdin");
+        begin_with(mondrix_input_name);
+    }
     name = in_folder(name);
     for (struct file *file = files; *name != 0 && file != files + FILES; file++)
         if (file->there && strcmp(file->name, name) == 0) return file;
@@ -53,17 +80,7 @@ static struct file *named(const char *name) {
 
 static int made(const char *name, struct file **made) {
     name = in_folder(name);
-    if (*name == 0 || strchr(name, '/') != 0) return ENOENT;
-    if (strlen(name) >= NAME) return ENAMETOOLONG;
-    for (struct file *file = files; file != files + FILES; file++) {
-        if (file->there) continue;
-        memset(file, 0, sizeof *file);
-        strcpy(file->name, name);
-        file->there = 1;
-        *made = file;
-        return 0;
-    }
-    return ENFILE;
+    return *name == 0 || strchr(name, '/') != 0 ? ENOENT : placed(name, made);
 }
 
 /* What neither a name nor a descriptor leads to goes. */
@@ -131,7 +148,7 @@ OURS int close(int descriptor) {
 }
 
 OURS ssize_t read(int descriptor, void *bytes, size_t count) {
-    if (descriptor == 0) return 0;
+    if (descriptor == 0) return (ssize_t)mondrix_input_next(bytes, count);
     mondrix_lock(&files_lock);
     struct file *file = file_of(descriptor);
     if (file == 0 || (opened[descriptor - CONSOLE].flags & O_ACCMODE) == O_WRONLY) return ended(0, EBADF);

@@ -3,9 +3,10 @@
 
 #include <string.h>
 
-/* The bounds of the image, by module.ld. */
+/* The bounds of the image, by module.ld, and the input area, told to the linker out of the manifest. */
 extern const char __module_code[], __module_code_end[], __module_constants[], __module_constants_end[],
     __module_data[], __module_data_end[];
+extern const char __module_input[] __attribute__((weak)), __module_input_bytes[] __attribute__((weak));
 
 static int meets(uintptr_t first, uintptr_t last, const char *low, const char *high) {
     return low != high && first < (uintptr_t)high && last >= (uintptr_t)low;
@@ -18,7 +19,8 @@ static int foreign(const volatile void *at, size_t bytes) {
     if (last < first) return MONDRIX_BAD_RANGE;
     if (meets(first, last, __module_code, __module_code_end) ||
         meets(first, last, __module_constants, __module_constants_end) ||
-        meets(first, last, __module_data, __module_data_end))
+        meets(first, last, __module_data, __module_data_end) ||
+        meets(first, last, __module_input, __module_input + (uintptr_t)__module_input_bytes))
         return MONDRIX_NOT_FOREIGN;
     /* Of another module's right only a word's owner may ask. */
     unsigned other = mondrix_module() == 1 ? 2 : 1;

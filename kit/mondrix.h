@@ -181,12 +181,17 @@ extern void (*mondrix_flush_last)(void);
 /* Writes the rest of the hart's line and exits. Return from main does the same. */
 __attribute__((noreturn)) void mondrix_leave(int code);
 
+/* The module's own input: the bytes of the file that its manifest gives it, and their number. They are its own words,
+ * to read, and to write too where `input_perm` is "rw". Without an input there are no bytes, and the answer is 0. stdin
+ * has the same bytes. */
+void *mondrix_input(size_t *bytes);
+
 /* What a caller gives by an address. A service acts by its own rights, so a caller that names the service's words
  * would have them shown or changed: words are taken only where they are another's *and* this module may touch them.
  * Ask before any state changes and before a lock is taken: what another module may take back faults once it has.
  *
- * mondrix_is_foreign: whether they are words of RAM none of which is this module's: not in its image, also where it has
- *     `seal` or gave them away, and not owned by it. There has to be another module.
+ * mondrix_is_foreign: whether they are words of RAM none of which is this module's: not in its image or its input area,
+ *     also where it has `seal` or gave them away, and not owned by it. There has to be another module.
  * mondrix_may_read, mondrix_may_write: MONDRIX_OK where they are foreign and this module has that right on each word.
  *     Else MONDRIX_BAD_RANGE, MONDRIX_NOT_FOREIGN or MONDRIX_DENIED.
  * mondrix_copy_in, mondrix_copy_out: the same test, and then the copy, each byte once. No bytes are MONDRIX_OK.

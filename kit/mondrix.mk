@@ -1,7 +1,8 @@
 # Builds modules of the machine Mondrix. A Makefile sets these and then includes this file:
 #
 #   MANIFEST        NAME.in.toml, a description of the modules: make writes the manifest NAME.toml and build/modules.h,
-#                   and the next five and NAME.calls follow from it, so that nobody computes an address
+#                   and the next eight follow from it, so that nobody computes an address; where a module has an input
+#                   the Makefile may say, behind the line that includes this, how that file is made
 #
 # or, beside a manifest that is written by hand,
 #
@@ -10,6 +11,8 @@
 #   NAME.rodata     the address of its read-only data; without it, right after the code
 #   NAME.data       the address of its data; without it, right after the read-only data
 #   NAME.calls      the modules whose gates it calls; two may call one another
+#   NAME.input      the address of its input area, where it has one
+#   NAME.input_name the name by which files.c has its input, beside /dev/stdin
 #   NAME.symbols    further addresses, as gate=0x80010020
 #
 # and of each module, in both cases,
@@ -83,10 +86,11 @@ $(1):
 	@printf '%s\n' '$$(subst $$(quote),'\'',$$(strip $(2)))' >$$@
 endef
 
-# What a module doesn't use of these the linker drops. Of each module are the start, with its name, and the heap.
+# What a module doesn't use of these the linker drops. Of each module are the start, with its name, the heap and the
+# input.
 mondrix.objects := $(patsubst %,$(BUILD)/kit/%.o,begin enter guard foreign names leave console lock memory files clock)
 $(eval $(call mondrix.remember,$(BUILD)/kit/words,$$(mondrix.cc)))
-$(BUILD)/kit/%.o: $(MONDRIX_KIT)/%.c $(MONDRIX_KIT)/mondrix.h $(BUILD)/kit/words
+$(BUILD)/kit/%.o: $(MONDRIX_KIT)/%.c $(MONDRIX_KIT)/mondrix.h $(MONDRIX_KIT)/input.h $(BUILD)/kit/words
 	$(mondrix.at)$(mondrix.cc) $(mondrix.$*) -c -o $@ $<
 $(BUILD)/kit/enter.o: $(MONDRIX_KIT)/enter.S $(BUILD)/kit/words
 	$(mondrix.at)$(mondrix.cc) -c -o $@ $<
@@ -115,13 +119,14 @@ $(1).all := $$(or $$($(1).sources),$(1).c)
 $$(foreach other,$$(filter-out %.c %.S %.s,$$($(1).all)),$$(error $$(other) in $(1).sources is no file in C (.c) or \
     assembly (.S, .s)))
 $(1).objects := $$(foreach source,$$($(1).all),$$(call mondrix.object,$(1),$$(source)))
-$(1).own := $$(BUILD)/$(1)/start.o $$(BUILD)/$(1)/malloc.o
+$(1).own := $$(patsubst %,$$(BUILD)/$(1)/%.o,start malloc input)
 $(1).gates := $$(if $$(MANIFEST),,$$($(1).calls:%=$$(BUILD)/%.gates.ld))
 $(1).pins := $$(if $$($(1).rodata),--defsym=RODATA=$$($(1).rodata)) $$(if $$($(1).data),--defsym=DATA=$$($(1).data)) \
-    $$($(1).symbols:%=--defsym=%)
+    $$($(1).input:%=--defsym=__module_input=%) $$($(1).symbols:%=--defsym=%)
 $(1).place := $$(if $$(MANIFEST),$$(BUILD)/$(1).place)
 $$(eval $$(call mondrix.remember,$$(BUILD)/$(1)/words,$$$$(call mondrix.words,$(1))))
 $$(eval $$(call mondrix.remember,$$(BUILD)/$(1)/heap,$$$$(or $$$$($(1).malloc),$$$$(MALLOC))))
+$$(eval $$(call mondrix.remember,$$(BUILD)/$(1)/input_name,$$$$($(1).input_name)))
 $$(eval $$(call mondrix.remember,$$(BUILD)/$(1)/libs,$$$$($(1).ldflags) $$$$($(1).libs)))
 $$(foreach source,$$($(1).all),$$(eval $$(call mondrix.compile,$(1),$$(source),$$(call \
     mondrix.object,$(1),$$(source)))))
@@ -130,16 +135,19 @@ $$(BUILD)/$(1)/start.o: $$(MONDRIX_KIT)/start.S $$(BUILD)/kit/words
 	$$(mondrix.at)$$(mondrix.cc) '-DMONDRIX_NAME="$(1)"' -c -o $$@ $$<
 $$(BUILD)/$(1)/malloc.o: $$(MONDRIX_KIT)/malloc.c $$(MONDRIX_KIT)/mondrix.h $$(BUILD)/kit/words $$(BUILD)/$(1)/heap
 	$$(mondrix.at)$$(mondrix.cc) -DMONDRIX_MALLOC=$$(or $$($(1).malloc),$$(MALLOC)) -c -o $$@ $$<
-$(1).inputs := $$($(1).own) $$(mondrix.objects) $$($(1).objects)
-$(1).needs := $$($(1).inputs) $$(filter-out -%,$$($(1).libs)) $$(BUILD)/$(1)/libs $$(MONDRIX_KIT)/module.ld \
+$$(BUILD)/$(1)/input.o: $$(MONDRIX_KIT)/input.c $$(MONDRIX_KIT)/input.h $$(MONDRIX_KIT)/mondrix.h $$(BUILD)/kit/words \
+    $$(BUILD)/$(1)/input_name
+	$$(mondrix.at)$$(mondrix.cc) $$($(1).input_name:%='-DMONDRIX_INPUT_NAME="%"') -c -o $$@ $$<
+$(1).linked := $$($(1).own) $$(mondrix.objects) $$($(1).objects)
+$(1).needs := $$($(1).linked) $$(filter-out -%,$$($(1).libs)) $$(BUILD)/$(1)/libs $$(MONDRIX_KIT)/module.ld \
     $$(firstword $$(MAKEFILE_LIST))
 $$(BUILD)/$(1).trial: $$($(1).needs)
 	$$(mondrix.at)$$(call mondrix.ld,$(1),--defsym=TEXT=$$(or $$($(1).text),0x80000000) $$($(1).pins) \
-	    --unresolved-symbols=ignore-all $$($(1).ldflags),$$($(1).inputs))
+	    --unresolved-symbols=ignore-all $$($(1).ldflags),$$($(1).linked))
 $(1).elf: $$($(1).needs) $$($(1).gates) $$($(1).place)
 	$$(call mondrix.say,link $$@)
 	$$(mondrix.at)$$(call mondrix.ld,$(1),$$(if $$(MANIFEST),@$$($(1).place),--defsym=TEXT=$$(or $$($(1).text),$$(error \
-	    $(1).text isn't set))) $$($(1).pins) $$($(1).ldflags),$$($(1).inputs) $$($(1).gates)) $$(call mondrix.why,$(1))
+	    $(1).text isn't set))) $$($(1).pins) $$($(1).ldflags),$$($(1).linked) $$($(1).gates)) $$(call mondrix.why,$(1))
 endef
 $(foreach name,$(MODULES),$(eval $(call mondrix.module,$(name))))
 

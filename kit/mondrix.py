@@ -17,6 +17,7 @@ KEYS = {  # the listed keys of each table, with the ranges of versions 1 and 2
     "top": "version ram_kib tables upper leaf spill lookaside quantum module hart".split(),
     "module": "name image at perm words wx heap heap_words stack stack_words gates returns".split(),
     "later": "on_fault seal input input_at input_words input_perm".split(),  # of modules, in version 2
+    "input": "input input_at input_words input_perm".split(),
     "gate": ["entry", "from"],
     "hart": ["module", "entry"],
     "pins": ["text", "rodata", "data"],  # of modules, in a description alone
@@ -260,6 +261,26 @@ class Manifest:
                 self.images[name] = None
         return self.images[name]
 
+    def input_file(self, number):
+        """What is wrong with the file that domain `number` has as its input, or "", and how many bytes it has."""
+        name, said = self.modules[number - 1]["input"], self.said("module", number - 1)
+        if os.path.isfile(name):
+            return "", os.path.getsize(name)
+        what = "is no file" if os.path.exists(name) else "isn't there"
+        return f"{name}, the input of {said}, {what}", 0
+
+    def input_room(self, number):
+        """The bytes that an input may have, in words."""
+        room = max(self.input_area(number)[1] - 4, 0)
+        return f"the input area of {self.module_name(number)} has room for {room}", room
+
+    def input_area(self, number):
+        """The address of a module's input area and its bytes, or None."""
+        module = self.modules[number - 1]
+        if is_int(module.get("input_at")) and is_int(module.get("input_words")):
+            return module["input_at"], 4 * module["input_words"]
+        return None
+
     def ram_end(self):
         return RAM + 1024 * (self.tables["ram_kib"] if is_int(self.tables.get("ram_kib")) else 64)
 
@@ -299,7 +320,9 @@ class Manifest:
             elif kind == "module" and key in KEYS["pins"]:
                 text = f"`{key}` is a key of a description alone (NAME.in.toml, from which make makes the manifest)"
             else:
-                text = f"`{key}` is no key of {said}{meant(key, listed)} (the keys: {' '.join(listed)})"
+                later = KEYS["later"] if kind == "module" else []
+                near = meant(key, listed) or meant(key, later).replace("?", ", a key of version 2?")
+                text = f"`{key}` is no key of {said}{near} (the keys: {' '.join(listed)})"
             found.append(Fault(2, place, key_of, line, text))
         for key in listed:
             self.judge_key(found, kind, path, table, place, said, key, key_of)
@@ -329,14 +352,14 @@ class Manifest:
             return REQUIRED[kind]
         keys = ["name"]
         if self.described:
-            return keys
+            return keys + (["input"] if any(key in table for key in KEYS["input"]) else [])
         inline = [key for key in ("at", "perm", "words") if key in table]
         if "image" not in table:
             keys += ["at", "perm", "words"] if inline else ["image"]
         for pair in (("heap", "heap_words"), ("stack", "stack_words")):
             if any(key in table for key in pair):
                 keys += pair
-        if any(key.startswith("input") for key in table):
+        if any(key in table for key in KEYS["input"]):
             keys += ["input", "input_at", "input_words"]
         return keys
 
@@ -470,9 +493,9 @@ class Manifest:
         if stack:
             found.append((stack[0], stack[0] + stack[1] * len(self.harts),
                           f"the stack area of {name} ({stack[1] // 4} words for each hart)", "stack"))
-        if is_int(module.get("input_at")) and is_int(module.get("input_words")):
-            found.append((module["input_at"], module["input_at"] + 4 * module["input_words"],
-                          f"the input area of {name}", "input_at"))
+        area = self.input_area(number)
+        if area:
+            found.append((area[0], sum(area), f"the input area of {name}", "input_at"))
         return found
 
     def stack(self, number):

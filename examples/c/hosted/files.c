@@ -49,6 +49,7 @@ static void by_descriptors(void) {
     IS(write(file, "still", 5) == 5 && close(file) == 0 && close(same) == 0 && close(same) == -1 && errno == EBADF);
     IS(lseek(7, 0, SEEK_SET) == -1 && read(7, bytes, 1) == -1 && stat("/", &told) == 0 && S_ISDIR(told.st_mode));
     IS(getcwd(bytes, 16) == bytes && strcmp(bytes, "/") == 0 && !isatty(0) && read(0, bytes, 1) == 0);
+    IS((file = open("/dev/stdin", O_RDONLY)) > 2 && read(file, bytes, 16) == 0 && close(file) == 0);
     IS(mondrix_file("given", "some bytes", 10) == 0 && (file = open("given", O_RDWR)) > 2);
     IS(read(file, bytes, 4) == 4 && write(file, "!", 1) == 1 && lseek(file, 0, SEEK_SET) == 0);
     IS(read(file, bytes, 16) == 10 && memcmp(bytes, "some!bytes", 10) == 0 && close(file) == 0);
