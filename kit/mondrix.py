@@ -352,6 +352,7 @@ class Manifest:
             return REQUIRED[kind]
         keys = ["name"]
         if self.described:
+            keys += ["heap_words"] if "heap" in table else []
             return keys + (["input"] if any(key in table for key in KEYS["input"]) else [])
         inline = [key for key in ("at", "perm", "words") if key in table]
         if "image" not in table:

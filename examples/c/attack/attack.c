@@ -1,6 +1,7 @@
 /* Calls the gates of gates.def with all that a caller can name: words of the service and of others, its own words
  * granted and not granted, misaligned and wrapping ranges, and numbers out of any range. Then it looks for secrets in
- * all that it may read. ADDRESSES are gates that take an address and a length, in either order, NUMBERS all others. */
+ * all that it may read. ADDRESSES are gates that take an address and a length, in either order, PAIRS those that take
+ * two of both, NUMBERS all others. */
 #include <stdio.h>
 #include <string.h>
 
@@ -8,17 +9,20 @@
 #include "mondrix.h"
 
 #define ADDRESSES(name) int32_t name(uint32_t, uint32_t, uint32_t, uint32_t);
+#define PAIRS ADDRESSES
 #define NUMBERS ADDRESSES
 #include "gates.def"
 #undef ADDRESSES
+#undef PAIRS
 #undef NUMBERS
 
 static const struct {
     const char *name;
     int32_t (*enter)(uint32_t, uint32_t, uint32_t, uint32_t);
-    int takes_addresses;
+    int takes_addresses; /* how many */
 } gates[] = {
 #define ADDRESSES(name) {#name, name, 1},
+#define PAIRS(name) {#name, name, 2},
 #define NUMBERS(name) {#name, name, 0},
 #include "gates.def"
 };
@@ -39,6 +43,16 @@ static void count(unsigned gate, uint32_t address, uint32_t length, int32_t answ
 static void call(unsigned gate, uint32_t address, uint32_t length) {
     count(gate, address, length, gates[gate].enter(address, length, address, length));
     count(gate, address, length, gates[gate].enter(length, address, length, address));
+    if (gates[gate].takes_addresses < 2) return;
+    count(gate, address, length, gates[gate].enter((uint32_t)granted, 8, address, length));
+    count(gate, address, length, gates[gate].enter(address, length, (uint32_t)granted + 64, 128));
+}
+
+/* Whether they have a secret. */
+static int has_secret(const char *bytes, size_t count) {
+    for (size_t i = 0; i + 4 <= count; i++)
+        if (memcmp(bytes + i, "secr", 4) == 0) return 1;
+    return 0;
 }
 
 static void by_addresses(unsigned gate) {
@@ -81,7 +95,7 @@ int main(void) {
             by_numbers(gate);
         printf("attack: %s: %u calls, %u faults, %s taken\n", gates[gate].name, calls, faults, taken ? "some" : "none");
     }
-    unsigned words = 0, secrets = 0;
+    unsigned words = 0, secrets = (unsigned)has_secret(granted, sizeof granted);
     for (volatile uint32_t *word = (uint32_t *)0x80000000;; word++) {
         int right = mondrix_query(word, mondrix_module());
         if (right < 0) break;

@@ -1,18 +1,20 @@
-/* The disk: a block of the module's heap. It takes addresses, and so tests them. */
+/* The disk: an image that is the module's input, and which it may write. It takes addresses, and so tests them. */
 #include "disk.h"
 
 #include "mondrix.h"
 
-static void *block;
-static struct mondrix_lock lock = MONDRIX_LOCK;
+MONDRIX_GATE(disk_sectors);
+int32_t disk_sectors_entered(void) {
+    size_t bytes;
+    (void)mondrix_input(&bytes);
+    return bytes / SECTOR < SECTORS ? (int32_t)(bytes / SECTOR) : SECTORS;
+}
 
-/* The sector's bytes, or 0. The block is taken when the disk is first used. */
+/* The sector's bytes, or 0. */
 static uint8_t *place_of(uint32_t sector) {
-    if (sector >= SECTORS) return 0;
-    mondrix_lock(&lock);
-    if (block == 0 && mondrix_alloc(SECTORS * SECTOR / 4, &block) != MONDRIX_OK) block = 0;
-    mondrix_unlock(&lock);
-    return block == 0 ? 0 : (uint8_t *)block + sector * SECTOR;
+    size_t bytes;
+    uint8_t *disk = mondrix_input(&bytes);
+    return sector < (uint32_t)disk_sectors_entered() ? disk + sector * SECTOR : 0;
 }
 
 MONDRIX_GATE(disk_read);

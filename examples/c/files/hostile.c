@@ -13,7 +13,9 @@ enum { ODD = sizeof odd / sizeof odd[0] };
 
 int main(void) {
     int taken = 0, refused = 0, found = 0;
-    char *buffer = (char *)files_for_hostile(FILES_OPEN, 0, 0, 0);
+    int32_t place = files_for_hostile(FILES_OPEN, 0, 0, 0);
+    static char none[FILES_BUFFER];
+    char *buffer = place >= MONDRIX_NOT_FOREIGN && place < 0 ? none : (char *)place;
     for (unsigned i = 0; i < ODD; i++)
         for (unsigned j = 0; j < ODD; j += 5) {
             uint32_t wish = i % 2 ? FILES_WRITE : FILES_READ;
