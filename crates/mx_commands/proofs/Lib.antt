@@ -1,5 +1,5 @@
 mod Examples
-pub mod Booted
+pub mod BootedLaws
 pub mod Continued
 pub mod Documents
 pub mod Endings

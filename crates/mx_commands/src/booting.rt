@@ -23,7 +23,7 @@ use mx_words::Blob;
 use std::alloc::Global;
 
 /// A manifest's plan, and its machine at boot.
-pub(crate) struct Booted {
+pub struct Booted {
     /// What the manifest says.
     pub plan: Plan,
     /// The machine, which has made no turn.
@@ -31,7 +31,7 @@ pub(crate) struct Booted {
 }
 
 /// Boots a side's manifest of this name with its images, or ends the call: the line of the refusal is the whole report.
-pub(crate) fn take_boot<S: Store, R: Sink>(
+pub fn take_boot<S: Store, R: Sink>(
     alloc: Global,
     side: Side,
     name: &str,

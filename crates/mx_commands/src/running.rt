@@ -163,8 +163,8 @@ pub(crate) fn names(alloc: Global, kept: &Kept) -> Result<Vec<&str>, NoMemory>
     Ok(names)
 }
 
-// The bytes of the schedule that is asked, if one is; or the end of the call.
-fn take_schedule<S: Store, R: Sink>(
+/// The bytes of the schedule that is asked, if one is; or the end of the call.
+pub fn take_schedule<S: Store, R: Sink>(
     alloc: Global,
     schedule: Option<&str>,
     store: &mut S,

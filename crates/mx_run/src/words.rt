@@ -29,7 +29,7 @@ impl Model for Words {
 
 /// What the words ask.
 #[derive(Clone, Copy)]
-pub(crate) enum Asked<'a> {
+pub enum Asked<'a> {
     /// A run of some way.
     Go(Order<'a>),
     /// To assemble the source of this name, which has 1 to 255 bytes.
@@ -64,7 +64,7 @@ impl Words {
     }
 
     /// What the words ask, or nothing exactly where they have no meaning. Takes no memory.
-    pub(crate) fn asked(&self) -> Option<Asked<'_>>
+    pub fn asked(&self) -> Option<Asked<'_>>
         ensures meaning { option_map request_of result ≡ meaning self.now }
         ensures steps { IfSome result HasFewSteps }
     {

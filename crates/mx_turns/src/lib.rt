@@ -14,7 +14,7 @@ mod turns;
 pub use counting::{Tally, count_turns};
 pub use ending::end_of_any;
 pub use fault::SinkFault;
-pub use pace::Schedule;
+pub use pace::{Pace, Schedule, begin, later, next_hart};
 pub use running::make_run;
 pub use task::{Dump, Task};
 pub use tracing::{Lines, TraceTask, make_trace};

@@ -16,7 +16,7 @@ pub enum Schedule<'a> {
 
 /// A schedule at its place.
 #[derive(Clone, Copy)]
-pub(crate) enum Pace<'a> {
+pub enum Pace<'a> {
     /// The only hart makes all turns.
     Alone,
     /// The quantum, the number of the last hart, the hart whose turn is next, and how many turns of its quantum are left.
@@ -26,7 +26,7 @@ pub(crate) enum Pace<'a> {
 }
 
 /// A schedule of so many harts where so many turns were made.
-pub(crate) fn begin(schedule: Schedule<'_>, harts: u32, made: u64) -> Pace<'_>
+pub fn begin(schedule: Schedule<'_>, harts: u32, made: u64) -> Pace<'_>
     requires harts { 1 ≤ harts }
     requires quantum { HasTurns schedule }
     ensures { (c : Core) → c.turns ≡ made → length c.harts ≡ harts →
@@ -67,7 +67,7 @@ fn behind(bytes: &[u8], made: u64) -> &[u8]
 }
 
 /// The hart that makes the next turns, and how many of them, at most so many; or none where the schedule is at its end.
-pub(crate) fn next_hart(pace: &Pace<'_>, most: u64) -> Option<(u32, u64)>
+pub fn next_hart(pace: &Pace<'_>, most: u64) -> Option<(u32, u64)>
     requires some { 1 ≤ most }
     ensures named { (s : Turns) (c : Core) → IsPace s c pace.now → IsNamed s c most result }
     ensures leaves { IfSome result (λ next. Leaves pace.now next.1) }
@@ -83,7 +83,7 @@ pub(crate) fn next_hart(pace: &Pace<'_>, most: u64) -> Option<(u32, u64)>
 }
 
 /// The same schedule so many turns of the next hart later.
-pub(crate) fn later(pace: Pace<'_>, turns: u64) -> Pace<'_>
+pub fn later(pace: Pace<'_>, turns: u64) -> Pace<'_>
     requires some { 1 ≤ turns }
     requires leaves { Leaves pace turns }
     ensures { (s : Turns) (c : Core) → IsPace s c pace.entry → PacesOn s c turns result }

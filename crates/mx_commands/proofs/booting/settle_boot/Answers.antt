@@ -7,7 +7,7 @@ use Rattle.mx_boot.specs.declared.refused.BootRefused.{BootRefused}
 use Rattle.mx_boot.specs.declared.refused.BootRefused.TheVariants.{Fault, TablesFull}
 use Rattle.mx_commands.specs.Boots.{Rest, booted, refused_by}
 use Rattle.mx_commands.specs.Next.{refusal}
-use Rattle.mx_commands.proofs.Booted.{boots_new, boots_fresh}
+use Rattle.mx_commands.proofs.BootedLaws.{boots_new, boots_fresh}
 use Rattle.mx_commands.proofs.Scheduled.{boots_refused, boots_wanting}
 use Rattle.mx_commands.proofs.booting.settle_boot.Goals as goal
 
