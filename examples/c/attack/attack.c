@@ -45,7 +45,7 @@ static void call(unsigned gate, uint32_t address, uint32_t length) {
     count(gate, address, length, gates[gate].enter(length, address, length, address));
     if (gates[gate].takes_addresses < 2) return;
     count(gate, address, length, gates[gate].enter((uint32_t)granted, 8, address, length));
-    count(gate, address, length, gates[gate].enter(address, length, (uint32_t)granted + 64, 128));
+    count(gate, address, length, gates[gate].enter(address, length, (uint32_t)granted + 64, 32));
 }
 
 /* Whether they have a secret. */
@@ -69,6 +69,8 @@ static void by_addresses(unsigned gate) {
     for (unsigned i = 0; i < 4; i++) {
         call(gate, (uint32_t)granted + i, 56);
         call(gate, (uint32_t)hidden + i, 56);
+        call(gate, (uint32_t)granted + i, 16);
+        call(gate, (uint32_t)hidden + i, 16);
         call(gate, (uint32_t)granted + 256 + i, 60); /* its end isn't granted */
     }
 }

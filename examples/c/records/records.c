@@ -23,7 +23,6 @@ static struct record *find(const char *name, uint32_t bytes) {
 
 static int32_t set(const char *name, uint32_t name_bytes, const char *value, uint32_t value_bytes) {
     struct record *record = find(name, name_bytes);
-    if (name_bytes > RECORDS_NAME || value_bytes > RECORDS_VALUE) return MONDRIX_TOO_LONG;
     if (record == 0) {
         if (count == RECORDS_MOST) return RECORDS_FULL;
         record = &records[count++];
@@ -33,6 +32,10 @@ static int32_t set(const char *name, uint32_t name_bytes, const char *value, uin
     return MONDRIX_OK;
 }
 
+static int32_t fits(size_t bytes, size_t most) {
+    return bytes == 0 ? MONDRIX_BAD_RANGE : bytes > most ? MONDRIX_TOO_LONG : MONDRIX_OK;
+}
+
 /* Lines of a name, a blank and a value. What is none is passed over. */
 static void read_input(void) {
     size_t bytes;
@@ -40,15 +43,21 @@ static void read_input(void) {
     for (const char *line = at; line != end; line = at == end ? end : at + 1) {
         for (at = line; at != end && *at != '\n';) at++;
         const char *blank = memchr(line, ' ', (size_t)(at - line));
-        if (blank != 0) (void)set(line, (uint32_t)(blank - line), blank + 1, (uint32_t)(at - blank - 1));
+        uint32_t name_bytes = blank == 0 ? 0 : (uint32_t)(blank - line), rest = (uint32_t)(at - line) - name_bytes;
+        if (fits(name_bytes, RECORDS_NAME) == MONDRIX_OK && fits(rest - 1, RECORDS_VALUE) == MONDRIX_OK)
+            (void)set(line, name_bytes, blank + 1, rest - 1);
     }
     has_read = 1;
 }
 
-/* A name that a caller gives. */
+/* What a caller gives. */
+static int32_t taken(char *to, const char *from, uint32_t bytes, uint32_t most) {
+    int32_t answer = fits(bytes, most);
+    return answer == MONDRIX_OK ? mondrix_copy_in(to, from, bytes) : answer;
+}
+
 static int32_t named(char *to, const char *name, uint32_t bytes) {
-    if (bytes == 0 || bytes > RECORDS_NAME) return MONDRIX_TOO_LONG;
-    int32_t answer = mondrix_copy_in(to, name, bytes);
+    int32_t answer = taken(to, name, bytes, RECORDS_NAME);
     return answer == MONDRIX_OK && to[0] == '.' ? RECORDS_ABSENT : answer;
 }
 
@@ -74,8 +83,7 @@ int32_t records_put_entered(const char *name, uint32_t name_bytes, const char *v
     char own_name[RECORDS_NAME], own_value[RECORDS_VALUE];
     int32_t answer = named(own_name, name, name_bytes);
     if (answer != MONDRIX_OK) return answer;
-    if (value_bytes > RECORDS_VALUE) return MONDRIX_TOO_LONG;
-    answer = mondrix_copy_in(own_value, value, value_bytes);
+    answer = taken(own_value, value, value_bytes, RECORDS_VALUE);
     if (answer != MONDRIX_OK) return answer;
     mondrix_lock(&lock);
     if (!has_read) read_input();
