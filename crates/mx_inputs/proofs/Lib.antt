@@ -1,0 +1,9 @@
+pub mod SameRam
+pub mod Renamed
+pub mod Calm
+pub mod Sides
+pub mod Rights
+pub mod Unread
+pub mod Entitled
+pub mod Boots
+pub mod Examples
