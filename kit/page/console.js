@@ -9,6 +9,16 @@ function textOf(part) {
   return text.replace(/[\x00-\x08\x0b-\x1f\x7f-\x9f]/g, c => '\\x' + c.charCodeAt(0).toString(16).padStart(2, '0'));
 }
 
+// What a turn wrote.
+function writtenBy(step) {
+  let at = 0;
+  for (const [made, count] of D.writes) {
+    if (made === step) return textOf(bytes.subarray(at, at + count));
+    at += count;
+  }
+  return '';
+}
+
 // Pieces of one line, each with its turn: a line ends at its end, or where another hart or module writes.
 function consoleLines() {
   const lines = [];

@@ -195,7 +195,7 @@ function drawChosen() {
   paint.strokeStyle = styleOf('--chosen');
   paint.lineWidth = 2;
   paint.beginPath(); paint.moveTo(x, 2); paint.lineTo(x, scene.height - 20); paint.stroke();
-  const lane = lanes[shown.hart];
+  const lane = lanes[hartAt[shown.index]];
   if (!lane) return;
   paint.lineWidth = 2;
   const y = rowTop(lane, spot(shown.index).domain), wide = Math.max(each, 10);

@@ -88,7 +88,7 @@ function listenToKeys() {
   document.addEventListener('keydown', event => {
     const inField = /^(INPUT|TEXTAREA|SELECT)$/.test(event.target.tagName);
     if (inField || event.ctrlKey || event.metaKey || event.altKey || document.getElementById('help').open) return;
-    if (/^Arrow(Up|Down)$/.test(event.key) && event.target.closest('.lines, pre')) return;
+    if (/^Arrow(Up|Down)$/.test(event.key) && event.target.closest('.lines, .wide, pre')) return;
     const name = event.shiftKey && event.key === 'ArrowLeft' ? 'event-back'
       : event.shiftKey && event.key === 'ArrowRight' ? 'event-on' : KEYS[event.key];
     if (!name) return;

@@ -44,7 +44,9 @@ function callOf(index, effect, before) {
   if (effect.asks !== undefined)
     return `${asked}<span class="what">announced: it takes effect once every other hart has had a turn</span>`;
   const answer = effect.registers.find(([register]) => register === 10);
-  return `${asked}<span class="what">${answerTag(number, answer ? answer[1] : before[10])}</span>`;
+  const text = number === 2 ? writtenBy(FIRST + index) : '';
+  return `${asked}<span class="what">${answerTag(number, answer ? answer[1] : before[10])}</span>` +
+    (text ? `<code class="source">${escaped(text.replace(/\n$/, ''))}</code>` : '');
 }
 
 function registersTag(effect, before) {

@@ -1,0 +1,23 @@
+"""What the program tells, for comparisons with what a page shows."""
+import os, re, subprocess
+
+
+class Wrong(Exception):
+    """The page shows something else."""
+
+
+def report(manifest, steps, options=()):
+    done = subprocess.run([os.environ['MONDRIX'], 'run', manifest, str(steps), *options], stdin=subprocess.DEVNULL,
+                          stdout=subprocess.DEVNULL, stderr=subprocess.PIPE, encoding='utf-8', check=True)
+    return done.stderr.splitlines()
+
+
+def same(what, shown, told):
+    if shown != told:
+        raise Wrong(f'{what}:\n  the page:    {shown}\n  the program: {told}')
+
+
+def has(text, *wanted):
+    for each in wanted:
+        if not re.search(each, text, re.S):
+            raise Wrong(f'{each!r} is missing in: {text}')
