@@ -110,9 +110,9 @@ function drawPieces(lane) {
     if (rowHigh >= 14 && wide > 60) {
       const text = status === 'running' ? moduleName(domain) : status === 'halted' ? 'halted' : 'waits';
       paint.font = '11px ui-monospace, monospace';
-      if (paint.measureText(text).width < wide - 16) {
+      if (paint.measureText(text).width < wide - 20) {
         paint.fillStyle = styleOf(status === 'running' ? '--on-module' : '--ink');
-        paint.fillText(text, left + (status === 'running' ? 4 : 12), top + rowHigh / 2 + 4);
+        paint.fillText(text, left + 12, top + rowHigh / 2 + 4);
       }
     }
     before = domain;

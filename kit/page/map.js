@@ -26,7 +26,7 @@ function findSpans() {
 
 let mapWide = 0;
 function placeSpans(wide) {
-  const each = spans.map(([low, high, used]) => used ? 16 + 5 * Math.log2((high - low) / 4) : 14);
+  const each = spans.map(([low, high, used]) => used ? 12 + 4 * Math.log2((high - low) / 4) : 12);
   const sum = each.reduce((a, b) => a + b, 0);
   const scale = Math.min(Math.max((wide - 20) / Math.max(sum, 1), spans.length > 150 ? 0.3 : 0.5), 6);
   let left = 6;
@@ -53,7 +53,7 @@ const box = (low, high, row, kind, more, title) => {
   return `<rect x="${left.toFixed(1)}" y="${row * ROW + 2}" width="${Math.max(right - left, 2).toFixed(1)}" ` +
     `height="${ROW - 4}" class="${kind}" ${more}><title>${escaped(title)}</title></rect>`;
 };
-const letters = (low, high, row, text) => xOf(high) - xOf(low) > 7 * text.length + 4
+const letters = (low, high, row, text) => xOf(high) - xOf(low) > 6.8 * text.length + 2
   ? `<text x="${((xOf(low) + xOf(high)) / 2).toFixed(1)}" y="${row * ROW + ROW / 2 + 4}" class="in">${escaped(text)}</text>`
   : '';
 
@@ -142,7 +142,7 @@ function drawMap() {
     const x = xOf(shown.word + 2);
     chosen = `<path d="M${x.toFixed(1)} 0V${(D.modules.length + 1) * ROW}" class="chosen"/>`;
   }
-  scrollMap(flashes ? last.low : shown.word !== scrolledTo ? shown.word : null);
+  scrollMap(shown.word !== scrolledTo ? shown.word : flashes ? last.low : null);
   [flashed, scrolledTo] = [last ? last.number : -1, shown.word];
   picture.innerHTML = patterns() + drawGround() + drawPlaces() + drawRanges() + drawChanged(last, flashes) + chosen;
   document.getElementById('map-names').innerHTML = D.modules.map((module, number) =>

@@ -22,19 +22,21 @@ function deniedTag(index, fault) {
   const step = FIRST + index, word = fault.value - fault.value % 4, {domain} = spot(index);
   if (word < D.ram[0] || word >= D.ram[1])
     return `<p>${accessOf(index, fault)}. No module has a right outside RAM, ${hex(D.ram[0])} to ${hex(D.ram[1])}.` +
-      `${fault.value < 4096 || fault.value > 0xfffff000 ? ' An address near 0 is often a null pointer.' : ''}</p>`;
+      `${fault.value < 4096 || fault.value > 0xfffff000 ? ' An address near 0 is often a null pointer.' : ''}</p>` +
+      afterTag(index, did(index));
   const history = historyOf(word), mine = standing(history, domain, step, rights[domain - 1].at(word));
   const owner = standing(history, 0, step, owners.at(word));
   const others = rights.map((runs, number) => [number + 1, runs.at(word)])
     .filter(([other, right]) => right && other !== domain).map(([other, right]) => `${moduleTag(other)} ${rightTag(right)}`);
   const gates = fault.cause === 1 ? gatesAt(word, step).filter(([from, to]) => from !== to) : [];
-  return `<dl>${row('access', `${accessOf(index, fault)}<span class="what">${whatLies(fault.value)}</span>`)}` +
+  return `<div class="columns"><dl>${row('access', `${accessOf(index, fault)}<span class="what">${whatLies(fault.value)}</span>`)}` +
     row('needs', `${NEEDS[fault.cause]}`) +
     row('had', `${moduleTag(domain)} ${rightTag(mine.value)} ${since(mine.since)}`) +
     row('owner', `${moduleTag(owner.value)} ${since(owner.since)}`) +
     row('others', others.join(', ') || 'no other module has a right there') +
     row('gates', gates.length ? gates.map(([from, to]) => `for ${moduleTag(from)} into ${moduleTag(to)}`).join(', ')
-      : fault.cause === 1 ? 'none stands there for any module' : '') + '</dl>' + touchTag(word, step);
+      : fault.cause === 1 ? 'none stands there for any module' : '') + '</dl>' +
+    `<div>${touchTag(word, step)}${afterTag(index, did(index))}</div></div>`;
 }
 
 function otherFaultTag(index, fault) {
@@ -78,7 +80,7 @@ function showWhy() {
   document.getElementById('why').innerHTML = `<h2 id="why-title">${title}</h2>` + (fault
     ? `<p class="refused">Turn ${shown.step.toLocaleString('en')}, ${escaped(moduleName(spot(shown.index).domain))}: ` +
       `${CAUSES[fault.cause]}</p>` +
-      (denied ? deniedTag(shown.index, fault) : otherFaultTag(shown.index, fault)) + afterTag(shown.index, effect) +
+      (denied ? deniedTag(shown.index, fault) : otherFaultTag(shown.index, fault) + afterTag(shown.index, effect)) +
       (faults.length > 1 ? `<h3>All faults</h3>${faultsTag()}` : '')
     : faultsTag() + (shown.hart >= 0 && exits.length ? `<h3>Exits</h3><ol class="faults">${exits.slice(0, 20).map(index =>
       `<li>${turnLink(FIRST + index)} ${moduleTag(spot(index).domain)} hart ${hartAt[index]} with code ` +
