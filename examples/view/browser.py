@@ -115,8 +115,21 @@ class Browser:
         self.click_at(x, y)
 
     def click_at(self, x, y):
-        for kind in ('mousePressed', 'mouseReleased'):
-            self.ask('Input.dispatchMouseEvent', type=kind, x=x, y=y, button='left', clickCount=1)
+        self.drag(x, y, x)
+
+    def drag(self, x, y, to):
+        self.mouse('mousePressed', x, y)
+        if to != x:
+            for part in range(1, 6):
+                self.mouse('mouseMoved', x + (to - x) * part / 5, y)
+        self.mouse('mouseReleased', to, y)
+
+    def mouse(self, kind, x, y, **words):
+        self.ask('Input.dispatchMouseEvent', type=kind, x=x, y=y, button='left', buttons=int(kind != 'mouseReleased'),
+                 clickCount=1, **words)
+
+    def wheel(self, x, y, down):
+        self.ask('Input.dispatchMouseEvent', type='mouseWheel', x=x, y=y, deltaX=0, deltaY=down)
 
     def picture(self, file, whole=False, clip=None):
         words = {'clip': {**clip, 'scale': 1}} if clip else {}

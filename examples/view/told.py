@@ -12,6 +12,15 @@ def report(manifest, steps, options=()):
     return done.stderr.splitlines()
 
 
+def right(rows, domain, address):
+    """A domain's right on a word, and of domain 0 the word's owner, by a report."""
+    kind = f'map {domain} ' if domain else 'owner '
+    for *_, low, high, value in (row.split() for row in rows if row.startswith(kind)):
+        if int(low, 16) <= address < int(high, 16):
+            return value
+    return 'none' if domain else '0'
+
+
 def same(what, shown, told):
     if shown != told:
         raise Wrong(f'{what}:\n  the page:    {shown}\n  the program: {told}')

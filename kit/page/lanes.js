@@ -88,6 +88,14 @@ function shape(kind, x, y, size) {
   }
 }
 
+// No mark lies there, so that a name can be read.
+function isFree(lane, from, to) {
+  const first = countBelow(lane.marks, from - FIRST + 0.5), last = countUpTo(lane.marks, to - FIRST);
+  for (let at = first; at < last; at++)
+    if (markAt[lane.marks[at]] !== MARK.cross && markAt[lane.marks[at]] !== MARK.back) return false;
+  return true;
+}
+
 function drawPieces(lane) {
   const {rowHigh} = lane, first = countBelow(lane.pieces, scene.from, piece => piece[1]);
   let before = null;
@@ -110,7 +118,8 @@ function drawPieces(lane) {
     if (rowHigh >= 14 && wide > 60) {
       const text = status === 'running' ? moduleName(domain) : status === 'halted' ? 'halted' : 'waits';
       paint.font = '11px ui-monospace, monospace';
-      if (paint.measureText(text).width < wide - 20) {
+      const room = paint.measureText(text).width + 20;
+      if (room < wide && isFree(lane, stepAt(left), stepAt(left + room))) {
         paint.fillStyle = styleOf(status === 'running' ? '--on-module' : '--ink');
         paint.fillText(text, left + 12, top + rowHigh / 2 + 4);
       }

@@ -5,6 +5,17 @@ const shown = {step: FIRST, index: 0, hart: Math.max(hartAt[0], 0), word: null};
 function address() {
   return `#turn=${shown.step}${shown.word === null ? '' : `&word=${hex(shown.word)}`}`;
 }
+
+// Browsers refuse too many changes of the address in a while, as by a key that is held.
+let later = 0;
+function keepAddress(isNew) {
+  clearTimeout(later);
+  const keep = () => {
+    if (location.hash !== address()) window.history[isNew ? 'pushState' : 'replaceState'](null, '', address());
+  };
+  if (isNew) keep(); else later = setTimeout(keep, 200);
+}
+
 function show(isNew) {
   standAfter(shown.step);
   showTurn();
@@ -18,7 +29,7 @@ function show(isNew) {
   canvas.setAttribute('aria-valuetext', said);
   document.getElementById('said').textContent = said;
   document.body.dataset.turn = shown.step;
-  if (location.hash !== address()) window.history[isNew ? 'pushState' : 'replaceState'](null, '', address());
+  keepAddress(isNew);
 }
 
 function choose(step, isNew = true) {
@@ -36,6 +47,7 @@ function chooseWord(word) {
 }
 function fromAddress() {
   const step = /turn=([0-9]+)/.exec(location.hash), word = /word=(0x[0-9a-f]+)/.exec(location.hash);
+  shown.word = null;
   if (word) {
     const at = parseInt(word[1], 16);
     if (at >= D.ram[0] && at < D.ram[1]) shown.word = at - at % 4;

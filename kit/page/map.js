@@ -53,8 +53,8 @@ const box = (low, high, row, kind, more, title) => {
   return `<rect x="${left.toFixed(1)}" y="${row * ROW + 2}" width="${Math.max(right - left, 2).toFixed(1)}" ` +
     `height="${ROW - 4}" class="${kind}" ${more}><title>${escaped(title)}</title></rect>`;
 };
-const letters = (low, high, row, text) => xOf(high) - xOf(low) > 6.8 * text.length + 2
-  ? `<text x="${((xOf(low) + xOf(high)) / 2).toFixed(1)}" y="${row * ROW + ROW / 2 + 4}" class="in">${escaped(text)}</text>`
+const letters = (low, high, row, text, kind = '') => xOf(high) - xOf(low) > 6.8 * text.length + 2
+  ? `<text x="${((xOf(low) + xOf(high)) / 2).toFixed(1)}" y="${row * ROW + ROW / 2 + 4}" class="in ${kind}">${escaped(text)}</text>`
   : '';
 
 const ofRow = row => row < D.modules.length ? row + 1 : 0;
@@ -83,7 +83,7 @@ function drawRanges() {
     drawn += box(low, high, OWNER_ROW, `owned m${(owner - 1) % 8}`, `data-owner="${owner}" data-low="${low}" ` +
       `data-high="${high}"`, `${moduleName(owner)} owns ${hex(low)} to ${hex(high)}`);
     const name = `${owner} ${moduleName(owner)}`;
-    drawn += letters(low, high, OWNER_ROW, name) || letters(low, high, OWNER_ROW, String(owner));
+    drawn += letters(low, high, OWNER_ROW, name, 'own') || letters(low, high, OWNER_ROW, String(owner), 'own');
   }
   return drawn;
 }
@@ -131,6 +131,9 @@ function scrollMap(address) {
 let flashed = -1, scrolledTo = null;
 function drawMap() {
   const last = lastChange(shown.step), flashes = last && last.number !== flashed;
+  document.getElementById('map-names').innerHTML = D.modules.map((module, number) =>
+    `<div>${moduleTag(number + 1)}${isDead(number + 1, shown.step) ? ' <b class="refused">dead</b>' : ''}</div>`).join('') +
+    '<div class="owners">owners</div>';
   const wide = document.getElementById('map-scroll').clientWidth;
   placeSpans(wide);
   const high = (D.modules.length + 1) * ROW + 92;
@@ -145,9 +148,6 @@ function drawMap() {
   scrollMap(shown.word !== scrolledTo ? shown.word : flashes ? last.low : null);
   [flashed, scrolledTo] = [last ? last.number : -1, shown.word];
   picture.innerHTML = patterns() + drawGround() + drawPlaces() + drawRanges() + drawChanged(last, flashes) + chosen;
-  document.getElementById('map-names').innerHTML = D.modules.map((module, number) =>
-    `<div>${moduleTag(number + 1)}${isDead(number + 1, shown.step) ? ' <b class="refused">dead</b>' : ''}</div>`).join('') +
-    '<div class="owners">owners</div>';
   document.getElementById('changed').innerHTML = last
     ? `Last change, ${turnLink(last.step)}: ${changeTag(last)} &middot; ${siteTag(last.step)}`
     : D.changes.some(row => row[7].length || row[8].length)

@@ -18,7 +18,9 @@ function storesTo(word) {
 }
 
 function historyTag(history) {
-  const SHOWN = 200, rows = history.slice(0, SHOWN).map(({step, number, domain, had, now}) => {
+  const MOST = 200, done = countUpTo(history, shown.step, each => each.step);
+  const first = Math.max(Math.min(done - MOST / 2, history.length - MOST), 0), behind = history.length - first - MOST;
+  const rows = history.slice(first, first + MOST).map(({step, number, domain, had, now}) => {
     const what = domain === 0 ? `owner ${moduleTag(had)} &rarr; ${moduleTag(now)}`
       : `${moduleTag(domain)} ${rightTag(had)} &rarr; ${rightTag(now)}`;
     const by = change(number);
@@ -26,9 +28,9 @@ function historyTag(history) {
       `<td>${CALLS[by.call]} by ${moduleTag(by.domain)}</td><td>${siteTag(step)}</td></tr>`;
   });
   if (!rows.length) return '<p class="empty">No turn of this page changes a right on this word, or its owner.</p>';
-  return `<div class="wide" tabindex="0" role="region" aria-labelledby="word-title"><table class="history"><thead><tr><th>turn</th><th>changed</th><th>by</th><th>line</th></tr>` +
+  return (first ? `<p>${plural(first, 'change')} before these</p>` : '') + `<div class="wide" tabindex="0" role="region" aria-labelledby="word-title"><table class="history"><thead><tr><th>turn</th><th>changed</th><th>by</th><th>line</th></tr>` +
     `</thead><tbody>${rows.join('')}</tbody></table></div>` +
-    (history.length > SHOWN ? `<p>and ${plural(history.length - SHOWN, 'change')} more</p>` : '');
+    (behind > 0 ? `<p>and ${plural(behind, 'change')} behind them</p>` : '');
 }
 
 function showWord() {
@@ -39,9 +41,11 @@ function showWord() {
     return;
   }
   const history = historyOf(word), owner = standing(history, 0, shown.step, owners.at(word));
-  const rows = rights.map((runs, number) => {
+  const others = [], rows = rights.map((runs, number) => {
     const {value, since: step} = standing(history, number + 1, shown.step, runs.at(word));
-    return `<tr><th scope="row">${moduleTag(number + 1)}</th><td>${rightTag(value)}</td><td>${since(step)}</td></tr>`;
+    if (!value && !step) others.push(moduleTag(number + 1));
+    return value || step ? `<tr><th scope="row">${moduleTag(number + 1)}</th><td>${rightTag(value)}</td>` +
+      `<td>${since(step)}</td></tr>` : '';
   });
   const gates = gatesAt(word, shown.step).map(([domain, target]) => domain === target
     ? `a return gate of ${moduleTag(target)}` : `${moduleTag(domain)} enters ${moduleTag(target)} here`);
@@ -52,6 +56,7 @@ function showWord() {
     `<button data-word="${Math.max(word - 4, D.ram[0])}">&lsaquo; word</button>` +
     `<button data-word="${Math.min(word + 4, D.ram[1] - 4)}">word &rsaquo;</button></p>` +
     `<table class="may"><caption>at turn ${shown.step.toLocaleString('en')}</caption>${rows.join('')}</table>` +
+    (others.length ? `<p>${rightTag(0)} ${since(0)}: ${others.join(' ')}</p>` : '') +
     (gates.length ? `<p>Gates: ${gates.join('; ')}</p>` : '') +
     (stored.length ? `<p>Last stored to at ${turnLink(FIRST + stored[0])}, by ${moduleTag(spot(stored[0]).domain)}.</p>` : '') +
     `<h3>When that changed</h3>${historyTag(history)}`;
