@@ -2,10 +2,12 @@
  *
  *   inputs image NUMBER OUT             an image of 16 MiB that is nearly all symbols, for the module of this number
  *                                       from 0
+ *   inputs bare IMAGE                   takes the segments out of such an image
  *   inputs manifest KIND GATES OUT      63 modules with these images, 64 MiB of RAM, four harts, the greatest
  *                                       limits of the tables of this kind; 252 gates into all modules (spread), or
  *                                       256 into one (gathered); or spread, with an input area of 512 KiB each in
- *                                       place of heap and stack (reading), or one as large as RAM (over)
+ *                                       place of heap and stack (reading), one of 1 MiB each for bare images (full),
+ *                                       or one as large as RAM (over)
  *   inputs input BYTES OUT              an input of so many bytes
  *   inputs schedule OUT                 a schedule of 16 MiB, of four harts in turn
  *   inputs source FORM OUT              a source of 1 MiB: usual, labels, references or zeros
@@ -82,6 +84,16 @@ static void image(unsigned module) {
     fill(IMAGE);
 }
 
+/* Makes the program headers ones of no segment. */
+static int bare(const char *name) {
+    if (!(out = fopen(name, "r+b"))) return 1;
+    for (long i = 0; i < 16; i++) {
+        fseek(out, 52 + 32 * i, SEEK_SET);
+        put((uint32_t[]){0}, 1);
+    }
+    return fclose(out) != 0;
+}
+
 static void gates(int are_gathered, unsigned module) {
     char text[LETTERS + 1];
     if (are_gathered && module > 0) return;
@@ -97,9 +109,11 @@ static void gates(int are_gathered, unsigned module) {
 
 /* The areas of a module beside its segments. */
 static void areas(const char *form, uint32_t at) {
-    if (strcmp(form, "reading") == 0 || strcmp(form, "over") == 0) {
+    int is_full = strcmp(form, "full") == 0, is_over = strcmp(form, "over") == 0;
+    if (is_full || is_over || strcmp(form, "reading") == 0) {
         fputs("input = \"input.bin\"\n", out);
-        fprintf(out, "input_at = %u\ninput_words = %u\n", at + 0x80000, form[0] == 'r' ? 131072 : WORDS);
+        fprintf(out, "input_at = %u\n", is_full ? at : at + 0x80000);
+        fprintf(out, "input_words = %d\n", is_full ? 262144 : is_over ? WORDS : 131072);
         return;
     }
     fprintf(out, "heap = %u\nheap_words = 16384\n", at + 0x80000);
@@ -219,6 +233,7 @@ static int timed(char **words) {
 
 int main(int many, char **words) {
     if (many >= 3 && strcmp(words[1], "time") == 0) return timed(words + 2);
+    if (many == 3 && strcmp(words[1], "bare") == 0) return bare(words[2]);
     if (many < 3 || !(out = fopen(words[many - 1], "wb"))) return 1;
     if (strcmp(words[1], "image") == 0) image((unsigned)atoi(words[2]));
     if (strcmp(words[1], "manifest") == 0) manifest(words[2], words[3]);
