@@ -1,4 +1,4 @@
-"""Follows a run by its trace: rights, owners, gates, blocks, registers and the calls that stand, after each turn. What a
+"""Follows a run by its trace: rights, owners, gates, blocks, registers and the calls that stand after each turn. What a
 supervisor's call did follows from its number, its arguments in the registers, and its answer (docs/MACHINE.md)."""
 import bisect, struct
 

@@ -16,7 +16,7 @@ class Browser:
     def __init__(self, wide=1400, high=900):
         self.folder = tempfile.mkdtemp(prefix='mondrix-view-')
         (low_read, self.out), (self.heard, low_write) = os.pipe(), os.pipe()
-        read, write = (fcntl.fcntl(low, fcntl.F_DUPFD, 10) for low in (low_read, low_write))  # (3 and 4 are what it takes)
+        read, write = (fcntl.fcntl(low, fcntl.F_DUPFD, 10) for low in (low_read, low_write))  # (not 3 and 4)
         words = [there(), '--headless=new', '--no-sandbox', '--disable-gpu', '--hide-scrollbars', '--no-first-run',
                  '--disable-extensions', '--disable-background-networking', f'--user-data-dir={self.folder}',
                  f'--window-size={wide},{high}', '--remote-debugging-pipe', 'about:blank']

@@ -6,10 +6,17 @@ class Wrong(Exception):
     """The page shows something else."""
 
 
-def report(manifest, steps, options=()):
-    done = subprocess.run([os.environ['MONDRIX'], 'run', manifest, str(steps), *options], stdin=subprocess.DEVNULL,
-                          stdout=subprocess.DEVNULL, stderr=subprocess.PIPE, encoding='utf-8', check=True)
-    return done.stderr.splitlines()
+def run(manifest, steps, options=()):
+    return subprocess.run([os.environ['MONDRIX'], 'run', manifest, str(steps), *options], stdin=subprocess.DEVNULL,
+                          stdout=subprocess.PIPE, stderr=subprocess.PIPE, encoding='utf-8', check=True)
+
+
+def report(*words):
+    return run(*words).stderr.splitlines()
+
+
+def console(*words):
+    return run(*words).stdout
 
 
 def right(rows, domain, address):

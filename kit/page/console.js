@@ -5,7 +5,7 @@ const printable = new TextDecoder('utf-8', {fatal: true});
 
 function textOf(part) {
   let text;
-  try { text = printable.decode(part); } catch (error) { text = [...part].map(byte => String.fromCharCode(byte)).join(''); }
+  try { text = printable.decode(part); } catch (error) { text = String.fromCharCode(...part); }
   return text.replace(/[\x00-\x08\x0b-\x1f\x7f-\x9f]/g, c => '\\x' + c.charCodeAt(0).toString(16).padStart(2, '0'));
 }
 
@@ -44,13 +44,17 @@ const written = consoleLines();
 function showConsole() {
   const panel = document.getElementById('output'), MOST = 2000;
   if (!written.length) {
-    panel.innerHTML = '<h2 id="output-title">Console</h2><p class="empty">No turn of this page writes to the console.</p>';
+    panel.innerHTML = '<h2 id="output-title">Console</h2>' +
+      '<p class="empty">No turn of this page writes to the console.</p>';
     return;
   }
-  const rows = written.slice(0, MOST).map(line => `<div class="line">${moduleTag(line.domain)}<span>${line.pieces.map(piece =>
-    `<a href="#turn=${piece.step}" data-turn="${piece.step}" data-last="${piece.last}" title="turn ${piece.step}">` +
-    `${escaped(piece.text.replace(/\n$/, '')) || '&para;'}</a>`).join('')}</span>` +
-    `<a class="turn" href="#turn=${line.pieces[0].step}" data-turn="${line.pieces[0].step}">${line.pieces[0].step}</a></div>`);
+  const rows = written.slice(0, MOST).map(line => {
+    const {step} = line.pieces[0], pieces = line.pieces.map(piece =>
+      `<a href="#turn=${piece.step}" data-turn="${piece.step}" data-last="${piece.last}" title="turn ${piece.step}">` +
+      `${escaped(piece.text.replace(/\n$/, '')) || '&para;'}</a>`);
+    return `<div class="line">${moduleTag(line.domain)}<span class="text">${pieces.join('')}</span>` +
+      `<a class="turn" href="#turn=${step}" data-turn="${step}">${step}</a></div>`;
+  });
   panel.innerHTML = `<h2 id="output-title">Console</h2><div class="lines" tabindex="0" role="region" ` +
     `aria-label="Console">${rows.join('')}</div>` +
     (written.length > MOST ? `<p>and ${plural(written.length - MOST, 'line')} more</p>` : '');
@@ -59,7 +63,7 @@ function showConsole() {
 // What was written before the turn is dark, what comes later is pale.
 function markConsole() {
   let last = null;
-  for (const piece of document.querySelectorAll('#output .lines span > a')) {
+  for (const piece of document.querySelectorAll('#output .text > a')) {
     const step = Number(piece.dataset.turn);
     piece.classList.toggle('later', step > shown.step);
     piece.classList.toggle('now', step <= shown.step && shown.step <= Number(piece.dataset.last));

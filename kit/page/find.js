@@ -1,12 +1,6 @@
 // Finds a turn, a word, a function or an instruction.
 
-function matches(index, wanted) {
-  const {text, line} = spot(index);
-  return withNames(text).includes(wanted) || text.includes(wanted) ||
-    rowsOf(line).some(([name, file, at]) => name.startsWith(wanted) || `${shortFile(file)}:${at}` === wanted);
-}
-
-// Each spot is looked at once; from the turn that is chosen on, and then from the first.
+// The next turn at such a place, from the one that is chosen on and then from the first, or -1.
 function find(wanted) {
   const good = D.spots.map(([, , , text, line]) => withNames(text).includes(wanted) || text.includes(wanted) ||
     rowsOf(line).some(([name, file, at]) => name.startsWith(wanted) || `${shortFile(file)}:${at}` === wanted));

@@ -152,7 +152,8 @@ function drawMarks(lane) {
     const index = lane.marks[at], kind = markAt[index];
     if (FIRST + index >= scene.to) break;
     if (kind === MARK.cross || kind === MARK.back) continue;
-    const x = place(FIRST + index) + each / 2, y = rowTop(lane, spot(index).domain) + lane.rowHigh / 2, near = last.get(y);
+    const x = place(FIRST + index) + each / 2, y = rowTop(lane, spot(index).domain) + lane.rowHigh / 2;
+    const near = last.get(y);
     if (x < scene.gutter) continue;
     if (near && x - near.x < 9) {
       if (near.kind < kind) Object.assign(near, {x, kind});
@@ -242,7 +243,8 @@ function keepInView(step) {
 
 // The turn under the pointer: of the lane's hart, a mark before others.
 function turnUnder(x, y) {
-  const lane = lanes.find(each => y < each.top + 18 + each.rowHigh * each.visited.length + 10) || lanes[lanes.length - 1];
+  const lane = lanes.find(each => y < rowTop(each, each.visited[0]) + each.rowHigh * each.visited.length + 10) ||
+    lanes[lanes.length - 1];
   const step = stepAt(x), near = 6 * (scene.to - scene.from) / Math.max(scene.width - scene.gutter, 1);
   const close = lane.marks.slice(countBelow(lane.marks, step - near - FIRST - 0.5), countUpTo(lane.marks,
     step + near - FIRST - 0.5));
@@ -310,6 +312,8 @@ function drawLegend() {
   };
   document.getElementById('legend').innerHTML = LEGEND.map(([text, kind]) => {
     const count = events.reduce((sum, index) => sum + (markAt[index] === kind), 0);
-    return count ? `<span><svg viewBox="0 0 12 12" aria-hidden="true">${drawn[kind]}</svg> ${text} (${count})</span>` : '';
-  }).join('') + '<span class="hint">A step up or down is a crossing or a return. Click a turn, drag to move, wheel to zoom.</span>';
+    const icon = `<svg viewBox="0 0 12 12" aria-hidden="true">${drawn[kind]}</svg>`;
+    return count ? `<span>${icon} ${text} (${count})</span>` : '';
+  }).join('') + '<span class="hint">A step up or down is a crossing or a return. Click a turn, drag to move, ' +
+    'wheel to zoom.</span>';
 }

@@ -92,7 +92,8 @@ const HELP = [
   ['Shift &larr; &rarr;', 'the event before, the next event: a crossing, a return, a call, a fault, an exit'],
   ['&uarr; &darr;', 'the hart above, below'], ['Home End', 'the first, the last turn'], ['f', 'the next fault'],
   ['r R', 'the next, the last change of rights or gates'], ['+ - 0', 'fewer turns, more turns, all'],
-  ['/', 'find a turn by its number, a word by its address (0x80001000), a function, a line (files.c:42), an instruction'],
+  ['/', 'find a turn by its number, a word by its address (0x80001000), a function, a line (files.c:42), ' +
+    'an instruction'],
   ['?', 'these keys'],
 ];
 
@@ -120,8 +121,8 @@ function listenToKeys() {
 function aboutTag() {
   const states = {halted: 'all harts are halted', steps: 'so many were asked', schedule: 'the schedule ended'};
   const link = (list, name) => list.length
-    ? ` &middot; <a href="#turn=${FIRST + list[0]}" data-turn="${FIRST + list[0]}">${plural(list.length, name)}</a>` : '';
-  return `turns ${FIRST.toLocaleString('en')} to ${LAST.toLocaleString('en')}: ${states[D.end.state]}` +
+    ? ` &middot; ${turnLink(FIRST + list[0], plural(list.length, name))}` : '';
+  return `turns ${FIRST.toLocaleString('en')} to ${LAST.toLocaleString('en')}: ${states[D.state]}` +
     `${link(faults, 'fault')}${link(exits, 'exit')} &middot; ${plural(D.modules.length, 'module')} &middot; ` +
     plural(HARTS, 'hart');
 }

@@ -54,7 +54,8 @@ const box = (low, high, row, kind, more, title) => {
     `height="${ROW - 4}" class="${kind}" ${more}><title>${escaped(title)}</title></rect>`;
 };
 const letters = (low, high, row, text, kind = '') => xOf(high) - xOf(low) > 6.8 * text.length + 2
-  ? `<text x="${((xOf(low) + xOf(high)) / 2).toFixed(1)}" y="${row * ROW + ROW / 2 + 4}" class="in ${kind}">${escaped(text)}</text>`
+  ? `<text x="${((xOf(low) + xOf(high)) / 2).toFixed(1)}" y="${row * ROW + ROW / 2 + 4}" class="in ${kind}">` +
+    `${escaped(text)}</text>`
   : '';
 
 const ofRow = row => row < D.modules.length ? row + 1 : 0;
@@ -63,9 +64,10 @@ const OWNER_ROW = D.modules.length;
 
 function patterns() {
   return '<defs>' +
-    '<pattern id="p-r" width="6" height="6" patternUnits="userSpaceOnUse"><path d="M0 6 6 0" class="hatch"/></pattern>' +
-    '<pattern id="p-rw" width="6" height="6" patternUnits="userSpaceOnUse"><path d="M0 6 6 0M0 0 6 6" class="hatch"/>' +
-    '</pattern><pattern id="p-rx" width="5" height="5" patternUnits="userSpaceOnUse">' +
+    '<pattern id="p-r" width="6" height="6" patternUnits="userSpaceOnUse"><path d="M0 6 6 0" class="hatch"/>' +
+    '</pattern><pattern id="p-rw" width="6" height="6" patternUnits="userSpaceOnUse">' +
+    '<path d="M0 6 6 0M0 0 6 6" class="hatch"/></pattern>' +
+    '<pattern id="p-rx" width="5" height="5" patternUnits="userSpaceOnUse">' +
     '<circle cx="2.5" cy="2.5" r="1" class="dot"/></pattern></defs>';
 }
 
@@ -122,18 +124,18 @@ function drawChanged(last, flashes) {
 
 // What has just changed, or was just chosen, comes into view.
 function scrollMap(address) {
-  const part = document.getElementById('map-scroll');
-  if (address === null || (xOf(address) > part.scrollLeft + 20 && xOf(address) < part.scrollLeft + part.clientWidth - 60))
-    return;
-  part.scrollLeft = xOf(address) - part.clientWidth / 2;
+  if (address === null) return;
+  const part = document.getElementById('map-scroll'), x = xOf(address), left = part.scrollLeft;
+  if (x < left + 20 || x > left + part.clientWidth - 60) part.scrollLeft = x - part.clientWidth / 2;
 }
 
 let flashed = -1, scrolledTo = null;
 function drawMap() {
   const last = lastChange(shown.step), flashes = last && last.number !== flashed;
   document.getElementById('map-names').innerHTML = D.modules.map((module, number) =>
-    `<div>${moduleTag(number + 1)}${isDead(number + 1, shown.step) ? ' <b class="refused">dead</b>' : ''}</div>`).join('') +
-    '<div class="owners">owners</div>';
+    `<div title="${escaped(module.image || 'words of the manifest')}${module.kills ? ', on_fault = kill' : ''}">` +
+    `${moduleTag(number + 1)}${isDead(number + 1, shown.step) ? ' <b class="refused">dead</b>' : ''}</div>`)
+    .join('') + '<div class="owners">owners</div>';
   const wide = document.getElementById('map-scroll').clientWidth;
   placeSpans(wide);
   const high = (D.modules.length + 1) * ROW + 92;

@@ -33,7 +33,7 @@ function accessTag(effect) {
   const access = effect.load || effect.store;
   if (!access) return '';
   const what = effect.load ? 'loaded' : `stored <code>${hex(access.value)}</code> in`;
-  return `${what} ${plural(access.bytes, 'byte')} at ${wordLink(access.at, hex(access.at))}` +
+  return `${what} ${plural(access.bytes, 'byte')} at ${wordLink(access.at)}` +
     `<span class="what">${whatLies(access.at)}</span>`;
 }
 
@@ -60,8 +60,8 @@ function placeRows(line, pc) {
   const rows = rowsOf(line);
   if (!rows.length) return `<code>${hex(pc)}</code>`;
   const own = rows.find(isOwn) || rows[0], text = lineText(own);
-  return rows.map((each, number) => (number ? '<br>in ' : '') + (each === own ? `<b>${rowTag(each)}</b>` : rowTag(each)))
-    .join('') + (text ? `<code class="source">${escaped(text)}</code>` : '');
+  return rows.map(each => each === own ? `<b>${rowTag(each)}</b>` : rowTag(each)).join('<br>in ') +
+    (text ? `<code class="source">${escaped(text)}</code>` : '');
 }
 
 function callsTag(hart, step) {
@@ -82,7 +82,8 @@ function callsTag(hart, step) {
 
 function showTurn() {
   const index = shown.index, hart = hartAt[index], at = spot(index), effect = did(index);
-  const before = hart < 0 ? null : registersBefore(hart, index);
+  const before = hart < 0 ? [] : registersBefore(hart, index), all = [...before].map((value, number) =>
+    `<span><b>${REGISTERS[number]}</b> <code>${hex(value).slice(2)}</code></span>`);
   document.getElementById('turn').innerHTML =
     `<h2 id="turn-title">Turn ${shown.step.toLocaleString('en')}${hart < 0 ? '' : `, hart ${hart}`}</h2>` +
     (hart < 0 ? '' : `<p class="where">${moduleTag(at.domain)}</p>`) + headTag(index, effect) +
@@ -92,7 +93,5 @@ function showTurn() {
       row('exit', effect.exit !== undefined ? `with code ${effect.exit | 0}` : '') +
       row('registers', effect.registers.length ? `<table>${registersTag(effect, before)}</table>` : '') + '</dl>' +
       `<h3>Called by</h3>${callsTag(hart, shown.step)}` +
-      `<details><summary>All registers before it</summary><div class="registers">${[...before].map((value, number) =>
-        `<span><b>${REGISTERS[number]}</b> <code>${(value >>> 0).toString(16).padStart(8, '0')}</code></span>`).join('')}` +
-      '</div></details>');
+      `<details><summary>All registers before it</summary><div class="registers">${all.join('')}</div></details>`);
 }

@@ -11,9 +11,10 @@ function accessOf(index, fault) {
 
 function touchTag(word, step) {
   const last = lastTouch(word, step);
-  if (!last) return `<p>No call before it${FIRST > 1 ? ' on this page' : ''} touched the word: the right is that of the ` +
-    `${FIRST > 1 ? 'first turn of the page' : 'boot'}. Its owner may grant one.</p>`;
-  return `<p>The last call that touched the word, ${turnLink(last.step)}: ${changeTag(last)}<br>${siteTag(last.step)}</p>` +
+  if (!last) return `<p>No call before it${FIRST > 1 ? ' on this page' : ''} touched the word: the right is that of ` +
+    `the ${FIRST > 1 ? 'first turn of the page' : 'boot'}. Its owner may grant one.</p>`;
+  return `<p>The last call that touched the word, ${turnLink(last.step)}: ${changeTag(last)}<br>` +
+    `${siteTag(last.step)}</p>` +
     (last.step < shown.step ? `<p class="buttons"><a class="button" href="#turn=${last.step}" ` +
       `data-turn="${last.step}">Go to that call</a></p>` : '');
 }
@@ -27,10 +28,12 @@ function deniedTag(index, fault) {
   const history = historyOf(word), mine = standing(history, domain, step, rights[domain - 1].at(word));
   const owner = standing(history, 0, step, owners.at(word));
   const others = rights.map((runs, number) => [number + 1, runs.at(word)])
-    .filter(([other, right]) => right && other !== domain).map(([other, right]) => `${moduleTag(other)} ${rightTag(right)}`);
+    .filter(([other, right]) => right && other !== domain)
+    .map(([other, right]) => `${moduleTag(other)} ${rightTag(right)}`);
   const gates = fault.cause === 1 ? gatesAt(word, step).filter(([from, to]) => from !== to) : [];
-  return `<div class="columns"><dl>${row('access', `${accessOf(index, fault)}<span class="what">${whatLies(fault.value)}</span>`)}` +
-    row('needs', `${NEEDS[fault.cause]}`) +
+  return '<div class="columns"><dl>' +
+    row('access', `${accessOf(index, fault)}<span class="what">${whatLies(fault.value)}</span>`) +
+    row('needs', NEEDS[fault.cause]) +
     row('had', `${moduleTag(domain)} ${rightTag(mine.value)} ${since(mine.since)}`) +
     row('owner', `${moduleTag(owner.value)} ${since(owner.since)}`) +
     row('others', others.join(', ') || 'no other module has a right there') +
@@ -50,7 +53,8 @@ function otherFaultTag(index, fault) {
     case 4: case 6: return `<p>The address ${wordLink(fault.value)} is no multiple of the access's size.</p>`;
     case 20: {
       const death = D.deaths.find(([, domain]) => domain === spot(index).domain);
-      return `<p>${moduleTag(spot(index).domain)} is dead${death ? ` since its fault at ${turnLink(death[0])}` : ''}.</p>`;
+      return `<p>${moduleTag(spot(index).domain)} is dead` +
+        `${death ? ` since its fault at ${turnLink(death[0])}` : ''}.</p>`;
     }
     default: return `<p>The value is <code>${hex(fault.value)}</code>.</p>`;
   }
@@ -82,7 +86,7 @@ function showWhy() {
       `${CAUSES[fault.cause]}</p>` +
       (denied ? deniedTag(shown.index, fault) : otherFaultTag(shown.index, fault) + afterTag(shown.index, effect)) +
       (faults.length > 1 ? `<h3>All faults</h3>${faultsTag()}` : '')
-    : faultsTag() + (shown.hart >= 0 && exits.length ? `<h3>Exits</h3><ol class="faults">${exits.slice(0, 20).map(index =>
+    : faultsTag() + (exits.length ? `<h3>Exits</h3><ol class="faults">${exits.map(index =>
       `<li>${turnLink(FIRST + index)} ${moduleTag(spot(index).domain)} hart ${hartAt[index]} with code ` +
       `${did(index).exit | 0}</li>`).join('')}</ol>` : ''));
 }

@@ -28,16 +28,18 @@ function historyTag(history) {
       `<td>${CALLS[by.call]} by ${moduleTag(by.domain)}</td><td>${siteTag(step)}</td></tr>`;
   });
   if (!rows.length) return '<p class="empty">No turn of this page changes a right on this word, or its owner.</p>';
-  return (first ? `<p>${plural(first, 'change')} before these</p>` : '') + `<div class="wide" tabindex="0" role="region" aria-labelledby="word-title"><table class="history"><thead><tr><th>turn</th><th>changed</th><th>by</th><th>line</th></tr>` +
-    `</thead><tbody>${rows.join('')}</tbody></table></div>` +
+  return (first ? `<p>${plural(first, 'change')} before these</p>` : '') +
+    '<div class="wide" tabindex="0" role="region" aria-labelledby="word-title"><table class="history"><thead><tr>' +
+    '<th>turn</th><th>changed</th><th>by</th><th>line</th></tr></thead>' +
+    `<tbody>${rows.join('')}</tbody></table></div>` +
     (behind > 0 ? `<p>and ${plural(behind, 'change')} behind them</p>` : '');
 }
 
 function showWord() {
   const panel = document.getElementById('word'), word = shown.word;
   if (word === null) {
-    panel.innerHTML = '<h2 id="word-title">A word</h2><p class="empty">Click the picture of rights, or any address, to ' +
-      'see who may do what with a word, who owns it, and when that changed.</p>';
+    panel.innerHTML = '<h2 id="word-title">A word</h2><p class="empty">Click the picture of rights, or any address, ' +
+      'to see who may do what with a word, who owns it, and when that changed.</p>';
     return;
   }
   const history = historyOf(word), owner = standing(history, 0, shown.step, owners.at(word));
@@ -58,7 +60,8 @@ function showWord() {
     `<table class="may"><caption>at turn ${shown.step.toLocaleString('en')}</caption>${rows.join('')}</table>` +
     (others.length ? `<p>${rightTag(0)} ${since(0)}: ${others.join(' ')}</p>` : '') +
     (gates.length ? `<p>Gates: ${gates.join('; ')}</p>` : '') +
-    (stored.length ? `<p>Last stored to at ${turnLink(FIRST + stored[0])}, by ${moduleTag(spot(stored[0]).domain)}.</p>` : '') +
+    (stored.length ? `<p>Last stored to at ${turnLink(FIRST + stored[0])}, by ` +
+      `${moduleTag(spot(stored[0]).domain)}.</p>` : '') +
     `<h3>When that changed</h3>${historyTag(history)}`;
   const later = panel.querySelector('.history .later'), wide = panel.querySelector('.wide');
   if (wide) wide.scrollTop = later ? later.offsetTop - wide.clientHeight * 0.7 : wide.scrollHeight;

@@ -16,7 +16,8 @@ const CAUSES = {
   20: 'the module is dead',
 };
 
-const escaped = text => String(text).replace(/[&<>"]/g, c => ({'&': '&amp;', '<': '&lt;', '>': '&gt;', '"': '&quot;'}[c]));
+const ESCAPES = {'&': '&amp;', '<': '&lt;', '>': '&gt;', '"': '&quot;'};
+const escaped = text => String(text).replace(/[&<>"]/g, c => ESCAPES[c]);
 const hex = value => '0x' + (value >>> 0).toString(16).padStart(8, '0');
 const plural = (count, word) => `${count.toLocaleString('en')} ${word}${count === 1 ? '' : 's'}`;
 const moduleName = domain => D.modules[domain - 1] ? D.modules[domain - 1].name : `domain ${domain}`;
@@ -28,8 +29,8 @@ const rightTag = right => `<span class="right ${RIGHTS[right]}">${RIGHTS[right]}
 
 const turnLink = (step, text) => step < FIRST || step > LAST ? `turn ${step}`
   : `<a href="#turn=${step}" data-turn="${step}">${text || `turn ${step}`}</a>`;
-const wordLink = (address, text) => address < D.ram[0] || address >= D.ram[1] ? `<code>${hex(address)}</code>`
-  : `<a href="#word=${hex(address & ~3)}" data-word="${address - address % 4}"><code>${text || hex(address)}</code></a>`;
+const wordLink = address => address < D.ram[0] || address >= D.ram[1] ? `<code>${hex(address)}</code>`
+  : `<a href="#word=${hex(address & ~3)}" data-word="${address - address % 4}"><code>${hex(address)}</code></a>`;
 const since = step => step ? `since ${turnLink(step)}` : FIRST > 1 ? `since before turn ${FIRST}` : 'since the boot';
 
 // The name at an address, as `text + 8`, or nothing; and the area that holds it.
@@ -60,7 +61,8 @@ function lineText([, file, line]) {
 const isNewer = file => D.files[file] && D.files[file][0];
 function rowTag(row) {
   const [name, file, line] = row;
-  return `<code>${escaped(name)}</code>` + (file ? ` <span class="at">${escaped(shortFile(file))}:${line}</span>` : '') +
+  return `<code>${escaped(name)}</code>` +
+    (file ? ` <span class="at">${escaped(shortFile(file))}:${line}</span>` : '') +
     (isNewer(file) ? ' <span class="at">(the source is newer)</span>' : '');
 }
 const shortFile = file => file.startsWith('/') ? file.split('/').pop() : file;
