@@ -91,7 +91,7 @@ fn put_parts<const N: usize>(
     line.put_text("\n");
     put_shown(line, before);
     line.put_text(" ");
-    line.put_text(kind_name(kind));
+    put_kind(line, kind);
     line.put_text(" ");
     put_place(line, before);
     line.put_text(" ");
@@ -99,6 +99,23 @@ fn put_parts<const N: usize>(
     line.put_text(" ");
     line.put_long(step);
     line.put_text("turn ");
+}
+
+/// The name of what a turn was. Each is a text of its own, so that its length is known where it is copied.
+fn put_kind<const N: usize>(line: &mut Line<N>, kind: TurnKind)
+    requires { 8 + length line.old ≤ N }
+    ensures text { line.new ≡ kind_name kind ++ line.old }
+    ensures few { length line.new ≤ 8 + length line.old }
+{
+    match kind {
+        TurnKind::Idle => line.put_text("idle"),
+        TurnKind::Waited => line.put_text("waited"),
+        TurnKind::Ran => line.put_text("ran"),
+        TurnKind::Crossed => line.put_text("crossed"),
+        TurnKind::Returned => line.put_text("returned"),
+        TurnKind::Trapped => line.put_text("trapped"),
+        TurnKind::Called => line.put_text("called"),
+    }
 }
 
 /// The domain and pc of a hart before its turn.
