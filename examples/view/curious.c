@@ -6,7 +6,7 @@
 
 int main(void) {
     volatile char *mine = (char *)files_for_hostile(FILES_OPEN, 0, 0, 0);
-    for (uint32_t size = 0; size < 32; size += 4) {
+    for (uint32_t size = 0; size < 8; size += 4) {
         memcpy((char *)mine, "note", 4);
         mondrix_must(files_for_hostile(FILES_WRITE, 0, size, 4));
     }

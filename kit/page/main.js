@@ -119,7 +119,7 @@ function listenToKeys() {
 }
 
 function aboutTag() {
-  const states = {halted: 'all harts are halted', steps: 'so many were asked', schedule: 'the schedule ended'};
+  const states = {halted: 'all harts are halted', steps: 'as many as asked', schedule: 'the schedule ended'};
   const link = (list, name) => list.length
     ? ` &middot; ${turnLink(FIRST + list[0], plural(list.length, name))}` : '';
   return `turns ${FIRST.toLocaleString('en')} to ${LAST.toLocaleString('en')}: ${states[D.state]}` +
