@@ -31,7 +31,13 @@ const lanes = D.harts.map((hart, number) => {
   return {number, pieces, visited, marks, top: 0, rowHigh: 0};
 });
 
-const styleOf = name => getComputedStyle(document.documentElement).getPropertyValue(name).trim();
+// The colours of the style sheet, read once for each drawing.
+const colours = new Map();
+function styleOf(name) {
+  if (!colours.has(name))
+    colours.set(name, getComputedStyle(document.documentElement).getPropertyValue(name).trim());
+  return colours.get(name);
+}
 const place = step => scene.gutter + (step - scene.from) * (scene.width - scene.gutter - 8) / (scene.to - scene.from);
 const stepAt = x => scene.from + (x - scene.gutter) * (scene.to - scene.from) / (scene.width - scene.gutter - 8);
 const rowTop = (lane, domain) => lane.top + 18 + lane.visited.indexOf(domain) * lane.rowHigh;
@@ -213,6 +219,7 @@ function drawChosen() {
 }
 
 function drawLanes() {
+  colours.clear();
   paint.clearRect(0, 0, scene.width, scene.height);
   drawAxis();
   for (const lane of lanes) {

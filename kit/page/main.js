@@ -141,7 +141,7 @@ function begin() {
   listenToFind();
   listenToKeys();
   showConsole();
-  const redraw = () => { layOut(); drawLanes(); drawMap(); };
+  const redraw = () => { layOut(); drawLanes(); drawMap(true); };
   new ResizeObserver(redraw).observe(document.getElementById('lanes-panel'));
   matchMedia('(prefers-color-scheme: dark)').addEventListener('change', redraw);
   matchMedia('print').addEventListener('change', redraw);

@@ -129,8 +129,12 @@ function scrollMap(address) {
   if (x < left + 20 || x > left + part.clientWidth - 60) part.scrollLeft = x - part.clientWidth / 2;
 }
 
-let flashed = -1, scrolledTo = null;
-function drawMap() {
+// Drawn anew where something of it is another than before, or the window.
+let flashed = -1, scrolledTo = null, drawnAs = '';
+function drawMap(isResized) {
+  const as = [applied, shown.word, ...D.modules.map((module, number) => isDead(number + 1, shown.step))].join();
+  if (as === drawnAs && !isResized) return;
+  drawnAs = as;
   const last = lastChange(shown.step), flashes = last && last.number !== flashed;
   document.getElementById('map-names').innerHTML = D.modules.map((module, number) =>
     `<div title="${escaped(module.image || 'words of the manifest')}${module.kills ? ', on_fault = kill' : ''}">` +
