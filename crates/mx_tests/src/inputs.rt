@@ -46,14 +46,6 @@ static TABLES: [(&str, &str); 4] = [
     ),
 ];
 
-/// The bytes of a file, and those of its area.
-static FILES: [(&[u8], [u8; 12]); 4] = [
-    (b"", [0; 12]),
-    (b"\x07", [1, 0, 0, 0, 7, 0, 0, 0, 0, 0, 0, 0]),
-    (b"hello", *b"\x05\0\0\0hello\0\0\0"),
-    (b"ABCDEFGH", *b"\x08\0\0\0ABCDEFGH"),
-];
-
 fn files_of(alloc: Global, text: &str, bytes: &[u8]) -> Result<Files, Fail> {
     let mut files = Files::new(alloc);
     files.add("first.toml", text.as_bytes())?;
@@ -71,25 +63,6 @@ fn an_input_is_its_modules(rt: HostRuntime) -> Result<(), Fail> {
         let status = run_first(rt.alloc(), &["9"], &mut files, &mut sinks)?;
         assert_eq!(rt; status.number(), 0, "{more}");
         assert_eq!(rt; sinks.report.as_slice(), want.as_bytes(), "{more}");
-    }
-    Ok(())
-}
-
-#[test]
-fn an_input_lies_behind_its_size(rt: HostRuntime) -> Result<(), Fail> {
-    let text = format!(in rt.alloc(); "{READER}{HART}")?;
-    for (bytes, area) in &FILES {
-        let mut files = files_of(rt.alloc(), text.as_str(), bytes)?;
-        let mut sinks = Sinks::new(rt.alloc())?;
-        let status = run_first(rt.alloc(), &["0", "--dump"], &mut files, &mut sinks)?;
-        assert_eq!(rt; status.number(), 0);
-        let ram = sinks.dump.as_slice();
-        assert_eq!(rt; ram.len(), 65536);
-        let place = ram.get(4096..4108);
-        assert_eq!(rt; place, Some(area.as_slice()));
-        let rest = ram.iter().skip(20).filter(|byte| **byte != 0).count();
-        let own = area.iter().filter(|byte| **byte != 0).count();
-        assert_eq!(rt; rest, own);
     }
     Ok(())
 }
