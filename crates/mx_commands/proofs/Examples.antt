@@ -5,7 +5,7 @@ use Rattle.mx_io.specs.Answer.{Sized, Gave}
 use Rattle.mx_io.specs.Piece.{shown_name}
 use Rattle.std.specs.Str.{chars}
 use Rattle.mx_commands.specs.declared.status.Status.TheVariants.{TablesFull}
-use Rattle.mx_commands.specs.Order.{plain_order}
+use Rattle.mx_commands.specs.Order.{nothing, plain_order}
 use Rattle.mx_commands.specs.declared.order.Way.TheVariants as way
 use Rattle.mx_commands.specs.Finding.{Finding, Short, Whole, Finds}
 use Rattle.mx_commands.specs.Next.{Read, End, refusal}
@@ -40,7 +40,7 @@ next_schedule_of_a_snapshot stored = refl
 
 -- nine turns are added to those made, which a schedule's bytes count too
 texts_of_a_snapshot : (kept : KeptPlan) (s : State) (bytes : List ℕ)
-    → texts_of (record (plain_order way.Resume (codes "memory.bin") 9) { dump = Some Ram }) way.Resume kept s (ByBytes bytes)
+    → texts_of (record (plain_order way.Resume (codes "memory.bin") 9) { shown = record nothing { dump = Some Ram } }) way.Resume kept s (ByBytes bytes)
     ≡ ended kept (record { tables = false; counts = false }) (Some Ram) (s.core.turns + 9) 9 (λ made. run (ByBytes bytes) made s)
 texts_of_a_snapshot kept s bytes = refl
 

@@ -4,11 +4,11 @@ use Rattle.mx_io.specs.Sink.{SinkState}
 use Rattle.mx_io.specs.Answer.{Answer}
 use Rattle.mx_model.specs.Run.{ByBytes}
 use Rattle.mx_turns.specs.Ends.{sinks}
-use Rattle.mx_commands.specs.declared.booting.Booted.{Booted}
+use Rattle.mx_commands.specs.declared.booting.Loaded.{Loaded}
 use Rattle.mx_commands.specs.declared.status.Status.{Status}
 use Rattle.mx_commands.specs.declared.status.Status.TheVariants.{WantOfMemory}
-use Rattle.mx_commands.specs.Boots.{Rest}
-use Rattle.mx_commands.specs.Booting.{TakesBoot, TakesSchedule}
+use Rattle.mx_commands.specs.Boots.{Load}
+use Rattle.mx_commands.specs.Booting.{TakesLoaded, TakesSchedule}
 use Rattle.mx_commands.specs.Commands.{schedule_file}
 use Rattle.mx_commands.specs.Finding.{Finding}
 use Rattle.mx_commands.specs.Next.{Outcome, Next, End}
@@ -18,17 +18,19 @@ use Rattle.mx_commands.proofs.Continued.{continues_end, continues_wanting}
 
 module _ {S : Type 0} (gives : S → Answer → S → Type 0) where
   -- a step that came to a later one, whose boot was taken
-  pub boots_on : (step later : Rest → List Finding → Next) (s m t : S) (r u v : SinkState) → u ≡ r → ((rest : Rest) → Comes (step rest) gives s m (later rest)) → (result : Result Booted Status)
-      → TakesBoot gives later m t u v result → TakesBoot gives step s t r v result
-  boots_on step later s m t r u v same comes (Ok b) takes =
+  pub boots_on : (step later : Load → List Finding → Next) (s m t : S) (r u v : SinkState) → u ≡ r → ((rest : Load) → Comes (step rest) gives s m (later rest)) → (result : Result Loaded Status)
+      → TakesLoaded gives later m t u v result → TakesLoaded gives step s t r v result
+  boots_on step later s m t r u v same comes (Ok l) takes =
       let goes = takes.1 in (
         rw same at takes.0,
         record {
           state = goes.state;
+          boots = goes.boots;
+          fits = goes.fits;
           new = goes.new;
           means = goes.means;
           size = goes.size;
-          plan = goes.plan;
+          kept = goes.kept;
           comes = λ rest end before now status c. comes rest end before now status (goes.comes rest end before now status c);
         },
       )
@@ -36,11 +38,11 @@ module _ {S : Type 0} (gives : S → Answer → S → Type 0) where
       λ rest console dump. comes rest t (sinks console r dump) (sinks console v dump) status (rw same at (takes rest console dump))
 
   -- a boot that is refused by its line
-  pub boots_refused : (step : Rest → List Finding → Next) (outcome : Outcome) (s : S) (r u : SinkState) (status : Status) → ((rest : Rest) → step rest [] ≡ End outcome)
-      → ((console dump : SinkState) → Ends outcome (sinks console r dump) (sinks console u dump) status) → TakesBoot gives step s s r u (Err status)
+  pub boots_refused : (step : Load → List Finding → Next) (outcome : Outcome) (s : S) (r u : SinkState) (status : Status) → ((rest : Load) → step rest [] ≡ End outcome)
+      → ((console dump : SinkState) → Ends outcome (sinks console r dump) (sinks console u dump) status) → TakesLoaded gives step s s r u (Err status)
   boots_refused step outcome s r u status is ends rest console dump = continues_end gives (step rest) outcome (is rest) s (inl (ends console dump))
 
-  pub boots_wanting : (step : Rest → List Finding → Next) (s : S) (r : SinkState) → TakesBoot gives step s s r r (Err WantOfMemory)
+  pub boots_wanting : (step : Load → List Finding → Next) (s : S) (r : SinkState) → TakesLoaded gives step s s r r (Err WantOfMemory)
   boots_wanting step s r rest console dump = continues_wanting gives (step rest) s refl (record { console = refl; report = refl; dump = refl })
 
   -- no schedule file is asked

@@ -13,11 +13,7 @@ order_of o = record {
   file = o.file.now;
   steps = o.steps;
   schedule = option_copied o.schedule;
-  from = o.from;
-  effects = o.effects;
-  dump = o.dump;
-  tables = o.tables;
-  counts = o.counts;
+  shown = o.shown;
 }
 
 -- the pair of a comparison

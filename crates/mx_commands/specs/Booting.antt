@@ -4,6 +4,8 @@ use Rattle.std.specs.declared.alloc.Global.{Global}
 use Rattle.mx_io.specs.Sink.{SinkState}
 use Rattle.mx_io.specs.Answer.{Answer}
 use Rattle.mx_any.specs.Machines.{meaning}
+use Rattle.mx_boot.specs.Boot.{boot_of}
+use Rattle.mx_boot.specs.Inputs.{AreInputs}
 use Rattle.mx_manifest.specs.declared.parts.ModulePlan.{ModulePlan}
 use Rattle.mx_manifest.specs.Plan.{Said}
 use Rattle.mx_model.specs.Run.{Schedule}
@@ -12,11 +14,12 @@ use Rattle.mx_snapshot.specs.Kept.{IsOfPlan, kept_of}
 use Rattle.mx_turns.specs.Ends.{sinks}
 use Rattle.mx_turns.specs.Running.{IsNew}
 use Rattle.mx_commands.specs.declared.booting.Booted.{Booted}
+use Rattle.mx_commands.specs.declared.booting.Loaded.{Loaded}
 use Rattle.mx_commands.specs.declared.status.Status.{Status}
 use Rattle.mx_commands.specs.Finding.{Finding}
 use Rattle.mx_commands.specs.Next.{Outcome, Wanted, Next, End}
 use Rattle.mx_commands.specs.Commands.{scheduled, schedule_by}
-use Rattle.mx_commands.specs.Boots.{Rest, after_files}
+use Rattle.mx_commands.specs.Boots.{Load, Rest, after_files}
 use Rattle.mx_commands.specs.Ends.{Continues, Comes}
 
 -- what follows from the files of modules
@@ -82,6 +85,28 @@ TakesBoot gives step store stored before now (Ok b) =
     (now ≡ before) × GoesOnWith gives step store stored b
 TakesBoot gives step store stored before now (Err status) =
     (rest : Rest) (console dump : SinkState) → Continues (step rest) gives store stored
+    (sinks console before dump) (sinks console now dump) status
+
+-- a boot gave plan, images, inputs and machine: the plan boots with the two to a state without texts that made no turn, which the
+-- machine is, and a step goes on with all of these
+pub record GoesOnLoaded {S : Type 0} (gives : S → Answer → S → Type 0)
+    (step : Load → List Finding → Next) (store stored : S) (l : Loaded) : Type 0 where
+  pub state : State
+  pub boots : boot_of l.plan l.images.items l.inputs.items ≡ Ok state
+  pub fits : AreInputs l.plan l.inputs.items
+  pub new : IsNew state
+  pub means : meaning l.machine ≡ flat state
+  pub size : IsOfSize l.plan (flat state)
+  pub kept : IsOfPlan (kept_of l.plan) (flat state)
+  pub comes : (rest : Load) → Comes (step rest) gives store stored (rest l.images.items l.inputs.items l.plan state)
+
+-- a boot was taken with the files of its modules: the report is as it was, and the step goes on; or the call ended
+abbrev pub TakesLoaded : {S : Type 0} → (S → Answer → S → Type 0) → (Load → List Finding → Next) →
+    S → S → SinkState → SinkState → Result Loaded Status → Type 0
+TakesLoaded gives step store stored before now (Ok l) =
+    (now ≡ before) × GoesOnLoaded gives step store stored l
+TakesLoaded gives step store stored before now (Err status) =
+    (rest : Load) (console dump : SinkState) → Continues (step rest) gives store stored
     (sinks console before dump) (sinks console now dump) status
 
 -- the schedule that is asked was taken: the report is as it was, and the step ends with it; or the call ended

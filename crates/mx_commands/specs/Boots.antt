@@ -1,5 +1,6 @@
 -- A boot as a step of a command: the manifest, the images and the inputs of one side are read, and the rest follows from plan and
 -- state, or the call ends with the side's one refusal.
+-- The rules: docs/COMMANDS.md, "The manifest".
 use Rattle.std.specs.Prelude.{◌≡◌, ℕ, ◌+◌, ◌-◌, ◌*◌, min, List, [], ◌∷◌, ◌++◌, length, sum_by, Option, Some, None, Result, Ok, Err}
 use Rattle.mx_model.specs.State.{State}
 use Rattle.mx_manifest.specs.declared.fault.BootFault.{BootFault}
@@ -142,14 +143,26 @@ abbrev pub booted : Side → List ℕ → Rest → Said → Result State Refusal
 booted side name rest plan (Ok s) found = rest plan s found
 booted side name rest plan (Err why) found = End (refusal name (refused_by side why))
 
--- a plan boots with its images and its inputs; otherwise there is one refusal
-abbrev pub planned : Side → List ℕ → Rest → Result Said BootFault → List Finding → Next
-planned side name rest (Ok plan) found = after_images side 1 plan.modules []
+-- what follows from images, inputs, a plan and its state at boot
+abbrev pub Load : Type 0
+Load = List (List ℕ) → List (List ℕ) → Rest
+
+-- a plan boots with its images and its inputs, and the rest follows from all of these; otherwise there is one refusal
+abbrev pub loaded : Side → List ℕ → Load → Result Said BootFault → List Finding → Next
+loaded side name rest (Ok plan) found = after_images side 1 plan.modules []
     (λ images. after_inputs side (4 * ram_words plan) 1 plan.modules []
-    (λ inputs. booted side name rest plan (boot_of plan images inputs))) found
-planned side name rest (Err fault) found = End (refusal name (refused_by side (Faulty fault)))
+    (λ inputs. booted side name (rest images inputs) plan (boot_of plan images inputs))) found
+loaded side name rest (Err fault) found = End (refusal name (refused_by side (Faulty fault)))
+
+-- the same where the rest follows from plan and state
+abbrev pub planned : Side → List ℕ → Rest → Result Said BootFault → List Finding → Next
+planned side name rest = loaded side name (λ images inputs. rest)
+
+-- the manifest of this name boots, and the rest follows from images, inputs, plan and state
+abbrev pub after_load : Side → List ℕ → Load → List Finding → Next
+after_load side name rest =
+    after_file (manifest_file side name) (λ bytes. loaded side name rest (judged bytes))
 
 -- the manifest of this name boots, and the rest follows from plan and state
 abbrev pub after_boot : Side → List ℕ → Rest → List Finding → Next
-after_boot side name rest =
-    after_file (manifest_file side name) (λ bytes. planned side name rest (judged bytes))
+after_boot side name rest = after_load side name (λ images inputs. rest)

@@ -1,4 +1,5 @@
 -- What each command does, by what was found of the files that it read.
+-- The rules: docs/COMMANDS.md, "What is judged first".
 use Rattle.std.specs.Prelude.{ℕ, if◌then◌else◌, List, [], Option, Some, None, unwrap_or}
 use Rattle.std.specs.Str.{is_utf8}
 use Rattle.mx_model.specs.Run.{Schedule, ByQuantum, ByBytes}
@@ -53,16 +54,16 @@ scheduled quantum made (Some name) found =
 
 -- what the report of a run shows beside the lines that each run has
 abbrev pub options_of : Order → Options
-options_of o = record { tables = o.tables; counts = o.counts }
+options_of o = record { tables = o.shown.tables; counts = o.shown.counts }
 
 -- the lines of a trace
 abbrev pub lines_of : Order → Lines
-lines_of o = record { from = unwrap_or o.from 0; effects = o.effects }
+lines_of o = record { from = unwrap_or o.shown.from 0; effects = o.shown.effects }
 
 -- the texts of a run by a schedule, from a state
 abbrev pub texts_of : Order → Way → KeptPlan → State → Schedule → Texts
-texts_of o way.Run kept s schedule = ran kept (options_of o) o.dump o.steps schedule s
-texts_of o way.Resume kept s schedule = ran kept (options_of o) o.dump o.steps schedule s
+texts_of o way.Run kept s schedule = ran kept (options_of o) o.shown.dump o.steps schedule s
+texts_of o way.Resume kept s schedule = ran kept (options_of o) o.shown.dump o.steps schedule s
 texts_of o way.Trace kept s schedule = traced (lines_of o) o.steps schedule s
 
 abbrev pub run_of : Order → KeptPlan → State → Schedule → Outcome

@@ -1,4 +1,5 @@
 -- The comparison of two booted machines: where their plans are unlike, and its outcome.
+-- The rules: docs/COMMANDS.md, "The comparison".
 use Rattle.std.specs.Prelude.{ℕ, Bool, true, false, not, ◌&&◌, ◌==◌, nat_le, if◌then◌else◌, [], length, Option, Some, None}
 use Rattle.mx_manifest.specs.declared.fault.Key.{Key}
 use Rattle.mx_manifest.specs.declared.fault.Key.TheVariants as key

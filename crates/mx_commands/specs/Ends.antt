@@ -1,4 +1,5 @@
 -- How a command ends, and how its steps are followed.
+-- The rules: docs/COMMANDS.md, "How texts leave".
 use Rattle.std.specs.Prelude.{◌≡◌, ◌⊎◌, List}
 use Rattle.mx_io.specs.Answer.{Answer, Talks}
 use Rattle.mx_turns.specs.declared.fault.SinkFault.{SinkFault}

@@ -1,4 +1,5 @@
 -- What a call finds of a file, by the answers that the store gave about it.
+-- The rules: docs/COMMANDS.md, "What is judged first".
 use Rattle.std.specs.Prelude.{◌≡◌, ℕ, ◌-◌, ◌<◌, ◌≤◌, ◌⊎◌, nat_lt, if◌then◌else◌, List, [], ◌∷◌, ◌++◌, length, Option, Some, None}
 use Rattle.std.specs.FinMap.{get}
 use Rattle.mx_io.specs.Store.{FileMap}

@@ -1,4 +1,5 @@
 -- From answers of a store, or from its files, to the outcome of a step; and what the answers say of the files that are read on the way.
+-- The rules: docs/COMMANDS.md, "What is judged first".
 use Rattle.std.specs.Prelude.{◌≡◌, ℕ, zero, suc, List, [], ◌∷◌, ◌++◌}
 use Rattle.mx_io.specs.Store.{FileMap}
 use Rattle.mx_io.specs.Answer.{Answer}

@@ -1,4 +1,5 @@
 -- What the program does next: it reads one more file, or it ends with a status and three texts.
+-- The rules: docs/COMMANDS.md, "What is judged first".
 use Rattle.std.specs.Prelude.{ℕ, List, [], ◌∷◌, Option, Some, None, unwrap_or}
 use Rattle.mx_turns.specs.Ends.{Texts, still}
 use Rattle.mx_commands.specs.declared.status.FileRole.{FileRole}

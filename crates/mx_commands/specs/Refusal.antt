@@ -1,4 +1,5 @@
 -- The lines of refusals, each a whole report.
+-- The rules: docs/COMMANDS.md, "Statuses".
 use Rattle.std.specs.Prelude.{ℕ, List, [], ◌∷◌, decimal, codes, Option, Some, None}
 use Rattle.std.specs.List.{concat}
 use Rattle.mx_io.specs.Piece.{shown_name}

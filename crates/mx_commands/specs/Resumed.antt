@@ -1,5 +1,6 @@
 -- A snapshot as a step of a command: its file is read, and the rest follows from the plan and the state that it gives back, or the call
 -- ends with its one refusal.
+-- The rules: docs/COMMANDS.md, "The snapshot".
 use Rattle.std.specs.Prelude.{ℕ, List, Result, Ok, Err}
 use Rattle.mx_model.specs.State.{State}
 use Rattle.mx_snapshot.specs.Fields.{most_bytes}

@@ -7,8 +7,8 @@ ghost use Rattle.mx_boot.specs.Faults.{ram_words};
 ghost use Rattle.mx_boot.specs.Inputs.{AreInputs, FitsArea};
 ghost use Rattle.mx_manifest.specs.InRange.{IsInput};
 ghost use Rattle.mx_plan.specs.Manifest.{judged};
-ghost use Rattle.mx_commands.specs.Boots.{Rest, after_boot, after_inputs, planned, booted, image_named, image_wanted, input_named, input_wanted, total};
-ghost use Rattle.mx_commands.specs.Booting.{TakesBoot, TakesFile, TakesFiles, files_of};
+ghost use Rattle.mx_commands.specs.Boots.{Load, after_boot, after_inputs, after_load, booted, loaded, image_named, image_wanted, input_named, input_wanted, total};
+ghost use Rattle.mx_commands.specs.Booting.{TakesBoot, TakesFile, TakesFiles, TakesLoaded, files_of};
 
 use crate::refusal::refuse;
 use crate::side::{Side, refused, tables_full};
@@ -30,7 +30,20 @@ pub struct Booted {
     pub machine: AnyMachine,
 }
 
-/// Boots a side's manifest of this name with its images, or ends the call: the line of the refusal is the whole report.
+/// What booted, and of what: the plan boots with these images and these inputs to the same machine again.
+pub struct Loaded {
+    /// What the manifest says.
+    pub plan: Plan,
+    /// The images of its modules, in order; that of a module without one is empty.
+    pub images: Vec<Blob>,
+    /// Their inputs, in order; that of a module without one is empty.
+    pub inputs: Vec<Blob>,
+    /// The machine, which has made no turn.
+    pub machine: AnyMachine,
+}
+
+/// Boots a side's manifest of this name with its images and its inputs, which it drops then, so that a run doesn't hold
+/// them; or ends the call: the line of the refusal is the whole report.
 pub fn take_boot<S: Store, R: Sink>(
     alloc: Global,
     side: Side,
@@ -39,6 +52,31 @@ pub fn take_boot<S: Store, R: Sink>(
     report: &mut R,
 ) -> Result<Booted, Status>
     ensures { TakesBoot S.gives (after_boot side name.now) store.old store.new
+        (R.state report.old) (R.state report.new) result }
+{
+    match take_loaded(alloc, side, name, store, report) {
+        Ok(loaded) => {
+            let Loaded {
+                plan,
+                images: _images,
+                inputs: _inputs,
+                machine,
+            } = loaded;
+            Ok(Booted { plan, machine })
+        }
+        Err(status) => Err(status),
+    }
+}
+
+/// The same, and the images and the inputs are handed on with plan and machine. Nothing is copied.
+pub fn take_loaded<S: Store, R: Sink>(
+    alloc: Global,
+    side: Side,
+    name: &str,
+    store: &mut S,
+    report: &mut R,
+) -> Result<Loaded, Status>
+    ensures { TakesLoaded S.gives (after_load side name.now) store.old store.new
         (R.state report.old) (R.state report.new) result }
 {
     match take_file(alloc, &manifest_file(side, name), store, report) {
@@ -55,8 +93,8 @@ fn boot_manifest<S: Store, R: Sink>(
     bytes: &[u8],
     store: &mut S,
     report: &mut R,
-) -> Result<Booted, Status>
-    ensures { TakesBoot S.gives (λ (rest : Rest). planned side name.now rest (judged bytes.now))
+) -> Result<Loaded, Status>
+    ensures { TakesLoaded S.gives (λ (rest : Load). loaded side name.now rest (judged bytes.now))
         store.old store.new (R.state report.old) (R.state report.new) result }
 {
     match read_plan(alloc, bytes) {
@@ -74,8 +112,8 @@ fn boot_plan<S: Store, R: Sink>(
     plan: Plan,
     store: &mut S,
     report: &mut R,
-) -> Result<Booted, Status>
-    ensures { TakesBoot S.gives (λ (rest : Rest). planned side name.now rest (Ok plan))
+) -> Result<Loaded, Status>
+    ensures { TakesLoaded S.gives (λ (rest : Load). loaded side name.now rest (Ok plan))
         store.old store.new (R.state report.old) (R.state report.new) result }
 {
     match take_images(alloc, side, &plan, store, report) {
@@ -146,16 +184,16 @@ fn boot_images<S: Store, R: Sink>(
     images: Vec<Blob>,
     store: &mut S,
     report: &mut R,
-) -> Result<Booted, Status>
-    ensures { TakesBoot S.gives (λ (rest : Rest).
+) -> Result<Loaded, Status>
+    ensures { TakesLoaded S.gives (λ (rest : Load).
         after_inputs side (4 * ram_words plan) 1 plan.modules []
-        (λ inputs. booted side name.now rest plan (boot_of plan images.items inputs)))
+        (λ inputs. booted side name.now (rest images.items inputs) plan (boot_of plan images.items inputs)))
         store.old store.new (R.state report.old) (R.state report.new) result }
 {
     match take_inputs(alloc, side, &plan, store, report) {
         Ok(inputs) => {
-            let boot = boot_all(alloc, &plan, images, inputs);
-            settle_boot(side, name, plan, boot, store, report)
+            let came = boot(alloc, &plan, images.as_slice(), inputs.as_slice());
+            settle_boot(side, name, plan, images, inputs, came, store, report)
         }
         Err(status) => Err(status),
     }
@@ -225,33 +263,29 @@ fn settle_boot<S: Store, R: Sink>(
     side: Side,
     name: &str,
     plan: Plan,
+    images: Vec<Blob>,
+    inputs: Vec<Blob>,
     boot: Result<AnyMachine, BootRefused>,
     store: &mut S,
     report: &mut R,
-) -> Result<Booted, Status>
-    ensures { (images inputs : List (List ℕ)) → IsBooted plan images inputs boot → TakesBoot S.gives
-        (λ (rest : Rest). booted side name.now rest plan (boot_of plan images inputs))
+) -> Result<Loaded, Status>
+    requires boots { IsBooted plan images.items inputs.items boot }
+    requires fits { AreInputs plan inputs.items }
+    ensures { TakesLoaded S.gives (λ (rest : Load).
+        booted side name.now (rest images.items inputs.items) plan (boot_of plan images.items inputs.items))
         store.old store.new (R.state report.old) (R.state report.new) result }
 {
     match boot {
-        Ok(machine) => Ok(Booted { plan, machine }),
+        Ok(machine) => Ok(Loaded {
+            plan,
+            images,
+            inputs,
+            machine,
+        }),
         Err(BootRefused::Fault(fault)) => Err(refuse(report, name, refused(side, fault))),
         Err(BootRefused::TablesFull { need, limit }) => {
             Err(refuse(report, name, tables_full(side, need, limit)))
         }
         Err(BootRefused::NoMemory) => Err(Status::WantOfMemory),
     }
-}
-
-// Boots a plan. The images and the inputs are dropped then, so that a run doesn't hold them.
-fn boot_all(
-    alloc: Global,
-    plan: &Plan,
-    images: Vec<Blob>,
-    inputs: Vec<Blob>,
-) -> Result<AnyMachine, BootRefused>
-    requires { AreInputs plan.now inputs.items }
-    ensures { IsBooted plan.now images.items inputs.items result }
-{
-    boot(alloc, plan, images.as_slice(), inputs.as_slice())
 }

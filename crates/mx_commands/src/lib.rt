@@ -17,10 +17,10 @@ mod wanted;
 
 pub use assembling::write_image;
 pub use auditing::audit_manifest;
-pub use booting::{Booted, take_boot};
+pub use booting::{Booted, Loaded, take_boot, take_loaded};
 pub use comparing::compare_manifests;
 pub use laws::machines_are_of_their_plan;
-pub use order::{Order, Pair, Way};
+pub use order::{Order, Pair, Shown, Way};
 pub use refusal::refuse;
 pub use resuming::resume_snapshot;
 pub use running::{run_manifest, take_schedule};

@@ -24,6 +24,13 @@ pub struct Order<'a> {
     pub steps: u64,
     /// The schedule's name; with none the harts take turns by the plan's quantum.
     pub schedule: Option<&'a str>,
+    /// What is shown of it.
+    pub shown: Shown,
+}
+
+/// What is shown of a run beside what each run of its way shows.
+#[derive(Clone, Copy, Default)]
+pub struct Shown {
     /// Of a trace the first turn that has a line, at most 9999999999; none is turn 0.
     pub from: Option<u64>,
     /// Whether a trace has the lines of what turns did.

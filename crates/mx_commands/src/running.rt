@@ -246,16 +246,16 @@ fn task_of<'a>(order: &Order<'_>, schedule: Schedule<'a>) -> Task<'a>
     ensures steps { result.steps ≡ order.now.steps }
     ensures schedule { result.schedule ≡ schedule.entry }
     ensures options { result.options ≡ options_of (order_of order.now) }
-    ensures dump { result.dump ≡ order.now.dump }
+    ensures dump { result.dump ≡ order.now.shown.dump }
 {
     Task {
         steps: order.steps,
         schedule,
         options: Options {
-            tables: order.tables,
-            counts: order.counts,
+            tables: order.shown.tables,
+            counts: order.shown.counts,
         },
-        dump: order.dump,
+        dump: order.shown.dump,
     }
 }
 
@@ -275,8 +275,8 @@ fn lines_of(order: &Order<'_>) -> Lines
     ensures { result ≡ lines_of (order_of order.now) }
 {
     Lines {
-        from: order.from.unwrap_or(0),
-        effects: order.effects,
+        from: order.shown.from.unwrap_or(0),
+        effects: order.shown.effects,
     }
 }
 

@@ -1,10 +1,11 @@
 -- Examples of the definitions that compute: words, and what is done next.
-use Rattle.std.proofs.Common.{◌≡◌, [], ◌∷◌, true, codes, Some, None, refl}
+use Rattle.std.proofs.Common.{◌≡◌, ℕ, Bool, List, [], ◌∷◌, ◌++◌, ◌&&◌, ◌||◌, not, map, get_or, bytes_eq, true, false, codes, Option, Some, None, is_some, refl}
 use Rattle.mx_commands.specs.declared.status.FileRole.TheVariants.{Source, Snapshot as SnapshotRole}
 use Rattle.mx_commands.specs.declared.status.Status.TheVariants.{Usage, ShortFile, AsmFault, SnapshotFault}
-use Rattle.mx_run.specs.Words.{Go, Asm, Audit, Twin, Mill, meaning}
-use Rattle.mx_commands.specs.Order.{plain_order}
+use Rattle.mx_run.specs.Words.{Go, Asm, Audit, Twin, Mill, debug_meaning, meaning, order_in}
+use Rattle.mx_commands.specs.Order.{nothing, plain_order}
 use Rattle.mx_commands.specs.declared.order.Way.TheVariants as way
+use Rattle.mx_commands.specs.declared.order.Way.{Way}
 use Rattle.mx_commands.specs.Finding.{Large, Short, Whole}
 use Rattle.mx_commands.specs.Next.{Read, End, refusal}
 use Rattle.mx_commands.specs.Boots.{manifest_file}
@@ -21,11 +22,8 @@ words_run : meaning (codes "run" ∷ codes "first.toml" ∷ codes "0010" ∷ [])
 words_run = refl
 
 words_options : meaning (codes "run" ∷ codes "first.toml" ∷ codes "7" ∷ codes "--counts" ∷ codes "--schedule" ∷ codes "s" ∷ codes "--dump" ∷ [])
-    ≡ Some (Go (record (plain_order way.Run (codes "first.toml") 7) { schedule = Some (codes "s"); dump = Some Ram; counts = true }))
+    ≡ Some (Go (record (plain_order way.Run (codes "first.toml") 7) { schedule = Some (codes "s"); shown = record nothing { dump = Some Ram; counts = true } }))
 words_options = refl
-
-words_twice : meaning (codes "run" ∷ codes "first.toml" ∷ codes "7" ∷ codes "--dump" ∷ codes "--tables" ∷ codes "--dump" ∷ []) ≡ None
-words_twice = refl
 
 words_no_name : meaning (codes "run" ∷ codes "first.toml" ∷ codes "7" ∷ codes "--schedule" ∷ []) ≡ None
 words_no_name = refl
@@ -37,67 +35,31 @@ words_option : meaning (codes "run" ∷ codes "-x" ∷ codes "1" ∷ []) ≡ Non
 words_option = refl
 
 words_trace : meaning (codes "trace" ∷ codes "first.toml" ∷ codes "7" ∷ codes "--from" ∷ codes "03" ∷ codes "--schedule" ∷ codes "s" ∷ [])
-    ≡ Some (Go (record (plain_order way.Trace (codes "first.toml") 7) { schedule = Some (codes "s"); from = Some 3 }))
+    ≡ Some (Go (record (plain_order way.Trace (codes "first.toml") 7) { schedule = Some (codes "s"); shown = record nothing { from = Some 3 } }))
 words_trace = refl
-
-words_from_of_a_run : meaning (codes "run" ∷ codes "first.toml" ∷ codes "7" ∷ codes "--from" ∷ codes "3" ∷ []) ≡ None
-words_from_of_a_run = refl
-
-words_from_twice : meaning (codes "trace" ∷ codes "first.toml" ∷ codes "7" ∷ codes "--from" ∷ codes "3" ∷ codes "--from" ∷ codes "3" ∷ []) ≡ None
-words_from_twice = refl
 
 words_from_no_number : meaning (codes "trace" ∷ codes "first.toml" ∷ codes "7" ∷ codes "--from" ∷ codes "x" ∷ []) ≡ None
 words_from_no_number = refl
 
 words_effects : meaning (codes "trace" ∷ codes "first.toml" ∷ codes "7" ∷ codes "--effects" ∷ codes "--from" ∷ codes "3" ∷ [])
-    ≡ Some (Go (record (plain_order way.Trace (codes "first.toml") 7) { from = Some 3; effects = true }))
+    ≡ Some (Go (record (plain_order way.Trace (codes "first.toml") 7) { shown = record nothing { from = Some 3; effects = true } }))
 words_effects = refl
 
-words_effects_twice : meaning (codes "trace" ∷ codes "first.toml" ∷ codes "7" ∷ codes "--effects" ∷ codes "--effects" ∷ []) ≡ None
-words_effects_twice = refl
-
-words_effects_of_a_run : meaning (codes "run" ∷ codes "first.toml" ∷ codes "7" ∷ codes "--effects" ∷ []) ≡ None
-words_effects_of_a_run = refl
-
-words_tables : meaning (codes "run" ∷ codes "first.toml" ∷ codes "7" ∷ codes "--tables" ∷ []) ≡ Some (Go (record (plain_order way.Run (codes "first.toml") 7) { tables = true }))
+words_tables : meaning (codes "run" ∷ codes "first.toml" ∷ codes "7" ∷ codes "--tables" ∷ []) ≡ Some (Go (record (plain_order way.Run (codes "first.toml") 7) { shown = record nothing { tables = true } }))
 words_tables = refl
-
-words_tables_of_a_trace : meaning (codes "trace" ∷ codes "first.toml" ∷ codes "7" ∷ codes "--tables" ∷ []) ≡ None
-words_tables_of_a_trace = refl
-
-words_counts_of_a_trace : meaning (codes "trace" ∷ codes "first.toml" ∷ codes "7" ∷ codes "--counts" ∷ []) ≡ None
-words_counts_of_a_trace = refl
-
-words_dump_of_a_trace : meaning (codes "trace" ∷ codes "first.toml" ∷ codes "7" ∷ codes "--dump" ∷ []) ≡ None
-words_dump_of_a_trace = refl
 
 words_asm : meaning (codes "asm" ∷ codes "a.s" ∷ []) ≡ Some (Asm (codes "a.s"))
 words_asm = refl
 
-words_save : meaning (codes "run" ∷ codes "first.toml" ∷ codes "7" ∷ codes "--save" ∷ []) ≡ Some (Go (record (plain_order way.Run (codes "first.toml") 7) { dump = Some Snapshot }))
+words_save : meaning (codes "run" ∷ codes "first.toml" ∷ codes "7" ∷ codes "--save" ∷ []) ≡ Some (Go (record (plain_order way.Run (codes "first.toml") 7) { shown = record nothing { dump = Some Snapshot } }))
 words_save = refl
 
-words_save_beside_a_dump : meaning (codes "run" ∷ codes "first.toml" ∷ codes "7" ∷ codes "--dump" ∷ codes "--save" ∷ []) ≡ None
-words_save_beside_a_dump = refl
-
-words_save_of_a_trace : meaning (codes "trace" ∷ codes "first.toml" ∷ codes "7" ∷ codes "--save" ∷ []) ≡ None
-words_save_of_a_trace = refl
-
 words_resume : meaning (codes "resume" ∷ codes "memory.bin" ∷ codes "09" ∷ codes "--save" ∷ codes "--tables" ∷ codes "--schedule" ∷ codes "s" ∷ [])
-    ≡ Some (Go (record (plain_order way.Resume (codes "memory.bin") 9) { schedule = Some (codes "s"); dump = Some Snapshot; tables = true }))
+    ≡ Some (Go (record (plain_order way.Resume (codes "memory.bin") 9) { schedule = Some (codes "s"); shown = record nothing { dump = Some Snapshot; tables = true } }))
 words_resume = refl
 
-words_resume_with_a_dump : meaning (codes "resume" ∷ codes "memory.bin" ∷ codes "9" ∷ codes "--dump" ∷ []) ≡ Some (Go (record (plain_order way.Resume (codes "memory.bin") 9) { dump = Some Ram }))
+words_resume_with_a_dump : meaning (codes "resume" ∷ codes "memory.bin" ∷ codes "9" ∷ codes "--dump" ∷ []) ≡ Some (Go (record (plain_order way.Resume (codes "memory.bin") 9) { shown = record nothing { dump = Some Ram } }))
 words_resume_with_a_dump = refl
-
-words_counts_of_a_snapshot : meaning (codes "resume" ∷ codes "memory.bin" ∷ codes "9" ∷ codes "--counts" ∷ []) ≡ None
-words_counts_of_a_snapshot = refl
-
-words_from_of_a_snapshot : meaning (codes "resume" ∷ codes "memory.bin" ∷ codes "9" ∷ codes "--from" ∷ codes "3" ∷ []) ≡ None
-words_from_of_a_snapshot = refl
-
-words_effects_of_a_snapshot : meaning (codes "resume" ∷ codes "memory.bin" ∷ codes "9" ∷ codes "--effects" ∷ []) ≡ None
-words_effects_of_a_snapshot = refl
 
 words_resume_without_steps : meaning (codes "resume" ∷ codes "memory.bin" ∷ codes "--save" ∷ []) ≡ None
 words_resume_without_steps = refl
@@ -126,6 +88,50 @@ words_greatest_mill = refl
 
 words_mill_too_great : meaning (codes "mill" ∷ codes "2147483648" ∷ []) ≡ None
 words_mill_too_great = refl
+
+-- who has which option: `run`, `resume`, `trace` and the debugger
+abbrev options : List (List (List ℕ))
+options =
+    (codes "--schedule" ∷ codes "s" ∷ []) ∷ (codes "--from" ∷ codes "3" ∷ []) ∷ (codes "--effects" ∷ []) ∷ (codes "--dump" ∷ [])
+    ∷ (codes "--save" ∷ []) ∷ (codes "--tables" ∷ []) ∷ (codes "--counts" ∷ []) ∷ []
+
+abbrev stands : Option Way → List (List ℕ) → Bool
+stands asker option = is_some (order_in asker (codes "a" ∷ codes "7" ∷ option))
+
+abbrev askers : List (Option Way)
+askers = Some way.Run ∷ Some way.Resume ∷ Some way.Trace ∷ None ∷ []
+
+who_has_which : map (λ option. map (λ asker. stands asker option) askers) options
+    ≡ (true ∷ true ∷ true ∷ true ∷ [])
+    ∷ (false ∷ false ∷ true ∷ false ∷ [])
+    ∷ (false ∷ false ∷ true ∷ false ∷ [])
+    ∷ (true ∷ true ∷ false ∷ false ∷ [])
+    ∷ (true ∷ true ∷ false ∷ false ∷ [])
+    ∷ (true ∷ true ∷ false ∷ false ∷ [])
+    ∷ (true ∷ false ∷ false ∷ false ∷ []) ∷ []
+who_has_which = refl
+
+-- options stand beside each other in either order, but for each beside itself, and `--dump` beside `--save`
+abbrev excludes : List ℕ → List ℕ → Bool
+excludes a b = bytes_eq a b || bytes_eq a (codes "--dump") && bytes_eq b (codes "--save") || bytes_eq a (codes "--save") && bytes_eq b (codes "--dump")
+
+which_stand_together : map (λ asker. map (λ a. map (λ b. stands asker (a ++ b)) options) options) askers
+    ≡ map (λ asker. map (λ a. map (λ b. stands asker a && stands asker b && not (excludes (get_or a 0 []) (get_or b 0 []))) options) options) askers
+which_stand_together = refl
+
+-- the debugger's words
+words_debug : debug_meaning (codes "debug" ∷ codes "first.toml" ∷ codes "7" ∷ codes "--schedule" ∷ codes "s" ∷ [])
+    ≡ Some (record (plain_order way.Run (codes "first.toml") 7) { schedule = Some (codes "s") })
+words_debug = refl
+
+words_debug_without_steps : debug_meaning (codes "debug" ∷ codes "first.toml" ∷ []) ≡ None
+words_debug_without_steps = refl
+
+words_of_no_debugger : debug_meaning (codes "run" ∷ codes "first.toml" ∷ codes "7" ∷ []) ≡ None
+words_of_no_debugger = refl
+
+words_debug_of_the_program : meaning (codes "debug" ∷ codes "first.toml" ∷ codes "7" ∷ []) ≡ None
+words_debug_of_the_program = refl
 
 -- what is done next: nothing is read for words without meaning, a source is read once, and what was found decides
 next_usage : next None [] ≡ End (refusal [] Usage)

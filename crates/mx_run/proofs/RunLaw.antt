@@ -1,5 +1,5 @@
 -- What `run` gives follows from the outcome of its words.
-use Rattle.std.proofs.Common.{◌≡◌, ◌≢◌, ◌≤◌, ℕ, suc, ◌+◌, ◌*◌, Bool, true, false, ◌&&◌, List, [], ◌∷◌, ◌++◌, length, fold, Option, Some, None, IfSome, Result, refl, sym, ap, subst, ◌∙◌, append_assoc, codes, is_some, if◌then◌else◌, option_map, arith}
+use Rattle.std.proofs.Common.{◌≡◌, ◌≢◌, ◌≤◌, ℕ, suc, ◌+◌, ◌*◌, Bool, true, false, List, [], ◌∷◌, ◌++◌, length, Option, Some, None, IfSome, Result, refl, sym, ap, subst, ◌∙◌, append_assoc, codes, if◌then◌else◌, option_map, arith}
 use Rattle.std.specs.List.{AllByRecursion}
 use Rattle.std.specs.Str.Parse.{digits_value}
 use Rattle.std.proofs.lemmas.Bool.{le-ltb}
@@ -42,15 +42,13 @@ use Rattle.mx_commands.specs.declared.order.Way.TheVariants as way
 use Rattle.mx_commands.specs.Order.{Order, plain_order}
 use Rattle.mx_commands.specs.Finding.{Finding, Whole, found_file, found_in}
 use Rattle.mx_commands.specs.Next.{Outcome, Wanted, Next, End, after_file, refusal, reported, text_limit}
-use Rattle.mx_commands.specs.Boots.{after_files, after_inputs, after_boot, booted, planned, image_named, image_wanted, input_named, input_wanted, manifest_file}
+use Rattle.mx_commands.specs.Boots.{Load, after_files, after_inputs, after_boot, after_load, booted, loaded, image_named, image_wanted, input_named, input_wanted, manifest_file}
 use Rattle.mx_commands.specs.Commands.{after_first, assembled, assembled_text, audited, booted_run, resumed_run, going, options_of, run_from, run_of, schedule_file, scheduled, source_file, texts_of, unless_faulty, written_image}
 use Rattle.mx_commands.specs.Compared.{alike, alike_by, compared, unlike}
 use Rattle.mx_commands.specs.Resumed.{resumed, snapshot_file}
 use Rattle.mx_commands.specs.Leads.{LeadsOver}
 use Rattle.mx_commands.proofs.FileSteps.{file_step}
-use Rattle.mx_run.specs.declared.options.Flag.{Flag}
-use Rattle.mx_run.specs.declared.options.Flag.TheVariants as flag
-use Rattle.mx_run.specs.Words.{Request, Go, Asm, Audit, Mill, Twin, Parsed, Stands, Lacks, Meaningless, Row, asked_by, completed, go_request, has_way, is_name, is_number, meaning, once, row_in, rows, with_flag, with_option, with_word}
+use Rattle.mx_run.specs.Words.{Request, Go, Asm, Audit, Mill, Twin, Parsed, Stands, LacksSchedule, LacksFrom, Meaningless, go_request, is_name, meaning, with_parsed}
 use Rattle.mx_run.specs.Leads.{IsOutcome}
 use Rattle.mx_run.specs.Promise.{CountsStay, Gives, Headline, Smoothly}
 use Rattle.mx_run.specs.Plainly.{HasFile, Boots, IsSchedule}
@@ -70,67 +68,21 @@ use Rattle.mx_run.proofs.Promises.{if_some}
 none-some : {A : Type 0} {a : A} → None ≡ Some a → ⊥
 none-some e = cc
 
--- the way of an order that options made
-abbrev pub HasWay : Way → Parsed → Type 0
-HasWay w (Stands o) = o.way ≡ w
-HasWay w (Lacks o flag) = o.way ≡ w
-HasWay w Meaningless = Unit {0}
-
-once-way : (w : Way) (given : Bool) (parsed : Parsed) → HasWay w parsed → HasWay w (once given parsed)
-once-way w true parsed has = tt
-once-way w false parsed has = has
-
-flag-way : (w : Way) (o : Order) (f : Flag) → o.way ≡ w → HasWay w (with_flag o f)
-flag-way w o flag.Schedule is = once-way w (is_some o.schedule) (Lacks o flag.Schedule) is
-flag-way w o flag.From is = once-way w (is_some o.from) (Lacks o flag.From) is
-flag-way w o flag.Effects is = once-way w o.effects (Stands (record o { effects = true })) is
-flag-way w o flag.Dump is = once-way w (is_some o.dump) (Stands (record o { dump = Some D.Ram })) is
-flag-way w o flag.Save is = once-way w (is_some o.dump) (Stands (record o { dump = Some D.Snapshot })) is
-flag-way w o flag.Tables is = once-way w o.tables (Stands (record o { tables = true })) is
-flag-way w o flag.Counts is = once-way w o.counts (Stands (record o { counts = true })) is
-
-if-way : (w : Way) (b : Bool) (p : Parsed) → HasWay w p → HasWay w (if b then p else Meaningless)
-if-way w true p has = has
-if-way w false p has = tt
-
-option-way : (w : Way) (o : Order) (row : Option Row) → o.way ≡ w → HasWay w (with_option o row)
-option-way w o None is = tt
-option-way w o (Some row) is = if-way w (has_way row.ways o.way) (with_flag o row.flag) (flag-way w o row.flag is)
-
-completed-way : (w : Way) (o : Order) (f : Flag) (word : List ℕ) → o.way ≡ w → HasWay w (completed o f word)
-completed-way w o flag.Schedule word is = if-way w (is_name word) (Stands (record o { schedule = Some word })) is
-completed-way w o flag.From word is = if-way w (is_number word) (Stands (record o { from = Some (digits_value 10 word) })) is
-completed-way w o flag.Effects word is = tt
-completed-way w o flag.Dump word is = tt
-completed-way w o flag.Save word is = tt
-completed-way w o flag.Tables word is = tt
-completed-way w o flag.Counts word is = tt
-
-word-way : (w : Way) (p : Parsed) (word : List ℕ) → HasWay w p → HasWay w (with_word p word)
-word-way w (Stands o) word has = option-way w o (row_in rows word) has
-word-way w (Lacks o f) word has = completed-way w o f word has
-word-way w Meaningless word has = tt
-
-words-way : (w : Way) (words : List (List ℕ)) (p : Parsed) → HasWay w p → HasWay w (fold with_word p words)
-words-way w [] p has = has
-words-way w (word ∷ words) p has = words-way w words (with_word p word) (word-way w p word has)
-
-asked-way : (w : Way) (o : Order) (p : Parsed) → HasWay w p → asked_by p ≡ Some (Go o) → o.way ≡ w
-asked-way w o (Stands q) has e = let same : q ≡ o = cc in ap (λ (r : Order). r.way) (sym same) ∙ has
-asked-way w o (Lacks q f) has e = absurd (none-some e)
-asked-way w o Meaningless has e = absurd (none-some e)
-
-if-asked : (w : Way) (o : Order) (b : Bool) (p : Parsed) → HasWay w p → (if b then asked_by p else None) ≡ Some (Go o) → o.way ≡ w
-if-asked w o true p has e = asked-way w o p has e
-if-asked w o false p has e = absurd (none-some e)
-
 -- the way of an order is the one that the words begin with
+parsed-way : (o q : Order) (p : Parsed) → option_map Go (with_parsed o p) ≡ Some (Go q) → q.way ≡ o.way
+parsed-way o q (Stands schedule shown) e = let same : record o { schedule = schedule; shown = shown } ≡ q = cc in ap (λ (r : Order). r.way) (sym same)
+parsed-way o q (LacksSchedule shown) e = absurd (none-some e)
+parsed-way o q (LacksFrom schedule shown) e = absurd (none-some e)
+parsed-way o q Meaningless e = absurd (none-some e)
+
+if-way : (o q : Order) (b : Bool) (p : Parsed) → option_map Go (if b then with_parsed o p else None) ≡ Some (Go q) → q.way ≡ o.way
+if-way o q true p e = parsed-way o q p e
+if-way o q false p e = absurd (none-some e)
+
 pub way-of : (w : Way) (o : Order) (operands : List (List ℕ)) → go_request w operands ≡ Some (Go o) → o.way ≡ w
 way-of w o [] e = absurd (none-some e)
 way-of w o (file ∷ []) e = absurd (none-some e)
-way-of w o (file ∷ steps ∷ options) e =
-    if-asked w o (is_name file && is_number steps) (fold with_word (Stands (plain_order w file (digits_value 10 steps))) options)
-    (words-way w options (Stands (plain_order w file (digits_value 10 steps))) refl) e
+way-of w o (file ∷ steps ∷ options) e = if-way (plain_order w file (digits_value 10 steps)) o _ _ e
 
 -- a source without a fault
 whole-source : {F : Type 0} (first : Option F) (refused : F → Outcome) (image : Outcome) → first ≡ None → unless_faulty first refused image ≡ image
@@ -176,17 +128,23 @@ module _ (files : FileMap) where
         (subst (λ (all : List (List ℕ)). Leads (rest all) outcome)
         (ap (λ (t : List (List ℕ)). before ++ t) are.2 ∙ sym (append_assoc before (are.0 ∷ []) are.1)) later))
 
-  -- a side's manifest boots, and the rest follows from plan and state
+  -- a side's manifest boots, and the rest follows from images, inputs, plan and state
+  pub leads-load : (side : Side) (name : List ℕ) (rest : Load) (plan : Said) (s : State) (outcome : Outcome) → text_limit ≡ (manifest_file side name).most
+      → (b : Boots files name plan s) → Leads (rest b.images b.inputs plan s) outcome → Leads (after_load side name rest) outcome
+  leads-load side name rest plan s outcome most b later =
+      leads-file (manifest_file side name) (λ bytes. loaded side name rest (judged bytes)) b.bytes outcome b.file
+      (subst (λ (r : Result Said BootFault). Leads (loaded side name rest r) outcome) (sym b.good)
+      (leads-files image_named (image_wanted side)
+      (λ images. after_inputs side (4 * ram_words plan) 1 plan.modules [] (λ inputs. booted side name (rest images inputs) plan (boot_of plan images inputs))) outcome
+      plan.modules 1 [] b.images (images-taken files side plan.modules 1 [] b.images b.taken)
+      (leads-files input_named (input_wanted side (4 * ram_words plan)) (λ inputs. booted side name (rest b.images inputs) plan (boot_of plan b.images inputs)) outcome
+      plan.modules 1 [] b.inputs (inputs-taken files side (4 * ram_words plan) plan.modules (4 * ram_words plan) 1 [] b.inputs (omega arith) b.given)
+      (subst (λ (r : Result State Refusal). Leads (booted side name (rest b.images b.inputs) plan r) outcome) (sym b.boots) later))))
+
+  -- and where it follows from plan and state
   pub leads-side : (side : Side) (name : List ℕ) (rest : Said → State → List Finding → Next) (plan : Said) (s : State) (outcome : Outcome) → text_limit ≡ (manifest_file side name).most
       → Boots files name plan s → Leads (rest plan s) outcome → Leads (after_boot side name rest) outcome
-  leads-side side name rest plan s outcome most b later =
-      leads-file (manifest_file side name) (λ bytes. planned side name rest (judged bytes)) b.bytes outcome b.file
-      (subst (λ (r : Result Said BootFault). Leads (planned side name rest r) outcome) (sym b.good)
-      (leads-files image_named (image_wanted side) (λ images. after_inputs side (4 * ram_words plan) 1 plan.modules [] (λ inputs. booted side name rest plan (boot_of plan images inputs))) outcome
-      plan.modules 1 [] b.images (images-taken files side plan.modules 1 [] b.images b.taken)
-      (leads-files input_named (input_wanted side (4 * ram_words plan)) (λ inputs. booted side name rest plan (boot_of plan b.images inputs)) outcome
-      plan.modules 1 [] b.inputs (inputs-taken files side (4 * ram_words plan) plan.modules (4 * ram_words plan) 1 [] b.inputs (omega arith) b.given)
-      (subst (λ (r : Result State Refusal). Leads (booted side name rest plan r) outcome) (sym b.boots) later))))
+  leads-side side name rest plan s outcome most b later = leads-load side name (λ images inputs. rest) plan s outcome most b later
 
   pub leads-boot : (name : List ℕ) (rest : Said → State → List Finding → Next) (plan : Said) (s : State) (outcome : Outcome) → Boots files name plan s → Leads (rest plan s) outcome
       → Leads (after_boot First name rest) outcome
@@ -233,23 +191,23 @@ pub some-if : {A : Type 0} (o : Option A) (P : A → Type 0) (a : A) → o ≡ S
 some-if o P a is holds = rw is at holds
 
 -- the texts of a run, as texts of the plain machine
-pub holds-plainly : (o : Order) (plan : Said) (s : State) (schedule : Schedule) (before now : Sinks) → o.way ≡ way.Run → o.counts ≡ false → o.dump ≢ Some D.Snapshot
+pub holds-plainly : (o : Order) (plan : Said) (s : State) (schedule : Schedule) (before now : Sinks) → o.way ≡ way.Run → o.shown.counts ≡ false → o.shown.dump ≢ Some D.Snapshot
     → Holds (run_of o (kept_of plan) s schedule).texts before now → HoldsRun plan o ((plain s).turns + o.steps) (plain_run schedule o.steps (plain s)) before now
 unfolding report_of
 holds-plainly o plan s schedule before now is uncounted unsaved holds =
     let kept = kept_of plan in
-    let h : Holds (ran kept (options_of o) o.dump o.steps schedule s) before now = subst (λ (w : Way). Holds (texts_of o w kept s schedule) before now) is holds in
-    let same = texts-plain kept (options_of o) o.dump o.steps schedule s uncounted unsaved in
+    let h : Holds (ran kept (options_of o) o.shown.dump o.steps schedule s) before now = subst (λ (w : Way). Holds (texts_of o w kept s schedule) before now) is holds in
+    let same = texts-plain kept (options_of o) o.shown.dump o.steps schedule s uncounted unsaved in
     let p = plain_run schedule o.steps (plain s) in
     record {
       console = subst (λ (t : List ℕ). AppendsWhole before.console.written now.console.written t) same.console h.console;
       report = subst (λ (t : List ℕ). AppendsWhole before.report.written now.report.written t)
-          (same.report ∙ ap (λ (c : Bool). report_of kept ((plain s).turns + o.steps) (record { tables = o.tables; counts = c }) (note_lines p.notes) (bare p)) uncounted) h.report;
-      dump = subst (λ (t : List ℕ). AppendsWhole before.dump.written now.dump.written t) (same.dump ∙ dump-plainly o.dump kept p unsaved) h.dump;
+          (same.report ∙ ap (λ (c : Bool). report_of kept ((plain s).turns + o.steps) (record (options_of o) { counts = c }) (note_lines p.notes) (bare p)) uncounted) h.report;
+      dump = subst (λ (t : List ℕ). AppendsWhole before.dump.written now.dump.written t) (same.dump ∙ dump-plainly o.shown.dump kept p unsaved) h.dump;
     }
 
 -- the texts of a run of the machine, of any way but a trace
-holds-machine : (o : Order) (kept : KeptPlan) (s : State) (schedule : Schedule) (before now : Sinks) → Holds (ran kept (options_of o) o.dump o.steps schedule s) before now
+holds-machine : (o : Order) (kept : KeptPlan) (s : State) (schedule : Schedule) (before now : Sinks) → Holds (ran kept (options_of o) o.shown.dump o.steps schedule s) before now
     → HoldsMachine kept o s schedule before now
 holds-machine o kept s schedule before now h = record { console = h.console; report = h.report; dump = h.dump }
 

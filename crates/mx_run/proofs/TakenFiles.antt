@@ -1,5 +1,5 @@
 -- The images and the inputs of modules as files that are read one after another.
-use Rattle.std.proofs.Common.{◌≡◌, ℕ, ◌+◌, ◌-◌, List, [], ◌∷◌, ◌++◌, length, Option, Some, None, refl, sym, ap, subst, ◌∙◌, arith}
+use Rattle.std.proofs.Common.{◌≡◌, ℕ, ◌+◌, ◌-◌, List, [], ◌∷◌, ◌++◌, length, Option, Some, None, sym, subst, arith}
 use Rattle.mx_io.specs.Store.{FileMap}
 use Rattle.mx_manifest.specs.declared.parts.InputPlan.{InputPlan}
 use Rattle.mx_manifest.specs.declared.parts.ModulePlan.{ModulePlan}

@@ -1,4 +1,5 @@
 -- What `asm` gives of a source without a fault: for a reader of `asm` alone.
+-- The rules: docs/PROMISES.md, "One clause for each command".
 use Rattle.std.specs.Prelude.{◌≡◌, ℕ, true, List, [], ◌∷◌, codes, None}
 use Rattle.std.specs.Str.{is_utf8}
 use Rattle.mx_io.specs.Store.{FileMap, StoreState}

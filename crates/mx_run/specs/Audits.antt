@@ -1,4 +1,5 @@
 -- What `audit` gives of a manifest that boots: for a reader of `audit` alone.
+-- The rules: docs/PROMISES.md, "One clause for each command".
 use Rattle.std.specs.Prelude.{◌≡◌, ℕ, true, List, [], ◌∷◌, codes}
 use Rattle.mx_io.specs.Store.{FileMap, StoreState}
 use Rattle.mx_model.specs.State.{State, flat}

@@ -1,4 +1,5 @@
 -- What the program does next, by what the words ask.
+-- The rules: docs/COMMANDS.md, "What is judged first".
 use Rattle.std.specs.Prelude.{List, [], Option, Some, None}
 use Rattle.mx_mill.specs.Mill.{mill_text}
 use Rattle.mx_commands.specs.declared.status.Status.TheVariants.{Usage}

@@ -1,4 +1,5 @@
 -- From answers of a store, or from its files, to the outcome of a call.
+-- The rules: docs/PROMISES.md, "The headline".
 use Rattle.std.specs.Prelude.{◌≡◌, ℕ, List, Option}
 use Rattle.mx_io.specs.Store.{FileMap}
 use Rattle.mx_io.specs.Answer.{Answer}

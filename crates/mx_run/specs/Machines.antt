@@ -1,4 +1,5 @@
 -- The texts of a run of the machine with its caches.
+-- The rules: docs/PROMISES.md, "One clause for each command".
 use Rattle.std.specs.Prelude.{ℕ, ◌+◌}
 use Rattle.mx_model.specs.Run.{Schedule, run}
 use Rattle.mx_model.specs.State.{State, flat}
@@ -13,7 +14,7 @@ use Rattle.mx_run.specs.Plainly.{HoldsTexts}
 abbrev pub HoldsState : KeptPlan → Order → ℕ → State → Sinks → Sinks → Type 0
 HoldsState kept o target t =
     HoldsTexts t.console (report_of kept target (options_of o) (note_lines t.notes) t)
-    (dumped o.dump kept (flat t))
+    (dumped o.shown.dump kept (flat t))
 
 abbrev pub HoldsMachine : KeptPlan → Order → State → Schedule → Sinks → Sinks → Type 0
 HoldsMachine kept o s schedule = HoldsState kept o (s.core.turns + o.steps) (run schedule o.steps s)

@@ -1,4 +1,5 @@
 -- What `mill` gives: for a reader of `mill` alone.
+-- The rules: docs/PROMISES.md, "One clause for each command".
 use Rattle.std.specs.Prelude.{◌≡◌, ℕ, List, [], ◌∷◌, codes, Some}
 use Rattle.mx_io.specs.Store.{FileMap, StoreState}
 use Rattle.mx_mill.specs.Mill.{mill_text}

@@ -1,4 +1,5 @@
 -- What the top call promises over a store that tells its files.
+-- The rules: docs/PROMISES.md, "Three clauses in plain words".
 use Rattle.std.specs.Prelude.{◌≡◌, ◌≢◌, ◌⊎◌, IsTrue, Option, IfSome}
 use Rattle.mx_io.specs.Count.{Stays}
 use Rattle.mx_io.specs.Store.{FileMap, StoreState}

@@ -1,4 +1,5 @@
 -- What the texts are where `run` ended with status 0: for a reader who asks for no cause of a refusal.
+-- The rules: docs/PROMISES.md, "One clause for each command".
 use Rattle.std.specs.Prelude.{◌≡◌, ℕ, ◌+◌, ◌*◌, List, Some}
 use Rattle.mx_io.specs.Store.{FileMap, StoreState}
 use Rattle.toml.specs.Data.{Members, table}

@@ -1,4 +1,5 @@
 -- What every command gives where it doesn't end with status 0: one line.
+-- The rules: docs/PROMISES.md, "One clause for each command".
 use Rattle.std.specs.Prelude.{◌≢◌, ℕ, List, [], unwrap_or}
 use Rattle.mx_io.specs.Store.{FileMap, StoreState}
 use Rattle.mx_turns.specs.Ends.{Sinks}

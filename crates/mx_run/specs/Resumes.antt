@@ -1,4 +1,5 @@
 -- What `resume` gives of a snapshot that is read: for a reader of `resume` alone. Its options are those of a run.
+-- The rules: docs/PROMISES.md, "One clause for each command".
 use Rattle.std.specs.Prelude.{◌≡◌, ℕ, List, ◌∷◌, codes, Some, Ok}
 use Rattle.mx_io.specs.Store.{FileMap, StoreState}
 use Rattle.mx_model.specs.Run.{Schedule}

@@ -1,4 +1,5 @@
 -- How a call of the program ends.
+-- The rules: docs/PROMISES.md, "Three clauses in plain words".
 use Rattle.std.specs.Prelude.{◌≡◌, ◌⊎◌, List, Option, IsSome}
 use Rattle.mx_io.specs.Answer.{Answer, Talks}
 use Rattle.mx_turns.specs.Ends.{Sinks}

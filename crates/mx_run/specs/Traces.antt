@@ -1,5 +1,6 @@
 -- What `trace` gives of a manifest that boots: for a reader of `trace` alone.
-use Rattle.std.specs.Prelude.{◌≡◌, ℕ, ◌+◌, List, [], ◌∷◌, ◌++◌, codes, Some, unwrap_or}
+-- The rules: docs/PROMISES.md, "One clause for each command".
+use Rattle.std.specs.Prelude.{◌≡◌, ℕ, ◌+◌, List, [], ◌∷◌, ◌++◌, codes, Some}
 use Rattle.mx_io.specs.Store.{FileMap, StoreState}
 use Rattle.mx_model.specs.Run.{Schedule, run}
 use Rattle.mx_model.specs.State.{State}
@@ -9,6 +10,7 @@ use Rattle.mx_turns.specs.Tracing.{end_text, trace}
 use Rattle.mx_commands.specs.declared.status.Status.{Status}
 use Rattle.mx_commands.specs.declared.status.Status.TheVariants.{Ran}
 use Rattle.mx_commands.specs.declared.order.Way.TheVariants as way
+use Rattle.mx_commands.specs.Commands.{lines_of}
 use Rattle.mx_commands.specs.Order.{Order}
 use Rattle.mx_run.specs.Words.{Go, go_request}
 use Rattle.mx_run.specs.Promise.{Smoothly}
@@ -22,7 +24,7 @@ Traces words files before now result =
     words ≡ codes "trace" ∷ operands → go_request way.Trace operands ≡ Some (Go o) →
     Boots files o.file plan s → IsSchedule files plan.quantum o.schedule schedule →
     (result ≡ Ran) × HoldsTexts (run schedule o.steps s).console
-    (trace schedule (record { from = unwrap_or o.from 0; effects = o.effects }) o.steps s
+    (trace schedule (lines_of o) o.steps s
     ++ end_text (s.core.turns + o.steps) (run schedule o.steps s).core) [] before now
 
 abbrev pub TracesSmoothly : List (List ℕ) → StoreState → StoreState → Sinks → Sinks → Status → Type 0

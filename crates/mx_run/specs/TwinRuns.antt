@@ -1,4 +1,5 @@
 -- What `twin` gives of two manifests that boot and are alike: for a reader of `twin` alone.
+-- The rules: docs/PROMISES.md, "One clause for each command".
 use Rattle.std.specs.Prelude.{◌≡◌, ℕ, true, List, [], ◌∷◌, codes, Some, None}
 use Rattle.mx_io.specs.Store.{FileMap, StoreState}
 use Rattle.mx_model.specs.State.{State, flat}

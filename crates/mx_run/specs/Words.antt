@@ -1,16 +1,14 @@
 -- The meaning of the words of a command line (docs/COMMANDS.md, "The command line").
-use Rattle.std.specs.Prelude.{ℕ, Bool, true, false, ◌&&◌, nat_le, nat_lt, not, ◌==◌, if◌then◌else◌, List, [], ◌∷◌, length, codes, slice_index, fold, Option, Some, None, is_some, option_map}
+use Rattle.std.specs.Prelude.{ℕ, Bool, true, false, ◌&&◌, nat_le, nat_lt, not, ◌==◌, if◌then◌else◌, List, [], ◌∷◌, length, codes, slice_index, fold, Option, Some, None, is_none, option_map, unwrap_or}
 use Rattle.std.specs.Char.{is_ascii_digit}
 use Rattle.std.specs.List.{list_all}
 use Rattle.std.specs.Str.{bytes_eq}
 use Rattle.std.specs.Str.Parse.{digits_value}
 use Rattle.mx_turns.specs.declared.task.Dump.TheVariants as D
-use Rattle.mx_run.specs.declared.options.Ways.{Ways}
-use Rattle.mx_run.specs.declared.options.Flag.{Flag}
-use Rattle.mx_run.specs.declared.options.Flag.TheVariants as flag
+use Rattle.mx_commands.specs.declared.order.Shown.{Shown}
 use Rattle.mx_commands.specs.declared.order.Way.{Way}
 use Rattle.mx_commands.specs.declared.order.Way.TheVariants as way
-use Rattle.mx_commands.specs.Order.{Order, Pair, plain_order}
+use Rattle.mx_commands.specs.Order.{Order, Pair, nothing, plain_order}
 
 -- what the words ask: a run of some way, to assemble a source by its name, to audit a manifest by its name, to compare a domain of two
 -- machines, or to run the mill of a number
@@ -29,102 +27,82 @@ is_name word = nat_lt 0 (length word) && nat_le (length word) 255 && not (slice_
 abbrev pub is_number : List ℕ → Bool
 is_number word = nat_lt 0 (length word) && nat_le (length word) 10 && list_all is_ascii_digit word
 
--- what options make of an order: it stands, it lacks the word that this one asks for, or they have no meaning
+-- what options make of a run: its schedule and what is shown of it; they lack the word that `--schedule` or `--from` asks for; or they
+-- have no meaning
 pub data Parsed : Type 0 where
-  Stands : Order → Parsed
-  Lacks : Order → Flag → Parsed
+  Stands : Option (List ℕ) → Shown → Parsed
+  LacksSchedule : Shown → Parsed
+  LacksFrom : Option (List ℕ) → Shown → Parsed
   Meaningless : Parsed
 
--- all ways, those that have a report, a new run, and a trace
-abbrev pub all_ways : Ways
-all_ways = record { run = true; resume = true; trace = true }
+-- who asks for options is a way, or with none the debugger: whether it has a report, the counts in it, lines of turns
+abbrev pub reports : Option Way → Bool
+reports (Some way.Run) = true
+reports (Some way.Resume) = true
+reports _ = false
 
-abbrev pub report_ways : Ways
-report_ways = record { run = true; resume = true; trace = false }
+abbrev pub counts : Option Way → Bool
+counts (Some way.Run) = true
+counts _ = false
 
-abbrev pub run_way : Ways
-run_way = record { run = true; resume = false; trace = false }
+abbrev pub traces : Option Way → Bool
+traces (Some way.Trace) = true
+traces _ = false
 
-abbrev pub trace_way : Ways
-trace_way = record { run = false; resume = false; trace = true }
-
--- an option: its word, what it is, and the ways that have it
+-- an option: its word, whether it may stand behind those before it, and what it makes of them
 pub record Row : Type 0 where
   pub word : List ℕ
-  pub flag : Flag
-  pub ways : Ways
+  pub may : Bool
+  pub gives : Parsed
 
-abbrev pub row : List ℕ → Flag → Ways → Row
-row word flag ways = record { word = word; flag = flag; ways = ways }
+abbrev pub row : List ℕ → Bool → Parsed → Row
+row word may gives = record { word = word; may = may; gives = gives }
 
--- the options
-abbrev pub rows : List Row
-rows =
-    row (codes "--schedule") flag.Schedule all_ways
-    ∷ row (codes "--from") flag.From trace_way
-    ∷ row (codes "--effects") flag.Effects trace_way
-    ∷ row (codes "--dump") flag.Dump report_ways
-    ∷ row (codes "--save") flag.Save report_ways
-    ∷ row (codes "--tables") flag.Tables report_ways
-    ∷ row (codes "--counts") flag.Counts run_way
+-- the options: who has them, and that they stand at most once
+abbrev pub rows : Option Way → Option (List ℕ) → Shown → List Row
+rows asker schedule o =
+    row (codes "--schedule") (is_none schedule) (LacksSchedule o)
+    ∷ row (codes "--from") (traces asker && is_none o.from) (LacksFrom schedule o)
+    ∷ row (codes "--effects") (traces asker && not o.effects) (Stands schedule (record o { effects = true }))
+    ∷ row (codes "--dump") (reports asker && is_none o.dump) (Stands schedule (record o { dump = Some D.Ram }))
+    ∷ row (codes "--save") (reports asker && is_none o.dump) (Stands schedule (record o { dump = Some D.Snapshot }))
+    ∷ row (codes "--tables") (reports asker && not o.tables) (Stands schedule (record o { tables = true }))
+    ∷ row (codes "--counts") (counts asker && not o.counts) (Stands schedule (record o { counts = true }))
     ∷ []
 
--- the row of a word
-abbrev pub row_in : List Row → List ℕ → Option Row
-row_in [] word = None
-row_in (row ∷ more) word = if bytes_eq row.word word then Some row else row_in more word
+abbrev pub where_may : Bool → Parsed → Parsed
+where_may may parsed = if may then parsed else Meaningless
 
--- whether a way is one of these
-abbrev pub has_way : Ways → Way → Bool
-has_way ways way.Run = ways.run
-has_way ways way.Resume = ways.resume
-has_way ways way.Trace = ways.trace
+-- what the row of a word gives
+abbrev pub given_by : List Row → List ℕ → Parsed
+given_by [] word = Meaningless
+given_by (row ∷ more) word =
+    if bytes_eq word row.word then where_may row.may row.gives else given_by more word
 
--- an option stands at most once
-abbrev pub once : Bool → Parsed → Parsed
-once given parsed = if given then Meaningless else parsed
+-- one word more: an option's, or that which an option asks for
+abbrev pub with_word : Option Way → Parsed → List ℕ → Parsed
+with_word asker (Stands schedule o) word = given_by (rows asker schedule o) word
+with_word asker (LacksSchedule o) word = where_may (is_name word) (Stands (Some word) o)
+with_word asker (LacksFrom schedule o) word =
+    where_may (is_number word) (Stands schedule (record o { from = Some (digits_value 10 word) }))
+with_word asker Meaningless word = Meaningless
 
--- an order with one option more
-abbrev pub with_flag : Order → Flag → Parsed
-with_flag o flag.Schedule = once (is_some o.schedule) (Lacks o flag.Schedule)
-with_flag o flag.From = once (is_some o.from) (Lacks o flag.From)
-with_flag o flag.Effects = once o.effects (Stands (record o { effects = true }))
-with_flag o flag.Dump = once (is_some o.dump) (Stands (record o { dump = Some D.Ram }))
-with_flag o flag.Save = once (is_some o.dump) (Stands (record o { dump = Some D.Snapshot }))
-with_flag o flag.Tables = once o.tables (Stands (record o { tables = true }))
-with_flag o flag.Counts = once o.counts (Stands (record o { counts = true }))
+abbrev pub with_parsed : Order → Parsed → Option Order
+with_parsed o (Stands schedule shown) = Some (record o { schedule = schedule; shown = shown })
+with_parsed o _ = None
 
-abbrev pub with_option : Order → Option Row → Parsed
-with_option o None = Meaningless
-with_option o (Some row) = if has_way row.ways o.way then with_flag o row.flag else Meaningless
-
--- an order with the word that an option asks for: a name, or a number
-abbrev pub completed : Order → Flag → List ℕ → Parsed
-completed o flag.Schedule word =
-    if is_name word then Stands (record o { schedule = Some word }) else Meaningless
-completed o flag.From word =
-    if is_number word then Stands (record o { from = Some (digits_value 10 word) }) else Meaningless
-completed o _ word = Meaningless
-
--- one word more
-abbrev pub with_word : Parsed → List ℕ → Parsed
-with_word (Stands o) word = with_option o (row_in rows word)
-with_word (Lacks o flag) word = completed o flag word
-with_word Meaningless word = Meaningless
-
-abbrev pub asked_by : Parsed → Option Request
-asked_by (Stands o) = Some (Go o)
-asked_by (Lacks o flag) = None
-asked_by Meaningless = None
-
--- a run of some way: a file's name, a number of steps, and options in any order
-abbrev pub go_request : Way → List (List ℕ) → Option Request
-go_request way [] = None
-go_request way (file ∷ []) = None
-go_request way (file ∷ steps ∷ options) =
+-- a run: a file's name, a number of steps, and the asker's options in any order
+abbrev pub order_in : Option Way → List (List ℕ) → Option Order
+order_in asker [] = None
+order_in asker (file ∷ []) = None
+order_in asker (file ∷ steps ∷ options) =
     if is_name file && is_number steps
-    then asked_by (fold with_word (Stands (plain_order way file (digits_value 10 steps))) options)
+    then with_parsed (plain_order (unwrap_or asker way.Run) file (digits_value 10 steps))
+    (fold (with_word asker) (Stands None nothing) options)
     else None
+
+abbrev pub go_request : Way → List (List ℕ) → Option Request
+go_request way operands = option_map Go (order_in (Some way) operands)
 
 -- a file's name and nothing else
 abbrev pub only_name : List (List ℕ) → Option (List ℕ)
@@ -169,3 +147,9 @@ meaning (command ∷ operands) =
     else if bytes_eq command (codes "twin") then option_map Twin (pair_of operands)
     else if bytes_eq command (codes "mill") then option_map Mill (mill_number operands)
     else None
+
+-- what the words ask of the debugger: a run that it looks at, with no option but a schedule
+abbrev pub debug_meaning : List (List ℕ) → Option Order
+debug_meaning [] = None
+debug_meaning (command ∷ operands) =
+    if bytes_eq command (codes "debug") then order_in None operands else None

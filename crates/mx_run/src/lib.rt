@@ -12,6 +12,6 @@ pub use laws::{
     answers_decide, files_decide, large_schedules_refuse, statuses_have_causes, stores_show_causes,
 };
 pub use mx_commands::{FileRole, Order, Pair, Status, Way};
-pub use program::run_program;
+pub use program::{read_words, run_program};
 pub use top::mondrix;
 pub use words::{Asked, Words};

@@ -45,8 +45,8 @@ pub fn run_program<F: Folder, O: Stream, E: Stream, M: Maker>(
     }
 }
 
-// The words after the program's name, or one empty word where they are not text.
-fn read_words(alloc: Global, args: io::Result<Args>) -> Result<Words, NoMemory>
+/// The words after the program's name, or one empty word where they are not text. Refuses only where memory is wanting.
+pub fn read_words(alloc: Global, args: io::Result<Args>) -> Result<Words, NoMemory>
     ensures { IfOk result (λ words. Given args words) }
 {
     let mut words = Words::new(alloc);

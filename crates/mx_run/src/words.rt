@@ -3,11 +3,12 @@
 ghost use Rattle.std.specs.Prelude.{◌≡◌, ◌^◌, ◌<◌, [], ◌∷◌, ◌++◌, map, fold, option_map, OnOk, OnErr, IfSome, string_bytes};
 ghost use Rattle.std.specs.Option.{option_copied};
 ghost use Rattle.mx_commands.specs.Asked.{order_of, pair_asked};
-ghost use Rattle.mx_run.specs.Asked.{request_of, parsed_of, HasFewSteps, ParsesFewSteps};
-ghost use Rattle.mx_run.specs.Words.{Stands, with_word, asked_by, go_request, meaning, mill_number, only_name, pair_of};
+ghost use Rattle.mx_commands.specs.Order.{nothing};
+ghost use Rattle.mx_run.specs.Asked.{request_of, parsed_of, HasFewSteps};
+ghost use Rattle.mx_run.specs.Words.{Stands, debug_meaning, go_request, meaning, mill_number, only_name, order_in, pair_of, with_word};
 
-use crate::options::{Parse, is_name, is_number, number, plain_order, with_word};
-use mx_commands::{Order, Pair, Way};
+use crate::options::{Parse, is_name, is_number, number, with_word};
+use mx_commands::{Order, Pair, Shown, Way};
 use mx_words::NoMemory;
 use std::alloc::Global;
 use std::marker::Model;
@@ -80,6 +81,19 @@ impl Words {
             _ => None,
         }
     }
+
+    /// What the words ask of the debugger, or nothing exactly where they aren't `debug`, a manifest's name, a number of steps, and at
+    /// most a schedule. Takes no memory.
+    pub fn asked_debug(&self) -> Option<Order<'_>>
+        ensures meaning { option_map order_of result ≡ debug_meaning self.now }
+        ensures steps { IfSome result (λ order. order.steps < 10 ^ 10) }
+    {
+        let (command, operands) = self.list.as_slice().split_first()?;
+        match command.as_str() {
+            "debug" => order_in(None, operands),
+            _ => None,
+        }
+    }
 }
 
 // The one name that the operands are.
@@ -132,45 +146,47 @@ fn mill_number(operands: &[String]) -> Option<u32>
     }
 }
 
+// The run of this way that the operands are.
 fn go_words(way: Way, operands: &[String]) -> Option<Asked<'_>>
     ensures meaning { option_map request_of result ≡ go_request way (map string_bytes operands.now) }
     ensures steps { IfSome result HasFewSteps }
+{
+    Some(Asked::Go(order_in(Some(way), operands)?))
+}
+
+// The run that the operands are, with the asker's options: those of a way, or of the debugger with none.
+fn order_in(asker: Option<Way>, operands: &[String]) -> Option<Order<'_>>
+    ensures order { option_map order_of result ≡ order_in asker (map string_bytes operands.now) }
+    ensures steps { IfSome result (λ order. order.steps < 10 ^ 10) }
 {
     if operands.len() < 2 {
         return None;
     }
     let file = operands[0].as_str();
     let steps = operands[1].as_str();
-    if is_name(file) && is_number(steps) {
-        let order = plain_order(way, file, number(steps.as_bytes()));
-        asked_by(with_options(order, &operands[2..]))
-    } else {
-        None
+    if !is_name(file) || !is_number(steps) {
+        return None;
+    }
+    match with_options(asker, &operands[2..]) {
+        Parse::Stands(schedule, shown) => Some(Order {
+            way: asker.unwrap_or(Way::Run),
+            file,
+            steps: number(steps.as_bytes()),
+            schedule,
+            shown,
+        }),
+        _ => None,
     }
 }
 
-fn asked_by(parse: Parse<'_>) -> Option<Asked<'_>>
-    requires { ParsesFewSteps parse }
-    ensures meaning { option_map request_of result ≡ asked_by (parsed_of parse.entry) }
-    ensures steps { IfSome result HasFewSteps }
+// What options make of a run without any.
+fn with_options(asker: Option<Way>, options: &[String]) -> Parse<'_>
+    ensures { parsed_of result
+        ≡ fold (with_word asker) (Stands None nothing) (map string_bytes options.now) }
 {
-    match parse {
-        Parse::Stands(order) => Some(Asked::Go(order)),
-        Parse::Lacks(_, _) => None,
-        Parse::Meaningless => None,
-    }
-}
-
-/// The order with options.
-fn with_options<'a>(order: Order<'a>, options: &'a [String]) -> Parse<'a>
-    requires { order.steps < 10 ^ 10 }
-    ensures parsed { parsed_of result
-        ≡ fold with_word (Stands (order_of order.entry)) (map string_bytes options.now) }
-    ensures steps { ParsesFewSteps result }
-{
-    let mut parse = Parse::Stands(order);
+    let mut parse = Parse::Stands(None, Shown::default());
     for option in options {
-        parse = with_word(parse, option.as_str());
+        parse = with_word(asker, parse, option.as_str());
     }
     parse
 }

@@ -1,17 +1,19 @@
-use Rattle.mx_commands.specs.Boots.{Rest, after_boot, planned}
-use Rattle.mx_plan.specs.Manifest.{judged}
-use Rattle.mx_commands.proofs.Scheduled.{boots_on}
 use Rattle.mx_commands.proofs.booting.take_boot.Goals as goal
 
 pub returns-in-Ok : goal.returns-in-Ok
 returns-in-Ok g c =
-    let takes = rw c.manifest_file.ensures at c.in-Ok.ensures.takes in
-    let side = c.args.side in
-    let name = c.args.name.now in
-    boots_on g.S.Store.gives (after_boot side name) (λ (rest : Rest). planned side name rest (judged c.in-Ok.bytes.items)) _ _ _ _ _ _ takes.0
-    (λ rest. takes.1 (λ bytes. planned side name rest (judged bytes))) _ (rw c.as_slice.ensures.value at c.boot_manifest.ensures)
+    let takes = c.in-Ok.ensures in
+    let goes = takes.1 in (
+      takes.0,
+      record {
+        state = goes.state;
+        new = goes.new;
+        means = goes.means;
+        size = goes.size;
+        plan = goes.kept;
+        comes = λ rest. goes.comes (λ images inputs. rest);
+      },
+    )
 
 pub returns-in-Err : goal.returns-in-Err
-returns-in-Err g c =
-    let takes = rw c.manifest_file.ensures at c.in-Err.ensures.takes in
-    λ rest console dump. takes (λ bytes. planned c.args.side c.args.name.now rest (judged bytes)) console dump
+returns-in-Err g c = λ rest. c.in-Err.ensures (λ images inputs. rest)
