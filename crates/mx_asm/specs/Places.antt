@@ -1,4 +1,5 @@
 -- Where the bytes of each line stand: a sum of sizes.
+-- The rules: docs/COMMANDS.md, "The source".
 use Rattle.std.specs.Prelude.{ℕ, ◌+◌, ◌-◌, ◌*◌, List, length, Option, unwrap_or, []}
 use Rattle.std.specs.Option.{option_map_or}
 use Rattle.mx_asm.specs.declared.places.Place.{Place}

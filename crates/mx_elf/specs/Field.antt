@@ -1,4 +1,5 @@
 -- Numbers in a list of bytes, each little-endian. A byte past the end counts as 0.
+-- The rules: docs/COMMANDS.md, "The manifest".
 use Rattle.std.specs.Prelude.{ℕ, zero, suc, ◌+◌, List, [], ◌∷◌, slice_index}
 use Rattle.mx_words.specs.Bytes.{number_at}
 

@@ -1,4 +1,5 @@
 -- The fields of a file's headers and symbols, by their offsets (System V gABI, "ELF Header", "Program Header", "Sections", "Symbol Table").
+-- The rules: docs/COMMANDS.md, "The manifest".
 use Rattle.std.specs.Prelude.{ℕ, ◌+◌, List}
 use Rattle.mx_elf.specs.Field.{byte_at, half_at, word_at}
 

@@ -1,4 +1,5 @@
 -- What a file is read as: an image, or its first fault.
+-- The rules: docs/COMMANDS.md, "The manifest".
 use Rattle.std.specs.Prelude.{◌≡◌, ◌<◌, ◌≤◌, ℕ, ◌+◌, ◌*◌, ◌%◌, ◌==◌, nat_eq, nat_lt, Bool, not, ◌&&◌, ◌||◌, List, [], ◌∷◌, ◌++◌, length, map, filter, Option, Some, None, Result, Ok, Err}
 use Rattle.std.specs.List.{starts_with, flat_map, enumerate_from}
 use Rattle.mx_words.specs.FirstRow.{Row, first_row}

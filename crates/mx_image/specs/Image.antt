@@ -1,5 +1,6 @@
 -- The bytes of a program's image, part by part (System V gABI, "ELF Header", "Program Header", "Sections", "Symbol Table").
 -- All numbers are little-endian.
+-- The rules: docs/COMMANDS.md, "The image".
 use Rattle.std.specs.Prelude.{ℕ, zero, suc, ◌+◌, ◌-◌, ◌*◌, ◌/◌, ◌%◌, List, [], ◌∷◌, ◌++◌, length, replicate}
 use Rattle.std.specs.List.{flat_map}
 use Rattle.mx_image.specs.declared.segment.Segment.{Segment}

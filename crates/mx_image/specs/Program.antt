@@ -1,4 +1,5 @@
 -- A program: what the text of a source denotes.
+-- The rules: docs/COMMANDS.md, "The image".
 use Rattle.std.specs.Prelude.{ℕ, ◌==◌, Bool, not, List, [], ◌∷◌, ◌++◌, length, map, filter, sum_by, fold}
 use Rattle.mx_image.specs.declared.segment.Segment.{Segment}
 

@@ -1,4 +1,5 @@
 -- What a store answers to its calls, and what a step of a store means.
+-- The rules: docs/COMMANDS.md, "What is judged first".
 use Rattle.std.specs.Prelude.{◌≡◌, ℕ, ◌^◌, ◌<◌, ◌≤◌, ◌↔◌, IsTrue, List, [], ◌∷◌, length, take, drop, Option, Some, None, IfSome, option_map, ⊤}
 use Rattle.std.specs.FinMap.{get}
 use Rattle.mx_io.specs.Count.{Rose}

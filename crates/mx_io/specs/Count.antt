@@ -1,4 +1,5 @@
 -- A count of faults in a call: the value of a u64, which never falls.
+-- The rules: docs/PROMISES.md, "The outside".
 use Rattle.std.specs.Prelude.{◌≡◌, ℕ, ◌+◌, ◌-◌, ◌^◌, ◌<◌, ◌≤◌, min, ◌⊎◌}
 
 -- where a count of faults ends: it stands still there

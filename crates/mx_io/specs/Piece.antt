@@ -1,4 +1,5 @@
 -- The texts of the pieces that lines are put together from.
+-- The rules: docs/COMMANDS.md, "The report".
 use Rattle.std.specs.Prelude.{ℕ, ◌+◌, ◌/◌, ◌%◌, ◌^◌, List, [], ◌∷◌, ◌++◌, if◌then◌else◌, nat_lt, decimal, codes, flat_map}
 use Rattle.std.specs.Char.{is_control, encode_utf8}
 use Rattle.std.specs.Str.{chars}

@@ -1,4 +1,5 @@
 -- What a sink says of itself, and what its calls answer.
+-- The rules: docs/PROMISES.md, "The outside".
 use Rattle.std.specs.Prelude.{◌≡◌, ℕ, ◌+◌, ◌^◌, ◌<◌, ◌≤◌, List, [], length, take, Option, Result, IsOk, IfOk, OnOk, OnErr}
 use Rattle.mx_io.specs.Count.{Rose}
 use Rattle.mx_io.specs.Texts.{AppendsWhole, AppendsFront}

@@ -1,4 +1,5 @@
 -- What a store says of itself, and what its calls answer.
+-- The rules: docs/PROMISES.md, "The outside".
 use Rattle.std.specs.Prelude.{◌≡◌, ℕ, ◌^◌, ◌<◌, ◌≤◌, Bool, IsTrue, List, [], ◌++◌, length, take, drop, min, ◌-◌, Option, Result, IsOk, OnOk, OnErr, unwrap_or}
 use Rattle.std.specs.Ordering.{nat_cmp}
 use Rattle.std.specs.Cmp.Lexicographic.{slice_cmp}

@@ -1,4 +1,5 @@
 -- What a sink that tells its bytes holds after a text was put on it.
+-- The rules: docs/COMMANDS.md, "How texts leave".
 use Rattle.std.specs.Prelude.{ℕ, ◌<◌, List, length, take, Option}
 use Rattle.std.specs.Io.KnownBytes.{Appends}
 

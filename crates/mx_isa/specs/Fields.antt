@@ -1,4 +1,5 @@
 -- The fields of an instruction's word, and its immediates.
+-- The rules: docs/MACHINE.md, "Instructions".
 use Rattle.std.specs.Prelude.{ℕ, ◌+◌, ◌-◌, ◌*◌, ◌/◌, ◌%◌, ◌^◌, nat_lt, if◌then◌else◌}
 
 -- `count` bits of a word, from bit `low` upwards

@@ -1,4 +1,5 @@
 -- The instruction table: which words stand for which instruction.
+-- The rules: docs/MACHINE.md, "Instructions".
 use Rattle.std.specs.Prelude.{ℕ, ◌+◌, ◌*◌, ◌^◌, ◌==◌, ◌&&◌, Bool, true, List, [], ◌∷◌, find, Option, Some, None, option_map, option_and_then, unwrap_or, is_some, if◌then◌else◌}
 use Rattle.mx_isa.specs.declared.inst.Inst.{Inst}
 use Rattle.mx_isa.specs.declared.inst.Inst.TheVariants.{Lui, Auipc, Jal, Jalr, Branch, Load, Store, OpImm, Op, Fence, Ecall, Ebreak}

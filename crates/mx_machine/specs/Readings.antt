@@ -1,4 +1,5 @@
 -- What the readers of a machine tell of its state.
+-- The rules: docs/COMMANDS.md, "The report".
 use Rattle.std.specs.Prelude.{◌≡◌, ℕ, Bool, false, length}
 use Rattle.mx_words.specs.Hearing.{is_in}
 use Rattle.mx_model.specs.State.{Hart, Module, Status, Running, Waiting, Halted}

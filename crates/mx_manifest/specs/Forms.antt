@@ -1,4 +1,5 @@
 -- The TOML types and the ranges of values.
+-- The rules: docs/COMMANDS.md, "The manifest".
 use Rattle.std.specs.Prelude.{ℕ, ◌%◌, ℤ, pos, negsuc, Bool, true, false, not, ◌&&◌, ◌||◌, ◌==◌, nat_le, List, [], ◌∷◌, length, codes}
 use Rattle.std.specs.Char.{is_ascii_digit, is_ascii_lowercase}
 use Rattle.std.specs.List.{list_all, list_any, starts_with}

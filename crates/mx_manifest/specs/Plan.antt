@@ -1,4 +1,5 @@
 -- The plan of a manifest: the values of its keys, with defaults filled in and names turned into domain numbers.
+-- The rules: docs/COMMANDS.md, "The manifest".
 use Rattle.std.specs.Prelude.{ℕ, false, if◌then◌else◌, List, map, codes, Option, option_map, option_and_then, unwrap_or}
 use Rattle.std.specs.Option.{option_map_or}
 use Rattle.std.specs.Str.{bytes_eq}

@@ -1,5 +1,6 @@
 -- The table of keys: for each key, in listed order, where it is required and what its value may be.
 -- Where a key is neither required nor there, its default is told by specs/Plan.
+-- The rules: docs/COMMANDS.md, "The manifest".
 use Rattle.std.specs.Prelude.{ℕ, List, [], ◌∷◌}
 use Rattle.mx_words.specs.Limits.{most_modules, most_harts, most_gates, most_kept}
 use Rattle.mx_manifest.specs.declared.fault.Key.{Key}

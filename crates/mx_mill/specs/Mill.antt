@@ -1,4 +1,5 @@
 -- The report of `mill`, and what a call of it comes to.
+-- The rules: docs/COMMANDS.md, "The mill".
 use Rattle.std.specs.Prelude.{◌≡◌, ℕ, List, [], Result, Ok, Err}
 use Rattle.mx_io.specs.Sink.{SinkState, Puts}
 use Rattle.mx_model.specs.Run.{ByQuantum, run}

@@ -1,4 +1,5 @@
 -- What the manifest of `mill` says, and its images: each module is inline.
+-- The rules: docs/COMMANDS.md, "The mill".
 use Rattle.std.specs.Prelude.{ℕ, ◌+◌, false, List, [], ◌∷◌, map, replicate, Some, None}
 use Rattle.std.specs.List.{range_with_len}
 use Rattle.mx_words.specs.declared.perm.Perm.TheVariants.{ExecuteRead}

@@ -1,4 +1,5 @@
 -- Texts of the maximal runs of a list, each with its first place and the place after it.
+-- The rules: docs/COMMANDS.md, "The report".
 use Rattle.std.specs.Prelude.{ℕ, ◌+◌, List, [], ◌∷◌, ◌++◌}
 use Rattle.mx_words.specs.Runs.{Run}
 

@@ -1,5 +1,6 @@
 -- The state and the plan that a snapshot gives back: a grant for each run of permission and a give for each run of owner, a waiting
 -- hart's call by its registers, empty caches, no exit codes, no console bytes and no notes.
+-- The rules: docs/COMMANDS.md, "The snapshot".
 use Rattle.std.specs.Prelude.{ℕ, ◌+◌, List, [], ◌∷◌, None}
 use Rattle.std.specs.Prelude.{map as list_map}
 use Rattle.std.specs.List.{enumerate_from, range_with_len}

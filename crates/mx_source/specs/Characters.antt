@@ -1,4 +1,5 @@
 -- The characters of a source by their bytes, blanks, and what stands inside quotes.
+-- The rules: docs/COMMANDS.md, "The source".
 use Rattle.std.specs.Prelude.{ℕ, ◌+◌, ◌==◌, nat_le, Bool, false, ◌&&◌, ◌||◌, List, [], ◌∷◌, take, reverse, if◌then◌else◌}
 use Rattle.std.specs.Char.{is_ascii_digit, is_ascii_alphabetic}
 use Rattle.std.specs.List.{onto_first}

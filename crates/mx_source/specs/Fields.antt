@@ -1,4 +1,5 @@
 -- What the operands of an instruction say: its registers, and one number or label.
+-- The rules: docs/COMMANDS.md, "The source".
 use Rattle.std.specs.Prelude.{ℕ, List, [], ◌∷◌, Option, Some, None, option_map, if◌then◌else◌}
 use Rattle.mx_isa.specs.declared.inst.ImmOp.{ImmOp}
 use Rattle.mx_isa.specs.declared.inst.ImmOp.TheVariants.{Slli, Srli, Srai}

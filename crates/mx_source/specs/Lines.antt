@@ -1,4 +1,5 @@
 -- How a line is split: an optional label with a colon, then an optional statement, a word with operands.
+-- The rules: docs/COMMANDS.md, "The source".
 use Rattle.std.specs.Prelude.{ℕ, ◌==◌, Bool, ◌&&◌, ◌||◌, List, length, drop, slice_index, Option, Some, None, if◌then◌else◌}
 use Rattle.std.specs.List.{list_all, take_while}
 use Rattle.std.specs.Option.{option_map_or}

@@ -1,4 +1,5 @@
 -- The words with which statements begin.
+-- The rules: docs/COMMANDS.md, "The source".
 use Rattle.std.specs.Prelude.{ℕ, List, ◌∷◌, ◌++◌, map, find, Option, codes}
 use Rattle.std.specs.Str.{bytes_eq}
 use Rattle.mx_isa.specs.declared.inst.Cond.{Cond}

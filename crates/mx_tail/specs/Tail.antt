@@ -1,4 +1,5 @@
 -- A buffer of 4096 bytes before a sink: what has left for the sink, and what is held.
+-- The rules: docs/COMMANDS.md, "How texts leave".
 use Rattle.std.specs.Prelude.{◌≡◌, ℕ, ◌*◌, ◌/◌, List, ◌++◌, length, take, drop, Result, OnOk, OnErr}
 use Rattle.mx_io.specs.Sink.{SinkState, Puts}
 

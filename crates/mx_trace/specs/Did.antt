@@ -1,4 +1,5 @@
 -- The line of what a turn did: its fault or exit, its call, its load or store, and what it changed of its hart.
+-- The rules: docs/COMMANDS.md, "What a turn did".
 use Rattle.std.specs.Prelude.{ℕ, Bool, true, false, ◌*◌, ◌^◌, ◌%◌, ◌==◌, if◌then◌else◌, List, [], ◌∷◌, codes, decimal, flat_map, slice_index, Option, None, Some}
 use Rattle.std.specs.List.{concat, range_with_len}
 use Rattle.mx_isa.specs.declared.inst.Inst.{Inst}

@@ -1,4 +1,5 @@
 -- The line of a turn: its step and hart, the hart's domain and pc before it, what it was, and the instruction that stood at pc.
+-- The rules: docs/COMMANDS.md, "The trace".
 use Rattle.std.specs.Prelude.{ℕ, List, [], ◌∷◌, codes, decimal, Option, None, Some}
 use Rattle.std.specs.List.{concat}
 use Rattle.mx_isa.specs.declared.inst.Inst.{Inst}

@@ -1,4 +1,5 @@
 -- The text of an instruction: the statement that the assembler takes for it, with registers as x0 to x31 and numbers in decimal.
+-- The rules: docs/COMMANDS.md, "The trace".
 use Rattle.std.specs.Prelude.{ℕ, ◌/◌, List, [], ◌∷◌, ◌++◌, codes, decimal}
 use Rattle.std.specs.Fmt.{signed_decimal}
 use Rattle.std.specs.Int.{cast_signed, w32}

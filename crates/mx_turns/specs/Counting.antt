@@ -1,4 +1,5 @@
 -- The texts of a run, counted and not written.
+-- The rules: docs/COMMANDS.md, "The mill".
 use Rattle.std.specs.Prelude.{◌≡◌, Bool, true, false, length, count_by}
 use Rattle.mx_model.specs.State.{State, Flat, flat}
 use Rattle.mx_model.specs.declared.values.Note.{Note}

@@ -1,4 +1,5 @@
 -- How the texts of a call leave through its three sinks, and what holds where a sink fails.
+-- The rules: docs/COMMANDS.md, "How texts leave".
 use Rattle.std.specs.Prelude.{◌≡◌, ℕ, ◌+◌, ◌<◌, ◌≤◌, ◌⊎◌, List, [], length, take, Result, Ok, Err, OnOk, IfErr, IsOk}
 use Rattle.mx_io.specs.Count.{Rose}
 use Rattle.mx_io.specs.Texts.{AppendsWhole, AppendsPrefix}

@@ -1,4 +1,5 @@
 -- The texts of a run: what it shows and tells turn by turn, and what closes it.
+-- The rules: docs/COMMANDS.md, "The report".
 use Rattle.std.specs.Prelude.{ℕ, ◌+◌, ◌==◌, if◌then◌else◌, List, [], ◌++◌, Option, Some, None, flat_map}
 use Rattle.mx_model.specs.Run.{Schedule, all_halted, run}
 use Rattle.mx_model.specs.State.{Core, State, Flat, flat}

@@ -1,5 +1,6 @@
 -- What ties the whole machine to the plain one: a state without caches and their size, and a state of the plain machine as one that
 -- keeps nothing in them.
+-- The rules: docs/ABSTRACT.md, "What is proved of it".
 use Rattle.std.specs.Prelude.{[]}
 use Rattle.mx_model.specs.State.{State}
 use Rattle.mx_uncached.specs.Plain.{Plain}

@@ -1,4 +1,5 @@
 -- The numbers of supervisor calls that definitions name. The code's constants are these: src/calls.rt.
+-- The rules: docs/MACHINE.md, "Supervisor calls".
 use Rattle.std.specs.Prelude.{ℕ}
 use Rattle.mx_words.specs.declared.calls.TheConstants.{WRITE_CALL, GRANT_CALL, REVOKE_ALL_CALL, ALLOC_CALL, FREE_CALL, EXCHANGE_CALL}
 

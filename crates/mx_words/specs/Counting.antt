@@ -1,4 +1,5 @@
 -- Recursions on a number: counting, testing and listing the numbers below it.
+-- The rules: docs/MACHINE.md, "Memory, domains, harts".
 use Rattle.std.specs.Prelude.{ℕ, zero, suc, ◌+◌, Bool, true, cond, ◌&&◌, List, [], ◌∷◌, ◌++◌}
 
 -- one for true

@@ -1,4 +1,5 @@
 -- Rules of which the first that applies decides.
+-- The rules: docs/MACHINE.md, "Instructions".
 use Rattle.std.specs.Prelude.{Bool, List, [], ◌∷◌, if◌then◌else◌, Option, Some, None}
 
 -- a row of rules: whether it applies, and what it then says

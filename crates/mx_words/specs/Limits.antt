@@ -1,4 +1,5 @@
 -- The greatest numbers of what a machine has. The code's constants are these: src/limits.rt.
+-- The rules: docs/MACHINE.md, "Memory, domains, harts".
 use Rattle.std.specs.Prelude.{◌≡◌, ◌⊎◌, ℕ}
 use Rattle.mx_words.specs.declared.limits.TheConstants.{MOST_WORDS, MOST_MODULES, MOST_DOMAINS, MOST_HARTS, MOST_GATES, MOST_FRAMES, MOST_KEPT, MOST_BLOCKS, MOST_OWNER_RUNS, MOST_BYTES}
 
