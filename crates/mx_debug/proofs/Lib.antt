@@ -1,0 +1,15 @@
+pub mod FindLaws
+pub mod BackLaws
+pub mod EntryLaws
+pub mod ForwardLaws
+pub mod HeadLaws
+pub mod PieceLaws
+pub mod PlainLaws
+pub mod ReplyLaws
+pub mod ShortLaws
+pub mod TalkLaws
+pub mod TextLaws
+pub mod ToldLaws
+pub mod Examples
+pub mod KnownExample
+pub mod SessionExamples

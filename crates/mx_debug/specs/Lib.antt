@@ -1,0 +1,10 @@
+pub mod Session
+pub mod Back
+pub mod Entries
+pub mod Texts
+pub mod Looks
+pub mod Replies
+pub mod Ended
+pub mod Talks
+pub mod Talking
+pub mod Told

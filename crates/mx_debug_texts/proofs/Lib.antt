@@ -1,0 +1,4 @@
+pub mod WindowLaws
+pub mod RightLaws
+pub mod ToldLaws
+pub mod Examples

@@ -1,0 +1,4 @@
+pub mod Window
+pub mod Pieces
+pub mod Documents
+pub mod Told

@@ -1,0 +1,4 @@
+pub mod Alike
+pub mod Asked
+pub mod Fixed
+pub mod OverFiles

@@ -1,0 +1,4 @@
+pub mod Looking
+pub mod Debugs
+pub mod Plainly
+pub mod Program

@@ -1,0 +1,5 @@
+pub mod Packets
+pub mod Frames
+pub mod Streams
+pub mod Requests
+pub mod Lines
