@@ -8,10 +8,10 @@ mondrix_enter:
         .cfi_return_column 26
         .cfi_undefined ra
         lla     tp, __tls_base
-        lla     s9, mondrix_guarded
-        lw      s9, 0(s9)
-        beqz    s9, first
+        lw      t0, mondrix_guarded
+        beqz    t0, first
         jr      s10
+        ebreak                          # (no turn comes here)
 
 # The first entry sets the guards of the stacks.
 first:  addi    sp, sp, -32

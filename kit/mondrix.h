@@ -209,8 +209,9 @@ void mondrix_guard(void);
 
 /* MONDRIX_GATE(name): the entry of a gate, a symbol `name` at the next 32 bytes of the section .gates, which calls the
  * C function name_entered. Another module calls `name` as an ordinary C function; inside its own module C calls
- * name_entered. ra is kept in s11: C keeps s11, and the machine gives the caller's back. s0 stays as it is, so that a
- * debugger finds the frames of a caller that was compiled with frame pointers. */
+ * name_entered. ra is kept in s11, and s11 in s9: C keeps both, and the machine gives the caller's back. So a debugger
+ * finds the caller, and where the caller's own gate was called from. s0 stays as it is, so that it finds the frames of
+ * a caller that was compiled with frame pointers. */
 #define MONDRIX_GATE(name)                                                        \
     extern __typeof__(name##_entered) name##_entered __attribute__((used));       \
     __asm__(".cfi_sections .debug_frame\n"                                        \
@@ -219,9 +220,11 @@ void mondrix_guard(void);
             ".globl " #name "\n"                                                  \
             ".type " #name ", @function\n" #name ":\n"                            \
             ".cfi_startproc\n"                                                    \
+            "mv s9, s11\n"                                                        \
+            ".cfi_register s11, s9\n"                                             \
+            ".cfi_undefined s9\n"                                                 \
             "mv s11, ra\n"                                                        \
             ".cfi_register ra, s11\n"                                             \
-            ".cfi_undefined s11\n"                                                \
             "jal s10, mondrix_enter\n" /* tp, and the guards of the stacks */     \
             "call " #name "_entered\n"                                            \
             "mv ra, s11\n"                                                        \
