@@ -39,7 +39,7 @@ BEGIN {
     refusal[14] = "snapshot fault=[1-5] at=" number
 
     allowed["asm"] = " 0 2 5 6 10 11 "
-    allowed["run"] = allowed["trace"] = allowed["audit"] = " 0 2 3 4 5 6 10 "
+    allowed["run"] = allowed["trace"] = allowed["audit"] = allowed["debug"] = " 0 2 3 4 5 6 10 "
     allowed["twin"] = " 0 2 3 4 5 6 10 12 13 "
     allowed["resume"] = " 0 2 3 4 5 6 10 14 "
     allowed["mill"] = " 0 2 10 "
@@ -109,7 +109,7 @@ status != 0 {
     next
 }
 
-command == "asm" { wrong("a line of asm") }
+command == "asm" || command == "debug" { wrong("a line of " command) }
 
 # Reports of few lines, in their order.
 command == "twin" && NR == 1 && is("twin agreed steps=" number "|twin ended step=" number " hart=[0-3] kind=" turns) {
@@ -216,7 +216,7 @@ END {
     if (index(allowed[command], " " status " ") == 0) wrong("status " status)
     if (status != 0) {
         if (NR != (status != 10)) wrong("no line")
-    } else if (command != "run" && command != "resume" && command != "asm" && part != "over") {
+    } else if (command != "run" && command != "resume" && command !~ /^(asm|debug)$/ && part != "over") {
         wrong("the report breaks off")
     } else if (command == "run" || command == "resume") {
         if (part != (counts ? "counts" : tables ? "tables" : part) || part !~ /domains|owners|tables|counts/ || \

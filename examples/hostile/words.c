@@ -15,13 +15,14 @@ static char long_name[4][70000];
 
 /* Words out of which command lines are made. Names of files stand for what is there, and for what isn't. */
 static const char *const pieces[] = {
-    "run", "trace", "asm", "run", "trace", "audit", "twin", "mill", "resume", "first.toml", "packets.toml", "leaves.s",
-    "order.bin", "first.toml", "absent", ".", "..", "/", "/dev/null", "/dev/full", "", "-", "--", "-d", "-first.toml",
-    "--dump", "--tables", "--counts", "--schedule", "--from", "--save", "--dump=1", "--schedule=order.bin", "--Dump",
-    "--dump ", " --dump", "help", "--help", "--version", "0", "1", "7", "300", "0000000300", "00000000300", "3 ",
-    " 3", "+3", "-3", "0x3", "3.0", "1e1", "99999999999", "12345678901234567890", "\xd9\xa3", "a\nb", "a\x1b[2Jb",
-    "\x01", "\x7f", "\xc2\x85", "\xff", "\xc3", "\xed\xa0\x80", "RUN", "Run", "run ", "walk", "x=y", "*", "$(x)",
-    "\\", "'", "\"", "driver.elf", "rich.bin", "./first.toml", "sub/../first.toml", "first.toml/", "~", "%s%n", NULL};
+    "run", "trace", "asm", "run", "trace", "audit", "twin", "mill", "resume", "debug", "first.toml", "packets.toml",
+    "leaves.s", "order.bin", "first.toml", "absent", ".", "..", "/", "/dev/null", "/dev/full", "", "-", "--", "-d",
+    "-first.toml", "--dump", "--tables", "--counts", "--schedule", "--from", "--save", "--dump=1",
+    "--schedule=order.bin", "--Dump", "--dump ", " --dump", "help", "--help", "--version", "0", "1", "7", "300",
+    "0000000300", "00000000300", "3 ", " 3", "+3", "-3", "0x3", "3.0", "1e1", "99999999999", "12345678901234567890",
+    "\xd9\xa3", "a\nb", "a\x1b[2Jb", "\x01", "\x7f", "\xc2\x85", "\xff", "\xc3", "\xed\xa0\x80", "RUN", "Run", "run ",
+    "walk", "x=y", "*", "$(x)", "\\", "'", "\"", "driver.elf", "rich.bin", "./first.toml", "sub/../first.toml",
+    "first.toml/", "~", "%s%n", NULL};
 
 static char *text(const char *piece) { return strdup(piece); }
 
@@ -46,16 +47,17 @@ static void add(char *word) {
 static void add_options(const char *command) {
     const char *const flags[] = {below(2) ? "--dump" : "--save", "--tables", "--counts"};
     int is_trace = strcmp(command, "trace") == 0, is_resume = strcmp(command, "resume") == 0;
+    int has_flags = !is_trace && strcmp(command, "debug") != 0;
     for (size_t first = below(3), i = 0; i < 3; i++)
-        if (!is_trace && below(2) && !(is_resume && (first + i) % 3 == 2)) add(text(flags[(first + i) % 3]));
+        if (has_flags && below(2) && !(is_resume && (first + i) % 3 == 2)) add(text(flags[(first + i) % 3]));
     if (below(3) == 0) add(text("--schedule")), add(text("order.bin"));
     if (is_trace && below(2)) add(text("--from")), add(text(below(2) ? "3" : "0000000000"));
 }
 
 /* A command line that has a meaning. */
 static void plain(void) {
-    static const char *const runs[] = {"run", "trace", "resume"};
-    size_t command = below(7);
+    static const char *const runs[] = {"run", "trace", "resume", "debug"};
+    size_t command = below(8);
     if (command == 2) {
         add(text("asm"));
         add(text("leaves.s"));
@@ -79,7 +81,7 @@ static void plain(void) {
         add(text(below(2) ? "7" : "0000000300"));
         return;
     }
-    const char *way = runs[command == 1 ? 1 : command == 6 ? 2 : 0];
+    const char *way = runs[command == 1 ? 1 : command == 6 ? 2 : command == 7 ? 3 : 0];
     add(text(way));
     add(text(command == 6 ? (below(4) ? "rich.bin" : "packets.bin") : below(4) ? "first.toml" : "packets.toml"));
     add(text(below(2) ? "0000000060" : "7"));
@@ -149,6 +151,7 @@ static const struct command {
     {"run", "n#", {{"--schedule", 'n'}, {"--dump", 0}, {"--save", 0}, {"--tables", 0}, {"--counts", 0}}},
     {"resume", "n#", {{"--schedule", 'n'}, {"--dump", 0}, {"--save", 0}, {"--tables", 0}}},
     {"trace", "n#", {{"--schedule", 'n'}, {"--from", '#'}}},
+    {"debug", "n#", {{"--schedule", 'n'}}},
     {"asm", "n", {{NULL, 0}}},
     {"audit", "n", {{NULL, 0}}},
     {"twin", "nn##", {{NULL, 0}}},

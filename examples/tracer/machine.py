@@ -87,6 +87,11 @@ class Machine:
             area = (module.stack[0], module.stack[1] * harts)
             self.lay(self.owners, area, domain)
             self.lay(module.map, area, WRITE)
+        if "input" in table:
+            at, area = table["input_at"] - BASE, (self.word_of(table["input_at"]), table["input_words"])
+            self.lay(self.owners, area, domain)
+            self.lay(module.map, area, WRITE if table.get("input_perm", "r") == "rw" else READ)
+            self.ram[at : at + 4 + len(image.input)] = struct.pack("<I", len(image.input)) + image.input
 
     @staticmethod
     def entries(image):
@@ -423,6 +428,7 @@ class Machine:
             return -2
         if len(self.gates) >= 256 and (domain, place) not in self.gates:
             return -9
+        self.gates.pop((domain, place), None)
         self.gates[domain, place] = hart.domain
         return 0
 
@@ -490,10 +496,11 @@ def is_even(cells, at, count):
 
 
 class Image:
-    """A module's entry, its symbols, and its segments as (address, bytes, size in memory, permission)."""
+    """A module's entry, its symbols, its segments as (address, bytes, size in memory, permission), and its input."""
 
     def __init__(self, table, read):
         self.symbols = {}
+        self.input = read(table["input"]) if "input" in table else b""
         if "image" in table:
             self.read_elf(read(table["image"]), table.get("wx"))
             return
